@@ -1,0 +1,54 @@
+-- The header of an image: sixteen bytes, numbers with the least byte first.
+use Rattle.std.specs.Prelude.{◌≡◌, ℕ, ◌+◌, ◌*◌, ◌%◌, ◌≤◌, ◌==◌, ◌&&◌, ◌||◌, not, Bool, false, nat_lt, nat_le, List, [], ◌∷◌, length, take, drop, find, Option, slice_index}
+use Rattle.std.specs.Int.{w16, w32, from_le_bytes}
+use Rattle.fc_isa.specs.declared.rule.Rule.{Rule}
+use Rattle.fc_isa.specs.declared.rule.Rule.TheVariants.{Format, SlotCount, VarsSize, Budget, Reserved}
+
+-- the size of the variables in bytes, the count of slots, and the budget of steps
+pub record Head : Type 0 where
+  pub vars_size : ℕ
+  pub count : ℕ
+  pub budget : ℕ
+
+-- the limits of these numbers
+pub record IsHead (h : Head) : Type 0 where
+  pub vars : h.vars_size ≤ 256
+  pub words : h.vars_size % 8 ≡ 0
+  pub some : 1 ≤ h.count
+  pub count : h.count ≤ 512
+  pub steps : 1 ≤ h.budget
+  pub budget : h.budget ≤ 65536
+
+-- the numbers that stand in a header: after the magic two bytes each for variables and slots, four for the budget
+abbrev pub stated : List ℕ → Head
+stated image = record {
+  vars_size = from_le_bytes w16 (take 2 (drop 4 image));
+  count = from_le_bytes w16 (take 2 (drop 6 image));
+  budget = from_le_bytes w32 (take 4 (drop 8 image));
+}
+
+-- the first four of these bytes are a, b, c and d
+abbrev pub is_word : ℕ → ℕ → ℕ → ℕ → List ℕ → Bool
+is_word a b c d bytes = ((slice_index bytes 0 == a) && (slice_index bytes 1 == b)) && ((slice_index bytes 2 == c) && (slice_index bytes 3 == d))
+
+-- an image begins with the magic bytes `FCB1`
+abbrev pub has_magic : List ℕ → Bool
+has_magic image = is_word 70 67 66 49 image
+
+-- an image breaks a rule of the header
+unfoldable pub head_breaks : List ℕ → Rule → Bool
+head_breaks image Format = not ((nat_le 16 (length image) && has_magic image) && (length image == 16 + 8 * (stated image).count))
+head_breaks image SlotCount = ((stated image).count == 0) || nat_lt 512 (stated image).count
+head_breaks image VarsSize = nat_lt 256 (stated image).vars_size || not ((stated image).vars_size % 8 == 0)
+head_breaks image Budget = ((stated image).budget == 0) || nat_lt 65536 (stated image).budget
+head_breaks image Reserved = not (is_word 0 0 0 0 (drop 12 image))
+head_breaks image other = false
+
+-- the least rule that a header breaks
+abbrev pub head_fault : List ℕ → Option Rule
+head_fault image = find (head_breaks image) (Format ∷ SlotCount ∷ VarsSize ∷ Budget ∷ Reserved ∷ [])
+
+-- what an image keeps whose header breaks no rule: it is the header and its slots, and the numbers are within their limits
+pub record KeepsHead (image : List ℕ) : Type 0 where
+  pub size : length image ≡ 16 + 8 * (stated image).count
+  pub head : IsHead (stated image)

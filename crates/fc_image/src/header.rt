@@ -1,0 +1,126 @@
+//! The header of an image.
+ghost use Rattle.std.specs.Prelude.{IfErr, IfOk, None, Some, false, length, slice_index, ◌≡◌, ◌≤◌};
+ghost use Rattle.fc_image.specs.Head.{KeepsHead, head_breaks, head_fault, is_word, stated};
+ghost use Rattle.fc_isa.specs.declared.rule.Rule.{Rule};
+
+use crate::limits::Head;
+use fc_isa::{Fault, Rule};
+
+/// The size of a header in bytes.
+const HEADER_SIZE: usize = 16;
+
+/// What the header of an image says.
+///
+/// # Errors
+/// The least rule of the header, 1 to 5, that the image breaks, at slot 0.
+pub fn head(image: &[u8]) -> Result<Head, Fault>
+    ensures head { IfOk result (λ h. (h ≡ stated image.now) × (head_fault image.now ≡ None)) }
+    ensures kept { IfOk result (λ _. KeepsHead image.now) }
+    ensures fault { IfErr result (λ f. (head_fault image.now ≡ Some f.rule) × (f.slot ≡ 0)) }
+{
+    match fault(image) {
+        Some(rule) => Err(Fault { rule, slot: 0 }),
+        None => Ok(Head::new(vars_size(image), count(image), budget(image))),
+    }
+}
+
+/// The least rule of the header that the image breaks.
+fn fault(image: &[u8]) -> Option<Rule>
+    ensures { result ≡ head_fault image.now }
+{
+    if breaks_format(image) {
+        Some(Rule::Format)
+    } else if breaks_slot_count(image) {
+        Some(Rule::SlotCount)
+    } else if breaks_vars_size(image) {
+        Some(Rule::VarsSize)
+    } else if breaks_budget(image) {
+        Some(Rule::Budget)
+    } else if breaks_reserved(image) {
+        Some(Rule::Reserved)
+    } else {
+        None
+    }
+}
+
+/// The image isn't a header with this magic and its slots.
+#[tactic(auto, unfolding(crate::specs::Head::head_breaks))]
+fn breaks_format(image: &[u8]) -> bool
+    ensures value { result ≡ head_breaks image.now Rule.Format }
+    ensures header { result ≡ false → 16 ≤ length image.now }
+{
+    image.len() < HEADER_SIZE
+        || !is_word(image, *b"FCB1")
+        || image.len() != HEADER_SIZE + 8 * count(image) as usize
+}
+
+/// The count of slots isn't 1 to 512.
+#[tactic(auto, unfolding(crate::specs::Head::head_breaks))]
+fn breaks_slot_count(image: &[u8]) -> bool
+    requires { 16 ≤ length image.now }
+    ensures { result ≡ head_breaks image.now Rule.SlotCount }
+{
+    let count = count(image);
+    count == 0 || count > 512
+}
+
+/// The variables aren't up to 256 bytes in words of eight.
+#[tactic(auto, unfolding(crate::specs::Head::head_breaks))]
+fn breaks_vars_size(image: &[u8]) -> bool
+    requires { 16 ≤ length image.now }
+    ensures { result ≡ head_breaks image.now Rule.VarsSize }
+{
+    let vars_size = vars_size(image);
+    vars_size > 256 || vars_size % 8 != 0
+}
+
+/// The budget isn't 1 to 65536.
+#[tactic(auto, unfolding(crate::specs::Head::head_breaks))]
+fn breaks_budget(image: &[u8]) -> bool
+    requires { 16 ≤ length image.now }
+    ensures { result ≡ head_breaks image.now Rule.Budget }
+{
+    let budget = budget(image);
+    budget == 0 || budget > 65536
+}
+
+/// A reserved byte isn't zero.
+#[tactic(auto, unfolding(crate::specs::Head::head_breaks))]
+fn breaks_reserved(image: &[u8]) -> bool
+    requires { 16 ≤ length image.now }
+    ensures { result ≡ head_breaks image.now Rule.Reserved }
+{
+    !is_word(&image[12..], [0; 4])
+}
+
+/// The bytes begin with these four.
+fn is_word(bytes: &[u8], word: [u8; 4]) -> bool
+    requires { 4 ≤ length bytes.now }
+    ensures { result ≡ is_word (slice_index word 0) (slice_index word 1) (slice_index word 2) (slice_index word 3) bytes.now }
+{
+    (bytes[0] == word[0] && bytes[1] == word[1]) && (bytes[2] == word[2] && bytes[3] == word[3])
+}
+
+/// The size of the variables, as the header says it.
+fn vars_size(image: &[u8]) -> u16
+    requires { 16 ≤ length image.now }
+    ensures { result ≡ (stated image.now).vars_size }
+{
+    u16::from_le_bytes([image[4], image[5]])
+}
+
+/// The count of slots, as the header says it.
+fn count(image: &[u8]) -> u16
+    requires { 16 ≤ length image.now }
+    ensures { result ≡ (stated image.now).count }
+{
+    u16::from_le_bytes([image[6], image[7]])
+}
+
+/// The budget, as the header says it.
+fn budget(image: &[u8]) -> u32
+    requires { 16 ≤ length image.now }
+    ensures { result ≡ (stated image.now).budget }
+{
+    u32::from_le_bytes([image[8], image[9], image[10], image[11]])
+}

@@ -1,0 +1,11 @@
+//! Images of programs: the header, and the shape of the control flow with its greatest number of steps.
+#![tactic(auto)]
+
+pub mod header;
+pub mod laws;
+pub mod limits;
+pub mod shapes;
+
+pub use header::head;
+pub use limits::Head;
+pub use shapes::shape;
