@@ -1,0 +1,59 @@
+//! A slot's variables.
+ghost use Rattle.std.specs.Prelude.{◌≡◌, ◌≤◌, ◌↔◌, length, replicate, IsTrue};
+
+use arrayvec::ArrayVec;
+use std::marker::Model;
+
+/// The most bytes that a slot's variables have.
+pub const VARS: usize = 256;
+
+/// A slot's variables: 0 to 256 bytes. A clause sees the bytes.
+#[derive(Drop)]
+pub struct Vars {
+    bytes: ArrayVec<u8, VARS>,
+}
+
+impl Model for Vars {
+    ghost use Rattle.std.specs.Prelude.{List, ℕ};
+
+    ghost Value = { List ℕ };
+
+    ghost view = { λ v. v.bytes.items };
+}
+
+impl Vars {
+    /// This many zero bytes.
+    pub fn zeros(size: u16) -> Self
+        requires { size ≤ 256 }
+        ensures { result ≡ replicate size 0 }
+    {
+        let mut bytes = ArrayVec::new();
+        for _byte in 0..size {
+            bytes.push(0);
+        }
+        Vars { bytes }
+    }
+
+    /// The bytes.
+    pub fn as_slice(&self) -> &[u8]
+        ensures { result.now ≡ self.now }
+    {
+        self.bytes.as_slice()
+    }
+
+    /// The same bytes.
+    pub fn is(&self, other: &Vars) -> bool
+        ensures { IsTrue result ↔ (self.now ≡ other.now) }
+    {
+        self.bytes.as_slice() == other.bytes.as_slice()
+    }
+
+    /// Another copy.
+    pub fn copy(&self) -> Vars
+        ensures { result ≡ self.now }
+    {
+        let mut bytes = ArrayVec::new();
+        let _fits = bytes.try_extend_from_slice(self.bytes.as_slice());
+        Vars { bytes }
+    }
+}
