@@ -1,0 +1,5 @@
+pub mod Machine
+pub mod Meaning
+pub mod Kinds
+pub mod Effects
+pub mod Typing

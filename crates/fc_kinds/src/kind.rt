@@ -1,0 +1,39 @@
+//! Kinds of register values.
+
+/// What is known of a register's value.
+#[derive(Clone, Copy, Debug, PartialEq, Eq)]
+pub enum Kind {
+    /// Nothing: it can't be read.
+    Unset,
+    /// A number from `lo` to `hi`.
+    Num { lo: u64, hi: u64 },
+    /// A pointer into the stack frame `level` above the present one, at an offset from `lo` to `hi`.
+    Stack { level: u32, lo: i64, hi: i64 },
+    /// A pointer into the request.
+    Req { lo: i64, hi: i64 },
+    /// A pointer into the variables.
+    Vars { lo: i64, hi: i64 },
+}
+
+/// The kinds of the eleven registers.
+pub type Regs = [Kind; 11];
+
+/// The kinds at a program's entry: R1 points to the request, R2 to the variables, R3 is the payload's length,
+/// and R10 points behind the stack frame of 256 bytes.
+pub const ENTRY: Regs = [
+    Kind::Unset,
+    Kind::Req { lo: 0, hi: 0 },
+    Kind::Vars { lo: 0, hi: 0 },
+    Kind::Num { lo: 0, hi: 1024 },
+    Kind::Unset,
+    Kind::Unset,
+    Kind::Unset,
+    Kind::Unset,
+    Kind::Unset,
+    Kind::Unset,
+    Kind::Stack {
+        level: 0,
+        lo: 256,
+        hi: 256,
+    },
+];
