@@ -1,0 +1,6 @@
+pub mod KindLaws
+pub mod Sound
+pub mod Exact
+pub mod Judging
+pub mod Right
+pub mod Low

@@ -1,0 +1,29 @@
+use Rattle.std.proofs.Common.{◌<◌, ◌∙◌, ap, arith, length, sym}
+use Rattle.fc_verify.specs.Accepted.{Accepts}
+use Rattle.fc_verify.specs.Refusals.{IsRefusal}
+use Rattle.fc_verify.specs.declared.refusal.Refusal.TheVariants.{Broken}
+use Rattle.fc_verify.proofs.Judging.{err_is, refused_shape, refused_typing, accepts_is}
+use Rattle.fc_verify.proofs.verifying.verify.Goals as goal
+
+pub returns-in_err-cost-clause-refused : goal.returns-in_err-cost-clause-refused
+returns-in_err-cost-clause-refused c =
+    let f = c.in_err-cost.field-0.0 in
+    err_is c.from_residual-in_err-cost.result (Broken f) (IsRefusal c.args.image.now) c.from_residual-in_err-cost.ensures.1
+    (refused_shape c.args.image.now c.in_ok-head.head c.in_ok-code.code.items f c.in_ok-head.ensures.head c.in_ok-code.ensures.code
+    (rw c.deref.ensures.value at c.in_err-cost.ensures.fault))
+
+pub returns-in_err-states-clause-refused : goal.returns-in_err-states-clause-refused
+returns-in_err-states-clause-refused c =
+    let f = c.in_err-states.field-0.0 in
+    let e = c.in_err-states.ensures in
+    let few : f.slot < 512 = omega (arith, e.slot, ap length c.deref-2.ensures.value, c.in_ok-code.ensures.code.count, ap (λ h. h.count) c.in_ok-head.ensures.head.stated_is, c.count.ensures) in
+    err_is c.from_residual-in_err-states.result (Broken f) (IsRefusal c.args.image.now) c.from_residual-in_err-states.ensures.1
+    (refused_typing c.args.image.now c.in_ok-head.head c.in_ok-code.code.items f c.in_ok-head.ensures.head c.in_ok-code.ensures.code
+    (rw c.deref.ensures.value at c.in_ok-cost.ensures.cost.0) (rw c.deref-2.ensures.value at e.untypable) e.rule few)
+
+pub returns-clause-judged : goal.returns-clause-judged
+returns-clause-judged c =
+    let s = c.in_ok-cost.ensures.cost in
+    accepts_is c.args.image.now c.in_ok-head.head c.in_ok-code.code.items c.in_ok-cost.cost c.in_ok-head.ensures.head c.in_ok-code.ensures.code
+    (rw c.deref.ensures.value at s.0) (rw c.deref.ensures.value at s.1) (rw c.deref-2.ensures.value at c.in_ok-states.ensures.typable)
+    ∙ ap Accepts (sym c.new.ensures.program)

@@ -1,0 +1,6 @@
+pub mod Accepted
+pub mod Judged
+pub mod Refusals
+pub mod Verified
+pub mod Forward
+pub mod Stages

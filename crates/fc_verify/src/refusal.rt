@@ -1,0 +1,51 @@
+//! Why an image is refused.
+use fc_isa::{DecodeError, Fault};
+use std::alloc::AllocError;
+use thiserror::Error;
+
+/// Why an image is refused. Nothing is kept of it.
+#[derive(Clone, Copy, Debug, PartialEq, Eq, Error)]
+pub enum Refusal {
+    /// The first rule that it breaks, with its slot; where only the typing is missing, some rule from 20 to 27.
+    #[error("{0}")]
+    Broken(Fault),
+    /// There was no memory for the program.
+    #[error("out of memory")]
+    NoMemory,
+}
+
+impl From<Fault> for Refusal {
+    ghost use Rattle.std.specs.Prelude.{◌≡◌};
+    ghost use Rattle.fc_verify.specs.declared.refusal.Refusal.TheVariants.{Broken};
+
+    ghost from_gives = { λ fault e. e ≡ Broken fault };
+
+    fn from(fault: Fault) -> Self {
+        Refusal::Broken(fault)
+    }
+}
+
+impl From<AllocError> for Refusal {
+    ghost use Rattle.std.specs.Prelude.{◌≡◌};
+    ghost use Rattle.fc_verify.specs.declared.refusal.Refusal.TheVariants.{NoMemory};
+
+    ghost from_gives = { λ _ e. e ≡ NoMemory };
+
+    fn from(_error: AllocError) -> Self {
+        Refusal::NoMemory
+    }
+}
+
+impl From<DecodeError> for Refusal {
+    ghost use Rattle.std.specs.Prelude.{◌≡◌};
+    ghost use Rattle.fc_verify.specs.Refusals.{refusal_of};
+
+    ghost from_gives = { λ error e. e ≡ refusal_of error };
+
+    fn from(error: DecodeError) -> Self {
+        match error {
+            DecodeError::Fault(fault) => Refusal::Broken(fault),
+            DecodeError::NoMemory => Refusal::NoMemory,
+        }
+    }
+}

@@ -1,0 +1,68 @@
+//! From an image to a program that may run.
+ghost use Rattle.std.specs.Prelude.{◌≡◌, ◌≤◌, length, IfOk, IfErr};
+ghost use Rattle.fc_kinds.specs.Meaning.{IsRunnable};
+ghost use Rattle.fc_verify.specs.Accepted.{Accepts, IsAccepted, slots_of};
+ghost use Rattle.fc_verify.specs.Judged.{judged};
+ghost use Rattle.fc_verify.specs.Refusals.{IsRefusal};
+ghost use Rattle.fc_verify.specs.Stages.{IsHeadOf, IsCodeOf};
+
+use crate::refusal::Refusal;
+use crate::typing::type_slots;
+use crate::verified::Verified;
+use fc_image::{Head, head, shape};
+use fc_isa::laws::{faultless_bytes_spell, first_fault_is_first};
+use fc_isa::{Insn, decode};
+use std::alloc::Global;
+
+/// The bytes of an image's header.
+pub(crate) const HEADER: usize = 16;
+
+/// Verifies an image: the sixteen bytes of its header, and its slots of eight bytes each.
+///
+/// # Errors
+/// The first rule that the image breaks, with its slot, or some rule from 20 to 27 where only the typing is missing;
+/// or that memory was refused, which comes before all but the header's rules.
+pub fn verify(alloc: Global, image: &[u8]) -> Result<Verified, Refusal>
+    ensures accepted { IfOk result (IsAccepted image.now) }
+    ensures judged { IfOk result (λ v. judged image.now ≡ Accepts v) }
+    ensures runs { IfOk result IsRunnable }
+    ensures refused { IfErr result (IsRefusal image.now) }
+{
+    let head = read_head(image)?;
+    let room = Vec::with_capacity(alloc, head.count() as usize)?;
+    let code = read_code(alloc, image, &head)?;
+    let cost = shape(&head, &code)?;
+    let states = type_slots(&code, room)?;
+    Ok(Verified::new(&head, code, cost, states))
+}
+
+/// What the header says.
+fn read_head(image: &[u8]) -> Result<Head, Refusal>
+    ensures head { IfOk result (IsHeadOf image.now) }
+    ensures refused { IfErr result (IsRefusal image.now) }
+{
+    match head(image) {
+        Ok(head) => Ok(head),
+        Err(fault) => Err(Refusal::Broken(fault)),
+    }
+}
+
+/// The program that the slots spell.
+fn read_code(alloc: Global, image: &[u8], head: &Head) -> Result<Vec<Insn>, Refusal>
+    requires { IsHeadOf image.now head.now }
+    ensures code { IfOk result (λ code. IsCodeOf image.now code.items) }
+    ensures refused { IfErr result (IsRefusal image.now) }
+{
+    let slots = slots(image);
+    faultless_bytes_spell(slots);
+    first_fault_is_first(slots);
+    Ok(decode(alloc, slots)?)
+}
+
+/// The bytes behind the header.
+pub(crate) fn slots(image: &[u8]) -> &[u8]
+    requires { 16 ≤ length image.now }
+    ensures { result.now ≡ slots_of image.now }
+{
+    &image[HEADER..]
+}
