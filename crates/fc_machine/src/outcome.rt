@@ -1,0 +1,73 @@
+//! What a run gave.
+ghost use Rattle.std.specs.Prelude.{length, ◌≡◌, ◌≤◌};
+ghost use Rattle.fc_machine.specs.Ran.{meaning_of};
+
+use fc_help::{Request, Vars};
+use fc_verify::Verified;
+use std::marker::Model;
+
+/// What a run gave. A clause sees what it was made of: each part of an outcome is that of the meaning of these.
+#[derive(Drop)]
+pub struct Outcome<'a> {
+    pub(crate) program: &'a Verified,
+    pub(crate) request: &'a Request,
+    pub(crate) found: &'a Vars,
+    pub(crate) code: u8,
+    pub(crate) steps: u32,
+}
+
+impl<'a> Model for Outcome<'a> {
+    ghost use Rattle.fc_machine.specs.Ran.{Ran, IsOutcome};
+
+    ghost Value = { Ran };
+
+    ghost view = { λ o. record { program = o.program.now; request = o.request.now; found = o.found.now } };
+
+    ghost invariant = { λ o. IsOutcome (record { program = o.program.now; request = o.request.now; found = o.found.now }) o.code o.steps };
+}
+
+impl<'a> Outcome<'a> {
+    /// The program that ran.
+    pub fn program(&self) -> &'a Verified
+        ensures { result.now ≡ self.now.program }
+    {
+        self.program
+    }
+
+    /// The request that it answered.
+    pub fn request(&self) -> &'a Request
+        ensures { result.now ≡ self.now.request }
+    {
+        self.request
+    }
+
+    /// The variables that it found.
+    pub fn found(&self) -> &'a Vars
+        ensures { result.now ≡ self.now.found }
+    {
+        self.found
+    }
+
+    /// The reply's code.
+    pub fn code(&self) -> u8
+        ensures { result ≡ (meaning_of self.now).code }
+    {
+        self.code
+    }
+
+    /// The variables that it left, of the program's size.
+    pub fn after(&self) -> &'a Vars
+        ensures vars { result.now ≡ (meaning_of self.now).vars }
+        ensures size { length result.now ≡ self.now.program.vars_size }
+    {
+        self.found
+    }
+
+    /// The steps that it took, its exit among them: at most the program's budget.
+    pub fn steps(&self) -> u32
+        ensures steps { result ≡ (meaning_of self.now).steps }
+        ensures within { result ≤ self.now.program.budget }
+    {
+        self.steps
+    }
+}
