@@ -1,0 +1,32 @@
+-- What changes a slot, and what a slot is after its changes.
+use Rattle.std.specs.Prelude.{ℕ, ◌+◌, List, [], ◌∷◌, Option, Some, None, replicate}
+use Rattle.fc_help.specs.Request.{Request}
+use Rattle.fc_kinds.specs.Meaning.{Program}
+use Rattle.fc_registry.specs.Slots.{Slot, Present}
+
+-- a commit: the request that it answered, and the variables that it found and left
+pub record Commit : Type 0 where
+  pub request : Request
+  pub before : List ℕ
+  pub after : List ℕ
+
+-- an install of an accepted image, a commit of a POST, or a removal of a present program
+pub data Change : Type 0 where
+  Installed : (program : Program) → Change
+  Committed : (commit : Commit) → Change
+  Removed : Change
+
+abbrev pub with_vars : List ℕ → Option Present → Option Present
+with_vars vars None = None
+with_vars vars (Some p) = Some (record p { vars = vars })
+
+-- each change raises the serial by one; an install sets the variables to zeros, a commit to what it left
+abbrev pub changed : Slot → Change → Slot
+changed slot (Installed program) = record { serial = slot.serial + 1; present = Some (record { program = program; version = slot.serial + 1; vars = replicate program.vars_size 0 }) }
+changed slot (Committed commit) = record { serial = slot.serial + 1; present = with_vars commit.after slot.present }
+changed slot Removed = record { serial = slot.serial + 1; present = None }
+
+-- the slot that these changes leave of another, the newest first
+abbrev pub after_changes : Slot → List Change → Slot
+after_changes slot [] = slot
+after_changes slot (c ∷ cs) = changed (after_changes slot cs) c

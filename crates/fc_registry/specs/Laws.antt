@@ -1,0 +1,28 @@
+-- What a slot's serials, version and variables say of its changes.
+use Rattle.std.specs.Prelude.{◌≡◌, ℕ, ◌+◌, List, [], ◌∷◌, ◌++◌, replicate}
+use Rattle.fc_registry.specs.Slots.{Present, new_slot}
+use Rattle.fc_registry.specs.Changes.{Change, Installed, Committed, Removed, after_changes}
+
+-- no install and no removal is among the changes
+abbrev pub AllCommits : List Change → Type 0
+AllCommits [] = Unit {0}
+AllCommits (Committed c ∷ cs) = AllCommits cs
+AllCommits (Installed p ∷ cs) = ⊥
+AllCommits (Removed ∷ cs) = ⊥
+
+-- what the newest commit left, or these variables where there is none
+abbrev pub vars_left : List ℕ → List Change → List ℕ
+vars_left vars [] = vars
+vars_left vars (Committed c ∷ cs) = c.after
+vars_left vars (Installed p ∷ cs) = vars_left vars cs
+vars_left vars (Removed ∷ cs) = vars_left vars cs
+
+-- the changes of a slot, the newest first, hold the install of this program, and only commits after it: the version is the
+-- serial of that install, and the variables are zeros or what the newest commit left
+pub record FollowsInstall (serial : ℕ) (cs : List Change) (p : Present) : Type 0 where
+  pub later : List Change
+  pub earlier : List Change
+  pub changes : cs ≡ later ++ (Installed p.program ∷ earlier)
+  pub only_commits : AllCommits later
+  pub version : p.version ≡ (after_changes (new_slot serial) earlier).serial + 1
+  pub vars : p.vars ≡ vars_left (replicate p.program.vars_size 0) later

@@ -1,0 +1,7 @@
+pub mod Receipts
+pub mod Slots
+pub mod Changes
+pub mod Record
+pub mod Views
+pub mod Calls
+pub mod Laws

@@ -1,0 +1,56 @@
+-- Slots and shards, and the tickets by which jobs speak of them.
+use Rattle.std.specs.Prelude.{◌≡◌, ℕ, ◌/◌, ◌%◌, ◌<◌, Bool, List, Option, None, slice_index_or, slice_set}
+use Rattle.fc_help.specs.Request.{Request}
+use Rattle.fc_kinds.specs.Meaning.{Program}
+use Rattle.fc_registry.specs.declared.job.Origin.{Origin}
+
+-- a program in a slot: its version is the serial of its install
+pub record Present : Type 0 where
+  pub program : Program
+  pub version : ℕ
+  pub vars : List ℕ
+
+-- a slot: its serial counts its changes
+pub record Slot : Type 0 where
+  pub serial : ℕ
+  pub present : Option Present
+
+-- the greatest serial
+abbrev pub last_serial : ℕ
+last_serial = 9223372036854775807
+
+-- a slot that nothing was installed in, at its first serial
+abbrev pub new_slot : ℕ → Slot
+new_slot serial = record { serial = serial; present = None }
+
+-- a shard: the greatest moment handed to it, and its slots, of which the place n / 8 is that of slot n
+pub record Shard : Type 0 where
+  pub index : ℕ
+  pub now : ℕ
+  pub slots : List Slot
+
+-- the shard of index n mod 8 owns slot n, of 64 slots
+pub record IsOwned (shard : Shard) (n : ℕ) : Type 0 where
+  pub slot : n < 64
+  pub index : n % 8 ≡ shard.index
+
+abbrev pub slot_in : Shard → ℕ → Slot
+slot_in shard n = slice_index_or shard.slots (n / 8) (new_slot 0)
+
+-- the shard with another state of slot n, and of no other
+abbrev pub with_slot : Shard → ℕ → Slot → Shard
+with_slot shard n slot = record shard { slots = slice_set shard.slots (n / 8) slot }
+
+-- what a taking found: the serial of the slot, and its program with version and variables
+pub record Ticket : Type 0 where
+  pub origin : Origin
+  pub request : Request
+  pub serial : ℕ
+  pub found : Present
+
+-- what a commit leaves, for the answer to spend: the serial found, the serial at the commit, and whether the slot changed
+pub record Mark : Type 0 where
+  pub origin : Origin
+  pub found : ℕ
+  pub serial : ℕ
+  pub changed : Bool

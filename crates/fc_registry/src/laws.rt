@@ -1,0 +1,16 @@
+//! What the slots promise of their changes: each function is a law, and its contract says it.
+ghost use Rattle.fc_registry.specs.Changes.{Change, after_changes};
+ghost use Rattle.fc_registry.specs.Laws.{FollowsInstall};
+ghost use Rattle.fc_registry.specs.Slots.{Present, new_slot};
+ghost use Rattle.std.specs.Prelude.{List, Some, length, ℕ, ◌+◌, ◌≡◌};
+
+/// A slot's serial counts its changes, from its first serial on.
+pub fn serials_count_changes()
+    ensures { (serial : ℕ) (cs : List Change) → (after_changes (new_slot serial) cs).serial ≡ serial + length cs }
+{}
+
+/// The program in a slot is that of the newest install, with no removal since. Its version is the serial of that
+/// install; the install set its variables to zeros, and only commits have written them.
+pub fn versions_are_installs()
+    ensures { (serial : ℕ) (cs : List Change) (p : Present) → (after_changes (new_slot serial) cs).present ≡ Some p → FollowsInstall serial cs p }
+{}

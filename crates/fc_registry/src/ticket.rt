@@ -1,0 +1,126 @@
+//! Tickets and marks.
+ghost use Rattle.std.specs.Prelude.{◌≡◌};
+
+use crate::job::Origin;
+use fc_help::{Request, Vars};
+use fc_verify::Verified;
+use std::marker::Model;
+use std::sync::Arc;
+
+/// What a taking found in a slot, for a job: the serial, the program by a handle, and the variables. What is installed
+/// or committed later doesn't alter it.
+#[derive(Drop)]
+pub struct Ticket {
+    pub(crate) origin: Origin,
+    pub(crate) request: Request,
+    pub(crate) serial: u64,
+    pub(crate) program: Arc<Verified>,
+    pub(crate) version: u64,
+    pub(crate) vars: Vars,
+}
+
+impl Model for Ticket {
+    ghost use Rattle.fc_registry.specs.Slots.{Ticket as Found};
+
+    ghost Value = { Found };
+
+    ghost view = { λ t. record { origin = t.origin; request = t.request; serial = t.serial; found = record { program = t.program.value; version = t.version; vars = t.vars } } };
+}
+
+impl Ticket {
+    /// The job that took it.
+    pub fn origin(&self) -> Origin
+        ensures { result ≡ self.now.origin }
+    {
+        self.origin
+    }
+
+    /// The job's request.
+    pub fn request(&self) -> &Request
+        ensures { result.now ≡ self.now.request }
+    {
+        &self.request
+    }
+
+    /// The slot's serial when it was taken.
+    pub fn serial(&self) -> u64
+        ensures { result ≡ self.now.serial }
+    {
+        self.serial
+    }
+
+    /// The program that was found.
+    pub fn program(&self) -> &Verified
+        ensures { result.now ≡ self.now.found.program }
+    {
+        &self.program
+    }
+
+    /// The variables that were found.
+    pub fn vars(&self) -> &Vars
+        ensures { result.now ≡ self.now.found.vars }
+    {
+        &self.vars
+    }
+}
+
+/// What a commit leaves. An answer of a run spends it, so no such answer is made without its commit: only a commit makes a
+/// mark, it can't be copied, and it is used up only by `spend`.
+#[must_use]
+pub struct Mark {
+    pub(crate) origin: Origin,
+    pub(crate) found: u64,
+    pub(crate) serial: u64,
+    pub(crate) changed: bool,
+}
+
+impl Model for Mark {
+    ghost use Rattle.fc_registry.specs.Slots.{Mark as Seal};
+
+    ghost Value = { Seal };
+
+    ghost view = { λ m. record { origin = m.origin; found = m.found; serial = m.serial; changed = m.changed } };
+}
+
+impl Mark {
+    /// The job whose commit made it.
+    pub fn origin(&self) -> Origin
+        ensures { result ≡ self.now.origin }
+    {
+        self.origin
+    }
+
+    /// The serial that the job's taking found.
+    pub fn found(&self) -> u64
+        ensures { result ≡ self.now.found }
+    {
+        self.found
+    }
+
+    /// The slot's serial at the commit.
+    pub fn serial(&self) -> u64
+        ensures { result ≡ self.now.serial }
+    {
+        self.serial
+    }
+
+    /// The commit changed the slot.
+    pub fn changed(&self) -> bool
+        ensures { result ≡ self.now.changed }
+    {
+        self.changed
+    }
+
+    /// Spends it: the serial that the job's taking found.
+    pub fn spend(self) -> u64
+        ensures { result ≡ self.found }
+    {
+        let Mark {
+            origin: _,
+            found,
+            serial: _,
+            changed: _,
+        } = self;
+        found
+    }
+}
