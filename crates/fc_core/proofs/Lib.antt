@@ -1,0 +1,4 @@
+pub mod Decimals
+pub mod Unfold
+pub mod Quiet
+pub mod Takings

@@ -1,0 +1,39 @@
+-- What the calls' ends say.
+use Rattle.std.specs.Prelude.{◌<◌, ◌≤◌, Bool, true, false, nat_lt}
+use Rattle.fc_isa.specs.Rules.{number_of}
+use Rattle.fc_isa.specs.declared.rule.Fault.{Fault}
+use Rattle.fc_verify.specs.declared.refusal.Refusal.{Refusal}
+use Rattle.fc_verify.specs.declared.refusal.Refusal.TheVariants.{Broken, NoMemory}
+use Rattle.fc_core.specs.declared.answer.End.{End}
+use Rattle.fc_core.specs.declared.answer.End.TheVariants.{Missing, Unavailable, Made, Rejected}
+use Rattle.fc_core.specs.declared.answer.Said.{Said}
+use Rattle.fc_core.specs.declared.answer.Said.TheVariants.{Ran, Other}
+use Rattle.fc_core.specs.Contents.{Content, Ran as Runs, Missing as Misses, Unavailable as NotNow, Made as Makes, Rejected as Rejects, Untyped}
+
+-- a refusal by a rule below 20 is told as it is, one by typing without its rule and slot
+abbrev pub refused_by : Bool → Fault → Content
+refused_by true f = Rejects f.rule f.slot
+refused_by false f = Untyped
+
+abbrev pub refused : Refusal → Content
+refused (Broken f) = refused_by (nat_lt (number_of f.rule) 20) f
+refused NoMemory = NotNow
+
+abbrev pub content_of : End → Content
+content_of Missing = Misses
+content_of Unavailable = NotNow
+content_of (Made receipt created) = Makes receipt created
+content_of (Rejected refusal) = refused refusal
+
+abbrev pub said_of : Said → Content
+said_of (Ran code serial) = Runs code serial
+said_of (Other end) = content_of end
+
+-- a refusal by typing names a rule from 20 to 27, and a slot below 512
+abbrev pub IsEnd : End → Type 0
+IsEnd (Rejected (Broken f)) = 20 ≤ number_of f.rule → f.slot < 512
+IsEnd other = Unit {0}
+
+abbrev pub IsTold : Said → Type 0
+IsTold (Ran code serial) = Unit {0}
+IsTold (Other end) = IsEnd end

@@ -1,0 +1,10 @@
+pub mod Contents
+pub mod Ends
+pub mod Replies
+pub mod Exchanges
+pub mod Deliveries
+pub mod Stages
+pub mod History
+pub mod Legal
+pub mod Answering
+pub mod Laws

@@ -1,0 +1,19 @@
+//! The core of the server: what each datagram brings, and what each job is answered.
+//!
+//! [`Front`] keeps the exchanges: it reads datagrams, hands out jobs, and writes replies. Every moment and every byte is
+//! an argument: there is no clock and no socket here. `specs/` has the definitions that the list of all events is judged
+//! by: the history, the stages of jobs, the changes of slots, and what each event may emit.
+#![tactic(auto)]
+
+pub mod answer;
+pub mod event;
+pub mod front;
+pub mod laws;
+mod reply;
+pub mod stage;
+pub mod text;
+
+pub use answer::{Answer, End};
+pub use event::Event;
+pub use front::{Answered, Delivered, Front};
+pub use stage::Stage;
