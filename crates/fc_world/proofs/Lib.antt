@@ -1,0 +1,12 @@
+pub mod Rejections
+pub mod Unfold
+pub mod Lists
+pub mod Places
+pub mod Fitting
+pub mod Agree
+pub mod Fronts
+pub mod Still
+pub mod Stepping
+pub mod Delivering
+pub mod Beginning
+pub mod Running

@@ -1,0 +1,4 @@
+pub mod Fits
+pub mod Shards
+pub mod Agreement
+pub mod States
