@@ -1,0 +1,14 @@
+//! The service: what a server does with each datagram, from end to end.
+#![tactic(auto)]
+
+pub mod engine;
+pub mod hexadecimal;
+pub mod line;
+pub mod play;
+mod work;
+
+pub use engine::Engine;
+pub use line::Line;
+
+#[cfg(test)]
+mod tests;

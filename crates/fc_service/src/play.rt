@@ -1,0 +1,134 @@
+//! Playing lines: each is carried out, and what it sends is printed.
+ghost use Rattle.std.specs.Prelude.{◌≡◌, ◌≤◌, Option, OnOk};
+ghost use Rattle.std.specs.Io.KnownBytes.{Appends};
+ghost use Rattle.coap_msg.specs.declared.types.Emission.{Emission as Sent};
+ghost use Rattle.fc_registry.specs.Slots.{last_serial};
+ghost use Rattle.fc_service.specs.Playing.{endpoint_of, printed, text_of, IsCarriedOut};
+
+use crate::engine::Engine;
+use crate::hexadecimal;
+use crate::line::{Line, LineError, parse};
+use coap_msg::{Emission, Endpoint};
+use std::alloc::{AllocError, Global};
+use std::io;
+use std::io::{BufRead, Write};
+use thiserror::Error;
+
+/// The port of CoAP (RFC 7252, 6.1).
+const PORT: u16 = 5683;
+
+/// The status of a play that came to the end of its input.
+const DONE: u8 = 0;
+
+/// The status where a line is bad.
+const BAD_LINE: u8 = 2;
+
+/// The status where reading or writing failed, or memory was refused.
+const FAILED: u8 = 3;
+
+// Why a play stops before the end of its input.
+#[derive(Debug, Drop, Error)]
+enum Stop {
+    #[error("line {0}: bad")]
+    BadLine(u64),
+    #[error("{0}")]
+    Io(#[from] io::Error),
+    #[error("{0}")]
+    Memory(#[from] AllocError),
+}
+
+/// Reads lines, carries out each in turn on an engine of its own, and prints what each sends before it reads the next.
+/// What it answers is the status of the program: 0 at the end of the input, 2 where a line is bad, which `err` is told
+/// by its number from 1, and 3 where reading or writing failed, or there was no memory for the engine or a line.
+pub fn play<R: BufRead + Drop, W: Write, E: Write>(
+    alloc: Global,
+    input: R,
+    out: &mut W,
+    err: &mut E,
+    first_serial: u64,
+    first_id: u16,
+) -> u8
+    requires { first_serial ≤ last_serial }
+{
+    match play_lines(alloc, input, out, first_serial, first_id) {
+        Ok(()) => DONE,
+        Err(stop) => tell(err, &stop),
+    }
+}
+
+// Tells why a play stopped, where a line was bad: the status.
+fn tell<E: Write>(err: &mut E, stop: &Stop) -> u8 {
+    match stop {
+        Stop::BadLine(_) => match writeln!(err, "{stop}") {
+            Ok(()) => BAD_LINE,
+            Err(_) => FAILED,
+        },
+        Stop::Io(_) | Stop::Memory(_) => FAILED,
+    }
+}
+
+fn play_lines<R: BufRead + Drop, W: Write>(
+    alloc: Global,
+    input: R,
+    out: &mut W,
+    first_serial: u64,
+    first_id: u16,
+) -> Result<(), Stop>
+    requires { first_serial ≤ last_serial }
+{
+    let mut engine = Engine::new(alloc, first_serial, first_id)?;
+    let mut number = 0u64;
+    for text in input.split(alloc, b'\n') {
+        number = number.saturating_add(1);
+        match parse(alloc, &text?) {
+            Ok(line) => carry_out(alloc, &mut engine, &line, out)?,
+            Err(LineError::Bad) => return Err(Stop::BadLine(number)),
+            Err(LineError::NoMemory) => return Err(Stop::Memory(AllocError)),
+        }
+    }
+    Ok(())
+}
+
+// Carries out a line, and prints what it sends.
+fn carry_out<W: Write>(
+    alloc: Global,
+    engine: &mut Engine,
+    line: &Line,
+    out: &mut W,
+) -> io::Result<()>
+    ensures { (sent : Option Sent) × IsCarriedOut line.now engine.old sent engine.new × OnOk result (Appends (W.contents out.old) (W.contents out.new) (text_of sent)) }
+{
+    match line {
+        Line::Tick { now } => {
+            engine.tick(*now);
+            Ok(())
+        }
+        Line::Deliver { now, peer, bytes } => {
+            match engine.hear(alloc, *now, endpoint(*peer), bytes) {
+                None => Ok(()),
+                Some(emission) => print(out, &emission),
+            }
+        }
+    }
+}
+
+// The endpoint of a peer.
+fn endpoint(peer: u8) -> Endpoint
+    ensures { result ≡ endpoint_of peer }
+{
+    Endpoint {
+        ip: [127, 0, 0, peer],
+        port: PORT,
+    }
+}
+
+// Prints an emission, and has it written out.
+fn print<W: Write>(out: &mut W, emission: &Emission) -> io::Result<()>
+    ensures { OnOk result (Appends (W.contents out.old) (W.contents out.new) (printed emission.now)) }
+{
+    let peer = emission.to.ip[3];
+    write!(out, "{peer} ")?;
+    hexadecimal::write(out, emission.bytes.as_slice())?;
+    out.write_all(b"\n")?;
+    out.flush()
+}
