@@ -1,0 +1,64 @@
+//! The server's program: it parses its command line, and calls the service.
+#![tactic(auto)]
+
+use clap::{Command, Error};
+use fc_service::play::play;
+use std::alloc::Global;
+use std::io;
+use std::io::{BufReader, BufWriter, Write};
+use std::process::ExitCode;
+use std::rt::Runtime;
+
+/// The status where the command line is bad.
+const BAD_COMMAND: u8 = 2;
+
+/// The status where reading or writing failed, or memory was refused.
+const FAILED: u8 = 3;
+
+/// The serial that an empty slot begins with, and the first message id of the server's own.
+const FIRST_SERIAL: u64 = 0;
+
+const FIRST_ID: u16 = 0;
+
+fn command<'a>(alloc: Global) -> Result<Command<'a>, Error> {
+    let play = Command::new(alloc, "play").about(
+        "Play the lines of standard input: `now peer hex`, or `now - -`",
+    );
+    Ok(
+        Command::new(alloc, "fcd")
+            .about("A CoAP server whose resources are answered by small programs")
+            .subcommand_required(true)
+            .subcommand(play)?,
+    )
+}
+
+fn run<R: Runtime + AllocGlobal, E: Write>(rt: &R, err: &mut E) -> anyhow::Result<u8> {
+    let alloc = rt.alloc();
+    let words: Vec<String> = std::env::args(rt)?.collect(alloc)?;
+    let matches = match command(alloc)?.try_get_matches_from(words.as_slice()) {
+        Ok(matches) => matches,
+        Err(error) => {
+            error.print(rt)?;
+            return Ok(if error.use_stderr() { BAD_COMMAND } else { 0 });
+        }
+    };
+    match matches.subcommand() {
+        Some(("play", _)) => play_input(rt, err),
+        _ => Ok(BAD_COMMAND),
+    }
+}
+
+// Plays standard input, onto standard output.
+fn play_input<R: Runtime + AllocGlobal, E: Write>(rt: &R, err: &mut E) -> anyhow::Result<u8> {
+    let alloc = rt.alloc();
+    let input = BufReader::new(alloc, rt.reader())?;
+    let mut out = BufWriter::new(alloc, io::writer(rt))?;
+    Ok(play(alloc, input, &mut out, err, FIRST_SERIAL, FIRST_ID))
+}
+
+fn main(rt: HostRuntime) -> ExitCode {
+    match run(&rt, &mut rt.stderr()) {
+        Ok(status) => ExitCode::from(status),
+        Err(_) => ExitCode::from(FAILED),
+    }
+}
