@@ -9,6 +9,3 @@ mod work;
 
 pub use engine::Engine;
 pub use line::Line;
-
-#[cfg(test)]
-mod tests;

@@ -11,6 +11,3 @@ mod task;
 
 pub use fc_core::Event;
 pub use run::{World, run_world};
-
-#[cfg(test)]
-mod tests;

@@ -1,6 +1,11 @@
 //! The server's program: it parses its command line, and calls the service.
 #![tactic(auto)]
 
+#[cfg(test)]
+mod event_tests;
+#[cfg(test)]
+mod play_tests;
+
 use clap::{Command, Error};
 use fc_service::play::play;
 use std::alloc::Global;

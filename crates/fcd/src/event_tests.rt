@@ -1,6 +1,6 @@
 // Lists of events: the expected bytes are those of the protocol, worked out by hand.
-use crate::{Event, run_world};
 use coap_msg::Endpoint;
+use fc_world::{Event, run_world};
 use std::alloc::Global;
 use std::test::Fail;
 

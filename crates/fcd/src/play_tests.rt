@@ -1,5 +1,5 @@
 // Lines that are played, and what is printed: the expected bytes are those of the protocol, worked out by hand.
-use crate::play::play;
+use fc_service::play::play;
 use std::alloc::Global;
 use std::io;
 use std::io::{BufRead, ErrorKind, Read, Write};
