@@ -1,3 +1,4 @@
 pub mod Kept
 pub mod Paths
 pub mod Faults
+pub mod Written

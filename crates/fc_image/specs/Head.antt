@@ -1,6 +1,6 @@
 -- The header of an image: sixteen bytes, numbers with the least byte first.
-use Rattle.std.specs.Prelude.{◌≡◌, ℕ, ◌+◌, ◌*◌, ◌%◌, ◌≤◌, ◌==◌, ◌&&◌, ◌||◌, not, Bool, false, nat_lt, nat_le, List, [], ◌∷◌, length, take, drop, find, Option, slice_index}
-use Rattle.std.specs.Int.{w16, w32, from_le_bytes}
+use Rattle.std.specs.Prelude.{◌≡◌, ℕ, ◌+◌, ◌*◌, ◌%◌, ◌≤◌, ◌==◌, ◌&&◌, ◌||◌, not, Bool, false, nat_lt, nat_le, if◌then◌else◌, List, [], ◌∷◌, ◌++◌, length, take, drop, find, Option, Some, None, slice_index}
+use Rattle.std.specs.Int.{w16, w32, from_le_bytes, to_le_bytes}
 use Rattle.fc_isa.specs.declared.rule.Rule.{Rule}
 use Rattle.fc_isa.specs.declared.rule.Rule.TheVariants.{Format, SlotCount, VarsSize, Budget, Reserved}
 
@@ -35,18 +35,38 @@ is_word a b c d bytes = ((slice_index bytes 0 == a) && (slice_index bytes 1 == b
 abbrev pub has_magic : List ℕ → Bool
 has_magic image = is_word 70 67 66 49 image
 
+-- the count of slots is 1 to 512, the variables are up to 256 bytes in words of eight, the budget is 1 to 65536: what breaks that
+abbrev pub is_bad_count : ℕ → Bool
+is_bad_count count = (count == 0) || nat_lt 512 count
+
+abbrev pub is_bad_size : ℕ → Bool
+is_bad_size size = nat_lt 256 size || not (size % 8 == 0)
+
+abbrev pub is_bad_budget : ℕ → Bool
+is_bad_budget budget = (budget == 0) || nat_lt 65536 budget
+
+-- the least rule that these numbers break
+abbrev pub limit_fault : Head → Option Rule
+limit_fault h =
+    if is_bad_count h.count then Some SlotCount else (if is_bad_size h.vars_size then Some VarsSize else (
+    if is_bad_budget h.budget then Some Budget else None))
+
 -- an image breaks a rule of the header
 unfoldable pub head_breaks : List ℕ → Rule → Bool
 head_breaks image Format = not ((nat_le 16 (length image) && has_magic image) && (length image == 16 + 8 * (stated image).count))
-head_breaks image SlotCount = ((stated image).count == 0) || nat_lt 512 (stated image).count
-head_breaks image VarsSize = nat_lt 256 (stated image).vars_size || not ((stated image).vars_size % 8 == 0)
-head_breaks image Budget = ((stated image).budget == 0) || nat_lt 65536 (stated image).budget
+head_breaks image SlotCount = is_bad_count (stated image).count
+head_breaks image VarsSize = is_bad_size (stated image).vars_size
+head_breaks image Budget = is_bad_budget (stated image).budget
 head_breaks image Reserved = not (is_word 0 0 0 0 (drop 12 image))
 head_breaks image other = false
 
 -- the least rule that a header breaks
 abbrev pub head_fault : List ℕ → Option Rule
 head_fault image = find (head_breaks image) (Format ∷ SlotCount ∷ VarsSize ∷ Budget ∷ Reserved ∷ [])
+
+-- the sixteen bytes that say these numbers: the magic, the numbers, four zeros
+abbrev pub head_bytes : Head → List ℕ
+head_bytes h = 70 ∷ 67 ∷ 66 ∷ 49 ∷ (to_le_bytes w16 h.vars_size ++ (to_le_bytes w16 h.count ++ (to_le_bytes w32 h.budget ++ (0 ∷ 0 ∷ 0 ∷ 0 ∷ []))))
 
 -- what an image keeps whose header breaks no rule: it is the header and its slots, and the numbers are within their limits
 pub record KeepsHead (image : List ℕ) : Type 0 where

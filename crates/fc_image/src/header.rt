@@ -3,7 +3,7 @@ ghost use Rattle.std.specs.Prelude.{IfErr, IfOk, None, Some, false, length, slic
 ghost use Rattle.fc_image.specs.Head.{KeepsHead, head_breaks, head_fault, is_word, stated};
 ghost use Rattle.fc_isa.specs.declared.rule.Rule.{Rule};
 
-use crate::limits::Head;
+use crate::limits::{Head, is_bad_budget, is_bad_count, is_bad_size};
 use fc_isa::{Fault, Rule};
 
 /// The size of a header in bytes.
@@ -20,7 +20,7 @@ pub fn head(image: &[u8]) -> Result<Head, Fault>
 {
     match fault(image) {
         Some(rule) => Err(Fault { rule, slot: 0 }),
-        None => Ok(Head::new(vars_size(image), count(image), budget(image))),
+        None => Ok(Head::of(vars_size(image), count(image), budget(image))),
     }
 }
 
@@ -60,8 +60,7 @@ fn breaks_slot_count(image: &[u8]) -> bool
     requires { 16 ≤ length image.now }
     ensures { result ≡ head_breaks image.now Rule.SlotCount }
 {
-    let count = count(image);
-    count == 0 || count > 512
+    is_bad_count(count(image) as usize)
 }
 
 /// The variables aren't up to 256 bytes in words of eight.
@@ -70,8 +69,7 @@ fn breaks_vars_size(image: &[u8]) -> bool
     requires { 16 ≤ length image.now }
     ensures { result ≡ head_breaks image.now Rule.VarsSize }
 {
-    let vars_size = vars_size(image);
-    vars_size > 256 || vars_size % 8 != 0
+    is_bad_size(vars_size(image))
 }
 
 /// The budget isn't 1 to 65536.
@@ -80,8 +78,7 @@ fn breaks_budget(image: &[u8]) -> bool
     requires { 16 ≤ length image.now }
     ensures { result ≡ head_breaks image.now Rule.Budget }
 {
-    let budget = budget(image);
-    budget == 0 || budget > 65536
+    is_bad_budget(budget(image))
 }
 
 /// A reserved byte isn't zero.

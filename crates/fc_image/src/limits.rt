@@ -1,4 +1,8 @@
-//! What an image's header says.
+//! What an image's header says, and the limits of its numbers.
+ghost use Rattle.std.specs.Prelude.{◌≡◌};
+ghost use Rattle.fc_image.specs.Head.{is_bad_budget, is_bad_count, is_bad_size, limit_fault};
+
+use fc_isa::{Fault, Rule};
 use std::marker::Model;
 
 /// What an image's header says of its program. A clause sees the three numbers, which are within their limits.
@@ -22,11 +26,25 @@ impl Model for Head {
 }
 
 impl Head {
-    ghost use Rattle.std.specs.Prelude.{◌%◌, ◌≡◌, ◌≤◌};
-    ghost use Rattle.fc_image.specs.Head.{IsHead};
+    ghost use Rattle.std.specs.Prelude.{IfErr, IfOk, None, Some, ◌%◌, ◌≡◌, ◌≤◌};
+    ghost use Rattle.fc_image.specs.Head.{IsHead, head_bytes, limit_fault};
 
-    /// The header of these numbers.
-    pub(crate) fn new(vars_size: u16, count: u16, budget: u32) -> Self
+    /// The header of these numbers: the size of the variables in bytes, the count of slots, and the budget of steps.
+    ///
+    /// # Errors
+    /// The least rule, 2 to 4, that a number breaks, at slot 0.
+    pub fn new(vars_size: u16, count: usize, budget: u32) -> Result<Self, Fault>
+        ensures head { IfOk result (λ h. (h ≡ record { vars_size = vars_size; count = count; budget = budget }) × (limit_fault (record { vars_size = vars_size; count = count; budget = budget }) ≡ None)) }
+        ensures fault { IfErr result (λ f. (limit_fault (record { vars_size = vars_size; count = count; budget = budget }) ≡ Some f.rule) × (f.slot ≡ 0)) }
+    {
+        match broken_limit(vars_size, count, budget) {
+            Some(rule) => Err(Fault { rule, slot: 0 }),
+            None => Ok(Head::of(vars_size, count as u16, budget)),
+        }
+    }
+
+    /// The header of numbers within their limits.
+    pub(crate) fn of(vars_size: u16, count: u16, budget: u32) -> Self
         requires { IsHead (record { vars_size = vars_size; count = count; budget = budget }) }
         ensures { result ≡ record { vars_size = vars_size; count = count; budget = budget } }
     {
@@ -35,6 +53,19 @@ impl Head {
             count,
             budget,
         }
+    }
+
+    /// The sixteen bytes that an image of this header begins with.
+    pub fn bytes(&self) -> [u8; 16]
+        ensures { result ≡ head_bytes self.now }
+    {
+        let size = self.vars_size.to_le_bytes();
+        let count = self.count.to_le_bytes();
+        let budget = self.budget.to_le_bytes();
+        [
+            b'F', b'C', b'B', b'1', size[0], size[1], count[0], count[1], budget[0], budget[1],
+            budget[2], budget[3], 0, 0, 0, 0,
+        ]
     }
 
     /// The size of the variables in bytes.
@@ -63,4 +94,40 @@ impl Head {
     {
         self.budget
     }
+}
+
+/// The least rule that these numbers break.
+fn broken_limit(vars_size: u16, count: usize, budget: u32) -> Option<Rule>
+    ensures { result ≡ limit_fault (record { vars_size = vars_size; count = count; budget = budget }) }
+{
+    if is_bad_count(count) {
+        Some(Rule::SlotCount)
+    } else if is_bad_size(vars_size) {
+        Some(Rule::VarsSize)
+    } else if is_bad_budget(budget) {
+        Some(Rule::Budget)
+    } else {
+        None
+    }
+}
+
+/// The count of slots isn't 1 to 512.
+pub(crate) fn is_bad_count(count: usize) -> bool
+    ensures { result ≡ is_bad_count count }
+{
+    count == 0 || count > 512
+}
+
+/// The variables aren't up to 256 bytes in words of eight.
+pub(crate) fn is_bad_size(vars_size: u16) -> bool
+    ensures { result ≡ is_bad_size vars_size }
+{
+    vars_size > 256 || vars_size % 8 != 0
+}
+
+/// The budget isn't 1 to 65,536.
+pub(crate) fn is_bad_budget(budget: u32) -> bool
+    ensures { result ≡ is_bad_budget budget }
+{
+    budget == 0 || budget > 65536
 }

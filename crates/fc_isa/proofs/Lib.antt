@@ -1,4 +1,10 @@
+pub mod Rows
+pub mod Forms
+pub mod Insns
+pub mod Faultless
 pub mod Slot
+pub mod Programs
 pub mod Slots
 pub mod First
 pub mod Steps
+pub mod Narrow

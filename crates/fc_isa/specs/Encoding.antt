@@ -1,14 +1,31 @@
--- How bytes spell a program (RFC 9669, 3 and 3.1): eight bytes an instruction, numbers with the least byte first.
-use Rattle.std.specs.Prelude.{◌≡◌, ℕ, zero, suc, ◌+◌, ◌*◌, ◌/◌, ◌%◌, ◌<◌, ◌==◌, ◌&&◌, ◌||◌, not, Bool, false, nat_lt, nat_le, if◌then◌else◌, List, [], ◌∷◌, ◌++◌, length, take, drop, find, All, Option, Some, None, slice_index, FitsSigned}
+-- How bytes spell a program (RFC 9669, 3 to 5): eight bytes a slot, numbers with the least byte first.
+use Rattle.std.specs.Prelude.{◌≡◌, ℕ, zero, suc, ◌+◌, ◌*◌, ◌/◌, ◌%◌, ◌^◌, ◌<◌, ◌==◌, ◌&&◌, ◌||◌, not, Bool, true, false, nat_lt, nat_le, if◌then◌else◌, List, [], ◌∷◌, ◌++◌, length, take, drop, find, All, Option, Some, None, slice_index}
 use Rattle.std.specs.Int.{w16, w32, cast_unsigned, cast_signed, to_le_bytes, from_le_bytes}
+use Rattle.std.specs.List.{flat_map}
+use Rattle.fc_isa.specs.declared.insn.Width.{Width}
+use Rattle.fc_isa.specs.declared.insn.Width.TheVariants.{W32, W64}
+use Rattle.fc_isa.specs.declared.insn.AluOp.{AluOp}
+use Rattle.fc_isa.specs.declared.insn.AluOp.TheVariants.{Div, Mod, Mov, Sdiv, Smod}
+use Rattle.fc_isa.specs.declared.insn.Operand.{Operand}
+use Rattle.fc_isa.specs.declared.insn.Operand.TheVariants.{Imm, Reg}
+use Rattle.fc_isa.specs.declared.insn.SignExtension.{SignExtension}
+use Rattle.fc_isa.specs.declared.insn.SignExtension.TheVariants.{Byte, HalfWord, Word}
+use Rattle.fc_isa.specs.declared.insn.SwapWidth.{SwapWidth}
+use Rattle.fc_isa.specs.declared.insn.SwapWidth.TheVariants.{S16, S32, S64}
 use Rattle.fc_isa.specs.declared.insn.Insn.{Insn}
-use Rattle.fc_isa.specs.declared.insn.Insn.TheVariants.{MovImm, Exit}
+use Rattle.fc_isa.specs.declared.insn.Insn.TheVariants.{Alu, Neg, SignExtend, End, LoadWide, WideSecond, Load, StoreImm, Store, JumpAlways, JumpAlwaysLong, JumpIf, CallHelper, CallLocal, Exit}
+use Rattle.fc_isa.specs.declared.shape.Source.{Source}
+use Rattle.fc_isa.specs.declared.shape.Source.TheVariants.{K, X}
+use Rattle.fc_isa.specs.declared.shape.Shape.{Shape}
+use Rattle.fc_isa.specs.declared.shape.Shape.TheVariants.{Unknown as UnknownShape, Alu as AluShape, Neg as NegShape, End as EndShape, LoadWide as LoadWideShape, Load as LoadShape, StoreImm as StoreImmShape, Store as StoreShape, JumpAlways as JumpAlwaysShape, JumpAlwaysLong as JumpAlwaysLongShape, JumpIf as JumpIfShape, Call as CallShape, Exit as ExitShape}
 use Rattle.fc_isa.specs.declared.rule.Rule.{Rule}
 use Rattle.fc_isa.specs.declared.rule.Rule.TheVariants.{Opcode, Register, FramePointer, Field, WideLoad}
 use Rattle.fc_isa.specs.declared.decoding.DecodeError.{DecodeError}
 use Rattle.fc_isa.specs.declared.decoding.DecodeError.TheVariants.{Fault, NoMemory}
+use Rattle.fc_isa.specs.Shapes.{opcode_of, shape_of, is_known, is_wide, uses_dst, writes_dst, uses_src, uses_offset, uses_imm}
+use Rattle.fc_isa.specs.Program.{IsInsn, is_program}
 
--- the fields of eight bytes; offset and imm by their bits
+-- the fields of a slot (3.1); offset and imm by their bits
 pub record Fields : Type 0 where
   pub opcode : ℕ
   pub dst : ℕ
@@ -16,34 +33,91 @@ pub record Fields : Type 0 where
   pub offset : ℕ
   pub imm : ℕ
 
-abbrev pub mov64_imm : ℕ
-mov64_imm = 183
-
-abbrev pub exit : ℕ
-exit = 149
-
--- the fields that spell an instruction: one line an instruction, and what it doesn't use is zero
-abbrev pub fields_of : Insn → Fields
-fields_of (MovImm dst imm) = record { opcode = mov64_imm; dst = dst; src = 0; offset = 0; imm = cast_unsigned w32 imm }
-fields_of Exit = record { opcode = exit; dst = 0; src = 0; offset = 0; imm = 0 }
-
 -- opcode; a byte of two registers, the destination in its low four bits; offset; imm
 abbrev pub bytes_of : Fields → List ℕ
 bytes_of f = f.opcode ∷ (16 * f.src + f.dst) ∷ (to_le_bytes w16 f.offset ++ to_le_bytes w32 f.imm)
 
--- what the types of an instruction's parts keep: a written register is R0 to R9, an immediate has 32 bits
-abbrev pub IsInsn : Insn → Type 0
-IsInsn (MovImm dst imm) = (dst < 10) × FitsSigned w32 imm
-IsInsn Exit = Unit {0}
+-- ---- the spelling of a program
 
+-- an operand is the immediate (K) or the source register (X)
+abbrev pub source_of : Operand → Source
+source_of (Imm k) = K
+source_of (Reg r) = X
+
+abbrev pub src_of : Operand → ℕ
+src_of (Imm k) = 0
+src_of (Reg r) = r
+
+abbrev pub imm_of : Operand → ℕ
+imm_of (Imm k) = cast_unsigned w32 k
+imm_of (Reg r) = 0
+
+-- signed division and modulo have offset 1 (4.1)
+abbrev pub sign_offset : AluOp → ℕ
+sign_offset Sdiv = 1
+sign_offset Smod = 1
+sign_offset op = 0
+
+-- a move with sign extension is a move whose offset is the number of bits (4.1)
+abbrev pub extended_bits : SignExtension → ℕ
+extended_bits (Byte width) = 8
+extended_bits (HalfWord width) = 16
+extended_bits Word = 32
+
+abbrev pub extended_width : SignExtension → Width
+extended_width (Byte width) = width
+extended_width (HalfWord width) = width
+extended_width Word = W64
+
+-- a change of the byte order has the number of bits in imm (4.2)
+abbrev pub swap_bits : SwapWidth → ℕ
+swap_bits S16 = 16
+swap_bits S32 = 32
+swap_bits S64 = 64
+
+abbrev pub fields : Shape → ℕ → ℕ → ℕ → ℕ → Fields
+fields shape dst src offset imm = record { opcode = opcode_of shape; dst = dst; src = src; offset = offset; imm = imm }
+
+-- the fields of an instruction's own slot: opcode, dst, src, offset, imm; a second half has none
+abbrev pub fields_of : Insn → Fields
+fields_of (Alu op width dst operand) = fields (AluShape op width (source_of operand)) dst (src_of operand) (sign_offset op) (imm_of operand)
+fields_of (Neg width dst) = fields (NegShape width) dst 0 0 0
+fields_of (SignExtend extension dst src) = fields (AluShape Mov (extended_width extension) X) dst src (extended_bits extension) 0
+fields_of (End order width dst) = fields (EndShape order) dst 0 0 (swap_bits width)
+fields_of (LoadWide dst value) = fields LoadWideShape dst 0 0 (value % 2 ^ 32)
+fields_of WideSecond = record { opcode = 0; dst = 0; src = 0; offset = 0; imm = 0 }
+fields_of (Load loaded dst base offset) = fields (LoadShape loaded) dst base (cast_unsigned w16 offset) 0
+fields_of (StoreImm size base offset imm) = fields (StoreImmShape size) base 0 (cast_unsigned w16 offset) (cast_unsigned w32 imm)
+fields_of (Store size base offset src) = fields (StoreShape size) base src (cast_unsigned w16 offset) 0
+fields_of (JumpAlways offset) = fields JumpAlwaysShape 0 0 (cast_unsigned w16 offset) 0
+fields_of (JumpAlwaysLong offset) = fields JumpAlwaysLongShape 0 0 0 (cast_unsigned w32 offset)
+fields_of (JumpIf j) = fields (JumpIfShape j.width j.relation (source_of j.right)) j.left (src_of j.right) (cast_unsigned w16 j.offset) (imm_of j.right)
+fields_of (CallHelper number) = fields CallShape 0 0 0 (cast_unsigned w32 number)
+fields_of (CallLocal offset) = fields CallShape 0 1 0 (cast_unsigned w32 offset)
+fields_of Exit = fields ExitShape 0 0 0 0
+
+-- the second slot of a wide load: 32 zero bits, then the high half of its value (3.2)
+abbrev pub second_half : ℕ → Fields
+second_half high = record { opcode = 0; dst = 0; src = 0; offset = 0; imm = high }
+
+-- the slots that an instruction spells: a wide load two, so that the second half spells none
+abbrev pub slots_of : Insn → List Fields
+slots_of (LoadWide dst value) = fields_of (LoadWide dst value) ∷ second_half (value / 2 ^ 32) ∷ []
+slots_of WideSecond = []
+slots_of insn = fields_of insn ∷ []
+
+-- the bytes of a program
 abbrev pub encoded : List Insn → List ℕ
 encoded [] = []
-encoded (i ∷ program) = bytes_of (fields_of i) ++ encoded program
+encoded (insn ∷ program) = flat_map bytes_of (slots_of insn) ++ encoded program
 
 -- the bytes spell the program
 pub record Spells (bytes : List ℕ) (program : List Insn) : Type 0 where
   pub bytes_are : bytes ≡ encoded program
   pub insns : All IsInsn program
+  pub whole : is_program program ≡ true
+
+-- ---- the faults of bytes that spell none
 
 -- the fields that eight bytes have
 abbrev pub read_fields : List ℕ → Fields
@@ -58,41 +132,70 @@ read_fields bs = record {
 abbrev pub fields_at : List ℕ → ℕ → Fields
 fields_at bytes slot = read_fields (take 8 (drop (8 * slot) bytes))
 
-abbrev pub is_known : ℕ → Bool
-is_known opcode = (opcode == mov64_imm) || (opcode == exit)
+-- the slot lies wholly within the bytes
+abbrev pub is_whole : List ℕ → ℕ → Bool
+is_whole bytes slot = nat_le (8 * slot + 8) (length bytes)
 
--- which fields an opcode uses
-abbrev pub uses_dst : ℕ → Bool
-uses_dst opcode = opcode == mov64_imm
+-- the slot's fields, where it lies wholly within the bytes
+abbrev pub slot_at : List ℕ → ℕ → Option Fields
+slot_at bytes slot = if is_whole bytes slot then Some (fields_at bytes slot) else None
 
-abbrev pub uses_imm : ℕ → Bool
-uses_imm opcode = opcode == mov64_imm
+-- what an opcode doesn't use is zero
+abbrev pub unused_are_zero : Shape → Fields → Bool
+unused_are_zero shape f =
+    ((uses_dst shape || (f.dst == 0)) && (uses_src shape || (f.src == 0)))
+    && ((uses_offset shape || (f.offset == 0)) && (uses_imm shape || (f.imm == 0)))
 
--- the fields that an opcode doesn't use are zero
-abbrev pub unused_are_zero : Fields → Bool
-unused_are_zero f = ((uses_dst f.opcode || (f.dst == 0)) && (f.src == 0)) && ((f.offset == 0) && (uses_imm f.opcode || (f.imm == 0)))
+-- a move's offset is 0 or the bits that it extends, 32 for all 64 bits alone
+abbrev pub is_move_offset : Width → ℕ → Bool
+is_move_offset W32 offset = ((offset == 0) || (offset == 8)) || (offset == 16)
+is_move_offset W64 offset = ((offset == 0) || (offset == 8)) || ((offset == 16) || (offset == 32))
 
--- the fields break a rule
-abbrev pub breaks : Fields → Rule → Bool
-breaks f Opcode = not (is_known f.opcode)
-breaks f Register = nat_lt 10 f.dst || nat_lt 10 f.src
-breaks f FramePointer = uses_dst f.opcode && (f.dst == 10)
-breaks f Field = not (unused_are_zero f)
-breaks f other = false
+abbrev pub alu_values_allowed : AluOp → Width → Source → ℕ → Bool
+alu_values_allowed Div width source offset = (offset == 0) || (offset == 1)
+alu_values_allowed Mod width source offset = (offset == 0) || (offset == 1)
+alu_values_allowed Mov width X offset = is_move_offset width offset
+alu_values_allowed op width source offset = true
+
+-- what an opcode uses has a value that is allowed
+abbrev pub values_allowed : Shape → Fields → Bool
+values_allowed (AluShape op width source) f = alu_values_allowed op width source f.offset
+values_allowed (EndShape order) f = ((f.imm == 16) || (f.imm == 32)) || (f.imm == 64)
+values_allowed CallShape f = (f.src == 0) || (f.src == 1)
+values_allowed shape f = true
+
+-- a wide load's second slot is there, and has nothing but an immediate
+abbrev pub is_second_half : Option Fields → Bool
+is_second_half (Some f) = ((f.opcode == 0) && (f.dst == 0)) && ((f.src == 0) && (f.offset == 0))
+is_second_half None = false
+
+-- a slot's fields break a rule; the next slot's count where it is a wide load
+abbrev pub breaks : Fields → Option Fields → Rule → Bool
+breaks f next Opcode = not (is_known (shape_of f.opcode))
+breaks f next Register = nat_lt 10 f.dst || nat_lt 10 f.src
+breaks f next FramePointer = writes_dst (shape_of f.opcode) && (f.dst == 10)
+breaks f next Field = not (unused_are_zero (shape_of f.opcode) f && values_allowed (shape_of f.opcode) f)
+breaks f next WideLoad = is_wide (shape_of f.opcode) && not (is_second_half next)
+breaks f next other = false
 
 -- the rules of a slot, the least number first
 abbrev pub slot_rules : List Rule
-slot_rules = Opcode ∷ Register ∷ FramePointer ∷ Field ∷ []
+slot_rules = Opcode ∷ Register ∷ FramePointer ∷ Field ∷ WideLoad ∷ []
 
 -- the least rule that the fields break
-abbrev pub slot_fault : Fields → Option Rule
-slot_fault f = find (breaks f) slot_rules
+abbrev pub slot_fault : Fields → Option Fields → Option Rule
+slot_fault f next = find (breaks f next) slot_rules
 
--- the least rule that a slot breaks: a rest of under eight bytes is no slot
+-- a slot is a second half where the slot before it is a wide load, and no second half itself
+abbrev pub is_second : List ℕ → ℕ → Bool
+is_second bytes zero = false
+is_second bytes (suc slot) = is_wide (shape_of (fields_at bytes slot).opcode) && not (is_second bytes slot)
+
+-- the least rule that a slot breaks: a second half none, since the wide load answers for it; a rest of under eight bytes is no slot
 unfoldable pub fault_at : List ℕ → ℕ → Option Rule
 fault_at bytes slot =
-    if nat_le (8 * slot + 8) (length bytes)
-    then slot_fault (fields_at bytes slot)
+    if is_whole bytes slot
+    then (if is_second bytes slot then None else slot_fault (fields_at bytes slot) (slot_at bytes (slot + 1)))
     else (if nat_lt (8 * slot) (length bytes) then Some WideLoad else None)
 
 -- the least slot that breaks a rule, with the least rule that it breaks
@@ -118,13 +221,67 @@ first_some f (suc n) = or_at (first_some f n) n (f n)
 unfoldable pub first_fault : List ℕ → Option (ℕ × Rule)
 first_fault bytes = first_some (fault_at bytes) (length bytes / 8 + 1)
 
--- the instruction that faultless fields spell
-abbrev pub insn_of : Fields → Insn
-insn_of f = if f.opcode == mov64_imm then MovImm f.dst (cast_signed w32 f.imm) else Exit
+-- ---- the program that faultless bytes spell
+
+abbrev pub operand_of : Source → Fields → Operand
+operand_of K f = Imm (cast_signed w32 f.imm)
+operand_of X f = Reg f.src
+
+-- division and modulo are signed where the offset isn't zero
+abbrev pub signed_by : ℕ → AluOp → AluOp
+signed_by offset Div = if offset == 0 then Div else Sdiv
+signed_by offset Mod = if offset == 0 then Mod else Smod
+signed_by offset op = op
+
+-- a move of a register extends the sign of as many bits as the offset says
+abbrev pub moved : Width → Fields → Insn
+moved width f =
+    if f.offset == 0 then Alu Mov width f.dst (Reg f.src)
+    else (if f.offset == 8 then SignExtend (Byte width) f.dst f.src
+    else (if f.offset == 16 then SignExtend (HalfWord width) f.dst f.src
+    else SignExtend Word f.dst f.src))
+
+abbrev pub arithmetic : AluOp → Width → Source → Fields → Insn
+arithmetic Mov width X f = moved width f
+arithmetic op width source f = Alu (signed_by f.offset op) width f.dst (operand_of source f)
+
+abbrev pub swap_width : ℕ → SwapWidth
+swap_width imm = if imm == 16 then S16 else (if imm == 32 then S32 else S64)
+
+abbrev pub called : Fields → Insn
+called f = if f.src == 0 then CallHelper (cast_signed w32 f.imm) else CallLocal (cast_signed w32 f.imm)
+
+-- the instruction of a form with these fields; high is the imm of the slot after them
+abbrev pub insn_with : Shape → Fields → ℕ → Insn
+insn_with (AluShape op width source) f high = arithmetic op width source f
+insn_with (NegShape width) f high = Neg width f.dst
+insn_with (EndShape order) f high = End order (swap_width f.imm) f.dst
+insn_with LoadWideShape f high = LoadWide f.dst (high * 2 ^ 32 + f.imm)
+insn_with (LoadShape loaded) f high = Load loaded f.dst f.src (cast_signed w16 f.offset)
+insn_with (StoreImmShape size) f high = StoreImm size f.dst (cast_signed w16 f.offset) (cast_signed w32 f.imm)
+insn_with (StoreShape size) f high = Store size f.dst (cast_signed w16 f.offset) f.src
+insn_with JumpAlwaysShape f high = JumpAlways (cast_signed w16 f.offset)
+insn_with JumpAlwaysLongShape f high = JumpAlwaysLong (cast_signed w32 f.imm)
+insn_with (JumpIfShape width relation source) f high =
+    JumpIf (record { width = width; relation = relation; left = f.dst; right = operand_of source f; offset = cast_signed w16 f.offset })
+insn_with CallShape f high = called f
+insn_with ExitShape f high = Exit
+insn_with UnknownShape f high = Exit
+
+abbrev pub imm_after : Option Fields → ℕ
+imm_after (Some f) = f.imm
+imm_after None = 0
+
+-- the instruction that faultless fields spell, with the slot after them
+abbrev pub insn_of : Fields → Option Fields → Insn
+insn_of f next = insn_with (shape_of f.opcode) f (imm_after next)
+
+abbrev pub insn_at : List ℕ → ℕ → Insn
+insn_at bytes slot = if is_second bytes slot then WideSecond else insn_of (fields_at bytes slot) (slot_at bytes (slot + 1))
 
 abbrev pub insns_below : List ℕ → ℕ → List Insn
 insns_below bytes zero = []
-insns_below bytes (suc n) = insns_below bytes n ++ (insn_of (fields_at bytes n) ∷ [])
+insns_below bytes (suc n) = insns_below bytes n ++ (insn_at bytes n ∷ [])
 
 -- the program that faultless bytes spell
 unfoldable pub program_of : List ℕ → List Insn

@@ -1,2 +1,5 @@
 pub mod Rules
+pub mod Program
+pub mod Shapes
 pub mod Encoding
+pub mod Served

@@ -1,10 +1,11 @@
 //! From bytes to instructions.
-ghost use Rattle.std.specs.Prelude.{IfErr, IfOk, List, MatchResult, None, Some, length, ◌≡◌};
-ghost use Rattle.fc_isa.specs.Encoding.{IsDecodeError, Spells, first_fault, insn_of, program_of, read_fields, slot_fault};
+ghost use Rattle.std.specs.Prelude.{IfErr, IfOk, List, MatchResult, None, Some, length, ◌+◌, ◌*◌, ◌≡◌, ◌≤◌};
+ghost use Rattle.fc_isa.specs.Encoding.{IsDecodeError, Spells, fault_at, first_fault, insn_at, is_second, program_of, slot_at};
 ghost use Rattle.fc_isa.specs.declared.insn.Insn.{Insn};
 
 use crate::fields::Fields;
-use crate::insn::Insn;
+use crate::insn::{Insn, Jump, Operand};
+use crate::program::is_wide_load;
 use crate::rule::{Fault, Rule};
 use std::alloc::{AllocError, Global};
 
@@ -37,11 +38,17 @@ pub fn decode(alloc: Global, bytes: &[u8]) -> Result<Vec<Insn>, DecodeError>
     ensures fault { IfErr result (IsDecodeError bytes.now) }
     ensures function { IfOk result (λ v. (v.items ≡ program_of bytes.now) × (first_fault bytes.now ≡ None)) }
 {
+    // The checker has to see the parts of an instruction where one is moved into a collection.
+    let _parts: (Option<Operand>, Option<Jump>) = (None, None);
     let slots = bytes.len() / 8;
     let mut program = Vec::with_capacity(alloc, slots)?;
+    let mut second = false;
     for slot in 0..slots {
-        match decode_slot(&bytes[8 * slot..8 * slot + 8]) {
-            Ok(insn) => program.push_reserved(insn),
+        match decode_slot(bytes, slot, second) {
+            Ok(insn) => {
+                second = is_wide_load(&insn);
+                program.push_reserved(insn);
+            }
             Err(rule) => return Err(DecodeError::Fault(Fault { rule, slot })),
         }
     }
@@ -55,15 +62,32 @@ pub fn decode(alloc: Global, bytes: &[u8]) -> Result<Vec<Insn>, DecodeError>
     Ok(program)
 }
 
-/// The instruction that eight bytes spell, or the least rule that they break.
-fn decode_slot(slot: &[u8]) -> Result<Insn, Rule>
-    requires { length slot.now ≡ 8 }
-    ensures insn { IfOk result (λ i. (slot_fault (read_fields slot.now) ≡ None) × (i ≡ insn_of (read_fields slot.now))) }
-    ensures fault { IfErr result (λ r. slot_fault (read_fields slot.now) ≡ Some r) }
+/// The instruction of a slot, or the least rule that it breaks; `second` where it is the second half of a wide load.
+fn decode_slot(bytes: &[u8], slot: usize, second: bool) -> Result<Insn, Rule>
+    requires whole { 8 * slot + 8 ≤ length bytes.now }
+    requires second { second ≡ is_second bytes.now slot }
+    ensures insn { IfOk result (λ i. (fault_at bytes.now slot ≡ None) × (i ≡ insn_at bytes.now slot)) }
+    ensures fault { IfErr result (λ r. fault_at bytes.now slot ≡ Some r) }
 {
-    let fields = Fields::read(slot);
-    match fields.fault() {
+    if second {
+        return Ok(Insn::WideSecond);
+    }
+    let fields = Fields::read(&bytes[8 * slot..8 * slot + 8]);
+    let next = fields_at(bytes, slot + 1);
+    match fields.fault(&next) {
         Some(rule) => Err(rule),
-        None => Ok(fields.insn()),
+        None => Ok(fields.insn(&next)),
+    }
+}
+
+/// The fields of a slot, if it lies wholly within the bytes.
+fn fields_at(bytes: &[u8], slot: usize) -> Option<Fields>
+    requires { 8 * slot ≤ length bytes.now }
+    ensures { result ≡ slot_at bytes.now slot }
+{
+    if 8 * slot + 8 <= bytes.len() {
+        Some(Fields::read(&bytes[8 * slot..8 * slot + 8]))
+    } else {
+        None
     }
 }

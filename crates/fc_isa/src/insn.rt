@@ -1,7 +1,52 @@
-//! Instructions and registers.
+//! Instructions and what they are made of (RFC 9669, 4 and 5).
 ghost use Rattle.std.specs.Prelude.{◌≡◌, ◌<◌, ℕ};
 
 use std::marker::Model;
+
+/// A register, R0 to R10. A clause sees its number.
+#[derive(Clone, Copy, Debug, PartialEq, Eq)]
+pub struct Reg {
+    number: u8,
+}
+
+impl Model for Reg {
+    ghost Value = { ℕ };
+
+    ghost view = { λ r. r.number };
+
+    ghost invariant = { λ r. r.number < 11 };
+
+    ghost inverse = { λ n. record { number = n } };
+}
+
+impl Reg {
+    /// The register of this number.
+    #[inline(always)]
+    pub fn new(number: u8) -> Self
+        requires { number < 11 }
+        ensures { result ≡ number }
+    {
+        Reg { number }
+    }
+
+    /// The register's number, to index an array of eleven by.
+    #[inline(always)]
+    pub fn index(self) -> usize
+        ensures number { result ≡ self }
+        ensures below { result < 11 }
+    {
+        self.number as usize
+    }
+
+    /// The register's number.
+    #[inline(always)]
+    pub fn number(self) -> u8
+        ensures number { result ≡ self }
+        ensures below { result < 11 }
+    {
+        self.number
+    }
+}
 
 /// A register that a program may write, R0 to R9. A clause sees its number.
 #[derive(Clone, Copy, Debug, PartialEq, Eq)]
@@ -37,13 +82,202 @@ impl Target {
     {
         self.number as usize
     }
+
+    /// The register's number.
+    #[inline(always)]
+    pub fn number(self) -> u8
+        ensures number { result ≡ self }
+        ensures below { result < 10 }
+    {
+        self.number
+    }
 }
 
-/// An instruction.
+/// How many bits an operation works on: the low half of a register, or all of it.
+#[derive(Clone, Copy, Debug, PartialEq, Eq)]
+pub enum Width {
+    W32,
+    W64,
+}
+
+/// The second operand: an immediate, or a register.
+#[derive(Clone, Copy, Debug, PartialEq, Eq)]
+pub enum Operand {
+    Imm(i32),
+    Reg(Reg),
+}
+
+/// An arithmetic operation of two operands (RFC 9669, 4.1).
+#[derive(Clone, Copy, Debug, PartialEq, Eq)]
+pub enum AluOp {
+    Add,
+    Sub,
+    Mul,
+    Div,
+    Or,
+    And,
+    Lsh,
+    Rsh,
+    Mod,
+    Xor,
+    Mov,
+    Arsh,
+    Sdiv,
+    Smod,
+}
+
+/// What `movsx` extends by its sign, and to which width. A word is extended to 64 bits alone.
+#[derive(Clone, Copy, Debug, PartialEq, Eq)]
+pub enum SignExtension {
+    Byte(Width),
+    HalfWord(Width),
+    Word,
+}
+
+/// The byte order that `end` gives a number: the host's is little (RFC 9669, 4.2).
+#[derive(Clone, Copy, Debug, PartialEq, Eq)]
+pub enum ByteOrder {
+    Little,
+    Big,
+    Swapped,
+}
+
+/// How many low bits a change of the byte order keeps.
+#[derive(Clone, Copy, Debug, PartialEq, Eq)]
+pub enum SwapWidth {
+    S16,
+    S32,
+    S64,
+}
+
+/// How many bytes a store writes: 1, 2, 4 or 8.
+#[derive(Clone, Copy, Debug, PartialEq, Eq)]
+pub enum Size {
+    Byte,
+    HalfWord,
+    Word,
+    DoubleWord,
+}
+
+/// How many bytes a load reads, and whether their sign is extended.
+#[derive(Clone, Copy, Debug, PartialEq, Eq)]
+pub enum LoadType {
+    Unsigned(Size),
+    SignedByte,
+    SignedHalfWord,
+    SignedWord,
+}
+
+/// What a conditional jump asks of its two operands (RFC 9669, 4.3).
+#[derive(Clone, Copy, Debug, PartialEq, Eq)]
+pub enum Relation {
+    /// Equal.
+    Eq,
+    /// Above, unsigned.
+    Gt,
+    /// Above or equal, unsigned.
+    Ge,
+    /// A bit in common.
+    Set,
+    /// Not equal.
+    Ne,
+    /// Above, signed.
+    Sgt,
+    /// Above or equal, signed.
+    Sge,
+    /// Below, unsigned.
+    Lt,
+    /// Below or equal, unsigned.
+    Le,
+    /// Below, signed.
+    Slt,
+    /// Below or equal, signed.
+    Sle,
+}
+
+/// A conditional jump: the offset counts slots from the one after it.
+#[derive(Clone, Copy, Debug, PartialEq, Eq)]
+pub struct Jump {
+    pub width: Width,
+    pub relation: Relation,
+    pub left: Reg,
+    pub right: Operand,
+    pub offset: i16,
+}
+
+/// What a slot of a program holds: an instruction, or the second half of the wide load before it.
 #[derive(Clone, Copy, Debug, PartialEq, Eq)]
 pub enum Insn {
-    /// `mov64 dst, imm`: the register becomes the immediate, extended by its sign to 64 bits.
-    MovImm { dst: Target, imm: i32 },
-    /// `exit`: the program ends with the number in R0.
+    /// `add64 dst, operand` and its like.
+    Alu {
+        op: AluOp,
+        width: Width,
+        dst: Target,
+        operand: Operand,
+    },
+    /// `neg64 dst`.
+    Neg {
+        width: Width,
+        dst: Target,
+    },
+    /// `movsx64 dst, src, 8`.
+    SignExtend {
+        extension: SignExtension,
+        dst: Target,
+        src: Reg,
+    },
+    /// `le16 dst`, `be32 dst`, `swap64 dst`.
+    End {
+        order: ByteOrder,
+        width: SwapWidth,
+        dst: Target,
+    },
+    /// `lddw dst, value`: it takes two slots.
+    LoadWide {
+        dst: Target,
+        value: u64,
+    },
+    /// The second slot of the wide load before it.
+    WideSecond,
+    /// `ldxw dst, base, offset`, `ldsxw dst, base, offset`.
+    Load {
+        loaded: LoadType,
+        dst: Target,
+        base: Reg,
+        offset: i16,
+    },
+    /// `stw base, offset, imm`.
+    StoreImm {
+        size: Size,
+        base: Reg,
+        offset: i16,
+        imm: i32,
+    },
+    /// `stxw base, offset, src`.
+    Store {
+        size: Size,
+        base: Reg,
+        offset: i16,
+        src: Reg,
+    },
+    /// `ja offset`.
+    JumpAlways {
+        offset: i16,
+    },
+    /// `ja32 offset`.
+    JumpAlwaysLong {
+        offset: i32,
+    },
+    /// `jgt left, right, offset` and its like.
+    JumpIf(Jump),
+    /// `call number`: a helper.
+    CallHelper {
+        number: i32,
+    },
+    /// `callf offset`: a function of the program.
+    CallLocal {
+        offset: i32,
+    },
+    /// `exit`.
     Exit,
 }

@@ -1,8 +1,16 @@
-//! What programs and their bytes are to one another, for the crates above: each function is a law, and its contract says it.
-ghost use Rattle.std.specs.Prelude.{List, None, Some, length, ℕ, ◌/◌, ◌≡◌};
-ghost use Rattle.fc_isa.specs.Encoding.{IsFirstFault, Spells, first_fault, program_of};
+//! What programs and their bytes are to one another, and what the table of forms says, for the crates above: each function
+//! is a law, and its contract says it.
+ghost use Rattle.std.specs.Prelude.{All, List, None, Option, Some, count_by, false, length, slice_index_or, true, ℕ, ◌*◌, ◌/◌, ◌≡◌};
+ghost use Rattle.fc_isa.specs.Encoding.{Fields, IsFirstFault, Spells, encoded, first_fault, program_of, slot_fault};
+ghost use Rattle.fc_isa.specs.Program.{IsInsn, is_program};
 ghost use Rattle.fc_isa.specs.declared.insn.Insn.{Insn};
+ghost use Rattle.fc_isa.specs.Shapes.{is_known, opcode_of, opcode_uses_dst, opcode_uses_imm, opcode_uses_offset, opcode_uses_src, shape_of, uses_dst, uses_imm, uses_offset, uses_src};
 ghost use Rattle.fc_isa.specs.declared.rule.Rule.{Rule};
+
+use crate::insn::Insn;
+use crate::rule::Rule;
+use crate::shape::Shape;
+use crate::table::SHAPES;
 
 /// Bytes with no fault spell a program, with an instruction for each eight of them.
 pub fn faultless_bytes_spell(bytes: &[u8])
@@ -20,4 +28,38 @@ pub fn spelled_bytes_are_faultless(bytes: &[u8])
 pub fn first_fault_is_first(bytes: &[u8])
     ensures is_first { (rule : Rule) (slot : ℕ) → first_fault bytes.now ≡ Some (slot, rule) → IsFirstFault bytes.now rule slot }
     ensures only_first { (rule : Rule) (slot : ℕ) → IsFirstFault bytes.now rule slot → first_fault bytes.now ≡ Some (slot, rule) }
+{}
+
+/// The bytes that a program is written as are read as that program.
+pub fn written_programs_are_read(program: &[Insn])
+    ensures spells { All IsInsn program.now → is_program program.now ≡ true → Spells (encoded program.now) program.now }
+    ensures read { All IsInsn program.now → is_program program.now ≡ true → program_of (encoded program.now) ≡ program.now }
+    ensures count { All IsInsn program.now → is_program program.now ≡ true → length (encoded program.now) ≡ 8 * length program.now }
+{}
+
+/// What an instruction is made of lies within the ranges of its types.
+pub fn parts_are_within_their_types(insn: Insn)
+    ensures { IsInsn insn }
+{}
+
+/// The table has a known form for 117 opcodes.
+#[tactic(none)]
+pub fn known_forms_are_117()
+    ensures { count_by is_known SHAPES ≡ 117 }
+{}
+
+/// The form in an opcode's row is the one that has this opcode, and uses the fields that the opcode's bits say.
+#[tactic(none)]
+pub fn rows_fix_the_used_fields(opcode: u8)
+    ensures row { slice_index_or SHAPES opcode Shape.Unknown ≡ shape_of opcode }
+    ensures opcode { is_known (shape_of opcode) ≡ true → opcode_of (shape_of opcode) ≡ opcode }
+    ensures dst { is_known (shape_of opcode) ≡ true → uses_dst (shape_of opcode) ≡ opcode_uses_dst opcode }
+    ensures src { is_known (shape_of opcode) ≡ true → uses_src (shape_of opcode) ≡ opcode_uses_src opcode }
+    ensures offset { is_known (shape_of opcode) ≡ true → uses_offset (shape_of opcode) ≡ opcode_uses_offset opcode }
+    ensures imm { is_known (shape_of opcode) ≡ true → uses_imm (shape_of opcode) ≡ opcode_uses_imm opcode }
+{}
+
+/// A slot whose opcode has no known form breaks the opcode rule, whatever else it has.
+pub fn unknown_opcodes_are_refused(opcode: u8)
+    ensures { is_known (shape_of opcode) ≡ false → (f : Fields) (next : Option Fields) → f.opcode ≡ opcode → slot_fault f next ≡ Some Rule.Opcode }
 {}

@@ -1,15 +1,25 @@
 //! The instructions of resource programs, and how eight bytes spell one (RFC 9669, 3).
-//!
-//! A program is a list of [`Insn`]. [`decode`] reads one from bytes, or names the first slot at fault, with its least
-//! broken rule. Two opcodes are known today: `mov64` of an immediate, and `exit`.
 #![tactic(auto)]
 
 pub mod decoding;
+pub mod encoding;
 mod fields;
 pub mod insn;
 pub mod laws;
+mod program;
 pub mod rule;
+pub mod served;
+pub mod shape;
+mod table;
 
 pub use decoding::{DecodeError, decode};
-pub use insn::{Insn, Target};
+pub use encoding::{NoMemory, encode};
+pub use insn::{
+    AluOp, ByteOrder, Insn, Jump, LoadType, Operand, Reg, Relation, SignExtension, Size, SwapWidth,
+    Target, Width,
+};
+pub use program::is_program;
 pub use rule::{Fault, Rule};
+pub use served::{Served, decode_served};
+pub use shape::{Shape, Source};
+pub use table::SHAPES;

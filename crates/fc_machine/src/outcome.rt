@@ -48,9 +48,10 @@ impl<'a> Outcome<'a> {
         self.found
     }
 
-    /// The reply's code.
+    /// The reply's code, of class 2, 4 or 5.
     pub fn code(&self) -> u8
-        ensures { result ≡ (meaning_of self.now).code }
+        ensures code { result ≡ (meaning_of self.now).code }
+        ensures reply { 64 ≤ result }
     {
         self.code
     }

@@ -5,9 +5,9 @@ use Rattle.std.specs.List.{AllByRecursion}
 use Rattle.std.specs.Int.{cast_unsigned, w64}
 use Rattle.std.proofs.lemmas.Option.{slice_get_within, get_or_from_slice_get}
 use Rattle.std.proofs.lemmas.List.Elements.{recursion_from_All}
-use Rattle.fc_isa.specs.declared.insn.Insn.{Insn}
-use Rattle.fc_isa.specs.declared.insn.Insn.TheVariants.{MovImm, Exit}
-use Rattle.fc_isa.specs.Encoding.{IsInsn}
+use Rattle.fc_isa.specs.declared.served.Served.{Served}
+use Rattle.fc_isa.specs.declared.served.Served.TheVariants.{MovImm, Exit}
+use Rattle.fc_isa.specs.Served.{IsServed}
 use Rattle.fc_image.specs.Shape.{HasShape}
 use Rattle.fc_kinds.specs.declared.kind.Kind.{Kind}
 use Rattle.fc_kinds.specs.declared.kind.Kind.TheVariants.{Unset, Num, Stack, Req, Vars}
@@ -19,16 +19,16 @@ use Rattle.fc_verify.specs.Forward.{forward}
 use Rattle.fc_verify.proofs.KindLaws.{kind_within_same, within_same, within_then, within_put}
 
 -- what a typing says of each slot
-record AreFine (code : List Insn) (states : States) : Type 0 where
-  each : (slot : ℕ) (insn : Insn) (kinds : List Kind) → slice_get code slot ≡ Some insn → state_at states slot ≡ Some kinds → IsFine states slot insn kinds
+record AreFine (code : List Served) (states : States) : Type 0 where
+  each : (slot : ℕ) (insn : Served) (kinds : List Kind) → slice_get code slot ≡ Some insn → state_at states slot ≡ Some kinds → IsFine states slot insn kinds
 
-up : (s : Option (List Kind)) (states : States) (j : ℕ) (insn : Insn) (ks : List Kind) → IsFine states j insn ks → IsFine (s ∷ states) (suc j) insn ks
+up : (s : Option (List Kind)) (states : States) (j : ℕ) (insn : Served) (ks : List Kind) → IsFine states j insn ks → IsFine (s ∷ states) (suc j) insn ks
 up s states j (MovImm dst imm) ks f =
     let e : suc j + 1 ≡ suc (j + 1) = omega arith in
     record { after = f.after; effect_is = f.effect_is; continues = record { state = f.continues.state; state_is = rw e f.continues.state_is; within = f.continues.within } }
 up s states j Exit ks f = record { after = f.after; effect_is = f.effect_is; continues = tt }
 
-down : (s : Option (List Kind)) (states : States) (j : ℕ) (insn : Insn) (ks : List Kind) → IsFine (s ∷ states) (suc j) insn ks → IsFine states j insn ks
+down : (s : Option (List Kind)) (states : States) (j : ℕ) (insn : Served) (ks : List Kind) → IsFine (s ∷ states) (suc j) insn ks → IsFine states j insn ks
 down s states j (MovImm dst imm) ks f =
     let e : suc j + 1 ≡ suc (j + 1) = omega arith in
     record { after = f.after; effect_is = f.effect_is; continues = record { state = f.continues.state; state_is = rw e at f.continues.state_is; within = f.continues.within } }
@@ -41,12 +41,12 @@ exit_typed (Stack l lo hi) ks t = absurd (cc t)
 exit_typed (Req lo hi) ks t = absurd (cc t)
 exit_typed (Vars lo hi) ks t = absurd (cc t)
 
-forward_first : (code : List Insn) (kinds : List Kind) → is_typable code kinds ≡ true → state_at (forward code kinds) 0 ≡ Some kinds
+forward_first : (code : List Served) (kinds : List Kind) → is_typable code kinds ≡ true → state_at (forward code kinds) 0 ≡ Some kinds
 forward_first [] kinds t = absurd (cc t)
 forward_first (Exit ∷ code) kinds t = refl
 forward_first (MovImm dst imm ∷ code) kinds t = refl
 
-forward_fine : (code : List Insn) (kinds : List Kind) → is_typable code kinds ≡ true → (slot : ℕ) (insn : Insn) (ks : List Kind) → slice_get code slot ≡ Some insn → state_at (forward code kinds) slot ≡ Some ks → IsFine (forward code kinds) slot insn ks
+forward_fine : (code : List Served) (kinds : List Kind) → is_typable code kinds ≡ true → (slot : ℕ) (insn : Served) (ks : List Kind) → slice_get code slot ≡ Some insn → state_at (forward code kinds) slot ≡ Some ks → IsFine (forward code kinds) slot insn ks
 unfolding effect
 forward_fine [] kinds t slot insn ks g s = absurd (cc t)
 forward_fine (Exit ∷ code) kinds t zero insn ks g s =
@@ -66,14 +66,14 @@ forward_fine (MovImm dst imm ∷ code) kinds t (suc j) insn ks g s =
     up (Some kinds) (forward code next) j insn ks (forward_fine code next t j insn ks g s)
 
 -- the forward states of a typable program are a typing
-pub forward_typing : (code : List Insn) → is_typable code entry ≡ true → IsTyping code (forward code entry)
+pub forward_typing : (code : List Served) → is_typable code entry ≡ true → IsTyping code (forward code entry)
 forward_typing code t = record {
   entered = record { state = entry; state_is = forward_first code entry t; within = within_same entry };
   each = λ slot insn ks g s. forward_fine code entry t slot insn ks g s;
 }
 
 -- a program that ends in an exit, without its first instruction
-shape_rest : (dst : ℕ) (imm : _) (code : List Insn) → HasShape (MovImm dst imm ∷ code) → HasShape code
+shape_rest : (dst : ℕ) (imm : _) (code : List Served) → HasShape (MovImm dst imm ∷ code) → HasShape code
 shape_rest dst imm [] shape = absurd (cc shape.last)
 shape_rest dst imm (i ∷ code) shape =
     let e : suc (suc (length code)) - 1 ≡ suc (length code) = omega arith in
@@ -89,7 +89,7 @@ exit_narrower k (Vars lo hi) ks ks' after w e t = cc e
 exit_narrower (Num lo hi) (Num lo' hi') ks ks' after w e t = cc t
 exit_narrower _ (Num lo' hi') ks ks' after w e t = w
 
-none_from : (code : List Insn) (states : States) (kinds wider : List Kind) → HasShape code → AllByRecursion IsInsn code → length kinds ≡ 11 → AreFine code states → state_at states 0 ≡ Some wider → Within kinds wider → is_typable code kinds ≡ false → ⊥
+none_from : (code : List Served) (states : States) (kinds wider : List Kind) → HasShape code → AllByRecursion IsServed code → length kinds ≡ 11 → AreFine code states → state_at states 0 ≡ Some wider → Within kinds wider → is_typable code kinds ≡ false → ⊥
 unfolding effect
 none_from [] states kinds wider shape insns len fine at w t = cc shape.last
 none_from (Exit ∷ code) states kinds wider shape insns len fine at w t =
@@ -108,25 +108,25 @@ none_from (MovImm dst imm ∷ code) (s ∷ states) kinds wider shape insns len f
     (within_then (slice_set kinds dst k) f.after l.state (subst (Within (slice_set kinds dst k)) is kept) l.within) t
 
 -- a program that isn't typable has no typing at all
-pub no_typing : (code : List Insn) → HasShape code → All IsInsn code → is_typable code entry ≡ false → (states : States) → IsTyping code states → ⊥
+pub no_typing : (code : List Served) → HasShape code → All IsServed code → is_typable code entry ≡ false → (states : States) → IsTyping code states → ⊥
 no_typing code shape insns t states typing =
     let l = typing.entered in
-    none_from code states entry l.state shape (recursion_from_All IsInsn code insns) refl (record { each = typing.each }) l.state_is l.within t
+    none_from code states entry l.state shape (recursion_from_All IsServed code insns) refl (record { each = typing.each }) l.state_is l.within t
 
 -- the pass over the slots has come to this slot with these kinds
-pub record Passed (code : List Insn) (slot : ℕ) (kinds : List Kind) (states : States) : Type 0 where
+pub record Passed (code : List Served) (slot : ℕ) (kinds : List Kind) (states : States) : Type 0 where
   pub states_are : states ++ forward (drop slot code) kinds ≡ forward code entry
   pub typable_is : is_typable (drop slot code) kinds ≡ is_typable code entry
   pub shape : HasShape (drop slot code)
 
-dropped : (code : List Insn) (slot : ℕ) (insn : Insn) → slice_get code slot ≡ Some insn → drop slot code ≡ insn ∷ drop (slot + 1) code
+dropped : (code : List Served) (slot : ℕ) (insn : Served) → slice_get code slot ≡ Some insn → drop slot code ≡ insn ∷ drop (slot + 1) code
 dropped code slot insn g =
     drop-cons code slot insn (slice_get_within code slot insn g)
     ∙ ap (λ x. x ∷ drop (suc slot) code) (get_or_from_slice_get code slot insn insn g)
     ∙ ap (λ n. insn ∷ drop n code) (sym (add-one slot))
 
 -- at an exit the states are a typing
-pub passed_exit : (code : List Insn) (slot : ℕ) (kinds next : List Kind) (states : States) → Passed code slot kinds states → slice_get code slot ≡ Some Exit → effect Exit kinds ≡ Some next → IsTyping code (states ++ Some kinds ∷ []) × (is_typable code entry ≡ true)
+pub passed_exit : (code : List Served) (slot : ℕ) (kinds next : List Kind) (states : States) → Passed code slot kinds states → slice_get code slot ≡ Some Exit → effect Exit kinds ≡ Some next → IsTyping code (states ++ Some kinds ∷ []) × (is_typable code entry ≡ true)
 passed_exit code slot kinds next states p g e =
     let d = dropped code slot Exit g in
     let are : states ++ Some kinds ∷ [] ≡ forward code entry = ap (λ l. states ++ forward l kinds) (sym d) ∙ p.states_are in

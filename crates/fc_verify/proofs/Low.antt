@@ -1,11 +1,10 @@
 -- The rules below those of the typing have numbers below 20.
 use Rattle.std.proofs.Common.{◌≡◌, ℕ, zero, suc, ◌+◌, ◌*◌, ◌/◌, ◌<◌, Bool, true, false, cond, List, length, Option, Some, None, subst, arith, if◌then◌else◌}
 use Rattle.std.specs.Prelude.{nat_le, nat_lt}
-use Rattle.fc_isa.specs.declared.insn.Insn.{Insn}
+use Rattle.fc_isa.specs.declared.served.Served.{Served}
 use Rattle.fc_isa.specs.declared.rule.Rule.{Rule}
 use Rattle.fc_isa.specs.declared.rule.Rule.TheVariants.{Format, SlotCount, VarsSize, Budget, Reserved, Opcode, Register, FramePointer, Field, WideLoad, Boundary, Cost}
 use Rattle.fc_isa.specs.Rules.{number_of}
-use Rattle.fc_isa.specs.Encoding.{fault_at, slot_fault, first_fault, first_some, or_at, fields_at, breaks}
 use Rattle.fc_image.specs.Head.{head_fault, head_breaks}
 use Rattle.fc_image.specs.Shape.{shape_fault}
 
@@ -29,22 +28,11 @@ head_low image =
 pub head_rule_low : (image : List ℕ) (rule : Rule) → head_fault image ≡ Some rule → number_of rule < 20
 head_rule_low image rule e = subst LowRule e (head_low image)
 
-slot_low : (bytes : List ℕ) (slot : ℕ) (whole begun : Bool) → LowRule (if whole then slot_fault (fields_at bytes slot) else (if begun then Some WideLoad else None))
-slot_low bytes slot true begun =
-    let f = fields_at bytes slot in
-    cond_low (breaks f Opcode) Opcode _ (omega arith) (cond_low (breaks f Register) Register _ (omega arith) (cond_low (breaks f FramePointer) FramePointer _ (omega arith) (cond_low (breaks f Field) Field None (omega arith) tt)))
-slot_low bytes slot false true = omega arith
-slot_low bytes slot false false = tt
-
-pub slot_rule_low : (bytes : List ℕ) (slot : ℕ) (rule : Rule) → fault_at bytes slot ≡ Some rule → number_of rule < 20
-unfolding fault_at
-slot_rule_low bytes slot rule e = subst LowRule e (slot_low bytes slot (nat_le (8 * slot + 8) (length bytes)) (nat_lt (8 * slot) (length bytes)))
-
 shape_low : (ends dear : Bool) (last : ℕ) → LowFault (if ends then (if dear then Some (0, Cost) else None) else Some (last, Boundary))
 shape_low true true last = omega arith
 shape_low true false last = tt
 shape_low false dear last = omega arith
 
-pub shape_rule_low : (budget : ℕ) (code : List Insn) (slot : ℕ) (rule : Rule) → shape_fault budget code ≡ Some (slot, rule) → number_of rule < 20
+pub shape_rule_low : (budget : ℕ) (code : List Served) (slot : ℕ) (rule : Rule) → shape_fault budget code ≡ Some (slot, rule) → number_of rule < 20
 unfolding shape_fault
 shape_rule_low budget code slot rule e = subst LowFault e (shape_low _ _ _)

@@ -2,7 +2,7 @@
 use Rattle.std.specs.Prelude.{◌≡◌, ℕ, ◌-◌, ◌<◌, ◌≤◌, List, length, drop, Some, None, ◌⊎◌}
 use Rattle.fc_isa.specs.declared.rule.Rule.{Rule}
 use Rattle.fc_isa.specs.declared.rule.Rule.TheVariants.{Boundary, Cost}
-use Rattle.fc_isa.specs.Encoding.{Spells, IsFirstFault}
+use Rattle.fc_isa.specs.Served.{SpellsServed, IsFirstRefused}
 use Rattle.fc_image.specs.Head.{head_fault, stated}
 use Rattle.fc_image.specs.Shape.{HasShape}
 use Rattle.fc_image.specs.Longest.{IsLongest}
@@ -16,7 +16,7 @@ slots_of image = drop 16 image
 -- the image keeps the header's rules, and its slots spell this program
 pub record IsProgramOf (image : List ℕ) (p : Program) : Type 0 where
   pub head : head_fault image ≡ None
-  pub code : Spells (slots_of image) p.code
+  pub code : SpellsServed (slots_of image) p.code
   pub vars_size : p.vars_size ≡ (stated image).vars_size
   pub budget : p.budget ≡ (stated image).budget
 
@@ -54,7 +54,7 @@ pub record BreaksCost (image : List ℕ) (rule : Rule) (slot : ℕ) : Type 0 whe
 -- a slot breaks a rule of the encoding
 pub record BreaksSlot (image : List ℕ) (rule : Rule) (slot : ℕ) : Type 0 where
   pub head : head_fault image ≡ None
-  pub fault : IsFirstFault (slots_of image) rule slot
+  pub fault : IsFirstRefused (slots_of image) rule slot
 
 -- the header breaks a rule, which names slot 0
 pub record BreaksHead (image : List ℕ) (rule : Rule) (slot : ℕ) : Type 0 where

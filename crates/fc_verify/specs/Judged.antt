@@ -1,9 +1,9 @@
 -- The judgement of an image as a function. That it is right is a law of its own, by the relations of Accepted.
 use Rattle.std.specs.Prelude.{ℕ, Bool, true, false, List, [], ◌∷◌, Option, Some, None, is_some}
-use Rattle.fc_isa.specs.declared.insn.Insn.{Insn}
-use Rattle.fc_isa.specs.declared.insn.Insn.TheVariants.{MovImm, Exit}
+use Rattle.fc_isa.specs.declared.served.Served.{Served}
+use Rattle.fc_isa.specs.declared.served.Served.TheVariants.{MovImm, Exit}
 use Rattle.fc_isa.specs.declared.rule.Rule.{Rule}
-use Rattle.fc_isa.specs.Encoding.{first_fault, program_of}
+use Rattle.fc_isa.specs.Served.{first_refused, served_program}
 use Rattle.fc_image.specs.Head.{head_fault, stated}
 use Rattle.fc_image.specs.Shape.{shape_fault}
 use Rattle.fc_image.specs.Longest.{longest}
@@ -18,7 +18,7 @@ types_on rest None = false
 types_on rest (Some kinds) = rest kinds
 
 -- each instruction's demands are met, from these kinds on to the exit
-abbrev pub is_typable : List Insn → List Kind → Bool
+abbrev pub is_typable : List Served → List Kind → Bool
 is_typable [] kinds = false
 is_typable (Exit ∷ code) kinds = is_some (effect Exit kinds)
 is_typable (MovImm dst imm ∷ code) kinds = types_on (is_typable code) (effect (MovImm dst imm) kinds)
@@ -26,10 +26,10 @@ is_typable (MovImm dst imm ∷ code) kinds = types_on (is_typable code) (effect 
 -- the program of an image whose header and slots are right
 abbrev pub program_in : List ℕ → Program
 program_in image = record {
-  code = program_of (slots_of image);
+  code = served_program (slots_of image);
   vars_size = (stated image).vars_size;
   budget = (stated image).budget;
-  cost = longest (program_of (slots_of image));
+  cost = longest (served_program (slots_of image));
 }
 
 abbrev pub by_typing : Bool → List ℕ → Judgement
@@ -38,15 +38,15 @@ by_typing false image = Untypable
 
 abbrev pub by_shape : Option (ℕ × Rule) → List ℕ → Judgement
 by_shape (Some (slot, rule)) image = Breaks rule slot
-by_shape None image = by_typing (is_typable (program_of (slots_of image)) entry) image
+by_shape None image = by_typing (is_typable (served_program (slots_of image)) entry) image
 
 abbrev pub by_slots : Option (ℕ × Rule) → List ℕ → Judgement
 by_slots (Some (slot, rule)) image = Breaks rule slot
-by_slots None image = by_shape (shape_fault (stated image).budget (program_of (slots_of image))) image
+by_slots None image = by_shape (shape_fault (stated image).budget (served_program (slots_of image))) image
 
 abbrev pub by_head : Option Rule → List ℕ → Judgement
 by_head (Some rule) image = Breaks rule 0
-by_head None image = by_slots (first_fault (slots_of image)) image
+by_head None image = by_slots (first_refused (slots_of image)) image
 
 -- the header's rules come first, then the slots', then the shape's, then the typing
 unfoldable pub judged : List ℕ → Judgement

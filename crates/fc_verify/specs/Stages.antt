@@ -1,7 +1,7 @@
 -- What the steps of a verification find of an image, one after the other.
 use Rattle.std.specs.Prelude.{◌≡◌, ℕ, ◌+◌, ◌*◌, List, length, None}
-use Rattle.fc_isa.specs.declared.insn.Insn.{Insn}
-use Rattle.fc_isa.specs.Encoding.{Spells, first_fault, program_of}
+use Rattle.fc_isa.specs.declared.served.Served.{Served}
+use Rattle.fc_isa.specs.Served.{SpellsServed, first_refused, served_program}
 use Rattle.fc_image.specs.Head.{Head, head_fault, stated}
 use Rattle.fc_verify.specs.Accepted.{slots_of}
 
@@ -12,8 +12,8 @@ pub record IsHeadOf (image : List ℕ) (head : Head) : Type 0 where
   pub size : length image ≡ 16 + 8 * head.count
 
 -- the slots break no rule, and spell this program
-pub record IsCodeOf (image : List ℕ) (code : List Insn) : Type 0 where
-  pub fault : first_fault (slots_of image) ≡ None
-  pub code_is : code ≡ program_of (slots_of image)
-  pub spelled : Spells (slots_of image) code
+pub record IsCodeOf (image : List ℕ) (code : List Served) : Type 0 where
+  pub fault : first_refused (slots_of image) ≡ None
+  pub code_is : code ≡ served_program (slots_of image)
+  pub spelled : SpellsServed (slots_of image) code
   pub count : length code ≡ (stated image).count

@@ -7,14 +7,17 @@ ghost use Rattle.fc_kinds.specs.Effects.{effect};
 ghost use Rattle.fc_kinds.specs.Typing.{entry, IsTyping};
 ghost use Rattle.fc_verify.specs.Judged.{is_typable};
 
-use fc_isa::{Fault, Insn};
+use fc_isa::{Fault, Served};
 use fc_kinds::{ENTRY, Regs, after};
 
 /// The states of the slots that a run passes, in a vector with room for one a slot.
 ///
 /// # Errors
 /// A rule from 20 to 27, with the slot whose demands aren't met: the program has no typing.
-pub(crate) fn type_slots(code: &[Insn], room: Vec<Option<Regs>>) -> Result<Vec<Option<Regs>>, Fault>
+pub(crate) fn type_slots(
+    code: &[Served],
+    room: Vec<Option<Regs>>,
+) -> Result<Vec<Option<Regs>>, Fault>
     requires shape { HasShape code.now }
     requires empty { room.items ≡ [] }
     requires room { length code.now ≤ vec_capacity room }
@@ -30,15 +33,15 @@ pub(crate) fn type_slots(code: &[Insn], room: Vec<Option<Regs>>) -> Result<Vec<O
         states.push_reserved(Some(regs));
         let next = pass(slot, *insn, &regs)?;
         match insn {
-            Insn::Exit => return Ok(states),
-            Insn::MovImm { .. } => regs = next,
+            Served::Exit => return Ok(states),
+            Served::MovImm { .. } => regs = next,
         }
     }
     unreachable!()
 }
 
 /// The kinds behind a slot.
-fn pass(slot: usize, insn: Insn, regs: &Regs) -> Result<Regs, Fault>
+fn pass(slot: usize, insn: Served, regs: &Regs) -> Result<Regs, Fault>
     ensures after { IfOk result (λ next. effect insn regs.now ≡ Some next) }
     ensures refused { IfErr result (λ fault. effect insn regs.now ≡ None) }
     ensures fault { IfErr result (λ fault. fault ≡ record { rule = ExitValue; slot = slot }) }

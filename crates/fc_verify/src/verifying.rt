@@ -10,8 +10,8 @@ use crate::refusal::Refusal;
 use crate::typing::type_slots;
 use crate::verified::Verified;
 use fc_image::{Head, head, shape};
-use fc_isa::laws::{faultless_bytes_spell, first_fault_is_first};
-use fc_isa::{Insn, decode};
+use fc_isa::served::{first_refused_is_first, unrefused_bytes_spell};
+use fc_isa::{Served, decode_served};
 use std::alloc::Global;
 
 /// The bytes of an image's header.
@@ -48,15 +48,15 @@ fn read_head(image: &[u8]) -> Result<Head, Refusal>
 }
 
 /// The program that the slots spell.
-fn read_code(alloc: Global, image: &[u8], head: &Head) -> Result<Vec<Insn>, Refusal>
+fn read_code(alloc: Global, image: &[u8], head: &Head) -> Result<Vec<Served>, Refusal>
     requires { IsHeadOf image.now head.now }
     ensures code { IfOk result (λ code. IsCodeOf image.now code.items) }
     ensures refused { IfErr result (IsRefusal image.now) }
 {
     let slots = slots(image);
-    faultless_bytes_spell(slots);
-    first_fault_is_first(slots);
-    Ok(decode(alloc, slots)?)
+    unrefused_bytes_spell(slots);
+    first_refused_is_first(slots);
+    Ok(decode_served(alloc, slots)?)
 }
 
 /// The bytes behind the header.

@@ -11,8 +11,8 @@ count-requires c = let k = head_kept c.args.image.now (sym c.in-None.ensures) in
 pub budget-requires : goal.budget-requires
 budget-requires c = let k = head_kept c.args.image.now (sym c.in-None.ensures) in omega arith
 
-pub new-requires : goal.new-requires
-new-requires c = rw (c.vars_size.ensures, c.count.ensures, c.budget.ensures) (head_kept c.args.image.now (sym c.in-None.ensures)).head
+pub of-requires : goal.of-requires
+of-requires c = rw (c.vars_size.ensures, c.count.ensures, c.budget.ensures) (head_kept c.args.image.now (sym c.in-None.ensures)).head
 
 pub returns-in-None-clause-kept : goal.returns-in-None-clause-kept
 returns-in-None-clause-kept c = head_kept c.args.image.now (sym c.in-None.ensures)

@@ -2,11 +2,11 @@ use Rattle.std.proofs.Common.{◌/◌, ◌∙◌, arith, length, sym}
 use Rattle.fc_isa.specs.declared.rule.Rule.TheVariants.{WideLoad}
 use Rattle.fc_isa.proofs.Slot.{are_bytes}
 use Rattle.fc_isa.proofs.Slots.{spelled_once}
-use Rattle.fc_isa.proofs.Steps.{broken_slot, broken_rest, broken_not_spelled, faultless_more, insns_more, IsDecoded, decoded}
+use Rattle.fc_isa.proofs.Steps.{broken, broken_rest, broken_not_spelled, faultless_more, insns_more, second_more, IsDecoded, decoded}
 use Rattle.fc_isa.proofs.decoding.decode.Goals as goal
 
 pub returns-in-Err-clause-fault : goal.returns-in-Err-clause-fault
-returns-in-Err-clause-fault c = broken_slot c.args.bytes.now c.loop-slot.slot c.in-Err.rule (omega arith) c.in-Err.ensures.fault c.loop-slot.invariant.faultless
+returns-in-Err-clause-fault c = broken c.args.bytes.now c.loop-slot.slot c.in-Err.rule c.in-Err.ensures.fault c.loop-slot.invariant.faultless
 
 pub returns-in-Err-clause-spelled : goal.returns-in-Err-clause-spelled
 returns-in-Err-clause-spelled c = λ p s.
@@ -14,8 +14,9 @@ returns-in-Err-clause-spelled c = λ p s.
 
 pub loop-slot-preserved : goal.loop-slot-preserved
 loop-slot-preserved c = record {
-  faultless = faultless_more c.args.bytes.now c.loop-slot.slot (omega arith) c.in-Ok.ensures.insn.0 c.loop-slot.invariant.faultless;
+  faultless = faultless_more c.args.bytes.now c.loop-slot.slot c.in-Ok.ensures.insn.0 c.loop-slot.invariant.faultless;
   items = c.push_reserved.ensures.items ∙ insns_more c.args.bytes.now c.loop-slot.slot c.loop-slot.program.items c.in-Ok.insn c.loop-slot.invariant.items c.in-Ok.ensures.insn.1;
+  second = c.is_wide_load-second.ensures ∙ second_more c.args.bytes.now c.loop-slot.slot c.in-Ok.insn c.in-Ok.ensures.insn.1;
   len = omega arith;
   room = omega arith;
 }

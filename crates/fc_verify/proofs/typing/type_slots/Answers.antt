@@ -1,7 +1,7 @@
 use Rattle.std.proofs.Common.{◌≡◌, Some, sym, ap, ◌∙◌, subst}
 use Rattle.std.specs.Prelude.{slice_get}
 use Rattle.std.proofs.lemmas.Option.{slice_get-get_or}
-use Rattle.fc_isa.specs.declared.insn.Insn.TheVariants.{Exit}
+use Rattle.fc_isa.specs.declared.served.Served.TheVariants.{Exit}
 use Rattle.fc_kinds.specs.Typing.{IsTyping}
 use Rattle.fc_kinds.specs.Effects.{effect}
 use Rattle.fc_verify.proofs.Exact.{passed_exit}

@@ -1,0 +1,43 @@
+-- What is written as a header is read as that header.
+use Rattle.std.proofs.Common.{◌≡◌, ℕ, ◌+◌, ◌*◌, ◌%◌, ◌<◌, ◌≤◌, ◌==◌, ◌&&◌, ◌||◌, not, Bool, true, false, cond, Option, Some, None, List, ◌++◌, length, refl, ap, ◌∙◌, arith, nat_lt, nat_le}
+use Rattle.std.specs.Int.{w16, w32, from_le_bytes, to_le_bytes}
+use Rattle.std.proofs.lemmas.Bool.Decides.{nat_tests}
+use Rattle.std.proofs.lemmas.Nat.{from_le_bytes-to_le_bytes_2, from_le_bytes-to_le_bytes_4}
+use Rattle.fc_isa.specs.declared.rule.Rule.{Rule}
+use Rattle.fc_isa.specs.declared.rule.Rule.TheVariants.{Format, SlotCount, VarsSize, Budget, Reserved}
+use Rattle.fc_image.specs.Head.{Head, IsHead, head_breaks, head_bytes, head_fault, stated, has_magic, is_bad_count, is_bad_size, is_bad_budget}
+
+pub stated_written : (h : Head) (slots : List ℕ) → IsHead h → stated (head_bytes h ++ slots) ≡ h
+stated_written h slots k =
+    let vars : from_le_bytes w16 (to_le_bytes w16 h.vars_size) ≡ h.vars_size = from_le_bytes-to_le_bytes_2 h.vars_size (omega (arith, k.vars)) in
+    let count : from_le_bytes w16 (to_le_bytes w16 h.count) ≡ h.count = from_le_bytes-to_le_bytes_2 h.count (omega (arith, k.count)) in
+    let budget : from_le_bytes w32 (to_le_bytes w32 h.budget) ≡ h.budget = from_le_bytes-to_le_bytes_4 h.budget (omega (arith, k.budget)) in
+    rw (vars, count, budget) refl
+
+has_size : (word : Bool) (n count : ℕ) → word ≡ true → n ≡ 16 + 8 * count → not ((nat_le 16 n && word) && (n == 16 + 8 * count)) ≡ false
+has_size word n count e f = rw e (grind (arith, nat_tests))
+
+good_count : (n : ℕ) → 1 ≤ n → n ≤ 512 → is_bad_count n ≡ false
+good_count n l h = grind (arith, nat_tests)
+
+good_size : (n : ℕ) → n ≤ 256 → n % 8 ≡ 0 → is_bad_size n ≡ false
+good_size n l h = grind (arith, nat_tests)
+
+good_budget : (n : ℕ) → 1 ≤ n → n ≤ 65536 → is_bad_budget n ≡ false
+good_budget n l h = grind (arith, nat_tests)
+
+none_by_five : (a b c d e : Bool) (x y z v w : Rule) → a ≡ false → b ≡ false → c ≡ false → d ≡ false → e ≡ false
+    → cond a (Some x) (cond b (Some y) (cond c (Some z) (cond d (Some v) (cond e (Some w) None)))) ≡ None
+none_by_five a b c d e x y z v w ea eb ec ed ee = rw (ea, eb, ec, ed, ee) refl
+
+pub faultless_written : (h : Head) (slots : List ℕ) → IsHead h → length slots ≡ 8 * h.count → head_fault (head_bytes h ++ slots) ≡ None
+unfolding head_breaks
+faultless_written h slots k l =
+    let image = head_bytes h ++ slots in
+    let e = stated_written h slots k in
+    none_by_five (head_breaks image Format) (head_breaks image SlotCount) (head_breaks image VarsSize) (head_breaks image Budget) (head_breaks image Reserved) Format SlotCount VarsSize Budget Reserved
+    (ap (λ s. not ((nat_le 16 (length image) && has_magic image) && (length image == 16 + 8 * s.count))) e ∙ has_size (has_magic image) (length image) h.count refl (omega (arith, l)))
+    (ap (λ s. is_bad_count s.count) e ∙ good_count h.count k.some k.count)
+    (ap (λ s. is_bad_size s.vars_size) e ∙ good_size h.vars_size k.vars k.words)
+    (ap (λ s. is_bad_budget s.budget) e ∙ good_budget h.budget k.steps k.budget)
+    refl

@@ -1,0 +1,260 @@
+-- The opcodes and the fields that each uses (RFC 9669, 3 to 5): class, code and source bit, or class, size and mode.
+use Rattle.std.specs.Prelude.{ℕ, ◌+◌, ◌*◌, ◌/◌, ◌%◌, ◌==◌, ◌&&◌, ◌||◌, not, Bool, true, false, List, [], ◌∷◌, ◌++◌, map, Option, Some, None}
+use Rattle.std.specs.List.{flat_map, find}
+use Rattle.fc_isa.specs.declared.insn.Width.{Width}
+use Rattle.fc_isa.specs.declared.insn.Width.TheVariants.{W32, W64}
+use Rattle.fc_isa.specs.declared.insn.AluOp.{AluOp}
+use Rattle.fc_isa.specs.declared.insn.AluOp.TheVariants.{Add, Sub, Mul, Div, Or, And, Lsh, Rsh, Mod, Xor, Mov, Arsh, Sdiv, Smod}
+use Rattle.fc_isa.specs.declared.insn.Relation.{Relation}
+use Rattle.fc_isa.specs.declared.insn.Relation.TheVariants.{Eq, Gt, Ge, Set, Ne, Sgt, Sge, Lt, Le, Slt, Sle}
+use Rattle.fc_isa.specs.declared.insn.Size.{Size}
+use Rattle.fc_isa.specs.declared.insn.Size.TheVariants.{Byte, HalfWord, Word, DoubleWord}
+use Rattle.fc_isa.specs.declared.insn.LoadType.{LoadType}
+use Rattle.fc_isa.specs.declared.insn.LoadType.TheVariants.{Unsigned, SignedByte, SignedHalfWord, SignedWord}
+use Rattle.fc_isa.specs.declared.insn.ByteOrder.{ByteOrder}
+use Rattle.fc_isa.specs.declared.insn.ByteOrder.TheVariants.{Little, Big, Swapped}
+use Rattle.fc_isa.specs.declared.shape.Source.{Source}
+use Rattle.fc_isa.specs.declared.shape.Source.TheVariants.{K, X}
+use Rattle.fc_isa.specs.declared.shape.Shape.{Shape}
+use Rattle.fc_isa.specs.declared.shape.Shape.TheVariants.{Unknown, Alu, Neg, End, LoadWide, Load, StoreImm, Store, JumpAlways, JumpAlwaysLong, JumpIf, Call, Exit}
+
+-- ---- the opcode of a form
+
+-- the classes of arithmetic: ALU and ALU64 (3.3)
+abbrev pub alu_class : Width → ℕ
+alu_class W32 = 4
+alu_class W64 = 7
+
+-- the classes of jumps: JMP32 and JMP
+abbrev pub jump_class : Width → ℕ
+jump_class W32 = 6
+jump_class W64 = 5
+
+-- the codes of arithmetic (4.1); signed division and modulo are told by the offset
+abbrev pub alu_code : AluOp → ℕ
+alu_code Add = 0
+alu_code Sub = 1
+alu_code Mul = 2
+alu_code Div = 3
+alu_code Sdiv = 3
+alu_code Or = 4
+alu_code And = 5
+alu_code Lsh = 6
+alu_code Rsh = 7
+alu_code Mod = 9
+alu_code Smod = 9
+alu_code Xor = 10
+alu_code Mov = 11
+alu_code Arsh = 12
+
+-- the codes of conditional jumps (4.3)
+abbrev pub jump_code : Relation → ℕ
+jump_code Eq = 1
+jump_code Gt = 2
+jump_code Ge = 3
+jump_code Set = 4
+jump_code Ne = 5
+jump_code Sgt = 6
+jump_code Sge = 7
+jump_code Lt = 10
+jump_code Le = 11
+jump_code Slt = 12
+jump_code Sle = 13
+
+-- the source bit (4)
+abbrev pub source_bit : Source → ℕ
+source_bit K = 0
+source_bit X = 8
+
+-- an opcode of arithmetic or a jump: code, source bit, class
+abbrev pub coded : ℕ → Source → ℕ → ℕ
+coded code source class = 16 * code + source_bit source + class
+
+-- the sizes of loads and stores (5)
+abbrev pub size_bits : Size → ℕ
+size_bits Word = 0
+size_bits HalfWord = 8
+size_bits Byte = 16
+size_bits DoubleWord = 24
+
+-- an opcode of a load or store: mode (0 IMM, 3 MEM, 4 MEMSX), size, class (0 LD, 1 LDX, 2 ST, 3 STX)
+abbrev pub sized : ℕ → Size → ℕ → ℕ
+sized mode size class = 32 * mode + size_bits size + class
+
+abbrev pub load_opcode : LoadType → ℕ
+load_opcode (Unsigned size) = sized 3 size 1
+load_opcode SignedByte = sized 4 Byte 1
+load_opcode SignedHalfWord = sized 4 HalfWord 1
+load_opcode SignedWord = sized 4 Word 1
+
+-- byte swap has code 13: its source bit is the byte order, and class ALU64 swaps always (4.2)
+abbrev pub end_opcode : ByteOrder → ℕ
+end_opcode Little = coded 13 K (alu_class W32)
+end_opcode Big = coded 13 X (alu_class W32)
+end_opcode Swapped = coded 13 K (alu_class W64)
+
+-- the opcode of each form; no opcode spells the unknown one
+abbrev pub opcode_of : Shape → ℕ
+opcode_of (Alu op width source) = coded (alu_code op) source (alu_class width)
+opcode_of (Neg width) = coded 8 K (alu_class width)
+opcode_of (End order) = end_opcode order
+opcode_of LoadWide = sized 0 DoubleWord 0
+opcode_of (Load loaded) = load_opcode loaded
+opcode_of (StoreImm size) = sized 3 size 2
+opcode_of (Store size) = sized 3 size 3
+opcode_of JumpAlways = coded 0 K (jump_class W64)
+opcode_of JumpAlwaysLong = coded 0 K (jump_class W32)
+opcode_of (JumpIf width relation source) = coded (jump_code relation) source (jump_class width)
+opcode_of Call = coded 8 K (jump_class W64)
+opcode_of Exit = coded 9 K (jump_class W64)
+opcode_of Unknown = 255
+
+-- ---- the form of an opcode
+
+abbrev pub operations : List AluOp
+operations = Add ∷ Sub ∷ Mul ∷ Div ∷ Or ∷ And ∷ Lsh ∷ Rsh ∷ Mod ∷ Xor ∷ Mov ∷ Arsh ∷ []
+
+abbrev pub relations : List Relation
+relations = Eq ∷ Gt ∷ Ge ∷ Set ∷ Ne ∷ Sgt ∷ Sge ∷ Lt ∷ Le ∷ Slt ∷ Sle ∷ []
+
+abbrev pub sizes : List Size
+sizes = Byte ∷ HalfWord ∷ Word ∷ DoubleWord ∷ []
+
+-- each of the forms, of both widths and with both sources
+abbrev pub of_both : (Width → Source → Shape) → List Shape
+of_both form = form W32 K ∷ form W32 X ∷ form W64 K ∷ form W64 X ∷ []
+
+-- all forms that an instruction has
+unfoldable pub known_shapes : List Shape
+known_shapes =
+    flat_map (λ op. of_both (λ width source. Alu op width source)) operations
+    ++ flat_map (λ relation. of_both (λ width source. JumpIf width relation source)) relations
+    ++ map (λ size. Load (Unsigned size)) sizes
+    ++ map Load (SignedByte ∷ SignedHalfWord ∷ SignedWord ∷ [])
+    ++ map StoreImm sizes
+    ++ map Store sizes
+    ++ map Neg (W32 ∷ W64 ∷ [])
+    ++ map End (Little ∷ Big ∷ Swapped ∷ [])
+    ++ LoadWide ∷ JumpAlways ∷ JumpAlwaysLong ∷ Call ∷ Exit ∷ []
+
+abbrev pub or_unknown : Option Shape → Shape
+or_unknown (Some shape) = shape
+or_unknown None = Unknown
+
+-- the form that has this opcode
+unfoldable pub shape_of : ℕ → Shape
+shape_of opcode = or_unknown (find (λ shape. opcode_of shape == opcode) known_shapes)
+
+abbrev pub is_known : Shape → Bool
+is_known Unknown = false
+is_known shape = true
+
+-- a wide load takes two slots
+abbrev pub is_wide : Shape → Bool
+is_wide LoadWide = true
+is_wide shape = false
+
+-- ---- the fields that a form uses
+
+abbrev pub is_register : Source → Bool
+is_register K = false
+is_register X = true
+
+abbrev pub uses_dst : Shape → Bool
+uses_dst Unknown = false
+uses_dst JumpAlways = false
+uses_dst JumpAlwaysLong = false
+uses_dst Call = false
+uses_dst Exit = false
+uses_dst shape = true
+
+-- classes LD, LDX, ALU and ALU64 write their destination; stores and jumps read it
+abbrev pub writes_dst : Shape → Bool
+writes_dst (Alu op width source) = true
+writes_dst (Neg width) = true
+writes_dst (End order) = true
+writes_dst LoadWide = true
+writes_dst (Load loaded) = true
+writes_dst shape = false
+
+abbrev pub uses_src : Shape → Bool
+uses_src (Alu op width source) = is_register source
+uses_src (Load loaded) = true
+uses_src (Store size) = true
+uses_src (JumpIf width relation source) = is_register source
+uses_src Call = true
+uses_src shape = false
+
+-- arithmetic uses it in division and modulo, and in a move of a register
+abbrev pub alu_uses_offset : AluOp → Source → Bool
+alu_uses_offset Div source = true
+alu_uses_offset Mod source = true
+alu_uses_offset Mov source = is_register source
+alu_uses_offset op source = false
+
+abbrev pub uses_offset : Shape → Bool
+uses_offset (Alu op width source) = alu_uses_offset op source
+uses_offset (Load loaded) = true
+uses_offset (StoreImm size) = true
+uses_offset (Store size) = true
+uses_offset JumpAlways = true
+uses_offset (JumpIf width relation source) = true
+uses_offset shape = false
+
+abbrev pub uses_imm : Shape → Bool
+uses_imm (Alu op width source) = not (is_register source)
+uses_imm (End order) = true
+uses_imm LoadWide = true
+uses_imm (StoreImm size) = true
+uses_imm JumpAlwaysLong = true
+uses_imm (JumpIf width relation source) = not (is_register source)
+uses_imm Call = true
+uses_imm shape = false
+
+-- ---- the same by an opcode's bits (3.1 and 3.3): class, code and source bit
+
+-- LD 0, LDX 1, ST 2, STX 3, ALU 4, JMP 5, JMP32 6, ALU64 7
+abbrev pub class_of : ℕ → ℕ
+class_of opcode = opcode % 8
+
+-- of arithmetic and jumps
+abbrev pub code_of : ℕ → ℕ
+code_of opcode = opcode / 16
+
+abbrev pub has_source_bit : ℕ → Bool
+has_source_bit opcode = opcode / 8 % 2 == 1
+
+abbrev pub is_arithmetic : ℕ → Bool
+is_arithmetic opcode = (class_of opcode == 4) || (class_of opcode == 7)
+
+abbrev pub is_jump : ℕ → Bool
+is_jump opcode = (class_of opcode == 5) || (class_of opcode == 6)
+
+-- the source bit chooses the register; in a byte swap (13) it chooses the order
+abbrev pub takes_register : ℕ → Bool
+takes_register opcode = has_source_bit opcode && not (is_arithmetic opcode && (code_of opcode == 13))
+
+-- all but jumps with no condition (0), calls (8) and exit (9)
+unfoldable pub opcode_uses_dst : ℕ → Bool
+opcode_uses_dst opcode = not (is_jump opcode && (((code_of opcode == 0) || (code_of opcode == 8)) || (code_of opcode == 9)))
+
+-- loads and stores of a register; arithmetic and jumps with the source bit; calls
+unfoldable pub opcode_uses_src : ℕ → Bool
+opcode_uses_src opcode =
+    ((class_of opcode == 1) || (class_of opcode == 3))
+    || (((is_arithmetic opcode || is_jump opcode) && takes_register opcode) || (opcode == 133))
+
+-- loads and stores; jumps of class JMP but calls and exit, of class JMP32 with a condition; division (3), modulo (9), and a move (11) of a register
+unfoldable pub opcode_uses_offset : ℕ → Bool
+opcode_uses_offset opcode =
+    (((class_of opcode == 1) || (class_of opcode == 2)) || (class_of opcode == 3))
+    || (((class_of opcode == 5) && not ((code_of opcode == 8) || (code_of opcode == 9)))
+    || (((class_of opcode == 6) && not (code_of opcode == 0))
+    || (is_arithmetic opcode && (((code_of opcode == 3) || (code_of opcode == 9)) || ((code_of opcode == 11) && has_source_bit opcode)))))
+
+-- the wide load and stores of an immediate; arithmetic but negation (8), and jumps but `ja` of class JMP and `exit`, with no register
+unfoldable pub opcode_uses_imm : ℕ → Bool
+opcode_uses_imm opcode =
+    ((class_of opcode == 0) || (class_of opcode == 2))
+    || (((is_arithmetic opcode && not (code_of opcode == 8)) && not (takes_register opcode))
+    || ((is_jump opcode && not ((opcode == 5) || (opcode == 149))) && not (takes_register opcode)))

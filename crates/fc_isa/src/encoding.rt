@@ -1,0 +1,41 @@
+//! From instructions to bytes.
+ghost use Rattle.std.specs.Prelude.{IfOk, true, ◌++◌, ◌≡◌};
+ghost use Rattle.std.specs.List.{flat_map};
+ghost use Rattle.fc_isa.specs.Encoding.{bytes_of, encoded, slots_of};
+ghost use Rattle.fc_isa.specs.Program.{is_program};
+
+use crate::fields::Fields;
+use crate::insn::Insn;
+use std::alloc::{AllocError, Global};
+
+/// Memory was refused.
+pub type NoMemory = AllocError;
+
+/// The bytes that spell a program: eight for each slot.
+///
+/// # Errors
+/// Memory was refused.
+pub fn encode(alloc: Global, program: &[Insn]) -> Result<Vec<u8>, NoMemory>
+    requires { is_program program.now ≡ true }
+    ensures { IfOk result (λ v. v.items ≡ encoded program.now) }
+{
+    let mut bytes = Vec::with_capacity(alloc, program.len().saturating_mul(8))?;
+    for insn in program {
+        write(&mut bytes, *insn)?;
+    }
+    Ok(bytes)
+}
+
+/// Appends an instruction's slots: a wide load has two, and its second half none of its own.
+fn write(bytes: &mut Vec<u8>, insn: Insn) -> Result<(), NoMemory>
+    ensures { IfOk result (λ _. bytes.new.items ≡ bytes.old.items ++ flat_map bytes_of (slots_of insn)) }
+{
+    match insn {
+        Insn::WideSecond => Ok(()),
+        Insn::LoadWide { value, .. } => {
+            bytes.extend_from_slice(&Fields::of(insn).bytes())?;
+            bytes.extend_from_slice(&Fields::second_half_of(value).bytes())
+        }
+        _ => bytes.extend_from_slice(&Fields::of(insn).bytes()),
+    }
+}

@@ -1,0 +1,32 @@
+//! Which lists of slots are programs.
+ghost use Rattle.std.specs.Prelude.{◌≡◌};
+ghost use Rattle.fc_isa.specs.Program as programs;
+
+use crate::insn::Insn;
+
+/// Whether each wide load has its second half behind it, and none stands elsewhere. The empty list is a program.
+pub fn is_program(slots: &[Insn]) -> bool
+    ensures { result ≡ programs.is_program slots.now }
+{
+    let mut second = false;
+    for slot in slots {
+        if is_wide_second(slot) != second {
+            return false;
+        }
+        second = is_wide_load(slot);
+    }
+    !second
+}
+
+/// Whether a second half has to follow.
+pub(crate) fn is_wide_load(insn: &Insn) -> bool
+    ensures { result ≡ programs.is_wide_load insn.now }
+{
+    matches!(insn, Insn::LoadWide { .. })
+}
+
+fn is_wide_second(insn: &Insn) -> bool
+    ensures { result ≡ programs.is_wide_second insn.now }
+{
+    matches!(insn, Insn::WideSecond)
+}

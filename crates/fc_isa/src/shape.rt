@@ -1,0 +1,323 @@
+//! The form of an instruction, which its opcode alone fixes, and the fields that a form uses (RFC 9669, 3 to 5).
+ghost use Rattle.std.specs.Prelude.{◌≡◌, ◌<◌, ◌≤◌};
+ghost use Rattle.fc_isa.specs.Shapes.{uses_dst, uses_src, uses_offset, uses_imm, writes_dst, shape_of, is_register, is_known, is_wide, opcode_of, coded, sized, load_opcode, end_opcode, alu_class, jump_class, alu_code, jump_code, size_bits};
+
+use crate::insn::{AluOp, ByteOrder, LoadType, Relation, Size, Width};
+use crate::table::SHAPES;
+
+/// The classes (RFC 9669, 3.3).
+const LD: u8 = 0;
+
+const LDX: u8 = 1;
+
+const ST: u8 = 2;
+
+const STX: u8 = 3;
+
+const ALU: u8 = 4;
+
+const JMP: u8 = 5;
+
+const JMP32: u8 = 6;
+
+const ALU64: u8 = 7;
+
+/// The codes beside those of [`AluOp`] and [`Relation`] (4.1 to 4.3).
+const JA: u8 = 0;
+
+const NEG: u8 = 8;
+
+const CALL: u8 = 8;
+
+const EXIT: u8 = 9;
+
+const END: u8 = 13;
+
+/// The modes of loads and stores (5).
+const IMM: u8 = 0;
+
+const MEM: u8 = 3;
+
+const MEMSX: u8 = 4;
+
+/// Where the second operand comes from (RFC 9669, 4): K is the immediate, X the source register.
+#[derive(Clone, Copy, Debug, PartialEq, Eq)]
+pub enum Source {
+    K,
+    X,
+}
+
+/// An opcode's form. What the opcode leaves open stands in the other fields of the slot: the signed division is a division
+/// with offset 1, `movsx` a move of a register with another offset than 0, and a call's source tells a helper from a
+/// function of the program.
+#[derive(Clone, Copy, Debug, PartialEq, Eq)]
+pub enum Shape {
+    /// No instruction has this opcode.
+    Unknown,
+    Alu {
+        op: AluOp,
+        width: Width,
+        source: Source,
+    },
+    Neg {
+        width: Width,
+    },
+    End {
+        order: ByteOrder,
+    },
+    LoadWide,
+    Load {
+        loaded: LoadType,
+    },
+    StoreImm {
+        size: Size,
+    },
+    Store {
+        size: Size,
+    },
+    JumpAlways,
+    JumpAlwaysLong,
+    JumpIf {
+        width: Width,
+        relation: Relation,
+        source: Source,
+    },
+    Call,
+    Exit,
+}
+
+impl Shape {
+    /// The form of the instructions with this opcode.
+    #[tactic(none)]
+    pub fn of(opcode: u8) -> Self
+        ensures { result ≡ shape_of opcode }
+    {
+        SHAPES[opcode as usize]
+    }
+
+    /// The opcode of the form.
+    pub fn opcode(self) -> u8
+        ensures { result ≡ opcode_of self }
+    {
+        match self {
+            Shape::Alu { op, width, source } => coded(alu_code(op), source, alu_class(width)),
+            Shape::Neg { width } => coded(NEG, Source::K, alu_class(width)),
+            Shape::End { order } => end_opcode(order),
+            Shape::LoadWide => sized(IMM, Size::DoubleWord, LD),
+            Shape::Load { loaded } => load_opcode(loaded),
+            Shape::StoreImm { size } => sized(MEM, size, ST),
+            Shape::Store { size } => sized(MEM, size, STX),
+            Shape::JumpAlways => coded(JA, Source::K, JMP),
+            Shape::JumpAlwaysLong => coded(JA, Source::K, JMP32),
+            Shape::JumpIf {
+                width,
+                relation,
+                source,
+            } => { coded(jump_code(relation), source, jump_class(width)) }
+            Shape::Call => coded(CALL, Source::K, JMP),
+            Shape::Exit => coded(EXIT, Source::K, JMP),
+            Shape::Unknown => u8::MAX,
+        }
+    }
+
+    /// Whether it is an instruction's form.
+    pub fn is_known(self) -> bool
+        ensures { result ≡ is_known self }
+    {
+        !matches!(self, Shape::Unknown)
+    }
+
+    /// Whether it takes two slots.
+    pub fn is_wide(self) -> bool
+        ensures { result ≡ is_wide self }
+    {
+        matches!(self, Shape::LoadWide)
+    }
+
+    /// Whether the destination register is used.
+    pub fn uses_dst(self) -> bool
+        ensures { result ≡ uses_dst self }
+    {
+        !matches!(
+            self,
+            Shape::Unknown | Shape::JumpAlways | Shape::JumpAlwaysLong | Shape::Call | Shape::Exit
+        )
+    }
+
+    /// Whether the destination register is written.
+    pub fn writes_dst(self) -> bool
+        ensures { result ≡ writes_dst self }
+    {
+        matches!(
+            self,
+            Shape::Alu { .. }
+                | Shape::Neg { .. }
+                | Shape::End { .. }
+                | Shape::LoadWide
+                | Shape::Load { .. }
+        )
+    }
+
+    /// Whether the source field is used.
+    pub fn uses_src(self) -> bool
+        ensures { result ≡ uses_src self }
+    {
+        match self {
+            Shape::Alu { source, .. } | Shape::JumpIf { source, .. } => source.is_register(),
+            Shape::Load { .. } | Shape::Store { .. } | Shape::Call => true,
+            _ => false,
+        }
+    }
+
+    /// Whether the offset is used.
+    pub fn uses_offset(self) -> bool
+        ensures { result ≡ uses_offset self }
+    {
+        match self {
+            Shape::Alu { op, source, .. } => match op {
+                AluOp::Div | AluOp::Mod => true,
+                AluOp::Mov => source.is_register(),
+                _ => false,
+            },
+            Shape::Load { .. } | Shape::StoreImm { .. } | Shape::Store { .. } => true,
+            Shape::JumpAlways | Shape::JumpIf { .. } => true,
+            _ => false,
+        }
+    }
+
+    /// Whether the immediate is used.
+    pub fn uses_imm(self) -> bool
+        ensures { result ≡ uses_imm self }
+    {
+        match self {
+            Shape::Alu { source, .. } | Shape::JumpIf { source, .. } => !source.is_register(),
+            Shape::End { .. } | Shape::LoadWide | Shape::StoreImm { .. } => true,
+            Shape::JumpAlwaysLong | Shape::Call => true,
+            _ => false,
+        }
+    }
+}
+
+impl Source {
+    /// Whether it is the source register.
+    pub(crate) fn is_register(self) -> bool
+        ensures { result ≡ is_register self }
+    {
+        matches!(self, Source::X)
+    }
+}
+
+/// An opcode of arithmetic or a jump.
+fn coded(code: u8, source: Source, class: u8) -> u8
+    requires code { code < 16 }
+    requires class { class < 8 }
+    ensures { result ≡ coded code source class }
+{
+    match source {
+        Source::K => 16 * code + class,
+        Source::X => 16 * code + 8 + class,
+    }
+}
+
+/// An opcode of a load or store.
+fn sized(mode: u8, size: Size, class: u8) -> u8
+    requires mode { mode < 8 }
+    requires class { class < 8 }
+    ensures { result ≡ sized mode size class }
+{
+    32 * mode + size_bits(size) + class
+}
+
+fn size_bits(size: Size) -> u8
+    ensures bits { result ≡ size_bits size }
+    ensures below { result ≤ 24 }
+{
+    match size {
+        Size::Word => 0,
+        Size::HalfWord => 8,
+        Size::Byte => 16,
+        Size::DoubleWord => 24,
+    }
+}
+
+fn load_opcode(loaded: LoadType) -> u8
+    ensures { result ≡ load_opcode loaded }
+{
+    match loaded {
+        LoadType::Unsigned(size) => sized(MEM, size, LDX),
+        LoadType::SignedByte => sized(MEMSX, Size::Byte, LDX),
+        LoadType::SignedHalfWord => sized(MEMSX, Size::HalfWord, LDX),
+        LoadType::SignedWord => sized(MEMSX, Size::Word, LDX),
+    }
+}
+
+fn end_opcode(order: ByteOrder) -> u8
+    ensures { result ≡ end_opcode order }
+{
+    match order {
+        ByteOrder::Little => coded(END, Source::K, ALU),
+        ByteOrder::Big => coded(END, Source::X, ALU),
+        ByteOrder::Swapped => coded(END, Source::K, ALU64),
+    }
+}
+
+fn alu_class(width: Width) -> u8
+    ensures class { result ≡ alu_class width }
+    ensures below { result < 8 }
+{
+    match width {
+        Width::W32 => ALU,
+        Width::W64 => ALU64,
+    }
+}
+
+fn jump_class(width: Width) -> u8
+    ensures class { result ≡ jump_class width }
+    ensures below { result < 8 }
+{
+    match width {
+        Width::W32 => JMP32,
+        Width::W64 => JMP,
+    }
+}
+
+/// The code of an operation (4.1); signed division and modulo share that of the unsigned.
+fn alu_code(op: AluOp) -> u8
+    ensures code { result ≡ alu_code op }
+    ensures below { result < 16 }
+{
+    match op {
+        AluOp::Add => 0,
+        AluOp::Sub => 1,
+        AluOp::Mul => 2,
+        AluOp::Div | AluOp::Sdiv => 3,
+        AluOp::Or => 4,
+        AluOp::And => 5,
+        AluOp::Lsh => 6,
+        AluOp::Rsh => 7,
+        AluOp::Mod | AluOp::Smod => 9,
+        AluOp::Xor => 10,
+        AluOp::Mov => 11,
+        AluOp::Arsh => 12,
+    }
+}
+
+/// The code of a conditional jump (4.3).
+fn jump_code(relation: Relation) -> u8
+    ensures code { result ≡ jump_code relation }
+    ensures below { result < 16 }
+{
+    match relation {
+        Relation::Eq => 1,
+        Relation::Gt => 2,
+        Relation::Ge => 3,
+        Relation::Set => 4,
+        Relation::Ne => 5,
+        Relation::Sgt => 6,
+        Relation::Sge => 7,
+        Relation::Lt => 10,
+        Relation::Le => 11,
+        Relation::Slt => 12,
+        Relation::Sle => 13,
+    }
+}
