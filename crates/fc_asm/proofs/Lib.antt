@@ -1,0 +1,10 @@
+pub mod Listings
+pub mod Numbers
+pub mod Words
+pub mod Lookup
+pub mod Listed
+pub mod Lines
+pub mod Slots
+pub mod Law
+pub mod Named
+pub mod Operands

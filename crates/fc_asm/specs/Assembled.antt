@@ -1,0 +1,51 @@
+-- The program that lines mean, and the fault of lines that mean none.
+use Rattle.std.specs.Option.{option_to_list}
+use Rattle.std.specs.Prelude.{ℕ, ◌+◌, length, ◌≡◌, List, [], ◌∷◌, ◌++◌, All, Option, Some, None, Ok, Err}
+use Rattle.std.specs.List.{flat_map}
+use Rattle.fc_isa.specs.declared.insn.Insn.{Insn}
+use Rattle.fc_isa.specs.declared.insn.Insn.TheVariants.{LoadWide, WideSecond}
+use Rattle.fc_asm.specs.declared.error.Mistake.{Mistake}
+use Rattle.fc_asm.specs.declared.error.AsmError.{AsmError}
+use Rattle.fc_asm.specs.declared.error.AsmError.TheVariants.{Faulty, NoMemory}
+use Rattle.fc_asm.specs.Names.{Text}
+use Rattle.fc_asm.specs.Operands.{Reading}
+use Rattle.fc_asm.specs.Syntax.{meaning_of}
+
+-- a wide load has two slots
+abbrev pub second_slot : Insn → Option Insn
+second_slot (LoadWide dst value) = Some WideSecond
+second_slot other = None
+
+abbrev pub slots_of : Insn → List Insn
+slots_of i = i ∷ option_to_list (second_slot i)
+
+-- the slots of what a line means
+abbrev pub slots_in : Reading (Option Insn) → List Insn
+slots_in (Ok (Some i)) = slots_of i
+slots_in other = []
+
+abbrev pub line_slots : Text → List Insn
+line_slots line = slots_in (meaning_of line)
+
+abbrev pub mistake_in : Reading (Option Insn) → Option Mistake
+mistake_in (Ok i) = None
+mistake_in (Err mistake) = Some mistake
+
+-- no line has a mistake, and the program is what the lines mean, one after another
+pub record IsAssembled (lines : List Text) (program : List Insn) : Type 0 where
+  pub faultless : All (λ line. mistake_in (meaning_of line) ≡ None) lines
+  pub slots : program ≡ flat_map line_slots lines
+
+-- the line of this number, counted from 1, has the mistake, and none before it has one
+pub record IsFirstMistake (lines : List Text) (mistake : Mistake) (number : ℕ) : Type 0 where
+  pub before : List Text
+  pub faulty : Text
+  pub after : List Text
+  pub parted : lines ≡ before ++ faulty ∷ after
+  pub faultless : All (λ line. mistake_in (meaning_of line) ≡ None) before
+  pub counted : number ≡ length before + 1
+  pub here : mistake_in (meaning_of faulty) ≡ Some mistake
+
+abbrev pub IsAsmError : List Text → AsmError → Type 0
+IsAsmError lines (Faulty mistake line) = IsFirstMistake lines mistake line
+IsAsmError lines NoMemory = Unit {0}

@@ -1,0 +1,90 @@
+-- The listing of a program: a line for each instruction, the mnemonic, a space, and the operands parted by `, `.
+use Rattle.std.specs.Prelude.{ℕ, ℤ, pos, List, [], ◌∷◌, ◌++◌, Option, Some, None, codes}
+use Rattle.std.specs.Fmt.{decimal, signed_decimal}
+use Rattle.std.specs.List.{flat_map}
+use Rattle.fc_isa.specs.declared.insn.Insn.{Insn}
+use Rattle.fc_isa.specs.declared.insn.Insn.TheVariants.{Alu, Neg, SignExtend, End, LoadWide, WideSecond, Load, StoreImm, Store, JumpAlways, JumpAlwaysLong, JumpIf, CallHelper, CallLocal, Exit}
+use Rattle.fc_isa.specs.declared.insn.Operand.{Operand}
+use Rattle.fc_isa.specs.declared.insn.Operand.TheVariants.{Imm, Reg}
+use Rattle.fc_isa.specs.declared.insn.SignExtension.{SignExtension}
+use Rattle.fc_isa.specs.declared.insn.SignExtension.TheVariants.{Byte, HalfWord, Word}
+use Rattle.fc_isa.specs.declared.insn.Width.{Width}
+use Rattle.fc_isa.specs.declared.insn.Width.TheVariants.{W64}
+use Rattle.fc_asm.specs.declared.mnemonic.Mnemonic.{Mnemonic}
+use Rattle.fc_asm.specs.declared.mnemonic.Mnemonic.TheVariants.{Arithmetic, Negate, Extend, Swap, Wide, Read, WriteImm, WriteReg, Go, GoFar, Branch, Helper, Function, Return}
+use Rattle.fc_asm.specs.Names.{Text, name_of}
+
+-- `r0` to `r10`
+abbrev pub register : ℕ → Text
+register r = codes "r" ++ decimal r
+
+abbrev pub operand_text : Operand → Text
+operand_text (Imm k) = signed_decimal k
+operand_text (Reg r) = register r
+
+-- the width that is extended to, and how many bits are extended
+abbrev pub extended_to : SignExtension → Width
+extended_to (Byte width) = width
+extended_to (HalfWord width) = width
+extended_to Word = W64
+
+abbrev pub extended_bits : SignExtension → ℤ
+extended_bits (Byte width) = pos 8
+extended_bits (HalfWord width) = pos 16
+extended_bits Word = pos 32
+
+-- the second half of a wide load has no line
+abbrev pub mnemonic_of : Insn → Option Mnemonic
+mnemonic_of (Alu op width dst operand) = Some (Arithmetic op width)
+mnemonic_of (Neg width dst) = Some (Negate width)
+mnemonic_of (SignExtend extension dst src) = Some (Extend (extended_to extension))
+mnemonic_of (End order width dst) = Some (Swap order width)
+mnemonic_of (LoadWide dst value) = Some Wide
+mnemonic_of WideSecond = None
+mnemonic_of (Load loaded dst base offset) = Some (Read loaded)
+mnemonic_of (StoreImm size base offset imm) = Some (WriteImm size)
+mnemonic_of (Store size base offset src) = Some (WriteReg size)
+mnemonic_of (JumpAlways offset) = Some Go
+mnemonic_of (JumpAlwaysLong offset) = Some GoFar
+mnemonic_of (JumpIf j) = Some (Branch j.relation j.width)
+mnemonic_of (CallHelper number) = Some Helper
+mnemonic_of (CallLocal offset) = Some Function
+mnemonic_of Exit = Some Return
+
+-- an instruction's operands, in the order of the line
+abbrev pub operands_of : Insn → List Text
+operands_of (Alu op width dst operand) = register dst ∷ operand_text operand ∷ []
+operands_of (Neg width dst) = register dst ∷ []
+operands_of (SignExtend extension dst src) = register dst ∷ register src ∷ signed_decimal (extended_bits extension) ∷ []
+operands_of (End order width dst) = register dst ∷ []
+operands_of (LoadWide dst value) = register dst ∷ decimal value ∷ []
+operands_of WideSecond = []
+operands_of (Load loaded dst base offset) = register dst ∷ register base ∷ signed_decimal offset ∷ []
+operands_of (StoreImm size base offset imm) = register base ∷ signed_decimal offset ∷ signed_decimal imm ∷ []
+operands_of (Store size base offset src) = register base ∷ signed_decimal offset ∷ register src ∷ []
+operands_of (JumpAlways offset) = signed_decimal offset ∷ []
+operands_of (JumpAlwaysLong offset) = signed_decimal offset ∷ []
+operands_of (JumpIf j) = register j.left ∷ operand_text j.right ∷ signed_decimal j.offset ∷ []
+operands_of (CallHelper number) = signed_decimal number ∷ []
+operands_of (CallLocal offset) = signed_decimal offset ∷ []
+operands_of Exit = []
+
+-- the rest of a line behind an operand
+abbrev pub rest_of_line : List Text → Text
+rest_of_line [] = codes "\n"
+rest_of_line (operand ∷ more) = codes ", " ++ (operand ++ rest_of_line more)
+
+-- a line of a mnemonic and operands, its line feed included
+abbrev pub line : Mnemonic → List Text → Text
+line mnemonic [] = name_of mnemonic ++ codes "\n"
+line mnemonic (operand ∷ more) = name_of mnemonic ++ (codes " " ++ (operand ++ rest_of_line more))
+
+abbrev pub line_if : Option Mnemonic → List Text → Text
+line_if None operands = []
+line_if (Some mnemonic) operands = line mnemonic operands
+
+abbrev pub line_of : Insn → Text
+line_of i = line_if (mnemonic_of i) (operands_of i)
+
+unfoldable pub listing : List Insn → Text
+listing program = flat_map line_of program

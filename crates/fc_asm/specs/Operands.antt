@@ -1,0 +1,108 @@
+-- What a word means as an operand.
+use Rattle.std.specs.Prelude.{ℕ, ℤ, pos, negsuc, ◌^◌, ◌==◌, ◌&&◌, Bool, nat_lt, if◌then◌else◌, List, [], ◌∷◌, length, drop, slice_index, Result, Ok, Err, codes}
+use Rattle.std.specs.List.{position}
+use Rattle.std.specs.Option.{ok_or}
+use Rattle.std.specs.Str.{bytes_eq, all_ascii_digits}
+use Rattle.std.specs.Str.Parse.{signed_digits_value}
+use Rattle.fc_isa.specs.declared.insn.Operand.{Operand}
+use Rattle.fc_isa.specs.declared.insn.Operand.TheVariants.{Imm, Reg}
+use Rattle.fc_isa.specs.declared.insn.SignExtension.{SignExtension}
+use Rattle.fc_isa.specs.declared.insn.SignExtension.TheVariants.{Byte, HalfWord, Word}
+use Rattle.fc_isa.specs.declared.insn.Width.{Width}
+use Rattle.fc_isa.specs.declared.insn.Width.TheVariants.{W32, W64}
+use Rattle.fc_asm.specs.declared.error.Mistake.{Mistake}
+use Rattle.fc_asm.specs.declared.error.Mistake.TheVariants.{UnknownWord, OutOfRange}
+use Rattle.fc_asm.specs.declared.error.Mistake.TheVariants as mistake
+use Rattle.fc_asm.specs.Names.{Text}
+
+-- what a word is read as
+abbrev pub Reading : Type 0 → Type 0
+Reading A = Result A Mistake
+
+abbrev pub map_ok : {A B : Type 0} → (A → B) → Reading A → Reading B
+map_ok f (Ok a) = Ok (f a)
+map_ok f (Err e) = Err e
+
+abbrev pub if_ok : {A B : Type 0} → Reading A → (A → Reading B) → Reading B
+if_ok (Ok a) f = f a
+if_ok (Err e) f = Err e
+
+-- the mistake that is named first; an unknown word is no operand's
+abbrev pub graver : Mistake → Mistake → Mistake
+graver OutOfRange other = other
+graver first other = first
+
+-- both, or the graver mistake
+abbrev pub both_of : {A B : Type 0} → Reading A → Reading B → Reading (A × B)
+both_of (Ok a) (Ok b) = Ok (a, b)
+both_of (Ok a) (Err f) = Err f
+both_of (Err e) (Ok b) = Err e
+both_of (Err e) (Err f) = Err (graver e f)
+
+-- the words of the registers, each at its number
+abbrev pub registers : List Text
+registers = codes "r0" ∷ codes "r1" ∷ codes "r2" ∷ codes "r3" ∷ codes "r4" ∷ codes "r5" ∷ codes "r6" ∷ codes "r7" ∷ codes "r8" ∷ codes "r9" ∷ codes "r10" ∷ []
+
+unfoldable pub register_of : Text → Reading ℕ
+register_of word = ok_or (position (λ name. bytes_eq name word) registers) mistake.Operand
+
+-- R10 is not written
+abbrev pub written : ℕ → Reading ℕ
+written r = if nat_lt r 10 then Ok r else Err mistake.Operand
+
+abbrev pub target_of : Text → Reading ℕ
+target_of word = if_ok (register_of word) written
+
+-- one or more decimal digits
+abbrev pub is_digits : Text → Bool
+is_digits digits = nat_lt 0 (length digits) && all_ascii_digits digits
+
+-- a `-` may stand before them
+abbrev pub is_number : Text → Bool
+is_number word = is_digits (if slice_index word 0 == 45 then drop 1 word else word)
+
+-- -2^k to 2^k - 1
+abbrev pub within : ℕ → ℤ → Bool
+within k (pos n) = nat_lt n (2 ^ k)
+within k (negsuc n) = nat_lt n (2 ^ k)
+
+abbrev pub in_range : ℕ → ℤ → Reading ℤ
+in_range k z = if within k z then Ok z else Err OutOfRange
+
+-- 0 to 2^64 - 1
+abbrev pub natural : ℤ → Reading ℕ
+natural (pos n) = if nat_lt n (2 ^ 64) then Ok n else Err OutOfRange
+natural (negsuc n) = Err OutOfRange
+
+-- the number that a word writes, whatever its length
+abbrev pub number_of : Text → Reading ℤ
+number_of word = if is_number word then Ok (signed_digits_value 10 word) else Err mistake.Operand
+
+unfoldable pub imm_of : Text → Reading ℤ
+imm_of word = if_ok (number_of word) (in_range 31)
+
+unfoldable pub offset_of : Text → Reading ℤ
+offset_of word = if_ok (number_of word) (in_range 15)
+
+unfoldable pub wide_of : Text → Reading ℕ
+wide_of word = if_ok (number_of word) natural
+
+-- a register, or else an immediate
+abbrev pub register_or : Reading ℕ → Reading ℤ → Reading Operand
+register_or (Ok r) number = Ok (Reg r)
+register_or (Err e) number = map_ok Imm number
+
+abbrev pub operand_of : Text → Reading Operand
+operand_of word = register_or (register_of word) (imm_of word)
+
+-- 8 and 16 bits are extended to both widths, 32 to 64 alone
+abbrev pub word_to : Width → Reading SignExtension
+word_to W64 = Ok Word
+word_to W32 = Err OutOfRange
+
+abbrev pub extended : Width → ℤ → Reading SignExtension
+extended width (pos n) = if n == 8 then Ok (Byte width) else (if n == 16 then Ok (HalfWord width) else (if n == 32 then word_to width else Err OutOfRange))
+extended width (negsuc n) = Err OutOfRange
+
+abbrev pub width_of : Width → Text → Reading SignExtension
+width_of width word = if_ok (imm_of word) (extended width)

@@ -1,0 +1,87 @@
+-- What a text of one instruction a line means.
+use Rattle.std.specs.Prelude.{◌==◌, nat_lt, List, [], ◌∷◌, length, filter, Option, Some, None, Ok, Err}
+use Rattle.std.specs.List.{slice_split, before_first, flat_map}
+use Rattle.fc_isa.specs.declared.insn.Insn.{Insn}
+use Rattle.fc_isa.specs.declared.insn.Insn.TheVariants.{Alu, Neg, SignExtend, End, LoadWide, Load, StoreImm, Store, JumpAlways, JumpAlwaysLong, JumpIf, CallHelper, CallLocal, Exit}
+use Rattle.fc_asm.specs.declared.error.Mistake.TheVariants.{UnknownWord, Operand}
+use Rattle.fc_asm.specs.declared.mnemonic.Mnemonic.{Mnemonic}
+use Rattle.fc_asm.specs.declared.mnemonic.Mnemonic.TheVariants.{Arithmetic, Negate, Extend, Swap, Wide, Read, WriteImm, WriteReg, Go, GoFar, Branch, Helper, Function, Return}
+use Rattle.fc_asm.specs.Names.{Text, mnemonic_named}
+use Rattle.fc_asm.specs.Operands.{Reading, map_ok, if_ok, both_of, target_of, register_of, imm_of, offset_of, wide_of, operand_of, width_of}
+
+-- lines end with a line feed
+unfoldable pub lines_of : Text → List Text
+lines_of text = slice_split (λ b. b == 10) text
+
+-- what stands before a `;`
+abbrev pub code_of : Text → Text
+code_of line = before_first (λ b. b == 59) line
+
+-- words are parted by commas
+abbrev pub comma_parts : Text → List Text
+comma_parts part = filter (λ word. nat_lt 0 (length word)) (slice_split (λ b. b == 44) part)
+
+-- and by spaces
+abbrev pub parts_of : Text → List Text
+parts_of code = flat_map comma_parts (slice_split (λ b. b == 32) code)
+
+-- the words of a line
+unfoldable pub words_of : Text → List Text
+words_of line = parts_of (code_of line)
+
+-- just one operand, two, or three
+abbrev pub one_of : List Text → Reading Text
+one_of (a ∷ []) = Ok a
+one_of other = Err Operand
+
+abbrev pub two_of : List Text → Reading (Text × Text)
+two_of (a ∷ b ∷ []) = Ok (a, b)
+two_of other = Err Operand
+
+abbrev pub three_of : List Text → Reading (Text × Text × Text)
+three_of (a ∷ b ∷ c ∷ []) = Ok (a, b, c)
+three_of other = Err Operand
+
+-- an instruction of one operand, of two, or of three
+abbrev pub of_one : {A : Type 0} → (A → Insn) → (Text → Reading A) → List Text → Reading Insn
+of_one make a operands = if_ok (one_of operands) (λ word. map_ok make (a word))
+
+abbrev pub of_two : {A B : Type 0} → (A → B → Insn) → (Text → Reading A) → (Text → Reading B) → List Text → Reading Insn
+of_two make a b operands = if_ok (two_of operands) (λ words. map_ok (λ p. make p.0 p.1) (both_of (a words.0) (b words.1)))
+
+abbrev pub of_three : {A B C : Type 0} → (A → B → C → Insn) → (Text → Reading A) → (Text → Reading B) → (Text → Reading C) → List Text → Reading Insn
+of_three make a b c operands = if_ok (three_of operands) (λ words. map_ok (λ p. make p.0.0 p.0.1 p.1) (both_of (both_of (a words.0) (b words.1)) (c words.2)))
+
+-- the instruction without operands
+abbrev pub of_none : Insn → List Text → Reading Insn
+of_none insn [] = Ok insn
+of_none insn other = Err Operand
+
+-- the instruction of a mnemonic and its operands
+abbrev pub insn_from : Mnemonic → List Text → Reading Insn
+insn_from (Arithmetic op width) = of_two (λ dst operand. Alu op width dst operand) target_of operand_of
+insn_from (Negate width) = of_one (λ dst. Neg width dst) target_of
+insn_from (Extend width) = of_three (λ dst src extension. SignExtend extension dst src) target_of register_of (width_of width)
+insn_from (Swap order width) = of_one (λ dst. End order width dst) target_of
+insn_from Wide = of_two (λ dst value. LoadWide dst value) target_of wide_of
+insn_from (Read loaded) = of_three (λ dst base offset. Load loaded dst base offset) target_of register_of offset_of
+insn_from (WriteImm size) = of_three (λ base offset imm. StoreImm size base offset imm) register_of offset_of imm_of
+insn_from (WriteReg size) = of_three (λ base offset src. Store size base offset src) register_of offset_of register_of
+insn_from Go = of_one (λ offset. JumpAlways offset) offset_of
+insn_from GoFar = of_one (λ offset. JumpAlwaysLong offset) imm_of
+insn_from (Branch relation width) = of_three (λ left right offset. JumpIf (record { width = width; relation = relation; left = left; right = right; offset = offset })) register_of operand_of offset_of
+insn_from Helper = of_one (λ number. CallHelper number) imm_of
+insn_from Function = of_one (λ offset. CallLocal offset) imm_of
+insn_from Return = of_none Exit
+
+abbrev pub named : Option Mnemonic → List Text → Reading (Option Insn)
+named None operands = Err UnknownWord
+named (Some mnemonic) operands = map_ok (λ i. Some i) (insn_from mnemonic operands)
+
+-- the instruction that the words of a line name; a blank line names none
+abbrev pub meaning : List Text → Reading (Option Insn)
+meaning [] = Ok None
+meaning (name ∷ operands) = named (mnemonic_named name) operands
+
+unfoldable pub meaning_of : Text → Reading (Option Insn)
+meaning_of line = meaning (words_of line)

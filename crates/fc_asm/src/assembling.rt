@@ -1,0 +1,55 @@
+//! From text to instructions.
+ghost use Rattle.std.specs.Prelude.{All, IfErr, IfOk, IsTrue, List, MatchResult, ◌≡◌};
+ghost use Rattle.fc_isa.specs.Program.{IsInsn, is_program};
+ghost use Rattle.fc_isa.specs.declared.insn.Insn.{Insn};
+ghost use Rattle.fc_asm.specs.Listing.{listing};
+ghost use Rattle.fc_asm.specs.Assembled.{IsAsmError, IsAssembled, second_slot};
+ghost use Rattle.fc_asm.specs.Syntax.{lines_of};
+
+use crate::error::AsmError;
+use crate::line::{read, words};
+use crate::names::Names;
+use fc_isa::Insn;
+use std::alloc::Global;
+
+/// Assembles a text of one instruction a line: what it means, line by line.
+///
+/// # Errors
+/// The first line with a mistake and the first mistake that it has, or that memory was refused, which comes first.
+pub fn assemble(alloc: Global, text: &str) -> Result<Vec<Insn>, AsmError>
+    ensures program { IfOk result (λ v. IsAssembled (lines_of text.now) v.items) }
+    ensures slots { IfOk result (λ v. IsTrue (is_program v.items)) }
+    ensures fault { IfErr result (IsAsmError (lines_of text.now)) }
+    ensures listed { (p : List Insn) → IsTrue (is_program p) → All IsInsn p → text.now ≡ listing p → MatchResult result (λ v. v.items ≡ p) (λ e. e ≡ AsmError.NoMemory) }
+{
+    let names = Names::new(alloc)?;
+    let mut program = Vec::new(alloc);
+    let mut line = 0;
+    for code in text.split('\n') {
+        line += 1;
+        let words = words(alloc, code)?;
+        match read(&names, &words) {
+            Ok(None) => {}
+            Ok(Some(insn)) => {
+                let (first, second) = slots(insn);
+                program.push(first)?;
+                if let Some(second) = second {
+                    program.push(second)?;
+                }
+            }
+            Err(mistake) => return Err(AsmError::Faulty { mistake, line }),
+        }
+    }
+    Ok(program)
+}
+
+/// An instruction's slots: a wide load has two.
+fn slots(insn: Insn) -> (Insn, Option<Insn>)
+    ensures first { result.0 ≡ insn }
+    ensures second { result.1 ≡ second_slot insn }
+{
+    match insn {
+        Insn::LoadWide { .. } => (insn, Some(Insn::WideSecond)),
+        _ => (insn, None),
+    }
+}

@@ -1,0 +1,73 @@
+//! What is wrong with a text, and where.
+use std::alloc::{AllocError, AllocFailed};
+use std::error::Error;
+use std::fmt;
+
+/// What is wrong with a line. The first of these that a line has is the one that is named.
+#[derive(Clone, Copy, Debug, PartialEq, Eq)]
+pub enum Mistake {
+    /// The first word names no instruction.
+    UnknownWord,
+    /// Too few operands or too many, or one of another sort than the instruction takes.
+    Operand,
+    /// A number outside the range of its operand.
+    OutOfRange,
+}
+
+/// Why a text was not assembled. A mistake prints as `A1 line 7`.
+#[derive(Clone, Copy, Debug, PartialEq, Eq)]
+pub enum AsmError {
+    /// The first line with a mistake, counted from 1.
+    Faulty { mistake: Mistake, line: usize },
+    /// There was no memory for the program.
+    NoMemory,
+}
+
+impl fmt::Display for AsmError {
+    ghost use Rattle.std.specs.Prelude.{Some};
+    ghost use Rattle.fc_asm.specs.Mistakes.{error_text};
+
+    ghost output = { λ e. Some (error_text e) };
+
+    fn fmt<W: fmt::Write>(&self, f: &mut fmt::Formatter<W>) -> fmt::Result {
+        match *self {
+            AsmError::Faulty {
+                mistake: Mistake::UnknownWord,
+                line,
+            } => write!(f, "A1 line {line}"),
+            AsmError::Faulty {
+                mistake: Mistake::Operand,
+                line,
+            } => write!(f, "A2 line {line}"),
+            AsmError::Faulty {
+                mistake: Mistake::OutOfRange,
+                line,
+            } => write!(f, "A3 line {line}"),
+            AsmError::NoMemory => write!(f, "out of memory"),
+        }
+    }
+}
+
+impl Error for AsmError {}
+
+impl From<AllocError> for AsmError {
+    ghost use Rattle.std.specs.Prelude.{◌≡◌};
+    ghost use Rattle.fc_asm.specs.declared.error.AsmError.TheVariants.{NoMemory};
+
+    ghost from_gives = { λ _ e. e ≡ NoMemory };
+
+    fn from(_error: AllocError) -> Self {
+        AsmError::NoMemory
+    }
+}
+
+impl<T: Drop> From<AllocFailed<T>> for AsmError {
+    ghost use Rattle.std.specs.Prelude.{◌≡◌};
+    ghost use Rattle.fc_asm.specs.declared.error.AsmError.TheVariants.{NoMemory};
+
+    ghost from_gives = { λ _ e. e ≡ NoMemory };
+
+    fn from(_error: AllocFailed<T>) -> Self {
+        AsmError::NoMemory
+    }
+}

@@ -1,0 +1,210 @@
+//! From a line to the instruction that it names.
+ghost use Rattle.std.specs.Prelude.{IfOk, List, OnOk, map, ◌++◌, ◌≡◌};
+ghost use Rattle.fc_asm.specs.Operands.{map_ok};
+ghost use Rattle.fc_asm.specs.Syntax.{comma_parts, insn_from, meaning, one_of, parts_of, three_of, two_of, words_of};
+
+use crate::error::Mistake;
+use crate::mnemonic::Mnemonic;
+use crate::names::Names;
+use crate::operand::{both, extension, imm, offset, operand, register, target, wide};
+use fc_isa::{AluOp, Insn, Jump, LoadType, Relation, Size, Width};
+use std::alloc::{AllocError, Global};
+
+/// The words of a line: what stands between spaces and commas, before a comment.
+pub fn words<'a>(alloc: Global, line: &'a str) -> Result<Vec<&'a str>, AllocError>
+    ensures { IfOk result (λ v. map (λ word. word.now) v.items ≡ words_of line.now) }
+{
+    match line.split_once(';') {
+        Some((code, _)) => parts(alloc, code),
+        None => parts(alloc, line),
+    }
+}
+
+/// What stands between spaces and commas.
+fn parts<'a>(alloc: Global, code: &'a str) -> Result<Vec<&'a str>, AllocError>
+    ensures { IfOk result (λ v. map (λ word. word.now) v.items ≡ parts_of code.now) }
+{
+    let mut words = Vec::new(alloc);
+    for part in code.split(' ') {
+        push_words(&mut words, part)?;
+    }
+    Ok(words)
+}
+
+/// Adds what stands between commas.
+fn push_words<'a>(words: &mut Vec<&'a str>, part: &'a str) -> Result<(), AllocError>
+    ensures { OnOk result (map (λ word. word.now) words.new.items ≡ map (λ word. word.now) words.old.items ++ comma_parts part.now) }
+{
+    for word in part.split(',') {
+        if !word.is_empty() {
+            words.push(word)?;
+        }
+    }
+    Ok(())
+}
+
+/// The instruction that the words of a line name; a blank line names none.
+pub fn read(names: &Names, words: &[&str]) -> Result<Option<Insn>, Mistake>
+    ensures { result ≡ meaning (map (λ word. word.now) words.now) }
+{
+    match words {
+        [] => Ok(None),
+        [name, operands @ ..] => match names.find(name) {
+            Some(mnemonic) => Ok(Some(insn(mnemonic, operands)?)),
+            None => Err(Mistake::UnknownWord),
+        },
+    }
+}
+
+/// The instruction of a mnemonic and its operands.
+fn insn(mnemonic: Mnemonic, operands: &[&str]) -> Result<Insn, Mistake>
+    ensures { result ≡ insn_from mnemonic (map (λ word. word.now) operands.now) }
+{
+    match mnemonic {
+        Mnemonic::Arithmetic(op, width) => arithmetic(op, width, operands),
+        Mnemonic::Negate(width) => {
+            let dst = target(one(operands)?)?;
+            Ok(Insn::Neg { width, dst })
+        }
+        Mnemonic::Extend(width) => extend(width, operands),
+        Mnemonic::Swap(order, width) => {
+            let dst = target(one(operands)?)?;
+            Ok(Insn::End { order, width, dst })
+        }
+        Mnemonic::Wide => load_wide(operands),
+        Mnemonic::Read(loaded) => load(loaded, operands),
+        Mnemonic::WriteImm(size) => store_imm(size, operands),
+        Mnemonic::WriteReg(size) => store(size, operands),
+        Mnemonic::Go => Ok(Insn::JumpAlways {
+            offset: offset(one(operands)?)?,
+        }),
+        Mnemonic::GoFar => Ok(Insn::JumpAlwaysLong {
+            offset: imm(one(operands)?)?,
+        }),
+        Mnemonic::Branch(relation, width) => jump_if(relation, width, operands),
+        Mnemonic::Helper => Ok(Insn::CallHelper {
+            number: imm(one(operands)?)?,
+        }),
+        Mnemonic::Function => Ok(Insn::CallLocal {
+            offset: imm(one(operands)?)?,
+        }),
+        Mnemonic::Return => match operands {
+            [] => Ok(Insn::Exit),
+            _ => Err(Mistake::Operand),
+        },
+    }
+}
+
+fn arithmetic(op: AluOp, width: Width, operands: &[&str]) -> Result<Insn, Mistake>
+    ensures { result ≡ insn_from (Mnemonic.Arithmetic op width) (map (λ word. word.now) operands.now) }
+{
+    let (dst, source) = two(operands)?;
+    let (dst, operand) = both(target(dst), operand(source))?;
+    Ok(Insn::Alu {
+        op,
+        width,
+        dst,
+        operand,
+    })
+}
+
+fn extend(width: Width, operands: &[&str]) -> Result<Insn, Mistake>
+    ensures { result ≡ insn_from (Mnemonic.Extend width) (map (λ word. word.now) operands.now) }
+{
+    let (dst, src, bits) = three(operands)?;
+    let ((dst, src), extension) = both(both(target(dst), register(src)), extension(width, bits))?;
+    Ok(Insn::SignExtend {
+        extension,
+        dst,
+        src,
+    })
+}
+
+fn load_wide(operands: &[&str]) -> Result<Insn, Mistake>
+    ensures { result ≡ insn_from Mnemonic.Wide (map (λ word. word.now) operands.now) }
+{
+    let (dst, value) = two(operands)?;
+    let (dst, value) = both(target(dst), wide(value))?;
+    Ok(Insn::LoadWide { dst, value })
+}
+
+fn load(loaded: LoadType, operands: &[&str]) -> Result<Insn, Mistake>
+    ensures { result ≡ insn_from (Mnemonic.Read loaded) (map (λ word. word.now) operands.now) }
+{
+    let (dst, base, place) = three(operands)?;
+    let ((dst, base), offset) = both(both(target(dst), register(base)), offset(place))?;
+    Ok(Insn::Load {
+        loaded,
+        dst,
+        base,
+        offset,
+    })
+}
+
+fn store_imm(size: Size, operands: &[&str]) -> Result<Insn, Mistake>
+    ensures { result ≡ insn_from (Mnemonic.WriteImm size) (map (λ word. word.now) operands.now) }
+{
+    let (base, place, value) = three(operands)?;
+    let ((base, offset), imm) = both(both(register(base), offset(place)), imm(value))?;
+    Ok(Insn::StoreImm {
+        size,
+        base,
+        offset,
+        imm,
+    })
+}
+
+fn store(size: Size, operands: &[&str]) -> Result<Insn, Mistake>
+    ensures { result ≡ insn_from (Mnemonic.WriteReg size) (map (λ word. word.now) operands.now) }
+{
+    let (base, place, src) = three(operands)?;
+    let ((base, offset), src) = both(both(register(base), offset(place)), register(src))?;
+    Ok(Insn::Store {
+        size,
+        base,
+        offset,
+        src,
+    })
+}
+
+fn jump_if(relation: Relation, width: Width, operands: &[&str]) -> Result<Insn, Mistake>
+    ensures { result ≡ insn_from (Mnemonic.Branch relation width) (map (λ word. word.now) operands.now) }
+{
+    let (left, right, place) = three(operands)?;
+    let ((left, right), offset) = both(both(register(left), operand(right)), offset(place))?;
+    Ok(Insn::JumpIf(Jump {
+        width,
+        relation,
+        left,
+        right,
+        offset,
+    }))
+}
+
+/// The operand, if there is just one.
+fn one<'a>(operands: &[&'a str]) -> Result<&'a str, Mistake>
+    ensures { map_ok (λ a. a.now) result ≡ one_of (map (λ word. word.now) operands.now) }
+{
+    match operands {
+        [a] => Ok(*a),
+        _ => Err(Mistake::Operand),
+    }
+}
+
+fn two<'a>(operands: &[&'a str]) -> Result<(&'a str, &'a str), Mistake>
+    ensures { map_ok (λ p. (p.0.now, p.1.now)) result ≡ two_of (map (λ word. word.now) operands.now) }
+{
+    match operands {
+        [a, b] => Ok((*a, *b)),
+        _ => Err(Mistake::Operand),
+    }
+}
+
+fn three<'a>(operands: &[&'a str]) -> Result<(&'a str, &'a str, &'a str), Mistake>
+    ensures { map_ok (λ p. (p.0.now, p.1.now, p.2.now)) result ≡ three_of (map (λ word. word.now) operands.now) }
+{
+    match operands {
+        [a, b, c] => Ok((*a, *b, *c)),
+        _ => Err(Mistake::Operand),
+    }
+}

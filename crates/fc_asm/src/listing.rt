@@ -1,0 +1,233 @@
+//! From instructions to text.
+ghost use Rattle.std.specs.Prelude.{IfOk, IsTrue, ◌≡◌, ◌≢◌, string_bytes, Some, None};
+ghost use Rattle.fc_isa.specs.Program.{is_program};
+ghost use Rattle.fc_asm.specs.Listing.{extended_bits, listing, mnemonic_of, operands_of};
+ghost use Rattle.fc_asm.specs.Shown.{texts_of};
+
+use crate::mnemonic::Mnemonic;
+use fc_isa::{Insn, Operand, Reg, SignExtension, Target, Width};
+use std::alloc::{AllocError, Global};
+use std::fmt;
+
+/// The listing of a program: one instruction a line, as the assembler reads it.
+///
+/// # Errors
+/// Memory was refused.
+pub fn disassemble(alloc: Global, program: &[Insn]) -> Result<String, AllocError>
+    requires { IsTrue (is_program program.now) }
+    ensures { IfOk result (λ s. string_bytes s ≡ listing program.now) }
+{
+    let mut text = String::new(alloc);
+    for insn in program {
+        if let Some(mnemonic) = mnemonic(*insn) {
+            let line = Line {
+                mnemonic,
+                operands: shown_operands(*insn),
+            };
+            write!(text, "{line}")?;
+        }
+    }
+    Ok(text)
+}
+
+/// An operand as it is listed.
+#[derive(Clone, Copy)]
+enum Shown {
+    Register(usize),
+    Number(i64),
+    Wide(u64),
+}
+
+impl fmt::Display for Shown {
+    ghost use Rattle.std.specs.Prelude.{Some};
+    ghost use Rattle.fc_asm.specs.Shown.{text_of};
+
+    ghost output = { λ s. Some (text_of s) };
+
+    fn fmt<W: fmt::Write>(&self, f: &mut fmt::Formatter<W>) -> fmt::Result {
+        match *self {
+            Shown::Register(number) => write!(f, "r{number}"),
+            Shown::Number(value) => write!(f, "{value}"),
+            Shown::Wide(value) => write!(f, "{value}"),
+        }
+    }
+}
+
+impl From<Target> for Shown {
+    ghost use Rattle.std.specs.Prelude.{◌≡◌};
+    ghost use Rattle.fc_asm.specs.declared.listing.Shown.TheVariants.{Register};
+
+    ghost from_gives = { λ t s. s ≡ Register t };
+
+    fn from(target: Target) -> Self {
+        Shown::Register(target.index())
+    }
+}
+
+impl From<Reg> for Shown {
+    ghost use Rattle.std.specs.Prelude.{◌≡◌};
+    ghost use Rattle.fc_asm.specs.declared.listing.Shown.TheVariants.{Register};
+
+    ghost from_gives = { λ r s. s ≡ Register r };
+
+    fn from(reg: Reg) -> Self {
+        Shown::Register(reg.index())
+    }
+}
+
+impl From<i16> for Shown {
+    ghost use Rattle.std.specs.Prelude.{◌≡◌};
+    ghost use Rattle.fc_asm.specs.declared.listing.Shown.TheVariants.{Number};
+
+    ghost from_gives = { λ k s. s ≡ Number k };
+
+    fn from(offset: i16) -> Self {
+        Shown::Number(i64::from(offset))
+    }
+}
+
+impl From<i32> for Shown {
+    ghost use Rattle.std.specs.Prelude.{◌≡◌};
+    ghost use Rattle.fc_asm.specs.declared.listing.Shown.TheVariants.{Number};
+
+    ghost from_gives = { λ k s. s ≡ Number k };
+
+    fn from(imm: i32) -> Self {
+        Shown::Number(i64::from(imm))
+    }
+}
+
+impl From<Operand> for Shown {
+    ghost use Rattle.std.specs.Prelude.{◌≡◌};
+    ghost use Rattle.fc_asm.specs.Shown.{shown_operand};
+
+    ghost from_gives = { λ o s. s ≡ shown_operand o };
+
+    fn from(operand: Operand) -> Self {
+        match operand {
+            Operand::Imm(imm) => imm.into(),
+            Operand::Reg(reg) => reg.into(),
+        }
+    }
+}
+
+/// The operands of a line.
+#[derive(Clone, Copy)]
+enum Operands {
+    Zero,
+    One(Shown),
+    Two(Shown, Shown),
+    Three(Shown, Shown, Shown),
+}
+
+/// A line of a listing, which prints with its line feed.
+#[derive(Clone, Copy)]
+struct Line {
+    mnemonic: Mnemonic,
+    operands: Operands,
+}
+
+impl fmt::Display for Line {
+    ghost use Rattle.std.specs.Prelude.{Some};
+    ghost use Rattle.fc_asm.specs.Listing.{line};
+    ghost use Rattle.fc_asm.specs.Shown.{texts_of};
+
+    ghost output = { λ l. Some (line l.mnemonic (texts_of l.operands)) };
+
+    fn fmt<W: fmt::Write>(&self, f: &mut fmt::Formatter<W>) -> fmt::Result {
+        let name = self.mnemonic;
+        match self.operands {
+            Operands::Zero => write!(f, "{name}\n"),
+            Operands::One(a) => write!(f, "{name} {a}\n"),
+            Operands::Two(a, b) => write!(f, "{name} {a}, {b}\n"),
+            Operands::Three(a, b, c) => write!(f, "{name} {a}, {b}, {c}\n"),
+        }
+    }
+}
+
+/// The mnemonic of a line; the second half of a wide load has no line.
+fn mnemonic(insn: Insn) -> Option<Mnemonic>
+    ensures { result ≡ mnemonic_of insn }
+{
+    Some(match insn {
+        Insn::Alu { op, width, .. } => Mnemonic::Arithmetic(op, width),
+        Insn::Neg { width, .. } => Mnemonic::Negate(width),
+        Insn::SignExtend { extension, .. } => extend(extension),
+        Insn::End { order, width, .. } => Mnemonic::Swap(order, width),
+        Insn::LoadWide { .. } => Mnemonic::Wide,
+        Insn::WideSecond => return None,
+        Insn::Load { loaded, .. } => Mnemonic::Read(loaded),
+        Insn::StoreImm { size, .. } => Mnemonic::WriteImm(size),
+        Insn::Store { size, .. } => Mnemonic::WriteReg(size),
+        Insn::JumpAlways { .. } => Mnemonic::Go,
+        Insn::JumpAlwaysLong { .. } => Mnemonic::GoFar,
+        Insn::JumpIf(jump) => Mnemonic::Branch(jump.relation, jump.width),
+        Insn::CallHelper { .. } => Mnemonic::Helper,
+        Insn::CallLocal { .. } => Mnemonic::Function,
+        Insn::Exit => Mnemonic::Return,
+    })
+}
+
+fn extend(extension: SignExtension) -> Mnemonic
+    ensures { Some result ≡ mnemonic_of (Insn.SignExtend extension 0 0) }
+{
+    match extension {
+        SignExtension::Byte(width) | SignExtension::HalfWord(width) => Mnemonic::Extend(width),
+        SignExtension::Word => Mnemonic::Extend(Width::W64),
+    }
+}
+
+/// How many bits are extended.
+fn bits(extension: SignExtension) -> i32
+    ensures { result ≡ extended_bits extension }
+{
+    match extension {
+        SignExtension::Byte(_) => 8,
+        SignExtension::HalfWord(_) => 16,
+        SignExtension::Word => 32,
+    }
+}
+
+/// An instruction's operands, in the order of the line.
+fn shown_operands(insn: Insn) -> Operands
+    ensures { texts_of result ≡ operands_of insn }
+{
+    match insn {
+        Insn::Alu { dst, operand, .. } => Operands::Two(dst.into(), operand.into()),
+        Insn::Neg { dst, .. } => Operands::One(dst.into()),
+        Insn::SignExtend {
+            extension,
+            dst,
+            src,
+        } => { Operands::Three(dst.into(), src.into(), bits(extension).into()) }
+        Insn::End { dst, .. } => Operands::One(dst.into()),
+        Insn::LoadWide { dst, value } => Operands::Two(dst.into(), Shown::Wide(value)),
+        Insn::Load {
+            dst,
+            base,
+            offset,
+            ..
+        } => { Operands::Three(dst.into(), base.into(), offset.into()) }
+        Insn::StoreImm {
+            base,
+            offset,
+            imm,
+            ..
+        } => { Operands::Three(base.into(), offset.into(), imm.into()) }
+        Insn::Store {
+            base,
+            offset,
+            src,
+            ..
+        } => { Operands::Three(base.into(), offset.into(), src.into()) }
+        Insn::JumpAlways { offset } => Operands::One(offset.into()),
+        Insn::JumpAlwaysLong { offset } => Operands::One(offset.into()),
+        Insn::JumpIf(jump) => {
+            Operands::Three(jump.left.into(), jump.right.into(), jump.offset.into())
+        }
+        Insn::CallHelper { number } => Operands::One(number.into()),
+        Insn::CallLocal { offset } => Operands::One(offset.into()),
+        Insn::WideSecond => Operands::Zero,
+        Insn::Exit => Operands::Zero,
+    }
+}

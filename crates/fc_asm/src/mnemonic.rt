@@ -1,0 +1,159 @@
+//! The names of instructions.
+ghost use Rattle.std.specs.Prelude.{◌≡◌};
+ghost use Rattle.fc_asm.specs.Names.{alu_name, load_name, order_name, relation_name, size_name, swap_bits, width_bits};
+
+use fc_isa::{AluOp, ByteOrder, LoadType, Relation, Size, SwapWidth, Width};
+use std::fmt;
+
+/// What the first word of a line stands for: an instruction without its operands. It prints as that word.
+#[derive(Clone, Copy, Debug, PartialEq, Eq)]
+pub enum Mnemonic {
+    /// `add64` and its like.
+    Arithmetic(AluOp, Width),
+    /// `neg64`, `neg32`.
+    Negate(Width),
+    /// `movsx64`, `movsx32`.
+    Extend(Width),
+    /// `le16`, `be32`, `swap64` and their like.
+    Swap(ByteOrder, SwapWidth),
+    /// `lddw`.
+    Wide,
+    /// `ldxw`, `ldsxw` and their like.
+    Read(LoadType),
+    /// `stw` and its like.
+    WriteImm(Size),
+    /// `stxw` and its like.
+    WriteReg(Size),
+    /// `ja`.
+    Go,
+    /// `ja32`.
+    GoFar,
+    /// `jgt`, `jgt32` and their like.
+    Branch(Relation, Width),
+    /// `call`.
+    Helper,
+    /// `callf`.
+    Function,
+    /// `exit`.
+    Return,
+}
+
+impl fmt::Display for Mnemonic {
+    ghost use Rattle.std.specs.Prelude.{Some};
+    ghost use Rattle.fc_asm.specs.Names.{name_of};
+
+    ghost output = { λ m. Some (name_of m) };
+
+    fn fmt<W: fmt::Write>(&self, f: &mut fmt::Formatter<W>) -> fmt::Result {
+        match *self {
+            Mnemonic::Arithmetic(op, width) => write!(f, "{}{}", alu_name(op), width_bits(width)),
+            Mnemonic::Negate(width) => write!(f, "neg{}", width_bits(width)),
+            Mnemonic::Extend(width) => write!(f, "movsx{}", width_bits(width)),
+            Mnemonic::Swap(order, width) => write!(f, "{}{}", order_name(order), swap_bits(width)),
+            Mnemonic::Wide => write!(f, "lddw"),
+            Mnemonic::Read(loaded) => write!(f, "{}", load_name(loaded)),
+            Mnemonic::WriteImm(size) => write!(f, "st{}", size_name(size)),
+            Mnemonic::WriteReg(size) => write!(f, "stx{}", size_name(size)),
+            Mnemonic::Go => write!(f, "ja"),
+            Mnemonic::GoFar => write!(f, "ja32"),
+            Mnemonic::Branch(relation, Width::W64) => write!(f, "{}", relation_name(relation)),
+            Mnemonic::Branch(relation, Width::W32) => write!(f, "{}32", relation_name(relation)),
+            Mnemonic::Helper => write!(f, "call"),
+            Mnemonic::Function => write!(f, "callf"),
+            Mnemonic::Return => write!(f, "exit"),
+        }
+    }
+}
+
+fn alu_name(op: AluOp) -> &'static str
+    ensures { result.now ≡ alu_name op }
+{
+    match op {
+        AluOp::Add => "add",
+        AluOp::Sub => "sub",
+        AluOp::Mul => "mul",
+        AluOp::Div => "div",
+        AluOp::Or => "or",
+        AluOp::And => "and",
+        AluOp::Lsh => "lsh",
+        AluOp::Rsh => "rsh",
+        AluOp::Mod => "mod",
+        AluOp::Xor => "xor",
+        AluOp::Mov => "mov",
+        AluOp::Arsh => "arsh",
+        AluOp::Sdiv => "sdiv",
+        AluOp::Smod => "smod",
+    }
+}
+
+fn width_bits(width: Width) -> &'static str
+    ensures { result.now ≡ width_bits width }
+{
+    match width {
+        Width::W32 => "32",
+        Width::W64 => "64",
+    }
+}
+
+fn order_name(order: ByteOrder) -> &'static str
+    ensures { result.now ≡ order_name order }
+{
+    match order {
+        ByteOrder::Little => "le",
+        ByteOrder::Big => "be",
+        ByteOrder::Swapped => "swap",
+    }
+}
+
+fn swap_bits(width: SwapWidth) -> &'static str
+    ensures { result.now ≡ swap_bits width }
+{
+    match width {
+        SwapWidth::S16 => "16",
+        SwapWidth::S32 => "32",
+        SwapWidth::S64 => "64",
+    }
+}
+
+fn size_name(size: Size) -> &'static str
+    ensures { result.now ≡ size_name size }
+{
+    match size {
+        Size::Byte => "b",
+        Size::HalfWord => "h",
+        Size::Word => "w",
+        Size::DoubleWord => "dw",
+    }
+}
+
+fn load_name(loaded: LoadType) -> &'static str
+    ensures { result.now ≡ load_name loaded }
+{
+    match loaded {
+        LoadType::Unsigned(Size::Byte) => "ldxb",
+        LoadType::Unsigned(Size::HalfWord) => "ldxh",
+        LoadType::Unsigned(Size::Word) => "ldxw",
+        LoadType::Unsigned(Size::DoubleWord) => "ldxdw",
+        LoadType::SignedByte => "ldsxb",
+        LoadType::SignedHalfWord => "ldsxh",
+        LoadType::SignedWord => "ldsxw",
+    }
+}
+
+fn relation_name(relation: Relation) -> &'static str
+    ensures { result.now ≡ relation_name relation }
+{
+    match relation {
+        Relation::Eq => "jeq",
+        Relation::Gt => "jgt",
+        Relation::Ge => "jge",
+        Relation::Set => "jset",
+        Relation::Ne => "jne",
+        Relation::Sgt => "jsgt",
+        Relation::Sge => "jsge",
+        Relation::Lt => "jlt",
+        Relation::Le => "jle",
+        Relation::Slt => "jslt",
+        Relation::Sle => "jsle",
+    }
+}

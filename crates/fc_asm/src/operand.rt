@@ -1,0 +1,144 @@
+//! From words to operands.
+ghost use Rattle.std.specs.Prelude.{◌≡◌, length};
+ghost use Rattle.fc_asm.specs.Operands.{both_of, graver, imm_of, is_digits, is_number, offset_of, operand_of, register_of, target_of, wide_of, width_of};
+
+use crate::error::Mistake;
+use fc_isa::{Operand, Reg, SignExtension, Target, Width};
+
+/// `r0` to `r10`.
+pub fn register(word: &str) -> Result<Reg, Mistake>
+    ensures { result ≡ register_of word.now }
+{
+    match REGISTERS.iter().position(|name| *name == word) {
+        Some(number) => Ok(Reg::new(number as u8)),
+        None => Err(Mistake::Operand),
+    }
+}
+
+const REGISTERS: [&'static str; 11] = [
+    "r0", "r1", "r2", "r3", "r4", "r5", "r6", "r7", "r8", "r9", "r10",
+];
+
+/// `r0` to `r9`, which a program may write.
+pub fn target(word: &str) -> Result<Target, Mistake>
+    ensures { result ≡ target_of word.now }
+{
+    let number = register(word)?.index();
+    if number < 10 {
+        Ok(Target::new(number as u8))
+    } else {
+        Err(Mistake::Operand)
+    }
+}
+
+/// A number of 32 bits with a sign.
+pub fn imm(word: &str) -> Result<i32, Mistake>
+    ensures { result ≡ imm_of word.now }
+{
+    if !is_number(word) {
+        return Err(Mistake::Operand);
+    }
+    match word.parse::<i32>() {
+        Ok(value) => Ok(value),
+        Err(_) => Err(Mistake::OutOfRange), // outside 32 bits
+    }
+}
+
+/// A number of 16 bits with a sign.
+pub fn offset(word: &str) -> Result<i16, Mistake>
+    ensures { result ≡ offset_of word.now }
+{
+    if !is_number(word) {
+        return Err(Mistake::Operand);
+    }
+    match word.parse::<i16>() {
+        Ok(value) => Ok(value),
+        Err(_) => Err(Mistake::OutOfRange),
+    }
+}
+
+/// A number of 64 bits without a sign; `-0` is zero.
+pub fn wide(word: &str) -> Result<u64, Mistake>
+    ensures { result ≡ wide_of word.now }
+{
+    if !is_number(word) {
+        return Err(Mistake::Operand);
+    }
+    match word.strip_prefix('-') {
+        None => match word.parse::<u64>() {
+            Ok(value) => Ok(value),
+            Err(_) => Err(Mistake::OutOfRange),
+        },
+        Some(digits) => match digits.parse::<u64>() {
+            Ok(size) => if size == 0 {
+                Ok(0)
+            } else {
+                Err(Mistake::OutOfRange)
+            },
+            Err(_) => Err(Mistake::OutOfRange),
+        },
+    }
+}
+
+/// A register or a number.
+pub fn operand(word: &str) -> Result<Operand, Mistake>
+    ensures { result ≡ operand_of word.now }
+{
+    match register(word) {
+        Ok(reg) => Ok(Operand::Reg(reg)),
+        Err(_) => Ok(Operand::Imm(imm(word)?)),
+    }
+}
+
+/// How many bits are extended to this width.
+pub fn extension(width: Width, word: &str) -> Result<SignExtension, Mistake>
+    ensures { result ≡ width_of width word.now }
+{
+    match (width, imm(word)?) {
+        (_, 8) => Ok(SignExtension::Byte(width)),
+        (_, 16) => Ok(SignExtension::HalfWord(width)),
+        (Width::W64, 32) => Ok(SignExtension::Word),
+        _ => Err(Mistake::OutOfRange),
+    }
+}
+
+/// Both, or the graver mistake.
+pub fn both<A: Drop, B: Drop>(
+    a: Result<A, Mistake>,
+    b: Result<B, Mistake>,
+) -> Result<(A, B), Mistake>
+    ensures { result ≡ both_of a b }
+{
+    match (a, b) {
+        (Ok(a), Ok(b)) => Ok((a, b)),
+        (Ok(_), Err(mistake)) => Err(mistake),
+        (Err(mistake), Ok(_)) => Err(mistake),
+        (Err(a), Err(b)) => Err(graver(a, b)),
+    }
+}
+
+/// The one that is named first.
+fn graver(a: Mistake, b: Mistake) -> Mistake
+    ensures { result ≡ graver a b }
+{
+    match a {
+        Mistake::OutOfRange => b,
+        _ => a,
+    }
+}
+
+/// Digits after a `-` or none.
+fn is_number(word: &str) -> bool
+    ensures { result ≡ is_number word.now }
+{
+    match word.as_bytes() {
+        [b'-', digits @ ..] => is_digits(digits),
+        digits => is_digits(digits),
+    }
+}
+
+fn is_digits(digits: &[u8]) -> bool
+    ensures { result ≡ is_digits digits.now }
+{
+    !digits.is_empty() && digits.iter().all(|digit| digit.is_ascii_digit())
+}
