@@ -1,339 +1,287 @@
--- The request that `asked` finds is the one that the bytes spell.
-use Rattle.std.proofs.Common.{◌≡◌, ℕ, ◌+◌, ◌-◌, ◌*◌, ◌/◌, ◌%◌, ◌<◌, ◌≤◌, ◌==◌, ◌&&◌, Bool, true, false, nat_lt, nat_le, if◌then◌else◌, List, [], ◌∷◌, ◌++◌, length, take, drop, get_or, Option, Some, None, IfSome, IfNone, refl, sym, ◌∙◌, ap, subst, arith, length-append, append_assoc, inl, inr, lit<}
-use Rattle.std.proofs.Math.Seq.{take-append_seam, drop-append_seam}
-use Rattle.std.proofs.lemmas.List.{take-append-drop, length-take-le}
-use Rattle.std.proofs.lemmas.Bool.{ltb-true, leb-true, eqb-true, lt-ltb, le-leb, eq-eqb, and_from, and_parts, cases_lt}
-use Rattle.std.specs.Fmt.{decimal}
-use Rattle.std.proofs.lemmas.Fmt.{decimal_digit, decimal_step, length-decimal-le}
-use Rattle.coap_msg.specs.declared.message.Resource.{Resource}
-use Rattle.coap_msg.specs.declared.message.Resource.TheVariants.{Run, Program}
-use Rattle.coap_msg.specs.Wire.{Request, IsRequest, Spells, short_option, payload_part, method_code, first_segment, request_bytes, path_part}
-use Rattle.coap_msg.specs.Asked.{with_some, guard, split, token_length, value_length, option_of, resource_of, digit, slot_of, payload_of, request_by, asked}
+-- Options: bytes that they are written as are read as them, and bytes that are read as them are what they are written as.
+use Rattle.std.proofs.Common.{◌≡◌, ℕ, zero, suc, ◌+◌, ◌-◌, ◌*◌, ◌/◌, ◌%◌, ◌<◌, ◌≤◌, ◌==◌, ◌≢◌, Bool, true, false, nat_lt, if◌then◌else◌, List, [], ◌∷◌, ◌++◌, length, Option, Some, None, refl, sym, ◌∙◌, ap, subst, arith, length-append, append_assoc, inl, inr}
+use Rattle.std.proofs.lemmas.Bool.{ltb-true, eqb-true, lt-ltb, le-ltb, ne_eqb, cases_lt}
+use Rattle.std.proofs.lemmas.List.{append-nil}
+use Rattle.coap_msg.specs.Wire.{half, extension, option_bytes, options_bytes, IsOption, AreOptions}
+use Rattle.coap_msg.specs.Reading.{with_some, guard, split, by_one, by_two, number_at, Parted, option_at, Listed, with_first, is_end, options_at, all_of, options_of, HasOptions}
+use Rattle.coap_msg.proofs.Steps.{came, passed, passes, split-append, joins, AreBytes, tail_bytes, back_bytes}
 
--- a value that comes in two steps
-record Came {A B : Type 0} (o : Option A) (f : A → Option B) (y : B) : Type 0 where
-  value : A
-  first : o ≡ Some value
-  second : f value ≡ Some y
+-- ---- numbers
 
-came : {A B : Type 0} (o : Option A) (f : A → Option B) (y : B) → with_some o f ≡ Some y → Came o f y
-came None f y e = absurd (cc e)
-came (Some x) f y e = record { value = x; first = refl; second = e }
+-- the three forms of a number
+small : (n : ℕ) → n < 13 → (half n ≡ n) × (extension n ≡ [])
+small n h = (rw (lt-ltb n 13 h) refl, rw (lt-ltb n 13 h) refl)
 
--- a value behind a test
-record Passed {A : Type 0} (b : Bool) (x y : A) : Type 0 where
-  test : b ≡ true
-  same : x ≡ y
+middle : (n : ℕ) → 13 ≤ n → n < 269 → (half n ≡ 13) × (extension n ≡ (n - 13) ∷ [])
+middle n l h = (rw (le-ltb n 13 l, lt-ltb n 269 h) refl, rw (le-ltb n 13 l, lt-ltb n 269 h) refl)
 
-passed : {A : Type 0} (b : Bool) (x y : A) → guard b x ≡ Some y → Passed b x y
-passed false x y e = absurd (cc e)
-passed true x y e = record { test = refl; same = cc e }
+large : (n : ℕ) → 269 ≤ n → (half n ≡ 14) × (extension n ≡ ((n - 269) / 256) ∷ ((n - 269) % 256) ∷ [])
+large n l =
+    let far : 13 ≤ n = omega arith in
+    (rw (le-ltb n 13 far, le-ltb n 269 l) refl, rw (le-ltb n 13 far, le-ltb n 269 l) refl)
 
-passes : {A : Type 0} (b : Bool) (x : A) → b ≡ true → guard b x ≡ Some x
-passes b x e = rw e refl
+number_small : (n : ℕ) (rest : List ℕ) → n < 13 → number_at (half n) (extension n ++ rest) ≡ Some (n, rest)
+number_small n rest h = rw ((small n h).0, (small n h).1, lt-ltb n 13 h) refl
 
--- the front and the back of a list
+number_middle : (n : ℕ) (rest : List ℕ) → 13 ≤ n → n < 269 → number_at (half n) (extension n ++ rest) ≡ Some (n, rest)
+number_middle n rest l h =
+    let whole : n - 13 + 13 ≡ n = omega arith in
+    rw ((middle n l h).0, (middle n l h).1) (ap (λ m. Some (m, rest)) whole)
 
-split-append : (xs ys : List ℕ) → split (length xs) (xs ++ ys) ≡ Some (xs, ys)
-split-append xs ys =
-    passes (nat_le (length xs) (length (xs ++ ys))) (take (length xs) (xs ++ ys), drop (length xs) (xs ++ ys)) (le-leb _ _ (omega (arith, length-append xs ys))) ∙
-    rw (take-append_seam xs ys, drop-append_seam xs ys) refl
+number_large : (n : ℕ) (rest : List ℕ) → 269 ≤ n → number_at (half n) (extension n ++ rest) ≡ Some (n, rest)
+number_large n rest l =
+    let whole : 256 * ((n - 269) / 256) + (n - 269) % 256 + 269 ≡ n = omega arith in
+    rw ((large n l).0, (large n l).1) (ap (λ m. Some (m, rest)) whole)
 
-record Joins (count : ℕ) (bytes : List ℕ) (parts : List ℕ × List ℕ) : Type 0 where
-  bytes_are : bytes ≡ parts.0 ++ parts.1
-  count_is : length parts.0 ≡ count
+-- a number that is written is read, with what is behind it
+number_at-of : (n : ℕ) (rest : List ℕ) → number_at (half n) (extension n ++ rest) ≡ Some (n, rest)
+number_at-of n rest =
+    elim (cases_lt n 13) [
+      | inl h ↦ number_small n rest h
+      | inr l ↦ elim (cases_lt n 269) [ inl h ↦ number_middle n rest l h | inr m ↦ number_large n rest m ]
+    ]
 
-joins : (count : ℕ) (bytes : List ℕ) (parts : List ℕ × List ℕ) → split count bytes ≡ Some parts → Joins count bytes parts
-joins count bytes parts e =
-    let p = passed (nat_le count (length bytes)) (take count bytes, drop count bytes) parts e in
-    let same : (take count bytes, drop count bytes) ≡ parts = p.same in
-    subst (λ q. Joins count bytes q) same (record {
-      bytes_are = sym (take-append-drop count bytes);
-      count_is = length-take-le count bytes (leb-true _ _ p.test);
-    })
+-- a half byte and bytes that are read as a number
+record IsNumber (first : ℕ) (bytes : List ℕ) (found : ℕ × List ℕ) : Type 0 where
+  half_is : first ≡ half found.0
+  bytes_are : bytes ≡ extension found.0 ++ found.1
+  below : found.0 < 65805
 
--- an upper half and a lower one
-
-record Halves (first upper lower : ℕ) : Type 0 where
-  upper_is : first / 16 ≡ upper
-  lower_is : first % 16 ≡ lower
-
-halves : (upper lower : ℕ) → lower < 16 → Halves (16 * upper + lower) upper lower
-halves upper lower h = record { upper_is = omega arith; lower_is = omega arith }
-
-token_length-of : (n : ℕ) → n ≤ 8 → token_length (64 + n) ≡ Some n
-token_length-of n h =
-    let f : Halves (64 + n) 4 n = halves 4 n (omega arith) in
-    rw (f.upper_is, f.lower_is) (passes (nat_le n 8) n (le-leb n 8 h))
-
-record IsFirst (first n : ℕ) : Type 0 where
-  first_is : first ≡ 64 + n
-  short : n ≤ 8
-
-first_from : (first n : ℕ) → token_length first ≡ Some n → IsFirst first n
-first_from first n e =
-    let p = passed ((first / 16 == 4) && nat_le (first % 16) 8) (first % 16) n e in
-    let t = and_parts _ _ p.test in
-    let q : first / 16 ≡ 4 = eqb-true _ _ t.0 in
-    let r : first % 16 ≤ 8 = leb-true _ _ t.1 in
-    record { first_is = omega (arith, p.same); short = omega (arith, p.same) }
-
-value_length-of : (delta n : ℕ) → n < 13 → value_length delta (16 * delta + n) ≡ Some n
-value_length-of delta n h =
-    let f = halves delta n (omega arith) in
-    rw (f.upper_is, f.lower_is) (passes ((delta == delta) && nat_lt n 13) n (and_from _ _ (eq-eqb delta delta refl) (lt-ltb n 13 h)))
-
-value_from : (delta first n : ℕ) → value_length delta first ≡ Some n → first ≡ 16 * delta + n
-value_from delta first n e =
-    let p = passed ((first / 16 == delta) && nat_lt (first % 16) 13) (first % 16) n e in
-    let q : first / 16 ≡ delta = eqb-true _ _ (and_parts _ _ p.test).0 in
-    omega (arith, p.same)
-
--- the path
-
-option_of-append : (delta : ℕ) (value rest : List ℕ) → length value < 13 → option_of delta (short_option delta value ++ rest) ≡ Some (value, rest)
-option_of-append delta value rest h = rw (value_length-of delta (length value) h, split-append value rest) refl
-
-option_from : (delta : ℕ) (bytes : List ℕ) (parts : List ℕ × List ℕ) → option_of delta bytes ≡ Some parts → bytes ≡ short_option delta parts.0 ++ parts.1
-option_from delta [] parts e = absurd (cc e)
-option_from delta (b ∷ rest) parts e =
-    let c = came (value_length delta b) (λ count. split count rest) parts e in
-    let j = joins c.value rest parts c.second in
-    let f = value_from delta b c.value c.first in
-    let first : b ≡ 16 * delta + length parts.0 = f ∙ ap (λ n. 16 * delta + n) (sym j.count_is) in
-    rw (first, j.bytes_are) refl
-
-resource_of-code : (r : Resource) → resource_of (method_code r) (first_segment r) ≡ Some r
-resource_of-code Run = refl
-resource_of-code Program = refl
-
-record Names (code : ℕ) (segment : List ℕ) (r : Resource) : Type 0 where
-  code_is : code ≡ method_code r
-  segment_is : segment ≡ first_segment r
-
-letter_from : (code letter : ℕ) (r : Resource) (run program : Bool) → (code == 1) && (letter == 114) ≡ run → (code == 3) && (letter == 112) ≡ program →
-    (if run then Some Run else (if program then Some Program else None)) ≡ Some r → Names code (letter ∷ []) r
-letter_from code letter r true program p q e =
-    let t = and_parts (code == 1) (letter == 114) p in
-    let same : Run ≡ r = cc e in
-    subst (λ x. Names code (letter ∷ []) x) same (record { code_is = eqb-true _ _ t.0; segment_is = ap (λ l. l ∷ []) (eqb-true _ _ t.1) })
-letter_from code letter r false true p q e =
-    let t = and_parts (code == 3) (letter == 112) q in
-    let same : Program ≡ r = cc e in
-    subst (λ x. Names code (letter ∷ []) x) same (record { code_is = eqb-true _ _ t.0; segment_is = ap (λ l. l ∷ []) (eqb-true _ _ t.1) })
-letter_from code letter r false false p q e = absurd (cc e)
-
-names : (code : ℕ) (segment : List ℕ) (r : Resource) → resource_of code segment ≡ Some r → Names code segment r
-names code [] r e = absurd (cc e)
-names code (letter ∷ []) r e = letter_from code letter r _ _ refl refl e
-names code (a ∷ b ∷ bs) r e = absurd (cc e)
-
--- the slot
-
-digit-of : (n : ℕ) → n < 10 → digit (48 + n) ≡ Some n
-digit-of n h =
-    let same : 48 + n - 48 ≡ n = omega arith in
-    passes (nat_le 48 (48 + n) && nat_lt (48 + n) 58) (48 + n - 48) (and_from _ _ (le-leb 48 (48 + n) (omega arith)) (lt-ltb (48 + n) 58 (omega arith))) ∙
-    ap Some same
-
-record IsDigit (b n : ℕ) : Type 0 where
-  byte_is : b ≡ 48 + n
-  below : n < 10
-
-digit_from : (b n : ℕ) → digit b ≡ Some n → IsDigit b n
-digit_from b n e =
-    let p = passed (nat_le 48 b && nat_lt b 58) (b - 48) n e in
-    let t = and_parts _ _ p.test in
-    let low : 48 ≤ b = leb-true _ _ t.0 in
-    let high : b < 58 = ltb-true _ _ t.1 in
-    record { byte_is = omega (arith, p.same); below = omega (arith, p.same) }
-
-decimal_two : (n : ℕ) → 10 ≤ n → n < 100 → decimal n ≡ (48 + n / 10) ∷ (48 + n % 10) ∷ []
-decimal_two n low high = decimal_step n low (omega arith) ∙ ap (λ xs. xs ++ ((48 + n % 10) ∷ [])) (decimal_digit (n / 10) (omega arith))
-
-slot_of-two : (n : ℕ) → 10 ≤ n → n < 64 → slot_of (decimal n) ≡ Some n
-slot_of-two n low high =
-    let tens = n / 10 in
-    let ones = n % 10 in
-    let whole : 10 * tens + ones ≡ n = omega arith in
-    rw (decimal_two n low (omega arith), digit-of tens (omega arith), digit-of ones (omega arith)) (
-    passes (nat_lt 0 tens && nat_lt (10 * tens + ones) 64) (10 * tens + ones) (and_from _ _ (lt-ltb 0 tens (omega arith)) (lt-ltb (10 * tens + ones) 64 (omega arith))) ∙
-    ap Some whole
-    )
-
-slot_of-decimal : (n : ℕ) → n < 64 → slot_of (decimal n) ≡ Some n
-slot_of-decimal n h = elim (cases_lt n 10) [ inl low ↦ rw (decimal_digit n low) (digit-of n low) | inr high ↦ slot_of-two n high h ]
-
-record IsSlot (bytes : List ℕ) (n : ℕ) : Type 0 where
-  bytes_are : bytes ≡ decimal n
-  below : n < 64
-
-two_from : (b c tens ones n : ℕ) → b ≡ 48 + tens → c ≡ 48 + ones → ones < 10 → 0 < tens → 10 * tens + ones < 64 → 10 * tens + ones ≡ n → IsSlot (b ∷ c ∷ []) n
-two_from b c tens ones n first second small low high whole =
-    let upper : 48 + tens ≡ 48 + n / 10 = omega arith in
-    let lower : 48 + ones ≡ 48 + n % 10 = omega arith in
-    record {
-      bytes_are = ap (λ x. x ∷ c ∷ []) (first ∙ upper) ∙ (ap (λ x. (48 + n / 10) ∷ x ∷ []) (second ∙ lower) ∙ sym (decimal_two n (omega arith) (omega arith)));
+one_from : (bytes : List ℕ) (found : ℕ × List ℕ) → AreBytes bytes → by_one bytes ≡ Some found → IsNumber 13 bytes found
+one_from [] found b e = absurd (cc e)
+one_from (x ∷ rest) found b e =
+    let same : (x + 13, rest) ≡ found = cc e in
+    let byte : x < 256 = b.each 0 in
+    let m = middle (x + 13) (omega arith) (omega arith) in
+    let first : x ≡ x + 13 - 13 = omega arith in
+    subst (λ f. IsNumber 13 (x ∷ rest) f) same (record {
+      half_is = sym m.0;
+      bytes_are = rw m.1 (ap (λ y. y ∷ rest) first);
       below = omega arith;
-    }
-
-slot_from : (bytes : List ℕ) (n : ℕ) → slot_of bytes ≡ Some n → IsSlot bytes n
-slot_from [] n e = absurd (cc e)
-slot_from (b ∷ []) n e =
-    let d = digit_from b n e in
-    record { bytes_are = ap (λ x. x ∷ []) d.byte_is ∙ sym (decimal_digit n d.below); below = omega (arith, d.below) }
-slot_from (b ∷ c ∷ []) n e =
-    let first = came (digit b) _ n e in
-    let second = came (digit c) _ n first.second in
-    let tens = first.value in
-    let ones = second.value in
-    let x = digit_from b tens first.first in
-    let y = digit_from c ones second.first in
-    let p = passed (nat_lt 0 tens && nat_lt (10 * tens + ones) 64) (10 * tens + ones) n second.second in
-    let t = and_parts _ _ p.test in
-    two_from b c tens ones n x.byte_is y.byte_is y.below (ltb-true _ _ t.0) (ltb-true _ _ t.1) p.same
-slot_from (b ∷ c ∷ d ∷ bs) n e = absurd (cc e)
-
--- the payload
-
-payload_of-part : (payload : List ℕ) → length payload ≤ 1024 → payload_of (payload_part payload) ≡ Some payload
-payload_of-part [] h = refl
-payload_of-part (b ∷ bs) h =
-    passes (nat_lt 0 (length (b ∷ bs)) && nat_le (length (b ∷ bs)) 1024) (b ∷ bs) (and_from _ _ (lt-ltb 0 (length (b ∷ bs)) (omega arith)) (le-leb (length (b ∷ bs)) 1024 h))
-
-record IsPart (bytes payload : List ℕ) : Type 0 where
-  bytes_are : bytes ≡ payload_part payload
-  short : length payload ≤ 1024
-
-marked : (b : ℕ) (payload : List ℕ) → b ≡ 255 → 0 < length payload → b ∷ payload ≡ payload_part payload
-marked b [] e h = absurd (omega (arith, h))
-marked b (c ∷ payload) e h = ap (λ x. x ∷ c ∷ payload) e
-
-part_from : (bytes payload : List ℕ) → payload_of bytes ≡ Some payload → IsPart bytes payload
-part_from [] payload e =
-    let same : [] ≡ payload = cc e in
-    subst (λ p. IsPart [] p) same (record { bytes_are = refl; short = omega arith })
-part_from (b ∷ rest) payload e =
-    let p = passed ((b == 255) && (nat_lt 0 (length rest) && nat_le (length rest) 1024)) rest payload e in
-    let t = and_parts _ _ p.test in
-    let u = and_parts _ _ t.1 in
-    subst (λ q. IsPart (b ∷ rest) q) p.same (record {
-      bytes_are = marked b rest (eqb-true _ _ t.0) (ltb-true _ _ u.0);
-      short = leb-true _ _ u.1;
     })
 
--- what stands behind the token
-
-short_segment : (r : Resource) → length (first_segment r) < 13
-short_segment Run = lit< tt
-short_segment Program = lit< tt
-
-short_slot : (n : ℕ) → n < 64 → length (decimal n) < 13
-short_slot n h = let few = length-decimal-le 2 n (lit< tt) (omega arith) (omega arith) in omega (arith, few)
-
-two_options : (first second rest : List ℕ) → (short_option 11 first ++ short_option 0 second) ++ rest ≡ short_option 11 first ++ (short_option 0 second ++ rest)
-two_options first second rest = append_assoc (short_option 11 first) (short_option 0 second) rest
-
-request_by-parts : (code id : ℕ) (token first second rest : List ℕ) (resource : Resource) (slot : ℕ) (payload : List ℕ) → length first < 13 → length second < 13 →
-    resource_of code first ≡ Some resource → slot_of second ≡ Some slot → payload_of rest ≡ Some payload →
-    request_by code id token (short_option 11 first ++ (short_option 0 second ++ rest)) ≡ Some (record { resource = resource; slot = slot; id = id; token = token; payload = payload })
-request_by-parts code id token first second rest resource slot payload short_first short_second r s p =
-    rw (option_of-append 11 first (short_option 0 second ++ rest) short_first, option_of-append 0 second rest short_second, r, s, p) refl
-
-request_by-of : (m : Request) → IsRequest m →
-    request_by (method_code m.resource) m.id m.token (path_part m.resource m.slot ++ payload_part m.payload) ≡ Some m
-request_by-of m h =
-    let first = first_segment m.resource in
-    let second = decimal m.slot in
-    let rest = payload_part m.payload in
-    ap (request_by (method_code m.resource) m.id m.token) (two_options first second rest) ∙
-    request_by-parts (method_code m.resource) m.id m.token first second rest m.resource m.slot m.payload (short_segment m.resource) (short_slot m.slot h.slot)
-    (resource_of-code m.resource) (slot_of-decimal m.slot h.slot) (payload_of-part m.payload h.payload)
-
-behind_are : (rest after_first after_second first second : List ℕ) (resource : Resource) (slot : ℕ) (payload : List ℕ) →
-    rest ≡ short_option 11 first ++ after_first → after_first ≡ short_option 0 second ++ after_second → first ≡ first_segment resource →
-    second ≡ decimal slot → after_second ≡ payload_part payload → rest ≡ path_part resource slot ++ payload_part payload
-behind_are rest after_first after_second first second resource slot payload a b c d e =
-    a ∙ (ap (λ x. short_option 11 first ++ x) b ∙ (sym (two_options first second after_second) ∙ rw (c, d, e) refl))
-
-record IsBehind (code id : ℕ) (token rest : List ℕ) (m : Request) : Type 0 where
-  code_is : code ≡ method_code m.resource
-  id_is : id ≡ m.id
-  token_is : token ≡ m.token
-  rest_is : rest ≡ path_part m.resource m.slot ++ payload_part m.payload
-  slot : m.slot < 64
-  payload : length m.payload ≤ 1024
-
-behind_from : (code id : ℕ) (token rest : List ℕ) (m : Request) → request_by code id token rest ≡ Some m → IsBehind code id token rest m
-behind_from code id token rest m e =
-    let first = came (option_of 11 rest) _ m e in
-    let second = came (option_of 0 first.value.1) _ m first.second in
-    let resource = came (resource_of code first.value.0) _ m second.second in
-    let slot = came (slot_of second.value.0) _ m resource.second in
-    let payload = came (payload_of second.value.1) _ m slot.second in
-    let n = names code first.value.0 resource.value resource.first in
-    let s = slot_from second.value.0 slot.value slot.first in
-    let p = part_from second.value.1 payload.value payload.first in
-    let same : record { resource = resource.value; slot = slot.value; id = id; token = token; payload = payload.value } ≡ m = cc payload.second in
-    subst (λ q. IsBehind code id token rest q) same (record {
-      code_is = n.code_is;
-      id_is = refl;
-      token_is = refl;
-      rest_is = behind_are rest first.value.1 second.value.1 first.value.0 second.value.0 resource.value slot.value payload.value
-          (option_from 11 rest first.value first.first) (option_from 0 first.value.1 second.value second.first) n.segment_is s.bytes_are p.bytes_are;
-      slot = s.below;
-      payload = p.short;
+two_from : (bytes : List ℕ) (found : ℕ × List ℕ) → AreBytes bytes → by_two bytes ≡ Some found → IsNumber 14 bytes found
+two_from [] found b e = absurd (cc e)
+two_from (x ∷ []) found b e = absurd (cc e)
+two_from (x ∷ y ∷ rest) found b e =
+    let same : (256 * x + y + 269, rest) ≡ found = cc e in
+    let high : x < 256 = b.each 0 in
+    let low : y < 256 = b.each 1 in
+    let m = large (256 * x + y + 269) (omega arith) in
+    let first : x ≡ (256 * x + y + 269 - 269) / 256 = omega arith in
+    let second : y ≡ (256 * x + y + 269 - 269) % 256 = omega arith in
+    subst (λ f. IsNumber 14 (x ∷ y ∷ rest) f) same (record {
+      half_is = sym m.0;
+      bytes_are = rw m.1 (ap (λ z. z ∷ y ∷ rest) first ∙ ap (λ z. ((256 * x + y + 269 - 269) / 256) ∷ z ∷ rest) second);
+      below = omega arith;
     })
 
--- the whole
+number_by : (first : ℕ) (bytes : List ℕ) (found : ℕ × List ℕ) (is_small is_one is_two : Bool) → AreBytes bytes →
+    nat_lt first 13 ≡ is_small → (first == 13) ≡ is_one → (first == 14) ≡ is_two →
+    (if is_small then Some (first, bytes) else (if is_one then by_one bytes else (if is_two then by_two bytes else None))) ≡ Some found → IsNumber first bytes found
+number_by first bytes found true one two b s p q e =
+    let same : (first, bytes) ≡ found = cc e in
+    let h : first < 13 = ltb-true _ _ s in
+    let m = small first h in
+    subst (λ f. IsNumber first bytes f) same (record { half_is = sym m.0; bytes_are = rw m.1 refl; below = omega arith })
+number_by first bytes found false true two b s p q e =
+    subst (λ n. IsNumber n bytes found) (sym (eqb-true first 13 p)) (one_from bytes found b e)
+number_by first bytes found false false true b s p q e =
+    subst (λ n. IsNumber n bytes found) (sym (eqb-true first 14 q)) (two_from bytes found b e)
+number_by first bytes found false false false b s p q e = absurd (cc e)
 
-asked_of : (m : Request) → IsRequest m → asked (request_bytes m) ≡ Some m
-unfolding asked
-asked_of m h =
-    let id : 256 * (m.id / 256) + m.id % 256 ≡ m.id = omega arith in
-    rw (token_length-of (length m.token) h.token, split-append m.token (path_part m.resource m.slot ++ payload_part m.payload), id) (request_by-of m h)
+number_from : (first : ℕ) (bytes : List ℕ) (found : ℕ × List ℕ) → AreBytes bytes → number_at first bytes ≡ Some found → IsNumber first bytes found
+number_from first bytes found b e = number_by first bytes found _ _ _ b refl refl refl e
 
-pub spelled_is_asked : (bytes : List ℕ) (m : Request) → Spells bytes m → asked bytes ≡ Some m
-spelled_is_asked bytes m s = ap asked s.bytes_are ∙ asked_of m s.limits
+pub half_below : (n : ℕ) → half n < 15
+half_below n =
+    elim (cases_lt n 13) [
+      | inl h ↦ omega (arith, (small n h).0)
+      | inr l ↦ elim (cases_lt n 269) [ inl h ↦ omega (arith, (middle n l h).0) | inr m ↦ omega (arith, (large n m).0) ]
+    ]
 
-header_from : (first code high low : ℕ) (rest : List ℕ) (m : Request) → high < 256 → low < 256 → asked (first ∷ code ∷ high ∷ low ∷ rest) ≡ Some m →
-    Spells (first ∷ code ∷ high ∷ low ∷ rest) m
-unfolding asked
-header_from first code high low rest m small_high small_low e =
-    let count = came (token_length first) _ m e in
-    let token = came (split count.value rest) _ m count.second in
-    let f = first_from first count.value count.first in
-    let j = joins count.value rest token.value token.first in
-    let b = behind_from code (256 * high + low) token.value.0 token.value.1 m token.second in
-    let token_is : token.value.0 ≡ m.token = b.token_is in
-    let size : length m.token ≡ count.value = ap length (sym token_is) ∙ j.count_is in
-    let first_is : first ≡ 64 + length m.token = f.first_is ∙ ap (λ n. 64 + n) (sym size) in
-    let high_is : high ≡ m.id / 256 = omega (arith, b.id_is) in
-    let low_is : low ≡ m.id % 256 = omega (arith, b.id_is) in
-    let rest_is : rest ≡ m.token ++ (path_part m.resource m.slot ++ payload_part m.payload) = j.bytes_are ∙ rw (token_is, b.rest_is) refl in
+-- ---- one option
+
+option_by : (before number : ℕ) (value rest : List ℕ) (upper lower : ℕ) → IsOption before number value →
+    upper ≡ half (number - before) → lower ≡ half (length value) →
+    (16 * upper + lower) / 16 ≡ upper → (16 * upper + lower) % 16 ≡ lower →
+    option_at before ((16 * upper + lower) ∷ (extension (number - before) ++ (extension (length value) ++ (value ++ rest)))) ≡ Some (record { number = number; value = value; behind = rest })
+unfolding option_at
+option_by before number value rest upper lower o u l du ml =
+    let delta = number - before in
+    let rises : before ≤ number = o.rises in
+    let small : number < 65536 = o.is_number in
+    let whole : before + delta ≡ number = omega arith in
+    let below : before + delta < 65536 = omega arith in
+    rw (du, ml, u, l, number_at-of delta (extension (length value) ++ (value ++ rest)), number_at-of (length value) (value ++ rest)) (
+    rw (passes (nat_lt (before + delta) 65536) (before + delta) (lt-ltb _ _ below), split-append value rest) (
+    ap (λ n. Some (record { number = n; value = value; behind = rest })) whole
+    ))
+
+-- an option that is written is read, with what is behind it
+pub option_at-of : (before number : ℕ) (value rest : List ℕ) → IsOption before number value →
+    option_at before (option_bytes (number - before) value ++ rest) ≡ Some (record { number = number; value = value; behind = rest })
+option_at-of before number value rest o =
+    let upper = half (number - before) in
+    let lower = half (length value) in
+    let u : upper < 15 = half_below (number - before) in
+    let l : lower < 15 = half_below (length value) in
+    let same : option_bytes (number - before) value ++ rest ≡ (16 * upper + lower) ∷ (extension (number - before) ++ (extension (length value) ++ (value ++ rest))) =
+    ap (λ xs. (16 * upper + lower) ∷ xs) (append_assoc (extension (number - before)) (extension (length value) ++ value) rest ∙ ap (λ xs. extension (number - before) ++ xs) (append_assoc (extension (length value)) value rest)) in
+    ap (option_at before) same ∙ option_by before number value rest upper lower o refl refl (omega arith) (omega arith)
+
+-- bytes that are read as an option
+pub record IsParted (before : ℕ) (bytes : List ℕ) (o : Parted) : Type 0 where
+  pub bytes_are : bytes ≡ option_bytes (o.number - before) o.value ++ o.behind
+  pub option : IsOption before o.number o.value
+  pub behind : AreBytes o.behind
+
+parted_from : (before first : ℕ) (rest : List ℕ) (delta count number : ℕ) (after_delta after_count value behind : List ℕ) → AreBytes rest →
+    IsNumber (first / 16) rest (delta, after_delta) → IsNumber (first % 16) after_delta (count, after_count) → before + delta ≡ number → number < 65536 →
+    after_count ≡ value ++ behind → length value ≡ count →
+    IsParted before (first ∷ rest) (record { number = number; value = value; behind = behind })
+parted_from before first rest delta count number after_delta after_count value behind b d c sum below cut len =
+    let step : number - before ≡ delta = omega arith in
+    let rest_is : rest ≡ extension delta ++ ((extension count ++ value) ++ behind) =
+    d.bytes_are ∙ ap (λ xs. extension delta ++ xs) (c.bytes_are ∙ ap (λ xs. extension count ++ xs) cut ∙ sym (append_assoc (extension count) value behind)) in
+    let first_is : first ≡ 16 * half delta + half count = omega (arith, d.half_is, c.half_is) in
+    let whole : first ∷ rest ≡ option_bytes delta value ++ behind =
+    rw (len, first_is) (ap (λ xs. (16 * half delta + half count) ∷ xs) (rest_is ∙ sym (append_assoc (extension delta) (extension count ++ value) behind))) in
     record {
-      bytes_are = rw (first_is, b.code_is, high_is, low_is, rest_is) refl;
-      limits = record { slot = b.slot; id = omega (arith, b.id_is); token = omega (arith, size, f.short); payload = b.payload };
+      bytes_are = rw step whole;
+      option = record { rises = omega arith; is_number = below; is_short = omega (arith, c.below) };
+      behind = back_bytes (extension delta ++ (extension count ++ value)) behind (subst (λ xs. AreBytes xs) (rest_is ∙ sym (append_assoc (extension delta) (extension count ++ value) behind)) b);
     }
 
--- each of them is a byte
-pub record AreBytes (bytes : List ℕ) : Type 0 where
-  pub each : (k : ℕ) → get_or bytes k 0 < 256
+pub option_from : (before : ℕ) (bytes : List ℕ) (o : Parted) → AreBytes bytes → option_at before bytes ≡ Some o → IsParted before bytes o
+unfolding option_at
+option_from before [] o b e = absurd (cc e)
+option_from before (first ∷ rest) o b e =
+    let bytes = tail_bytes first rest b in
+    let d = came (number_at (first / 16) rest) _ o e in
+    let delta = number_from (first / 16) rest d.value bytes d.first in
+    let c = came (number_at (first % 16) d.value.1) _ o d.second in
+    let after = back_bytes (extension d.value.0) d.value.1 (subst (λ xs. AreBytes xs) delta.bytes_are bytes) in
+    let count = number_from (first % 16) d.value.1 c.value after c.first in
+    let n = came (guard (nat_lt (before + d.value.0) 65536) (before + d.value.0)) _ o c.second in
+    let t = passed (nat_lt (before + d.value.0) 65536) (before + d.value.0) n.value n.first in
+    let p = came (split c.value.0 c.value.1) _ o n.second in
+    let j = joins c.value.0 c.value.1 p.value p.first in
+    let below : before + d.value.0 < 65536 = ltb-true _ _ t.test in
+    let same : record { number = n.value; value = p.value.0; behind = p.value.1 } ≡ o = cc p.second in
+    subst (λ x. IsParted before (first ∷ rest) x) same
+    (parted_from before first rest d.value.0 c.value.0 n.value d.value.1 c.value.1 p.value.0 p.value.1 bytes delta count t.same (omega (arith, t.same)) j.bytes_are j.count_is)
 
-pub asked_is_spelled : (bytes : List ℕ) (m : Request) → AreBytes bytes → asked bytes ≡ Some m → Spells bytes m
-unfolding asked
-asked_is_spelled [] m small e = absurd (cc e)
-asked_is_spelled (a ∷ []) m small e = absurd (cc e)
-asked_is_spelled (a ∷ b ∷ []) m small e = absurd (cc e)
-asked_is_spelled (a ∷ b ∷ c ∷ []) m small e = absurd (cc e)
-asked_is_spelled (a ∷ b ∷ c ∷ d ∷ rest) m small e = header_from a b c d rest m (small.each 2) (small.each 3) e
+-- ---- options one after another
 
--- what a reader finds by it
+options_at-end : (n before : ℕ) (after : List ℕ) → is_end after ≡ true → length after ≤ n → options_at n before after ≡ Some ([], after)
+unfolding options_at
+options_at-end n before [] e h = refl
+options_at-end zero before (b ∷ bytes) e h = absurd (omega arith)
+options_at-end (suc n) before (b ∷ bytes) e h = rw e refl
 
-pub found_is_spelled : (bytes : List ℕ) (found : Option Request) → AreBytes bytes → found ≡ asked bytes → IfSome found (Spells bytes)
-found_is_spelled bytes None small e = tt
-found_is_spelled bytes (Some m) small e = asked_is_spelled bytes m small (sym e)
+unmarked : (delta : ℕ) (value : List ℕ) → 16 * half delta + half (length value) ≢ 255
+unmarked delta value e =
+    let u : half delta < 15 = half_below delta in
+    let l : half (length value) < 15 = half_below (length value) in
+    omega arith
 
-pub none_is_spelled : (bytes : List ℕ) (found : Option Request) → found ≡ asked bytes → IfNone found ((m : Request) → Spells bytes m → ⊥)
-none_is_spelled bytes None e = λ m s. absurd (cc (e, spelled_is_asked bytes m s))
-none_is_spelled bytes (Some m) e = tt
+-- what is found behind an option that is written
+options_at-first : (n before number : ℕ) (value rest : List ℕ) → IsOption before number value →
+    options_at (suc n) before (option_bytes (number - before) value ++ rest) ≡ with_first (record { number = number; value = value; behind = rest }) (options_at n number rest)
+unfolding options_at
+options_at-first n before number value rest o =
+    rw (ne_eqb (16 * half (number - before) + half (length value)) 255 (unmarked (number - before) value), option_at-of before number value rest o) refl
+
+length-first : (delta : ℕ) (value rest : List ℕ) → length rest < length (option_bytes delta value ++ rest)
+length-first delta value rest = omega (arith, length-append (extension delta ++ (extension (length value) ++ value)) rest)
+
+-- options that are written are read, with what is behind them
+pub options_at-of : (n before : ℕ) (options : List (ℕ × List ℕ)) (after : List ℕ) → AreOptions before options → is_end after ≡ true →
+    length (options_bytes before options ++ after) ≤ n → options_at n before (options_bytes before options ++ after) ≡ Some (options, after)
+options_at-of n before [] after o e h = options_at-end n before after e h
+options_at-of zero before ((number, value) ∷ options) after o e h = absurd (omega arith)
+options_at-of (suc n) before ((number, value) ∷ options) after o e h =
+    let rest = options_bytes number options ++ after in
+    let same : (option_bytes (number - before) value ++ options_bytes number options) ++ after ≡ option_bytes (number - before) value ++ rest = append_assoc (option_bytes (number - before) value) (options_bytes number options) after in
+    let shorter : length rest ≤ n = omega (arith, h, ap length same, length-first (number - before) value rest) in
+    ap (options_at (suc n) before) same ∙ (options_at-first n before number value rest o.0 ∙ rw (options_at-of n number options after o.1 e shorter) refl)
+
+-- bytes that are read as options
+pub record AreListed (before : ℕ) (bytes : List ℕ) (found : Listed) : Type 0 where
+  pub bytes_are : bytes ≡ options_bytes before found.0 ++ found.1
+  pub options : AreOptions before found.0
+  pub behind : AreBytes found.1
+  pub end : is_end found.1 ≡ true
+
+listed_first : (before : ℕ) (bytes : List ℕ) (o : Parted) (more : Option Listed) (found : Listed) → IsParted before bytes o →
+    ((rest : Listed) → more ≡ Some rest → AreListed o.number o.behind rest) → with_first o more ≡ Some found → AreListed before bytes found
+listed_first before bytes o None found p h e = absurd (cc e)
+listed_first before bytes o (Some rest) found p h e =
+    let r = h rest refl in
+    let same : (((o.number, o.value) ∷ rest.0), rest.1) ≡ found = cc e in
+    subst (λ f. AreListed before bytes f) same (record {
+      bytes_are = p.bytes_are ∙ (ap (λ xs. option_bytes (o.number - before) o.value ++ xs) r.bytes_are ∙ sym (append_assoc (option_bytes (o.number - before) o.value) (options_bytes o.number rest.0) rest.1));
+      options = (p.option, r.options);
+      behind = r.behind;
+      end = r.end;
+    })
+
+listed_by : (n before b : ℕ) (bytes : List ℕ) (found : Listed) (marked : Bool) → AreBytes (b ∷ bytes) → (b == 255) ≡ marked →
+    ((o : Parted) (rest : Listed) → AreBytes o.behind → options_at n o.number o.behind ≡ Some rest → AreListed o.number o.behind rest) →
+    (if marked then Some ([], b ∷ bytes) else with_some (option_at before (b ∷ bytes)) (λ o. with_first o (options_at n o.number o.behind))) ≡ Some found →
+    AreListed before (b ∷ bytes) found
+listed_by n before b bytes found true h m ih e =
+    let same : ([], b ∷ bytes) ≡ found = cc e in
+    subst (λ f. AreListed before (b ∷ bytes) f) same (record { bytes_are = refl; options = tt; behind = h; end = m })
+listed_by n before b bytes found false h m ih e =
+    let o = came (option_at before (b ∷ bytes)) _ found e in
+    let p = option_from before (b ∷ bytes) o.value h o.first in
+    listed_first before (b ∷ bytes) o.value _ found p (λ rest r. ih o.value rest p.behind r) o.second
+
+pub options_from : (n before : ℕ) (bytes : List ℕ) (found : Listed) → AreBytes bytes → options_at n before bytes ≡ Some found → AreListed before bytes found
+unfolding options_at
+options_from n before [] found b e =
+    let same : ([], []) ≡ found = cc e in
+    subst (λ f. AreListed before [] f) same (record { bytes_are = refl; options = tt; behind = b; end = refl })
+options_from zero before (x ∷ bytes) found b e = absurd (cc e)
+options_from (suc n) before (x ∷ bytes) found b e = listed_by n before x bytes found _ b refl (λ o rest h r. options_from n o.number o.behind rest h r) e
+
+-- ---- options alone
+
+pub options_of-of : (before : ℕ) (options : List (ℕ × List ℕ)) → AreOptions before options → options_of before (options_bytes before options) ≡ options
+unfolding options_of
+options_of-of before options o =
+    let bytes = options_bytes before options in
+    let whole : bytes ++ [] ≡ bytes = append-nil bytes in
+    let found = options_at-of (length bytes) before options [] o refl (omega (arith, ap length whole)) in
+    ap all_of (ap (options_at (length bytes) before) (sym whole) ∙ found)
+
+pub HasOptions-of : (before : ℕ) (options : List (ℕ × List ℕ)) (bytes : List ℕ) → AreOptions before options → bytes ≡ options_bytes before options → (HasOptions before bytes) × (options_of before bytes ≡ options)
+HasOptions-of before options bytes o e =
+    let same : options_of before bytes ≡ options = ap (options_of before) e ∙ options_of-of before options o in
+    (record { bytes_are = rw same e; options = rw same o }, same)
+
+-- what a step over options finds
+none_by : (before : ℕ) (bytes : List ℕ) (options : List (ℕ × List ℕ)) → bytes ≡ options_bytes before options → AreOptions before options → option_at before bytes ≡ None → options ≡ []
+none_by before bytes [] b o e = refl
+none_by before bytes ((number, value) ∷ options) b o e = absurd (cc (e, ap (option_at before) b ∙ option_at-of before number value (options_bytes number options) o.0))
+
+pub none_left : (before : ℕ) (bytes : List ℕ) → HasOptions before bytes → option_at before bytes ≡ None → options_of before bytes ≡ []
+none_left before bytes h e = none_by before bytes (options_of before bytes) h.bytes_are h.options e
+
+pub record Next (before : ℕ) (bytes : List ℕ) (o : Parted) : Type 0 where
+  pub first : options_of before bytes ≡ (o.number, o.value) ∷ options_of o.number o.behind
+  pub left : HasOptions o.number o.behind
+
+some_by : (before : ℕ) (bytes : List ℕ) (options : List (ℕ × List ℕ)) (o : Parted) → bytes ≡ options_bytes before options → AreOptions before options → options_of before bytes ≡ options →
+    option_at before bytes ≡ Some o → Next before bytes o
+unfolding option_at
+some_by before bytes [] o b a s e = absurd (cc e)
+some_by before bytes ((number, value) ∷ options) o b a s e =
+    let same : record { number = number; value = value; behind = options_bytes number options } ≡ o = cc (e, ap (option_at before) b ∙ option_at-of before number value (options_bytes number options) a.0) in
+    let rest = HasOptions-of number options (options_bytes number options) a.1 refl in
+    subst (λ x. Next before bytes x) same (record { first = s ∙ ap (λ xs. (number, value) ∷ xs) (sym rest.1); left = rest.0 })
+
+pub next_left : (before : ℕ) (bytes : List ℕ) (o : Parted) → HasOptions before bytes → option_at before bytes ≡ Some o → Next before bytes o
+next_left before bytes o h e = some_by before bytes (options_of before bytes) o h.bytes_are h.options refl e

@@ -1,2 +1,4 @@
 pub mod Wire
-pub mod Asked
+pub mod Reading
+pub mod Codes
+pub mod Writing

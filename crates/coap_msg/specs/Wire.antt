@@ -1,87 +1,79 @@
--- How bytes spell messages (RFC 7252, 3 and 3.1): the requests that are served, and the replies.
-use Rattle.std.specs.Prelude.{◌≡◌, ℕ, ◌+◌, ◌*◌, ◌/◌, ◌%◌, ◌<◌, ◌≤◌, List, [], ◌∷◌, ◌++◌, length, Option, Some, None, codes}
-use Rattle.std.specs.Int.{w64, to_be_bytes}
-use Rattle.std.specs.Fmt.{decimal}
-use Rattle.coap_msg.specs.declared.message.Resource.{Resource}
-use Rattle.coap_msg.specs.declared.message.Resource.TheVariants.{Run, Program}
+-- How bytes spell a message (RFC 7252, 3 and 3.1).
+use Rattle.std.specs.Prelude.{◌≡◌, ℕ, ◌+◌, ◌-◌, ◌*◌, ◌/◌, ◌%◌, ◌<◌, ◌≤◌, nat_lt, if◌then◌else◌, List, [], ◌∷◌, ◌++◌, length}
+use Rattle.coap_msg.specs.declared.types.MessageType.{MessageType}
+use Rattle.coap_msg.specs.declared.types.MessageType.TheVariants.{Confirmable, NonConfirmable, Acknowledgement, Reset}
 
--- a request that is served: a confirmable GET on /r/N, whose answer a program gives, or PUT on /p/N, which installs one
-pub record Request : Type 0 where
-  pub resource : Resource
-  pub slot : ℕ
-  pub id : ℕ
-  pub token : List ℕ
-  pub payload : List ℕ
-
--- the limits of its parts
-pub record IsRequest (m : Request) : Type 0 where
-  pub slot : m.slot < 64
-  pub id : m.id < 65536
-  pub token : length m.token ≤ 8
-  pub payload : length m.payload ≤ 1024
-
--- a code by its class and detail, as in 0.01
-abbrev pub code_byte : ℕ → ℕ → ℕ
-code_byte class detail = 32 * class + detail
-
--- the first byte: version 1 in the upper two bits, the type in the next two, the token's length
-abbrev pub first_byte : ℕ → List ℕ → ℕ
-first_byte kind token = 64 + 16 * kind + length token
-
-abbrev pub confirmable : ℕ
-confirmable = 0
-
-abbrev pub acknowledgement : ℕ
-acknowledgement = 2
-
--- the first byte, the code, the message id, the token
-abbrev pub header : ℕ → ℕ → ℕ → List ℕ → List ℕ
-header kind code id token = first_byte kind token ∷ code ∷ (id / 256) ∷ (id % 256) ∷ token
-
--- an option whose number is this much above that of the one before, both below 13
-abbrev pub short_option : ℕ → List ℕ → List ℕ
-short_option delta value = (16 * delta + length value) ∷ value
-
--- a payload stands behind a marker; where there is none, there is no marker
-abbrev pub payload_part : List ℕ → List ℕ
-payload_part [] = []
-payload_part (b ∷ payload) = 255 ∷ b ∷ payload
-
--- GET is 0.01 and PUT 0.03
-abbrev pub method_code : Resource → ℕ
-method_code Run = code_byte 0 1
-method_code Program = code_byte 0 3
-
-abbrev pub first_segment : Resource → List ℕ
-first_segment Run = codes "r"
-first_segment Program = codes "p"
-
--- two Uri-Path options, which have number 11
-abbrev pub path_part : Resource → ℕ → List ℕ
-path_part resource slot = short_option 11 (first_segment resource) ++ short_option 0 (decimal slot)
-
--- the one spelling of a request
-abbrev pub request_bytes : Request → List ℕ
-request_bytes m = header confirmable (method_code m.resource) m.id m.token ++ (path_part m.resource m.slot ++ payload_part m.payload)
-
--- the bytes spell the request
-pub record Spells (bytes : List ℕ) (m : Request) : Type 0 where
-  pub bytes_are : bytes ≡ request_bytes m
-  pub limits : IsRequest m
-
--- a reply in an acknowledgement: its code, the request's id and token, an ETag, and a payload
-pub record Reply : Type 0 where
+-- a message: its type, the byte of its code, its id, its token, its options by number and value in order, its payload
+pub record Message : Type 0 where
+  pub kind : MessageType
   pub code : ℕ
   pub id : ℕ
   pub token : List ℕ
-  pub etag : Option ℕ
+  pub options : List (ℕ × List ℕ)
   pub payload : List ℕ
 
--- an ETag has number 4, and the eight bytes of a serial, the greatest first
-abbrev pub etag_part : Option ℕ → List ℕ
-etag_part None = []
-etag_part (Some serial) = short_option 4 (to_be_bytes w64 serial)
+-- a type by its number
+abbrev pub type_number : MessageType → ℕ
+type_number Confirmable = 0
+type_number NonConfirmable = 1
+type_number Acknowledgement = 2
+type_number Reset = 3
 
--- the one spelling of a reply
-abbrev pub reply_bytes : Reply → List ℕ
-reply_bytes m = header acknowledgement m.code m.id m.token ++ (etag_part m.etag ++ payload_part m.payload)
+-- version 1 in the upper two bits, the type in the next two, the token's length in the lower four
+abbrev pub first_byte : MessageType → List ℕ → ℕ
+first_byte kind token = 64 + 16 * type_number kind + length token
+
+-- the first byte, the code, the id with its high byte first, the token
+abbrev pub header : Message → List ℕ
+header m = first_byte m.kind m.token ∷ m.code ∷ (m.id / 256) ∷ (m.id % 256) ∷ m.token
+
+-- the half byte that says a number: itself below 13, 13 where one byte follows, 14 where two do
+abbrev pub half : ℕ → ℕ
+half n = if nat_lt n 13 then n else (if nat_lt n 269 then 13 else 14)
+
+-- the bytes that follow: none below 13, then one from 13 on, then two from 269 on
+abbrev pub extension : ℕ → List ℕ
+extension n = if nat_lt n 13 then [] else (if nat_lt n 269 then (n - 13) ∷ [] else ((n - 269) / 256) ∷ ((n - 269) % 256) ∷ [])
+
+-- an option by how far its number is above that of the one before, and its value
+abbrev pub option_bytes : ℕ → List ℕ → List ℕ
+option_bytes delta value = (16 * half delta + half (length value)) ∷ (extension delta ++ (extension (length value) ++ value))
+
+-- options one after another, the first of them after one of this number
+abbrev pub options_bytes : ℕ → List (ℕ × List ℕ) → List ℕ
+options_bytes before [] = []
+options_bytes before ((number, value) ∷ options) = option_bytes (number - before) value ++ options_bytes number options
+
+-- a payload stands behind a marker; where there is none, there is no marker
+abbrev pub payload_bytes : List ℕ → List ℕ
+payload_bytes [] = []
+payload_bytes (b ∷ payload) = 255 ∷ b ∷ payload
+
+-- the one spelling of a message
+abbrev pub bytes_of : Message → List ℕ
+bytes_of m = header m ++ (options_bytes 0 m.options ++ payload_bytes m.payload)
+
+-- an option has a number of 16 bits that is at least the one before, and at most 65,804 bytes
+pub record IsOption (before number : ℕ) (value : List ℕ) : Type 0 where
+  pub rises : before ≤ number
+  pub is_number : number < 65536
+  pub is_short : length value < 65805
+
+-- options in rising order, the first of them after one of this number
+abbrev pub AreOptions : ℕ → List (ℕ × List ℕ) → Type 0
+AreOptions before [] = Unit {0}
+AreOptions before ((number, value) ∷ options) = IsOption before number value × AreOptions number options
+
+-- the limits of a message's parts; one with code 0.00 has nothing after its id (RFC 7252, 4.1)
+pub record IsMessage (m : Message) : Type 0 where
+  pub code : m.code < 256
+  pub id : m.id < 65536
+  pub token : length m.token ≤ 8
+  pub options : AreOptions 0 m.options
+  pub size : length (bytes_of m) ≤ 1280
+  pub empty : m.code ≡ 0 → length (bytes_of m) ≡ 4
+
+-- the bytes spell the message
+pub record Spells (bytes : List ℕ) (m : Message) : Type 0 where
+  pub bytes_are : bytes ≡ bytes_of m
+  pub limits : IsMessage m

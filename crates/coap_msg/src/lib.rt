@@ -1,14 +1,21 @@
-//! CoAP messages (RFC 7252): what is served of them is read, and replies are written.
+//! CoAP messages, and how a datagram spells one (RFC 7252, 3).
+//!
+//! [`read`] lends a [`Message`] from the bytes of a datagram and copies nothing; [`write`] writes an [`Outgoing`] in the one
+//! way that spells it. A clause sees a message as `specs/Wire`'s record: type, code, id, token, options in order, payload.
 #![tactic(auto)]
 
+pub mod code;
 pub mod laws;
 pub mod message;
+pub mod options;
 pub mod reading;
-pub mod reply;
 pub mod types;
 mod wire;
+pub mod writing;
 
-pub use message::{Message, Resource};
+pub use code::Code;
+pub use message::Message;
+pub use options::Options;
 pub use reading::read;
-pub use reply::{Outgoing, write};
-pub use types::{Datagram, Emission, Endpoint, Token};
+pub use types::{Bad, Datagram, Emission, Endpoint, MessageType, Token};
+pub use writing::{Outgoing, write};

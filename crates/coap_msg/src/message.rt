@@ -1,73 +1,71 @@
-//! A request that is served.
-ghost use Rattle.std.specs.Prelude.{◌≡◌, ◌<◌, ◌≤◌, length};
+//! A message as it was read.
+ghost use Rattle.std.specs.Prelude.{◌≡◌, ◌≤◌, length};
+ghost use Rattle.coap_msg.specs.Reading.{HasOptions, options_of};
 
+use crate::code::Code;
+use crate::options::Options;
+use crate::types::MessageType;
 use std::marker::Model;
 
-/// What a request names.
-#[derive(Clone, Copy, Debug, PartialEq, Eq)]
-pub enum Resource {
-    /// `/r/N`, whose answer slot N's program gives. It is asked by GET.
-    Run,
-    /// `/p/N`, slot N's program. It is installed by PUT.
-    Program,
-}
-
-/// A request that is served; token and payload are lent from the datagram.
+/// A message; token, options and payload are lent from the datagram (RFC 7252, 3).
 #[derive(Drop)]
 pub struct Message<'a> {
-    resource: Resource,
-    slot: u8,
+    kind: MessageType,
+    code: Code,
     id: u16,
     token: &'a [u8],
+    options: &'a [u8],
     payload: &'a [u8],
 }
 
 impl<'a> Model for Message<'a> {
-    ghost use Rattle.coap_msg.specs.Wire.{Request, IsRequest};
+    ghost use Rattle.std.specs.Prelude.{◌≤◌, length};
+    ghost use Rattle.coap_msg.specs.Reading.{HasOptions, options_of};
+    ghost use Rattle.coap_msg.specs.Wire.{Message as Stated};
 
-    ghost Value = { Request };
+    ghost Value = { Stated };
 
-    ghost view = { λ m. record { resource = m.resource; slot = m.slot; id = m.id; token = m.token.now; payload = m.payload.now } };
+    ghost view = { λ m. record { kind = m.kind; code = m.code.byte; id = m.id; token = m.token.now; options = options_of 0 m.options.now; payload = m.payload.now } };
 
-    ghost invariant = { λ m. IsRequest (record { resource = m.resource; slot = m.slot; id = m.id; token = m.token.now; payload = m.payload.now }) };
+    ghost invariant = { λ m. (length m.token.now ≤ 8) × HasOptions 0 m.options.now };
 }
 
 impl<'a> Message<'a> {
-    /// The request of these parts.
+    /// The message of these parts, `options` being the bytes that spell them.
     pub(crate) fn new(
-        resource: Resource,
-        slot: u8,
+        kind: MessageType,
+        code: Code,
         id: u16,
         token: &'a [u8],
+        options: &'a [u8],
         payload: &'a [u8],
     ) -> Self
-        requires slot { slot < 64 }
         requires token { length token.now ≤ 8 }
-        requires payload { length payload.now ≤ 1024 }
-        ensures { result ≡ record { resource = resource; slot = slot; id = id; token = token.entry.now; payload = payload.entry.now } }
+        requires options { HasOptions 0 options.now }
+        ensures { result ≡ record { kind = kind; code = code.byte; id = id; token = token.entry.now; options = options_of 0 options.entry.now; payload = payload.entry.now } }
     {
         Message {
-            resource,
-            slot,
+            kind,
+            code,
             id,
             token,
+            options,
             payload,
         }
     }
 
-    /// What it names.
-    pub fn resource(&self) -> Resource
-        ensures { result ≡ self.now.resource }
+    /// The type.
+    pub fn kind(&self) -> MessageType
+        ensures { result ≡ self.now.kind }
     {
-        self.resource
+        self.kind
     }
 
-    /// The slot, 0 to 63.
-    pub fn slot(&self) -> u8
-        ensures slot { result ≡ self.now.slot }
-        ensures below { result < 64 }
+    /// The code.
+    pub fn code(&self) -> Code
+        ensures { result.byte ≡ self.now.code }
     {
-        self.slot
+        self.code
     }
 
     /// The message id.
@@ -85,10 +83,16 @@ impl<'a> Message<'a> {
         self.token
     }
 
-    /// The payload, at most 1,024 bytes.
+    /// The options, each with its number and its value, in order. They are read where they stand, a second time.
+    pub fn options(&self) -> Options<'a>
+        ensures { result ≡ self.now.options }
+    {
+        Options::new(self.options)
+    }
+
+    /// The payload; empty where there is none.
     pub fn payload(&self) -> &'a [u8]
-        ensures payload { result.now ≡ self.now.payload }
-        ensures short { length result.now ≤ 1024 }
+        ensures { result.now ≡ self.now.payload }
     {
         self.payload
     }

@@ -1,132 +1,116 @@
-//! From a datagram to a request.
-ghost use Rattle.std.specs.Prelude.{◌≡◌, ◌+◌, ◌*◌, ◌<◌, ◌&&◌, length, nat_lt, nat_le, IfSome, IfNone, MatchOption};
-ghost use Rattle.coap_msg.specs.Wire.{Request, Spells};
-ghost use Rattle.coap_msg.specs.Asked.{asked};
-ghost use Rattle.coap_msg.specs.Asked as asks;
+//! From a datagram to a message.
+ghost use Rattle.std.specs.Prelude.{◌≡◌, ◌/◌, ◌==◌, IfErr, IfOk, MatchOption, Ok};
+ghost use Rattle.coap_msg.specs.Wire.{Message as Stated, Spells};
+ghost use Rattle.coap_msg.specs.Reading.{IsBad, bad_of, is_sized, message_by, message_of, payload_at, reading_of};
+ghost use Rattle.coap_msg.specs.Reading as spec;
 
-use crate::message::{Message, Resource};
+use crate::code::Code;
+use crate::message::Message;
+use crate::options::split_options;
+use crate::types::{Bad, DATAGRAM, MessageType, TOKEN};
 use crate::wire::{
-    CONFIRMABLE, EXTENDED, GET, LONGEST_PAYLOAD, LONGEST_TOKEN, PAYLOAD_MARKER, PUT, SLOTS,
-    URI_PATH,
+    ACKNOWLEDGEMENT, CONFIRMABLE, HEADER, NON_CONFIRMABLE, PAYLOAD_MARKER, RESET, number_of,
 };
 
-/// The request that a datagram spells, where it is one that is served.
-pub fn read(bytes: &[u8]) -> Option<Message<'_>>
-    ensures spelled { IfSome result (Spells bytes.now) }
-    ensures others { IfNone result ((m : Request) → Spells bytes.now m → ⊥) }
-    ensures function { result ≡ asked bytes.now }
+/// The message that a datagram spells (RFC 7252, 3), lent from its bytes.
+///
+/// # Errors
+/// What is to be done about a datagram that spells none: a confirmable message with a format error is rejected, by its
+/// message id; everything else is ignored.
+pub fn read(bytes: &[u8]) -> Result<Message<'_>, Bad>
+    ensures message { IfOk result (Spells bytes.now) }
+    ensures spelled { (m : Stated) → Spells bytes.now m → result ≡ Ok m }
+    ensures bad { IfErr result (IsBad bytes.now) }
+    ensures function { result ≡ reading_of bytes.now }
 {
-    parse(bytes)
+    match parse(bytes) {
+        Some(message) => Ok(message),
+        None => Err(refusal(bytes)),
+    }
 }
 
-#[tactic(auto, unfolding(crate::specs::Asked::asked))]
+/// What is answered to a datagram that spells no message.
+#[tactic(auto, unfolding(crate::specs::Reading::bad_of))]
+fn refusal(bytes: &[u8]) -> Bad
+    ensures { result ≡ bad_of bytes.now }
+{
+    match bytes {
+        [first, _, high, low, ..] if is_confirmable(*first) && bytes.len() <= DATAGRAM => {
+            Bad::Reset(number_of(*high, *low))
+        }
+        _ => Bad::Ignore,
+    }
+}
+
+fn is_confirmable(first: u8) -> bool
+    ensures { result ≡ (first / 16 == 4) }
+{
+    first / 16 == CONFIRMABLE
+}
+
+#[tactic(auto, unfolding(crate::specs::Reading::message_of))]
 fn parse(bytes: &[u8]) -> Option<Message<'_>>
-    ensures { result ≡ asked bytes.now }
+    ensures { result ≡ message_of bytes.now }
 {
     let [first, code, high, low, rest @ ..] = bytes else {
         return None;
     };
-    let (token, rest) = rest.split_at_checked(token_length(*first)?)?;
-    let (first_segment, rest) = option_of(URI_PATH, rest)?;
-    let (second_segment, rest) = option_of(0, rest)?;
-    let resource = resource_of(*code, first_segment)?;
-    let slot = slot_of(second_segment)?;
-    let payload = payload_of(rest)?;
-    Some(Message::new(
-        resource,
-        slot,
-        u16::from_be_bytes([*high, *low]),
-        token,
-        payload,
-    ))
+    if is_whole(*code, rest) {
+        parse_parts(*first, *code, number_of(*high, *low), rest)
+    } else {
+        None
+    }
 }
 
-/// The token's length by the first byte of a confirmable message of version 1.
+/// An empty message has nothing after its id, and a datagram at most 1,280 bytes.
+fn is_whole(code: u8, rest: &[u8]) -> bool
+    ensures { result ≡ is_sized code rest.now }
+{
+    if code == Code::EMPTY.byte {
+        rest.is_empty()
+    } else {
+        rest.len() <= DATAGRAM - HEADER
+    }
+}
+
+fn parse_parts(first: u8, code: u8, id: u16, rest: &[u8]) -> Option<Message<'_>>
+    ensures { result ≡ message_by first code id rest.now }
+{
+    let kind = type_of(first)?;
+    let (token, rest) = rest.split_at_checked(token_length(first)?)?;
+    let (options, rest) = split_options(rest)?;
+    let payload = payload_of(rest)?;
+    Some(Message::new(kind, Code { byte: code }, id, token, options, payload))
+}
+
+/// The type by the first byte of a message of version 1.
+fn type_of(first: u8) -> Option<MessageType>
+    ensures { result ≡ spec.type_of first }
+{
+    match first / 16 {
+        CONFIRMABLE => Some(MessageType::Confirmable),
+        NON_CONFIRMABLE => Some(MessageType::NonConfirmable),
+        ACKNOWLEDGEMENT => Some(MessageType::Acknowledgement),
+        RESET => Some(MessageType::Reset),
+        _ => None,
+    }
+}
+
+/// The token's length by the first byte.
 fn token_length(first: u8) -> Option<usize>
-    ensures { result ≡ asks.token_length first }
+    ensures { result ≡ spec.token_length first }
 {
     let length = (first % 16) as usize;
-    if first / 16 == CONFIRMABLE && length <= LONGEST_TOKEN {
-        Some(length)
-    } else {
-        None
-    }
+    if length <= TOKEN { Some(length) } else { None }
 }
 
-/// The value of the option that stands first and what is behind it, where its number is `delta` above that of the one before.
-fn option_of(delta: u8, bytes: &[u8]) -> Option<(&[u8], &[u8])>
-    ensures { MatchOption result (asks.option_of delta bytes.now ≡ None) (λ parts. asks.option_of delta bytes.now ≡ Some (parts.0.now, parts.1.now)) }
-{
-    let [first, rest @ ..] = bytes else {
-        return None;
-    };
-    let length = *first % 16;
-    if *first / 16 == delta && length < EXTENDED {
-        rest.split_at_checked(length as usize)
-    } else {
-        None
-    }
-}
-
-/// The resource by the code and the first segment of the path.
-fn resource_of(code: u8, segment: &[u8]) -> Option<Resource>
-    ensures { result ≡ asks.resource_of code segment.now }
-{
-    match (code, segment) {
-        (GET, [b'r']) => Some(Resource::Run),
-        (PUT, [b'p']) => Some(Resource::Program),
-        _ => None,
-    }
-}
-
-/// The slot by the second segment of the path.
-fn slot_of(segment: &[u8]) -> Option<u8>
-    ensures { result ≡ asks.slot_of segment.now }
-{
-    match segment {
-        [ones] => digit(*ones),
-        [tens, ones] => two_digits(digit(*tens)?, digit(*ones)?),
-        _ => None,
-    }
-}
-
-fn two_digits(tens: u8, ones: u8) -> Option<u8>
-    requires tens { tens < 10 }
-    requires ones { ones < 10 }
-    ensures { result ≡ asks.guard (nat_lt 0 tens && nat_lt (10 * tens + ones) 64) (10 * tens + ones) }
-{
-    let slot = 10 * tens + ones;
-    if tens > 0 && slot < SLOTS {
-        Some(slot)
-    } else {
-        None
-    }
-}
-
-fn digit(byte: u8) -> Option<u8>
-    ensures value { result ≡ asks.digit byte }
-    ensures below { IfSome result (λ d. d < 10) }
-{
-    if byte.is_ascii_digit() {
-        Some(byte - b'0')
-    } else {
-        None
-    }
-}
-
-/// What stands behind the path: nothing, or the marker and a payload that isn't empty.
+/// What stands behind the options: nothing, or the marker and a payload that isn't empty.
 fn payload_of(bytes: &[u8]) -> Option<&[u8]>
-    ensures { MatchOption result (asks.payload_of bytes.now ≡ None) (λ payload. asks.payload_of bytes.now ≡ Some payload.now) }
+    ensures { MatchOption result (payload_at bytes.now ≡ None) (λ payload. payload_at bytes.now ≡ Some payload.now) }
 {
     match bytes {
         [] => Some(bytes),
-        [PAYLOAD_MARKER, payload @ ..] if is_served(payload) => Some(payload),
+        [PAYLOAD_MARKER, payload @ ..] if !payload.is_empty() => Some(payload),
         _ => None,
     }
-}
-
-fn is_served(payload: &[u8]) -> bool
-    ensures { result ≡ (nat_lt 0 (length payload.now) && nat_le (length payload.now) 1024) }
-{
-    !payload.is_empty() && payload.len() <= LONGEST_PAYLOAD
 }

@@ -2,3 +2,4 @@ pub mod Decimals
 pub mod Unfold
 pub mod Quiet
 pub mod Takings
+pub mod Read

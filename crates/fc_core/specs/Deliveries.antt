@@ -2,10 +2,9 @@
 use Rattle.std.specs.Prelude.{ℕ, ◌+◌, ◌<◌, ◌≤◌, Bool, true, false, List, [], ◌∷◌, ◌++◌, length, Option, Some, None}
 use Rattle.coap_msg.specs.declared.types.Endpoint.{Endpoint}
 use Rattle.coap_msg.specs.declared.types.Emission.{Emission}
-use Rattle.coap_msg.specs.declared.message.Resource.{Resource}
-use Rattle.coap_msg.specs.declared.message.Resource.TheVariants.{Run as Runs, Program}
-use Rattle.coap_msg.specs.Wire.{Request}
-use Rattle.coap_msg.specs.Asked.{asked}
+use Rattle.fc_core.specs.declared.asked.Service.{Service}
+use Rattle.fc_core.specs.declared.asked.Service.TheVariants.{Run as Runs, Install as Installs}
+use Rattle.fc_core.specs.Asked.{Request, asked}
 use Rattle.fc_help.specs.declared.request.Method.TheVariants.{Get}
 use Rattle.fc_registry.specs.declared.job.Opening.{Opening}
 use Rattle.fc_registry.specs.declared.job.Ask.{Ask}
@@ -18,16 +17,16 @@ use Rattle.fc_core.specs.Replies.{acknowledged}
 use Rattle.fc_core.specs.Exchanges.{Desk, has_room, passed}
 
 -- a GET asks the slot's program, a PUT installs its payload
-abbrev pub ask_by : Resource → ℕ → List ℕ → Ask
+abbrev pub ask_by : Service → ℕ → List ℕ → Ask
 ask_by Runs slot payload = Run (record { method = Get; slot = slot; payload = payload })
-ask_by Program slot payload = Install (record { items = payload })
+ask_by Installs slot payload = Install (record { items = payload })
 
 -- the job that a request brings
 abbrev pub job_of : Opening → Endpoint → Request → Job
 job_of opening to m = record {
   origin = record { opening = opening; endpoint = to; id = m.id; slot = m.slot };
   token = record { items = m.token };
-  ask = ask_by m.resource m.slot m.payload;
+  ask = ask_by m.service m.slot m.payload;
 }
 
 -- a request that finds no room is answered 5.03, and isn't kept

@@ -34,6 +34,7 @@ abbrev pub IsEnd : End → Type 0
 IsEnd (Rejected (Broken f)) = 20 ≤ number_of f.rule → f.slot < 512
 IsEnd other = Unit {0}
 
+-- a run's code is that of a reply, of class 2 or above
 abbrev pub IsTold : Said → Type 0
-IsTold (Ran code serial) = Unit {0}
+IsTold (Ran code serial) = 64 ≤ code
 IsTold (Other end) = IsEnd end

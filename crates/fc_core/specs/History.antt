@@ -3,8 +3,7 @@
 use Rattle.std.specs.Prelude.{ℕ, ◌==◌, Bool, true, false, if◌then◌else◌, Option, Some, None, is_some, List, [], ◌∷◌, ◌++◌, length, max, count_by, slice_index_or}
 use Rattle.coap_msg.specs.declared.types.Endpoint.{Endpoint}
 use Rattle.coap_msg.specs.declared.types.Emission.{Emission}
-use Rattle.coap_msg.specs.Wire.{Request}
-use Rattle.coap_msg.specs.Asked.{asked}
+use Rattle.fc_core.specs.Asked.{Request, asked}
 use Rattle.fc_registry.specs.declared.job.Opening.{Opening}
 use Rattle.fc_registry.specs.declared.job.Ask.TheVariants.{Install as Installs}
 use Rattle.fc_registry.specs.declared.job.Job.{Job}

@@ -2,8 +2,7 @@
 use Rattle.std.specs.Prelude.{◌≡◌, ℕ, ◌≤◌, Bool, true, false, Option, Some, None, List, [], ◌∷◌, max}
 use Rattle.coap_msg.specs.declared.types.Endpoint.{Endpoint}
 use Rattle.coap_msg.specs.declared.types.Emission.{Emission}
-use Rattle.coap_msg.specs.Wire.{Request}
-use Rattle.coap_msg.specs.Asked.{asked}
+use Rattle.fc_core.specs.Asked.{Request, asked}
 use Rattle.fc_image.specs.Longest.{IsLongest}
 use Rattle.fc_kinds.specs.Meaning.{IsRun}
 use Rattle.fc_registry.specs.declared.job.Job.{Job}

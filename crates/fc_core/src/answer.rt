@@ -77,7 +77,8 @@ impl Answer {
 
     // The code of its reply.
     pub(crate) fn code(&self) -> u8
-        ensures { result ≡ reply_code self.now }
+        ensures code { result ≡ reply_code self.now }
+        ensures reply { 64 ≤ result }
     {
         match self.said {
             Said::Ran { code, .. } => code,

@@ -1,14 +1,14 @@
 //! The front: exchanges, and the way in and out.
 ghost use Rattle.std.specs.Prelude.{◌≡◌, ℕ, ◌<◌, ◌≤◌, [], filter, length, max, vec_capacity, IfOk, Some};
-ghost use Rattle.coap_msg.specs.Asked.{asked};
 ghost use Rattle.fc_core.specs.Exchanges.{passed, is_live};
 ghost use Rattle.fc_core.specs.Deliveries.{delivered, desk_after, delivered_by, desk_by, job_of, ask_by, AskWithin, JobWithin, IsWithin};
 ghost use Rattle.fc_core.specs.Answering.{Answers};
 
 use crate::answer::Answer;
+use crate::asked::{Incoming, Service, asked};
 use crate::reply::{emission, refusal};
 use arrayvec::ArrayVec;
-use coap_msg::{Emission, Endpoint, Message, Resource, read};
+use coap_msg::{Emission, Endpoint};
 use fc_help::{Method, Request};
 use fc_registry::{Ask, Job, Opening, Origin};
 use std::alloc::{AllocError, Global};
@@ -88,7 +88,7 @@ impl Front {
         ensures after { self.new ≡ desk_after self.old now bytes.now }
     {
         self.tick(now);
-        match read(bytes) {
+        match asked(bytes) {
             None => Delivered::Nothing,
             Some(message) => self.open(endpoint, &message),
         }
@@ -116,7 +116,7 @@ impl Front {
     }
 
     // Opens an exchange for a request, where there is room.
-    fn open(&mut self, endpoint: Endpoint, message: &Message<'_>) -> Delivered
+    fn open(&mut self, endpoint: Endpoint, message: &Incoming<'_>) -> Delivered
         ensures delivered { result ≡ delivered_by (Some message.now) self.old endpoint }
         ensures limits { IsWithin result }
         ensures after { self.new ≡ desk_by (Some message.now) self.old }
@@ -151,7 +151,7 @@ fn expire(held: &mut Vec<Opening>, now: u64)
 }
 
 // The job that a request brings.
-fn make_job(opening: Opening, endpoint: Endpoint, message: &Message<'_>) -> Job
+fn make_job(opening: Opening, endpoint: Endpoint, message: &Incoming<'_>) -> Job
     ensures job { result ≡ job_of opening endpoint message.now }
     ensures limits { JobWithin result }
 {
@@ -169,13 +169,13 @@ fn make_job(opening: Opening, endpoint: Endpoint, message: &Message<'_>) -> Job
     }
 }
 
-fn make_ask(message: &Message<'_>) -> Ask
-    ensures ask { result ≡ ask_by message.now.resource message.now.slot message.now.payload }
+fn make_ask(message: &Incoming<'_>) -> Ask
+    ensures ask { result ≡ ask_by message.now.service message.now.slot message.now.payload }
     ensures limits { AskWithin result }
 {
-    match message.resource() {
-        Resource::Run => Ask::Run(Request::new(Method::Get, message.slot(), message.payload())),
-        Resource::Program => {
+    match message.service() {
+        Service::Run => Ask::Run(Request::new(Method::Get, message.slot(), message.payload())),
+        Service::Install => {
             let mut image = ArrayVec::new();
             let _fits = image.try_extend_from_slice(message.payload());
             Ask::Install(image)

@@ -1,7 +1,7 @@
 -- What a front holds after a moment that it took in already.
 use Rattle.std.proofs.Common.{◌≡◌, ℕ, ◌+◌, Bool, true, false, cond, List, [], ◌∷◌, ◌++◌, filter, Option, Some, None, max, refl, ◌∙◌, ap, arith, rules}
 use Rattle.std.proofs.lemmas.List.Elements.{filter-append}
-use Rattle.coap_msg.specs.Wire.{Request}
+use Rattle.fc_core.specs.Asked.{Request}
 use Rattle.fc_registry.specs.declared.job.Opening.{Opening}
 use Rattle.fc_core.specs.Exchanges.{Desk, is_live, passed}
 use Rattle.fc_core.specs.Deliveries.{next_opening, desk_by, opened_by_room}

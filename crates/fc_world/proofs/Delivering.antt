@@ -7,8 +7,8 @@ use Rattle.std.proofs.lemmas.List.Elements.{filter-append}
 use Rattle.std.proofs.Math.Seq.{get_or-append_seam}
 use Rattle.coap_msg.specs.declared.types.Endpoint.{Endpoint}
 use Rattle.coap_msg.specs.declared.types.Emission.{Emission}
-use Rattle.coap_msg.specs.Wire.{Request}
-use Rattle.coap_msg.specs.Asked.{asked}
+use Rattle.fc_core.specs.Asked.{Request}
+use Rattle.fc_core.specs.Asked.{asked}
 use Rattle.fc_registry.specs.declared.job.Opening.{Opening}
 use Rattle.fc_registry.specs.declared.job.Ask.{Ask}
 use Rattle.fc_registry.specs.declared.job.Ask.TheVariants.{Run, Install}

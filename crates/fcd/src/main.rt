@@ -4,7 +4,11 @@
 #[cfg(test)]
 mod event_tests;
 #[cfg(test)]
+mod message_tests;
+#[cfg(test)]
 mod play_tests;
+#[cfg(test)]
+mod request_tests;
 
 use clap::{Command, Error};
 use fc_service::play::play;

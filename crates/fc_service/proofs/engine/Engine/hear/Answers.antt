@@ -1,5 +1,5 @@
 use Rattle.std.proofs.Common.{◌∙◌, ap}
-use Rattle.coap_msg.specs.Asked.{asked}
+use Rattle.fc_core.specs.Asked.{asked}
 use Rattle.fc_core.specs.Exchanges.{passed}
 use Rattle.fc_core.specs.Deliveries.{desk_after}
 use Rattle.fc_service.proofs.Moments.{passed_again}

@@ -1,0 +1,28 @@
+-- How many bytes a message takes.
+use Rattle.std.proofs.Common.{ℕ, ◌+◌, ◌≤◌, Bool, true, false, if◌then◌else◌, List, [], ◌∷◌, ◌++◌, length, arith, length-append}
+use Rattle.coap_msg.specs.Wire.{Message, extension, option_bytes, options_bytes, payload_bytes, bytes_of}
+
+extension_by : (n : ℕ) (is_small is_middle : Bool) (a : ℕ) (b c : ℕ) → length (if is_small then [] else (if is_middle then a ∷ [] else b ∷ c ∷ [])) ≤ 2
+extension_by n true middle a b c = omega arith
+extension_by n false true a b c = omega arith
+extension_by n false false a b c = omega arith
+
+extension_short : (n : ℕ) → length (extension n) ≤ 2
+extension_short n = extension_by n _ _ _ _ _
+
+-- an option takes at most five bytes more than its value
+pub option_size : (delta : ℕ) (value : List ℕ) → length (option_bytes delta value) ≤ length value + 5
+option_size delta value =
+    let d = extension_short delta in
+    let l = extension_short (length value) in
+    omega (arith, d, l, length-append (extension delta) (extension (length value) ++ value), length-append (extension (length value)) value)
+
+payload_size : (payload : List ℕ) → length (payload_bytes payload) ≤ length payload + 1
+payload_size [] = omega arith
+payload_size (b ∷ payload) = omega arith
+
+-- header, marker, and the parts
+pub message_size : (m : Message) → length (bytes_of m) ≤ length m.token + length (options_bytes 0 m.options) + length m.payload + 5
+message_size m =
+    let rest = options_bytes 0 m.options ++ payload_bytes m.payload in
+    omega (arith, length-append m.token rest, length-append (options_bytes 0 m.options) (payload_bytes m.payload), payload_size m.payload)

@@ -1,0 +1,7 @@
+-- How a code is written (RFC 7252, 3).
+use Rattle.std.specs.Prelude.{ℕ, ◌/◌, ◌%◌, ◌++◌, List, codes}
+use Rattle.std.specs.Fmt.{decimal}
+
+-- the class, a full stop, and the detail by two digits
+abbrev pub code_text : ℕ → List ℕ
+code_text code = decimal (code / 32) ++ (codes "." ++ (decimal (code % 32 / 10) ++ decimal (code % 32 % 10)))

@@ -1,0 +1,170 @@
+-- The message that bytes spell, as a function, and what they are where they spell none.
+use Rattle.std.specs.Prelude.{◌≡◌, ℕ, zero, suc, ◌+◌, ◌*◌, ◌/◌, ◌%◌, ◌≤◌, ◌==◌, ◌&&◌, Bool, true, false, nat_lt, nat_le, if◌then◌else◌, List, [], ◌∷◌, length, take, drop, slice_index, Option, Some, None, Result, Ok, Err}
+use Rattle.coap_msg.specs.declared.types.MessageType.{MessageType}
+use Rattle.coap_msg.specs.declared.types.MessageType.TheVariants.{Confirmable, NonConfirmable, Acknowledgement, Reset}
+use Rattle.coap_msg.specs.declared.types.Bad.{Bad}
+use Rattle.coap_msg.specs.declared.types.Bad.TheVariants as bad
+use Rattle.coap_msg.specs.Wire.{Message, Spells, AreOptions, options_bytes}
+
+-- the next step of a value that may be missing
+abbrev pub with_some : {A B : Type 0} → Option A → (A → Option B) → Option B
+with_some None f = None
+with_some (Some x) f = f x
+
+-- a value where the test holds
+abbrev pub guard : {A : Type 0} → Bool → A → Option A
+guard false x = None
+guard true x = Some x
+
+-- ---- where bytes spell no message
+
+-- the bytes spell no message
+abbrev pub SpellsNone : List ℕ → Type 0
+SpellsNone bytes = (m : Message) → Spells bytes m → ⊥
+
+-- version 1 and type 0 stand in a header that isn't cut, of a datagram that isn't too long
+pub record IsConfirmable (bytes : List ℕ) : Type 0 where
+  pub long : 4 ≤ length bytes
+  pub short : length bytes ≤ 1280
+  pub first : slice_index bytes 0 / 16 ≡ 4
+
+-- the message id in a header
+abbrev pub id_of : List ℕ → ℕ
+id_of bytes = 256 * slice_index bytes 2 + slice_index bytes 3
+
+-- a format error in a confirmable message is rejected; every other datagram that spells no message is ignored
+abbrev pub IsBad : List ℕ → Bad → Type 0
+IsBad bytes bad.Ignore = SpellsNone bytes × (IsConfirmable bytes → ⊥)
+IsBad bytes (bad.Reset id) = SpellsNone bytes × IsConfirmable bytes × (id ≡ id_of bytes)
+
+-- ---- as functions
+
+-- a type by the first byte, where the version is 1
+abbrev pub type_of : ℕ → Option MessageType
+type_of first =
+    if first / 16 == 4 then Some Confirmable else (if first / 16 == 5 then Some NonConfirmable else (
+    if first / 16 == 6 then Some Acknowledgement else (if first / 16 == 7 then Some Reset else None)))
+
+-- the token's length by the first byte
+abbrev pub token_length : ℕ → Option ℕ
+token_length first = guard (nat_le (first % 16) 8) (first % 16)
+
+-- the first so many bytes, and what is behind them, where there are so many
+abbrev pub split : ℕ → List ℕ → Option (List ℕ × List ℕ)
+split count bytes = guard (nat_le count (length bytes)) (take count bytes, drop count bytes)
+
+-- a number that one byte says, 13 and more
+abbrev pub by_one : List ℕ → Option (ℕ × List ℕ)
+by_one (b ∷ rest) = Some (b + 13, rest)
+by_one _ = None
+
+-- a number that two bytes say, 269 and more
+abbrev pub by_two : List ℕ → Option (ℕ × List ℕ)
+by_two (b ∷ c ∷ rest) = Some (256 * b + c + 269, rest)
+by_two _ = None
+
+-- the number that half a byte and the bytes behind it say, and what is behind those
+abbrev pub number_at : ℕ → List ℕ → Option (ℕ × List ℕ)
+number_at half bytes =
+    if nat_lt half 13 then Some (half, bytes) else (if half == 13 then by_one bytes else (if half == 14 then by_two bytes else None))
+
+-- an option, after one of this number, and what is behind it
+pub record Parted : Type 0 where
+  pub number : ℕ
+  pub value : List ℕ
+  pub behind : List ℕ
+
+unfoldable pub option_at : ℕ → List ℕ → Option Parted
+option_at before [] = None
+option_at before (first ∷ rest) =
+    with_some (number_at (first / 16) rest) (λ (delta, after_delta).
+    with_some (number_at (first % 16) after_delta) (λ (count, after_count).
+    with_some (guard (nat_lt (before + delta) 65536) (before + delta)) (λ number.
+    with_some (split count after_count) (λ (value, behind).
+    Some (record { number = number; value = value; behind = behind })))))
+
+-- options, and the bytes behind them: none, or what a marker begins
+abbrev pub Listed : Type 0
+Listed = List (ℕ × List ℕ) × List ℕ
+
+-- an option in front of those that were found
+abbrev pub with_first : Parted → Option Listed → Option Listed
+with_first o None = None
+with_first o (Some (options, behind)) = Some (((o.number, o.value) ∷ options), behind)
+
+-- there the options end: nothing stands there, or a marker
+abbrev pub is_end : List ℕ → Bool
+is_end [] = true
+is_end (b ∷ bytes) = b == 255
+
+-- the options that stand first, of which there are at most so many as there are bytes
+unfoldable pub options_at : ℕ → ℕ → List ℕ → Option Listed
+options_at count before [] = Some ([], [])
+options_at zero before (b ∷ bytes) = None
+options_at (suc count) before (b ∷ bytes) =
+    if b == 255 then Some ([], b ∷ bytes) else
+    with_some (option_at before (b ∷ bytes)) (λ o. with_first o (options_at count o.number o.behind))
+
+-- the options alone; none where bytes spell none
+abbrev pub all_of : Option Listed → List (ℕ × List ℕ)
+all_of None = []
+all_of (Some (options, behind)) = options
+
+-- the options that bytes spell with nothing behind them
+unfoldable pub options_of : ℕ → List ℕ → List (ℕ × List ℕ)
+options_of before bytes = all_of (options_at (length bytes) before bytes)
+
+-- the bytes spell options and nothing else
+pub record HasOptions (before : ℕ) (bytes : List ℕ) : Type 0 where
+  pub bytes_are : bytes ≡ options_bytes before (options_of before bytes)
+  pub options : AreOptions before (options_of before bytes)
+
+-- what is behind the options that stand first
+pub record EndsIn (bytes behind : List ℕ) : Type 0 where
+  pub options : List (ℕ × List ℕ)
+  pub found : options_at (length bytes) 0 bytes ≡ Some (options, behind)
+
+-- the same, with the options' own bytes
+pub record AreSplit (bytes options behind : List ℕ) : Type 0 where
+  pub found : options_at (length bytes) 0 bytes ≡ Some (options_of 0 options, behind)
+  pub has_options : HasOptions 0 options
+
+-- what stands behind the options: nothing, or the marker and at least one byte
+abbrev pub payload_at : List ℕ → Option (List ℕ)
+payload_at [] = Some []
+payload_at (b ∷ []) = None
+payload_at (b ∷ c ∷ payload) = guard (b == 255) (c ∷ payload)
+
+-- a header's bytes, and what is behind them
+abbrev pub message_by : ℕ → ℕ → ℕ → List ℕ → Option Message
+message_by first code id rest =
+    with_some (type_of first) (λ kind.
+    with_some (token_length first) (λ count.
+    with_some (split count rest) (λ (token, behind).
+    with_some (options_at (length behind) 0 behind) (λ (options, after).
+    with_some (payload_at after) (λ payload.
+    Some (record { kind = kind; code = code; id = id; token = token; options = options; payload = payload }))))))
+
+-- code 0.00 has nothing after the id, and there are at most 1,280 bytes
+abbrev pub is_sized : ℕ → List ℕ → Bool
+is_sized code rest = nat_le (length rest) (if code == 0 then 0 else 1276)
+
+-- the message that bytes spell
+unfoldable pub message_of : List ℕ → Option Message
+message_of (first ∷ code ∷ high ∷ low ∷ rest) =
+    if is_sized code rest then message_by first code (256 * high + low) rest else None
+message_of _ = None
+
+-- what is answered to bytes that spell none
+unfoldable pub bad_of : List ℕ → Bad
+bad_of bytes =
+    if (nat_le 4 (length bytes) && nat_le (length bytes) 1280) && (slice_index bytes 0 / 16 == 4) then bad.Reset (id_of bytes) else bad.Ignore
+
+-- the message, or else this answer
+abbrev pub or_bad : Option Message → Bad → Result Message Bad
+or_bad None e = Err e
+or_bad (Some m) e = Ok m
+
+-- the message that bytes spell, or what is answered to bytes that spell none
+unfoldable pub reading_of : List ℕ → Result Message Bad
+reading_of bytes = or_bad (message_of bytes) (bad_of bytes)

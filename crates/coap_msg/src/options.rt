@@ -1,0 +1,141 @@
+//! The options of a message, read where they stand.
+ghost use Rattle.std.specs.Prelude.{◌≡◌, ◌<◌, ◌+◌, length, nat_lt, IfSome, MatchOption};
+ghost use Rattle.std.specs.Iterator.{YieldsFirstBy, item_count};
+ghost use Rattle.coap_msg.specs.Reading.{AreSplit, EndsIn, HasOptions, guard, is_end, number_at, option_at, options_at, options_of};
+
+use crate::wire::{LEAST_OF_ONE, LEAST_OF_TWO, ONE_BYTE, PAYLOAD_MARKER, TWO_BYTES, number_of};
+use std::marker::Model;
+
+/// The options of a message that are still to come, each with its number and its value, in order. A clause sees that list.
+#[derive(Drop)]
+pub struct Options<'a> {
+    before: u16,
+    bytes: &'a [u8],
+}
+
+impl<'a> Model for Options<'a> {
+    ghost use Rattle.std.specs.Prelude.{ℕ, List};
+    ghost use Rattle.coap_msg.specs.Reading.{HasOptions, options_of};
+
+    ghost Value = { List (ℕ × List ℕ) };
+
+    ghost view = { λ o. options_of o.before o.bytes.now };
+
+    ghost invariant = { λ o. HasOptions o.before o.bytes.now };
+}
+
+impl<'a> Options<'a> {
+    /// The options that these bytes spell.
+    pub(crate) fn new(bytes: &'a [u8]) -> Self
+        requires { HasOptions 0 bytes.now }
+        ensures { result ≡ options_of 0 bytes.entry.now }
+    {
+        Options { before: 0, bytes }
+    }
+}
+
+impl<'a> Iterator for Options<'a> {
+    type Item = (u16, &'a [u8]);
+
+    ghost next_gives = { YieldsFirstBy (λ o. (o.0, o.1.now)) (λ rest. rest) };
+
+    ghost remaining = { item_count (λ rest. rest) };
+
+    fn next(&mut self) -> Option<(u16, &'a [u8])> {
+        let option = split_option(self.before, self.bytes)?;
+        self.before = option.number;
+        self.bytes = option.behind;
+        Some((option.number, option.value))
+    }
+}
+
+/// An option and what is behind it.
+#[derive(Drop)]
+struct Split<'a> {
+    number: u16,
+    value: &'a [u8],
+    behind: &'a [u8],
+}
+
+/// The option that stands first, after one of the number `before`.
+#[tactic(auto, unfolding(crate::specs::Reading::option_at))]
+fn split_option(before: u16, bytes: &[u8]) -> Option<Split<'_>>
+    ensures option { MatchOption result (option_at before bytes.now ≡ None) (λ o. option_at before bytes.now ≡ Some (record { number = o.number; value = o.value.now; behind = o.behind.now })) }
+    ensures shorter { IfSome result (λ o. length o.behind.now < length bytes.now) }
+{
+    let [first, rest @ ..] = bytes else {
+        return None;
+    };
+    let (delta, rest) = extended(*first / 16, rest)?;
+    let (length, rest) = extended(*first % 16, rest)?;
+    let number = number_above(before, delta)?;
+    let (value, behind) = rest.split_at_checked(length as usize)?;
+    Some(Split {
+        number,
+        value,
+        behind,
+    })
+}
+
+/// The number that half a byte and the bytes behind it say, and what is behind those.
+fn extended(half: u8, bytes: &[u8]) -> Option<(u32, &[u8])>
+    ensures number { MatchOption result (number_at half bytes.now ≡ None) (λ n. number_at half bytes.now ≡ Some (n.0, n.1.now)) }
+    ensures below { IfSome result (λ n. n.0 < 65805) }
+{
+    if half < ONE_BYTE {
+        return Some((u32::from(half), bytes));
+    }
+    match bytes {
+        [one, rest @ ..] if half == ONE_BYTE => Some((u32::from(*one) + LEAST_OF_ONE, rest)),
+        [high, low, rest @ ..] if half == TWO_BYTES => {
+            Some((u32::from(number_of(*high, *low)) + LEAST_OF_TWO, rest))
+        }
+        _ => None,
+    }
+}
+
+/// The option number that is so much above the one before, where it has 16 bits.
+fn number_above(before: u16, delta: u32) -> Option<u16>
+    requires { delta < 65805 }
+    ensures { result ≡ guard (nat_lt (before + delta) 65536) (before + delta) }
+{
+    let number = u32::from(before) + delta;
+    if number <= u32::from(u16::MAX) {
+        Some(number as u16)
+    } else {
+        None
+    }
+}
+
+/// The options that stand first, and what is behind them.
+pub(crate) fn split_options(bytes: &[u8]) -> Option<(&[u8], &[u8])>
+    ensures { MatchOption result (options_at (length bytes.now) 0 bytes.now ≡ None) (λ parts. AreSplit bytes.now parts.0.now parts.1.now) }
+{
+    let behind = behind_options(bytes)?;
+    let options = &bytes[..bytes.len() - behind.len()];
+    Some((options, behind))
+}
+
+/// What is behind the options that stand first.
+fn behind_options(bytes: &[u8]) -> Option<&[u8]>
+    ensures { MatchOption result (options_at (length bytes.now) 0 bytes.now ≡ None) (λ behind. EndsIn bytes.now behind.now) }
+{
+    let mut number = 0;
+    let mut rest = bytes;
+    while !at_end(rest) {
+        let option = split_option(number, rest)?;
+        number = option.number;
+        rest = option.behind;
+    }
+    Some(rest)
+}
+
+/// There the options end: nothing stands there, or a marker.
+fn at_end(bytes: &[u8]) -> bool
+    ensures { result ≡ is_end bytes.now }
+{
+    match bytes {
+        [] => true,
+        [first, ..] => *first == PAYLOAD_MARKER,
+    }
+}

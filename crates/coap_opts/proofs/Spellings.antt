@@ -1,0 +1,35 @@
+-- A number is read again from its bytes.
+use Rattle.std.proofs.Common.{◌≡◌, ◌≢◌, ℕ, zero, suc, ◌<◌, ◌≤◌, ◌^◌, List, [], ◌∷◌, length, get_or, refl, ◌∙◌, arith}
+use Rattle.std.specs.Int.{w64, to_be_bytes}
+use Rattle.std.proofs.lemmas.Nat.{from_be_bytes-to_be_bytes_8}
+use Rattle.coap_opts.specs.Values.{number_of, without_zeros, integer_bytes}
+
+number_of-without_zeros : (bytes : List ℕ) → number_of (without_zeros bytes) ≡ number_of bytes
+number_of-without_zeros [] = refl
+number_of-without_zeros (zero ∷ bytes) = number_of-without_zeros bytes
+number_of-without_zeros (suc b ∷ bytes) = refl
+
+without_zeros-first : (bytes : List ℕ) → 0 < length (without_zeros bytes) → get_or (without_zeros bytes) 0 0 ≢ 0
+without_zeros-first [] h = absurd (omega (arith, h))
+without_zeros-first (zero ∷ bytes) h = without_zeros-first bytes h
+without_zeros-first (suc b ∷ bytes) h = λ e. absurd (omega (arith, e))
+
+without_zeros-shorter : (bytes : List ℕ) → length (without_zeros bytes) ≤ length bytes
+without_zeros-shorter [] = omega arith
+without_zeros-shorter (zero ∷ bytes) = omega (arith, without_zeros-shorter bytes)
+without_zeros-shorter (suc b ∷ bytes) = omega arith
+
+whole : (n : ℕ) → n < 2 ^ 64 → number_of (to_be_bytes w64 n) ≡ n
+whole n h = omega (arith, from_be_bytes-to_be_bytes_8 n h)
+
+pub integer_again : (n : ℕ) → n < 2 ^ 64 → number_of (integer_bytes n) ≡ n
+unfolding integer_bytes
+integer_again n h = number_of-without_zeros (to_be_bytes w64 n) ∙ whole n h
+
+pub integer_first : (n : ℕ) → 0 < length (integer_bytes n) → get_or (integer_bytes n) 0 0 ≢ 0
+unfolding integer_bytes
+integer_first n h = without_zeros-first (to_be_bytes w64 n) h
+
+pub integer_short : (n : ℕ) → length (integer_bytes n) ≤ 8
+unfolding integer_bytes
+integer_short n = without_zeros-shorter (to_be_bytes w64 n)

@@ -1,0 +1,211 @@
+-- What a message is to the server: the first check that fails, or the request with its fields.
+use Rattle.std.specs.Prelude.{◌≡◌, ℕ, ◌%◌, ◌==◌, ◌&&◌, ◌||◌, not, Bool, true, false, nat_lt, if◌then◌else◌, List, [], ◌∷◌, length, take, map, Option, Some, None, codes, ◌≤◌}
+use Rattle.std.specs.List.{filter, join_by}
+use Rattle.std.specs.Option.{option_map}
+use Rattle.coap_msg.specs.declared.types.MessageType.{MessageType}
+use Rattle.coap_msg.specs.declared.types.MessageType.TheVariants as kind
+use Rattle.coap_msg.specs.Wire.{Message}
+use Rattle.coap_msg.specs.Reading.{with_some}
+use Rattle.coap_opts.specs.declared.request.Method.{Method}
+use Rattle.coap_opts.specs.declared.request.Resource.{Resource}
+use Rattle.coap_opts.specs.declared.request.Resource.TheVariants.{Run}
+use Rattle.coap_opts.specs.declared.request.Request.{Request}
+use Rattle.coap_opts.specs.declared.request.Classified.{Classified}
+use Rattle.coap_opts.specs.declared.request.Classified.TheVariants as classified
+use Rattle.coap_opts.specs.Values.{number_of, block_value}
+use Rattle.coap_opts.specs.Table.{values_of, has_unknown_critical}
+use Rattle.coap_opts.specs.Path.{IsResource, method_of, resource_of, serves}
+
+-- ---- the fields of a request
+
+-- the values of a message's recognised options of one number
+abbrev pub values : ℕ → Message → List (List ℕ)
+values number m = values_of number m.code None m.options
+
+-- the first, where there is one
+abbrev pub first_of : {A : Type 0} → List A → Option A
+first_of [] = None
+first_of (x ∷ xs) = Some x
+
+-- there is one
+abbrev pub has : {A : Type 0} → Option A → Bool
+has None = false
+has (Some x) = true
+
+-- the number that the first of them means
+abbrev pub number_in : ℕ → Message → Option ℕ
+number_in number m = option_map number_of (first_of (values number m))
+
+-- the values of Uri-Query (15), joined by `&`
+abbrev pub query : Message → List ℕ
+query m = join_by (λ v. v) (codes "&") (values 15 m)
+
+-- the first four ETags (4) of 8 bytes
+abbrev pub etags : Message → List ℕ
+etags m = take 4 (map number_of (filter (λ v. length v == 8) (values 4 m)))
+
+-- the segments of Uri-Path (11)
+abbrev pub resource : Message → Option Resource
+resource m = resource_of (values 11 m)
+
+-- Observe (6) is for the resources that a program answers
+abbrev pub observe_at : Resource → Option ℕ → Option ℕ
+observe_at (Run n) value = value
+observe_at _ value = None
+
+-- a request that is carried out; a block by its option's value
+pub record Asked : Type 0 where
+  pub method : Method
+  pub resource : Resource
+  pub query : List ℕ
+  pub content_format : Option ℕ
+  pub etags : List ℕ
+  pub observe : Option ℕ
+  pub block1 : Option ℕ
+  pub block2 : Option ℕ
+  pub payload : List ℕ
+
+-- Content-Format is 12, Block1 27, Block2 23
+unfoldable pub asked : Message → Option Asked
+asked m =
+    with_some (method_of m.code) (λ method.
+    with_some (resource m) (λ resource.
+    Some (record {
+      method = method;
+      resource = resource;
+      query = query m;
+      content_format = number_in 12 m;
+      etags = etags m;
+      observe = observe_at resource (number_in 6 m);
+      block1 = number_in 27 m;
+      block2 = number_in 23 m;
+      payload = m.payload;
+    })))
+
+-- ---- the checks
+
+-- Proxy-Uri (35) or Proxy-Scheme (39) is there
+abbrev pub names_proxy : Message → Bool
+names_proxy m = has (first_of (values 35 m)) || has (first_of (values 39 m))
+
+-- the method is served at the resource
+abbrev pub is_served : Option Resource → Option Method → Bool
+is_served (Some resource) (Some method) = serves resource method
+is_served _ _ = false
+
+-- size 7 is reserved (RFC 7959, 2.2)
+abbrev pub is_reserved : Option ℕ → Bool
+is_reserved None = false
+is_reserved (Some value) = value % 8 == 7
+
+-- a block of size 7 (Block1 is 27, Block2 is 23), or a query of more than 64 bytes
+abbrev pub has_bad_value : Message → Bool
+has_bad_value m = (is_reserved (number_in 27 m) || is_reserved (number_in 23 m)) || nat_lt 64 (length (query m))
+
+-- the checks in their order: whether each fails, and the code that then answers
+abbrev pub checks : Message → List (Bool × ℕ)
+checks m =
+    (names_proxy m, 165)  -- 5.05
+    ∷ (has_unknown_critical m.code None m.options, 130)  -- 4.02
+    ∷ (not (has (method_of m.code)), 133)  -- 4.05
+    ∷ (not (has (resource m)), 132)  -- 4.04
+    ∷ (not (is_served (resource m) (method_of m.code)), 133)  -- 4.05
+    ∷ (has_bad_value m, 128)  -- 4.00
+    ∷ (nat_lt 1024 (length m.payload), 141)  -- 4.13
+    ∷ []
+
+-- the code of the first that fails
+abbrev pub first_failing : List (Bool × ℕ) → Option ℕ
+first_failing [] = None
+first_failing ((fails, code) ∷ more) = if fails then Some code else first_failing more
+
+-- the code by which a request is refused
+unfoldable pub refusal_of : Message → Option ℕ
+refusal_of m = first_failing (checks m)
+
+-- the checks on the options are passed
+pub record IsKnown (m : Message) : Type 0 where
+  pub no_proxy : names_proxy m ≡ false
+  pub no_unknown : has_unknown_critical m.code None m.options ≡ false
+
+-- and those on method and path
+pub record IsServed (m : Message) (method : Method) (at : Resource) : Type 0 where
+  pub known : IsKnown m
+  pub method_is : method_of m.code ≡ Some method
+  pub resource_is : resource m ≡ Some at
+  pub served : serves at method ≡ true
+
+-- ---- the verdict
+
+-- a request; a refusal by its code; silence; a reset; a signal, by whether it is a reset; nothing
+pub data Verdict : Type 0 where
+  IsAsked : Asked → Verdict
+  IsRefused : ℕ → Verdict
+  IsSilent : Verdict
+  IsReset : Verdict
+  IsSignal : Bool → Verdict
+  IsIgnored : Verdict
+
+-- class 0, and not 0.00
+abbrev pub is_request : ℕ → Bool
+is_request code = nat_lt 0 code && nat_lt code 32
+
+-- a non-confirmable request with an unrecognised critical option gets no answer (RFC 7252, 5.4.1)
+abbrev pub refused : MessageType → ℕ → Verdict
+refused kind.NonConfirmable code = if code == 130 then IsSilent else IsRefused code
+refused _ code = IsRefused code
+
+-- a request that passed each check
+abbrev pub accepted : Option Asked → Verdict
+accepted (Some r) = IsAsked r
+accepted None = IsIgnored
+
+-- by the code of the first check that fails
+abbrev pub judged_by : Message → Option ℕ → Verdict
+judged_by m (Some code) = refused m.kind code
+judged_by m None = accepted (asked m)
+
+-- what a request is to the server
+abbrev pub judged : Message → Verdict
+judged m = judged_by m (refusal_of m)
+
+-- by type and code (RFC 7252, 4.2 and 4.3)
+abbrev pub verdict_by : MessageType → Message → Verdict
+verdict_by kind.Confirmable m = if is_request m.code then judged m else IsReset
+verdict_by kind.NonConfirmable m = if is_request m.code then judged m else IsIgnored
+verdict_by kind.Acknowledgement m = if m.code == 0 then IsSignal false else IsIgnored
+verdict_by kind.Reset m = if m.code == 0 then IsSignal true else IsIgnored
+
+-- what a message is to the server
+unfoldable pub verdict : Message → Verdict
+verdict m = verdict_by m.kind m
+
+-- ---- what is answered, as a verdict
+
+-- a request without where its payload lies
+abbrev pub stated : Request → Asked
+stated r = record {
+  method = r.method;
+  resource = r.resource;
+  query = r.query.items;
+  content_format = r.content_format;
+  etags = r.etags.items;
+  observe = r.observe;
+  block1 = option_map block_value r.block1;
+  block2 = option_map block_value r.block2;
+  payload = r.payload.now;
+}
+
+abbrev pub seen : Classified → Verdict
+seen (classified.Request r) = IsAsked (stated r)
+seen (classified.Refused code) = IsRefused code.byte
+seen classified.Silent = IsSilent
+seen classified.Reset = IsReset
+seen (classified.Signal reset) = IsSignal reset
+seen classified.Ignored = IsIgnored
+
+-- what a request that is carried out keeps: its resource is one of the server's, and its payload is the message's
+pub record IsAskedWithin (m : Message) (r : Asked) : Type 0 where
+  pub resource : IsResource r.resource
+  pub payload_is : r.payload ≡ m.payload
+  pub short : length m.payload ≤ 1024

@@ -1,0 +1,75 @@
+//! What a message asks.
+use crate::block::Block;
+use arrayvec::ArrayVec;
+use coap_msg::Code;
+
+/// The methods (RFC 7252, 5.8).
+#[derive(Clone, Copy, Debug, PartialEq, Eq)]
+pub enum Method {
+    Get,
+    Post,
+    Put,
+    Delete,
+}
+
+/// What a path names.
+#[derive(Clone, Copy, Debug, PartialEq, Eq)]
+pub enum Resource {
+    /// `/r/N`, whose answer slot N's program gives; N is 0 to 63.
+    Run(u8),
+    /// `/p/N`, slot N's program.
+    Program(u8),
+    /// `/.well-known/core`, the list of what is there (RFC 6690, 4).
+    Core,
+}
+
+/// The most bytes of a query.
+pub const QUERY: usize = 64;
+
+/// The values of the Uri-Query options, joined by `&`.
+pub type Query = ArrayVec<u8, QUERY>;
+
+/// How many ETags of a request count.
+pub const ETAGS: usize = 4;
+
+/// The most bytes of a payload.
+pub const PAYLOAD: usize = 1024;
+
+/// A request that the server carries out. The payload is lent from the datagram.
+#[derive(Drop)]
+pub struct Request<'a> {
+    pub method: Method,
+    pub resource: Resource,
+    /// The query, at most 64 bytes.
+    pub query: Query,
+    /// The format of the payload, where it is said.
+    pub content_format: Option<u16>,
+    /// The first four ETags of 8 bytes, each as a number, in a GET.
+    pub etags: ArrayVec<u64, ETAGS>,
+    /// The value of Observe in a GET of `/r/N`: 0 registers, 1 cancels (RFC 7641, 2).
+    pub observe: Option<u32>,
+    /// The block that a PUT brings.
+    pub block1: Option<Block>,
+    /// The block that a GET asks.
+    pub block2: Option<Block>,
+    /// The payload, at most 1,024 bytes.
+    pub payload: &'a [u8],
+}
+
+/// What a message is to the server.
+#[derive(Drop)]
+pub enum Classified<'a> {
+    /// A request that is carried out.
+    Request(Request<'a>),
+    /// A request that is answered by this code; type, id and token of the reply follow from the message's own.
+    Refused(Code),
+    /// A non-confirmable request with an unrecognised critical option: it is rejected without an answer (RFC 7252, 5.4.1).
+    Silent,
+    /// A confirmable message that is neither empty nor a request is rejected, and so is an empty one, by a Reset message
+    /// with its id (RFC 7252, 4.2 and 4.3).
+    Reset,
+    /// An empty acknowledgement, or a reset where `reset` says so, of a message that was sent with its id.
+    Signal { reset: bool },
+    /// What is ignored in silence.
+    Ignored,
+}
