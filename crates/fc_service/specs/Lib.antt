@@ -5,3 +5,4 @@ pub mod Hearing
 pub mod Fields
 pub mod Lines
 pub mod Playing
+pub mod Tools

@@ -5,6 +5,7 @@ pub mod engine;
 pub mod hexadecimal;
 pub mod line;
 pub mod play;
+pub mod tools;
 mod work;
 
 pub use engine::Engine;

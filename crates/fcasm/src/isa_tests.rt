@@ -1,0 +1,145 @@
+// Programs and their bytes: the expected values are worked out by hand from the standard's tables.
+use fc_isa::{
+    AluOp, DecodeError, Fault, Insn, Jump, LoadType, Operand, Reg, Relation, Rule, Shape, Size,
+    Source, Target, Width, decode, encode, is_program,
+};
+use std::process::Abort;
+use std::test::Fail;
+
+// The bytes are read as the program, and the program is written as the bytes.
+fn check_spelling<R: Abort + AllocGlobal>(
+    rt: &R,
+    bytes: &[u8],
+    program: &[Insn],
+) -> Result<(), Fail> {
+    let read = decode(rt.alloc(), bytes)?;
+    assert!(rt; read.as_slice() == program);
+    assert!(rt; is_program(program));
+    let written = encode(rt.alloc(), program)?;
+    assert!(rt; written.as_slice() == bytes);
+    Ok(())
+}
+
+// lddw r1, 4294967303
+#[test]
+fn wide_load_has_two_slots(rt: HostRuntime) -> Result<(), Fail> {
+    let bytes = b"\x18\x01\x00\x00\x07\x00\x00\x00\x00\x00\x00\x00\x01\x00\x00\x00";
+    let load = Insn::LoadWide {
+        dst: Target::new(1),
+        value: 4_294_967_303,
+    };
+    check_spelling(&rt, bytes, [load, Insn::WideSecond].as_slice())
+}
+
+// stxdw r10, -8, r1
+#[test]
+fn store_has_a_signed_offset(rt: HostRuntime) -> Result<(), Fail> {
+    let store = Insn::Store {
+        size: Size::DoubleWord,
+        base: Reg::new(10),
+        offset: -8,
+        src: Reg::new(1),
+    };
+    check_spelling(&rt, b"\x7b\x1a\xf8\xff\x00\x00\x00\x00", [store].as_slice())
+}
+
+// jset32 r1, 7, 3
+#[test]
+fn jump_has_an_offset_and_an_immediate(rt: HostRuntime) -> Result<(), Fail> {
+    let jump = Insn::JumpIf(Jump {
+        width: Width::W32,
+        relation: Relation::Set,
+        left: Reg::new(1),
+        right: Operand::Imm(7),
+        offset: 3,
+    });
+    check_spelling(&rt, b"\x46\x01\x03\x00\x07\x00\x00\x00", [jump].as_slice())
+}
+
+// ldsxw r0, r4, 0
+#[test]
+fn signed_load_is_told_by_its_mode(rt: HostRuntime) -> Result<(), Fail> {
+    let load = Insn::Load {
+        loaded: LoadType::SignedWord,
+        dst: Target::new(0),
+        base: Reg::new(4),
+        offset: 0,
+    };
+    check_spelling(&rt, b"\x81\x40\x00\x00\x00\x00\x00\x00", [load].as_slice())
+}
+
+// sdiv64 r0, -1
+#[test]
+fn signed_division_is_told_by_its_offset(rt: HostRuntime) -> Result<(), Fail> {
+    let divide = Insn::Alu {
+        op: AluOp::Sdiv,
+        width: Width::W64,
+        dst: Target::new(0),
+        operand: Operand::Imm(-1),
+    };
+    check_spelling(
+        &rt,
+        b"\x37\x00\x01\x00\xff\xff\xff\xff",
+        [divide].as_slice(),
+    )
+}
+
+#[test]
+fn faults_name_their_slot(rt: HostRuntime) -> Result<(), Fail> {
+    let table: [(&[u8], Rule, usize); 8] = [
+        (b"\x8d\x00\x00\x00\x00\x00\x00\x00", Rule::Opcode, 0),
+        (b"\xb7\x0b\x00\x00\x00\x00\x00\x00", Rule::Register, 0),
+        (b"\xb7\x0a\x00\x00\x00\x00\x00\x00", Rule::FramePointer, 0),
+        (b"\x84\x01\x00\x00\x01\x00\x00\x00", Rule::Field, 0),
+        (
+            b"\x18\x11\x00\x00\x00\x00\x00\x00\x00\x00\x00\x00\x00\x00\x00\x00",
+            Rule::Field,
+            0,
+        ),
+        (b"\x18\x01\x00\x00\x00\x00\x00\x00", Rule::WideLoad, 0),
+        (
+            b"\x95\x00\x00\x00\x00\x00\x00\x00\x18\x0a\x00\x00\x00\x00\x00\x00",
+            Rule::FramePointer,
+            1,
+        ),
+        (
+            b"\x95\x00\x00\x00\x00\x00\x00\x00\x95\x00\x00",
+            Rule::WideLoad,
+            1,
+        ),
+    ];
+    for (bytes, rule, slot) in table {
+        let wanted = DecodeError::Fault(Fault { rule, slot });
+        let got = decode(rt.alloc(), bytes).err().ok_or("decoded")?;
+        assert_eq!(rt; got, wanted);
+    }
+    Ok(())
+}
+
+#[test]
+fn forms_are_told_by_the_opcode(rt: HostRuntime) {
+    let divide = Shape::Alu {
+        op: AluOp::Div,
+        width: Width::W64,
+        source: Source::K,
+    };
+    assert!(rt; Shape::of(0x37) == divide);
+    assert!(rt; divide.opcode() == 0x37);
+    assert!(rt;
+        divide.uses_dst() && divide.writes_dst() && divide.uses_offset() && divide.uses_imm()
+    );
+    assert!(rt; !divide.uses_src() && divide.is_known() && !divide.is_wide());
+    assert!(rt; Shape::of(0xff) == Shape::Unknown);
+}
+
+#[test]
+fn second_halves_stand_behind_wide_loads(rt: HostRuntime) {
+    let load = Insn::LoadWide {
+        dst: Target::new(0),
+        value: 0,
+    };
+    assert!(rt; is_program([].as_slice()));
+    assert!(rt; is_program([load, Insn::WideSecond, Insn::Exit].as_slice()));
+    assert!(rt; !is_program([load].as_slice()));
+    assert!(rt; !is_program([Insn::Exit, Insn::WideSecond].as_slice()));
+}

@@ -1,0 +1,98 @@
+//! The assembler's program: it parses its command line, and calls the service.
+#![tactic(auto)]
+
+#[cfg(test)]
+mod asm_tests;
+#[cfg(test)]
+mod isa_tests;
+#[cfg(test)]
+mod tool_tests;
+
+use clap::{Arg, ArgMatches, Command, Error, value_parser};
+use fc_service::tools::{check, image, list};
+use std::alloc::Global;
+use std::io;
+use std::io::{BufReader, BufWriter, Read, Write};
+use std::process::ExitCode;
+use std::rt::Runtime;
+
+/// The status where the command line is bad.
+const BAD_COMMAND: u8 = 2;
+
+/// The status where reading or writing failed, or memory was refused.
+const FAILED: u8 = 3;
+
+fn command<'a>(alloc: Global) -> Result<Command<'a>, Error> {
+    let vars = Arg::new(alloc, "vars")
+        .long("vars")
+        .value_name("V")
+        .value_parser(value_parser!(u16))
+        .required(true)
+        .help("The size of the variables in bytes");
+    let budget = Arg::new(alloc, "budget")
+        .long("budget")
+        .value_name("B")
+        .value_parser(value_parser!(u32))
+        .required(true)
+        .help("The budget of steps");
+    let image = Command::new(alloc, "image")
+        .about("Assemble a text to an image")
+        .arg(vars)?
+        .arg(budget)?;
+    let list = Command::new(alloc, "list").about("List the program of an image");
+    let check = Command::new(alloc, "check").about("Say whether an image is accepted");
+    Ok(
+        Command::new(alloc, "fcasm")
+            .about(
+                "Assemble, list and check resource programs: from standard input to standard output",
+            )
+            .subcommand_required(true)
+            .subcommand(image)?
+            .subcommand(list)?
+            .subcommand(check)?,
+    )
+}
+
+fn run<R: Runtime + AllocGlobal, E: Write>(rt: &R, err: &mut E) -> anyhow::Result<u8> {
+    let alloc = rt.alloc();
+    let words: Vec<String> = std::env::args(rt)?.collect(alloc)?;
+    let matches = match command(alloc)?.try_get_matches_from(words.as_slice()) {
+        Ok(matches) => matches,
+        Err(error) => {
+            error.print(rt)?;
+            return Ok(if error.use_stderr() { BAD_COMMAND } else { 0 });
+        }
+    };
+    let mut input = BufReader::new(alloc, rt.reader())?;
+    let mut out = BufWriter::new(alloc, io::writer(rt))?;
+    match matches.subcommand() {
+        Some(("image", numbers)) => Ok(write_image(alloc, &mut input, &mut out, err, numbers)),
+        Some(("list", _)) => Ok(list(alloc, &mut input, &mut out, err)),
+        Some(("check", _)) => Ok(check(alloc, &mut input, &mut out)),
+        _ => Ok(BAD_COMMAND),
+    }
+}
+
+// Writes the image with the numbers of the command line.
+fn write_image<R: Read, W: Write, E: Write>(
+    alloc: Global,
+    input: &mut R,
+    out: &mut W,
+    err: &mut E,
+    numbers: &ArgMatches<'_>,
+) -> u8 {
+    match (
+        numbers.get_one::<u16>("vars"),
+        numbers.get_one::<u32>("budget"),
+    ) {
+        (Some(vars), Some(budget)) => image(alloc, input, out, err, vars, budget),
+        _ => BAD_COMMAND,
+    }
+}
+
+fn main(rt: HostRuntime) -> ExitCode {
+    match run(&rt, &mut rt.stderr()) {
+        Ok(status) => ExitCode::from(status),
+        Err(_) => ExitCode::from(FAILED),
+    }
+}
