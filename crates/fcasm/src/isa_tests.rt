@@ -134,12 +134,15 @@ fn forms_are_told_by_the_opcode(rt: HostRuntime) {
 
 #[test]
 fn second_halves_stand_behind_wide_loads(rt: HostRuntime) {
-    let load = Insn::LoadWide {
-        dst: Target::new(0),
-        value: 0,
-    };
-    assert!(rt; is_program([].as_slice()));
-    assert!(rt; is_program([load, Insn::WideSecond, Insn::Exit].as_slice()));
-    assert!(rt; !is_program([load].as_slice()));
-    assert!(rt; !is_program([Insn::Exit, Insn::WideSecond].as_slice()));
+    let program = [
+        Insn::LoadWide {
+            dst: Target::new(0),
+            value: 0,
+        },
+        Insn::WideSecond,
+        Insn::Exit,
+    ];
+    assert!(rt; is_program(program.as_slice()));
+    let lone = [Insn::Exit, Insn::WideSecond];
+    assert!(rt; !is_program(lone.as_slice()));
 }

@@ -55,9 +55,10 @@ fn is_refused<R: Abort>(rt: &R, done: &Done, told: &str) -> Result<(), Fail> {
 
 // An image of version 1 with no variables, the budget and the slots.
 fn image_with(alloc: Global, budget: u8, slots: &[&[u8]]) -> Result<Vec<u8>, Fail> {
+    let count = u8::try_from(slots.len()).ok().ok_or("too many slots")?;
     let mut image = Vec::new(alloc);
     image.extend_from_slice(b"FCB1\x00\x00")?;
-    image.push(slots.len() as u8)?;
+    image.push(count)?;
     image.extend_from_slice(&[0, budget, 0, 0, 0, 0, 0, 0, 0])?;
     for slot in slots {
         image.extend_from_slice(slot)?;
@@ -159,30 +160,42 @@ fn an_image_that_is_none_is_not_listed(rt: HostRuntime) -> Result<(), Fail> {
     Ok(())
 }
 
+// The slots make an image that is judged so.
+fn is_judged<R: Abort + AllocGlobal>(
+    rt: &R,
+    budget: u8,
+    slots: &[&[u8]],
+    status: u8,
+    printed: &str,
+) -> Result<(), Fail> {
+    let image = image_with(rt.alloc(), budget, slots)?;
+    let done = checked(rt.alloc(), image.as_slice());
+    assert_eq!(rt; str::from_utf8(done.out.as_slice())?, printed);
+    assert_eq!(rt; done.status, status, "{printed}");
+    Ok(())
+}
+
 #[test]
 fn an_image_is_checked(rt: HostRuntime) -> Result<(), Fail> {
-    let alloc = rt.alloc();
-    let rows: [(u8, &[&[u8]], u8, &str); 6] = [
-        (
-            9,
-            &[b"\xb7\x00\x00\x00\x45", b"\x95"],
-            0,
-            "accepted cost 2 budget 9\n",
-        ),
-        (1, &[b"\xb7\x00\x00\x00\x45", b"\x95"], 1, "V16 slot 0\n"),
-        (1, &[b"\x95"], 1, "V25 slot 0\n"),
-        (1, &[b"\xb7"], 1, "V13 slot 0\n"),
-        // an opcode that programs can't have today comes before what else is wrong with its slot
-        (2, &[b"\xb7", b"\x18\x0b", b"\x95"], 1, "V06 slot 1\n"),
-        (2, &[b"\xb7\x0b", b"\x07", b"\x95"], 1, "V07 slot 0\n"),
-    ];
-    for (budget, slots, status, printed) in rows {
-        let image = image_with(alloc, budget, slots)?;
-        let done = checked(alloc, image.as_slice());
-        assert_eq!(rt; str::from_utf8(done.out.as_slice())?, printed);
-        assert_eq!(rt; done.status, status, "{printed}");
-    }
-    Ok(())
+    is_judged(
+        &rt,
+        9,
+        &[b"\xb7\x00\x00\x00\x45", b"\x95"],
+        0,
+        "accepted cost 2 budget 9\n",
+    )?;
+    is_judged(
+        &rt,
+        1,
+        &[b"\xb7\x00\x00\x00\x45", b"\x95"],
+        1,
+        "V16 slot 0\n",
+    )?;
+    is_judged(&rt, 1, &[b"\x95"], 1, "V25 slot 0\n")?;
+    is_judged(&rt, 1, &[b"\xb7"], 1, "V13 slot 0\n")?;
+    // an opcode that programs can't have today comes before what else is wrong with its slot
+    is_judged(&rt, 2, &[b"\xb7", b"\x18\x0b", b"\x95"], 1, "V06 slot 1\n")?;
+    is_judged(&rt, 2, &[b"\xb7\x0b", b"\x07", b"\x95"], 1, "V07 slot 0\n")
 }
 
 // A reader that fails at once.
