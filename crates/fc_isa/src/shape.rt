@@ -40,6 +40,9 @@ const MEM: u8 = 3;
 
 const MEMSX: u8 = 4;
 
+/// [`SHAPES`] in memory, once: a constant that is indexed is written out anew at each use.
+static FORMS: [Shape; 256] = SHAPES;
+
 /// Where the second operand comes from (RFC 9669, 4): K is the immediate, X the source register.
 #[derive(Clone, Copy, Debug, PartialEq, Eq)]
 pub enum Source {
@@ -92,7 +95,7 @@ impl Shape {
     pub fn of(opcode: u8) -> Self
         ensures { result ≡ shape_of opcode }
     {
-        SHAPES[opcode as usize]
+        FORMS[opcode as usize]
     }
 
     /// The opcode of the form.

@@ -5,8 +5,8 @@ use Rattle.fc_isa.proofs.shape.Shape.of.Goals as goal
 pub offset_bounds-opcode : goal.offset_bounds-opcode
 offset_bounds-opcode c = search rules
 
-pub bounds-opcode-opcode : goal.bounds-opcode-opcode
-bounds-opcode-opcode c = omega arith
+pub bounds-opcode : goal.bounds-opcode
+bounds-opcode c = omega arith
 
 pub returns : goal.returns
 returns c = row_is c.args.opcode (omega arith)
