@@ -84,34 +84,36 @@ fn signed_division_is_told_by_its_offset(rt: HostRuntime) -> Result<(), Fail> {
     )
 }
 
+// Bytes, and the fault that they are refused by.
+static FAULTS: [(&[u8], Rule, usize); 8] = [
+    (b"\x8d\x00\x00\x00\x00\x00\x00\x00", Rule::Opcode, 0),
+    (b"\xb7\x0b\x00\x00\x00\x00\x00\x00", Rule::Register, 0),
+    (b"\xb7\x0a\x00\x00\x00\x00\x00\x00", Rule::FramePointer, 0),
+    (b"\x84\x01\x00\x00\x01\x00\x00\x00", Rule::Field, 0),
+    (
+        b"\x18\x11\x00\x00\x00\x00\x00\x00\x00\x00\x00\x00\x00\x00\x00\x00",
+        Rule::Field,
+        0,
+    ),
+    (b"\x18\x01\x00\x00\x00\x00\x00\x00", Rule::WideLoad, 0),
+    (
+        b"\x95\x00\x00\x00\x00\x00\x00\x00\x18\x0a\x00\x00\x00\x00\x00\x00",
+        Rule::FramePointer,
+        1,
+    ),
+    (
+        b"\x95\x00\x00\x00\x00\x00\x00\x00\x95\x00\x00",
+        Rule::WideLoad,
+        1,
+    ),
+];
+
 #[test]
 fn faults_name_their_slot(rt: HostRuntime) -> Result<(), Fail> {
-    let table: [(&[u8], Rule, usize); 8] = [
-        (b"\x8d\x00\x00\x00\x00\x00\x00\x00", Rule::Opcode, 0),
-        (b"\xb7\x0b\x00\x00\x00\x00\x00\x00", Rule::Register, 0),
-        (b"\xb7\x0a\x00\x00\x00\x00\x00\x00", Rule::FramePointer, 0),
-        (b"\x84\x01\x00\x00\x01\x00\x00\x00", Rule::Field, 0),
-        (
-            b"\x18\x11\x00\x00\x00\x00\x00\x00\x00\x00\x00\x00\x00\x00\x00\x00",
-            Rule::Field,
-            0,
-        ),
-        (b"\x18\x01\x00\x00\x00\x00\x00\x00", Rule::WideLoad, 0),
-        (
-            b"\x95\x00\x00\x00\x00\x00\x00\x00\x18\x0a\x00\x00\x00\x00\x00\x00",
-            Rule::FramePointer,
-            1,
-        ),
-        (
-            b"\x95\x00\x00\x00\x00\x00\x00\x00\x95\x00\x00",
-            Rule::WideLoad,
-            1,
-        ),
-    ];
-    for (bytes, rule, slot) in table {
+    for (bytes, rule, slot) in FAULTS.iter().copied() {
         let wanted = DecodeError::Fault(Fault { rule, slot });
         let got = decode(rt.alloc(), bytes).err().ok_or("decoded")?;
-        assert_eq!(rt; got, wanted);
+        assert!(rt; got == wanted);
     }
     Ok(())
 }

@@ -8,9 +8,9 @@ mod isa_tests;
 #[cfg(test)]
 mod tool_tests;
 
-use clap::{Arg, ArgMatches, Command, Error, value_parser};
+use clap::{Arg, ArgMatches, Command, value_parser};
 use fc_service::tools::{check, image, list};
-use std::alloc::Global;
+use std::alloc::{AllocError, Global};
 use std::io;
 use std::io::{BufReader, BufWriter, Read, Write};
 use std::process::ExitCode;
@@ -22,35 +22,36 @@ const BAD_COMMAND: u8 = 2;
 /// The status where reading or writing failed, or memory was refused.
 const FAILED: u8 = 3;
 
-fn command<'a>(alloc: Global) -> Result<Command<'a>, Error> {
-    let vars = Arg::new(alloc, "vars")
-        .long("vars")
-        .value_name("V")
-        .value_parser(value_parser!(u16))
+// An option that takes a number and can't be left out.
+fn number<'a>(
+    alloc: Global,
+    name: &'static str,
+    value: &'static str,
+    help: &'static str,
+) -> Arg<'a> {
+    Arg::new(alloc, name)
+        .long(name)
+        .value_name(value)
         .required(true)
-        .help("The size of the variables in bytes");
-    let budget = Arg::new(alloc, "budget")
-        .long("budget")
-        .value_name("B")
-        .value_parser(value_parser!(u32))
-        .required(true)
-        .help("The budget of steps");
-    let image = Command::new(alloc, "image")
+        .help(help)
+}
+
+fn image_command<'a>(alloc: Global) -> Result<Command<'a>, AllocError> {
+    Command::new(alloc, "image")
         .about("Assemble a text to an image")
-        .arg(vars)?
-        .arg(budget)?;
-    let list = Command::new(alloc, "list").about("List the program of an image");
-    let check = Command::new(alloc, "check").about("Say whether an image is accepted");
-    Ok(
-        Command::new(alloc, "fcasm")
-            .about(
-                "Assemble, list and check resource programs: from standard input to standard output",
-            )
-            .subcommand_required(true)
-            .subcommand(image)?
-            .subcommand(list)?
-            .subcommand(check)?,
-    )
+        .arg(number(alloc, "vars", "V", "The size of the variables in bytes").value_parser(
+            value_parser!(u16),
+        ))?
+        .arg(number(alloc, "budget", "B", "The budget of steps").value_parser(value_parser!(u32)))
+}
+
+fn command<'a>(alloc: Global) -> Result<Command<'a>, AllocError> {
+    Command::new(alloc, "fcasm")
+        .about("Assemble, list and check resource programs: from standard input to standard output")
+        .subcommand_required(true)
+        .subcommand(image_command(alloc)?)?
+        .subcommand(Command::new(alloc, "list").about("List the program of an image"))?
+        .subcommand(Command::new(alloc, "check").about("Say whether an image is accepted"))
 }
 
 fn run<R: Runtime + AllocGlobal, E: Write>(rt: &R, err: &mut E) -> anyhow::Result<u8> {

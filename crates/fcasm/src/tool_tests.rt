@@ -10,6 +10,13 @@ use std::test::Fail;
 const IMAGE: &[u8] =
     b"FCB1\x00\x00\x02\x00\x02\x00\x00\x00\x00\x00\x00\x00\xb7\x00\x00\x00\x45\x00\x00\x00\x95\x00\x00\x00\x00\x00\x00\x00";
 
+// Slots, as they stand in an image.
+const MOV_69: [u8; 8] = [0xb7, 0, 0, 0, 0x45, 0, 0, 0];
+
+const MOV_0: [u8; 8] = [0xb7, 0, 0, 0, 0, 0, 0, 0];
+
+const EXIT: [u8; 8] = [0x95, 0, 0, 0, 0, 0, 0, 0];
+
 // What a tool gave.
 #[derive(Drop)]
 struct Done {
@@ -47,24 +54,27 @@ fn checked(alloc: Global, image: &[u8]) -> Done {
 
 // The tool refuses, tells this, and writes nothing.
 fn is_refused<R: Abort>(rt: &R, done: &Done, told: &str) -> Result<(), Fail> {
-    assert_eq!(rt; str::from_utf8(done.err.as_slice())?, told);
-    assert_eq!(rt; done.status, 1, "{told}");
-    assert_eq!(rt; done.out.len(), 0, "{told}");
+    assert!(rt; done.err.as_slice() == told.as_bytes(), "{told}");
+    assert!(rt; done.status == 1 && done.out.is_empty(), "{told}");
+    Ok(())
+}
+
+// The image is listed so.
+fn is_listed<R: Abort + AllocGlobal>(rt: &R, image: &[u8], text: &str) -> Result<(), Fail> {
+    let done = listed(rt.alloc(), image);
+    assert!(rt; done.out.as_slice() == text.as_bytes(), "{text}");
+    assert!(rt; done.status == 0 && done.err.is_empty(), "{text}");
     Ok(())
 }
 
 // An image of version 1 with no variables, the budget and the slots.
-fn image_with(alloc: Global, budget: u8, slots: &[&[u8]]) -> Result<Vec<u8>, Fail> {
+fn image_with(alloc: Global, budget: u8, slots: &[[u8; 8]]) -> Result<Vec<u8>, Fail> {
     let count = u8::try_from(slots.len()).ok().ok_or("too many slots")?;
     let mut image = Vec::new(alloc);
     image.extend_from_slice(b"FCB1\x00\x00")?;
-    image.push(count)?;
-    image.extend_from_slice(&[0, budget, 0, 0, 0, 0, 0, 0, 0])?;
+    image.extend_from_slice(&[count, 0, budget, 0, 0, 0, 0, 0, 0, 0])?;
     for slot in slots {
         image.extend_from_slice(slot)?;
-        for _ in slot.len()..8 {
-            image.push(0)?;
-        }
     }
     Ok(image)
 }
@@ -72,130 +82,133 @@ fn image_with(alloc: Global, budget: u8, slots: &[&[u8]]) -> Result<Vec<u8>, Fai
 #[test]
 fn a_text_becomes_an_image(rt: HostRuntime) -> Result<(), Fail> {
     let done = assembled(rt.alloc(), b"mov64 r0, 69\nexit\n", 0, 2);
-    assert_eq!(rt; done.status, 0);
     assert!(rt; done.out.as_slice() == IMAGE);
-    assert_eq!(rt; done.err.len(), 0);
+    assert!(rt; done.status == 0 && done.err.is_empty());
+    Ok(())
+}
+
+// Texts with a mistake, the numbers of the header, and what is told.
+static REFUSALS: [(&[u8], u16, u32, &str); 9] = [
+    // a mistake is told before a bad header
+    (b"movq r1, 1", 7, 0, "A1 line 1\n"),
+    (b"exit\nmov64 r10, 1", 7, 0, "A2 line 2\n"),
+    (b"exit\nmov64 r1, 2147483648\n", 0, 2, "A3 line 2\n"),
+    (b"exit\n\xff\n", 0, 1, "A1 line 1\n"),
+    // the header's numbers in order
+    (b"; nothing\n", 7, 0, "V02 slot 0\n"),
+    (b"exit", 7, 0, "V03 slot 0\n"),
+    (b"exit", 264, 1, "V03 slot 0\n"),
+    (b"exit", 256, 0, "V04 slot 0\n"),
+    (b"exit", 256, 65537, "V04 slot 0\n"),
+];
+
+#[test]
+fn a_text_is_refused_by_its_first_mistake(rt: HostRuntime) -> Result<(), Fail> {
+    for (text, vars_size, budget, told) in REFUSALS.iter().copied() {
+        is_refused(&rt, &assembled(rt.alloc(), text, vars_size, budget), told)?;
+    }
     Ok(())
 }
 
 #[test]
-fn a_mistake_is_told_before_the_header(rt: HostRuntime) -> Result<(), Fail> {
-    let alloc = rt.alloc();
-    is_refused(&rt, &assembled(alloc, b"movq r1, 1", 7, 0), "A1 line 1\n")?;
-    is_refused(
-        &rt,
-        &assembled(alloc, b"exit\nmov64 r10, 1", 7, 0),
-        "A2 line 2\n",
-    )?;
-    is_refused(
-        &rt,
-        &assembled(alloc, b"exit\nmov64 r1, 2147483648\n", 0, 2),
-        "A3 line 2\n",
-    )?;
-    is_refused(&rt, &assembled(alloc, b"exit\n\xff\n", 0, 1), "A1 line 1\n")?;
-    Ok(())
-}
-
-#[test]
-fn numbers_of_the_header_are_told_in_order(rt: HostRuntime) -> Result<(), Fail> {
-    let alloc = rt.alloc();
-    is_refused(&rt, &assembled(alloc, b"; nothing\n", 7, 0), "V02 slot 0\n")?;
-    is_refused(&rt, &assembled(alloc, b"exit", 7, 0), "V03 slot 0\n")?;
-    is_refused(&rt, &assembled(alloc, b"exit", 264, 1), "V03 slot 0\n")?;
-    is_refused(&rt, &assembled(alloc, b"exit", 256, 0), "V04 slot 0\n")?;
-    is_refused(&rt, &assembled(alloc, b"exit", 256, 65537), "V04 slot 0\n")?;
-    assert_eq!(rt; assembled(alloc, b"exit", 256, 65536).status, 0);
+fn the_greatest_numbers_of_the_header_are_taken(rt: HostRuntime) -> Result<(), Fail> {
+    assert_eq!(rt; assembled(rt.alloc(), b"exit", 256, 65536).status, 0);
     Ok(())
 }
 
 #[test]
 fn an_image_is_listed(rt: HostRuntime) -> Result<(), Fail> {
-    let done = listed(rt.alloc(), IMAGE);
-    assert_eq!(rt; done.status, 0);
-    assert_eq!(rt;
-        str::from_utf8(done.out.as_slice())?,
-        "mov64 r0, 69\nexit\n"
-    );
-    let wide = image_with(
-        rt.alloc(),
-        3,
-        &[
-            b"\x18\x01\x00\x00\x07",
-            b"\x00\x00\x00\x00\x01",
-            b"\x7b\x1a\xf8\xff",
-        ],
-    )?;
-    let done = listed(rt.alloc(), wide.as_slice());
-    assert_eq!(rt;
-        str::from_utf8(done.out.as_slice())?,
-        "lddw r1, 4294967303\nstxdw r10, -8, r1\n"
-    );
-    Ok(())
+    is_listed(&rt, IMAGE, "mov64 r0, 69\nexit\n")
 }
 
 #[test]
-fn an_image_that_is_none_is_not_listed(rt: HostRuntime) -> Result<(), Fail> {
-    let alloc = rt.alloc();
-    is_refused(&rt, &listed(alloc, &IMAGE[..15]), "V01 slot 0\n")?;
-    is_refused(
-        &rt,
-        &listed(
-            alloc,
-            b"FCB1\x00\x00\x00\x00\x01\x00\x00\x00\x00\x00\x00\x00",
-        ),
-        "V02 slot 0\n",
-    )?;
-    let rows: [(&[u8], &str); 6] = [
-        (b"\x8d", "V06 slot 1\n"),
-        (b"\xb7\x0b", "V07 slot 1\n"),
-        (b"\xb7\x0a", "V08 slot 1\n"),
-        (b"\x84\x01\x00\x00\x01", "V09 slot 1\n"),
-        (b"\x18\x11", "V09 slot 1\n"),
-        (b"\x18", "V10 slot 1\n"),
+fn a_wide_load_is_listed_as_one(rt: HostRuntime) -> Result<(), Fail> {
+    let slots = [
+        [0x18, 1, 0, 0, 7, 0, 0, 0],
+        [0, 0, 0, 0, 1, 0, 0, 0],
+        [0x7b, 0x1a, 0xf8, 0xff, 0, 0, 0, 0],
     ];
-    for (slot, told) in rows {
-        let image = image_with(alloc, 2, &[b"\x95", slot])?;
-        is_refused(&rt, &listed(alloc, image.as_slice()), told)?;
+    let image = image_with(rt.alloc(), 3, &slots)?;
+    is_listed(
+        &rt,
+        image.as_slice(),
+        "lddw r1, 4294967303\nstxdw r10, -8, r1\n",
+    )
+}
+
+// Headers alone, and what is told.
+static HEADERS: [(&[u8], &str); 2] = [
+    (
+        b"FCB1\x00\x00\x02\x00\x02\x00\x00\x00\x00\x00\x00",
+        "V01 slot 0\n",
+    ),
+    (
+        b"FCB1\x00\x00\x00\x00\x01\x00\x00\x00\x00\x00\x00\x00",
+        "V02 slot 0\n",
+    ),
+];
+
+#[test]
+fn an_image_with_a_bad_header_is_not_listed(rt: HostRuntime) -> Result<(), Fail> {
+    for (image, told) in HEADERS.iter().copied() {
+        is_refused(&rt, &listed(rt.alloc(), image), told)?;
     }
     Ok(())
 }
 
-// The slots make an image that is judged so.
-fn is_judged<R: Abort + AllocGlobal>(
-    rt: &R,
-    budget: u8,
-    slots: &[&[u8]],
-    status: u8,
-    printed: &str,
-) -> Result<(), Fail> {
-    let image = image_with(rt.alloc(), budget, slots)?;
-    let done = checked(rt.alloc(), image.as_slice());
-    assert_eq!(rt; str::from_utf8(done.out.as_slice())?, printed);
-    assert_eq!(rt; done.status, status, "{printed}");
+// Slots that stand behind `exit`, and what is told.
+static FAULTS: [([u8; 8], &str); 6] = [
+    ([0x8d, 0, 0, 0, 0, 0, 0, 0], "V06 slot 1\n"),
+    ([0xb7, 0x0b, 0, 0, 0, 0, 0, 0], "V07 slot 1\n"),
+    ([0xb7, 0x0a, 0, 0, 0, 0, 0, 0], "V08 slot 1\n"),
+    ([0x84, 1, 0, 0, 1, 0, 0, 0], "V09 slot 1\n"),
+    ([0x18, 0x11, 0, 0, 0, 0, 0, 0], "V09 slot 1\n"),
+    ([0x18, 0, 0, 0, 0, 0, 0, 0], "V10 slot 1\n"),
+];
+
+#[test]
+fn an_image_with_a_bad_slot_is_not_listed(rt: HostRuntime) -> Result<(), Fail> {
+    for (slot, told) in FAULTS.iter().copied() {
+        let image = image_with(rt.alloc(), 2, &[EXIT, slot])?;
+        is_refused(&rt, &listed(rt.alloc(), image.as_slice()), told)?;
+    }
     Ok(())
 }
 
+// Budgets and slots, and how the image is judged.
+static JUDGED: [(u8, &[[u8; 8]], u8, &str); 6] = [
+    (9, &[MOV_69, EXIT], 0, "accepted cost 2 budget 9\n"),
+    (1, &[MOV_69, EXIT], 1, "V16 slot 0\n"),
+    (1, &[EXIT], 1, "V25 slot 0\n"),
+    (1, &[MOV_0], 1, "V13 slot 0\n"),
+    // an opcode that programs can't have today comes before what else is wrong with its slot
+    (
+        2,
+        &[MOV_0, [0x18, 0x0b, 0, 0, 0, 0, 0, 0], EXIT],
+        1,
+        "V06 slot 1\n",
+    ),
+    (
+        2,
+        &[
+            [0xb7, 0x0b, 0, 0, 0, 0, 0, 0],
+            [7, 0, 0, 0, 0, 0, 0, 0],
+            EXIT,
+        ],
+        1,
+        "V07 slot 0\n",
+    ),
+];
+
 #[test]
 fn an_image_is_checked(rt: HostRuntime) -> Result<(), Fail> {
-    is_judged(
-        &rt,
-        9,
-        &[b"\xb7\x00\x00\x00\x45", b"\x95"],
-        0,
-        "accepted cost 2 budget 9\n",
-    )?;
-    is_judged(
-        &rt,
-        1,
-        &[b"\xb7\x00\x00\x00\x45", b"\x95"],
-        1,
-        "V16 slot 0\n",
-    )?;
-    is_judged(&rt, 1, &[b"\x95"], 1, "V25 slot 0\n")?;
-    is_judged(&rt, 1, &[b"\xb7"], 1, "V13 slot 0\n")?;
-    // an opcode that programs can't have today comes before what else is wrong with its slot
-    is_judged(&rt, 2, &[b"\xb7", b"\x18\x0b", b"\x95"], 1, "V06 slot 1\n")?;
-    is_judged(&rt, 2, &[b"\xb7\x0b", b"\x07", b"\x95"], 1, "V07 slot 0\n")
+    for (budget, slots, status, printed) in JUDGED.iter().copied() {
+        let image = image_with(rt.alloc(), budget, slots)?;
+        let done = checked(rt.alloc(), image.as_slice());
+        assert!(rt; done.out.as_slice() == printed.as_bytes(), "{printed}");
+        assert!(rt; done.status == status && done.err.is_empty(), "{printed}");
+    }
+    Ok(())
 }
 
 // A reader that fails at once.
@@ -228,21 +241,37 @@ impl Write for Full {
 }
 
 #[test]
-fn a_failed_reader_or_writer_is_status_3(rt: HostRuntime) -> Result<(), Fail> {
+fn a_failed_reader_is_status_3(rt: HostRuntime) -> Result<(), Fail> {
     let alloc = rt.alloc();
     let mut out = Vec::new(alloc);
     let mut err = Vec::new(alloc);
-    assert_eq!(rt; image(alloc, &mut Torn, &mut out, &mut err, 0, 1), 3);
-    assert_eq!(rt; list(alloc, &mut Torn, &mut out, &mut err), 3);
-    assert_eq!(rt; check(alloc, &mut Torn, &mut out), 3);
+    assert!(rt; image(alloc, &mut Torn, &mut out, &mut err, 0, 1) == 3);
+    assert!(rt; list(alloc, &mut Torn, &mut out, &mut err) == 3);
+    assert!(rt; check(alloc, &mut Torn, &mut out) == 3);
+    assert!(rt; out.is_empty() && err.is_empty());
+    Ok(())
+}
+
+#[test]
+fn a_failed_writer_is_status_3(rt: HostRuntime) -> Result<(), Fail> {
+    let alloc = rt.alloc();
+    let mut err = Vec::new(alloc);
     let mut text: &[u8] = b"exit";
-    assert_eq!(rt; image(alloc, &mut text, &mut Full(23), &mut err, 0, 1), 3);
+    assert!(rt; image(alloc, &mut text, &mut Full(23), &mut err, 0, 1) == 3);
     let mut input = IMAGE;
-    assert_eq!(rt; list(alloc, &mut input, &mut Full(17), &mut err), 3);
+    assert!(rt; list(alloc, &mut input, &mut Full(17), &mut err) == 3);
     let mut input = IMAGE;
-    assert_eq!(rt; check(alloc, &mut input, &mut Full(3)), 3);
+    assert!(rt; check(alloc, &mut input, &mut Full(3)) == 3);
+    assert!(rt; err.is_empty());
+    Ok(())
+}
+
+#[test]
+fn a_mistake_that_is_not_told_is_status_3(rt: HostRuntime) -> Result<(), Fail> {
+    let alloc = rt.alloc();
+    let mut out = Vec::new(alloc);
     let mut text: &[u8] = b"movq";
-    assert_eq!(rt; image(alloc, &mut text, &mut out, &mut Full(3), 0, 1), 3);
-    assert_eq!(rt; out.len() + err.len(), 0);
+    assert!(rt; image(alloc, &mut text, &mut out, &mut Full(3), 0, 1) == 3);
+    assert!(rt; out.is_empty());
     Ok(())
 }
