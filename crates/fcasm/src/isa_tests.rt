@@ -111,9 +111,11 @@ static FAULTS: [(&[u8], Rule, usize); 8] = [
 #[test]
 fn faults_name_their_slot(rt: HostRuntime) -> Result<(), Fail> {
     for (bytes, rule, slot) in FAULTS.iter().copied() {
-        let wanted = DecodeError::Fault(Fault { rule, slot });
-        let got = decode(rt.alloc(), bytes).err().ok_or("decoded")?;
-        assert!(rt; got == wanted);
+        match decode(rt.alloc(), bytes) {
+            Err(DecodeError::Fault(fault)) => assert!(rt; fault == Fault { rule, slot }),
+            Err(error) => return Err(Fail::from(error)),
+            Ok(_) => return Err(Fail::from("decoded")),
+        }
     }
     Ok(())
 }

@@ -8,7 +8,8 @@ mod isa_tests;
 #[cfg(test)]
 mod tool_tests;
 
-use clap::{Arg, ArgMatches, Command, value_parser};
+use clap::error::ErrorKind;
+use clap::{Arg, ArgMatches, Command, Error, value_parser};
 use fc_service::tools::{check, image, list};
 use std::alloc::{AllocError, Global};
 use std::io;
@@ -54,15 +55,22 @@ fn command<'a>(alloc: Global) -> Result<Command<'a>, AllocError> {
         .subcommand(Command::new(alloc, "check").about("Say whether an image is accepted"))
 }
 
+// Tells why there is no command, with the status: help that was asked for is no mistake.
+fn tell<R: Runtime>(rt: &R, error: &Error) -> anyhow::Result<u8> {
+    error.print(rt)?;
+    Ok(match error.kind() {
+        ErrorKind::OutOfMemory => FAILED,
+        _ if error.use_stderr() => BAD_COMMAND,
+        _ => 0,
+    })
+}
+
 fn run<R: Runtime + AllocGlobal, E: Write>(rt: &R, err: &mut E) -> anyhow::Result<u8> {
     let alloc = rt.alloc();
     let words: Vec<String> = std::env::args(rt)?.collect(alloc)?;
     let matches = match command(alloc)?.try_get_matches_from(words.as_slice()) {
         Ok(matches) => matches,
-        Err(error) => {
-            error.print(rt)?;
-            return Ok(if error.use_stderr() { BAD_COMMAND } else { 0 });
-        }
+        Err(error) => return tell(rt, &error),
     };
     let mut input = BufReader::new(alloc, rt.reader())?;
     let mut out = BufWriter::new(alloc, io::writer(rt))?;

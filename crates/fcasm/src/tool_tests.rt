@@ -1,6 +1,6 @@
 // Texts and images through the tools, with what is written and told: the expected values are the format's rules.
 use fc_service::tools::{check, image, list};
-use std::alloc::Global;
+use std::alloc::{AllocError, Global};
 use std::io;
 use std::io::{ErrorKind, Read, Write};
 use std::process::Abort;
@@ -25,31 +25,39 @@ struct Done {
     err: Vec<u8>,
 }
 
-fn assembled(alloc: Global, text: &[u8], vars_size: u16, budget: u32) -> Done {
+// Memory alone can fail where the reader and the writers are bytes.
+fn with_memory(done: Done) -> Result<Done, AllocError> {
+    match done.status {
+        3 => Err(AllocError),
+        _ => Ok(done),
+    }
+}
+
+fn assembled(alloc: Global, text: &[u8], vars_size: u16, budget: u32) -> Result<Done, AllocError> {
     let mut out = Vec::new(alloc);
     let mut err = Vec::new(alloc);
     let mut input = text;
     let status = image(alloc, &mut input, &mut out, &mut err, vars_size, budget);
-    Done { status, out, err }
+    with_memory(Done { status, out, err })
 }
 
-fn listed(alloc: Global, image: &[u8]) -> Done {
+fn listed(alloc: Global, image: &[u8]) -> Result<Done, AllocError> {
     let mut out = Vec::new(alloc);
     let mut err = Vec::new(alloc);
     let mut input = image;
     let status = list(alloc, &mut input, &mut out, &mut err);
-    Done { status, out, err }
+    with_memory(Done { status, out, err })
 }
 
-fn checked(alloc: Global, image: &[u8]) -> Done {
+fn checked(alloc: Global, image: &[u8]) -> Result<Done, AllocError> {
     let mut out = Vec::new(alloc);
     let mut input = image;
     let status = check(alloc, &mut input, &mut out);
-    Done {
+    with_memory(Done {
         status,
         out,
         err: Vec::new(alloc),
-    }
+    })
 }
 
 // The tool refuses, tells this, and writes nothing.
@@ -61,7 +69,7 @@ fn is_refused<R: Abort>(rt: &R, done: &Done, told: &str) -> Result<(), Fail> {
 
 // The image is listed so.
 fn is_listed<R: Abort + AllocGlobal>(rt: &R, image: &[u8], text: &str) -> Result<(), Fail> {
-    let done = listed(rt.alloc(), image);
+    let done = listed(rt.alloc(), image)?;
     assert!(rt; done.out.as_slice() == text.as_bytes(), "{text}");
     assert!(rt; done.status == 0 && done.err.is_empty(), "{text}");
     Ok(())
@@ -81,7 +89,7 @@ fn image_with(alloc: Global, budget: u8, slots: &[[u8; 8]]) -> Result<Vec<u8>, F
 
 #[test]
 fn a_text_becomes_an_image(rt: HostRuntime) -> Result<(), Fail> {
-    let done = assembled(rt.alloc(), b"mov64 r0, 69\nexit\n", 0, 2);
+    let done = assembled(rt.alloc(), b"mov64 r0, 69\nexit\n", 0, 2)?;
     assert!(rt; done.out.as_slice() == IMAGE);
     assert!(rt; done.status == 0 && done.err.is_empty());
     Ok(())
@@ -105,14 +113,15 @@ static REFUSALS: [(&[u8], u16, u32, &str); 9] = [
 #[test]
 fn a_text_is_refused_by_its_first_mistake(rt: HostRuntime) -> Result<(), Fail> {
     for (text, vars_size, budget, told) in REFUSALS.iter().copied() {
-        is_refused(&rt, &assembled(rt.alloc(), text, vars_size, budget), told)?;
+        is_refused(&rt, &assembled(rt.alloc(), text, vars_size, budget)?, told)?;
     }
     Ok(())
 }
 
 #[test]
 fn the_greatest_numbers_of_the_header_are_taken(rt: HostRuntime) -> Result<(), Fail> {
-    assert_eq!(rt; assembled(rt.alloc(), b"exit", 256, 65536).status, 0);
+    let done = assembled(rt.alloc(), b"exit", 256, 65536)?;
+    assert!(rt; done.status == 0);
     Ok(())
 }
 
@@ -151,7 +160,7 @@ static HEADERS: [(&[u8], &str); 2] = [
 #[test]
 fn an_image_with_a_bad_header_is_not_listed(rt: HostRuntime) -> Result<(), Fail> {
     for (image, told) in HEADERS.iter().copied() {
-        is_refused(&rt, &listed(rt.alloc(), image), told)?;
+        is_refused(&rt, &listed(rt.alloc(), image)?, told)?;
     }
     Ok(())
 }
@@ -170,7 +179,7 @@ static FAULTS: [([u8; 8], &str); 6] = [
 fn an_image_with_a_bad_slot_is_not_listed(rt: HostRuntime) -> Result<(), Fail> {
     for (slot, told) in FAULTS.iter().copied() {
         let image = image_with(rt.alloc(), 2, &[EXIT, slot])?;
-        is_refused(&rt, &listed(rt.alloc(), image.as_slice()), told)?;
+        is_refused(&rt, &listed(rt.alloc(), image.as_slice())?, told)?;
     }
     Ok(())
 }
@@ -204,7 +213,7 @@ static JUDGED: [(u8, &[[u8; 8]], u8, &str); 6] = [
 fn an_image_is_checked(rt: HostRuntime) -> Result<(), Fail> {
     for (budget, slots, status, printed) in JUDGED.iter().copied() {
         let image = image_with(rt.alloc(), budget, slots)?;
-        let done = checked(rt.alloc(), image.as_slice());
+        let done = checked(rt.alloc(), image.as_slice())?;
         assert!(rt; done.out.as_slice() == printed.as_bytes(), "{printed}");
         assert!(rt; done.status == status && done.err.is_empty(), "{printed}");
     }
