@@ -1,5 +1,5 @@
 -- The instructions that programs may have today, in bytes and in programs.
-use Rattle.std.proofs.Common.{◌≡◌, ◌⊎◌, inl, inr, ℕ, zero, suc, ◌+◌, ◌*◌, ◌/◌, ◌<◌, ◌≤◌, ◌==◌, ◌&&◌, ◌||◌, not, Bool, true, false, cond, Option, Some, None, List, [], ◌∷◌, ◌++◌, length, map, take, drop, get_or, refl, sym, ap, ◌∙◌, subst, arith, below_more, add-one, lit<, nat_lt, nat_le}
+use Rattle.std.proofs.Common.{◌≡◌, ◌⊎◌, inl, inr, ℕ, zero, suc, ◌+◌, ◌*◌, ◌/◌, ◌<◌, ◌≤◌, ◌&&◌, not, Bool, true, false, cond, Option, Some, None, List, [], ◌∷◌, ◌++◌, length, map, take, drop, get_or, refl, sym, ap, ◌∙◌, subst, arith, below_more, lit<, nat_lt, nat_le}
 use Rattle.std.specs.Prelude.{All, if◌then◌else◌}
 use Rattle.std.proofs.lemmas.Bool.{le-leb, lt-leb, cases_lt}
 use Rattle.std.proofs.lemmas.Bool.Decides.{nat_tests}
@@ -18,7 +18,7 @@ use Rattle.fc_isa.specs.declared.rule.Rule.TheVariants.{Opcode, Register, FrameP
 use Rattle.fc_isa.specs.Rules.{number_of}
 use Rattle.fc_isa.specs.Program.{IsInsn}
 use Rattle.fc_isa.specs.Shapes.{shape_of, known_shapes, is_wide}
-use Rattle.fc_isa.specs.Encoding.{Fields, fields_of, read_fields, fields_at, slot_at, is_whole, is_second, insn_of, insn_with, imm_after, insn_at, insns_below, program_of, encoded, Spells, breaks, slot_fault, fault_at, first_fault, IsFirstFault}
+use Rattle.fc_isa.specs.Encoding.{Fields, read_fields, fields_at, slot_at, is_whole, is_second, insn_of, insn_with, imm_after, insn_at, insns_below, program_of, encoded, Spells, breaks, slot_fault, fault_at, first_fault, IsFirstFault}
 use Rattle.fc_isa.specs.Served.{AreServed, IsFirstUnserved, IsFirstRefused, IsServed, SpellsServed, is_served_opcode, is_unserved, refused_at, first_refused, served_of, served_program, or_exit, whole}
 use Rattle.fc_isa.proofs.Slot.{AreBytes}
 use Rattle.fc_isa.proofs.Slots.{fault_at_past, faultless_spell, spelled_faultless, spelled_once, length-insns_below}

@@ -124,14 +124,14 @@ impl Shape {
     }
 
     /// Whether it is an instruction's form.
-    pub fn is_known(self) -> bool
+    pub(crate) fn is_known(self) -> bool
         ensures { result ≡ is_known self }
     {
         !matches!(self, Shape::Unknown)
     }
 
     /// Whether it takes two slots.
-    pub fn is_wide(self) -> bool
+    pub(crate) fn is_wide(self) -> bool
         ensures { result ≡ is_wide self }
     {
         matches!(self, Shape::LoadWide)
@@ -148,7 +148,7 @@ impl Shape {
     }
 
     /// Whether the destination register is written.
-    pub fn writes_dst(self) -> bool
+    pub(crate) fn writes_dst(self) -> bool
         ensures { result ≡ writes_dst self }
     {
         matches!(

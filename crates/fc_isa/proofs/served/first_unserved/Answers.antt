@@ -1,4 +1,4 @@
-use Rattle.std.proofs.Common.{sym, ◌∙◌, arith}
+use Rattle.std.proofs.Common.{sym, ◌∙◌}
 use Rattle.fc_isa.proofs.Narrow.{served_none, served_more}
 use Rattle.fc_isa.proofs.served.first_unserved.Goals as goal
 
