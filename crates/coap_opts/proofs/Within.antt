@@ -1,5 +1,5 @@
 -- What a request that is carried out keeps.
-use Rattle.std.proofs.Common.{◌≡◌, ℕ, ◌<◌, ◌≤◌, ◌==◌, [], ◌∷◌, not, Bool, true, false, cond, nat_lt, length, List, Option, Some, None, refl, sym, ap, ◌∙◌, subst}
+use Rattle.std.proofs.Common.{◌≡◌, ℕ, ◌≤◌, ◌==◌, [], ◌∷◌, not, Bool, true, false, cond, nat_lt, length, Option, Some, None, refl, ◌∙◌}
 use Rattle.std.proofs.lemmas.Bool.{ltb-false}
 use Rattle.coap_msg.specs.Wire.{Message}
 use Rattle.coap_msg.specs.Reading.{with_some}
@@ -7,9 +7,9 @@ use Rattle.coap_msg.specs.declared.types.MessageType.{MessageType}
 use Rattle.coap_msg.specs.declared.types.MessageType.TheVariants as kind
 use Rattle.coap_opts.specs.declared.request.Method.{Method}
 use Rattle.coap_opts.specs.declared.request.Resource.{Resource}
-use Rattle.coap_opts.specs.Path.{method_of, resource_of}
-use Rattle.coap_opts.specs.Table.{values_of, has_unknown_critical}
-use Rattle.coap_opts.specs.Verdict.{Asked, IsAsked, IsAskedWithin, IsRefused, IsSilent, IsReset, IsSignal, IsIgnored, Verdict, asked, accepted, resource, verdict, verdict_by, judged, judged_by, refused, refusal_of, first_failing, checks, is_request, has, is_served, names_proxy, has_bad_value, query, values, number_in, etags, observe_at}
+use Rattle.coap_opts.specs.Path.{method_of}
+use Rattle.coap_opts.specs.Table.{has_unknown_critical}
+use Rattle.coap_opts.specs.Verdict.{Asked, IsAsked, IsAskedWithin, IsRefused, IsSilent, IsReset, IsSignal, IsIgnored, Verdict, asked, accepted, resource, verdict, verdict_by, judged, judged_by, refused, refusal_of, first_failing, is_request, has, is_served, names_proxy, has_bad_value, query, values, number_in, etags, observe_at}
 use Rattle.coap_opts.proofs.Paths.{path_only}
 
 -- ---- the request is made of the message

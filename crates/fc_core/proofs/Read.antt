@@ -1,5 +1,5 @@
 -- What is read of a datagram, and what is asked by it.
-use Rattle.std.proofs.Common.{◌≡◌, ℕ, List, Option, Some, None, Result, Ok, Err, refl, ap}
+use Rattle.std.proofs.Common.{◌≡◌, ℕ, List, Option, Some, None, Ok, Err, refl, ap}
 use Rattle.coap_msg.specs.Wire.{Message}
 use Rattle.coap_msg.specs.Reading.{message_of, bad_of, reading_of, or_bad, with_some}
 use Rattle.coap_msg.specs.declared.types.Bad.{Bad}

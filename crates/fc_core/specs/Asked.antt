@@ -1,5 +1,5 @@
 -- The requests that are served today, among all that a message may ask.
-use Rattle.std.specs.Prelude.{◌≡◌, ℕ, ◌<◌, ◌≤◌, ◌==◌, ◌&&◌, Bool, true, false, if◌then◌else◌, List, length, Option, Some, None}
+use Rattle.std.specs.Prelude.{ℕ, ◌<◌, ◌≤◌, ◌==◌, ◌&&◌, Bool, true, false, if◌then◌else◌, List, length, Option, Some, None}
 use Rattle.coap_msg.specs.declared.types.MessageType.{MessageType}
 use Rattle.coap_msg.specs.declared.types.MessageType.TheVariants.{Confirmable}
 use Rattle.coap_msg.specs.Wire.{Message}

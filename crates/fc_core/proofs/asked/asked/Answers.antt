@@ -1,4 +1,4 @@
-use Rattle.std.proofs.Common.{sym, ◌∙◌}
+use Rattle.std.proofs.Common.{◌∙◌}
 use Rattle.fc_core.proofs.Read.{asked_of, asked_none}
 use Rattle.fc_core.proofs.asked.asked.Goals as goal
 
