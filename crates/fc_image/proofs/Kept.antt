@@ -6,7 +6,7 @@ use Rattle.fc_isa.specs.declared.rule.Rule.TheVariants.{Format, SlotCount, VarsS
 use Rattle.fc_image.specs.Head.{KeepsHead, head_breaks, head_fault, stated, has_magic}
 
 -- where none of five tests finds anything, each is false
-none_of_five : (a b c d e : Bool) (x y z v w : Rule) → cond a (Some x) (cond b (Some y) (cond c (Some z) (cond d (Some v) (cond e (Some w) None)))) ≡ None
+pub none_of_five : (a b c d e : Bool) (x y z v w : Rule) → cond a (Some x) (cond b (Some y) (cond c (Some z) (cond d (Some v) (cond e (Some w) None)))) ≡ None
     → (a ≡ false) × (b ≡ false) × (c ≡ false) × (d ≡ false) × (e ≡ false)
 none_of_five true b c d e x y z v w h = absurd (cc h)
 none_of_five false true c d e x y z v w h = absurd (cc h)

@@ -11,6 +11,11 @@ pub fn faultless_head_is_kept(image: &[u8])
     ensures { head_fault image.now ≡ None → KeepsHead image.now }
 {}
 
+/// An image whose header breaks no rule begins with the bytes of that header.
+pub fn read_head_is_written(image: &[u8])
+    ensures { head_fault image.now ≡ None → image.now ≡ head_bytes (stated image.now) ++ drop 16 image.now }
+{}
+
 /// A program that has the shape has a longest path, and `longest` is its number of steps.
 pub fn longest_is_longest()
     ensures { (code : List Served) → HasShape code → IsLongest code (longest code) }

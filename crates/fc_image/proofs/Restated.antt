@@ -1,0 +1,99 @@
+-- A header that is read is written again as it stood.
+use Rattle.std.proofs.Common.{Fits, ◌≡◌, ℕ, zero, suc, ◌+◌, ◌*◌, ◌<◌, ◌≤◌, ◌==◌, ◌&&◌, not, Bool, true, false, List, [], ◌∷◌, ◌++◌, None, length, drop, refl, sym, subst, ap, ◌∙◌, arith, nat_le}
+use Rattle.std.specs.Int.{w8, w16, w32, from_le_bytes, to_le_bytes}
+use Rattle.std.specs.Prelude.{get_or}
+use Rattle.std.proofs.lemmas.Bool.Decides.{nat_tests}
+use Rattle.std.proofs.lemmas.Nat.{le_bytes_2, le_bytes_4}
+use Rattle.fc_isa.specs.declared.rule.Rule.TheVariants.{Format, SlotCount, VarsSize, Budget, Reserved}
+use Rattle.fc_image.specs.Head.{head_breaks, head_bytes, head_fault, stated, has_magic, is_word}
+use Rattle.fc_image.proofs.Kept.{none_of_five}
+
+-- the first four of these bytes, and the rest
+record Word (bytes : List ℕ) : Type 0 where
+  pub a : ℕ
+  pub b : ℕ
+  pub c : ℕ
+  pub d : ℕ
+  pub rest : List ℕ
+  pub is : bytes ≡ a ∷ b ∷ c ∷ d ∷ rest
+
+word : (bytes : List ℕ) → 4 ≤ length bytes → Word bytes
+word [] l = absurd (omega (arith, l))
+word (a ∷ []) l = absurd (omega (arith, l))
+word (a ∷ b ∷ []) l = absurd (omega (arith, l))
+word (a ∷ b ∷ c ∷ []) l = absurd (omega (arith, l))
+word (a ∷ b ∷ c ∷ d ∷ rest) l = record { a = a; b = b; c = c; d = d; rest = rest; is = refl }
+
+word_tells : (a b c d w x y z : ℕ) → (((a == w) && (b == x)) && ((c == y) && (d == z))) ≡ true → (a ≡ w) × (b ≡ x) × (c ≡ y) × (d ≡ z)
+word_tells a b c d w x y z h = (grind (arith, nat_tests), grind (arith, nat_tests), grind (arith, nat_tests), grind (arith, nat_tests))
+
+size_is_long : (word : Bool) (n m : ℕ) → not ((nat_le 16 n && word) && (n == m)) ≡ false → (16 ≤ n) × (word ≡ true)
+size_is_long true n m h = (grind (arith, nat_tests), refl)
+size_is_long false n m h = absurd (grind (arith, nat_tests))
+
+word_is_zero : (word : Bool) → not word ≡ false → word ≡ true
+word_is_zero true h = refl
+word_is_zero false h = absurd (cc h)
+
+pub record AreBytes (bytes : List ℕ) : Type 0 where
+  pub each : (i : ℕ) → get_or bytes i 0 < 256
+
+-- what the type of a slice of `u8` says
+pub are_bytes : (bytes : List ℕ) → ((i : ℕ) → Fits w8 (get_or bytes i 0)) → AreBytes bytes
+are_bytes bytes h = record { each = λ i. let f = h i in omega arith }
+
+two_bytes : (x y : ℕ) → x < 256 → y < 256 → (i : ℕ) → get_or (x ∷ y ∷ []) i 0 < 256
+two_bytes x y hx hy zero = hx
+two_bytes x y hx hy (suc zero) = hy
+two_bytes x y hx hy (suc (suc i)) = omega arith
+
+four_bytes : (x y z w : ℕ) → x < 256 → y < 256 → z < 256 → w < 256 → (i : ℕ) → get_or (x ∷ y ∷ z ∷ w ∷ []) i 0 < 256
+four_bytes x y z w hx hy hz hw zero = hx
+four_bytes x y z w hx hy hz hw (suc zero) = hy
+four_bytes x y z w hx hy hz hw (suc (suc zero)) = hz
+four_bytes x y z w hx hy hz hw (suc (suc (suc zero))) = hw
+four_bytes x y z w hx hy hz hw (suc (suc (suc (suc i)))) = omega arith
+
+-- the header around the bytes of its numbers, and what stands behind it
+joined : (size count budget rest : List ℕ) → List ℕ
+joined size count budget rest = (70 ∷ 67 ∷ 66 ∷ 49 ∷ (size ++ (count ++ (budget ++ (0 ∷ 0 ∷ 0 ∷ 0 ∷ []))))) ++ rest
+
+-- sixteen bytes that begin with the magic, and end with four zeros
+record Restated (image : List ℕ) : Type 0 where
+  pub says : AreBytes image → has_magic image ≡ true → is_word 0 0 0 0 (drop 12 image) ≡ true → image ≡ head_bytes (stated image) ++ drop 16 image
+
+words_restated : (a b c d s t u v w x y z e f g h : ℕ) (rest : List ℕ) → Restated (a ∷ b ∷ c ∷ d ∷ s ∷ t ∷ u ∷ v ∷ w ∷ x ∷ y ∷ z ∷ e ∷ f ∷ g ∷ h ∷ rest)
+unfolding joined
+words_restated a b c d s t u v w x y z e f g h rest = record {
+  says = λ bytes m o.
+      let magic = word_tells a b c d 70 67 66 49 m in
+      let zeros = word_tells e f g h 0 0 0 0 o in
+      let each = bytes.each in
+      let size_said = to_le_bytes w16 (from_le_bytes w16 (s ∷ t ∷ [])) in
+      let count_said = to_le_bytes w16 (from_le_bytes w16 (u ∷ v ∷ [])) in
+      let size : size_said ≡ s ∷ t ∷ [] = le_bytes_2 (s ∷ t ∷ []) _ refl (two_bytes s t (each 4) (each 5)) refl in
+      let count : count_said ≡ u ∷ v ∷ [] = le_bytes_2 (u ∷ v ∷ []) _ refl (two_bytes u v (each 6) (each 7)) refl in
+      let budget : to_le_bytes w32 (from_le_bytes w32 (w ∷ x ∷ y ∷ z ∷ [])) ≡ w ∷ x ∷ y ∷ z ∷ [] = le_bytes_4 (w ∷ x ∷ y ∷ z ∷ []) _ refl (four_bytes w x y z (each 8) (each 9) (each 10) (each 11)) refl in
+      let fixed : a ∷ b ∷ c ∷ d ∷ s ∷ t ∷ u ∷ v ∷ w ∷ x ∷ y ∷ z ∷ e ∷ f ∷ g ∷ h ∷ rest ≡ joined (s ∷ t ∷ []) (u ∷ v ∷ []) (w ∷ x ∷ y ∷ z ∷ []) rest
+      = rw (magic.0, magic.1, magic.2, magic.3, zeros.0, zeros.1, zeros.2, zeros.3) refl in
+      fixed ∙ (ap (λ i. joined i (u ∷ v ∷ []) (w ∷ x ∷ y ∷ z ∷ []) rest) (sym size) ∙ (ap (λ i. joined size_said i (w ∷ x ∷ y ∷ z ∷ []) rest) (sym count) ∙ ap (λ i. joined size_said count_said i rest) (sym budget)));
+}
+
+restated : (image : List ℕ) → 16 ≤ length image → Restated image
+restated image l =
+    let p = word image (omega (arith, l)) in
+    let lp : 16 ≤ suc (suc (suc (suc (length p.rest)))) = subst (λ i. 16 ≤ length i) p.is l in
+    let q = word p.rest (omega (arith, lp)) in
+    let lq : 12 ≤ suc (suc (suc (suc (length q.rest)))) = subst (λ i. 12 ≤ length i) q.is (omega (arith, lp)) in
+    let r = word q.rest (omega (arith, lq)) in
+    let lr : 8 ≤ suc (suc (suc (suc (length r.rest)))) = subst (λ i. 8 ≤ length i) r.is (omega (arith, lq)) in
+    let s = word r.rest (omega (arith, lr)) in
+    let is = p.is ∙ ap (λ i. p.a ∷ p.b ∷ p.c ∷ p.d ∷ i) (q.is ∙ ap (λ i. q.a ∷ q.b ∷ q.c ∷ q.d ∷ i) (r.is ∙ ap (λ i. r.a ∷ r.b ∷ r.c ∷ r.d ∷ i) s.is)) in
+    subst Restated (sym is) (words_restated p.a p.b p.c p.d q.a q.b q.c q.d r.a r.b r.c r.d s.a s.b s.c s.d s.rest)
+
+pub head_restated : (image : List ℕ) → AreBytes image → head_fault image ≡ None → image ≡ head_bytes (stated image) ++ drop 16 image
+unfolding head_breaks
+head_restated image bytes h =
+    let p = none_of_five (head_breaks image Format) (head_breaks image SlotCount) (head_breaks image VarsSize) (head_breaks image Budget) (head_breaks image Reserved) Format SlotCount VarsSize Budget Reserved h in
+    let long = size_is_long (has_magic image) (length image) (16 + 8 * (stated image).count) p.0 in
+    (restated image long.0).says bytes long.1 (word_is_zero (is_word 0 0 0 0 (drop 12 image)) p.4)
