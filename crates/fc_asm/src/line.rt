@@ -1,13 +1,13 @@
 //! From a line to the instruction that it names.
 ghost use Rattle.std.specs.Prelude.{IfOk, List, OnOk, map, ◌++◌, ◌≡◌};
-ghost use Rattle.fc_asm.specs.Operands.{map_ok};
-ghost use Rattle.fc_asm.specs.Syntax.{comma_parts, insn_from, meaning, one_of, parts_of, three_of, two_of, words_of};
+ghost use Rattle.fc_asm.specs.Operands.{if_ok, imm_of, offset_of, target_of};
+ghost use Rattle.fc_asm.specs.Syntax.{comma_parts, insn_from, meaning, one_of, parts_of, words_of};
 
 use crate::error::Mistake;
 use crate::mnemonic::Mnemonic;
 use crate::names::Names;
 use crate::operand::{both, extension, imm, offset, operand, register, target, wide};
-use fc_isa::{AluOp, Insn, Jump, LoadType, Relation, Size, Width};
+use fc_isa::{AluOp, Insn, Jump, LoadType, Relation, Size, Target, Width};
 use std::alloc::{AllocError, Global};
 
 /// The words of a line: what stands between spaces and commas, before a comment.
@@ -62,31 +62,32 @@ fn insn(mnemonic: Mnemonic, operands: &[&str]) -> Result<Insn, Mistake>
 {
     match mnemonic {
         Mnemonic::Arithmetic(op, width) => arithmetic(op, width, operands),
-        Mnemonic::Negate(width) => {
-            let dst = target(one(operands)?)?;
-            Ok(Insn::Neg { width, dst })
-        }
+        Mnemonic::Negate(width) => Ok(Insn::Neg {
+            width,
+            dst: only_target(operands)?,
+        }),
         Mnemonic::Extend(width) => extend(width, operands),
-        Mnemonic::Swap(order, width) => {
-            let dst = target(one(operands)?)?;
-            Ok(Insn::End { order, width, dst })
-        }
+        Mnemonic::Swap(order, width) => Ok(Insn::End {
+            order,
+            width,
+            dst: only_target(operands)?,
+        }),
         Mnemonic::Wide => load_wide(operands),
         Mnemonic::Read(loaded) => load(loaded, operands),
         Mnemonic::WriteImm(size) => store_imm(size, operands),
         Mnemonic::WriteReg(size) => store(size, operands),
         Mnemonic::Go => Ok(Insn::JumpAlways {
-            offset: offset(one(operands)?)?,
+            offset: only_offset(operands)?,
         }),
         Mnemonic::GoFar => Ok(Insn::JumpAlwaysLong {
-            offset: imm(one(operands)?)?,
+            offset: only_imm(operands)?,
         }),
         Mnemonic::Branch(relation, width) => jump_if(relation, width, operands),
         Mnemonic::Helper => Ok(Insn::CallHelper {
-            number: imm(one(operands)?)?,
+            number: only_imm(operands)?,
         }),
         Mnemonic::Function => Ok(Insn::CallLocal {
-            offset: imm(one(operands)?)?,
+            offset: only_imm(operands)?,
         }),
         Mnemonic::Return => match operands {
             [] => Ok(Insn::Exit),
@@ -98,7 +99,9 @@ fn insn(mnemonic: Mnemonic, operands: &[&str]) -> Result<Insn, Mistake>
 fn arithmetic(op: AluOp, width: Width, operands: &[&str]) -> Result<Insn, Mistake>
     ensures { result ≡ insn_from (Mnemonic.Arithmetic op width) (map (λ word. word.now) operands.now) }
 {
-    let (dst, source) = two(operands)?;
+    let [dst, source] = operands else {
+        return Err(Mistake::Operand);
+    };
     let (dst, operand) = both(target(dst), operand(source))?;
     Ok(Insn::Alu {
         op,
@@ -111,7 +114,9 @@ fn arithmetic(op: AluOp, width: Width, operands: &[&str]) -> Result<Insn, Mistak
 fn extend(width: Width, operands: &[&str]) -> Result<Insn, Mistake>
     ensures { result ≡ insn_from (Mnemonic.Extend width) (map (λ word. word.now) operands.now) }
 {
-    let (dst, src, bits) = three(operands)?;
+    let [dst, src, bits] = operands else {
+        return Err(Mistake::Operand);
+    };
     let ((dst, src), extension) = both(both(target(dst), register(src)), extension(width, bits))?;
     Ok(Insn::SignExtend {
         extension,
@@ -123,7 +128,9 @@ fn extend(width: Width, operands: &[&str]) -> Result<Insn, Mistake>
 fn load_wide(operands: &[&str]) -> Result<Insn, Mistake>
     ensures { result ≡ insn_from Mnemonic.Wide (map (λ word. word.now) operands.now) }
 {
-    let (dst, value) = two(operands)?;
+    let [dst, value] = operands else {
+        return Err(Mistake::Operand);
+    };
     let (dst, value) = both(target(dst), wide(value))?;
     Ok(Insn::LoadWide { dst, value })
 }
@@ -131,7 +138,9 @@ fn load_wide(operands: &[&str]) -> Result<Insn, Mistake>
 fn load(loaded: LoadType, operands: &[&str]) -> Result<Insn, Mistake>
     ensures { result ≡ insn_from (Mnemonic.Read loaded) (map (λ word. word.now) operands.now) }
 {
-    let (dst, base, place) = three(operands)?;
+    let [dst, base, place] = operands else {
+        return Err(Mistake::Operand);
+    };
     let ((dst, base), offset) = both(both(target(dst), register(base)), offset(place))?;
     Ok(Insn::Load {
         loaded,
@@ -144,7 +153,9 @@ fn load(loaded: LoadType, operands: &[&str]) -> Result<Insn, Mistake>
 fn store_imm(size: Size, operands: &[&str]) -> Result<Insn, Mistake>
     ensures { result ≡ insn_from (Mnemonic.WriteImm size) (map (λ word. word.now) operands.now) }
 {
-    let (base, place, value) = three(operands)?;
+    let [base, place, value] = operands else {
+        return Err(Mistake::Operand);
+    };
     let ((base, offset), imm) = both(both(register(base), offset(place)), imm(value))?;
     Ok(Insn::StoreImm {
         size,
@@ -157,7 +168,9 @@ fn store_imm(size: Size, operands: &[&str]) -> Result<Insn, Mistake>
 fn store(size: Size, operands: &[&str]) -> Result<Insn, Mistake>
     ensures { result ≡ insn_from (Mnemonic.WriteReg size) (map (λ word. word.now) operands.now) }
 {
-    let (base, place, src) = three(operands)?;
+    let [base, place, src] = operands else {
+        return Err(Mistake::Operand);
+    };
     let ((base, offset), src) = both(both(register(base), offset(place)), register(src))?;
     Ok(Insn::Store {
         size,
@@ -170,7 +183,9 @@ fn store(size: Size, operands: &[&str]) -> Result<Insn, Mistake>
 fn jump_if(relation: Relation, width: Width, operands: &[&str]) -> Result<Insn, Mistake>
     ensures { result ≡ insn_from (Mnemonic.Branch relation width) (map (λ word. word.now) operands.now) }
 {
-    let (left, right, place) = three(operands)?;
+    let [left, right, place] = operands else {
+        return Err(Mistake::Operand);
+    };
     let ((left, right), offset) = both(both(register(left), operand(right)), offset(place))?;
     Ok(Insn::JumpIf(Jump {
         width,
@@ -181,30 +196,32 @@ fn jump_if(relation: Relation, width: Width, operands: &[&str]) -> Result<Insn, 
     }))
 }
 
-/// The operand, if there is just one.
-fn one<'a>(operands: &[&'a str]) -> Result<&'a str, Mistake>
-    ensures { map_ok (λ a. a.now) result ≡ one_of (map (λ word. word.now) operands.now) }
+/// The only operand, as a register that a program may write.
+fn only_target(operands: &[&str]) -> Result<Target, Mistake>
+    ensures { result ≡ if_ok (one_of (map (λ word. word.now) operands.now)) target_of }
 {
     match operands {
-        [a] => Ok(*a),
+        [word] => target(word),
         _ => Err(Mistake::Operand),
     }
 }
 
-fn two<'a>(operands: &[&'a str]) -> Result<(&'a str, &'a str), Mistake>
-    ensures { map_ok (λ p. (p.0.now, p.1.now)) result ≡ two_of (map (λ word. word.now) operands.now) }
+/// The only operand, as a number of 32 bits.
+fn only_imm(operands: &[&str]) -> Result<i32, Mistake>
+    ensures { result ≡ if_ok (one_of (map (λ word. word.now) operands.now)) imm_of }
 {
     match operands {
-        [a, b] => Ok((*a, *b)),
+        [word] => imm(word),
         _ => Err(Mistake::Operand),
     }
 }
 
-fn three<'a>(operands: &[&'a str]) -> Result<(&'a str, &'a str, &'a str), Mistake>
-    ensures { map_ok (λ p. (p.0.now, p.1.now, p.2.now)) result ≡ three_of (map (λ word. word.now) operands.now) }
+/// The only operand, as a number of 16 bits.
+fn only_offset(operands: &[&str]) -> Result<i16, Mistake>
+    ensures { result ≡ if_ok (one_of (map (λ word. word.now) operands.now)) offset_of }
 {
     match operands {
-        [a, b, c] => Ok((*a, *b, *c)),
+        [word] => offset(word),
         _ => Err(Mistake::Operand),
     }
 }
