@@ -1,7 +1,7 @@
 //! From a line to the instruction that it names.
 ghost use Rattle.std.specs.Prelude.{IfOk, List, OnOk, map, ◌++◌, ◌≡◌};
-ghost use Rattle.fc_asm.specs.Operands.{if_ok, imm_of, offset_of, target_of};
-ghost use Rattle.fc_asm.specs.Syntax.{comma_parts, insn_from, meaning, one_of, parts_of, words_of};
+ghost use Rattle.fc_asm.specs.Operands.{if_ok, imm_of, map_ok, offset_of, target_of};
+ghost use Rattle.fc_asm.specs.Syntax.{comma_parts, insn_from, meaning, one_of, parts_of, three_of, two_of, words_of};
 
 use crate::error::Mistake;
 use crate::mnemonic::Mnemonic;
@@ -99,9 +99,7 @@ fn insn(mnemonic: Mnemonic, operands: &[&str]) -> Result<Insn, Mistake>
 fn arithmetic(op: AluOp, width: Width, operands: &[&str]) -> Result<Insn, Mistake>
     ensures { result ≡ insn_from (Mnemonic.Arithmetic op width) (map (λ word. word.now) operands.now) }
 {
-    let [dst, source] = operands else {
-        return Err(Mistake::Operand);
-    };
+    let (dst, source) = two(operands)?;
     let (dst, operand) = both(target(dst), operand(source))?;
     Ok(Insn::Alu {
         op,
@@ -114,9 +112,7 @@ fn arithmetic(op: AluOp, width: Width, operands: &[&str]) -> Result<Insn, Mistak
 fn extend(width: Width, operands: &[&str]) -> Result<Insn, Mistake>
     ensures { result ≡ insn_from (Mnemonic.Extend width) (map (λ word. word.now) operands.now) }
 {
-    let [dst, src, bits] = operands else {
-        return Err(Mistake::Operand);
-    };
+    let (dst, src, bits) = three(operands)?;
     let ((dst, src), extension) = both(both(target(dst), register(src)), extension(width, bits))?;
     Ok(Insn::SignExtend {
         extension,
@@ -128,9 +124,7 @@ fn extend(width: Width, operands: &[&str]) -> Result<Insn, Mistake>
 fn load_wide(operands: &[&str]) -> Result<Insn, Mistake>
     ensures { result ≡ insn_from Mnemonic.Wide (map (λ word. word.now) operands.now) }
 {
-    let [dst, value] = operands else {
-        return Err(Mistake::Operand);
-    };
+    let (dst, value) = two(operands)?;
     let (dst, value) = both(target(dst), wide(value))?;
     Ok(Insn::LoadWide { dst, value })
 }
@@ -138,9 +132,7 @@ fn load_wide(operands: &[&str]) -> Result<Insn, Mistake>
 fn load(loaded: LoadType, operands: &[&str]) -> Result<Insn, Mistake>
     ensures { result ≡ insn_from (Mnemonic.Read loaded) (map (λ word. word.now) operands.now) }
 {
-    let [dst, base, place] = operands else {
-        return Err(Mistake::Operand);
-    };
+    let (dst, base, place) = three(operands)?;
     let ((dst, base), offset) = both(both(target(dst), register(base)), offset(place))?;
     Ok(Insn::Load {
         loaded,
@@ -153,9 +145,7 @@ fn load(loaded: LoadType, operands: &[&str]) -> Result<Insn, Mistake>
 fn store_imm(size: Size, operands: &[&str]) -> Result<Insn, Mistake>
     ensures { result ≡ insn_from (Mnemonic.WriteImm size) (map (λ word. word.now) operands.now) }
 {
-    let [base, place, value] = operands else {
-        return Err(Mistake::Operand);
-    };
+    let (base, place, value) = three(operands)?;
     let ((base, offset), imm) = both(both(register(base), offset(place)), imm(value))?;
     Ok(Insn::StoreImm {
         size,
@@ -168,9 +158,7 @@ fn store_imm(size: Size, operands: &[&str]) -> Result<Insn, Mistake>
 fn store(size: Size, operands: &[&str]) -> Result<Insn, Mistake>
     ensures { result ≡ insn_from (Mnemonic.WriteReg size) (map (λ word. word.now) operands.now) }
 {
-    let [base, place, src] = operands else {
-        return Err(Mistake::Operand);
-    };
+    let (base, place, src) = three(operands)?;
     let ((base, offset), src) = both(both(register(base), offset(place)), register(src))?;
     Ok(Insn::Store {
         size,
@@ -183,9 +171,7 @@ fn store(size: Size, operands: &[&str]) -> Result<Insn, Mistake>
 fn jump_if(relation: Relation, width: Width, operands: &[&str]) -> Result<Insn, Mistake>
     ensures { result ≡ insn_from (Mnemonic.Branch relation width) (map (λ word. word.now) operands.now) }
 {
-    let [left, right, place] = operands else {
-        return Err(Mistake::Operand);
-    };
+    let (left, right, place) = three(operands)?;
     let ((left, right), offset) = both(both(register(left), operand(right)), offset(place))?;
     Ok(Insn::JumpIf(Jump {
         width,
@@ -222,6 +208,26 @@ fn only_offset(operands: &[&str]) -> Result<i16, Mistake>
 {
     match operands {
         [word] => offset(word),
+        _ => Err(Mistake::Operand),
+    }
+}
+
+/// The operands, if there are just two.
+fn two<'a>(operands: &[&'a str]) -> Result<(&'a str, &'a str), Mistake>
+    ensures { map_ok (λ p. (p.0.now, p.1.now)) result ≡ two_of (map (λ word. word.now) operands.now) }
+{
+    match operands {
+        [a, b] => Ok((*a, *b)),
+        _ => Err(Mistake::Operand),
+    }
+}
+
+/// The operands, if there are just three.
+fn three<'a>(operands: &[&'a str]) -> Result<(&'a str, &'a str, &'a str), Mistake>
+    ensures { map_ok (λ p. (p.0.now, p.1.now, p.2.now)) result ≡ three_of (map (λ word. word.now) operands.now) }
+{
+    match operands {
+        [a, b, c] => Ok((*a, *b, *c)),
         _ => Err(Mistake::Operand),
     }
 }

@@ -1,6 +1,5 @@
 //! Assembling, listing and checking images: the bodies of `fcasm`.
-ghost use Rattle.std.specs.Prelude.{IfOk, string_bytes, ◌++◌, ◌≡◌};
-ghost use Rattle.fc_image.specs.Head.{head_bytes};
+ghost use Rattle.std.specs.Prelude.{IfOk, string_bytes, ◌≡◌};
 ghost use Rattle.fc_service.specs.Tools.{IsImageOf, IsListingOf};
 
 use fc_asm::{AsmError, Mistake, assemble, disassemble};
@@ -151,25 +150,20 @@ fn write_verdict<R: Read, W: Write>(
 ) -> Result<u8, ToolError> {
     let mut image = Vec::new(alloc);
     input.read_to_end(&mut image)?;
-    let status = tell_verdict(alloc, &image, out)?;
-    out.flush()?;
-    Ok(status)
-}
-
-// Says whether an image is accepted: the status.
-fn tell_verdict<W: Write>(alloc: Global, image: &[u8], out: &mut W) -> Result<u8, ToolError> {
-    match verify(alloc, image) {
+    let status = match verify(alloc, &image) {
         Ok(program) => {
             let (cost, budget) = (program.cost(), program.budget());
             writeln!(out, "accepted cost {cost} budget {budget}")?;
-            Ok(DONE)
+            DONE
         }
         Err(Refusal::Broken(fault)) => {
             writeln!(out, "{fault}")?;
-            Ok(REFUSED)
+            REFUSED
         }
-        Err(Refusal::NoMemory) => Err(ToolError::Memory(AllocError)),
-    }
+        Err(Refusal::NoMemory) => return Err(ToolError::Memory(AllocError)),
+    };
+    out.flush()?;
+    Ok(status)
 }
 
 /// The image of a text's program. A text that isn't UTF-8 has an unknown word in its first line.
@@ -193,16 +187,9 @@ pub fn image_of(
     let program = assemble(alloc, text)?;
     let head = Head::new(vars_size, program.len(), budget)?;
     let slots = encode(alloc, &program)?;
-    Ok(joined(alloc, &head, &slots)?)
-}
-
-// An image of its header and its slots.
-fn joined(alloc: Global, head: &Head, slots: &[u8]) -> Result<Vec<u8>, AllocError>
-    ensures { IfOk result (λ v. v.items ≡ head_bytes head.now ++ slots.now) }
-{
     let mut image = Vec::with_capacity(alloc, HEADER)?;
     image.extend_from_slice(&head.bytes())?;
-    image.extend_from_slice(slots)?;
+    image.extend_from_slice(&slots)?;
     Ok(image)
 }
 

@@ -1,4 +1,4 @@
-use Rattle.std.proofs.Common.{◌≡◌, ◌+◌, None, List, length, ap, sym, subst, rules, ◌∙◌, lit<, refl, arith}
+use Rattle.std.proofs.Common.{◌≡◌, ◌+◌, None, List, length, ap, sym, subst, rules, ◌∙◌, lit<, arith}
 use Rattle.std.specs.Prelude.{All}
 use Rattle.std.specs.List.{flat_map}
 use Rattle.std.proofs.lemmas.List.{length_push, take_all}
