@@ -1,5 +1,5 @@
 -- Lines one after another: what one more line adds, and the first that has a mistake.
-use Rattle.std.proofs.Common.{◌≡◌, ℕ, suc, ◌+◌, ◌<◌, Option, Some, None, Ok, Err, List, [], ◌∷◌, ◌++◌, Bor, map, length, take, drop, get_or, sym, ap, subst, ◌∙◌, arith, append-nil}
+use Rattle.std.proofs.Common.{◌≡◌, ℕ, suc, ◌+◌, ◌<◌, Option, Some, None, Ok, Err, List, [], ◌∷◌, ◌++◌, Bor, map, length, take, drop, get_or, refl, sym, ap, subst, ◌∙◌, arith, append-nil}
 use Rattle.std.specs.Prelude.{All}
 use Rattle.std.specs.List.{flat_map}
 use Rattle.std.specs.Option.{option_to_list}
@@ -8,10 +8,12 @@ use Rattle.std.proofs.lemmas.List.Elements.{All-push}
 use Rattle.std.proofs.Math.Seq.{drop-cons}
 use Rattle.fc_isa.specs.declared.insn.Insn.{Insn}
 use Rattle.fc_asm.specs.declared.error.Mistake.{Mistake}
+use Rattle.fc_asm.specs.declared.error.AsmError.{AsmError}
+use Rattle.fc_asm.specs.declared.error.AsmError.TheVariants.{Faulty, NoMemory}
 use Rattle.fc_asm.specs.Names.{Text}
 use Rattle.fc_asm.specs.Operands.{Reading}
 use Rattle.fc_asm.specs.Syntax.{words_of, meaning, meaning_of}
-use Rattle.fc_asm.specs.Assembled.{second_slot, slots_in, line_slots, mistake_in, IsFirstMistake}
+use Rattle.fc_asm.specs.Assembled.{second_slot, slots_in, line_slots, mistake_in, IsFirstMistake, IsAsmError, IsLineError}
 
 -- what a line means is what is read of its words
 pub line_means : (line : Text) (ws vs : List (Bor (List ℕ))) (r : Reading (Option Insn)) → map (λ w. w.now) ws ≡ words_of line → vs ≡ ws → r ≡ meaning (map (λ w. w.now) vs) → meaning_of line ≡ r
@@ -30,7 +32,7 @@ module _ (lines : List Text) (n m : ℕ) (line : Text) (turn : (n < length lines
   pub more_slots : (q q' : List Insn) → q ≡ flat_map line_slots (take n lines) → q' ≡ q ++ line_slots line → q' ≡ flat_map line_slots (take m lines)
   more_slots q q' so_far push = push ∙ ap (λ t. t ++ line_slots line) so_far ∙ flat_map_more line_slots [] (take n lines) line ∙ ap (flat_map line_slots) (sym take_turn)
 
-  pub first_mistake : (mistake : Mistake) → meaning_of line ≡ Err mistake → All (λ l. mistake_in (meaning_of l) ≡ None) (take n lines) → IsFirstMistake lines mistake m
+  first_mistake : (mistake : Mistake) → meaning_of line ≡ Err mistake → All (λ l. mistake_in (meaning_of l) ≡ None) (take n lines) → IsFirstMistake lines mistake m
   first_mistake mistake h faultless = record {
     before = take n lines;
     faulty = line;
@@ -41,11 +43,22 @@ module _ (lines : List Text) (n m : ℕ) (line : Text) (turn : (n < length lines
     here = ap mistake_in h;
   }
 
-pub no_mistake : (lines : List Text) (n : ℕ) (line : Text) (mistake : Mistake) → (n < length lines) × (line ≡ get_or lines n line) → meaning_of line ≡ Err mistake → All (λ l. mistake_in (meaning_of l) ≡ None) lines → ⊥
+no_mistake : (lines : List Text) (n : ℕ) (line : Text) (mistake : Mistake) → (n < length lines) × (line ≡ get_or lines n line) → meaning_of line ≡ Err mistake → All (λ l. mistake_in (meaning_of l) ≡ None) lines → ⊥
 no_mistake lines n line mistake turn h all =
     let none : mistake_in (meaning_of line) ≡ None = ap (λ l. mistake_in (meaning_of l)) turn.1 ∙ all n line turn.0 in
     let some : mistake_in (meaning_of line) ≡ Some mistake = ap mistake_in h in
     cc
+
+module _ (lines : List Text) (n m : ℕ) (line : Text) (turn : (n < length lines) × (line ≡ get_or lines n line)) where
+  -- the error of a line, where none before it has a mistake
+  pub first_error : (error : AsmError) → m ≡ n + 1 → IsLineError line m error → All (λ l. mistake_in (meaning_of l) ≡ None) (take n lines) → IsAsmError lines error
+  first_error (Faulty mistake number) e h faultless = first_mistake lines n number line turn (h.1 ∙ e) mistake h.0 faultless
+  first_error NoMemory e h faultless = tt
+
+  -- and where no line has one
+  pub no_error : (error : AsmError) → IsLineError line m error → All (λ l. mistake_in (meaning_of l) ≡ None) lines → error ≡ NoMemory
+  no_error (Faulty mistake number) h all = absurd (no_mistake lines n line mistake turn h.0 all)
+  no_error NoMemory h all = refl
 
 -- the slots of a line: none, one or two
 pub no_slots : (line : Text) (q q' : List Insn) → meaning_of line ≡ Ok None → q' ≡ q → q' ≡ q ++ line_slots line

@@ -49,3 +49,8 @@ pub record IsFirstMistake (lines : List Text) (mistake : Mistake) (number : ℕ)
 abbrev pub IsAsmError : List Text → AsmError → Type 0
 IsAsmError lines (Faulty mistake line) = IsFirstMistake lines mistake line
 IsAsmError lines NoMemory = Unit {0}
+
+-- what is wrong with the line of this number
+abbrev pub IsLineError : Text → ℕ → AsmError → Type 0
+IsLineError line number (Faulty mistake at) = (meaning_of line ≡ Err mistake) × (at ≡ number)
+IsLineError line number NoMemory = Unit {0}

@@ -1,16 +1,16 @@
 //! From text to instructions.
-ghost use Rattle.std.specs.Prelude.{All, IfErr, IfOk, IsTrue, List, MatchResult, ◌≡◌};
+ghost use Rattle.std.specs.Prelude.{All, IfErr, IfOk, IsTrue, List, MatchResult, None, OnOk, ◌++◌, ◌≡◌};
 ghost use Rattle.fc_isa.specs.Program.{IsInsn, is_program};
 ghost use Rattle.fc_isa.specs.declared.insn.Insn.{Insn};
 ghost use Rattle.fc_asm.specs.Listing.{listing};
-ghost use Rattle.fc_asm.specs.Assembled.{IsAsmError, IsAssembled, second_slot};
-ghost use Rattle.fc_asm.specs.Syntax.{lines_of};
+ghost use Rattle.fc_asm.specs.Assembled.{IsAsmError, IsAssembled, IsLineError, line_slots, mistake_in, second_slot};
+ghost use Rattle.fc_asm.specs.Syntax.{lines_of, meaning_of};
 
 use crate::error::AsmError;
 use crate::line::{read, words};
 use crate::names::Names;
 use fc_isa::Insn;
-use std::alloc::Global;
+use std::alloc::{AllocError, Global};
 
 /// Assembles a text of one instruction a line: what it means, line by line.
 ///
@@ -23,24 +23,50 @@ pub fn assemble(alloc: Global, text: &str) -> Result<Vec<Insn>, AsmError>
     ensures listed { (p : List Insn) → IsTrue (is_program p) → All IsInsn p → text.now ≡ listing p → MatchResult result (λ v. v.items ≡ p) (λ e. e ≡ AsmError.NoMemory) }
 {
     let names = Names::new(alloc)?;
+    assemble_lines(alloc, &names, text)
+}
+
+/// Assembles the lines of a text, one after another.
+fn assemble_lines(alloc: Global, names: &Names, text: &str) -> Result<Vec<Insn>, AsmError>
+    ensures program { IfOk result (λ v. IsAssembled (lines_of text.now) v.items) }
+    ensures slots { IfOk result (λ v. IsTrue (is_program v.items)) }
+    ensures fault { IfErr result (IsAsmError (lines_of text.now)) }
+    ensures listed { (p : List Insn) → IsTrue (is_program p) → All IsInsn p → text.now ≡ listing p → MatchResult result (λ v. v.items ≡ p) (λ e. e ≡ AsmError.NoMemory) }
+{
     let mut program = Vec::new(alloc);
     let mut line = 0;
     for code in text.split('\n') {
         line += 1;
-        let words = words(alloc, code)?;
-        match read(&names, &words) {
-            Ok(None) => {}
-            Ok(Some(insn)) => {
-                let (first, second) = slots(insn);
-                program.push(first)?;
-                if let Some(second) = second {
-                    program.push(second)?;
-                }
-            }
-            Err(mistake) => return Err(AsmError::Faulty { mistake, line }),
-        }
+        assemble_line(alloc, names, code, line, &mut program)?;
     }
     Ok(program)
+}
+
+/// Adds the slots of what the line of this number means.
+fn assemble_line(
+    alloc: Global,
+    names: &Names,
+    code: &str,
+    line: usize,
+    program: &mut Vec<Insn>,
+) -> Result<(), AsmError>
+    ensures slots { OnOk result (program.new.items ≡ program.old.items ++ line_slots code.now) }
+    ensures faultless { OnOk result (mistake_in (meaning_of code.now) ≡ None) }
+    ensures fault { IfErr result (IsLineError code.now line) }
+{
+    let words = words(alloc, code)?;
+    match read(names, &words) {
+        Ok(None) => Ok(()),
+        Ok(Some(insn)) => {
+            let (first, second) = slots(insn);
+            program.push(first)?;
+            if let Some(second) = second {
+                program.push(second)?;
+            }
+            Ok(())
+        }
+        Err(mistake) => Err(AsmError::Faulty { mistake, line }),
+    }
 }
 
 /// An instruction's slots: a wide load has two.

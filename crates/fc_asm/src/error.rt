@@ -1,4 +1,7 @@
 //! What is wrong with a text, and where.
+ghost use Rattle.std.specs.Prelude.{◌≡◌};
+ghost use Rattle.fc_asm.specs.Mistakes.{mistake_text};
+
 use std::alloc::{AllocError, AllocFailed};
 use std::error::Error;
 use std::fmt;
@@ -31,20 +34,20 @@ impl fmt::Display for AsmError {
 
     fn fmt<W: fmt::Write>(&self, f: &mut fmt::Formatter<W>) -> fmt::Result {
         match *self {
-            AsmError::Faulty {
-                mistake: Mistake::UnknownWord,
-                line,
-            } => write!(f, "A1 line {line}"),
-            AsmError::Faulty {
-                mistake: Mistake::Operand,
-                line,
-            } => write!(f, "A2 line {line}"),
-            AsmError::Faulty {
-                mistake: Mistake::OutOfRange,
-                line,
-            } => write!(f, "A3 line {line}"),
+            AsmError::Faulty { mistake, line } => write!(f, "{} line {line}", code(mistake)),
             AsmError::NoMemory => write!(f, "out of memory"),
         }
+    }
+}
+
+/// What a mistake prints.
+fn code(mistake: Mistake) -> &'static str
+    ensures { result.now ≡ mistake_text mistake }
+{
+    match mistake {
+        Mistake::UnknownWord => "A1",
+        Mistake::Operand => "A2",
+        Mistake::OutOfRange => "A3",
     }
 }
 

@@ -1,13 +1,13 @@
 //! From a line to the instruction that it names.
 ghost use Rattle.std.specs.Prelude.{IfOk, List, OnOk, map, ◌++◌, ◌≡◌};
-ghost use Rattle.fc_asm.specs.Operands.{map_ok};
+ghost use Rattle.fc_asm.specs.Operands.{if_ok, imm_of, map_ok, offset_of, target_of};
 ghost use Rattle.fc_asm.specs.Syntax.{comma_parts, insn_from, meaning, one_of, parts_of, three_of, two_of, words_of};
 
 use crate::error::Mistake;
 use crate::mnemonic::Mnemonic;
 use crate::names::Names;
 use crate::operand::{both, extension, imm, offset, operand, register, target, wide};
-use fc_isa::{AluOp, Insn, Jump, LoadType, Relation, Size, Width};
+use fc_isa::{AluOp, Insn, Jump, LoadType, Relation, Size, Target, Width};
 use std::alloc::{AllocError, Global};
 
 /// The words of a line: what stands between spaces and commas, before a comment.
@@ -62,31 +62,32 @@ fn insn(mnemonic: Mnemonic, operands: &[&str]) -> Result<Insn, Mistake>
 {
     match mnemonic {
         Mnemonic::Arithmetic(op, width) => arithmetic(op, width, operands),
-        Mnemonic::Negate(width) => {
-            let dst = target(one(operands)?)?;
-            Ok(Insn::Neg { width, dst })
-        }
+        Mnemonic::Negate(width) => Ok(Insn::Neg {
+            width,
+            dst: only_target(operands)?,
+        }),
         Mnemonic::Extend(width) => extend(width, operands),
-        Mnemonic::Swap(order, width) => {
-            let dst = target(one(operands)?)?;
-            Ok(Insn::End { order, width, dst })
-        }
+        Mnemonic::Swap(order, width) => Ok(Insn::End {
+            order,
+            width,
+            dst: only_target(operands)?,
+        }),
         Mnemonic::Wide => load_wide(operands),
         Mnemonic::Read(loaded) => load(loaded, operands),
         Mnemonic::WriteImm(size) => store_imm(size, operands),
         Mnemonic::WriteReg(size) => store(size, operands),
         Mnemonic::Go => Ok(Insn::JumpAlways {
-            offset: offset(one(operands)?)?,
+            offset: only_offset(operands)?,
         }),
         Mnemonic::GoFar => Ok(Insn::JumpAlwaysLong {
-            offset: imm(one(operands)?)?,
+            offset: only_imm(operands)?,
         }),
         Mnemonic::Branch(relation, width) => jump_if(relation, width, operands),
         Mnemonic::Helper => Ok(Insn::CallHelper {
-            number: imm(one(operands)?)?,
+            number: only_imm(operands)?,
         }),
         Mnemonic::Function => Ok(Insn::CallLocal {
-            offset: imm(one(operands)?)?,
+            offset: only_imm(operands)?,
         }),
         Mnemonic::Return => match operands {
             [] => Ok(Insn::Exit),
@@ -181,16 +182,37 @@ fn jump_if(relation: Relation, width: Width, operands: &[&str]) -> Result<Insn, 
     }))
 }
 
-/// The operand, if there is just one.
-fn one<'a>(operands: &[&'a str]) -> Result<&'a str, Mistake>
-    ensures { map_ok (λ a. a.now) result ≡ one_of (map (λ word. word.now) operands.now) }
+/// The only operand, as a register that a program may write.
+fn only_target(operands: &[&str]) -> Result<Target, Mistake>
+    ensures { result ≡ if_ok (one_of (map (λ word. word.now) operands.now)) target_of }
 {
     match operands {
-        [a] => Ok(*a),
+        [word] => target(word),
         _ => Err(Mistake::Operand),
     }
 }
 
+/// The only operand, as a number of 32 bits.
+fn only_imm(operands: &[&str]) -> Result<i32, Mistake>
+    ensures { result ≡ if_ok (one_of (map (λ word. word.now) operands.now)) imm_of }
+{
+    match operands {
+        [word] => imm(word),
+        _ => Err(Mistake::Operand),
+    }
+}
+
+/// The only operand, as a number of 16 bits.
+fn only_offset(operands: &[&str]) -> Result<i16, Mistake>
+    ensures { result ≡ if_ok (one_of (map (λ word. word.now) operands.now)) offset_of }
+{
+    match operands {
+        [word] => offset(word),
+        _ => Err(Mistake::Operand),
+    }
+}
+
+/// The operands, if there are just two.
 fn two<'a>(operands: &[&'a str]) -> Result<(&'a str, &'a str), Mistake>
     ensures { map_ok (λ p. (p.0.now, p.1.now)) result ≡ two_of (map (λ word. word.now) operands.now) }
 {
@@ -200,6 +222,7 @@ fn two<'a>(operands: &[&'a str]) -> Result<(&'a str, &'a str), Mistake>
     }
 }
 
+/// The operands, if there are just three.
 fn three<'a>(operands: &[&'a str]) -> Result<(&'a str, &'a str, &'a str), Mistake>
     ensures { map_ok (λ p. (p.0.now, p.1.now, p.2.now)) result ≡ three_of (map (λ word. word.now) operands.now) }
 {

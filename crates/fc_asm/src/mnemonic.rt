@@ -1,12 +1,12 @@
 //! The names of instructions.
-ghost use Rattle.std.specs.Prelude.{◌≡◌};
-ghost use Rattle.fc_asm.specs.Names.{alu_name, load_name, order_name, relation_name, size_name, swap_bits, width_bits};
+ghost use Rattle.std.specs.Prelude.{◌++◌, ◌≡◌};
+ghost use Rattle.fc_asm.specs.Names.{alu_name, load_name, name_of, order_name, relation_name, size_name, swap_bits, width_bits};
 
 use fc_isa::{AluOp, ByteOrder, LoadType, Relation, Size, SwapWidth, Width};
 use std::fmt;
 
 /// What the first word of a line stands for: an instruction without its operands. It prints as that word.
-#[derive(Clone, Copy, Debug, PartialEq, Eq)]
+#[derive(Clone, Copy)]
 pub enum Mnemonic {
     /// `add64` and its like.
     Arithmetic(AluOp, Width),
@@ -45,23 +45,31 @@ impl fmt::Display for Mnemonic {
     ghost output = { λ m. Some (name_of m) };
 
     fn fmt<W: fmt::Write>(&self, f: &mut fmt::Formatter<W>) -> fmt::Result {
-        match *self {
-            Mnemonic::Arithmetic(op, width) => write!(f, "{}{}", alu_name(op), width_bits(width)),
-            Mnemonic::Negate(width) => write!(f, "neg{}", width_bits(width)),
-            Mnemonic::Extend(width) => write!(f, "movsx{}", width_bits(width)),
-            Mnemonic::Swap(order, width) => write!(f, "{}{}", order_name(order), swap_bits(width)),
-            Mnemonic::Wide => write!(f, "lddw"),
-            Mnemonic::Read(loaded) => write!(f, "{}", load_name(loaded)),
-            Mnemonic::WriteImm(size) => write!(f, "st{}", size_name(size)),
-            Mnemonic::WriteReg(size) => write!(f, "stx{}", size_name(size)),
-            Mnemonic::Go => write!(f, "ja"),
-            Mnemonic::GoFar => write!(f, "ja32"),
-            Mnemonic::Branch(relation, Width::W64) => write!(f, "{}", relation_name(relation)),
-            Mnemonic::Branch(relation, Width::W32) => write!(f, "{}32", relation_name(relation)),
-            Mnemonic::Helper => write!(f, "call"),
-            Mnemonic::Function => write!(f, "callf"),
-            Mnemonic::Return => write!(f, "exit"),
-        }
+        let (stem, suffix) = parts(*self);
+        write!(f, "{stem}{suffix}")
+    }
+}
+
+/// The word of a mnemonic, in two parts.
+fn parts(mnemonic: Mnemonic) -> (&'static str, &'static str)
+    ensures { result.0.now ++ result.1.now ≡ name_of mnemonic }
+{
+    match mnemonic {
+        Mnemonic::Arithmetic(op, width) => (alu_name(op), width_bits(width)),
+        Mnemonic::Negate(width) => ("neg", width_bits(width)),
+        Mnemonic::Extend(width) => ("movsx", width_bits(width)),
+        Mnemonic::Swap(order, width) => (order_name(order), swap_bits(width)),
+        Mnemonic::Wide => ("lddw", ""),
+        Mnemonic::Read(loaded) => (load_name(loaded), ""),
+        Mnemonic::WriteImm(size) => ("st", size_name(size)),
+        Mnemonic::WriteReg(size) => ("stx", size_name(size)),
+        Mnemonic::Go => ("ja", ""),
+        Mnemonic::GoFar => ("ja32", ""),
+        Mnemonic::Branch(relation, Width::W64) => (relation_name(relation), ""),
+        Mnemonic::Branch(relation, Width::W32) => (relation_name(relation), "32"),
+        Mnemonic::Helper => ("call", ""),
+        Mnemonic::Function => ("callf", ""),
+        Mnemonic::Return => ("exit", ""),
     }
 }
 

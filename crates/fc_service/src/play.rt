@@ -12,7 +12,6 @@ use coap_msg::{Emission, Endpoint};
 use std::alloc::{AllocError, Global};
 use std::io;
 use std::io::{BufRead, Write};
-use thiserror::Error;
 
 /// The port of CoAP (RFC 7252, 6.1).
 const PORT: u16 = 5683;
@@ -27,14 +26,24 @@ const BAD_LINE: u8 = 2;
 const FAILED: u8 = 3;
 
 // Why a play stops before the end of its input.
-#[derive(Debug, Drop, Error)]
+#[derive(Clone, Copy)]
 enum Stop {
-    #[error("line {0}: bad")]
+    // The line of this number is bad.
     BadLine(u64),
-    #[error("{0}")]
-    Io(#[from] io::Error),
-    #[error("{0}")]
-    Memory(#[from] AllocError),
+    // Reading or writing failed, or memory was refused.
+    Failed,
+}
+
+impl From<io::Error> for Stop {
+    fn from(_error: io::Error) -> Self {
+        Stop::Failed
+    }
+}
+
+impl From<AllocError> for Stop {
+    fn from(_error: AllocError) -> Self {
+        Stop::Failed
+    }
 }
 
 /// Reads lines, carries out each in turn on an engine of its own, and prints what each sends before it reads the next.
@@ -52,18 +61,18 @@ pub fn play<R: BufRead + Drop, W: Write, E: Write>(
 {
     match play_lines(alloc, input, out, first_serial, first_id) {
         Ok(()) => DONE,
-        Err(stop) => tell(err, &stop),
+        Err(stop) => tell(err, stop),
     }
 }
 
 // Tells why a play stopped, where a line was bad: the status.
-fn tell<E: Write>(err: &mut E, stop: &Stop) -> u8 {
+fn tell<E: Write>(err: &mut E, stop: Stop) -> u8 {
     match stop {
-        Stop::BadLine(_) => match writeln!(err, "{stop}") {
+        Stop::BadLine(number) => match writeln!(err, "line {number}: bad") {
             Ok(()) => BAD_LINE,
             Err(_) => FAILED,
         },
-        Stop::Io(_) | Stop::Memory(_) => FAILED,
+        Stop::Failed => FAILED,
     }
 }
 
@@ -80,13 +89,24 @@ fn play_lines<R: BufRead + Drop, W: Write>(
     let mut number = 0u64;
     for text in input.split(alloc, b'\n') {
         number = number.saturating_add(1);
-        match parse(alloc, &text?) {
-            Ok(line) => carry_out(alloc, &mut engine, &line, out)?,
-            Err(LineError::Bad) => return Err(Stop::BadLine(number)),
-            Err(LineError::NoMemory) => return Err(Stop::Memory(AllocError)),
-        }
+        play_line(alloc, &mut engine, &text?, number, out)?;
     }
     Ok(())
+}
+
+// Reads the line of this number, and carries it out.
+fn play_line<W: Write>(
+    alloc: Global,
+    engine: &mut Engine,
+    text: &[u8],
+    number: u64,
+    out: &mut W,
+) -> Result<(), Stop> {
+    match parse(alloc, text) {
+        Ok(line) => Ok(carry_out(alloc, engine, &line, out)?),
+        Err(LineError::Bad) => Err(Stop::BadLine(number)),
+        Err(LineError::NoMemory) => Err(Stop::Failed),
+    }
 }
 
 // Carries out a line, and prints what it sends.

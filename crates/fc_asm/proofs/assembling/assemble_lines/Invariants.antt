@@ -3,7 +3,7 @@ use Rattle.std.specs.Prelude.{All}
 use Rattle.std.specs.List.{flat_map}
 use Rattle.fc_asm.specs.Assembled.{line_slots, mistake_in}
 use Rattle.fc_asm.specs.Syntax.{lines_of, meaning_of}
-use Rattle.fc_asm.proofs.assembling.assemble.Given as goal
+use Rattle.fc_asm.proofs.assembling.assemble_lines.Given as goal
 
 -- the lines so far have no mistake, and the program has their slots
 abbrev pub invariant-loop-code : goal.invariant-loop-code
