@@ -56,13 +56,8 @@ fn sends(alloc: Global, events: &[Event<'static>], wanted: &[&[u8]]) -> Result<b
 
 // Whether just these datagrams are sent, in order.
 fn are_sent(emissions: &[Option<Emission>], wanted: &[&[u8]]) -> bool {
-    let mut left = wanted.iter();
-    for emission in emissions.iter().flatten() {
-        if left.next() != Some(&emission.bytes.as_slice()) {
-            return false;
-        }
-    }
-    left.next().is_none()
+    let sent = emissions.iter().flatten().map(|it| it.bytes.as_slice());
+    sent.eq(wanted.iter().copied())
 }
 
 fn check_sends<R: Abort + AllocGlobal>(

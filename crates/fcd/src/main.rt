@@ -42,9 +42,16 @@ fn command<'a>(alloc: Global) -> Result<Command<'a>, Error> {
 }
 
 fn run<R: Runtime + AllocGlobal, E: Write>(rt: &R, err: &mut E) -> anyhow::Result<u8> {
-    let alloc = rt.alloc();
-    let words: Vec<String> = std::env::args(rt)?.collect(alloc)?;
-    match command(alloc)?.try_get_matches_from(words.as_slice()) {
+    let words: Vec<String> = std::env::args(rt)?.collect(rt.alloc())?;
+    obey(rt, words.as_slice(), err)
+}
+
+fn obey<R: Runtime + AllocGlobal, E: Write>(
+    rt: &R,
+    words: &[String],
+    err: &mut E,
+) -> anyhow::Result<u8> {
+    match command(rt.alloc())?.try_get_matches_from(words) {
         Ok(matches) => carry_out(rt, &matches, err),
         Err(error) => tell(rt, &error),
     }

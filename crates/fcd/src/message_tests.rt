@@ -11,9 +11,13 @@ fn refusal(bytes: &[u8]) -> Option<Bad> {
     }
 }
 
+fn check_refusal(rt: &impl Abort, bytes: &[u8], wanted: Option<Bad>) {
+    assert!(rt; refusal(bytes) == wanted, "{bytes:?}");
+}
+
 fn check_refusals(rt: &impl Abort, cases: &[(&[u8], Option<Bad>)]) {
-    for (bytes, wanted) in cases.iter().copied() {
-        assert!(rt; refusal(bytes) == wanted, "{bytes:?}");
+    for (bytes, wanted) in cases {
+        check_refusal(rt, bytes, *wanted);
     }
 }
 
@@ -67,7 +71,8 @@ fn a_long_datagram(rt: HostRuntime) {
     bytes[0] = 0x40;
     bytes[1] = 0x01;
     bytes[4] = 0xff;
-    check_refusals(&rt, &[(&bytes[..1280], None), (&bytes, Some(Bad::Ignore))]);
+    check_refusal(&rt, &bytes[..1280], None);
+    check_refusal(&rt, &bytes, Some(Bad::Ignore));
 }
 
 // A message that has each part.
@@ -76,9 +81,7 @@ const WHOLE: &[u8] =
 
 #[test]
 fn parts(rt: HostRuntime) {
-    let Ok(message) = read(WHOLE) else {
-        panic!(&rt; "a message");
-    };
+    let message = read(WHOLE).ok().expect(&rt, "a message");
     let head = (message.kind(), message.code(), message.id());
     assert!(rt; head == (MessageType::NonConfirmable, Code::GET, 0x1234));
     let lent = (message.token(), message.payload());
@@ -90,13 +93,10 @@ fn parts(rt: HostRuntime) {
 static NUMBERS: [(u16, usize); 4] = [(11, 1), (11, 1), (29, 1), (554, 0)];
 
 fn has_options(message: &Message<'_>) -> bool {
-    let mut wanted = NUMBERS.iter().copied();
-    for (number, value) in message.options() {
-        if wanted.next() != Some((number, value.len())) {
-            return false;
-        }
-    }
-    wanted.next().is_none()
+    let found = message
+        .options()
+        .map(|(number, value)| (number, value.len()));
+    found.eq(NUMBERS.iter().copied())
 }
 
 #[test]

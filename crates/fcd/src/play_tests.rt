@@ -1,23 +1,17 @@
 // Lines that are played, and what is printed: the expected bytes are those of the protocol, worked out by hand.
 use fc_service::play::play;
-use std::alloc::Global;
+use std::alloc::{AllocError, Global};
 use std::io;
 use std::io::{BufRead, ErrorKind, Read, Write};
 use std::process::Abort;
-use std::test::Fail;
 
 // The greatest serial.
 const LAST_SERIAL: u64 = 9_223_372_036_854_775_807;
 
-// A program that answers 2.05 in two steps, with a budget of two and of one.
-const IMAGE: &str = "46434231000002000200000000000000b7000000450000009500000000000000";
-
-const IMAGE_BELOW_COST: &str = "46434231000002000100000000000000b7000000450000009500000000000000";
-
 // Whether a play ends in this status, and writes just this to its output and to where faults are told.
-fn plays(
+fn plays<R: BufRead + Drop>(
     alloc: Global,
-    input: &[u8],
+    input: R,
     first_serial: u64,
     status: u8,
     printed: &str,
@@ -41,84 +35,73 @@ fn check_printed<R: Abort + AllocGlobal>(rt: &R, input: &str, want: &str) {
     );
 }
 
-// The one line that is printed for a line of a fresh server, without its line feed.
-fn check_answer<R: Abort + AllocGlobal>(rt: &R, line: &str, want: &str) -> Result<(), Fail> {
-    let printed = format!(in rt.alloc(); "{want}\n")?;
-    check_printed(rt, line, printed.as_str());
-    Ok(())
-}
-
+// The program of each install answers 2.05 in two steps, with a budget of two; the second install's budget is one.
 #[test]
-fn install_is_run_and_kept(rt: HostRuntime) -> Result<(), Fail> {
-    let input = format!(in rt.alloc();
-        "0 1 4103123370b1700130ff{IMAGE}\n1 1 4101123471b1720130\n2 1 4103123570b1700130ff{IMAGE_BELOW_COST}\n3 1 4101123671b1720130\n"
-    )?;
+fn install_is_run_and_kept(rt: HostRuntime) {
     check_printed(
         &rt,
-        input.as_str(),
+        "0 1 4103123370b1700130ff46434231000002000200000000000000b7000000450000009500000000000000\n\
+         1 1 4101123471b1720130\n\
+         2 1 4103123570b1700130ff46434231000002000100000000000000b7000000450000009500000000000000\n\
+         3 1 4101123671b1720130\n",
         "1 6141123370ff76657273696f6e3d3120636f73743d32206275646765743d3220766172733d30\n\
          1 6145123471480000000000000001\n\
          1 6180123570ff56313620736c6f742030\n\
          1 6145123671480000000000000001\n",
     );
-    Ok(())
-}
-
-// Images, and the text that refuses each.
-static REFUSED: [(&str, &str); 4] = [
-    // fifteen bytes: V01 slot 0
-    ("464342310000000001000000000000", "56303120736c6f742030"),
-    // no slot: V02 slot 0
-    ("46434231000000000100000000000000", "56303220736c6f742030"),
-    // an exit with R0 unset: V25 slot 0
-    (
-        "464342310000010001000000000000009500000000000000",
-        "56323520736c6f742030",
-    ),
-    // no exit: V13 slot 0
-    (
-        "46434231000001000100000000000000b700000000000000",
-        "56313320736c6f742030",
-    ),
-];
-
-#[test]
-fn refused_image_is_told_its_rule(rt: HostRuntime) -> Result<(), Fail> {
-    for (image, text) in REFUSED.iter().copied() {
-        let line = format!(in rt.alloc(); "0 1 4103123370b1700130ff{image}")?;
-        let want = format!(in rt.alloc(); "1 6180123370ff{text}\n")?;
-        check_printed(&rt, line.as_str(), want.as_str());
-    }
-    Ok(())
 }
 
 #[test]
-fn empty_slot_is_not_found(rt: HostRuntime) -> Result<(), Fail> {
-    check_answer(&rt, "0 7 4101123471b1720130", "7 6184123471")
-}
-
-#[test]
-fn second_install_is_a_change(rt: HostRuntime) -> Result<(), Fail> {
-    let input = format!(in rt.alloc();
-        "0 1 4103123370b1700130ff{IMAGE}\n0 1 4103123370b1700130ff{IMAGE}"
-    )?;
+fn refused_image_is_told_its_rule(rt: HostRuntime) {
+    // Fifteen bytes: V01 slot 0.
     check_printed(
         &rt,
-        input.as_str(),
+        "0 1 4103123370b1700130ff464342310000000001000000000000",
+        "1 6180123370ff56303120736c6f742030\n",
+    );
+    // No slot: V02 slot 0.
+    check_printed(
+        &rt,
+        "0 1 4103123370b1700130ff46434231000000000100000000000000",
+        "1 6180123370ff56303220736c6f742030\n",
+    );
+    // An exit with R0 unset: V25 slot 0.
+    check_printed(
+        &rt,
+        "0 1 4103123370b1700130ff464342310000010001000000000000009500000000000000",
+        "1 6180123370ff56323520736c6f742030\n",
+    );
+    // No exit: V13 slot 0.
+    check_printed(
+        &rt,
+        "0 1 4103123370b1700130ff46434231000001000100000000000000b700000000000000",
+        "1 6180123370ff56313320736c6f742030\n",
+    );
+}
+
+#[test]
+fn empty_slot_is_not_found(rt: HostRuntime) {
+    check_printed(&rt, "0 7 4101123471b1720130", "7 6184123471\n");
+}
+
+#[test]
+fn second_install_is_a_change(rt: HostRuntime) {
+    check_printed(
+        &rt,
+        "0 1 4103123370b1700130ff46434231000002000200000000000000b7000000450000009500000000000000\n\
+         0 1 4103123370b1700130ff46434231000002000200000000000000b7000000450000009500000000000000",
         "1 6141123370ff76657273696f6e3d3120636f73743d32206275646765743d3220766172733d30\n\
          1 6144123370ff76657273696f6e3d3220636f73743d32206275646765743d3220766172733d30\n",
     );
-    Ok(())
 }
 
 #[test]
-fn last_serial_is_not_passed(rt: HostRuntime) -> Result<(), Fail> {
-    let input = format!(in rt.alloc();
-        "0 1 4103123370b1700130ff{IMAGE}\n1 1 4101123471b1720130\n"
-    )?;
-    let wanted = "1 61a3123370\n1 6184123471\n";
-    assert!(rt; plays(rt.alloc(), input.as_bytes(), LAST_SERIAL, 0, wanted, ""));
-    Ok(())
+fn last_serial_is_not_passed(rt: HostRuntime) {
+    let input =
+        "0 1 4103123370b1700130ff46434231000002000200000000000000b7000000450000009500000000000000\n\
+                 1 1 4101123471b1720130\n";
+    let want = "1 61a3123370\n1 6184123471\n";
+    assert!(rt; plays(rt.alloc(), input.as_bytes(), LAST_SERIAL, 0, want, ""));
 }
 
 // Slots 0, 7, 8 and 63, of four shards: programs that answer 2.05, 4.00, 4.03 and 4.04 are installed and asked.
@@ -148,44 +131,37 @@ fn slots_are_told_apart(rt: HostRuntime) {
     check_printed(&rt, FOUR_SLOTS, FOUR_ANSWERS);
 }
 
-static IGNORED: [&str; 7] = [
-    // GET /r/64
-    "0 1 4101123471b172023634",
-    // PUT /p/00
-    "0 1 4103123370b170023030ff46434231000002000200000000000000b7000000450000009500000000000000",
-    // an empty confirmable message
-    "0 1 40001234",
-    // a GET that isn't confirmable
-    "0 1 5101123471b1720130",
-    // a token length of nine
-    "0 1 49011234717171717171717171b1720130",
-    // an empty datagram
-    "0 1 ",
-    // time passes, to the greatest moment
-    "18446744073709551615 - -",
-];
-
 #[test]
 fn what_is_not_served_is_ignored(rt: HostRuntime) {
-    for line in IGNORED.iter().copied() {
-        check_printed(&rt, line, "");
-    }
+    // `GET /r/64`, and a `GET /r/0` that isn't confirmable.
+    check_printed(&rt, "0 1 4101123471b172023634", "");
+    check_printed(&rt, "0 1 5101123471b1720130", "");
+    // `PUT /p/00`.
+    check_printed(
+        &rt,
+        "0 1 4103123370b170023030ff46434231000002000200000000000000b7000000450000009500000000000000",
+        "",
+    );
+    // An empty confirmable message, a token length of nine, and an empty datagram.
+    check_printed(&rt, "0 1 40001234", "");
+    check_printed(&rt, "0 1 49011234717171717171717171b1720130", "");
+    check_printed(&rt, "0 1 ", "");
+    // Time passes, to the greatest moment.
+    check_printed(&rt, "18446744073709551615 - -", "");
 }
 
 #[test]
-fn a_datagram_of_1281_bytes_is_ignored(rt: HostRuntime) -> Result<(), Fail> {
-    let mut long = String::from_str(rt.alloc(), "0 1 ")?;
-    for _ in 0..1281 {
-        long.push_str("00")?;
-    }
-    check_printed(&rt, long.as_str(), "");
+fn a_datagram_of_1281_bytes_is_ignored(rt: HostRuntime) -> Result<(), AllocError> {
+    // They are 2,562 digits.
+    let line = format!(in rt.alloc(); "0 1 {:02562}", 0)?;
+    check_printed(&rt, line.as_str(), "");
     Ok(())
 }
 
 #[test]
-fn good_lines_have_several_forms(rt: HostRuntime) -> Result<(), Fail> {
-    check_answer(&rt, "0 007 4101123471B1720130", "7 6184123471")?;
-    check_answer(&rt, "00 255 4101ABcd71b1720130", "255 6184abcd71")
+fn good_lines_have_several_forms(rt: HostRuntime) {
+    check_printed(&rt, "0 007 4101123471B1720130", "7 6184123471\n");
+    check_printed(&rt, "00 255 4101ABcd71b1720130", "255 6184abcd71\n");
 }
 
 static BAD_LINES: [&str; 24] = [
@@ -215,28 +191,38 @@ static BAD_LINES: [&str; 24] = [
     "0 1 \u{e9}",
 ];
 
+// Plays a bad line between good ones: the first is answered, and the third isn't read.
+fn check_bad<R: Abort + AllocGlobal>(rt: &R, line: &str) -> Result<(), AllocError> {
+    let good = "0 1 4101123471b1720130";
+    let input = format!(in rt.alloc(); "{good}\n{line}\n{good}\n")?;
+    let want = "1 6184123471\n";
+    assert!(rt;
+        plays(rt.alloc(), input.as_bytes(), 0, 2, want, "line 2: bad\n"),
+        "{line}"
+    );
+    Ok(())
+}
+
 #[test]
-fn bad_line_is_told_by_its_number(rt: HostRuntime) -> Result<(), Fail> {
+fn bad_line_is_told_by_its_number(rt: HostRuntime) -> Result<(), AllocError> {
     for line in BAD_LINES.iter().copied() {
-        let input = format!(in rt.alloc();
-            "0 1 4101123471b1720130\n{line}\n0 1 4101123471b1720130\n"
-        )?;
-        let is_told = plays(
-            rt.alloc(),
-            input.as_bytes(),
-            0,
-            2,
-            "1 6184123471\n",
-            "line 2: bad\n",
-        );
-        assert!(rt; is_told, "{line}");
+        check_bad(&rt, line)?;
     }
     Ok(())
 }
 
 #[test]
 fn bytes_that_are_no_text_are_bad(rt: HostRuntime) {
-    assert!(rt; plays(rt.alloc(), b"0 1 \xff\xfe", 0, 2, "", "line 1: bad\n"));
+    assert!(rt;
+        plays(
+            rt.alloc(),
+            b"0 1 \xff\xfe".as_slice(),
+            0,
+            2,
+            "",
+            "line 1: bad\n"
+        )
+    );
 }
 
 // A reader that fails behind its bytes.
@@ -284,12 +270,8 @@ impl Write for Full {
 
 #[test]
 fn failed_reading_is_status_3(rt: HostRuntime) {
-    let mut out = Vec::new(rt.alloc());
-    let mut err = Vec::new(rt.alloc());
     let input = Torn(b"0 1 4101123471b1720130\n0 1");
-    assert!(rt; play(rt.alloc(), input, &mut out, &mut err, 0, 0) == 3);
-    assert!(rt; out.as_slice() == b"1 6184123471\n".as_slice());
-    assert!(rt; err.is_empty());
+    assert!(rt; plays(rt.alloc(), input, 0, 3, "1 6184123471\n", ""));
 }
 
 // The status of a play whose output, and then whose faults, have room for so many bytes.

@@ -48,8 +48,8 @@ fn check_outcome(rt: &impl Abort, bytes: &[u8], wanted: Outcome) {
 }
 
 fn check_outcomes(rt: &impl Abort, cases: &[(&[u8], Outcome)]) {
-    for (bytes, wanted) in cases.iter().copied() {
-        check_outcome(rt, bytes, wanted);
+    for (bytes, wanted) in cases {
+        check_outcome(rt, bytes, *wanted);
     }
 }
 
@@ -161,24 +161,30 @@ static BLOCK_CASES: [(&[u8], Outcome); 6] = [
     (b"\x40\x01\x00\x01\xb1\x78\x01\x30\xc1\x07", NOT_FOUND),
 ];
 
+/// Whether a datagram is a request that brings this Block1 and asks this Block2.
+fn has_blocks(bytes: &[u8], block1: Option<Block>, block2: Option<Block>) -> bool {
+    request_of(bytes).is_some_and(|request| request.block1 == block1 && request.block2 == block2)
+}
+
 #[test]
 fn blocks(rt: HostRuntime) {
     check_outcomes(&rt, &BLOCK_CASES);
-    // Block1 in a PUT, and Block2 in a GET.
-    let put = request_of(b"\x40\x03\x40\x00\xb1\x70\x01\x32\xd1\x03\x0a\xff\x00");
-    let block = Block {
+    let brought = Block {
         number: 0,
         more: true,
         szx: 2,
     };
-    assert!(rt; put.and_then(|request| request.block1) == Some(block) && block.size() == 64);
-    let get = request_of(b"\x40\x01\x00\x01\xb1\x72\x01\x30\xc1\x16");
-    let block = Block {
+    assert!(rt; brought.size() == 64);
+    let put = b"\x40\x03\x40\x00\xb1\x70\x01\x32\xd1\x03\x0a\xff\x00";
+    assert!(rt; has_blocks(put, Some(brought), None));
+    let asked = Block {
         number: 1,
         more: false,
         szx: 6,
     };
-    assert!(rt; get.and_then(|request| request.block2) == Some(block) && block.size() == 1024);
+    assert!(rt; asked.size() == 1024);
+    let get = b"\x40\x01\x00\x01\xb1\x72\x01\x30\xc1\x16";
+    assert!(rt; has_blocks(get, None, Some(asked)));
 }
 
 #[test]
@@ -188,44 +194,51 @@ fn values_of_blocks(rt: HostRuntime) {
     assert!(rt; Block::read(&[0x00, 0x00, 0x16]).value().as_slice() == [0x16].as_slice());
 }
 
-/// Requests, and the content format and the value of Observe that count.
-static ELECTIVE_CASES: [(&[u8], Option<u16>, Option<u32>); 5] = [
-    // Content-Format: the first of two stands, and neither where the first is too long.
-    (
-        b"\x40\x02\x00\x01\xb1\x72\x01\x30\x11\x28\x01\x32",
-        Some(40),
-        None,
-    ),
-    (
-        b"\x40\x02\x00\x01\xb1\x72\x01\x30\x13\x00\x00\x28\x01\x32",
-        None,
-        None,
-    ),
-    // Observe: leading zeros, too long, and at `/p`.
-    (
-        b"\x40\x01\x00\x01\x62\x00\x00\x51\x72\x01\x30",
-        None,
-        Some(0),
-    ),
-    (
-        b"\x40\x01\x00\x01\x64\x00\x00\x00\x00\x51\x72\x01\x30",
-        None,
-        None,
-    ),
-    (b"\x40\x01\x00\x01\x60\x51\x70\x01\x30", None, None),
-];
-
+/// Whether a datagram is a request with this content format and this value of Observe.
 fn has_electives(bytes: &[u8], content_format: Option<u16>, observe: Option<u32>) -> bool {
     request_of(bytes).is_some_and(|request| {
         request.content_format == content_format && request.observe == observe
     })
 }
 
+fn check_electives(
+    rt: &impl Abort,
+    bytes: &[u8],
+    content_format: Option<u16>,
+    observe: Option<u32>,
+) {
+    assert!(rt; has_electives(bytes, content_format, observe), "{bytes:?}");
+}
+
 #[test]
 fn elective_options(rt: HostRuntime) {
-    for (bytes, content_format, observe) in ELECTIVE_CASES.iter().copied() {
-        assert!(rt; has_electives(bytes, content_format, observe), "{bytes:?}");
-    }
+    // Content-Format: the first of two stands, and neither where the first is too long.
+    check_electives(
+        &rt,
+        b"\x40\x02\x00\x01\xb1\x72\x01\x30\x11\x28\x01\x32",
+        Some(40),
+        None,
+    );
+    check_electives(
+        &rt,
+        b"\x40\x02\x00\x01\xb1\x72\x01\x30\x13\x00\x00\x28\x01\x32",
+        None,
+        None,
+    );
+    // Observe: leading zeros, too long, and at `/p`.
+    check_electives(
+        &rt,
+        b"\x40\x01\x00\x01\x62\x00\x00\x51\x72\x01\x30",
+        None,
+        Some(0),
+    );
+    check_electives(
+        &rt,
+        b"\x40\x01\x00\x01\x64\x00\x00\x00\x00\x51\x72\x01\x30",
+        None,
+        None,
+    );
+    check_electives(&rt, b"\x40\x01\x00\x01\x60\x51\x70\x01\x30", None, None);
 }
 
 #[test]
