@@ -82,11 +82,16 @@ const WHOLE: &[u8] =
 #[test]
 fn parts(rt: HostRuntime) {
     let message = read(WHOLE).ok().expect(&rt, "a message");
-    let head = (message.kind(), message.code(), message.id());
-    assert!(rt; head == (MessageType::NonConfirmable, Code::GET, 0x1234));
-    let lent = (message.token(), message.payload());
-    assert!(rt; lent == (b"\xaa\xbb".as_slice(), b"hi".as_slice()));
+    assert!(rt; has_parts(&message));
     assert!(rt; has_options(&message));
+}
+
+fn has_parts(message: &Message<'_>) -> bool {
+    message.kind() == MessageType::NonConfirmable
+        && message.code() == Code::GET
+        && message.id() == 0x1234
+        && message.token() == b"\xaa\xbb".as_slice()
+        && message.payload() == b"hi".as_slice()
 }
 
 /// The numbers of the options of that message, and how long their values are.
