@@ -10,7 +10,7 @@ mod play_tests;
 #[cfg(test)]
 mod request_tests;
 
-use clap::{ArgMatches, Command, Error};
+use clap::{Command, Error};
 use fc_service::play::play;
 use std::alloc::Global;
 use std::io;
@@ -42,32 +42,15 @@ fn command<'a>(alloc: Global) -> Result<Command<'a>, Error> {
 }
 
 fn run<R: Runtime + AllocGlobal, E: Write>(rt: &R, err: &mut E) -> anyhow::Result<u8> {
-    let words: Vec<String> = std::env::args(rt)?.collect(rt.alloc())?;
-    obey(rt, words.as_slice(), err)
-}
-
-fn obey<R: Runtime + AllocGlobal, E: Write>(
-    rt: &R,
-    words: &[String],
-    err: &mut E,
-) -> anyhow::Result<u8> {
-    match command(rt.alloc())?.try_get_matches_from(words) {
-        Ok(matches) => carry_out(rt, &matches, err),
-        Err(error) => tell(rt, &error),
-    }
-}
-
-// Prints the help that was asked for, or what is wrong with the command line.
-fn tell<R: Runtime + AllocGlobal>(rt: &R, error: &Error) -> anyhow::Result<u8> {
-    error.print(rt)?;
-    Ok(if error.use_stderr() { BAD_COMMAND } else { 0 })
-}
-
-fn carry_out<R: Runtime + AllocGlobal, E: Write>(
-    rt: &R,
-    matches: &ArgMatches<'_>,
-    err: &mut E,
-) -> anyhow::Result<u8> {
+    let alloc = rt.alloc();
+    let words: Vec<String> = std::env::args(rt)?.collect(alloc)?;
+    let matches = match command(alloc)?.try_get_matches_from(words.as_slice()) {
+        Ok(matches) => matches,
+        Err(error) => {
+            error.print(rt)?;
+            return Ok(if error.use_stderr() { BAD_COMMAND } else { 0 });
+        }
+    };
     match matches.subcommand() {
         Some(("play", _)) => play_input(rt, err),
         _ => Ok(BAD_COMMAND),
