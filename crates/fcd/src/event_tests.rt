@@ -1,8 +1,8 @@
 // Lists of events: the expected bytes are those of the protocol, worked out by hand.
-use coap_msg::Endpoint;
+use coap_msg::{Emission, Endpoint};
 use fc_world::{Event, run_world};
-use std::alloc::Global;
-use std::test::Fail;
+use std::alloc::{AllocError, Global};
+use std::process::Abort;
 
 // `PUT /p/0` of `mov64 r0, 69` and `exit`, with budget 2, under the message ids 0x1233 and 0x1235.
 const PUT: &[u8] =
@@ -18,43 +18,57 @@ const CREATED: &[u8] = b"\x61\x41\x12\x33\x70\xffversion=1 cost=2 budget=2 vars=
 
 const CONTENT: &[u8] = b"\x61\x45\x12\x34\x71\x48\x00\x00\x00\x00\x00\x00\x00\x01";
 
-fn deliver(now: u64, bytes: &[u8]) -> Event<'_> {
-    Event::Deliver {
-        now,
-        endpoint: Endpoint {
-            ip: [127, 0, 0, 1],
-            port: 5683,
-        },
-        bytes,
-    }
-}
+// What all datagrams come from.
+const PEER: Endpoint = Endpoint {
+    ip: [127, 0, 0, 1],
+    port: 5683,
+};
 
-// A program is installed as job 0, and then these events happen: whether just this is sent, in order.
-fn sends(alloc: Global, events: &[Event<'_>], wanted: &[&[u8]]) -> Result<bool, Fail> {
-    let mut all = Vec::new(alloc);
-    all.push(deliver(0, PUT))?;
-    all.push(Event::Install {
+// A program is installed as job 0.
+static INSTALLED: [Event<'static>; 4] = [
+    Event::Deliver {
+        now: 0,
+        endpoint: PEER,
+        bytes: PUT,
+    },
+    Event::Install {
         job: 0,
         memory: true,
-    })?;
-    all.push(Event::Raise { job: 0 })?;
-    all.push(Event::Answer { job: 0, now: 0 })?;
+    },
+    Event::Raise { job: 0 },
+    Event::Answer { job: 0, now: 0 },
+];
+
+// `GET /r/0` comes.
+const ASKED: Event<'static> = Event::Deliver {
+    now: 1,
+    endpoint: PEER,
+    bytes: GET,
+};
+
+// A program is installed, and then these events happen: whether just this is sent, in order.
+fn sends(alloc: Global, events: &[Event<'static>], wanted: &[&[u8]]) -> Result<bool, AllocError> {
+    let mut all = Vec::from_slice(alloc, &INSTALLED)?;
     all.extend_from_slice(events)?;
     let world = run_world(alloc, all.as_slice())?;
-    let mut sent = world.emissions.iter().flatten();
-    let is_created = sent.next().is_some_and(|it| it.bytes.as_slice() == CREATED);
-    for bytes in wanted {
-        if !sent.next().is_some_and(|it| it.bytes.as_slice() == *bytes) {
-            return Ok(false);
-        }
-    }
-    Ok(is_created && sent.next().is_none() && world.emissions.len() == all.len())
+    Ok(world.emissions.len() == all.len() && are_sent(world.emissions.as_slice(), wanted))
+}
+
+// Whether just these datagrams are sent, in order.
+fn are_sent(emissions: &[Option<Emission>], wanted: &[&[u8]]) -> bool {
+    let sent = emissions.iter().flatten().map(|it| it.bytes.as_slice());
+    sent.eq(wanted.iter().copied())
+}
+
+fn check_sends<R: Abort + AllocGlobal>(rt: &R, events: &[Event<'static>], wanted: &[&[u8]]) {
+    let is_sent = sends(rt.alloc(), events, wanted);
+    assert!(rt; is_sent == Ok(true), "{} datagrams", wanted.len());
 }
 
 #[test]
-fn a_program_answers(rt: HostRuntime) -> Result<(), Fail> {
-    let events = [
-        deliver(1, GET),
+fn a_program_answers(rt: HostRuntime) {
+    static EVENTS: [Event<'static>; 4] = [
+        ASKED,
         Event::Take {
             job: 1,
             memory: true,
@@ -62,21 +76,28 @@ fn a_program_answers(rt: HostRuntime) -> Result<(), Fail> {
         Event::Commit { job: 1, now: 1 },
         Event::Answer { job: 1, now: 1 },
     ];
-    assert!(rt; sends(rt.alloc(), events.as_slice(), [CONTENT].as_slice())?);
-    Ok(())
+    check_sends(&rt, &EVENTS, &[CREATED, CONTENT]);
 }
 
 // The second install finds no memory: 5.03, and the program answers with its old version.
 #[test]
-fn an_install_without_memory_changes_nothing(rt: HostRuntime) -> Result<(), Fail> {
-    let events = [
-        deliver(1, PUT_AGAIN),
+fn an_install_without_memory_changes_nothing(rt: HostRuntime) {
+    static EVENTS: [Event<'static>; 7] = [
+        Event::Deliver {
+            now: 1,
+            endpoint: PEER,
+            bytes: PUT_AGAIN,
+        },
         Event::Install {
             job: 1,
             memory: false,
         },
         Event::Answer { job: 1, now: 1 },
-        deliver(2, GET),
+        Event::Deliver {
+            now: 2,
+            endpoint: PEER,
+            bytes: GET,
+        },
         Event::Take {
             job: 2,
             memory: true,
@@ -84,51 +105,48 @@ fn an_install_without_memory_changes_nothing(rt: HostRuntime) -> Result<(), Fail
         Event::Commit { job: 2, now: 2 },
         Event::Answer { job: 2, now: 2 },
     ];
-    let wanted: [&[u8]; 2] = [b"\x61\xa3\x12\x35\x70", CONTENT];
-    assert!(rt; sends(rt.alloc(), events.as_slice(), wanted.as_slice())?);
-    Ok(())
+    check_sends(&rt, &EVENTS, &[CREATED, b"\x61\xa3\x12\x35\x70", CONTENT]);
 }
 
 #[test]
-fn a_taking_without_memory_is_unavailable(rt: HostRuntime) -> Result<(), Fail> {
-    let events = [
-        deliver(1, GET),
+fn a_taking_without_memory_is_unavailable(rt: HostRuntime) {
+    static EVENTS: [Event<'static>; 3] = [
+        ASKED,
         Event::Take {
             job: 1,
             memory: false,
         },
         Event::Answer { job: 1, now: 1 },
     ];
-    let wanted: [&[u8]; 1] = [b"\x61\xa3\x12\x34\x71"];
-    assert!(rt; sends(rt.alloc(), events.as_slice(), wanted.as_slice())?);
-    Ok(())
+    check_sends(&rt, &EVENTS, &[CREATED, b"\x61\xa3\x12\x34\x71"]);
 }
 
-// The answer comes when the exchange is 247,000 ms old, or a millisecond before.
-#[test]
-fn a_late_answer_is_not_sent(rt: HostRuntime) -> Result<(), Fail> {
-    let taken = [
-        deliver(1, GET),
+// The program's answer comes at this moment.
+fn check_answered_at<R: Abort + AllocGlobal>(rt: &R, now: u64, wanted: &[&[u8]]) {
+    let events = [
+        ASKED,
         Event::Take {
             job: 1,
             memory: true,
         },
         Event::Commit { job: 1, now: 1 },
+        Event::Answer { job: 1, now },
     ];
-    for (now, wanted) in [(247_000, [CONTENT].as_slice()), (247_001, [].as_slice())] {
-        let mut events = Vec::new(rt.alloc());
-        events.extend_from_slice(taken.as_slice())?;
-        events.push(Event::Answer { job: 1, now })?;
-        assert!(rt; sends(rt.alloc(), events.as_slice(), wanted)?, "at {now}");
-    }
-    Ok(())
+    check_sends(rt, &events, wanted);
+}
+
+// The answer comes when the exchange is 247,000 ms old, or a millisecond before.
+#[test]
+fn a_late_answer_is_not_sent(rt: HostRuntime) {
+    check_answered_at(&rt, 247_000, &[CREATED, CONTENT]);
+    check_answered_at(&rt, 247_001, &[CREATED]);
 }
 
 // A lost worker's job is not answered, and neither is one that isn't there or isn't as far.
 #[test]
-fn strays_send_nothing(rt: HostRuntime) -> Result<(), Fail> {
-    let events = [
-        deliver(1, GET),
+fn strays_send_nothing(rt: HostRuntime) {
+    static EVENTS: [Event<'static>; 10] = [
+        ASKED,
         Event::Answer { job: 1, now: 1 },
         Event::Commit { job: 1, now: 1 },
         Event::Lose { job: 1 },
@@ -142,6 +160,5 @@ fn strays_send_nothing(rt: HostRuntime) -> Result<(), Fail> {
         Event::Due { shard: 0, now: 1 },
         Event::Tick { now: 1 },
     ];
-    assert!(rt; sends(rt.alloc(), events.as_slice(), [].as_slice())?);
-    Ok(())
+    check_sends(&rt, &EVENTS, &[CREATED]);
 }

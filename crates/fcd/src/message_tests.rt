@@ -1,5 +1,5 @@
 //! Datagrams with their meaning, from RFC 7252 and the server's own tables, and what no clause says.
-use coap_msg::{Bad, Code, Datagram, MessageType, Outgoing, read, write};
+use coap_msg::{Bad, Code, Datagram, Message, MessageType, Outgoing, read, write};
 use std::alloc::AllocError;
 use std::process::Abort;
 
@@ -11,52 +11,58 @@ fn refusal(bytes: &[u8]) -> Option<Bad> {
     }
 }
 
-fn reads(rt: &impl Abort, bytes: &[u8]) {
-    assert!(rt; refusal(bytes).is_none());
+fn check_refusal(rt: &impl Abort, bytes: &[u8], wanted: Option<Bad>) {
+    assert!(rt; refusal(bytes) == wanted, "{bytes:?}");
 }
 
-fn ignores(rt: &impl Abort, bytes: &[u8]) {
-    assert!(rt; refusal(bytes) == Some(Bad::Ignore));
+fn check_refusals(rt: &impl Abort, cases: &[(&[u8], Option<Bad>)]) {
+    for (bytes, wanted) in cases {
+        check_refusal(rt, bytes, *wanted);
+    }
 }
 
-fn resets(rt: &impl Abort, bytes: &[u8], id: u16) {
-    assert!(rt; refusal(bytes) == Some(Bad::Reset(id)));
-}
+static HEADER_CASES: [(&[u8], Option<Bad>); 10] = [
+    // Empty messages of each type, and a ping.
+    (b"\x40\x00\x00\x07", None),
+    (b"\x70\x00\x00\x07", None),
+    // Too short, and another version.
+    (b"\x40\x00\x00", Some(Bad::Ignore)),
+    (b"\x81\x01\x00\x0c", Some(Bad::Ignore)),
+    (b"\x00\x01\x00\x0c", Some(Bad::Ignore)),
+    // A token of nine bytes, confirmable or not, and one that is cut.
+    (b"\x49\x01\x00\x08", Some(Bad::Reset(8))),
+    (b"\x59\x01\x00\x08", Some(Bad::Ignore)),
+    (b"\x42\x01\x12\x34\x70", Some(Bad::Reset(0x1234))),
+    // An empty message with something behind the id.
+    (b"\x41\x00\x00\x07\x70", Some(Bad::Reset(7))),
+    (b"\x60\x00\x00\x07\xff\x01", Some(Bad::Ignore)),
+];
 
 #[test]
 fn headers(rt: HostRuntime) {
-    // Empty messages of each type, and a ping.
-    reads(&rt, &[0x40, 0x00, 0x00, 0x07]);
-    reads(&rt, &[0x70, 0x00, 0x00, 0x07]);
-    // Too short, and another version.
-    ignores(&rt, &[0x40, 0x00, 0x00]);
-    ignores(&rt, &[0x81, 0x01, 0x00, 0x0c]);
-    ignores(&rt, &[0x00, 0x01, 0x00, 0x0c]);
-    // A token of nine bytes, confirmable or not, and one that is cut.
-    resets(&rt, &[0x49, 0x01, 0x00, 0x08], 8);
-    ignores(&rt, &[0x59, 0x01, 0x00, 0x08]);
-    resets(&rt, &[0x42, 0x01, 0x12, 0x34, 0x70], 0x1234);
-    // An empty message with something behind the id.
-    resets(&rt, &[0x41, 0x00, 0x00, 0x07, 0x70], 7);
-    ignores(&rt, &[0x60, 0x00, 0x00, 0x07, 0xff, 0x01]);
+    check_refusals(&rt, &HEADER_CASES);
 }
+
+static OPTION_CASES: [(&[u8], Option<Bad>); 10] = [
+    // A marker with nothing behind it.
+    (b"\x40\x01\x00\x0a\xff", Some(Bad::Reset(10))),
+    // A half byte of 15 in either place.
+    (b"\x40\x01\x00\x0a\xf0", Some(Bad::Reset(10))),
+    (b"\x40\x01\x00\x0a\xbf", Some(Bad::Reset(10))),
+    // A value, a byte of 13 and bytes of 14 that are cut.
+    (b"\x40\x01\x00\x0a\xb2\x72", Some(Bad::Reset(10))),
+    (b"\x40\x01\x00\x0a\xd0", Some(Bad::Reset(10))),
+    (b"\x40\x01\x00\x0a\xe0\x00", Some(Bad::Reset(10))),
+    (b"\x50\x01\x00\x0a\xb2\x72", Some(Bad::Ignore)),
+    // Number 65,535 is the greatest: 269 and 65,266, or 65,267.
+    (b"\x40\x01\x00\x0a\xe0\xfe\xf2", None),
+    (b"\x40\x01\x00\x0a\xe0\xfe\xf3", Some(Bad::Reset(10))),
+    (b"\x40\x01\x00\x0a\xe0\xfe\xf2\x10", Some(Bad::Reset(10))),
+];
 
 #[test]
 fn options_and_payloads(rt: HostRuntime) {
-    // A marker with nothing behind it.
-    resets(&rt, &[0x40, 0x01, 0x00, 0x0a, 0xff], 10);
-    // A half byte of 15 in either place.
-    resets(&rt, &[0x40, 0x01, 0x00, 0x0a, 0xf0], 10);
-    resets(&rt, &[0x40, 0x01, 0x00, 0x0a, 0xbf], 10);
-    // A value, a byte of 13 and bytes of 14 that are cut.
-    resets(&rt, &[0x40, 0x01, 0x00, 0x0a, 0xb2, 0x72], 10);
-    resets(&rt, &[0x40, 0x01, 0x00, 0x0a, 0xd0], 10);
-    resets(&rt, &[0x40, 0x01, 0x00, 0x0a, 0xe0, 0x00], 10);
-    ignores(&rt, &[0x50, 0x01, 0x00, 0x0a, 0xb2, 0x72]);
-    // Number 65,535 is the greatest: 269 and 65,266, or 65,267.
-    reads(&rt, &[0x40, 0x01, 0x00, 0x0a, 0xe0, 0xfe, 0xf2]);
-    resets(&rt, &[0x40, 0x01, 0x00, 0x0a, 0xe0, 0xfe, 0xf3], 10);
-    resets(&rt, &[0x40, 0x01, 0x00, 0x0a, 0xe0, 0xfe, 0xf2, 0x10], 10);
+    check_refusals(&rt, &OPTION_CASES);
 }
 
 #[test]
@@ -65,66 +71,76 @@ fn a_long_datagram(rt: HostRuntime) {
     bytes[0] = 0x40;
     bytes[1] = 0x01;
     bytes[4] = 0xff;
-    reads(&rt, &bytes[..1280]);
-    ignores(&rt, &bytes);
+    check_refusal(&rt, &bytes[..1280], None);
+    check_refusal(&rt, &bytes, Some(Bad::Ignore));
 }
+
+// A message that has each part.
+const WHOLE: &[u8] =
+    b"\x52\x01\x12\x34\xaa\xbb\xb1\x72\x01\x30\xd1\x05\x0a\xe0\x01\x00\xff\x68\x69";
 
 #[test]
 fn parts(rt: HostRuntime) {
-    let bytes = [
-        0x52, 0x01, 0x12, 0x34, 0xaa, 0xbb, 0xb1, 0x72, 0x01, 0x30, 0xd1, 0x05, 0x0a, 0xe0, 0x01,
-        0x00, 0xff, 0x68, 0x69,
-    ];
-    let Ok(message) = read(&bytes) else {
-        panic!(&rt; "a message");
-    };
-    assert!(rt; message.kind() == MessageType::NonConfirmable);
-    assert!(rt; message.code() == Code::GET);
-    assert_eq!(rt; message.id(), 0x1234);
-    assert!(rt; message.token() == [0xaa, 0xbb].as_slice());
-    assert!(rt; message.payload() == b"hi".as_slice());
-    let mut options = message.options();
-    for (number, length) in [(11, 1), (11, 1), (29, 1), (554, 0)] {
-        let option = options.next();
-        assert!(rt; option.is_some_and(|(found, value)| found == number && value.len() == length));
-    }
-    assert!(rt; options.next().is_none());
+    let message = read(WHOLE).ok().expect(&rt, "a message");
+    assert!(rt; has_parts(&message));
+    assert!(rt; has_options(&message));
+}
+
+fn has_parts(message: &Message<'_>) -> bool {
+    message.kind() == MessageType::NonConfirmable
+        && message.code() == Code::GET
+        && message.id() == 0x1234
+        && message.token() == b"\xaa\xbb".as_slice()
+        && message.payload() == b"hi".as_slice()
+}
+
+/// The numbers of the options of that message, and how long their values are.
+static NUMBERS: [(u16, usize); 4] = [(11, 1), (11, 1), (29, 1), (554, 0)];
+
+fn has_options(message: &Message<'_>) -> bool {
+    let found = message
+        .options()
+        .map(|(number, value)| (number, value.len()));
+    found.eq(NUMBERS.iter().copied())
 }
 
 #[test]
 fn written(rt: HostRuntime) {
     // 2.05 in an acknowledgement, with an ETag of eight bytes and a payload.
-    let serial = 1u64.to_be_bytes();
-    let mut datagram = Datagram::new();
-    let reply = Outgoing {
+    static CONTENT: Outgoing<'static> = Outgoing {
         kind: MessageType::Acknowledgement,
         code: Code::CONTENT,
         id: 0x1234,
-        token: &[0x71],
-        options: &[(4, &serial)],
+        token: b"\x71",
+        options: &[(4, b"\x00\x00\x00\x00\x00\x00\x00\x01")],
         payload: b"",
     };
-    write(&reply, &mut datagram);
-    let expected = [0x61, 0x45, 0x12, 0x34, 0x71, 0x48, 0, 0, 0, 0, 0, 0, 0, 1];
-    assert!(rt; datagram.as_slice() == expected.as_slice());
     // 2.31 with a Block1 option: 27 is 13 and a byte of 14.
-    let reply = Outgoing {
+    static CONTINUE: Outgoing<'static> = Outgoing {
         kind: MessageType::Acknowledgement,
         code: Code::CONTINUE,
         id: 0x4000,
         token: b"",
-        options: &[(27, &[0x0a])],
+        options: &[(27, b"\x0a")],
         payload: b"",
     };
-    write(&reply, &mut datagram);
-    assert!(rt; datagram.as_slice() == [0x60, 0x5f, 0x40, 0x00, 0xd1, 0x0e, 0x0a].as_slice());
+    let mut datagram = Datagram::new();
+    write(&CONTENT, &mut datagram);
+    let content = b"\x61\x45\x12\x34\x71\x48\x00\x00\x00\x00\x00\x00\x00\x01";
+    assert!(rt; datagram.as_slice() == content.as_slice());
+    write(&CONTINUE, &mut datagram);
+    assert!(rt; datagram.as_slice() == b"\x60\x5f\x40\x00\xd1\x0e\x0a".as_slice());
 }
 
 #[test]
-fn codes(rt: HostRuntime) -> Result<(), AllocError> {
+fn codes(rt: HostRuntime) {
     assert!(rt; Code::new(2, 31) == Code::CONTINUE);
-    assert_eq!(rt; Code::METHOD_NOT_ALLOWED.class(), 4);
-    assert_eq!(rt; Code::METHOD_NOT_ALLOWED.detail(), 5);
+    let code = Code::METHOD_NOT_ALLOWED;
+    assert!(rt; (code.class(), code.detail()) == (4, 5));
+}
+
+#[test]
+fn texts_of_codes(rt: HostRuntime) -> Result<(), AllocError> {
     let text = format!(in rt.alloc(); "{} {} {}", Code::EMPTY, Code::CONTENT, Code::CONTINUE)?;
     assert!(rt; text.as_str() == "0.00 2.05 2.31");
     Ok(())

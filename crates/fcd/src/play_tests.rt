@@ -4,254 +4,220 @@ use std::alloc::Global;
 use std::io;
 use std::io::{BufRead, ErrorKind, Read, Write};
 use std::process::Abort;
-use std::test::Fail;
 
 // The greatest serial.
 const LAST_SERIAL: u64 = 9_223_372_036_854_775_807;
 
-// A program that answers 2.05 in two steps, with a budget of two and of one.
-const IMAGE: &str = "46434231000002000200000000000000b7000000450000009500000000000000";
-
-const IMAGE_BELOW_COST: &str = "46434231000002000100000000000000b7000000450000009500000000000000";
-
-// What a play gave.
-#[derive(Drop)]
-struct Played {
+// Whether a play ends in this status, and writes just this to its output and to where faults are told.
+fn plays<R: BufRead + Drop>(
+    alloc: Global,
+    input: R,
+    first_serial: u64,
     status: u8,
-    out: Vec<u8>,
-    err: Vec<u8>,
-}
-
-fn play_from(alloc: Global, input: &[u8], first_serial: u64) -> Option<Played> {
+    printed: &str,
+    told: &str,
+) -> bool {
     if first_serial > LAST_SERIAL {
-        return None;
+        return false;
     }
     let mut out = Vec::new(alloc);
     let mut err = Vec::new(alloc);
-    let status = play(alloc, input, &mut out, &mut err, first_serial, 0);
-    Some(Played { status, out, err })
+    play(alloc, input, &mut out, &mut err, first_serial, 0) == status
+        && out.as_slice() == printed.as_bytes()
+        && err.as_slice() == told.as_bytes()
 }
 
 // Plays lines from the first serial 0, which are all good, and compares what is printed.
-fn check_printed<R: Abort + AllocGlobal>(rt: &R, input: &str, want: &str) -> Result<(), Fail> {
-    let played = play_from(rt.alloc(), input.as_bytes(), 0).ok_or("no play")?;
-    assert_eq!(rt; played.status, 0, "{input}");
-    assert_eq!(rt; played.err.len(), 0, "{input}");
-    assert_eq!(rt; str::from_utf8(played.out.as_slice())?, want, "{input}");
-    Ok(())
+fn check_printed<R: Abort + AllocGlobal>(rt: &R, input: &str, want: &str) {
+    assert!(rt;
+        plays(rt.alloc(), input.as_bytes(), 0, 0, want, ""),
+        "{input}"
+    );
 }
 
-// The one line that is printed for a line of a fresh server, without its line feed.
-fn check_answer<R: Abort + AllocGlobal>(rt: &R, line: &str, want: &str) -> Result<(), Fail> {
-    let printed = format!(in rt.alloc(); "{want}\n")?;
-    check_printed(rt, line, printed.as_str())
-}
-
+// The program of each install answers 2.05 in two steps, with a budget of two; the second install's budget is one.
 #[test]
-fn install_is_run_and_kept(rt: HostRuntime) -> Result<(), Fail> {
-    let input = format!(in rt.alloc();
-        "0 1 4103123370b1700130ff{IMAGE}\n1 1 4101123471b1720130\n2 1 4103123570b1700130ff{IMAGE_BELOW_COST}\n3 1 4101123671b1720130\n"
-    )?;
+fn install_is_run_and_kept(rt: HostRuntime) {
     check_printed(
         &rt,
-        input.as_str(),
+        "0 1 4103123370b1700130ff46434231000002000200000000000000b7000000450000009500000000000000\n\
+         1 1 4101123471b1720130\n\
+         2 1 4103123570b1700130ff46434231000002000100000000000000b7000000450000009500000000000000\n\
+         3 1 4101123671b1720130\n",
         "1 6141123370ff76657273696f6e3d3120636f73743d32206275646765743d3220766172733d30\n\
          1 6145123471480000000000000001\n\
          1 6180123570ff56313620736c6f742030\n\
          1 6145123671480000000000000001\n",
-    )
+    );
 }
 
 #[test]
-fn refused_image_is_told_its_rule(rt: HostRuntime) -> Result<(), Fail> {
-    let table = [
-        // fifteen bytes: V01 slot 0
-        ("464342310000000001000000000000", "56303120736c6f742030"),
-        // no slot: V02 slot 0
-        ("46434231000000000100000000000000", "56303220736c6f742030"),
-        // an exit with R0 unset: V25 slot 0
-        (
-            "464342310000010001000000000000009500000000000000",
-            "56323520736c6f742030",
-        ),
-        // no exit: V13 slot 0
-        (
-            "46434231000001000100000000000000b700000000000000",
-            "56313320736c6f742030",
-        ),
-    ];
-    for (image, text) in table {
-        let line = format!(in rt.alloc(); "0 1 4103123370b1700130ff{image}")?;
-        let want = format!(in rt.alloc(); "1 6180123370ff{text}")?;
-        check_answer(&rt, line.as_str(), want.as_str())?;
-    }
-    Ok(())
-}
-
-#[test]
-fn empty_slot_is_not_found(rt: HostRuntime) -> Result<(), Fail> {
-    check_answer(&rt, "0 7 4101123471b1720130", "7 6184123471")
-}
-
-#[test]
-fn second_install_is_a_change(rt: HostRuntime) -> Result<(), Fail> {
-    let input = format!(in rt.alloc();
-        "0 1 4103123370b1700130ff{IMAGE}\n0 1 4103123370b1700130ff{IMAGE}"
-    )?;
+fn refused_image_is_told_its_rule(rt: HostRuntime) {
+    // Fifteen bytes: V01 slot 0.
     check_printed(
         &rt,
-        input.as_str(),
+        "0 1 4103123370b1700130ff464342310000000001000000000000",
+        "1 6180123370ff56303120736c6f742030\n",
+    );
+    // No slot: V02 slot 0.
+    check_printed(
+        &rt,
+        "0 1 4103123370b1700130ff46434231000000000100000000000000",
+        "1 6180123370ff56303220736c6f742030\n",
+    );
+    // An exit with R0 unset: V25 slot 0.
+    check_printed(
+        &rt,
+        "0 1 4103123370b1700130ff464342310000010001000000000000009500000000000000",
+        "1 6180123370ff56323520736c6f742030\n",
+    );
+    // No exit: V13 slot 0.
+    check_printed(
+        &rt,
+        "0 1 4103123370b1700130ff46434231000001000100000000000000b700000000000000",
+        "1 6180123370ff56313320736c6f742030\n",
+    );
+}
+
+#[test]
+fn empty_slot_is_not_found(rt: HostRuntime) {
+    check_printed(&rt, "0 7 4101123471b1720130", "7 6184123471\n");
+}
+
+#[test]
+fn second_install_is_a_change(rt: HostRuntime) {
+    check_printed(
+        &rt,
+        "0 1 4103123370b1700130ff46434231000002000200000000000000b7000000450000009500000000000000\n\
+         0 1 4103123370b1700130ff46434231000002000200000000000000b7000000450000009500000000000000",
         "1 6141123370ff76657273696f6e3d3120636f73743d32206275646765743d3220766172733d30\n\
          1 6144123370ff76657273696f6e3d3220636f73743d32206275646765743d3220766172733d30\n",
-    )
-}
-
-#[test]
-fn last_serial_is_not_passed(rt: HostRuntime) -> Result<(), Fail> {
-    let input = format!(in rt.alloc();
-        "0 1 4103123370b1700130ff{IMAGE}\n1 1 4101123471b1720130\n"
-    )?;
-    let played = play_from(rt.alloc(), input.as_bytes(), LAST_SERIAL).ok_or("no play")?;
-    assert_eq!(rt; played.status, 0);
-    assert_eq!(rt;
-        str::from_utf8(played.out.as_slice())?,
-        "1 61a3123370\n1 6184123471\n"
     );
-    Ok(())
-}
-
-// Four slots of two shards: each program answers its own code, and only a 2.05 has an ETag.
-#[test]
-fn slots_are_told_apart(rt: HostRuntime) -> Result<(), Fail> {
-    let alloc = rt.alloc();
-    let table = [
-        ("0130", "45", "480000000000000001"),
-        ("0137", "80", ""),
-        ("0138", "83", ""),
-        ("023633", "84", ""),
-    ];
-    let mut input = String::new(alloc);
-    let mut want = String::new(alloc);
-    for (slot, code, _) in table {
-        writeln_to(
-            &mut input,
-            format!(in alloc;
-                "0 1 4103123370b170{slot}ff46434231000002000200000000000000b7000000{code}0000009500000000000000"
-            )?.as_str(),
-        )?;
-        writeln_to(
-            &mut want,
-            "1 6141123370ff76657273696f6e3d3120636f73743d32206275646765743d3220766172733d30",
-        )?;
-    }
-    for (slot, code, etag) in table {
-        writeln_to(
-            &mut input,
-            format!(in alloc; "1 1 4101123471b172{slot}")?.as_str(),
-        )?;
-        writeln_to(
-            &mut want,
-            format!(in alloc; "1 61{code}123471{etag}")?.as_str(),
-        )?;
-    }
-    check_printed(&rt, input.as_str(), want.as_str())
-}
-
-fn writeln_to(text: &mut String, line: &str) -> Result<(), Fail> {
-    text.push_str(line)?;
-    text.push_str("\n")?;
-    Ok(())
 }
 
 #[test]
-fn what_is_not_served_is_ignored(rt: HostRuntime) -> Result<(), Fail> {
-    let alloc = rt.alloc();
-    let table = [
-        // GET /r/64
-        "0 1 4101123471b172023634",
-        // PUT /p/00
+fn last_serial_is_not_passed(rt: HostRuntime) {
+    let input =
+        "0 1 4103123370b1700130ff46434231000002000200000000000000b7000000450000009500000000000000\n\
+                 1 1 4101123471b1720130\n";
+    let want = "1 61a3123370\n1 6184123471\n";
+    assert!(rt; plays(rt.alloc(), input.as_bytes(), LAST_SERIAL, 0, want, ""));
+}
+
+// Slots 0, 7, 8 and 63, of four shards: programs that answer 2.05, 4.00, 4.03 and 4.04 are installed and asked.
+const FOUR_SLOTS: &str =
+    "0 1 4103123370b1700130ff46434231000002000200000000000000b7000000450000009500000000000000\n\
+    0 1 4103123370b1700137ff46434231000002000200000000000000b7000000800000009500000000000000\n\
+    0 1 4103123370b1700138ff46434231000002000200000000000000b7000000830000009500000000000000\n\
+    0 1 4103123370b170023633ff46434231000002000200000000000000b7000000840000009500000000000000\n\
+    1 1 4101123471b1720130\n\
+    1 1 4101123471b1720137\n\
+    1 1 4101123471b1720138\n\
+    1 1 4101123471b172023633\n";
+
+// Only a 2.05 has an ETag.
+const FOUR_ANSWERS: &str =
+    "1 6141123370ff76657273696f6e3d3120636f73743d32206275646765743d3220766172733d30\n\
+    1 6141123370ff76657273696f6e3d3120636f73743d32206275646765743d3220766172733d30\n\
+    1 6141123370ff76657273696f6e3d3120636f73743d32206275646765743d3220766172733d30\n\
+    1 6141123370ff76657273696f6e3d3120636f73743d32206275646765743d3220766172733d30\n\
+    1 6145123471480000000000000001\n\
+    1 6180123471\n\
+    1 6183123471\n\
+    1 6184123471\n";
+
+#[test]
+fn slots_are_told_apart(rt: HostRuntime) {
+    check_printed(&rt, FOUR_SLOTS, FOUR_ANSWERS);
+}
+
+#[test]
+fn what_is_not_served_is_ignored(rt: HostRuntime) {
+    // `GET /r/64`, and a `GET /r/0` that isn't confirmable.
+    check_printed(&rt, "0 1 4101123471b172023634", "");
+    check_printed(&rt, "0 1 5101123471b1720130", "");
+    // `PUT /p/00`.
+    check_printed(
+        &rt,
         "0 1 4103123370b170023030ff46434231000002000200000000000000b7000000450000009500000000000000",
-        // an empty confirmable message
-        "0 1 40001234",
-        // a GET that isn't confirmable
-        "0 1 5101123471b1720130",
-        // a token length of nine
-        "0 1 49011234717171717171717171b1720130",
-        // an empty datagram
-        "0 1 ",
-        // time passes, to the greatest moment
-        "18446744073709551615 - -",
-    ];
-    for line in table {
-        check_printed(&rt, line, "")?;
-    }
-    let mut long = String::from_str(alloc, "0 1 ")?;
-    for _ in 0..1281 {
-        long.push_str("00")?;
-    }
-    check_printed(&rt, long.as_str(), "")
-}
-
-#[test]
-fn good_lines_have_several_forms(rt: HostRuntime) -> Result<(), Fail> {
-    check_answer(&rt, "0 007 4101123471B1720130", "7 6184123471")?;
-    check_answer(&rt, "00 255 4101ABcd71b1720130", "255 6184abcd71")
-}
-
-#[test]
-fn bad_line_is_told_by_its_number(rt: HostRuntime) -> Result<(), Fail> {
-    let table = [
         "",
-        " ",
-        "0",
-        "0 1",
-        "0 1 0",
-        "0  1 00",
-        " 0 1 00",
-        "0 1  00",
-        "0 1 00 ",
-        "0 1 00 00",
-        "0 1 0g",
-        "0 256 00",
-        "0 -1 00",
-        "0 +1 00",
-        "+0 1 00",
-        "x 1 00",
-        " 1 00",
-        "0  00",
-        "0 - 00",
-        "0 1 -",
-        "0 - - ",
-        "18446744073709551616 1 00",
-        "0 1 00\r",
-        "0 1 \u{e9}",
-    ];
-    for line in table {
-        let input = format!(in rt.alloc();
-            "0 1 4101123471b1720130\n{line}\n0 1 4101123471b1720130\n"
-        )?;
-        let played = play_from(rt.alloc(), input.as_bytes(), 0).ok_or("no play")?;
-        assert_eq!(rt; played.status, 2, "{line}");
-        assert_eq!(rt;
-            str::from_utf8(played.out.as_slice())?,
-            "1 6184123471\n",
-            "{line}"
-        );
-        assert_eq!(rt;
-            str::from_utf8(played.err.as_slice())?,
-            "line 2: bad\n",
-            "{line}"
-        );
-    }
-    Ok(())
+    );
+    // An empty confirmable message, a token length of nine, and an empty datagram.
+    check_printed(&rt, "0 1 40001234", "");
+    check_printed(&rt, "0 1 49011234717171717171717171b1720130", "");
+    check_printed(&rt, "0 1 ", "");
+    // Time passes, to the greatest moment.
+    check_printed(&rt, "18446744073709551615 - -", "");
 }
 
 #[test]
-fn bytes_that_are_no_text_are_bad(rt: HostRuntime) -> Result<(), Fail> {
-    let played = play_from(rt.alloc(), b"0 1 \xff\xfe", 0).ok_or("no play")?;
-    assert_eq!(rt; played.status, 2);
-    assert_eq!(rt; str::from_utf8(played.err.as_slice())?, "line 1: bad\n");
-    Ok(())
+fn a_datagram_of_1281_bytes_is_ignored(rt: HostRuntime) {
+    let digits = [b'0'; 2562];
+    let input = b"0 1 ".as_slice().chain(digits.as_slice());
+    assert!(rt; plays(rt.alloc(), input, 0, 0, "", ""));
+}
+
+#[test]
+fn good_lines_have_several_forms(rt: HostRuntime) {
+    check_printed(&rt, "0 007 4101123471B1720130", "7 6184123471\n");
+    check_printed(&rt, "00 255 4101ABcd71b1720130", "255 6184abcd71\n");
+}
+
+static BAD_LINES: [&str; 24] = [
+    "",
+    " ",
+    "0",
+    "0 1",
+    "0 1 0",
+    "0  1 00",
+    " 0 1 00",
+    "0 1  00",
+    "0 1 00 ",
+    "0 1 00 00",
+    "0 1 0g",
+    "0 256 00",
+    "0 -1 00",
+    "0 +1 00",
+    "+0 1 00",
+    "x 1 00",
+    " 1 00",
+    "0  00",
+    "0 - 00",
+    "0 1 -",
+    "0 - - ",
+    "18446744073709551616 1 00",
+    "0 1 00\r",
+    "0 1 \u{e9}",
+];
+
+// Plays a bad line between good ones: the first is answered, and the third isn't read.
+fn check_bad<R: Abort + AllocGlobal>(rt: &R, line: &str) {
+    let before = b"0 1 4101123471b1720130\n".as_slice();
+    let after = b"\n0 1 4101123471b1720130\n".as_slice();
+    let input = before.chain(line.as_bytes()).chain(after);
+    let is_told = plays(rt.alloc(), input, 0, 2, "1 6184123471\n", "line 2: bad\n");
+    assert!(rt; is_told, "{line}");
+}
+
+#[test]
+fn bad_line_is_told_by_its_number(rt: HostRuntime) {
+    for line in BAD_LINES.iter().copied() {
+        check_bad(&rt, line);
+    }
+}
+
+#[test]
+fn bytes_that_are_no_text_are_bad(rt: HostRuntime) {
+    assert!(rt;
+        plays(
+            rt.alloc(),
+            b"0 1 \xff\xfe".as_slice(),
+            0,
+            2,
+            "",
+            "line 1: bad\n"
+        )
+    );
 }
 
 // A reader that fails behind its bytes.
@@ -298,30 +264,22 @@ impl Write for Full {
 }
 
 #[test]
-fn failed_reading_is_status_3(rt: HostRuntime) -> Result<(), Fail> {
-    let mut out = Vec::new(rt.alloc());
-    let mut err = Vec::new(rt.alloc());
+fn failed_reading_is_status_3(rt: HostRuntime) {
     let input = Torn(b"0 1 4101123471b1720130\n0 1");
-    assert_eq!(rt; play(rt.alloc(), input, &mut out, &mut err, 0, 0), 3);
-    assert_eq!(rt; str::from_utf8(out.as_slice())?, "1 6184123471\n");
-    assert_eq!(rt; err.len(), 0);
-    Ok(())
+    assert!(rt; plays(rt.alloc(), input, 0, 3, "1 6184123471\n", ""));
+}
+
+// The status of a play whose output, and then whose faults, have room for so many bytes.
+fn status_in(alloc: Global, input: &[u8], out_room: usize, err_room: usize) -> u8 {
+    play(alloc, input, &mut Full(out_room), &mut Full(err_room), 0, 0)
 }
 
 #[test]
-fn failed_writing_is_status_3(rt: HostRuntime) -> Result<(), Fail> {
-    let line: &[u8] = b"0 1 4101123471b1720130\n";
-    let mut err = Vec::new(rt.alloc());
+fn failed_writing_is_status_3(rt: HostRuntime) {
+    let line = b"0 1 4101123471b1720130\n";
     for room in 0..13usize {
-        assert_eq!(rt;
-            play(rt.alloc(), line, &mut Full(room), &mut err, 0, 0),
-            3,
-            "at {room}"
-        );
+        assert!(rt; status_in(rt.alloc(), line, room, 99) == 3, "at {room}");
     }
-    assert_eq!(rt; play(rt.alloc(), line, &mut Full(13), &mut err, 0, 0), 0);
-    let bad: &[u8] = b"bad";
-    let mut out = Vec::new(rt.alloc());
-    assert_eq!(rt; play(rt.alloc(), bad, &mut out, &mut Full(5), 0, 0), 3);
-    Ok(())
+    assert!(rt; status_in(rt.alloc(), line, 13, 99) == 0);
+    assert!(rt; status_in(rt.alloc(), b"bad", 99, 5) == 3);
 }
