@@ -10,6 +10,7 @@ mod play_tests;
 #[cfg(test)]
 mod request_tests;
 
+use clap::error::ErrorKind;
 use clap::{Command, Error};
 use fc_service::play::play;
 use std::alloc::Global;
@@ -41,15 +42,22 @@ fn command<'a>(alloc: Global) -> Result<Command<'a>, Error> {
     )
 }
 
+// Tells why there is no command, with the status: help that was asked for is no mistake.
+fn tell<R: Runtime>(rt: &R, error: &Error) -> anyhow::Result<u8> {
+    error.print(rt)?;
+    Ok(match error.kind() {
+        ErrorKind::OutOfMemory => FAILED,
+        _ if error.use_stderr() => BAD_COMMAND,
+        _ => 0,
+    })
+}
+
 fn run<R: Runtime + AllocGlobal, E: Write>(rt: &R, err: &mut E) -> anyhow::Result<u8> {
     let alloc = rt.alloc();
     let words: Vec<String> = std::env::args(rt)?.collect(alloc)?;
     let matches = match command(alloc)?.try_get_matches_from(words.as_slice()) {
         Ok(matches) => matches,
-        Err(error) => {
-            error.print(rt)?;
-            return Ok(if error.use_stderr() { BAD_COMMAND } else { 0 });
-        }
+        Err(error) => return tell(rt, &error),
     };
     match matches.subcommand() {
         Some(("play", _)) => play_input(rt, err),

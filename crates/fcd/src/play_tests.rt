@@ -104,7 +104,7 @@ fn last_serial_is_not_passed(rt: HostRuntime) {
     assert!(rt; plays(rt.alloc(), input.as_bytes(), LAST_SERIAL, 0, want, ""));
 }
 
-// Slots 0, 7, 8 and 63, of four shards: programs that answer 2.05, 4.00, 4.03 and 4.04 are installed and asked.
+// Slots 0, 7, 8 and 63, of two shards: programs that answer 2.05, 4.00, 4.03 and 4.04 are installed and asked.
 const FOUR_SLOTS: &str =
     "0 1 4103123370b1700130ff46434231000002000200000000000000b7000000450000009500000000000000\n\
     0 1 4103123370b1700137ff46434231000002000200000000000000b7000000800000009500000000000000\n\
