@@ -1,9 +1,8 @@
 -- The rules below those of the typing have numbers below 20.
-use Rattle.std.proofs.Common.{◌≡◌, ℕ, zero, suc, ◌+◌, ◌*◌, ◌/◌, ◌<◌, Bool, true, false, cond, List, length, Option, Some, None, subst, arith, if◌then◌else◌}
-use Rattle.std.specs.Prelude.{nat_le, nat_lt}
+use Rattle.std.proofs.Common.{◌≡◌, ℕ, ◌<◌, Bool, true, false, cond, List, Option, Some, None, subst, arith, if◌then◌else◌}
 use Rattle.fc_isa.specs.declared.served.Served.{Served}
 use Rattle.fc_isa.specs.declared.rule.Rule.{Rule}
-use Rattle.fc_isa.specs.declared.rule.Rule.TheVariants.{Format, SlotCount, VarsSize, Budget, Reserved, Opcode, Register, FramePointer, Field, WideLoad, Boundary, Cost}
+use Rattle.fc_isa.specs.declared.rule.Rule.TheVariants.{Format, SlotCount, VarsSize, Budget, Reserved, Boundary, Cost}
 use Rattle.fc_isa.specs.Rules.{number_of}
 use Rattle.fc_image.specs.Head.{head_fault, head_breaks}
 use Rattle.fc_image.specs.Shape.{shape_fault}

@@ -144,7 +144,8 @@ fn second_halves_stand_behind_wide_loads(rt: HostRuntime) {
         Insn::WideSecond,
         Insn::Exit,
     ];
-    assert!(rt; is_program(program.as_slice()));
+    assert!(rt; is_program(&program) && is_program(&program[..0]));
+    assert!(rt; !is_program(&program[..1]));
     let lone = [Insn::Exit, Insn::WideSecond];
     assert!(rt; !is_program(lone.as_slice()));
 }

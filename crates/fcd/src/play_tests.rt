@@ -1,6 +1,7 @@
 // Lines that are played, and what is printed: the expected bytes are those of the protocol, worked out by hand.
+use clap::Error;
 use fc_service::play::play;
-use std::alloc::Global;
+use std::alloc::{AllocError, Global};
 use std::io;
 use std::io::{BufRead, ErrorKind, Read, Write};
 use std::process::Abort;
@@ -282,4 +283,11 @@ fn failed_writing_is_status_3(rt: HostRuntime) {
     }
     assert!(rt; status_in(rt.alloc(), line, 13, 99) == 0);
     assert!(rt; status_in(rt.alloc(), b"bad", 99, 5) == 3);
+}
+
+// A command line that finds no memory isn't a bad one.
+#[test]
+fn a_command_without_memory_is_status_3(rt: HostRuntime) {
+    let status = crate::tell(&rt, &Error::from(AllocError));
+    assert!(rt; status.is_ok_and(|status| status == 3));
 }
