@@ -6,8 +6,8 @@ ghost use Rattle.fc_isa.specs.declared.rule.Rule.{Rule};
 use crate::limits::{Head, is_bad_budget, is_bad_count, is_bad_size};
 use fc_isa::{Fault, Rule};
 
-/// The size of a header in bytes.
-const HEADER_SIZE: usize = 16;
+/// The size of a header in bytes: an image's slots stand behind it.
+pub const HEADER_SIZE: usize = 16;
 
 /// What the header of an image says.
 ///

@@ -6,6 +6,6 @@ pub mod laws;
 pub mod limits;
 pub mod shapes;
 
-pub use header::head;
+pub use header::{HEADER_SIZE, head};
 pub use limits::Head;
 pub use shapes::shape;

@@ -99,7 +99,7 @@ impl Shape {
     }
 
     /// The opcode of the form.
-    pub fn opcode(self) -> u8
+    pub(crate) fn opcode(self) -> u8
         ensures { result ≡ opcode_of self }
     {
         match self {
@@ -138,7 +138,7 @@ impl Shape {
     }
 
     /// Whether the destination register is used.
-    pub fn uses_dst(self) -> bool
+    pub(crate) fn uses_dst(self) -> bool
         ensures { result ≡ uses_dst self }
     {
         !matches!(
@@ -162,7 +162,7 @@ impl Shape {
     }
 
     /// Whether the source field is used.
-    pub fn uses_src(self) -> bool
+    pub(crate) fn uses_src(self) -> bool
         ensures { result ≡ uses_src self }
     {
         match self {
@@ -173,7 +173,7 @@ impl Shape {
     }
 
     /// Whether the offset is used.
-    pub fn uses_offset(self) -> bool
+    pub(crate) fn uses_offset(self) -> bool
         ensures { result ≡ uses_offset self }
     {
         match self {
@@ -189,7 +189,7 @@ impl Shape {
     }
 
     /// Whether the immediate is used.
-    pub fn uses_imm(self) -> bool
+    pub(crate) fn uses_imm(self) -> bool
         ensures { result ≡ uses_imm self }
     {
         match self {

@@ -3,7 +3,7 @@ ghost use Rattle.std.specs.Prelude.{IfOk, string_bytes, ◌≡◌};
 ghost use Rattle.fc_service.specs.Tools.{IsImageOf, IsListingOf};
 
 use fc_asm::{AsmError, Mistake, assemble, disassemble};
-use fc_image::{Head, head};
+use fc_image::{HEADER_SIZE, Head, head};
 use fc_isa::{DecodeError, Fault, decode, encode};
 use fc_verify::{Refusal, verify};
 use std::alloc::{AllocError, Global};
@@ -19,9 +19,6 @@ const REFUSED: u8 = 1;
 
 /// The status where reading or writing failed, or memory was refused.
 const FAILED: u8 = 3;
-
-/// The size of an image's header in bytes.
-const HEADER: usize = 16;
 
 /// Why a tool has no result.
 #[derive(Debug, Drop, Error)]
@@ -187,7 +184,7 @@ pub fn image_of(
     let program = assemble(alloc, text)?;
     let head = Head::new(vars_size, program.len(), budget)?;
     let slots = encode(alloc, &program)?;
-    let mut image = Vec::with_capacity(alloc, HEADER)?;
+    let mut image = Vec::with_capacity(alloc, HEADER_SIZE)?;
     image.extend_from_slice(&head.bytes())?;
     image.extend_from_slice(&slots)?;
     Ok(image)
@@ -201,6 +198,6 @@ pub fn listing_of(alloc: Global, image: &[u8]) -> Result<String, ToolError>
     ensures { IfOk result (λ s. IsListingOf image.now (string_bytes s)) }
 {
     let _head = head(image)?;
-    let program = decode(alloc, &image[HEADER..])?;
+    let program = decode(alloc, &image[HEADER_SIZE..])?;
     Ok(disassemble(alloc, &program)?)
 }

@@ -9,13 +9,10 @@ ghost use Rattle.fc_verify.specs.Stages.{IsHeadOf, IsCodeOf};
 use crate::refusal::Refusal;
 use crate::typing::type_slots;
 use crate::verified::Verified;
-use fc_image::{Head, head, shape};
+use fc_image::{HEADER_SIZE, Head, head, shape};
 use fc_isa::served::{first_refused_is_first, unrefused_bytes_spell};
 use fc_isa::{Served, decode_served};
 use std::alloc::Global;
-
-/// The bytes of an image's header.
-pub(crate) const HEADER: usize = 16;
 
 /// Verifies an image: the sixteen bytes of its header, and its slots of eight bytes each.
 ///
@@ -64,5 +61,5 @@ pub(crate) fn slots(image: &[u8]) -> &[u8]
     requires { 16 ≤ length image.now }
     ensures { result.now ≡ slots_of image.now }
 {
-    &image[HEADER..]
+    &image[HEADER_SIZE..]
 }

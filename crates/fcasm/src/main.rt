@@ -1,13 +1,6 @@
 //! The assembler's program: it parses its command line, and calls the service.
 #![tactic(auto)]
 
-#[cfg(test)]
-mod asm_tests;
-#[cfg(test)]
-mod isa_tests;
-#[cfg(test)]
-mod tool_tests;
-
 use clap::error::ErrorKind;
 use clap::{Arg, ArgMatches, Command, Error, value_parser};
 use fc_service::tools::{check, image, list};

@@ -2,13 +2,19 @@
 #![tactic(auto)]
 
 #[cfg(test)]
+mod asm_tests;
+#[cfg(test)]
 mod event_tests;
+#[cfg(test)]
+mod isa_tests;
 #[cfg(test)]
 mod message_tests;
 #[cfg(test)]
 mod play_tests;
 #[cfg(test)]
 mod request_tests;
+#[cfg(test)]
+mod tool_tests;
 
 use clap::error::ErrorKind;
 use clap::{Command, Error};

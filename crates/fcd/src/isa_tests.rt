@@ -128,9 +128,6 @@ fn forms_are_told_by_the_opcode(rt: HostRuntime) {
         source: Source::K,
     };
     assert!(rt; Shape::of(0x37) == divide);
-    assert!(rt; divide.opcode() == 0x37);
-    assert!(rt; divide.uses_dst() && divide.uses_offset() && divide.uses_imm());
-    assert!(rt; !divide.uses_src());
     assert!(rt; Shape::of(0xff) == Shape::Unknown);
 }
 

@@ -1,5 +1,4 @@
 // Texts and images through the tools, with what is written and told: the expected values are the format's rules.
-use clap::Error;
 use fc_service::tools::{check, image, list};
 use std::alloc::{AllocError, Global};
 use std::io;
@@ -284,11 +283,4 @@ fn a_mistake_that_is_not_told_is_status_3(rt: HostRuntime) -> Result<(), Fail> {
     assert!(rt; image(alloc, &mut text, &mut out, &mut Full(3), 0, 1) == 3);
     assert!(rt; out.is_empty());
     Ok(())
-}
-
-// A command line that finds no memory isn't a bad one.
-#[test]
-fn a_command_without_memory_is_status_3(rt: HostRuntime) {
-    let status = crate::tell(&rt, &Error::from(AllocError));
-    assert!(rt; status.is_ok_and(|status| status == 3));
 }
