@@ -3,3 +3,4 @@ pub mod Unfold
 pub mod Quiet
 pub mod Takings
 pub mod Read
+pub mod Sources

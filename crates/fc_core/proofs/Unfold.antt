@@ -28,3 +28,7 @@ changes-cons r h n = refl
 pub stage-nil : (k : ℕ) → stage [] k ≡ Gone
 unfolding stage
 stage-nil k = refl
+
+pub changes-nil : (n : ℕ) → changes [] n ≡ []
+unfolding changes
+changes-nil n = refl

@@ -2,6 +2,7 @@
 use Rattle.std.specs.Prelude.{◌≡◌, ℕ, ◌+◌, ◌==◌, Bool, true, false, if◌then◌else◌, List, [], ◌∷◌}
 use Rattle.fc_verify.specs.Accepted.{Judgement, Accepts}
 use Rattle.fc_verify.specs.Judged.{judged}
+use Rattle.fc_kinds.specs.Meaning.{Program}
 use Rattle.fc_core.specs.declared.event.Event.{Event}
 use Rattle.fc_core.specs.declared.event.Event.TheVariants.{Deliver, Take, Commit, Install, Raise, Answer, Tick, Lose}
 use Rattle.fc_core.specs.declared.stage.Stage.{Stage}
@@ -52,3 +53,8 @@ takes other k before after = false
 abbrev pub takings_of : List Entry → ℕ → ℕ
 takings_of [] k = 0
 takings_of (r ∷ h) k = if takes r.event k (stage h k) (stage (r ∷ h) k) then takings_of h k + 1 else takings_of h k
+
+-- some image is accepted as this program
+pub record IsOfImage (p : Program) : Type 0 where
+  pub image : List ℕ
+  pub accepted : judged image ≡ Accepts p

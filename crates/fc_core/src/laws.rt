@@ -1,7 +1,8 @@
 //! What a history promises of jobs and slots: each function is a law, and its contract says it.
-ghost use Rattle.fc_core.specs.History.{Entry, History, changes, job};
-ghost use Rattle.fc_core.specs.Laws.{IsRefused, SaysSame, is_stray, takings_of};
+ghost use Rattle.fc_core.specs.History.{Entry, History, changes, job, slot_at};
+ghost use Rattle.fc_core.specs.Laws.{IsOfImage, IsRefused, SaysSame, is_stray, takings_of};
 ghost use Rattle.fc_core.specs.Stages.{names};
+ghost use Rattle.fc_registry.specs.Slots.{Present};
 ghost use Rattle.std.specs.Prelude.{None, Some, true, ℕ, ◌∷◌, ◌≡◌, ◌≤◌};
 
 /// An event that comes when its job isn't at the stage that the event needs changes nothing that can be asked: no stage,
@@ -24,4 +25,10 @@ pub fn only_the_slot_changes()
 /// A job takes at most eight tickets.
 pub fn takings_are_few()
     ensures { (h : History) (k : ℕ) → takings_of h k ≤ 8 }
+{}
+
+/// Each program in a slot is one that some image is accepted as. So each run of it reaches its exit, in at most the steps
+/// of its longest path, and those are within its budget, as the verifier's laws say of what is accepted.
+pub fn programs_in_slots_are_accepted()
+    ensures { (h : History) (n : ℕ) (p : Present) → (slot_at h n).present ≡ Some p → IsOfImage p.program }
 {}
