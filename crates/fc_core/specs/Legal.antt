@@ -6,17 +6,17 @@ use Rattle.fc_core.specs.Asked.{Request, asked}
 use Rattle.fc_image.specs.Longest.{IsLongest}
 use Rattle.fc_kinds.specs.Meaning.{IsRun}
 use Rattle.fc_registry.specs.declared.job.Job.{Job}
-use Rattle.fc_registry.specs.Slots.{Ticket}
+use Rattle.fc_registry.specs.Slots.{Slot, Present, Ticket}
 use Rattle.fc_core.specs.declared.event.Event.{Event}
 use Rattle.fc_core.specs.declared.event.Event.TheVariants.{Deliver, Take, Answer}
 use Rattle.fc_core.specs.declared.stage.Stage.{Stage}
-use Rattle.fc_core.specs.declared.stage.Stage.TheVariants.{ToCommit}
+use Rattle.fc_core.specs.declared.stage.Stage.TheVariants.{ToTake}
 use Rattle.fc_core.specs.Contents.{Content}
 use Rattle.fc_core.specs.Replies.{IsReplyTo}
 use Rattle.fc_core.specs.Exchanges.{is_live}
 use Rattle.fc_core.specs.Deliveries.{turned_away}
-use Rattle.fc_core.specs.Stages.{content_at}
-use Rattle.fc_core.specs.History.{Entry, History, moment, openings, stage, job, room_at}
+use Rattle.fc_core.specs.Stages.{content_at, ticket_of}
+use Rattle.fc_core.specs.History.{Entry, History, moment, openings, stage, job, room_at, slot_at}
 
 -- a delivery emits only where a request finds no room
 abbrev pub delivery_emits : Option Request → Bool → Endpoint → Option Emission
@@ -52,15 +52,20 @@ pub record IsMeant (t : Ticket) : Type 0 where
   pub longest : IsLongest t.found.program.code t.found.program.cost
   pub cost : t.found.program.cost ≤ t.found.program.budget
 
-abbrev pub HasMeaning : Stage → Type 0
-HasMeaning (ToCommit taken t) = IsMeant t
-HasMeaning other = Unit {0}
+-- what a job finds in its slot at this serial, if it is a program, has a meaning for the job's request
+abbrev pub FoundMeans : Job → ℕ → Option Present → Type 0
+FoundMeans j serial None = Unit {0}
+FoundMeans j serial (Some found) = IsMeant (ticket_of j serial found)
 
--- what a taking that found a program leaves has a meaning
+abbrev pub FindsMeaning : Job → Slot → Stage → Type 0
+FindsMeaning j slot (ToTake taken) = FoundMeans j slot.serial slot.present
+FindsMeaning j slot other = Unit {0}
+
+-- a taking at its stage that finds a program finds one with a meaning, whether or not there is memory for a ticket
 abbrev pub TakesMeaning : History → Event → Type 0
-TakesMeaning h (Take k memory) = HasMeaning (stage h k)
+TakesMeaning h (Take k memory) = FindsMeaning (job h k) (slot_at h (job h k).origin.slot) (stage h k)
 TakesMeaning h other = Unit {0}
 
 abbrev pub AllMean : List Entry → Type 0
 AllMean [] = Unit {0}
-AllMean (r ∷ h) = TakesMeaning (r ∷ h) r.event × AllMean h
+AllMean (r ∷ h) = TakesMeaning h r.event × AllMean h

@@ -7,7 +7,8 @@ use Rattle.std.proofs.Math.ListN.{get_or-map}
 use Rattle.std.proofs.Math.Seq.{map-set_same}
 use Rattle.fc_registry.specs.declared.job.Opening.{Opening}
 use Rattle.fc_registry.specs.declared.job.Job.{Job}
-use Rattle.fc_registry.specs.Slots.{Slot, Shard}
+use Rattle.fc_registry.specs.Slots.{Slot, Shard, Present}
+use Rattle.fc_registry.specs.Calls.{AsksRun}
 use Rattle.fc_registry.specs.Changes.{Change, after_changes}
 use Rattle.fc_registry.specs.Record.{IsChain}
 use Rattle.fc_core.specs.declared.event.Event.{Event}
@@ -16,8 +17,8 @@ use Rattle.fc_core.specs.declared.stage.Stage.{Stage}
 use Rattle.fc_core.specs.declared.stage.Stage.TheVariants.{ToTake, ToCommit, ToInstall, ToRaise, ToAnswer, Gone}
 use Rattle.fc_core.specs.Exchanges.{Desk, is_live}
 use Rattle.fc_core.specs.Stages.{names, moved, changes_by}
-use Rattle.fc_core.specs.History.{History, Entry, moment, openings, jobs, stage, changes, moment_after, opened_by, brought_by, stage_brought, stage_named, named_in, is_number, is_of_slot, job_in, slot_at, first_slot, no_job}
-use Rattle.fc_core.specs.Legal.{Emits, TakesMeaning, HasMeaning}
+use Rattle.fc_core.specs.History.{History, Entry, moment, openings, jobs, stage, changes, moment_after, opened_by, brought_by, stage_brought, stage_named, named_in, is_number, is_of_slot, job_in, slot_at, first_slot, no_job, job}
+use Rattle.fc_core.specs.Legal.{Emits, TakesMeaning, FoundMeans, FindsMeaning}
 use Rattle.fc_world.specs.declared.task.Task.{Task}
 use Rattle.fc_world.specs.declared.state.State.{State}
 use Rattle.fc_world.specs.Shards.{shard_at, slot_of}
@@ -27,7 +28,7 @@ use Rattle.fc_world.specs.Agreement.{no_task, task_at, FrontAgrees, SlotsAgree, 
 use Rattle.fc_world.specs.States.{Moves, Steps}
 use Rattle.fc_world.proofs.Unfold.{moment-cons, openings-cons, jobs-cons, stage-cons, changes-cons}
 use Rattle.fc_world.proofs.Places.{Keeps, count_written, index_written, size_written, slot_here, slot_there}
-use Rattle.fc_world.proofs.Fitting.{after_changes-append, moved_fits, fits_changed, goes_on, SlotGoesOn}
+use Rattle.fc_world.proofs.Fitting.{after_changes-append, moved_fits, taking_fits, fits_changed, goes_on, SlotGoesOn}
 
 -- a front agrees with any history that says the same of it
 pub front_same : (h g : History) (d : Desk) → moment g ≡ moment h → openings g ≡ openings h → FrontAgrees h d → FrontAgrees g d
@@ -187,18 +188,29 @@ module _ (r : Entry) (h : History) (j : ℕ) (named : names r.event ≡ Some j) 
             (cases_eq k j);
       }
 
--- what a fit job's ticket means
-meaning_of_fit : (job : Job) (slot : Slot) (st : Stage) → FitsStage job slot st → HasMeaning st
-meaning_of_fit job slot (ToCommit n t) f = record { run = f.3.safe.runs.run t.request t.found.vars f.3.input; longest = f.3.safe.longest; cost = f.3.safe.runs.cost }
-meaning_of_fit job slot (ToTake n) f = tt
-meaning_of_fit job slot ToInstall f = tt
-meaning_of_fit job slot (ToRaise content) f = tt
-meaning_of_fit job slot (ToAnswer content) f = tt
-meaning_of_fit job slot Gone f = tt
+-- what a fit job finds in a fit slot has a meaning
+found_means : (job : Job) (slot : Slot) (n : ℕ) (p : Option Present) → slot.present ≡ p → FitsSlot p → AskWithin job.ask → AsksRun job.ask → n < 8 → FoundMeans job slot.serial p
+found_means job slot n None e fp fa asks lt = tt
+found_means job slot n (Some p) e fp fa asks lt =
+    let t = (taking_fits true job slot n (Some p) e fp fa asks lt).3 in
+    record { run = t.safe.runs.run _ _ t.input; longest = t.safe.longest; cost = t.safe.runs.cost }
 
--- where a state agrees with a history, each job that is to commit has a meaning
-pub all_mean : (h : History) (d : Desk) (shards : List Shard) (tasks : List Task) → Agrees h d shards tasks → (k : ℕ) → HasMeaning (stage h k)
-all_mean h d shards tasks a k = subst HasMeaning (a.entries.stage_is k) (meaning_of_fit (task_at tasks k).job (slot_of shards (task_at tasks k).job.origin.slot) (task_at tasks k).stage (a.fit.stage k))
+fit_means : (job : Job) (slot : Slot) (st : Stage) → FitsSlot slot.present → AskWithin job.ask → FitsStage job slot st → FindsMeaning job slot st
+fit_means job slot (ToTake n) fp fa f = found_means job slot n slot.present refl fp fa f.0 f.1
+fit_means job slot (ToCommit n t) fp fa f = tt
+fit_means job slot ToInstall fp fa f = tt
+fit_means job slot (ToRaise content) fp fa f = tt
+fit_means job slot (ToAnswer content) fp fa f = tt
+fit_means job slot Gone fp fa f = tt
+
+-- where a state agrees with a history, what a job finds has a meaning
+pub all_mean : (h : History) (d : Desk) (shards : List Shard) (tasks : List Task) → Agrees h d shards tasks → (k : ℕ) → FindsMeaning (job h k) (slot_at h (job h k).origin.slot) (stage h k)
+all_mean h d shards tasks a k =
+    let t = task_at tasks k in
+    let found = slot_at h t.job.origin.slot in
+    let fits = subst (λ (x : Slot). FitsStage t.job x t.stage) (a.slots.slot t.job.origin.slot (a.fit.slot k)) (a.fit.stage k) in
+    subst (λ (x : Job). FindsMeaning x (slot_at h x.origin.slot) (stage h k)) (job_is h tasks a.entries k)
+    (fit_means t.job found (stage h k) (a.slots.fits t.job.origin.slot (a.fit.slot k)) (a.fit.ask k) (subst (λ (st : Stage). FitsStage t.job found st) (a.entries.stage_is k) fits))
 
 -- an event on a job, that brings none and emits nothing
 pub record Quiet (e : Event) (j : ℕ) : Type 0 where
@@ -207,7 +219,7 @@ pub record Quiet (e : Event) (j : ℕ) : Type 0 where
   pub opens : (n : ℕ) (os : List Opening) → opened_by e n os ≡ []
   pub brings : (n : ℕ) (os : List Opening) → brought_by e n os ≡ []
   pub emits : (h : History) → Emits h e None
-  pub means : (h : History) → ((k : ℕ) → HasMeaning (stage h k)) → TakesMeaning h e
+  pub means : (h : History) → ((k : ℕ) → FindsMeaning (job h k) (slot_at h (job h k).origin.slot) (stage h k)) → TakesMeaning h e
 
 pub moves_step : (e : Event) (j : ℕ) (old new : State) → Quiet e j → j < length old.tasks.items → Moves e j old new → Steps e old None new
 moves_step e j old new q lt m h a =
@@ -221,6 +233,6 @@ moves_step e j old new q lt m h a =
     } in
     record {
       emits = q.emits h;
-      means = q.means (r ∷ h) (all_mean (r ∷ h) new.front new.shards.items new.tasks.items agrees);
+      means = q.means h (all_mean h old.front old.shards.items old.tasks.items a);
       agrees = agrees;
     }

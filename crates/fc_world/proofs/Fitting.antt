@@ -52,7 +52,7 @@ payload_fits : (ask : Ask) → AskWithin ask → length (request_of ask).payload
 payload_fits (Run request) f = f
 payload_fits (Installs image) f = omega arith
 
-taking_fits : (memory : Bool) (job : Job) (slot : Slot) (n : ℕ) (p : Option Present) → slot.present ≡ p → FitsSlot p → AskWithin job.ask → AsksRun job.ask → n < 8 → FitsStage job slot (taking memory job n slot.serial p)
+pub taking_fits : (memory : Bool) (job : Job) (slot : Slot) (n : ℕ) (p : Option Present) → slot.present ≡ p → FitsSlot p → AskWithin job.ask → AsksRun job.ask → n < 8 → FitsStage job slot (taking memory job n slot.serial p)
 taking_fits memory job slot n None e fp fa asks lt = tt
 taking_fits true job slot n (Some p) e fp fa asks lt =
     (asks, omega arith, refl, record { serial = omega arith; current = λ _. e; input = record { payload = payload_fits job.ask fa; vars = fp.vars }; safe = fp.safe })

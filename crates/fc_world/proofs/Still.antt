@@ -69,7 +69,7 @@ past_step e j w q le stays_gone still h a =
     let agrees : Agrees (r ∷ h) w.front w.shards.items w.tasks.items = stays h (r ∷ h) w w.front (jobs_stay r h brings)
     (λ k. stage_unmoved r h j k q.named brings gone stays_gone) (λ n. changes_unmoved r h j n q.named gone still)
     (front_same h (r ∷ h) w.front (moment-cons r h ∙ q.moment_stays _ _) (openings_stay r h opens) a.front) a in
-    record { emits = q.emits h; means = q.means (r ∷ h) (all_mean (r ∷ h) w.front w.shards.items w.tasks.items agrees); agrees = agrees }
+    record { emits = q.emits h; means = q.means h (all_mean h w.front w.shards.items w.tasks.items a); agrees = agrees }
 
 -- what an event says that names no job and brings none
 pub stage_idle : (r : Entry) (h : History) (k : ℕ) → names r.event ≡ None → brought_by r.event (moment h) (openings h) ≡ [] → stage (r ∷ h) k ≡ stage h k
@@ -93,7 +93,7 @@ idle_step e w q h a =
     let brings = q.brings (moment h) (openings h) in
     record {
       emits = q.emits h;
-      means = q.means (r ∷ h);
+      means = q.means h;
       agrees = stays h (r ∷ h) w w.front (jobs_stay r h brings) (λ k. stage_idle r h k q.names_none brings) (λ n. changes_idle r h n q.names_none)
           (front_same h (r ∷ h) w.front (moment-cons r h ∙ q.moment_stays _ _) (openings_stay r h (q.opens (moment h) (openings h))) a.front) a;
     }

@@ -69,7 +69,7 @@ pub record Ticked (now : ℕ) (old new : State) : Type 0 where
 -- that history and this event
 pub record Step (e : Event) (old : State) (emitted : Option Emission) (new : State) (h : History) : Type 0 where
   pub emits : Emits h e emitted
-  pub means : TakesMeaning (record { event = e; emitted = emitted } ∷ h) e
+  pub means : TakesMeaning h e
   pub agrees : Agrees (record { event = e; emitted = emitted } ∷ h) new.front new.shards.items new.tasks.items
 
 abbrev pub Steps : Event → State → Option Emission → State → Type 0
