@@ -22,7 +22,7 @@ fn check_refusals(rt: &impl Abort, cases: &[(&[u8], Option<Bad>)]) {
 }
 
 static HEADER_CASES: [(&[u8], Option<Bad>); 10] = [
-    // Empty messages of each type, and a ping.
+    // Empty messages: a confirmable one, which is a ping, and a reset.
     (b"\x40\x00\x00\x07", None),
     (b"\x70\x00\x00\x07", None),
     // Too short, and another version.

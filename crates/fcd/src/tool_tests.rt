@@ -75,7 +75,7 @@ fn is_listed<R: Abort + AllocGlobal>(rt: &R, image: &[u8], text: &str) -> Result
     Ok(())
 }
 
-// An image of version 1 with no variables, the budget and the slots.
+// An image with no variables, the budget and the slots.
 fn image_with(alloc: Global, budget: u8, slots: &[[u8; 8]]) -> Result<Vec<u8>, Fail> {
     let count = u8::try_from(slots.len()).ok().ok_or("too many slots")?;
     let mut image = Vec::new(alloc);
