@@ -12,6 +12,7 @@ use coap_msg::{Emission, Endpoint};
 use std::alloc::{AllocError, Global};
 use std::io;
 use std::io::{BufRead, Write};
+use thiserror::Error;
 
 /// The port of CoAP (RFC 7252, 6.1).
 const PORT: u16 = 5683;
@@ -26,29 +27,20 @@ const BAD_LINE: u8 = 2;
 const FAILED: u8 = 3;
 
 // Why a play stops before the end of its input.
-#[derive(Clone, Copy)]
+#[derive(Debug, Drop, Error)]
 enum Stop {
-    // The line of this number is bad.
+    #[error("line {0}: bad")]
     BadLine(u64),
-    // Reading or writing failed, or memory was refused.
-    Failed,
-}
-
-impl From<io::Error> for Stop {
-    fn from(_error: io::Error) -> Self {
-        Stop::Failed
-    }
-}
-
-impl From<AllocError> for Stop {
-    fn from(_error: AllocError) -> Self {
-        Stop::Failed
-    }
+    #[error("{0}")]
+    Io(#[from] io::Error),
+    #[error("{0}")]
+    Memory(#[from] AllocError),
 }
 
 /// Reads lines, carries out each in turn on an engine of its own, and prints what each sends before it reads the next.
 /// What it answers is the status of the program: 0 at the end of the input, 2 where a line is bad, which `err` is told
-/// by its number from 1, and 3 where reading or writing failed, or there was no memory for the engine or a line.
+/// by its number from 1, and 3 where reading or writing failed, or there was no memory for the engine or a line, which
+/// `err` is told as well.
 pub fn play<R: BufRead + Drop, W: Write, E: Write>(
     alloc: Global,
     input: R,
@@ -61,18 +53,16 @@ pub fn play<R: BufRead + Drop, W: Write, E: Write>(
 {
     match play_lines(alloc, input, out, first_serial, first_id) {
         Ok(()) => DONE,
-        Err(stop) => tell(err, stop),
+        Err(stop) => tell(err, &stop),
     }
 }
 
-// Tells why a play stopped, where a line was bad: the status.
-fn tell<E: Write>(err: &mut E, stop: Stop) -> u8 {
+// Tells why a play stopped: the status.
+fn tell<E: Write>(err: &mut E, stop: &Stop) -> u8 {
+    let told = writeln!(err, "{stop}");
     match stop {
-        Stop::BadLine(number) => match writeln!(err, "line {number}: bad") {
-            Ok(()) => BAD_LINE,
-            Err(_) => FAILED,
-        },
-        Stop::Failed => FAILED,
+        Stop::BadLine(_) if told.is_ok() => BAD_LINE,
+        _ => FAILED,
     }
 }
 
@@ -105,7 +95,7 @@ fn play_line<W: Write>(
     match parse(alloc, text) {
         Ok(line) => Ok(carry_out(alloc, engine, &line, out)?),
         Err(LineError::Bad) => Err(Stop::BadLine(number)),
-        Err(LineError::NoMemory) => Err(Stop::Failed),
+        Err(LineError::NoMemory) => Err(Stop::Memory(AllocError)),
     }
 }
 

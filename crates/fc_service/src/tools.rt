@@ -63,7 +63,7 @@ impl From<Fault> for ToolError {
 
 /// Reads a text, assembles it, and writes the image with this size of the variables, in bytes, and this budget. What it
 /// answers is the status of the program: 0 where the image is written; 1 where the text has a mistake, or else a number
-/// of the header is out of its limits, which `err` is told; 3 where reading or writing failed, or there was no memory.
+/// of the header is out of its limits; 3 where reading or writing failed, or there was no memory. `err` is told why.
 pub fn image<R: Read, W: Write, E: Write>(
     alloc: Global,
     input: &mut R,
@@ -79,8 +79,8 @@ pub fn image<R: Read, W: Write, E: Write>(
 }
 
 /// Reads an image and writes its listing. What it answers is the status of the program: 0 where the listing is written; 1
-/// where the header or a slot breaks a rule, which `err` is told with the slot; 3 where reading or writing failed, or
-/// there was no memory.
+/// where the header or a slot breaks a rule; 3 where reading or writing failed, or there was no memory. `err` is told
+/// why.
 pub fn list<R: Read, W: Write, E: Write>(
     alloc: Global,
     input: &mut R,
@@ -95,22 +95,25 @@ pub fn list<R: Read, W: Write, E: Write>(
 
 /// Reads an image, and says on `out` whether it is accepted: with its cost and budget, or the first rule that it breaks.
 /// What it answers is the status of the program: 0 where it is accepted, 1 where it is not, 3 where reading or writing
-/// failed, or there was no memory.
-pub fn check<R: Read, W: Write>(alloc: Global, input: &mut R, out: &mut W) -> u8 {
+/// failed, or there was no memory, which `err` is told.
+pub fn check<R: Read, W: Write, E: Write>(
+    alloc: Global,
+    input: &mut R,
+    out: &mut W,
+    err: &mut E,
+) -> u8 {
     match write_verdict(alloc, input, out) {
         Ok(status) => status,
-        Err(_) => FAILED,
+        Err(error) => tell(err, &error),
     }
 }
 
-// Tells why a text or an image is refused: the status.
+// Tells why there is no result: the status.
 fn tell<E: Write>(err: &mut E, error: &ToolError) -> u8 {
+    let told = writeln!(err, "{error}");
     match error {
-        ToolError::Text(_) | ToolError::Image(_) => match writeln!(err, "{error}") {
-            Ok(()) => REFUSED,
-            Err(_) => FAILED,
-        },
-        ToolError::Io(_) | ToolError::Memory(_) => FAILED,
+        ToolError::Text(_) | ToolError::Image(_) if told.is_ok() => REFUSED,
+        _ => FAILED,
     }
 }
 

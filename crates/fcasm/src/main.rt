@@ -59,8 +59,23 @@ fn tell<R: Runtime>(rt: &R, error: &Error) -> anyhow::Result<u8> {
 }
 
 fn run<R: Runtime + AllocGlobal, E: Write>(rt: &R, err: &mut E) -> anyhow::Result<u8> {
+    match std::env::args(rt) {
+        Ok(words) => obey(rt, err, words.collect(rt.alloc())?),
+        Err(error) if error.kind() == io::ErrorKind::InvalidData => {
+            writeln!(err, "error: a word of the command line isn't UTF-8")?;
+            Ok(BAD_COMMAND)
+        }
+        Err(error) => Err(error.into()),
+    }
+}
+
+// Does what the words of the command line ask for.
+fn obey<R: Runtime + AllocGlobal, E: Write>(
+    rt: &R,
+    err: &mut E,
+    words: Vec<String>,
+) -> anyhow::Result<u8> {
     let alloc = rt.alloc();
-    let words: Vec<String> = std::env::args(rt)?.collect(alloc)?;
     let matches = match command(alloc)?.try_get_matches_from(words.as_slice()) {
         Ok(matches) => matches,
         Err(error) => return tell(rt, &error),
@@ -70,7 +85,7 @@ fn run<R: Runtime + AllocGlobal, E: Write>(rt: &R, err: &mut E) -> anyhow::Resul
     match matches.subcommand() {
         Some(("image", numbers)) => Ok(write_image(alloc, &mut input, &mut out, err, numbers)),
         Some(("list", _)) => Ok(list(alloc, &mut input, &mut out, err)),
-        Some(("check", _)) => Ok(check(alloc, &mut input, &mut out)),
+        Some(("check", _)) => Ok(check(alloc, &mut input, &mut out, err)),
         _ => Ok(BAD_COMMAND),
     }
 }
@@ -93,8 +108,12 @@ fn write_image<R: Read, W: Write, E: Write>(
 }
 
 fn main(rt: HostRuntime) -> ExitCode {
-    match run(&rt, &mut rt.stderr()) {
+    let mut err = rt.stderr();
+    match run(&rt, &mut err) {
         Ok(status) => ExitCode::from(status),
-        Err(_) => ExitCode::from(FAILED),
+        Err(error) => {
+            let _told = writeln!(err, "{error}");
+            ExitCode::from(FAILED)
+        }
     }
 }

@@ -1,4 +1,5 @@
 // Programs and their bytes: the expected values are worked out by hand from the standard's tables.
+use fc_asm::disassemble;
 use fc_isa::{
     AluOp, DecodeError, Fault, Insn, Jump, LoadType, Operand, Reg, Relation, Rule, Shape, Size,
     Source, Target, Width, decode, encode, is_program,
@@ -6,21 +7,22 @@ use fc_isa::{
 use std::process::Abort;
 use std::test::Fail;
 
-// The bytes are read as the program, and the program is written as the bytes.
+// The bytes are read as the program, which is listed as the line, and the program is written as the bytes.
 fn check_spelling<R: Abort + AllocGlobal>(
     rt: &R,
+    line: &str,
     bytes: &[u8],
     program: &[Insn],
 ) -> Result<(), Fail> {
     let read = decode(rt.alloc(), bytes)?;
     assert!(rt; read.as_slice() == program);
+    assert!(rt; disassemble(rt.alloc(), &read)?.as_str() == line);
     assert!(rt; is_program(program));
     let written = encode(rt.alloc(), program)?;
     assert!(rt; written.as_slice() == bytes);
     Ok(())
 }
 
-// lddw r1, 4294967303
 #[test]
 fn wide_load_has_two_slots(rt: HostRuntime) -> Result<(), Fail> {
     let bytes = b"\x18\x01\x00\x00\x07\x00\x00\x00\x00\x00\x00\x00\x01\x00\x00\x00";
@@ -28,10 +30,14 @@ fn wide_load_has_two_slots(rt: HostRuntime) -> Result<(), Fail> {
         dst: Target::new(1),
         value: 4_294_967_303,
     };
-    check_spelling(&rt, bytes, [load, Insn::WideSecond].as_slice())
+    check_spelling(
+        &rt,
+        "lddw r1, 4294967303\n",
+        bytes,
+        [load, Insn::WideSecond].as_slice(),
+    )
 }
 
-// stxdw r10, -8, r1
 #[test]
 fn store_has_a_signed_offset(rt: HostRuntime) -> Result<(), Fail> {
     let store = Insn::Store {
@@ -40,10 +46,14 @@ fn store_has_a_signed_offset(rt: HostRuntime) -> Result<(), Fail> {
         offset: -8,
         src: Reg::new(1),
     };
-    check_spelling(&rt, b"\x7b\x1a\xf8\xff\x00\x00\x00\x00", [store].as_slice())
+    check_spelling(
+        &rt,
+        "stxdw r10, -8, r1\n",
+        b"\x7b\x1a\xf8\xff\x00\x00\x00\x00",
+        [store].as_slice(),
+    )
 }
 
-// jset32 r1, 7, 3
 #[test]
 fn jump_has_an_offset_and_an_immediate(rt: HostRuntime) -> Result<(), Fail> {
     let jump = Insn::JumpIf(Jump {
@@ -53,10 +63,14 @@ fn jump_has_an_offset_and_an_immediate(rt: HostRuntime) -> Result<(), Fail> {
         right: Operand::Imm(7),
         offset: 3,
     });
-    check_spelling(&rt, b"\x46\x01\x03\x00\x07\x00\x00\x00", [jump].as_slice())
+    check_spelling(
+        &rt,
+        "jset32 r1, 7, 3\n",
+        b"\x46\x01\x03\x00\x07\x00\x00\x00",
+        [jump].as_slice(),
+    )
 }
 
-// ldsxw r0, r4, 0
 #[test]
 fn signed_load_is_told_by_its_mode(rt: HostRuntime) -> Result<(), Fail> {
     let load = Insn::Load {
@@ -65,10 +79,14 @@ fn signed_load_is_told_by_its_mode(rt: HostRuntime) -> Result<(), Fail> {
         base: Reg::new(4),
         offset: 0,
     };
-    check_spelling(&rt, b"\x81\x40\x00\x00\x00\x00\x00\x00", [load].as_slice())
+    check_spelling(
+        &rt,
+        "ldsxw r0, r4, 0\n",
+        b"\x81\x40\x00\x00\x00\x00\x00\x00",
+        [load].as_slice(),
+    )
 }
 
-// sdiv64 r0, -1
 #[test]
 fn signed_division_is_told_by_its_offset(rt: HostRuntime) -> Result<(), Fail> {
     let divide = Insn::Alu {
@@ -79,6 +97,7 @@ fn signed_division_is_told_by_its_offset(rt: HostRuntime) -> Result<(), Fail> {
     };
     check_spelling(
         &rt,
+        "sdiv64 r0, -1\n",
         b"\x37\x00\x01\x00\xff\xff\xff\xff",
         [divide].as_slice(),
     )

@@ -6,6 +6,8 @@ mod asm_tests;
 #[cfg(test)]
 mod event_tests;
 #[cfg(test)]
+mod faulty;
+#[cfg(test)]
 mod isa_tests;
 #[cfg(test)]
 mod message_tests;
@@ -59,9 +61,23 @@ fn tell<R: Runtime>(rt: &R, error: &Error) -> anyhow::Result<u8> {
 }
 
 fn run<R: Runtime + AllocGlobal, E: Write>(rt: &R, err: &mut E) -> anyhow::Result<u8> {
-    let alloc = rt.alloc();
-    let words: Vec<String> = std::env::args(rt)?.collect(alloc)?;
-    let matches = match command(alloc)?.try_get_matches_from(words.as_slice()) {
+    match std::env::args(rt) {
+        Ok(words) => obey(rt, err, words.collect(rt.alloc())?),
+        Err(error) if error.kind() == io::ErrorKind::InvalidData => {
+            writeln!(err, "error: a word of the command line isn't UTF-8")?;
+            Ok(BAD_COMMAND)
+        }
+        Err(error) => Err(error.into()),
+    }
+}
+
+// Does what the words of the command line ask for.
+fn obey<R: Runtime + AllocGlobal, E: Write>(
+    rt: &R,
+    err: &mut E,
+    words: Vec<String>,
+) -> anyhow::Result<u8> {
+    let matches = match command(rt.alloc())?.try_get_matches_from(words.as_slice()) {
         Ok(matches) => matches,
         Err(error) => return tell(rt, &error),
     };
@@ -80,8 +96,12 @@ fn play_input<R: Runtime + AllocGlobal, E: Write>(rt: &R, err: &mut E) -> anyhow
 }
 
 fn main(rt: HostRuntime) -> ExitCode {
-    match run(&rt, &mut rt.stderr()) {
+    let mut err = rt.stderr();
+    match run(&rt, &mut err) {
         Ok(status) => ExitCode::from(status),
-        Err(_) => ExitCode::from(FAILED),
+        Err(error) => {
+            let _told = writeln!(err, "{error}");
+            ExitCode::from(FAILED)
+        }
     }
 }

@@ -1,9 +1,10 @@
 // Lines that are played, and what is printed: the expected bytes are those of the protocol, worked out by hand.
+use crate::faulty::{Full, Unflushed};
 use clap::Error;
 use fc_service::play::play;
 use std::alloc::{AllocError, Global};
 use std::io;
-use std::io::{BufRead, ErrorKind, Read, Write};
+use std::io::{BufRead, ErrorKind, Read};
 use std::process::Abort;
 
 // The greatest serial.
@@ -245,29 +246,10 @@ impl BufRead for Torn<'_> {
     }
 }
 
-// A writer that fails behind so many bytes.
-#[derive(Drop)]
-struct Full(usize);
-
-impl Write for Full {
-    fn write(&mut self, buf: &[u8]) -> io::Result<usize> {
-        let count = buf.len().min(self.0);
-        if count == 0 && !buf.is_empty() {
-            return Err(io::Error::from(ErrorKind::StorageFull));
-        }
-        self.0 -= count;
-        Ok(count)
-    }
-
-    fn flush(&mut self) -> io::Result<()> {
-        Ok(())
-    }
-}
-
 #[test]
 fn failed_reading_is_status_3(rt: HostRuntime) {
     let input = Torn(b"0 1 4101123471b1720130\n0 1");
-    assert!(rt; plays(rt.alloc(), input, 0, 3, "1 6184123471\n", ""));
+    assert!(rt; plays(rt.alloc(), input, 0, 3, "1 6184123471\n", "broken pipe\n"));
 }
 
 // The status of a play whose output, and then whose faults, have room for so many bytes.
@@ -283,6 +265,12 @@ fn failed_writing_is_status_3(rt: HostRuntime) {
     }
     assert!(rt; status_in(rt.alloc(), line, 13, 99) == 0);
     assert!(rt; status_in(rt.alloc(), b"bad", 99, 5) == 3);
+}
+
+#[test]
+fn failed_flushing_is_status_3(rt: HostRuntime) {
+    let input: &[u8] = b"0 1 4101123471b1720130\n";
+    assert!(rt; play(rt.alloc(), input, &mut Unflushed, &mut Full(99), 0, 0) == 3);
 }
 
 // A command line that finds no memory isn't a bad one.

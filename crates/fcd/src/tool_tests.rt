@@ -1,8 +1,9 @@
 // Texts and images through the tools, with what is written and told: the expected values are the format's rules.
+use crate::faulty::{Full, Unflushed};
 use fc_service::tools::{check, image, list};
 use std::alloc::{AllocError, Global};
 use std::io;
-use std::io::{ErrorKind, Read, Write};
+use std::io::{ErrorKind, Read};
 use std::process::Abort;
 use std::test::Fail;
 
@@ -52,12 +53,9 @@ fn listed(alloc: Global, image: &[u8]) -> Result<Done, AllocError> {
 fn checked(alloc: Global, image: &[u8]) -> Result<Done, AllocError> {
     let mut out = Vec::new(alloc);
     let mut input = image;
-    let status = check(alloc, &mut input, &mut out);
-    with_memory(Done {
-        status,
-        out,
-        err: Vec::new(alloc),
-    })
+    let mut err = Vec::new(alloc);
+    let status = check(alloc, &mut input, &mut out, &mut err);
+    with_memory(Done { status, out, err })
 }
 
 // The tool refuses, tells this, and writes nothing.
@@ -230,25 +228,6 @@ impl Read for Torn {
     }
 }
 
-// A writer that fails behind so many bytes.
-#[derive(Drop)]
-struct Full(usize);
-
-impl Write for Full {
-    fn write(&mut self, buf: &[u8]) -> io::Result<usize> {
-        let count = buf.len().min(self.0);
-        if count == 0 && !buf.is_empty() {
-            return Err(io::Error::from(ErrorKind::StorageFull));
-        }
-        self.0 -= count;
-        Ok(count)
-    }
-
-    fn flush(&mut self) -> io::Result<()> {
-        Ok(())
-    }
-}
-
 #[test]
 fn a_failed_reader_is_status_3(rt: HostRuntime) -> Result<(), Fail> {
     let alloc = rt.alloc();
@@ -256,8 +235,10 @@ fn a_failed_reader_is_status_3(rt: HostRuntime) -> Result<(), Fail> {
     let mut err = Vec::new(alloc);
     assert!(rt; image(alloc, &mut Torn, &mut out, &mut err, 0, 1) == 3);
     assert!(rt; list(alloc, &mut Torn, &mut out, &mut err) == 3);
-    assert!(rt; check(alloc, &mut Torn, &mut out) == 3);
-    assert!(rt; out.is_empty() && err.is_empty());
+    assert!(rt; check(alloc, &mut Torn, &mut out, &mut err) == 3);
+    assert!(rt;
+        out.is_empty() && err.as_slice() == b"broken pipe\nbroken pipe\nbroken pipe\n".as_slice()
+    );
     Ok(())
 }
 
@@ -270,8 +251,23 @@ fn a_failed_writer_is_status_3(rt: HostRuntime) -> Result<(), Fail> {
     let mut input = IMAGE;
     assert!(rt; list(alloc, &mut input, &mut Full(17), &mut err) == 3);
     let mut input = IMAGE;
-    assert!(rt; check(alloc, &mut input, &mut Full(3)) == 3);
-    assert!(rt; err.is_empty());
+    assert!(rt; check(alloc, &mut input, &mut Full(3), &mut err) == 3);
+    assert!(rt;
+        err.as_slice() == b"no storage space\nno storage space\nno storage space\n".as_slice()
+    );
+    Ok(())
+}
+
+#[test]
+fn a_failed_flush_is_status_3(rt: HostRuntime) -> Result<(), Fail> {
+    let alloc = rt.alloc();
+    let mut err = Vec::new(alloc);
+    let mut text: &[u8] = b"exit";
+    assert!(rt; image(alloc, &mut text, &mut Unflushed, &mut err, 0, 1) == 3);
+    let mut input = IMAGE;
+    assert!(rt; list(alloc, &mut input, &mut Unflushed, &mut err) == 3);
+    let mut input = IMAGE;
+    assert!(rt; check(alloc, &mut input, &mut Unflushed, &mut err) == 3);
     Ok(())
 }
 

@@ -1,0 +1,36 @@
+// Readers and writers that fail.
+use std::io;
+use std::io::{ErrorKind, Write};
+
+// A writer that fails behind so many bytes.
+#[derive(Drop)]
+pub(crate) struct Full(pub(crate) usize);
+
+impl Write for Full {
+    fn write(&mut self, buf: &[u8]) -> io::Result<usize> {
+        let count = buf.len().min(self.0);
+        if count == 0 && !buf.is_empty() {
+            return Err(io::Error::from(ErrorKind::StorageFull));
+        }
+        self.0 -= count;
+        Ok(count)
+    }
+
+    fn flush(&mut self) -> io::Result<()> {
+        Ok(())
+    }
+}
+
+// A writer that takes everything, and then can't hand it on.
+#[derive(Drop)]
+pub(crate) struct Unflushed;
+
+impl Write for Unflushed {
+    fn write(&mut self, buf: &[u8]) -> io::Result<usize> {
+        Ok(buf.len())
+    }
+
+    fn flush(&mut self) -> io::Result<()> {
+        Err(io::Error::from(ErrorKind::StorageFull))
+    }
+}
