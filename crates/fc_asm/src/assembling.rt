@@ -15,7 +15,8 @@ use std::alloc::{AllocError, Global};
 /// Assembles a text of one instruction a line: what it means, line by line.
 ///
 /// # Errors
-/// The first line with a mistake and the first mistake that it has, or that memory was refused, which comes first.
+/// The first line that has a mistake, with the first of these that it has: an unknown first word (A1), a bad operand (A2), a
+/// value out of range (A3); or memory was refused, where that comes first.
 pub fn assemble(alloc: Global, text: &str) -> Result<Vec<Insn>, AsmError>
     ensures program { IfOk result (λ v. IsAssembled (lines_of text.now) v.items) }
     ensures slots { IfOk result (λ v. IsTrue (is_program v.items)) }

@@ -127,7 +127,7 @@ fn graver(a: Mistake, b: Mistake) -> Mistake
     }
 }
 
-/// Digits after a `-` or none.
+/// Whether it is digits, after a `-` or none.
 fn is_number(word: &str) -> bool
     ensures { result ≡ is_number word.now }
 {

@@ -26,7 +26,7 @@ content_of (Made receipt created) = Makes receipt created
 content_of (Rejected refusal) = refused refusal
 
 abbrev pub said_of : Said → Content
-said_of (Ran code serial) = Runs code serial
+said_of (Ran code serial) = Runs code.byte serial
 said_of (Other end) = content_of end
 
 -- a refusal by typing names a rule from 20 to 27, and a slot below 512
@@ -36,5 +36,5 @@ IsEnd other = Unit {0}
 
 -- a run's code is that of a reply, of class 2 or above
 abbrev pub IsTold : Said → Type 0
-IsTold (Ran code serial) = 64 ≤ code
+IsTold (Ran code serial) = 64 ≤ code.byte
 IsTold (Other end) = IsEnd end

@@ -7,6 +7,7 @@ ghost use Rattle.fc_core.specs.Ends.{content_of, IsEnd};
 
 use crate::text::{Text, fault_line, receipt_line};
 use arrayvec::ArrayVec;
+use coap_msg::Code;
 use fc_machine::Outcome;
 use fc_registry::{Mark, Receipt, Ticket};
 use fc_verify::Refusal;
@@ -27,7 +28,7 @@ pub enum End {
 
 #[derive(Clone, Copy, Debug, PartialEq, Eq)]
 pub(crate) enum Said {
-    Ran { code: u8, serial: u64 },
+    Ran { code: Code, serial: u64 },
     Other(End),
 }
 
@@ -59,7 +60,9 @@ impl Answer {
         let serial = mark.spend();
         Answer {
             said: Said::Ran {
-                code: outcome.code(),
+                code: Code {
+                    byte: outcome.code(),
+                },
                 serial,
             },
         }
@@ -76,9 +79,9 @@ impl Answer {
     }
 
     // The code of its reply.
-    pub(crate) fn code(&self) -> u8
-        ensures code { result ≡ reply_code self.now }
-        ensures reply { 64 ≤ result }
+    pub(crate) fn code(&self) -> Code
+        ensures code { result.byte ≡ reply_code self.now }
+        ensures reply { 64 ≤ result.byte }
     {
         match self.said {
             Said::Ran { code, .. } => code,
@@ -92,7 +95,7 @@ impl Answer {
     {
         match self.said {
             Said::Ran {
-                code: CONTENT,
+                code: Code::CONTENT,
                 serial,
             } => Some(serial),
             _ => None,
@@ -112,28 +115,15 @@ impl Answer {
     }
 }
 
-const CREATED: u8 = 0x41;
-
-const CHANGED: u8 = 0x44;
-
-const CONTENT: u8 = 0x45;
-
-const BAD_REQUEST: u8 = 0x80;
-
-const NOT_FOUND: u8 = 0x84;
-
-/// 5.03 Service Unavailable.
-pub(crate) const UNAVAILABLE: u8 = 0xa3;
-
-fn code_of(end: End) -> u8
-    ensures { result ≡ reply_code (content_of end) }
+fn code_of(end: End) -> Code
+    ensures { result.byte ≡ reply_code (content_of end) }
 {
     match end {
-        End::Missing => NOT_FOUND,
-        End::Unavailable => UNAVAILABLE,
-        End::Made(_, true) => CREATED,
-        End::Made(_, false) => CHANGED,
-        End::Rejected(Refusal::NoMemory) => UNAVAILABLE,
-        End::Rejected(Refusal::Broken(_)) => BAD_REQUEST,
+        End::Missing => Code::NOT_FOUND,
+        End::Unavailable => Code::SERVICE_UNAVAILABLE,
+        End::Made(_, true) => Code::CREATED,
+        End::Made(_, false) => Code::CHANGED,
+        End::Rejected(Refusal::NoMemory) => Code::SERVICE_UNAVAILABLE,
+        End::Rejected(Refusal::Broken(_)) => Code::BAD_REQUEST,
     }
 }

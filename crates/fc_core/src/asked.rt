@@ -123,14 +123,14 @@ fn served<'a>(message: &Message<'a>) -> Option<Incoming<'a>>
     }
 }
 
-// It is confirmable, and has no options but the two of its path.
+// Whether it is confirmable, and has no options but the two of its path.
 fn is_plain(message: &Message<'_>) -> bool
     ensures { result ≡ asks.is_plain message.now }
 {
     message.kind() == MessageType::Confirmable && are_two(message.options())
 }
 
-// There are as many options as a path of two segments has.
+// Whether there are as many options as a path of two segments has.
 fn are_two(options: Options<'_>) -> bool
     ensures { result ≡ (length options.entry == 2) }
 {

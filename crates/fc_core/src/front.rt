@@ -134,7 +134,7 @@ impl Front {
     }
 }
 
-/// An exchange was opened less than a window before.
+/// Whether an exchange was opened less than a window before.
 pub fn is_live(now: u64, opening: &Opening) -> bool
     ensures { result ≡ is_live now opening.now }
 {

@@ -12,7 +12,7 @@ pub mod front;
 pub mod laws;
 mod reply;
 pub mod stage;
-pub mod text;
+mod text;
 
 pub use answer::{Answer, End};
 pub use event::Event;

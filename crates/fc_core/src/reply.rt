@@ -6,19 +6,17 @@ ghost use Rattle.coap_msg.specs.declared.types.MessageType.TheVariants.{Acknowle
 ghost use Rattle.fc_core.specs.Replies.{IsReplyTo, acknowledged, etag_options};
 ghost use Rattle.fc_core.specs.Deliveries.{turned_away};
 
-use crate::answer::{Answer, UNAVAILABLE};
+use crate::answer::Answer;
 use crate::asked::Incoming;
 use arrayvec::ArrayVec;
 use coap_msg::{Code, Emission, Endpoint, MessageType, Outgoing, write};
+use coap_opts::table::ETAG;
 use fc_registry::Job;
-
-/// The number of the ETag option (RFC 7252, 5.10.6).
-const ETAG: u16 = 4;
 
 // A reply in the acknowledgement of a request (RFC 7252, 5.2.1): a serial goes as an ETag of eight bytes.
 #[derive(Clone, Copy)]
 struct Reply<'a> {
-    code: u8,
+    code: Code,
     id: u16,
     token: &'a [u8],
     etag: Option<u64>,
@@ -51,7 +49,7 @@ pub(crate) fn refusal(to: Endpoint, message: &Incoming<'_>) -> Emission
     send(
         to,
         &Reply {
-            code: UNAVAILABLE,
+            code: Code::SERVICE_UNAVAILABLE,
             id: message.id(),
             token: message.token(),
             etag: None,
@@ -61,10 +59,10 @@ pub(crate) fn refusal(to: Endpoint, message: &Incoming<'_>) -> Emission
 }
 
 fn send(to: Endpoint, reply: &Reply<'_>) -> Emission
-    requires code { 64 ≤ reply.now.code }
+    requires code { 64 ≤ reply.now.code.byte }
     requires token { length reply.now.token.now ≤ 8 }
     requires payload { length reply.now.payload.now ≤ 1024 }
-    ensures { result ≡ record { to = to; bytes = record { items = bytes_of (record { kind = Acknowledgement; code = reply.now.code; id = reply.now.id; token = reply.now.token.now; options = etag_options reply.now.etag; payload = reply.now.payload.now }) } } }
+    ensures { result ≡ record { to = to; bytes = record { items = bytes_of (record { kind = Acknowledgement; code = reply.now.code.byte; id = reply.now.id; token = reply.now.token.now; options = etag_options reply.now.etag; payload = reply.now.payload.now }) } } }
 {
     match reply.etag {
         Some(serial) => send_with(to, reply, &[(ETAG, serial.to_be_bytes().as_slice())]),
@@ -73,16 +71,16 @@ fn send(to: Endpoint, reply: &Reply<'_>) -> Emission
 }
 
 fn send_with(to: Endpoint, reply: &Reply<'_>, options: &[(u16, &[u8])]) -> Emission
-    requires code { 64 ≤ reply.now.code }
+    requires code { 64 ≤ reply.now.code.byte }
     requires token { length reply.now.token.now ≤ 8 }
     requires payload { length reply.now.payload.now ≤ 1024 }
     requires options { options_in options.now ≡ etag_options reply.now.etag }
-    ensures { result ≡ record { to = to; bytes = record { items = bytes_of (record { kind = Acknowledgement; code = reply.now.code; id = reply.now.id; token = reply.now.token.now; options = etag_options reply.now.etag; payload = reply.now.payload.now }) } } }
+    ensures { result ≡ record { to = to; bytes = record { items = bytes_of (record { kind = Acknowledgement; code = reply.now.code.byte; id = reply.now.id; token = reply.now.token.now; options = etag_options reply.now.etag; payload = reply.now.payload.now }) } } }
 {
     let mut bytes = ArrayVec::new();
     let message = Outgoing {
         kind: MessageType::Acknowledgement,
-        code: Code { byte: reply.code },
+        code: reply.code,
         id: reply.id,
         token: reply.token,
         options,

@@ -8,11 +8,11 @@ use arrayvec::ArrayVec;
 use fc_isa::Fault;
 use fc_registry::Receipt;
 
-/// The most bytes of a text.
-pub const TEXT: usize = 128;
+// The most bytes of a text.
+pub(crate) const TEXT: usize = 128;
 
-/// A short text, in ASCII.
-pub type Text = ArrayVec<u8, TEXT>;
+// A short text, in ASCII.
+pub(crate) type Text = ArrayVec<u8, TEXT>;
 
 // Appends bytes.
 fn push_bytes(text: &mut Text, bytes: &[u8])
@@ -46,8 +46,8 @@ fn push_digits(text: &mut Text, number: u64)
     text.push(48 + (number % 10) as u8);
 }
 
-/// The text of a refusal, as `V16 slot 0`.
-pub fn fault_line(fault: &Fault) -> Text
+// The text of a refusal, as `V16 slot 0`.
+pub(crate) fn fault_line(fault: &Fault) -> Text
     ensures text { result.items ≡ fault_text (number_of fault.now.rule) fault.now.slot }
     ensures short { length result.items ≤ 128 }
 {
@@ -61,8 +61,8 @@ pub fn fault_line(fault: &Fault) -> Text
     text
 }
 
-/// The text of a receipt, as `version=1 cost=2 budget=2 vars=0`.
-pub fn receipt_line(receipt: &Receipt) -> Text
+// The text of a receipt, as `version=1 cost=2 budget=2 vars=0`.
+pub(crate) fn receipt_line(receipt: &Receipt) -> Text
     ensures text { result.items ≡ receipt_text receipt.now }
     ensures short { length result.items ≤ 128 }
 {

@@ -71,7 +71,7 @@ impl Request {
         self.payload.as_slice()
     }
 
-    /// The same request.
+    /// Whether it is the same request.
     pub fn is(&self, other: &Request) -> bool
         ensures { IsTrue result ↔ (self.now ≡ other.now) }
     {

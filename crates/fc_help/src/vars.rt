@@ -41,7 +41,7 @@ impl Vars {
         self.bytes.as_slice()
     }
 
-    /// The same bytes.
+    /// Whether the bytes are the same.
     pub fn is(&self, other: &Vars) -> bool
         ensures { IsTrue result ↔ (self.now ≡ other.now) }
     {

@@ -50,7 +50,7 @@ made slot = made_by (nat_lt slot.serial last_serial) slot
 abbrev pub installed : Slot → Program → Slot
 installed slot program = if nat_lt slot.serial last_serial then changed slot (Installed program) else slot
 
--- the outcome is of the ticket's program, request and variables, and the ticket isn't of a later slot
+-- the outcome is of the ticket's program, request and variables, and the ticket's serial isn't above the slot's
 pub record IsOwn (ran : Ran) (t : Ticket) (slot : Slot) : Type 0 where
   pub program : ran.program ≡ t.found.program
   pub request : ran.request ≡ t.request

@@ -10,6 +10,6 @@ pub enum Committed {
     Overtaken,
     /// The run wanted to write, and the slot's serials are at their end.
     Ended,
-    /// The outcome isn't of the ticket's program, request and variables, or the ticket is of a later slot.
+    /// The outcome isn't of the ticket's program, request and variables, or the ticket's serial is above the slot's.
     Stranger,
 }

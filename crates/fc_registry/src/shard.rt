@@ -109,8 +109,9 @@ impl Shard {
         find(job, slot)
     }
 
-    /// Commits a run, at a moment in milliseconds: it writes where the run answered a POST with a code of class 2 and
-    /// nothing has changed since the ticket was taken.
+    /// Commits a run, at a moment in milliseconds: it writes where the run answered a POST with a code of class 2,
+    /// nothing has changed since the ticket was taken, and the slot's serials aren't at their end. `Overtaken`, `Ended`
+    /// and `Stranger` leave the slot as it was. The moment is taken in whatever it answers.
     pub fn commit(&mut self, now: u64, outcome: &Outcome<'_>, ticket: &Ticket) -> Committed
         requires { IsOwned self.old ticket.now.origin.slot }
         ensures { CommitsTo outcome.now ticket.now self.old now result self.new }
@@ -121,7 +122,7 @@ impl Shard {
         committed(slot, outcome, ticket)
     }
 
-    /// Installs a program, with variables of zeros.
+    /// Installs a program, with variables of zeros. At the last serial it changes nothing, and answers `AtEnd`.
     pub fn install(&mut self, slot: u8, program: Arc<Verified>) -> Made
         requires { IsOwned self.old slot }
         ensures answer { result ≡ made (slot_in self.old slot) }
@@ -174,7 +175,7 @@ fn put(slot: &mut SlotState, program: Arc<Verified>) -> Made
     Made::Raised { serial, created }
 }
 
-// The outcome is of the ticket's program, request and variables.
+// Whether the outcome is of the ticket's program, request and variables, and the ticket's serial isn't above the slot's.
 fn is_own(outcome: &Outcome<'_>, ticket: &Ticket, slot: &SlotState) -> bool
     ensures { IsTrue result ↔ IsOwn outcome.now ticket.now (slot_of slot.now) }
 {
@@ -184,14 +185,14 @@ fn is_own(outcome: &Outcome<'_>, ticket: &Ticket, slot: &SlotState) -> bool
         && ticket.serial() <= slot.serial
 }
 
-// The run answered a POST with a code of class 2.
+// Whether the run answered a POST with a code of class 2.
 fn writes(outcome: &Outcome<'_>) -> bool
     ensures { IsTrue result ↔ Writes outcome.now }
 {
     outcome.request().method() == Method::Post && outcome.code() / 32 == 2
 }
 
-// Nothing has changed since the ticket was taken.
+// Whether nothing has changed since the ticket was taken.
 fn is_current(ticket: &Ticket, slot: &SlotState) -> bool
     ensures { IsTrue result ↔ IsCurrent ticket.now (slot_of slot.now) }
 {

@@ -104,7 +104,7 @@ impl Mark {
         self.serial
     }
 
-    /// The commit changed the slot.
+    /// Whether the commit changed the slot.
     pub fn changed(&self) -> bool
         ensures { result ≡ self.now.changed }
     {

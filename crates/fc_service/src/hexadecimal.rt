@@ -28,7 +28,7 @@ pub fn decode(alloc: Global, digits: &[u8]) -> Result<Vec<u8>, LineError>
 /// The most digits of a datagram.
 const DIGITS: usize = 2560;
 
-/// Writes a datagram's bytes by hex digits in lower case, two a byte.
+/// Writes a datagram, at most 1,280 bytes, by hex digits in lower case, two a byte.
 ///
 /// # Errors
 /// The writer failed.

@@ -20,7 +20,7 @@ pub enum Line {
 /// Why a line isn't read.
 #[derive(Clone, Copy, Debug, PartialEq, Eq, Error)]
 pub enum LineError {
-    /// It says nothing.
+    /// It is neither `now peer hex` nor `now - -`.
     #[error("bad")]
     Bad,
     /// There was no memory for its datagram.

@@ -169,7 +169,9 @@ fn write_verdict<R: Read, W: Write>(
 /// The image of a text's program. A text that isn't UTF-8 has an unknown word in its first line.
 ///
 /// # Errors
-/// The text's first mistake, and then the first rule of the header that a number breaks; or memory was refused.
+/// The first line of the text that has a mistake, with the first of these that it has: an unknown first word (A1), a bad
+/// operand (A2), a value out of range (A3). In a text without one, the first rule of the header that a number breaks. Or
+/// memory was refused, where that comes first.
 pub fn image_of(
     alloc: Global,
     text: &[u8],
