@@ -16,7 +16,7 @@ pub record IsSafe (p : Program) : Type 0 where
   pub runs : IsRunnable p
   pub longest : IsLongest p.code p.cost
 
--- a ticket is of no later slot; where the serials agree it has what the slot holds; and its run has a meaning
+-- the serial of a ticket is at most that of the slot; where the serials agree it has what the slot holds; and its run has a meaning
 pub record FitsTicket (t : Ticket) (slot : Slot) : Type 0 where
   pub serial : t.serial ≤ slot.serial
   pub current : t.serial ≡ slot.serial → slot.present ≡ Some t.found
