@@ -8,14 +8,11 @@ use crate::fields::Fields;
 use crate::insn::Insn;
 use std::alloc::{AllocError, Global};
 
-/// Memory was refused.
-pub type NoMemory = AllocError;
-
 /// The bytes that spell a program: eight for each slot.
 ///
 /// # Errors
 /// Memory was refused.
-pub fn encode(alloc: Global, program: &[Insn]) -> Result<Vec<u8>, NoMemory>
+pub fn encode(alloc: Global, program: &[Insn]) -> Result<Vec<u8>, AllocError>
     requires { is_program program.now ≡ true }
     ensures { IfOk result (λ v. v.items ≡ encoded program.now) }
 {
@@ -27,7 +24,7 @@ pub fn encode(alloc: Global, program: &[Insn]) -> Result<Vec<u8>, NoMemory>
 }
 
 /// Appends an instruction's slots: a wide load has two, and its second half none of its own.
-fn write(bytes: &mut Vec<u8>, insn: Insn) -> Result<(), NoMemory>
+fn write(bytes: &mut Vec<u8>, insn: Insn) -> Result<(), AllocError>
     ensures { IfOk result (λ _. bytes.new.items ≡ bytes.old.items ++ flat_map bytes_of (slots_of insn)) }
 {
     match insn {

@@ -1,9 +1,13 @@
 //! The fields of a slot: read from its bytes and written to them, with the first rule that they break.
-ghost use Rattle.std.specs.Prelude.{◌≡◌, ◌<◌, ◌/◌, ◌%◌, ◌^◌, ℕ, List, [], ◌∷◌, None, true, length};
-ghost use Rattle.fc_isa.specs.Encoding.{bytes_of, fields, fields_of, insn_of, insn_with, read_fields, second_half, slot_fault, unused_are_zero, values_allowed, is_second_half, alu_values_allowed, arithmetic, moved, operand_of, called, sign_offset, signed_by, swap_width, swap_bits, source_of, src_of, imm_of};
+ghost use Rattle.std.specs.Prelude.{◌≡◌, ◌<◌, ◌+◌, ◌*◌, ◌/◌, ◌%◌, ◌^◌, ℕ, List, [], ◌∷◌, None, true, length};
+ghost use Rattle.std.specs.Int.{w16, w32, cast_signed};
+ghost use Rattle.fc_isa.specs.Encoding.{bytes_of, fields_of, insn_of, insn_with, read_fields, second_half, slot_fault, unused_are_zero, values_allowed, is_second_half, alu_values_allowed, arithmetic, moved, operand_of, called, sign_offset, signed_by, extended_bits, extended_width, swap_width, swap_bits, source_of, src_of, imm_of};
 ghost use Rattle.fc_isa.specs.Shapes.{shape_of, writes_dst};
 
-use crate::insn::{AluOp, Insn, Jump, Operand, Reg, SignExtension, SwapWidth, Target, Width};
+use crate::insn::{
+    AluOp, ByteOrder, Insn, Jump, LoadType, Operand, Reg, Relation, SignExtension, Size, SwapWidth,
+    Target, Width,
+};
 use crate::rule::Rule;
 use crate::shape::{Shape, Source};
 use std::marker::Model;
@@ -56,87 +60,12 @@ impl Fields {
     pub(crate) fn of(insn: Insn) -> Self
         ensures { result ≡ fields_of insn }
     {
-        match insn {
-            Insn::Alu {
-                op,
-                width,
-                dst,
-                operand,
-            } => Fields::alu(op, width, dst, operand),
-            Insn::Neg { width, dst } => Fields::new(Shape::Neg { width }, dst.number(), 0, 0, 0),
-            Insn::SignExtend {
-                extension,
-                dst,
-                src,
-            } => Fields::sign_extend(extension, dst, src),
-            Insn::End { order, width, dst } => {
-                Fields::new(Shape::End { order }, dst.number(), 0, 0, swap_bits(width))
-            }
-            Insn::LoadWide { dst, value } => {
-                Fields::new(Shape::LoadWide, dst.number(), 0, 0, low_half(value))
-            }
-            Insn::WideSecond => Fields::second_half(0),
-            Insn::Load {
-                loaded,
-                dst,
-                base,
-                offset,
-            } => {
-                let shape = Shape::Load { loaded };
-                Fields::new(
-                    shape,
-                    dst.number(),
-                    base.number(),
-                    offset.cast_unsigned(),
-                    0,
-                )
-            }
-            Insn::StoreImm {
-                size,
-                base,
-                offset,
-                imm,
-            } => {
-                let shape = Shape::StoreImm { size };
-                Fields::new(
-                    shape,
-                    base.number(),
-                    0,
-                    offset.cast_unsigned(),
-                    imm.cast_unsigned(),
-                )
-            }
-            Insn::Store {
-                size,
-                base,
-                offset,
-                src,
-            } => {
-                let shape = Shape::Store { size };
-                Fields::new(
-                    shape,
-                    base.number(),
-                    src.number(),
-                    offset.cast_unsigned(),
-                    0,
-                )
-            }
-            Insn::JumpAlways { offset } => {
-                Fields::new(Shape::JumpAlways, 0, 0, offset.cast_unsigned(), 0)
-            }
-            Insn::JumpAlwaysLong { offset } => {
-                Fields::new(Shape::JumpAlwaysLong, 0, 0, 0, offset.cast_unsigned())
-            }
-            Insn::JumpIf(jump) => Fields::jump(jump),
-            Insn::CallHelper { number } => Fields::new(
-                Shape::Call,
-                0,
-                0,
-                0,
-                number.cast_unsigned(),
-            ),
-            Insn::CallLocal { offset } => Fields::new(Shape::Call, 0, 1, 0, offset.cast_unsigned()),
-            Insn::Exit => Fields::new(Shape::Exit, 0, 0, 0, 0),
+        Fields {
+            opcode: own_opcode(&insn),
+            dst: own_dst(&insn),
+            src: own_src(&insn),
+            offset: own_offset(&insn),
+            imm: own_imm(&insn),
         }
     }
 
@@ -144,7 +73,13 @@ impl Fields {
     pub(crate) fn second_half_of(value: u64) -> Self
         ensures { result ≡ second_half (value / 2 ^ 32) }
     {
-        Fields::second_half((value / WORD) as u32)
+        Fields {
+            opcode: 0,
+            dst: 0,
+            src: 0,
+            offset: 0,
+            imm: (value / WORD) as u32,
+        }
     }
 
     /// The slot's bytes.
@@ -186,135 +121,22 @@ impl Fields {
     {
         match shape {
             Shape::Alu { op, width, source } => self.arithmetic(op, width, source),
-            Shape::Neg { width } => Insn::Neg {
-                width,
-                dst: Target::new(self.dst),
-            },
-            Shape::End { order } => {
-                let width = swap_width(self.imm);
-                Insn::End {
-                    order,
-                    width,
-                    dst: Target::new(self.dst),
-                }
-            }
-            Shape::LoadWide => {
-                let value = high as u64 * WORD + self.imm as u64;
-                Insn::LoadWide {
-                    dst: Target::new(self.dst),
-                    value,
-                }
-            }
-            Shape::Load { loaded } => {
-                let (dst, base) = (Target::new(self.dst), Reg::new(self.src));
-                Insn::Load {
-                    loaded,
-                    dst,
-                    base,
-                    offset: self.offset.cast_signed(),
-                }
-            }
-            Shape::StoreImm { size } => {
-                let (base, imm) = (Reg::new(self.dst), self.imm.cast_signed());
-                Insn::StoreImm {
-                    size,
-                    base,
-                    offset: self.offset.cast_signed(),
-                    imm,
-                }
-            }
-            Shape::Store { size } => {
-                let (base, src) = (Reg::new(self.dst), Reg::new(self.src));
-                Insn::Store {
-                    size,
-                    base,
-                    offset: self.offset.cast_signed(),
-                    src,
-                }
-            }
-            Shape::JumpAlways => Insn::JumpAlways {
-                offset: self.offset.cast_signed(),
-            },
-            Shape::JumpAlwaysLong => Insn::JumpAlwaysLong {
-                offset: self.imm.cast_signed(),
-            },
+            Shape::Neg { width } => self.neg(width),
+            Shape::End { order } => self.end(order),
+            Shape::LoadWide => self.load_wide(high),
+            Shape::Load { loaded } => self.load(loaded),
+            Shape::StoreImm { size } => self.store_imm(size),
+            Shape::Store { size } => self.store(size),
+            Shape::JumpAlways => self.jump_always(),
+            Shape::JumpAlwaysLong => self.jump_always_long(),
             Shape::JumpIf {
                 width,
                 relation,
                 source,
-            } => Insn::JumpIf(Jump {
-                width,
-                relation,
-                left: Reg::new(self.dst),
-                right: self.operand(source),
-                offset: self.offset.cast_signed(),
-            }),
+            } => self.jump_if(width, relation, source),
             Shape::Call => self.called(),
             Shape::Exit | Shape::Unknown => Insn::Exit,
         }
-    }
-
-    fn new(shape: Shape, dst: u8, src: u8, offset: u16, imm: u32) -> Self
-        requires dst { dst < 16 }
-        requires src { src < 16 }
-        ensures { result ≡ fields shape dst src offset imm }
-    {
-        Fields {
-            opcode: shape.opcode(),
-            dst,
-            src,
-            offset,
-            imm,
-        }
-    }
-
-    fn second_half(high: u32) -> Self
-        ensures { result ≡ second_half high }
-    {
-        Fields {
-            opcode: 0,
-            dst: 0,
-            src: 0,
-            offset: 0,
-            imm: high,
-        }
-    }
-
-    fn alu(op: AluOp, width: Width, dst: Target, operand: Operand) -> Self
-        ensures { result ≡ fields_of (Insn.Alu op width dst operand) }
-    {
-        let (source, src, imm) = operand_fields(operand);
-        let shape = Shape::Alu { op, width, source };
-        Fields::new(shape, dst.number(), src, sign_offset(op), imm)
-    }
-
-    fn sign_extend(extension: SignExtension, dst: Target, src: Reg) -> Self
-        ensures { result ≡ fields_of (Insn.SignExtend extension dst src) }
-    {
-        let (width, bits) = match extension {
-            SignExtension::Byte(width) => (width, 8),
-            SignExtension::HalfWord(width) => (width, 16),
-            SignExtension::Word => (Width::W64, 32),
-        };
-        let shape = Shape::Alu {
-            op: AluOp::Mov,
-            width,
-            source: Source::X,
-        };
-        Fields::new(shape, dst.number(), src.number(), bits, 0)
-    }
-
-    fn jump(jump: Jump) -> Self
-        ensures { result ≡ fields_of (Insn.JumpIf jump) }
-    {
-        let (source, src, imm) = operand_fields(jump.right);
-        let shape = Shape::JumpIf {
-            width: jump.width,
-            relation: jump.relation,
-            source,
-        };
-        let offset = jump.offset.cast_unsigned();
-        Fields::new(shape, jump.left.number(), src, offset, imm)
     }
 
     /// The operation on the destination: a move of a register may extend its sign.
@@ -369,6 +191,107 @@ impl Fields {
         }
     }
 
+    /// The negation of the destination.
+    fn neg(self, width: Width) -> Insn
+        requires { self.dst < 10 }
+        ensures { result ≡ Insn.Neg width self.dst }
+    {
+        let dst = Target::new(self.dst);
+        Insn::Neg { width, dst }
+    }
+
+    /// The change of the byte order of as many bits as the immediate says.
+    fn end(self, order: ByteOrder) -> Insn
+        requires { self.dst < 10 }
+        ensures { result ≡ Insn.End order (swap_width self.imm) self.dst }
+    {
+        let (width, dst) = (swap_width(self.imm), Target::new(self.dst));
+        Insn::End { order, width, dst }
+    }
+
+    /// The wide load: its value has the immediate as the low half, and `high` as the high half.
+    fn load_wide(self, high: u32) -> Insn
+        requires { self.dst < 10 }
+        ensures { result ≡ Insn.LoadWide self.dst (high * 2 ^ 32 + self.imm) }
+    {
+        let dst = Target::new(self.dst);
+        let value = high as u64 * WORD + self.imm as u64;
+        Insn::LoadWide { dst, value }
+    }
+
+    /// The load from the source register's address and the offset.
+    fn load(self, loaded: LoadType) -> Insn
+        requires target { self.dst < 10 }
+        requires src { self.src < 11 }
+        ensures { result ≡ Insn.Load loaded self.dst self.src (cast_signed w16 self.offset) }
+    {
+        Insn::Load {
+            loaded,
+            dst: Target::new(self.dst),
+            base: Reg::new(self.src),
+            offset: self.offset.cast_signed(),
+        }
+    }
+
+    /// The store of the immediate at the destination register's address and the offset.
+    fn store_imm(self, size: Size) -> Insn
+        requires { self.dst < 11 }
+        ensures { result ≡ Insn.StoreImm size self.dst (cast_signed w16 self.offset) (cast_signed w32 self.imm) }
+    {
+        Insn::StoreImm {
+            size,
+            base: Reg::new(self.dst),
+            offset: self.offset.cast_signed(),
+            imm: self.imm.cast_signed(),
+        }
+    }
+
+    /// The store of the source register at the destination register's address and the offset.
+    fn store(self, size: Size) -> Insn
+        requires dst { self.dst < 11 }
+        requires src { self.src < 11 }
+        ensures { result ≡ Insn.Store size self.dst (cast_signed w16 self.offset) self.src }
+    {
+        Insn::Store {
+            size,
+            base: Reg::new(self.dst),
+            offset: self.offset.cast_signed(),
+            src: Reg::new(self.src),
+        }
+    }
+
+    /// The jump without a condition, by the offset.
+    fn jump_always(self) -> Insn
+        ensures { result ≡ Insn.JumpAlways (cast_signed w16 self.offset) }
+    {
+        let offset = self.offset.cast_signed();
+        Insn::JumpAlways { offset }
+    }
+
+    /// The jump without a condition, by the immediate.
+    fn jump_always_long(self) -> Insn
+        ensures { result ≡ Insn.JumpAlwaysLong (cast_signed w32 self.imm) }
+    {
+        let offset = self.imm.cast_signed();
+        Insn::JumpAlwaysLong { offset }
+    }
+
+    /// The conditional jump, which compares the destination register with the operand.
+    fn jump_if(self, width: Width, relation: Relation, source: Source) -> Insn
+        requires dst { self.dst < 11 }
+        requires src { self.src < 11 }
+        ensures { result ≡ Insn.JumpIf (record { width = width; relation = relation; left = self.dst; right = operand_of source self; offset = cast_signed w16 self.offset }) }
+    {
+        Insn::JumpIf(Jump {
+            width,
+            relation,
+            left: Reg::new(self.dst),
+            right: self.operand(source),
+            offset: self.offset.cast_signed(),
+        })
+    }
+
+    /// The call of a helper, or of a function of the program where the source isn't zero.
     fn called(self) -> Insn
         ensures { result ≡ called self }
     {
@@ -459,6 +382,27 @@ fn sign_offset(op: AluOp) -> u16
     }
 }
 
+/// The width of a move with sign extension.
+fn extended_width(extension: SignExtension) -> Width
+    ensures { result ≡ extended_width extension }
+{
+    match extension {
+        SignExtension::Byte(width) | SignExtension::HalfWord(width) => width,
+        SignExtension::Word => Width::W64,
+    }
+}
+
+/// The offset of a move with sign extension: how many bits it extends.
+fn extended_bits(extension: SignExtension) -> u16
+    ensures { result ≡ extended_bits extension }
+{
+    match extension {
+        SignExtension::Byte(_) => 8,
+        SignExtension::HalfWord(_) => 16,
+        SignExtension::Word => 32,
+    }
+}
+
 fn swap_width(imm: u32) -> SwapWidth
     ensures { result ≡ swap_width imm }
 {
@@ -479,16 +423,137 @@ fn swap_bits(width: SwapWidth) -> u32
     }
 }
 
-/// Where an operand comes from, the source register and the immediate: the one that it doesn't use is 0.
-fn operand_fields(operand: Operand) -> (Source, u8, u32)
-    ensures source { result.0 ≡ source_of operand }
-    ensures src { result.1 ≡ src_of operand }
-    ensures imm { result.2 ≡ imm_of operand }
-    ensures below { result.1 < 16 }
+/// Where an operand comes from.
+fn source_of(operand: Operand) -> Source
+    ensures { result ≡ source_of operand }
 {
     match operand {
-        Operand::Imm(imm) => (Source::K, 0, imm.cast_unsigned()),
-        Operand::Reg(src) => (Source::X, src.number(), 0),
+        Operand::Imm(_) => Source::K,
+        Operand::Reg(_) => Source::X,
+    }
+}
+
+/// The source register of an operand, 0 where it is an immediate.
+fn src_of(operand: Operand) -> u8
+    ensures src { result ≡ src_of operand }
+    ensures below { result < 16 }
+{
+    match operand {
+        Operand::Imm(_) => 0,
+        Operand::Reg(src) => src.number(),
+    }
+}
+
+/// The immediate of an operand, 0 where it is a register.
+fn imm_of(operand: Operand) -> u32
+    ensures { result ≡ imm_of operand }
+{
+    match operand {
+        Operand::Imm(imm) => imm.cast_unsigned(),
+        Operand::Reg(_) => 0,
+    }
+}
+
+/// The opcode of an instruction's form; a second half has 0.
+fn own_opcode(insn: &Insn) -> u8
+    ensures { result ≡ (fields_of insn.now).opcode }
+{
+    let shape = match *insn {
+        Insn::Alu {
+            op,
+            width,
+            operand,
+            ..
+        } => {
+            let source = source_of(operand);
+            Shape::Alu { op, width, source }
+        }
+        Insn::Neg { width, .. } => Shape::Neg { width },
+        Insn::SignExtend { extension, .. } => Shape::Alu {
+            op: AluOp::Mov,
+            width: extended_width(extension),
+            source: Source::X,
+        },
+        Insn::End { order, .. } => Shape::End { order },
+        Insn::LoadWide { .. } => Shape::LoadWide,
+        Insn::WideSecond => return 0,
+        Insn::Load { loaded, .. } => Shape::Load { loaded },
+        Insn::StoreImm { size, .. } => Shape::StoreImm { size },
+        Insn::Store { size, .. } => Shape::Store { size },
+        Insn::JumpAlways { .. } => Shape::JumpAlways,
+        Insn::JumpAlwaysLong { .. } => Shape::JumpAlwaysLong,
+        Insn::JumpIf(jump) => Shape::JumpIf {
+            width: jump.width,
+            relation: jump.relation,
+            source: source_of(jump.right),
+        },
+        Insn::CallHelper { .. } | Insn::CallLocal { .. } => Shape::Call,
+        Insn::Exit => Shape::Exit,
+    };
+    shape.opcode()
+}
+
+/// The destination field: the register that is written, a store's base, or the left of a comparison.
+fn own_dst(insn: &Insn) -> u8
+    ensures dst { result ≡ (fields_of insn.now).dst }
+    ensures below { result < 16 }
+{
+    match *insn {
+        Insn::Alu { dst, .. } | Insn::Neg { dst, .. } | Insn::End { dst, .. } => dst.number(),
+        Insn::SignExtend { dst, .. } => dst.number(),
+        Insn::LoadWide { dst, .. } | Insn::Load { dst, .. } => dst.number(),
+        Insn::StoreImm { base, .. } | Insn::Store { base, .. } => base.number(),
+        Insn::JumpIf(jump) => jump.left.number(),
+        _ => 0,
+    }
+}
+
+/// The source field: an operand, a load's base, what a store writes, or 1 in the call of a function of the program.
+fn own_src(insn: &Insn) -> u8
+    ensures src { result ≡ (fields_of insn.now).src }
+    ensures below { result < 16 }
+{
+    match *insn {
+        Insn::Alu { operand, .. } => src_of(operand),
+        Insn::SignExtend { src, .. } | Insn::Store { src, .. } => src.number(),
+        Insn::Load { base, .. } => base.number(),
+        Insn::JumpIf(jump) => src_of(jump.right),
+        Insn::CallLocal { .. } => 1,
+        _ => 0,
+    }
+}
+
+/// The offset: of an address or a jump; in arithmetic it tells signed operations and moves with sign extension.
+fn own_offset(insn: &Insn) -> u16
+    ensures { result ≡ (fields_of insn.now).offset }
+{
+    match *insn {
+        Insn::Alu { op, .. } => sign_offset(op),
+        Insn::SignExtend { extension, .. } => extended_bits(extension),
+        // An arm each: the checker doesn't cover a pattern of several forms that binds an integer.
+        Insn::Load { offset, .. } => offset.cast_unsigned(),
+        Insn::StoreImm { offset, .. } => offset.cast_unsigned(),
+        Insn::Store { offset, .. } => offset.cast_unsigned(),
+        Insn::JumpAlways { offset } => offset.cast_unsigned(),
+        Insn::JumpIf(jump) => jump.offset.cast_unsigned(),
+        _ => 0,
+    }
+}
+
+/// The immediate: a number of the instruction, the bits that a change of the byte order keeps, or a wide load's low half.
+fn own_imm(insn: &Insn) -> u32
+    ensures { result ≡ (fields_of insn.now).imm }
+{
+    match *insn {
+        Insn::Alu { operand, .. } => imm_of(operand),
+        Insn::End { width, .. } => swap_bits(width),
+        Insn::LoadWide { value, .. } => low_half(value),
+        Insn::StoreImm { imm, .. } => imm.cast_unsigned(),
+        Insn::JumpAlwaysLong { offset } => offset.cast_unsigned(),
+        Insn::JumpIf(jump) => imm_of(jump.right),
+        Insn::CallHelper { number } => number.cast_unsigned(),
+        Insn::CallLocal { offset } => offset.cast_unsigned(),
+        _ => 0,
     }
 }
 

@@ -13,7 +13,7 @@ pub mod shape;
 mod table;
 
 pub use decoding::{DecodeError, decode};
-pub use encoding::{NoMemory, encode};
+pub use encoding::encode;
 pub use insn::{
     AluOp, ByteOrder, Insn, Jump, LoadType, Operand, Reg, Relation, SignExtension, Size, SwapWidth,
     Target, Width,
