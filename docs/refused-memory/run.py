@@ -22,6 +22,9 @@ FCD = "crates/fcd/out/fcd"
 # The modules whose tests are run.
 TRIED = ("asm_tests::", "isa_tests::", "tool_tests::")
 
+# Two of them read what a failed read or write tells: where memory is refused first, that is told.
+LEFT_OUT = ("tool_tests::a_failed_reader_is_status_3", "tool_tests::a_failed_writer_is_status_3")
+
 # The code 5.03, Service Unavailable, in a datagram's second byte.
 UNAVAILABLE = "a3"
 
@@ -93,7 +96,7 @@ def main():
         ]
         listed = subprocess.run([TESTS, "--list"], capture_output=True, text=True, check=True)
         tests = [line.removesuffix(": test") for line in (listed.stdout + listed.stderr).splitlines() if line.endswith(": test")]
-        tests = [it for it in tests if it.startswith(TRIED)]
+        tests = [it for it in tests if it.startswith(TRIED) and it not in LEFT_OUT]
         print("| what was run | requests | what came of refusing each |\n| --- | --- | --- |")
         well = [each_refused(it, [TESTS, it], b"", shim, of_test) for it in tests]
         well += [each_refused(name, words, given, shim, of_command) for name, words, given in commands]
