@@ -1,6 +1,6 @@
 -- How many bytes a message takes.
-use Rattle.std.proofs.Common.{ℕ, ◌+◌, ◌≤◌, Bool, true, false, if◌then◌else◌, List, [], ◌∷◌, ◌++◌, length, arith, length-append}
-use Rattle.coap_msg.specs.Wire.{Message, extension, option_bytes, options_bytes, payload_bytes, bytes_of}
+use Rattle.std.proofs.Common.{ℕ, ◌+◌, ◌<◌, ◌≤◌, Bool, true, false, if◌then◌else◌, List, [], ◌∷◌, ◌++◌, length, arith, length-append}
+use Rattle.coap_msg.specs.Wire.{Message, IsMessage, AreOptions, extension, option_bytes, options_bytes, payload_bytes, bytes_of}
 
 extension_by : (n : ℕ) (is_small is_middle : Bool) (a : ℕ) (b c : ℕ) → length (if is_small then [] else (if is_middle then a ∷ [] else b ∷ c ∷ [])) ≤ 2
 extension_by n true middle a b c = omega arith
@@ -26,3 +26,14 @@ pub message_size : (m : Message) → length (bytes_of m) ≤ length m.token + le
 message_size m =
     let rest = options_bytes 0 m.options ++ payload_bytes m.payload in
     omega (arith, length-append m.token rest, length-append (options_bytes 0 m.options) (payload_bytes m.payload), payload_size m.payload)
+
+-- parts within their limits, with a code other than 0.00, make a message where they have room together
+pub message_fits : (m : Message) → 0 < m.code → m.code < 256 → m.id < 65536 → length m.token ≤ 8 → AreOptions 0 m.options → length m.token + length (options_bytes 0 m.options) + length m.payload + 5 ≤ 1280 → IsMessage m
+message_fits m c d i t o s = record {
+  code = d;
+  id = i;
+  token = t;
+  options = o;
+  size = omega (arith, message_size m, s);
+  empty = λ z. absurd (omega (arith, z, c));
+}

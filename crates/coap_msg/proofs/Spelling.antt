@@ -2,52 +2,52 @@
 use Rattle.std.proofs.Common.{◌≡◌, ℕ, zero, suc, ◌+◌, ◌-◌, ◌*◌, ◌/◌, ◌%◌, ◌<◌, ◌≤◌, ◌==◌, ◌≢◌, Bool, true, false, nat_lt, if◌then◌else◌, List, [], ◌∷◌, ◌++◌, length, Option, Some, None, refl, sym, ◌∙◌, ap, subst, arith, length-append, append_assoc, inl, inr}
 use Rattle.std.proofs.lemmas.Bool.{ltb-true, eqb-true, lt-ltb, le-ltb, ne_eqb, cases_lt}
 use Rattle.std.proofs.lemmas.List.{append-nil}
-use Rattle.coap_msg.specs.Wire.{half, extension, option_bytes, options_bytes, IsOption, AreOptions}
-use Rattle.coap_msg.specs.Reading.{with_some, guard, split, by_one, by_two, number_at, Parted, option_at, Listed, with_first, is_end, options_at, all_of, options_of, HasOptions}
+use Rattle.coap_msg.specs.Wire.{nibble, extension, option_bytes, options_bytes, IsOption, AreOptions}
+use Rattle.coap_msg.specs.Reading.{with_some, guard, split, ext8, ext16, number_at, RawOption, option_at, Listed, with_first, is_end, options_at, all_of, options_of, HasOptions}
 use Rattle.coap_msg.proofs.Steps.{came, passed, passes, split-append, joins, AreBytes, tail_bytes, back_bytes}
 
 -- ---- numbers
 
 -- the three forms of a number
-small : (n : ℕ) → n < 13 → (half n ≡ n) × (extension n ≡ [])
+small : (n : ℕ) → n < 13 → (nibble n ≡ n) × (extension n ≡ [])
 small n h = (rw (lt-ltb n 13 h) refl, rw (lt-ltb n 13 h) refl)
 
-middle : (n : ℕ) → 13 ≤ n → n < 269 → (half n ≡ 13) × (extension n ≡ (n - 13) ∷ [])
+middle : (n : ℕ) → 13 ≤ n → n < 269 → (nibble n ≡ 13) × (extension n ≡ (n - 13) ∷ [])
 middle n l h = (rw (le-ltb n 13 l, lt-ltb n 269 h) refl, rw (le-ltb n 13 l, lt-ltb n 269 h) refl)
 
-large : (n : ℕ) → 269 ≤ n → (half n ≡ 14) × (extension n ≡ ((n - 269) / 256) ∷ ((n - 269) % 256) ∷ [])
+large : (n : ℕ) → 269 ≤ n → (nibble n ≡ 14) × (extension n ≡ ((n - 269) / 256) ∷ ((n - 269) % 256) ∷ [])
 large n l =
     let far : 13 ≤ n = omega arith in
     (rw (le-ltb n 13 far, le-ltb n 269 l) refl, rw (le-ltb n 13 far, le-ltb n 269 l) refl)
 
-number_small : (n : ℕ) (rest : List ℕ) → n < 13 → number_at (half n) (extension n ++ rest) ≡ Some (n, rest)
+number_small : (n : ℕ) (rest : List ℕ) → n < 13 → number_at (nibble n) (extension n ++ rest) ≡ Some (n, rest)
 number_small n rest h = rw ((small n h).0, (small n h).1, lt-ltb n 13 h) refl
 
-number_middle : (n : ℕ) (rest : List ℕ) → 13 ≤ n → n < 269 → number_at (half n) (extension n ++ rest) ≡ Some (n, rest)
+number_middle : (n : ℕ) (rest : List ℕ) → 13 ≤ n → n < 269 → number_at (nibble n) (extension n ++ rest) ≡ Some (n, rest)
 number_middle n rest l h =
     let whole : n - 13 + 13 ≡ n = omega arith in
     rw ((middle n l h).0, (middle n l h).1) (ap (λ m. Some (m, rest)) whole)
 
-number_large : (n : ℕ) (rest : List ℕ) → 269 ≤ n → number_at (half n) (extension n ++ rest) ≡ Some (n, rest)
+number_large : (n : ℕ) (rest : List ℕ) → 269 ≤ n → number_at (nibble n) (extension n ++ rest) ≡ Some (n, rest)
 number_large n rest l =
     let whole : 256 * ((n - 269) / 256) + (n - 269) % 256 + 269 ≡ n = omega arith in
     rw ((large n l).0, (large n l).1) (ap (λ m. Some (m, rest)) whole)
 
 -- a number that is written is read, with what is behind it
-number_at-of : (n : ℕ) (rest : List ℕ) → number_at (half n) (extension n ++ rest) ≡ Some (n, rest)
+number_at-of : (n : ℕ) (rest : List ℕ) → number_at (nibble n) (extension n ++ rest) ≡ Some (n, rest)
 number_at-of n rest =
     elim (cases_lt n 13) [
       | inl h ↦ number_small n rest h
       | inr l ↦ elim (cases_lt n 269) [ inl h ↦ number_middle n rest l h | inr m ↦ number_large n rest m ]
     ]
 
--- a half byte and bytes that are read as a number
+-- a nibble byte and bytes that are read as a number
 record IsNumber (first : ℕ) (bytes : List ℕ) (found : ℕ × List ℕ) : Type 0 where
-  half_is : first ≡ half found.0
+  nibble_is : first ≡ nibble found.0
   bytes_are : bytes ≡ extension found.0 ++ found.1
   below : found.0 < 65805
 
-one_from : (bytes : List ℕ) (found : ℕ × List ℕ) → AreBytes bytes → by_one bytes ≡ Some found → IsNumber 13 bytes found
+one_from : (bytes : List ℕ) (found : ℕ × List ℕ) → AreBytes bytes → ext8 bytes ≡ Some found → IsNumber 13 bytes found
 one_from [] found b e = absurd (cc e)
 one_from (x ∷ rest) found b e =
     let same : (x + 13, rest) ≡ found = cc e in
@@ -55,12 +55,12 @@ one_from (x ∷ rest) found b e =
     let m = middle (x + 13) (omega arith) (omega arith) in
     let first : x ≡ x + 13 - 13 = omega arith in
     subst (λ f. IsNumber 13 (x ∷ rest) f) same (record {
-      half_is = sym m.0;
+      nibble_is = sym m.0;
       bytes_are = rw m.1 (ap (λ y. y ∷ rest) first);
       below = omega arith;
     })
 
-two_from : (bytes : List ℕ) (found : ℕ × List ℕ) → AreBytes bytes → by_two bytes ≡ Some found → IsNumber 14 bytes found
+two_from : (bytes : List ℕ) (found : ℕ × List ℕ) → AreBytes bytes → ext16 bytes ≡ Some found → IsNumber 14 bytes found
 two_from [] found b e = absurd (cc e)
 two_from (x ∷ []) found b e = absurd (cc e)
 two_from (x ∷ y ∷ rest) found b e =
@@ -71,19 +71,19 @@ two_from (x ∷ y ∷ rest) found b e =
     let first : x ≡ (256 * x + y + 269 - 269) / 256 = omega arith in
     let second : y ≡ (256 * x + y + 269 - 269) % 256 = omega arith in
     subst (λ f. IsNumber 14 (x ∷ y ∷ rest) f) same (record {
-      half_is = sym m.0;
+      nibble_is = sym m.0;
       bytes_are = rw m.1 (ap (λ z. z ∷ y ∷ rest) first ∙ ap (λ z. ((256 * x + y + 269 - 269) / 256) ∷ z ∷ rest) second);
       below = omega arith;
     })
 
 number_by : (first : ℕ) (bytes : List ℕ) (found : ℕ × List ℕ) (is_small is_one is_two : Bool) → AreBytes bytes →
     nat_lt first 13 ≡ is_small → (first == 13) ≡ is_one → (first == 14) ≡ is_two →
-    (if is_small then Some (first, bytes) else (if is_one then by_one bytes else (if is_two then by_two bytes else None))) ≡ Some found → IsNumber first bytes found
+    (if is_small then Some (first, bytes) else (if is_one then ext8 bytes else (if is_two then ext16 bytes else None))) ≡ Some found → IsNumber first bytes found
 number_by first bytes found true one two b s p q e =
     let same : (first, bytes) ≡ found = cc e in
     let h : first < 13 = ltb-true _ _ s in
     let m = small first h in
-    subst (λ f. IsNumber first bytes f) same (record { half_is = sym m.0; bytes_are = rw m.1 refl; below = omega arith })
+    subst (λ f. IsNumber first bytes f) same (record { nibble_is = sym m.0; bytes_are = rw m.1 refl; below = omega arith })
 number_by first bytes found false true two b s p q e =
     subst (λ n. IsNumber n bytes found) (sym (eqb-true first 13 p)) (one_from bytes found b e)
 number_by first bytes found false false true b s p q e =
@@ -93,8 +93,8 @@ number_by first bytes found false false false b s p q e = absurd (cc e)
 number_from : (first : ℕ) (bytes : List ℕ) (found : ℕ × List ℕ) → AreBytes bytes → number_at first bytes ≡ Some found → IsNumber first bytes found
 number_from first bytes found b e = number_by first bytes found _ _ _ b refl refl refl e
 
-pub half_below : (n : ℕ) → half n < 15
-half_below n =
+pub nibble_below : (n : ℕ) → nibble n < 15
+nibble_below n =
     elim (cases_lt n 13) [
       | inl h ↦ omega (arith, (small n h).0)
       | inr l ↦ elim (cases_lt n 269) [ inl h ↦ omega (arith, (middle n l h).0) | inr m ↦ omega (arith, (large n m).0) ]
@@ -103,7 +103,7 @@ half_below n =
 -- ---- one option
 
 option_by : (before number : ℕ) (value rest : List ℕ) (upper lower : ℕ) → IsOption before number value →
-    upper ≡ half (number - before) → lower ≡ half (length value) →
+    upper ≡ nibble (number - before) → lower ≡ nibble (length value) →
     (16 * upper + lower) / 16 ≡ upper → (16 * upper + lower) % 16 ≡ lower →
     option_at before ((16 * upper + lower) ∷ (extension (number - before) ++ (extension (length value) ++ (value ++ rest)))) ≡ Some (record { number = number; value = value; behind = rest })
 unfolding option_at
@@ -122,16 +122,16 @@ option_by before number value rest upper lower o u l du ml =
 pub option_at-of : (before number : ℕ) (value rest : List ℕ) → IsOption before number value →
     option_at before (option_bytes (number - before) value ++ rest) ≡ Some (record { number = number; value = value; behind = rest })
 option_at-of before number value rest o =
-    let upper = half (number - before) in
-    let lower = half (length value) in
-    let u : upper < 15 = half_below (number - before) in
-    let l : lower < 15 = half_below (length value) in
+    let upper = nibble (number - before) in
+    let lower = nibble (length value) in
+    let u : upper < 15 = nibble_below (number - before) in
+    let l : lower < 15 = nibble_below (length value) in
     let same : option_bytes (number - before) value ++ rest ≡ (16 * upper + lower) ∷ (extension (number - before) ++ (extension (length value) ++ (value ++ rest))) =
     ap (λ xs. (16 * upper + lower) ∷ xs) (append_assoc (extension (number - before)) (extension (length value) ++ value) rest ∙ ap (λ xs. extension (number - before) ++ xs) (append_assoc (extension (length value)) value rest)) in
     ap (option_at before) same ∙ option_by before number value rest upper lower o refl refl (omega arith) (omega arith)
 
 -- bytes that are read as an option
-pub record IsParted (before : ℕ) (bytes : List ℕ) (o : Parted) : Type 0 where
+pub record IsRawOption (before : ℕ) (bytes : List ℕ) (o : RawOption) : Type 0 where
   pub bytes_are : bytes ≡ option_bytes (o.number - before) o.value ++ o.behind
   pub option : IsOption before o.number o.value
   pub behind : AreBytes o.behind
@@ -139,21 +139,21 @@ pub record IsParted (before : ℕ) (bytes : List ℕ) (o : Parted) : Type 0 wher
 parted_from : (before first : ℕ) (rest : List ℕ) (delta count number : ℕ) (after_delta after_count value behind : List ℕ) → AreBytes rest →
     IsNumber (first / 16) rest (delta, after_delta) → IsNumber (first % 16) after_delta (count, after_count) → before + delta ≡ number → number < 65536 →
     after_count ≡ value ++ behind → length value ≡ count →
-    IsParted before (first ∷ rest) (record { number = number; value = value; behind = behind })
+    IsRawOption before (first ∷ rest) (record { number = number; value = value; behind = behind })
 parted_from before first rest delta count number after_delta after_count value behind b d c sum below cut len =
     let step : number - before ≡ delta = omega arith in
     let rest_is : rest ≡ extension delta ++ ((extension count ++ value) ++ behind) =
     d.bytes_are ∙ ap (λ xs. extension delta ++ xs) (c.bytes_are ∙ ap (λ xs. extension count ++ xs) cut ∙ sym (append_assoc (extension count) value behind)) in
-    let first_is : first ≡ 16 * half delta + half count = omega (arith, d.half_is, c.half_is) in
+    let first_is : first ≡ 16 * nibble delta + nibble count = omega (arith, d.nibble_is, c.nibble_is) in
     let whole : first ∷ rest ≡ option_bytes delta value ++ behind =
-    rw (len, first_is) (ap (λ xs. (16 * half delta + half count) ∷ xs) (rest_is ∙ sym (append_assoc (extension delta) (extension count ++ value) behind))) in
+    rw (len, first_is) (ap (λ xs. (16 * nibble delta + nibble count) ∷ xs) (rest_is ∙ sym (append_assoc (extension delta) (extension count ++ value) behind))) in
     record {
       bytes_are = rw step whole;
       option = record { rises = omega arith; is_number = below; is_short = omega (arith, c.below) };
       behind = back_bytes (extension delta ++ (extension count ++ value)) behind (subst (λ xs. AreBytes xs) (rest_is ∙ sym (append_assoc (extension delta) (extension count ++ value) behind)) b);
     }
 
-pub option_from : (before : ℕ) (bytes : List ℕ) (o : Parted) → AreBytes bytes → option_at before bytes ≡ Some o → IsParted before bytes o
+pub option_from : (before : ℕ) (bytes : List ℕ) (o : RawOption) → AreBytes bytes → option_at before bytes ≡ Some o → IsRawOption before bytes o
 unfolding option_at
 option_from before [] o b e = absurd (cc e)
 option_from before (first ∷ rest) o b e =
@@ -169,7 +169,7 @@ option_from before (first ∷ rest) o b e =
     let j = joins c.value.0 c.value.1 p.value p.first in
     let below : before + d.value.0 < 65536 = ltb-true _ _ t.test in
     let same : record { number = n.value; value = p.value.0; behind = p.value.1 } ≡ o = cc p.second in
-    subst (λ x. IsParted before (first ∷ rest) x) same
+    subst (λ x. IsRawOption before (first ∷ rest) x) same
     (parted_from before first rest d.value.0 c.value.0 n.value d.value.1 c.value.1 p.value.0 p.value.1 bytes delta count t.same (omega (arith, t.same)) j.bytes_are j.count_is)
 
 -- ---- options one after another
@@ -180,10 +180,10 @@ options_at-end n before [] e h = refl
 options_at-end zero before (b ∷ bytes) e h = absurd (omega arith)
 options_at-end (suc n) before (b ∷ bytes) e h = rw e refl
 
-unmarked : (delta : ℕ) (value : List ℕ) → 16 * half delta + half (length value) ≢ 255
+unmarked : (delta : ℕ) (value : List ℕ) → 16 * nibble delta + nibble (length value) ≢ 255
 unmarked delta value e =
-    let u : half delta < 15 = half_below delta in
-    let l : half (length value) < 15 = half_below (length value) in
+    let u : nibble delta < 15 = nibble_below delta in
+    let l : nibble (length value) < 15 = nibble_below (length value) in
     omega arith
 
 -- what is found behind an option that is written
@@ -191,7 +191,7 @@ options_at-first : (n before number : ℕ) (value rest : List ℕ) → IsOption 
     options_at (suc n) before (option_bytes (number - before) value ++ rest) ≡ with_first (record { number = number; value = value; behind = rest }) (options_at n number rest)
 unfolding options_at
 options_at-first n before number value rest o =
-    rw (ne_eqb (16 * half (number - before) + half (length value)) 255 (unmarked (number - before) value), option_at-of before number value rest o) refl
+    rw (ne_eqb (16 * nibble (number - before) + nibble (length value)) 255 (unmarked (number - before) value), option_at-of before number value rest o) refl
 
 length-first : (delta : ℕ) (value rest : List ℕ) → length rest < length (option_bytes delta value ++ rest)
 length-first delta value rest = omega (arith, length-append (extension delta ++ (extension (length value) ++ value)) rest)
@@ -214,7 +214,7 @@ pub record AreListed (before : ℕ) (bytes : List ℕ) (found : Listed) : Type 0
   pub behind : AreBytes found.1
   pub end : is_end found.1 ≡ true
 
-listed_first : (before : ℕ) (bytes : List ℕ) (o : Parted) (more : Option Listed) (found : Listed) → IsParted before bytes o →
+listed_first : (before : ℕ) (bytes : List ℕ) (o : RawOption) (more : Option Listed) (found : Listed) → IsRawOption before bytes o →
     ((rest : Listed) → more ≡ Some rest → AreListed o.number o.behind rest) → with_first o more ≡ Some found → AreListed before bytes found
 listed_first before bytes o None found p h e = absurd (cc e)
 listed_first before bytes o (Some rest) found p h e =
@@ -228,7 +228,7 @@ listed_first before bytes o (Some rest) found p h e =
     })
 
 listed_by : (n before b : ℕ) (bytes : List ℕ) (found : Listed) (marked : Bool) → AreBytes (b ∷ bytes) → (b == 255) ≡ marked →
-    ((o : Parted) (rest : Listed) → AreBytes o.behind → options_at n o.number o.behind ≡ Some rest → AreListed o.number o.behind rest) →
+    ((o : RawOption) (rest : Listed) → AreBytes o.behind → options_at n o.number o.behind ≡ Some rest → AreListed o.number o.behind rest) →
     (if marked then Some ([], b ∷ bytes) else with_some (option_at before (b ∷ bytes)) (λ o. with_first o (options_at n o.number o.behind))) ≡ Some found →
     AreListed before (b ∷ bytes) found
 listed_by n before b bytes found true h m ih e =
@@ -270,11 +270,11 @@ none_by before bytes ((number, value) ∷ options) b o e = absurd (cc (e, ap (op
 pub none_left : (before : ℕ) (bytes : List ℕ) → HasOptions before bytes → option_at before bytes ≡ None → options_of before bytes ≡ []
 none_left before bytes h e = none_by before bytes (options_of before bytes) h.bytes_are h.options e
 
-pub record Next (before : ℕ) (bytes : List ℕ) (o : Parted) : Type 0 where
+pub record Next (before : ℕ) (bytes : List ℕ) (o : RawOption) : Type 0 where
   pub first : options_of before bytes ≡ (o.number, o.value) ∷ options_of o.number o.behind
   pub left : HasOptions o.number o.behind
 
-some_by : (before : ℕ) (bytes : List ℕ) (options : List (ℕ × List ℕ)) (o : Parted) → bytes ≡ options_bytes before options → AreOptions before options → options_of before bytes ≡ options →
+some_by : (before : ℕ) (bytes : List ℕ) (options : List (ℕ × List ℕ)) (o : RawOption) → bytes ≡ options_bytes before options → AreOptions before options → options_of before bytes ≡ options →
     option_at before bytes ≡ Some o → Next before bytes o
 unfolding option_at
 some_by before bytes [] o b a s e = absurd (cc e)
@@ -283,5 +283,5 @@ some_by before bytes ((number, value) ∷ options) o b a s e =
     let rest = HasOptions-of number options (options_bytes number options) a.1 refl in
     subst (λ x. Next before bytes x) same (record { first = s ∙ ap (λ xs. (number, value) ∷ xs) (sym rest.1); left = rest.0 })
 
-pub next_left : (before : ℕ) (bytes : List ℕ) (o : Parted) → HasOptions before bytes → option_at before bytes ≡ Some o → Next before bytes o
+pub next_left : (before : ℕ) (bytes : List ℕ) (o : RawOption) → HasOptions before bytes → option_at before bytes ≡ Some o → Next before bytes o
 next_left before bytes o h e = some_by before bytes (options_of before bytes) o h.bytes_are h.options refl e

@@ -2,7 +2,7 @@
 use Rattle.std.proofs.Common.{◌≡◌, ℕ, zero, suc, ◌-◌, ◌<◌, ◌≤◌, true, false, List, [], ◌∷◌, ◌++◌, length, take, Option, Some, None, refl, sym, ◌∙◌, ap, arith, append_assoc, length-append}
 use Rattle.std.proofs.Math.Seq.{take-append_seam}
 use Rattle.coap_msg.specs.Wire.{options_bytes}
-use Rattle.coap_msg.specs.Reading.{with_some, Parted, option_at, Listed, with_first, is_end, options_at, EndsIn, AreSplit}
+use Rattle.coap_msg.specs.Reading.{with_some, RawOption, option_at, Listed, with_first, is_end, options_at, EndsIn, AreSplit}
 use Rattle.coap_msg.proofs.Steps.{AreBytes}
 use Rattle.coap_msg.proofs.Spelling.{options_from, HasOptions-of}
 
@@ -25,7 +25,7 @@ after_all-nil (Some x) = refl
 pub walked_none : (bytes : List ℕ) → Walked bytes 0 bytes
 walked_none bytes = record { done = []; count = length bytes; enough = omega arith; same = after_all-nil (options_at (length bytes) 0 bytes) }
 
-after_all-first : (done : List (ℕ × List ℕ)) (o : Parted) (x : Option Listed) → after_all done (with_first o x) ≡ after_all (done ++ ((o.number, o.value) ∷ [])) x
+after_all-first : (done : List (ℕ × List ℕ)) (o : RawOption) (x : Option Listed) → after_all done (with_first o x) ≡ after_all (done ++ ((o.number, o.value) ∷ [])) x
 after_all-first done o None = refl
 after_all-first done o (Some x) = ap (λ os. Some (os, x.1)) (sym (append_assoc done ((o.number, o.value) ∷ []) x.0))
 
@@ -36,7 +36,7 @@ unfolding options_at
 unmarked count number [] n = absurd (cc n)
 unmarked count number (b ∷ rest) n = rw n refl
 
-walked_by : (bytes : List ℕ) (number : ℕ) (rest : List ℕ) (o : Parted) (done : List (ℕ × List ℕ)) (count : ℕ) → length rest ≤ count →
+walked_by : (bytes : List ℕ) (number : ℕ) (rest : List ℕ) (o : RawOption) (done : List (ℕ × List ℕ)) (count : ℕ) → length rest ≤ count →
     options_at (length bytes) 0 bytes ≡ after_all done (options_at count number rest) → is_end rest ≡ false → option_at number rest ≡ Some o →
     length o.behind < length rest → Walked bytes o.number o.behind
 walked_by bytes number rest o done zero h s n e f = absurd (omega arith)
@@ -47,7 +47,7 @@ walked_by bytes number rest o done (suc count) h s n e f = record {
   same = s ∙ (ap (after_all done) (unmarked count number rest n ∙ rw e refl) ∙ after_all-first done o (options_at count o.number o.behind));
 }
 
-pub walked_more : (bytes : List ℕ) (number : ℕ) (rest : List ℕ) (o : Parted) → Walked bytes number rest → is_end rest ≡ false →
+pub walked_more : (bytes : List ℕ) (number : ℕ) (rest : List ℕ) (o : RawOption) → Walked bytes number rest → is_end rest ≡ false →
     option_at number rest ≡ Some o → length o.behind < length rest → Walked bytes o.number o.behind
 walked_more bytes number rest o w n e f = walked_by bytes number rest o w.done w.count w.enough w.same n e f
 

@@ -27,3 +27,12 @@ room_for start all bytes before index limit options d l w h =
     subst (λ os. Written start all bytes before (options_in os)) (drop-cons options index d l) w in
     let room = room_by start all bytes before o.0 o.1.now (options_in (drop (suc index) options)) first in
     omega (arith, h, room)
+
+-- and it is short
+pub short_for : (start : List ℕ) (all : List (ℕ × List ℕ)) (bytes : List ℕ) (before index : ℕ) (options : List (ℕ × Bor (List ℕ))) (d : ℕ × Bor (List ℕ)) →
+    index < length options → Written start all bytes before (options_in (drop index options)) → length (get_or options index d).1.now < 65805
+short_for start all bytes before index options d l w =
+    let o = get_or options index d in
+    let first : Written start all bytes before ((o.0, o.1.now) ∷ options_in (drop (suc index) options)) =
+    subst (λ os. Written start all bytes before (options_in os)) (drop-cons options index d l) w in
+    first.options.0.is_short

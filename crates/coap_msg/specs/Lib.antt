@@ -2,3 +2,5 @@ pub mod Wire
 pub mod Reading
 pub mod Codes
 pub mod Writing
+pub mod Values
+pub mod Options

@@ -53,28 +53,28 @@ token_length first = guard (nat_le (first % 16) 8) (first % 16)
 abbrev pub split : ℕ → List ℕ → Option (List ℕ × List ℕ)
 split count bytes = guard (nat_le count (length bytes)) (take count bytes, drop count bytes)
 
--- a number that one byte says, 13 and more
-abbrev pub by_one : List ℕ → Option (ℕ × List ℕ)
-by_one (b ∷ rest) = Some (b + 13, rest)
-by_one _ = None
+-- an 8-bit extended value, with its bias of 13
+abbrev pub ext8 : List ℕ → Option (ℕ × List ℕ)
+ext8 (b ∷ rest) = Some (b + 13, rest)
+ext8 _ = None
 
--- a number that two bytes say, 269 and more
-abbrev pub by_two : List ℕ → Option (ℕ × List ℕ)
-by_two (b ∷ c ∷ rest) = Some (256 * b + c + 269, rest)
-by_two _ = None
+-- a 16-bit extended value, with its bias of 269
+abbrev pub ext16 : List ℕ → Option (ℕ × List ℕ)
+ext16 (b ∷ c ∷ rest) = Some (256 * b + c + 269, rest)
+ext16 _ = None
 
--- the number that half a byte and the bytes behind it say, and what is behind those
+-- the delta or length by its nibble and the bytes after it, and what is behind those
 abbrev pub number_at : ℕ → List ℕ → Option (ℕ × List ℕ)
-number_at half bytes =
-    if nat_lt half 13 then Some (half, bytes) else (if half == 13 then by_one bytes else (if half == 14 then by_two bytes else None))
+number_at nibble bytes =
+    if nat_lt nibble 13 then Some (nibble, bytes) else (if nibble == 13 then ext8 bytes else (if nibble == 14 then ext16 bytes else None))
 
 -- an option, after one of this number, and what is behind it
-pub record Parted : Type 0 where
+pub record RawOption : Type 0 where
   pub number : ℕ
   pub value : List ℕ
   pub behind : List ℕ
 
-unfoldable pub option_at : ℕ → List ℕ → Option Parted
+unfoldable pub option_at : ℕ → List ℕ → Option RawOption
 option_at before [] = None
 option_at before (first ∷ rest) =
     with_some (number_at (first / 16) rest) (λ (delta, after_delta).
@@ -88,7 +88,7 @@ abbrev pub Listed : Type 0
 Listed = List (ℕ × List ℕ) × List ℕ
 
 -- an option in front of those that were found
-abbrev pub with_first : Parted → Option Listed → Option Listed
+abbrev pub with_first : RawOption → Option Listed → Option Listed
 with_first o None = None
 with_first o (Some (options, behind)) = Some (((o.number, o.value) ∷ options), behind)
 
@@ -113,6 +113,10 @@ all_of (Some (options, behind)) = options
 -- the options that bytes spell with nothing behind them
 unfoldable pub options_of : ℕ → List ℕ → List (ℕ × List ℕ)
 options_of before bytes = all_of (options_at (length bytes) before bytes)
+
+-- the message of these parts, its options by their bytes
+abbrev pub message_from : MessageType → ℕ → ℕ → List ℕ → List ℕ → List ℕ → Message
+message_from kind code id token options payload = record { kind = kind; code = code; id = id; token = token; options = options_of 0 options; payload = payload }
 
 -- the bytes spell options and nothing else
 pub record HasOptions (before : ℕ) (bytes : List ℕ) : Type 0 where

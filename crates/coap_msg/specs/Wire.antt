@@ -23,21 +23,21 @@ type_number Reset = 3
 abbrev pub first_byte : MessageType → List ℕ → ℕ
 first_byte kind token = 64 + 16 * type_number kind + length token
 
--- the first byte, the code, the id with its high byte first, the token
-abbrev pub header : Message → List ℕ
-header m = first_byte m.kind m.token ∷ m.code ∷ (m.id / 256) ∷ (m.id % 256) ∷ m.token
+-- the first byte, the code, the id in network order, the token
+abbrev pub header : MessageType → ℕ → ℕ → List ℕ → List ℕ
+header kind code id token = first_byte kind token ∷ code ∷ (id / 256) ∷ (id % 256) ∷ token
 
--- the half byte that says a number: itself below 13, 13 where one byte follows, 14 where two do
-abbrev pub half : ℕ → ℕ
-half n = if nat_lt n 13 then n else (if nat_lt n 269 then 13 else 14)
+-- a delta or length nibble: the number itself below 13, 13 before an 8-bit extended value, 14 before a 16-bit one
+abbrev pub nibble : ℕ → ℕ
+nibble n = if nat_lt n 13 then n else (if nat_lt n 269 then 13 else 14)
 
--- the bytes that follow: none below 13, then one from 13 on, then two from 269 on
+-- the extended value: none below 13, then 8 bits less the bias of 13, from 269 on 16 bits less the bias of 269
 abbrev pub extension : ℕ → List ℕ
 extension n = if nat_lt n 13 then [] else (if nat_lt n 269 then (n - 13) ∷ [] else ((n - 269) / 256) ∷ ((n - 269) % 256) ∷ [])
 
 -- an option by how far its number is above that of the one before, and its value
 abbrev pub option_bytes : ℕ → List ℕ → List ℕ
-option_bytes delta value = (16 * half delta + half (length value)) ∷ (extension delta ++ (extension (length value) ++ value))
+option_bytes delta value = (16 * nibble delta + nibble (length value)) ∷ (extension delta ++ (extension (length value) ++ value))
 
 -- options one after another, the first of them after one of this number
 abbrev pub options_bytes : ℕ → List (ℕ × List ℕ) → List ℕ
@@ -51,7 +51,7 @@ payload_bytes (b ∷ payload) = 255 ∷ b ∷ payload
 
 -- the one spelling of a message
 abbrev pub bytes_of : Message → List ℕ
-bytes_of m = header m ++ (options_bytes 0 m.options ++ payload_bytes m.payload)
+bytes_of m = header m.kind m.code m.id m.token ++ (options_bytes 0 m.options ++ payload_bytes m.payload)
 
 -- an option has a number of 16 bits that is at least the one before, and at most 65,804 bytes
 pub record IsOption (before number : ℕ) (value : List ℕ) : Type 0 where

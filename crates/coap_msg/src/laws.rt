@@ -2,6 +2,9 @@
 ghost use Rattle.std.specs.Prelude.{◌≡◌, ◌≤◌, ◌+◌, ℕ, List, Ok, Some, length};
 ghost use Rattle.coap_msg.specs.Wire.{IsMessage, Message, Spells, bytes_of, option_bytes, options_bytes};
 ghost use Rattle.coap_msg.specs.Reading.{message_of, reading_of};
+ghost use Rattle.coap_msg.specs.Codes.{code};
+
+use crate::code::Code;
 
 /// What is written is read again as that message.
 pub fn written_is_read()
@@ -17,5 +20,31 @@ pub fn messages_have_one_spelling(bytes: &[u8])
 /// How many bytes a message takes at most, for who is to write one.
 pub fn messages_are_short()
     ensures option { (delta : ℕ) (value : List ℕ) → length (option_bytes delta value) ≤ length value + 5 }
-    ensures message { (m : Message) → length (bytes_of m) ≤ length m.token + length (options_bytes 0 m.options) + length m.payload + 5 }
+    ensures message { (m : Message) → length (bytes_of m) ≤
+        length m.token + length (options_bytes 0 m.options) + length m.payload + 5 }
+{}
+
+/// The codes that have names, by class and detail (RFC 7252, 12.1; RFC 7959, 6).
+pub fn codes_are_registered()
+    ensures empty { Code.EMPTY.byte ≡ code 0 0 }
+    ensures get { Code.GET.byte ≡ code 0 1 }
+    ensures post { Code.POST.byte ≡ code 0 2 }
+    ensures put { Code.PUT.byte ≡ code 0 3 }
+    ensures delete { Code.DELETE.byte ≡ code 0 4 }
+    ensures created { Code.CREATED.byte ≡ code 2 1 }
+    ensures deleted { Code.DELETED.byte ≡ code 2 2 }
+    ensures valid { Code.VALID.byte ≡ code 2 3 }
+    ensures changed { Code.CHANGED.byte ≡ code 2 4 }
+    ensures content { Code.CONTENT.byte ≡ code 2 5 }
+    ensures continues { Code.CONTINUE.byte ≡ code 2 31 }
+    ensures bad_request { Code.BAD_REQUEST.byte ≡ code 4 0 }
+    ensures bad_option { Code.BAD_OPTION.byte ≡ code 4 2 }
+    ensures forbidden { Code.FORBIDDEN.byte ≡ code 4 3 }
+    ensures not_found { Code.NOT_FOUND.byte ≡ code 4 4 }
+    ensures method_not_allowed { Code.METHOD_NOT_ALLOWED.byte ≡ code 4 5 }
+    ensures incomplete { Code.REQUEST_ENTITY_INCOMPLETE.byte ≡ code 4 8 }
+    ensures too_large { Code.REQUEST_ENTITY_TOO_LARGE.byte ≡ code 4 13 }
+    ensures internal_server_error { Code.INTERNAL_SERVER_ERROR.byte ≡ code 5 0 }
+    ensures service_unavailable { Code.SERVICE_UNAVAILABLE.byte ≡ code 5 3 }
+    ensures proxying_not_supported { Code.PROXYING_NOT_SUPPORTED.byte ≡ code 5 5 }
 {}

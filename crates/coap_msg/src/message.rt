@@ -1,14 +1,16 @@
 //! A message as it was read.
 ghost use Rattle.std.specs.Prelude.{◌≡◌, ◌≤◌, length};
-ghost use Rattle.coap_msg.specs.Reading.{HasOptions, options_of};
+ghost use Rattle.coap_msg.specs.Reading.{HasOptions, message_from};
+ghost use Rattle.coap_msg.specs.Values.{values_in};
 
 use crate::code::Code;
 use crate::options::Options;
 use crate::types::MessageType;
+use crate::values::Values;
 use std::marker::Model;
 
 /// A message; token, options and payload are lent from the datagram (RFC 7252, 3).
-#[derive(Drop)]
+#[derive(Debug, Drop)]
 pub struct Message<'a> {
     kind: MessageType,
     code: Code,
@@ -20,12 +22,12 @@ pub struct Message<'a> {
 
 impl<'a> Model for Message<'a> {
     ghost use Rattle.std.specs.Prelude.{◌≤◌, length};
-    ghost use Rattle.coap_msg.specs.Reading.{HasOptions, options_of};
+    ghost use Rattle.coap_msg.specs.Reading.{HasOptions, message_from};
     ghost use Rattle.coap_msg.specs.Wire.{Message as Stated};
 
     ghost Value = { Stated };
 
-    ghost view = { λ m. record { kind = m.kind; code = m.code.byte; id = m.id; token = m.token.now; options = options_of 0 m.options.now; payload = m.payload.now } };
+    ghost view = { λ m. message_from m.kind m.code.byte m.id m.token.now m.options.now m.payload.now };
 
     ghost invariant = { λ m. (length m.token.now ≤ 8) × HasOptions 0 m.options.now };
 }
@@ -42,7 +44,7 @@ impl<'a> Message<'a> {
     ) -> Self
         requires token { length token.now ≤ 8 }
         requires options { HasOptions 0 options.now }
-        ensures { result ≡ record { kind = kind; code = code.byte; id = id; token = token.entry.now; options = options_of 0 options.entry.now; payload = payload.entry.now } }
+        ensures { result ≡ message_from kind code.byte id token.entry.now options.entry.now payload.entry.now }
     {
         Message {
             kind,
@@ -88,6 +90,13 @@ impl<'a> Message<'a> {
         ensures { result ≡ self.now.options }
     {
         Options::new(self.options)
+    }
+
+    /// The values of the options of this number, in order; none where there is no such option.
+    pub fn values(&self, number: u16) -> Values<'a>
+        ensures { result ≡ values_in number self.now.options }
+    {
+        Values::new(number, self.options())
     }
 
     /// The payload; empty where there is none.

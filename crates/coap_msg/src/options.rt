@@ -2,12 +2,13 @@
 ghost use Rattle.std.specs.Prelude.{◌≡◌, ◌<◌, ◌+◌, length, nat_lt, IfSome, MatchOption};
 ghost use Rattle.std.specs.Iterator.{YieldsFirstBy, item_count};
 ghost use Rattle.coap_msg.specs.Reading.{AreSplit, EndsIn, HasOptions, guard, is_end, number_at, option_at, options_at, options_of};
+ghost use Rattle.coap_msg.specs.Options.{IsFirstOf};
 
-use crate::wire::{LEAST_OF_ONE, LEAST_OF_TWO, ONE_BYTE, PAYLOAD_MARKER, TWO_BYTES, number_of};
+use crate::wire::{EXT8_BIAS, EXT16_BIAS, NIBBLE_EXT8, NIBBLE_EXT16, PAYLOAD_MARKER, number_of};
 use std::marker::Model;
 
 /// The options of a message that are still to come, each with its number and its value, in order. A clause sees that list.
-#[derive(Drop)]
+#[derive(Debug, Drop)]
 pub struct Options<'a> {
     before: u16,
     bytes: &'a [u8],
@@ -49,52 +50,53 @@ impl<'a> Iterator for Options<'a> {
     }
 }
 
-/// An option and what is behind it.
+/// An option as it is encoded, and the bytes behind it.
 #[derive(Drop)]
-struct Split<'a> {
+struct RawOption<'a> {
     number: u16,
     value: &'a [u8],
     behind: &'a [u8],
 }
 
-/// The option that stands first, after one of the number `before`.
+/// Decodes the first option, after one of the number `before`.
 #[tactic(auto, unfolding(crate::specs::Reading::option_at))]
-fn split_option(before: u16, bytes: &[u8]) -> Option<Split<'_>>
-    ensures option { MatchOption result (option_at before bytes.now ≡ None) (λ o. option_at before bytes.now ≡ Some (record { number = o.number; value = o.value.now; behind = o.behind.now })) }
+fn split_option(before: u16, bytes: &[u8]) -> Option<RawOption<'_>>
+    ensures option { MatchOption result (option_at before bytes.now ≡ None) (IsFirstOf before bytes.now) }
     ensures shorter { IfSome result (λ o. length o.behind.now < length bytes.now) }
 {
     let [first, rest @ ..] = bytes else {
         return None;
     };
-    let (delta, rest) = extended(*first / 16, rest)?;
-    let (length, rest) = extended(*first % 16, rest)?;
+    let (delta, rest) = read_extended(*first / 16, rest)?;
+    let (length, rest) = read_extended(*first % 16, rest)?;
     let number = number_above(before, delta)?;
     let (value, behind) = rest.split_at_checked(length as usize)?;
-    Some(Split {
+    Some(RawOption {
         number,
         value,
         behind,
     })
 }
 
-/// The number that half a byte and the bytes behind it say, and what is behind those.
-fn extended(half: u8, bytes: &[u8]) -> Option<(u32, &[u8])>
-    ensures number { MatchOption result (number_at half bytes.now ≡ None) (λ n. number_at half bytes.now ≡ Some (n.0, n.1.now)) }
+/// Decodes a delta or length by its nibble and the bytes after it, and gives what is behind those.
+fn read_extended(nibble: u8, bytes: &[u8]) -> Option<(u32, &[u8])>
+    ensures number { MatchOption result (number_at nibble bytes.now ≡ None)
+        (λ n. number_at nibble bytes.now ≡ Some (n.0, n.1.now)) }
     ensures below { IfSome result (λ n. n.0 < 65805) }
 {
-    if half < ONE_BYTE {
-        return Some((u32::from(half), bytes));
+    if nibble < NIBBLE_EXT8 {
+        return Some((u32::from(nibble), bytes));
     }
     match bytes {
-        [one, rest @ ..] if half == ONE_BYTE => Some((u32::from(*one) + LEAST_OF_ONE, rest)),
-        [high, low, rest @ ..] if half == TWO_BYTES => {
-            Some((u32::from(number_of(*high, *low)) + LEAST_OF_TWO, rest))
+        [one, rest @ ..] if nibble == NIBBLE_EXT8 => Some((u32::from(*one) + EXT8_BIAS, rest)),
+        [high, low, rest @ ..] if nibble == NIBBLE_EXT16 => {
+            Some((u32::from(number_of(*high, *low)) + EXT16_BIAS, rest))
         }
         _ => None,
     }
 }
 
-/// The option number that is so much above the one before, where it has 16 bits.
+/// Adds a delta to the number before; an option number has 16 bits.
 fn number_above(before: u16, delta: u32) -> Option<u16>
     requires { delta < 65805 }
     ensures { result ≡ guard (nat_lt (before + delta) 65536) (before + delta) }
@@ -109,7 +111,8 @@ fn number_above(before: u16, delta: u32) -> Option<u16>
 
 /// The options that stand first, and what is behind them.
 pub(crate) fn split_options(bytes: &[u8]) -> Option<(&[u8], &[u8])>
-    ensures { MatchOption result (options_at (length bytes.now) 0 bytes.now ≡ None) (λ parts. AreSplit bytes.now parts.0.now parts.1.now) }
+    ensures { MatchOption result (options_at (length bytes.now) 0 bytes.now ≡ None)
+        (λ parts. AreSplit bytes.now parts.0.now parts.1.now) }
 {
     let behind = behind_options(bytes)?;
     let options = &bytes[..bytes.len() - behind.len()];
@@ -118,7 +121,8 @@ pub(crate) fn split_options(bytes: &[u8]) -> Option<(&[u8], &[u8])>
 
 /// What is behind the options that stand first.
 fn behind_options(bytes: &[u8]) -> Option<&[u8]>
-    ensures { MatchOption result (options_at (length bytes.now) 0 bytes.now ≡ None) (λ behind. EndsIn bytes.now behind.now) }
+    ensures { MatchOption result (options_at (length bytes.now) 0 bytes.now ≡ None)
+        (λ behind. EndsIn bytes.now behind.now) }
 {
     let mut number = 0;
     let mut rest = bytes;

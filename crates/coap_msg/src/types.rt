@@ -1,5 +1,6 @@
 //! What all layers above share.
 use arrayvec::ArrayVec;
+use thiserror::Error;
 
 /// A UDP endpoint: an IPv4 address and a port.
 #[derive(Clone, Copy, Debug, Default, PartialEq, Eq)]
@@ -19,6 +20,15 @@ pub const TOKEN: usize = 8;
 
 /// A message's token: 0 to 8 bytes (RFC 7252, 5.3.1).
 pub type Token = ArrayVec<u8, TOKEN>;
+
+/// The most bytes of a short value.
+pub const SHORT_VALUE: usize = 8;
+
+/// The value of an option that is written: 0 to 8 bytes, as those of integers, blocks and entity tags.
+pub type ShortValue = ArrayVec<u8, SHORT_VALUE>;
+
+/// The most bytes of an option with a short value: its first byte, two extended values of two bytes each, and the value.
+pub const SHORT_OPTION: usize = 13;
 
 /// A datagram that is to be sent.
 #[derive(Drop)]
@@ -40,12 +50,14 @@ pub enum MessageType {
     Reset,
 }
 
-/// Why a datagram is no message.
-#[derive(Clone, Copy, Debug, PartialEq, Eq)]
+/// Why a datagram is no message, and what is to be done about it.
+#[derive(Clone, Copy, Debug, PartialEq, Eq, Error)]
 pub enum Bad {
     /// It is to be ignored in silence (RFC 7252, 3 and 4.3).
+    #[error("neither a CoAP 1 message nor a confirmable one with a format error: ignore it")]
     Ignore,
     /// It has the header of a confirmable message and breaks the format: it is to be rejected by a Reset message with this
     /// message id (RFC 7252, 4.2).
+    #[error("format error in the confirmable message with id {0}: reject it by a Reset message")]
     Reset(u16),
 }

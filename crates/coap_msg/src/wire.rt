@@ -1,36 +1,36 @@
-//! The numbers of a message's format (RFC 7252, 3 and 3.1), and numbers of two bytes.
+//! The numbers of the message format (RFC 7252, 3 and 3.1), and integers of two bytes in network order.
 ghost use Rattle.std.specs.Prelude.{[], ◌%◌, ◌*◌, ◌+◌, ◌/◌, ◌∷◌, ◌≡◌};
 
 use byteorder::{BigEndian, ByteOrder};
 
-/// The upper half of the first byte of a confirmable message: version 1, type 0.
+/// Version and type of a confirmable message, the first byte's upper nibble: 1 and 0.
 pub(crate) const CONFIRMABLE: u8 = 0b0100;
 
-/// The upper half of a non-confirmable one: version 1, type 1.
+/// Version and type of a non-confirmable message: 1 and 1.
 pub(crate) const NON_CONFIRMABLE: u8 = 0b0101;
 
-/// The upper half of an acknowledgement: version 1, type 2.
+/// Version and type of an acknowledgement: 1 and 2.
 pub(crate) const ACKNOWLEDGEMENT: u8 = 0b0110;
 
-/// The upper half of a reset: version 1, type 3.
+/// Version and type of a reset: 1 and 3.
 pub(crate) const RESET: u8 = 0b0111;
 
-/// The half of an option's first byte that says that one byte follows.
-pub(crate) const ONE_BYTE: u8 = 13;
+/// Delta or length nibble 13: an 8-bit extended value follows.
+pub(crate) const NIBBLE_EXT8: u8 = 13;
 
-/// The half that says that two bytes follow.
-pub(crate) const TWO_BYTES: u8 = 14;
+/// Delta or length nibble 14: a 16-bit extended value follows.
+pub(crate) const NIBBLE_EXT16: u8 = 14;
 
-/// The least number that one byte says.
-pub(crate) const LEAST_OF_ONE: u32 = 13;
+/// Bias of the 8-bit extended form.
+pub(crate) const EXT8_BIAS: u32 = 13;
 
-/// The least number that two bytes say.
-pub(crate) const LEAST_OF_TWO: u32 = 269;
+/// Bias of the 16-bit extended form.
+pub(crate) const EXT16_BIAS: u32 = 269;
 
-/// What stands before a payload.
+/// Payload marker: the payload follows.
 pub(crate) const PAYLOAD_MARKER: u8 = 0xff;
 
-/// How many bytes stand before the token.
+/// Length of the fixed header, in bytes; the token follows.
 pub(crate) const HEADER: usize = 4;
 
 /// The number of two bytes, in network order.

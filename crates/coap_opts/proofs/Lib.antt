@@ -1,7 +1,8 @@
 pub mod Numbers
 pub mod Known
 pub mod Order
-pub mod Tags
 pub mod Paths
 pub mod Spellings
 pub mod Within
+mod Left
+pub mod Following

@@ -1,12 +1,17 @@
 -- The first check that fails, by the checks before it.
-use Rattle.std.proofs.Common.{◌≡◌, ℕ, ◌<◌, ◌≤◌, ◌||◌, Bool, true, false, nat_lt, length, List, Option, Some, None, refl, sym, ap, ◌∙◌}
+use Rattle.std.proofs.Common.{◌≡◌, ℕ, ◌||◌, Bool, true, false, nat_lt, length, List, [], Option, Some, None, refl, sym, ap, ◌∙◌}
 use Rattle.std.proofs.lemmas.Bool.{lt-ltb, le-ltb}
 use Rattle.coap_msg.specs.Wire.{Message}
 use Rattle.coap_opts.specs.declared.request.Method.{Method}
 use Rattle.coap_opts.specs.declared.request.Resource.{Resource}
-use Rattle.coap_opts.specs.Path.{method_of, serves}
-use Rattle.coap_opts.specs.Table.{has_unknown_critical}
-use Rattle.coap_opts.specs.Verdict.{IsKnown, IsServed, asked, resource, names_proxy, number_in, query, etags, observe_at, is_reserved, has_bad_value, refusal_of}
+use Rattle.coap_opts.specs.Path.{method_of}
+use Rattle.coap_opts.specs.Served.{serves, there}
+use Rattle.coap_opts.specs.Recognition.{has_unknown_critical}
+use Rattle.coap_opts.specs.Verdict.{IsKnown, IsServed, asked, has, resource, names_proxy, number_in, query, etags, observe_at, is_reserved, has_bad_value, refusal_of}
+use Rattle.coap_opts.specs.Collected.{IsCollected, IsQueryBy, lent, resource_with}
+use Rattle.coap_opts.specs.declared.collector.Collected.{Collected}
+use Rattle.coap_opts.specs.Values.{number_of}
+use Rattle.std.specs.Option.{option_map}
 
 pub proxy_fails : (m : Message) → names_proxy m ≡ true → refusal_of m ≡ Some 165
 unfolding refusal_of
@@ -40,29 +45,36 @@ pub none_fails : (m : Message) (method : Method) (at : Resource) → IsServed m 
 unfolding refusal_of
 none_fails m method at s b p = rw (s.known.no_proxy, s.known.no_unknown, s.method_is, s.resource_is, s.served, b, p) refl
 
-or-true : (b : Bool) → b || true ≡ true
-or-true true = refl
-or-true false = refl
+-- ---- by what is collected
 
--- ---- values that are bad
+pub collected_proxy : (m : Message) (g : Collected) → IsCollected m g → names_proxy m ≡ (has (lent g.proxy_uri) || has (lent g.proxy_scheme))
+collected_proxy m g h = rw (h.proxy_uri, h.proxy_scheme) refl
 
-pub block1_bad : (m : Message) (first : Option ℕ) → first ≡ number_in 27 m → is_reserved first ≡ true → has_bad_value m ≡ true
-block1_bad m first e h = rw (ap is_reserved (sym e) ∙ h) refl
+pub known_by : (m : Message) (g : Collected) → IsCollected m g → (has (lent g.proxy_uri) || has (lent g.proxy_scheme)) ≡ false → has_unknown_critical m.code None m.options ≡ false → IsKnown m
+known_by m g h p u = record { no_proxy = collected_proxy m g h ∙ p; no_unknown = u }
 
-pub block2_bad : (m : Message) (second : Option ℕ) → second ≡ number_in 23 m → is_reserved second ≡ true → has_bad_value m ≡ true
-block2_bad m second e h =
-    let bad : is_reserved (number_in 23 m) ≡ true = ap is_reserved (sym e) ∙ h in
-    rw (bad, or-true (is_reserved (number_in 27 m))) refl
+long_by : (b : Bool) (items all : List ℕ) → IsQueryBy b items all → nat_lt 64 (length all) ≡ b
+long_by true items all h = lt-ltb 64 (length all) h
+long_by false items all h = rw (sym h.0) (le-ltb 64 (length items) h.1)
 
-pub query_bad : (m : Message) → 64 < length (query m) → has_bad_value m ≡ true
-query_bad m h = rw (lt-ltb 64 (length (query m)) h) (or-true (is_reserved (number_in 27 m) || is_reserved (number_in 23 m)))
+pub collected_served : (m : Message) (g : Collected) (method : Method) (at : Resource) → IsCollected m g → IsKnown m → method_of m.code ≡ Some method → there (resource_with g.path []) ≡ Some at →
+    serves at method ≡ true → IsServed m method at
+collected_served m g method at h k e r s = record { known = k; method_is = e; resource_is = ap there (sym h.path) ∙ r; served = s }
 
-pub values_good : (m : Message) (first second : Option ℕ) → first ≡ number_in 27 m → second ≡ number_in 23 m → is_reserved first ≡ false → is_reserved second ≡ false →
-    length (query m) ≤ 64 → has_bad_value m ≡ false
-values_good m first second a b f s h =
-    let good1 : is_reserved (number_in 27 m) ≡ false = ap is_reserved (sym a) ∙ f in
-    let good2 : is_reserved (number_in 23 m) ≡ false = ap is_reserved (sym b) ∙ s in
-    rw (good1, good2, le-ltb 64 (length (query m)) h) refl
+pub collected_bad : (m : Message) (g : Collected) → IsCollected m g → (first second : Option ℕ) → first ≡ option_map number_of (lent g.block1) → second ≡ option_map number_of (lent g.block2) →
+    has_bad_value m ≡ ((is_reserved first || is_reserved second) || g.query.is_long)
+collected_bad m g h first second a b = rw (a, b, h.block1, h.block2, long_by _ _ _ h.query) refl
+
+or_right : (a b : Bool) → a || b ≡ false → b ≡ false
+or_right true b h = absurd (cc h)
+or_right false b h = h
+
+query_by : (b : Bool) (items all : List ℕ) → IsQueryBy b items all → nat_lt 64 (length all) ≡ false → items ≡ all
+query_by true items all h e = absurd (cc (sym (lt-ltb 64 (length all) h) ∙ e))
+query_by false items all h e = h.0
+
+pub collected_query : (m : Message) (g : Collected) → IsCollected m g → has_bad_value m ≡ false → g.query.items.items ≡ query m
+collected_query m g h e = query_by _ _ _ h.query (or_right (is_reserved (number_in 27 m) || is_reserved (number_in 23 m)) _ e)
 
 -- the request
 asked_is : (m : Message) (method : Method) (at : Resource) → IsServed m method at → asked m ≡ Some (record {

@@ -8,7 +8,7 @@ use Rattle.std.proofs.lemmas.Slice.Eq.{bytes_eq-Decides}
 use Rattle.coap_msg.specs.Reading.{with_some, guard}
 use Rattle.coap_opts.specs.declared.request.Resource.{Resource}
 use Rattle.coap_opts.specs.declared.request.Resource.TheVariants.{Run, Program, Core}
-use Rattle.coap_opts.specs.Path.{digit, slot_of, resource_of, IsResource, path_of}
+use Rattle.coap_opts.specs.Path.{digit, slot_named, resource_of, IsResource, path_of}
 
 -- a value that comes in two steps
 record Came {A B : Type 0} (o : Option A) (f : A → Option B) (y : B) : Type 0 where
@@ -55,8 +55,8 @@ digit_from b n e =
 decimal_two : (n : ℕ) → 10 ≤ n → n < 100 → decimal n ≡ (48 + n / 10) ∷ (48 + n % 10) ∷ []
 decimal_two n low high = decimal_step n low (omega arith) ∙ ap (λ xs. xs ++ ((48 + n % 10) ∷ [])) (decimal_digit (n / 10) (omega arith))
 
-slot_of-two : (n : ℕ) → 10 ≤ n → n < 64 → slot_of (decimal n) ≡ Some n
-slot_of-two n low high =
+slot_named-two : (n : ℕ) → 10 ≤ n → n < 64 → slot_named (decimal n) ≡ Some n
+slot_named-two n low high =
     let tens = n / 10 in
     let ones = n % 10 in
     let whole : 10 * tens + ones ≡ n = omega arith in
@@ -65,8 +65,8 @@ slot_of-two n low high =
     ap Some whole
     )
 
-slot_of-decimal : (n : ℕ) → n < 64 → slot_of (decimal n) ≡ Some n
-slot_of-decimal n h = elim (cases_lt n 10) [ inl low ↦ rw (decimal_digit n low) (digit-of n low) | inr high ↦ slot_of-two n high h ]
+slot_named-decimal : (n : ℕ) → n < 64 → slot_named (decimal n) ≡ Some n
+slot_named-decimal n h = elim (cases_lt n 10) [ inl low ↦ rw (decimal_digit n low) (digit-of n low) | inr high ↦ slot_named-two n high h ]
 
 record IsSlot (bytes : List ℕ) (n : ℕ) : Type 0 where
   bytes_are : bytes ≡ decimal n
@@ -81,7 +81,7 @@ two_from b c tens ones n first second small low high whole =
       below = omega arith;
     }
 
-slot_from : (bytes : List ℕ) (n : ℕ) → slot_of bytes ≡ Some n → IsSlot bytes n
+slot_from : (bytes : List ℕ) (n : ℕ) → slot_named bytes ≡ Some n → IsSlot bytes n
 slot_from [] n e = absurd (cc e)
 slot_from (b ∷ []) n e =
     let d = digit_from b n e in
@@ -101,8 +101,8 @@ slot_from (b ∷ c ∷ d ∷ bs) n e = absurd (cc e)
 -- ---- the path
 
 pub path_named : (r : Resource) → IsResource r → resource_of (path_of r) ≡ Some r
-path_named (Run n) h = rw (slot_of-decimal n h) refl
-path_named (Program n) h = rw (slot_of-decimal n h) refl
+path_named (Run n) h = rw (slot_named-decimal n h) refl
+path_named (Program n) h = rw (slot_named-decimal n h) refl
 path_named Core h = refl
 
 abbrev IsNamed : List ℕ → List ℕ → Resource → Type 0
@@ -113,15 +113,15 @@ same_bytes xs ys e = (bytes_eq-Decides xs ys).0 e
 
 named_by : (first second : List ℕ) (r : Resource) (run program core : Bool) → bytes_eq first (codes "r") ≡ run → bytes_eq first (codes "p") ≡ program →
     (bytes_eq first (codes ".well-known") && bytes_eq second (codes "core")) ≡ core →
-    (if run then with_some (slot_of second) (λ n. Some (Run n)) else (if program then with_some (slot_of second) (λ n. Some (Program n)) else (if core then Some Core else None))) ≡ Some r →
+    (if run then with_some (slot_named second) (λ n. Some (Run n)) else (if program then with_some (slot_named second) (λ n. Some (Program n)) else (if core then Some Core else None))) ≡ Some r →
     IsNamed first second r
 named_by first second r true program core a b c e =
-    let s = came (slot_of second) _ r e in
+    let s = came (slot_named second) _ r e in
     let t = slot_from second s.value s.first in
     let same : Run s.value ≡ r = cc s.second in
     subst (λ x. IsNamed first second x) same (ap (λ x. x ∷ second ∷ []) (same_bytes first (codes "r") a) ∙ ap (λ x. codes "r" ∷ x ∷ []) t.bytes_are, t.below)
 named_by first second r false true core a b c e =
-    let s = came (slot_of second) _ r e in
+    let s = came (slot_named second) _ r e in
     let t = slot_from second s.value s.first in
     let same : Program s.value ≡ r = cc s.second in
     subst (λ x. IsNamed first second x) same (ap (λ x. x ∷ second ∷ []) (same_bytes first (codes "p") b) ∙ ap (λ x. codes "p" ∷ x ∷ []) t.bytes_are, t.below)

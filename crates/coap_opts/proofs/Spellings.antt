@@ -2,7 +2,7 @@
 use Rattle.std.proofs.Common.{◌≡◌, ◌≢◌, ℕ, zero, suc, ◌<◌, ◌≤◌, ◌^◌, List, [], ◌∷◌, length, get_or, refl, ◌∙◌, arith}
 use Rattle.std.specs.Int.{w64, to_be_bytes}
 use Rattle.std.proofs.lemmas.Nat.{from_be_bytes-to_be_bytes_8}
-use Rattle.coap_opts.specs.Values.{number_of, without_zeros, integer_bytes}
+use Rattle.coap_opts.specs.Values.{number_of, without_zeros, uint_bytes}
 
 number_of-without_zeros : (bytes : List ℕ) → number_of (without_zeros bytes) ≡ number_of bytes
 number_of-without_zeros [] = refl
@@ -22,14 +22,14 @@ without_zeros-shorter (suc b ∷ bytes) = omega arith
 whole : (n : ℕ) → n < 2 ^ 64 → number_of (to_be_bytes w64 n) ≡ n
 whole n h = omega (arith, from_be_bytes-to_be_bytes_8 n h)
 
-pub integer_again : (n : ℕ) → n < 2 ^ 64 → number_of (integer_bytes n) ≡ n
-unfolding integer_bytes
-integer_again n h = number_of-without_zeros (to_be_bytes w64 n) ∙ whole n h
+pub uint_again : (n : ℕ) → n < 2 ^ 64 → number_of (uint_bytes n) ≡ n
+unfolding uint_bytes
+uint_again n h = number_of-without_zeros (to_be_bytes w64 n) ∙ whole n h
 
-pub integer_first : (n : ℕ) → 0 < length (integer_bytes n) → get_or (integer_bytes n) 0 0 ≢ 0
-unfolding integer_bytes
-integer_first n h = without_zeros-first (to_be_bytes w64 n) h
+pub uint_first : (n : ℕ) → 0 < length (uint_bytes n) → get_or (uint_bytes n) 0 0 ≢ 0
+unfolding uint_bytes
+uint_first n h = without_zeros-first (to_be_bytes w64 n) h
 
-pub integer_short : (n : ℕ) → length (integer_bytes n) ≤ 8
-unfolding integer_bytes
-integer_short n = without_zeros-shorter (to_be_bytes w64 n)
+pub uint_short : (n : ℕ) → length (uint_bytes n) ≤ 8
+unfolding uint_bytes
+uint_short n = without_zeros-shorter (to_be_bytes w64 n)

@@ -1,94 +1,231 @@
--- What a request that is carried out keeps.
-use Rattle.std.proofs.Common.{◌≡◌, ℕ, ◌≤◌, ◌==◌, [], ◌∷◌, not, Bool, true, false, cond, nat_lt, length, Option, Some, None, refl, ◌∙◌}
-use Rattle.std.proofs.lemmas.Bool.{ltb-false}
+-- What a request that is carried out is within, and what a refusal is.
+use Rattle.std.proofs.Common.{◌≡◌, ◌≢◌, ℕ, ◌%◌, ◌<◌, ◌≤◌, ◌==◌, ◌&&◌, ◌||◌, List, [], ◌∷◌, not, Bool, true, false, if◌then◌else◌, nat_lt, nat_le, length, map, take, Option, Some, None, IfSome, refl, sym, ap, subst, ◌∙◌, arith}
+use Rattle.std.specs.List.{filter}
+use Rattle.std.specs.Option.{option_map}
+use Rattle.std.proofs.lemmas.List.{length-take}
+use Rattle.std.proofs.lemmas.Bool.{ltb-false, leb-true, eqb-false, and_parts}
 use Rattle.coap_msg.specs.Wire.{Message}
 use Rattle.coap_msg.specs.Reading.{with_some}
 use Rattle.coap_msg.specs.declared.types.MessageType.{MessageType}
 use Rattle.coap_msg.specs.declared.types.MessageType.TheVariants as kind
+use Rattle.coap_msg.specs.declared.code.TheConstants.Code.{GET, PUT, BAD_OPTION}
+use Rattle.coap_opts.specs.declared.number.TheConstants as option
 use Rattle.coap_opts.specs.declared.request.Method.{Method}
+use Rattle.coap_opts.specs.declared.request.Method.TheVariants.{Get, Put}
 use Rattle.coap_opts.specs.declared.request.Resource.{Resource}
+use Rattle.coap_opts.specs.declared.request.Resource.TheVariants.{Run, Program, Core}
 use Rattle.coap_opts.specs.Path.{method_of}
-use Rattle.coap_opts.specs.Table.{has_unknown_critical}
-use Rattle.coap_opts.specs.Verdict.{Asked, IsAsked, IsAskedWithin, IsRefused, IsSilent, IsReset, IsSignal, IsIgnored, Verdict, asked, accepted, resource, verdict, verdict_by, judged, judged_by, refused, refusal_of, first_failing, is_request, has, is_served, names_proxy, has_bad_value, query, values, number_in, etags, observe_at}
+use Rattle.coap_opts.specs.Values.{number_of}
+use Rattle.coap_opts.specs.Verdict.{Asked, IsAsked, IsAskedWithin, IsBlockFor, IsErrorCode, IsRefused, IsSilent, IsReset, IsSignal, IsIgnored, Verdict, asked, accepted, resource, verdict, verdict_by, judged, judged_by, refused, refusal_of, checks, first_failing, first_of, is_request, is_reserved, is_run, is_served, has_bad_value, query, values, number_in, etags, observe_at}
+use Rattle.coap_opts.specs.Served.{is_there, there, serves}
+use Rattle.coap_opts.proofs.Known.{block1_in_put, block2_in_get, etag_in_get, observe_in_get}
 use Rattle.coap_opts.proofs.Paths.{path_only}
 
 -- ---- the request is made of the message
 
-made : (m : Message) (r : Asked) (method : Option Method) (at : Option Resource) → resource m ≡ at
-    → with_some method (λ method. with_some at (λ at. Some (record {
-      method = method;
-      resource = at;
-      query = query m;
-      content_format = number_in 12 m;
-      etags = etags m;
-      observe = observe_at at (number_in 6 m);
-      block1 = number_in 27 m;
-      block2 = number_in 23 m;
-      payload = m.payload;
-    })))
-    ≡ Some r → (resource m ≡ Some r.resource) × (r.payload ≡ m.payload)
-made m r None at e h = absurd (cc h)
-made m r (Some method) None e h = absurd (cc h)
-made m r (Some method) (Some at) e h = (e ∙ cc h, cc h)
+record IsMadeOf (m : Message) (r : Asked) : Type 0 where
+  method_is : method_of m.code ≡ Some r.method
+  resource_is : resource m ≡ Some r.resource
+  query_is : r.query ≡ query m
+  etags_are : r.etags ≡ etags m
+  observe_is : r.observe ≡ observe_at r.resource (number_in option.OBSERVE m)
+  block1_is : r.block1 ≡ number_in option.BLOCK1 m
+  block2_is : r.block2 ≡ number_in option.BLOCK2 m
+  payload_is : r.payload ≡ m.payload
 
-made_of : (m : Message) (r : Asked) → asked m ≡ Some r → (resource m ≡ Some r.resource) × (r.payload ≡ m.payload)
+abbrev fields : Message → Method → Resource → Asked
+fields m method at = record {
+  method = method;
+  resource = at;
+  query = query m;
+  content_format = number_in option.CONTENT_FORMAT m;
+  etags = etags m;
+  observe = observe_at at (number_in option.OBSERVE m);
+  block1 = number_in option.BLOCK1 m;
+  block2 = number_in option.BLOCK2 m;
+  payload = m.payload;
+}
+
+made_by : (m : Message) (r : Asked) (method : Option Method) (at : Option Resource) → method_of m.code ≡ method → resource m ≡ at →
+    with_some method (λ method. with_some at (λ at. Some (fields m method at))) ≡ Some r → IsMadeOf m r
+made_by m r None at e f h = absurd (cc h)
+made_by m r (Some method) None e f h = absurd (cc h)
+made_by m r (Some method) (Some at) e f h =
+    let same : fields m method at ≡ r = cc h in
+    subst (λ q. IsMadeOf m q) same (record {
+      method_is = e;
+      resource_is = f;
+      query_is = refl;
+      etags_are = refl;
+      observe_is = refl;
+      block1_is = refl;
+      block2_is = refl;
+      payload_is = refl;
+    })
+
+made_of : (m : Message) (r : Asked) → asked m ≡ Some r → IsMadeOf m r
 unfolding asked
-made_of m r h = made m r (method_of m.code) (resource m) refl h
+made_of m r h = made_by m r (method_of m.code) (resource m) refl refl h
 
 -- ---- no check fails
 
-last_passes : (a b c d e f g : Bool) (k l n o p q s : ℕ) → first_failing ((a, k) ∷ (b, l) ∷ (c, n) ∷ (d, o) ∷ (e, p) ∷ (f, q) ∷ (g, s) ∷ []) ≡ None → g ≡ false
-last_passes true b c d e f g k l n o p q s h = absurd (cc h)
-last_passes false true c d e f g k l n o p q s h = absurd (cc h)
-last_passes false false true d e f g k l n o p q s h = absurd (cc h)
-last_passes false false false true e f g k l n o p q s h = absurd (cc h)
-last_passes false false false false true f g k l n o p q s h = absurd (cc h)
-last_passes false false false false false true g k l n o p q s h = absurd (cc h)
-last_passes false false false false false false true k l n o p q s h = absurd (cc h)
-last_passes false false false false false false false k l n o p q s h = refl
+-- none of these fails
+abbrev AllPass : List (Bool × ℕ) → Type 0
+AllPass [] = Unit {0}
+AllPass ((fails, answer) ∷ more) = (fails ≡ false) × AllPass more
 
-short : (m : Message) → refusal_of m ≡ None → length m.payload ≤ 1024
+pass_by : (fails : Bool) (answer : ℕ) (more : List (Bool × ℕ)) → (first_failing more ≡ None → AllPass more) → (if fails then Some answer else first_failing more) ≡ None → (fails ≡ false) × AllPass more
+pass_by true answer more ih h = absurd (cc h)
+pass_by false answer more ih h = (refl, ih h)
+
+all_pass : (tests : List (Bool × ℕ)) → first_failing tests ≡ None → AllPass tests
+all_pass [] h = tt
+all_pass ((fails, answer) ∷ more) h = pass_by fails answer more (all_pass more) h
+
+record IsPassed (m : Message) : Type 0 where
+  served : is_served (resource m) (method_of m.code) ≡ true
+  values_are_good : has_bad_value m ≡ false
+  payload : nat_lt 1024 (length m.payload) ≡ false
+
+not_false : (b : Bool) → not b ≡ false → b ≡ true
+not_false true h = refl
+not_false false h = absurd (cc h)
+
+passed : (m : Message) → refusal_of m ≡ None → IsPassed m
 unfolding refusal_of
-short m h = ltb-false 1024 (length m.payload)
-    (last_passes (names_proxy m) (has_unknown_critical m.code None m.options) (not (has (method_of m.code))) (not (has (resource m))) (not (is_served (resource m) (method_of m.code)))
-    (has_bad_value m) (nat_lt 1024 (length m.payload)) 165 130 133 132 133 128 141 h)
+passed m h =
+    let behind_path = (all_pass (checks m) h).1.1.1.1 in
+    record { served = not_false _ behind_path.0; values_are_good = behind_path.1.0; payload = behind_path.1.1.0 }
 
--- ---- the verdict is a request
+-- ---- the fields
 
-refused_no_request : (k : MessageType) (code : ℕ) (r : Asked) → refused k code ≡ IsAsked r → ⊥
-refused_no_request kind.NonConfirmable code r h = by_code (code == 130) h
-  where
-    by_code : (b : Bool) → cond b IsSilent (IsRefused code) ≡ IsAsked r → ⊥
-    by_code true h = cc h
-    by_code false h = cc h
-refused_no_request kind.Confirmable code r h = cc h
-refused_no_request kind.Acknowledgement code r h = cc h
-refused_no_request kind.Reset code r h = cc h
+there_by : (b : Bool) (at r : Resource) → (if b then Some at else None) ≡ Some r → Some at ≡ Some r
+there_by true at r e = e
+there_by false at r e = absurd (cc e)
 
-accepted_is : (a : Option Asked) (r : Asked) → accepted a ≡ IsAsked r → a ≡ Some r
-accepted_is None r h = absurd (cc h)
-accepted_is (Some a) r h = cc h
+there_is : (at : Option Resource) (r : Resource) → there at ≡ Some r → at ≡ Some r
+there_is None r e = e
+there_is (Some at) r e = there_by (is_there at) at r e
 
-judged_within : (m : Message) (r : Asked) (o : Option ℕ) → refusal_of m ≡ o → judged_by m o ≡ IsAsked r → IsAskedWithin m r
-judged_within m r (Some code) e h = absurd (refused_no_request m.kind code r h)
-judged_within m r None e h =
-    let p = made_of m r (accepted_is (asked m) r h) in
-    record { resource = (path_only (values 11 m) r.resource p.0).1; payload_is = p.1; short = short m e }
+method_is : (m : Message) (method found : Method) (wanted : ℕ) → method_of m.code ≡ Some method → m.code ≡ wanted → method_of wanted ≡ Some found → method ≡ found
+method_is m method found wanted e c f = let same : Some method ≡ Some found = sym e ∙ (ap method_of c ∙ f) in cc same
 
-if_judged : (m : Message) (r : Asked) (b : Bool) (v : Verdict) → (v ≡ IsAsked r → ⊥) → cond b (judged m) v ≡ IsAsked r → IsAskedWithin m r
-if_judged m r true v n h = judged_within m r (refusal_of m) refl h
-if_judged m r false v n h = absurd (n h)
+served_by : (at : Option Resource) (method : Option Method) (r : Resource) (q : Method) → at ≡ Some r → method ≡ Some q → is_served at method ≡ true → serves r q ≡ true
+served_by None method r q a e h = absurd (cc a)
+served_by (Some at) None r q a e h = absurd (cc e)
+served_by (Some at) (Some method) r q a e h =
+    let same : at ≡ r = cc in
+    let equal : method ≡ q = cc in
+    cc
 
-if_other : (b : Bool) (v w : Verdict) (r : Asked) → (v ≡ IsAsked r → ⊥) → (w ≡ IsAsked r → ⊥) → cond b v w ≡ IsAsked r → ⊥
-if_other true v w r n o h = n h
-if_other false v w r n o h = o h
+good_size : (value : ℕ) → is_reserved (Some value) ≡ false → value % 8 < 7
+good_size value h = let not_seven : value % 8 ≢ 7 = eqb-false (value % 8) 7 h in omega arith
 
-by_kind : (m : Message) (r : Asked) (k : MessageType) → verdict_by k m ≡ IsAsked r → IsAskedWithin m r
-by_kind m r kind.Confirmable h = if_judged m r (is_request m.code) IsReset (λ e. cc e) h
-by_kind m r kind.NonConfirmable h = if_judged m r (is_request m.code) IsIgnored (λ e. cc e) h
-by_kind m r kind.Acknowledgement h = absurd (if_other (m.code == 0) (IsSignal false) IsIgnored r (λ e. cc e) (λ e. cc e) h)
-by_kind m r kind.Reset h = absurd (if_other (m.code == 0) (IsSignal true) IsIgnored r (λ e. cc e) (λ e. cc e) h)
+block_by : (wanted method : Method) (value : Option (List ℕ)) → is_reserved (option_map number_of value) ≡ false → ((v : List ℕ) → value ≡ Some v → method ≡ wanted) → IsBlockFor wanted method (option_map number_of value)
+block_by wanted method None g h = tt
+block_by wanted method (Some v) g h = (h v refl, good_size (number_of v) g)
+
+or_false : (a b : Bool) → a || b ≡ false → (a ≡ false) × (b ≡ false)
+or_false true b h = absurd (cc h)
+or_false false b h = (refl, h)
+
+observe_by : (method : Method) (at : Resource) (value : Option (List ℕ)) → ((v : List ℕ) → value ≡ Some v → method ≡ Get) → IfSome (observe_at at (option_map number_of value)) (λ n. (method ≡ Get) × (is_run at ≡ true))
+observe_by method (Run n) None h = tt
+observe_by method (Run n) (Some v) h = (h v refl, refl)
+observe_by method (Program n) value h = tt
+observe_by method Core value h = tt
+
+no_tags : (method : Method) (tags : List (List ℕ)) → ((v : List ℕ) → first_of tags ≡ Some v → method ≡ Get) → method ≢ Get → take 4 (map number_of (filter (λ v. length v == 8) tags)) ≡ []
+no_tags method [] h n = refl
+no_tags method (v ∷ tags) h n = absurd (n (h v refl))
+
+at_most : (count : ℕ) (xs : List ℕ) → length (take count xs) ≤ count
+at_most count xs = omega (arith, length-take count xs)
+
+fields_within : (m : Message) (r : Asked) → IsMadeOf m r → IsPassed m → IsAskedWithin m r
+fields_within m r made p =
+    let good = or_false _ _ p.values_are_good in
+    let sizes = or_false _ _ good.0 in
+    let in_get : m.code ≡ GET.byte → r.method ≡ Get = λ c. method_is m r.method Get GET.byte made.method_is c refl in
+    let in_put : m.code ≡ PUT.byte → r.method ≡ Put = λ c. method_is m r.method Put PUT.byte made.method_is c refl in
+    record {
+      method = made.method_is;
+      resource = (path_only (values option.URI_PATH m) r.resource (there_is _ _ made.resource_is)).1;
+      served = served_by _ _ r.resource r.method made.resource_is made.method_is p.served;
+      query = rw made.query_is (ltb-false 64 (length (query m)) good.1);
+      etags = rw made.etags_are (at_most 4 _);
+      etags_in_get = λ n. made.etags_are ∙ no_tags r.method (values option.ETAG m) (λ v h. in_get (etag_in_get m v h)) n;
+      observe = rw made.observe_is (observe_by r.method r.resource (first_of (values option.OBSERVE m)) (λ v h. in_get (observe_in_get m v h)));
+      block1 = rw made.block1_is (block_by Put r.method (first_of (values option.BLOCK1 m)) sizes.0 (λ v h. in_put (block1_in_put m v h)));
+      block2 = rw made.block2_is (block_by Get r.method (first_of (values option.BLOCK2 m)) sizes.1 (λ v h. in_get (block2_in_get m v h)));
+      payload_is = made.payload_is;
+      short = ltb-false 1024 (length m.payload) p.payload;
+    }
+
+-- ---- refusals
+
+abbrev is_error : ℕ → Bool
+is_error answer = nat_le 128 answer && nat_le answer 191
+
+abbrev are_errors : List (Bool × ℕ) → Bool
+are_errors [] = true
+are_errors ((fails, answer) ∷ more) = is_error answer && are_errors more
+
+failing_by : (fails : Bool) (first answer : ℕ) (more : List (Bool × ℕ)) → is_error first ≡ true → (first_failing more ≡ Some answer → is_error answer ≡ true) →
+    (if fails then Some first else first_failing more) ≡ Some answer → is_error answer ≡ true
+failing_by true first answer more e ih h = let same : first ≡ answer = cc h in ap is_error (sym same) ∙ e
+failing_by false first answer more e ih h = ih h
+
+failing_is_error : (tests : List (Bool × ℕ)) (answer : ℕ) → are_errors tests ≡ true → first_failing tests ≡ Some answer → is_error answer ≡ true
+failing_is_error [] answer e h = absurd (cc h)
+failing_is_error ((fails, first) ∷ more) answer e h =
+    let both = and_parts _ _ e in
+    failing_by fails first answer more both.0 (failing_is_error more answer both.1) h
+
+refusal_is_error : (m : Message) (answer : ℕ) → refusal_of m ≡ Some answer → IsErrorCode answer
+unfolding refusal_of
+refusal_is_error m answer h =
+    let parts = and_parts _ _ (failing_is_error (checks m) answer refl h) in
+    record { at_least = leb-true 128 answer parts.0; at_most = leb-true answer 191 parts.1 }
+
+-- ---- by what the verdict is
+
+-- what holds of a verdict: of a request, and of a refusal
+abbrev IsWithin : Message → Verdict → Type 0
+IsWithin m (IsAsked r) = IsAskedWithin m r
+IsWithin m (IsRefused answer) = IsErrorCode answer
+IsWithin m _ = Unit {0}
+
+if_within : (m : Message) (b : Bool) (v w : Verdict) → IsWithin m v → IsWithin m w → IsWithin m (if b then v else w)
+if_within m true v w p q = p
+if_within m false v w p q = q
+
+refused_by : (m : Message) (k : MessageType) (answer : ℕ) → IsErrorCode answer → IsWithin m (refused k answer)
+refused_by m kind.NonConfirmable answer h = if_within m (answer == BAD_OPTION.byte) IsSilent (IsRefused answer) tt h
+refused_by m kind.Confirmable answer h = h
+refused_by m kind.Acknowledgement answer h = h
+refused_by m kind.Reset answer h = h
+
+accepted_by : (m : Message) (r : Option Asked) → asked m ≡ r → IsPassed m → IsWithin m (accepted r)
+accepted_by m None e p = tt
+accepted_by m (Some r) e p = fields_within m r (made_of m r e) p
+
+judged_within : (m : Message) (o : Option ℕ) → refusal_of m ≡ o → IsWithin m (judged_by m o)
+judged_within m (Some answer) e = refused_by m m.kind answer (refusal_is_error m answer e)
+judged_within m None e = accepted_by m (asked m) refl (passed m e)
+
+kind_within : (m : Message) (k : MessageType) → IsWithin m (verdict_by k m)
+kind_within m kind.Confirmable = if_within m (is_request m.code) (judged m) IsReset (judged_within m _ refl) tt
+kind_within m kind.NonConfirmable = if_within m (is_request m.code) (judged m) IsIgnored (judged_within m _ refl) tt
+kind_within m kind.Acknowledgement = if_within m (m.code == 0) (IsSignal false) IsIgnored tt tt
+kind_within m kind.Reset = if_within m (m.code == 0) (IsSignal true) IsIgnored tt tt
+
+within : (m : Message) → IsWithin m (verdict m)
+unfolding verdict
+within m = kind_within m m.kind
 
 pub asked_within : (m : Message) (r : Asked) → verdict m ≡ IsAsked r → IsAskedWithin m r
-unfolding verdict
-asked_within m r h = by_kind m r m.kind h
+asked_within m r h = let P : Verdict → Type 0 = λ v. IsWithin m v in subst P h (within m)
+
+pub refused_within : (m : Message) (answer : ℕ) → verdict m ≡ IsRefused answer → IsErrorCode answer
+refused_within m answer h = let P : Verdict → Type 0 = λ v. IsWithin m v in subst P h (within m)

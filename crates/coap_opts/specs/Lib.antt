@@ -1,4 +1,7 @@
 pub mod Values
-pub mod Table
 pub mod Path
+pub mod Served
+pub mod Recognition
 pub mod Verdict
+pub mod Collected
+pub mod Replies

@@ -1,49 +1,41 @@
 -- Methods, and the resources by path.
-use Rattle.std.specs.Prelude.{ℕ, ◌+◌, ◌-◌, ◌*◌, ◌<◌, ◌==◌, ◌&&◌, Bool, true, false, nat_lt, nat_le, if◌then◌else◌, List, [], ◌∷◌, Option, Some, None, codes}
+use Rattle.std.specs.Prelude.{ℕ, ◌+◌, ◌-◌, ◌*◌, ◌<◌, ◌==◌, ◌&&◌, nat_lt, nat_le, if◌then◌else◌, List, [], ◌∷◌, Option, Some, None, codes}
 use Rattle.std.specs.Str.{bytes_eq}
 use Rattle.std.specs.Fmt.{decimal}
 use Rattle.coap_msg.specs.Reading.{with_some, guard}
+use Rattle.coap_msg.specs.declared.code.TheConstants.Code.{GET, POST, PUT, DELETE}
 use Rattle.coap_opts.specs.declared.request.Method.{Method}
 use Rattle.coap_opts.specs.declared.request.Method.TheVariants.{Get, Post, Put, Delete}
 use Rattle.coap_opts.specs.declared.request.Resource.{Resource}
 use Rattle.coap_opts.specs.declared.request.Resource.TheVariants.{Run, Program, Core}
 
--- 0.01 to 0.04 (RFC 7252, 12.1.1)
+-- by the code (RFC 7252, 12.1.1)
 abbrev pub method_of : ℕ → Option Method
 method_of code =
-    if code == 1 then Some Get else (if code == 2 then Some Post else (if code == 3 then Some Put else (if code == 4 then Some Delete else None)))
+    if code == GET.byte then Some Get else (if code == POST.byte then Some Post else (
+    if code == PUT.byte then Some Put else (if code == DELETE.byte then Some Delete else None)))
 
 -- the value of a decimal digit
 abbrev pub digit : ℕ → Option ℕ
 digit b = guard (nat_le 48 b && nat_lt b 58) (b - 48)
 
 -- the slot by a segment: one digit, or two of which the first isn't 0, below 64
-abbrev pub slot_of : List ℕ → Option ℕ
-slot_of (b ∷ []) = digit b
-slot_of (b ∷ c ∷ []) = with_some (digit b) (λ tens. with_some (digit c) (λ ones. guard (nat_lt 0 tens && nat_lt (10 * tens + ones) 64) (10 * tens + ones)))
-slot_of _ = None
+abbrev pub slot_named : List ℕ → Option ℕ
+slot_named (b ∷ []) = digit b
+slot_named (b ∷ c ∷ []) = with_some (digit b) (λ tens. with_some (digit c) (λ ones. guard (nat_lt 0 tens && nat_lt (10 * tens + ones) 64) (10 * tens + ones)))
+slot_named _ = None
 
 -- `/r/N` and `/p/N` for a slot N, and `/.well-known/core` (RFC 6690, 4)
-abbrev pub named : List ℕ → List ℕ → Option Resource
-named first second =
-    if bytes_eq first (codes "r") then with_some (slot_of second) (λ n. Some (Run n)) else (
-    if bytes_eq first (codes "p") then with_some (slot_of second) (λ n. Some (Program n)) else (
+abbrev pub resource_named : List ℕ → List ℕ → Option Resource
+resource_named first second =
+    if bytes_eq first (codes "r") then with_some (slot_named second) (λ n. Some (Run n)) else (
+    if bytes_eq first (codes "p") then with_some (slot_named second) (λ n. Some (Program n)) else (
     if bytes_eq first (codes ".well-known") && bytes_eq second (codes "core") then Some Core else None))
 
 -- what a path names, by its segments
 abbrev pub resource_of : List (List ℕ) → Option Resource
-resource_of (first ∷ second ∷ []) = named first second
+resource_of (first ∷ second ∷ []) = resource_named first second
 resource_of _ = None
-
--- GET and POST run a program; GET, PUT and DELETE are about one; the list can be got
-abbrev pub serves : Resource → Method → Bool
-serves (Run n) Get = true
-serves (Run n) Post = true
-serves (Program n) Get = true
-serves (Program n) Put = true
-serves (Program n) Delete = true
-serves Core Get = true
-serves _ _ = false
 
 -- ---- the same the other way
 

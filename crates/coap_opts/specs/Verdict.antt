@@ -1,20 +1,26 @@
--- What a message is to the server: the first check that fails, or the request with its fields.
-use Rattle.std.specs.Prelude.{◌≡◌, ℕ, ◌%◌, ◌==◌, ◌&&◌, ◌||◌, not, Bool, true, false, nat_lt, if◌then◌else◌, List, [], ◌∷◌, length, take, map, Option, Some, None, codes, ◌≤◌}
+-- The class of a message: the first check that fails, or the request with its fields.
+use Rattle.std.specs.Prelude.{◌≡◌, ◌≢◌, ℕ, ◌%◌, ◌<◌, ◌==◌, ◌&&◌, ◌||◌, not, Bool, true, false, nat_lt, if◌then◌else◌, List, [], ◌∷◌, length, take, map, Option, Some, None, Result, Ok, Err, IfSome, codes, ◌≤◌}
 use Rattle.std.specs.List.{filter, join_by}
 use Rattle.std.specs.Option.{option_map}
 use Rattle.coap_msg.specs.declared.types.MessageType.{MessageType}
 use Rattle.coap_msg.specs.declared.types.MessageType.TheVariants as kind
+use Rattle.coap_msg.specs.declared.code.Code.{Code}
+use Rattle.coap_msg.specs.declared.code.TheConstants.Code as registered
 use Rattle.coap_msg.specs.Wire.{Message}
+use Rattle.coap_msg.specs.Codes.{code}
 use Rattle.coap_msg.specs.Reading.{with_some}
+use Rattle.coap_opts.specs.declared.number.TheConstants as option
 use Rattle.coap_opts.specs.declared.request.Method.{Method}
+use Rattle.coap_opts.specs.declared.request.Method.TheVariants.{Get, Put}
 use Rattle.coap_opts.specs.declared.request.Resource.{Resource}
 use Rattle.coap_opts.specs.declared.request.Resource.TheVariants.{Run}
 use Rattle.coap_opts.specs.declared.request.Request.{Request}
 use Rattle.coap_opts.specs.declared.request.Classified.{Classified}
 use Rattle.coap_opts.specs.declared.request.Classified.TheVariants as classified
 use Rattle.coap_opts.specs.Values.{number_of, block_value}
-use Rattle.coap_opts.specs.Table.{values_of, has_unknown_critical}
-use Rattle.coap_opts.specs.Path.{IsResource, method_of, resource_of, serves}
+use Rattle.coap_opts.specs.Recognition.{values_of, has_unknown_critical}
+use Rattle.coap_opts.specs.Path.{IsResource, method_of, resource_of}
+use Rattle.coap_opts.specs.Served.{serves, there}
 
 -- ---- the fields of a request
 
@@ -36,19 +42,19 @@ has (Some x) = true
 abbrev pub number_in : ℕ → Message → Option ℕ
 number_in number m = option_map number_of (first_of (values number m))
 
--- the values of Uri-Query (15), joined by `&`
+-- the values of Uri-Query, joined by `&`
 abbrev pub query : Message → List ℕ
-query m = join_by (λ v. v) (codes "&") (values 15 m)
+query m = join_by (λ v. v) (codes "&") (values option.URI_QUERY m)
 
--- the first four ETags (4) of 8 bytes
+-- the first four ETags of 8 bytes
 abbrev pub etags : Message → List ℕ
-etags m = take 4 (map number_of (filter (λ v. length v == 8) (values 4 m)))
+etags m = take 4 (map number_of (filter (λ v. length v == 8) (values option.ETAG m)))
 
--- the segments of Uri-Path (11)
+-- what the segments of Uri-Path name, where something is served there
 abbrev pub resource : Message → Option Resource
-resource m = resource_of (values 11 m)
+resource m = there (resource_of (values option.URI_PATH m))
 
--- Observe (6) is for the resources that a program answers
+-- Observe is for the resources that a program answers
 abbrev pub observe_at : Resource → Option ℕ → Option ℕ
 observe_at (Run n) value = value
 observe_at _ value = None
@@ -65,7 +71,7 @@ pub record Asked : Type 0 where
   pub block2 : Option ℕ
   pub payload : List ℕ
 
--- Content-Format is 12, Block1 27, Block2 23
+-- the fields of a request whose method and resource there are
 unfoldable pub asked : Message → Option Asked
 asked m =
     with_some (method_of m.code) (λ method.
@@ -74,19 +80,19 @@ asked m =
       method = method;
       resource = resource;
       query = query m;
-      content_format = number_in 12 m;
+      content_format = number_in option.CONTENT_FORMAT m;
       etags = etags m;
-      observe = observe_at resource (number_in 6 m);
-      block1 = number_in 27 m;
-      block2 = number_in 23 m;
+      observe = observe_at resource (number_in option.OBSERVE m);
+      block1 = number_in option.BLOCK1 m;
+      block2 = number_in option.BLOCK2 m;
       payload = m.payload;
     })))
 
 -- ---- the checks
 
--- Proxy-Uri (35) or Proxy-Scheme (39) is there
+-- Proxy-Uri or Proxy-Scheme is there (RFC 7252, 5.10.2)
 abbrev pub names_proxy : Message → Bool
-names_proxy m = has (first_of (values 35 m)) || has (first_of (values 39 m))
+names_proxy m = has (first_of (values option.PROXY_URI m)) || has (first_of (values option.PROXY_SCHEME m))
 
 -- the method is served at the resource
 abbrev pub is_served : Option Resource → Option Method → Bool
@@ -98,26 +104,30 @@ abbrev pub is_reserved : Option ℕ → Bool
 is_reserved None = false
 is_reserved (Some value) = value % 8 == 7
 
--- a block of size 7 (Block1 is 27, Block2 is 23), or a query of more than 64 bytes
+-- a block of the reserved size, or a query that is too long
+abbrev pub is_bad : Option ℕ → Option ℕ → Bool → Bool
+is_bad block1 block2 is_long = (is_reserved block1 || is_reserved block2) || is_long
+
+-- the blocks, and a query of at most 64 bytes
 abbrev pub has_bad_value : Message → Bool
-has_bad_value m = (is_reserved (number_in 27 m) || is_reserved (number_in 23 m)) || nat_lt 64 (length (query m))
+has_bad_value m = is_bad (number_in option.BLOCK1 m) (number_in option.BLOCK2 m) (nat_lt 64 (length (query m)))
 
 -- the checks in their order: whether each fails, and the code that then answers
 abbrev pub checks : Message → List (Bool × ℕ)
 checks m =
-    (names_proxy m, 165)  -- 5.05
-    ∷ (has_unknown_critical m.code None m.options, 130)  -- 4.02
-    ∷ (not (has (method_of m.code)), 133)  -- 4.05
-    ∷ (not (has (resource m)), 132)  -- 4.04
-    ∷ (not (is_served (resource m) (method_of m.code)), 133)  -- 4.05
-    ∷ (has_bad_value m, 128)  -- 4.00
-    ∷ (nat_lt 1024 (length m.payload), 141)  -- 4.13
+    (names_proxy m, registered.PROXYING_NOT_SUPPORTED.byte)
+    ∷ (has_unknown_critical m.code None m.options, registered.BAD_OPTION.byte)
+    ∷ (not (has (method_of m.code)), registered.METHOD_NOT_ALLOWED.byte)
+    ∷ (not (has (resource m)), registered.NOT_FOUND.byte)
+    ∷ (not (is_served (resource m) (method_of m.code)), registered.METHOD_NOT_ALLOWED.byte)
+    ∷ (has_bad_value m, registered.BAD_REQUEST.byte)
+    ∷ (nat_lt 1024 (length m.payload), registered.REQUEST_ENTITY_TOO_LARGE.byte)
     ∷ []
 
 -- the code of the first that fails
 abbrev pub first_failing : List (Bool × ℕ) → Option ℕ
 first_failing [] = None
-first_failing ((fails, code) ∷ more) = if fails then Some code else first_failing more
+first_failing ((fails, answer) ∷ more) = if fails then Some answer else first_failing more
 
 -- the code by which a request is refused
 unfoldable pub refusal_of : Message → Option ℕ
@@ -148,12 +158,12 @@ pub data Verdict : Type 0 where
 
 -- class 0, and not 0.00
 abbrev pub is_request : ℕ → Bool
-is_request code = nat_lt 0 code && nat_lt code 32
+is_request c = nat_lt 0 c && nat_lt c 32
 
 -- a non-confirmable request with an unrecognised critical option gets no answer (RFC 7252, 5.4.1)
 abbrev pub refused : MessageType → ℕ → Verdict
-refused kind.NonConfirmable code = if code == 130 then IsSilent else IsRefused code
-refused _ code = IsRefused code
+refused kind.NonConfirmable answer = if answer == registered.BAD_OPTION.byte then IsSilent else IsRefused answer
+refused _ answer = IsRefused answer
 
 -- a request that passed each check
 abbrev pub accepted : Option Asked → Verdict
@@ -162,7 +172,7 @@ accepted None = IsIgnored
 
 -- by the code of the first check that fails
 abbrev pub judged_by : Message → Option ℕ → Verdict
-judged_by m (Some code) = refused m.kind code
+judged_by m (Some answer) = refused m.kind answer
 judged_by m None = accepted (asked m)
 
 -- what a request is to the server
@@ -196,16 +206,45 @@ stated r = record {
   payload = r.payload.now;
 }
 
+-- the request where no check fails, or the code of the first that does
+abbrev pub IsRequestOf : Message → Result Request Code → Type 0
+IsRequestOf m (Ok r) = (refusal_of m ≡ None) × (asked m ≡ Some (stated r))
+IsRequestOf m (Err answer) = refusal_of m ≡ Some answer.byte
+
 abbrev pub seen : Classified → Verdict
 seen (classified.Request r) = IsAsked (stated r)
-seen (classified.Refused code) = IsRefused code.byte
+seen (classified.Refused answer) = IsRefused answer.byte
 seen classified.Silent = IsSilent
 seen classified.Reset = IsReset
 seen (classified.Signal reset) = IsSignal reset
 seen classified.Ignored = IsIgnored
 
--- what a request that is carried out keeps: its resource is one of the server's, and its payload is the message's
+-- ---- what a verdict is within
+
+-- a program answers there
+abbrev pub is_run : Resource → Bool
+is_run (Run n) = true
+is_run _ = false
+
+-- a block, where there is one, comes with this method, and its size isn't the reserved one
+abbrev pub IsBlockFor : Method → Method → Option ℕ → Type 0
+IsBlockFor wanted method block = IfSome block (λ value. (method ≡ wanted) × (value % 8 < 7))
+
+-- a request that is carried out: its method is served at its resource, one of the server's, its payload is the message's, and each field is within its limits
 pub record IsAskedWithin (m : Message) (r : Asked) : Type 0 where
+  pub method : method_of m.code ≡ Some r.method
   pub resource : IsResource r.resource
+  pub served : serves r.resource r.method ≡ true
+  pub query : length r.query ≤ 64
+  pub etags : length r.etags ≤ 4
+  pub etags_in_get : r.method ≢ Get → r.etags ≡ []
+  pub observe : IfSome r.observe (λ value. (r.method ≡ Get) × (is_run r.resource ≡ true))
+  pub block1 : IsBlockFor Put r.method r.block1
+  pub block2 : IsBlockFor Get r.method r.block2
   pub payload_is : r.payload ≡ m.payload
   pub short : length m.payload ≤ 1024
+
+-- a refusal is the reply of a client error or a server error, 4.00 to 5.31
+pub record IsErrorCode (answer : ℕ) : Type 0 where
+  pub at_least : code 4 0 ≤ answer
+  pub at_most : answer ≤ code 5 31

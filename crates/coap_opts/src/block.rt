@@ -1,9 +1,9 @@
-//! Blocks of a body (RFC 7959, 2.2).
+//! Blocks of a body, as Block1 and Block2 name them (RFC 7959, 2.2).
 ghost use Rattle.std.specs.Prelude.{◌<◌, ◌^◌};
 
-use crate::integers::{Integer, read_integer, write_integer};
+use crate::uint::{UintBytes, decode_uint, encode_uint};
 
-/// Which block of a body is meant.
+/// Which block of a body: its number, its size, and whether more follow.
 #[derive(Clone, Copy, Debug, PartialEq, Eq)]
 pub struct Block {
     /// The block's number, from 0 on; it has 20 bits.
@@ -18,14 +18,14 @@ pub struct Block {
 
 impl Block {
     ghost use Rattle.std.specs.Prelude.{◌≡◌, ◌≤◌, ◌+◌, ◌^◌, length};
-    ghost use Rattle.coap_opts.specs.Values.{block_value, integer_bytes, number_of};
+    ghost use Rattle.coap_opts.specs.Values.{block_value, uint_bytes, number_of};
 
-    /// The block that a value of at most 3 bytes means. Zeros may stand in front.
+    /// Decodes a value of at most 3 bytes. Leading zeros are legal.
     pub fn read(bytes: &[u8]) -> Block
         requires { length bytes.now ≤ 3 }
         ensures { block_value result ≡ number_of bytes.now }
     {
-        let value = read_integer(bytes) as u32;
+        let value = decode_uint(bytes) as u32;
         Block {
             number: value / 16,
             more: value / 8 % 2 == 1,
@@ -33,12 +33,12 @@ impl Block {
         }
     }
 
-    /// The one value that means the block: as few bytes as there can be.
-    pub fn value(self) -> Integer
-        ensures { result.items ≡ integer_bytes (block_value self) }
+    /// Encodes the block without leading zeros.
+    pub fn value(self) -> UintBytes
+        ensures { result.items ≡ uint_bytes (block_value self) }
     {
         let more = if self.more { 8 } else { 0 };
-        write_integer(u64::from(16 * self.number + more + u32::from(self.szx)))
+        encode_uint(u64::from(16 * self.number + more + u32::from(self.szx)))
     }
 
     /// How many bytes a block has: 16 to 1,024, and 2,048 where the size is the reserved one.

@@ -1,96 +1,59 @@
-//! The fields of a request, each from the message's recognised options.
-ghost use Rattle.std.specs.Prelude.{◌≡◌, ◌<◌, ◌≤◌, None, Some, length, IfSome, MatchOption};
+//! The fields of a request, each decoded from the value of its option.
+ghost use Rattle.std.specs.Prelude.{◌≡◌, ◌≤◌, [], length};
 ghost use Rattle.std.specs.Option.{option_map};
-ghost use Rattle.coap_opts.specs.Values.{block_value};
-ghost use Rattle.coap_opts.specs.Verdict.{first_of, number_in, values};
-ghost use Rattle.coap_opts.specs.Verdict as spec;
+ghost use Rattle.coap_opts.specs.Values.{block_value, number_of};
+ghost use Rattle.coap_opts.specs.Collected.{IsShort, lent, resource_with};
 
 use crate::block::Block;
-use crate::integers::read_integer;
-use crate::request::{ETAGS, Query};
-use crate::table::{
-    BLOCK1, BLOCK2, CONTENT_FORMAT, ETAG, OBSERVE, PROXY_SCHEME, PROXY_URI, URI_QUERY,
-};
-use crate::values::Values;
-use arrayvec::ArrayVec;
-use coap_msg::Message;
+use crate::collector::Segments;
+use crate::path::resource_named;
+use crate::request::Resource;
+use crate::uint::decode_uint;
 
-/// The length of the ETags that count: those of a serial.
-const SERIAL: usize = 8;
-
-/// The first value of a message's recognised options of this number.
-fn first_value<'a>(number: u16, message: &Message<'a>) -> Option<&'a [u8]>
-    ensures { MatchOption result (first_of (values number message.now) ≡ None) (λ v. first_of (values number message.now) ≡ Some v.now) }
+/// Decodes a Content-Format.
+pub(crate) fn format_of(value: Option<&[u8]>) -> Option<u16>
+    requires { IsShort 2 value }
+    ensures { result ≡ option_map number_of (lent value.entry) }
 {
-    Values::new(number, message).next()
+    Some(decode_u16(value?))
 }
 
-/// Whether a proxy is asked for.
-pub(crate) fn names_proxy(message: &Message<'_>) -> bool
-    ensures { result ≡ spec.names_proxy message.now }
+fn decode_u16(bytes: &[u8]) -> u16
+    requires { length bytes.now ≤ 2 }
+    ensures { result ≡ number_of bytes.now }
 {
-    first_value(PROXY_URI, message).is_some() || first_value(PROXY_SCHEME, message).is_some()
+    decode_uint(bytes) as u16
 }
 
-/// The Content-Format.
-pub(crate) fn content_format(message: &Message<'_>) -> Option<u16>
-    ensures { result ≡ number_in 12 message.now }
+/// Decodes a value of Observe.
+pub(crate) fn observe_of(value: Option<&[u8]>) -> Option<u32>
+    requires { IsShort 3 value }
+    ensures { result ≡ option_map number_of (lent value.entry) }
 {
-    let value = first_value(CONTENT_FORMAT, message)?;
-    Some(read_integer(value) as u16)
+    Some(decode_u24(value?))
 }
 
-/// The value of Observe.
-pub(crate) fn observe(message: &Message<'_>) -> Option<u32>
-    ensures { result ≡ number_in 6 message.now }
+fn decode_u24(bytes: &[u8]) -> u32
+    requires { length bytes.now ≤ 3 }
+    ensures { result ≡ number_of bytes.now }
 {
-    let value = first_value(OBSERVE, message)?;
-    Some(read_integer(value) as u32)
+    decode_uint(bytes) as u32
 }
 
-/// The block that a PUT brings.
-pub(crate) fn block1(message: &Message<'_>) -> Option<Block>
-    ensures { option_map block_value result ≡ number_in 27 message.now }
+/// Decodes a Block1 or a Block2.
+pub(crate) fn block_of(value: Option<&[u8]>) -> Option<Block>
+    requires { IsShort 3 value }
+    ensures { option_map block_value result ≡ option_map number_of (lent value.entry) }
 {
-    let value = first_value(BLOCK1, message)?;
-    Some(Block::read(value))
+    Some(Block::read(value?))
 }
 
-/// The block that a GET asks.
-pub(crate) fn block2(message: &Message<'_>) -> Option<Block>
-    ensures { option_map block_value result ≡ number_in 23 message.now }
+/// The resource that a path names.
+pub(crate) fn resource_of(path: Segments<'_>) -> Option<Resource>
+    ensures { result ≡ resource_with path.entry [] }
 {
-    let value = first_value(BLOCK2, message)?;
-    Some(Block::read(value))
-}
-
-/// The query, where it has at most 64 bytes.
-pub(crate) fn query(message: &Message<'_>) -> Option<Query>
-    ensures query { MatchOption result (64 < length (spec.query message.now)) (λ q. q.items ≡ spec.query message.now) }
-    ensures short { IfSome result (λ q. length q.items ≤ 64) }
-{
-    let mut query = Query::new();
-    let mut values = Values::new(URI_QUERY, message);
-    let Some(first) = values.next() else {
-        return Some(query);
-    };
-    query.try_extend_from_slice(first).ok()?;
-    for value in values {
-        query.try_push(b'&').ok()?;
-        query.try_extend_from_slice(value).ok()?;
+    match path {
+        Segments::Two(first, second) => resource_named(first, second),
+        _ => None,
     }
-    Some(query)
-}
-
-/// The first four ETags of 8 bytes.
-pub(crate) fn etags(message: &Message<'_>) -> ArrayVec<u64, ETAGS>
-    ensures { result.items ≡ spec.etags message.now }
-{
-    let mut etags = ArrayVec::new();
-    for value in Values::new(ETAG, message) {
-        if value.len() == SERIAL && !etags.is_full() {
-            etags.push(read_integer(value));
-        }
-    }
-    etags
 }

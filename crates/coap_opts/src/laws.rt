@@ -1,25 +1,47 @@
 //! Laws of what the definitions say, for the crates above: each function is a law, and its contract says it.
 ghost use Rattle.std.specs.Prelude.{◌≡◌, ◌≢◌, ◌<◌, ◌≤◌, ◌^◌, ℕ, List, Some, length, slice_index};
-ghost use Rattle.coap_opts.specs.Values.{integer_bytes, number_of};
+ghost use Rattle.coap_opts.specs.Values.{uint_bytes, number_of};
 ghost use Rattle.coap_opts.specs.Path.{IsResource, path_of, resource_of};
 ghost use Rattle.coap_msg.specs.Wire.{Message};
-ghost use Rattle.coap_opts.specs.Verdict.{Asked, IsAsked, IsAskedWithin, verdict};
+ghost use Rattle.coap_opts.specs.Verdict.{Asked, IsAsked, IsAskedWithin, IsErrorCode, IsRefused, verdict};
 ghost use Rattle.coap_opts.specs.declared.request.Resource.{Resource};
 
+use crate::number::{
+    BLOCK1, BLOCK2, CONTENT_FORMAT, ETAG, OBSERVE, PROXY_SCHEME, PROXY_URI, URI_HOST, URI_PATH,
+    URI_PORT, URI_QUERY,
+};
+
 /// A number is read again from its spelling, which has no byte to spare.
-pub fn integers_are_read_again()
-    ensures again { (n : ℕ) → n < 2 ^ 64 → number_of (integer_bytes n) ≡ n }
-    ensures shortest { (n : ℕ) → 0 < length (integer_bytes n) → slice_index (integer_bytes n) 0 ≢ 0 }
-    ensures short { (n : ℕ) → length (integer_bytes n) ≤ 8 }
+pub fn uints_are_read_again()
+    ensures again { (n : ℕ) → n < 2 ^ 64 → number_of (uint_bytes n) ≡ n }
+    ensures shortest { (n : ℕ) → 0 < length (uint_bytes n) → slice_index (uint_bytes n) 0 ≢ 0 }
+    ensures short { (n : ℕ) → length (uint_bytes n) ≤ 8 }
 {}
 
 /// Each resource has one path, and other paths name none.
 pub fn resources_have_one_path()
     ensures named { (r : Resource) → IsResource r → resource_of (path_of r) ≡ Some r }
-    ensures only { (segments : List (List ℕ)) (r : Resource) → resource_of segments ≡ Some r → (segments ≡ path_of r) × IsResource r }
+    ensures only { (segments : List (List ℕ)) (r : Resource) → resource_of segments ≡ Some r →
+        (segments ≡ path_of r) × IsResource r }
 {}
 
-/// A request that is carried out names a resource that there is, and brings the message's payload, of at most 1,024 bytes.
+/// What the fields of a request that is carried out are within, and that a refusal is the reply of an error.
 pub fn requests_are_within()
-    ensures { (m : Message) (r : Asked) → verdict m ≡ IsAsked r → IsAskedWithin m r }
+    ensures accepted { (m : Message) (r : Asked) → verdict m ≡ IsAsked r → IsAskedWithin m r }
+    ensures refused { (m : Message) (code : ℕ) → verdict m ≡ IsRefused code → IsErrorCode code }
+{}
+
+/// The numbers of the options that have names (RFC 7252, 12.2; RFC 7641, 6; RFC 7959, 6).
+pub fn options_are_registered()
+    ensures uri_host { URI_HOST ≡ 3 }
+    ensures etag { ETAG ≡ 4 }
+    ensures observe { OBSERVE ≡ 6 }
+    ensures uri_port { URI_PORT ≡ 7 }
+    ensures uri_path { URI_PATH ≡ 11 }
+    ensures content_format { CONTENT_FORMAT ≡ 12 }
+    ensures uri_query { URI_QUERY ≡ 15 }
+    ensures block2 { BLOCK2 ≡ 23 }
+    ensures block1 { BLOCK1 ≡ 27 }
+    ensures proxy_uri { PROXY_URI ≡ 35 }
+    ensures proxy_scheme { PROXY_SCHEME ≡ 39 }
 {}

@@ -1,4 +1,4 @@
-//! What a message asks.
+//! Requests, and what else a message may be to the server.
 use crate::block::Block;
 use arrayvec::ArrayVec;
 use coap_msg::Code;
@@ -36,13 +36,13 @@ pub const ETAGS: usize = 4;
 pub const PAYLOAD: usize = 1024;
 
 /// A request that the server carries out. The payload is lent from the datagram.
-#[derive(Drop)]
+#[derive(Debug, Drop)]
 pub struct Request<'a> {
     pub method: Method,
     pub resource: Resource,
     /// The query, at most 64 bytes.
     pub query: Query,
-    /// The format of the payload, where it is said.
+    /// The format of the payload, where there is one.
     pub content_format: Option<u16>,
     /// The first four ETags of 8 bytes, each as a number, in a GET.
     pub etags: ArrayVec<u64, ETAGS>,
@@ -56,8 +56,8 @@ pub struct Request<'a> {
     pub payload: &'a [u8],
 }
 
-/// What a message is to the server.
-#[derive(Drop)]
+/// The class of a message: a request, or what else is done about it.
+#[derive(Debug, Drop)]
 pub enum Classified<'a> {
     /// A request that is carried out.
     Request(Request<'a>),

@@ -3,9 +3,9 @@ use Rattle.coap_opts.proofs.Numbers.{below_power}
 use Rattle.coap_opts.proofs.block.Block.read.Goals as goal
 
 pub overflow_cast-value : goal.overflow_cast-value
-overflow_cast-value c = let three : c.read_integer-value.result < 256 ^ 3 = below_power _ 3 _ c.read_integer-value.ensures.below c.requires in omega arith
+overflow_cast-value c = let three : c.decode_uint-value.result < 256 ^ 3 = below_power _ 3 _ c.decode_uint-value.ensures.below c.requires in omega arith
 
 pub invariant_of-result : goal.invariant_of-result
 invariant_of-result c =
-    let three : c.read_integer-value.result < 256 ^ 3 = below_power _ 3 _ c.read_integer-value.ensures.below c.requires in
+    let three : c.decode_uint-value.result < 256 ^ 3 = below_power _ 3 _ c.decode_uint-value.ensures.below c.requires in
     record { number_fits = omega arith; szx_fits = omega arith }

@@ -1,8 +1,0 @@
-use Rattle.std.proofs.Common.{arith}
-use Rattle.coap_msg.specs.Writing.{options_in}
-use Rattle.coap_msg.proofs.Written.{room_for}
-use Rattle.coap_msg.proofs.writing.write_options.Goals as goal
-
-pub write_option-requires-clause-room : goal.write_option-requires-clause-room
-write_option-requires-clause-room c =
-    room_for c.args.datagram.now.items (options_in c.args.options.now) c.loop-number.datagram.items c.loop-number.before c.loop-number.number-index 1280 c.args.options.now _ (omega arith) c.loop-number.invariant c.requires.room

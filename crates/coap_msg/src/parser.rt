@@ -1,0 +1,117 @@
+//! From a datagram to a message.
+ghost use Rattle.std.specs.Prelude.{◌≡◌, ◌/◌, ◌==◌, IfErr, IfOk, MatchOption, Ok};
+ghost use Rattle.coap_msg.specs.Wire.{Message as Stated, Spells};
+ghost use Rattle.coap_msg.specs.Reading.{IsBad, bad_of, is_sized, message_by, message_of, payload_at, reading_of};
+ghost use Rattle.coap_msg.specs.Reading as spec;
+
+use crate::code::Code;
+use crate::message::Message;
+use crate::options::split_options;
+use crate::types::{Bad, DATAGRAM, MessageType, TOKEN};
+use crate::wire::{
+    ACKNOWLEDGEMENT, CONFIRMABLE, HEADER, NON_CONFIRMABLE, PAYLOAD_MARKER, RESET, number_of,
+};
+
+/// The message that a datagram spells (RFC 7252, 3), lent from its bytes.
+///
+/// # Errors
+/// What is to be done about a datagram that spells none: a confirmable message with a format error is rejected, by its
+/// message id; everything else is ignored.
+pub fn read(bytes: &[u8]) -> Result<Message<'_>, Bad>
+    ensures message { IfOk result (Spells bytes.now) }
+    ensures spelled { (m : Stated) → Spells bytes.now m → result ≡ Ok m }
+    ensures bad { IfErr result (IsBad bytes.now) }
+    ensures function { result ≡ reading_of bytes.now }
+{
+    match parse(bytes) {
+        Some(message) => Ok(message),
+        None => Err(refusal(bytes)),
+    }
+}
+
+/// What is answered to a datagram that spells no message.
+#[tactic(auto, unfolding(crate::specs::Reading::bad_of))]
+fn refusal(bytes: &[u8]) -> Bad
+    ensures { result ≡ bad_of bytes.now }
+{
+    match bytes {
+        [first, _, high, low, ..] if is_confirmable(*first) && bytes.len() <= DATAGRAM => {
+            Bad::Reset(number_of(*high, *low))
+        }
+        _ => Bad::Ignore,
+    }
+}
+
+fn is_confirmable(first: u8) -> bool
+    ensures { result ≡ (first / 16 == 4) }
+{
+    first / 16 == CONFIRMABLE
+}
+
+#[tactic(auto, unfolding(crate::specs::Reading::message_of))]
+fn parse(bytes: &[u8]) -> Option<Message<'_>>
+    ensures { result ≡ message_of bytes.now }
+{
+    let [first, code, high, low, rest @ ..] = bytes else {
+        return None;
+    };
+    if is_whole(*code, rest) {
+        parse_parts(*first, *code, number_of(*high, *low), rest)
+    } else {
+        None
+    }
+}
+
+/// An empty message has nothing after its id, and a datagram at most 1,280 bytes.
+fn is_whole(code: u8, rest: &[u8]) -> bool
+    ensures { result ≡ is_sized code rest.now }
+{
+    if code == Code::EMPTY.byte {
+        rest.is_empty()
+    } else {
+        rest.len() <= DATAGRAM - HEADER
+    }
+}
+
+fn parse_parts(first: u8, code: u8, id: u16, rest: &[u8]) -> Option<Message<'_>>
+    ensures { result ≡ message_by first code id rest.now }
+{
+    let kind = type_of(first)?;
+    let (token, rest) = rest.split_at_checked(token_length(first)?)?;
+    let (options, rest) = split_options(rest)?;
+    let payload = payload_of(rest)?;
+    Some(Message::new(kind, Code { byte: code }, id, token, options, payload))
+}
+
+/// The type by the first byte of a message of version 1.
+fn type_of(first: u8) -> Option<MessageType>
+    ensures { result ≡ spec.type_of first }
+{
+    match first / 16 {
+        CONFIRMABLE => Some(MessageType::Confirmable),
+        NON_CONFIRMABLE => Some(MessageType::NonConfirmable),
+        ACKNOWLEDGEMENT => Some(MessageType::Acknowledgement),
+        RESET => Some(MessageType::Reset),
+        _ => None,
+    }
+}
+
+/// The token's length by the first byte.
+fn token_length(first: u8) -> Option<usize>
+    ensures { result ≡ spec.token_length first }
+{
+    let length = (first % 16) as usize;
+    if length <= TOKEN { Some(length) } else { None }
+}
+
+/// What stands behind the options: nothing, or the marker and a payload that isn't empty.
+fn payload_of(bytes: &[u8]) -> Option<&[u8]>
+    ensures { MatchOption result (payload_at bytes.now ≡ None)
+        (λ payload. payload_at bytes.now ≡ Some payload.now) }
+{
+    match bytes {
+        [] => Some(bytes),
+        [PAYLOAD_MARKER, payload @ ..] if !payload.is_empty() => Some(payload),
+        _ => None,
+    }
+}

@@ -1,0 +1,49 @@
+//! The options of one number.
+ghost use Rattle.std.specs.Prelude.{◌≡◌};
+ghost use Rattle.std.specs.Iterator.{YieldsFirstBy, item_count};
+ghost use Rattle.coap_msg.specs.Values.{values_in};
+
+use crate::options::Options;
+use std::marker::Model;
+
+/// The values of a message's options of one number that are still to come, in order. A clause sees that list.
+#[derive(Debug, Drop)]
+pub struct Values<'a> {
+    number: u16,
+    options: Options<'a>,
+}
+
+impl<'a> Model for Values<'a> {
+    ghost use Rattle.std.specs.Prelude.{ℕ, List};
+    ghost use Rattle.coap_msg.specs.Values.{values_in};
+
+    ghost Value = { List (List ℕ) };
+
+    ghost view = { λ v. values_in v.number v.options };
+}
+
+impl<'a> Values<'a> {
+    /// The values of the options of this number.
+    pub(crate) fn new(number: u16, options: Options<'a>) -> Self
+        ensures { result ≡ values_in number options.entry }
+    {
+        Values { number, options }
+    }
+}
+
+impl<'a> Iterator for Values<'a> {
+    type Item = &'a [u8];
+
+    ghost next_gives = { YieldsFirstBy (λ v. v.now) (λ rest. rest) };
+
+    ghost remaining = { item_count (λ rest. rest) };
+
+    fn next(&mut self) -> Option<&'a [u8]> {
+        while let Some((number, value)) = self.options.next() {
+            if number == self.number {
+                return Some(value);
+            }
+        }
+        None
+    }
+}

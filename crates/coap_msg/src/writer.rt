@@ -1,0 +1,171 @@
+//! From a message to a datagram: [`write`], and the steps that write a message's parts one after another.
+ghost use Rattle.std.specs.Prelude.{◌≡◌, ◌+◌, ◌-◌, ◌<◌, ◌≤◌, ◌++◌, ◌/◌, length};
+ghost use Rattle.arrayvec.specs.ArrayVec.{array_vec_len};
+ghost use Rattle.coap_msg.specs.Wire.{IsMessage, AreOptions, bytes_of, extension, nibble, header, option_bytes, options_bytes, payload_bytes, type_number};
+ghost use Rattle.coap_msg.specs.Writing.{last_number, options_in, short_option, stated};
+
+use crate::code::Code;
+use crate::types::{DATAGRAM, Datagram, MessageType, SHORT_OPTION, ShortValue};
+use crate::wire::{
+    ACKNOWLEDGEMENT, CONFIRMABLE, EXT8_BIAS, EXT16_BIAS, NIBBLE_EXT8, NIBBLE_EXT16,
+    NON_CONFIRMABLE, PAYLOAD_MARKER, RESET, two_bytes,
+};
+use arrayvec::ArrayVec;
+
+/// A message that is to be sent.
+#[derive(Clone, Copy, Debug)]
+pub struct Outgoing<'a> {
+    /// The type.
+    pub kind: MessageType,
+    /// The code.
+    pub code: Code,
+    /// The message id.
+    pub id: u16,
+    /// The token, 0 to 8 bytes.
+    pub token: &'a [u8],
+    /// The options, each with its number and its value, in rising order.
+    pub options: &'a [(u16, &'a [u8])],
+    /// The payload; none where it is empty.
+    pub payload: &'a [u8],
+}
+
+/// Writes a message in its one encoding, in place of what the datagram held.
+pub fn write(message: &Outgoing<'_>, datagram: &mut Datagram)
+    requires { IsMessage (stated message.now) }
+    ensures { datagram.new.items ≡ bytes_of (stated message.now) }
+{
+    datagram.clear();
+    write_head(
+        message.kind,
+        message.code,
+        message.id,
+        message.token,
+        datagram,
+    );
+    write_options(message.options, datagram);
+    write_payload(message.payload, datagram);
+}
+
+/// Appends a header and a token.
+pub fn write_head(kind: MessageType, code: Code, id: u16, token: &[u8], datagram: &mut Datagram)
+    requires token { length token.now ≤ 8 }
+    requires room { array_vec_len datagram.old + (4 + length token.now) ≤ DATAGRAM }
+    ensures { datagram.new.items ≡ datagram.old.items ++ header kind code.byte id token.now }
+{
+    let first = 16 * version_and_type(kind) + token.len() as u8;
+    let [high, low] = two_bytes(id);
+    append(&[first, code.byte, high, low], datagram);
+    append(token, datagram);
+}
+
+/// The first byte's upper nibble: version and type.
+fn version_and_type(kind: MessageType) -> u8
+    ensures nibble { result ≡ 4 + type_number kind }
+    ensures below { result < 8 }
+{
+    match kind {
+        MessageType::Confirmable => CONFIRMABLE,
+        MessageType::NonConfirmable => NON_CONFIRMABLE,
+        MessageType::Acknowledgement => ACKNOWLEDGEMENT,
+        MessageType::Reset => RESET,
+    }
+}
+
+/// Appends options, each by its delta from the number of the one before.
+fn write_options(options: &[(u16, &[u8])], datagram: &mut Datagram)
+    requires options { AreOptions 0 (options_in options.now) }
+    requires room { array_vec_len datagram.old + length (options_bytes 0 (options_in options.now)) ≤ DATAGRAM }
+    ensures { datagram.new.items ≡ datagram.old.items ++ options_bytes 0 (options_in options.now) }
+{
+    let mut before = 0;
+    for (number, value) in options {
+        write_option(*number - before, value, datagram);
+        before = *number;
+    }
+}
+
+/// Appends an option by the delta of its number.
+fn write_option<const N: usize>(delta: u16, value: &[u8], datagram: &mut ArrayVec<u8, N>)
+    requires value { length value.now < 65805 }
+    requires room { array_vec_len datagram.old + length (option_bytes delta value.now) ≤ N }
+    ensures { datagram.new.items ≡ datagram.old.items ++ option_bytes delta value.now }
+{
+    let delta = u32::from(delta);
+    let length = value.len() as u32;
+    datagram.push(16 * nibble_of(delta) + nibble_of(length));
+    write_extension(delta, datagram);
+    write_extension(length, datagram);
+    append(value, datagram);
+}
+
+/// Appends the option of this number, where there is a value, after one of the number `before`. Gives the number that the
+/// next option's delta counts from.
+#[tactic(auto, using(crate::proofs::Sizes::option_size))]
+pub fn write_optional(
+    before: u16,
+    number: u16,
+    value: Option<ShortValue>,
+    datagram: &mut Datagram,
+) -> u16
+    requires rises { before ≤ number }
+    requires room { array_vec_len datagram.old + SHORT_OPTION ≤ DATAGRAM }
+    ensures bytes { datagram.new.items ≡ datagram.old.items ++ options_bytes before (short_option number value) }
+    ensures options { AreOptions before (short_option number value) }
+    ensures last { result ≡ last_number before (short_option number value) }
+    ensures rises { result ≤ number }
+    ensures room { array_vec_len datagram.new ≤ array_vec_len datagram.old + SHORT_OPTION }
+{
+    match value {
+        Some(value) => {
+            write_option(number - before, value.as_slice(), datagram);
+            number
+        }
+        None => before,
+    }
+}
+
+/// The nibble of a delta or a length.
+fn nibble_of(number: u32) -> u8
+    ensures nibble { result ≡ nibble number }
+    ensures below { result < 15 }
+{
+    if number < EXT8_BIAS {
+        number as u8
+    } else if number < EXT16_BIAS {
+        NIBBLE_EXT8
+    } else {
+        NIBBLE_EXT16
+    }
+}
+
+/// Appends the extended value of a delta or a length.
+fn write_extension<const N: usize>(number: u32, datagram: &mut ArrayVec<u8, N>)
+    requires number { number < 65805 }
+    requires room { array_vec_len datagram.old + length (extension number) ≤ N }
+    ensures { datagram.new.items ≡ datagram.old.items ++ extension number }
+{
+    if number >= EXT16_BIAS {
+        append(&two_bytes((number - EXT16_BIAS) as u16), datagram);
+    } else if number >= EXT8_BIAS {
+        datagram.push((number - EXT8_BIAS) as u8);
+    }
+}
+
+/// Appends a payload behind its marker; nothing where it is empty.
+pub fn write_payload(payload: &[u8], datagram: &mut Datagram)
+    requires { array_vec_len datagram.old + length (payload_bytes payload.now) ≤ DATAGRAM }
+    ensures { datagram.new.items ≡ datagram.old.items ++ payload_bytes payload.now }
+{
+    if !payload.is_empty() {
+        datagram.push(PAYLOAD_MARKER);
+        append(payload, datagram);
+    }
+}
+
+fn append<const N: usize>(bytes: &[u8], datagram: &mut ArrayVec<u8, N>)
+    requires { array_vec_len datagram.old + length bytes.now ≤ N }
+    ensures { datagram.new.items ≡ datagram.old.items ++ bytes.now }
+{
+    let room = datagram.try_extend_from_slice(bytes);
+    prove!(room.is_ok());
+}

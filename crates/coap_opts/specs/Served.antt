@@ -1,0 +1,47 @@
+-- What is served: a row for each option that is recognised, and one for each resource and each method there.
+use Rattle.std.specs.Prelude.{ℕ, ◌||◌, Bool, true, false, if◌then◌else◌, List, [], ◌∷◌, Option, Some, None}
+use Rattle.coap_msg.specs.declared.code.Code.{Code}
+use Rattle.coap_msg.specs.declared.code.TheConstants.Code.{GET}
+use Rattle.coap_opts.specs.declared.number.TheConstants as option
+use Rattle.coap_opts.specs.declared.served.Row.{Row}
+use Rattle.coap_opts.specs.declared.request.Method.{Method}
+use Rattle.coap_opts.specs.declared.request.Method.TheVariants.{Get, Post, Put, Delete}
+use Rattle.coap_opts.specs.declared.request.Resource.{Resource}
+use Rattle.coap_opts.specs.declared.request.Resource.TheVariants.{Run, Program}
+
+-- an option that may occur once
+abbrev pub once : ℕ → ℕ → ℕ → Option Code → Row
+once number least greatest only = record { number = number; least = least; greatest = greatest; repeatable = false; only = only }
+
+-- an option that may occur more than once
+abbrev pub repeatable : ℕ → ℕ → ℕ → Option Code → Row
+repeatable number least greatest only = record { number = number; least = least; greatest = greatest; repeatable = true; only = only }
+
+-- each option by its number, the least and the greatest length of its value, and the one method with which it is recognised, or any
+unfoldable pub rows : List Row
+rows =
+    once option.URI_HOST 1 255 None
+    ∷ repeatable option.ETAG 1 8 (Some GET)
+    ∷ once option.OBSERVE 0 3 (Some GET)
+    ∷ once option.URI_PORT 0 2 None
+    ∷ repeatable option.URI_PATH 0 255 None
+    ∷ once option.CONTENT_FORMAT 0 2 None
+    ∷ repeatable option.URI_QUERY 0 255 None
+    ∷ once option.PROXY_URI 1 1034 None
+    ∷ once option.PROXY_SCHEME 1 255 None
+    ∷ []
+
+-- a GET runs a program, and a PUT installs one
+abbrev pub serves : Resource → Method → Bool
+serves (Run n) Get = true
+serves (Program n) Put = true
+serves _ _ = false
+
+-- some method is served there
+abbrev pub is_there : Resource → Bool
+is_there at = (serves at Get || serves at Post) || (serves at Put || serves at Delete)
+
+-- a resource at which no method is served isn't there
+abbrev pub there : Option Resource → Option Resource
+there None = None
+there (Some at) = if is_there at then Some at else None

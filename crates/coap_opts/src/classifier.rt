@@ -1,0 +1,125 @@
+//! Request classification: message type, options, method, path, in the order of the checks.
+ghost use Rattle.std.specs.Prelude.{◌≡◌, ◌||◌, None, Some};
+ghost use Rattle.coap_opts.specs.Verdict.{IsRequestOf, judged, seen, verdict};
+ghost use Rattle.coap_opts.specs.Verdict as spec;
+ghost use Rattle.std.specs.Option.{option_map};
+ghost use Rattle.coap_opts.specs.Values.{block_value};
+
+use crate::block::Block;
+use crate::collector::{JoinedQuery, collect};
+use crate::fields;
+use crate::path::method_of;
+use crate::request::{Classified, PAYLOAD, Request, Resource};
+use crate::served::{serves, there};
+use coap_msg::{Code, Message, MessageType};
+
+/// Classifies a message: a request with its fields, the code of the first check that fails, or what else is done about it.
+/// Its options are walked once.
+#[tactic(auto, unfolding(crate::specs::Verdict::verdict))]
+pub fn classify<'a>(message: &Message<'a>) -> Classified<'a>
+    ensures { seen result ≡ verdict message.now }
+{
+    let is_empty = message.code() == Code::EMPTY;
+    match message.kind() {
+        MessageType::Confirmable if is_request(message.code()) => judge(message),
+        MessageType::Confirmable => Classified::Reset,
+        MessageType::NonConfirmable if is_request(message.code()) => judge(message),
+        MessageType::Acknowledgement if is_empty => Classified::Signal { reset: false },
+        MessageType::Reset if is_empty => Classified::Signal { reset: true },
+        _ => Classified::Ignored,
+    }
+}
+
+/// Class 0, and not 0.00.
+fn is_request(code: Code) -> bool
+    ensures { result ≡ spec.is_request code.byte }
+{
+    code != Code::EMPTY && code.class() == 0
+}
+
+fn judge<'a>(message: &Message<'a>) -> Classified<'a>
+    ensures { seen result ≡ judged message.now }
+{
+    match request(message) {
+        Ok(request) => Classified::Request(request),
+        Err(code) => refused(message.kind(), code),
+    }
+}
+
+/// A non-confirmable request with an unrecognised critical option gets no answer.
+fn refused<'a>(kind: MessageType, code: Code) -> Classified<'a>
+    ensures { seen result ≡ spec.refused kind code.byte }
+{
+    if kind == MessageType::NonConfirmable && code == Code::BAD_OPTION {
+        Classified::Silent
+    } else {
+        Classified::Refused(code)
+    }
+}
+
+/// The request, or the code of the first check that fails.
+fn request<'a>(message: &Message<'a>) -> Result<Request<'a>, Code>
+    ensures { IsRequestOf message.now result }
+{
+    let collected = collect(message);
+    if collected.names_proxy() {
+        return Err(Code::PROXYING_NOT_SUPPORTED);
+    }
+    if collected.has_unknown {
+        return Err(Code::BAD_OPTION);
+    }
+    let Some(method) = method_of(message.code()) else {
+        return Err(Code::METHOD_NOT_ALLOWED);
+    };
+    let Some(resource) = there(fields::resource_of(collected.path)) else {
+        return Err(Code::NOT_FOUND);
+    };
+    if !serves(resource, method) {
+        return Err(Code::METHOD_NOT_ALLOWED);
+    }
+    let block1 = fields::block_of(collected.block1);
+    let block2 = fields::block_of(collected.block2);
+    if is_bad(block1, block2, &collected.query) {
+        return Err(Code::BAD_REQUEST);
+    }
+    let payload = message.payload();
+    if payload.len() > PAYLOAD {
+        return Err(Code::REQUEST_ENTITY_TOO_LARGE);
+    }
+    Ok(Request {
+        method,
+        resource,
+        query: collected.query.items,
+        content_format: fields::format_of(collected.content_format),
+        etags: collected.etags,
+        observe: observe_at(resource, fields::observe_of(collected.observe)),
+        block1,
+        block2,
+        payload,
+    })
+}
+
+/// A block of the reserved size, or a query that is too long.
+fn is_bad(block1: Option<Block>, block2: Option<Block>, query: &JoinedQuery) -> bool
+    ensures { result ≡
+        spec.is_bad (option_map block_value block1) (option_map block_value block2) query.now.is_long }
+{
+    is_reserved(block1) || is_reserved(block2) || query.is_long
+}
+
+/// Observe is for the resources that a program answers.
+fn observe_at(resource: Resource, observe: Option<u32>) -> Option<u32>
+    ensures { result ≡ spec.observe_at resource observe }
+{
+    match resource {
+        Resource::Run(_) => observe,
+        _ => None,
+    }
+}
+
+/// Whether a block has the reserved size.
+fn is_reserved(block: Option<Block>) -> bool
+    ensures { result ≡ spec.is_reserved (option_map block_value block) }
+{
+    block.is_some_and(|block| block.szx == 7)
+}

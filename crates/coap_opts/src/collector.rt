@@ -1,0 +1,181 @@
+//! A message's recognised options, collected in one pass.
+ghost use Rattle.std.specs.Prelude.{◌≡◌, ◌||◌, None, Some, List, ℕ, ◌∷◌, false};
+ghost use Rattle.coap_msg.specs.Wire.{Message as Stated};
+ghost use Rattle.coap_opts.specs.Recognition as spec;
+ghost use Rattle.coap_opts.specs.Verdict.{has};
+ghost use Rattle.coap_opts.specs.Collected.{AreShort, IsCollected, IsJoined, IsLeft, IsTaken, first_with, lent, resource_with, tags_with};
+
+use crate::number::{
+    BLOCK1, BLOCK2, CONTENT_FORMAT, ETAG, OBSERVE, PROXY_SCHEME, PROXY_URI, URI_PATH, URI_QUERY,
+};
+use crate::recognition::is_recognised;
+use crate::request::{ETAGS, Query};
+use crate::uint::decode_uint;
+use arrayvec::ArrayVec;
+use coap_msg::Message;
+
+/// The length of the ETags that count: those of a serial.
+const SERIAL: usize = 8;
+
+/// The segments of a path: no resource has more than two.
+#[derive(Clone, Copy)]
+pub(crate) enum Segments<'a> {
+    Empty,
+    One(&'a [u8]),
+    Two(&'a [u8], &'a [u8]),
+    More,
+}
+
+impl<'a> Segments<'a> {
+    /// Appends a segment.
+    fn push(&mut self, segment: &'a [u8])
+        ensures { (left : List (List ℕ)) →
+            resource_with self.old (segment.now ∷ left) ≡ resource_with self.new left }
+    {
+        match *self {
+            Segments::Empty => *self = Segments::One(segment),
+            Segments::One(first) => *self = Segments::Two(first, segment),
+            Segments::Two(..) => *self = Segments::More,
+            Segments::More => {}
+        }
+    }
+}
+
+/// The values of a query joined by `&`, as long as there is room for them.
+#[derive(Drop)]
+pub(crate) struct JoinedQuery {
+    pub items: Query,
+    /// Whether a value has come.
+    pub is_begun: bool,
+    /// Whether they have more than 64 bytes.
+    pub is_long: bool,
+}
+
+impl JoinedQuery {
+    /// Appends a value, behind a `&` where it isn't the first.
+    fn push(&mut self, value: &[u8])
+        ensures { (left : List (List ℕ)) (all : List ℕ) →
+            IsJoined self.old (value.now ∷ left) all → IsJoined self.new left all }
+    {
+        if self.is_long {
+            return;
+        }
+        if self.is_begun && self.items.try_push(b'&').is_err() {
+            self.is_long = true;
+            return;
+        }
+        self.is_begun = true;
+        if self.items.try_extend_from_slice(value).is_err() {
+            self.is_long = true;
+        }
+    }
+}
+
+/// A message's recognised options.
+#[derive(Drop)]
+pub(crate) struct Collected<'a> {
+    pub etags: ArrayVec<u64, ETAGS>,
+    pub observe: Option<&'a [u8]>,
+    pub path: Segments<'a>,
+    pub content_format: Option<&'a [u8]>,
+    pub query: JoinedQuery,
+    pub block2: Option<&'a [u8]>,
+    pub block1: Option<&'a [u8]>,
+    pub proxy_uri: Option<&'a [u8]>,
+    pub proxy_scheme: Option<&'a [u8]>,
+    /// Whether an option isn't recognised and may not be passed over.
+    pub has_unknown: bool,
+}
+
+impl<'a> Collected<'a> {
+    /// Nothing, as before the first option.
+    fn new() -> Self
+        ensures parts { (m : Stated) → IsLeft m result None m.options }
+        ensures unknown { result.has_unknown ≡ false }
+    {
+        Collected {
+            etags: ArrayVec::new(),
+            observe: None,
+            path: Segments::Empty,
+            content_format: None,
+            query: JoinedQuery {
+                items: Query::new(),
+                is_begun: false,
+                is_long: false,
+            },
+            block2: None,
+            block1: None,
+            proxy_uri: None,
+            proxy_scheme: None,
+            has_unknown: false,
+        }
+    }
+
+    /// Keeps a recognised option.
+    fn take(&mut self, number: u16, value: &'a [u8])
+        ensures taken { IsTaken self.old self.new number value.now }
+        ensures unknown { self.new.has_unknown ≡ self.old.has_unknown }
+    {
+        match number {
+            ETAG => take_tag(&mut self.etags, value),
+            OBSERVE => keep_first(&mut self.observe, value),
+            URI_PATH => self.path.push(value),
+            CONTENT_FORMAT => keep_first(&mut self.content_format, value),
+            URI_QUERY => self.query.push(value),
+            BLOCK2 => keep_first(&mut self.block2, value),
+            BLOCK1 => keep_first(&mut self.block1, value),
+            PROXY_URI => keep_first(&mut self.proxy_uri, value),
+            PROXY_SCHEME => keep_first(&mut self.proxy_scheme, value),
+            _ => {}
+        }
+    }
+}
+
+impl Collected<'_> {
+    /// Whether a proxy is asked for.
+    pub(crate) fn names_proxy(&self) -> bool
+        ensures { result ≡ (has (lent self.now.proxy_uri) || has (lent self.now.proxy_scheme)) }
+    {
+        self.proxy_uri.is_some() || self.proxy_scheme.is_some()
+    }
+}
+
+/// Keeps the first value.
+fn keep_first<'a>(kept: &mut Option<&'a [u8]>, value: &'a [u8])
+    ensures { (left : List (List ℕ)) →
+        first_with (lent kept.old) (value.now ∷ left) ≡ first_with (lent kept.new) left }
+{
+    if kept.is_none() {
+        *kept = Some(value);
+    }
+}
+
+/// Keeps the first four ETags of 8 bytes.
+fn take_tag(tags: &mut ArrayVec<u64, ETAGS>, value: &[u8])
+    ensures { (left : List (List ℕ)) →
+        tags_with tags.old.items (value.now ∷ left) ≡ tags_with tags.new.items left }
+{
+    if value.len() == SERIAL && !tags.is_full() {
+        tags.push(decode_uint(value));
+    }
+}
+
+/// Collects a message's recognised options in one pass.
+pub(crate) fn collect<'a>(message: &Message<'a>) -> Collected<'a>
+    ensures parts { IsCollected message.now result }
+    ensures short { AreShort result }
+    ensures unknown { result.has_unknown ≡ spec.has_unknown_critical message.now.code None message.now.options }
+{
+    let code = message.code();
+    let mut collected = Collected::new();
+    let mut before = None;
+    for (number, value) in message.options() {
+        if is_recognised(code, before, number, value.len()) {
+            collected.take(number, value);
+        } else if number % 2 == 1 {
+            collected.has_unknown = true;
+        }
+        before = Some(number);
+    }
+    collected
+}

@@ -1,0 +1,40 @@
+//! Which options of a message are recognised (RFC 7252, 5.4).
+ghost use Rattle.std.specs.Prelude.{◌≡◌};
+ghost use Rattle.coap_opts.specs.Recognition as spec;
+
+use crate::served::{OPTIONS, Row};
+use coap_msg::Code;
+
+/// What is known of the option of this number.
+#[tactic(auto, unfolding(crate::specs::Recognition::row_of, crate::specs::Served::rows))]
+fn row_of(number: u16) -> Option<Row>
+    ensures { result ≡ spec.row_of number }
+{
+    for row in &OPTIONS {
+        if row.number == number {
+            return Some(*row);
+        }
+    }
+    None
+}
+
+/// Whether an option is recognised in a message with this code: known, of legal length, defined for this method, and not a
+/// repeat of a non-repeatable one (RFC 7252, 5.4.1, 5.4.3 and 5.4.5). `before` is the number of the option before it.
+#[tactic(auto, unfolding(crate::specs::Recognition::is_recognised))]
+pub(crate) fn is_recognised(code: Code, before: Option<u16>, number: u16, length: usize) -> bool
+    ensures { result ≡ spec.is_recognised code.byte before number length }
+{
+    match row_of(number) {
+        Some(row) => fits(row, code, before, length),
+        None => false,
+    }
+}
+
+fn fits(row: Row, code: Code, before: Option<u16>, length: usize) -> bool
+    ensures { result ≡ spec.fits row code.byte before length }
+{
+    let is_sized = row.least <= length && length <= row.greatest;
+    let is_repeat = before == Some(row.number);
+    let is_defined = row.only.is_none_or(|only| only == code);
+    is_sized && is_defined && (row.repeatable || !is_repeat)
+}

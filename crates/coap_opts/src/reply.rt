@@ -1,0 +1,115 @@
+//! Replies, with any set of the options that the server sends.
+ghost use Rattle.std.specs.Prelude.{◌≡◌, ◌+◌, ◌++◌, ◌≤◌, ◌<◌, length};
+ghost use Rattle.std.specs.Int.{w64, to_be_bytes};
+ghost use Rattle.std.specs.Option.{option_map};
+ghost use Rattle.arrayvec.specs.ArrayVec.{array_vec_len};
+ghost use Rattle.coap_msg.specs.Wire.{AreOptions, IsMessage, bytes_of, options_bytes};
+ghost use Rattle.coap_opts.specs.Values as spec;
+ghost use Rattle.coap_opts.specs.Values.{uint_bytes};
+
+use crate::block::Block;
+use crate::number::{BLOCK1, BLOCK2, CONTENT_FORMAT, ETAG, OBSERVE};
+use crate::request::PAYLOAD;
+use crate::uint::{UintBytes, encode_uint};
+use coap_msg::types::{DATAGRAM, SHORT_OPTION, TOKEN};
+use coap_msg::writer::{write_head, write_optional, write_payload};
+use coap_msg::{Code, Datagram, MessageType};
+
+/// The options of a reply, each where it has a value.
+#[derive(Clone, Copy, Debug, Default)]
+pub struct ReplyOptions {
+    /// The version of what is sent, as an ETag of eight bytes.
+    pub etag: Option<u64>,
+    /// The sequence number of a notification; its lowest 24 bits are what a client expects (RFC 7641, 3.4).
+    pub observe: Option<u32>,
+    /// The format of the payload.
+    pub content_format: Option<u16>,
+    /// The block that the payload is.
+    pub block2: Option<Block>,
+    /// The block of the request that is acknowledged.
+    pub block1: Option<Block>,
+}
+
+/// The most bytes of a reply's options.
+pub const REPLY_OPTIONS: usize = 5 * SHORT_OPTION;
+
+impl ReplyOptions {
+    ghost use Rattle.coap_opts.specs.Replies.{reply_options};
+
+    /// Appends the options to a header and a token.
+    fn write(&self, datagram: &mut Datagram)
+        requires { array_vec_len datagram.old + REPLY_OPTIONS ≤ DATAGRAM }
+        ensures bytes { datagram.new.items ≡ datagram.old.items ++ options_bytes 0 (reply_options self.now) }
+        ensures options { AreOptions 0 (reply_options self.now) }
+        ensures room { array_vec_len datagram.new ≤ array_vec_len datagram.old + REPLY_OPTIONS }
+    {
+        let last = write_optional(0, ETAG, etag_bytes(self.etag), datagram);
+        let last = write_optional(last, OBSERVE, observe_bytes(self.observe), datagram);
+        let format = format_bytes(self.content_format);
+        let last = write_optional(last, CONTENT_FORMAT, format, datagram);
+        let last = write_optional(last, BLOCK2, block_bytes(self.block2), datagram);
+        let _last = write_optional(last, BLOCK1, block_bytes(self.block1), datagram);
+    }
+}
+
+/// A reply: a message whose options are any set of those that the server sends (RFC 7252, 5.2).
+#[derive(Clone, Copy, Debug)]
+pub struct Reply<'a> {
+    /// The type.
+    pub kind: MessageType,
+    /// The code.
+    pub code: Code,
+    /// The message id.
+    pub id: u16,
+    /// The token of the request, 0 to 8 bytes.
+    pub token: &'a [u8],
+    /// The options.
+    pub options: ReplyOptions,
+    /// The payload, at most 1,024 bytes; none where it is empty.
+    pub payload: &'a [u8],
+}
+
+impl Reply<'_> {
+    ghost use Rattle.coap_opts.specs.Replies.{reply_message};
+
+    /// Writes the reply in its one encoding, in place of what the datagram held.
+    pub fn write(&self, datagram: &mut Datagram)
+        requires code { 0 < self.now.code.byte }
+        requires token { length self.now.token.now ≤ TOKEN }
+        requires payload { length self.now.payload.now ≤ PAYLOAD }
+        ensures bytes { datagram.new.items ≡ bytes_of (reply_message self.now) }
+        ensures message { IsMessage (reply_message self.now) }
+    {
+        datagram.clear();
+        write_head(self.kind, self.code, self.id, self.token, datagram);
+        self.options.write(datagram);
+        write_payload(self.payload, datagram);
+    }
+}
+
+fn etag_bytes(version: Option<u64>) -> Option<UintBytes>
+    ensures { option_map (λ v. v.items) result ≡ option_map (to_be_bytes w64) version }
+{
+    let mut bytes = UintBytes::new();
+    let room = bytes.try_extend_from_slice(&version?.to_be_bytes());
+    prove!(room.is_ok());
+    Some(bytes)
+}
+
+fn observe_bytes(sequence: Option<u32>) -> Option<UintBytes>
+    ensures { option_map (λ v. v.items) result ≡ option_map uint_bytes sequence }
+{
+    Some(encode_uint(u64::from(sequence?)))
+}
+
+fn format_bytes(format: Option<u16>) -> Option<UintBytes>
+    ensures { option_map (λ v. v.items) result ≡ option_map uint_bytes format }
+{
+    Some(encode_uint(u64::from(format?)))
+}
+
+fn block_bytes(block: Option<Block>) -> Option<UintBytes>
+    ensures { option_map (λ v. v.items) result ≡ option_map spec.block_bytes block }
+{
+    Some(block?.value())
+}

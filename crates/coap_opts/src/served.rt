@@ -1,0 +1,122 @@
+//! What is served: the options that are recognised, and the methods at each resource. A later service adds its rows here.
+ghost use Rattle.std.specs.Prelude.{◌≡◌};
+ghost use Rattle.coap_opts.specs.Served as spec;
+
+use crate::number::{
+    CONTENT_FORMAT, ETAG, OBSERVE, PROXY_SCHEME, PROXY_URI, URI_HOST, URI_PATH, URI_PORT, URI_QUERY,
+};
+use crate::request::{Method, Resource};
+use coap_msg::Code;
+
+/// What is known of an option.
+#[derive(Clone, Copy, Debug)]
+pub struct Row {
+    /// Its number; odd numbers are critical (RFC 7252, 5.4.6).
+    pub number: u16,
+    /// The least length of its value, in bytes.
+    pub least: usize,
+    /// The greatest length of its value, in bytes.
+    pub greatest: usize,
+    /// Whether it may occur more than once (RFC 7252, 5.4.5).
+    pub repeatable: bool,
+    /// The one method with which it is recognised; `None`: any method.
+    pub only: Option<Code>,
+}
+
+/// The options that are known, in the order of their numbers.
+pub const OPTIONS: [Row; 9] = [
+    Row {
+        number: URI_HOST,
+        least: 1,
+        greatest: 255,
+        repeatable: false,
+        only: None,
+    },
+    Row {
+        number: ETAG,
+        least: 1,
+        greatest: 8,
+        repeatable: true,
+        only: Some(Code::GET),
+    },
+    Row {
+        number: OBSERVE,
+        least: 0,
+        greatest: 3,
+        repeatable: false,
+        only: Some(Code::GET),
+    },
+    Row {
+        number: URI_PORT,
+        least: 0,
+        greatest: 2,
+        repeatable: false,
+        only: None,
+    },
+    Row {
+        number: URI_PATH,
+        least: 0,
+        greatest: 255,
+        repeatable: true,
+        only: None,
+    },
+    Row {
+        number: CONTENT_FORMAT,
+        least: 0,
+        greatest: 2,
+        repeatable: false,
+        only: None,
+    },
+    Row {
+        number: URI_QUERY,
+        least: 0,
+        greatest: 255,
+        repeatable: true,
+        only: None,
+    },
+    Row {
+        number: PROXY_URI,
+        least: 1,
+        greatest: 1034,
+        repeatable: false,
+        only: None,
+    },
+    Row {
+        number: PROXY_SCHEME,
+        least: 1,
+        greatest: 255,
+        repeatable: false,
+        only: None,
+    },
+];
+
+/// Whether a method is served at a resource: a row for each that is.
+pub(crate) fn serves(resource: Resource, method: Method) -> bool
+    ensures { result ≡ spec.serves resource method }
+{
+    match (resource, method) {
+        (Resource::Run(_), Method::Get) => true,
+        (Resource::Program(_), Method::Put) => true,
+        _ => false,
+    }
+}
+
+/// Whether some method is served there.
+fn is_there(resource: Resource) -> bool
+    ensures { result ≡ spec.is_there resource }
+{
+    serves(resource, Method::Get)
+        || serves(resource, Method::Post)
+        || serves(resource, Method::Put)
+        || serves(resource, Method::Delete)
+}
+
+/// The resource, where there is one: at least one method is served there.
+pub(crate) fn there(resource: Option<Resource>) -> Option<Resource>
+    ensures { result ≡ spec.there resource }
+{
+    match resource {
+        Some(at) if is_there(at) => Some(at),
+        _ => None,
+    }
+}
