@@ -1,0 +1,2 @@
+mod Seams
+pub mod Arrival

@@ -1,0 +1,94 @@
+-- The exchanges that are held (after RFC 7252, 4.5; the one window for all requests is this project's own).
+use Rattle.std.specs.Prelude.{ℕ, ◌+◌, ◌==◌, ◌&&◌, nat_eq, Bool, true, false, nat_lt, List, [], ◌∷◌, ◌++◌, length, filter, find, Option, Some, None}
+use Rattle.std.specs.Cmp.Lexicographic.{pointwise}
+use Rattle.arrayvec.specs.ArrayVec.{ArrayVec}
+use Rattle.coap_msg.specs.declared.types.Endpoint.{Endpoint}
+use Rattle.coap_dedup.specs.declared.exchange.Exchange.{Exchange}
+use Rattle.coap_dedup.specs.declared.exchanges.Closed.{Closed}
+use Rattle.coap_dedup.specs.declared.exchanges.Closed.TheVariants as answers
+
+-- the moment, how many exchanges were opened, and those that are held, in order of arrival
+pub record Table : Type 0 where
+  pub now : ℕ
+  pub opened : ℕ
+  pub held : List Exchange
+
+-- how long an exchange is kept, in milliseconds
+abbrev pub window : ℕ
+window = 247000
+
+-- it was opened less than a window before
+abbrev pub is_live : ℕ → Exchange → Bool
+is_live now e = nat_lt now (e.at + window)
+
+abbrev pub is_same : Endpoint → Endpoint → Bool
+is_same a b = pointwise nat_eq a.ip b.ip && (a.port == b.port)
+
+-- it is of this endpoint and message id
+abbrev pub is_of : Endpoint → ℕ → Exchange → Bool
+is_of to id e = is_same e.endpoint to && (e.id == id)
+
+-- what is a window old or more is let go
+abbrev pub expired : Table → ℕ → Table
+expired t now = record { now = now; opened = t.opened; held = filter (is_live now) t.held }
+
+-- there is room where fewer than 1,024 are held, and their count isn't at its end
+abbrev pub has_room : ℕ → ℕ → Bool
+has_room held opened = nat_lt held 1024 && nat_lt opened 18446744073709551615
+
+-- what a request is: new; a repeat of one in progress; of a confirmable one that was answered by these bytes; of a
+-- non-confirmable one that was answered; or new without room
+pub data Look : Type 0 where
+  IsNew : Look
+  IsBusy : Look
+  IsAgain : (bytes : List ℕ) → Look
+  IsSilent : Look
+  IsFull : Look
+
+abbrev pub looked : Bool → Look
+looked true = IsNew
+looked false = IsFull
+
+abbrev pub told : Bool → List ℕ → Look
+told true bytes = IsAgain bytes
+told false bytes = IsSilent
+
+-- a repeat of this exchange
+abbrev pub repeated_by : Bool → Option (ArrayVec ℕ) → Look
+repeated_by confirmable None = IsBusy
+repeated_by confirmable (Some bytes) = told confirmable bytes.items
+
+abbrev pub repeated : Exchange → Look
+repeated e = repeated_by e.confirmable e.answer
+
+abbrev pub look_by : Option Exchange → Bool → Look
+look_by (Some e) room = repeated e
+look_by None room = looked room
+
+-- what a request of this endpoint and message id is, to what is held
+abbrev pub look_at : Table → Endpoint → ℕ → Look
+look_at t to id = look_by (find (is_of to id) t.held) (has_room (length t.held) t.opened)
+
+-- it is opened last, without an answer
+abbrev pub opened : Table → ℕ → Endpoint → ℕ → Bool → Table
+opened t now to id confirmable = record {
+  now = now;
+  opened = t.opened + 1;
+  held = t.held ++ record { endpoint = to; id = id; confirmable = confirmable; number = t.opened; at = now; answer = None } ∷ [];
+}
+
+-- it is the exchange of this number, and live
+abbrev pub is_open : ℕ → ℕ → Exchange → Bool
+is_open now number e = (e.number == number) && is_live now e
+
+abbrev pub answered_if : Bool → ArrayVec ℕ → Exchange → Exchange
+answered_if true bytes e = record e { answer = Some bytes }
+answered_if false bytes e = e
+
+-- an exchange after the answer of the one of this number
+abbrev pub answered : ℕ → ℕ → ArrayVec ℕ → Exchange → Exchange
+answered now number bytes e = answered_if (is_open now number e) bytes e
+
+abbrev pub closing : Bool → Closed
+closing true = answers.Closed
+closing false = answers.Late
