@@ -1,6 +1,5 @@
 //! The request that a program answers.
 ghost use Rattle.std.specs.Prelude.{◌≡◌, ◌<◌, ◌≤◌, ◌↔◌, length, IsTrue};
-ghost use Rattle.fc_help.specs.Request.{Request as Asked};
 
 use arrayvec::ArrayVec;
 use std::marker::Model;
@@ -15,14 +14,19 @@ pub enum Method {
     Post,
 }
 
-/// The most bytes that a request's payload has.
+/// The most bytes of a request's payload.
 pub const PAYLOAD: usize = 1024;
 
-/// A request to a resource that a program answers.
+/// The most bytes of a request's query.
+pub const QUERY: usize = 64;
+
+/// A request to a resource that a program answers. Its type keeps the limits of query and payload.
 #[derive(Drop)]
 pub struct Request {
     method: Method,
     slot: u8,
+    content_format: Option<u16>,
+    query: ArrayVec<u8, QUERY>,
     payload: ArrayVec<u8, PAYLOAD>,
 }
 
@@ -31,22 +35,33 @@ impl Model for Request {
 
     ghost Value = { Stated };
 
-    ghost view = { λ r. record { method = r.method; slot = r.slot; payload = r.payload.items } };
+    ghost view = { λ r. record { method = r.method; slot = r.slot; content_format = r.content_format; query = r.query.items; payload = r.payload.items } };
 }
 
 impl Request {
-    /// A request of this method to this slot's resource, with this payload of at most 1,024 bytes.
-    pub fn new(method: Method, slot: u8, payload: &[u8]) -> Self
-        requires { length payload.now ≤ 1024 }
-        ensures { result ≡ record { method = method; slot = slot; payload = payload.now } }
+    /// A GET or POST of this slot's resource: the Content-Format of its payload, where that is said, the values of its
+    /// Uri-Query options joined by `&`, at most 64 bytes, and its payload, at most 1,024 bytes.
+    pub fn new(
+        method: Method,
+        slot: u8,
+        content_format: Option<u16>,
+        query: &[u8],
+        payload: &[u8],
+    ) -> Self
+        requires query { length query.now ≤ QUERY }
+        requires payload { length payload.now ≤ PAYLOAD }
+        ensures { result ≡ record { method = method; slot = slot; content_format = content_format; query = query.now; payload = payload.now } }
     {
-        let mut copy = ArrayVec::new();
-        let _fits = copy.try_extend_from_slice(payload);
-        Request {
+        let mut request = Request {
             method,
             slot,
-            payload: copy,
-        }
+            content_format,
+            query: ArrayVec::new(),
+            payload: ArrayVec::new(),
+        };
+        let _fits = request.query.try_extend_from_slice(query);
+        let _fits = request.payload.try_extend_from_slice(payload);
+        request
     }
 
     /// The method.
@@ -63,10 +78,25 @@ impl Request {
         self.slot
     }
 
+    /// The Content-Format of the payload, where the request says it (RFC 7252, 5.10.3).
+    pub fn content_format(&self) -> Option<u16>
+        ensures { result ≡ self.now.content_format }
+    {
+        self.content_format
+    }
+
+    /// The values of the Uri-Query options, joined by `&` (RFC 7252, 5.10.1).
+    pub fn query(&self) -> &[u8]
+        ensures query { result.now ≡ self.now.query }
+        ensures limit { length result.now ≤ QUERY }
+    {
+        self.query.as_slice()
+    }
+
     /// The payload.
     pub fn payload(&self) -> &[u8]
         ensures payload { result.now ≡ self.now.payload }
-        ensures limit { length result.now ≤ 1024 }
+        ensures limit { length result.now ≤ PAYLOAD }
     {
         self.payload.as_slice()
     }
@@ -77,6 +107,8 @@ impl Request {
     {
         self.method == other.method
             && self.slot == other.slot
+            && self.content_format == other.content_format
+            && self.query.as_slice() == other.query.as_slice()
             && self.payload.as_slice() == other.payload.as_slice()
     }
 
@@ -84,6 +116,12 @@ impl Request {
     pub fn copy(&self) -> Request
         ensures { result ≡ self.now }
     {
-        Request::new(self.method, self.slot, self.payload.as_slice())
+        Request::new(
+            self.method,
+            self.slot,
+            self.content_format,
+            self.query.as_slice(),
+            self.payload.as_slice(),
+        )
     }
 }

@@ -1,2 +1,4 @@
 pub mod Writes
 pub mod Installs
+pub mod Rings
+pub mod Outcomes

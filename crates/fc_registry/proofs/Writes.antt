@@ -3,11 +3,11 @@ use Rattle.std.proofs.Common.{◌≡◌, ℕ, ◌<◌, List, length, map, set, g
 use Rattle.std.proofs.lemmas.List.{map-set, get_or-map}
 use Rattle.fc_registry.specs.declared.shard.SlotState.{SlotState}
 use Rattle.fc_registry.specs.Slots.{Slot, Shard, new_slot}
-use Rattle.fc_registry.specs.Views.{slot_of}
+use Rattle.fc_registry.specs.Views.{as_seen}
 
 -- the fields of a shard, as it is seen
 abbrev pub seen : ℕ → ℕ → List SlotState → Shard
-seen index now items = record { index = index; now = now; slots = map slot_of items }
+seen index now items = record { index = index; now = now; slots = map as_seen items }
 
 -- the slot at a place, and the shard with another there at a moment
 abbrev pub slot_in_place : Shard → ℕ → Slot
@@ -17,19 +17,19 @@ abbrev pub written : Shard → ℕ → ℕ → Slot → Shard
 written shard now k v = record shard { now = now; slots = set shard.slots k v }
 
 module _ (index now : ℕ) (items : List SlotState) (shard : Shard) (view_is : seen index now items ≡ shard) (eight : length items ≡ 8) where
-  slots_are : map slot_of items ≡ shard.slots
+  slots_are : map as_seen items ≡ shard.slots
   slots_are = ap (λ (s : Shard). s.slots) view_is
 
   -- what stands at a place is the slot that is seen there
-  pub slot_read : (k : ℕ) (s : SlotState) → k < 8 → s ≡ get_or items k s → slot_of s ≡ get_or shard.slots k (new_slot 0)
+  pub slot_read : (k : ℕ) (s : SlotState) → k < 8 → s ≡ get_or items k s → as_seen s ≡ get_or shard.slots k (new_slot 0)
   slot_read k s lt is =
       let short : k < length items = omega (arith, eight, lt) in
-      ap slot_of is ∙ (sym (get_or-map slot_of items k s (new_slot 0) short) ∙ ap (λ (xs : List Slot). get_or xs k (new_slot 0)) slots_are)
+      ap as_seen is ∙ (sym (get_or-map as_seen items k s (new_slot 0) short) ∙ ap (λ (xs : List Slot). get_or xs k (new_slot 0)) slots_are)
 
   -- a write at a place is a write of what is seen there
-  pub slot_write : (k early late : ℕ) (t : SlotState) (v : Slot) → early ≡ late → slot_of t ≡ v → seen index early (set items k t) ≡ record shard { now = late; slots = set shard.slots k v }
+  pub slot_write : (k early late : ℕ) (t : SlotState) (v : Slot) → early ≡ late → as_seen t ≡ v → seen index early (set items k t) ≡ record shard { now = late; slots = set shard.slots k v }
   slot_write k early late t v passes is =
-      let slots : map slot_of (set items k t) ≡ set shard.slots k v = map-set slot_of items k t ∙ (λ i. set (slots_are i) k (is i)) in
+      let slots : map as_seen (set items k t) ≡ set shard.slots k v = map-set as_seen items k t ∙ (λ i. set (slots_are i) k (is i)) in
       λ i. record { index = (view_is i).index; now = passes i; slots = slots i }
 
   pub now_is : now ≡ shard.now

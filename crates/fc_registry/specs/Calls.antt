@@ -1,8 +1,9 @@
--- What the calls of a shard answer, and what they leave of its slots.
-use Rattle.std.specs.Prelude.{◌≡◌, ℕ, ◌+◌, ◌<◌, ◌≤◌, Bool, true, false, nat_lt, if◌then◌else◌, Some, None, IsSome, is_none, ◌⊎◌, max}
-use Rattle.fc_help.specs.Request.{Request}
-use Rattle.fc_help.specs.declared.request.Method.TheVariants.{Post}
-use Rattle.fc_kinds.specs.Meaning.{Program}
+-- What the calls of a shard answer, and what they change. Each call is decided by one function of the slot that it finds.
+use Rattle.std.specs.Prelude.{◌≡◌, ℕ, ◌+◌, ◌==◌, ◌&&◌, ◌<◌, ◌≤◌, Bool, true, false, nat_lt, List, [], ◌∷◌, Option, Some, None, IsSome, is_none, max}
+use Rattle.fc_help.specs.Request.{Request, no_request}
+use Rattle.fc_help.specs.declared.request.Method.{Method}
+use Rattle.fc_help.specs.declared.request.Method.TheVariants.{Get, Post}
+use Rattle.fc_kinds.specs.Meaning.{Program, Meaning}
 use Rattle.fc_machine.specs.Ran.{Ran, meaning_of}
 use Rattle.fc_registry.specs.declared.job.Ask.{Ask}
 use Rattle.fc_registry.specs.declared.job.Ask.TheVariants.{Run, Install}
@@ -11,44 +12,112 @@ use Rattle.fc_registry.specs.declared.shard.Taken.{Taken}
 use Rattle.fc_registry.specs.declared.shard.Taken.TheVariants.{Given, Missing, Refused}
 use Rattle.fc_registry.specs.declared.shard.Made.{Made}
 use Rattle.fc_registry.specs.declared.shard.Made.TheVariants.{Raised, AtEnd}
+use Rattle.fc_registry.specs.declared.commit.CommitOutcome.{CommitOutcome}
+use Rattle.fc_registry.specs.declared.commit.CommitOutcome.TheVariants.{Writes, Keeps, Overtakes, Ends}
 use Rattle.fc_registry.specs.declared.commit.Committed.{Committed}
 use Rattle.fc_registry.specs.declared.commit.Committed.TheVariants.{Done, Overtaken, Ended, Stranger}
-use Rattle.fc_registry.specs.Slots.{Slot, Shard, Ticket, Mark, slot_in, with_slot, last_serial}
-use Rattle.fc_registry.specs.Changes.{Installed, Committed as Commits, Commit, changed}
+use Rattle.fc_registry.specs.Slots.{Slot, Shard, Present, Ticket, Mark, slot_in, with_slot, last_serial}
+use Rattle.fc_registry.specs.Changes.{Change, Installed, Committed as Wrote, Commit, after_changes}
 use Rattle.fc_registry.specs.Record.{class_of}
 
--- the job asks a program to answer this request
-abbrev pub AsksFor : Ask → Request → Type 0
-AsksFor (Run r) request = request ≡ r
-AsksFor (Install image) request = ⊥
+-- ---- take
 
-abbrev pub AsksRun : Ask → Type 0
-AsksRun (Run request) = Unit {0}
-AsksRun (Install image) = ⊥
+-- the request that a job asks a program to answer; a job that asks for no run has an empty one
+abbrev pub request_of : Ask → Request
+request_of (Run request) = request
+request_of (Install image) = no_request
 
--- the ticket is the job's, and has what the slot holds
-pub record IsTicket (job : Job) (slot : Slot) (t : Ticket) : Type 0 where
-  pub origin : t.origin ≡ job.origin
-  pub request : AsksFor job.ask t.request
-  pub serial : t.serial ≡ slot.serial
-  pub found : slot.present ≡ Some t.found
+-- a ticket of what a slot holds at a serial
+abbrev pub ticket_of : Job → ℕ → Present → Ticket
+ticket_of job serial found = record { origin = job.origin; request = request_of job.ask; serial = serial; found = found }
 
--- a taking gives a ticket or finds the slot empty; a refusal of memory comes only where the slot isn't empty
+-- a taking gives a ticket of what the slot holds, where there is memory for it; an empty slot asks for none
+abbrev pub taking : Bool → Job → ℕ → Option Present → Taken
+taking memory job serial None = Missing
+taking true job serial (Some found) = Given (ticket_of job serial found)
+taking false job serial (Some found) = Refused
+
+-- memory was there, or it was refused
 abbrev pub IsTaking : Job → Slot → Taken → Type 0
-IsTaking job slot (Given t) = IsTicket job slot t
-IsTaking job slot Missing = slot.present ≡ None
-IsTaking job slot Refused = IsSome slot.present
+IsTaking job slot taken = (memory : Bool) × (taken ≡ taking memory job slot.serial slot.present)
 
--- an install below the last serial is a change, and tells the new serial and whether the slot was empty
-abbrev pub made_by : Bool → Slot → Made
-made_by true slot = Raised (slot.serial + 1) (is_none slot.present)
-made_by false slot = AtEnd
+-- what a call answers, and what it changes
+pub record Called (A : Type 0) : Type 0 where
+  pub answer : A
+  pub changes : List Change
 
-abbrev pub made : Slot → Made
-made slot = made_by (nat_lt slot.serial last_serial) slot
+-- ---- install
 
-abbrev pub installed : Slot → Program → Slot
-installed slot program = if nat_lt slot.serial last_serial then changed slot (Installed program) else slot
+-- below the last serial it is a change, and tells the new serial and whether the slot was empty
+abbrev pub put_by : Bool → Slot → Program → Called Made
+put_by true slot p = record { answer = Raised (slot.serial + 1) (is_none slot.present); changes = Installed p ∷ [] }
+put_by false slot p = record { answer = AtEnd; changes = [] }
+
+abbrev pub put : Slot → Program → Called Made
+put slot p = put_by (nat_lt slot.serial last_serial) slot p
+
+-- ---- commit
+
+abbrev pub is_post : Method → Bool
+is_post Get = false
+is_post Post = true
+
+-- a run that answers a POST with a code of class 2 wants to write
+abbrev pub wants_by : Ran → Bool
+wants_by ran = is_post ran.request.method && (class_of (meaning_of ran).code == 2)
+
+-- the run of a ticket
+abbrev pub run_of : Ticket → Ran
+run_of t = record { program = t.found.program; request = t.request; found = t.found.vars }
+
+abbrev pub wants : Ticket → Bool
+wants t = wants_by (run_of t)
+
+-- what the ticket's program means for its request and the variables that were found
+abbrev pub meaning_at : Ticket → Meaning
+meaning_at t = meaning_of (run_of t)
+
+-- nothing has changed since the ticket was taken
+pub record IsCurrent (t : Ticket) (slot : Slot) : Type 0 where
+  pub serial : slot.serial ≡ t.serial
+  pub present : slot.present ≡ Some t.found
+
+-- what a commit comes to at a slot
+abbrev pub ComesTo : Ticket → Slot → CommitOutcome → Type 0
+ComesTo t slot Keeps = wants t ≡ false
+ComesTo t slot Overtakes = (wants t ≡ true) × (IsCurrent t slot → ⊥)
+ComesTo t slot Ends = (wants t ≡ true) × IsCurrent t slot × (last_serial ≤ slot.serial)
+ComesTo t slot Writes = (wants t ≡ true) × IsCurrent t slot × (slot.serial < last_serial)
+
+-- the same by serials, which decide where the slot is the one that gave the ticket
+abbrev pub outcome_by : Bool → Bool → Bool → CommitOutcome
+outcome_by false current below = Keeps
+outcome_by true false below = Overtakes
+outcome_by true true false = Ends
+outcome_by true true true = Writes
+
+abbrev pub outcome : Ticket → Slot → CommitOutcome
+outcome t slot = outcome_by (wants t) (slot.serial == t.serial) (nat_lt slot.serial last_serial)
+
+-- the slot gave the ticket: its serial has not fallen since, and where it is the ticket's the slot holds what was found
+pub record HasGiven (slot : Slot) (t : Ticket) : Type 0 where
+  pub serial : t.serial ≤ slot.serial
+  pub present : t.serial ≡ slot.serial → slot.present ≡ Some t.found
+
+-- the mark is of the ticket's job, at a slot of this serial
+abbrev pub mark_of : Ticket → ℕ → Bool → Mark
+mark_of t serial changed = record { origin = t.origin; found = t.serial; serial = serial; changed = changed }
+
+-- a commit that writes leaves just the variables that the run means
+abbrev pub commit_of : Ticket → Commit
+commit_of t = record { request = t.request; before = t.found.vars; after = (meaning_at t).vars }
+
+-- the commit at a slot of this serial
+abbrev pub commits : CommitOutcome → Ticket → ℕ → Called Committed
+commits Writes t serial = record { answer = Done (mark_of t (serial + 1) true); changes = Wrote (commit_of t) ∷ [] }
+commits Keeps t serial = record { answer = Done (mark_of t serial false); changes = [] }
+commits Overtakes t serial = record { answer = Overtaken; changes = [] }
+commits Ends t serial = record { answer = Ended; changes = [] }
 
 -- the outcome is of the ticket's program, request and variables, and the ticket's serial isn't above the slot's
 pub record IsOwn (ran : Ran) (t : Ticket) (slot : Slot) : Type 0 where
@@ -57,62 +126,25 @@ pub record IsOwn (ran : Ran) (t : Ticket) (slot : Slot) : Type 0 where
   pub vars : ran.found ≡ t.found.vars
   pub serial : t.serial ≤ slot.serial
 
--- the run wants to write: it answered a POST with a code of class 2
-pub record Writes (ran : Ran) : Type 0 where
-  pub post : ran.request.method ≡ Post
-  pub class : class_of (meaning_of ran).code ≡ 2
+-- the commit of an outcome that is the ticket's
+pub record IsCommitOf (t : Ticket) (slot : Slot) (c : Committed) (after : Slot) : Type 0 where
+  pub comes_to : CommitOutcome
+  pub is : ComesTo t slot comes_to
+  pub answer : c ≡ (commits comes_to t slot.serial).answer
+  pub after_is : after ≡ after_changes slot (commits comes_to t slot.serial).changes
 
--- nothing has changed since the ticket was taken
-pub record IsCurrent (t : Ticket) (slot : Slot) : Type 0 where
-  pub serial : slot.serial ≡ t.serial
-  pub present : slot.present ≡ Some t.found
-
-abbrev pub commit_of : Ran → Commit
-commit_of ran = record { request = ran.request; before = ran.found; after = (meaning_of ran).vars }
-
--- the mark is of the ticket's job, at a slot of this serial
-abbrev pub mark_of : Ticket → ℕ → Bool → Mark
-mark_of t serial changed = record { origin = t.origin; found = t.serial; serial = serial; changed = changed }
-
--- a commit that writes makes one change of the slot, by just what the run means
-pub record IsWritten (ran : Ran) (t : Ticket) (slot : Slot) (m : Mark) (after : Slot) : Type 0 where
-  pub own : IsOwn ran t slot
-  pub writes : Writes ran
-  pub current : IsCurrent t slot
-  pub serial : slot.serial < last_serial
-  pub mark : m ≡ mark_of t (slot.serial + 1) true
-  pub after_is : after ≡ changed slot (Commits (commit_of ran))
-
--- a commit of a run that doesn't want to write changes nothing
-pub record IsKept (ran : Ran) (t : Ticket) (slot : Slot) (m : Mark) (after : Slot) : Type 0 where
-  pub own : IsOwn ran t slot
-  pub reads : Writes ran → ⊥
-  pub mark : m ≡ mark_of t slot.serial false
-  pub after_is : after ≡ slot
-
-pub record IsOvertaken (ran : Ran) (t : Ticket) (slot : Slot) (after : Slot) : Type 0 where
-  pub own : IsOwn ran t slot
-  pub writes : Writes ran
-  pub changed_since : IsCurrent t slot → ⊥
-  pub after_is : after ≡ slot
-
-pub record IsEnded (ran : Ran) (t : Ticket) (slot : Slot) (after : Slot) : Type 0 where
-  pub own : IsOwn ran t slot
-  pub writes : Writes ran
-  pub current : IsCurrent t slot
-  pub serial : last_serial ≤ slot.serial
-  pub after_is : after ≡ slot
-
+-- an outcome that isn't the ticket's changes nothing
 pub record IsStranger (ran : Ran) (t : Ticket) (slot : Slot) (after : Slot) : Type 0 where
   pub stranger : IsOwn ran t slot → ⊥
   pub after_is : after ≡ slot
 
+abbrev pub IsOwnCommit : Ran → Ticket → Slot → Committed → Slot → Type 0
+IsOwnCommit ran t slot c after = IsOwn ran t slot × IsCommitOf t slot c after
+
 -- what a commit answers at a slot, and what it leaves there
 abbrev pub IsCommit : Ran → Ticket → Slot → Committed → Slot → Type 0
-IsCommit ran t slot (Done m) after = IsWritten ran t slot m after ⊎ IsKept ran t slot m after
-IsCommit ran t slot Overtaken after = IsOvertaken ran t slot after
-IsCommit ran t slot Ended after = IsEnded ran t slot after
 IsCommit ran t slot Stranger after = IsStranger ran t slot after
+IsCommit ran t slot c after = IsOwnCommit ran t slot c after
 
 -- a commit at a moment, to the ticket's slot alone
 pub record CommitsTo (ran : Ran) (t : Ticket) (old : Shard) (now : ℕ) (c : Committed) (new : Shard) : Type 0 where

@@ -1,7 +1,9 @@
 -- What changes a slot, and what a slot is after its changes.
-use Rattle.std.specs.Prelude.{ℕ, ◌+◌, List, [], ◌∷◌, Option, Some, None, replicate}
+use Rattle.std.specs.Prelude.{ℕ, ◌+◌, List, [], ◌∷◌, ◌++◌, Option, Some, None, replicate}
 use Rattle.fc_help.specs.Request.{Request}
 use Rattle.fc_kinds.specs.Meaning.{Program}
+use Rattle.circular_buffer.specs.Buffer.{keep_last}
+use Rattle.fc_registry.specs.declared.ring.Entry.{Entry}
 use Rattle.fc_registry.specs.Slots.{Slot, Present}
 
 -- a commit: the request that it answered, and the variables that it found and left
@@ -16,15 +18,19 @@ pub data Change : Type 0 where
   Committed : (commit : Commit) → Change
   Removed : Change
 
+-- a commit as the slot remembers it
+abbrev pub entry_of : ℕ → Commit → Entry
+entry_of serial commit = record { serial = serial; request = commit.request; before = commit.before; after = commit.after }
+
 abbrev pub with_vars : List ℕ → Option Present → Option Present
 with_vars vars None = None
 with_vars vars (Some p) = Some (record p { vars = vars })
 
 -- each change raises the serial by one; an install sets the variables to zeros, a commit to what it left
 abbrev pub changed : Slot → Change → Slot
-changed slot (Installed program) = record { serial = slot.serial + 1; present = Some (record { program = program; version = slot.serial + 1; vars = replicate program.vars_size 0 }) }
-changed slot (Committed commit) = record { serial = slot.serial + 1; present = with_vars commit.after slot.present }
-changed slot Removed = record { serial = slot.serial + 1; present = None }
+changed slot (Installed program) = record { serial = slot.serial + 1; present = Some (record { program = program; version = slot.serial + 1; vars = replicate program.vars_size 0 }); ring = [] }
+changed slot (Committed commit) = record { serial = slot.serial + 1; present = with_vars commit.after slot.present; ring = keep_last 8 (slot.ring ++ entry_of (slot.serial + 1) commit ∷ []) }
+changed slot Removed = record { serial = slot.serial + 1; present = None; ring = [] }
 
 -- the slot that these changes leave of another, the newest first
 abbrev pub after_changes : Slot → List Change → Slot

@@ -1,5 +1,6 @@
 pub mod Receipts
 pub mod Slots
+pub mod Shards
 pub mod Changes
 pub mod Record
 pub mod Views

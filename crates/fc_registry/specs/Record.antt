@@ -1,7 +1,8 @@
 -- The record of a slot's commits, and the chain that it keeps.
-use Rattle.std.specs.Prelude.{◌≡◌, ℕ, ◌/◌, List, [], ◌∷◌, Some}
+use Rattle.std.specs.Prelude.{◌≡◌, ℕ, ◌+◌, ◌-◌, ◌/◌, ◌≤◌, min, List, [], ◌∷◌, length, replicate, Option, Some, None}
 use Rattle.fc_help.specs.declared.request.Method.TheVariants.{Post}
-use Rattle.fc_kinds.specs.Meaning.{meant}
+use Rattle.fc_kinds.specs.Meaning.{Program, meant}
+use Rattle.fc_registry.specs.declared.ring.Entry.{Entry}
 use Rattle.fc_registry.specs.Slots.{Slot, Present}
 use Rattle.fc_registry.specs.Changes.{Change, Installed, Committed, Removed, Commit, after_changes}
 
@@ -25,3 +26,39 @@ IsChain first [] = Unit {0}
 IsChain first (Committed c ∷ cs) = IsLink (after_changes first cs) c × IsChain first cs
 IsChain first (Installed p ∷ cs) = IsChain first cs
 IsChain first (Removed ∷ cs) = IsChain first cs
+
+-- an entry of the ring of a slot with this program: it is of this serial, begins with these variables, and left just what the
+-- program means there; it answered a POST, with a code of class 2
+pub record IsEntry (p : Program) (serial : ℕ) (vars : List ℕ) (e : Entry) : Type 0 where
+  pub serial_is : e.serial ≡ serial
+  pub before : e.before ≡ vars
+  pub after : e.after ≡ (meant p e.request vars).vars
+  pub post : e.request.method ≡ Post
+  pub class : class_of (meant p e.request vars).code ≡ 2
+
+-- entries of consecutive serials, the oldest first: each begins with what the one before it left
+abbrev pub AreEntries : Program → ℕ → List ℕ → List Entry → Type 0
+AreEntries p serial vars [] = Unit {0}
+AreEntries p serial vars (e ∷ es) = IsEntry p serial vars e × AreEntries p (serial + 1) e.after es
+
+-- what the last of them left
+abbrev pub left_by : List ℕ → List Entry → List ℕ
+left_by vars [] = vars
+left_by vars (e ∷ es) = left_by e.after es
+
+-- the ring of a slot with a program: the last eight commits since its install, of which the first found these variables
+pub record HasRing (serial : ℕ) (p : Present) (ring : List Entry) : Type 0 where
+  pub version : p.version ≤ serial
+  pub size : length ring ≡ min 8 (serial - p.version)
+  pub found : List ℕ
+  pub entries : AreEntries p.program ((serial - length ring) + 1) found ring
+  pub vars : p.vars ≡ left_by found ring
+  pub zeros : length ring ≡ serial - p.version → found ≡ replicate p.program.vars_size 0
+
+abbrev pub HasRingIf : ℕ → Option Present → List Entry → Type 0
+HasRingIf serial None ring = ring ≡ []
+HasRingIf serial (Some p) ring = HasRing serial p ring
+
+-- the ring of a slot is a chain; that of an empty slot is empty
+abbrev pub IsRing : Slot → Type 0
+IsRing slot = HasRingIf slot.serial slot.present slot.ring

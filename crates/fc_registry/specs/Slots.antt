@@ -1,8 +1,9 @@
 -- Slots and shards, and the tickets by which jobs speak of them.
-use Rattle.std.specs.Prelude.{◌≡◌, ℕ, ◌/◌, ◌%◌, ◌<◌, Bool, List, Option, None, slice_index_or, slice_set}
+use Rattle.std.specs.Prelude.{◌≡◌, ℕ, ◌/◌, ◌%◌, ◌<◌, Bool, List, [], Option, Some, None, slice_index_or, slice_set}
 use Rattle.fc_help.specs.Request.{Request}
 use Rattle.fc_kinds.specs.Meaning.{Program}
 use Rattle.fc_registry.specs.declared.job.Origin.{Origin}
+use Rattle.fc_registry.specs.declared.ring.Entry.{Entry}
 
 -- a program in a slot: its version is the serial of its install
 pub record Present : Type 0 where
@@ -10,10 +11,20 @@ pub record Present : Type 0 where
   pub version : ℕ
   pub vars : List ℕ
 
--- a slot: its serial counts its changes
+-- the version of what is present, and its variables
+abbrev pub version_in : Option Present → Option ℕ
+version_in None = None
+version_in (Some p) = Some p.version
+
+abbrev pub vars_in : Option Present → List ℕ
+vars_in None = []
+vars_in (Some p) = p.vars
+
+-- a slot: its serial counts its changes, and its ring holds the last eight commits since its install, the oldest first
 pub record Slot : Type 0 where
   pub serial : ℕ
   pub present : Option Present
+  pub ring : List Entry
 
 -- the greatest serial
 abbrev pub last_serial : ℕ
@@ -21,7 +32,7 @@ last_serial = 9223372036854775807
 
 -- a slot that nothing was installed in, at its first serial
 abbrev pub new_slot : ℕ → Slot
-new_slot serial = record { serial = serial; present = None }
+new_slot serial = record { serial = serial; present = None; ring = [] }
 
 -- a shard: the greatest moment handed to it, and its slots, of which the place n / 8 is that of slot n
 pub record Shard : Type 0 where

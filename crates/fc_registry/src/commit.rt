@@ -1,6 +1,19 @@
 //! What a commit answers.
 use crate::ticket::Mark;
 
+/// What a commit of a ticket's run comes to, at its slot.
+#[derive(Clone, Copy, Debug, PartialEq, Eq)]
+pub enum CommitOutcome {
+    /// It writes: the run answered a POST with a code of class 2, and nothing has changed since the ticket was taken.
+    Writes,
+    /// It has nothing to write.
+    Keeps,
+    /// It wants to write, and the slot has changed since.
+    Overtakes,
+    /// It wants to write, and the slot's serials are at their end.
+    Ends,
+}
+
 /// What a commit answers. All but `Done` leave the slots as they were.
 #[must_use]
 pub enum Committed {

@@ -1,4 +1,5 @@
 //! Jobs: what a request brings.
+use crate::slot_number::SlotNumber;
 use arrayvec::ArrayVec;
 use coap_msg::{Endpoint, Token};
 use fc_help::Request;
@@ -16,7 +17,7 @@ pub struct Origin {
     pub opening: Opening,
     pub endpoint: Endpoint,
     pub id: u16,
-    pub slot: u8,
+    pub slot: SlotNumber,
 }
 
 /// The most bytes of an image: the header, and 512 slots of eight bytes.
@@ -38,6 +39,8 @@ pub enum Ask {
 #[derive(Drop)]
 pub struct Job {
     pub origin: Origin,
+    /// Whether its request is confirmable.
+    pub confirmable: bool,
     pub token: Token,
     pub ask: Ask,
 }

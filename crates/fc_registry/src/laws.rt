@@ -1,7 +1,9 @@
 //! What the slots promise of their changes: each function is a law, and its contract says it.
 ghost use Rattle.fc_registry.specs.Changes.{Change, after_changes};
 ghost use Rattle.fc_registry.specs.Laws.{FollowsInstall};
-ghost use Rattle.fc_registry.specs.Slots.{Present, new_slot};
+ghost use Rattle.fc_registry.specs.Slots.{Present, Slot, Ticket, new_slot};
+ghost use Rattle.fc_registry.specs.declared.commit.CommitOutcome.{CommitOutcome};
+ghost use Rattle.fc_registry.specs.Calls.{HasGiven, ComesTo, outcome};
 ghost use Rattle.std.specs.Prelude.{List, Some, length, ℕ, ◌+◌, ◌≡◌};
 
 /// A slot's serial counts its changes, from its first serial on.
@@ -13,4 +15,10 @@ pub fn serials_count_changes()
 /// install; the install set its variables to zeros, and only commits have written them.
 pub fn versions_are_installs()
     ensures { (serial : ℕ) (cs : List Change) (p : Present) → (after_changes (new_slot serial) cs).present ≡ Some p → FollowsInstall serial cs p }
+{}
+
+/// What the commit of a ticket comes to at the slot that gave it is decided by the ticket's serial: the slot has changed
+/// since exactly where its serial is another.
+pub fn serials_decide()
+    ensures { (t : Ticket) (slot : Slot) (o : CommitOutcome) → HasGiven slot t → ComesTo t slot o → o ≡ outcome t slot }
 {}

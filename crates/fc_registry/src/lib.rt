@@ -5,15 +5,22 @@
 //! memory, for a handle.
 #![tactic(auto)]
 
+mod body;
 pub mod commit;
 pub mod job;
 pub mod laws;
 pub mod receipt;
+pub mod ring;
 pub mod shard;
+pub mod shards;
+pub mod slot_number;
 pub mod ticket;
 
-pub use commit::Committed;
+pub use commit::{CommitOutcome, Committed};
 pub use job::{Ask, Image, Job, Opening, Origin};
 pub use receipt::Receipt;
-pub use shard::{Made, Shard, Taken};
+pub use ring::Entry;
+pub use shard::{LAST_SERIAL, Made, Shard, Taken};
+pub use shards::make_shards;
+pub use slot_number::{SHARDS, SLOTS, SlotNumber};
 pub use ticket::{Mark, Ticket};

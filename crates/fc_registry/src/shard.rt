@@ -1,36 +1,32 @@
 //! Shards of slots.
-ghost use Rattle.std.specs.Prelude.{◌≡◌, ◌<◌, ◌≤◌, ◌↔◌, replicate, IfOk, IsTrue};
-ghost use Rattle.fc_registry.specs.Slots.{IsOwned, slot_in, with_slot, new_slot, last_serial};
-ghost use Rattle.fc_registry.specs.Calls.{AsksRun, IsTaking, CommitsTo, IsCommit, made, installed, IsOwn, IsCurrent, Writes};
-ghost use Rattle.fc_registry.specs.Views.{slot_of};
+ghost use Rattle.std.specs.Prelude.{◌≡◌, ℕ, ◌+◌, ◌<◌, ◌≤◌, ◌↔◌, true, replicate, IfOk, IsTrue};
+ghost use Rattle.fc_registry.specs.Slots.{IsOwned, slot_in, with_slot, new_slot, last_serial, version_in, vars_in};
+ghost use Rattle.fc_registry.specs.Changes.{after_changes};
+ghost use Rattle.fc_registry.specs.Calls.{IsTaking, CommitsTo, IsCommit, ComesTo, IsOwn, IsCurrent, commits, is_post, mark_of, put, request_of, wants_by};
+ghost use Rattle.fc_registry.specs.Views.{as_seen};
+ghost use Rattle.fc_registry.specs.Record.{IsRing};
 
-use crate::commit::Committed;
+use crate::body::Body;
+use crate::commit::{CommitOutcome, Committed};
 use crate::job::{Ask, Job};
+use crate::ring::{Entry, Ring};
+use crate::slot_number::{SHARDS, SlotNumber};
 use crate::ticket::{Mark, Ticket};
-use fc_help::{Method, Vars};
+use fc_help::{Method, Request, Vars};
 use fc_machine::Outcome;
 use fc_verify::Verified;
 use std::alloc::{AllocError, Global};
 use std::marker::Model;
 use std::sync::Arc;
 
-/// How many slots a shard has; there are as many shards.
-pub const SLOTS: usize = 8;
-
 /// The greatest serial.
 pub const LAST_SERIAL: u64 = 9_223_372_036_854_775_807;
-
-#[derive(Drop)]
-struct Body {
-    program: Arc<Verified>,
-    version: u64,
-    vars: Vars,
-}
 
 #[derive(Drop)]
 struct SlotState {
     serial: u64,
     body: Option<Body>,
+    ring: Ring,
 }
 
 /// The slots of one shard: those whose remainder by 8 is the shard's index.
@@ -43,15 +39,17 @@ pub struct Shard {
 
 impl Model for Shard {
     ghost use Rattle.std.specs.Prelude.{◌≡◌, length, map};
+    ghost use Rattle.std.specs.List.{All};
     ghost use Rattle.fc_registry.specs.Slots.{Shard as Seen};
 
     ghost Value = { Seen };
 
-    ghost use Rattle.fc_registry.specs.Views.{slot_of};
+    ghost use Rattle.fc_registry.specs.Views.{as_seen};
+    ghost use Rattle.fc_registry.specs.Record.{IsRing};
 
-    ghost view = { λ s. record { index = s.index; now = s.now; slots = map slot_of s.slots.items } };
+    ghost view = { λ s. record { index = s.index; now = s.now; slots = map as_seen s.slots.items } };
 
-    ghost invariant = { λ s. length s.slots.items ≡ 8 };
+    ghost invariant = { λ s. (length s.slots.items ≡ 8) × All (λ x. IsRing (as_seen x)) s.slots.items };
 }
 
 /// What a taking found.
@@ -84,12 +82,9 @@ impl Shard {
         requires serial { first_serial ≤ last_serial }
         ensures { IfOk result (λ s. s ≡ record { index = index; now = 0; slots = replicate 8 (new_slot first_serial) }) }
     {
-        let mut slots = Vec::with_capacity(alloc, SLOTS)?;
-        for _slot in 0..SLOTS {
-            slots.push(SlotState {
-                serial: first_serial,
-                body: None,
-            })?;
+        let mut slots = Vec::with_capacity(alloc, usize::from(SHARDS))?;
+        for _slot in 0..SHARDS {
+            slots.push(empty_slot(alloc, first_serial)?)?;
         }
         Ok(Shard {
             index,
@@ -101,64 +96,137 @@ impl Shard {
     /// Takes what a job finds in its slot. Only a handle of the program asks for memory.
     pub fn take(&mut self, job: &Job) -> Taken
         requires owned { IsOwned self.old job.now.origin.slot }
-        requires asks { AsksRun job.now.ask }
         ensures taken { IsTaking job.now (slot_in self.old job.now.origin.slot) result }
         ensures same { self.new ≡ self.old }
     {
-        let slot = &self.slots[job.origin.slot as usize / SLOTS];
+        let slot = &self.slots[job.origin.slot.place()];
         find(job, slot)
     }
 
     /// Commits a run, at a moment in milliseconds: it writes where the run answered a POST with a code of class 2,
     /// nothing has changed since the ticket was taken, and the slot's serials aren't at their end. `Overtaken`, `Ended`
-    /// and `Stranger` leave the slot as it was. The moment is taken in whatever it answers.
+    /// and `Stranger` leave the slot as it was. The shard advances to the moment, whatever it answers.
     pub fn commit(&mut self, now: u64, outcome: &Outcome<'_>, ticket: &Ticket) -> Committed
         requires { IsOwned self.old ticket.now.origin.slot }
         ensures { CommitsTo outcome.now ticket.now self.old now result self.new }
     {
         self.now = self.now.max(now);
-        let place = ticket.origin().slot as usize / SLOTS;
-        let slot = &mut self.slots[place];
+        let slot = &mut self.slots[ticket.origin().slot.place()];
         committed(slot, outcome, ticket)
     }
 
     /// Installs a program, with variables of zeros. At the last serial it changes nothing, and answers `AtEnd`.
-    pub fn install(&mut self, slot: u8, program: Arc<Verified>) -> Made
+    pub fn install(&mut self, slot: SlotNumber, program: Arc<Verified>) -> Made
         requires { IsOwned self.old slot }
-        ensures answer { result ≡ made (slot_in self.old slot) }
-        ensures slots { self.new ≡ with_slot self.old slot (installed (slot_in self.old slot) program.value) }
+        ensures answer { result ≡ (put (slot_in self.old slot) program.value).answer }
+        ensures slots { self.new ≡ with_slot self.old slot (after_changes (slot_in self.old slot) (put (slot_in self.old slot) program.value).changes) }
     {
-        let state = &mut self.slots[slot as usize / SLOTS];
-        put(state, program)
+        let state = &mut self.slots[slot.place()];
+        install(state, program)
+    }
+
+    /// The serial of a slot of this shard. A slot that isn't is read as the one that stands at its place here.
+    pub fn serial(&self, slot: SlotNumber) -> u64
+        ensures { result ≡ (slot_in self.entry.now slot).serial }
+    {
+        let state = &self.slots[slot.place()];
+        serial_of(state)
+    }
+
+    /// The version of the program in a slot, where it has one.
+    pub fn version(&self, slot: SlotNumber) -> Option<u64>
+        ensures { result ≡ version_in (slot_in self.entry.now slot).present }
+    {
+        let state = &self.slots[slot.place()];
+        version_of(state)
+    }
+
+    /// The variables of the program in a slot; no bytes where it is empty.
+    pub fn vars(&self, slot: SlotNumber) -> &[u8]
+        ensures { result.now ≡ vars_in (slot_in self.entry.now slot).present }
+    {
+        let state = &self.slots[slot.place()];
+        vars_of(state)
+    }
+
+    /// The ring of each slot is a chain: whatever was called, in whatever order, its entries are the commits of the present
+    /// program, each begins with what the one before it left, and the last left the present variables.
+    pub fn rings_are_chains(&self)
+        ensures { (n : ℕ) → IsOwned self.entry.now n → IsRing (slot_in self.entry.now n) }
+    {
+        let _ = &self.index;
+    }
+}
+
+// A slot that nothing was installed in.
+fn empty_slot(alloc: Global, serial: u64) -> Result<SlotState, AllocError>
+    ensures { IfOk result (λ s. as_seen s ≡ new_slot serial) }
+{
+    Ok(SlotState {
+        serial,
+        body: None,
+        ring: Ring::new(alloc)?,
+    })
+}
+
+fn serial_of(slot: &SlotState) -> u64
+    ensures { result ≡ (as_seen slot.now).serial }
+{
+    slot.serial
+}
+
+fn version_of(slot: &SlotState) -> Option<u64>
+    ensures { result ≡ version_in (as_seen slot.now).present }
+{
+    match &slot.body {
+        None => None,
+        Some(body) => Some(body.version),
+    }
+}
+
+fn vars_of(slot: &SlotState) -> &[u8]
+    ensures { result.now ≡ vars_in (as_seen slot.now).present }
+{
+    match &slot.body {
+        None => &[],
+        Some(body) => body.vars.as_slice(),
     }
 }
 
 // What a job finds in a slot.
 fn find(job: &Job, slot: &SlotState) -> Taken
-    requires { AsksRun job.now.ask }
-    ensures { IsTaking job.now (slot_of slot.now) result }
+    ensures { IsTaking job.now (as_seen slot.now) result }
 {
-    match (&slot.body, &job.ask) {
-        (None, _) => Taken::Missing,
-        (Some(_), Ask::Install(_)) => unreachable!(),
-        (Some(body), Ask::Run(request)) => match Arc::try_clone(&body.program) {
-            Ok(program) => Taken::Given(Ticket {
-                origin: job.origin,
-                request: request.copy(),
-                serial: slot.serial,
-                program,
-                version: body.version,
-                vars: body.vars.copy(),
-            }),
-            Err(_) => Taken::Refused,
-        },
+    let Some(body) = &slot.body else {
+        return Taken::Missing;
+    };
+    match Arc::try_clone(&body.program) {
+        Ok(program) => Taken::Given(Ticket {
+            origin: job.origin,
+            request: request_of(&job.ask),
+            serial: slot.serial,
+            program,
+            version: body.version,
+            vars: body.vars.copy(),
+        }),
+        Err(_) => Taken::Refused,
+    }
+}
+
+// The request that a job asks a program to answer.
+fn request_of(ask: &Ask) -> Request
+    ensures { result ≡ request_of ask.now }
+{
+    match ask {
+        Ask::Run(request) => request.copy(),
+        Ask::Install(_) => Request::new(Method::Get, 0, None, &[], &[]),
     }
 }
 
 // Installs a program in a slot.
-fn put(slot: &mut SlotState, program: Arc<Verified>) -> Made
-    ensures answer { result ≡ made (slot_of slot.old) }
-    ensures slot { slot_of slot.new ≡ installed (slot_of slot.old) program.value }
+fn install(slot: &mut SlotState, program: Arc<Verified>) -> Made
+    ensures answer { result ≡ (put (as_seen slot.old) program.value).answer }
+    ensures slot { as_seen slot.new ≡ after_changes (as_seen slot.old) (put (as_seen slot.old) program.value).changes }
 {
     if slot.serial >= LAST_SERIAL {
         return Made::AtEnd;
@@ -167,6 +235,7 @@ fn put(slot: &mut SlotState, program: Arc<Verified>) -> Made
     let vars = Vars::zeros(program.vars_size());
     let serial = slot.serial + 1;
     slot.serial = serial;
+    slot.ring.clear();
     slot.body = Some(Body {
         program,
         version: serial,
@@ -177,7 +246,7 @@ fn put(slot: &mut SlotState, program: Arc<Verified>) -> Made
 
 // Whether the outcome is of the ticket's program, request and variables, and the ticket's serial isn't above the slot's.
 fn is_own(outcome: &Outcome<'_>, ticket: &Ticket, slot: &SlotState) -> bool
-    ensures { IsTrue result ↔ IsOwn outcome.now ticket.now (slot_of slot.now) }
+    ensures { IsTrue result ↔ IsOwn outcome.now ticket.now (as_seen slot.now) }
 {
     outcome.program().is(ticket.program())
         && outcome.request().is(ticket.request())
@@ -186,15 +255,21 @@ fn is_own(outcome: &Outcome<'_>, ticket: &Ticket, slot: &SlotState) -> bool
 }
 
 // Whether the run answered a POST with a code of class 2.
-fn writes(outcome: &Outcome<'_>) -> bool
-    ensures { IsTrue result ↔ Writes outcome.now }
+fn wants(outcome: &Outcome<'_>) -> bool
+    ensures { result ≡ wants_by outcome.now }
 {
-    outcome.request().method() == Method::Post && outcome.code() / 32 == 2
+    is_post(outcome.request().method()) && outcome.code() / 32 == 2
+}
+
+fn is_post(method: Method) -> bool
+    ensures { result ≡ is_post method }
+{
+    method == Method::Post
 }
 
 // Whether nothing has changed since the ticket was taken.
 fn is_current(ticket: &Ticket, slot: &SlotState) -> bool
-    ensures { IsTrue result ↔ IsCurrent ticket.now (slot_of slot.now) }
+    ensures { IsTrue result ↔ IsCurrent ticket.now (as_seen slot.now) }
 {
     match &slot.body {
         None => false,
@@ -207,31 +282,60 @@ fn is_current(ticket: &Ticket, slot: &SlotState) -> bool
     }
 }
 
+// What the commit of a ticket's run comes to. A run that has nothing to write compares nothing.
+fn outcome_of(outcome: &Outcome<'_>, ticket: &Ticket, slot: &SlotState) -> CommitOutcome
+    requires { IsOwn outcome.now ticket.now (as_seen slot.now) }
+    ensures { ComesTo ticket.now (as_seen slot.now) result }
+{
+    if !wants(outcome) {
+        CommitOutcome::Keeps
+    } else if !is_current(ticket, slot) {
+        CommitOutcome::Overtakes
+    } else if slot.serial >= LAST_SERIAL {
+        CommitOutcome::Ends
+    } else {
+        CommitOutcome::Writes
+    }
+}
+
 // Commits to a slot.
 fn committed(slot: &mut SlotState, outcome: &Outcome<'_>, ticket: &Ticket) -> Committed
-    ensures { IsCommit outcome.now ticket.now (slot_of slot.old) result (slot_of slot.new) }
+    ensures { IsCommit outcome.now ticket.now (as_seen slot.old) result (as_seen slot.new) }
 {
     if !is_own(outcome, ticket, slot) {
         return Committed::Stranger;
     }
-    if !writes(outcome) {
-        return Committed::Done(mark(ticket, slot.serial, false));
+    match outcome_of(outcome, ticket, slot) {
+        CommitOutcome::Writes => Committed::Done(write(slot, outcome, ticket)),
+        CommitOutcome::Keeps => Committed::Done(mark(ticket, slot.serial, false)),
+        CommitOutcome::Overtakes => Committed::Overtaken,
+        CommitOutcome::Ends => Committed::Ended,
     }
-    if !is_current(ticket, slot) {
-        return Committed::Overtaken;
-    }
-    if slot.serial >= LAST_SERIAL {
-        return Committed::Ended;
-    }
+}
+
+// Writes what a run left to its slot, and remembers the commit.
+fn write(slot: &mut SlotState, outcome: &Outcome<'_>, ticket: &Ticket) -> Mark
+    requires own { IsOwn outcome.now ticket.now (as_seen slot.old) }
+    requires current { IsCurrent ticket.now (as_seen slot.old) }
+    requires below { (as_seen slot.old).serial < last_serial }
+    ensures mark { result ≡ mark_of ticket.now ((as_seen slot.old).serial + 1) true }
+    ensures slot { as_seen slot.new ≡ after_changes (as_seen slot.old) ((commits CommitOutcome.Writes ticket.now (as_seen slot.old).serial).changes) }
+{
     slot.serial += 1;
     if let Some(body) = &mut slot.body {
         body.vars = outcome.after().copy();
     }
-    Committed::Done(mark(ticket, slot.serial, true))
+    slot.ring.push(Entry {
+        serial: slot.serial,
+        request: outcome.request().copy(),
+        before: outcome.found().copy(),
+        after: outcome.after().copy(),
+    });
+    mark(ticket, slot.serial, true)
 }
 
 fn mark(ticket: &Ticket, serial: u64, changed: bool) -> Mark
-    ensures { result ≡ record { origin = ticket.now.origin; found = ticket.now.serial; serial = serial; changed = changed } }
+    ensures { result ≡ mark_of ticket.now serial changed }
 {
     Mark {
         origin: ticket.origin,

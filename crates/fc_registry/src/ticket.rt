@@ -1,5 +1,5 @@
 //! Tickets and marks.
-ghost use Rattle.std.specs.Prelude.{◌≡◌};
+ghost use Rattle.std.specs.Prelude.{◌≡◌, length};
 
 use crate::job::Origin;
 use fc_help::{Request, Vars};
@@ -24,7 +24,11 @@ impl Model for Ticket {
 
     ghost Value = { Found };
 
+    ghost use Rattle.std.specs.Prelude.{◌≡◌, length};
+
     ghost view = { λ t. record { origin = t.origin; request = t.request; serial = t.serial; found = record { program = t.program.value; version = t.version; vars = t.vars } } };
+
+    ghost invariant = { λ t. length t.vars ≡ t.program.value.vars_size };
 }
 
 impl Ticket {
@@ -58,7 +62,8 @@ impl Ticket {
 
     /// The variables that were found.
     pub fn vars(&self) -> &Vars
-        ensures { result.now ≡ self.now.found.vars }
+        ensures vars { result.now ≡ self.now.found.vars }
+        ensures size { length result.now ≡ self.now.found.program.vars_size }
     {
         &self.vars
     }

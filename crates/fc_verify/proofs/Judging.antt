@@ -49,8 +49,8 @@ pub err_is : {T : Type 0} (r : Result T Refusal) (e : Refusal) (P : Refusal → 
 err_is (Ok x) e P h p = absurd h
 err_is (Err x) e P h p = subst P (sym h) p
 
-fault_of : (image : List ℕ) (j : Judgement) (f : Fault) → judged image ≡ j → IsFaultOf j f → IsRefusal image (Broken f)
-fault_of image j f e h = subst (λ k. IsFaultOf k f) (sym e) h
+fault_of : (image : List ℕ) (j : Judgement) (f : Fault) → judged image ≡ j → IsFaultOf image j f → IsRefusal image (Broken f)
+fault_of image j f e h = subst (λ k. IsFaultOf image k f) (sym e) h
 
 pub refused_head : (image : List ℕ) (f : Fault) → head_fault image ≡ Some f.rule → f.slot ≡ 0 → IsRefusal image (Broken f)
 refused_head image f e z = fault_of image (Breaks f.rule 0) f (judged_head image f.rule e) (refl, z, head_rule_low image f.rule e)
@@ -76,7 +76,7 @@ pub refused_shape : (image : List ℕ) (head : Head) (code : List Served) (f : F
 refused_shape image head code f h k e =
     fault_of image (Breaks f.rule f.slot) f (judged_shape image f.rule f.slot h.fault k.fault (shape_of image head code (Some (f.slot, f.rule)) h k e)) (refl, refl, shape_rule_low head.budget code f.slot f.rule e)
 
-pub refused_typing : (image : List ℕ) (head : Head) (code : List Served) (f : Fault) → IsHeadOf image head → IsCodeOf image code → shape_fault head.budget code ≡ None → is_typable code entry ≡ false → f.rule ≡ ExitValue → f.slot < 512 → IsRefusal image (Broken f)
+pub refused_typing : (image : List ℕ) (head : Head) (code : List Served) (f : Fault) → IsHeadOf image head → IsCodeOf image code → shape_fault head.budget code ≡ None → is_typable code entry ≡ false → f.rule ≡ ExitValue → f.slot < (stated image).count → IsRefusal image (Broken f)
 refused_typing image head code f h k s t r lt =
     let n : number_of f.rule ≡ 25 = ap number_of r in
     fault_of image Untypable f

@@ -1,24 +1,24 @@
 -- What a refusal may say: the first broken rule, one below 20, and its slot; but where only the typing is missing any rule from 20 to 27,
--- and any slot.
+-- and any slot of the program.
 use Rattle.std.specs.Prelude.{◌≡◌, ℕ, ◌<◌, ◌≤◌, List, None}
 use Rattle.fc_isa.specs.declared.rule.Fault.{Fault}
 use Rattle.fc_isa.specs.declared.decoding.DecodeError.{DecodeError}
 use Rattle.fc_isa.specs.declared.decoding.DecodeError.TheVariants.{Fault as FaultAt, NoMemory as NoRoom}
 use Rattle.fc_isa.specs.Rules.{number_of}
-use Rattle.fc_image.specs.Head.{head_fault}
+use Rattle.fc_image.specs.Head.{head_fault, stated}
 use Rattle.fc_verify.specs.declared.refusal.Refusal.{Refusal}
 use Rattle.fc_verify.specs.declared.refusal.Refusal.TheVariants.{Broken, NoMemory}
 use Rattle.fc_verify.specs.Accepted.{Judgement, Accepts, Breaks, Untypable}
 use Rattle.fc_verify.specs.Judged.{judged}
 
-abbrev pub IsFaultOf : Judgement → Fault → Type 0
-IsFaultOf (Accepts p) f = ⊥
-IsFaultOf (Breaks rule slot) f = (f.rule ≡ rule) × (f.slot ≡ slot) × (number_of rule < 20)
-IsFaultOf Untypable f = (20 ≤ number_of f.rule) × (number_of f.rule ≤ 27) × (f.slot < 512)
+abbrev pub IsFaultOf : List ℕ → Judgement → Fault → Type 0
+IsFaultOf image (Accepts p) f = ⊥
+IsFaultOf image (Breaks rule slot) f = (f.rule ≡ rule) × (f.slot ≡ slot) × (number_of rule < 20)
+IsFaultOf image Untypable f = (20 ≤ number_of f.rule) × (number_of f.rule ≤ 27) × (f.slot < (stated image).count)
 
 -- want of memory is told only of an image whose header is right
 abbrev pub IsRefusal : List ℕ → Refusal → Type 0
-IsRefusal image (Broken f) = IsFaultOf (judged image) f
+IsRefusal image (Broken f) = IsFaultOf image (judged image) f
 IsRefusal image NoMemory = head_fault image ≡ None
 
 -- a decoding's error as a refusal

@@ -1,4 +1,5 @@
 use Rattle.std.proofs.Common.{◌<◌, ◌∙◌, ap, arith, length, sym}
+use Rattle.fc_image.specs.Head.{stated}
 use Rattle.fc_verify.specs.Accepted.{Accepts}
 use Rattle.fc_verify.specs.Refusals.{IsRefusal}
 use Rattle.fc_verify.specs.declared.refusal.Refusal.TheVariants.{Broken}
@@ -16,7 +17,7 @@ pub returns-in_err-states-clause-refused : goal.returns-in_err-states-clause-ref
 returns-in_err-states-clause-refused c =
     let f = c.in_err-states.field-0.0 in
     let e = c.in_err-states.ensures in
-    let few : f.slot < 512 = omega (arith, e.slot, ap length c.deref-2.ensures.value, c.in_ok-code.ensures.code.count, ap (λ h. h.count) c.in_ok-head.ensures.head.stated_is, c.count.ensures) in
+    let few : f.slot < (stated c.args.image.now).count = omega (arith, e.slot, ap length c.deref-2.ensures.value, c.in_ok-code.ensures.code.count) in
     err_is c.from_residual-in_err-states.result (Broken f) (IsRefusal c.args.image.now) c.from_residual-in_err-states.ensures.1
     (refused_typing c.args.image.now c.in_ok-head.head c.in_ok-code.code.items f c.in_ok-head.ensures.head c.in_ok-code.ensures.code
     (rw c.deref.ensures.value at c.in_ok-cost.ensures.cost.0) (rw c.deref-2.ensures.value at e.untypable) e.rule few)

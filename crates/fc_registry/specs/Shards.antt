@@ -1,0 +1,32 @@
+-- Eight shards as sixty-four slots.
+use Rattle.std.specs.Prelude.{◌≡◌, ◌<◌, length, ℕ, zero, suc, ◌%◌, List, [], ◌∷◌, ◌++◌, replicate, slice_index_or, slice_set}
+use Rattle.fc_registry.specs.Slots.{Slot, Shard, slot_in, with_slot, new_slot}
+
+abbrev pub no_shard : Shard
+no_shard = record { index = 0; now = 0; slots = [] }
+
+abbrev pub shard_at : List Shard → ℕ → Shard
+shard_at shards s = slice_index_or shards s no_shard
+
+-- eight shards, each of its index and with eight slots
+pub record AreShards (shards : List Shard) : Type 0 where
+  pub count : length shards ≡ 8
+  pub index : (s : ℕ) → s < 8 → (shard_at shards s).index ≡ s
+  pub size : (s : ℕ) → s < 8 → length (shard_at shards s).slots ≡ 8
+
+-- shard n mod 8 owns slot n
+abbrev pub slot_in_shards : List Shard → ℕ → Slot
+slot_in_shards shards n = slot_in (shard_at shards (n % 8)) n
+
+-- the shards with another state of the shard that owns slot n
+abbrev pub with_owner : List Shard → ℕ → Shard → List Shard
+with_owner shards n shard = slice_set shards (n % 8) shard
+
+-- shards of empty slots at this serial, of the indices below n
+abbrev pub empty_shards : ℕ → ℕ → List Shard
+empty_shards serial zero = []
+empty_shards serial (suc n) = empty_shards serial n ++ (record { index = n; now = 0; slots = replicate 8 (new_slot serial) } ∷ [])
+
+-- the shards of a new server, every slot at this serial
+abbrev pub first_shards : ℕ → List Shard
+first_shards serial = empty_shards serial 8

@@ -1,0 +1,14 @@
+//! What stands in a slot.
+ghost use Rattle.std.specs.Prelude.{◌≡◌, length};
+
+use fc_help::Vars;
+use fc_verify::Verified;
+use std::sync::Arc;
+
+#[derive(Drop)]
+pub(crate) struct Body {
+    pub(crate) program: Arc<Verified>,
+    pub(crate) version: u64,
+    pub(crate) vars: Vars,
+    ghost size: { length vars ≡ program.value.vars_size },
+}

@@ -1,0 +1,60 @@
+//! The latest commits of a slot.
+ghost use Rattle.std.specs.Prelude.{◌≡◌, [], ◌∷◌, ◌++◌, IfOk};
+ghost use Rattle.circular_buffer.specs.Buffer.{keep_last};
+
+use circular_buffer::HeapCircularBuffer;
+use fc_help::{Request, Vars};
+use std::alloc::{AllocError, Global};
+use std::marker::Model;
+
+/// How many commits a slot remembers.
+pub const RING: usize = 8;
+
+/// A commit: the slot's serial after it, the request that it answered, and the variables that it found and left.
+#[derive(Drop)]
+pub struct Entry {
+    pub serial: u64,
+    pub request: Request,
+    pub before: Vars,
+    pub after: Vars,
+}
+
+/// The last eight commits, the oldest first.
+#[derive(Drop)]
+pub(crate) struct Ring {
+    entries: HeapCircularBuffer<Entry>,
+}
+
+impl Model for Ring {
+    ghost use Rattle.std.specs.Prelude.{◌≡◌, List};
+    ghost use Rattle.fc_registry.specs.declared.ring.Entry.{Entry as Kept};
+
+    ghost Value = { List Kept };
+
+    ghost view = { λ r. r.entries.items };
+
+    ghost invariant = { λ r. r.entries.capacity ≡ 8 };
+}
+
+impl Ring {
+    pub(crate) fn new(alloc: Global) -> Result<Ring, AllocError>
+        ensures { IfOk result (λ r. r ≡ []) }
+    {
+        let entries = HeapCircularBuffer::with_capacity(alloc, RING)?;
+        Ok(Ring { entries })
+    }
+
+    // Remembers a commit, and forgets the oldest where there are eight.
+    pub(crate) fn push(&mut self, entry: Entry)
+        ensures { self.new ≡ keep_last 8 (self.old ++ entry ∷ []) }
+    {
+        self.entries.push_back(entry);
+    }
+
+    // Forgets all.
+    pub(crate) fn clear(&mut self)
+        ensures { self.new ≡ [] }
+    {
+        self.entries.clear();
+    }
+}

@@ -1,0 +1,23 @@
+//! The eight shards of a server.
+ghost use Rattle.std.specs.Prelude.{◌≡◌, ◌≤◌, IfOk};
+ghost use Rattle.fc_registry.specs.Slots.{last_serial};
+ghost use Rattle.fc_registry.specs.Shards.{first_shards};
+
+use crate::shard::Shard;
+use crate::slot_number::SHARDS;
+use std::alloc::{AllocError, Global};
+
+/// Eight shards, in order of index, of empty slots that are each at the first serial.
+///
+/// # Errors
+/// There was no memory for them.
+pub fn make_shards(alloc: Global, first_serial: u64) -> Result<Vec<Shard>, AllocError>
+    requires { first_serial ≤ last_serial }
+    ensures { IfOk result (λ v. v.items ≡ first_shards first_serial) }
+{
+    let mut shards = Vec::with_capacity(alloc, usize::from(SHARDS))?;
+    for index in 0..SHARDS {
+        shards.push(Shard::new(alloc, index, first_serial)?)?;
+    }
+    Ok(shards)
+}

@@ -1,0 +1,62 @@
+//! Numbers of slots.
+ghost use Rattle.std.specs.Prelude.{◌≡◌, ◌<◌, ◌/◌, ◌%◌};
+
+use std::marker::Model;
+
+/// How many slots a server has.
+pub const SLOTS: u8 = 64;
+
+/// How many shards a server has, and how many slots each of them.
+pub const SHARDS: u8 = 8;
+
+/// The number of a slot: 0 to 63. A clause sees the number itself.
+#[derive(Clone, Copy, Debug, Default, PartialEq, Eq)]
+pub struct SlotNumber {
+    number: u8,
+}
+
+impl Model for SlotNumber {
+    ghost use Rattle.std.specs.Prelude.{ℕ, ◌<◌};
+
+    ghost Value = { ℕ };
+
+    ghost view = { λ s. s.number };
+
+    ghost invariant = { λ s. s.number < 64 };
+
+    ghost inverse = { λ n. record { number = n } };
+}
+
+impl SlotNumber {
+    /// The slot of this number, which is below 64.
+    pub fn new(number: u8) -> Self
+        requires { number < 64 }
+        ensures { result ≡ number }
+    {
+        SlotNumber { number }
+    }
+
+    /// The number.
+    pub fn number(self) -> u8
+        ensures number { result ≡ self }
+        ensures limit { result < 64 }
+    {
+        self.number
+    }
+
+    /// The index of the shard that owns the slot.
+    pub fn shard(self) -> usize
+        ensures shard { result ≡ self % 8 }
+        ensures limit { result < 8 }
+    {
+        usize::from(self.number % SHARDS)
+    }
+
+    /// Its place among the slots of that shard.
+    pub fn place(self) -> usize
+        ensures place { result ≡ self / 8 }
+        ensures limit { result < 8 }
+    {
+        usize::from(self.number / SHARDS)
+    }
+}
