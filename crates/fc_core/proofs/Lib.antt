@@ -1,6 +1,21 @@
 pub mod Decimals
-pub mod Unfold
-pub mod Quiet
+mod Draws
+pub mod Rejections
+pub mod Commits
+pub mod Lists
+pub mod Fitting
+pub mod Keeping
+pub mod Strays
+pub mod Others
+pub mod Steps
+pub mod Along
 pub mod Takings
-pub mod Read
-pub mod Sources
+pub mod Ends
+pub mod Changing
+pub mod Causes
+pub mod Writing
+pub mod Reasons
+pub mod Moments
+pub mod Repeats
+pub mod DrawnIds
+pub mod Once

@@ -1,161 +1,175 @@
--- A job takes at most eight tickets: its stage knows how many it took.
-use Rattle.std.proofs.Common.{◌≡◌, ℕ, ◌+◌, ◌<◌, ◌≤◌, List, [], ◌∷◌, length, Bool, true, false, Option, Some, None, refl, sym, ap, ◌∙◌, subst, arith, if◌then◌else◌, length-append}
+-- A job takes at most eight tickets, and a run's answer is of the newest.
+use Rattle.std.proofs.Common.{◌≡◌, ℕ, ◌+◌, ◌<◌, ◌≤◌, List, [], ◌∷◌, ◌++◌, length, Bool, true, false, Option, Some, None, refl, sym, ap, ◌∙◌, subst, arith, if◌then◌else◌}
 use Rattle.std.specs.Prelude.{nat_lt, ◌==◌}
-use Rattle.std.proofs.lemmas.Bool.{eqb-true, ne_eqb}
-use borrow.Author.Tests.{ltb-true}
+use borrow.Author.Tests.{ltb-true, lt-ltb}
+use Rattle.std.proofs.lemmas.Bool.{ne_eqb}
+use Rattle.coap_msg.specs.declared.types.Emission.{Emission}
+use Rattle.fc_kinds.specs.Meaning.{Program}
 use Rattle.fc_verify.specs.Accepted.{Judgement, Accepts, Breaks, Untypable}
 use Rattle.fc_verify.specs.Judged.{judged}
 use Rattle.fc_registry.specs.declared.job.Ask.{Ask}
 use Rattle.fc_registry.specs.declared.job.Ask.TheVariants.{Run, Install as Installs}
 use Rattle.fc_registry.specs.declared.job.Job.{Job}
+use Rattle.fc_registry.specs.declared.commit.CommitOutcome.{CommitOutcome}
+use Rattle.fc_registry.specs.declared.commit.CommitOutcome.TheVariants.{Writes, Keeps, Overtakes, Ends}
 use Rattle.fc_registry.specs.Slots.{Slot, Present, Ticket, last_serial}
-use Rattle.fc_kinds.specs.Meaning.{Program}
+use Rattle.fc_registry.specs.Changes.{Change}
+use Rattle.fc_registry.specs.Calls.{meaning_at, outcome, outcome_by, put_by, taking, wants}
 use Rattle.fc_core.specs.declared.event.Event.{Event}
 use Rattle.fc_core.specs.declared.event.Event.TheVariants.{Take, Commit, Install, Raise, Answer, Lose}
 use Rattle.fc_core.specs.declared.stage.Stage.{Stage}
 use Rattle.fc_core.specs.declared.stage.Stage.TheVariants.{ToTake, ToCommit, ToInstall, ToRaise, ToAnswer, Gone}
-use Rattle.fc_core.specs.Contents.{Unavailable}
-use Rattle.fc_core.specs.Stages.{names, moved, taking, Verdict, Writes, Keeps, Overtakes, Ends, verdict, after_verdict, made_stage, judged_stage, installing, image_of, first_stage}
-use Rattle.fc_core.specs.History.{Entry, History, moment, openings, jobs, stage, brought_by, stage_brought, is_number, job_in, slot_at}
-use Rattle.fc_core.specs.Laws.{takes, takings_of}
-use Rattle.fc_core.proofs.Unfold.{jobs-cons, stage-cons, stage-nil}
+use Rattle.fc_core.specs.Contents.{Content, Ran, RunAnswer, Unavailable}
+use Rattle.fc_core.specs.History.{Entry, History, Then, Seen, seen, and_then, did, job, slot_at, stage}
+use Rattle.fc_core.specs.Laws.{IsOfNewest, IsOvertaken, Taking, TakesAgain, answer_at, gives, slot_of, takings_of}
+use Rattle.fc_core.specs.Stages.{Scene, committed, first_by, image_of, installed, made, receipt_of, retaken, row, took, verified}
+use Rattle.fc_core.proofs.Along.{IsTold, along}
+use Rattle.fc_core.proofs.Others.{is_here, named_stage}
 
--- a job at this stage has taken so many tickets
-abbrev FitsCount : Stage → ℕ → Type 0
-FitsCount (ToTake n) count = (count ≡ n) × (n < 8)
-FitsCount (ToCommit n t) count = (count ≡ n) × (n ≤ 8)
-FitsCount other count = count ≤ 8
+-- a run's answer is of the newest taking
+abbrev pub Says : List Taking → Content → Type 0
+Says ts (Ran run) = IsOfNewest ts run
+Says ts other = Unit {0}
 
-at_most_eight : (s : Stage) (count : ℕ) → FitsCount s count → count ≤ 8
-at_most_eight (ToTake n) count f = omega (arith, f.0, f.1)
-at_most_eight (ToCommit n t) count f = omega (arith, f.0, f.1)
-at_most_eight ToInstall count f = f
-at_most_eight (ToRaise content) count f = f
-at_most_eight (ToAnswer content) count f = f
-at_most_eight Gone count f = f
+-- the newest taking gave this ticket
+abbrev pub IsNewest : List Taking → Ticket → Type 0
+IsNewest [] t = ⊥
+IsNewest (x ∷ xs) t = x.ticket ≡ t
 
-counted_by : (b c : Bool) (count : ℕ) → b ≡ c → (if b then count + 1 else count) ≡ (if c then count + 1 else count)
-counted_by b c count e = ap (λ (x : Bool). if x then count + 1 else count) e
+-- a job at this stage took these tickets
+abbrev pub Took : List Taking → Stage → Type 0
+Took ts (ToTake n) = (length ts ≡ n) × (n < 8)
+Took ts (ToCommit n t) = (length ts ≡ n) × (n ≤ 8) × IsNewest ts t
+Took ts (ToRaise content) = (length ts ≤ 8) × Says ts content
+Took ts (ToAnswer content) = (length ts ≤ 8) × Says ts content
+Took ts other = length ts ≤ 8
 
--- a taking counts where it gives a ticket
-taking_counts : (memory : Bool) (j k : ℕ) (job : Job) (n serial count : ℕ) (p : Option Present) → (j == k) ≡ true → count ≡ n → n < 8 → FitsCount (taking memory job n serial p) (if takes (Take j memory) k (ToTake n) (taking memory job n serial p) then count + 1 else count)
-taking_counts memory j k job n serial count None e is lt = omega arith
-taking_counts true j k job n serial count (Some p) e is lt = (counted_by (j == k) true count e ∙ ap (λ (x : ℕ). x + 1) is, omega arith)
-taking_counts false j k job n serial count (Some p) e is lt = omega arith
+at_most_eight : (s : Stage) (ts : List Taking) → Took ts s → length ts ≤ 8
+at_most_eight (ToTake n) ts f = omega (arith, f.0, f.1)
+at_most_eight (ToCommit n t) ts f = omega (arith, f.0, f.1)
+at_most_eight ToInstall ts f = f
+at_most_eight (ToRaise content) ts f = f.0
+at_most_eight (ToAnswer content) ts f = f.0
+at_most_eight Gone ts f = f
 
-retaking_counts : (n count : ℕ) (b : Bool) → nat_lt n 8 ≡ b → count ≡ n → n ≤ 8 → FitsCount (if b then ToTake n else ToAnswer Unavailable) count
-retaking_counts n count true e is le = (is, ltb-true n 8 e)
-retaking_counts n count false e is le = omega arith
+taking_took : (memory : Bool) (k : ℕ) (job : Job) (slot : Slot) (cs : List Change) (n : ℕ) (ts : List Taking) (p : Option Present) → slot.present ≡ p → length ts ≡ n → n < 8 → Took (gives (Take k memory) (ToTake n) job (record slot { present = p }) cs ++ ts) (took n (taking memory job slot.serial p))
+taking_took true k job slot cs n ts None e is lt = (omega arith, tt)
+taking_took false k job slot cs n ts None e is lt = (omega arith, tt)
+taking_took true k job slot cs n ts (Some p) e is lt = (omega arith, omega arith, refl)
+taking_took false k job slot cs n ts (Some p) e is lt = (omega arith, tt)
 
-verdict_counts : (n count : ℕ) (t : Ticket) (v : Verdict) → count ≡ n → n ≤ 8 → FitsCount (after_verdict n t v) count
-verdict_counts n count t Writes is le = omega arith
-verdict_counts n count t Keeps is le = omega arith
-verdict_counts n count t Overtakes is le = retaking_counts n count (nat_lt n 8) refl is le
-verdict_counts n count t Ends is le = omega arith
+retaken_took : (n : ℕ) (ts : List Taking) (b : Bool) → nat_lt n 8 ≡ b → length ts ≡ n → n ≤ 8 → Took ts (if b then ToTake n else ToAnswer Unavailable)
+retaken_took n ts true e is le = (is, ltb-true n 8 e)
+retaken_took n ts false e is le = (omega arith, tt)
 
-made_counts : (b : Bool) (p : Program) (slot : Slot) (count : ℕ) → count ≤ 8 → FitsCount (made_stage b p slot) count
-made_counts true p slot count le = le
-made_counts false p slot count le = le
+newest_says : (ts : List Taking) (t : Ticket) → IsNewest ts t → IsOfNewest ts (record { by = t.origin; code = (meaning_at t).code; serial = t.serial })
+newest_says [] t e = e
+newest_says (x ∷ xs) t e = (ap (λ (y : Ticket). (meaning_at y).code) (sym e), ap (λ (y : Ticket). y.serial) (sym e))
 
-judged_counts : (j : Judgement) (slot : Slot) (count : ℕ) → count ≤ 8 → FitsCount (judged_stage j slot) count
-judged_counts (Accepts p) slot count le = made_counts (nat_lt slot.serial last_serial) p slot count le
-judged_counts (Breaks rule k) slot count le = le
-judged_counts Untypable slot count le = le
+committed_took : (n : ℕ) (ts : List Taking) (t : Ticket) (now : ℕ) (o : CommitOutcome) → length ts ≡ n → n ≤ 8 → IsNewest ts t → Took ts (committed o n t now).stage
+committed_took n ts t now Writes is le e = (omega arith, newest_says ts t e)
+committed_took n ts t now Keeps is le e = (omega arith, newest_says ts t e)
+committed_took n ts t now Overtakes is le e = retaken_took n ts (nat_lt n 8) refl is le
+committed_took n ts t now Ends is le e = (omega arith, tt)
 
-installing_counts : (memory : Bool) (job : Job) (slot : Slot) (count : ℕ) → count ≤ 8 → FitsCount (installing memory job slot) count
-installing_counts true job slot count le = judged_counts (judged (image_of job.ask)) slot count le
-installing_counts false job slot count le = le
+made_took : (b : Bool) (p : Program) (slot : Slot) (ts : List Taking) → length ts ≤ 8 → Took ts (made (receipt_of p) (put_by b slot p).answer)
+made_took true p slot ts le = (le, tt)
+made_took false p slot ts le = (le, tt)
 
--- the count of a job that an event names
-named_counts : (e : Event) (k : ℕ) (job : Job) (slot : Slot) (s : Stage) (count : ℕ) → is_number (names e) k ≡ true → FitsCount s count → FitsCount (moved e job slot s) (if takes e k s (moved e job slot s) then count + 1 else count)
-named_counts (Take j memory) k job slot (ToTake n) count e f = taking_counts memory j k job n slot.serial count slot.present e f.0 f.1
-named_counts (Take j memory) k job slot other count e f = f
-named_counts (Commit j now) k job slot (ToCommit n t) count e f = verdict_counts n count t (verdict t slot) f.0 f.1
-named_counts (Commit j now) k job slot other count e f = f
-named_counts (Install j memory) k job slot ToInstall count e f = installing_counts memory job slot count f
-named_counts (Install j memory) k job slot other count e f = f
-named_counts (Raise j) k job slot (ToRaise content) count e f = f
-named_counts (Raise j) k job slot other count e f = f
-named_counts (Answer j now) k job slot (ToAnswer content) count e f = f
-named_counts (Answer j now) k job slot other count e f = f
-named_counts (Lose j) k job slot s count e f = at_most_eight s count f
-named_counts other k job slot s count e f = f
+installed_took : (j : Judgement) (slot : Slot) (ts : List Taking) → length ts ≤ 8 → Took ts (installed j slot).stage
+installed_took (Accepts p) slot ts le = made_took (nat_lt slot.serial last_serial) p slot ts le
+installed_took (Breaks rule k) slot ts le = (le, tt)
+installed_took Untypable slot ts le = (le, tt)
 
--- an event takes for no job but the one that it names, and for none that is gone
-unnamed_takes : (e : Event) (k : ℕ) (old new : Stage) → is_number (names e) k ≡ false → takes e k old new ≡ false
-unnamed_takes (Take j memory) k (ToTake n) (ToCommit m t) e = e
-unnamed_takes (Take j memory) k (ToTake n) other e = refl
-unnamed_takes (Take j memory) k other new e = refl
-unnamed_takes other k old new e = refl
+abbrev at : Job → Slot → Stage → Scene
+at job slot stage = record { job = job; slot = slot; stage = stage }
 
-gone_takes : (e : Event) (k : ℕ) (new : Stage) → takes e k Gone new ≡ false
-gone_takes (Take j memory) k new = refl
-gone_takes other k new = refl
+verified_took : (memory : Bool) (s : Scene) (ts : List Taking) → length ts ≤ 8 → Took ts (verified memory s).stage
+verified_took true s ts le = installed_took (judged (image_of s.job.ask)) s.slot ts le
+verified_took false s ts le = (le, tt)
 
-gone_stays : (e : Event) (job : Job) (slot : Slot) → moved e job slot Gone ≡ Gone
-gone_stays (Take j memory) job slot = refl
-gone_stays other job slot = refl
+row_took : (e : Event) (job : Job) (slot : Slot) (cs : List Change) (s : Stage) (ts : List Taking) → Took ts s → Took (gives e s job slot cs ++ ts) (row e (at job slot s)).stage
+row_took (Take k memory) job slot cs (ToTake n) ts f = taking_took memory k job slot cs n ts slot.present refl f.0 f.1
+row_took (Take k true) job slot cs other ts f = f
+row_took (Take k false) job slot cs other ts f = f
+row_took (Commit k now) job slot cs (ToCommit n t) ts f = committed_took n ts t now (outcome t slot) f.0 f.1 f.2
+row_took (Commit k now) job slot cs other ts f = f
+row_took (Install k memory) job slot cs ToInstall ts f = verified_took memory (at job slot ToInstall) ts f
+row_took (Install k memory) job slot cs other ts f = f
+row_took (Raise k) job slot cs (ToRaise content) ts f = f
+row_took (Raise k) job slot cs other ts f = f
+row_took (Answer k now) job slot cs (ToAnswer content) ts f = f.0
+row_took (Answer k now) job slot cs other ts f = f
+row_took (Lose k) job slot cs s ts f = at_most_eight s ts f
+row_took other job slot cs s ts f = f
 
--- a job begins with no ticket taken
-first_counts : (ask : Ask) (count : ℕ) → count ≡ 0 → FitsCount (first_stage ask) count
-first_counts (Run request) count e = (e, omega arith)
-first_counts (Installs image) count e = omega arith
+-- nothing is given to a job that is gone
+gone_given : (e : Event) (job : Job) (slot : Slot) (cs : List Change) → gives e Gone job slot cs ≡ []
+gone_given (Take k true) job slot cs = refl
+gone_given (Take k false) job slot cs = refl
+gone_given other job slot cs = refl
 
-first_counts_by : (b : Bool) (ask : Ask) (s : Stage) (count : ℕ) → (b ≡ true → count ≡ 0) → FitsCount s count → FitsCount (if b then first_stage ask else s) count
-first_counts_by true ask s count e f = first_counts ask count (e refl)
-first_counts_by false ask s count e f = f
+first_took : (ask : Ask) → Took [] (first_by ask)
+first_took (Run request) = (refl, omega arith)
+first_took (Installs image) = omega arith
 
-brought_counts : (js : List Job) (k came : ℕ) (s : Stage) (count : ℕ) → (came ≤ k → count ≡ 0) → FitsCount s count → FitsCount (stage_brought js k came s) count
-brought_counts [] k came s count e f = f
-brought_counts (j ∷ js) k came s count e f = first_counts_by (k == came) j.ask s count (λ (q : (k == came) ≡ true). let is : k ≡ came = eqb-true k came q in e (omega arith)) f
+abbrev pub more : Event → Seen → ℕ → List Taking → List Taking
+more e s k ts = gives e (stage s k) (job s k) (slot_at s (slot_of s k)) (s.changes (slot_of s k)) ++ ts
 
-brought_gone : (js : List Job) (k came : ℕ) (s : Stage) → came + length js ≤ k → s ≡ Gone → stage_brought js k came s ≡ Gone
-brought_gone [] k came s le gone = gone
-brought_gone (j ∷ js) k came s le gone =
-    let apart : k ≡ came → ⊥ = λ q. omega (arith, le, q) in
-    ap (λ (b : Bool). if b then first_stage j.ask else s) (ne_eqb k came apart) ∙ gone
+pub is_told : IsTold takings_of more Took []
+is_told = record {
+  begins = λ serial id k. refl;
+  then_is = λ h r k. refl;
+  still = λ e s k ts is. ap (λ (x : Stage). gives e x (job s k) (slot_at s (slot_of s k)) (s.changes (slot_of s k)) ++ ts) is ∙ ap (λ (l : List Taking). l ++ ts) (gone_given e (job s k) (slot_at s (slot_of s k)) (s.changes (slot_of s k)));
+  gone = omega arith;
+  first = first_took;
+  keeps = λ e s k ts f. row_took e (job s k) (slot_at s (slot_of s k)) (s.changes (slot_of s k)) (stage s k) ts f;
+}
 
--- what is known of a number: its count fits its stage, and before its job comes it is gone and has none
-record IsCounted (h : History) (k : ℕ) : Type 0 where
-  fits : FitsCount (stage h k) (takings_of h k)
-  none : length (jobs h) ≤ k → takings_of h k ≡ 0
-  gone : length (jobs h) ≤ k → stage h k ≡ Gone
+pub known : (h : History) (k : ℕ) → Took (takings_of h k) (stage (seen h) k)
+known = along takings_of more Took [] is_told
 
-jobs_grow : (r : Entry) (h : History) → length (jobs (r ∷ h)) ≡ length (jobs h) + length (brought_by r.event (moment h) (openings h))
-jobs_grow r h = ap length (jobs-cons r h) ∙ length-append (jobs h) (brought_by r.event (moment h) (openings h))
+pub few : (h : History) (k : ℕ) → length (takings_of h k) ≤ 8
+few h k = at_most_eight (stage (seen h) k) (takings_of h k) (known h k)
 
-none_taken : (r : Entry) (h : History) (k : ℕ) → takes r.event k (stage h k) (stage (r ∷ h) k) ≡ false → takings_of (r ∷ h) k ≡ takings_of h k
-none_taken r h k e = ap (λ (b : Bool). if b then takings_of h k + 1 else takings_of h k) e
+said : (ts : List Taking) (s : Stage) (run : RunAnswer) → Took ts s → answer_at s ≡ Some (Ran run) → IsOfNewest ts run
+said ts (ToTake n) run f e = absurd (cc e)
+said ts (ToCommit n t) run f e = absurd (cc e)
+said ts ToInstall run f e = absurd (cc e)
+said ts Gone run f e = absurd (cc e)
+said ts (ToRaise content) run f e = let is : content ≡ Ran run = cc e in subst (Says ts) is f.1
+said ts (ToAnswer content) run f e = let is : content ≡ Ran run = cc e in subst (Says ts) is f.1
 
-counted_step : (r : Entry) (h : History) (k : ℕ) (b : Bool) → is_number (names r.event) k ≡ b → IsCounted h k → IsCounted (r ∷ h) k
-counted_step r h k true e w =
-    let job = job_in (jobs h) k in
-    let slot = slot_at h job.origin.slot in
-    let now : stage (r ∷ h) k ≡ moved r.event job slot (stage h k) = stage-cons r h k ∙ ap (λ (b : Bool). if b then moved r.event job slot (stage h k) else stage_brought (brought_by r.event (moment h) (openings h)) k (length (jobs h)) (stage h k)) e in
-    let P : Stage → Type 0 = λ s. FitsCount s (if takes r.event k (stage h k) s then takings_of h k + 1 else takings_of h k) in
-    let before : length (jobs (r ∷ h)) ≤ k → length (jobs h) ≤ k = λ le. omega (arith, le, jobs_grow r h) in
-    record {
-      fits = subst P (sym now) (named_counts r.event k job slot (stage h k) (takings_of h k) e w.fits);
-      none = λ le. none_taken r h k (ap (λ (s : Stage). takes r.event k s (stage (r ∷ h) k)) (w.gone (before le)) ∙ gone_takes r.event k (stage (r ∷ h) k)) ∙ w.none (before le);
-      gone = λ le. now ∙ (ap (moved r.event job slot) (w.gone (before le)) ∙ gone_stays r.event job slot);
-    }
-counted_step r h k false e w =
-    let job = job_in (jobs h) k in
-    let slot = slot_at h job.origin.slot in
-    let js = brought_by r.event (moment h) (openings h) in
-    let now : stage (r ∷ h) k ≡ stage_brought js k (length (jobs h)) (stage h k) = stage-cons r h k ∙ ap (λ (b : Bool). if b then moved r.event job slot (stage h k) else stage_brought js k (length (jobs h)) (stage h k)) e in
-    let same : takings_of (r ∷ h) k ≡ takings_of h k = none_taken r h k (unnamed_takes r.event k (stage h k) (stage (r ∷ h) k) e) in
-    let before : length (jobs (r ∷ h)) ≤ k → length (jobs h) ≤ k = λ le. omega (arith, le, jobs_grow r h) in
-    let past : length (jobs (r ∷ h)) ≤ k → length (jobs h) + length js ≤ k = λ le. omega (arith, le, jobs_grow r h) in
-    record {
-      fits = subst (λ (s : Stage). FitsCount s (takings_of (r ∷ h) k)) (sym now) (subst (λ (c : ℕ). FitsCount (stage_brought js k (length (jobs h)) (stage h k)) c) (sym same) (brought_counts js k (length (jobs h)) (stage h k) (takings_of h k) w.none w.fits));
-      none = λ le. same ∙ w.none (before le);
-      gone = λ le. now ∙ brought_gone js k (length (jobs h)) (stage h k) (past le) (w.gone (before le));
-    }
+pub answers_newest : (h : History) (k : ℕ) (run : RunAnswer) → answer_at (stage (seen h) k) ≡ Some (Ran run) → IsOfNewest (takings_of h k) run
+answers_newest h k run e = said (takings_of h k) (stage (seen h) k) run (known h k) e
 
-counted : (h : History) (k : ℕ) → IsCounted h k
-counted [] k = record { fits = subst (λ (s : Stage). FitsCount s 0) (sym (stage-nil k)) (omega arith); none = λ _. refl; gone = λ _. stage-nil k }
-counted (r ∷ h) k = counted_step r h k (is_number (names r.event) k) refl (counted h k)
+-- ---- the eighth overtaking
 
-pub few : (h : History) (k : ℕ) → takings_of h k ≤ 8
-few h k = at_most_eight (stage h k) (takings_of h k) (counted h k).fits
+overtaken_outcome : (t : Ticket) (slot : Slot) → wants t ≡ true → (slot.serial ≡ t.serial → ⊥) → outcome t slot ≡ Overtakes
+overtaken_outcome t slot wants other = ap (λ (w : Bool). outcome_by w (slot.serial == t.serial) (nat_lt slot.serial last_serial)) wants ∙ ap (λ (c : Bool). outcome_by true c (nat_lt slot.serial last_serial)) (ne_eqb slot.serial t.serial other)
+
+abbrev committing : ℕ → ℕ → Option Emission → Entry
+committing k now o = did (Commit k now) o
+
+-- an overtaken commit leaves its job at this stage
+overtaken_stage : (s : Seen) (k now : ℕ) (o : Option Emission) (w : IsOvertaken s k) → stage (and_then (committing k now o) s) k ≡ retaken w.count
+overtaken_stage s k now o w =
+    named_stage (committing k now o) s k (is_here s k (ToCommit w.count w.ticket) w.at (λ gone. absurd (cc gone))) refl
+    ∙ (ap (λ (x : Stage). (row (Commit k now) (at (job s k) (slot_at s (slot_of s k)) x)).stage) w.at
+    ∙ ap (λ (x : CommitOutcome). (committed x w.count w.ticket now).stage) (overtaken_outcome w.ticket (slot_at s (slot_of s k)) w.wants w.other))
+
+taken_so_far : (h : History) (k : ℕ) (w : IsOvertaken (seen h) k) → length (takings_of h k) ≡ w.count
+taken_so_far h k w = (subst (Took (takings_of h k)) w.at (known h k)).0
+
+pub eighth_ends : (h : History) (k now : ℕ) (o : Option Emission) → IsOvertaken (seen h) k → length (takings_of h k) ≡ 8 → stage (seen (Then h (did (Commit k now) o))) k ≡ ToAnswer Unavailable
+unfolding seen
+eighth_ends h k now o w is = overtaken_stage (seen h) k now o w ∙ ap (λ (n : ℕ). retaken n) (sym (taken_so_far h k w) ∙ is)
+
+retakes : (n : ℕ) → n < 8 → TakesAgain (retaken n)
+retakes n lt = subst (λ (b : Bool). TakesAgain (if b then ToTake n else ToAnswer Unavailable)) (sym (lt-ltb n 8 lt)) tt
+
+pub earlier_retakes : (h : History) (k now : ℕ) (o : Option Emission) → IsOvertaken (seen h) k → length (takings_of h k) < 8 → TakesAgain (stage (seen (Then h (did (Commit k now) o))) k)
+unfolding seen
+earlier_retakes h k now o w lt =
+    let count : length (takings_of h k) ≡ w.count = taken_so_far h k w in
+    subst TakesAgain (sym (overtaken_stage (seen h) k now o w)) (retakes w.count (omega arith))

@@ -1,12 +1,33 @@
--- What an answer is to be: sent while the exchange is live, and late after that.
-use Rattle.std.specs.Prelude.{Bool, true, false}
+-- What an answer is to be: sent while the exchange is live and a message id is free, and late after that.
+use Rattle.std.specs.Prelude.{ℕ, Bool, true, false, Option, Some, None}
+use Rattle.coap_msg.specs.declared.types.Emission.{Emission}
 use Rattle.fc_registry.specs.declared.job.Job.{Job}
 use Rattle.fc_core.specs.declared.front.Answered.{Answered}
-use Rattle.fc_core.specs.declared.front.Answered.TheVariants.{Sent, Late}
+use Rattle.fc_core.specs.declared.front.Answered.TheVariants.{Sent, Late, NoId}
 use Rattle.fc_core.specs.Contents.{Content}
+use Rattle.fc_core.specs.Ids.{drawn_for}
 use Rattle.fc_core.specs.Replies.{IsReplyTo}
+use Rattle.fc_core.specs.Exchanges.{FrontState, is_live}
+use Rattle.fc_core.specs.Receiving.{id_in, keeping}
 
-abbrev pub Answers : Bool → Job → Content → Answered → Type 0
-Answers true job content (Sent emission) = IsReplyTo job content emission
-Answers false job content Late = Unit {0}
-Answers live job content other = ⊥
+abbrev pub Answers : Bool → Option ℕ → Job → Content → Answered → Type 0
+Answers true (Some id) job content (Sent emission) = IsReplyTo job id content emission
+Answers true None job content NoId = Unit {0}
+Answers false id job content Late = Unit {0}
+Answers live id job content other = ⊥
+
+-- of a front that has advanced to the moment
+abbrev pub AnswersIn : FrontState → Job → Content → Answered → Type 0
+AnswersIn f job content answered = Answers (is_live f.now job.origin.opening) (id_in f job.confirmable job.origin.id) job content answered
+
+abbrev pub emission_of : Answered → Option Emission
+emission_of (Sent emission) = Some emission
+emission_of other = None
+
+-- what it holds after an answer that was to be live or not, and that sent this
+abbrev pub after_answered_by : Bool → Job → Option Emission → FrontState → FrontState
+after_answered_by true job emitted f = keeping job.origin.opening.number emitted (record f { ids = drawn_for job.confirmable f.ids f.now })
+after_answered_by false job emitted f = f
+
+abbrev pub after_answered : Job → Option Emission → FrontState → FrontState
+after_answered job emitted f = after_answered_by (is_live f.now job.origin.opening) job emitted f

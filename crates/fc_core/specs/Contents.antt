@@ -2,12 +2,22 @@
 use Rattle.std.specs.Prelude.{◌≡◌, ℕ, Bool}
 use Rattle.fc_isa.specs.declared.rule.Rule.{Rule}
 use Rattle.fc_registry.specs.declared.receipt.Receipt.{Receipt}
+use Rattle.fc_registry.specs.declared.job.Job.{Job}
+use Rattle.fc_registry.specs.declared.job.Origin.{Origin}
+use Rattle.fc_registry.specs.declared.commit.Committed.{Committed}
+use Rattle.fc_registry.specs.declared.commit.Committed.TheVariants.{Done}
 use Rattle.fc_registry.specs.Slots.{Ticket, Mark}
 use Rattle.fc_machine.specs.Ran.{Ran as Run}
 
+-- the answer of a run: the job that it is of, its code, and the serial that its taking found
+pub record RunAnswer : Type 0 where
+  pub by : Origin
+  pub code : ℕ
+  pub serial : ℕ
+
 pub data Content : Type 0 where
-  -- a run answered this code, and its taking found this serial
-  Ran : (code : ℕ) (serial : ℕ) → Content
+  -- a program ran
+  Ran : (run : RunAnswer) → Content
   -- the slot was empty
   Missing : Content
   -- serials at their end, memory refused, or the eighth overtaking
@@ -26,3 +36,13 @@ pub record AreOne (ran : Run) (t : Ticket) (m : Mark) : Type 0 where
   pub vars : ran.found ≡ t.found.vars
   pub origin : m.origin ≡ t.origin
   pub serial : m.found ≡ t.serial
+
+-- the mark of a commit that is done is of the outcome and the ticket
+abbrev pub AreDone : Run → Ticket → Committed → Type 0
+AreDone ran t (Done m) = AreOne ran t m
+AreDone ran t other = Unit {0}
+
+-- what a run gave is of this job
+abbrev pub IsOf : Job → Content → Type 0
+IsOf job (Ran run) = run.by ≡ job.origin
+IsOf job other = Unit {0}

@@ -1,5 +1,5 @@
 -- What the calls' ends say.
-use Rattle.std.specs.Prelude.{◌<◌, ◌≤◌, Bool, true, false, nat_lt}
+use Rattle.std.specs.Prelude.{◌≤◌, Bool, true, false, nat_lt}
 use Rattle.fc_isa.specs.Rules.{number_of}
 use Rattle.fc_isa.specs.declared.rule.Fault.{Fault}
 use Rattle.fc_verify.specs.declared.refusal.Refusal.{Refusal}
@@ -26,15 +26,10 @@ content_of (Made receipt created) = Makes receipt created
 content_of (Rejected refusal) = refused refusal
 
 abbrev pub said_of : Said → Content
-said_of (Ran code serial) = Runs code.byte serial
+said_of (Ran by code serial) = Runs (record { by = by; code = code.byte; serial = serial })
 said_of (Other end) = content_of end
-
--- a refusal by typing names a rule from 20 to 27, and a slot below 512
-abbrev pub IsEnd : End → Type 0
-IsEnd (Rejected (Broken f)) = 20 ≤ number_of f.rule → f.slot < 512
-IsEnd other = Unit {0}
 
 -- a run's code is that of a reply, of class 2 or above
 abbrev pub IsTold : Said → Type 0
-IsTold (Ran code serial) = 64 ≤ code.byte
-IsTold (Other end) = IsEnd end
+IsTold (Ran by code serial) = 64 ≤ code.byte
+IsTold (Other end) = Unit {0}

@@ -1,26 +1,32 @@
--- The exchanges (after RFC 7252, 4.5; the one window for all requests is this project's own).
-use Rattle.std.specs.Prelude.{ℕ, ◌+◌, ◌&&◌, Bool, nat_lt, List, filter, max}
+-- What a front holds.
+use Rattle.std.specs.Prelude.{ℕ, ◌+◌, Bool, nat_lt, List, filter, max}
+use Rattle.coap_dedup.specs.declared.exchange.Exchange.{Exchange}
+use Rattle.coap_dedup.specs.Exchanges.{Table, window, is_live as is_held}
 use Rattle.fc_registry.specs.declared.job.Opening.{Opening}
+use Rattle.fc_core.specs.Ids.{Ids}
 
--- how long an exchange is kept, in milliseconds
-abbrev pub window : ℕ
-window = 247000
-
--- it was opened less than a window before
+-- an exchange was opened less than a window before
 abbrev pub is_live : ℕ → Opening → Bool
 is_live now opening = nat_lt now (opening.at + window)
 
--- a request is opened where fewer than 1,024 exchanges are live, and their count isn't at its end
-abbrev pub has_room : ℕ → ℕ → Bool
-has_room live opened = nat_lt live 1024 && nat_lt opened 18446744073709551615
-
--- what a front holds: its moment, how many exchanges it opened, those that are live, and the first message id of its own
-pub record Desk : Type 0 where
+-- what a front holds: its moment, how many exchanges it opened, those that are live, and the message ids of its own
+pub record FrontState : Type 0 where
   pub now : ℕ
   pub opened : ℕ
-  pub held : List Opening
-  pub first_id : ℕ
+  pub held : List Exchange
+  pub ids : Ids
 
--- a front at a moment
-abbrev pub passed : Desk → ℕ → Desk
-passed d now = record d { now = max d.now now; held = filter (is_live (max d.now now)) d.held }
+abbrev pub table_of : FrontState → Table
+table_of f = record { now = f.now; opened = f.opened; held = f.held }
+
+-- a front that was handed a moment, never an earlier one
+abbrev pub handed : FrontState → ℕ → FrontState
+handed f now = record f { now = max f.now now }
+
+-- a front that expired the exchanges past the window
+abbrev pub expired : FrontState → FrontState
+expired f = record f { held = filter (is_held f.now) f.held }
+
+-- a front that advanced to a moment
+abbrev pub advanced : FrontState → ℕ → FrontState
+advanced f now = expired (handed f now)

@@ -1,10 +1,10 @@
--- The history of a server, and what it says: a history is the list of the events so far with what each emitted, the newest
--- first. Openings and jobs are listed oldest first, since their places are their numbers.
-use Rattle.std.specs.Prelude.{ℕ, ◌==◌, Bool, true, false, if◌then◌else◌, Option, Some, None, is_some, List, [], ◌∷◌, ◌++◌, length, max, count_by, slice_index_or}
+-- The history of a server, and what is seen of it. A history is its beginning and the events since, each with what it emitted.
+-- All that can be asked of it is one fold over its entries.
+use Rattle.std.specs.Prelude.{ℕ, ◌%◌, ◌==◌, Bool, true, false, if◌then◌else◌, Option, Some, None, is_some, List, [], ◌∷◌, ◌++◌, length, map, filter, max, slice_index_or, slice_set}
 use Rattle.coap_msg.specs.declared.types.Endpoint.{Endpoint}
 use Rattle.coap_msg.specs.declared.types.Emission.{Emission}
-use Rattle.fc_core.specs.Asked.{Request, asked}
-use Rattle.fc_registry.specs.declared.job.Opening.{Opening}
+use Rattle.coap_dedup.specs.declared.exchange.Exchange.{Exchange}
+use Rattle.coap_dedup.specs.Exchanges.{answered_if, is_live as is_held}
 use Rattle.fc_registry.specs.declared.job.Ask.TheVariants.{Install as Installs}
 use Rattle.fc_registry.specs.declared.job.Job.{Job}
 use Rattle.fc_registry.specs.Slots.{Slot, new_slot}
@@ -13,141 +13,156 @@ use Rattle.fc_core.specs.declared.event.Event.{Event}
 use Rattle.fc_core.specs.declared.event.Event.TheVariants.{Deliver, Answer, Tick}
 use Rattle.fc_core.specs.declared.stage.Stage.{Stage}
 use Rattle.fc_core.specs.declared.stage.Stage.TheVariants.{Gone}
-use Rattle.fc_core.specs.Exchanges.{is_live, has_room}
-use Rattle.fc_core.specs.Deliveries.{job_of}
-use Rattle.fc_core.specs.Stages.{names, first_stage, content_at, moved, changes_by}
+use Rattle.fc_core.specs.declared.stage.Task.{Task}
+use Rattle.fc_core.specs.Contents.{Content}
+use Rattle.fc_core.specs.Ids.{Ids, first_ids, drawn_for}
+use Rattle.fc_core.specs.Exchanges.{FrontState, is_live}
+use Rattle.fc_core.specs.Receiving.{Received, received, opened_by, kept_of, drawn_by, brought, next_opening}
+use Rattle.fc_core.specs.Stages.{Scene, Move, names, new_task, scene_at, row, content_at, moved, handed}
 
 -- an event, and what it emitted
 pub record Entry : Type 0 where
   pub event : Event
   pub emitted : Option Emission
 
-abbrev pub History : Type 0
-History = List Entry
+-- a server begins with empty slots at a serial, and with a message id of its own that it will draw first
+pub data History : Type 0 where
+  Begins : (serial : ℕ) (id : ℕ) → History
+  Then : (before : History) (entry : Entry) → History
 
--- the job of a number that never came
-abbrev pub no_job : Job
-no_job = record {
-  origin = record { opening = record { number = 0; at = 0 }; endpoint = record { ip = []; port = 0 }; id = 0; slot = 0 };
-  token = record { items = [] };
-  ask = Installs (record { items = [] });
+-- all that can be asked of a history: the serial at which the slots began, the greatest moment handed to the front, the
+-- exchanges that were opened, the message ids of the server's own, the jobs that came, each at its stage, the changes of each
+-- slot, the newest first, and the greatest moment handed to each shard. Exchanges and jobs are listed oldest first, since their
+-- places are their numbers.
+pub record Seen : Type 0 where
+  pub first_serial : ℕ
+  pub moment : ℕ
+  pub exchanges : List Exchange
+  pub ids : Ids
+  pub tasks : List Task
+  pub changes : ℕ → List Change
+  pub shard_moment : ℕ → ℕ
+
+abbrev pub begun : ℕ → ℕ → Seen
+begun serial id = record { first_serial = serial; moment = 0; exchanges = []; ids = first_ids id; tasks = []; changes = λ n. []; shard_moment = λ k. 0 }
+
+-- ---- slots and jobs
+
+abbrev pub slot_at : Seen → ℕ → Slot
+slot_at s n = after_changes (new_slot s.first_serial) (s.changes n)
+
+-- the task of a number that never came
+abbrev pub no_task : Task
+no_task = record {
+  job = record {
+    origin = record { opening = record { number = 0; at = 0 }; endpoint = record { ip = []; port = 0 }; id = 0; slot = 0 };
+    confirmable = false;
+    token = record { items = [] };
+    ask = Installs (record { items = [] });
+  };
+  stage = Gone;
 }
 
-abbrev pub job_in : List Job → ℕ → Job
-job_in jobs k = slice_index_or jobs k no_job
+abbrev pub task_at : List Task → ℕ → Task
+task_at tasks k = slice_index_or tasks k no_task
 
-abbrev pub named_in : List Job → Option ℕ → Job
-named_in jobs None = no_job
-named_in jobs (Some k) = job_in jobs k
+abbrev pub job : Seen → ℕ → Job
+job s k = (task_at s.tasks k).job
 
--- an event names the job of this number
-abbrev pub is_number : Option ℕ → ℕ → Bool
-is_number None k = false
-is_number (Some j) k = j == k
+abbrev pub stage : Seen → ℕ → Stage
+stage s k = (task_at s.tasks k).stage
 
--- it names a job of this slot
-abbrev pub is_of_slot : Option ℕ → List Job → ℕ → Bool
-is_of_slot None jobs n = false
-is_of_slot (Some j) jobs n = (job_in jobs j).origin.slot == n
+-- what an event that names a job finds of it
+abbrev pub scene : Seen → ℕ → Scene
+scene s k = scene_at (task_at s.tasks k) (slot_at s (job s k).origin.slot)
 
--- a moment has room for another exchange, after these openings
-abbrev pub room_at : List Opening → ℕ → Bool
-room_at openings at = has_room (count_by (is_live at) openings) (length openings)
+-- ---- the front
 
--- a request is opened where there is room
-abbrev pub opened_with : Bool → Opening → List Opening
-opened_with true opening = opening ∷ []
-opened_with false opening = []
+-- the front at a moment: it holds the exchanges that were opened less than a window before
+abbrev pub front_in : Seen → ℕ → FrontState
+front_in s at = record { now = at; opened = length s.exchanges; held = filter (is_held at) s.exchanges; ids = s.ids }
 
-abbrev pub opening_next : List Opening → ℕ → Opening
-opening_next openings at = record { number = length openings; at = at }
+-- the front that is handed a moment: it never goes back
+abbrev pub front_at : Seen → ℕ → FrontState
+front_at s now = front_in s (max s.moment now)
 
-abbrev pub opened_for : Option Request → List Opening → ℕ → List Opening
-opened_for None openings at = []
-opened_for (Some m) openings at = opened_with (room_at openings at) (opening_next openings at)
+abbrev pub received_at : Seen → ℕ → Endpoint → List ℕ → Received
+received_at s now to bytes = received (front_at s now) to bytes
 
-abbrev pub opened_by : Event → ℕ → List Opening → List Opening
-opened_by (Deliver now to bytes) before openings = opened_for (asked bytes.now) openings (max before now)
-opened_by other before openings = []
+-- the exchange of this number was answered by these bytes
+abbrev pub answered_in : ℕ → Option Emission → List Exchange → List Exchange
+answered_in number None exchanges = exchanges
+answered_in number (Some emission) exchanges = map (λ e. answered_if (e.number == number) emission.bytes e) exchanges
 
--- each request that is opened brings a job
-abbrev pub brought_with : Bool → Opening → Endpoint → Request → List Job
-brought_with true opening to m = job_of opening to m ∷ []
-brought_with false opening to m = []
+abbrev pub moment_after : Event → Seen → ℕ
+moment_after (Deliver now to bytes) s = max s.moment now
+moment_after (Answer k now) s = if is_some (content_at (stage s k)) then max s.moment now else s.moment
+moment_after (Tick now) s = max s.moment now
+moment_after other s = s.moment
 
-abbrev pub brought_for : Option Request → List Opening → ℕ → Endpoint → List Job
-brought_for None openings at to = []
-brought_for (Some m) openings at to = brought_with (room_at openings at) (opening_next openings at) to m
+-- an exchange is opened by a delivery, which answers a refusal at once, or is answered at its job's stage
+abbrev pub exchanges_received : Received → Endpoint → Option Emission → Seen → ℕ → List Exchange
+exchanges_received x to emitted s now = answered_in (length s.exchanges) (kept_of x emitted) (s.exchanges ++ opened_by x (next_opening (front_at s now)) to)
 
-abbrev pub brought_by : Event → ℕ → List Opening → List Job
-brought_by (Deliver now to bytes) before openings = brought_for (asked bytes.now) openings (max before now) to
-brought_by other before openings = []
+abbrev pub exchanges_after : Event → Option Emission → Seen → List Exchange
+exchanges_after (Deliver now to bytes) emitted s = exchanges_received (received_at s now to bytes.now) to emitted s now
+exchanges_after (Answer k now) emitted s = if is_some (content_at (stage s k)) then answered_in (job s k).origin.opening.number emitted s.exchanges else s.exchanges
+exchanges_after other emitted s = s.exchanges
 
--- the moment after an event: a delivery and a tick hand one, and an answer does at its stage
-abbrev pub moment_after : Event → Stage → ℕ → ℕ
-moment_after (Deliver now to bytes) stage before = max before now
-moment_after (Answer job now) stage before = if is_some (content_at stage) then max before now else before
-moment_after (Tick now) stage before = max before now
-moment_after other stage before = before
+-- an answer in time to a request that isn't confirmable draws a message id
+abbrev pub ids_answered : Option Content → Bool → Bool → Ids → ℕ → Ids
+ids_answered (Some content) true confirmable ids at = drawn_for confirmable ids at
+ids_answered content live confirmable ids at = ids
 
--- the stage of a job that an event brings: its number is the count of the jobs before
-abbrev pub stage_brought : List Job → ℕ → ℕ → Stage → Stage
-stage_brought [] k count old = old
-stage_brought (j ∷ js) k count old = if k == count then first_stage j.ask else old
+abbrev pub ids_after : Event → Seen → Ids
+ids_after (Deliver now to bytes) s = drawn_by (received_at s now to bytes.now) s.ids (max s.moment now)
+ids_after (Answer k now) s = ids_answered (content_at (stage s k)) (is_live (max s.moment now) (job s k).origin.opening) (job s k).confirmable s.ids (max s.moment now)
+ids_after other s = s.ids
 
--- the stage of the job that an event names
-abbrev pub stage_named : (ℕ → Stage) → Option ℕ → Stage
-stage_named stages None = Gone
-stage_named stages (Some j) = stages j
+-- ---- the jobs and their slots
 
--- every slot begins empty, at serial 0
-abbrev pub first_slot : Slot
-first_slot = new_slot 0
+abbrev pub tasks_moved : Option ℕ → Event → Seen → List Task
+tasks_moved None e s = s.tasks
+tasks_moved (Some k) e s = slice_set s.tasks k (moved (task_at s.tasks k) (row e (scene s k)))
 
-unfoldable mutual
-  -- the greatest moment handed to the front
-  pub moment : List Entry → ℕ
-  moment [] = 0
-  moment (r ∷ h) = moment_after r.event (stage_named (stage h) (names r.event)) (moment h)
+abbrev pub tasks_brought : Event → Seen → List Task
+tasks_brought (Deliver now to bytes) s = map new_task (brought (received_at s now to bytes.now) (next_opening (front_at s now)) to)
+tasks_brought other s = []
 
-  -- the requests that were opened
-  pub openings : List Entry → List Opening
-  openings [] = []
-  openings (r ∷ h) = openings h ++ opened_by r.event (moment h) (openings h)
+abbrev pub changes_after : Option ℕ → Event → Seen → ℕ → List Change
+changes_after None e s n = s.changes n
+changes_after (Some k) e s n = if (job s k).origin.slot == n then (row e (scene s k)).changes ++ s.changes n else s.changes n
 
-  -- the jobs that came
-  pub jobs : List Entry → List Job
-  jobs [] = []
-  jobs (r ∷ h) = jobs h ++ brought_by r.event (moment h) (openings h)
+abbrev pub shard_moment_after : Option ℕ → Event → Seen → ℕ → ℕ
+shard_moment_after None e s i = s.shard_moment i
+shard_moment_after (Some k) e s i = if (job s k).origin.slot % 8 == i then handed (row e (scene s k)).hands (s.shard_moment i) else s.shard_moment i
 
-  -- where a job stands
-  pub stage : List Entry → ℕ → Stage
-  stage [] k = Gone
-  stage (r ∷ h) k =
-      if is_number (names r.event) k
-      then moved r.event (job_in (jobs h) k) (after_changes first_slot (changes h (job_in (jobs h) k).origin.slot)) (stage h k)
-      else stage_brought (brought_by r.event (moment h) (openings h)) k (length (jobs h)) (stage h k)
+-- ---- the fold
 
-  -- the changes of a slot, the newest first
-  pub changes : List Entry → ℕ → List Change
-  changes [] n = []
-  changes (r ∷ h) n =
-      if is_of_slot (names r.event) (jobs h) n
-      then changes_by r.event (named_in (jobs h) (names r.event)) (after_changes first_slot (changes h n)) (stage_named (stage h) (names r.event)) ++ changes h n
-      else changes h n
+abbrev pub and_then : Entry → Seen → Seen
+and_then r s = record {
+  first_serial = s.first_serial;
+  moment = moment_after r.event s;
+  exchanges = exchanges_after r.event r.emitted s;
+  ids = ids_after r.event s;
+  tasks = tasks_moved (names r.event) r.event s ++ tasks_brought r.event s;
+  changes = λ n. changes_after (names r.event) r.event s n;
+  shard_moment = λ i. shard_moment_after (names r.event) r.event s i;
+}
 
--- a slot as the history says
-abbrev pub slot_at : History → ℕ → Slot
-slot_at h n = after_changes first_slot (changes h n)
+unfoldable pub seen : History → Seen
+seen (Begins serial id) = begun serial id
+seen (Then h r) = and_then r (seen h)
 
-abbrev pub job : History → ℕ → Job
-job h k = job_in (jobs h) k
+abbrev pub did : Event → Option Emission → Entry
+did event emitted = record { event = event; emitted = emitted }
 
 -- the history of these events, which emitted these, after h
-abbrev pub history_after : List Entry → List Event → List (Option Emission) → List Entry
+abbrev pub history_after : History → List Event → List (Option Emission) → History
 history_after h [] os = h
 history_after h (e ∷ es) [] = h
-history_after h (e ∷ es) (o ∷ os) = history_after (record { event = e; emitted = o } ∷ h) es os
+history_after h (e ∷ es) (o ∷ os) = history_after (Then h (did e o)) es os
 
+-- of a server that begins at serial 0 and message id 0
 abbrev pub history_of : List Event → List (Option Emission) → History
-history_of events emissions = history_after [] events emissions
+history_of events emissions = history_after (Begins 0 0) events emissions

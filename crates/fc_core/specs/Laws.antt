@@ -1,60 +1,139 @@
--- What the laws of the history speak of.
-use Rattle.std.specs.Prelude.{◌≡◌, ℕ, ◌+◌, ◌==◌, Bool, true, false, if◌then◌else◌, List, [], ◌∷◌}
-use Rattle.fc_verify.specs.Accepted.{Judgement, Accepts}
-use Rattle.fc_verify.specs.Judged.{judged}
-use Rattle.fc_kinds.specs.Meaning.{Program}
+-- What the laws of jobs speak of.
+use Rattle.std.specs.Prelude.{◌≡◌, ℕ, ◌+◌, ◌-◌, ◌<◌, ◌==◌, Bool, true, false, if◌then◌else◌, Option, Some, None, List, [], ◌∷◌, ◌++◌, length}
+use Rattle.fc_registry.specs.declared.job.Job.{Job}
+use Rattle.fc_registry.specs.Slots.{Slot, Present, Ticket}
+use Rattle.fc_registry.specs.Changes.{Change}
+use Rattle.fc_registry.specs.Calls.{meaning_at, ticket_of, wants}
 use Rattle.fc_core.specs.declared.event.Event.{Event}
 use Rattle.fc_core.specs.declared.event.Event.TheVariants.{Deliver, Take, Commit, Install, Raise, Answer, Tick, Lose}
 use Rattle.fc_core.specs.declared.stage.Stage.{Stage}
 use Rattle.fc_core.specs.declared.stage.Stage.TheVariants.{ToTake, ToCommit, ToInstall, ToRaise, ToAnswer, Gone}
-use Rattle.fc_core.specs.Stages.{names, image_of}
-use Rattle.fc_core.specs.History.{Entry, History, moment, openings, jobs, stage, changes, stage_named, job}
+use Rattle.fc_core.specs.Contents.{Content, RunAnswer}
+use Rattle.fc_core.specs.Stages.{names}
+use Rattle.fc_core.specs.History.{Entry, History, Begins, Then, Seen, seen, job, slot_at, stage}
+
+-- ---- strays
 
 -- the job that the event names isn't at the stage that the event needs; an event of what isn't served is always a stray
 abbrev pub is_stray_at : Event → Stage → Bool
-is_stray_at (Take k memory) (ToTake taken) = false
-is_stray_at (Commit k now) (ToCommit taken t) = false
+is_stray_at (Take k memory) (ToTake count) = false
+is_stray_at (Commit k now) (ToCommit count t) = false
 is_stray_at (Install k memory) ToInstall = false
 is_stray_at (Raise k) (ToRaise content) = false
 is_stray_at (Answer k now) (ToAnswer content) = false
 is_stray_at (Lose k) Gone = true
 is_stray_at (Lose k) other = false
-is_stray_at (Deliver now to bytes) s = false
-is_stray_at (Tick now) s = false
-is_stray_at other s = true
+is_stray_at (Deliver now to bytes) at = false
+is_stray_at (Tick now) at = false
+is_stray_at other at = true
 
-abbrev pub is_stray : History → Event → Bool
-is_stray h e = is_stray_at e (stage_named (stage h) (names e))
+-- the stage of the job that is named, if one is
+abbrev pub stage_named : Seen → Option ℕ → Stage
+stage_named s None = Gone
+stage_named s (Some k) = stage s k
 
--- two histories say the same
-pub record SaysSame (g h : History) : Type 0 where
-  pub moment_is : moment g ≡ moment h
-  pub openings_are : openings g ≡ openings h
-  pub jobs_are : jobs g ≡ jobs h
-  pub stage_is : (k : ℕ) → stage g k ≡ stage h k
-  pub changes_are : (n : ℕ) → changes g n ≡ changes h n
+abbrev pub is_stray : Seen → Event → Bool
+is_stray s e = is_stray_at e (stage_named s (names e))
 
--- an image is installed only where it is accepted, with memory for the program
-abbrev pub is_installable : Bool → Judgement → Bool
-is_installable true (Accepts p) = true
-is_installable memory other = false
+-- ---- jobs
 
--- the event is the install of an image that can't be installed
-abbrev pub IsRefused : History → Event → Type 0
-IsRefused h (Install k memory) = is_installable memory (judged (image_of (job h k).ask)) ≡ false
-IsRefused h other = ⊥
+-- the job of this number came
+abbrev pub HasCome : Seen → ℕ → Type 0
+HasCome s k = k < length s.tasks
 
--- an event by which job k took a ticket, by its stage before and after
-abbrev pub takes : Event → ℕ → Stage → Stage → Bool
-takes (Take j memory) k (ToTake taken) (ToCommit count t) = j == k
-takes other k before after = false
+-- the event names the job of this number
+abbrev pub is_number : ℕ → Option ℕ → Bool
+is_number k None = false
+is_number k (Some j) = j == k
 
--- how many tickets a job took
-abbrev pub takings_of : List Entry → ℕ → ℕ
-takings_of [] k = 0
-takings_of (r ∷ h) k = if takes r.event k (stage h k) (stage (r ∷ h) k) then takings_of h k + 1 else takings_of h k
+abbrev pub is_named : ℕ → Event → Bool
+is_named k e = is_number k (names e)
 
--- some image is accepted as this program
-pub record IsOfImage (p : Program) : Type 0 where
-  pub image : List ℕ
-  pub accepted : judged image ≡ Accepts p
+-- the slot of the job of this number
+abbrev pub slot_of : Seen → ℕ → ℕ
+slot_of s k = (job s k).origin.slot
+
+-- ---- takings
+
+-- a taking that gave a ticket, and the changes of the slot before it, the newest first
+pub record Taking : Type 0 where
+  pub ticket : Ticket
+  pub changes : List Change
+
+-- a ticket of what the slot holds, if it holds a program
+abbrev pub finds : Job → ℕ → Option Present → List Change → List Taking
+finds j serial None changes = []
+finds j serial (Some found) changes = record { ticket = ticket_of j serial found; changes = changes } ∷ []
+
+abbrev pub gives_at : Stage → Job → Slot → List Change → List Taking
+gives_at (ToTake count) j slot changes = finds j slot.serial slot.present changes
+gives_at other j slot changes = []
+
+-- what an event gives to the job that it names: a taking at its stage gives a ticket, where there is memory for it
+abbrev pub gives : Event → Stage → Job → Slot → List Change → List Taking
+gives (Take k true) at j slot changes = gives_at at j slot changes
+gives other at j slot changes = []
+
+-- the takings that gave a ticket to the job of this number, the newest first
+abbrev pub takings_of : History → ℕ → List Taking
+takings_of (Begins serial id) k = []
+takings_of (Then h r) k =
+    if is_named k r.event
+    then gives r.event (stage (seen h) k) (job (seen h) k) (slot_at (seen h) (slot_of (seen h) k)) ((seen h).changes (slot_of (seen h) k)) ++ takings_of h k
+    else takings_of h k
+
+-- a run's answer is of the newest of these takings: the code that its program means, and the serial that it found
+abbrev pub IsOfNewest : List Taking → RunAnswer → Type 0
+IsOfNewest [] run = ⊥
+IsOfNewest (t ∷ ts) run = (run.code ≡ (meaning_at t.ticket).code) × (run.serial ≡ t.ticket.serial)
+
+-- the answer that a job is about to give, once its slot's new serial is published
+abbrev pub answer_at : Stage → Option Content
+answer_at (ToRaise content) = Some content
+answer_at (ToAnswer content) = Some content
+answer_at other = None
+
+-- at the commit of a run that wants to write, the slot is at another serial than the job's ticket
+pub record IsOvertaken (s : Seen) (k : ℕ) : Type 0 where
+  pub count : ℕ
+  pub ticket : Ticket
+  pub at : stage s k ≡ ToCommit count ticket
+  pub wants : wants ticket ≡ true
+  pub other : (slot_at s (slot_of s k)).serial ≡ ticket.serial → ⊥
+
+-- a job that is to take a ticket
+abbrev pub TakesAgain : Stage → Type 0
+TakesAgain (ToTake count) = Unit {0}
+TakesAgain other = ⊥
+
+-- ---- answers
+
+-- the job that the event names is answered
+abbrev pub is_answered : Event → Stage → Bool
+is_answered (Answer k now) (ToAnswer content) = true
+is_answered other at = false
+
+-- how many times a job was answered
+abbrev pub answers_of : History → ℕ → ℕ
+answers_of (Begins serial id) k = 0
+answers_of (Then h r) k =
+    if is_named k r.event
+    then (if is_answered r.event (stage (seen h) k) then answers_of h k + 1 else answers_of h k)
+    else answers_of h k
+
+-- ---- changes
+
+-- how many times an event that named the job changed its slot
+abbrev pub changes_by : History → ℕ → ℕ
+changes_by (Begins serial id) k = 0
+changes_by (Then h r) k =
+    if is_named k r.event
+    then changes_by h k + (length ((seen (Then h r)).changes (slot_of (seen h) k)) - length ((seen h).changes (slot_of (seen h) k)))
+    else changes_by h k
+
+-- ---- what follows
+
+-- a history and what happened after it
+abbrev pub later : History → List Entry → History
+later h [] = h
+later h (r ∷ rs) = later (Then h r) rs

@@ -1,49 +1,43 @@
--- What each event may emit: exactly this, and nothing else.
-use Rattle.std.specs.Prelude.{◌≡◌, ℕ, ◌≤◌, Bool, true, false, Option, Some, None, List, [], ◌∷◌, max}
-use Rattle.coap_msg.specs.declared.types.Endpoint.{Endpoint}
+-- What each event may emit: exactly this, and nothing else. And what a taking finds has a meaning.
+use Rattle.std.specs.Prelude.{◌≡◌, ℕ, ◌≤◌, Bool, true, false, Option, Some, None}
 use Rattle.coap_msg.specs.declared.types.Emission.{Emission}
-use Rattle.fc_core.specs.Asked.{Request, asked}
 use Rattle.fc_image.specs.Longest.{IsLongest}
 use Rattle.fc_kinds.specs.Meaning.{IsRun}
 use Rattle.fc_registry.specs.declared.job.Job.{Job}
-use Rattle.fc_registry.specs.Slots.{Slot, Present, Ticket}
+use Rattle.fc_registry.specs.Slots.{Present, Ticket}
+use Rattle.fc_registry.specs.Calls.{ticket_of}
 use Rattle.fc_core.specs.declared.event.Event.{Event}
 use Rattle.fc_core.specs.declared.event.Event.TheVariants.{Deliver, Take, Answer}
 use Rattle.fc_core.specs.declared.stage.Stage.{Stage}
 use Rattle.fc_core.specs.declared.stage.Stage.TheVariants.{ToTake}
 use Rattle.fc_core.specs.Contents.{Content}
 use Rattle.fc_core.specs.Replies.{IsReplyTo}
-use Rattle.fc_core.specs.Exchanges.{is_live}
-use Rattle.fc_core.specs.Deliveries.{turned_away}
-use Rattle.fc_core.specs.Stages.{content_at, ticket_of}
-use Rattle.fc_core.specs.History.{Entry, History, moment, openings, stage, job, room_at, slot_at}
+use Rattle.fc_core.specs.Exchanges.{FrontState, is_live}
+use Rattle.fc_core.specs.Receiving.{sent, id_in}
+use Rattle.fc_core.specs.Stages.{Scene, content_at}
+use Rattle.fc_core.specs.History.{Entry, History, Begins, Then, Seen, seen, front_at, received_at, job, stage, scene}
 
--- a delivery emits only where a request finds no room
-abbrev pub delivery_emits : Option Request → Bool → Endpoint → Option Emission
-delivery_emits None room to = None
-delivery_emits (Some m) true to = None
-delivery_emits (Some m) false to = Some (turned_away to m)
+-- a job's answer goes out while its exchange is live and a message id is free, and not after
+abbrev pub IsAnswered : Bool → Option ℕ → Job → Content → Option Emission → Type 0
+IsAnswered true (Some id) j content None = ⊥
+IsAnswered true (Some id) j content (Some emission) = IsReplyTo j id content emission
+IsAnswered true None j content emitted = emitted ≡ None
+IsAnswered false id j content emitted = emitted ≡ None
 
--- a job's answer goes out while its exchange is live, and not after
-abbrev pub IsAnswered : Bool → Job → Content → Option Emission → Type 0
-IsAnswered true j content None = ⊥
-IsAnswered true j content (Some emission) = IsReplyTo j content emission
-IsAnswered false j content emitted = emitted ≡ None
+abbrev pub AnswerEmits : Option Content → Job → FrontState → Option Emission → Type 0
+AnswerEmits None j f emitted = emitted ≡ None
+AnswerEmits (Some content) j f emitted = IsAnswered (is_live f.now j.origin.opening) (id_in f j.confirmable j.origin.id) j content emitted
 
-abbrev pub AnswerEmits : Option Content → Job → ℕ → Option Emission → Type 0
-AnswerEmits None j at emitted = emitted ≡ None
-AnswerEmits (Some content) j at emitted = IsAnswered (is_live at j.origin.opening) j content emitted
-
--- what an event may emit after this history
-abbrev pub Emits : History → Event → Option Emission → Type 0
-Emits h (Deliver now to bytes) emitted = emitted ≡ delivery_emits (asked bytes.now) (room_at (openings h) (max (moment h) now)) to
-Emits h (Answer k now) emitted = AnswerEmits (content_at (stage h k)) (job h k) (max (moment h) now) emitted
-Emits h other emitted = emitted ≡ None
+-- what an event may emit
+abbrev pub Emits : Seen → Event → Option Emission → Type 0
+Emits s (Deliver now to bytes) emitted = emitted ≡ sent (received_at s now to bytes.now) (front_at s now) to
+Emits s (Answer k now) emitted = AnswerEmits (content_at (stage s k)) (job s k) (front_at s now) emitted
+Emits s other emitted = emitted ≡ None
 
 -- each event emitted what it may
-abbrev pub IsLegal : List Entry → Type 0
-IsLegal [] = Unit {0}
-IsLegal (r ∷ h) = Emits h r.event r.emitted × IsLegal h
+abbrev pub IsLegal : History → Type 0
+IsLegal (Begins serial id) = Unit {0}
+IsLegal (Then h r) = Emits (seen h) r.event r.emitted × IsLegal h
 
 -- a ticket's program has a meaning for its request and the variables that were found: the run reaches its exit, in at most
 -- the steps of the longest path, which are at most the budget
@@ -57,15 +51,15 @@ abbrev pub FoundMeans : Job → ℕ → Option Present → Type 0
 FoundMeans j serial None = Unit {0}
 FoundMeans j serial (Some found) = IsMeant (ticket_of j serial found)
 
-abbrev pub FindsMeaning : Job → Slot → Stage → Type 0
-FindsMeaning j slot (ToTake taken) = FoundMeans j slot.serial slot.present
-FindsMeaning j slot other = Unit {0}
+abbrev pub FindsMeaning : Scene → Stage → Type 0
+FindsMeaning s (ToTake count) = FoundMeans s.job s.slot.serial s.slot.present
+FindsMeaning s other = Unit {0}
 
 -- a taking at its stage that finds a program finds one with a meaning, whether or not there is memory for a ticket
-abbrev pub TakesMeaning : History → Event → Type 0
-TakesMeaning h (Take k memory) = FindsMeaning (job h k) (slot_at h (job h k).origin.slot) (stage h k)
-TakesMeaning h other = Unit {0}
+abbrev pub TakesMeaning : Seen → Event → Type 0
+TakesMeaning s (Take k memory) = FindsMeaning (scene s k) (stage s k)
+TakesMeaning s other = Unit {0}
 
-abbrev pub AllMean : List Entry → Type 0
-AllMean [] = Unit {0}
-AllMean (r ∷ h) = TakesMeaning h r.event × AllMean h
+abbrev pub AllMean : History → Type 0
+AllMean (Begins serial id) = Unit {0}
+AllMean (Then h r) = TakesMeaning (seen h) r.event × AllMean h

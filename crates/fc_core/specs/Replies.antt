@@ -1,56 +1,77 @@
--- What the content of an answer becomes on the wire (RFC 7252, 5.2.1 and 5.10.6).
-use Rattle.std.specs.Prelude.{◌≡◌, ℕ, ◌+◌, ◌*◌, ◌<◌, ◌≤◌, ◌==◌, true, false, if◌then◌else◌, List, [], ◌∷◌, Option, Some, None}
+-- What an answer becomes on the wire (RFC 7252, 5.2).
+use Rattle.std.specs.Prelude.{◌≡◌, ℕ, ◌≤◌, ◌==◌, Bool, true, false, if◌then◌else◌, List, [], ◌∷◌}
 use Rattle.std.specs.Int.{w64, to_be_bytes}
 use Rattle.coap_msg.specs.declared.types.Endpoint.{Endpoint}
 use Rattle.coap_msg.specs.declared.types.Emission.{Emission}
-use Rattle.coap_msg.specs.declared.types.MessageType.TheVariants.{Acknowledgement}
+use Rattle.coap_msg.specs.declared.types.MessageType.{MessageType}
+use Rattle.coap_msg.specs.declared.types.MessageType.TheVariants.{NonConfirmable, Acknowledgement, Reset}
+use Rattle.coap_msg.specs.Codes.{code}
 use Rattle.coap_msg.specs.Wire.{bytes_of}
+use Rattle.coap_opts.specs.declared.number.TheConstants as option
 use Rattle.fc_isa.specs.Rules.{number_of, fault_text}
 use Rattle.fc_registry.specs.Receipts.{receipt_text}
 use Rattle.fc_registry.specs.declared.job.Job.{Job}
 use Rattle.fc_core.specs.Contents.{Content, Ran, Missing, Unavailable, Made, Rejected, Untyped}
 
--- a code by its class and detail, as in 2.05
-abbrev pub code_byte : ℕ → ℕ → ℕ
-code_byte class detail = 32 * class + detail
+-- a response: its code, its options in the order of their numbers, and its payload
+pub record Response : Type 0 where
+  pub code : ℕ
+  pub options : List (ℕ × List ℕ)
+  pub payload : List ℕ
 
--- 2.01 Created, 2.04 Changed, 4.00 Bad Request, 4.04 Not Found, 5.03 Service Unavailable
-abbrev pub reply_code : Content → ℕ
-reply_code (Ran code serial) = code
-reply_code Missing = code_byte 4 4
-reply_code Unavailable = code_byte 5 3
-reply_code (Made receipt true) = code_byte 2 1
-reply_code (Made receipt false) = code_byte 2 4
-reply_code (Rejected rule slot) = code_byte 4 0
-reply_code Untyped = code_byte 4 0
+abbrev pub text : ℕ → List ℕ → Response
+text answer payload = record { code = answer; options = []; payload = payload }
 
--- a 2.05 Content of a run carries the serial found as its ETag
-abbrev pub reply_etag : Content → Option ℕ
-reply_etag (Ran code serial) = if code == code_byte 2 5 then Some serial else None
-reply_etag other = None
+abbrev pub bare : ℕ → Response
+bare answer = text answer []
 
--- the payload: a run's is empty, since no instruction of today adds to it; a refusal by typing names any rule from 20 to 27,
--- and any slot
-abbrev pub IsPayload : Content → List ℕ → Type 0
-IsPayload (Made receipt created) payload = payload ≡ receipt_text receipt
-IsPayload (Rejected rule slot) payload = payload ≡ fault_text (number_of rule) slot
-IsPayload Untyped payload = (number : ℕ) × (slot : ℕ) × (20 ≤ number) × (number ≤ 27) × (slot < 512) × (payload ≡ fault_text number slot)
-IsPayload other payload = payload ≡ []
+-- an ETag is the eight bytes of a serial, the greatest first (RFC 7252, 5.10.6)
+abbrev pub etag : ℕ → List (ℕ × List ℕ)
+etag serial = (option.ETAG, to_be_bytes w64 serial) ∷ []
 
--- an ETag is option 4: the eight bytes of a serial, the greatest first
-abbrev pub etag_options : Option ℕ → List (ℕ × List ℕ)
-etag_options None = []
-etag_options (Some serial) = (4, to_be_bytes w64 serial) ∷ []
+-- a run's reply bytes are empty, since no instruction of today adds to them; a 2.05 Content carries the serial found
+abbrev pub ran_response : ℕ → ℕ → Response
+ran_response answer serial = if answer == code 2 5 then record { code = answer; options = etag serial; payload = [] } else bare answer
 
--- an acknowledgement to an endpoint, with the request's message id and token
-unfoldable pub acknowledged : Endpoint → ℕ → List ℕ → Content → List ℕ → Emission
-acknowledged to id token content payload = record {
-  to = to;
-  bytes = record { items = bytes_of (record { kind = Acknowledgement; code = reply_code content; id = id; token = token; options = etag_options (reply_etag content); payload = payload }) };
+-- what a job's response is, by its answer: 2.01 Created, 2.04 Changed, 4.00 Bad Request, 4.04 Not Found, 5.03 Service Unavailable.
+-- A refusal by typing names any rule from 20 to 27, and any slot
+abbrev pub Says : Job → Content → Response → Type 0
+Says j (Ran run) r = r ≡ ran_response run.code run.serial
+Says j Missing r = r ≡ bare (code 4 4)
+Says j Unavailable r = r ≡ bare (code 5 3)
+Says j (Made receipt true) r = r ≡ text (code 2 1) (receipt_text receipt)
+Says j (Made receipt false) r = r ≡ text (code 2 4) (receipt_text receipt)
+Says j (Rejected rule slot) r = r ≡ text (code 4 0) (fault_text (number_of rule) slot)
+Says j Untyped r = (number : ℕ) × (slot : ℕ) × (20 ≤ number) × (number ≤ 27) × (r ≡ text (code 4 0) (fault_text number slot))
+
+-- whom a reply is for: its endpoint, its type, its message id and the request's token
+pub record Envelope : Type 0 where
+  pub to : Endpoint
+  pub kind : MessageType
+  pub id : ℕ
+  pub token : List ℕ
+
+-- a confirmable request is answered in its acknowledgement, another by a non-confirmable message
+abbrev pub reply_kind : Bool → MessageType
+reply_kind true = Acknowledgement
+reply_kind false = NonConfirmable
+
+unfoldable pub sent_in : Envelope → Response → Emission
+sent_in e r = record {
+  to = e.to;
+  bytes = record { items = bytes_of (record { kind = e.kind; code = r.code; id = e.id; token = e.token; options = r.options; payload = r.payload }) };
 }
 
--- the emission answers the job by this content
-pub record IsReplyTo (job : Job) (content : Content) (emission : Emission) : Type 0 where
-  pub payload : List ℕ
-  pub payload_is : IsPayload content payload
-  pub emission_is : emission ≡ acknowledged job.origin.endpoint job.origin.id job.token.items content payload
+-- a Reset message (RFC 7252, 4.2)
+abbrev pub reset_of : Endpoint → ℕ → Emission
+reset_of to id = sent_in (record { to = to; kind = Reset; id = id; token = [] }) (bare 0)
+
+-- the envelope of a job's reply by this message id
+abbrev pub envelope_of : Job → ℕ → Envelope
+envelope_of job id = record { to = job.origin.endpoint; kind = reply_kind job.confirmable; id = id; token = job.token.items }
+
+-- the emission, of this message id, answers the job by this content
+pub record IsReplyTo (job : Job) (id : ℕ) (content : Content) (emission : Emission) : Type 0 where
+  pub response : Response
+  pub says : Says job content response
+  pub emission_is : emission ≡ sent_in (envelope_of job id) response

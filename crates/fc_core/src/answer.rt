@@ -1,15 +1,12 @@
 //! What a job is answered.
-ghost use Rattle.std.specs.Prelude.{◌≡◌, ◌≤◌, length};
+ghost use Rattle.std.specs.Prelude.{◌≡◌};
 ghost use Rattle.fc_machine.specs.Ran.{meaning_of};
 ghost use Rattle.fc_core.specs.Contents.{Ran, AreOne};
-ghost use Rattle.fc_core.specs.Replies.{reply_code, reply_etag, IsPayload};
-ghost use Rattle.fc_core.specs.Ends.{content_of, IsEnd};
+ghost use Rattle.fc_core.specs.Ends.{IsTold, content_of, said_of};
 
-use crate::text::{Text, fault_line, receipt_line};
-use arrayvec::ArrayVec;
 use coap_msg::Code;
 use fc_machine::Outcome;
-use fc_registry::{Mark, Receipt, Ticket};
+use fc_registry::{Mark, Origin, Receipt, Ticket};
 use fc_verify::Refusal;
 use std::marker::Model;
 
@@ -28,7 +25,7 @@ pub enum End {
 
 #[derive(Clone, Copy, Debug, PartialEq, Eq)]
 pub(crate) enum Said {
-    Ran { code: Code, serial: u64 },
+    Ran { by: Origin, code: Code, serial: u64 },
     Other(End),
 }
 
@@ -55,11 +52,12 @@ impl Answer {
     /// The answer of a run, with its outcome's code and its ticket's serial. It spends the mark of the run's commit.
     pub fn ran(outcome: &Outcome<'_>, ticket: &Ticket, mark: Mark) -> Answer
         requires { AreOne outcome.now ticket.now mark }
-        ensures { result ≡ Ran (meaning_of outcome.now).code ticket.now.serial }
+        ensures { result ≡ Ran (record { by = ticket.now.origin; code = (meaning_of outcome.now).code; serial = ticket.now.serial }) }
     {
         let serial = mark.spend();
         Answer {
             said: Said::Ran {
+                by: ticket.origin(),
                 code: Code {
                     byte: outcome.code(),
                 },
@@ -70,7 +68,6 @@ impl Answer {
 
     /// The answer of a job whose last call was no run.
     pub fn other(end: End) -> Answer
-        requires { IsEnd end }
         ensures { result ≡ content_of end }
     {
         Answer {
@@ -78,52 +75,11 @@ impl Answer {
         }
     }
 
-    // The code of its reply.
-    pub(crate) fn code(&self) -> Code
-        ensures code { result.byte ≡ reply_code self.now }
-        ensures reply { 64 ≤ result.byte }
+    // What it says.
+    pub(crate) fn said(&self) -> Said
+        ensures said { said_of result ≡ self.now }
+        ensures told { IsTold result }
     {
-        match self.said {
-            Said::Ran { code, .. } => code,
-            Said::Other(end) => code_of(end),
-        }
-    }
-
-    // The ETag of its reply.
-    pub(crate) fn etag(&self) -> Option<u64>
-        ensures { result ≡ reply_etag self.now }
-    {
-        match self.said {
-            Said::Ran {
-                code: Code::CONTENT,
-                serial,
-            } => Some(serial),
-            _ => None,
-        }
-    }
-
-    // The payload of its reply.
-    pub(crate) fn payload(&self) -> Text
-        ensures payload { IsPayload self.now result.items }
-        ensures short { length result.items ≤ 128 }
-    {
-        match self.said {
-            Said::Other(End::Made(receipt, _)) => receipt_line(&receipt),
-            Said::Other(End::Rejected(Refusal::Broken(fault))) => fault_line(&fault),
-            _ => ArrayVec::new(),
-        }
-    }
-}
-
-fn code_of(end: End) -> Code
-    ensures { result.byte ≡ reply_code (content_of end) }
-{
-    match end {
-        End::Missing => Code::NOT_FOUND,
-        End::Unavailable => Code::SERVICE_UNAVAILABLE,
-        End::Made(_, true) => Code::CREATED,
-        End::Made(_, false) => Code::CHANGED,
-        End::Rejected(Refusal::NoMemory) => Code::SERVICE_UNAVAILABLE,
-        End::Rejected(Refusal::Broken(_)) => Code::BAD_REQUEST,
+        self.said
     }
 }

@@ -93,3 +93,23 @@ pub enum Event<'a> {
         job: usize,
     },
 }
+
+impl Event<'_> {
+    ghost use Rattle.std.specs.Prelude.{◌≡◌};
+    ghost use Rattle.fc_core.specs.Stages.{names};
+
+    /// The number of the job that it names; none where it names no job, or belongs to what isn't served.
+    pub fn job(&self) -> Option<usize>
+        ensures { result ≡ names self.now }
+    {
+        match *self {
+            Event::Take { job, .. } => Some(job),
+            Event::Commit { job, .. } => Some(job),
+            Event::Install { job, .. } => Some(job),
+            Event::Raise { job } => Some(job),
+            Event::Answer { job, .. } => Some(job),
+            Event::Lose { job } => Some(job),
+            _ => None,
+        }
+    }
+}

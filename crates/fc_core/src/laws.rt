@@ -1,34 +1,87 @@
-//! What a history promises of jobs and slots: each function is a law, and its contract says it.
-ghost use Rattle.fc_core.specs.History.{Entry, History, changes, job, slot_at};
-ghost use Rattle.fc_core.specs.Laws.{IsOfImage, IsRefused, SaysSame, is_stray, takings_of};
-ghost use Rattle.fc_core.specs.Stages.{names};
+//! What a history promises of jobs: each function is a law, and its contract says it.
+ghost use Rattle.coap_msg.specs.declared.types.Emission.{Emission};
+ghost use Rattle.fc_core.specs.Contents.{Content, Ran, RunAnswer, Unavailable};
+ghost use Rattle.fc_core.specs.declared.event.Event.TheVariants.{Take, Commit, Install, Raise, Answer, Lose};
+ghost use Rattle.fc_core.specs.declared.stage.Stage.TheVariants.{ToTake, ToInstall, ToRaise, ToAnswer, Gone};
+ghost use Rattle.fc_core.specs.History.{Entry, History, Then, Seen, seen, and_then, did, job, slot_at, stage};
+ghost use Rattle.fc_core.specs.Laws.{HasCome, IsOfNewest, IsOvertaken, TakesAgain, answer_at, answers_of, is_stray, later, slot_of, takings_of};
 ghost use Rattle.fc_registry.specs.Slots.{Present};
-ghost use Rattle.std.specs.Prelude.{None, Some, true, ℕ, ◌∷◌, ◌≡◌, ◌≤◌};
+ghost use Rattle.fc_core.specs.Legal.{Emits};
+ghost use Rattle.fc_core.specs.Stages.{names};
+ghost use Rattle.std.specs.Prelude.{ℕ, ◌<◌, ◌≤◌, List, None, Option, Some, false, length, true, ◌≡◌};
 
-/// An event that comes when its job isn't at the stage that the event needs changes nothing that can be asked: no stage,
-/// no slot, no job, no opening and no moment. Nor does an event of what isn't served.
+/// An event that comes when its job isn't at the stage that the event needs changes nothing that can be asked of a
+/// history, and emits nothing; nor does an event of what isn't served.
 pub fn strays_change_nothing()
-    ensures { (r : Entry) (h : History) → is_stray h r.event ≡ true → SaysSame (r ∷ h) h }
+    ensures seen { (r : Entry) (s : Seen) → is_stray s r.event ≡ true → and_then r s ≡ s }
+    ensures emitted { (r : Entry) (s : Seen) → is_stray s r.event ≡ true → Emits s r.event r.emitted
+        → r.emitted ≡ None }
 {}
 
-/// The install of an image that is refused, or that finds no memory, changes no slot.
-pub fn refused_images_change_nothing()
-    ensures { (r : Entry) (h : History) (n : ℕ) → IsRefused h r.event → changes (r ∷ h) n ≡ changes h n }
+/// An event moves no job that came before but the one that it names, and makes no job another.
+pub fn only_the_named_job_moves()
+    ensures stages { (r : Entry) (s : Seen) (k : ℕ) → HasCome s k → (names r.event ≡ Some k → ⊥)
+        → stage (and_then r s) k ≡ stage s k }
+    ensures jobs { (r : Entry) (s : Seen) (k : ℕ) → HasCome s k → job (and_then r s) k ≡ job s k }
 {}
 
 /// An event changes no slot but that of the job that it names, and none where it names no job.
-pub fn only_the_slot_changes()
-    ensures named { (r : Entry) (h : History) (j n : ℕ) → names r.event ≡ Some j → (n ≡ (job h j).origin.slot → ⊥) → changes (r ∷ h) n ≡ changes h n }
-    ensures unnamed { (r : Entry) (h : History) (n : ℕ) → names r.event ≡ None → changes (r ∷ h) n ≡ changes h n }
+pub fn only_the_named_slot_changes()
+    ensures named { (r : Entry) (s : Seen) (k n : ℕ) → names r.event ≡ Some k
+        → (n ≡ (job s k).origin.slot → ⊥) → (and_then r s).changes n ≡ s.changes n }
+    ensures unnamed { (r : Entry) (s : Seen) (n : ℕ) → names r.event ≡ None
+        → (and_then r s).changes n ≡ s.changes n }
 {}
 
-/// A job takes at most eight tickets.
+/// A job takes at most eight tickets. Where a run that wants to write finds at its commit that the slot has changed, its
+/// job takes again, but after the eighth ticket it answers 5.03 (Service Unavailable).
 pub fn takings_are_few()
-    ensures { (h : History) (k : ℕ) → takings_of h k ≤ 8 }
+    ensures few { (h : History) (k : ℕ) → length (takings_of h k) ≤ 8 }
+    ensures eighth { (h : History) (k now : ℕ) (o : Option Emission) → IsOvertaken (seen h) k
+        → length (takings_of h k) ≡ 8
+        → stage (seen (Then h (did (Commit k now) o))) k ≡ ToAnswer Unavailable }
+    ensures earlier { (h : History) (k now : ℕ) (o : Option Emission) → IsOvertaken (seen h) k
+        → length (takings_of h k) < 8
+        → TakesAgain (stage (seen (Then h (did (Commit k now) o))) k) }
 {}
 
-/// Each program in a slot is one that some image is accepted as. So each run of it reaches its exit, in at most the steps
-/// of its longest path, and those are within its budget, as the verifier's laws say of what is accepted.
-pub fn programs_in_slots_are_accepted()
-    ensures { (h : History) (n : ℕ) (p : Present) → (slot_at h n).present ≡ Some p → IsOfImage p.program }
+/// The answer of a run is of the last ticket that its job took: its code is what the ticket's program means for the
+/// request and the variables that were found, and its serial is the one that was found.
+pub fn answers_are_of_the_last_taking()
+    ensures { (h : History) (k : ℕ) (run : RunAnswer) → answer_at (stage (seen h) k) ≡ Some (Ran run)
+        → IsOfNewest (takings_of h k) run }
+{}
+
+/// A job is answered at most once, and is gone then.
+pub fn jobs_are_answered_once()
+    ensures once { (h : History) (k : ℕ) → answers_of h k ≤ 1 }
+    ensures gone { (h : History) (k : ℕ) → 1 ≤ answers_of h k → stage (seen h) k ≡ Gone }
+{}
+
+/// A job that was answered, or whose worker was lost, is gone, whatever happens later.
+pub fn ended_jobs_stay_ended()
+    ensures answered { (s : Seen) (k now : ℕ) (o : Option Emission) (content : Content)
+        → stage s k ≡ ToAnswer content → stage (and_then (did (Answer k now) o) s) k ≡ Gone }
+    ensures lost { (s : Seen) (k : ℕ) (o : Option Emission) → HasCome s k
+        → stage (and_then (did (Lose k) o) s) k ≡ Gone }
+    ensures for_ever { (h : History) (rs : List Entry) (k : ℕ) → HasCome (seen h) k → stage (seen h) k ≡ Gone
+        → stage (seen (later h rs)) k ≡ Gone }
+{}
+
+/// Once its slot's new serial is published, a job stands at its answer, which is the one that it had.
+pub fn raises_keep_the_answer()
+    ensures { (s : Seen) (k : ℕ) (o : Option Emission) (content : Content) → stage s k ≡ ToRaise content
+        → stage (and_then (did (Raise k) o) s) k ≡ ToAnswer content }
+{}
+
+/// A job that is refused the memory for a ticket or an install answers 5.03 (Service Unavailable), and a job that stands
+/// at its answer takes no ticket later.
+pub fn refused_memory_ends_a_job()
+    ensures take { (s : Seen) (k count : ℕ) (o : Option Emission) (p : Present) → stage s k ≡ ToTake count
+        → (slot_at s (slot_of s k)).present ≡ Some p
+        → stage (and_then (did (Take k false) o) s) k ≡ ToAnswer Unavailable }
+    ensures install { (s : Seen) (k : ℕ) (o : Option Emission) → stage s k ≡ ToInstall
+        → stage (and_then (did (Install k false) o) s) k ≡ ToAnswer Unavailable }
+    ensures later { (h : History) (rs : List Entry) (k : ℕ) (content : Content)
+        → stage (seen h) k ≡ ToAnswer content → takings_of (later h rs) k ≡ takings_of h k }
 {}

@@ -6,15 +6,19 @@
 #![tactic(auto)]
 
 pub mod answer;
-pub mod asked;
+pub mod answer_laws;
 pub mod event;
+pub mod exchange_laws;
 pub mod front;
+mod ids;
 pub mod laws;
 mod reply;
+pub mod slot_laws;
 pub mod stage;
+pub mod task;
 mod text;
 
 pub use answer::{Answer, End};
 pub use event::Event;
 pub use front::{Answered, Delivered, Front};
-pub use stage::Stage;
+pub use stage::{Stage, Task};

@@ -1,6 +1,6 @@
 //! Where jobs stand.
 use crate::answer::Answer;
-use fc_registry::Ticket;
+use fc_registry::{Job, Ticket};
 
 /// Where a job stands: what it needs next.
 #[derive(Drop)]
@@ -11,10 +11,17 @@ pub enum Stage {
     ToCommit(u8, Ticket),
     /// The install of its image.
     ToInstall,
-    /// The raise of its slot's head word, which the change made due; then this answer.
+    /// Publish the new serial of its slot, then send this answer.
     ToRaise(Answer),
     /// This answer.
     ToAnswer(Answer),
     /// Nothing: it was answered or lost, or it never came.
     Gone,
+}
+
+/// A job, and where it stands.
+#[derive(Drop)]
+pub struct Task {
+    pub job: Job,
+    pub stage: Stage,
 }

@@ -1,0 +1,124 @@
+-- What changes a slot.
+use Rattle.std.proofs.Common.{◌≡◌, ℕ, ◌+◌, ◌<◌, List, [], ◌∷◌, ◌++◌, Bool, true, false, Option, Some, None, refl, sym, ap, ◌∙◌, subst, ⊎_elim, replicate}
+use Rattle.std.specs.Prelude.{nat_lt}
+use borrow.Author.Tests.{ltb-true}
+use Rattle.std.proofs.lemmas.Bool.{cases_eq}
+use Rattle.fc_kinds.specs.Meaning.{Program}
+use Rattle.fc_verify.specs.Accepted.{Judgement, Accepts, Breaks, Untypable}
+use Rattle.fc_verify.specs.Judged.{judged}
+use Rattle.fc_registry.specs.declared.job.Job.{Job}
+use Rattle.fc_registry.specs.declared.commit.CommitOutcome.{CommitOutcome}
+use Rattle.fc_registry.specs.declared.commit.CommitOutcome.TheVariants as outcomes
+use Rattle.fc_registry.specs.Slots.{Slot, Present, Ticket, last_serial, new_slot}
+use Rattle.fc_registry.specs.Changes.{Change, Installed, Committed, Removed, after_changes, with_vars}
+use Rattle.fc_registry.specs.Calls.{commit_of, outcome, put_by}
+use Rattle.fc_core.specs.declared.event.Event.{Event}
+use Rattle.fc_core.specs.declared.event.Event.TheVariants.{Take, Commit, Install, Raise, Answer}
+use Rattle.fc_core.specs.declared.stage.Stage.{Stage}
+use Rattle.fc_core.specs.declared.stage.Stage.TheVariants.{ToTake, ToCommit, ToInstall, ToRaise, ToAnswer}
+use Rattle.fc_core.specs.History.{Entry, History, Begins, Then, Seen, seen, and_then, job, scene, slot_at, stage}
+use Rattle.fc_core.specs.Laws.{slot_of}
+use Rattle.fc_core.specs.SlotLaws.{AllOfImages, Does, IsInstall, IsOfImage, IsWriting, Installs, Nothing, Writes}
+use Rattle.fc_core.specs.Stages.{Scene, committed, image_of, installed, names, row, verified}
+use Rattle.fc_core.proofs.Others.{no_slot, other_slot, own_slot}
+
+abbrev at : Job → Slot → Stage → Scene
+at job slot stage = record { job = job; slot = slot; stage = stage }
+
+-- what a row changes
+data Makes (e : Event) (job : Job) (slot : Slot) (s : Stage) (cs : List Change) : Type 0 where
+  None_made : (is : cs ≡ []) → Makes e job slot s cs
+  Puts : (k : ℕ) (p : Program) (event : e ≡ Install k true) (at : s ≡ ToInstall) (accepted : judged (image_of job.ask) ≡ Accepts p) (below : slot.serial < 9223372036854775807) (is : cs ≡ Installed p ∷ []) → Makes e job slot s cs
+  Leaves : (k now n : ℕ) (t : Ticket) (event : e ≡ Commit k now) (at : s ≡ ToCommit n t) (is : cs ≡ Committed (commit_of t) ∷ []) → Makes e job slot s cs
+
+committed_makes : (k now n : ℕ) (t : Ticket) (job : Job) (slot : Slot) (o : CommitOutcome) → Makes (Commit k now) job slot (ToCommit n t) (committed o n t now).changes
+committed_makes k now n t job slot outcomes.Writes = Leaves k now n t refl refl refl
+committed_makes k now n t job slot outcomes.Keeps = None_made refl
+committed_makes k now n t job slot outcomes.Overtakes = None_made refl
+committed_makes k now n t job slot outcomes.Ends = None_made refl
+
+put_makes : (k : ℕ) (p : Program) (job : Job) (slot : Slot) (b : Bool) → judged (image_of job.ask) ≡ Accepts p → nat_lt slot.serial last_serial ≡ b → Makes (Install k true) job slot ToInstall (put_by b slot p).changes
+put_makes k p job slot true is e = Puts k p refl refl is (ltb-true slot.serial last_serial e) refl
+put_makes k p job slot false is e = None_made refl
+
+installed_makes : (k : ℕ) (job : Job) (slot : Slot) (j : Judgement) → judged (image_of job.ask) ≡ j → Makes (Install k true) job slot ToInstall (installed j slot).changes
+installed_makes k job slot (Accepts p) is = put_makes k p job slot (nat_lt slot.serial last_serial) is refl
+installed_makes k job slot (Breaks rule i) is = None_made refl
+installed_makes k job slot Untypable is = None_made refl
+
+verified_makes : (k : ℕ) (memory : Bool) (job : Job) (slot : Slot) → Makes (Install k memory) job slot ToInstall (verified memory (at job slot ToInstall)).changes
+verified_makes k true job slot = installed_makes k job slot (judged (image_of job.ask)) refl
+verified_makes k false job slot = None_made refl
+
+row_makes : (e : Event) (job : Job) (slot : Slot) (s : Stage) → Makes e job slot s (row e (at job slot s)).changes
+row_makes (Take k memory) job slot (ToTake n) = None_made refl
+row_makes (Take k memory) job slot other = None_made refl
+row_makes (Commit k now) job slot (ToCommit n t) = committed_makes k now n t job slot (outcome t slot)
+row_makes (Commit k now) job slot other = None_made refl
+row_makes (Install k memory) job slot ToInstall = verified_makes k memory job slot
+row_makes (Install k memory) job slot other = None_made refl
+row_makes (Raise k) job slot (ToRaise content) = None_made refl
+row_makes (Raise k) job slot other = None_made refl
+row_makes (Answer k now) job slot (ToAnswer content) = None_made refl
+row_makes (Answer k now) job slot other = None_made refl
+row_makes other job slot s = None_made refl
+
+own_does : (r : Entry) (s : Seen) (k : ℕ) (cs : List Change) → names r.event ≡ Some k → (and_then r s).changes (slot_of s k) ≡ cs ++ s.changes (slot_of s k) → Makes r.event (job s k) (slot_at s (slot_of s k)) (stage s k) cs → Does r s (slot_of s k)
+own_does r s k cs named grown (None_made is) = Nothing (grown ∙ ap (λ (l : List Change). l ++ s.changes (slot_of s k)) is)
+own_does r s k cs named grown (Puts j p event stands accepted below is) =
+    let same : j ≡ k = cc (sym (ap names event) ∙ named) in
+    Installs (subst (λ (i : ℕ). r.event ≡ Install i true → IsInstall r s (slot_of s k)) (sym same) (λ e. record { number = k; program = p; event = e; at = stands; slot = refl; accepted = accepted; below = below; change = grown ∙ ap (λ (l : List Change). l ++ s.changes (slot_of s k)) is }) event)
+own_does r s k cs named grown (Leaves j now n t event stands is) =
+    let same : j ≡ k = cc (sym (ap names event) ∙ named) in
+    Writes (subst (λ (i : ℕ). r.event ≡ Commit i now → IsWriting r s (slot_of s k)) (sym same) (λ e. record { number = k; now = now; count = n; ticket = t; event = e; at = stands; slot = refl; change = grown ∙ ap (λ (l : List Change). l ++ s.changes (slot_of s k)) is }) event)
+
+does_by : (r : Entry) (s : Seen) (n : ℕ) (o : Option ℕ) → names r.event ≡ o → Does r s n
+does_by r s n None named = Nothing (no_slot r s n named)
+does_by r s n (Some k) named = ⊎_elim
+    (λ (is : n ≡ slot_of s k). subst (Does r s) (sym is) (own_does r s k (row r.event (scene s k)).changes named (own_slot r s k named) (row_makes r.event (job s k) (slot_at s (slot_of s k)) (stage s k))))
+    (λ (ne : n ≡ slot_of s k → ⊥). Nothing (other_slot r s k n named ne))
+    (cases_eq n (slot_of s k))
+
+pub does : (r : Entry) (s : Seen) (n : ℕ) → Does r s n
+does r s n = does_by r s n (names r.event) refl
+
+-- ---- refusals
+
+refused_by : (r : Entry) (s : Seen) (k n : ℕ) (memory : Bool) → r.event ≡ Install k memory → ((p : Program) → judged (image_of (job s k).ask) ≡ Accepts p → ⊥) → Does r s n → (and_then r s).changes n ≡ s.changes n
+refused_by r s k n memory is refused (Nothing same) = same
+refused_by r s k n memory is refused (Installs w) =
+    let e : Install w.number true ≡ Install k memory = sym w.event ∙ is in
+    let same : w.number ≡ k = cc e in
+    absurd (refused w.program (subst (λ (i : ℕ). judged (image_of (job s i).ask) ≡ Accepts w.program) same w.accepted))
+refused_by r s k n memory is refused (Writes w) = let e : Commit w.number w.now ≡ Install k memory = sym w.event ∙ is in absurd (cc e)
+
+pub refused_stays : (r : Entry) (s : Seen) (k n : ℕ) (memory : Bool) → r.event ≡ Install k memory → ((p : Program) → judged (image_of (job s k).ask) ≡ Accepts p → ⊥) → (and_then r s).changes n ≡ s.changes n
+refused_stays r s k n memory is refused = refused_by r s k n memory is refused (does r s n)
+
+-- ---- every program in a slot is of an image
+
+images_by : (r : Entry) (s : Seen) (n : ℕ) → Does r s n → AllOfImages (s.changes n) → AllOfImages ((and_then r s).changes n)
+images_by r s n (Nothing is) a = subst AllOfImages (sym is) a
+images_by r s n (Installs w) a = subst AllOfImages (sym w.change) (record { image = image_of (job s w.number).ask; accepted = w.accepted }, a)
+images_by r s n (Writes w) a = subst AllOfImages (sym w.change) a
+
+pub images : (h : History) (n : ℕ) → AllOfImages ((seen h).changes n)
+unfolding seen
+images (Begins serial id) n = tt
+images (Then h r) n = images_by r (seen h) n (does r (seen h) n) (images h n)
+
+-- a program in the slot after these changes is of an image
+present_by : (o : Option Present) (vars : List ℕ) (p : Present) → ((q : Present) → o ≡ Some q → IsOfImage q.program) → with_vars vars o ≡ Some p → IsOfImage p.program
+present_by None vars p before e = absurd (cc)
+present_by (Some q) vars p before e =
+    let is : record q { vars = vars } ≡ p = cc in
+    subst (λ (x : Present). IsOfImage x.program) is (before q refl)
+
+present_image : (first : ℕ) (cs : List Change) (p : Present) → AllOfImages cs → (after_changes (new_slot first) cs).present ≡ Some p → IsOfImage p.program
+present_image first [] p a e = absurd (cc)
+present_image first (Installed q ∷ cs) p a e = let is : (record { program = q; version = (after_changes (new_slot first) cs).serial + 1; vars = replicate q.vars_size 0 }) ≡ p = cc in subst (λ (x : Present). IsOfImage x.program) is a.0
+present_image first (Committed c ∷ cs) p a e = present_by (after_changes (new_slot first) cs).present c.after p (λ q is. present_image first cs q a is) e
+present_image first (Removed ∷ cs) p a e = absurd a
+
+pub of_image : (h : History) (n : ℕ) (p : Present) → (slot_at (seen h) n).present ≡ Some p → IsOfImage p.program
+of_image h n p e = present_image (seen h).first_serial ((seen h).changes n) p (images h n) e

@@ -1,0 +1,204 @@
+-- A job changes its slot at most once, and then publishes its serial.
+use Rattle.std.proofs.Common.{◌≡◌, ℕ, ◌+◌, ◌-◌, ◌<◌, ◌≤◌, length, Bool, true, false, Option, Some, None, refl, sym, ap, ◌∙◌, subst, ◌⊎◌, inl, inr, ⊎_elim, arith, if◌then◌else◌, length-append}
+use Rattle.std.specs.Prelude.{nat_lt}
+use Rattle.std.proofs.lemmas.Bool.{cases_Bool, cases_lt, eqb-true}
+use Rattle.fc_kinds.specs.Meaning.{Program}
+use Rattle.fc_verify.specs.Accepted.{Judgement, Accepts, Breaks, Untypable}
+use Rattle.fc_verify.specs.Judged.{judged}
+use Rattle.fc_registry.specs.declared.job.Ask.{Ask}
+use Rattle.fc_registry.specs.declared.job.Ask.TheVariants.{Run, Install as Installs}
+use Rattle.fc_registry.specs.declared.job.Job.{Job}
+use Rattle.fc_registry.specs.declared.commit.CommitOutcome.{CommitOutcome}
+use Rattle.fc_registry.specs.declared.commit.CommitOutcome.TheVariants.{Writes, Keeps, Overtakes, Ends}
+use Rattle.fc_registry.specs.Slots.{Slot, Present, Ticket, last_serial}
+use Rattle.fc_registry.specs.Calls.{outcome, put_by, taking}
+use Rattle.fc_core.specs.declared.event.Event.{Event}
+use Rattle.fc_core.specs.declared.event.Event.TheVariants.{Take, Commit, Install, Raise, Answer, Lose}
+use Rattle.fc_core.specs.declared.stage.Stage.{Stage}
+use Rattle.fc_core.specs.declared.stage.Stage.TheVariants.{ToTake, ToCommit, ToInstall, ToRaise, ToAnswer, Gone}
+use Rattle.fc_core.specs.Contents.{Content, Unavailable}
+use Rattle.fc_core.specs.History.{Entry, History, Then, Seen, seen, and_then, job, scene, slot_at, stage}
+use Rattle.fc_core.specs.Laws.{HasCome, changes_by, is_named, is_number, is_stray, is_stray_at, slot_of, stage_named}
+use Rattle.fc_core.specs.SlotLaws.{IsToRaise}
+use Rattle.fc_core.specs.Stages.{Scene, committed, first_by, image_of, installed, made, names, receipt_of, row, took, verified}
+use Rattle.fc_core.proofs.Along.{IsTold, along, gone_before}
+use Rattle.fc_core.proofs.Others.{named_stage, own_slot}
+use Rattle.fc_core.proofs.Strays.{strays_stay}
+
+abbrev at : Job → Slot → Stage → Scene
+at job slot stage = record { job = job; slot = slot; stage = stage }
+
+-- how many changes a job publishes at this stage
+abbrev raises : Stage → ℕ
+raises (ToRaise content) = 1
+raises other = 0
+
+taking_raises : (memory : Bool) (job : Job) (slot : Slot) (n : ℕ) (p : Option Present) → 0 ≡ raises (took n (taking memory job slot.serial p))
+taking_raises memory job slot n None = refl
+taking_raises true job slot n (Some p) = refl
+taking_raises false job slot n (Some p) = refl
+
+retaken_raises : (n : ℕ) (b : Bool) → 0 ≡ raises (if b then ToTake n else ToAnswer Unavailable)
+retaken_raises n true = refl
+retaken_raises n false = refl
+
+committed_raises : (n : ℕ) (t : Ticket) (now : ℕ) (o : CommitOutcome) → length (committed o n t now).changes ≡ raises (committed o n t now).stage
+committed_raises n t now Writes = refl
+committed_raises n t now Keeps = refl
+committed_raises n t now Overtakes = retaken_raises n (nat_lt n 8)
+committed_raises n t now Ends = refl
+
+put_raises : (b : Bool) (slot : Slot) (p : Program) → length (put_by b slot p).changes ≡ raises (made (receipt_of p) (put_by b slot p).answer)
+put_raises true slot p = refl
+put_raises false slot p = refl
+
+installed_raises : (j : Judgement) (slot : Slot) → length (installed j slot).changes ≡ raises (installed j slot).stage
+installed_raises (Accepts p) slot = put_raises (nat_lt slot.serial last_serial) slot p
+installed_raises (Breaks rule k) slot = refl
+installed_raises Untypable slot = refl
+
+verified_raises : (memory : Bool) (s : Scene) → length (verified memory s).changes ≡ raises (verified memory s).stage
+verified_raises true s = installed_raises (judged (image_of s.job.ask)) s.slot
+verified_raises false s = refl
+
+-- an event that isn't a stray makes as many changes as it leaves to publish
+row_raises : (e : Event) (k : ℕ) (job : Job) (slot : Slot) (s : Stage) → names e ≡ Some k → is_stray_at e s ≡ false → length (row e (at job slot s)).changes ≡ raises (row e (at job slot s)).stage
+row_raises (Take j memory) k job slot (ToTake n) named e = taking_raises memory job slot n slot.present
+row_raises (Take j memory) k job slot other named e = absurd (cc)
+row_raises (Commit j now) k job slot (ToCommit n t) named e = committed_raises n t now (outcome t slot)
+row_raises (Commit j now) k job slot other named e = absurd (cc)
+row_raises (Install j memory) k job slot ToInstall named e = verified_raises memory (at job slot ToInstall)
+row_raises (Install j memory) k job slot other named e = absurd (cc)
+row_raises (Raise j) k job slot (ToRaise content) named e = refl
+row_raises (Raise j) k job slot other named e = absurd (cc)
+row_raises (Answer j now) k job slot (ToAnswer content) named e = refl
+row_raises (Answer j now) k job slot other named e = absurd (cc)
+row_raises (Lose j) k job slot s named e = refl
+row_raises other k job slot s named e = absurd (cc)
+
+-- ---- at most once
+
+-- how many changes a job at this stage made
+abbrev FitsChanges : ℕ → Stage → Type 0
+FitsChanges n (ToTake count) = n ≡ 0
+FitsChanges n (ToCommit count t) = n ≡ 0
+FitsChanges n ToInstall = n ≡ 0
+FitsChanges n other = n ≤ 1
+
+one_change : (s : Stage) (n : ℕ) → FitsChanges n s → n ≤ 1
+one_change (ToTake count) n f = omega (arith, f)
+one_change (ToCommit count t) n f = omega (arith, f)
+one_change ToInstall n f = omega (arith, f)
+one_change (ToRaise content) n f = f
+one_change (ToAnswer content) n f = f
+one_change Gone n f = f
+
+first_change : (s : Stage) (n m : ℕ) → n ≡ 0 → m ≡ raises s → FitsChanges (n + m) s
+first_change (ToTake count) n m is more = omega arith
+first_change (ToCommit count t) n m is more = omega arith
+first_change ToInstall n m is more = omega arith
+first_change (ToRaise content) n m is more = omega arith
+first_change (ToAnswer content) n m is more = omega arith
+first_change Gone n m is more = omega arith
+
+no_change : (s : Stage) (n : ℕ) → FitsChanges n s → FitsChanges (n + 0) s
+no_change s n f = subst (λ (m : ℕ). FitsChanges m s) (let is : n ≡ n + 0 = omega arith in is) f
+
+row_changes : (e : Event) (job : Job) (slot : Slot) (s : Stage) (n : ℕ) → FitsChanges n s → FitsChanges (n + length (row e (at job slot s)).changes) (row e (at job slot s)).stage
+row_changes (Take k memory) job slot (ToTake c) n f = first_change (row (Take k memory) (at job slot (ToTake c))).stage n 0 f (row_raises (Take k memory) k job slot (ToTake c) refl refl)
+row_changes (Take k memory) job slot other n f = no_change other n f
+row_changes (Commit k now) job slot (ToCommit c t) n f = first_change (row (Commit k now) (at job slot (ToCommit c t))).stage n (length (row (Commit k now) (at job slot (ToCommit c t))).changes) f (row_raises (Commit k now) k job slot (ToCommit c t) refl refl)
+row_changes (Commit k now) job slot other n f = no_change other n f
+row_changes (Install k memory) job slot ToInstall n f = first_change (row (Install k memory) (at job slot ToInstall)).stage n (length (row (Install k memory) (at job slot ToInstall)).changes) f (row_raises (Install k memory) k job slot ToInstall refl refl)
+row_changes (Install k memory) job slot other n f = no_change other n f
+row_changes (Raise k) job slot (ToRaise content) n f = omega (arith, f)
+row_changes (Raise k) job slot other n f = no_change other n f
+row_changes (Answer k now) job slot (ToAnswer content) n f = omega (arith, f)
+row_changes (Answer k now) job slot other n f = no_change other n f
+row_changes (Lose k) job slot s n f = omega (arith, one_change s n f)
+row_changes other job slot s n f = no_change s n f
+
+gone_changes : (e : Event) (job : Job) (slot : Slot) (n : ℕ) → n + length (row e (at job slot Gone)).changes ≡ n
+gone_changes (Take k memory) job slot n = omega arith
+gone_changes other job slot n = omega arith
+
+first_none : (ask : Ask) → FitsChanges 0 (first_by ask)
+first_none (Run request) = refl
+first_none (Installs image) = refl
+
+abbrev more_changes : Event → Seen → ℕ → ℕ → ℕ
+more_changes e s k n = n + length (row e (scene s k)).changes
+
+number_is : (k : ℕ) (o : Option ℕ) → is_number k o ≡ true → o ≡ Some k
+number_is k None e = absurd (cc)
+number_is k (Some j) e = ap Some (eqb-true j k e)
+
+own_length : (r : Entry) (s : Seen) (k : ℕ) → names r.event ≡ Some k → length ((and_then r s).changes (slot_of s k)) ≡ length (row r.event (scene s k)).changes + length (s.changes (slot_of s k))
+own_length r s k named = ap length (own_slot r s k named) ∙ length-append (row r.event (scene s k)).changes (s.changes (slot_of s k))
+
+counted_by : (r : Entry) (s : Seen) (k n : ℕ) (b : Bool) → is_named k r.event ≡ b → (if b then n + (length ((and_then r s).changes (slot_of s k)) - length (s.changes (slot_of s k))) else n) ≡ (if b then more_changes r.event s k n else n)
+counted_by r s k n true e = omega (arith, own_length r s k (number_is k (names r.event) e))
+counted_by r s k n false e = refl
+
+counted : (h : History) (r : Entry) (k : ℕ) → changes_by (Then h r) k ≡ (if is_named k r.event then more_changes r.event (seen h) k (changes_by h k) else changes_by h k)
+unfolding seen
+counted h r k = counted_by r (seen h) k (changes_by h k) (is_named k r.event) refl
+
+changes_told : IsTold changes_by more_changes FitsChanges 0
+changes_told = record {
+  begins = λ serial id k. refl;
+  then_is = counted;
+  still = λ e s k n is. ap (λ (x : Stage). n + length (row e (at (job s k) (slot_at s (slot_of s k)) x)).changes) is ∙ gone_changes e (job s k) (slot_at s (slot_of s k)) n;
+  gone = omega arith;
+  first = first_none;
+  keeps = λ e s k n f. row_changes e (job s k) (slot_at s (slot_of s k)) (stage s k) n f;
+}
+
+pub changed_once : (h : History) (k : ℕ) → changes_by h k ≤ 1
+changed_once h k = one_change (stage (seen h) k) (changes_by h k) (along changes_by more_changes FitsChanges 0 changes_told h k)
+
+-- ---- and it is published
+
+named_stray : (e : Event) (k : ℕ) → names e ≡ Some k → is_stray_at e Gone ≡ true
+named_stray (Take j memory) k e = refl
+named_stray (Commit j now) k e = refl
+named_stray (Install j memory) k e = refl
+named_stray (Raise j) k e = refl
+named_stray (Answer j now) k e = refl
+named_stray (Lose j) k e = refl
+named_stray other k e = absurd (cc)
+
+came : (r : Entry) (s : Seen) (k : ℕ) → names r.event ≡ Some k → is_stray_at r.event (stage s k) ≡ false → HasCome s k
+came r s k named stray = ⊎_elim
+    (λ (lt : k < length s.tasks). lt)
+    (λ (le : length s.tasks ≤ k). let is : is_stray_at r.event (stage s k) ≡ true = ap (is_stray_at r.event) (gone_before s k le) ∙ named_stray r.event k named in absurd (cc (stray, is)))
+    (cases_lt k (length s.tasks))
+
+stray_is : (r : Entry) (s : Seen) (k : ℕ) → names r.event ≡ Some k → is_stray s r.event ≡ is_stray_at r.event (stage s k)
+stray_is r s k named = ap (λ (o : Option ℕ). is_stray_at r.event (stage_named s o)) named
+
+-- what an event that isn't a stray adds to its job's slot
+adds : (r : Entry) (s : Seen) (k : ℕ) → names r.event ≡ Some k → is_stray_at r.event (stage s k) ≡ false → length ((and_then r s).changes (slot_of s k)) ≡ raises (stage (and_then r s) k) + length (s.changes (slot_of s k))
+adds r s k named stray =
+    own_length r s k named ∙ ap (λ (n : ℕ). n + length (s.changes (slot_of s k)))
+    (row_raises r.event k (job s k) (slot_at s (slot_of s k)) (stage s k) named stray ∙ ap raises (sym (named_stage r s k (came r s k named stray) named)))
+
+to_raise : (s : Stage) (n m : ℕ) → m ≡ raises s + n → n < m → IsToRaise s
+to_raise (ToRaise content) n m is lt = tt
+to_raise (ToTake count) n m is lt = absurd (omega arith)
+to_raise (ToCommit count t) n m is lt = absurd (omega arith)
+to_raise ToInstall n m is lt = absurd (omega arith)
+to_raise (ToAnswer content) n m is lt = absurd (omega arith)
+to_raise Gone n m is lt = absurd (omega arith)
+
+pub changes_are_published : (r : Entry) (s : Seen) (k : ℕ) → names r.event ≡ Some k → length (s.changes (slot_of s k)) < length ((and_then r s).changes (slot_of s k)) → IsToRaise (stage (and_then r s) k)
+changes_are_published r s k named lt = ⊎_elim
+    (λ (stray : is_stray_at r.event (stage s k) ≡ true). let same = strays_stay r s (stray_is r s k named ∙ stray) in absurd (omega (arith, lt, ap (λ (x : Seen). length (x.changes (slot_of s k))) same)))
+    (λ (acts : is_stray_at r.event (stage s k) ≡ false). to_raise (stage (and_then r s) k) (length (s.changes (slot_of s k))) (length ((and_then r s).changes (slot_of s k))) (adds r s k named acts) lt)
+    (cases_Bool (is_stray_at r.event (stage s k)))
+
+pub only_changes_are_published : (r : Entry) (s : Seen) (k : ℕ) (content : Content) → names r.event ≡ Some k → stage (and_then r s) k ≡ ToRaise content → (stage s k ≡ ToRaise content) ⊎ (length ((and_then r s).changes (slot_of s k)) ≡ length (s.changes (slot_of s k)) + 1)
+only_changes_are_published r s k content named is = ⊎_elim
+    (λ (stray : is_stray_at r.event (stage s k) ≡ true). inl (sym (ap (λ (x : Seen). stage x k) (strays_stay r s (stray_is r s k named ∙ stray))) ∙ is))
+    (λ (acts : is_stray_at r.event (stage s k) ≡ false). inr (omega (arith, adds r s k named acts, ap raises is)))
+    (cases_Bool (is_stray_at r.event (stage s k)))

@@ -1,0 +1,61 @@
+-- A commit that a shard carries out is the row of its table.
+use Rattle.std.proofs.Common.{◌≡◌, ℕ, refl, sym, ap, ◌∙◌, subst, max}
+use Rattle.fc_machine.specs.Ran.{Ran}
+use Rattle.fc_registry.specs.declared.commit.CommitOutcome.{CommitOutcome}
+use Rattle.fc_registry.specs.declared.commit.CommitOutcome.TheVariants.{Writes, Keeps, Overtakes, Ends}
+use Rattle.fc_registry.specs.declared.commit.Committed.{Committed}
+use Rattle.fc_registry.specs.declared.commit.Committed.TheVariants.{Done, Overtaken, Ended, Stranger}
+use Rattle.fc_registry.specs.Slots.{Shard, Slot, Ticket, slot_in, with_slot}
+use Rattle.fc_registry.specs.Changes.{after_changes}
+use Rattle.fc_registry.specs.Calls.{IsCommit, IsOwnCommit, IsOwn, HasGiven, outcome, commits}
+use Rattle.fc_registry.proofs.Outcomes.{by_serials}
+use Rattle.fc_core.specs.Contents.{AreDone}
+use Rattle.fc_core.specs.Stages.{after_commit, committed, shard_moved}
+
+-- the mark of a commit that is done is of the outcome and the ticket
+done_by : (ran : Ran) (t : Ticket) (slot : Slot) (o : CommitOutcome) → IsOwn ran t slot → AreDone ran t (commits o t slot.serial).answer
+done_by ran t slot Writes own = record { program = own.program; request = own.request; vars = own.vars; origin = refl; serial = refl }
+done_by ran t slot Keeps own = record { program = own.program; request = own.request; vars = own.vars; origin = refl; serial = refl }
+done_by ran t slot Overtakes own = tt
+done_by ran t slot Ends own = tt
+
+own_done : (ran : Ran) (t : Ticket) (slot : Slot) (c : Committed) (after : Slot) → IsOwnCommit ran t slot c after → AreDone ran t c
+own_done ran t slot c after w = subst (AreDone ran t) (sym w.1.answer) (done_by ran t slot w.1.comes_to w.0)
+
+pub commit_done : (ran : Ran) (t : Ticket) (slot : Slot) (c : Committed) (after : Slot) → IsCommit ran t slot c after → AreDone ran t c
+commit_done ran t slot Stranger after w = tt
+commit_done ran t slot (Done m) after w = own_done ran t slot (Done m) after w
+commit_done ran t slot Overtaken after w = tt
+commit_done ran t slot Ended after w = tt
+
+-- what is committed to the slot that gave the ticket
+pub record IsRow (t : Ticket) (slot : Slot) (c : Committed) (after : Slot) : Type 0 where
+  pub answer : c ≡ (commits (outcome t slot) t slot.serial).answer
+  pub after_is : after ≡ after_changes slot (commits (outcome t slot) t slot.serial).changes
+
+own_row : (ran : Ran) (t : Ticket) (slot : Slot) (c : Committed) (after : Slot) → HasGiven slot t → IsOwnCommit ran t slot c after → IsRow t slot c after
+own_row ran t slot c after given w =
+    let is = by_serials t slot w.1.comes_to given w.1.is in
+    record {
+      answer = w.1.answer ∙ ap (λ (o : CommitOutcome). (commits o t slot.serial).answer) is;
+      after_is = w.1.after_is ∙ ap (λ (o : CommitOutcome). after_changes slot (commits o t slot.serial).changes) is;
+    }
+
+pub commit_row : (ran : Ran) (t : Ticket) (slot : Slot) (c : Committed) (after : Slot) → ran.program ≡ t.found.program → ran.request ≡ t.request → ran.found ≡ t.found.vars → HasGiven slot t → IsCommit ran t slot c after → IsRow t slot c after
+commit_row ran t slot Stranger after p r v given w = absurd (w.stranger (record { program = p; request = r; vars = v; serial = given.serial }))
+commit_row ran t slot (Done m) after p r v given w = own_row ran t slot (Done m) after given w
+commit_row ran t slot Overtaken after p r v given w = own_row ran t slot Overtaken after given w
+commit_row ran t slot Ended after p r v given w = own_row ran t slot Ended after given w
+
+-- where the shard's answer leaves the job is the row's stage, and what it changed is the row's change
+pub stage_of_row : (o : CommitOutcome) (n : ℕ) (t : Ticket) (now serial : ℕ) → after_commit n t (commits o t serial).answer ≡ (committed o n t now).stage
+stage_of_row Writes n t now serial = refl
+stage_of_row Keeps n t now serial = refl
+stage_of_row Overtakes n t now serial = refl
+stage_of_row Ends n t now serial = refl
+
+pub shard_of_row : (o : CommitOutcome) (n : ℕ) (t : Ticket) (now : ℕ) (shard : Shard) → with_slot (record shard { now = max shard.now now }) t.origin.slot (after_changes (slot_in shard t.origin.slot) (commits o t (slot_in shard t.origin.slot).serial).changes) ≡ shard_moved (committed o n t now) t.origin.slot shard
+shard_of_row Writes n t now shard = refl
+shard_of_row Keeps n t now shard = refl
+shard_of_row Overtakes n t now shard = refl
+shard_of_row Ends n t now shard = refl

@@ -1,0 +1,7 @@
+-- No draws.
+use Rattle.std.proofs.Common.{◌≡◌, None, replicate, refl}
+use Rattle.fc_core.specs.Ids.{no_draws}
+
+pub none_drawn : replicate 65536 None ≡ no_draws
+unfolding no_draws
+none_drawn = refl

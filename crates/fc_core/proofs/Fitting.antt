@@ -1,0 +1,226 @@
+-- Each row keeps what is true of jobs and slots.
+use Rattle.std.proofs.Common.{◌≡◌, ℕ, ◌+◌, ◌<◌, ◌≤◌, List, [], ◌∷◌, ◌++◌, Bool, true, false, Option, Some, None, length, refl, sym, ap, ◌∙◌, subst, arith, if◌then◌else◌}
+use Rattle.std.proofs.lemmas.List.{length-replicate}
+use Rattle.std.specs.Prelude.{nat_lt, ◌==◌, ◌&&◌}
+use Rattle.std.proofs.lemmas.Bool.{eqb-true}
+use borrow.Author.Tests.{ltb-true}
+use Rattle.fc_help.specs.declared.request.Method.{Method}
+use Rattle.fc_help.specs.declared.request.Method.TheVariants.{Get, Post}
+use Rattle.fc_help.specs.Request.{Request}
+use Rattle.fc_kinds.specs.Meaning.{Program, IsInput, meant}
+use Rattle.fc_verify.specs.Accepted.{Judgement, Accepts, Breaks, Untypable}
+use Rattle.fc_verify.specs.Judged.{judged}
+use Rattle.fc_registry.specs.declared.job.Ask.{Ask}
+use Rattle.fc_registry.specs.declared.job.Ask.TheVariants.{Run, Install as Installs}
+use Rattle.fc_registry.specs.declared.job.Job.{Job}
+use Rattle.fc_registry.specs.declared.commit.CommitOutcome.{CommitOutcome}
+use Rattle.fc_registry.specs.declared.commit.CommitOutcome.TheVariants.{Writes, Keeps, Overtakes, Ends}
+use Rattle.fc_registry.specs.Slots.{Slot, Present, Ticket, last_serial}
+use Rattle.fc_registry.specs.Changes.{Change, Installed, Committed, Removed, changed, after_changes, with_vars}
+use Rattle.fc_registry.specs.Record.{IsChain, IsLink, class_of}
+use Rattle.fc_registry.specs.Calls.{HasGiven, commit_of, is_post, meaning_at, outcome, outcome_by, put, put_by, request_of, taking, ticket_of, wants}
+use Rattle.fc_core.specs.declared.event.Event.{Event}
+use Rattle.fc_core.specs.declared.event.Event.TheVariants.{Take, Commit as Commits, Install, Raise, Answer, Lose}
+use Rattle.fc_core.specs.declared.stage.Stage.{Stage}
+use Rattle.fc_core.specs.declared.stage.Stage.TheVariants.{ToTake, ToCommit, ToInstall, ToRaise, ToAnswer, Gone}
+use Rattle.fc_core.specs.Contents.{Unavailable}
+use Rattle.fc_core.specs.Fits.{FitsPresent, FitsSlot, FitsStage, IsSafe, IsTicketOf}
+use Rattle.fc_core.specs.Receiving.{AskWithin}
+use Rattle.fc_core.specs.Sound.{AllSafe}
+use Rattle.fc_core.specs.Stages.{Scene, committed, first_by, image_of, installed, made, receipt_of, row, took, verified}
+
+-- ---- slots
+
+changed_rises : (slot : Slot) (c : Change) → slot.serial < (changed slot c).serial
+changed_rises slot (Installed p) = omega arith
+changed_rises slot (Committed c) = omega arith
+changed_rises slot Removed = omega arith
+
+pub after_rises : (slot : Slot) (cs : List Change) → slot.serial ≤ (after_changes slot cs).serial
+after_rises slot [] = omega arith
+after_rises slot (c ∷ cs) = omega (arith, after_rises slot cs, changed_rises (after_changes slot cs) c)
+
+pub after_changes-append : (slot : Slot) (cs ds : List Change) → after_changes slot (cs ++ ds) ≡ after_changes (after_changes slot ds) cs
+after_changes-append slot [] ds = refl
+after_changes-append slot (c ∷ cs) ds = ap (λ s. changed s c) (after_changes-append slot cs ds)
+
+-- ---- stages
+
+given_changed : (slot : Slot) (t : Ticket) (cs : List Change) → HasGiven slot t → HasGiven (after_changes slot cs) t
+given_changed slot t [] g = g
+given_changed slot t (c ∷ cs) g =
+    let le = after_rises slot cs in
+    let lt = changed_rises (after_changes slot cs) c in
+    record { serial = omega (arith, g.serial); present = λ e. absurd (omega (arith, g.serial, e)) }
+
+-- a job fits its slot after changes
+pub fits_changed : (job : Job) (slot : Slot) (s : Stage) (cs : List Change) → FitsStage job slot s → FitsStage job (after_changes slot cs) s
+fits_changed job slot (ToTake n) cs f = f
+fits_changed job slot (ToCommit n t) cs f = (f.0, record { origin = f.1.origin; request = f.1.request; given = given_changed slot t cs f.1.given })
+fits_changed job slot ToInstall cs f = tt
+fits_changed job slot (ToRaise content) cs f = f
+fits_changed job slot (ToAnswer content) cs f = f
+fits_changed job slot Gone cs f = tt
+
+pub first_fits : (job : Job) (slot : Slot) (ask : Ask) → FitsStage job slot (first_by ask)
+first_fits job slot (Run request) = omega arith
+first_fits job slot (Installs image) = tt
+
+took_fits : (memory : Bool) (job : Job) (slot : Slot) (n : ℕ) (p : Option Present) → slot.present ≡ p → n < 8 → FitsStage job slot (took n (taking memory job slot.serial p))
+took_fits memory job slot n None e lt = tt
+took_fits true job slot n (Some p) e lt = (omega arith, record { origin = refl; request = refl; given = record { serial = omega arith; present = λ _. e } })
+took_fits false job slot n (Some p) e lt = tt
+
+retaken_fits : (job : Job) (slot : Slot) (n : ℕ) (b : Bool) → nat_lt n 8 ≡ b → FitsStage job slot (if b then ToTake n else ToAnswer Unavailable)
+retaken_fits job slot n true e = ltb-true n 8 e
+retaken_fits job slot n false e = tt
+
+committed_fits : (job : Job) (slot : Slot) (n : ℕ) (t : Ticket) (o : CommitOutcome) (now : ℕ) → t.origin ≡ job.origin → FitsStage job slot (committed o n t now).stage
+committed_fits job slot n t Writes now own = own
+committed_fits job slot n t Keeps now own = own
+committed_fits job slot n t Overtakes now own = retaken_fits job slot n (nat_lt n 8) refl
+committed_fits job slot n t Ends now own = tt
+
+made_fits : (job : Job) (slot : Slot) (b : Bool) (p : Program) → FitsStage job slot (made (receipt_of p) (put_by b slot p).answer)
+made_fits job slot true p = tt
+made_fits job slot false p = tt
+
+installed_fits : (job : Job) (slot : Slot) (j : Judgement) → FitsStage job slot (installed j slot).stage
+installed_fits job slot (Accepts p) = made_fits job slot (nat_lt slot.serial last_serial) p
+installed_fits job slot (Breaks rule k) = tt
+installed_fits job slot Untypable = tt
+
+verified_fits : (memory : Bool) (s : Scene) → FitsStage s.job s.slot (verified memory s).stage
+verified_fits true s = installed_fits s.job s.slot (judged (image_of s.job.ask))
+verified_fits false s = tt
+
+abbrev at : Job → Slot → Stage → Scene
+at job slot stage = record { job = job; slot = slot; stage = stage }
+
+-- a job that an event moved fits its slot as it was
+pub row_fits : (e : Event) (job : Job) (slot : Slot) (s : Stage) → FitsStage job slot s → FitsStage job slot (row e (at job slot s)).stage
+row_fits (Lose k) job slot s f = tt
+row_fits (Take k memory) job slot (ToTake n) f = took_fits memory job slot n slot.present refl f
+row_fits (Take k memory) job slot other f = f
+row_fits (Commits k now) job slot (ToCommit n t) f = committed_fits job slot n t (outcome t slot) now f.1.origin
+row_fits (Commits k now) job slot other f = f
+row_fits (Install k memory) job slot ToInstall f = verified_fits memory (at job slot ToInstall)
+row_fits (Install k memory) job slot other f = f
+row_fits (Raise k) job slot (ToRaise content) f = f
+row_fits (Raise k) job slot other f = f
+row_fits (Answer k now) job slot (ToAnswer content) f = tt
+row_fits (Answer k now) job slot other f = f
+row_fits other job slot s f = f
+
+-- ---- the chain
+
+wants_post : (m : Method) (b : Bool) → (is_post m && b) ≡ true → (m ≡ Post) × (b ≡ true)
+wants_post Get b e = absurd (cc)
+wants_post Post b e = (refl, e)
+
+outcome_tests : (w same below : Bool) → outcome_by w same below ≡ Writes → (w ≡ true) × (same ≡ true)
+outcome_tests false same below e = absurd (cc)
+outcome_tests true false below e = absurd (cc)
+outcome_tests true true false e = absurd (cc)
+outcome_tests true true true e = (refl, refl)
+
+-- a commit that writes finds what its ticket found
+pub writes_found : (slot : Slot) (t : Ticket) → HasGiven slot t → outcome t slot ≡ Writes → slot.present ≡ Some t.found
+writes_found slot t g e =
+    let tests = outcome_tests (wants t) (slot.serial == t.serial) (nat_lt slot.serial last_serial) e in
+    g.present (sym (eqb-true slot.serial t.serial tests.1))
+
+-- a commit that writes is a link
+writes_link : (slot : Slot) (t : Ticket) → HasGiven slot t → outcome t slot ≡ Writes → IsLink slot (commit_of t)
+writes_link slot t g e =
+    let tests = outcome_tests (wants t) (slot.serial == t.serial) (nat_lt slot.serial last_serial) e in
+    let post = wants_post t.request.method (class_of (meaning_at t).code == 2) tests.0 in
+    record {
+      found = t.found;
+      present = writes_found slot t g e;
+      before = refl;
+      after = refl;
+      post = post.0;
+      class = eqb-true (class_of (meaning_at t).code) 2 post.1;
+    }
+
+commit_chain : (first : Slot) (cs : List Change) (n : ℕ) (t : Ticket) (now : ℕ) (o : CommitOutcome) → outcome t (after_changes first cs) ≡ o → HasGiven (after_changes first cs) t → IsChain first cs → IsChain first ((committed o n t now).changes ++ cs)
+commit_chain first cs n t now Writes e g chain = (writes_link (after_changes first cs) t g e, chain)
+commit_chain first cs n t now Keeps e g chain = chain
+commit_chain first cs n t now Overtakes e g chain = chain
+commit_chain first cs n t now Ends e g chain = chain
+
+put_chain : (first : Slot) (cs : List Change) (b : Bool) (slot : Slot) (p : Program) → IsChain first cs → IsChain first ((put_by b slot p).changes ++ cs)
+put_chain first cs true slot p chain = chain
+put_chain first cs false slot p chain = chain
+
+installed_chain : (first : Slot) (cs : List Change) (j : Judgement) (slot : Slot) → IsChain first cs → IsChain first ((installed j slot).changes ++ cs)
+installed_chain first cs (Accepts p) slot chain = put_chain first cs (nat_lt slot.serial last_serial) slot p chain
+installed_chain first cs (Breaks rule k) slot chain = chain
+installed_chain first cs Untypable slot chain = chain
+
+verified_chain : (memory : Bool) (first : Slot) (cs : List Change) (s : Scene) → IsChain first cs → IsChain first ((verified memory s).changes ++ cs)
+verified_chain true first cs s chain = installed_chain first cs (judged (image_of s.job.ask)) s.slot chain
+verified_chain false first cs s chain = chain
+
+pub row_chain : (e : Event) (job : Job) (first : Slot) (cs : List Change) (s : Stage) → FitsStage job (after_changes first cs) s → IsChain first cs → IsChain first ((row e (at job (after_changes first cs) s)).changes ++ cs)
+row_chain (Commits k now) job first cs (ToCommit n t) f chain = commit_chain first cs n t now (outcome t (after_changes first cs)) refl f.1.given chain
+row_chain (Commits k now) job first cs other f chain = chain
+row_chain (Install k memory) job first cs ToInstall f chain = verified_chain memory first cs (at job (after_changes first cs) ToInstall) chain
+row_chain (Install k memory) job first cs other f chain = chain
+row_chain (Take k memory) job first cs (ToTake n) f chain = chain
+row_chain (Take k memory) job first cs other f chain = chain
+row_chain (Raise k) job first cs (ToRaise content) f chain = chain
+row_chain (Raise k) job first cs other f chain = chain
+row_chain (Answer k now) job first cs (ToAnswer content) f chain = chain
+row_chain (Answer k now) job first cs other f chain = chain
+row_chain other job first cs s f chain = chain
+
+-- ---- safe programs
+
+payload_fits : (ask : Ask) → AskWithin ask → length (request_of ask).payload ≤ 1024
+payload_fits (Run request) f = f.1
+payload_fits (Installs image) f = omega arith
+
+-- what a slot that fits gives to a job within its limits is an input of its program
+pub input_of : (job : Job) (p : Present) (request : Request) → AskWithin job.ask → request ≡ request_of job.ask → FitsPresent p → IsInput p.program request p.vars
+input_of job p request within is fits = record { payload = subst (λ (r : Request). length r.payload ≤ 1024) (sym is) (payload_fits job.ask within); vars = fits.vars }
+
+written_fits : (job : Job) (slot : Slot) (t : Ticket) → AskWithin job.ask → IsTicketOf job slot t → slot.present ≡ Some t.found → FitsSlot slot.present → FitsSlot (with_vars (meaning_at t).vars slot.present)
+written_fits job slot t within own e fits =
+    let found : FitsPresent t.found = subst FitsSlot e fits in
+    let runs = found.safe.runs.run t.request t.found.vars (input_of job t.found t.request within own.request found) in
+    let here : FitsPresent (record t.found { vars = (meaning_at t).vars }) = record { safe = found.safe; vars = runs.vars } in
+    subst (λ (p : Option Present). FitsSlot (with_vars (meaning_at t).vars p)) (sym e) here
+
+commit_safe : (job : Job) (slot : Slot) (n : ℕ) (t : Ticket) (now : ℕ) (o : CommitOutcome) → outcome t slot ≡ o → AskWithin job.ask → IsTicketOf job slot t → FitsSlot slot.present → FitsSlot (after_changes slot (committed o n t now).changes).present
+commit_safe job slot n t now Writes e within own fits = written_fits job slot t within own (writes_found slot t own.given e) fits
+commit_safe job slot n t now Keeps e within own fits = fits
+commit_safe job slot n t now Overtakes e within own fits = fits
+commit_safe job slot n t now Ends e within own fits = fits
+
+put_safe : (slot : Slot) (b : Bool) (p : Program) → AllSafe (put_by b slot p).changes → FitsSlot slot.present → FitsSlot (after_changes slot (put_by b slot p).changes).present
+put_safe slot true p safe fits = record { safe = safe.0; vars = length-replicate p.vars_size 0 }
+put_safe slot false p safe fits = fits
+
+installed_safe : (slot : Slot) (j : Judgement) → AllSafe (installed j slot).changes → FitsSlot slot.present → FitsSlot (after_changes slot (installed j slot).changes).present
+installed_safe slot (Accepts p) safe fits = put_safe slot (nat_lt slot.serial last_serial) p safe fits
+installed_safe slot (Breaks rule k) safe fits = fits
+installed_safe slot Untypable safe fits = fits
+
+verified_safe : (memory : Bool) (s : Scene) → AllSafe (verified memory s).changes → FitsSlot s.slot.present → FitsSlot (after_changes s.slot (verified memory s).changes).present
+verified_safe true s safe fits = installed_safe s.slot (judged (image_of s.job.ask)) safe fits
+verified_safe false s safe fits = fits
+
+pub row_safe : (e : Event) (job : Job) (slot : Slot) (s : Stage) → AskWithin job.ask → FitsStage job slot s → AllSafe (row e (at job slot s)).changes → FitsSlot slot.present → FitsSlot (after_changes slot (row e (at job slot s)).changes).present
+row_safe (Commits k now) job slot (ToCommit n t) within f safe fits = commit_safe job slot n t now (outcome t slot) refl within f.1 fits
+row_safe (Commits k now) job slot other within f safe fits = fits
+row_safe (Install k memory) job slot ToInstall within f safe fits = verified_safe memory (at job slot ToInstall) safe fits
+row_safe (Install k memory) job slot other within f safe fits = fits
+row_safe (Take k memory) job slot (ToTake n) within f safe fits = fits
+row_safe (Take k memory) job slot other within f safe fits = fits
+row_safe (Raise k) job slot (ToRaise content) within f safe fits = fits
+row_safe (Raise k) job slot other within f safe fits = fits
+row_safe (Answer k now) job slot (ToAnswer content) within f safe fits = fits
+row_safe (Answer k now) job slot other within f safe fits = fits
+row_safe other job slot s within f safe fits = fits

@@ -1,0 +1,77 @@
+-- The moments of the front and of the shards.
+use Rattle.std.proofs.Common.{◌≡◌, ℕ, List, [], ◌∷◌, ◌++◌, Bool, true, false, Option, Some, None, refl, ap, ◌∙◌, max, if◌then◌else◌}
+use Rattle.std.specs.Prelude.{is_some, ◌%◌, ◌==◌}
+use Rattle.fc_verify.specs.Accepted.{Judgement, Accepts, Breaks, Untypable}
+use Rattle.fc_verify.specs.Judged.{judged}
+use Rattle.fc_registry.specs.declared.job.Job.{Job}
+use Rattle.fc_registry.specs.declared.commit.CommitOutcome.{CommitOutcome}
+use Rattle.fc_registry.specs.declared.commit.CommitOutcome.TheVariants.{Writes, Keeps, Overtakes, Ends}
+use Rattle.fc_registry.specs.Slots.{Slot, Ticket}
+use Rattle.fc_registry.specs.Calls.{outcome}
+use Rattle.fc_core.specs.declared.event.Event.{Event}
+use Rattle.fc_core.specs.declared.event.Event.TheVariants.{Deliver, Take, Commit, Install, Raise, Answer, Tick}
+use Rattle.fc_core.specs.declared.stage.Stage.{Stage}
+use Rattle.fc_core.specs.declared.stage.Stage.TheVariants.{ToTake, ToCommit, ToInstall, ToRaise, ToAnswer}
+use Rattle.fc_core.specs.AnswerLaws.{answer_moment, commit_moment, greatest, is_of_shard, moments_in, moments_of, shard_moments_of}
+use Rattle.fc_core.specs.History.{History, Begins, Then, Seen, seen, job, moment_after, scene, shard_moment_after, slot_at, stage}
+use Rattle.fc_core.specs.Laws.{slot_of, stage_named}
+use Rattle.fc_core.specs.Stages.{Scene, content_at, committed, handed, image_of, installed, names, row, verified}
+
+answer_handed : (st : Stage) (m now : ℕ) (ms : List ℕ) → m ≡ greatest ms → (if is_some (content_at st) then max m now else m) ≡ greatest (answer_moment st now ++ ms)
+answer_handed (ToAnswer content) m now ms is = ap (λ (x : ℕ). max x now) is
+answer_handed other m now ms is = is
+
+front_handed : (e : Event) (s : Seen) (ms : List ℕ) → s.moment ≡ greatest ms → moment_after e s ≡ greatest (moments_in e s ++ ms)
+front_handed (Deliver now to bytes) s ms is = ap (λ (x : ℕ). max x now) is
+front_handed (Tick now) s ms is = ap (λ (x : ℕ). max x now) is
+front_handed (Answer k now) s ms is = answer_handed (stage s k) s.moment now ms is
+front_handed other s ms is = is
+
+pub moment_is_greatest : (h : History) → (seen h).moment ≡ greatest (moments_of h)
+unfolding seen
+moment_is_greatest (Begins serial id) = refl
+moment_is_greatest (Then h r) = front_handed r.event (seen h) (moments_of h) (moment_is_greatest h)
+
+abbrev at : Job → Slot → Stage → Scene
+at job slot stage = record { job = job; slot = slot; stage = stage }
+
+committed_hands : (n : ℕ) (t : Ticket) (now : ℕ) (o : CommitOutcome) → (committed o n t now).hands ≡ Some now
+committed_hands n t now Writes = refl
+committed_hands n t now Keeps = refl
+committed_hands n t now Overtakes = refl
+committed_hands n t now Ends = refl
+
+installed_hands : (j : Judgement) (slot : Slot) → (installed j slot).hands ≡ None
+installed_hands (Accepts p) slot = refl
+installed_hands (Breaks rule k) slot = refl
+installed_hands Untypable slot = refl
+
+verified_hands : (memory : Bool) (s : Scene) → (verified memory s).hands ≡ None
+verified_hands true s = installed_hands (judged (image_of s.job.ask)) s.slot
+verified_hands false s = refl
+
+row_handed : (e : Event) (job : Job) (slot : Slot) (st : Stage) (m : ℕ) (ms : List ℕ) → m ≡ greatest ms → handed (row e (at job slot st)).hands m ≡ greatest (commit_moment e st ++ ms)
+row_handed (Commit k now) job slot (ToCommit n t) m ms is = ap (λ (o : Option ℕ). handed o m) (committed_hands n t now (outcome t slot)) ∙ ap (λ (x : ℕ). max x now) is
+row_handed (Commit k now) job slot other m ms is = is
+row_handed (Install k memory) job slot ToInstall m ms is = ap (λ (o : Option ℕ). handed o m) (verified_hands memory (at job slot ToInstall)) ∙ is
+row_handed (Install k memory) job slot other m ms is = is
+row_handed (Take k memory) job slot (ToTake n) m ms is = is
+row_handed (Take k memory) job slot other m ms is = is
+row_handed (Raise k) job slot (ToRaise content) m ms is = is
+row_handed (Raise k) job slot other m ms is = is
+row_handed (Answer k now) job slot (ToAnswer content) m ms is = is
+row_handed (Answer k now) job slot other m ms is = is
+row_handed other job slot st m ms is = is
+
+shard_if : (s : Seen) (e : Event) (k i : ℕ) (b : Bool) (ms : List ℕ) → s.shard_moment i ≡ greatest ms → (if b then handed (row e (scene s k)).hands (s.shard_moment i) else s.shard_moment i) ≡ greatest (if b then commit_moment e (stage s k) ++ ms else ms)
+shard_if s e k i true ms is = row_handed e (job s k) (slot_at s (slot_of s k)) (stage s k) (s.shard_moment i) ms is
+shard_if s e k i false ms is = is
+
+shard_handed : (s : Seen) (e : Event) (o : Option ℕ) (i : ℕ) (ms : List ℕ) → s.shard_moment i ≡ greatest ms → shard_moment_after o e s i ≡ greatest (if is_of_shard i s o then commit_moment e (stage_named s o) ++ ms else ms)
+shard_handed s e None i ms is = is
+shard_handed s e (Some k) i ms is = shard_if s e k i (slot_of s k % 8 == i) ms is
+
+pub shard_moment_is_greatest : (h : History) (i : ℕ) → (seen h).shard_moment i ≡ greatest (shard_moments_of i h)
+unfolding seen
+shard_moment_is_greatest (Begins serial id) i = refl
+shard_moment_is_greatest (Then h r) i = shard_handed (seen h) r.event (names r.event) i (shard_moments_of i h) (shard_moment_is_greatest h i)

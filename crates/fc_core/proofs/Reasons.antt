@@ -1,0 +1,131 @@
+-- Where each answer comes from.
+use Rattle.std.proofs.Common.{◌≡◌, ℕ, ◌+◌, ◌≤◌, length, Bool, true, false, Option, Some, None, refl, sym, ap, ◌∙◌, subst, ◌⊎◌, inl, inr, arith, if◌then◌else◌}
+use Rattle.std.specs.Prelude.{nat_lt, ◌==◌, is_none}
+use borrow.Author.Tests.{ltb-true, ltb-false}
+use Rattle.std.proofs.lemmas.Bool.{eq-eqb}
+use Rattle.coap_msg.specs.declared.types.Emission.{Emission}
+use Rattle.fc_kinds.specs.Meaning.{Program}
+use Rattle.fc_verify.specs.Accepted.{Judgement, Accepts, Breaks, Untypable}
+use Rattle.fc_verify.specs.Judged.{judged}
+use Rattle.fc_registry.specs.declared.job.Ask.{Ask}
+use Rattle.fc_registry.specs.declared.job.Ask.TheVariants.{Run, Install as Installs}
+use Rattle.fc_registry.specs.declared.job.Job.{Job}
+use Rattle.fc_registry.specs.declared.commit.CommitOutcome.{CommitOutcome}
+use Rattle.fc_registry.specs.declared.commit.CommitOutcome.TheVariants.{Writes, Keeps, Overtakes, Ends}
+use Rattle.fc_registry.specs.Slots.{Slot, Present, Ticket, last_serial}
+use Rattle.fc_registry.specs.Calls.{outcome, outcome_by, put_by, taking, wants}
+use Rattle.fc_core.specs.declared.event.Event.{Event}
+use Rattle.fc_core.specs.declared.event.Event.TheVariants.{Take, Commit, Install, Raise, Answer, Lose}
+use Rattle.fc_core.specs.declared.stage.Stage.{Stage}
+use Rattle.fc_core.specs.declared.stage.Stage.TheVariants.{ToTake, ToCommit, ToInstall, ToRaise, ToAnswer}
+use Rattle.fc_core.specs.declared.stage.Task.{Task}
+use Rattle.fc_core.specs.Contents.{Content, Missing, Unavailable, Made, Rejected, Untyped}
+use Rattle.fc_core.specs.AnswerLaws.{IsCause, NoTicket, NoMemory, Overtaken, LastCommit, LastInstall}
+use Rattle.fc_core.specs.History.{Entry, History, Then, Seen, seen, and_then, did, job, slot_at, stage, task_at}
+use Rattle.fc_core.specs.Laws.{answer_at, slot_of, takings_of}
+use Rattle.fc_core.specs.Stages.{Scene, committed, first_by, image_of, installed, made, names, ran, receipt_of, row, took, verified}
+use Rattle.fc_core.proofs.Others.{is_here, named_stage}
+use Rattle.fc_core.proofs.Steps.{Becomes, Moves, Stays, Comes, becomes}
+use Rattle.fc_core.proofs.Takings.{Took, known}
+
+abbrev at : Job → Slot → Stage → Scene
+at job slot stage = record { job = job; slot = slot; stage = stage }
+
+module _ (k : ℕ) (job : Job) (slot : Slot) (taken : ℕ) where
+  -- it answers this for a reason
+  abbrev Why : Event → Stage → Content → Type 0
+  Why e s c = IsCause e k job slot s taken c
+
+  abbrev Answered : Event → Stage → Stage → Content → Type 0
+  Answered e s new c = answer_at new ≡ Some c → Why e s c
+
+  -- of the content that it is
+  so : (e : Event) (s : Stage) (c d : Content) → Why e s c → Some c ≡ Some d → Why e s d
+  so e s c d why is = let same : c ≡ d = cc is in subst (Why e s) same why
+
+  taking_why : (memory : Bool) (n : ℕ) (p : Option Present) (c : Content) → slot.present ≡ p → Answered (Take k memory) (ToTake n) (took n (taking memory job slot.serial p)) c
+  taking_why memory n None c is e = so (Take k memory) (ToTake n) Missing c (record { memory = memory; count = n; event = refl; is = refl; empty = is }) e
+  taking_why true n (Some p) c is e = absurd (cc)
+  taking_why false n (Some p) c is e = so (Take k false) (ToTake n) Unavailable c (NoTicket n p refl refl is) e
+
+  outcome_overtakes : (w same below : Bool) → outcome_by w same below ≡ Overtakes → (w ≡ true) × (same ≡ false)
+  outcome_overtakes false same below e = absurd (cc)
+  outcome_overtakes true false below e = (refl, refl)
+  outcome_overtakes true true false e = absurd (cc)
+  outcome_overtakes true true true e = absurd (cc)
+
+  outcome_ends : (w same below : Bool) → outcome_by w same below ≡ Ends → (w ≡ true) × (below ≡ false)
+  outcome_ends false same below e = absurd (cc)
+  outcome_ends true false below e = absurd (cc)
+  outcome_ends true true false e = (refl, refl)
+  outcome_ends true true true e = absurd (cc)
+
+  retaken_why : (now n : ℕ) (t : Ticket) (b : Bool) (c : Content) → nat_lt n 8 ≡ b → taken ≡ n → n ≤ 8 → outcome t slot ≡ Overtakes → Answered (Commit k now) (ToCommit n t) (if b then ToTake n else ToAnswer Unavailable) c
+  retaken_why now n t true c lt is le comes e = absurd (cc e)
+  retaken_why now n t false c lt is le comes e =
+      let tests = outcome_overtakes (wants t) (slot.serial == t.serial) (nat_lt slot.serial last_serial) comes in
+      let past : 8 ≤ n = ltb-false n 8 lt in
+      so (Commit k now) (ToCommit n t) Unavailable c (Overtaken now n t refl refl tests.0 (λ (same : slot.serial ≡ t.serial). let is_same : (slot.serial == t.serial) ≡ true = eq-eqb slot.serial t.serial same in absurd (cc (is_same, tests.1))) (omega arith)) e
+
+  committed_why : (now n : ℕ) (t : Ticket) (o : CommitOutcome) (c : Content) → taken ≡ n → n ≤ 8 → outcome t slot ≡ o → Answered (Commit k now) (ToCommit n t) (committed o n t now).stage c
+  committed_why now n t Writes c is le comes e = so (Commit k now) (ToCommit n t) (ran t) c tt e
+  committed_why now n t Keeps c is le comes e = so (Commit k now) (ToCommit n t) (ran t) c tt e
+  committed_why now n t Overtakes c is le comes e = retaken_why now n t (nat_lt n 8) c refl is le comes e
+  committed_why now n t Ends c is le comes e =
+      let tests = outcome_ends (wants t) (slot.serial == t.serial) (nat_lt slot.serial last_serial) comes in
+      so (Commit k now) (ToCommit n t) Unavailable c (LastCommit now n t refl refl tests.0 (ltb-false slot.serial last_serial tests.1)) e
+
+  put_why : (p : Program) (b : Bool) (c : Content) → judged (image_of job.ask) ≡ Accepts p → nat_lt slot.serial last_serial ≡ b → Answered (Install k true) ToInstall (made (receipt_of p) (put_by b slot p).answer) c
+  put_why p true c is lt e = so (Install k true) ToInstall (Made (record (receipt_of p) { version = slot.serial + 1 }) (is_none slot.present)) c (record { program = p; event = refl; is = refl; accepted = is; below = ltb-true slot.serial last_serial lt; version = refl; cost = refl; budget = refl; vars = refl; empty = refl }) e
+  put_why p false c is lt e = so (Install k true) ToInstall Unavailable c (LastInstall p refl refl is (ltb-false slot.serial last_serial lt)) e
+
+  installed_why : (j : Judgement) (c : Content) → judged (image_of job.ask) ≡ j → Answered (Install k true) ToInstall (installed j slot).stage c
+  installed_why (Accepts p) c is e = put_why p (nat_lt slot.serial last_serial) c is refl e
+  installed_why (Breaks rule n) c is e = so (Install k true) ToInstall (Rejected rule n) c (record { event = refl; is = refl; judged_as = is }) e
+  installed_why Untypable c is e = so (Install k true) ToInstall Untyped c (record { event = refl; is = refl; judged_as = is }) e
+
+  verified_why : (memory : Bool) (c : Content) → Answered (Install k memory) ToInstall (verified memory (at job slot ToInstall)).stage c
+  verified_why true c e = installed_why (judged (image_of job.ask)) c refl e
+  verified_why false c e = so (Install k false) ToInstall Unavailable c (NoMemory refl refl) e
+
+-- how many tickets a job took that is to commit
+abbrev IsCount : Stage → ℕ → Type 0
+IsCount (ToCommit n t) taken = (taken ≡ n) × (n ≤ 8)
+IsCount other taken = Unit {0}
+
+row_why : (e : Event) (k : ℕ) (job : Job) (slot : Slot) (s : Stage) (taken : ℕ) (c : Content) → names e ≡ Some k → IsCount s taken → answer_at (row e (at job slot s)).stage ≡ Some c → (answer_at s ≡ Some c) ⊎ IsCause e k job slot s taken c
+row_why (Take j memory) k job slot (ToTake n) taken c named f e = let same : j ≡ k = cc named in inr (subst (λ (i : ℕ). IsCause (Take i memory) k job slot (ToTake n) taken c) (sym same) (taking_why k job slot taken memory n slot.present c refl e))
+row_why (Take j memory) k job slot other taken c named f e = inl e
+row_why (Commit j now) k job slot (ToCommit n t) taken c named f e = let same : j ≡ k = cc named in inr (subst (λ (i : ℕ). IsCause (Commit i now) k job slot (ToCommit n t) taken c) (sym same) (committed_why k job slot taken now n t (outcome t slot) c f.0 f.1 refl e))
+row_why (Commit j now) k job slot other taken c named f e = inl e
+row_why (Install j memory) k job slot ToInstall taken c named f e = let same : j ≡ k = cc named in inr (subst (λ (i : ℕ). IsCause (Install i memory) k job slot ToInstall taken c) (sym same) (verified_why k job slot taken memory c e))
+row_why (Install j memory) k job slot other taken c named f e = inl e
+row_why (Raise j) k job slot (ToRaise content) taken c named f e = inl e
+row_why (Raise j) k job slot other taken c named f e = inl e
+row_why (Answer j now) k job slot (ToAnswer content) taken c named f e = absurd (cc e)
+row_why (Answer j now) k job slot other taken c named f e = inl e
+row_why (Lose j) k job slot s taken c named f e = absurd (cc e)
+row_why other k job slot s taken c named f e = absurd (cc named)
+
+count_is : (s : Stage) (h : History) (k : ℕ) → Took (takings_of h k) s → IsCount s (length (takings_of h k))
+count_is (ToCommit n t) h k f = (f.0, f.1)
+count_is other h k f = tt
+
+none_first : (ask : Ask) (c : Content) → answer_at (first_by ask) ≡ Some c → ⊥
+none_first (Run request) c e = absurd (cc e)
+none_first (Installs image) c e = absurd (cc e)
+
+why_by : (h : History) (r : Entry) (k : ℕ) (c : Content) (t : Task) → Becomes (names r.event) r.event (seen h) k t → answer_at t.stage ≡ Some c → (answer_at (stage (seen h) k) ≡ Some c) ⊎ IsCause r.event k (job (seen h) k) (slot_at (seen h) (slot_of (seen h) k)) (stage (seen h) k) (length (takings_of h k)) c
+why_by h r k c t (Moves named is) e = row_why r.event k (job (seen h) k) (slot_at (seen h) (slot_of (seen h) k)) (stage (seen h) k) (length (takings_of h k)) c named (count_is (stage (seen h) k) h k (known h k)) (ap (λ (x : Task). answer_at x.stage) (sym is) ∙ e)
+why_by h r k c t (Stays other is) e = inl (ap (λ (x : Task). answer_at x.stage) (sym is) ∙ e)
+why_by h r k c t (Comes new j is) e = absurd (none_first j.ask c (ap (λ (x : Task). answer_at x.stage) (sym is) ∙ e))
+
+pub answers_have_causes : (h : History) (r : Entry) (k : ℕ) (c : Content) → answer_at (stage (seen (Then h r)) k) ≡ Some c → (answer_at (stage (seen h) k) ≡ Some c) ⊎ IsCause r.event k (job (seen h) k) (slot_at (seen h) (slot_of (seen h) k)) (stage (seen h) k) (length (takings_of h k)) c
+unfolding seen
+answers_have_causes h r k c e = why_by h r k c (task_at (and_then r (seen h)).tasks k) (becomes r (seen h) k) e
+
+-- a taking that finds no program answers so
+pub empty_misses : (s : Seen) (k count : ℕ) (memory : Bool) (o : Option Emission) → stage s k ≡ ToTake count → (slot_at s (slot_of s k)).present ≡ None → stage (and_then (did (Take k memory) o) s) k ≡ ToAnswer Missing
+empty_misses s k count memory o is empty = named_stage (did (Take k memory) o) s k (is_here s k (ToTake count) is (λ e. absurd (cc e))) refl
+    ∙ (ap (λ (x : Stage). (row (Take k memory) (at (job s k) (slot_at s (slot_of s k)) x)).stage) is
+    ∙ ap (λ (x : Option Present). took count (taking memory (job s k) (slot_at s (slot_of s k)).serial x)) empty)

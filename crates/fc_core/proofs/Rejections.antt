@@ -1,0 +1,27 @@
+-- A refused image leaves its answer, and no change.
+use Rattle.std.proofs.Common.{◌≡◌, ℕ, ◌<◌, ◌/◌, List, Bool, sym, ap, ◌∙◌, subst}
+use Rattle.std.specs.Prelude.{nat_lt}
+use Rattle.std.proofs.lemmas.Bool.{lt-ltb, le-ltb}
+use Rattle.std.proofs.lemmas.List.{set-get_or}
+use Rattle.fc_isa.specs.declared.rule.Rule.{Rule}
+use Rattle.fc_isa.specs.declared.rule.Fault.{Fault}
+use Rattle.fc_isa.specs.Rules.{number_of}
+use Rattle.fc_verify.specs.Accepted.{Judgement, Accepts, Breaks, Untypable}
+use Rattle.fc_verify.specs.Refusals.{IsFaultOf}
+use Rattle.fc_registry.specs.Slots.{Slot, Shard, slot_in, with_slot, new_slot}
+use Rattle.fc_core.specs.declared.stage.Stage.TheVariants.{ToAnswer}
+use Rattle.fc_core.specs.Contents.{Rejected}
+use Rattle.fc_core.specs.Ends.{refused_by}
+use Rattle.fc_core.specs.Stages.{Move, installed, moves}
+
+-- the move of a refusal is the one that the judgement says
+pub rejected_move : (image : List ℕ) (j : Judgement) (f : Fault) (slot : Slot) → IsFaultOf image j f → moves (ToAnswer (refused_by (nat_lt (number_of f.rule) 20) f)) ≡ installed j slot
+rejected_move image (Accepts p) f slot is = absurd is
+rejected_move image (Breaks rule k) f slot is =
+    let low : number_of f.rule < 20 = subst (λ (r : Rule). number_of r < 20) (sym is.0) is.2 in
+    ap (λ (b : Bool). moves (ToAnswer (refused_by b f))) (lt-ltb (number_of f.rule) 20 low) ∙ λ i. moves (ToAnswer (Rejected (is.0 i) (is.1 i)))
+rejected_move image Untypable f slot is = ap (λ (b : Bool). moves (ToAnswer (refused_by b f))) (le-ltb (number_of f.rule) 20 is.0)
+
+-- a slot written as it was
+pub same_slot : (shard : Shard) (n : ℕ) → with_slot shard n (slot_in shard n) ≡ shard
+same_slot shard n = λ i. record shard { slots = set-get_or shard.slots (n / 8) (new_slot 0) i }

@@ -1,0 +1,230 @@
+-- Which deliveries open an exchange, and which are repeats.
+use Rattle.std.proofs.Common.{◌≡◌, ℕ, ◌+◌, List, [], ◌∷◌, ◌++◌, length, map, Bool, true, false, cond, Option, Some, None, Result, Ok, Err, refl, sym, ap, ◌∙◌, subst, arith, max, length-append}
+use Rattle.std.specs.Prelude.{nat_lt, ◌==◌, ◌&&◌, filter, find, is_some, if◌then◌else◌}
+use borrow.Author.Tests.{ltb-true, lt-ltb}
+use Rattle.std.proofs.lemmas.Bool.{and_parts, and_from}
+use Rattle.std.proofs.lemmas.List.{append-nil, length-map}
+use Rattle.arrayvec.specs.ArrayVec.{ArrayVec}
+use Rattle.coap_msg.specs.declared.types.Bad.{Bad}
+use Rattle.coap_msg.specs.declared.types.Bad.TheVariants as bad
+use Rattle.coap_msg.specs.declared.types.Emission.{Emission}
+use Rattle.coap_msg.specs.declared.types.Endpoint.{Endpoint}
+use Rattle.coap_msg.specs.Reading.{reading_of}
+use Rattle.coap_msg.specs.Wire.{Message}
+use Rattle.coap_opts.specs.Verdict.{Verdict, IsAsked, IsRefused, IsSilent, IsReset, IsSignal, IsIgnored, verdict}
+use Rattle.coap_dedup.specs.declared.exchange.Exchange.{Exchange}
+use Rattle.coap_dedup.specs.Exchanges.{Look, IsNew, IsBusy, IsAgain, IsSilent as IsAnsweredNon, IsFull, answered_if, has_room, is_of, look_by, repeated_by}
+use Rattle.fc_registry.specs.declared.job.Job.{Job}
+use Rattle.fc_registry.specs.declared.job.Opening.{Opening}
+use Rattle.fc_core.specs.declared.event.Event.{Event}
+use Rattle.fc_core.specs.declared.event.Event.TheVariants.{Deliver, Answer}
+use Rattle.fc_core.specs.Exchanges.{FrontState}
+use Rattle.fc_core.specs.ExchangeLaws.{IsAsking, IsOpening, IsRepeat, Opens, Repeats, again, is_within, repeat_emits, repeated}
+use Rattle.fc_core.specs.History.{Entry, Seen, and_then, answered_in, exchanges_after, exchanges_received, front_at, ids_after, job, received_at, stage, tasks_brought, tasks_moved}
+use Rattle.fc_core.specs.Ids.{Ids}
+use Rattle.fc_core.specs.Legal.{Emits}
+use Rattle.fc_core.specs.Receiving.{Received, Repeated, Again, Silenced, Refused, Opened, brought, drawn_by, kept_of, look_in, looked, next_opening, opened_by, received, received_as, received_read, sent}
+use Rattle.fc_core.specs.Stages.{content_at, names, new_task}
+
+-- ---- what a request is to the exchanges
+
+found_if : {X : Type 0} (p q : X → Bool) (x : X) (fs : List X) (o : Option X) (b : Bool) → find p fs ≡ o → find p (cond b (x ∷ fs) fs) ≡ cond (b && p x) (Some x) o
+found_if p q x fs o true is = ap (λ y. cond (p x) (Some x) y) is
+found_if p q x fs o false is = is
+
+find-filter : {X : Type 0} (p q : X → Bool) (xs : List X) → find p (filter q xs) ≡ find (λ x. q x && p x) xs
+find-filter p q [] = refl
+find-filter p q (x ∷ xs) = found_if p q x (filter q xs) (find (λ y. q y && p y) xs) (q x) (find-filter p q xs)
+
+-- what a request is where it is new
+abbrev new_as : Verdict → Message → Received
+new_as (IsAsked asked) m = Opened m asked
+new_as (IsRefused answer) m = Refused m answer
+new_as other m = Silenced m
+
+asking_looked : (f : FrontState) (to : Endpoint) (m : Message) (v : Verdict) → IsAsking v → received_as f to m v ≡ looked (look_in f to m) m (new_as v m)
+asking_looked f to m (IsAsked asked) a = refl
+asking_looked f to m (IsRefused answer) a = refl
+asking_looked f to m IsSilent a = refl
+asking_looked f to m IsReset a = absurd a
+asking_looked f to m (IsSignal reset) a = absurd a
+asking_looked f to m IsIgnored a = absurd a
+
+pub received_of : (f : FrontState) (to : Endpoint) (bytes : List ℕ) (r : Result Message Bad) → reading_of bytes ≡ r → received f to bytes ≡ received_read f to r
+unfolding received
+received_of f to bytes r is = ap (received_read f to) is
+
+abbrev pub room_at : Seen → ℕ → Bool
+room_at s at = has_room (length (filter (is_within at) s.exchanges)) (length s.exchanges)
+
+pub look_is : (s : Seen) (now : ℕ) (to : Endpoint) (m : Message) → look_in (front_at s now) to m ≡ look_by (repeated s (max s.moment now) to m.id) (room_at s (max s.moment now))
+look_is s now to m = ap (λ o. look_by o (room_at s (max s.moment now))) (find-filter (is_of to m.id) (is_within (max s.moment now)) s.exchanges)
+
+request_is : (s : Seen) (now : ℕ) (to : Endpoint) (bytes : List ℕ) (m : Message) (o : Option Exchange) → reading_of bytes ≡ Ok m → IsAsking (verdict m) → repeated s (max s.moment now) to m.id ≡ o → received_at s now to bytes ≡ looked (look_by o (room_at s (max s.moment now))) m (new_as (verdict m) m)
+request_is s now to bytes m o read asks is =
+    received_of (front_at s now) to bytes (Ok m) read
+    ∙ (asking_looked (front_at s now) to m (verdict m) asks
+    ∙ ap (λ l. looked l m (new_as (verdict m) m)) (look_is s now to m ∙ ap (λ x. look_by x (room_at s (max s.moment now))) is))
+
+-- ---- repeats
+
+-- what a repeat is
+abbrev repeat_as : Bool → Option (ArrayVec ℕ) → Received
+repeat_as true (Some bytes) = Again bytes.items
+repeat_as confirmable answer = Repeated
+
+repeat_looked : (c : Bool) (a : Option (ArrayVec ℕ)) (m : Message) (new : Received) → looked (repeated_by c a) m new ≡ repeat_as c a
+repeat_looked true None m new = refl
+repeat_looked false None m new = refl
+repeat_looked true (Some bytes) m new = refl
+repeat_looked false (Some bytes) m new = refl
+
+-- a datagram that opens, keeps, draws and brings nothing
+record IsIdle (x : Received) : Type 0 where
+  opens : (o : Opening) (to : Endpoint) → opened_by x o to ≡ []
+  keeps : (emitted : Option Emission) → kept_of x emitted ≡ None
+  draws : (ids : Ids) (at : ℕ) → drawn_by x ids at ≡ ids
+  brings : (o : Opening) (to : Endpoint) → brought x o to ≡ []
+
+repeat_idle : (c : Bool) (a : Option (ArrayVec ℕ)) → IsIdle (repeat_as c a)
+repeat_idle true (Some bytes) = record { opens = λ o to. refl; keeps = λ emitted. refl; draws = λ ids at. refl; brings = λ o to. refl }
+repeat_idle true None = record { opens = λ o to. refl; keeps = λ emitted. refl; draws = λ ids at. refl; brings = λ o to. refl }
+repeat_idle false a = record { opens = λ o to. refl; keeps = λ emitted. refl; draws = λ ids at. refl; brings = λ o to. refl }
+
+repeat_sent : (c : Bool) (a : Option (ArrayVec ℕ)) (f : FrontState) (to : Endpoint) → sent (repeat_as c a) f to ≡ again to c a
+repeat_sent true (Some bytes) f to = refl
+repeat_sent true None f to = refl
+repeat_sent false (Some bytes) f to = refl
+repeat_sent false None f to = refl
+
+repeat_is : (s : Seen) (now : ℕ) (to : Endpoint) (bytes : List ℕ) (e : Exchange) → IsRepeat s now to bytes e → received_at s now to bytes ≡ repeat_as e.confirmable e.answer
+repeat_is s now to bytes e w = request_is s now to bytes w.message (Some e) w.read w.asks w.is ∙ repeat_looked e.confirmable e.answer w.message (new_as (verdict w.message) w.message)
+
+idle : (s : Seen) (now : ℕ) (to : Endpoint) (bytes : List ℕ) (e : Exchange) → IsRepeat s now to bytes e → IsIdle (received_at s now to bytes)
+idle s now to bytes e w = subst IsIdle (sym (repeat_is s now to bytes e w)) (repeat_idle e.confirmable e.answer)
+
+-- what is kept of nothing leaves the exchanges as they are
+kept_nothing : (o : Option Emission) (n : ℕ) (new old : List Exchange) → o ≡ None → new ≡ [] → answered_in n o (old ++ new) ≡ old
+kept_nothing None n new old is none = ap (λ (l : List Exchange). old ++ l) none ∙ append-nil old
+kept_nothing (Some emission) n new old is none = absurd (cc)
+
+opens_nothing : (s : Seen) (e : Event) (x : Exchange) (o : Option Emission) → Repeats s e x → exchanges_after e o s ≡ s.exchanges
+opens_nothing s (Deliver now to bytes) x o w =
+    let i = idle s now to bytes.now x w in
+    kept_nothing (kept_of (received_at s now to bytes.now) o) (length s.exchanges) (opened_by (received_at s now to bytes.now) (next_opening (front_at s now)) to) s.exchanges (i.keeps o) (i.opens (next_opening (front_at s now)) to)
+opens_nothing s other x o w = absurd w
+
+brings_nothing : (s : Seen) (e : Event) (x : Exchange) → Repeats s e x → tasks_moved (names e) e s ++ tasks_brought e s ≡ s.tasks
+brings_nothing s (Deliver now to bytes) x w = ap (λ (l : List Job). s.tasks ++ map new_task l) ((idle s now to bytes.now x w).brings (next_opening (front_at s now)) to) ∙ append-nil s.tasks
+brings_nothing s other x w = absurd w
+
+draws_nothing : (s : Seen) (e : Event) (x : Exchange) → Repeats s e x → ids_after e s ≡ s.ids
+draws_nothing s (Deliver now to bytes) x w = (idle s now to bytes.now x w).draws s.ids (max s.moment now)
+draws_nothing s other x w = absurd w
+
+emits_again : (s : Seen) (e : Event) (x : Exchange) (o : Option Emission) → Repeats s e x → Emits s e o → o ≡ repeat_emits e x
+emits_again s (Deliver now to bytes) x o w legal = legal ∙ (ap (λ (y : Received). sent y (front_at s now) to) (repeat_is s now to bytes.now x w) ∙ repeat_sent x.confirmable x.answer (front_at s now) to)
+emits_again s other x o w legal = absurd w
+
+pub repeats_open_nothing : (r : Entry) (s : Seen) (e : Exchange) → Repeats s r.event e → (and_then r s).exchanges ≡ s.exchanges
+repeats_open_nothing r s e w = opens_nothing s r.event e r.emitted w
+
+pub repeats_bring_nothing : (r : Entry) (s : Seen) (e : Exchange) → Repeats s r.event e → (and_then r s).tasks ≡ s.tasks
+repeats_bring_nothing r s e w = brings_nothing s r.event e w
+
+pub repeats_draw_nothing : (r : Entry) (s : Seen) (e : Exchange) → Repeats s r.event e → (and_then r s).ids ≡ s.ids
+repeats_draw_nothing r s e w = draws_nothing s r.event e w
+
+pub repeats_emit_again : (r : Entry) (s : Seen) (e : Exchange) → Repeats s r.event e → Emits s r.event r.emitted → r.emitted ≡ repeat_emits r.event e
+repeats_emit_again r s e w legal = emits_again s r.event e r.emitted w legal
+
+-- ---- openings
+
+answered_length : (n : ℕ) (o : Option Emission) (es : List Exchange) → length (answered_in n o es) ≡ length es
+answered_length n None es = refl
+answered_length n (Some emission) es = length-map es (λ e. answered_if (e.number == n) emission.bytes e)
+
+received_length : (s : Seen) (now : ℕ) (to : Endpoint) (x : Received) (o : Option Emission) → length (exchanges_received x to o s now) ≡ length s.exchanges + length (opened_by x (next_opening (front_at s now)) to)
+received_length s now to x o = answered_length (length s.exchanges) (kept_of x o) (s.exchanges ++ opened_by x (next_opening (front_at s now)) to) ∙ length-append s.exchanges (opened_by x (next_opening (front_at s now)) to)
+
+new_opens : (v : Verdict) (m : Message) (o : Opening) (to : Endpoint) → length (opened_by (new_as v m) o to) ≡ 1
+new_opens (IsAsked asked) m o to = refl
+new_opens (IsRefused answer) m o to = refl
+new_opens IsSilent m o to = refl
+new_opens IsReset m o to = refl
+new_opens (IsSignal reset) m o to = refl
+new_opens IsIgnored m o to = refl
+
+opening_is : (s : Seen) (now : ℕ) (to : Endpoint) (bytes : List ℕ) (w : IsOpening s now to bytes) → received_at s now to bytes ≡ new_as (verdict w.message) w.message
+opening_is s now to bytes w =
+    let at = max s.moment now in
+    request_is s now to bytes w.message None w.read w.asks w.new
+    ∙ ap (λ b. looked (look_by None b) w.message (new_as (verdict w.message) w.message)) (and_from (nat_lt (length (filter (is_within at) s.exchanges)) 1024) (nat_lt (length s.exchanges) 18446744073709551615) (lt-ltb (length (filter (is_within at) s.exchanges)) 1024 w.room) (lt-ltb (length s.exchanges) 18446744073709551615 w.numbers))
+
+opens_one : (s : Seen) (e : Event) (o : Option Emission) → Opens s e → length (exchanges_after e o s) ≡ length s.exchanges + 1
+opens_one s (Deliver now to bytes) o w =
+    received_length s now to (received_at s now to bytes.now) o
+    ∙ (ap (λ x. length s.exchanges + length (opened_by x (next_opening (front_at s now)) to)) (opening_is s now to bytes.now w)
+    ∙ ap (λ n. length s.exchanges + n) (new_opens (verdict w.message) w.message (next_opening (front_at s now)) to))
+opens_one s other o w = absurd w
+
+pub requests_open : (r : Entry) (s : Seen) → Opens s r.event → length (and_then r s).exchanges ≡ length s.exchanges + 1
+requests_open r s w = opens_one s r.event r.emitted w
+
+-- a look that tells of a new request
+pub record IsNewLook (o : Option Exchange) (room : Bool) : Type 0 where
+  pub none : o ≡ None
+  pub here : room ≡ true
+
+repeated_new : (c : Bool) (a : Option (ArrayVec ℕ)) → repeated_by c a ≡ IsNew → ⊥
+repeated_new c None e = absurd (cc e)
+repeated_new true (Some bytes) e = absurd (cc e)
+repeated_new false (Some bytes) e = absurd (cc e)
+
+pub new_look : (o : Option Exchange) (room : Bool) → look_by o room ≡ IsNew → IsNewLook o room
+new_look None true e = record { none = refl; here = refl }
+new_look None false e = absurd (cc e)
+new_look (Some x) room e = absurd (repeated_new x.confirmable x.answer e)
+
+looked_opens : (l : Look) (m : Message) (new : Received) (o : Opening) (to : Endpoint) → (l ≡ IsNew → ⊥) → length (opened_by (looked l m new) o to) ≡ 0
+looked_opens IsNew m new o to ne = absurd (ne refl)
+looked_opens IsBusy m new o to ne = refl
+looked_opens IsAnsweredNon m new o to ne = refl
+looked_opens (IsAgain bytes) m new o to ne = refl
+looked_opens IsFull m new o to ne = refl
+
+opening_of : (s : Seen) (now : ℕ) (to : Endpoint) (bytes : List ℕ) (m : Message) → reading_of bytes ≡ Ok m → IsAsking (verdict m) → look_in (front_at s now) to m ≡ IsNew → IsOpening s now to bytes
+opening_of s now to bytes m read asks is =
+    let at = max s.moment now in
+    let new = new_look (repeated s at to m.id) (room_at s at) (sym (look_is s now to m) ∙ is) in
+    let parts = and_parts (nat_lt (length (filter (is_within at) s.exchanges)) 1024) (nat_lt (length s.exchanges) 18446744073709551615) new.here in
+    record { message = m; read = read; asks = asks; new = new.none; room = ltb-true (length (filter (is_within at) s.exchanges)) 1024 parts.0; numbers = ltb-true (length s.exchanges) 18446744073709551615 parts.1 }
+
+asked_opens : (s : Seen) (now : ℕ) (to : Endpoint) (bytes : List ℕ) (m : Message) (v : Verdict) (o : Opening) → reading_of bytes ≡ Ok m → verdict m ≡ v → (IsOpening s now to bytes → ⊥) → length (opened_by (received_as (front_at s now) to m v) o to) ≡ 0
+asked_opens s now to bytes m (IsAsked asked) o read is not = looked_opens (look_in (front_at s now) to m) m (Opened m asked) o to (λ new. not (opening_of s now to bytes m read (subst IsAsking (sym is) tt) new))
+asked_opens s now to bytes m (IsRefused answer) o read is not = looked_opens (look_in (front_at s now) to m) m (Refused m answer) o to (λ new. not (opening_of s now to bytes m read (subst IsAsking (sym is) tt) new))
+asked_opens s now to bytes m IsSilent o read is not = looked_opens (look_in (front_at s now) to m) m (Silenced m) o to (λ new. not (opening_of s now to bytes m read (subst IsAsking (sym is) tt) new))
+asked_opens s now to bytes m IsReset o read is not = refl
+asked_opens s now to bytes m (IsSignal reset) o read is not = refl
+asked_opens s now to bytes m IsIgnored o read is not = refl
+
+read_opens : (s : Seen) (now : ℕ) (to : Endpoint) (bytes : List ℕ) (r : Result Message Bad) (o : Opening) → reading_of bytes ≡ r → (IsOpening s now to bytes → ⊥) → length (opened_by (received_read (front_at s now) to r) o to) ≡ 0
+read_opens s now to bytes (Ok m) o read not = asked_opens s now to bytes m (verdict m) o read refl not
+read_opens s now to bytes (Err bad.Ignore) o read not = refl
+read_opens s now to bytes (Err (bad.Reset id)) o read not = refl
+
+same_length : (o : Option Emission) (es : List Exchange) (b : Bool) (i : ℕ) → length (if b then answered_in i o es else es) ≡ length es
+same_length o es true i = answered_length i o es
+same_length o es false i = refl
+
+opens_none : (s : Seen) (e : Event) (o : Option Emission) → (Opens s e → ⊥) → length (exchanges_after e o s) ≡ length s.exchanges
+opens_none s (Deliver now to bytes) o not =
+    let none : length (opened_by (received_at s now to bytes.now) (next_opening (front_at s now)) to) ≡ 0 =
+    ap (λ x. length (opened_by x (next_opening (front_at s now)) to)) (received_of (front_at s now) to bytes.now (reading_of bytes.now) refl)
+    ∙ read_opens s now to bytes.now (reading_of bytes.now) (next_opening (front_at s now)) refl not in
+    omega (arith, received_length s now to (received_at s now to bytes.now) o)
+opens_none s (Answer k now) o not = same_length o s.exchanges (is_some (content_at (stage s k))) (job s k).origin.opening.number
+opens_none s other o not = refl
+
+pub others_open_nothing : (r : Entry) (s : Seen) → (Opens s r.event → ⊥) → length (and_then r s).exchanges ≡ length s.exchanges
+others_open_nothing r s not = opens_none s r.event r.emitted not

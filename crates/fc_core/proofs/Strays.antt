@@ -1,0 +1,98 @@
+-- A stray event changes nothing.
+use Rattle.std.proofs.Common.{◌≡◌, ℕ, [], ◌++◌, set, Bool, true, false, Option, Some, None, refl, ap, ◌∙◌, if◌then◌else◌}
+use Rattle.std.specs.Prelude.{◌==◌, ◌%◌}
+use Rattle.std.proofs.lemmas.List.{append-nil, set-get_or}
+use Rattle.coap_msg.specs.declared.types.Emission.{Emission}
+use Rattle.fc_registry.specs.declared.job.Job.{Job}
+use Rattle.fc_registry.specs.Slots.{Slot}
+use Rattle.fc_core.specs.declared.event.Event.{Event}
+use Rattle.fc_core.specs.declared.event.Event.TheVariants.{Deliver, Take, Commit, Install, Raise, Answer, Tick, Lose}
+use Rattle.fc_core.specs.declared.stage.Stage.{Stage}
+use Rattle.fc_core.specs.declared.stage.Stage.TheVariants.{ToTake, ToCommit, ToInstall, ToRaise, ToAnswer, Gone}
+use Rattle.fc_core.specs.Contents.{Content}
+use Rattle.fc_core.specs.Stages.{Move, Scene, content_at, handed, moved, moves, names, row}
+use Rattle.fc_core.specs.History.{Entry, Seen, and_then, changes_after, did, exchanges_after, ids_after, job, moment_after, no_task, scene, shard_moment_after, stage, task_at, tasks_brought, tasks_moved}
+use Rattle.fc_core.specs.Laws.{is_stray, is_stray_at}
+use Rattle.fc_core.specs.Legal.{Emits, AnswerEmits}
+use Rattle.fc_core.specs.Exchanges.{FrontState}
+
+abbrev at : Job → Slot → Stage → Scene
+at job slot stage = record { job = job; slot = slot; stage = stage }
+
+row_still : (e : Event) (job : Job) (slot : Slot) (s : Stage) → is_stray_at e s ≡ true → row e (at job slot s) ≡ moves s
+row_still (Take k memory) job slot (ToTake n) e = absurd (cc)
+row_still (Commit k now) job slot (ToCommit n t) e = absurd (cc)
+row_still (Install k memory) job slot ToInstall e = absurd (cc)
+row_still (Raise k) job slot (ToRaise content) e = absurd (cc)
+row_still (Answer k now) job slot (ToAnswer content) e = absurd (cc)
+row_still (Lose k) job slot Gone e = refl
+row_still (Lose k) job slot other e = absurd (cc)
+row_still other job slot s e = refl
+
+none_answered : (k now : ℕ) (s : Stage) → is_stray_at (Answer k now) s ≡ true → content_at s ≡ None
+none_answered k now (ToAnswer content) e = absurd (cc)
+none_answered k now other e = refl
+
+module _ (s : Seen) (e : Event) (k : ℕ) (still : row e (scene s k) ≡ moves (stage s k)) where
+  tasks_still : tasks_moved (Some k) e s ≡ s.tasks
+  tasks_still = ap (λ (m : Move). set s.tasks k (moved (task_at s.tasks k) m)) still ∙ set-get_or s.tasks k no_task
+
+  changes_if : (n : ℕ) (b : Bool) → (if b then (row e (scene s k)).changes ++ s.changes n else s.changes n) ≡ s.changes n
+  changes_if n true = ap (λ (m : Move). m.changes ++ s.changes n) still
+  changes_if n false = refl
+
+  changes_still : (n : ℕ) → changes_after (Some k) e s n ≡ s.changes n
+  changes_still n = changes_if n ((job s k).origin.slot == n)
+
+  shard_if : (i : ℕ) (b : Bool) → (if b then handed (row e (scene s k)).hands (s.shard_moment i) else s.shard_moment i) ≡ s.shard_moment i
+  shard_if i true = ap (λ (m : Move). handed m.hands (s.shard_moment i)) still
+  shard_if i false = refl
+
+  shard_still : (i : ℕ) → shard_moment_after (Some k) e s i ≡ s.shard_moment i
+  shard_still i = shard_if i ((job s k).origin.slot % 8 == i)
+
+all_same : (a b : Seen) → a.first_serial ≡ b.first_serial → a.moment ≡ b.moment → a.exchanges ≡ b.exchanges → a.ids ≡ b.ids → a.tasks ≡ b.tasks → ((n : ℕ) → a.changes n ≡ b.changes n) → ((n : ℕ) → a.shard_moment n ≡ b.shard_moment n) → a ≡ b
+all_same a b f m x d t c h = λ i. record { first_serial = f i; moment = m i; exchanges = x i; ids = d i; tasks = t i; changes = λ n. c n i; shard_moment = λ n. h n i }
+
+-- an event of a job that changes nothing of the front
+named_still : (s : Seen) (e : Event) (o : Option Emission) (k : ℕ) → names e ≡ Some k → is_stray_at e (stage s k) ≡ true → moment_after e s ≡ s.moment → exchanges_after e o s ≡ s.exchanges → ids_after e s ≡ s.ids → tasks_brought e s ≡ [] → and_then (did e o) s ≡ s
+named_still s e o k is stray m x d b =
+    let still : row e (scene s k) ≡ moves (stage s k) = row_still e (job s k) (scene s k).slot (stage s k) stray in
+    all_same (and_then (did e o) s) s refl m x d
+    ((λ i. tasks_moved (is i) e s ++ b i) ∙ (append-nil (tasks_moved (Some k) e s) ∙ tasks_still s e k still))
+    (λ n. (λ i. changes_after (is i) e s n) ∙ changes_still s e k still n)
+    (λ n. (λ i. shard_moment_after (is i) e s n) ∙ shard_still s e k still n)
+
+unnamed_still : (s : Seen) (e : Event) (o : Option Emission) → names e ≡ None → moment_after e s ≡ s.moment → exchanges_after e o s ≡ s.exchanges → ids_after e s ≡ s.ids → tasks_brought e s ≡ [] → and_then (did e o) s ≡ s
+unnamed_still s e o is m x d b = all_same (and_then (did e o) s) s refl m x d
+    ((λ i. tasks_moved (is i) e s ++ b i) ∙ append-nil s.tasks)
+    (λ n. λ i. changes_after (is i) e s n)
+    (λ n. λ i. shard_moment_after (is i) e s n)
+
+stray_still : (e : Event) (o : Option Emission) (s : Seen) → is_stray s e ≡ true → and_then (did e o) s ≡ s
+stray_still (Deliver now to bytes) o s e = absurd (cc)
+stray_still (Tick now) o s e = absurd (cc)
+stray_still (Take k memory) o s e = named_still s (Take k memory) o k refl e refl refl refl refl
+stray_still (Commit k now) o s e = named_still s (Commit k now) o k refl e refl refl refl refl
+stray_still (Install k memory) o s e = named_still s (Install k memory) o k refl e refl refl refl refl
+stray_still (Raise k) o s e = named_still s (Raise k) o k refl e refl refl refl refl
+stray_still (Lose k) o s e = named_still s (Lose k) o k refl e refl refl refl refl
+stray_still (Answer k now) o s e =
+    let none : content_at (stage s k) ≡ None = none_answered k now (stage s k) e in
+    named_still s (Answer k now) o k refl e (rw none) (rw none) (rw none) refl
+stray_still other o s e = unnamed_still s other o refl refl refl refl refl
+
+pub strays_stay : (r : Entry) (s : Seen) → is_stray s r.event ≡ true → and_then r s ≡ s
+strays_stay r s e = stray_still r.event r.emitted s e
+
+none_emits : (c : Option Content) (j : Job) (f : FrontState) (o : Option Emission) → c ≡ None → AnswerEmits c j f o → o ≡ None
+none_emits None j f o e w = w
+none_emits (Some content) j f o e w = absurd (cc)
+
+stray_emits : (s : Seen) (e : Event) (o : Option Emission) → is_stray s e ≡ true → Emits s e o → o ≡ None
+stray_emits s (Deliver now to bytes) o e w = absurd (cc)
+stray_emits s (Answer k now) o e w = none_emits (content_at (stage s k)) _ _ o (none_answered k now (stage s k) e) w
+stray_emits s other o e w = w
+
+pub strays_emit_nothing : (r : Entry) (s : Seen) → is_stray s r.event ≡ true → Emits s r.event r.emitted → r.emitted ≡ None
+strays_emit_nothing r s e w = stray_emits s r.event r.emitted e w

@@ -1,0 +1,6 @@
+use Rattle.std.proofs.Common.{◌≡◌, replicate, None, ◌≤◌}
+use Rattle.std.specs.Prelude.{vec_capacity}
+use Rattle.fc_core.proofs.ids.MessageIds.new.Given as goal
+
+abbrev pub invariant-loop-id : goal.invariant-loop-id
+invariant-loop-id l = l.last.items ≡ replicate l._id None

@@ -1,0 +1,111 @@
+-- What the laws of answers and moments speak of.
+use Rattle.std.specs.Prelude.{◌≡◌, ℕ, ◌+◌, ◌%◌, ◌==◌, ◌<◌, ◌≤◌, Bool, true, false, if◌then◌else◌, List, [], ◌∷◌, ◌++◌, Option, Some, None, is_none, length, max}
+use Rattle.fc_kinds.specs.Meaning.{Program}
+use Rattle.fc_verify.specs.Accepted.{Judgement, Accepts, Breaks, Untypable}
+use Rattle.fc_verify.specs.Judged.{judged}
+use Rattle.fc_registry.specs.declared.job.Job.{Job}
+use Rattle.fc_registry.specs.declared.receipt.Receipt.{Receipt}
+use Rattle.fc_registry.specs.Calls.{wants}
+use Rattle.fc_registry.specs.Slots.{Slot, Present, Ticket}
+use Rattle.fc_core.specs.declared.event.Event.{Event}
+use Rattle.fc_core.specs.declared.event.Event.TheVariants.{Deliver, Take, Commit, Install, Answer, Tick}
+use Rattle.fc_core.specs.declared.stage.Stage.{Stage}
+use Rattle.fc_core.specs.declared.stage.Stage.TheVariants.{ToTake, ToCommit, ToInstall, ToAnswer}
+use Rattle.fc_core.specs.Contents.{Content, Ran, Missing, Unavailable, Made, Rejected, Untyped}
+use Rattle.fc_core.specs.History.{Entry, History, Begins, Then, Seen, seen, job, slot_at, stage}
+use Rattle.fc_core.specs.Laws.{slot_of, stage_named, takings_of}
+use Rattle.fc_core.specs.Stages.{image_of, names}
+
+-- ---- where an answer comes from
+
+-- the event, which names job k, finds the job at a stage and its slot, after so many tickets that the job took. It makes the
+-- job's answer 5.03: memory was refused for a ticket or an install, the slot changed under the eighth ticket, or the slot is
+-- at its last serial
+pub data IsUnavailable (e : Event) (k : ℕ) (j : Job) (slot : Slot) (at : Stage) (taken : ℕ) : Type 0 where
+  NoTicket : (count : ℕ) (p : Present) (event : e ≡ Take k false) (is : at ≡ ToTake count) (found : slot.present ≡ Some p) → IsUnavailable e k j slot at taken
+  NoMemory : (event : e ≡ Install k false) (is : at ≡ ToInstall) → IsUnavailable e k j slot at taken
+  Overtaken : (now count : ℕ) (t : Ticket) (event : e ≡ Commit k now) (is : at ≡ ToCommit count t) (wants : wants t ≡ true) (other : slot.serial ≡ t.serial → ⊥) (eighth : taken ≡ 8) → IsUnavailable e k j slot at taken
+  LastCommit : (now count : ℕ) (t : Ticket) (event : e ≡ Commit k now) (is : at ≡ ToCommit count t) (wants : wants t ≡ true) (last : 9223372036854775807 ≤ slot.serial) → IsUnavailable e k j slot at taken
+  LastInstall : (p : Program) (event : e ≡ Install k true) (is : at ≡ ToInstall) (accepted : judged (image_of j.ask) ≡ Accepts p) (last : 9223372036854775807 ≤ slot.serial) → IsUnavailable e k j slot at taken
+
+-- it makes the answer 4.04: the job's taking finds the slot empty
+pub record IsMissing (e : Event) (k : ℕ) (slot : Slot) (at : Stage) : Type 0 where
+  pub memory : Bool
+  pub count : ℕ
+  pub event : e ≡ Take k memory
+  pub is : at ≡ ToTake count
+  pub empty : slot.present ≡ None
+
+-- it installs a program: the receipt is the program's and has the slot's new serial as its version, and the program is
+-- created where the slot was empty
+pub record IsMade (e : Event) (k : ℕ) (j : Job) (slot : Slot) (at : Stage) (receipt : Receipt) (created : Bool) : Type 0 where
+  pub program : Program
+  pub event : e ≡ Install k true
+  pub is : at ≡ ToInstall
+  pub accepted : judged (image_of j.ask) ≡ Accepts program
+  pub below : slot.serial < 9223372036854775807
+  pub version : receipt.version ≡ slot.serial + 1
+  pub cost : receipt.cost ≡ program.cost
+  pub budget : receipt.budget ≡ program.budget
+  pub vars : receipt.vars ≡ program.vars_size
+  pub empty : created ≡ is_none slot.present
+
+-- it refuses the job's image, which is judged so
+pub record IsRefused (e : Event) (k : ℕ) (j : Job) (at : Stage) (judgement : Judgement) : Type 0 where
+  pub event : e ≡ Install k true
+  pub is : at ≡ ToInstall
+  pub judged_as : judged (image_of j.ask) ≡ judgement
+
+-- why an event makes this a job's answer; that of a run is of the job's last taking
+abbrev pub IsCause : Event → ℕ → Job → Slot → Stage → ℕ → Content → Type 0
+IsCause e k j slot at taken (Ran run) = Unit {0}
+IsCause e k j slot at taken Missing = IsMissing e k slot at
+IsCause e k j slot at taken Unavailable = IsUnavailable e k j slot at taken
+IsCause e k j slot at taken (Made receipt created) = IsMade e k j slot at receipt created
+IsCause e k j slot at taken (Rejected rule n) = IsRefused e k j at (Breaks rule n)
+IsCause e k j slot at taken Untyped = IsRefused e k j at Untypable
+
+-- why an event after a history makes this the answer of the job that it names
+abbrev pub Causes : History → Entry → ℕ → Content → Type 0
+Causes h r k c = IsCause r.event k (job (seen h) k) (slot_at (seen h) (slot_of (seen h) k)) (stage (seen h) k) (length (takings_of h k)) c
+
+-- ---- moments
+
+abbrev pub greatest : List ℕ → ℕ
+greatest [] = 0
+greatest (n ∷ ns) = max (greatest ns) n
+
+-- the moment of an answer at its stage
+abbrev pub answer_moment : Stage → ℕ → List ℕ
+answer_moment (ToAnswer content) now = now ∷ []
+answer_moment other now = []
+
+-- the moment that an event hands to the front: that of a delivery, of a tick, or of an answer at its stage
+abbrev pub moments_in : Event → Seen → List ℕ
+moments_in (Deliver now to bytes) s = now ∷ []
+moments_in (Tick now) s = now ∷ []
+moments_in (Answer k now) s = answer_moment (stage s k) now
+moments_in other s = []
+
+-- the moments that were handed to the front, the newest first
+abbrev pub moments_of : History → List ℕ
+moments_of (Begins serial id) = []
+moments_of (Then h r) = moments_in r.event (seen h) ++ moments_of h
+
+-- the moment of a commit at its stage
+abbrev pub commit_moment : Event → Stage → List ℕ
+commit_moment (Commit k now) (ToCommit count t) = now ∷ []
+commit_moment other at = []
+
+-- the job that is named, if one is, is of a slot of this shard
+abbrev pub is_of_shard : ℕ → Seen → Option ℕ → Bool
+is_of_shard i s None = false
+is_of_shard i s (Some k) = slot_of s k % 8 == i
+
+-- the moments that were handed to a shard, the newest first
+abbrev pub shard_moments_of : ℕ → History → List ℕ
+shard_moments_of i (Begins serial id) = []
+shard_moments_of i (Then h r) =
+    if is_of_shard i (seen h) (names r.event)
+    then commit_moment r.event (stage_named (seen h) (names r.event)) ++ shard_moments_of i h
+    else shard_moments_of i h

@@ -1,0 +1,25 @@
+-- What is done about a request that is new, as it is seen.
+use Rattle.std.specs.Prelude.{ℕ, ◌<◌, ◌≤◌, length}
+use Rattle.coap_msg.specs.Wire.{Message}
+use Rattle.coap_opts.specs.Path.{IsResource}
+use Rattle.coap_opts.specs.Verdict.{Asked, stated}
+use Rattle.fc_core.specs.declared.front.Asking.{Asking}
+use Rattle.fc_core.specs.declared.front.Asking.TheVariants.{Serve, Refuse, Hush}
+use Rattle.fc_core.specs.Receiving.{Received, Opened, Refused, Silenced}
+
+abbrev pub new_request : Message → Asking → Received
+new_request m (Serve request) = Opened m (stated request)
+new_request m (Refuse answer) = Refused m answer.byte
+new_request m Hush = Silenced m
+
+-- a request that is carried out names a resource that there is, and is within the limits of its query and its payload
+pub record IsWithinLimits (asked : Asked) : Type 0 where
+  pub resource : IsResource asked.resource
+  pub query : length asked.query ≤ 64
+  pub payload : length asked.payload ≤ 1024
+
+-- a refusal has the code of a reply
+abbrev pub IsAsking : Asking → Type 0
+IsAsking (Serve request) = IsWithinLimits (stated request)
+IsAsking (Refuse answer) = 64 ≤ answer.byte
+IsAsking Hush = Unit {0}

@@ -1,0 +1,102 @@
+-- What the laws of exchanges and message ids speak of.
+use Rattle.std.specs.Prelude.{◌≡◌, ℕ, ◌+◌, ◌%◌, ◌<◌, ◌≤◌, ◌==◌, ◌&&◌, Bool, true, false, nat_lt, List, [], ◌∷◌, length, filter, find, max, Option, Some, None, Ok}
+use Rattle.arrayvec.specs.ArrayVec.{ArrayVec}
+use Rattle.coap_msg.specs.declared.types.Emission.{Emission}
+use Rattle.coap_msg.specs.declared.types.Endpoint.{Endpoint}
+use Rattle.coap_msg.specs.Reading.{reading_of}
+use Rattle.coap_msg.specs.Wire.{Message}
+use Rattle.coap_opts.specs.Verdict.{Verdict, IsAsked, IsRefused, IsSilent, verdict}
+use Rattle.coap_dedup.specs.declared.exchange.Exchange.{Exchange}
+use Rattle.coap_dedup.specs.Exchanges.{is_of}
+use Rattle.fc_core.specs.declared.event.Event.{Event}
+use Rattle.fc_core.specs.declared.event.Event.TheVariants.{Deliver}
+use Rattle.fc_core.specs.History.{History, Begins, Then, Seen, seen}
+
+-- ---- repeats
+
+-- a verdict on a request: it is carried out, refused, or gets no answer
+abbrev pub IsAsking : Verdict → Type 0
+IsAsking (IsAsked asked) = Unit {0}
+IsAsking (IsRefused answer) = Unit {0}
+IsAsking IsSilent = Unit {0}
+IsAsking other = ⊥
+
+-- an exchange was opened less than 247,000 ms before the moment
+abbrev pub is_within : ℕ → Exchange → Bool
+is_within at e = nat_lt at (e.at + 247000)
+
+-- the exchange of an endpoint and message id that was opened in that time, if one was
+abbrev pub repeated : Seen → ℕ → Endpoint → ℕ → Option Exchange
+repeated s at to id = find (λ e. is_within at e && is_of to id e) s.exchanges
+
+-- the datagram is a request that repeats the one of this exchange
+pub record IsRepeat (s : Seen) (now : ℕ) (to : Endpoint) (bytes : List ℕ) (e : Exchange) : Type 0 where
+  pub message : Message
+  pub read : reading_of bytes ≡ Ok message
+  pub asks : IsAsking (verdict message)
+  pub is : repeated s (max s.moment now) to message.id ≡ Some e
+
+-- the bytes that are kept of an exchange go out again where its request was confirmable and was answered
+abbrev pub again : Endpoint → Bool → Option (ArrayVec ℕ) → Option Emission
+again to true (Some bytes) = Some (record { to = to; bytes = bytes })
+again to confirmable answer = None
+
+-- the datagram is a request and no repeat, and there is room: fewer than 1,024 exchanges were opened in the last 247,000 ms,
+-- and fewer than 2^64 - 1 ever
+pub record IsOpening (s : Seen) (now : ℕ) (to : Endpoint) (bytes : List ℕ) : Type 0 where
+  pub message : Message
+  pub read : reading_of bytes ≡ Ok message
+  pub asks : IsAsking (verdict message)
+  pub new : repeated s (max s.moment now) to message.id ≡ None
+  pub room : length (filter (is_within (max s.moment now)) s.exchanges) < 1024
+  pub numbers : length s.exchanges < 18446744073709551615
+
+abbrev pub Repeats : Seen → Event → Exchange → Type 0
+Repeats s (Deliver now to bytes) e = IsRepeat s now to bytes.now e
+Repeats s other e = ⊥
+
+abbrev pub repeat_emits : Event → Exchange → Option Emission
+repeat_emits (Deliver now to bytes) e = again to e.confirmable e.answer
+repeat_emits other e = None
+
+-- the event delivers a new request that there is room for
+abbrev pub Opens : Seen → Event → Type 0
+Opens s (Deliver now to bytes) = IsOpening s now to bytes.now
+Opens s other = ⊥
+
+-- ---- message ids
+
+-- a message id that was drawn, and when
+pub record Draw : Type 0 where
+  pub id : ℕ
+  pub at : ℕ
+
+-- an event draws the id that is next where another is next after it
+abbrev pub draws_by : Bool → Draw → List Draw → List Draw
+draws_by true draw before = before
+draws_by false draw before = draw ∷ before
+
+-- the ids that were drawn, the newest first
+abbrev pub draws_of : History → List Draw
+draws_of (Begins serial id) = []
+draws_of (Then h r) = draws_by ((seen (Then h r)).ids.next == (seen h).ids.next) (record { id = (seen h).ids.next; at = (seen (Then h r)).moment }) (draws_of h)
+
+-- the id that a server begins with
+abbrev pub first_id : History → ℕ
+first_id (Begins serial id) = id
+first_id (Then h r) = first_id h
+
+-- of the draws, the newest first, each is of the id after the one before it
+abbrev pub AreInOrder : ℕ → List Draw → Type 0
+AreInOrder first [] = Unit {0}
+AreInOrder first (d ∷ ds) = (d.id ≡ (first + length ds) % 65536) × AreInOrder first ds
+
+-- each draw of this id was at least 247,000 ms before the moment
+abbrev pub AllBefore : ℕ → ℕ → List Draw → Type 0
+AllBefore id at [] = Unit {0}
+AllBefore id at (d ∷ ds) = (d.id ≡ id → d.at + 247000 ≤ at) × AllBefore id at ds
+
+-- of the draws, the newest first, none is of an id that was drawn less than 247,000 ms before
+abbrev pub AreApart : List Draw → Type 0
+AreApart [] = Unit {0}
+AreApart (d ∷ ds) = AllBefore d.id d.at ds × AreApart ds

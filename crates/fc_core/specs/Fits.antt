@@ -1,0 +1,39 @@
+-- What is true of each job and its slot, at any history.
+use Rattle.std.specs.Prelude.{◌≡◌, ℕ, ◌<◌, ◌≤◌, length, Option, Some, None}
+use Rattle.fc_image.specs.Longest.{IsLongest}
+use Rattle.fc_kinds.specs.Meaning.{Program, IsRunnable}
+use Rattle.fc_registry.specs.declared.job.Job.{Job}
+use Rattle.fc_registry.specs.Slots.{Slot, Present, Ticket}
+use Rattle.fc_registry.specs.Calls.{HasGiven, request_of}
+use Rattle.fc_core.specs.declared.stage.Stage.{Stage}
+use Rattle.fc_core.specs.declared.stage.Stage.TheVariants.{ToTake, ToCommit, ToRaise, ToAnswer}
+use Rattle.fc_core.specs.Contents.{IsOf}
+use Rattle.fc_core.specs.Stages.{takings}
+
+-- a ticket that the slot gave to the job
+pub record IsTicketOf (job : Job) (slot : Slot) (t : Ticket) : Type 0 where
+  pub origin : t.origin ≡ job.origin
+  pub request : t.request ≡ request_of job.ask
+  pub given : HasGiven slot t
+
+-- a job that is to take may take once more; a ticket is its job's, and so is an answer
+abbrev pub FitsStage : Job → Slot → Stage → Type 0
+FitsStage job slot (ToTake count) = count < takings
+FitsStage job slot (ToCommit count t) = (count ≤ takings) × IsTicketOf job slot t
+FitsStage job slot (ToRaise content) = IsOf job content
+FitsStage job slot (ToAnswer content) = IsOf job content
+FitsStage job slot other = Unit {0}
+
+-- a program whose every run has a meaning, and whose cost is that of its longest path
+pub record IsSafe (p : Program) : Type 0 where
+  pub runs : IsRunnable p
+  pub longest : IsLongest p.code p.cost
+
+-- a program in a slot is safe, and its variables have its size
+pub record FitsPresent (p : Present) : Type 0 where
+  pub safe : IsSafe p.program
+  pub vars : length p.vars ≡ p.program.vars_size
+
+abbrev pub FitsSlot : Option Present → Type 0
+FitsSlot None = Unit {0}
+FitsSlot (Some p) = FitsPresent p

@@ -1,0 +1,199 @@
+-- What a datagram is to a front: it is classified once, and what it opens, brings, draws and sends follow from that.
+use Rattle.std.specs.Prelude.{ℕ, ◌+◌, ◌<◌, ◌≤◌, Bool, true, false, List, [], ◌∷◌, ◌++◌, length, map, Option, Some, None, Result, Ok, Err}
+use Rattle.coap_msg.specs.declared.types.Bad.{Bad}
+use Rattle.coap_msg.specs.declared.types.Bad.TheVariants as bad
+use Rattle.coap_msg.specs.declared.types.Endpoint.{Endpoint}
+use Rattle.coap_msg.specs.declared.types.Emission.{Emission}
+use Rattle.coap_msg.specs.declared.types.MessageType.{MessageType}
+use Rattle.coap_msg.specs.declared.types.MessageType.TheVariants.{Confirmable}
+use Rattle.coap_msg.specs.Codes.{code}
+use Rattle.coap_msg.specs.Wire.{Message}
+use Rattle.coap_msg.specs.Reading.{reading_of}
+use Rattle.coap_opts.specs.declared.request.Method.{Method}
+use Rattle.coap_opts.specs.declared.request.Method.TheVariants as methods
+use Rattle.coap_opts.specs.declared.request.Resource.{Resource}
+use Rattle.coap_opts.specs.declared.request.Resource.TheVariants as resources
+use Rattle.coap_opts.specs.Verdict.{Asked, Verdict, IsAsked, IsRefused, IsSilent, IsReset, IsSignal, IsIgnored, verdict}
+use Rattle.coap_dedup.specs.declared.exchange.Exchange.{Exchange}
+use Rattle.coap_dedup.specs.Exchanges.{Look, IsNew, IsBusy, IsAgain, IsSilent as IsAnsweredNon, IsFull, look_at, answered}
+use Rattle.fc_help.specs.Request.{Request}
+use Rattle.fc_help.specs.declared.request.Method.{Method as Verb}
+use Rattle.fc_help.specs.declared.request.Method.TheVariants.{Get, Post}
+use Rattle.fc_registry.specs.declared.job.Opening.{Opening}
+use Rattle.fc_registry.specs.declared.job.Ask.{Ask}
+use Rattle.fc_registry.specs.declared.job.Ask.TheVariants.{Run, Install}
+use Rattle.fc_registry.specs.declared.job.Job.{Job}
+use Rattle.fc_core.specs.declared.front.Delivered.{Delivered}
+use Rattle.fc_core.specs.declared.front.Delivered.TheVariants.{Nothing, Reply, Job as Brings, Signal}
+use Rattle.fc_core.specs.Replies.{Response, Envelope, bare, reply_kind, sent_in, reset_of}
+use Rattle.fc_core.specs.Ids.{Ids, free_id, reply_id, drawn_for}
+use Rattle.fc_core.specs.Exchanges.{FrontState, table_of}
+
+-- ---- classification
+
+pub data Received : Type 0 where
+  Ignored : Received
+  -- rejected by a Reset message with this id (RFC 7252, 4.2 and 4.3)
+  Rejected : (id : ℕ) → Received
+  -- an acknowledgement or a reset of the message that was sent with this id
+  Signals : (id : ℕ) (reset : Bool) → Received
+  -- a repeat of a request in progress, or of a non-confirmable one that was answered
+  Repeated : Received
+  -- a repeat of a confirmable request that was answered by these bytes
+  Again : (bytes : List ℕ) → Received
+  -- a new request, without room for its exchange
+  Full : (m : Message) → Received
+  -- a new request that gets no answer, that is refused by a code, or that is carried out
+  Silenced : (m : Message) → Received
+  Refused : (m : Message) (answer : ℕ) → Received
+  Opened : (m : Message) (asked : Asked) → Received
+
+-- a request by what it is to the exchanges that are held; the last argument is what it is where it is new
+abbrev pub looked : Look → Message → Received → Received
+looked IsNew m new = new
+looked IsBusy m new = Repeated
+looked IsAnsweredNon m new = Repeated
+looked (IsAgain bytes) m new = Again bytes
+looked IsFull m new = Full m
+
+abbrev pub look_in : FrontState → Endpoint → Message → Look
+look_in f to m = look_at (table_of f) to m.id
+
+abbrev pub received_as : FrontState → Endpoint → Message → Verdict → Received
+received_as f to m (IsAsked asked) = looked (look_in f to m) m (Opened m asked)
+received_as f to m (IsRefused answer) = looked (look_in f to m) m (Refused m answer)
+received_as f to m IsSilent = looked (look_in f to m) m (Silenced m)
+received_as f to m IsReset = Rejected m.id
+received_as f to m (IsSignal reset) = Signals m.id reset
+received_as f to m IsIgnored = Ignored
+
+abbrev pub received_read : FrontState → Endpoint → Result Message Bad → Received
+received_read f to (Ok m) = received_as f to m (verdict m)
+received_read f to (Err bad.Ignore) = Ignored
+received_read f to (Err (bad.Reset id)) = Rejected id
+
+-- what a datagram from an endpoint is to a front that has advanced to the moment
+unfoldable pub received : FrontState → Endpoint → List ℕ → Received
+received f to bytes = received_read f to (reading_of bytes)
+
+-- ---- the job that a request brings
+
+abbrev pub is_confirmable : MessageType → Bool
+is_confirmable Confirmable = true
+is_confirmable other = false
+
+-- the slot of a resource
+abbrev pub slot_named : Resource → ℕ
+slot_named (resources.Run n) = n
+slot_named (resources.Program n) = n
+slot_named resources.Core = 0
+
+-- the request that slot N's program is to answer
+abbrev pub request_asked : Verb → Asked → Request
+request_asked method r = record { method = method; slot = slot_named r.resource; content_format = r.content_format; query = r.query; payload = r.payload }
+
+-- a GET or POST on /r/N asks slot N's program; a PUT on /p/N installs its payload
+abbrev pub ask_by : Method → Resource → Asked → Ask
+ask_by methods.Get (resources.Run n) r = Run (request_asked Get r)
+ask_by methods.Post (resources.Run n) r = Run (request_asked Post r)
+ask_by method at r = Install (record { items = r.payload })
+
+abbrev pub job_of : Opening → Endpoint → Message → Asked → Job
+job_of opening to m r = record {
+  origin = record { opening = opening; endpoint = to; id = m.id; slot = slot_named r.resource };
+  confirmable = is_confirmable m.kind;
+  token = record { items = m.token };
+  ask = ask_by r.method r.resource r;
+}
+
+-- a job's slot is one of 64, and its request has at most 64 bytes of query and 1,024 of payload
+abbrev pub AskWithin : Ask → Type 0
+AskWithin (Run request) = (length request.query ≤ 64) × (length request.payload ≤ 1024)
+AskWithin (Install image) = Unit {0}
+
+abbrev pub JobWithin : Job → Type 0
+JobWithin job = (job.origin.slot < 64) × AskWithin job.ask
+
+-- ---- what it sends
+
+-- the envelope of a reply to a request, by this message id
+abbrev pub envelope_to : Endpoint → Message → ℕ → Envelope
+envelope_to to m id = record { to = to; kind = reply_kind (is_confirmable m.kind); id = id; token = m.token }
+
+-- a reply by a code alone; nothing where it gets no message id
+abbrev pub told_by : Option ℕ → Endpoint → Message → ℕ → Option Emission
+told_by None to m answer = None
+told_by (Some id) to m answer = Some (sent_in (envelope_to to m id) (bare answer))
+
+abbrev pub id_in : FrontState → Bool → ℕ → Option ℕ
+id_in f confirmable id = reply_id confirmable id (free_id f.ids f.now)
+
+abbrev pub told : FrontState → Endpoint → Message → ℕ → Option Emission
+told f to m answer = told_by (id_in f (is_confirmable m.kind) m.id) to m answer
+
+abbrev pub sent : Received → FrontState → Endpoint → Option Emission
+sent (Rejected id) f to = Some (reset_of to id)
+sent (Again bytes) f to = Some (record { to = to; bytes = record { items = bytes } })
+sent (Full m) f to = told f to m (code 5 3)
+sent (Refused m answer) f to = told f to m answer
+sent other f to = None
+
+-- ---- what it opens, draws and brings
+
+abbrev pub next_opening : FrontState → Opening
+next_opening f = record { number = f.opened; at = f.now }
+
+abbrev pub exchange_of : Opening → Endpoint → Message → Exchange
+exchange_of o to m = record { endpoint = to; id = m.id; confirmable = is_confirmable m.kind; number = o.number; at = o.at; answer = None }
+
+-- the exchange that is opened
+abbrev pub opened_by : Received → Opening → Endpoint → List Exchange
+opened_by (Opened m asked) o to = exchange_of o to m ∷ []
+opened_by (Silenced m) o to = exchange_of o to m ∷ []
+opened_by (Refused m answer) o to = exchange_of o to m ∷ []
+opened_by other o to = []
+
+-- what is kept as its answer, of what is sent: a refusal
+abbrev pub kept_of : Received → Option Emission → Option Emission
+kept_of (Refused m answer) emitted = emitted
+kept_of other emitted = None
+
+-- a reply by a code to a request that isn't confirmable draws a message id
+abbrev pub drawn_by : Received → Ids → ℕ → Ids
+drawn_by (Full m) ids at = drawn_for (is_confirmable m.kind) ids at
+drawn_by (Refused m answer) ids at = drawn_for (is_confirmable m.kind) ids at
+drawn_by other ids at = ids
+
+abbrev pub brought : Received → Opening → Endpoint → List Job
+brought (Opened m asked) o to = job_of o to m asked ∷ []
+brought other o to = []
+
+-- ---- a delivery
+
+abbrev pub reply_or_nothing : Option Emission → Delivered
+reply_or_nothing None = Nothing
+reply_or_nothing (Some emission) = Reply emission
+
+-- what is handed on: a job, a signal for the observers, or what is sent at once
+abbrev pub handed_on : Received → FrontState → Endpoint → Delivered
+handed_on (Opened m asked) f to = Brings (job_of (next_opening f) to m asked)
+handed_on (Signals id reset) f to = Signal id reset
+handed_on other f to = reply_or_nothing (sent other f to)
+
+-- what a front that has advanced to the moment hands on
+abbrev pub delivered : FrontState → Endpoint → List ℕ → Delivered
+delivered f to bytes = handed_on (received f to bytes) f to
+
+-- a front that keeps this as the answer of the exchange of this number
+abbrev pub keeping : ℕ → Option Emission → FrontState → FrontState
+keeping number None f = f
+keeping number (Some emission) f = record f { held = map (answered f.now number emission.bytes) f.held }
+
+-- and what it holds then
+abbrev pub after_received : Received → FrontState → Endpoint → FrontState
+after_received x f to =
+    let new = opened_by x (next_opening f) to in
+    keeping f.opened (kept_of x (sent x f to)) (record f { opened = f.opened + length new; held = f.held ++ new; ids = drawn_by x f.ids f.now })
+
+abbrev pub after_delivered : FrontState → Endpoint → List ℕ → FrontState
+after_delivered f to bytes = after_received (received f to bytes) f to

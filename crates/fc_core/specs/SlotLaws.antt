@@ -1,0 +1,78 @@
+-- What the laws of slots speak of.
+use Rattle.std.specs.Prelude.{◌≡◌, ℕ, ◌<◌, true, List, [], ◌∷◌}
+use Rattle.fc_help.specs.declared.request.Method.TheVariants.{Post}
+use Rattle.fc_kinds.specs.Meaning.{Program}
+use Rattle.fc_verify.specs.Accepted.{Accepts}
+use Rattle.fc_verify.specs.Judged.{judged}
+use Rattle.fc_registry.specs.Calls.{commit_of, meaning_at}
+use Rattle.fc_registry.specs.Changes.{Change, Installed, Committed, Removed}
+use Rattle.fc_registry.specs.Record.{class_of}
+use Rattle.fc_registry.specs.Slots.{Ticket}
+use Rattle.fc_core.specs.declared.event.Event.TheVariants.{Commit, Install}
+use Rattle.fc_core.specs.declared.stage.Stage.{Stage}
+use Rattle.fc_core.specs.declared.stage.Stage.TheVariants.{ToCommit, ToInstall, ToRaise}
+use Rattle.fc_core.specs.History.{Entry, History, Seen, seen, and_then, job, slot_at, stage}
+use Rattle.fc_core.specs.Laws.{Taking, slot_of, takings_of}
+use Rattle.fc_core.specs.Stages.{image_of}
+
+-- a job that is to publish its slot's new serial
+abbrev pub IsToRaise : Stage → Type 0
+IsToRaise (ToRaise content) = Unit {0}
+IsToRaise other = ⊥
+
+-- ---- what changes a slot
+
+-- the event is the install of an accepted image, by its job at its stage and into its job's slot, with memory for it
+pub record IsInstall (r : Entry) (s : Seen) (n : ℕ) : Type 0 where
+  pub number : ℕ
+  pub program : Program
+  pub event : r.event ≡ Install number true
+  pub at : stage s number ≡ ToInstall
+  pub slot : slot_of s number ≡ n
+  pub accepted : judged (image_of (job s number).ask) ≡ Accepts program
+  pub below : (slot_at s n).serial < 9223372036854775807
+  pub change : (and_then r s).changes n ≡ Installed program ∷ s.changes n
+
+-- the event is the commit of a run, by its job at its stage and into its job's slot
+pub record IsWriting (r : Entry) (s : Seen) (n : ℕ) : Type 0 where
+  pub number : ℕ
+  pub now : ℕ
+  pub count : ℕ
+  pub ticket : Ticket
+  pub event : r.event ≡ Commit number now
+  pub at : stage s number ≡ ToCommit count ticket
+  pub slot : slot_of s number ≡ n
+  pub change : (and_then r s).changes n ≡ Committed (commit_of ticket) ∷ s.changes n
+
+-- what an event does to a slot
+pub data Does (r : Entry) (s : Seen) (n : ℕ) : Type 0 where
+  Nothing : (is : (and_then r s).changes n ≡ s.changes n) → Does r s n
+  Installs : (is : IsInstall r s n) → Does r s n
+  Writes : (is : IsWriting r s n) → Does r s n
+
+-- some image is accepted as this program
+pub record IsOfImage (p : Program) : Type 0 where
+  pub image : List ℕ
+  pub accepted : judged image ≡ Accepts p
+
+-- each program that was installed is one that an image is accepted as, and none was removed
+abbrev pub AllOfImages : List Change → Type 0
+AllOfImages [] = Unit {0}
+AllOfImages (Installed p ∷ cs) = IsOfImage p × AllOfImages cs
+AllOfImages (Committed c ∷ cs) = AllOfImages cs
+AllOfImages (Removed ∷ cs) = ⊥
+
+-- ---- commits
+
+-- the slot's changes are those before the newest of these takings
+abbrev pub IsUnchanged : List Taking → List Change → Type 0
+IsUnchanged [] cs = ⊥
+IsUnchanged (t ∷ ts) cs = cs ≡ t.changes
+
+-- the run of the ticket answers a POST with a code of class 2; its slot hasn't changed since the job's last taking, and isn't
+-- at the last serial
+pub record IsWritten (h : History) (k : ℕ) (t : Ticket) : Type 0 where
+  pub post : t.request.method ≡ Post
+  pub class : class_of (meaning_at t).code ≡ 2
+  pub unchanged : IsUnchanged (takings_of h k) ((seen h).changes (slot_of (seen h) k))
+  pub below : (slot_at (seen h) (slot_of (seen h) k)).serial < 9223372036854775807

@@ -1,0 +1,25 @@
+-- What is true of all that is seen of a history, whatever the events.
+use Rattle.std.specs.Prelude.{ℕ, List, [], ◌∷◌}
+use Rattle.fc_registry.specs.Changes.{Change, Installed, Committed, Removed}
+use Rattle.fc_registry.specs.Record.{IsChain}
+use Rattle.fc_registry.specs.Slots.{new_slot}
+use Rattle.fc_core.specs.Fits.{FitsSlot, FitsStage, IsSafe}
+use Rattle.fc_core.specs.History.{Seen, job, slot_at, stage}
+use Rattle.fc_core.specs.Receiving.{JobWithin}
+
+-- the commits of each slot are a chain, and each job is within its limits and fits its slot
+pub record IsSound (s : Seen) : Type 0 where
+  pub chain : (n : ℕ) → IsChain (new_slot s.first_serial) (s.changes n)
+  pub within : (k : ℕ) → JobWithin (job s k)
+  pub stages : (k : ℕ) → FitsStage (job s k) (slot_at s (job s k).origin.slot) (stage s k)
+
+-- each program in a slot may be run
+pub record IsSafelySeen (s : Seen) : Type 0 where
+  pub slots : (n : ℕ) → FitsSlot (slot_at s n).present
+
+-- each program that is installed is safe
+abbrev pub AllSafe : List Change → Type 0
+AllSafe [] = Unit {0}
+AllSafe (Installed p ∷ cs) = IsSafe p × AllSafe cs
+AllSafe (Committed c ∷ cs) = AllSafe cs
+AllSafe (Removed ∷ cs) = AllSafe cs

@@ -1,0 +1,33 @@
+//! What a history promises of answers and moments: each function is a law, and its contract says it.
+ghost use Rattle.coap_msg.specs.declared.types.Emission.{Emission};
+ghost use Rattle.fc_core.specs.AnswerLaws.{Causes, greatest, moments_of, shard_moments_of};
+ghost use Rattle.fc_core.specs.Contents.{Content, Missing};
+ghost use Rattle.fc_core.specs.History.{Entry, History, Then, Seen, seen, and_then, did, slot_at, stage};
+ghost use Rattle.fc_core.specs.Laws.{answer_at, slot_of};
+ghost use Rattle.fc_core.specs.declared.event.Event.TheVariants.{Take};
+ghost use Rattle.fc_core.specs.declared.stage.Stage.TheVariants.{ToAnswer, ToTake};
+ghost use Rattle.std.specs.Prelude.{ℕ, ◌⊎◌, Bool, None, Option, Some, ◌≡◌};
+
+/// A job that has an answer after an event had it before, or the event gives it for a reason. The answer is 5.03 (Service
+/// Unavailable) only where memory is refused, where the slot changes under the job's eighth ticket, or where the slot is
+/// at its last serial; 4.04 (Not Found) only where a taking finds the slot empty. The receipt of an install is its
+/// program's, its version is the slot's new serial, and it tells whether the slot was empty.
+pub fn answers_have_causes()
+    ensures { (h : History) (r : Entry) (k : ℕ) (c : Content)
+        → answer_at (stage (seen (Then h r)) k) ≡ Some c
+        → (answer_at (stage (seen h) k) ≡ Some c) ⊎ Causes h r k c }
+{}
+
+/// A taking at its stage that finds the slot empty makes the answer 4.04 (Not Found), whether or not there is memory.
+pub fn empty_slots_are_missing()
+    ensures { (s : Seen) (k count : ℕ) (memory : Bool) (o : Option Emission) → stage s k ≡ ToTake count
+        → (slot_at s (slot_of s k)).present ≡ None
+        → stage (and_then (did (Take k memory) o) s) k ≡ ToAnswer Missing }
+{}
+
+/// The front's moment is the greatest of those that deliveries, ticks and answers at their stage handed to it; a shard's is
+/// the greatest of those of the commits at their stage of its slots' jobs.
+pub fn moments_are_the_greatest()
+    ensures front { (h : History) → (seen h).moment ≡ greatest (moments_of h) }
+    ensures shard { (h : History) (i : ℕ) → (seen h).shard_moment i ≡ greatest (shard_moments_of i h) }
+{}

@@ -1,0 +1,44 @@
+//! What a history promises of exchanges and message ids: each function is a law, and its contract says it.
+ghost use Rattle.coap_dedup.specs.declared.exchange.Exchange.{Exchange};
+ghost use Rattle.fc_core.specs.ExchangeLaws.{AreApart, AreInOrder, Opens, Repeats, draws_of, first_id, repeat_emits};
+ghost use Rattle.fc_core.specs.History.{Entry, History, Seen, seen, and_then, job};
+ghost use Rattle.fc_core.specs.Laws.{HasCome};
+ghost use Rattle.fc_core.specs.Legal.{Emits};
+ghost use Rattle.std.specs.Prelude.{ℕ, ◌+◌, ◌<◌, ◌≤◌, length, ◌≡◌};
+
+/// A repeat, which is a request of an endpoint and message id of which an exchange was opened less than 247,000 ms before,
+/// opens no exchange, brings no job and draws no message id. It emits the bytes that are kept of that exchange, where its
+/// request was confirmable and was answered, and else nothing.
+pub fn repeats_do_nothing()
+    ensures exchanges { (r : Entry) (s : Seen) (e : Exchange) → Repeats s r.event e
+        → (and_then r s).exchanges ≡ s.exchanges }
+    ensures tasks { (r : Entry) (s : Seen) (e : Exchange) → Repeats s r.event e
+        → (and_then r s).tasks ≡ s.tasks }
+    ensures ids { (r : Entry) (s : Seen) (e : Exchange) → Repeats s r.event e → (and_then r s).ids ≡ s.ids }
+    ensures emitted { (r : Entry) (s : Seen) (e : Exchange) → Repeats s r.event e → Emits s r.event r.emitted
+        → r.emitted ≡ repeat_emits r.event e }
+{}
+
+/// An event opens an exchange exactly where it delivers a request that is no repeat, and there is room for it: fewer than
+/// 1,024 exchanges were opened less than 247,000 ms before.
+pub fn new_requests_open_exchanges()
+    ensures opens { (r : Entry) (s : Seen) → Opens s r.event
+        → length (and_then r s).exchanges ≡ length s.exchanges + 1 }
+    ensures others { (r : Entry) (s : Seen) → (Opens s r.event → ⊥)
+        → length (and_then r s).exchanges ≡ length s.exchanges }
+{}
+
+/// A request is carried out at most once in its window: two jobs of one endpoint and message id came at least 247,000 ms
+/// apart.
+pub fn requests_are_carried_out_once()
+    ensures { (h : History) (j k : ℕ) → j < k → HasCome (seen h) k
+        → (job (seen h) j).origin.endpoint ≡ (job (seen h) k).origin.endpoint
+        → (job (seen h) j).origin.id ≡ (job (seen h) k).origin.id
+        → (job (seen h) j).origin.opening.at + 247000 ≤ (job (seen h) k).origin.opening.at }
+{}
+
+/// The server draws its message ids in order: the id after 65,535 is 0. No id is drawn twice less than 247,000 ms apart.
+pub fn message_ids_come_in_order()
+    ensures order { (h : History) → first_id h < 65536 → AreInOrder (first_id h) (draws_of h) }
+    ensures apart { (h : History) → first_id h < 65536 → AreApart (draws_of h) }
+{}

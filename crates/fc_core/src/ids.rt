@@ -1,0 +1,66 @@
+//! The message ids of the server's own.
+ghost use Rattle.std.specs.Prelude.{◌≡◌, ◌<◌, ◌≤◌, IfOk, length};
+ghost use Rattle.fc_core.specs.Ids.{first_ids, free_id, drawn, is_recent};
+
+use coap_dedup::exchange::WINDOW;
+use std::alloc::{AllocError, Global};
+use std::marker::Model;
+
+/// How many message ids there are.
+const IDS: usize = 65_536;
+
+/// The id that is next, and when each was last drawn.
+#[derive(Drop)]
+pub(crate) struct MessageIds {
+    next: u16,
+    last: Vec<Option<u64>>,
+}
+
+impl Model for MessageIds {
+    ghost use Rattle.std.specs.Prelude.{◌≡◌, length};
+    ghost use Rattle.fc_core.specs.Ids.{Ids};
+
+    ghost Value = { Ids };
+
+    ghost view = { λ x. record { next = x.next; last = x.last.items } };
+
+    ghost invariant = { λ x. length x.last.items ≡ 65536 };
+}
+
+impl MessageIds {
+    #[tactic(auto, unfolding(crate::specs::Ids::no_draws))]
+    // None was drawn; the first is the argument.
+    pub(crate) fn new(alloc: Global, first: u16) -> Result<MessageIds, AllocError>
+        ensures { IfOk result (λ x. x ≡ first_ids first) }
+    {
+        let mut last = Vec::with_capacity(alloc, IDS)?;
+        for _id in 0..IDS {
+            last.push(None)?;
+        }
+        Ok(MessageIds { next: first, last })
+    }
+
+    // Draws the next id, unless it was drawn less than a window before.
+    pub(crate) fn draw(&mut self, now: u64) -> Option<u16>
+        ensures id { result ≡ free_id self.old now }
+        ensures after { self.new ≡ drawn self.old now }
+    {
+        let id = self.next;
+        if is_recent(now, self.last[id as usize]) {
+            return None;
+        }
+        self.last[id as usize] = Some(now);
+        self.next = id.wrapping_add(1);
+        Some(id)
+    }
+}
+
+// Whether an id that was last drawn then was drawn less than a window before.
+fn is_recent(now: u64, last: Option<u64>) -> bool
+    ensures { result ≡ is_recent now last }
+{
+    match last {
+        None => false,
+        Some(at) => now < at || now - at < WINDOW,
+    }
+}

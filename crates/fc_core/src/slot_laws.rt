@@ -1,0 +1,72 @@
+//! What a history promises of slots: each function is a law, and its contract says it.
+ghost use Rattle.coap_msg.specs.declared.types.Emission.{Emission};
+ghost use Rattle.fc_core.specs.Contents.{Content};
+ghost use Rattle.fc_core.specs.History.{Entry, History, Then, Seen, seen, and_then, did, job, slot_at, stage};
+ghost use Rattle.fc_core.specs.Laws.{changes_by, slot_of, takings_of};
+ghost use Rattle.fc_core.specs.SlotLaws.{AllOfImages, Does, IsOfImage, IsToRaise, IsUnchanged, IsWritten};
+ghost use Rattle.fc_core.specs.Stages.{image_of, names};
+ghost use Rattle.fc_core.specs.declared.event.Event.TheVariants.{Commit, Install};
+ghost use Rattle.fc_core.specs.declared.stage.Stage.TheVariants.{ToCommit, ToRaise};
+ghost use Rattle.fc_kinds.specs.Meaning.{Program};
+ghost use Rattle.fc_registry.specs.Calls.{commit_of};
+ghost use Rattle.fc_registry.specs.Changes.{Committed};
+ghost use Rattle.fc_registry.specs.Record.{IsChain};
+ghost use Rattle.fc_registry.specs.Slots.{Present, Ticket, new_slot};
+ghost use Rattle.fc_verify.specs.Accepted.{Accepts};
+ghost use Rattle.fc_verify.specs.Judged.{judged};
+ghost use Rattle.std.specs.Prelude.{ℕ, ◌+◌, ◌<◌, ◌≤◌, ◌∷◌, ◌⊎◌, Bool, Option, Some, length, ◌≡◌};
+
+/// A job changes its slot at most once. The event that changes it leaves the job to publish the slot's new serial, and no
+/// other event does.
+pub fn changes_are_published()
+    ensures once { (h : History) (k : ℕ) → changes_by h k ≤ 1 }
+    ensures published { (r : Entry) (s : Seen) (k : ℕ) → names r.event ≡ Some k
+        → length (s.changes (slot_of s k)) < length ((and_then r s).changes (slot_of s k))
+        → IsToRaise (stage (and_then r s) k) }
+    ensures only { (r : Entry) (s : Seen) (k : ℕ) (content : Content) → names r.event ≡ Some k
+        → stage (and_then r s) k ≡ ToRaise content → (stage s k ≡ ToRaise content)
+        ⊎ (length ((and_then r s).changes (slot_of s k)) ≡ length (s.changes (slot_of s k)) + 1) }
+{}
+
+/// A slot changes by an install or a commit alone: the install of its job's own accepted image, with memory for the
+/// program and below the last serial, or the commit of its job's ticket.
+pub fn slots_change_by_installs_and_commits()
+    ensures { (r : Entry) (s : Seen) (n : ℕ) → Does r s n }
+{}
+
+/// The install of an image that is refused changes no slot.
+pub fn refused_images_change_nothing()
+    ensures { (r : Entry) (s : Seen) (k n : ℕ) (memory : Bool) → r.event ≡ Install k memory
+        → ((p : Program) → judged (image_of (job s k).ask) ≡ Accepts p → ⊥)
+        → (and_then r s).changes n ≡ s.changes n }
+{}
+
+/// Each program that was installed is one that some image is accepted as, and none was removed; so each program in a slot
+/// is one that some image is accepted as.
+pub fn programs_in_slots_are_accepted()
+    ensures changes { (h : History) (n : ℕ) → AllOfImages ((seen h).changes n) }
+    ensures present { (h : History) (n : ℕ) (p : Present) → (slot_at (seen h) n).present ≡ Some p
+        → IsOfImage p.program }
+{}
+
+/// The commit of a POST whose code has class 2 is a change exactly where its slot's changes are those before the job's
+/// last taking, and its serial isn't the last one; every other commit changes nothing.
+pub fn commits_write_where_nothing_changed()
+    ensures writes { (h : History) (k now n : ℕ) (o : Option Emission) (t : Ticket)
+        → stage (seen h) k ≡ ToCommit n t → IsWritten h k t
+        → (seen (Then h (did (Commit k now) o))).changes (slot_of (seen h) k)
+        ≡ Committed (commit_of t) ∷ (seen h).changes (slot_of (seen h) k) }
+    ensures keeps { (h : History) (k now n : ℕ) (o : Option Emission) (t : Ticket)
+        → stage (seen h) k ≡ ToCommit n t → (IsWritten h k t → ⊥)
+        → (seen (Then h (did (Commit k now) o))).changes (slot_of (seen h) k)
+        ≡ (seen h).changes (slot_of (seen h) k) }
+    ensures serial { (h : History) (k n : ℕ) (t : Ticket) → stage (seen h) k ≡ ToCommit n t
+        → IsUnchanged (takings_of h k) ((seen h).changes (slot_of (seen h) k))
+        → (slot_at (seen h) (slot_of (seen h) k)).serial ≡ t.serial }
+{}
+
+/// The commits of each slot are a chain: each finds what the changes before it left, and leaves what its program means
+/// there.
+pub fn commits_are_a_chain()
+    ensures { (h : History) (n : ℕ) → IsChain (new_slot (seen h).first_serial) ((seen h).changes n) }
+{}

@@ -1,0 +1,324 @@
+//! Jobs at work: what each event does to a job, its slot and its shard.
+ghost use Rattle.std.specs.Prelude.{◌≡◌, ◌<◌, false, IfOk, OnOk, IsErr};
+ghost use Rattle.fc_verify.specs.Accepted.{Accepts};
+ghost use Rattle.fc_verify.specs.Judged.{judged};
+ghost use Rattle.fc_registry.specs.Slots.{Slot, IsOwned, slot_in};
+ghost use Rattle.fc_core.specs.Contents.{AreDone, Unavailable};
+ghost use Rattle.fc_core.specs.Ends.{refused};
+ghost use Rattle.fc_core.specs.Fits.{FitsStage};
+ghost use Rattle.fc_core.specs.Sound.{AllSafe};
+ghost use Rattle.fc_registry.specs.Calls.{HasGiven, outcome};
+ghost use Rattle.fc_core.specs.Stages as rows;
+ghost use Rattle.fc_core.specs.Stages.{at_answer, at_commit, at_install, at_raise, at_take, content_at, first_stage, image_of, installed, moved, new_task, receipt_of, scene_at, shard_moved};
+
+use crate::answer::{Answer, End};
+use crate::stage::{Stage, Task};
+use fc_isa::Fault;
+use fc_machine::{Frame, Outcome, run};
+use fc_registry::{Ask, Committed, Job, Made, Receipt, Shard, SlotNumber, Taken, Ticket};
+use fc_verify::{Refusal, Verified, verify};
+use std::alloc::{AllocError, Global};
+use std::mem;
+use std::sync::Arc;
+
+/// How many times a job may take.
+const TAKINGS: u8 = 8;
+
+/// Where each call's answer leaves a job, whoever works it.
+impl Stage {
+    /// What a job needs first.
+    pub fn first(job: &Job) -> Stage
+        ensures { result ≡ first_stage job.now }
+    {
+        match &job.ask {
+            Ask::Run(_) => Stage::ToTake(0),
+            Ask::Install(_) => Stage::ToInstall,
+        }
+    }
+
+    /// After a taking, and so many takings before it.
+    pub fn took(count: u8, taken: Taken) -> Stage
+        requires { count < 8 }
+        ensures { result ≡ rows.took count taken }
+    {
+        match taken {
+            Taken::Missing => Stage::ToAnswer(Answer::other(End::Missing)),
+            Taken::Given(ticket) => Stage::ToCommit(count + 1, ticket),
+            Taken::Refused => Stage::unavailable(),
+        }
+    }
+
+    /// After a commit: a run that was overtaken is taken again, eight times at most. An outcome that isn't the ticket's is
+    /// no outcome of this job, which is then unavailable.
+    pub fn committed(
+        count: u8,
+        outcome: &Outcome<'_>,
+        ticket: &Ticket,
+        committed: Committed,
+    ) -> Stage
+        requires { AreDone outcome.now ticket.now committed }
+        ensures { result ≡ rows.after_commit count ticket.now committed }
+    {
+        match committed {
+            Committed::Done(mark) => {
+                let changed = mark.changed();
+                let answer = Answer::ran(outcome, ticket, mark);
+                if changed {
+                    Stage::ToRaise(answer)
+                } else {
+                    Stage::ToAnswer(answer)
+                }
+            }
+            Committed::Overtaken if count < TAKINGS => Stage::ToTake(count),
+            Committed::Overtaken | Committed::Ended | Committed::Stranger => Stage::unavailable(),
+        }
+    }
+
+    /// After an install, whose receipt is still without its version.
+    pub fn made(receipt: Receipt, made: Made) -> Stage
+        ensures { result ≡ rows.made receipt made }
+    {
+        match made {
+            Made::Raised { serial, created } => {
+                let receipt = Receipt {
+                    version: serial,
+                    ..receipt
+                };
+                Stage::ToRaise(Answer::other(End::Made(receipt, created)))
+            }
+            Made::AtEnd => Stage::unavailable(),
+        }
+    }
+
+    /// After an image was refused by a rule.
+    pub fn rejected(fault: Fault) -> Stage
+        ensures { result ≡ Stage.ToAnswer (refused (Refusal.Broken fault)) }
+    {
+        Stage::ToAnswer(Answer::other(End::Rejected(Refusal::Broken(fault))))
+    }
+
+    /// After memory was refused, or where serials are at their end.
+    pub fn unavailable() -> Stage
+        ensures { result ≡ Stage.ToAnswer Unavailable }
+    {
+        Stage::ToAnswer(Answer::other(End::Unavailable))
+    }
+}
+
+/// The receipt of a program, still without its version.
+pub fn receipt_of(program: &Verified) -> Receipt
+    ensures { result ≡ receipt_of program.now }
+{
+    Receipt {
+        version: 0,
+        cost: program.cost(),
+        budget: program.budget(),
+        vars: program.vars_size(),
+    }
+}
+
+impl Task {
+    /// A job at its first stage.
+    pub fn new(job: Job) -> Task
+        ensures { result ≡ new_task job }
+    {
+        let stage = Stage::first(&job);
+        Task { job, stage }
+    }
+
+    /// Takes its slot at its shard. Tells whether there was memory: where there was none it is answered 5.03.
+    pub fn take(&mut self, shard: &mut Shard) -> bool
+        requires owned { IsOwned shard.old self.old.job.origin.slot }
+        requires fits { FitsStage self.old.job (slot_in shard.old self.old.job.origin.slot) self.old.stage }
+        ensures task { self.new ≡ moved self.old (at_take result (scene_at self.old (slot_in shard.old self.old.job.origin.slot)) self.old.stage) }
+        ensures shard { shard.new ≡ shard.old }
+    {
+        match self.leave() {
+            Stage::ToTake(count) => {
+                let taken = shard.take(&self.job);
+                let memory = !matches!(&taken, Taken::Refused);
+                self.stage = Stage::took(count, taken);
+                memory
+            }
+            other => {
+                self.stage = other;
+                true
+            }
+        }
+    }
+
+    /// Takes without memory: only an empty slot needs none.
+    pub fn refuse_take(&mut self, shard: &mut Shard)
+        requires owned { IsOwned shard.old self.old.job.origin.slot }
+        requires fits { FitsStage self.old.job (slot_in shard.old self.old.job.origin.slot) self.old.stage }
+        ensures task { self.new ≡ moved self.old (at_take false (scene_at self.old (slot_in shard.old self.old.job.origin.slot)) self.old.stage) }
+        ensures shard { shard.new ≡ shard.old }
+    {
+        match self.leave() {
+            Stage::ToTake(count) => {
+                let taken = match shard.take(&self.job) {
+                    Taken::Given(_) => Taken::Refused,
+                    other => other,
+                };
+                self.stage = Stage::took(count, taken);
+            }
+            other => self.stage = other,
+        }
+    }
+
+    /// Runs its ticket's program, and commits at its shard, at a moment in milliseconds.
+    pub fn commit(&mut self, frame: &mut Frame, shard: &mut Shard, now: u64)
+        requires owned { IsOwned shard.old self.old.job.origin.slot }
+        requires fits { FitsStage self.old.job (slot_in shard.old self.old.job.origin.slot) self.old.stage }
+        ensures task { self.new ≡ moved self.old (at_commit now (scene_at self.old (slot_in shard.old self.old.job.origin.slot)) self.old.stage) }
+        ensures shard { shard.new ≡ shard_moved (at_commit now (scene_at self.old (slot_in shard.old self.old.job.origin.slot)) self.old.stage) self.old.job.origin.slot shard.old }
+    {
+        match self.leave() {
+            Stage::ToCommit(count, ticket) => {
+                self.stage = run_and_commit(frame, count, ticket, shard, now);
+            }
+            other => self.stage = other,
+        }
+    }
+
+    /// Verifies its image, and installs the program at its shard. Tells whether there was memory: where there was none, no
+    /// slot changes, and it is answered 5.03.
+    pub fn install(&mut self, alloc: Global, shard: &mut Shard) -> bool
+        requires { IsOwned shard.old self.old.job.origin.slot }
+        ensures task { self.new ≡ moved self.old (at_install result (scene_at self.old (slot_in shard.old self.old.job.origin.slot)) self.old.stage) }
+        ensures shard { shard.new ≡ shard_moved (at_install result (scene_at self.old (slot_in shard.old self.old.job.origin.slot)) self.old.stage) self.old.job.origin.slot shard.old }
+        ensures safe { AllSafe (at_install result (scene_at self.old (slot_in shard.old self.old.job.origin.slot)) self.old.stage).changes }
+    {
+        match self.leave() {
+            Stage::ToInstall => {
+                let slot = self.job.origin.slot;
+                match verify_and_install(alloc, image(&self.job.ask), shard, slot) {
+                    Ok(stage) => {
+                        self.stage = stage;
+                        true
+                    }
+                    Err(_) => {
+                        self.stage = Stage::unavailable();
+                        false
+                    }
+                }
+            }
+            other => {
+                self.stage = other;
+                true
+            }
+        }
+    }
+
+    /// Installs without memory.
+    pub fn refuse_install(&mut self)
+        ensures { (slot : Slot) → self.new ≡ moved self.old (at_install false (scene_at self.old slot) self.old.stage) }
+    {
+        match self.leave() {
+            Stage::ToInstall => self.stage = Stage::unavailable(),
+            other => self.stage = other,
+        }
+    }
+
+    /// Publishes the new serial of its slot.
+    pub fn raise(&mut self)
+        ensures { self.new ≡ moved self.old (at_raise self.old.stage) }
+    {
+        match self.leave() {
+            Stage::ToRaise(answer) => self.stage = Stage::ToAnswer(answer),
+            other => self.stage = other,
+        }
+    }
+
+    /// What it is answered, once, where it stands there.
+    pub fn answer(&mut self) -> Option<Answer>
+        ensures task { self.new ≡ moved self.old (at_answer self.old.stage) }
+        ensures content { result ≡ content_at self.old.stage }
+    {
+        match self.leave() {
+            Stage::ToAnswer(answer) => Some(answer),
+            other => {
+                self.stage = other;
+                None
+            }
+        }
+    }
+
+    /// Ends it: its worker is lost.
+    pub fn lose(&mut self)
+        ensures { self.new ≡ moved self.old (rows.moves Stage.Gone) }
+    {
+        self.stage = Stage::Gone;
+    }
+
+    // Its stage, which it leaves.
+    fn leave(&mut self) -> Stage
+        ensures stage { result ≡ self.old.stage }
+        ensures after { self.new ≡ moved self.old (rows.moves Stage.Gone) }
+    {
+        mem::replace(&mut self.stage, Stage::Gone)
+    }
+}
+
+// The image that is to be installed.
+fn image(ask: &Ask) -> &[u8]
+    ensures { result.now ≡ image_of ask.now }
+{
+    match ask {
+        Ask::Install(image) => image.as_slice(),
+        Ask::Run(_) => &[],
+    }
+}
+
+fn run_and_commit(
+    frame: &mut Frame,
+    count: u8,
+    ticket: Ticket,
+    shard: &mut Shard,
+    now: u64,
+) -> Stage
+    requires owned { IsOwned shard.old ticket.origin.slot }
+    requires given { HasGiven (slot_in shard.old ticket.origin.slot) ticket }
+    ensures stage { result ≡ (rows.committed (outcome ticket (slot_in shard.old ticket.origin.slot)) count ticket now).stage }
+    ensures shard { shard.new ≡ shard_moved (rows.committed (outcome ticket (slot_in shard.old ticket.origin.slot)) count ticket now) ticket.origin.slot shard.old }
+{
+    let outcome = run(frame, ticket.program(), ticket.request(), ticket.vars());
+    let committed = shard.commit(now, &outcome, &ticket);
+    Stage::committed(count, &outcome, &ticket, committed)
+}
+
+// Where an accepted program is installed, or which rule an image breaks.
+fn verify_and_install(
+    alloc: Global,
+    image: &[u8],
+    shard: &mut Shard,
+    slot: SlotNumber,
+) -> Result<Stage, AllocError>
+    requires { IsOwned shard.old slot }
+    ensures stage { IfOk result (λ s. s ≡ (installed (judged image.now) (slot_in shard.old slot)).stage) }
+    ensures shard { OnOk result (shard.new ≡ shard_moved (installed (judged image.now) (slot_in shard.old slot)) slot shard.old) }
+    ensures safe { OnOk result (AllSafe (installed (judged image.now) (slot_in shard.old slot)).changes) }
+    ensures refused { IsErr result → shard.new ≡ shard.old }
+{
+    match verify(alloc, image) {
+        Ok(program) => install_program(alloc, program, shard, slot),
+        Err(Refusal::NoMemory) => Err(AllocError),
+        Err(Refusal::Broken(fault)) => Ok(Stage::rejected(fault)),
+    }
+}
+
+fn install_program(
+    alloc: Global,
+    program: Verified,
+    shard: &mut Shard,
+    slot: SlotNumber,
+) -> Result<Stage, AllocError>
+    requires { IsOwned shard.old slot }
+    ensures stage { IfOk result (λ s. s ≡ (installed (Accepts program) (slot_in shard.old slot)).stage) }
+    ensures shard { OnOk result (shard.new ≡ shard_moved (installed (Accepts program) (slot_in shard.old slot)) slot shard.old) }
+    ensures refused { IsErr result → shard.new ≡ shard.old }
+{
+    let receipt = receipt_of(&program);
+    let program = Arc::new(alloc, program)?;
+    Ok(Stage::made(receipt, shard.install(slot, program)))
+}
