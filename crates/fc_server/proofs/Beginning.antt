@@ -1,0 +1,62 @@
+-- The beginning: nothing has happened, and every slot is empty.
+use Rattle.std.proofs.Common.{◌≡◌, ℕ, zero, suc, ◌<◌, ◌≤◌, ◌/◌, ◌%◌, [], ◌∷◌, ◌++◌, length, replicate, refl, sym, ap, ◌∙◌, subst, arith, ⊎_elim, length-append}
+use Rattle.std.proofs.lemmas.Bool.{cases_lt}
+use Rattle.std.proofs.lemmas.List.{get_or-replicate, get_or_append_left}
+use Rattle.std.proofs.Math.Seq.{get_or-append_seam}
+use Rattle.fc_registry.specs.Shards.{empty_shards, first_shards, no_shard, shard_at, slot_in_shards}
+use Rattle.fc_registry.specs.Slots.{Shard, slot_in, new_slot}
+use Rattle.fc_core.specs.History.{Begins, begun, seen}
+use Rattle.fc_core.specs.Ids.{first_ids}
+use Rattle.fc_server.specs.Agreement.{ShardsAgree}
+use Rattle.fc_server.specs.Serving.{Serves}
+use Rattle.fc_server.specs.States.{ServerState}
+
+-- an empty shard
+abbrev empty : ℕ → ℕ → Shard
+empty serial s = record { index = s; now = 0; slots = replicate 8 (new_slot serial) }
+
+length-empty_shards : (serial n : ℕ) → length (empty_shards serial n) ≡ n
+length-empty_shards serial zero = refl
+length-empty_shards serial (suc n) = let e = length-empty_shards serial n in length-append (empty_shards serial n) (empty serial n ∷ []) ∙ omega (arith, e)
+
+-- each of the first shards is empty
+empty_at : (serial n s : ℕ) → s < n → shard_at (empty_shards serial n) s ≡ empty serial s
+empty_at serial zero s lt = absurd (omega arith)
+empty_at serial (suc n) s lt =
+    let len = length-empty_shards serial n in
+    ⊎_elim
+    (λ (low : s < n). get_or_append_left (empty_shards serial n) (empty serial n ∷ []) no_shard s (omega (arith, len)) ∙ empty_at serial n s low)
+    (λ (high : n ≤ s).
+    let e : s ≡ length (empty_shards serial n) = omega (arith, len) in
+    ap (λ (i : ℕ). shard_at (empty_shards serial n ++ empty serial n ∷ []) i) e ∙ (get_or-append_seam (empty_shards serial n) (empty serial n) [] no_shard ∙ ap (empty serial) (sym (e ∙ len))))
+    (cases_lt s n)
+
+empty_slots : (serial n : ℕ) → n < 64 → slot_in_shards (first_shards serial) n ≡ new_slot serial
+empty_slots serial n lt =
+    let low : n / 8 < 8 = omega arith in
+    ap (λ (x : Shard). slot_in x n) (empty_at serial 8 (n % 8) (omega arith)) ∙ get_or-replicate 8 (n / 8) (new_slot serial) (new_slot 0) low
+
+shards_begin : (serial id : ℕ) → ShardsAgree (begun serial id) (first_shards serial)
+shards_begin serial id = record {
+  are = record {
+    count = length-empty_shards serial 8;
+    index = λ s lt. ap (λ (x : Shard). x.index) (empty_at serial 8 s lt);
+    size = λ s lt. ap (λ (x : Shard). length x.slots) (empty_at serial 8 s lt);
+  };
+  slot = empty_slots serial;
+  now = λ s lt. ap (λ (x : Shard). x.now) (empty_at serial 8 s lt);
+}
+
+pub begins : (serial id : ℕ) (s : ServerState) → s.front ≡ record { now = 0; opened = 0; held = []; ids = first_ids id } → s.shards ≡ first_shards serial → Serves (Begins serial id) s []
+unfolding seen
+begins serial id s front shards = record {
+  legal = tt;
+  means = tt;
+  agrees = record {
+    front = front;
+    tasks = refl;
+    shards = subst (ShardsAgree (begun serial id)) (sym shards) (shards_begin serial id);
+    sound = record { chain = λ n. tt; within = λ k. (omega arith, tt); stages = λ k. tt };
+    safe = record { slots = λ n. tt };
+  };
+}

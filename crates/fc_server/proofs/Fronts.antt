@@ -1,0 +1,92 @@
+-- What a front holds is what is seen of the history.
+use Rattle.std.proofs.Common.{◌≡◌, ℕ, ◌+◌, ◌<◌, ◌≤◌, List, [], ◌∷◌, ◌++◌, length, map, Bool, true, false, cond, Option, Some, None, refl, sym, ap, ◌∙◌, arith, max, length-append}
+use Rattle.std.specs.Prelude.{filter, ◌==◌, ◌&&◌}
+use Rattle.std.proofs.lemmas.Bool.{lt-ltb}
+use Rattle.std.proofs.lemmas.List.{length-map}
+use Rattle.std.proofs.lemmas.List.Elements.{filter-append}
+use borrow.Author.Tests.{ltb-true}
+use Rattle.arrayvec.specs.ArrayVec.{ArrayVec}
+use Rattle.coap_msg.specs.declared.types.Endpoint.{Endpoint}
+use Rattle.coap_msg.specs.declared.types.Emission.{Emission}
+use Rattle.coap_dedup.specs.declared.exchange.Exchange.{Exchange}
+use Rattle.coap_dedup.specs.Exchanges.{is_live as is_held, answered, answered_if}
+use Rattle.fc_core.specs.Exchanges.{FrontState, advanced}
+use Rattle.fc_core.specs.History.{Seen, answered_in, front_at, front_in}
+use Rattle.fc_core.specs.Ids.{Ids}
+use Rattle.fc_core.specs.Receiving.{Received, exchange_of, keeping, next_opening, opened_by}
+use Rattle.fc_core.specs.Receiving as x
+
+-- ---- a moment passes
+
+filter_filter_step : {X : Type 0} (p : X → Bool) (x : X) (b : Bool) (ys zs : List X) → (p x ≡ true → b ≡ true) → filter p ys ≡ zs → filter p (cond b (x ∷ ys) ys) ≡ cond (p x) (x ∷ zs) zs
+filter_filter_step p x true ys zs i e = ap (λ l. cond (p x) (x ∷ l) l) e
+filter_filter_step p x false ys zs i e = e ∙ drops (p x) i
+  where
+    drops : (c : Bool) → (c ≡ true → false ≡ true) → zs ≡ cond c (x ∷ zs) zs
+    drops true j = absurd (let k = j refl in cc)
+    drops false j = refl
+
+-- what passes p passes q
+filter_of_filter : {X : Type 0} (p q : X → Bool) → ((x : X) → p x ≡ true → q x ≡ true) → (xs : List X) → filter p (filter q xs) ≡ filter p xs
+filter_of_filter p q i [] = refl
+filter_of_filter p q i (x ∷ xs) = filter_filter_step p x (q x) (filter q xs) (filter p xs) (i x) (filter_of_filter p q i xs)
+
+-- what is live later was live before
+live_before : (m at : ℕ) → m ≤ at → (e : Exchange) → is_held at e ≡ true → is_held m e ≡ true
+live_before m at le e held = let lt : at < e.at + 247000 = ltb-true at (e.at + 247000) held in lt-ltb m (e.at + 247000) (omega arith)
+
+-- a front that advances holds what is live then
+pub front_advances : (s : Seen) (now : ℕ) → advanced (front_in s s.moment) now ≡ front_at s now
+front_advances s now =
+    let le : s.moment ≤ max s.moment now = omega arith in
+    λ i. record (front_at s now) { held = filter_of_filter (is_held (max s.moment now)) (is_held s.moment) (live_before s.moment (max s.moment now) le) s.exchanges i }
+
+-- ---- an exchange is opened
+
+new_live : (at : ℕ) (e : Exchange) → e.at ≡ at → filter (is_held at) (e ∷ []) ≡ e ∷ []
+new_live at e is = ap (λ (b : Bool). cond b (e ∷ []) []) (let le = is in lt-ltb at (e.at + 247000) (omega (arith, le)))
+
+pub opened_live : (s : Seen) (at : ℕ) (r : Received) (to : Endpoint) → filter (is_held at) (opened_by r (next_opening (front_in s at)) to) ≡ opened_by r (next_opening (front_in s at)) to
+opened_live s at (x.Opened m asked) to = new_live at (exchange_of (next_opening (front_in s at)) to m) refl
+opened_live s at (x.Silenced m) to = new_live at (exchange_of (next_opening (front_in s at)) to m) refl
+opened_live s at (x.Refused m answer) to = new_live at (exchange_of (next_opening (front_in s at)) to m) refl
+opened_live s at x.Ignored to = refl
+opened_live s at (x.Rejected id) to = refl
+opened_live s at (x.Signals id reset) to = refl
+opened_live s at x.Repeated to = refl
+opened_live s at (x.Again bytes) to = refl
+opened_live s at (x.Full m) to = refl
+
+-- ---- an exchange is answered
+
+-- the exchange of this number, where it is live, is answered where it is held
+kept_one : (at n : ℕ) (bytes : ArrayVec ℕ) (e : Exchange) (rest : List Exchange) (all : List Exchange) (is live : Bool) → (e.number == n) ≡ is → is_held at e ≡ live → map (answered at n bytes) rest ≡ filter (is_held at) all → map (answered at n bytes) (cond live (e ∷ rest) rest) ≡ filter (is_held at) (answered_if is bytes e ∷ all)
+kept_one at n bytes e rest all true true same held more = (λ i. answered_if (same i && held i) bytes e ∷ more i) ∙ ap (λ (b : Bool). cond b (record e { answer = Some bytes } ∷ filter (is_held at) all) (filter (is_held at) all)) (sym held)
+kept_one at n bytes e rest all false true same held more = (λ i. answered_if (same i && held i) bytes e ∷ more i) ∙ ap (λ (b : Bool). cond b (e ∷ filter (is_held at) all) (filter (is_held at) all)) (sym held)
+kept_one at n bytes e rest all true false same held more = more ∙ ap (λ (b : Bool). cond b (record e { answer = Some bytes } ∷ filter (is_held at) all) (filter (is_held at) all)) (sym held)
+kept_one at n bytes e rest all false false same held more = more ∙ ap (λ (b : Bool). cond b (e ∷ filter (is_held at) all) (filter (is_held at) all)) (sym held)
+
+kept_all : (at n : ℕ) (bytes : ArrayVec ℕ) (es : List Exchange) → map (answered at n bytes) (filter (is_held at) es) ≡ filter (is_held at) (map (λ e. answered_if (e.number == n) bytes e) es)
+kept_all at n bytes [] = refl
+kept_all at n bytes (e ∷ es) = kept_one at n bytes e (filter (is_held at) es) (map (λ e. answered_if (e.number == n) bytes e) es) (e.number == n) (is_held at e) refl refl (kept_all at n bytes es)
+
+-- a front of these exchanges
+abbrev pub front_of : ℕ → List Exchange → Ids → FrontState
+front_of at es ids = record { now = at; opened = length es; held = filter (is_held at) es; ids = ids }
+
+pub front_keeps : (at n : ℕ) (em : Option Emission) (es : List Exchange) (ids : Ids) → keeping n em (front_of at es ids) ≡ front_of at (answered_in n em es) ids
+front_keeps at n None es ids = refl
+front_keeps at n (Some em) es ids = λ i. record { now = at; opened = sym (length-map es (λ e. answered_if (e.number == n) em.bytes e)) i; held = kept_all at n em.bytes es i; ids = ids }
+
+-- a front that opens what is live
+pub front_opens : (s : Seen) (at : ℕ) (r : Received) (to : Endpoint) (ids : Ids) →
+    record (front_in s at) { opened = length s.exchanges + length (opened_by r (next_opening (front_in s at)) to); held = filter (is_held at) s.exchanges ++ opened_by r (next_opening (front_in s at)) to; ids = ids }
+    ≡ front_of at (s.exchanges ++ opened_by r (next_opening (front_in s at)) to) ids
+front_opens s at r to ids =
+    let new = opened_by r (next_opening (front_in s at)) to in
+    λ i. record {
+      now = at;
+      opened = sym (length-append s.exchanges new) i;
+      held = (ap (λ (l : List Exchange). filter (is_held at) s.exchanges ++ l) (sym (opened_live s at r to)) ∙ sym (filter-append (is_held at) s.exchanges new)) i;
+      ids = ids;
+    }

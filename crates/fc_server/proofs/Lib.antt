@@ -1,0 +1,6 @@
+pub mod Fronts
+pub mod Places
+pub mod Stepping
+pub mod Others
+pub mod Beginning
+pub mod Served

@@ -1,0 +1,229 @@
+-- Events that change no slot: those of jobs that never came, of what isn't served, deliveries, ticks and answers.
+use Rattle.std.proofs.Common.{◌≡◌, ℕ, ◌≤◌, ◌%◌, List, [], ◌++◌, length, map, set, Bool, true, false, Option, Some, None, refl, sym, ap, ◌∙◌, subst, max, if◌then◌else◌, Bor}
+use Rattle.std.specs.Prelude.{filter, is_some}
+use Rattle.std.proofs.lemmas.List.{append-nil, get_or_past, set-get_or, set_past}
+use Rattle.coap_msg.specs.declared.types.Endpoint.{Endpoint}
+use Rattle.coap_msg.specs.declared.types.Emission.{Emission}
+use Rattle.coap_dedup.specs.Exchanges.{is_live as is_held}
+use Rattle.fc_registry.specs.declared.job.Job.{Job}
+use Rattle.fc_registry.specs.Shards.{no_shard, shard_at, slot_in_shards}
+use Rattle.fc_registry.specs.Changes.{after_changes}
+use Rattle.fc_registry.specs.Slots.{Shard, Slot, new_slot}
+use Rattle.fc_core.specs.declared.event.Event.{Event}
+use Rattle.fc_core.specs.declared.event.Event.TheVariants.{Deliver, Take, Commit, Install, Raise, Answer, Tick, Lose}
+use Rattle.fc_core.specs.declared.stage.Stage.{Stage}
+use Rattle.fc_core.specs.declared.stage.Stage.TheVariants.{ToTake, ToCommit, ToInstall, ToRaise, ToAnswer, Gone}
+use Rattle.fc_core.specs.declared.stage.Task.{Task}
+use Rattle.fc_core.specs.Answering.{after_answered_by}
+use Rattle.fc_core.specs.Contents.{Content}
+use Rattle.fc_core.specs.Exchanges.{FrontState, advanced, is_live}
+use Rattle.fc_core.specs.History.{Seen, and_then, answered_in, did, exchanges_after, front_at, front_in, ids_after, ids_answered, job, moment_after, no_task, received_at, shard_moment_after, stage, task_at, tasks_brought, tasks_moved, changes_after}
+use Rattle.fc_core.specs.Ids.{drawn_for}
+use Rattle.fc_core.specs.Legal.{AnswerEmits, Emits, IsAnswered, TakesMeaning}
+use Rattle.fc_core.specs.Receiving.{after_received, brought, drawn_by, id_in, keeping, kept_of, next_opening, opened_by, received, sent}
+use Rattle.fc_core.specs.Sound.{AllSafe}
+use Rattle.fc_core.specs.Stages.{Move, at_answer, content_at, moved, moves, names, new_task, row, scene_at}
+use Rattle.fc_core.proofs.Keeping.{IsSafeMove, still_safe, still_sound}
+use Rattle.fc_core.proofs.Rejections.{same_slot}
+use Rattle.fc_server.specs.Agreement.{Agrees, Parts, ShardsAgree}
+use Rattle.fc_server.specs.States.{front_after, scene_in, shards_moved}
+use Rattle.fc_server.specs.Steps.{AnsweredTo, DeliveredTo, Moves, Steps, Ticked}
+use Rattle.fc_server.proofs.Fronts.{front_advances, front_keeps, front_of, front_opens}
+use Rattle.fc_server.proofs.Stepping.{Quiet, moves_step, shards_move}
+
+-- ---- a move that changes no slot
+
+-- the shards after it are as they were
+pub unwritten : (stage : Stage) (n : ℕ) (shards : List Shard) → shards_moved (moves stage) n shards ≡ shards
+unwritten stage n shards = ap (λ (x : Shard). set shards (n % 8) x) (same_slot (shard_at shards (n % 8)) n) ∙ set-get_or shards (n % 8) no_shard
+
+-- ---- jobs that never came
+
+gone_moves : (e : Event) (slot : Slot) → row e (scene_at no_task slot) ≡ moves Gone
+gone_moves (Take k memory) slot = refl
+gone_moves (Commit k now) slot = refl
+gone_moves (Install k memory) slot = refl
+gone_moves (Raise k) slot = refl
+gone_moves (Answer k now) slot = refl
+gone_moves (Lose k) slot = refl
+gone_moves other slot = refl
+
+past_moves : (e : Event) (k : ℕ) (w : Parts) → length w.tasks ≤ k → Moves e k w w
+past_moves e k w le =
+    let none : no_task ≡ task_at w.tasks k = sym (get_or_past w.tasks k no_task le) in
+    let slot = slot_in_shards w.shards 0 in
+    let gone = gone_moves e slot in
+    let P : Task → Type 0 = λ t. w.shards ≡ shards_moved (row e (scene_in w.shards t)) t.job.origin.slot w.shards in
+    let Q : Task → Type 0 = λ t. AllSafe (row e (scene_in w.shards t)).changes in
+    record {
+      front = refl;
+      tasks = sym (set_past w.tasks k _ le);
+      shards = subst P none (sym (unwritten Gone 0 w.shards) ∙ ap (λ (m : Move). shards_moved m 0 w.shards) (sym gone));
+      safe = subst Q none (subst (λ (m : Move). AllSafe m.changes) (sym gone) tt);
+    }
+
+pub past_step : (e : Event) (k : ℕ) (w : Parts) → Quiet e k → length w.tasks ≤ k → Steps e w None w
+past_step e k w q le = moves_step e k w w q (past_moves e k w le)
+
+-- ---- what isn't served
+
+-- an event that nothing has brought yet
+abbrev pub IsIdle : Event → Type 0
+IsIdle (Deliver now to bytes) = ⊥
+IsIdle (Take k memory) = ⊥
+IsIdle (Commit k now) = ⊥
+IsIdle (Install k memory) = ⊥
+IsIdle (Raise k) = ⊥
+IsIdle (Answer k now) = ⊥
+IsIdle (Tick now) = ⊥
+IsIdle (Lose k) = ⊥
+IsIdle other = Unit {0}
+
+record Idles (e : Event) : Type 0 where
+  named : names e ≡ None
+  moment : (s : Seen) → moment_after e s ≡ s.moment
+  exchanges : (s : Seen) → exchanges_after e None s ≡ s.exchanges
+  ids : (s : Seen) → ids_after e s ≡ s.ids
+  brings : (s : Seen) → tasks_brought e s ≡ []
+  emits : (s : Seen) → Emits s e None
+  means : (s : Seen) → TakesMeaning s e
+
+idles : (e : Event) → IsIdle e → Idles e
+idles (Deliver now to bytes) is = absurd is
+idles (Take k memory) is = absurd is
+idles (Commit k now) is = absurd is
+idles (Install k memory) is = absurd is
+idles (Raise k) is = absurd is
+idles (Answer k now) is = absurd is
+idles (Tick now) is = absurd is
+idles (Lose k) is = absurd is
+idles other is = record { named = refl; moment = λ s. refl; exchanges = λ s. refl; ids = λ s. refl; brings = λ s. refl; emits = λ s. refl; means = λ s. tt }
+
+-- what is seen of an event that names no job
+unnamed_agrees : (e : Event) (emitted : Option Emission) (w : Parts) (s : Seen) (o : Option ℕ) → names e ≡ o → o ≡ None → Agrees s w → (front : FrontState) → front ≡ front_in (and_then (did e emitted) s) (moment_after e s) → (tasks : List Task) → tasks ≡ s.tasks ++ tasks_brought e s → Agrees (and_then (did e emitted) s) (record { front = front; shards = w.shards; tasks = tasks })
+unnamed_agrees e emitted w s o is none a front front_is tasks tasks_are =
+    let named : None ≡ names e = sym (is ∙ none) in
+    record {
+      front = front_is;
+      tasks = tasks_are ∙ ap (λ (p : Option ℕ). tasks_moved p e s ++ tasks_brought e s) named;
+      shards = record { are = a.shards.are; slot = λ n lt. a.shards.slot n lt ∙ ap (λ (p : Option ℕ). after_changes (new_slot s.first_serial) (changes_after p e s n)) named; now = λ i lt. a.shards.now i lt ∙ ap (λ (p : Option ℕ). shard_moment_after p e s i) named };
+      sound = still_sound (did e emitted) s a.sound;
+      safe = still_safe (did e emitted) s a.sound (subst (λ (p : Option ℕ). IsSafeMove p e s) named tt) a.safe;
+    }
+
+pub idle_step : (e : Event) (w : Parts) → IsIdle e → Steps e w None w
+idle_step e w is s a =
+    let q = idles e is in
+    record {
+      emits = q.emits s;
+      means = q.means s;
+      agrees = unnamed_agrees e None w s (names e) refl q.named a w.front
+          (a.front ∙ λ i. record { now = sym (q.moment s) i; opened = length (sym (q.exchanges s) i); held = filter (is_held (sym (q.moment s) i)) (sym (q.exchanges s) i); ids = sym (q.ids s) i })
+          w.tasks (a.tasks ∙ (sym (append-nil s.tasks) ∙ ap (λ (ts : List Task). s.tasks ++ ts) (sym (q.brings s))));
+    }
+
+-- ---- a tick
+
+pub tick_step : (now : ℕ) (old new : Parts) → Ticked now old new → Steps (Tick now) old None new
+tick_step now old new t s a =
+    let front : new.front ≡ front_at s now = t.front ∙ (ap (λ (f : FrontState). advanced f now) a.front ∙ front_advances s now) in
+    let agrees = unnamed_agrees (Tick now) None old s None refl refl a new.front front new.tasks (t.tasks ∙ (a.tasks ∙ sym (append-nil s.tasks))) in
+    record {
+      emits = refl;
+      means = tt;
+      agrees = subst (λ (xs : List Shard). Agrees (and_then (did (Tick now) None) s) (record { front = new.front; shards = xs; tasks = new.tasks })) (sym t.shards) agrees;
+    }
+
+-- ---- a delivery
+
+-- the front after it
+front_delivered : (s : Seen) (now : ℕ) (to : Endpoint) (b : Bor (List ℕ)) (emitted : Option Emission) → emitted ≡ sent (received_at s now to b.now) (front_at s now) to → after_received (received_at s now to b.now) (front_at s now) to ≡ front_in (and_then (did (Deliver now to b) emitted) s) (max s.moment now)
+front_delivered s now to b emitted e =
+    let x = received_at s now to b.now in
+    let at = max s.moment now in
+    let n = length s.exchanges in
+    let ids = drawn_by x s.ids at in
+    let all = s.exchanges ++ opened_by x (next_opening (front_at s now)) to in
+    ap (keeping n (kept_of x (sent x (front_at s now) to))) (front_opens s at x to ids)
+    ∙ (front_keeps at n (kept_of x (sent x (front_at s now) to)) all ids
+    ∙ ap (λ (em : Option Emission). front_of at (answered_in n (kept_of x em) all) ids) (sym e))
+
+pub deliver_step : (now : ℕ) (to : Endpoint) (b : Bor (List ℕ)) (old new : Parts) (emitted : Option Emission) → DeliveredTo now to b.now old new emitted → Steps (Deliver now to b) old emitted new
+deliver_step now to b old new emitted t s a =
+    let is : advanced old.front now ≡ front_at s now = ap (λ (f : FrontState). advanced f now) a.front ∙ front_advances s now in
+    let emits : emitted ≡ sent (received_at s now to b.now) (front_at s now) to = t.emits ∙ ap (λ (f : FrontState). sent (received f to b.now) f to) is in
+    let front = t.front ∙ (ap (λ (f : FrontState). after_received (received f to b.now) f to) is ∙ front_delivered s now to b emitted emits) in
+    let tasks : new.tasks ≡ s.tasks ++ tasks_brought (Deliver now to b) s = t.tasks ∙ ((λ i. a.tasks i ++ map new_task (brought (received (is i) to b.now) (next_opening (is i)) to))) in
+    record {
+      emits = emits;
+      means = tt;
+      agrees = subst (λ (xs : List Shard). Agrees (and_then (did (Deliver now to b) emitted) s) (record { front = new.front; shards = xs; tasks = new.tasks })) (sym t.shards)
+          (unnamed_agrees (Deliver now to b) emitted old s None refl refl a new.front front new.tasks tasks);
+    }
+
+-- ---- an answer
+
+-- the front after it, by the content of the answer, if there is one
+front_answered : (s : Seen) (now : ℕ) (j : Job) (emitted : Option Emission) (live : Bool) (c : Option Content) → is_live (max s.moment now) j.origin.opening ≡ live → AnswerEmits c j (front_at s now) emitted →
+    front_after c j emitted (front_in s s.moment) now
+    ≡ front_of (if is_some c then max s.moment now else s.moment) (if is_some c then answered_in j.origin.opening.number emitted s.exchanges else s.exchanges) (ids_answered c live j.confirmable s.ids (max s.moment now))
+front_answered s now j emitted live None is emits = refl
+front_answered s now j emitted true (Some content) is emits =
+    let at = max s.moment now in
+    (λ i. after_answered_by (is_live (front_advances s now i).now j.origin.opening) j emitted (front_advances s now i))
+    ∙ (ap (λ (b : Bool). after_answered_by b j emitted (front_at s now)) is
+    ∙ front_keeps at j.origin.opening.number emitted s.exchanges (drawn_for j.confirmable s.ids at))
+front_answered s now j emitted false (Some content) is emits =
+    let late : emitted ≡ None = subst (λ (b : Bool). IsAnswered b (id_in (front_at s now) j.confirmable j.origin.id) j content emitted) is emits in
+    (λ i. after_answered_by (is_live (front_advances s now i).now j.origin.opening) j emitted (front_advances s now i))
+    ∙ (ap (λ (b : Bool). after_answered_by b j emitted (front_at s now)) is
+    ∙ ap (λ (em : Option Emission). front_of (max s.moment now) (answered_in j.origin.opening.number em s.exchanges) s.ids) (sym late))
+
+answer_unmoved : (st : Stage) (n : ℕ) (shards : List Shard) → shards_moved (at_answer st) n shards ≡ shards
+answer_unmoved (ToAnswer content) n shards = unwritten Gone n shards
+answer_unmoved (ToTake count) n shards = unwritten (ToTake count) n shards
+answer_unmoved (ToCommit count t) n shards = unwritten (ToCommit count t) n shards
+answer_unmoved ToInstall n shards = unwritten ToInstall n shards
+answer_unmoved (ToRaise content) n shards = unwritten (ToRaise content) n shards
+answer_unmoved Gone n shards = unwritten Gone n shards
+
+answer_safe : (st : Stage) → AllSafe (at_answer st).changes
+answer_safe (ToAnswer content) = tt
+answer_safe (ToTake count) = tt
+answer_safe (ToCommit count t) = tt
+answer_safe ToInstall = tt
+answer_safe (ToRaise content) = tt
+answer_safe Gone = tt
+
+pub answer_step : (k now : ℕ) (old new : Parts) (emitted : Option Emission) → AnsweredTo k now old new emitted → Steps (Answer k now) old emitted new
+answer_step k now old new emitted t s a =
+    let e = Answer k now in
+    let is : advanced old.front now ≡ front_at s now = ap (λ (f : FrontState). advanced f now) a.front ∙ front_advances s now in
+    let t' : AnsweredTo k now (record old { tasks = s.tasks }) new emitted = subst (λ (ts : List Task). AnsweredTo k now (record old { tasks = ts }) new emitted) a.tasks t in
+    let emits : AnswerEmits (content_at (stage s k)) (job s k) (front_at s now) emitted = subst (λ (f : FrontState). AnswerEmits (content_at (stage s k)) (job s k) f emitted) is t'.emits in
+    let low = (a.sound.within k).0 in
+    let shards = shards_move s e k refl old.shards a.shards low emitted in
+    record {
+      emits = emits;
+      means = tt;
+      agrees = record {
+        front = t'.front ∙ (ap (λ (f : FrontState). front_after (content_at (stage s k)) (job s k) emitted f now) a.front ∙ front_answered s now (job s k) emitted (is_live (max s.moment now) (job s k).origin.opening) (content_at (stage s k)) refl emits);
+        tasks = t'.tasks ∙ sym (append-nil (set s.tasks k (moved (task_at s.tasks k) (at_answer (stage s k)))));
+        shards = subst (λ (xs : List Shard). ShardsAgree (and_then (did e emitted) s) xs) (answer_unmoved (stage s k) (job s k).origin.slot old.shards ∙ sym t.shards) shards;
+        sound = still_sound (did e emitted) s a.sound;
+        safe = still_safe (did e emitted) s a.sound (answer_safe (stage s k)) a.safe;
+      };
+    }
+
+-- of a job that never came
+pub past_answer : (k now : ℕ) (w : Parts) → length w.tasks ≤ k → AnsweredTo k now w w None
+past_answer k now w le =
+    let none : no_task ≡ task_at w.tasks k = sym (get_or_past w.tasks k no_task le) in
+    let P : Task → Type 0 = λ t. w.front ≡ front_after (content_at t.stage) t.job None w.front now in
+    let Q : Task → Type 0 = λ t. AnswerEmits (content_at t.stage) t.job (advanced w.front now) None in
+    record {
+      front = subst P none refl;
+      tasks = sym (set_past w.tasks k _ le);
+      shards = refl;
+      emits = subst Q none refl;
+    }

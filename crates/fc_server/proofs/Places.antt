@@ -1,0 +1,58 @@
+-- A move of a job of one slot, as sixty-four slots are seen.
+use Rattle.std.proofs.Common.{◌≡◌, ℕ, ◌<◌, ◌/◌, ◌%◌, List, length, sym, ap, ◌∙◌, subst, ⊎_elim, arith, length-set}
+use Rattle.std.proofs.lemmas.Bool.{cases_eq}
+use Rattle.std.proofs.lemmas.List.{get_or-set_same, get_or-set_other}
+use Rattle.fc_registry.specs.Changes.{after_changes}
+use Rattle.fc_registry.specs.Shards.{AreShards, no_shard, shard_at, slot_in_shards}
+use Rattle.fc_registry.specs.Slots.{Shard, slot_in, new_slot}
+use Rattle.fc_core.specs.Stages.{Move, handed, shard_moved}
+use Rattle.fc_server.specs.States.{shards_moved}
+
+module _ (shards : List Shard) (are : AreShards shards) (n : ℕ) (lt : n < 64) (m : Move) where
+  abbrev written : List Shard
+  written = shards_moved m n shards
+
+  place : n % 8 < length shards
+  place = let count = are.count in omega (arith, count)
+
+  at_place : shard_at written (n % 8) ≡ shard_moved m n (shard_at shards (n % 8))
+  at_place = get_or-set_same shards (n % 8) (shard_moved m n (shard_at shards (n % 8))) no_shard place
+
+  elsewhere : (i : ℕ) → (i ≡ n % 8 → ⊥) → shard_at written i ≡ shard_at shards i
+  elsewhere i ne = get_or-set_other shards (n % 8) i (shard_moved m n (shard_at shards (n % 8))) no_shard ne
+
+  room : n / 8 < length (shard_at shards (n % 8)).slots
+  room = let size = are.size (n % 8) (omega arith) in omega (arith, size)
+
+  pub are_written : AreShards written
+  are_written = record {
+    count = length-set shards (n % 8) (shard_moved m n (shard_at shards (n % 8))) ∙ are.count;
+    index = λ i low. ⊎_elim
+        (λ (e : i ≡ n % 8). subst (λ (j : ℕ). (shard_at written j).index ≡ j) (sym e) (ap (λ (x : Shard). x.index) at_place ∙ are.index (n % 8) (omega arith)))
+        (λ (ne : i ≡ n % 8 → ⊥). ap (λ (x : Shard). x.index) (elsewhere i ne) ∙ are.index i low)
+        (cases_eq i (n % 8));
+    size = λ i low. ⊎_elim
+        (λ (e : i ≡ n % 8). subst (λ (j : ℕ). length (shard_at written j).slots ≡ 8) (sym e) (ap (λ (x : Shard). length x.slots) at_place ∙ (length-set (shard_at shards (n % 8)).slots (n / 8) _ ∙ are.size (n % 8) (omega arith))))
+        (λ (ne : i ≡ n % 8 → ⊥). ap (λ (x : Shard). length x.slots) (elsewhere i ne) ∙ are.size i low)
+        (cases_eq i (n % 8));
+  }
+
+  -- the slot that was written
+  pub slot_here : slot_in_shards written n ≡ after_changes (slot_in_shards shards n) m.changes
+  slot_here = ap (λ (x : Shard). slot_in x n) at_place ∙ get_or-set_same (shard_at shards (n % 8)).slots (n / 8) _ (new_slot 0) room
+
+  -- another slot, of the same shard or of another
+  pub slot_there : (k : ℕ) → (k ≡ n → ⊥) → slot_in_shards written k ≡ slot_in_shards shards k
+  slot_there k ne = ⊎_elim
+      (λ (e : k % 8 ≡ n % 8).
+      let apart : k / 8 ≡ n / 8 → ⊥ = λ q. ne (omega (arith, e, q)) in
+      ap (λ (s : ℕ). slot_in (shard_at written s) k) e ∙ (ap (λ (x : Shard). slot_in x k) at_place ∙ (get_or-set_other (shard_at shards (n % 8)).slots (n / 8) (k / 8) _ (new_slot 0) apart ∙ ap (λ (s : ℕ). slot_in (shard_at shards s) k) (sym e))))
+      (λ (ne8 : k % 8 ≡ n % 8 → ⊥). ap (λ (x : Shard). slot_in x k) (elsewhere (k % 8) ne8))
+      (cases_eq (k % 8) (n % 8))
+
+  -- the shards' moments
+  pub now_here : (shard_at written (n % 8)).now ≡ handed m.hands (shard_at shards (n % 8)).now
+  now_here = ap (λ (x : Shard). x.now) at_place
+
+  pub now_there : (i : ℕ) → (i ≡ n % 8 → ⊥) → (shard_at written i).now ≡ (shard_at shards i).now
+  now_there i ne = ap (λ (x : Shard). x.now) (elsewhere i ne)

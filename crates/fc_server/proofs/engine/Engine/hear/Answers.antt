@@ -1,0 +1,5 @@
+use Rattle.fc_server.proofs.Served.{still_served}
+use Rattle.fc_server.proofs.engine.Engine.hear.Goals as goal
+
+pub invariant_of-self : goal.invariant_of-self
+invariant_of-self c = still_served c.args.now _ _ c.self.inside.server c.hear.new.server c.hear.result c.self.invariant c.hear.ensures

@@ -1,0 +1,23 @@
+use Rattle.std.proofs.Common.{length, ◌++◌, ◌∷◌, []}
+use Rattle.fc_server.proofs.Served.{at_work, installed_on, raised_on, answered_on}
+use Rattle.fc_server.proofs.engine.install.Goals as goal
+
+pub install-requires : goal.install-requires
+install-requires c = at_work c.requires.rest c.requires.serves
+
+pub raise-requires : goal.raise-requires
+raise-requires c =
+    let rest = c.requires.rest in
+    at_work rest (installed_on rest c.requires.serves c.install.result (c.install.ensures (length rest)))
+
+pub answer-requires : goal.answer-requires
+answer-requires c =
+    let rest = c.requires.rest in
+    let installed = installed_on rest c.requires.serves c.install.result (c.install.ensures (length rest)) in
+    at_work rest (raised_on rest installed (c.raise.ensures (length rest)))
+
+pub returns : goal.returns
+returns c = λ image h rest v.
+    let installed = installed_on rest v c.install.result (c.install.ensures (length rest)) in
+    let raised = raised_on rest installed (c.raise.ensures (length rest)) in
+    record { memory = c.install.result; tasks = rest ++ c.answer.new.task ∷ []; serves = answered_on rest raised c.args.now c.answer.result c.answer.ensures }

@@ -1,0 +1,31 @@
+use Rattle.std.proofs.Common.{length, ◌++◌, ◌∷◌, []}
+use Rattle.fc_server.proofs.Served.{at_work, took_on, committed_on, raised_on, answered_on}
+use Rattle.fc_server.proofs.engine.run.Goals as goal
+
+pub take-requires : goal.take-requires
+take-requires c = at_work c.requires.rest c.requires.serves
+
+pub commit-requires : goal.commit-requires
+commit-requires c =
+    let rest = c.requires.rest in
+    at_work rest (took_on rest c.requires.serves c.take.result (c.take.ensures (length rest)))
+
+pub raise-requires : goal.raise-requires
+raise-requires c =
+    let rest = c.requires.rest in
+    let took = took_on rest c.requires.serves c.take.result (c.take.ensures (length rest)) in
+    at_work rest (committed_on rest took c.args.now (c.commit.ensures (length rest)))
+
+pub answer-requires : goal.answer-requires
+answer-requires c =
+    let rest = c.requires.rest in
+    let took = took_on rest c.requires.serves c.take.result (c.take.ensures (length rest)) in
+    let committed = committed_on rest took c.args.now (c.commit.ensures (length rest)) in
+    at_work rest (raised_on rest committed (c.raise.ensures (length rest)))
+
+pub returns : goal.returns
+returns c = λ request h rest v.
+    let took = took_on rest v c.take.result (c.take.ensures (length rest)) in
+    let committed = committed_on rest took c.args.now (c.commit.ensures (length rest)) in
+    let raised = raised_on rest committed (c.raise.ensures (length rest)) in
+    record { memory = c.take.result; tasks = rest ++ c.answer.new.task ∷ []; serves = answered_on rest raised c.args.now c.answer.result c.answer.ensures }

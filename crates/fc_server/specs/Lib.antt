@@ -1,0 +1,4 @@
+pub mod States
+pub mod Agreement
+pub mod Steps
+pub mod Serving

@@ -1,0 +1,121 @@
+//! A server on one thread: each datagram that it hears is worked off to its answer.
+ghost use Rattle.std.specs.Prelude.{ℕ, ◌≤◌, [], IfOk};
+ghost use Rattle.arrayvec.specs.ArrayVec.{ArrayVec};
+ghost use Rattle.fc_help.specs.Request.{Request};
+ghost use Rattle.fc_registry.specs.declared.job.Ask.{Ask};
+ghost use Rattle.fc_registry.specs.Slots.{last_serial};
+ghost use Rattle.fc_core.specs.declared.event.Event.{Event};
+ghost use Rattle.fc_core.specs.Exchanges.{advanced};
+ghost use Rattle.fc_core.specs.History.{Begins};
+ghost use Rattle.fc_core.specs.Receiving.{delivered};
+ghost use Rattle.fc_server.specs.Serving.{Hears, IsBegun, IsServed, Passes, Serves, WorksOff};
+
+use crate::server::Server;
+use coap_msg::{Emission, Endpoint};
+use fc_core::{Delivered, Task};
+use fc_registry::Ask;
+use std::alloc::{AllocError, Global};
+use std::marker::Model;
+
+/// A server on one thread that some history leaves, whatever was called. A clause sees what its front holds, and its shards.
+#[derive(Drop)]
+pub struct Engine {
+    server: Server,
+}
+
+impl Model for Engine {
+    ghost use Rattle.fc_server.specs.States.{ServerState};
+    ghost use Rattle.fc_server.specs.Serving.{IsServed};
+
+    ghost Value = { ServerState };
+
+    ghost view = { λ e. e.server };
+
+    ghost invariant = { λ e. IsServed e.server };
+}
+
+impl Engine {
+    /// A server that holds nothing, with slots 0 to 63 empty, each at the first serial, and that draws this message id
+    /// first.
+    ///
+    /// # Errors
+    /// There was no memory for it.
+    pub fn new(alloc: Global, first_serial: u64, first_id: u16) -> Result<Engine, AllocError>
+        requires { first_serial ≤ last_serial }
+        ensures { IfOk result (λ e. Serves (Begins first_serial first_id) e []) }
+    {
+        Ok(Engine {
+            server: Server::new(alloc, first_serial, first_id)?,
+        })
+    }
+
+    /// Takes in a datagram from an endpoint at a moment in milliseconds, works off the job that it brings, and gives what is
+    /// to be sent. What it does is the list of the events Deliver, Take, Commit, Raise and Answer of a job that runs a
+    /// program, Deliver, Install, Raise and Answer of one that installs, and else Deliver alone: whatever the history was,
+    /// with these it is legal, and the server is what it leaves.
+    pub fn hear(
+        &mut self,
+        alloc: Global,
+        now: u64,
+        endpoint: Endpoint,
+        bytes: &[u8],
+    ) -> Option<Emission>
+        ensures { Hears now (Event.Deliver now endpoint bytes.entry) (delivered (advanced self.old.front now) endpoint bytes.now) self.old self.new result }
+    {
+        hear(&mut self.server, alloc, now, endpoint, bytes)
+    }
+
+    /// Takes in a moment in milliseconds: what it does is the event Tick.
+    pub fn tick(&mut self, now: u64)
+        ensures { Passes now self.old self.new }
+    {
+        self.server.tick(now);
+    }
+}
+
+fn hear(
+    server: &mut Server,
+    alloc: Global,
+    now: u64,
+    endpoint: Endpoint,
+    bytes: &[u8],
+) -> Option<Emission>
+    requires { IsServed server.old }
+    ensures { Hears now (Event.Deliver now endpoint bytes.entry) (delivered (advanced server.old.front now) endpoint bytes.now) server.old server.new result }
+{
+    match server.deliver(now, endpoint, bytes) {
+        Delivered::Nothing | Delivered::Signal { .. } => None,
+        Delivered::Reply(emission) => Some(emission),
+        Delivered::Job(job) => work_off(server, alloc, now, &mut Task::new(job)),
+    }
+}
+
+// Works a job off, which the front has just brought.
+fn work_off(server: &mut Server, alloc: Global, now: u64, task: &mut Task) -> Option<Emission>
+    requires { IsBegun server.old task.old }
+    ensures { WorksOff task.old.job.ask now server.old task.old server.new result }
+{
+    match &task.job.ask {
+        Ask::Run(_) => run(server, now, task),
+        Ask::Install(_) => install(server, alloc, now, task),
+    }
+}
+
+fn run(server: &mut Server, now: u64, task: &mut Task) -> Option<Emission>
+    requires { IsBegun server.old task.old }
+    ensures { (request : Request) → WorksOff (Ask.Run request) now server.old task.old server.new result }
+{
+    server.take(task);
+    server.commit(now, task);
+    server.raise(task);
+    server.answer(now, task)
+}
+
+fn install(server: &mut Server, alloc: Global, now: u64, task: &mut Task) -> Option<Emission>
+    requires { IsBegun server.old task.old }
+    ensures { (image : ArrayVec ℕ) → WorksOff (Ask.Install image) now server.old task.old server.new result }
+{
+    server.install(alloc, task);
+    server.raise(task);
+    server.answer(now, task)
+}

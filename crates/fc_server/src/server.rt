@@ -1,0 +1,151 @@
+//! The front, the shards and the machine, and one call an event.
+ghost use Rattle.std.specs.Prelude.{◌≡◌, ℕ, ◌≤◌, [], false, IfOk};
+ghost use Rattle.fc_registry.specs.Shards.{first_shards};
+ghost use Rattle.fc_registry.specs.Slots.{last_serial};
+ghost use Rattle.fc_core.specs.declared.event.Event.{Event};
+ghost use Rattle.fc_core.specs.Exchanges.{advanced};
+ghost use Rattle.fc_core.specs.Ids.{first_ids};
+ghost use Rattle.fc_core.specs.Receiving.{after_delivered, delivered};
+ghost use Rattle.fc_server.specs.States.{Answers, AtWork, Does};
+
+use coap_msg::{Emission, Endpoint};
+use fc_core::{Answered, Delivered, Front, Task};
+use fc_machine::Frame;
+use fc_registry::{Shard, make_shards};
+use std::alloc::{AllocError, Global};
+use std::marker::Model;
+
+/// The front, the eight shards, and a frame to run programs in: all that a server on one thread holds beside its jobs. A
+/// clause sees what the front holds, and the shards.
+#[derive(Drop)]
+pub struct Server {
+    front: Front,
+    shards: Vec<Shard>,
+    frame: Frame,
+}
+
+impl Model for Server {
+    ghost use Rattle.fc_server.specs.States.{ServerState};
+
+    ghost Value = { ServerState };
+
+    ghost view = { λ s. record { front = s.front; shards = s.shards.items } };
+}
+
+impl Server {
+    /// A server that holds nothing, with slots 0 to 63 empty, each at the first serial, and that draws this message id
+    /// first.
+    ///
+    /// # Errors
+    /// There was no memory for it.
+    pub fn new(alloc: Global, first_serial: u64, first_id: u16) -> Result<Server, AllocError>
+        requires { first_serial ≤ last_serial }
+        ensures front { IfOk result (λ s. s.front ≡ record { now = 0; opened = 0; held = []; ids = first_ids first_id }) }
+        ensures shards { IfOk result (λ s. s.shards ≡ first_shards first_serial) }
+    {
+        Ok(Server {
+            front: Front::new(alloc, first_id)?,
+            shards: make_shards(alloc, first_serial)?,
+            frame: Frame::new(alloc)?,
+        })
+    }
+
+    /// Takes a datagram in, at a moment in milliseconds.
+    pub fn deliver(&mut self, now: u64, endpoint: Endpoint, bytes: &[u8]) -> Delivered
+        ensures delivered { result ≡ delivered (advanced self.old.front now) endpoint bytes.now }
+        ensures front { self.new.front ≡ after_delivered (advanced self.old.front now) endpoint bytes.now }
+        ensures shards { self.new.shards ≡ self.old.shards }
+    {
+        self.front.deliver(now, endpoint, bytes)
+    }
+
+    /// Advances the front to a moment in milliseconds.
+    pub fn tick(&mut self, now: u64)
+        ensures front { self.new.front ≡ advanced self.old.front now }
+        ensures shards { self.new.shards ≡ self.old.shards }
+    {
+        self.front.tick(now);
+    }
+
+    /// A task takes its slot. Tells whether there was memory.
+    pub fn take(&mut self, task: &mut Task) -> bool
+        requires { AtWork self.old task.old }
+        ensures { (k : ℕ) → Does (Event.Take k result) self.old task.old self.new task.new }
+    {
+        task.take(&mut self.shards[task.job.origin.slot.shard()])
+    }
+
+    /// A task takes its slot without memory.
+    pub fn refuse_take(&mut self, task: &mut Task)
+        requires { AtWork self.old task.old }
+        ensures { (k : ℕ) → Does (Event.Take k false) self.old task.old self.new task.new }
+    {
+        task.refuse_take(&mut self.shards[task.job.origin.slot.shard()]);
+    }
+
+    /// A task runs its ticket's program, and commits at a moment in milliseconds.
+    pub fn commit(&mut self, now: u64, task: &mut Task)
+        requires { AtWork self.old task.old }
+        ensures { (k : ℕ) → Does (Event.Commit k now) self.old task.old self.new task.new }
+    {
+        let shard = &mut self.shards[task.job.origin.slot.shard()];
+        task.commit(&mut self.frame, shard, now);
+    }
+
+    /// A task verifies its image and installs the program. Tells whether there was memory.
+    pub fn install(&mut self, alloc: Global, task: &mut Task) -> bool
+        requires { AtWork self.old task.old }
+        ensures { (k : ℕ) → Does (Event.Install k result) self.old task.old self.new task.new }
+    {
+        let shard = &mut self.shards[task.job.origin.slot.shard()];
+        task.install(alloc, shard)
+    }
+
+    /// A task installs without memory.
+    pub fn refuse_install(&mut self, task: &mut Task)
+        requires { AtWork self.old task.old }
+        ensures { (k : ℕ) → Does (Event.Install k false) self.old task.old self.new task.new }
+    {
+        task.refuse_install();
+    }
+
+    /// A task publishes the new serial of its slot.
+    pub fn raise(&mut self, task: &mut Task)
+        requires { AtWork self.old task.old }
+        ensures { (k : ℕ) → Does (Event.Raise k) self.old task.old self.new task.new }
+    {
+        task.raise();
+    }
+
+    /// A task's worker is lost.
+    pub fn lose(&mut self, task: &mut Task)
+        requires { AtWork self.old task.old }
+        ensures { (k : ℕ) → Does (Event.Lose k) self.old task.old self.new task.new }
+    {
+        task.lose();
+    }
+
+    /// A task is answered at a moment in milliseconds, where it stands there: what is sent.
+    pub fn answer(&mut self, now: u64, task: &mut Task) -> Option<Emission>
+        requires { AtWork self.old task.old }
+        ensures { Answers now self.old task.old self.new task.new result }
+    {
+        let answer = task.answer()?;
+        match self.front.answer(now, &task.job, &answer) {
+            Answered::Sent(emission) => Some(emission),
+            Answered::Late | Answered::NoId => None,
+        }
+    }
+
+    /// Its shards, at the end.
+    pub fn into_shards(self) -> Vec<Shard>
+        ensures { result.items ≡ self.shards }
+    {
+        let Server {
+            front: _,
+            shards,
+            frame: _,
+        } = self;
+        shards
+    }
+}
