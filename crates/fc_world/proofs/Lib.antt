@@ -1,12 +1,3 @@
-pub mod Rejections
-pub mod Unfold
-pub mod Lists
-pub mod Places
-pub mod Fitting
-pub mod Agree
-pub mod Fronts
-pub mod Still
-pub mod Stepping
-pub mod Delivering
-pub mod Beginning
+pub mod Dispatch
+pub mod Moving
 pub mod Running

@@ -1,47 +1,77 @@
 -- One more event of a list is carried out, and then the whole list is.
-use Rattle.std.proofs.Common.{◌≡◌, ℕ, ◌+◌, ◌<◌, ◌∷◌, ◌++◌, [], List, take, length, get_or, sym, ap, ◌∙◌, ◌≤◌, subst, arith, Option, length-append, length-take}
+use Rattle.std.proofs.Common.{◌≡◌, ℕ, ◌+◌, ◌<◌, ◌≤◌, List, [], ◌∷◌, ◌++◌, Option, length, take, get_or, refl, sym, ap, ◌∙◌, subst, arith, length-append, length-take}
 use Rattle.std.proofs.lemmas.List.{take_all, take_more}
 use Rattle.coap_msg.specs.declared.types.Emission.{Emission}
+use Rattle.fc_registry.proofs.Rings.{rings_follow}
+use Rattle.fc_registry.specs.Record.{IsChain, IsRing}
+use Rattle.fc_registry.specs.Shards.{slot_in_shards}
+use Rattle.fc_registry.specs.Slots.{new_slot}
 use Rattle.fc_core.specs.declared.event.Event.{Event}
-use Rattle.fc_core.specs.History.{History, Entry, history_of}
-use Rattle.fc_core.specs.Legal.{IsLegal, AllMean}
-use Rattle.fc_world.specs.declared.state.State.{State}
-use Rattle.fc_world.specs.Agreement.{Agrees}
-use Rattle.fc_world.specs.States.{Step}
-use Rattle.fc_world.proofs.Stepping.{history_snoc}
+use Rattle.fc_core.specs.History.{Begins, Entry, History, Then, did, history_after, history_of, seen}
+use Rattle.fc_core.specs.Legal.{AllMean, IsLegal}
+use Rattle.fc_core.specs.declared.stage.Task.{Task}
+use Rattle.fc_server.specs.Agreement.{Agrees, Parts}
+use Rattle.fc_server.specs.Serving.{Serves, parts_of}
+use Rattle.fc_server.specs.States.{ServerState}
+use Rattle.fc_server.specs.Steps.{Step}
 
 -- what holds after so many events of a list
-pub record RunsTo (es : List Event) (i : ℕ) (os : List (Option Emission)) (w : State) : Type 0 where
+pub record RunsTo (es : List Event) (i : ℕ) (os : List (Option Emission)) (w : Parts) : Type 0 where
   pub long : length os ≡ i
   pub legal : IsLegal (history_of (take i es) os)
   pub means : AllMean (history_of (take i es) os)
-  pub agrees : Agrees (history_of (take i es) os) w.front w.shards.items w.tasks.items
+  pub agrees : Agrees (seen (history_of (take i es) os)) w
+  pub first : (seen (history_of (take i es) os)).first_serial ≡ 0
 
-pub runs_on : (es : List Event) (i : ℕ) (d : Event) (os later : List (Option Emission)) (o : Option Emission) (old new : State) → i < length es → RunsTo es i os old → later ≡ os ++ o ∷ [] → Step (get_or es i d) old o new (history_of (take i es) os) → RunsTo es (i + 1) later new
+-- nothing is carried out yet
+pub starts : (es : List Event) (os : List (Option Emission)) (s : ServerState) (tasks : List Task) → os ≡ [] → Serves (Begins 0 0) s [] → tasks ≡ [] → RunsTo es 0 os (parts_of s tasks)
+unfolding seen
+starts es os s tasks fresh v none =
+    let started : RunsTo es 0 [] (parts_of s []) = record { long = refl; legal = v.legal; means = v.means; agrees = v.agrees; first = refl } in
+    let later : RunsTo es 0 [] (parts_of s tasks) = subst (λ (ts : List Task). RunsTo es 0 [] (parts_of s ts)) (sym none) started in
+    subst (λ (xs : List (Option Emission)). RunsTo es 0 xs (parts_of s tasks)) (sym fresh) later
+
+-- one more event
+history_snoc : (h : History) (es : List Event) (os : List (Option Emission)) (e : Event) (o : Option Emission) → length es ≡ length os → history_after h (es ++ e ∷ []) (os ++ o ∷ []) ≡ Then (history_after h es os) (did e o)
+history_snoc h [] [] e o l = refl
+history_snoc h [] (p ∷ os) e o l = absurd (omega (arith, l))
+history_snoc h (f ∷ es) [] e o l = absurd (omega (arith, l))
+history_snoc h (f ∷ es) (p ∷ os) e o l = history_snoc (Then h (did f p)) es os e o (omega (arith, l))
+
+pub runs_on : (es : List Event) (i : ℕ) (d : Event) (os later : List (Option Emission)) (o : Option Emission) (old new : Parts) → i < length es → RunsTo es i os old → later ≡ os ++ o ∷ [] → Step (get_or es i d) o new (seen (history_of (take i es) os)) → RunsTo es (i + 1) later new
+unfolding seen
 runs_on es i d os later o old new lt r pushed s =
-    let next : Entry = record { event = get_or es i d; emitted = o } in
-    let grows : history_of (take (i + 1) es) later ≡ next ∷ history_of (take i es) os =
-    (λ k. history_of (take_more es i d lt k) (pushed k)) ∙ history_snoc [] (take i es) os (get_or es i d) o (length-take i es ∙ omega (arith, r.long)) in
+    let entry : Entry = did (get_or es i d) o in
+    let grows : history_of (take (i + 1) es) later ≡ Then (history_of (take i es) os) entry =
+    (λ k. history_of (take_more es i d lt k) (pushed k)) ∙ history_snoc (Begins 0 0) (take i es) os (get_or es i d) o (length-take i es ∙ omega (arith, r.long)) in
     record {
-      long = ap length pushed ∙ (length-append os (o ∷ []) ∙ ap (λ k. k + 1) r.long);
+      long = ap length pushed ∙ (length-append os (o ∷ []) ∙ ap (λ (k : ℕ). k + 1) r.long);
       legal = subst IsLegal (sym grows) (s.emits, r.legal);
       means = subst AllMean (sym grows) (s.means, r.means);
-      agrees = subst (λ (g : History). Agrees g new.front new.shards.items new.tasks.items) (sym grows) s.agrees;
+      agrees = subst (λ (g : History). Agrees (seen g) new) (sym grows) s.agrees;
+      first = ap (λ (g : History). (seen g).first_serial) grows ∙ r.first;
     }
 
 -- what holds at the end of a list
-pub record HasRun (es : List Event) (os : List (Option Emission)) (w : State) : Type 0 where
+pub record HasRun (es : List Event) (os : List (Option Emission)) (w : Parts) : Type 0 where
   pub count : length os ≡ length es
   pub legal : IsLegal (history_of es os)
   pub means : AllMean (history_of es os)
-  pub agrees : Agrees (history_of es os) w.front w.shards.items w.tasks.items
+  pub agrees : Agrees (seen (history_of es os)) w
+  pub chain : (n : ℕ) → IsChain (new_slot 0) ((seen (history_of es os)).changes n)
+  pub ring : (n : ℕ) → n < 64 → IsRing (slot_in_shards w.shards n)
 
-pub has_run : {es : List Event} {i : ℕ} {os : List (Option Emission)} {w : State} → RunsTo es i os w → i ≤ length es → length es ≤ i → HasRun es os w
+pub has_run : {es : List Event} {i : ℕ} {os : List (Option Emission)} {w : Parts} → RunsTo es i os w → i ≤ length es → length es ≤ i → HasRun es os w
 has_run {es} {i} {os} {w} r within past =
     let whole : take i es ≡ es = take_all i es past in
+    let agrees : Agrees (seen (history_of es os)) w = subst (λ (t : List Event). Agrees (seen (history_of t os)) w) whole r.agrees in
+    let first : (seen (history_of es os)).first_serial ≡ 0 = subst (λ (t : List Event). (seen (history_of t os)).first_serial ≡ 0) whole r.first in
+    let s = seen (history_of es os) in
     record {
       count = r.long ∙ omega (arith, within, past);
       legal = subst (λ (t : List Event). IsLegal (history_of t os)) whole r.legal;
       means = subst (λ (t : List Event). AllMean (history_of t os)) whole r.means;
-      agrees = subst (λ (t : List Event). Agrees (history_of t os) w.front w.shards.items w.tasks.items) whole r.agrees;
+      agrees = agrees;
+      chain = λ n. subst (λ (k : ℕ). IsChain (new_slot k) (s.changes n)) first (agrees.sound.chain n);
+      ring = λ n lt. subst IsRing (sym (agrees.shards.slot n lt)) (rings_follow s.first_serial (s.changes n) (agrees.sound.chain n));
     }

@@ -1,9 +1,10 @@
 //! A whole list of events.
 ghost use Rattle.std.specs.Prelude.{◌≡◌, ℕ, ◌<◌, length, IfOk};
-ghost use Rattle.fc_registry.specs.Record.{IsChain};
-ghost use Rattle.fc_core.specs.History.{history_of, slot_at, first_slot, changes};
+ghost use Rattle.fc_registry.specs.Record.{IsChain, IsRing};
+ghost use Rattle.fc_registry.specs.Shards.{AreShards, shard_at, slot_in_shards};
+ghost use Rattle.fc_registry.specs.Slots.{new_slot};
+ghost use Rattle.fc_core.specs.History.{history_of, seen, slot_at};
 ghost use Rattle.fc_core.specs.Legal.{IsLegal, AllMean};
-ghost use Rattle.fc_world.specs.Shards.{slot_of, AreShards};
 
 use crate::state::State;
 use coap_msg::Emission;
@@ -21,8 +22,9 @@ pub struct World {
 /// Carries out a list of events, whatever they are, from empty slots at serial 0.
 ///
 /// Where it answers, there is an entry for each event, its emission or none; each is legal by the history of the events
-/// before it; each of the 64 slots is what the history says, and its commits are a chain; and each taking that found a
-/// program has a meaning: the run reaches its exit within the steps of its longest path, which are within its budget.
+/// before it; each of the 64 slots is what the history says, and its commits are a chain, of which its ring has the last;
+/// each shard's moment is the greatest handed to it; and each taking that found a program has a meaning: the run reaches its
+/// exit within the steps of its longest path, which are within its budget.
 ///
 /// # Errors
 /// There was no memory, and nothing is said.
@@ -30,8 +32,10 @@ pub fn run_world(alloc: Global, events: &[Event<'_>]) -> Result<World, AllocErro
     ensures legal { IfOk result (λ w. IsLegal (history_of events.now w.emissions.items)) }
     ensures count { IfOk result (λ w. length w.emissions.items ≡ length events.now) }
     ensures shards { IfOk result (λ w. AreShards w.shards.items) }
-    ensures slots { IfOk result (λ w. (n : ℕ) → n < 64 → slot_of w.shards.items n ≡ slot_at (history_of events.now w.emissions.items) n) }
-    ensures chains { IfOk result (λ w. (n : ℕ) → n < 64 → IsChain first_slot (changes (history_of events.now w.emissions.items) n)) }
+    ensures slots { IfOk result (λ w. (n : ℕ) → n < 64 → slot_in_shards w.shards.items n ≡ slot_at (seen (history_of events.now w.emissions.items)) n) }
+    ensures moments { IfOk result (λ w. (i : ℕ) → i < 8 → (shard_at w.shards.items i).now ≡ (seen (history_of events.now w.emissions.items)).shard_moment i) }
+    ensures chains { IfOk result (λ w. (n : ℕ) → n < 64 → IsChain (new_slot 0) ((seen (history_of events.now w.emissions.items)).changes n)) }
+    ensures rings { IfOk result (λ w. (n : ℕ) → n < 64 → IsRing (slot_in_shards w.shards.items n)) }
     ensures means { IfOk result (λ w. AllMean (history_of events.now w.emissions.items)) }
 {
     let mut state = State::new(alloc)?;
@@ -40,11 +44,9 @@ pub fn run_world(alloc: Global, events: &[Event<'_>]) -> Result<World, AllocErro
         let emitted = state.step(alloc, event)?;
         emissions.push(emitted)?;
     }
-    let State {
-        front: _,
-        shards,
-        tasks: _,
-        frame: _,
-    } = state;
-    Ok(World { emissions, shards })
+    let State { server, tasks: _ } = state;
+    Ok(World {
+        emissions,
+        shards: server.into_shards(),
+    })
 }

@@ -1,237 +1,127 @@
 //! The state of a world, and what each event does to it.
-ghost use Rattle.std.specs.Prelude.{◌≡◌, ◌<◌, [], length, IfOk, OnOk};
+ghost use Rattle.std.specs.Prelude.{◌≡◌, ◌<◌, [], None, Some, length, IfOk, OnOk};
 ghost use Rattle.fc_core.specs.declared.event.Event.{Event};
-ghost use Rattle.fc_core.specs.Stages.{first_stage};
-ghost use Rattle.fc_world.specs.Agreement.{Agrees};
-ghost use Rattle.fc_world.specs.Shards.{first_shards};
-ghost use Rattle.fc_world.specs.States.{Fit, Moves, DeliveredTo, AnsweredTo, Ticked, Steps};
+ghost use Rattle.fc_core.specs.History.{Begins, task_at};
+ghost use Rattle.fc_core.specs.Stages.{names};
+ghost use Rattle.fc_server.specs.Serving.{Serves};
+ghost use Rattle.fc_server.specs.States.{AtWork};
+ghost use Rattle.fc_server.specs.Steps.{AnsweredTo, DeliveredTo, IsReached, Moves, Steps, Ticked};
+ghost use Rattle.fc_world.specs.Parts.{parts};
 
-use crate::task::Task;
 use coap_msg::{Emission, Endpoint};
-use fc_core::{Answered, Delivered, Event, Front, Stage};
-use fc_machine::Frame;
-use fc_registry::{Ask, Shard};
+use fc_core::{Delivered, Event, Task};
+use fc_server::Server;
 use std::alloc::{AllocError, Global};
 
-/// How many shards there are.
-const SHARDS: u8 = 8;
-
-/// The parts of a server: the front, the shards, the jobs, and a frame to run programs in.
+/// A server, and all the jobs that came, each at its stage.
 #[derive(Drop)]
 pub struct State {
-    pub front: Front,
-    pub shards: Vec<Shard>,
+    pub server: Server,
     pub tasks: Vec<Task>,
-    pub frame: Frame,
 }
 
-fn first_stage(ask: &Ask) -> Stage
-    ensures { result ≡ first_stage ask.now }
-{
-    match ask {
-        Ask::Run(_) => Stage::ToTake(0),
-        Ask::Install(_) => Stage::ToInstall,
-    }
-}
-
-// Eight shards of empty slots, at serial 0.
-fn make_shards(alloc: Global) -> Result<Vec<Shard>, AllocError>
-    ensures { IfOk result (λ v. v.items ≡ first_shards) }
-{
-    let mut shards = Vec::with_capacity(alloc, 8)?;
-    for index in 0..SHARDS {
-        shards.push(Shard::new(alloc, index, 0)?)?;
-    }
-    Ok(shards)
-}
-
+// What the calls of the server leave.
 impl State {
-    pub(crate) fn new(alloc: Global) -> Result<State, AllocError>
-        ensures { IfOk result (λ w. Agrees [] w.front w.shards.items w.tasks.items) }
-    {
-        Ok(State {
-            front: Front::new(alloc, 0)?,
-            shards: make_shards(alloc)?,
-            tasks: Vec::new(alloc),
-            frame: Frame::new(alloc)?,
-        })
-    }
-
-    fn take(&mut self, job: usize, memory: bool) -> Result<(), AllocError>
-        requires job { job < length self.old.tasks.items }
-        requires fit { Fit self.old }
-        ensures { OnOk result (Moves (Event.Take job memory) job self.old self.new) }
-    {
-        let task = &mut self.tasks[job];
-        let shard = &mut self.shards[task.job.origin.slot as usize % 8];
-        task.take(shard, memory)
-    }
-
-    fn commit(&mut self, job: usize, now: u64)
-        requires job { job < length self.old.tasks.items }
-        requires fit { Fit self.old }
-        ensures { Moves (Event.Commit job now) job self.old self.new }
-    {
-        let task = &mut self.tasks[job];
-        let shard = &mut self.shards[task.job.origin.slot as usize % 8];
-        task.commit(&mut self.frame, shard, now);
-    }
-
-    fn install(&mut self, alloc: Global, job: usize, memory: bool) -> Result<(), AllocError>
-        requires job { job < length self.old.tasks.items }
-        requires fit { Fit self.old }
-        ensures { OnOk result (Moves (Event.Install job memory) job self.old self.new) }
-    {
-        let task = &mut self.tasks[job];
-        let shard = &mut self.shards[task.job.origin.slot as usize % 8];
-        task.install(alloc, shard, memory)
-    }
-
-    fn raise(&mut self, job: usize)
-        requires job { job < length self.old.tasks.items }
-        requires fit { Fit self.old }
-        ensures { Moves (Event.Raise job) job self.old self.new }
-    {
-        let task = &mut self.tasks[job];
-        task.raise();
-    }
-
-    fn lose(&mut self, job: usize)
-        requires job { job < length self.old.tasks.items }
-        requires fit { Fit self.old }
-        ensures { Moves (Event.Lose job) job self.old self.new }
-    {
-        let task = &mut self.tasks[job];
-        task.lose();
-    }
-
-    fn answer(&mut self, job: usize, now: u64) -> Option<Emission>
-        requires { job < length self.old.tasks.items }
-        ensures { AnsweredTo job now self.old self.new result }
-    {
-        let task = &mut self.tasks[job];
-        match task.answer() {
-            None => None,
-            Some(answer) => match self.front.answer(now, &task.job, &answer) {
-                Answered::Sent(emission) => Some(emission),
-                Answered::Late | Answered::NoId => None,
-            },
-        }
-    }
-
     fn deliver(
         &mut self,
         now: u64,
         endpoint: Endpoint,
         bytes: &[u8],
     ) -> Result<Option<Emission>, AllocError>
-        ensures { IfOk result (λ emitted. DeliveredTo now endpoint bytes.now self.old self.new emitted) }
+        ensures { IfOk result (λ emitted. DeliveredTo now endpoint bytes.now (parts self.old) (parts self.new) emitted) }
     {
-        match self.front.deliver(now, endpoint, bytes) {
+        match self.server.deliver(now, endpoint, bytes) {
             Delivered::Nothing | Delivered::Signal { .. } => Ok(None),
             Delivered::Reply(emission) => Ok(Some(emission)),
             Delivered::Job(job) => {
-                let stage = first_stage(&job.ask);
-                self.tasks.push(Task { job, stage })?;
+                self.tasks.push(Task::new(job))?;
                 Ok(None)
             }
         }
     }
 
     fn tick(&mut self, now: u64)
-        ensures { Ticked now self.old self.new }
+        ensures { Ticked now (parts self.old) (parts self.new) }
     {
-        self.front.tick(now);
+        self.server.tick(now);
+    }
+
+    fn take(&mut self, job: usize, memory: bool) -> Result<(), AllocError>
+        requires job { job < length self.old.tasks.items }
+        requires work { AtWork self.old.server (task_at self.old.tasks.items job) }
+        ensures { OnOk result (Moves (Event.Take job memory) job (parts self.old) (parts self.new)) }
+    {
+        let task = &mut self.tasks[job];
+        if !memory {
+            self.server.refuse_take(task);
+            return Ok(());
+        }
+        if self.server.take(task) {
+            Ok(())
+        } else {
+            Err(AllocError)
+        }
+    }
+
+    fn commit(&mut self, job: usize, now: u64)
+        requires job { job < length self.old.tasks.items }
+        requires work { AtWork self.old.server (task_at self.old.tasks.items job) }
+        ensures { Moves (Event.Commit job now) job (parts self.old) (parts self.new) }
+    {
+        self.server.commit(now, &mut self.tasks[job]);
+    }
+
+    fn install(&mut self, alloc: Global, job: usize, memory: bool) -> Result<(), AllocError>
+        requires job { job < length self.old.tasks.items }
+        requires work { AtWork self.old.server (task_at self.old.tasks.items job) }
+        ensures { OnOk result (Moves (Event.Install job memory) job (parts self.old) (parts self.new)) }
+    {
+        let task = &mut self.tasks[job];
+        if !memory {
+            self.server.refuse_install(task);
+            return Ok(());
+        }
+        if self.server.install(alloc, task) {
+            Ok(())
+        } else {
+            Err(AllocError)
+        }
+    }
+
+    fn raise(&mut self, job: usize)
+        requires job { job < length self.old.tasks.items }
+        requires work { AtWork self.old.server (task_at self.old.tasks.items job) }
+        ensures { Moves (Event.Raise job) job (parts self.old) (parts self.new) }
+    {
+        self.server.raise(&mut self.tasks[job]);
+    }
+
+    fn lose(&mut self, job: usize)
+        requires job { job < length self.old.tasks.items }
+        requires work { AtWork self.old.server (task_at self.old.tasks.items job) }
+        ensures { Moves (Event.Lose job) job (parts self.old) (parts self.new) }
+    {
+        self.server.lose(&mut self.tasks[job]);
+    }
+
+    fn answer(&mut self, job: usize, now: u64) -> Option<Emission>
+        requires job { job < length self.old.tasks.items }
+        requires work { AtWork self.old.server (task_at self.old.tasks.items job) }
+        ensures { AnsweredTo job now (parts self.old) (parts self.new) result }
+    {
+        self.server.answer(now, &mut self.tasks[job])
     }
 }
 
 impl State {
-    fn on_deliver(
-        &mut self,
-        now: u64,
-        endpoint: Endpoint,
-        bytes: &[u8],
-    ) -> Result<Option<Emission>, AllocError>
-        ensures { IfOk result (λ o. Steps (Event.Deliver now endpoint bytes.entry) self.old o self.new) }
+    pub(crate) fn new(alloc: Global) -> Result<State, AllocError>
+        ensures serves { IfOk result (λ w. Serves (Begins 0 0) w.server []) }
+        ensures none { IfOk result (λ w. w.tasks.items ≡ []) }
     {
-        let emitted = self.deliver(now, endpoint, bytes)?;
-        Ok(emitted)
-    }
-
-    fn on_take(&mut self, job: usize, memory: bool) -> Result<Option<Emission>, AllocError>
-        requires { Fit self.old }
-        ensures { IfOk result (λ o. Steps (Event.Take job memory) self.old o self.new) }
-    {
-        if job >= self.tasks.len() {
-            return Ok(None);
-        }
-        self.take(job, memory)?;
-        Ok(None)
-    }
-
-    fn on_commit(&mut self, job: usize, now: u64) -> Option<Emission>
-        requires { Fit self.old }
-        ensures { Steps (Event.Commit job now) self.old result self.new }
-    {
-        if job >= self.tasks.len() {
-            return None;
-        }
-        self.commit(job, now);
-        None
-    }
-
-    fn on_install(
-        &mut self,
-        alloc: Global,
-        job: usize,
-        memory: bool,
-    ) -> Result<Option<Emission>, AllocError>
-        requires { Fit self.old }
-        ensures { IfOk result (λ o. Steps (Event.Install job memory) self.old o self.new) }
-    {
-        if job >= self.tasks.len() {
-            return Ok(None);
-        }
-        self.install(alloc, job, memory)?;
-        Ok(None)
-    }
-
-    fn on_raise(&mut self, job: usize) -> Option<Emission>
-        requires { Fit self.old }
-        ensures { Steps (Event.Raise job) self.old result self.new }
-    {
-        if job >= self.tasks.len() {
-            return None;
-        }
-        self.raise(job);
-        None
-    }
-
-    fn on_lose(&mut self, job: usize) -> Option<Emission>
-        requires { Fit self.old }
-        ensures { Steps (Event.Lose job) self.old result self.new }
-    {
-        if job >= self.tasks.len() {
-            return None;
-        }
-        self.lose(job);
-        None
-    }
-
-    fn on_answer(&mut self, job: usize, now: u64) -> Option<Emission>
-        ensures { Steps (Event.Answer job now) self.old result self.new }
-    {
-        if job >= self.tasks.len() {
-            return None;
-        }
-        self.answer(job, now)
-    }
-
-    fn on_tick(&mut self, now: u64) -> Option<Emission>
-        ensures { Steps (Event.Tick now) self.old result self.new }
-    {
-        self.tick(now);
-        None
+        Ok(State {
+            server: Server::new(alloc, 0, 0)?,
+            tasks: Vec::new(alloc),
+        })
     }
 
     // Carries an event out.
@@ -240,40 +130,76 @@ impl State {
         alloc: Global,
         event: &Event<'_>,
     ) -> Result<Option<Emission>, AllocError>
-        requires { Fit self.old }
-        ensures { IfOk result (λ o. Steps event.now self.old o self.new) }
+        requires { IsReached (parts self.old) }
+        ensures { IfOk result (λ o. Steps event.now (parts self.old) o (parts self.new)) }
+    {
+        let Some(job) = event.job() else {
+            return self.pass(event);
+        };
+        if job >= self.tasks.len() {
+            return Ok(None);
+        }
+        self.work(alloc, job, event)
+    }
+
+    // Carries out an event of the job of this number.
+    fn work(
+        &mut self,
+        alloc: Global,
+        job: usize,
+        event: &Event<'_>,
+    ) -> Result<Option<Emission>, AllocError>
+        requires job { job < length self.old.tasks.items }
+        requires named { names event.now ≡ Some job }
+        requires reached { IsReached (parts self.old) }
+        ensures { IfOk result (λ o. Steps event.now (parts self.old) o (parts self.new)) }
+    {
+        match *event {
+            Event::Take { job: _, memory } => {
+                self.take(job, memory)?;
+                Ok(None)
+            }
+            Event::Commit { job: _, now } => {
+                self.commit(job, now);
+                Ok(None)
+            }
+            Event::Install { job: _, memory } => {
+                self.install(alloc, job, memory)?;
+                Ok(None)
+            }
+            Event::Raise { job: _ } => {
+                self.raise(job);
+                Ok(None)
+            }
+            Event::Lose { job: _ } => {
+                self.lose(job);
+                Ok(None)
+            }
+            Event::Answer { job: _, now } => Ok(self.answer(job, now)),
+            _ => unreachable!(),
+        }
+    }
+
+    // Carries out an event that names no job.
+    fn pass(&mut self, event: &Event<'_>) -> Result<Option<Emission>, AllocError>
+        requires named { names event.now ≡ None }
+        requires reached { IsReached (parts self.old) }
+        ensures { IfOk result (λ o. Steps event.now (parts self.old) o (parts self.new)) }
     {
         match *event {
             Event::Deliver {
                 now,
                 endpoint,
                 bytes,
-            } => self.on_deliver(now, endpoint, bytes),
-            Event::Take { job, memory } => self.on_take(job, memory),
-            Event::Commit { job, now } => Ok(self.on_commit(job, now)),
-            Event::Install { job, memory } => self.on_install(alloc, job, memory),
-            Event::Raise { job } => Ok(self.on_raise(job)),
-            Event::Answer { job, now } => Ok(self.on_answer(job, now)),
-            Event::Tick { now } => Ok(self.on_tick(now)),
-            Event::Lose { job } => Ok(self.on_lose(job)),
-            Event::Peek { job: _, slot: _ } => Ok(None),
-            Event::Remove { job: _ } => Ok(None),
-            Event::Receipt { job: _ } => Ok(None),
-            Event::Due { shard: _, now: _ } => Ok(None),
-            Event::Fresh { job: _, now: _ } => Ok(None),
-            Event::Note {
-                job: _,
-                now: _,
-                random: _,
-            } => Ok(None),
-            Event::GiveUp { job: _, now: _ } => Ok(None),
-            Event::Signal {
-                shard: _,
-                endpoint: _,
-                mid: _,
-                reset: _,
-            } => Ok(None),
-            Event::ShardTick { shard: _, now: _ } => Ok(None),
+            } => {
+                let emitted = self.deliver(now, endpoint, bytes)?;
+                Ok(emitted)
+            }
+            Event::Tick { now } => {
+                self.tick(now);
+                Ok(None)
+            }
+            _ => Ok(None),
         }
     }
 }

@@ -1,0 +1,12 @@
+use Rattle.std.proofs.Common.{None, sym, subst}
+use Rattle.fc_core.specs.declared.event.Event.{Event}
+use Rattle.fc_server.specs.Steps.{Steps}
+use Rattle.fc_server.proofs.Others.{deliver_step, tick_step}
+use Rattle.fc_world.specs.Parts.{parts}
+use Rattle.fc_world.proofs.state.State.pass.Goals as goal
+
+pub returns-in_ok-emitted-in-Deliver : goal.returns-in_ok-emitted-in-Deliver
+returns-in_ok-emitted-in-Deliver c = subst (λ (e : Event). Steps e (parts c.args.self.now) c.in_ok-emitted-in-Deliver.emitted (parts c.deliver.new.self)) (sym c.in-Deliver.is) (deliver_step _ _ _ (parts c.args.self.now) (parts c.deliver.new.self) _ c.in_ok-emitted-in-Deliver.ensures)
+
+pub returns-in-Tick : goal.returns-in-Tick
+returns-in-Tick c = subst (λ (e : Event). Steps e (parts c.args.self.now) None (parts c.tick.new.self)) (sym c.in-Tick.is) (tick_step _ (parts c.args.self.now) (parts c.tick.new.self) c.tick.ensures)

@@ -1,0 +1,25 @@
+use Rattle.std.proofs.Common.{None, refl}
+use Rattle.fc_core.specs.declared.event.Event.TheVariants.{Take, Commit, Install, Raise, Lose, Answer}
+use Rattle.fc_server.proofs.Others.{answer_step}
+use Rattle.fc_server.proofs.Stepping.{take_step, commit_step, install_step, raise_step, lose_step}
+use Rattle.fc_world.specs.Parts.{parts}
+use Rattle.fc_world.proofs.Dispatch.{retold}
+use Rattle.fc_world.proofs.state.State.work.Goals as goal
+
+pub returns-in_ok-take-in-Take : goal.returns-in_ok-take-in-Take
+returns-in_ok-take-in-Take c = retold c.args.event.now (λ j. Take j c.in-Take.memory) _ c.args.job (λ j. refl) c.in-Take.is c.requires.named (parts c.args.self.now) (parts c.take.new.self) None (take_step c.args.job c.in-Take.memory (parts c.args.self.now) (parts c.take.new.self) c.in_ok-take-in-Take.ensures)
+
+pub returns-in-Commit : goal.returns-in-Commit
+returns-in-Commit c = retold c.args.event.now (λ j. Commit j c.in-Commit.now) _ c.args.job (λ j. refl) c.in-Commit.is c.requires.named (parts c.args.self.now) (parts c.commit.new.self) None (commit_step c.args.job c.in-Commit.now (parts c.args.self.now) (parts c.commit.new.self) c.commit.ensures)
+
+pub returns-in_ok-install-in-Install : goal.returns-in_ok-install-in-Install
+returns-in_ok-install-in-Install c = retold c.args.event.now (λ j. Install j c.in-Install.memory) _ c.args.job (λ j. refl) c.in-Install.is c.requires.named (parts c.args.self.now) (parts c.install.new.self) None (install_step c.args.job c.in-Install.memory (parts c.args.self.now) (parts c.install.new.self) c.in_ok-install-in-Install.ensures)
+
+pub returns-in-Raise : goal.returns-in-Raise
+returns-in-Raise c = retold c.args.event.now Raise _ c.args.job (λ j. refl) c.in-Raise.is c.requires.named (parts c.args.self.now) (parts c.raise.new.self) None (raise_step c.args.job (parts c.args.self.now) (parts c.raise.new.self) c.raise.ensures)
+
+pub returns-in-Lose : goal.returns-in-Lose
+returns-in-Lose c = retold c.args.event.now Lose _ c.args.job (λ j. refl) c.in-Lose.is c.requires.named (parts c.args.self.now) (parts c.lose.new.self) None (lose_step c.args.job (parts c.args.self.now) (parts c.lose.new.self) c.lose.ensures)
+
+pub returns-in-Answer : goal.returns-in-Answer
+returns-in-Answer c = retold c.args.event.now (λ j. Answer j c.in-Answer.now) _ c.args.job (λ j. refl) c.in-Answer.is c.requires.named (parts c.args.self.now) (parts c.answer.new.self) c.answer.result (answer_step c.args.job c.in-Answer.now (parts c.args.self.now) (parts c.answer.new.self) c.answer.result c.answer.ensures)

@@ -1,0 +1,6 @@
+-- A state by its parts.
+use Rattle.fc_server.specs.Agreement.{Parts}
+use Rattle.fc_world.specs.declared.state.State.{State}
+
+abbrev pub parts : State → Parts
+parts w = record { front = w.server.front; shards = w.server.shards; tasks = w.tasks.items }
