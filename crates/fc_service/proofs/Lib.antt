@@ -1,3 +1,1 @@
-pub mod Moments
 pub mod Reading
-pub mod Installing

@@ -1,15 +1,18 @@
 -- What is done with a line, and what is printed.
 use Rattle.std.specs.Prelude.{◌≡◌, ℕ, List, [], ◌∷◌, ◌++◌, Option, Some, None, slice_index}
+use Rattle.std.specs.Borrow.{Bor}
 use Rattle.std.specs.Fmt.{decimal}
 use Rattle.hex.specs.Hex.{encode_lower}
 use Rattle.coap_msg.specs.declared.types.Endpoint.{Endpoint}
 use Rattle.coap_msg.specs.declared.types.Emission.{Emission}
-use Rattle.fc_core.specs.Exchanges.{passed}
-use Rattle.fc_core.specs.Deliveries.{delivered, desk_after}
+use Rattle.fc_core.specs.declared.event.Event.TheVariants.{Deliver as Delivers}
+use Rattle.fc_core.specs.Exchanges.{advanced}
+use Rattle.fc_core.specs.Receiving.{delivered}
+use Rattle.fc_server.specs.Serving.{Hears, Passes}
+use Rattle.fc_server.specs.States.{ServerState}
 use Rattle.fc_service.specs.declared.line.Line.{Line}
 use Rattle.fc_service.specs.declared.line.Line.TheVariants.{Deliver, Tick}
 use Rattle.fc_service.specs.Fields.{space}
-use Rattle.fc_service.specs.Hearing.{Server, Hears}
 
 -- a peer is 127.0.0.peer, at CoAP's port
 abbrev pub endpoint_of : ℕ → Endpoint
@@ -23,18 +26,18 @@ abbrev pub text_of : Option Emission → List ℕ
 text_of None = []
 text_of (Some emission) = printed emission
 
--- a datagram was heard, and this was sent
-pub record IsHeard (now peer : ℕ) (bytes : List ℕ) (old : Server) (sent : Option Emission) (new : Server) : Type 0 where
-  pub heard : Hears (delivered old.desk now (endpoint_of peer) bytes) old.shards sent new.shards
-  pub desk : new.desk ≡ desk_after old.desk now bytes
+-- a datagram of these bytes was heard, whatever the history so far, and this was sent
+pub record IsHeard (now peer : ℕ) (bytes : List ℕ) (old : ServerState) (sent : Option Emission) (new : ServerState) : Type 0 where
+  pub borrow : Bor (List ℕ)
+  pub bytes_are : borrow.now ≡ bytes
+  pub heard : Hears now (Delivers now (endpoint_of peer) borrow) (delivered (advanced old.front now) (endpoint_of peer) bytes) old new sent
 
--- time passed, and nothing was sent
-pub record IsPassed (now : ℕ) (old : Server) (sent : Option Emission) (new : Server) : Type 0 where
+-- time passed, whatever the history so far, and nothing was sent
+pub record IsPassed (now : ℕ) (old : ServerState) (sent : Option Emission) (new : ServerState) : Type 0 where
   pub nothing : sent ≡ None
-  pub desk : new.desk ≡ passed old.desk now
-  pub shards : new.shards ≡ old.shards
+  pub passed : Passes now old new
 
 -- a line was carried out, and this was sent
-abbrev pub IsCarriedOut : Line → Server → Option Emission → Server → Type 0
+abbrev pub IsCarriedOut : Line → ServerState → Option Emission → ServerState → Type 0
 IsCarriedOut (Deliver now peer bytes) old sent new = IsHeard now peer bytes.items old sent new
 IsCarriedOut (Tick now) old sent new = IsPassed now old sent new

@@ -75,8 +75,8 @@ fn are_dashes(second: &[u8], third: &[u8]) -> bool
     second == b"-".as_slice() && third == b"-".as_slice()
 }
 
-// The number that decimal digits write. A sign is no digit.
-fn number(text: &[u8]) -> Option<u64>
+/// The number that decimal digits write. A sign is no digit.
+pub fn number(text: &[u8]) -> Option<u64>
     ensures { MatchOption result (IsNoNumber text.now (2 ^ 64)) (IsNumber text.now) }
 {
     if text.starts_with(b"+") {
@@ -88,8 +88,8 @@ fn number(text: &[u8]) -> Option<u64>
     digits.parse::<u64>().ok()
 }
 
-// The number below 256 that decimal digits write.
-fn byte(text: &[u8]) -> Option<u8>
+/// The number below 256 that decimal digits write.
+pub fn byte(text: &[u8]) -> Option<u8>
     ensures { MatchOption result (IsNoNumber text.now 256) (IsNumber text.now) }
 {
     u8::try_from(number(text)?).ok()

@@ -5,10 +5,10 @@ ghost use Rattle.coap_msg.specs.declared.types.Emission.{Emission as Sent};
 ghost use Rattle.fc_registry.specs.Slots.{last_serial};
 ghost use Rattle.fc_service.specs.Playing.{endpoint_of, printed, text_of, IsCarriedOut};
 
-use crate::engine::Engine;
 use crate::hexadecimal;
 use crate::line::{Line, LineError, parse};
 use coap_msg::{Emission, Endpoint};
+use fc_server::Engine;
 use std::alloc::{AllocError, Global};
 use std::io;
 use std::io::{BufRead, Write};
@@ -122,8 +122,8 @@ fn carry_out<W: Write>(
     }
 }
 
-// The endpoint of a peer.
-fn endpoint(peer: u8) -> Endpoint
+/// The endpoint of a peer.
+pub fn endpoint(peer: u8) -> Endpoint
     ensures { result ≡ endpoint_of peer }
 {
     Endpoint {
@@ -132,8 +132,11 @@ fn endpoint(peer: u8) -> Endpoint
     }
 }
 
-// Prints an emission, and has it written out.
-fn print<W: Write>(out: &mut W, emission: &Emission) -> io::Result<()>
+/// Prints an emission as `peer hex`, and has it written out.
+///
+/// # Errors
+/// The writer failed.
+pub fn print<W: Write>(out: &mut W, emission: &Emission) -> io::Result<()>
     ensures { OnOk result (Appends (W.contents out.old) (W.contents out.new) (printed emission.now)) }
 {
     let peer = emission.to.ip[3];

@@ -105,6 +105,16 @@ fn has_options(message: &Message<'_>) -> bool {
 }
 
 #[test]
+fn options_by_number(rt: HostRuntime) {
+    let message = read(WHOLE).ok().expect(&rt, "a message");
+    let mut path = message.values(11);
+    assert!(rt; path.next() == Some(b"r".as_slice()));
+    assert!(rt; path.next() == Some(b"0".as_slice()));
+    assert!(rt; path.next().is_none());
+    assert!(rt; message.values(12).next().is_none());
+}
+
+#[test]
 fn written(rt: HostRuntime) {
     // 2.05 in an acknowledgement, with an ETag of eight bytes and a payload.
     static CONTENT: Outgoing<'static> = Outgoing {
@@ -143,5 +153,13 @@ fn codes(rt: HostRuntime) {
 fn texts_of_codes(rt: HostRuntime) -> Result<(), AllocError> {
     let text = format!(in rt.alloc(); "{} {} {}", Code::EMPTY, Code::CONTENT, Code::CONTINUE)?;
     assert!(rt; text.as_str() == "0.00 2.05 2.31");
+    Ok(())
+}
+
+#[test]
+fn texts_of_refusals(rt: HostRuntime) -> Result<(), AllocError> {
+    let text = format!(in rt.alloc(); "{}", Bad::Reset(10))?;
+    let wanted = "format error in the confirmable message with id 10: reject it by a Reset message";
+    assert!(rt; text.as_str() == wanted);
     Ok(())
 }

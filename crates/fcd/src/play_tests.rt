@@ -91,9 +91,9 @@ fn second_install_is_a_change(rt: HostRuntime) {
     check_printed(
         &rt,
         "0 1 4103123370b1700130ff46434231000002000200000000000000b7000000450000009500000000000000\n\
-         0 1 4103123370b1700130ff46434231000002000200000000000000b7000000450000009500000000000000",
+         0 1 4103123570b1700130ff46434231000002000200000000000000b7000000450000009500000000000000",
         "1 6141123370ff76657273696f6e3d3120636f73743d32206275646765743d3220766172733d30\n\
-         1 6144123370ff76657273696f6e3d3220636f73743d32206275646765743d3220766172733d30\n",
+         1 6144123570ff76657273696f6e3d3220636f73743d32206275646765743d3220766172733d30\n",
     );
 }
 
@@ -108,25 +108,25 @@ fn last_serial_is_not_passed(rt: HostRuntime) {
 
 // Slots 0, 7, 8 and 63, of two shards: programs that answer 2.05, 4.00, 4.03 and 4.04 are installed and asked.
 const FOUR_SLOTS: &str =
-    "0 1 4103123370b1700130ff46434231000002000200000000000000b7000000450000009500000000000000\n\
-    0 1 4103123370b1700137ff46434231000002000200000000000000b7000000800000009500000000000000\n\
-    0 1 4103123370b1700138ff46434231000002000200000000000000b7000000830000009500000000000000\n\
+    "0 1 4103123070b1700130ff46434231000002000200000000000000b7000000450000009500000000000000\n\
+    0 1 4103123170b1700137ff46434231000002000200000000000000b7000000800000009500000000000000\n\
+    0 1 4103123270b1700138ff46434231000002000200000000000000b7000000830000009500000000000000\n\
     0 1 4103123370b170023633ff46434231000002000200000000000000b7000000840000009500000000000000\n\
     1 1 4101123471b1720130\n\
-    1 1 4101123471b1720137\n\
-    1 1 4101123471b1720138\n\
-    1 1 4101123471b172023633\n";
+    1 1 4101123571b1720137\n\
+    1 1 4101123671b1720138\n\
+    1 1 4101123771b172023633\n";
 
 // Only a 2.05 has an ETag.
 const FOUR_ANSWERS: &str =
-    "1 6141123370ff76657273696f6e3d3120636f73743d32206275646765743d3220766172733d30\n\
-    1 6141123370ff76657273696f6e3d3120636f73743d32206275646765743d3220766172733d30\n\
-    1 6141123370ff76657273696f6e3d3120636f73743d32206275646765743d3220766172733d30\n\
+    "1 6141123070ff76657273696f6e3d3120636f73743d32206275646765743d3220766172733d30\n\
+    1 6141123170ff76657273696f6e3d3120636f73743d32206275646765743d3220766172733d30\n\
+    1 6141123270ff76657273696f6e3d3120636f73743d32206275646765743d3220766172733d30\n\
     1 6141123370ff76657273696f6e3d3120636f73743d32206275646765743d3220766172733d30\n\
     1 6145123471480000000000000001\n\
-    1 6180123471\n\
-    1 6183123471\n\
-    1 6184123471\n";
+    1 6180123571\n\
+    1 6183123671\n\
+    1 6184123771\n";
 
 #[test]
 fn slots_are_told_apart(rt: HostRuntime) {
@@ -134,22 +134,84 @@ fn slots_are_told_apart(rt: HostRuntime) {
 }
 
 #[test]
-fn what_is_not_served_is_ignored(rt: HostRuntime) {
-    // `GET /r/64`, and a `GET /r/0` that isn't confirmable.
-    check_printed(&rt, "0 1 4101123471b172023634", "");
-    check_printed(&rt, "0 1 5101123471b1720130", "");
-    // `PUT /p/00`.
+fn format_errors_and_pings_are_reset(rt: HostRuntime) {
+    // An empty confirmable message.
+    check_printed(&rt, "0 1 40000007", "1 70000007\n");
+    // A token length of nine, confirmable or not.
+    check_printed(&rt, "0 1 49010008", "1 70000008\n");
+    check_printed(&rt, "0 1 59010008", "");
+    // A payload marker with nothing behind it.
+    check_printed(&rt, "0 1 4001000aff", "1 7000000a\n");
+    // Another version, an empty datagram, and time that passes, to the greatest moment.
+    check_printed(&rt, "0 1 8101000c", "");
+    check_printed(&rt, "0 1 ", "");
+    check_printed(&rt, "18446744073709551615 - -", "");
+}
+
+// Accept isn't recognised, and it is critical.
+#[test]
+fn bad_options_are_told_to_confirmable_requests(rt: HostRuntime) {
+    check_printed(&rt, "0 1 40010009b172013060", "1 60820009\n");
+    check_printed(&rt, "0 1 50010009b172013060", "");
+}
+
+// The program that answers 2.05 is installed in slot 0, and then a datagram comes.
+fn check_answered<R: Abort + AllocGlobal>(rt: &R, datagram: &[u8], answer: &str) {
+    let install =
+        b"0 1 4103123370b1700130ff46434231000002000200000000000000b7000000450000009500000000000000\n0 1 ";
+    let input = install.as_slice().chain(datagram);
+    let mut out = Vec::new(rt.alloc());
+    let mut err = Vec::new(rt.alloc());
+    assert!(rt; play(rt.alloc(), input, &mut out, &mut err, 0, 0) == 0 && err.is_empty());
+    assert!(rt; out.ends_with(answer.as_bytes()), "{answer}");
+}
+
+#[test]
+fn requests_are_answered_by_their_options(rt: HostRuntime) {
+    // If-Match, a code that isn't served, `/r/00`, and Uri-Host.
+    check_answered(&rt, b"4001000d10a1720130", "\n1 6082000d\n");
+    check_answered(&rt, b"4005000eb1700130", "\n1 6085000e\n");
+    check_answered(&rt, b"4001000fb172023030", "\n1 6084000f\n");
+    check_answered(
+        &rt,
+        b"40010010316181720130",
+        "\n1 60450010480000000000000001\n",
+    );
+    // What isn't confirmable is answered under an id of the server's own.
+    check_answered(&rt, b"50010011b1720130", "\n1 50450000480000000000000001\n");
+}
+
+// A GET of an empty slot, an install, and the GET's copies 246,999 ms and 247,000 ms behind it: the first gets the same
+// bytes again, and the second is carried out.
+#[test]
+fn a_copy_gets_the_same_bytes_for_247_seconds(rt: HostRuntime) {
     check_printed(
         &rt,
-        "0 1 4103123370b170023030ff46434231000002000200000000000000b7000000450000009500000000000000",
-        "",
+        "0 1 4101123471b1720130\n\
+         1 1 4103123370b1700130ff46434231000002000200000000000000b7000000450000009500000000000000\n\
+         246999 1 4101123471b1720130\n\
+         247000 1 4101123471b1720130\n",
+        "1 6184123471\n\
+         1 6141123370ff76657273696f6e3d3120636f73743d32206275646765743d3220766172733d30\n\
+         1 6184123471\n\
+         1 6145123471480000000000000001\n",
     );
-    // An empty confirmable message, a token length of nine, and an empty datagram.
-    check_printed(&rt, "0 1 40001234", "");
-    check_printed(&rt, "0 1 49011234717171717171717171b1720130", "");
-    check_printed(&rt, "0 1 ", "");
-    // Time passes, to the greatest moment.
-    check_printed(&rt, "18446744073709551615 - -", "");
+}
+
+// Another endpoint's request of the same id isn't a copy, and a copy of what isn't confirmable gets nothing.
+#[test]
+fn copies_are_told_by_endpoint_and_id(rt: HostRuntime) {
+    check_printed(
+        &rt,
+        "0 1 5101123471b1720130\n\
+         0 1 5101123471b1720130\n\
+         0 2 5101123471b1720130\n\
+         246999 1 5101123471b1720130\n\
+         247000 1 5101123471b1720130\n",
+        "1 5184000071\n\
+         2 5184000171\n\
+         1 5184000271\n",
+    );
 }
 
 #[test]

@@ -1,6 +1,8 @@
 //! Datagrams with what is done about them, from the server's own tables, and values from RFC 7252, 7641 and 7959.
-use coap_msg::{Code, read};
-use coap_opts::{Block, Classified, Request, Resource, classify, read_integer, write_integer};
+use coap_msg::{Code, Datagram, MessageType, read};
+use coap_opts::{
+    Block, Classified, Reply, ReplyOptions, Request, classify, decode_uint, encode_uint,
+};
 use std::process::Abort;
 
 /// What is done about a datagram.
@@ -75,11 +77,11 @@ static TYPE_CASES: [(&[u8], Outcome); 15] = [
     (b"\x70\x01\x00\x07", Outcome::Ignored),
     // Each method at its resources, and where it isn't served.
     (b"\x40\x01\x00\x01\xb1\x72\x01\x30", Outcome::Accepted),
-    (b"\x50\x02\x00\x01\xb1\x72\x02\x36\x33", Outcome::Accepted),
-    (b"\x40\x03\x00\x01\xb1\x70\x01\x30", Outcome::Accepted),
-    (b"\x40\x04\x00\x01\xb1\x70\x01\x30", Outcome::Accepted),
+    (b"\x50\x03\x00\x01\xb1\x70\x02\x36\x33", Outcome::Accepted),
+    (b"\x40\x02\x00\x01\xb1\x72\x01\x30", METHOD_NOT_ALLOWED),
+    (b"\x40\x04\x00\x01\xb1\x70\x01\x30", METHOD_NOT_ALLOWED),
     (b"\x40\x03\x00\x01\xb1\x72\x01\x30", METHOD_NOT_ALLOWED),
-    (b"\x40\x02\x00\x01\xb1\x70\x01\x30", METHOD_NOT_ALLOWED),
+    (b"\x40\x01\x00\x01\xb1\x70\x01\x30", METHOD_NOT_ALLOWED),
     (b"\x40\x05\x00\x0e\xb1\x70\x01\x30", METHOD_NOT_ALLOWED),
 ];
 
@@ -88,22 +90,23 @@ fn types_and_classes(rt: HostRuntime) {
     check_outcomes(&rt, &TYPE_CASES);
 }
 
-static PATH_CASES: [(&[u8], Outcome); 5] = [
+static PATH_CASES: [(&[u8], Outcome); 6] = [
     // `/r/00`, `/r/64`, `/r`, `/r/0/0`, `/x/0`.
     (b"\x40\x01\x00\x0f\xb1\x72\x02\x30\x30", NOT_FOUND),
     (b"\x40\x01\x00\x0f\xb1\x72\x02\x36\x34", NOT_FOUND),
     (b"\x40\x01\x00\x0f\xb1\x72", NOT_FOUND),
     (b"\x40\x01\x00\x0f\xb1\x72\x01\x30\x01\x30", NOT_FOUND),
     (b"\x40\x01\x00\x0f\xb1\x78\x01\x30", NOT_FOUND),
+    // `/.well-known/core`, at which no method is served.
+    (
+        b"\x40\x01\x00\x0b\xbb\x2e\x77\x65\x6c\x6c\x2d\x6b\x6e\x6f\x77\x6e\x04\x63\x6f\x72\x65",
+        NOT_FOUND,
+    ),
 ];
 
 #[test]
 fn paths(rt: HostRuntime) {
     check_outcomes(&rt, &PATH_CASES);
-    let core = request_of(
-        b"\x40\x01\x00\x0b\xbb\x2e\x77\x65\x6c\x6c\x2d\x6b\x6e\x6f\x77\x6e\x04\x63\x6f\x72\x65",
-    );
-    assert!(rt; core.is_some_and(|request| request.resource == Resource::Core));
 }
 
 static CRITICAL_CASES: [(&[u8], Outcome); 13] = [
@@ -147,51 +150,29 @@ fn critical_options(rt: HostRuntime) {
     check_outcomes(&rt, &CRITICAL_CASES);
 }
 
-static BLOCK_CASES: [(&[u8], Outcome); 6] = [
-    // Block2 in a PUT, Block1 in a GET and Block2 in a POST, and a Block2 of four bytes, aren't recognised.
-    (b"\x40\x03\x00\x01\xb1\x70\x01\x30\xc1\x16", BAD_OPTION),
-    (b"\x40\x01\x00\x01\xb1\x72\x01\x30\xd1\x03\x0a", BAD_OPTION),
-    (b"\x40\x02\x00\x01\xb1\x78\xc1\x06", BAD_OPTION),
+static BLOCK_CASES: [(&[u8], Outcome); 4] = [
+    // Block2 in a GET, also on an unknown path and of the reserved size, and Block1 in a PUT.
+    (b"\x40\x01\x00\x01\xb1\x72\x01\x30\xc1\x16", BAD_OPTION),
+    (b"\x40\x01\x00\x01\xb1\x78\xc1\x06", BAD_OPTION),
+    (b"\x40\x01\x00\x01\xb1\x72\x01\x30\xc1\x07", BAD_OPTION),
     (
-        b"\x40\x01\x00\x01\xb1\x72\x01\x30\xc4\x00\x00\x00\x16",
+        b"\x40\x03\x40\x00\xb1\x70\x01\x32\xd1\x03\x0a\xff\x00",
         BAD_OPTION,
     ),
-    // The reserved size, behind the path and the method.
-    (b"\x40\x01\x00\x01\xb1\x72\x01\x30\xc1\x07", BAD_REQUEST),
-    (b"\x40\x01\x00\x01\xb1\x78\x01\x30\xc1\x07", NOT_FOUND),
 ];
-
-/// Whether a datagram is a request that brings this Block1 and asks this Block2.
-fn has_blocks(bytes: &[u8], block1: Option<Block>, block2: Option<Block>) -> bool {
-    request_of(bytes).is_some_and(|request| request.block1 == block1 && request.block2 == block2)
-}
 
 #[test]
 fn blocks(rt: HostRuntime) {
     check_outcomes(&rt, &BLOCK_CASES);
-    let brought = Block {
-        number: 0,
-        more: true,
-        szx: 2,
-    };
-    assert!(rt; brought.size() == 64);
-    let put = b"\x40\x03\x40\x00\xb1\x70\x01\x32\xd1\x03\x0a\xff\x00";
-    assert!(rt; has_blocks(put, Some(brought), None));
-    let asked = Block {
-        number: 1,
-        more: false,
-        szx: 6,
-    };
-    assert!(rt; asked.size() == 1024);
-    let get = b"\x40\x01\x00\x01\xb1\x72\x01\x30\xc1\x16";
-    assert!(rt; has_blocks(get, None, Some(asked)));
 }
 
 #[test]
 fn values_of_blocks(rt: HostRuntime) {
     // The least value is no byte; leading zeros are read and not written.
     assert!(rt; Block::read(&[]).value().is_empty());
-    assert!(rt; Block::read(&[0x00, 0x00, 0x16]).value().as_slice() == [0x16].as_slice());
+    let second = Block::read(&[0x00, 0x00, 0x16]);
+    assert!(rt; second.number == 1 && !second.more && second.size() == 1024);
+    assert!(rt; second.value().as_slice() == [0x16].as_slice());
 }
 
 /// Whether a datagram is a request with this content format and this value of Observe.
@@ -215,13 +196,13 @@ fn elective_options(rt: HostRuntime) {
     // Content-Format: the first of two stands, and neither where the first is too long.
     check_electives(
         &rt,
-        b"\x40\x02\x00\x01\xb1\x72\x01\x30\x11\x28\x01\x32",
+        b"\x40\x01\x00\x01\xb1\x72\x01\x30\x11\x28\x01\x32",
         Some(40),
         None,
     );
     check_electives(
         &rt,
-        b"\x40\x02\x00\x01\xb1\x72\x01\x30\x13\x00\x00\x28\x01\x32",
+        b"\x40\x01\x00\x01\xb1\x72\x01\x30\x13\x00\x00\x28\x01\x32",
         None,
         None,
     );
@@ -238,7 +219,7 @@ fn elective_options(rt: HostRuntime) {
         None,
         None,
     );
-    check_electives(&rt, b"\x40\x01\x00\x01\x60\x51\x70\x01\x30", None, None);
+    check_electives(&rt, b"\x40\x03\x00\x01\x60\x51\x70\x01\x30", None, None);
 }
 
 #[test]
@@ -273,8 +254,59 @@ fn queries_and_payloads(rt: HostRuntime) {
 
 #[test]
 fn integers(rt: HostRuntime) {
-    assert!(rt; write_integer(0).is_empty());
-    assert!(rt; write_integer(16_777_214).as_slice() == [0xff, 0xff, 0xfe].as_slice());
-    assert!(rt; write_integer(u64::MAX).len() == 8);
-    assert!(rt; read_integer(&[0, 0, 1, 0]) == 256);
+    assert!(rt; encode_uint(0).is_empty());
+    assert!(rt; encode_uint(16_777_214).as_slice() == [0xff, 0xff, 0xfe].as_slice());
+    assert!(rt; encode_uint(u64::MAX).len() == 8);
+    assert!(rt; decode_uint(&[0, 0, 1, 0]) == 256);
+}
+
+/// A reply with a token of one byte.
+fn reply_of<'a>(code: Code, id: u16, options: ReplyOptions, payload: &'a [u8]) -> Reply<'a> {
+    Reply {
+        kind: MessageType::Acknowledgement,
+        code,
+        id,
+        token: b"o",
+        options,
+        payload,
+    }
+}
+
+fn check_reply(rt: &impl Abort, reply: &Reply<'_>, wanted: &[u8]) {
+    let mut datagram = Datagram::new();
+    if reply.code != Code::EMPTY && reply.token.len() <= 8 && reply.payload.len() <= 1024 {
+        reply.write(&mut datagram);
+    }
+    assert!(rt; datagram.as_slice() == wanted, "{datagram:?}");
+}
+
+#[test]
+fn replies(rt: HostRuntime) {
+    let none = ReplyOptions::default();
+    // Content-Format 40 (RFC 6690, 7.1), and Block1 with number 0, more blocks and a size of 64.
+    let format = ReplyOptions {
+        content_format: Some(40),
+        ..none
+    };
+    let core = reply_of(Code::CONTENT, 11, format, b"x");
+    check_reply(&rt, &core, b"\x61\x45\x00\x0bo\xc1\x28\xffx");
+    let taken = ReplyOptions {
+        block1: Some(Block::read(&[0x0a])),
+        ..none
+    };
+    let more = reply_of(Code::CONTINUE, 0x4000, taken, b"");
+    check_reply(&rt, &more, b"\x61\x5f\x40\x00o\xd1\x0e\x0a");
+    // All five, and a sequence number of 0, which has no byte.
+    let all = ReplyOptions {
+        etag: Some(16_777_216),
+        observe: Some(0),
+        content_format: Some(0),
+        block2: Some(Block::read(&[0x16])),
+        block1: Some(Block::read(&[0x0e])),
+    };
+    check_reply(
+        &rt,
+        &reply_of(Code::CONTENT, 0, all, b""),
+        b"\x61\x45\x00\x00o\x48\x00\x00\x00\x00\x01\x00\x00\x00\x20\x60\xb1\x16\x41\x0e",
+    );
 }
