@@ -184,47 +184,6 @@ fn copies_of_an_answered_request_get_its_bytes(rt: HostRuntime) {
     check_sends(&rt, &EVENTS, &[CREATED, CONTENT, CONTENT, CONTENT]);
 }
 
-// `GET /x` under each of these many message ids, from 0.
-fn gets_of_nothing(alloc: Global, count: u16) -> Result<Vec<[u8; 6]>, AllocError> {
-    let mut datagrams = Vec::new(alloc);
-    for id in 0..count {
-        let [high, low] = id.to_be_bytes();
-        datagrams.push([0x40, 0x01, high, low, 0xb1, 0x78])?;
-    }
-    Ok(datagrams)
-}
-
-// The 1,025th request of a window finds no room: 5.03, and it isn't kept. It is carried out once the others are too old.
-#[test]
-fn a_full_table_is_unavailable(rt: HostRuntime) -> Result<(), Fail> {
-    let datagrams = gets_of_nothing(rt.alloc(), 1025)?;
-    let mut events = Vec::new(rt.alloc());
-    for bytes in &datagrams {
-        events.push(heard_at(0, bytes))?;
-    }
-    for now in [246_999, 247_000] {
-        events.push(heard_at(now, &datagrams[1024]))?;
-    }
-    let world = run_world(rt.alloc(), events.as_slice())?;
-    let unavailable = b"\x60\xa3\x04\x00".as_slice();
-    let last = [
-        b"\x60\x84\x03\xff".as_slice(),
-        unavailable,
-        unavailable,
-        b"\x60\x84\x04\x00".as_slice(),
-    ];
-    assert!(rt; are_sent(&world.emissions[1023..], &last));
-    Ok(())
-}
-
-fn heard_at(now: u64, bytes: &[u8; 6]) -> Event<'_> {
-    Event::Deliver {
-        now,
-        endpoint: PEER,
-        bytes,
-    }
-}
-
 // Each message id is drawn once in a window, in order.
 #[test]
 fn an_id_comes_again_behind_its_window(rt: HostRuntime) -> Result<(), Fail> {
