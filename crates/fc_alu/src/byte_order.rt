@@ -1,0 +1,23 @@
+//! Changes of the byte order.
+ghost use Rattle.std.specs.Prelude.{◌≡◌};
+ghost use Rattle.fc_alu.specs.Arithmetic.{ordered};
+
+use crate::operation::low_half;
+use fc_isa::{ByteOrder, SwapWidth};
+
+/// Puts the low 16, 32 or 64 bits into the byte order; the rest is zero (RFC 9669, 4.2, END). The registers' order is
+/// little, so that to little keeps the bits.
+#[tactic(auto, unfolding(crate::specs::Arithmetic::ordered))]
+#[inline(always)]
+pub fn reorder(order: ByteOrder, width: SwapWidth, dst: u64) -> u64
+    ensures { result ≡ ordered order width dst }
+{
+    match (order, width) {
+        (ByteOrder::Little, SwapWidth::S16) => dst & 0xffff,
+        (ByteOrder::Little, SwapWidth::S32) => dst & 0xffff_ffff,
+        (ByteOrder::Little, SwapWidth::S64) => dst,
+        (_, SwapWidth::S16) => ((dst & 0xffff) as u16).swap_bytes() as u64,
+        (_, SwapWidth::S32) => low_half(dst).swap_bytes() as u64,
+        (_, SwapWidth::S64) => dst.swap_bytes(),
+    }
+}

@@ -1,0 +1,24 @@
+//! Arithmetic instructions.
+ghost use Rattle.std.specs.Prelude.{true, ◌≡◌};
+ghost use Rattle.fc_alu.specs.Arithmetic.{alu, is_computation};
+
+use crate::byte_order::reorder;
+use crate::operation::{arithmetic, neg};
+use crate::sign_extension::sign_extend;
+use fc_isa::Insn;
+
+/// Computes an arithmetic instruction (RFC 9669, 4.1 and 4.2): the number that it leaves in its destination register, which
+/// held `dst`. `operand` is its source register, or its immediate extended by its sign to 64 bits; NEG and END take none.
+#[tactic(auto, unfolding(crate::specs::Arithmetic::alu))]
+pub fn alu(insn: Insn, dst: u64, operand: u64) -> u64
+    requires { is_computation insn ≡ true }
+    ensures { result ≡ alu insn dst operand }
+{
+    match insn {
+        Insn::Alu { op, width, .. } => arithmetic(op, width, dst, operand),
+        Insn::Neg { width, .. } => neg(width, dst),
+        Insn::SignExtend { extension, .. } => sign_extend(extension, operand),
+        Insn::End { order, width, .. } => reorder(order, width, dst),
+        _ => unreachable!(),
+    }
+}

@@ -1,0 +1,19 @@
+//! Arithmetic and comparisons of programs on 64-bit registers (RFC 9669, 4.1 to 4.3).
+//!
+//! `alu` computes an arithmetic instruction and `truth` a conditional jump's comparison. The interpreter's loop calls the
+//! functions behind them, which take an operation and a width that are constants at each call.
+#![tactic(auto)]
+
+pub mod byte_order;
+pub mod comparison;
+pub mod instruction;
+pub mod operation;
+pub mod sign_extension;
+#[cfg(test)]
+mod tests;
+
+pub use byte_order::reorder;
+pub use comparison::{compare, truth};
+pub use instruction::alu;
+pub use operation::{arithmetic, neg};
+pub use sign_extension::sign_extend;
