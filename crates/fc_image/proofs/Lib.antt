@@ -3,3 +3,8 @@ pub mod Paths
 pub mod Faults
 pub mod Written
 pub mod Restated
+pub mod CostTable
+pub mod FunctionTables
+pub mod ShapeLaws
+pub mod PathLaws
+mod Rows

@@ -1,3 +1,9 @@
 pub mod Head
 pub mod Shape
 pub mod Longest
+pub mod Flow
+pub mod Paths
+pub mod Functions
+pub mod ShapeRules
+pub mod Tables
+pub mod Judged

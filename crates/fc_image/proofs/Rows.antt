@@ -1,0 +1,82 @@
+-- Worked programs: what the rules of the control flow say of each.
+use Rattle.std.proofs.Common.{◌≡◌, ℕ, [], ◌∷◌, Some, None, refl}
+use Rattle.std.specs.Prelude.{pos, negsuc}
+use Rattle.fc_isa.specs.declared.insn.Insn.{Insn}
+use Rattle.fc_isa.specs.declared.insn.Insn.TheVariants.{Alu, LoadWide, WideSecond, JumpAlways, JumpIf, CallHelper, CallLocal, Exit}
+use Rattle.fc_isa.specs.declared.insn.AluOp.TheVariants.{Mov}
+use Rattle.fc_isa.specs.declared.insn.Relation.TheVariants.{Gt}
+use Rattle.fc_isa.specs.declared.insn.Width.TheVariants.{W64}
+use Rattle.fc_isa.specs.declared.insn.Operand.TheVariants.{Imm}
+use Rattle.fc_isa.specs.declared.rule.Rule.TheVariants.{JumpTarget, BackwardJump, Boundary, BackwardCall, FrameDepth, Cost, Helper}
+use Rattle.fc_image.specs.Functions.{is_start, frames}
+use Rattle.fc_image.specs.Paths.{costs, longest}
+use Rattle.fc_image.specs.ShapeRules.{breaks_shape, fault_of_shape}
+
+abbrev mov : Insn
+mov = Alu Mov W64 0 (Imm (pos 0))
+
+abbrev jgt : ℕ → Insn
+jgt n = JumpIf (record { width = W64; relation = Gt; left = 3; right = Imm (pos 1023); offset = pos n })
+
+abbrev caller : Insn
+caller = CallLocal (pos 1)
+
+-- a way that is taken is shorter than the one that goes on
+branch_costs_five : longest (jgt 4 ∷ mov ∷ mov ∷ mov ∷ Exit ∷ mov ∷ Exit ∷ []) ≡ 5
+unfolding longest costs
+branch_costs_five = refl
+
+-- a function that is called twice is counted twice
+callee_counts_twice : longest (CallLocal (pos 2) ∷ CallLocal (pos 1) ∷ Exit ∷ mov ∷ Exit ∷ []) ≡ 7
+unfolding longest costs
+callee_counts_twice = refl
+
+twice_is_above_six : fault_of_shape 6 (CallLocal (pos 2) ∷ CallLocal (pos 1) ∷ Exit ∷ mov ∷ Exit ∷ []) ≡ Some (0, Cost)
+unfolding fault_of_shape breaks_shape longest costs is_start frames
+twice_is_above_six = refl
+
+four_frames : fault_of_shape 8 (caller ∷ Exit ∷ caller ∷ Exit ∷ caller ∷ Exit ∷ mov ∷ Exit ∷ []) ≡ None
+unfolding fault_of_shape breaks_shape longest costs is_start frames
+four_frames = refl
+
+five_frames : fault_of_shape 10 (caller ∷ Exit ∷ caller ∷ Exit ∷ caller ∷ Exit ∷ caller ∷ Exit ∷ mov ∷ Exit ∷ []) ≡ Some (0, FrameDepth)
+unfolding fault_of_shape breaks_shape longest costs is_start frames
+five_frames = refl
+
+call_back : fault_of_shape 8 (caller ∷ Exit ∷ CallLocal (negsuc 2) ∷ Exit ∷ []) ≡ Some (2, BackwardCall)
+unfolding fault_of_shape breaks_shape longest costs is_start frames
+call_back = refl
+
+-- the start that a call back makes ends the function before it
+call_back_ends_a_function : fault_of_shape 8 (mov ∷ CallLocal (negsuc 0) ∷ Exit ∷ []) ≡ Some (0, Boundary)
+unfolding fault_of_shape breaks_shape longest costs is_start frames
+call_back_ends_a_function = refl
+
+jump_into_a_wide_load : fault_of_shape 8 (JumpAlways (pos 1) ∷ LoadWide 0 7 ∷ WideSecond ∷ Exit ∷ []) ≡ Some (0, JumpTarget)
+unfolding fault_of_shape breaks_shape longest costs is_start frames
+jump_into_a_wide_load = refl
+
+jump_below_zero : fault_of_shape 8 (JumpAlways (negsuc 1) ∷ Exit ∷ []) ≡ Some (0, JumpTarget)
+unfolding fault_of_shape breaks_shape longest costs is_start frames
+jump_below_zero = refl
+
+jump_to_itself : fault_of_shape 8 (JumpAlways (negsuc 0) ∷ Exit ∷ []) ≡ Some (0, BackwardJump)
+unfolding fault_of_shape breaks_shape longest costs is_start frames
+jump_to_itself = refl
+
+jump_out_of_its_function : fault_of_shape 8 (caller ∷ JumpAlways (pos 1) ∷ mov ∷ Exit ∷ []) ≡ Some (1, Boundary)
+unfolding fault_of_shape breaks_shape longest costs is_start frames
+jump_out_of_its_function = refl
+
+end_in_a_wide_load : fault_of_shape 8 (mov ∷ LoadWide 0 7 ∷ WideSecond ∷ []) ≡ Some (1, Boundary)
+unfolding fault_of_shape breaks_shape longest costs is_start frames
+end_in_a_wide_load = refl
+
+no_helper_eight : fault_of_shape 8 (CallHelper (pos 8) ∷ mov ∷ Exit ∷ []) ≡ Some (0, Helper)
+unfolding fault_of_shape breaks_shape longest costs is_start frames
+no_helper_eight = refl
+
+-- the cost is told before the helper
+cost_before_helper : fault_of_shape 2 (CallHelper (pos 8) ∷ mov ∷ Exit ∷ []) ≡ Some (0, Cost)
+unfolding fault_of_shape breaks_shape longest costs is_start frames
+cost_before_helper = refl

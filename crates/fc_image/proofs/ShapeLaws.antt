@@ -1,0 +1,242 @@
+-- The first broken rule with its least slot, as a relation and as a function.
+use Rattle.std.proofs.Common.{◌≡◌, ◌++◌, ◌==◌, ◌&&◌, ℕ, zero, suc, ◌+◌, ◌<◌, ◌≤◌, Bool, true, false, if◌then◌else◌, List, [], ◌∷◌, drop, Option, Some, None, refl, sym, ap, ◌∙◌, subst, arith}
+use Rattle.std.specs.Prelude.{slice_get, nat_lt, length}
+use Rattle.std.proofs.lemmas.Bool.Decides.{nat_tests}
+use Rattle.fc_isa.specs.declared.insn.Insn.{Insn}
+use Rattle.fc_isa.specs.declared.rule.Rule.{Rule}
+use Rattle.fc_isa.specs.declared.rule.Rule.TheVariants.{JumpTarget, BackwardJump, Boundary, BackwardCall, FrameDepth, Cost, Helper}
+use Rattle.std.specs.List.{AllByRecursion}
+use Rattle.fc_image.specs.Paths.{longest}
+use Rattle.fc_image.specs.ShapeRules.{breaks_flow, breaks_shape, KeepsBudget, IsShapeFault, KeepsRule, least, or_next, first_broken, flow_rules, fault_of_shape}
+use Rattle.fc_image.proofs.CostTable.{drop_at}
+
+-- ---- the least slot
+
+pub least_more : (test : ℕ → Insn → Bool) (code : List Insn) (slot : ℕ) (insn : Insn) → slice_get code slot ≡ Some insn
+    → least test slot (drop slot code) ≡ (if test slot insn then Some slot else least test (slot + 1) (drop (slot + 1) code))
+least_more test code slot insn e =
+    let n : suc slot ≡ slot + 1 = omega arith in
+    ap (least test slot) (drop_at code slot insn e) ∙ ap (λ k. if test slot insn then Some slot else least test (slot + 1) (drop k code)) n
+
+-- nothing passes the test from a slot on, up to another
+record NonePasses (test : ℕ → Insn → Bool) (from : ℕ) (code : List Insn) : Type 0 where
+  each : (k : ℕ) (insn : Insn) → slice_get code k ≡ Some insn → test (from + k) insn ≡ false
+
+record LeastPasses (test : ℕ → Insn → Bool) (from : ℕ) (code : List Insn) (slot : ℕ) : Type 0 where
+  index : ℕ
+  insn : Insn
+  slot_is : slot ≡ from + index
+  stands : slice_get code index ≡ Some insn
+  passes : test slot insn ≡ true
+  before : (k : ℕ) (i : Insn) → k < index → slice_get code k ≡ Some i → test (from + k) i ≡ false
+
+none_more : (test : ℕ → Insn → Bool) (from : ℕ) (insn : Insn) (code : List Insn) → test from insn ≡ false → NonePasses test (from + 1) code → NonePasses test from (insn ∷ code)
+none_more test from insn code e h = record { each = go }
+  where
+    go : (k : ℕ) (i : Insn) → slice_get (insn ∷ code) k ≡ Some i → test (from + k) i ≡ false
+    go zero i g = let same : insn ≡ i = cc g in let n : from + 0 ≡ from = omega arith in ap (λ x. test x i) n ∙ ap (test from) (sym same) ∙ e
+    go (suc k) i g = let n : from + suc k ≡ from + 1 + k = omega arith in ap (λ x. test x i) n ∙ h.each k i g
+
+least_none : (test : ℕ → Insn → Bool) (from : ℕ) (code : List Insn) → least test from code ≡ None → NonePasses test from code
+least_none test from [] e = record { each = λ k i g. absurd (cc g) }
+least_none test from (insn ∷ code) e = go (test from insn) refl e (least_none test (from + 1) code)
+  where
+    go : (b : Bool) → test from insn ≡ b → (if b then Some from else least test (from + 1) code) ≡ None → (least test (from + 1) code ≡ None → NonePasses test (from + 1) code) → NonePasses test from (insn ∷ code)
+    go true t f rest = absurd (cc f)
+    go false t f rest = none_more test from insn code t (rest f)
+
+least_some : (test : ℕ → Insn → Bool) (from : ℕ) (code : List Insn) (slot : ℕ) → least test from code ≡ Some slot → LeastPasses test from code slot
+least_some test from [] slot e = absurd (cc e)
+least_some test from (insn ∷ code) slot e = go (test from insn) refl e (least_some test (from + 1) code slot)
+  where
+    go : (b : Bool) → test from insn ≡ b → (if b then Some from else least test (from + 1) code) ≡ Some slot → (least test (from + 1) code ≡ Some slot → LeastPasses test (from + 1) code slot) → LeastPasses test from (insn ∷ code) slot
+    go true t f rest =
+        let same : from ≡ slot = cc f in
+        record { index = 0; insn = insn; slot_is = omega (arith, same); stands = refl; passes = subst (λ x. test x insn ≡ true) same t; before = λ k i lt g. absurd (omega arith) }
+    go false t f rest =
+        let r = rest f in
+        record {
+          index = suc r.index;
+          insn = r.insn;
+          slot_is = omega (arith, r.slot_is);
+          stands = r.stands;
+          passes = r.passes;
+          before = λ k i lt g. before k i lt g;
+        }
+      where
+        before : (k : ℕ) (i : Insn) → k < suc (rest f).index → slice_get (insn ∷ code) k ≡ Some i → test (from + k) i ≡ false
+        before zero i lt g = let same : insn ≡ i = cc g in let n : from + 0 ≡ from = omega arith in ap (λ x. test x i) n ∙ ap (test from) (sym same) ∙ t
+        before (suc k) i lt g = let n : from + suc k ≡ from + 1 + k = omega arith in ap (λ x. test x i) n ∙ (rest f).before k i (omega arith) g
+
+-- ---- one rule, and the rules in their order
+
+none_least : (test : ℕ → Insn → Bool) (from : ℕ) (code : List Insn) → NonePasses test from code → least test from code ≡ None
+none_least test from [] h = refl
+none_least test from (insn ∷ code) h =
+    let n : from + 0 ≡ from = omega arith in
+    let t : test from insn ≡ false = ap (λ k. test k insn) (sym n) ∙ h.each 0 insn refl in
+    ap (λ (b : Bool). if b then Some from else least test (from + 1) code) t
+    ∙ none_least test (from + 1) code (record { each = λ k i g. let m : from + 1 + k ≡ from + suc k = omega arith in ap (λ x. test x i) m ∙ h.each (suc k) i g })
+
+least_is : (test : ℕ → Insn → Bool) (from : ℕ) (code : List Insn) (index slot : ℕ) (insn : Insn) → slot ≡ from + index → slice_get code index ≡ Some insn → test slot insn ≡ true
+    → ((k : ℕ) (i : Insn) → k < index → slice_get code k ≡ Some i → test (from + k) i ≡ false) → least test from code ≡ Some slot
+least_is test from [] index slot insn e g t b = absurd (cc g)
+least_is test from (i ∷ code) zero slot insn e g t b =
+    let n : slot ≡ from = omega (arith, e) in
+    let same : i ≡ insn = cc g in
+    let t' : test from i ≡ true = ap (test from) same ∙ ap (λ k. test k insn) (sym n) ∙ t in
+    ap (λ (b : Bool). if b then Some from else least test (from + 1) code) t' ∙ ap Some (sym n)
+least_is test from (i ∷ code) (suc index) slot insn e g t b =
+    let n : from + 0 ≡ from = omega arith in
+    let f : test from i ≡ false = ap (λ k. test k i) (sym n) ∙ b 0 i (omega arith) refl in
+    ap (λ (b : Bool). if b then Some from else least test (from + 1) code) f
+    ∙ least_is test (from + 1) code index slot insn (omega (arith, e)) g t (λ k j lt h. let m : from + 1 + k ≡ from + suc k = omega arith in ap (λ x. test x j) m ∙ b (suc k) j (omega arith) h)
+
+-- the slot breaks the rule, and no slot before it does
+record Breaks (budget : ℕ) (code : List Insn) (rule : Rule) (slot : ℕ) : Type 0 where
+  pub insn : Insn
+  pub stands : slice_get code slot ≡ Some insn
+  pub broken : breaks_shape budget code slot insn rule ≡ true
+  pub slots_before : (k : ℕ) (i : Insn) → k < slot → slice_get code k ≡ Some i → breaks_shape budget code k i rule ≡ false
+
+pub rule_kept : (budget : ℕ) (code : List Insn) (rule : Rule) → least (λ slot insn. breaks_shape budget code slot insn rule) 0 code ≡ None → KeepsRule budget code rule
+rule_kept budget code rule e = record {
+  each = λ k i g.
+      let n : 0 + k ≡ k = omega arith in
+      subst (λ x. breaks_shape budget code x i rule ≡ false) n ((least_none (λ slot insn. breaks_shape budget code slot insn rule) 0 code e).each k i g);
+}
+
+kept_rule : (budget : ℕ) (code : List Insn) (rule : Rule) → KeepsRule budget code rule → least (λ slot insn. breaks_shape budget code slot insn rule) 0 code ≡ None
+kept_rule budget code rule h = none_least (λ slot insn. breaks_shape budget code slot insn rule) 0 code
+    (record { each = λ k i g. let n : k ≡ 0 + k = omega arith in subst (λ x. breaks_shape budget code x i rule ≡ false) n (h.each k i g) })
+
+rule_broken : (budget : ℕ) (code : List Insn) (rule : Rule) (slot : ℕ) → least (λ slot insn. breaks_shape budget code slot insn rule) 0 code ≡ Some slot → Breaks budget code rule slot
+rule_broken budget code rule slot e =
+    let r = least_some (λ slot insn. breaks_shape budget code slot insn rule) 0 code slot e in
+    let same : r.index ≡ slot = omega (arith, r.slot_is) in
+    record {
+      insn = r.insn;
+      stands = subst (λ k. slice_get code k ≡ Some r.insn) same r.stands;
+      broken = r.passes;
+      slots_before = λ k i lt g. let n : 0 + k ≡ k = omega arith in subst (λ x. breaks_shape budget code x i rule ≡ false) n (r.before k i (omega (arith, same)) g);
+    }
+
+all_keep : (budget : ℕ) (code : List Insn) (rules : List Rule) → first_broken budget code rules ≡ None → AllByRecursion (KeepsRule budget code) rules
+all_keep budget code [] e = tt
+all_keep budget code (rule ∷ rules) e = go (least (λ slot insn. breaks_shape budget code slot insn rule) 0 code) refl e (all_keep budget code rules)
+  where
+    go : (o : Option ℕ) → least (λ slot insn. breaks_shape budget code slot insn rule) 0 code ≡ o → or_next o rule (first_broken budget code rules) ≡ None
+        → (first_broken budget code rules ≡ None → AllByRecursion (KeepsRule budget code) rules) → AllByRecursion (KeepsRule budget code) (rule ∷ rules)
+    go (Some slot) f g rest = absurd (cc g)
+    go None f g rest = (rule_kept budget code rule f, rest g)
+
+kept_all : (budget : ℕ) (code : List Insn) (rules : List Rule) → ((rule : Rule) → KeepsRule budget code rule) → first_broken budget code rules ≡ None
+kept_all budget code [] h = refl
+kept_all budget code (rule ∷ rules) h = ap (λ o. or_next o rule (first_broken budget code rules)) (kept_rule budget code rule (h rule)) ∙ kept_all budget code rules h
+
+-- the first broken of these rules, and those before it
+record FirstBreaks (budget : ℕ) (code : List Insn) (rules : List Rule) (slot : ℕ) (rule : Rule) : Type 0 where
+  before : List Rule
+  after : List Rule
+  order : rules ≡ before ++ (rule ∷ after)
+  kept : AllByRecursion (KeepsRule budget code) before
+  breaks : Breaks budget code rule slot
+
+first_breaks : (budget : ℕ) (code : List Insn) (rules : List Rule) (slot : ℕ) (rule : Rule) → first_broken budget code rules ≡ Some (slot, rule) → FirstBreaks budget code rules slot rule
+first_breaks budget code [] slot rule e = absurd (cc e)
+first_breaks budget code (r ∷ rules) slot rule e = go (least (λ slot insn. breaks_shape budget code slot insn r) 0 code) refl e (first_breaks budget code rules slot rule)
+  where
+    go : (o : Option ℕ) → least (λ slot insn. breaks_shape budget code slot insn r) 0 code ≡ o → or_next o r (first_broken budget code rules) ≡ Some (slot, rule)
+        → (first_broken budget code rules ≡ Some (slot, rule) → FirstBreaks budget code rules slot rule) → FirstBreaks budget code (r ∷ rules) slot rule
+    go (Some s) f g rest =
+        let same : ◌≡◌ {A = ℕ × Rule} (s, r) (slot, rule) = cc g in
+        let slots : s ≡ slot = ap (λ (p : ℕ × Rule). p.0) same in
+        let is : r ≡ rule = ap (λ (p : ℕ × Rule). p.1) same in
+        record { before = []; after = rules; order = ap (λ x. x ∷ rules) is; kept = tt; breaks = subst (λ x. Breaks budget code x slot) is (subst (Breaks budget code r) slots (rule_broken budget code r s f)) }
+    go None f g rest =
+        let h = rest g in
+        record { before = r ∷ h.before; after = h.after; order = ap (λ x. r ∷ x) h.order; kept = (rule_kept budget code r f, h.kept); breaks = h.breaks }
+
+first_is : (budget : ℕ) (code : List Insn) (before after : List Rule) (slot : ℕ) (rule : Rule) → AllByRecursion (KeepsRule budget code) before → least (λ slot insn. breaks_shape budget code slot insn rule) 0 code ≡ Some slot
+    → first_broken budget code (before ++ (rule ∷ after)) ≡ Some (slot, rule)
+first_is budget code [] after slot rule h e = ap (λ o. or_next o rule (first_broken budget code after)) e
+first_is budget code (r ∷ before) after slot rule h e =
+    ap (λ o. or_next o r (first_broken budget code (before ++ (rule ∷ after)))) (kept_rule budget code r h.0) ∙ first_is budget code before after slot rule h.1 e
+
+pub fault_is : (budget : ℕ) (code : List Insn) (slot : ℕ) (rule : Rule) → fault_of_shape budget code ≡ Some (slot, rule) → IsShapeFault budget code slot rule
+unfolding fault_of_shape
+fault_is budget code slot rule e =
+    let f = first_breaks budget code flow_rules slot rule e in
+    record { before = f.before; after = f.after; order = f.order; kept = f.kept; insn = f.breaks.insn; stands = f.breaks.stands; broken = f.breaks.broken; slots_before = f.breaks.slots_before }
+
+pub is_fault : (budget : ℕ) (code : List Insn) (slot : ℕ) (rule : Rule) → IsShapeFault budget code slot rule → fault_of_shape budget code ≡ Some (slot, rule)
+unfolding fault_of_shape
+is_fault budget code slot rule f =
+    let test = λ (slot : ℕ) (insn : Insn). breaks_shape budget code slot insn rule in
+    let n : slot ≡ 0 + slot = omega arith in
+    ap (first_broken budget code) f.order
+    ∙ first_is budget code f.before f.after slot rule f.kept
+    (least_is test 0 code slot slot f.insn n f.stands f.broken (λ k i lt g. let m : k ≡ 0 + k = omega arith in subst (λ x. breaks_shape budget code x i rule ≡ false) m (f.slots_before k i lt g)))
+
+-- a rule that isn't of the control flow is broken by no slot
+kept_by_all : (budget : ℕ) (code : List Insn) → AllByRecursion (KeepsRule budget code) flow_rules → (rule : Rule) → KeepsRule budget code rule
+unfolding breaks_shape
+kept_by_all budget code h JumpTarget = h.0
+kept_by_all budget code h BackwardJump = h.1.0
+kept_by_all budget code h Boundary = h.1.1.0
+kept_by_all budget code h BackwardCall = h.1.1.1.0
+kept_by_all budget code h FrameDepth = h.1.1.1.1.0
+kept_by_all budget code h Cost = h.1.1.1.1.1.0
+kept_by_all budget code h Helper = h.1.1.1.1.1.1.0
+kept_by_all budget code h _ = record { each = λ k i g. refl }
+
+flow_kept : (budget : ℕ) (code : List Insn) (rule : Rule) → KeepsRule budget code rule → (slot : ℕ) (insn : Insn) → slice_get code slot ≡ Some insn → breaks_flow code slot insn rule ≡ false
+unfolding breaks_shape
+flow_kept budget code Cost h slot insn g = refl
+flow_kept budget code JumpTarget h slot insn g = h.each slot insn g
+flow_kept budget code BackwardJump h slot insn g = h.each slot insn g
+flow_kept budget code Boundary h slot insn g = h.each slot insn g
+flow_kept budget code BackwardCall h slot insn g = h.each slot insn g
+flow_kept budget code FrameDepth h slot insn g = h.each slot insn g
+flow_kept budget code Helper h slot insn g = h.each slot insn g
+flow_kept budget code _ h slot insn g = refl
+
+first_insn : (code : List Insn) → 0 < length code → (insn : Insn) × (slice_get code 0 ≡ Some insn)
+first_insn [] h = absurd (omega arith)
+first_insn (insn ∷ code) h = (insn, refl)
+
+within_budget : (budget : ℕ) (code : List Insn) → 0 < length code → KeepsRule budget code Cost → longest code ≤ budget
+unfolding breaks_shape
+within_budget budget code some h = let i = first_insn code some in let e : nat_lt budget (longest code) ≡ false = h.each 0 i.0 i.1 in grind (arith, nat_tests, e)
+
+-- a program with no fault is shaped, and its longest path within the budget
+pub faultless : (budget : ℕ) (code : List Insn) → fault_of_shape budget code ≡ None → (0 < length code) → KeepsBudget budget code
+unfolding fault_of_shape
+faultless budget code e some =
+    let all = kept_by_all budget code (all_keep budget code flow_rules e) in
+    record {
+      shaped = record { each = λ rule slot insn g. flow_kept budget code rule (all rule) slot insn g };
+      within = within_budget budget code some (all Cost);
+    }
+
+cost_kept : (budget : ℕ) (code : List Insn) (slot : ℕ) → longest code ≤ budget → ((slot == 0) && nat_lt budget (longest code)) ≡ false
+cost_kept budget code slot le = go (slot == 0) (nat_lt budget (longest code)) (grind (arith, nat_tests))
+  where
+    go : (a b : Bool) → b ≡ false → (a && b) ≡ false
+    go true b e = e
+    go false b e = refl
+
+all_kept : (budget : ℕ) (code : List Insn) → KeepsBudget budget code → (rule : Rule) → KeepsRule budget code rule
+unfolding breaks_shape
+all_kept budget code k Cost = record { each = λ slot insn g. cost_kept budget code slot k.within }
+all_kept budget code k JumpTarget = record { each = k.shaped.each JumpTarget }
+all_kept budget code k BackwardJump = record { each = k.shaped.each BackwardJump }
+all_kept budget code k Boundary = record { each = k.shaped.each Boundary }
+all_kept budget code k BackwardCall = record { each = k.shaped.each BackwardCall }
+all_kept budget code k FrameDepth = record { each = k.shaped.each FrameDepth }
+all_kept budget code k Helper = record { each = k.shaped.each Helper }
+all_kept budget code k _ = record { each = λ slot insn g. refl }
+
+pub no_fault : (budget : ℕ) (code : List Insn) → KeepsBudget budget code → fault_of_shape budget code ≡ None
+unfolding fault_of_shape
+no_fault budget code k = kept_all budget code flow_rules (all_kept budget code k)

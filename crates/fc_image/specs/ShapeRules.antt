@@ -1,0 +1,100 @@
+-- The rules of a program's control flow.
+use Rattle.std.specs.Prelude.{◌≡◌, ℕ, ◌+◌, ◌-◌, ◌<◌, ◌≤◌, ◌==◌, ◌||◌, ◌&&◌, not, nat_lt, nat_le, Bool, true, false, if◌then◌else◌, ℤ, pos, negsuc, List, [], ◌∷◌, ◌++◌, length, Option, Some, None, slice_get}
+use Rattle.std.specs.List.{AllByRecursion}
+use Rattle.fc_isa.specs.declared.insn.Insn.{Insn}
+use Rattle.fc_isa.specs.declared.insn.Insn.TheVariants.{CallHelper}
+use Rattle.fc_isa.specs.declared.rule.Rule.{Rule}
+use Rattle.fc_isa.specs.declared.rule.Rule.TheVariants.{JumpTarget, BackwardJump, Boundary, BackwardCall, FrameDepth, Cost, Helper}
+use Rattle.fc_isa.specs.Program.{is_wide_second}
+use Rattle.fc_image.specs.Flow.{jump_offset, call_offset, target}
+use Rattle.fc_image.specs.Functions.{with_offset, starts_within, is_open_end, frames}
+use Rattle.fc_image.specs.Paths.{longest}
+
+abbrev pub is_instruction : Option Insn → Bool
+is_instruction None = false
+is_instruction (Some insn) = not (is_wide_second insn)
+
+-- an instruction of the program stands there
+abbrev pub is_place : List Insn → Option ℕ → Bool
+is_place code None = false
+is_place code (Some t) = is_instruction (slice_get code t)
+
+abbrev pub is_later : ℕ → Option ℕ → Bool
+is_later slot None = false
+is_later slot (Some t) = nat_lt slot t
+
+-- a function starts after the slot, up to its target in the program
+abbrev pub leaves : List Insn → ℕ → Option ℕ → Bool
+leaves code slot None = false
+leaves code slot (Some t) = nat_lt t (length code) && starts_within code slot (t - slot)
+
+abbrev pub is_helper : ℤ → Bool
+is_helper (pos n) = nat_le 1 n && nat_le n 7
+is_helper (negsuc n) = false
+
+abbrev pub calls_no_helper : Insn → Bool
+calls_no_helper (CallHelper number) = not (is_helper number)
+calls_no_helper other = false
+
+-- what a slot breaks: its target is no instruction of the program; a jump or a call isn't to a later slot; a jump leaves its
+-- function, or the function's last instruction is no exit; slot 0 has more than four frames; a helper doesn't exist
+abbrev pub breaks_flow : List Insn → ℕ → Insn → Rule → Bool
+breaks_flow code slot insn JumpTarget = with_offset (jump_offset insn) (λ o. not (is_place code (target slot o))) || with_offset (call_offset insn) (λ o. not (is_place code (target slot o)))
+breaks_flow code slot insn BackwardJump = with_offset (jump_offset insn) (λ o. not (is_later slot (target slot o)))
+breaks_flow code slot insn Boundary = with_offset (jump_offset insn) (λ o. leaves code slot (target slot o)) || is_open_end code slot insn
+breaks_flow code slot insn BackwardCall = with_offset (call_offset insn) (λ o. not (is_later slot (target slot o)))
+breaks_flow code slot insn FrameDepth = (slot == 0) && nat_lt 4 (frames code)
+breaks_flow code slot insn Helper = calls_no_helper insn
+breaks_flow code slot insn other = false
+
+-- and the longest path has more steps than the budget
+unfoldable pub breaks_shape : ℕ → List Insn → ℕ → Insn → Rule → Bool
+breaks_shape budget code slot insn Cost = (slot == 0) && nat_lt budget (longest code)
+breaks_shape budget code slot insn rule = breaks_flow code slot insn rule
+
+-- no slot breaks a rule of the control flow
+pub record IsShaped (code : List Insn) : Type 0 where
+  pub each : (rule : Rule) (slot : ℕ) (insn : Insn) → slice_get code slot ≡ Some insn → breaks_flow code slot insn rule ≡ false
+
+-- it is shaped, and its longest path is within the budget
+pub record KeepsBudget (budget : ℕ) (code : List Insn) : Type 0 where
+  pub shaped : IsShaped code
+  pub within : longest code ≤ budget
+
+-- no slot breaks a rule
+pub record KeepsRule (budget : ℕ) (code : List Insn) (rule : Rule) : Type 0 where
+  pub each : (slot : ℕ) (insn : Insn) → slice_get code slot ≡ Some insn → breaks_shape budget code slot insn rule ≡ false
+
+-- the rules in their order: each is judged at all slots before the next
+abbrev pub flow_rules : List Rule
+flow_rules = JumpTarget ∷ BackwardJump ∷ Boundary ∷ BackwardCall ∷ FrameDepth ∷ Cost ∷ Helper ∷ []
+
+-- the rules before this one are kept, and this is the least slot that breaks it
+pub record IsShapeFault (budget : ℕ) (code : List Insn) (slot : ℕ) (rule : Rule) : Type 0 where
+  pub before : List Rule
+  pub after : List Rule
+  pub order : flow_rules ≡ before ++ (rule ∷ after)
+  pub kept : AllByRecursion (KeepsRule budget code) before
+  pub insn : Insn
+  pub stands : slice_get code slot ≡ Some insn
+  pub broken : breaks_shape budget code slot insn rule ≡ true
+  pub slots_before : (k : ℕ) (i : Insn) → k < slot → slice_get code k ≡ Some i → breaks_shape budget code k i rule ≡ false
+
+-- ---- the same as a function
+
+-- the least slot that passes a test, the first of these being at a slot
+abbrev pub least : (ℕ → Insn → Bool) → ℕ → List Insn → Option ℕ
+least test slot [] = None
+least test slot (insn ∷ code) = if test slot insn then Some slot else least test (slot + 1) code
+
+abbrev pub or_next : Option ℕ → Rule → Option (ℕ × Rule) → Option (ℕ × Rule)
+or_next (Some slot) rule more = Some (slot, rule)
+or_next None rule more = more
+
+-- the first of these rules that some slot breaks, with the least such slot
+abbrev pub first_broken : ℕ → List Insn → List Rule → Option (ℕ × Rule)
+first_broken budget code [] = None
+first_broken budget code (rule ∷ rules) = or_next (least (λ slot insn. breaks_shape budget code slot insn rule) 0 code) rule (first_broken budget code rules)
+
+unfoldable pub fault_of_shape : ℕ → List Insn → Option (ℕ × Rule)
+fault_of_shape budget code = first_broken budget code flow_rules

@@ -1,0 +1,176 @@
+//! The rules of a program's control flow, in their order.
+ghost use Rattle.std.specs.Prelude.{IfErr, IfOk, List, MatchOption, None, Some, drop, false, length, not, slice_get, true, ℕ, ◌+◌, ◌-◌, ◌<◌, ◌||◌, ◌≡◌, ◌≤◌};
+ghost use Rattle.fc_isa.specs.declared.insn.Insn.{Insn as Instruction};
+ghost use Rattle.fc_image.specs.Flow.{call_offset, jump_offset, target};
+ghost use Rattle.fc_image.specs.Functions.{with_offset};
+ghost use Rattle.fc_image.specs.Judged.{AreTables};
+ghost use Rattle.fc_image.specs.Paths.{IsLongest, longest};
+ghost use Rattle.fc_image.specs.ShapeRules.{IsShaped, breaks_shape, calls_no_helper, fault_of_shape, first_broken, is_later, is_place, least, leaves};
+
+use crate::flow::{call_offset, jump_offset, target};
+use crate::functions::{crosses, is_open_end};
+use crate::limits::Head;
+use crate::table::Tables;
+use fc_isa::{Fault, Insn, Rule};
+
+/// Checks the control flow of a program of the header's count of slots, and gives its cost: the greatest number of steps on
+/// any path from slot 0 to its exit, a path through a local call being one through the whole callee.
+///
+/// # Errors
+/// The least rule, 11 to 17, that a slot breaks, with the least slot that breaks it.
+#[tactic(auto, unfolding(crate::specs::ShapeRules::fault_of_shape))]
+pub fn shape(head: &Head, code: &[Insn]) -> Result<u32, Fault>
+    requires { length code.now ≡ head.now.count }
+    ensures shape { IfOk result (λ cost. IsShaped code.now × IsLongest code.now cost × (cost ≤ head.now.budget)) }
+    ensures cost { IfOk result (λ cost. (fault_of_shape head.now.budget code.now ≡ None) × (cost ≡ longest code.now)) }
+    ensures fault { IfErr result (λ f. fault_of_shape head.now.budget code.now ≡ Some (f.slot, f.rule)) }
+{
+    // The checker learns from this call how many slots there are at most.
+    let _slots = head.count();
+    let tables = Tables::of(code);
+    match first_broken(code, &tables, head.budget(), &FLOW_RULES) {
+        Some(fault) => Err(fault),
+        None => Ok(tables.cost),
+    }
+}
+
+/// The rules of the control flow, in their order.
+const FLOW_RULES: [Rule; 7] = [
+    Rule::JumpTarget,
+    Rule::BackwardJump,
+    Rule::Boundary,
+    Rule::BackwardCall,
+    Rule::FrameDepth,
+    Rule::Cost,
+    Rule::Helper,
+];
+
+/// The first of the rules that a slot breaks, with the least slot that breaks it.
+fn first_broken(code: &[Insn], tables: &Tables, budget: u32, rules: &[Rule]) -> Option<Fault>
+    requires tables { AreTables code.now tables.now }
+    requires count { length code.now ≤ 512 }
+    requires budget { budget ≤ 65536 }
+    ensures { MatchOption result (first_broken budget code.now rules.now ≡ None) (λ f. first_broken budget code.now rules.now ≡ Some (f.slot, f.rule)) }
+{
+    for rule in rules {
+        if let Some(slot) = least(code, tables, budget, *rule) {
+            return Some(Fault { rule: *rule, slot });
+        }
+    }
+    None
+}
+
+/// The least slot that breaks a rule.
+fn least(code: &[Insn], tables: &Tables, budget: u32, rule: Rule) -> Option<usize>
+    requires tables { AreTables code.now tables.now }
+    requires count { length code.now ≤ 512 }
+    requires budget { budget ≤ 65536 }
+    ensures { result ≡ least (λ slot insn. breaks_shape budget code.now slot insn rule) 0 code.now }
+{
+    for (slot, insn) in code.iter().enumerate() {
+        if breaks(code, tables, budget, slot, insn, rule) {
+            return Some(slot);
+        }
+    }
+    None
+}
+
+/// Whether a slot breaks a rule.
+#[tactic(auto, unfolding(crate::specs::ShapeRules::breaks_shape))]
+fn breaks(code: &[Insn], tables: &Tables, budget: u32, slot: usize, insn: &Insn, rule: Rule) -> bool
+    requires tables { AreTables code.now tables.now }
+    requires count { length code.now ≤ 512 }
+    requires slot { slot < length code.now }
+    requires budget { budget ≤ 65536 }
+    ensures { result ≡ breaks_shape budget code.now slot insn.now rule }
+{
+    match rule {
+        Rule::JumpTarget => is_astray(code, slot, jump_offset(insn))
+            || is_astray(code, slot, call_offset(insn)),
+        Rule::BackwardJump => is_back(slot, jump_offset(insn)),
+        Rule::Boundary => leaves(code, tables, slot, jump_offset(insn))
+            || is_open_end(code, &tables.starts, slot, insn),
+        Rule::BackwardCall => is_back(slot, call_offset(insn)),
+        Rule::FrameDepth => slot == 0 && tables.frames > 4,
+        Rule::Cost => slot == 0 && tables.cost > budget,
+        Rule::Helper => calls_no_helper(insn),
+        _ => false,
+    }
+}
+
+/// Whether no instruction of the program stands at an offset's target.
+fn is_astray(code: &[Insn], slot: usize, offset: Option<i32>) -> bool
+    requires { slot < 512 }
+    ensures { result ≡ with_offset offset (λ o. not (is_place code.now (target slot o))) }
+{
+    match offset {
+        Some(offset) => !is_place(code, target(slot, offset)),
+        None => false,
+    }
+}
+
+fn is_place(code: &[Insn], place: Option<usize>) -> bool
+    ensures { result ≡ is_place code.now place }
+{
+    match place {
+        Some(place) => place < code.len() && !matches!(code[place], Insn::WideSecond),
+        None => false,
+    }
+}
+
+/// Whether an offset's target isn't a later slot.
+fn is_back(slot: usize, offset: Option<i32>) -> bool
+    requires { slot < 512 }
+    ensures { result ≡ with_offset offset (λ o. not (is_later slot (target slot o))) }
+{
+    match offset {
+        Some(offset) => !is_later(slot, target(slot, offset)),
+        None => false,
+    }
+}
+
+fn is_later(slot: usize, place: Option<usize>) -> bool
+    ensures { result ≡ is_later slot place }
+{
+    match place {
+        Some(place) => slot < place,
+        None => false,
+    }
+}
+
+/// Whether a jump of this offset leaves its function.
+fn leaves(code: &[Insn], tables: &Tables, slot: usize, offset: Option<i32>) -> bool
+    requires tables { AreTables code.now tables.now }
+    requires count { length code.now ≤ 512 }
+    requires slot { slot < 512 }
+    ensures { result ≡ with_offset offset (λ o. leaves code.now slot (target slot o)) }
+{
+    match offset {
+        Some(offset) => crosses_to(code, tables, slot, target(slot, offset)),
+        None => false,
+    }
+}
+
+fn crosses_to(code: &[Insn], tables: &Tables, slot: usize, place: Option<usize>) -> bool
+    requires tables { AreTables code.now tables.now }
+    requires count { length code.now ≤ 512 }
+    requires slot { slot < 512 }
+    ensures { result ≡ leaves code.now slot place }
+{
+    match place {
+        Some(place) => place < code.len()
+            && slot <= place
+            && crosses(code, &tables.starts, slot, place),
+        None => false,
+    }
+}
+
+/// Whether an instruction calls a helper that doesn't exist: there are 1 to 7.
+fn calls_no_helper(insn: &Insn) -> bool
+    ensures { result ≡ calls_no_helper insn.now }
+{
+    match insn {
+        Insn::CallHelper { number } => *number < 1 || *number > 7,
+        _ => false,
+    }
+}

@@ -1,0 +1,37 @@
+//! Where jumps and calls lead.
+ghost use Rattle.std.specs.Prelude.{ℤ, Some, None, ◌≡◌, ◌<◌, ◌≤◌};
+ghost use Rattle.std.specs.Option.{option_map_or};
+ghost use Rattle.fc_image.specs.Flow.{call_offset, jump_offset, target};
+
+use fc_isa::Insn;
+
+/// The offset of a jump, in slots after the next.
+pub(crate) fn jump_offset(insn: &Insn) -> Option<i32>
+    ensures { result ≡ jump_offset insn.now }
+{
+    match insn {
+        Insn::JumpAlways { offset } => Some(*offset as i32),
+        Insn::JumpAlwaysLong { offset } => Some(*offset),
+        Insn::JumpIf(jump) => Some(jump.offset as i32),
+        _ => None,
+    }
+}
+
+/// The offset of a local call.
+pub(crate) fn call_offset(insn: &Insn) -> Option<i32>
+    ensures { result ≡ call_offset insn.now }
+{
+    match insn {
+        Insn::CallLocal { offset } => Some(*offset),
+        _ => None,
+    }
+}
+
+/// The slot after this one, plus the offset: `None` where that is below 0.
+pub(crate) fn target(slot: usize, offset: i32) -> Option<usize>
+    requires { slot < 512 }
+    ensures { result ≡ target slot offset }
+{
+    let at = slot as i64 + 1 + offset as i64;
+    if at >= 0 { Some(at as usize) } else { None }
+}

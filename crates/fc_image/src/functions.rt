@@ -1,0 +1,148 @@
+//! The functions of a program, and the stack frames that their calls need.
+ghost use Rattle.std.specs.Prelude.{Bool, List, None, Some, drop, false, if◌then◌else◌, length, max, min, slice_index, slice_index_or, true, ℕ, ◌+◌, ◌-◌, ◌<◌, ◌||◌, ◌≡◌, ◌≤◌};
+ghost use Rattle.fc_image.specs.Functions.{calls, frames, frames_called, is_called, is_open_end, is_start, may_end, slots_taken, starts_within};
+ghost use Rattle.fc_image.specs.Paths.{at_offset};
+ghost use Rattle.fc_image.specs.Tables.{AreStarts};
+
+use crate::flow::{call_offset, target};
+use crate::table::SLOTS;
+use fc_isa::Insn;
+
+/// One frame more than a program may have: frames are counted up to it.
+const TOO_DEEP: u8 = 5;
+
+/// Which slots start a function.
+pub(crate) fn starts(code: &[Insn]) -> [bool; SLOTS]
+    requires { length code.now ≤ 512 }
+    ensures { AreStarts code.now result }
+{
+    let mut starts = [false; SLOTS];
+    starts[0] = true;
+    let mut slot = code.len();
+    while slot > 0 {
+        slot -= 1;
+        mark(&mut starts, slot, &code[slot]);
+    }
+    starts
+}
+
+/// Marks the function that an instruction calls, where it starts at a slot of a program.
+fn mark(starts: &mut [bool; SLOTS], slot: usize, insn: &Insn)
+    requires { slot < 512 }
+    ensures { (place : ℕ) → place < 512 → slice_index_or starts.new place false ≡ (calls slot insn.now place || slice_index_or starts.old place false) }
+{
+    if let Some(offset) = call_offset(insn)
+        && let Some(place) = target(slot, offset)
+        && place < SLOTS
+    {
+        starts[place] = true;
+    }
+}
+
+/// Whether a function starts after a slot, up to another.
+pub(crate) fn crosses(code: &[Insn], starts: &[bool; SLOTS], slot: usize, place: usize) -> bool
+    requires starts { AreStarts code.now starts.now }
+    requires later { slot ≤ place }
+    requires within { place < 512 }
+    ensures { result ≡ starts_within code.now slot (place - slot) }
+{
+    for at in slot + 1..place + 1 {
+        if starts[at] {
+            return true;
+        }
+    }
+    false
+}
+
+/// Whether an instruction is the last of its function, and no exit.
+pub(crate) fn is_open_end(code: &[Insn], starts: &[bool; SLOTS], slot: usize, insn: &Insn) -> bool
+    requires starts { AreStarts code.now starts.now }
+    requires count { length code.now ≤ 512 }
+    requires slot { slot < 512 }
+    ensures { result ≡ is_open_end code.now slot insn.now }
+{
+    let next = slot + slots_taken(insn);
+    !may_end(insn) && (next >= code.len() || starts[next])
+}
+
+fn slots_taken(insn: &Insn) -> usize
+    ensures slots { result ≡ slots_taken insn.now }
+    ensures few { result ≤ 2 }
+{
+    match insn {
+        Insn::LoadWide { .. } => 2,
+        _ => 1,
+    }
+}
+
+fn may_end(insn: &Insn) -> bool
+    ensures { result ≡ may_end insn.now }
+{
+    matches!(insn, Insn::Exit | Insn::WideSecond)
+}
+
+/// The most stack frames that a program has at a time, or 5 where it has more.
+pub(crate) fn deepest(code: &[Insn], starts: &[bool; SLOTS]) -> u8
+    requires starts { AreStarts code.now starts.now }
+    requires count { length code.now ≤ 512 }
+    ensures { result ≡ min 5 (frames code.now) }
+{
+    let mut depths = [0; SLOTS];
+    let mut slot = code.len();
+    while slot > 0 {
+        slot -= 1;
+        depths[slot] = depth(&depths, starts, slot, &code[slot]);
+    }
+    (1 + depths[0]).min(TOO_DEEP)
+}
+
+/// The frames that calls add from a slot to the end of its function, up to 5, given those of the later slots.
+fn depth(depths: &[u8; SLOTS], starts: &[bool; SLOTS], slot: usize, insn: &Insn) -> u8
+    requires slot { slot < 512 }
+    requires capped { (k : ℕ) → slice_index depths.now k ≤ 5 }
+    ensures { result ≡ min 5 (max (frames_called insn.now (drop (slot + 1) depths.now)) (if slice_index_or starts.now (slot + 1) false then 0 else slice_index depths.now (slot + 1))) }
+{
+    let rest = if at_start(starts, slot + 1) {
+        0
+    } else {
+        at(depths, slot + 1)
+    };
+    called(depths, slot, insn).max(rest).min(TOO_DEEP)
+}
+
+fn at_start(starts: &[bool; SLOTS], slot: usize) -> bool
+    ensures { result ≡ slice_index_or starts.now slot false }
+{
+    starts.get(slot).copied().unwrap_or(false)
+}
+
+fn at(depths: &[u8; SLOTS], place: usize) -> u8
+    ensures { result ≡ slice_index depths.now place }
+{
+    depths.get(place).copied().unwrap_or(0)
+}
+
+/// The frames of the function that an instruction calls.
+fn called(depths: &[u8; SLOTS], slot: usize, insn: &Insn) -> u8
+    requires slot { slot < 512 }
+    requires capped { (k : ℕ) → slice_index depths.now k ≤ 5 }
+    ensures frames { result ≡ frames_called insn.now (drop (slot + 1) depths.now) }
+{
+    match insn {
+        Insn::CallLocal { offset } => 1 + at_offset(depths, slot, *offset),
+        _ => 0,
+    }
+}
+
+/// The depth at an offset from the next slot, 0 where the offset is negative.
+fn at_offset(depths: &[u8; SLOTS], slot: usize, offset: i32) -> u8
+    requires slot { slot < 512 }
+    requires capped { (k : ℕ) → slice_index depths.now k ≤ 5 }
+    ensures depth { result ≡ at_offset (drop (slot + 1) depths.now) offset }
+    ensures capped { result ≤ 5 }
+{
+    match target(slot, offset) {
+        Some(place) if place > slot => at(depths, place),
+        _ => 0,
+    }
+}

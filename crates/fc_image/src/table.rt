@@ -1,0 +1,37 @@
+//! What a program's control flow is judged by.
+ghost use Rattle.std.specs.Prelude.{length, ◌≡◌, ◌≤◌};
+ghost use Rattle.fc_image.specs.Judged.{AreTables};
+
+use crate::cost::longest_cost;
+use crate::functions::{deepest, starts};
+use fc_isa::Insn;
+
+/// The most slots of a program.
+pub(crate) const SLOTS: usize = 512;
+
+/// The facts of a whole program that its slots are judged by.
+#[derive(Drop)]
+pub(crate) struct Tables {
+    /// Which slots start a function.
+    pub(crate) starts: [bool; SLOTS],
+    /// The most stack frames at a time, up to 5.
+    pub(crate) frames: u8,
+    /// The steps of the longest path, up to 65,537.
+    pub(crate) cost: u32,
+}
+
+impl Tables {
+    /// The tables of a program.
+    pub(crate) fn of(code: &[Insn]) -> Self
+        requires { length code.now ≤ 512 }
+        ensures { AreTables code.now result }
+    {
+        let starts = starts(code);
+        let frames = deepest(code, &starts);
+        Tables {
+            starts,
+            frames,
+            cost: longest_cost(code),
+        }
+    }
+}
