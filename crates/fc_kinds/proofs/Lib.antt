@@ -1,0 +1,15 @@
+pub mod IntervalsGrow
+pub mod IntervalsProper
+pub mod IntervalsRefined
+pub mod IntervalsSound
+pub mod NumberWords
+pub mod KindLaws
+pub mod JoinLaws
+pub mod Monotone
+pub mod TransferLaws
+pub mod RefinementLaws
+pub mod WayLaws
+pub mod OperationLaws
+pub mod TakenLaws
+pub mod StepLaws
+mod Rows

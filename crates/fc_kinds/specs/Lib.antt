@@ -3,3 +3,13 @@ pub mod Meaning
 pub mod Kinds
 pub mod Effects
 pub mod Typing
+pub mod Intervals
+pub mod Lattice
+pub mod Transfer
+pub mod Refinement
+pub mod Ways
+pub mod WellTyped
+pub mod Laws
+pub mod Operations
+pub mod Execution
+pub mod Soundness

@@ -4,8 +4,21 @@
 //! code has what the verifier computes of them: the kinds after an instruction.
 #![tactic(auto)]
 
+mod arithmetic;
+pub mod calls;
 pub mod effect;
+pub mod interval;
 pub mod kind;
+pub mod lattice;
+pub mod laws;
+mod memory;
+mod operands;
+mod pointers;
+pub mod refinement;
+pub mod transfer;
 
+pub use calls::enter;
 pub use effect::after;
 pub use kind::{ENTRY, Kind, Regs};
+pub use lattice::join;
+pub use refinement::when;

@@ -1,0 +1,53 @@
+-- What is known on each way of a conditional jump.
+use Rattle.std.specs.Prelude.{ℕ, ◌==◌, Bool, true, false, if◌then◌else◌, List, Option, Some, slice_set}
+use Rattle.fc_isa.specs.declared.insn.Width.{Width}
+use Rattle.fc_isa.specs.declared.insn.Width.TheVariants.{W64}
+use Rattle.fc_isa.specs.declared.insn.Operand.{Operand}
+use Rattle.fc_isa.specs.declared.insn.Operand.TheVariants.{Imm, Reg}
+use Rattle.fc_isa.specs.declared.insn.Relation.{Relation}
+use Rattle.fc_isa.specs.declared.insn.Jump.{Jump}
+use Rattle.fc_kinds.specs.declared.interval.Interval.{Interval}
+use Rattle.fc_kinds.specs.Intervals.{interval, refined, opposite}
+use Rattle.fc_kinds.specs.declared.kind.Kind.{Kind}
+use Rattle.fc_kinds.specs.declared.kind.Kind.TheVariants.{Num}
+use Rattle.fc_kinds.specs.Machine.{with_some}
+use Rattle.fc_kinds.specs.Kinds.{kind_at}
+use Rattle.fc_kinds.specs.Transfer.{num, operand_kind}
+
+-- what is known of an operand that is a register
+abbrev pub put_right : Operand → List Kind → Interval → List Kind
+put_right (Imm k) kinds s = kinds
+put_right (Reg r) kinds s = slice_set kinds r (num s)
+
+-- what is known of both operands, an immediate being in no register
+abbrev pub put_both : Jump → List Kind → Interval × Interval → List Kind
+put_both j kinds pair = put_right j.right (slice_set kinds j.left (num pair.0)) pair.1
+
+-- a register is compared with itself
+abbrev pub is_same : Operand → ℕ → Bool
+is_same (Imm k) r = false
+is_same (Reg q) r = q == r
+
+-- the way that isn't taken has the opposite relation
+abbrev pub relation_of : Bool → Jump → Relation
+relation_of true j = j.relation
+relation_of false j = opposite j.relation
+
+-- relations of all 64 bits are refined, between two registers or a register and an immediate
+abbrev pub refines_at : Width → Bool → Bool
+refines_at W64 false = true
+refines_at width same = false
+
+abbrev pub refines : Jump → Bool
+refines j = refines_at j.width (is_same j.right j.left)
+
+abbrev pub both_numbers : Kind → Kind → (Interval → Interval → Option (List Kind)) → List Kind → Option (List Kind)
+both_numbers (Num lo hi) (Num lo' hi') f kinds = f (interval lo hi) (interval lo' hi')
+both_numbers a b f kinds = Some kinds
+
+-- the kinds on a way; nothing where no numbers of these kinds take it
+unfoldable pub when : Jump → Bool → List Kind → Option (List Kind)
+when j taken kinds =
+    if refines j
+    then both_numbers (kind_at kinds j.left) (operand_kind W64 j.right kinds) (λ a b. with_some (refined (relation_of taken j) a b) (λ pair. Some (put_both j kinds pair))) kinds
+    else Some kinds

@@ -1,0 +1,57 @@
+//! Joins of kinds.
+ghost use Rattle.std.specs.Prelude.{◌≡◌};
+ghost use Rattle.fc_kinds.specs.Lattice.{join_kind, joined};
+
+use crate::kind::{Kind, Regs};
+
+/// The least that contains both.
+fn join_kind(a: Kind, b: Kind) -> Kind
+    ensures { result ≡ join_kind a b }
+{
+    match (a, b) {
+        (
+            Kind::Num { lo, hi },
+            Kind::Num {
+                lo: least,
+                hi: most,
+            },
+        ) => Kind::Num {
+            lo: lo.min(least),
+            hi: hi.max(most),
+        },
+        (
+            Kind::Stack { level, lo, hi },
+            Kind::Stack {
+                level: other,
+                lo: low,
+                hi: high,
+            },
+        ) if level == other => {
+            Kind::Stack {
+                level,
+                lo: lo.min(low),
+                hi: hi.max(high),
+            }
+        }
+        (Kind::Req { lo, hi }, Kind::Req { lo: low, hi: high }) => Kind::Req {
+            lo: lo.min(low),
+            hi: hi.max(high),
+        },
+        (Kind::Vars { lo, hi }, Kind::Vars { lo: low, hi: high }) => Kind::Vars {
+            lo: lo.min(low),
+            hi: hi.max(high),
+        },
+        _ => Kind::Unset,
+    }
+}
+
+/// Joins two states, register by register: the least kinds that contain both.
+pub fn join(a: &Regs, b: &Regs) -> Regs
+    ensures { result ≡ joined a.now b.now }
+{
+    let mut regs = *a;
+    for r in 0..11 {
+        regs[r] = join_kind(a[r], b[r]);
+    }
+    regs
+}

@@ -1,0 +1,120 @@
+//! Loads and stores.
+ghost use Rattle.std.specs.Prelude.{IfErr, IfOk, None, Some, ◌≡◌, ◌≤◌};
+ghost use Rattle.fc_isa.specs.Rules.{number_of};
+ghost use Rattle.fc_kinds.specs.Kinds.{kind_at};
+ghost use Rattle.fc_kinds.specs.Lattice.{AreKinds, IsKind};
+ghost use Rattle.fc_kinds.specs.Transfer.{loaded_interval, may_write, size_of, transfer, where_met};
+
+use crate::interval::{Interval, all};
+use crate::kind::{Kind, Regs};
+use crate::operands::{is_number, num, put};
+use crate::pointers::{access_fault, bytes_loaded, may_read, may_write, size_of};
+use fc_isa::{Insn, LoadType, Reg, Rule, Size, Target, Width};
+
+/// A load from a base register's address and an offset.
+///
+/// # Errors
+/// The base is no pointer, or the bytes don't lie in its region.
+#[tactic(auto, unfolding(crate::specs::Transfer::transfer))]
+pub(crate) fn load(
+    loaded: LoadType,
+    dst: Target,
+    base: Reg,
+    offset: i16,
+    regs: &Regs,
+    vars_size: u16,
+) -> Result<Regs, Rule>
+    requires { AreKinds regs.now }
+    ensures after { IfOk result (λ ks. transfer vars_size (Insn.Load loaded dst base offset) regs.now ≡ Some ks) }
+    ensures refused { IfErr result (λ rule. transfer vars_size (Insn.Load loaded dst base offset) regs.now ≡ None) }
+    ensures rule { IfErr result (λ rule. (20 ≤ number_of rule) × (number_of rule ≤ 27)) }
+{
+    let kind = regs[base.index()];
+    let bytes = bytes_loaded(loaded);
+    if may_read(vars_size, bytes, offset, kind) {
+        Ok(put(regs, dst, num(loaded_interval(loaded))))
+    } else {
+        Err(access_fault(vars_size, bytes, offset, kind))
+    }
+}
+
+/// The numbers that a load may give.
+fn loaded_interval(loaded: LoadType) -> Interval
+    ensures { result ≡ loaded_interval loaded }
+{
+    match loaded {
+        LoadType::Unsigned(Size::Byte) => Interval { lo: 0, hi: 0xff },
+        LoadType::Unsigned(Size::HalfWord) => Interval { lo: 0, hi: 0xffff },
+        LoadType::Unsigned(Size::Word) => Interval {
+            lo: 0,
+            hi: 0xffff_ffff,
+        },
+        _ => all(Width::W64),
+    }
+}
+
+/// A store of an immediate at a base register's address and an offset.
+///
+/// # Errors
+/// The base is no pointer, the bytes don't lie in its region, or that is the request.
+#[tactic(auto, unfolding(crate::specs::Transfer::transfer))]
+pub(crate) fn store_imm(
+    size: Size,
+    base: Reg,
+    offset: i16,
+    regs: &Regs,
+    vars_size: u16,
+) -> Result<Regs, Rule>
+    requires { AreKinds regs.now }
+    ensures after { IfOk result (λ ks. where_met (may_write vars_size (size_of size) offset (kind_at regs.now base)) regs.now ≡ Some ks) }
+    ensures refused { IfErr result (λ rule. where_met (may_write vars_size (size_of size) offset (kind_at regs.now base)) regs.now ≡ None) }
+    ensures rule { IfErr result (λ rule. (20 ≤ number_of rule) × (number_of rule ≤ 27)) }
+{
+    let kind = regs[base.index()];
+    let bytes = size_of(size);
+    if may_write(vars_size, bytes, offset, kind) {
+        Ok(*regs)
+    } else {
+        Err(access_fault(vars_size, bytes, offset, kind))
+    }
+}
+
+/// A store of a register at a base register's address and an offset.
+///
+/// # Errors
+/// As of an immediate's, or the register is no number.
+#[tactic(auto, unfolding(crate::specs::Transfer::transfer))]
+pub(crate) fn store(
+    size: Size,
+    base: Reg,
+    offset: i16,
+    src: Reg,
+    regs: &Regs,
+    vars_size: u16,
+) -> Result<Regs, Rule>
+    requires { AreKinds regs.now }
+    ensures after { IfOk result (λ ks. transfer vars_size (Insn.Store size base offset src) regs.now ≡ Some ks) }
+    ensures refused { IfErr result (λ rule. transfer vars_size (Insn.Store size base offset src) regs.now ≡ None) }
+    ensures rule { IfErr result (λ rule. (20 ≤ number_of rule) × (number_of rule ≤ 27)) }
+{
+    let (to, kind) = (regs[base.index()], regs[src.index()]);
+    let bytes = size_of(size);
+    if !may_write(vars_size, bytes, offset, to) {
+        Err(store_fault(access_fault(vars_size, bytes, offset, to), kind))
+    } else if is_number(kind) {
+        Ok(*regs)
+    } else {
+        Err(store_fault(Rule::PointerStore, kind))
+    }
+}
+
+/// An unset register comes before what else is wrong with a store.
+fn store_fault(other: Rule, stored: Kind) -> Rule
+    requires { (20 ≤ number_of other) × (number_of other ≤ 27) }
+    ensures { (20 ≤ number_of result) × (number_of result ≤ 27) }
+{
+    match stored {
+        Kind::Unset => Rule::UnsetRegister,
+        _ => other,
+    }
+}

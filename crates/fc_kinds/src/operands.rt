@@ -1,0 +1,84 @@
+//! What an instruction reads.
+ghost use Rattle.std.specs.Prelude.{IfErr, IfOk, None, Some, false, pos, slice_set, true, ◌&&◌, ◌≡◌, ◌≤◌};
+ghost use Rattle.fc_isa.specs.Rules.{number_of};
+ghost use Rattle.fc_kinds.specs.Lattice.{AreKinds, IsKind};
+ghost use Rattle.fc_kinds.specs.Transfer.{immediate, is_number, num, operand_kind};
+
+use crate::interval::Interval;
+use crate::kind::{Kind, Regs};
+use fc_isa::{Operand, Rule, Target, Width};
+
+/// The interval of a number.
+///
+/// # Errors
+/// The register is unset, or a pointer.
+pub(crate) fn number(kind: Kind) -> Result<Interval, Rule>
+    ensures number { IfOk result (λ s. kind ≡ num s) }
+    ensures refused { IfErr result (λ rule. is_number kind ≡ false) }
+    ensures rule { IfErr result (λ rule. (20 ≤ number_of rule) × (number_of rule ≤ 27)) }
+{
+    match kind {
+        Kind::Num { lo, hi } => Ok(Interval { lo, hi }),
+        Kind::Unset => Err(Rule::UnsetRegister),
+        _ => Err(Rule::OperandKind),
+    }
+}
+
+/// Whether a kind is a number's.
+pub(crate) fn is_number(kind: Kind) -> bool
+    ensures { result ≡ is_number kind }
+{
+    matches!(kind, Kind::Num { .. })
+}
+
+/// The kind of the numbers of an interval.
+pub(crate) fn num(s: Interval) -> Kind
+    ensures { result ≡ num s }
+{
+    Kind::Num { lo: s.lo, hi: s.hi }
+}
+
+/// Why two kinds aren't both numbers: an unset register comes first.
+pub(crate) fn operand_fault(a: Kind, b: Kind) -> Rule
+    ensures { (20 ≤ number_of result) × (number_of result ≤ 27) }
+{
+    match (a, b) {
+        (Kind::Unset, _) => Rule::UnsetRegister,
+        (_, Kind::Unset) => Rule::UnsetRegister,
+        _ => Rule::OperandKind,
+    }
+}
+
+/// The kind of the second operand: an immediate is one value.
+pub(crate) fn operand_kind(width: Width, operand: Operand, regs: &Regs) -> Kind
+    requires { AreKinds regs.now }
+    ensures kind { result ≡ operand_kind width operand regs.now }
+    ensures is { IsKind result }
+{
+    match operand {
+        Operand::Imm(imm) => {
+            let n = immediate(width, imm);
+            Kind::Num { lo: n, hi: n }
+        }
+        Operand::Reg(reg) => regs[reg.index()],
+    }
+}
+
+/// An immediate as a number: its 32 bits, or its sign extended to 64.
+fn immediate(width: Width, imm: i32) -> u64
+    ensures { result ≡ immediate width imm }
+{
+    match width {
+        Width::W32 => imm.cast_unsigned() as u64,
+        Width::W64 => (imm as i64).cast_unsigned(),
+    }
+}
+
+/// The registers with a kind in one of them.
+pub(crate) fn put(regs: &Regs, dst: Target, kind: Kind) -> Regs
+    ensures { result ≡ slice_set regs.now dst kind }
+{
+    let mut next = *regs;
+    next[dst.index()] = kind;
+    next
+}

@@ -1,0 +1,149 @@
+//! Pointers: how they move, and what may be accessed through them.
+ghost use Rattle.std.specs.Prelude.{IfErr, IfOk, None, Some, ℤ, int_le, negsuc, pos, ◌&&◌, ◌+ℤ◌, ◌-ℤ◌, ◌≡◌, ◌≤ℤ◌, ◌≤◌};
+ghost use Rattle.fc_isa.specs.Rules.{number_of};
+ghost use Rattle.fc_kinds.specs.Lattice.{IsKind};
+ghost use Rattle.fc_kinds.specs.Transfer.{bytes_loaded, distance, inside, may_read, may_write, size_of};
+
+use crate::kind::Kind;
+use fc_isa::{LoadType, Operand, Rule, Size};
+
+/// The bytes of a stack frame.
+const FRAME: u16 = 256;
+
+/// The bytes of the request's region.
+const REQUEST: u16 = 1104;
+
+/// How far an operand moves a pointer, at least and at most.
+///
+/// # Errors
+/// The operand isn't a number, or one that may be above 65,536.
+pub(crate) fn distance(operand: Operand, b: Kind) -> Result<(i64, i64), Rule>
+    requires { IsKind b }
+    ensures far { IfOk result (λ d. distance operand b ≡ Some d) }
+    ensures bound { IfOk result (λ d. (negsuc 2147483647 ≤ℤ d.0) × (d.0 ≤ℤ pos 2147483647) × (negsuc 2147483647 ≤ℤ d.1) × (d.1 ≤ℤ pos 2147483647)) }
+    ensures refused { IfErr result (λ rule. distance operand b ≡ None) }
+    ensures rule { IfErr result (λ rule. (20 ≤ number_of rule) × (number_of rule ≤ 27)) }
+{
+    match operand {
+        Operand::Imm(imm) => Ok((imm as i64, imm as i64)),
+        Operand::Reg(_) => match b {
+            Kind::Num { lo, hi } if hi <= 65_536 => Ok((lo as i64, hi as i64)),
+            Kind::Num { .. } => Err(Rule::PointerStep),
+            Kind::Unset => Err(Rule::UnsetRegister),
+            _ => Err(Rule::OperandKind),
+        },
+    }
+}
+
+/// Whether a pointer's ends stay within 65,536 of its region's begin.
+pub(crate) fn is_near(lo: i64, hi: i64) -> bool
+    ensures { result ≡ (int_le (negsuc 65535) lo && int_le hi (pos 65536)) }
+{
+    -65_536 <= lo && hi <= 65_536
+}
+
+/// The sum of an offset and a distance.
+pub(crate) fn plus(a: i64, b: i64) -> i64
+    requires left { (negsuc 1099511627775 ≤ℤ a) × (a ≤ℤ pos 1099511627776) }
+    requires right { (negsuc 2147483647 ≤ℤ b) × (b ≤ℤ pos 2147483647) }
+    ensures { result ≡ a +ℤ b }
+{
+    a + b
+}
+
+/// The difference of an offset and a distance.
+pub(crate) fn minus(a: i64, b: i64) -> i64
+    requires left { (negsuc 1099511627775 ≤ℤ a) × (a ≤ℤ pos 1099511627776) }
+    requires right { (negsuc 2147483647 ≤ℤ b) × (b ≤ℤ pos 2147483647) }
+    ensures { result ≡ a -ℤ b }
+{
+    a - b
+}
+
+/// The bytes that a store writes.
+pub(crate) fn size_of(size: Size) -> u16
+    ensures is { result ≡ size_of size }
+    ensures few { result ≤ 8 }
+{
+    match size {
+        Size::Byte => 1,
+        Size::HalfWord => 2,
+        Size::Word => 4,
+        Size::DoubleWord => 8,
+    }
+}
+
+/// The bytes that a load reads.
+pub(crate) fn bytes_loaded(loaded: LoadType) -> u16
+    ensures is { result ≡ bytes_loaded loaded }
+    ensures few { result ≤ 8 }
+{
+    match loaded {
+        LoadType::Unsigned(size) => size_of(size),
+        LoadType::SignedByte => 1,
+        LoadType::SignedHalfWord => 2,
+        LoadType::SignedWord => 4,
+    }
+}
+
+fn whole(n: u16) -> i64
+    ensures { result ≡ pos n }
+{
+    n as i64
+}
+
+fn widened(offset: i16) -> i64
+    ensures { result ≡ offset }
+{
+    offset as i64
+}
+
+/// Whether so many bytes at an offset from a pointer between two ends lie in a region.
+fn inside(region: u16, bytes: u16, offset: i16, lo: i64, hi: i64) -> bool
+    requires lo { (negsuc 65535 ≤ℤ lo) × (lo ≤ℤ pos 65536) }
+    requires hi { (negsuc 65535 ≤ℤ hi) × (hi ≤ℤ pos 65536) }
+    ensures { result ≡ inside region bytes offset lo hi }
+{
+    let by = widened(offset);
+    let first = plus(lo, by);
+    let end = plus(plus(hi, by), whole(bytes));
+    first >= 0 && end <= whole(region)
+}
+
+/// Whether so many bytes may be read through a pointer.
+pub(crate) fn may_read(vars_size: u16, bytes: u16, offset: i16, kind: Kind) -> bool
+    requires { IsKind kind }
+    ensures { result ≡ may_read vars_size bytes offset kind }
+{
+    match kind {
+        Kind::Stack { lo, hi, .. } => inside(FRAME, bytes, offset, lo, hi),
+        Kind::Req { lo, hi } => inside(REQUEST, bytes, offset, lo, hi),
+        Kind::Vars { lo, hi } => inside(vars_size, bytes, offset, lo, hi),
+        Kind::Unset | Kind::Num { .. } => false,
+    }
+}
+
+/// Whether so many bytes may be written through a pointer.
+pub(crate) fn may_write(vars_size: u16, bytes: u16, offset: i16, kind: Kind) -> bool
+    requires { IsKind kind }
+    ensures { result ≡ may_write vars_size bytes offset kind }
+{
+    match kind {
+        Kind::Stack { lo, hi, .. } => inside(FRAME, bytes, offset, lo, hi),
+        Kind::Vars { lo, hi } => inside(vars_size, bytes, offset, lo, hi),
+        Kind::Unset | Kind::Num { .. } | Kind::Req { .. } => false,
+    }
+}
+
+/// Why an access through this kind is refused: what it isn't a pointer for, its place, or that it would write the request.
+pub(crate) fn access_fault(vars_size: u16, bytes: u16, offset: i16, kind: Kind) -> Rule
+    requires { IsKind kind }
+    ensures { (20 ≤ number_of result) × (number_of result ≤ 27) }
+{
+    match kind {
+        Kind::Unset => Rule::UnsetRegister,
+        Kind::Num { .. } => Rule::OperandKind,
+        _ if may_read(vars_size, bytes, offset, kind) => Rule::RequestStore,
+        _ => Rule::Access,
+    }
+}
