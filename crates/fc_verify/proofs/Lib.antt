@@ -4,3 +4,6 @@ pub mod Exact
 pub mod Judging
 pub mod Right
 pub mod Low
+pub mod PassLaws
+mod Rows
+pub mod RunLaws

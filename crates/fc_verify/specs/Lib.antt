@@ -4,3 +4,5 @@ pub mod Refusals
 pub mod Verified
 pub mod Forward
 pub mod Stages
+pub mod Pass
+pub mod Runs

@@ -3,6 +3,7 @@
 #![tactic(auto)]
 
 pub mod laws;
+pub mod pass;
 pub mod refusal;
 mod typing;
 pub mod verified;

@@ -1,0 +1,59 @@
+-- Programs of which a typing exists or none does, by computation.
+use Rattle.std.proofs.Common.{◌≡◌, ℤ, pos, negsuc, Bool, true, false, List, [], ◌∷◌, refl}
+use Rattle.fc_isa.specs.declared.insn.Width.TheVariants.{W32, W64}
+use Rattle.fc_isa.specs.declared.insn.AluOp.TheVariants.{Add, Mov}
+use Rattle.fc_isa.specs.declared.insn.Relation.TheVariants.{Eq, Gt}
+use Rattle.fc_isa.specs.declared.insn.Operand.TheVariants.{Imm, Reg}
+use Rattle.fc_isa.specs.declared.insn.Size.TheVariants.{Byte, DoubleWord}
+use Rattle.fc_isa.specs.declared.insn.LoadType.TheVariants.{Unsigned}
+use Rattle.fc_isa.specs.declared.insn.Insn.{Insn}
+use Rattle.fc_isa.specs.declared.insn.Insn.TheVariants.{Alu, LoadWide, WideSecond, Load, StoreImm, Store, JumpIf, Exit}
+use Rattle.fc_isa.specs.declared.insn.Width.{Width}
+use Rattle.fc_kinds.specs.Intervals.{interval_of, alu_interval, refined}
+use Rattle.fc_kinds.specs.Transfer.{transfer, alu_kind}
+use Rattle.fc_kinds.specs.Refinement.{when}
+use Rattle.fc_kinds.specs.Ways.{ways}
+use Rattle.fc_verify.specs.Pass.{is_typable, beginning}
+use Rattle.fc_image.specs.Paths.{costs, longest}
+
+abbrev zero_and_exit : List Insn
+zero_and_exit = Alu Mov W64 0 (Imm (pos 0)) ∷ Exit ∷ []
+
+abbrev never : Width → List Insn
+never width = LoadWide 5 18446744073709551615 ∷ WideSecond ∷ JumpIf (record { width = width; relation = Gt; left = 3; right = Reg 5; offset = pos 1 }) ∷ Alu Mov W64 0 (Imm (pos 0)) ∷ Exit ∷ []
+
+first_row : (is_typable 0 (never W64) (beginning (never W64)) ≡ true) × (is_typable 0 (never W32) (beginning (never W32)) ≡ false) × (longest (never W64) ≡ 4)
+unfolding transfer when alu_kind interval_of alu_interval refined ways costs longest
+first_row = (refl, refl, refl)
+
+abbrev byte : ℤ → List Insn
+byte offset = StoreImm Byte 10 offset (pos 0) ∷ Alu Mov W64 0 (Imm (pos 0)) ∷ Exit ∷ []
+
+second_row : (is_typable 0 (byte (negsuc 255)) (beginning (byte (negsuc 255))) ≡ true) × (is_typable 0 (byte (negsuc 256)) (beginning (byte (negsuc 256))) ≡ false) × (is_typable 0 (byte (pos 0)) (beginning (byte (pos 0))) ≡ false)
+unfolding transfer when alu_kind interval_of alu_interval refined ways costs longest
+second_row = (refl, refl, refl)
+
+abbrev start : Insn → List Insn
+start insn = insn ∷ Alu Mov W64 0 (Imm (pos 0)) ∷ Exit ∷ []
+
+abbrev is_accepted : Insn → Bool
+is_accepted insn = is_typable 0 (start insn) (beginning (start insn))
+
+third_row : (is_accepted (StoreImm Byte 1 (pos 0) (pos 0)) ≡ false) × (is_accepted (Store DoubleWord 10 (negsuc 7) 1) ≡ false) × (is_accepted (Alu Add W64 1 (Imm (pos 65536))) ≡ true) × (is_accepted (Alu Add W64 1 (Imm (pos 65537))) ≡ false) × (is_accepted (Alu Mov W32 4 (Reg 1)) ≡ false)
+unfolding transfer when alu_kind interval_of alu_interval refined ways costs longest
+third_row = (refl, refl, refl, refl, refl)
+
+abbrev joins : Insn → List Insn
+joins last = Alu Mov W64 6 (Reg 1) ∷ JumpIf (record { width = W64; relation = Eq; left = 3; right = Imm (pos 0); offset = pos 1 }) ∷ Alu Mov W64 6 (Imm (pos 0)) ∷ last ∷ Exit ∷ []
+
+-- R6 joins to unset
+thirteenth : (is_typable 0 (joins (Alu Mov W64 0 (Imm (pos 0)))) (beginning (joins (Alu Mov W64 0 (Imm (pos 0))))) ≡ true) × (is_typable 0 (joins (Alu Mov W64 0 (Reg 6))) (beginning (joins (Alu Mov W64 0 (Reg 6)))) ≡ false) × (longest (joins (Alu Mov W64 0 (Imm (pos 0)))) ≡ 5)
+unfolding transfer when alu_kind interval_of alu_interval refined ways costs longest
+thirteenth = (refl, refl, refl)
+
+abbrev payload : ℤ → List Insn
+payload offset = Alu Mov W64 4 (Reg 1) ∷ Alu Add W64 4 (Reg 3) ∷ Load (Unsigned Byte) 0 4 offset ∷ Exit ∷ []
+
+fifth : (is_typable 0 (payload (pos 80)) (beginning (payload (pos 80))) ≡ false) × (is_typable 0 (payload (pos 79)) (beginning (payload (pos 79))) ≡ true)
+unfolding transfer when alu_kind interval_of alu_interval refined ways costs longest
+fifth = (refl, refl)

@@ -1,0 +1,55 @@
+use Rattle.std.proofs.Common.{◌≡◌, ◌+◌, Some, length, sym, ap, ◌∙◌, subst, drop, take, ◌++◌}
+use Rattle.std.specs.Prelude.{slice_get}
+use Rattle.std.proofs.lemmas.Option.{slice_get-get_or}
+use Rattle.fc_verify.specs.Pass.{Stays, passed}
+use Rattle.fc_verify.proofs.PassLaws.{KindRules, Passing, passing_start, stands_at, kinds_at, passing_some, passing_none}
+use Rattle.fc_verify.proofs.pass.pass_slots.Goals as goal
+use Rattle.fc_verify.proofs.pass.pass_slots.Goals.{in-Some+in_ok-pass, in_default}
+
+pub loop-slot-init : goal.loop-slot-init
+loop-slot-init c = record { passing = subst (Passing c.args.vars_size c.args.code.now 0) (sym c.requires.beginning) (passing_start c.args.vars_size c.args.code.now c.requires.stay c.requires.insns) }
+
+pub pass-requires-clause-kinds : goal.pass-requires-clause-kinds
+pass-requires-clause-kinds c =
+    let l = c.loop-slot in
+    let at : slice_get c.args.code.now l.slot ≡ Some c.index-code-slot.result = slice_get-get_or c.args.code.now l.slot c.index-code-slot.result c.loop-slot-test.true ∙ ap Some (sym c.index-code-slot.is) in
+    let s = stands_at c.args.vars_size c.args.code.now l.slot l.states c.index-code-slot.result l.invariant.passing at in
+    kinds_at c.args.vars_size c.args.code.now l.slot l.states c.in-Some.regs l.invariant.passing s.here c.in-Some.is
+
+pub pass-requires-clause-stays : goal.pass-requires-clause-stays
+pass-requires-clause-stays c =
+    let l = c.loop-slot in
+    let at : slice_get c.args.code.now l.slot ≡ Some c.index-code-slot.result = slice_get-get_or c.args.code.now l.slot c.index-code-slot.result c.loop-slot-test.true ∙ ap Some (sym c.index-code-slot.is) in
+    let s = stands_at c.args.vars_size c.args.code.now l.slot l.states c.index-code-slot.result l.invariant.passing at in
+    subst (λ x. Stays (length x) c.index-code-slot.result) (sym c.split_at_mut-pending.ensures.back) s.stays
+
+pub loop-slot-preserved : goal.loop-slot-preserved
+loop-slot-preserved c =
+    let laws : KindRules = record {
+      same = c.containment_is_an_order.ensures.same;
+      then = c.containment_is_an_order.ensures.then;
+      left = c.joins_are_least.ensures.left;
+      right = c.joins_are_least.ensures.right;
+      least = c.joins_are_least.ensures.least;
+      kinds = c.joins_are_least.ensures.kinds;
+      monotone = c.ways_are_monotone.ensures;
+    } in
+    let l = c.loop-slot in
+    let at : slice_get c.args.code.now l.slot ≡ Some c.index-code-slot.result = slice_get-get_or c.args.code.now l.slot c.index-code-slot.result c.loop-slot-test.true ∙ ap Some (sym c.index-code-slot.is) in
+    elim c.match-states-slot.branch [
+      | in-Some+in_ok-pass w ↦
+          let vars = c.args.vars_size in
+          let passed_is : passed vars c.index-code-slot.result (Some w.in-Some.regs) (drop (l.slot + 1) l.states) ≡ Some w.pass.new.pending =
+          subst (λ x. passed vars c.index-code-slot.result (Some w.in-Some.regs) x ≡ Some w.pass.new.pending) w.split_at_mut-pending.ensures.back w.in_ok-pass.ensures.passed in
+          let next = passing_some laws vars c.args.code.now l.slot l.states c.index-code-slot.result w.in-Some.regs w.pass.new.pending l.invariant.passing at w.in-Some.is passed_is in
+          let is : c.match-states-slot.states ≡ take (l.slot + 1) l.states ++ w.pass.new.pending = w.states-is ∙ ap (λ x. x ++ w.pass.new.pending) w.split_at_mut-pending.ensures.front in
+          record { passing = subst (Passing vars c.args.code.now (l.slot + 1)) (sym is) next }
+      | in_default w ↦
+          record { passing = subst (Passing c.args.vars_size c.args.code.now (l.slot + 1)) (sym w.states-is) (passing_none c.args.vars_size c.args.code.now l.slot l.states c.index-code-slot.result l.invariant.passing at w.in_default.is) }
+    ]
+
+pub pass-requires-clause-insn : goal.pass-requires-clause-insn
+pass-requires-clause-insn c =
+    let l = c.loop-slot in
+    let at : slice_get c.args.code.now l.slot ≡ Some c.index-code-slot.result = slice_get-get_or c.args.code.now l.slot c.index-code-slot.result c.loop-slot-test.true ∙ ap Some (sym c.index-code-slot.is) in
+    (stands_at c.args.vars_size c.args.code.now l.slot l.states c.index-code-slot.result l.invariant.passing at).is_insn

@@ -1,0 +1,220 @@
+//! The pass over the slots of a program that finds each one's kinds, by joins.
+ghost use Rattle.std.specs.Prelude.{IfErr, IfOk, List, None, Some, [], false, length, pos, slice_set, true, ℕ, ◌+◌, ◌<◌, ◌≡◌, ◌≤ℤ◌, ◌≤◌};
+ghost use Rattle.std.specs.List.{AllByRecursion};
+ghost use Rattle.std.specs.Vec.{vec_capacity};
+ghost use Rattle.fc_isa.specs.Program.{IsInsn};
+ghost use Rattle.fc_isa.specs.declared.insn.Insn.{Insn as Instruction};
+ghost use Rattle.fc_help.specs.Request.{Request as Asked};
+ghost use Rattle.fc_image.specs.Paths.{longest};
+ghost use Rattle.fc_kinds.specs.Execution.{start};
+ghost use Rattle.fc_kinds.specs.Lattice.{AreKinds};
+ghost use Rattle.fc_kinds.specs.Transfer.{transfer};
+ghost use Rattle.fc_kinds.specs.Typing.{States, entry, state_at};
+ghost use Rattle.fc_kinds.specs.Ways.{skipped, ways_after};
+ghost use Rattle.fc_kinds.specs.WellTyped.{IsTypingOf};
+ghost use Rattle.fc_verify.specs.Runs.{IsHanded, IsTypedProgram, IsUntypedProgram, RunsToExit};
+ghost use Rattle.fc_verify.specs.Pass.{Stays, StayIn, beginning, forward, is_typable, joined_in, led, passed};
+
+use fc_image::laws::{longest_path_is_longest, shaped_programs_go_forward};
+use fc_isa::{Fault, Insn, Jump};
+use fc_kinds::laws::{
+    containment_is_an_order, effects_contain_the_step, effects_keep_kinds, joins_are_least,
+    ways_are_monotone,
+};
+use fc_kinds::transfer::after;
+use fc_kinds::{ENTRY, Regs, join, when};
+
+/// Finds a typing of a program that keeps its shape and has no local call, whose variables have this many bytes; `room` has
+/// place for a state a slot.
+///
+/// # Errors
+/// The first slot in order whose demands aren't met, with the least rule, 20 to 26, that it breaks: the program has no typing.
+pub fn typed(
+    vars_size: u16,
+    code: &[Insn],
+    room: Vec<Option<Regs>>,
+) -> Result<Vec<Option<Regs>>, Fault>
+    requires program { IsUntypedProgram code.now }
+    requires empty { room.items ≡ [] }
+    requires room { length code.now ≤ vec_capacity room }
+    ensures typing { IfOk result (λ v. IsTypedProgram vars_size code.now v.items) }
+    ensures untyped { IfErr result (λ fault. (t : States) → IsTypingOf vars_size code.now t → ⊥) }
+{
+    shaped_programs_go_forward();
+    typed_within(vars_size, code, room)
+}
+
+/// Finds a typing of a program whose instructions lead to its later slots.
+///
+/// # Errors
+/// The first slot in order whose demands aren't met: the program has no typing.
+fn typed_within(
+    vars_size: u16,
+    code: &[Insn],
+    room: Vec<Option<Regs>>,
+) -> Result<Vec<Option<Regs>>, Fault>
+    requires some { 1 ≤ length code.now }
+    requires stay { StayIn code.now }
+    requires insns { AllByRecursion IsInsn code.now }
+    requires empty { room.items ≡ [] }
+    requires room { length code.now ≤ vec_capacity room }
+    ensures typing { IfOk result (λ v. IsTypingOf vars_size code.now v.items) }
+    ensures untyped { IfErr result (λ fault. (t : States) → IsTypingOf vars_size code.now t → ⊥) }
+{
+    containment_is_an_order();
+    joins_are_least();
+    ways_are_monotone();
+    let mut states = first_states(code, room);
+    pass_slots(vars_size, code, &mut states)?;
+    Ok(states)
+}
+
+/// At first the entry alone has a state.
+fn first_states(code: &[Insn], room: Vec<Option<Regs>>) -> Vec<Option<Regs>>
+    requires empty { room.items ≡ [] }
+    requires room { length code.now ≤ vec_capacity room }
+    ensures { result.items ≡ beginning code.now }
+{
+    let mut states = room;
+    for slot in 0..code.len() {
+        states.push_reserved(first_state(slot));
+    }
+    states
+}
+
+/// The first state of a slot: the entry's at slot 0, else none.
+fn first_state(slot: usize) -> Option<Regs>
+    ensures first { slot ≡ 0 → result ≡ Some entry }
+    ensures later { 1 ≤ slot → result ≡ None }
+{
+    if slot == 0 { Some(ENTRY) } else { None }
+}
+
+/// Passes all slots in order.
+///
+/// # Errors
+/// The first slot whose demands aren't met.
+fn pass_slots(vars_size: u16, code: &[Insn], states: &mut [Option<Regs>]) -> Result<(), Fault>
+    requires beginning { states.old ≡ beginning code.now }
+    requires stay { StayIn code.now }
+    requires insns { AllByRecursion IsInsn code.now }
+    ensures typable { IfOk result (λ u. is_typable vars_size code.now (beginning code.now) ≡ true) }
+    ensures states { IfOk result (λ u. states.new ≡ forward vars_size code.now (beginning code.now)) }
+    ensures untypable { IfErr result (λ fault. is_typable vars_size code.now (beginning code.now) ≡ false) }
+{
+    containment_is_an_order();
+    joins_are_least();
+    ways_are_monotone();
+    for (slot, insn) in code.iter().enumerate() {
+        if let Some(regs) = states[slot] {
+            let (_, pending) = states.split_at_mut(slot + 1);
+            pass(vars_size, slot, insn, &regs, pending)?;
+        }
+    }
+    Ok(())
+}
+
+/// Passes a slot that has a state: its demands are met, and what its ways hand on is joined to the states of later slots.
+///
+/// # Errors
+/// A demand that isn't met.
+#[tactic(auto, unfolding(fc_kinds::specs::Ways::ways))]
+fn pass(
+    vars_size: u16,
+    slot: usize,
+    insn: &Insn,
+    regs: &Regs,
+    pending: &mut [Option<Regs>],
+) -> Result<(), Fault>
+    requires kinds { AreKinds regs.now }
+    requires stays { Stays (length pending.old) insn.now }
+    requires insn { IsInsn insn.now }
+    ensures passed { IfOk result (λ u. passed vars_size insn.now (Some regs.now) pending.old ≡ Some pending.new) }
+    ensures refused { IfErr result (λ fault. passed vars_size insn.now (Some regs.now) pending.old ≡ None) }
+{
+    let next = checked(vars_size, slot, *insn, regs)?;
+    spread(*insn, regs, &next, pending);
+    Ok(())
+}
+
+/// The kinds after a slot.
+///
+/// # Errors
+/// A demand that isn't met.
+fn checked(vars_size: u16, slot: usize, insn: Insn, regs: &Regs) -> Result<Regs, Fault>
+    requires kinds { AreKinds regs.now }
+    requires insn { IsInsn insn }
+    ensures after { IfOk result (λ ks. transfer vars_size insn regs.now ≡ Some ks) }
+    ensures kinds { IfOk result AreKinds }
+    ensures refused { IfErr result (λ fault. transfer vars_size insn regs.now ≡ None) }
+{
+    effects_keep_kinds();
+    match after(insn, regs, vars_size) {
+        Ok(next) => Ok(next),
+        Err(rule) => Err(Fault { rule, slot }),
+    }
+}
+
+/// Joins what an instruction's ways hand on to the states of the slots after it.
+fn spread(insn: Insn, before: &Regs, after: &Regs, pending: &mut [Option<Regs>])
+    requires kinds { AreKinds after.now }
+    requires stays { Stays (length pending.old) insn }
+    ensures { pending.new ≡ led pending.old (ways_after insn before.now after.now) }
+{
+    match insn {
+        Insn::LoadWide { .. } => lead(pending, 1, after),
+        Insn::JumpAlways { offset } => lead(pending, skip(offset as i32), after),
+        Insn::JumpAlwaysLong { offset } => lead(pending, skip(offset), after),
+        Insn::JumpIf(jump) => branch(&jump, before, after, pending),
+        Insn::Exit | Insn::WideSecond => {}
+        Insn::CallLocal { .. } => unreachable!(),
+        Insn::Alu { .. } | Insn::Neg { .. } | Insn::SignExtend { .. } | Insn::End { .. } => {
+            lead(pending, 0, after);
+        }
+        Insn::Load { .. } | Insn::StoreImm { .. } | Insn::Store { .. } => lead(pending, 0, after),
+        Insn::CallHelper { .. } => lead(pending, 0, after),
+    }
+}
+
+/// Joins what a conditional jump's ways hand on: a way that no values take hands nothing.
+fn branch(jump: &Jump, before: &Regs, after: &Regs, pending: &mut [Option<Regs>])
+    requires kinds { AreKinds after.now }
+    requires stays { Stays (length pending.old) (Insn.JumpIf jump.now) }
+    ensures { pending.new ≡ led pending.old (ways_after (Insn.JumpIf jump.now) before.now after.now) }
+{
+    if let Some(taken) = when(jump, true, after) {
+        lead(pending, skip(jump.offset as i32), &taken);
+    }
+    if let Some(past) = when(jump, false, after) {
+        lead(pending, 0, &past);
+    }
+}
+
+/// The slots that a jump skips.
+fn skip(offset: i32) -> usize
+    requires { pos 0 ≤ℤ offset }
+    ensures { result ≡ skipped offset }
+{
+    offset as usize
+}
+
+/// Joins kinds to a slot's state.
+fn lead(states: &mut [Option<Regs>], slot: usize, regs: &Regs)
+    requires { slot < length states.old }
+    ensures { states.new ≡ slice_set states.old slot (joined_in (state_at states.old slot) regs.now) }
+{
+    states[slot] = match &states[slot] {
+        Some(state) => Some(join(state, regs)),
+        None => Some(*regs),
+    };
+}
+
+/// A program that keeps its shape, has a typing and has no local call runs to its exit, in at most the steps of its longest path.
+pub fn typed_programs_end()
+    ensures { (vars : ℕ) (code : List Instruction) (states : States) (request : Asked) (found : List ℕ) → IsTypedProgram vars code states → IsHanded vars request found → RunsToExit code (start request found) (longest code) }
+{
+    containment_is_an_order();
+    effects_contain_the_step();
+    shaped_programs_go_forward();
+    longest_path_is_longest();
+}
