@@ -1,7 +1,7 @@
 -- What each event may emit: exactly this, and nothing else. And what a taking finds has a meaning.
 use Rattle.std.specs.Prelude.{◌≡◌, ℕ, ◌≤◌, Bool, true, false, Option, Some, None}
 use Rattle.coap_msg.specs.declared.types.Emission.{Emission}
-use Rattle.fc_image.specs.Longest.{IsLongest}
+use Rattle.fc_image.specs.Paths.{IsLongest}
 use Rattle.fc_kinds.specs.Meaning.{IsRun}
 use Rattle.fc_registry.specs.declared.job.Job.{Job}
 use Rattle.fc_registry.specs.Slots.{Present, Ticket}
