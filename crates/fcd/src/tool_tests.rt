@@ -183,27 +183,40 @@ fn an_image_with_a_bad_slot_is_not_listed(rt: HostRuntime) -> Result<(), Fail> {
 }
 
 // Budgets and slots, and how the image is judged.
-static JUDGED: [(u8, &[[u8; 8]], u8, &str); 6] = [
+static JUDGED: [(u8, &[[u8; 8]], u8, &str); 9] = [
     (9, &[MOV_69, EXIT], 0, "accepted cost 2 budget 9\n"),
     (1, &[MOV_69, EXIT], 1, "V16 slot 0\n"),
     (1, &[EXIT], 1, "V25 slot 0\n"),
     (1, &[MOV_0], 1, "V13 slot 0\n"),
-    // an opcode that programs can't have today comes before what else is wrong with its slot
+    (1, &[[0x18, 0, 0, 0, 0, 0, 0, 0]], 1, "V10 slot 0\n"),
+    // programs have no calls yet: the opcode comes before what else is wrong with its slot, and after what is wrong before it
     (
         2,
-        &[MOV_0, [0x18, 0x0b, 0, 0, 0, 0, 0, 0], EXIT],
+        &[MOV_0, [0x85, 0x20, 0, 0, 0, 0, 0, 0], EXIT],
         1,
         "V06 slot 1\n",
     ),
+    (2, &[[0x85, 0x20, 0, 0, 0, 0, 0, 0]], 1, "V06 slot 0\n"),
     (
         2,
         &[
             [0xb7, 0x0b, 0, 0, 0, 0, 0, 0],
-            [7, 0, 0, 0, 0, 0, 0, 0],
+            [0x85, 0, 0, 0, 1, 0, 0, 0],
             EXIT,
         ],
         1,
         "V07 slot 0\n",
+    ),
+    // a second half is no call
+    (
+        2,
+        &[
+            [0x18, 0, 0, 0, 0, 0, 0, 0],
+            [0x85, 0, 0, 0, 1, 0, 0, 0],
+            EXIT,
+        ],
+        1,
+        "V10 slot 0\n",
     ),
 ];
 
@@ -214,6 +227,94 @@ fn an_image_is_checked(rt: HostRuntime) -> Result<(), Fail> {
         let done = checked(rt.alloc(), image.as_slice())?;
         assert!(rt; done.out.as_slice() == printed.as_bytes(), "{printed}");
         assert!(rt; done.status == status && done.err.is_empty(), "{printed}");
+    }
+    Ok(())
+}
+
+// Texts, and how the image is judged whose budget is the number.
+static PROGRAMS: [(&[u8], u32, &str); 18] = [
+    // the payload's last byte is the request's 1,103rd, and its length may be 1,024
+    (
+        b"mov64 r4, r1\nadd64 r4, r3\nldxb r0, r4, 80\nexit",
+        4,
+        "V22 slot 2\n",
+    ),
+    (
+        b"jgt r3, 1023, 4\nmov64 r4, r1\nadd64 r4, r3\nldxb r0, r4, 80\nexit\nmov64 r0, 0\nexit",
+        5,
+        "accepted cost 5 budget 5\n",
+    ),
+    // a jump into a wide load, to itself, and out of the program
+    (b"ja 1\nlddw r0, 7\nexit", 4, "V11 slot 0\n"),
+    (b"ja -1\nmov64 r0, 0\nexit", 4, "V12 slot 0\n"),
+    (b"mov64 r0, 0\njeq r0, 0, 1\nexit", 4, "V11 slot 1\n"),
+    // a pointer on one way and a number on the other are neither behind them
+    (
+        b"mov64 r6, r1\njeq r3, 0, 1\nmov64 r6, 0\nmov64 r0, 0\nexit",
+        5,
+        "accepted cost 5 budget 5\n",
+    ),
+    (
+        b"mov64 r6, r1\njeq r3, 0, 1\nmov64 r6, 0\nmov64 r0, r6\nexit",
+        5,
+        "V20 slot 3\n",
+    ),
+    // no number of R3 takes the jump; of low halves nothing is known
+    (
+        b"lddw r5, 18446744073709551615\njgt r3, r5, 1\nmov64 r0, 0\nexit",
+        4,
+        "accepted cost 4 budget 4\n",
+    ),
+    (
+        b"lddw r5, 18446744073709551615\njgt32 r3, r5, 1\nmov64 r0, 0\nexit",
+        4,
+        "V25 slot 4\n",
+    ),
+    // the stack frame's bytes, the request, and a pointer that is stored
+    (
+        b"stb r10, -256, 0\nmov64 r0, 0\nexit",
+        3,
+        "accepted cost 3 budget 3\n",
+    ),
+    (
+        b"stb r10, -257, 0\nmov64 r0, 0\nexit",
+        3,
+        "V22 slot 0\n",
+    ),
+    (b"stb r10, 0, 0\nmov64 r0, 0\nexit", 3, "V22 slot 0\n"),
+    (b"stb r1, 0, 0\nmov64 r0, 0\nexit", 3, "V23 slot 0\n"),
+    (
+        b"stxdw r10, -8, r1\nmov64 r0, 0\nexit",
+        3,
+        "V24 slot 0\n",
+    ),
+    // a pointer's step, and its low half
+    (
+        b"add64 r1, 65536\nmov64 r0, 0\nexit",
+        3,
+        "accepted cost 3 budget 3\n",
+    ),
+    (
+        b"add64 r1, 65537\nmov64 r0, 0\nexit",
+        3,
+        "V26 slot 0\n",
+    ),
+    (b"mov32 r4, r1\nmov64 r0, 0\nexit", 3, "V21 slot 0\n"),
+    // what no path reaches isn't typed
+    (
+        b"mov64 r0, 0\nja 1\nmov64 r0, r9\nexit",
+        3,
+        "accepted cost 3 budget 3\n",
+    ),
+];
+
+#[test]
+fn a_program_is_checked(rt: HostRuntime) -> Result<(), Fail> {
+    for (text, budget, printed) in PROGRAMS.iter().copied() {
+        let image = assembled(rt.alloc(), text, 0, budget)?;
+        assert!(rt; image.status == 0, "{printed}");
+        let done = checked(rt.alloc(), image.out.as_slice())?;
+        assert!(rt; done.out.as_slice() == printed.as_bytes(), "{printed}");
     }
     Ok(())
 }
