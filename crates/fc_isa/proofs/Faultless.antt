@@ -20,7 +20,7 @@ use Rattle.fc_isa.specs.declared.shape.Shape.{Shape}
 use Rattle.fc_isa.specs.declared.shape.Shape.TheVariants.{Unknown as UnknownShape, Alu as AluShape, Neg as NegShape, End as EndShape, LoadWide as LoadWideShape, Load as LoadShape, StoreImm as StoreImmShape, Store as StoreShape, JumpAlways as JumpAlwaysShape, JumpAlwaysLong as JumpAlwaysLongShape, JumpIf as JumpIfShape, Call as CallShape, Exit as ExitShape}
 use Rattle.fc_isa.specs.declared.rule.Rule.{Rule}
 use Rattle.fc_isa.specs.declared.rule.Rule.TheVariants.{Opcode, Register, FramePointer, Field, WideLoad}
-use Rattle.fc_isa.specs.Shapes.{opcode_of, shape_of, is_known, is_wide, uses_dst, writes_dst, uses_src, uses_offset, uses_imm}
+use Rattle.fc_isa.specs.Shapes.{opcode_of, shape_of, is_known, is_wide, uses, writes_dst}
 use Rattle.fc_isa.specs.Program.{IsOperand, IsInsn, is_wide_load, is_wide_second}
 use Rattle.fc_isa.specs.Encoding.{Fields, fields_of, second_half, source_of, src_of, imm_of, sign_offset, swap_bits, swap_width, unused_are_zero, values_allowed, is_move_offset, is_second_half, breaks, slot_fault, insn_with, insn_of, arithmetic, moved, called, operand_of, imm_after}
 use Rattle.fc_isa.proofs.Forms.{IsForm, form_is}
@@ -90,10 +90,10 @@ faultless f next h =
 
 -- what a form doesn't use is zero
 pub record Zeros (s : Shape) (f : Fields) : Type 0 where
-  pub dst : uses_dst s ≡ false → f.dst ≡ 0
-  pub src : uses_src s ≡ false → f.src ≡ 0
-  pub offset : uses_offset s ≡ false → f.offset ≡ 0
-  pub imm : uses_imm s ≡ false → f.imm ≡ 0
+  pub dst : (uses s).dst ≡ false → f.dst ≡ 0
+  pub src : (uses s).src ≡ false → f.src ≡ 0
+  pub offset : (uses s).offset ≡ false → f.offset ≡ 0
+  pub imm : (uses s).imm ≡ false → f.imm ≡ 0
 
 or_zero : (u : Bool) (n : ℕ) → (u || (n == 0)) ≡ true → u ≡ false → n ≡ 0
 or_zero true n h e = absurd (cc e)
@@ -101,14 +101,14 @@ or_zero false n h e = eqb-true n 0 h
 
 zeros : (s : Shape) (f : Fields) → unused_are_zero s f ≡ true → Zeros s f
 zeros s f h =
-    let halves = both ((uses_dst s || (f.dst == 0)) && (uses_src s || (f.src == 0))) ((uses_offset s || (f.offset == 0)) && (uses_imm s || (f.imm == 0))) h in
-    let regs = both (uses_dst s || (f.dst == 0)) (uses_src s || (f.src == 0)) halves.0 in
-    let rest = both (uses_offset s || (f.offset == 0)) (uses_imm s || (f.imm == 0)) halves.1 in
+    let halves = both (((uses s).dst || (f.dst == 0)) && ((uses s).src || (f.src == 0))) (((uses s).offset || (f.offset == 0)) && ((uses s).imm || (f.imm == 0))) h in
+    let regs = both ((uses s).dst || (f.dst == 0)) ((uses s).src || (f.src == 0)) halves.0 in
+    let rest = both ((uses s).offset || (f.offset == 0)) ((uses s).imm || (f.imm == 0)) halves.1 in
     record {
-      dst = or_zero (uses_dst s) f.dst regs.0;
-      src = or_zero (uses_src s) f.src regs.1;
-      offset = or_zero (uses_offset s) f.offset rest.0;
-      imm = or_zero (uses_imm s) f.imm rest.1;
+      dst = or_zero (uses s).dst f.dst regs.0;
+      src = or_zero (uses s).src f.src regs.1;
+      offset = or_zero (uses s).offset f.offset rest.0;
+      imm = or_zero (uses s).imm f.imm rest.1;
     }
 
 -- ---- the fields of the instruction
@@ -118,8 +118,8 @@ same f o d s k i eo ed es ek ei = rw (eo, ed, es, ek, ei) refl
 
 -- of the source and the immediate arithmetic uses one
 record OneOf (source : Source) (f : Fields) : Type 0 where
-  src : uses_src (AluShape Mov W32 source) ≡ false → f.src ≡ 0
-  imm : uses_imm (AluShape Mov W32 source) ≡ false → f.imm ≡ 0
+  src : (uses (AluShape Mov W32 source)).src ≡ false → f.src ≡ 0
+  imm : (uses (AluShape Mov W32 source)).imm ≡ false → f.imm ≡ 0
 
 one_of : (op : AluOp) (width : Width) (source : Source) (f : Fields) → Zeros (AluShape op width source) f → OneOf source f
 one_of op width source f z = record { src = z.src; imm = z.imm }

@@ -6,7 +6,7 @@ use Rattle.fc_isa.specs.declared.shape.Shape.{Shape}
 use Rattle.fc_isa.specs.declared.shape.Shape.TheVariants.{Unknown}
 use Rattle.fc_isa.specs.declared.table.TheConstants.{SHAPES}
 use Rattle.fc_isa.proofs.Forms.{is_plain, form_back}
-use Rattle.fc_isa.specs.Shapes.{opcode_of, shape_of, known_shapes, is_known, uses_dst, uses_src, uses_offset, uses_imm, opcode_uses_dst, opcode_uses_src, opcode_uses_offset, opcode_uses_imm}
+use Rattle.fc_isa.specs.Shapes.{opcode_of, shape_of, known_shapes, is_known, uses, opcode_uses_dst, opcode_uses_src, opcode_uses_offset, opcode_uses_imm}
 
 -- a row has the opcode's form: a known one by its opcode, and the unknown one where there is none
 abbrev row_test : ℕ → Shape → Bool
@@ -70,30 +70,30 @@ known_told : (k a b : Bool) → (k && a) ≡ (k && b) → k ≡ true → a ≡ b
 known_told true a b h e = h
 known_told false a b h e = absurd (cc e)
 
-dst_rows : agree_below (told uses_dst) (told_by opcode_uses_dst) 256 ≡ true
+dst_rows : agree_below (told (λ shape. (uses shape).dst)) (told_by opcode_uses_dst) 256 ≡ true
 unfolding shape_of known_shapes opcode_uses_dst
 dst_rows = refl
 
-src_rows : agree_below (told uses_src) (told_by opcode_uses_src) 256 ≡ true
+src_rows : agree_below (told (λ shape. (uses shape).src)) (told_by opcode_uses_src) 256 ≡ true
 unfolding shape_of known_shapes opcode_uses_src
 src_rows = refl
 
-offset_rows : agree_below (told uses_offset) (told_by opcode_uses_offset) 256 ≡ true
+offset_rows : agree_below (told (λ shape. (uses shape).offset)) (told_by opcode_uses_offset) 256 ≡ true
 unfolding shape_of known_shapes opcode_uses_offset
 offset_rows = refl
 
-imm_rows : agree_below (told uses_imm) (told_by opcode_uses_imm) 256 ≡ true
+imm_rows : agree_below (told (λ shape. (uses shape).imm)) (told_by opcode_uses_imm) 256 ≡ true
 unfolding shape_of known_shapes opcode_uses_imm
 imm_rows = refl
 
-pub row_dst : (opcode : ℕ) → opcode < 256 → is_known (shape_of opcode) ≡ true → uses_dst (shape_of opcode) ≡ opcode_uses_dst opcode
-row_dst opcode l k = known_told _ _ _ (agree_below_at (told uses_dst) (told_by opcode_uses_dst) 256 opcode dst_rows l) k
+pub row_dst : (opcode : ℕ) → opcode < 256 → is_known (shape_of opcode) ≡ true → (uses (shape_of opcode)).dst ≡ opcode_uses_dst opcode
+row_dst opcode l k = known_told _ _ _ (agree_below_at (told (λ shape. (uses shape).dst)) (told_by opcode_uses_dst) 256 opcode dst_rows l) k
 
-pub row_src : (opcode : ℕ) → opcode < 256 → is_known (shape_of opcode) ≡ true → uses_src (shape_of opcode) ≡ opcode_uses_src opcode
-row_src opcode l k = known_told _ _ _ (agree_below_at (told uses_src) (told_by opcode_uses_src) 256 opcode src_rows l) k
+pub row_src : (opcode : ℕ) → opcode < 256 → is_known (shape_of opcode) ≡ true → (uses (shape_of opcode)).src ≡ opcode_uses_src opcode
+row_src opcode l k = known_told _ _ _ (agree_below_at (told (λ shape. (uses shape).src)) (told_by opcode_uses_src) 256 opcode src_rows l) k
 
-pub row_offset : (opcode : ℕ) → opcode < 256 → is_known (shape_of opcode) ≡ true → uses_offset (shape_of opcode) ≡ opcode_uses_offset opcode
-row_offset opcode l k = known_told _ _ _ (agree_below_at (told uses_offset) (told_by opcode_uses_offset) 256 opcode offset_rows l) k
+pub row_offset : (opcode : ℕ) → opcode < 256 → is_known (shape_of opcode) ≡ true → (uses (shape_of opcode)).offset ≡ opcode_uses_offset opcode
+row_offset opcode l k = known_told _ _ _ (agree_below_at (told (λ shape. (uses shape).offset)) (told_by opcode_uses_offset) 256 opcode offset_rows l) k
 
-pub row_imm : (opcode : ℕ) → opcode < 256 → is_known (shape_of opcode) ≡ true → uses_imm (shape_of opcode) ≡ opcode_uses_imm opcode
-row_imm opcode l k = known_told _ _ _ (agree_below_at (told uses_imm) (told_by opcode_uses_imm) 256 opcode imm_rows l) k
+pub row_imm : (opcode : ℕ) → opcode < 256 → is_known (shape_of opcode) ≡ true → (uses (shape_of opcode)).imm ≡ opcode_uses_imm opcode
+row_imm opcode l k = known_told _ _ _ (agree_below_at (told (λ shape. (uses shape).imm)) (told_by opcode_uses_imm) 256 opcode imm_rows l) k

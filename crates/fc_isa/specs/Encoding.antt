@@ -22,7 +22,7 @@ use Rattle.fc_isa.specs.declared.rule.Rule.{Rule}
 use Rattle.fc_isa.specs.declared.rule.Rule.TheVariants.{Opcode, Register, FramePointer, Field, WideLoad}
 use Rattle.fc_isa.specs.declared.decoding.DecodeError.{DecodeError}
 use Rattle.fc_isa.specs.declared.decoding.DecodeError.TheVariants.{Fault, NoMemory}
-use Rattle.fc_isa.specs.Shapes.{opcode_of, shape_of, is_known, is_wide, uses_dst, writes_dst, uses_src, uses_offset, uses_imm}
+use Rattle.fc_isa.specs.Shapes.{opcode_of, shape_of, is_known, is_wide, uses, writes_dst}
 use Rattle.fc_isa.specs.Program.{IsInsn, is_program}
 
 -- the fields of a slot (3.1); offset and imm by their bits
@@ -143,8 +143,8 @@ slot_at bytes slot = if is_whole bytes slot then Some (fields_at bytes slot) els
 -- what an opcode doesn't use is zero
 abbrev pub unused_are_zero : Shape → Fields → Bool
 unused_are_zero shape f =
-    ((uses_dst shape || (f.dst == 0)) && (uses_src shape || (f.src == 0)))
-    && ((uses_offset shape || (f.offset == 0)) && (uses_imm shape || (f.imm == 0)))
+    (((uses shape).dst || (f.dst == 0)) && ((uses shape).src || (f.src == 0)))
+    && (((uses shape).offset || (f.offset == 0)) && ((uses shape).imm || (f.imm == 0)))
 
 -- a move's offset is 0 or the bits that it extends, 32 for all 64 bits alone
 abbrev pub is_move_offset : Width → ℕ → Bool

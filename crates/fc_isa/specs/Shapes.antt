@@ -16,6 +16,7 @@ use Rattle.fc_isa.specs.declared.insn.ByteOrder.TheVariants.{Little, Big, Swappe
 use Rattle.fc_isa.specs.declared.shape.Source.{Source}
 use Rattle.fc_isa.specs.declared.shape.Source.TheVariants.{K, X}
 use Rattle.fc_isa.specs.declared.shape.Shape.{Shape}
+use Rattle.fc_isa.specs.declared.shape.Uses.{Uses}
 use Rattle.fc_isa.specs.declared.shape.Shape.TheVariants.{Unknown, Alu, Neg, End, LoadWide, Load, StoreImm, Store, JumpAlways, JumpAlwaysLong, JumpIf, Call, Exit}
 
 -- ---- the opcode of a form
@@ -160,13 +161,31 @@ abbrev pub is_register : Source → Bool
 is_register K = false
 is_register X = true
 
-abbrev pub uses_dst : Shape → Bool
-uses_dst Unknown = false
-uses_dst JumpAlways = false
-uses_dst JumpAlwaysLong = false
-uses_dst Call = false
-uses_dst Exit = false
-uses_dst shape = true
+-- arithmetic uses it in division and modulo, and in a move of a register
+abbrev pub alu_uses_offset : AluOp → Source → Bool
+alu_uses_offset Div source = true
+alu_uses_offset Mod source = true
+alu_uses_offset Mov source = is_register source
+alu_uses_offset op source = false
+
+abbrev pub used : Bool → Bool → Bool → Bool → Uses
+used dst src offset imm = record { dst = dst; src = src; offset = offset; imm = imm }
+
+-- dst, src, offset and imm, row by row; an immediate stands where no register does
+abbrev pub uses : Shape → Uses
+uses (Alu op width source) = used true (is_register source) (alu_uses_offset op source) (not (is_register source))
+uses (Neg width) = used true false false false
+uses (End order) = used true false false true
+uses JumpAlways = used false false true false
+uses JumpAlwaysLong = used false false false true
+uses (JumpIf width relation source) = used true (is_register source) true (not (is_register source))
+uses Call = used false true false true
+uses Exit = used false false false false
+uses LoadWide = used true false false true
+uses (Load loaded) = used true true true false
+uses (StoreImm size) = used true false true true
+uses (Store size) = used true true true false
+uses Unknown = used false false false false
 
 -- classes LD, LDX, ALU and ALU64 write their destination; stores and jumps read it
 abbrev pub writes_dst : Shape → Bool
@@ -176,40 +195,6 @@ writes_dst (End order) = true
 writes_dst LoadWide = true
 writes_dst (Load loaded) = true
 writes_dst shape = false
-
-abbrev pub uses_src : Shape → Bool
-uses_src (Alu op width source) = is_register source
-uses_src (Load loaded) = true
-uses_src (Store size) = true
-uses_src (JumpIf width relation source) = is_register source
-uses_src Call = true
-uses_src shape = false
-
--- arithmetic uses it in division and modulo, and in a move of a register
-abbrev pub alu_uses_offset : AluOp → Source → Bool
-alu_uses_offset Div source = true
-alu_uses_offset Mod source = true
-alu_uses_offset Mov source = is_register source
-alu_uses_offset op source = false
-
-abbrev pub uses_offset : Shape → Bool
-uses_offset (Alu op width source) = alu_uses_offset op source
-uses_offset (Load loaded) = true
-uses_offset (StoreImm size) = true
-uses_offset (Store size) = true
-uses_offset JumpAlways = true
-uses_offset (JumpIf width relation source) = true
-uses_offset shape = false
-
-abbrev pub uses_imm : Shape → Bool
-uses_imm (Alu op width source) = not (is_register source)
-uses_imm (End order) = true
-uses_imm LoadWide = true
-uses_imm (StoreImm size) = true
-uses_imm JumpAlwaysLong = true
-uses_imm (JumpIf width relation source) = not (is_register source)
-uses_imm Call = true
-uses_imm shape = false
 
 -- ---- the same by an opcode's bits (3.1 and 3.3): class, code and source bit
 

@@ -327,10 +327,11 @@ impl Fields {
     fn unused_are_zero(self, shape: Shape) -> bool
         ensures { result ≡ unused_are_zero shape self }
     {
-        (shape.uses_dst() || self.dst == 0)
-            && (shape.uses_src() || self.src == 0)
-            && (shape.uses_offset() || self.offset == 0)
-            && (shape.uses_imm() || self.imm == 0)
+        let uses = shape.uses();
+        (uses.dst || self.dst == 0)
+            && (uses.src || self.src == 0)
+            && (uses.offset || self.offset == 0)
+            && (uses.imm || self.imm == 0)
     }
 
     /// The fields that the form uses have values that it allows.

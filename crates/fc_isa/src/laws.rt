@@ -5,7 +5,7 @@ ghost use Rattle.fc_isa.specs.Encoding.{Fields, IsFirstFault, Spells, encoded, f
 ghost use Rattle.fc_isa.specs.Program.{IsInsn, is_program};
 ghost use Rattle.fc_isa.specs.Rules.{number_of};
 ghost use Rattle.fc_isa.specs.declared.insn.Insn.{Insn};
-ghost use Rattle.fc_isa.specs.Shapes.{is_known, opcode_of, opcode_uses_dst, opcode_uses_imm, opcode_uses_offset, opcode_uses_src, shape_of, uses_dst, uses_imm, uses_offset, uses_src};
+ghost use Rattle.fc_isa.specs.Shapes.{is_known, opcode_of, opcode_uses_dst, opcode_uses_imm, opcode_uses_offset, opcode_uses_src, shape_of, uses};
 ghost use Rattle.fc_isa.specs.declared.rule.Rule.{Rule};
 
 use crate::insn::Insn;
@@ -55,10 +55,10 @@ pub fn known_forms_are_117()
 pub fn rows_fix_the_used_fields(opcode: u8)
     ensures row { slice_index_or SHAPES opcode Shape.Unknown ≡ shape_of opcode }
     ensures opcode { is_known (shape_of opcode) ≡ true → opcode_of (shape_of opcode) ≡ opcode }
-    ensures dst { is_known (shape_of opcode) ≡ true → uses_dst (shape_of opcode) ≡ opcode_uses_dst opcode }
-    ensures src { is_known (shape_of opcode) ≡ true → uses_src (shape_of opcode) ≡ opcode_uses_src opcode }
-    ensures offset { is_known (shape_of opcode) ≡ true → uses_offset (shape_of opcode) ≡ opcode_uses_offset opcode }
-    ensures imm { is_known (shape_of opcode) ≡ true → uses_imm (shape_of opcode) ≡ opcode_uses_imm opcode }
+    ensures dst { is_known (shape_of opcode) ≡ true → (uses (shape_of opcode)).dst ≡ opcode_uses_dst opcode }
+    ensures src { is_known (shape_of opcode) ≡ true → (uses (shape_of opcode)).src ≡ opcode_uses_src opcode }
+    ensures offset { is_known (shape_of opcode) ≡ true → (uses (shape_of opcode)).offset ≡ opcode_uses_offset opcode }
+    ensures imm { is_known (shape_of opcode) ≡ true → (uses (shape_of opcode)).imm ≡ opcode_uses_imm opcode }
 {}
 
 /// A slot whose opcode has no known form breaks the opcode rule, whatever else it has.

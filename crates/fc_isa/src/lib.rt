@@ -19,5 +19,5 @@ pub use insn::{
 };
 pub use program::is_program;
 pub use rule::{Fault, Rule};
-pub use shape::{Shape, Source};
+pub use shape::{Shape, Source, Uses};
 pub use table::SHAPES;

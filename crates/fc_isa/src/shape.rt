@@ -1,6 +1,6 @@
 //! The form of an instruction, which its opcode alone fixes, and the fields that a form uses (RFC 9669, 3 to 5).
 ghost use Rattle.std.specs.Prelude.{◌≡◌, ◌<◌, ◌≤◌};
-ghost use Rattle.fc_isa.specs.Shapes.{uses_dst, uses_src, uses_offset, uses_imm, writes_dst, shape_of, is_register, is_known, is_wide, opcode_of, coded, sized, load_opcode, end_opcode, alu_class, jump_class, alu_code, jump_code, size_bits};
+ghost use Rattle.fc_isa.specs.Shapes.{alu_uses_offset, used, uses, writes_dst, shape_of, is_register, is_known, is_wide, opcode_of, coded, sized, load_opcode, end_opcode, alu_class, jump_class, alu_code, jump_code, size_bits};
 
 use crate::insn::{AluOp, ByteOrder, LoadType, Relation, Size, Width};
 use crate::table::SHAPES;
@@ -89,6 +89,15 @@ pub enum Shape {
     Exit,
 }
 
+/// Which fields a slot uses: the destination, the source, the offset, the immediate. The others are zero.
+#[derive(Clone, Copy, Debug, PartialEq, Eq)]
+pub struct Uses {
+    pub dst: bool,
+    pub src: bool,
+    pub offset: bool,
+    pub imm: bool,
+}
+
 impl Shape {
     /// The form of the instructions with this opcode.
     #[tactic(none)]
@@ -137,16 +146,6 @@ impl Shape {
         matches!(self, Shape::LoadWide)
     }
 
-    /// Whether the destination register is used.
-    pub(crate) fn uses_dst(self) -> bool
-        ensures { result ≡ uses_dst self }
-    {
-        !matches!(
-            self,
-            Shape::Unknown | Shape::JumpAlways | Shape::JumpAlwaysLong | Shape::Call | Shape::Exit
-        )
-    }
-
     /// Whether the destination register is written.
     pub(crate) fn writes_dst(self) -> bool
         ensures { result ≡ writes_dst self }
@@ -161,43 +160,52 @@ impl Shape {
         )
     }
 
-    /// Whether the source field is used.
-    pub(crate) fn uses_src(self) -> bool
-        ensures { result ≡ uses_src self }
+    /// Which fields of its slot the form uses, as the table of instructions has them, row by row: an immediate stands where no
+    /// register does.
+    pub fn uses(self) -> Uses
+        ensures { result ≡ uses self }
     {
         match self {
-            Shape::Alu { source, .. } | Shape::JumpIf { source, .. } => source.is_register(),
-            Shape::Load { .. } | Shape::Store { .. } | Shape::Call => true,
-            _ => false,
+            Shape::Alu { op, source, .. } => used(
+                true,
+                source.is_register(),
+                alu_uses_offset(op, source),
+                !source.is_register(),
+            ),
+            Shape::Neg { .. } => used(true, false, false, false),
+            Shape::End { .. } => used(true, false, false, true),
+            Shape::JumpAlways => used(false, false, true, false),
+            Shape::JumpAlwaysLong => used(false, false, false, true),
+            Shape::JumpIf { source, .. } => used(true, source.is_register(), true, !source.is_register()),
+            Shape::Call => used(false, true, false, true),
+            Shape::Exit | Shape::Unknown => used(false, false, false, false),
+            Shape::LoadWide => used(true, false, false, true),
+            Shape::Load { .. } | Shape::Store { .. } => used(true, true, true, false),
+            Shape::StoreImm { .. } => used(true, false, true, true),
         }
     }
+}
 
-    /// Whether the offset is used.
-    pub(crate) fn uses_offset(self) -> bool
-        ensures { result ≡ uses_offset self }
-    {
-        match self {
-            Shape::Alu { op, source, .. } => match op {
-                AluOp::Div | AluOp::Mod => true,
-                AluOp::Mov => source.is_register(),
-                _ => false,
-            },
-            Shape::Load { .. } | Shape::StoreImm { .. } | Shape::Store { .. } => true,
-            Shape::JumpAlways | Shape::JumpIf { .. } => true,
-            _ => false,
-        }
+/// The fields dst, src, offset and imm.
+fn used(dst: bool, src: bool, offset: bool, imm: bool) -> Uses
+    ensures { result ≡ used dst src offset imm }
+{
+    Uses {
+        dst,
+        src,
+        offset,
+        imm,
     }
+}
 
-    /// Whether the immediate is used.
-    pub(crate) fn uses_imm(self) -> bool
-        ensures { result ≡ uses_imm self }
-    {
-        match self {
-            Shape::Alu { source, .. } | Shape::JumpIf { source, .. } => !source.is_register(),
-            Shape::End { .. } | Shape::LoadWide | Shape::StoreImm { .. } => true,
-            Shape::JumpAlwaysLong | Shape::Call => true,
-            _ => false,
-        }
+/// Whether arithmetic uses the offset: division and modulo do, and a move of a register.
+fn alu_uses_offset(op: AluOp, source: Source) -> bool
+    ensures { result ≡ alu_uses_offset op source }
+{
+    match op {
+        AluOp::Div | AluOp::Mod => true,
+        AluOp::Mov => source.is_register(),
+        _ => false,
     }
 }
 
