@@ -30,9 +30,9 @@ fn write(bytes: &mut Vec<u8>, insn: Insn) -> Result<(), AllocError>
     match insn {
         Insn::WideSecond => Ok(()),
         Insn::LoadWide { value, .. } => {
-            bytes.extend_from_slice(&Fields::of(insn).bytes())?;
+            bytes.extend_from_slice(&Fields::of(&insn).bytes())?;
             bytes.extend_from_slice(&Fields::second_half_of(value).bytes())
         }
-        _ => bytes.extend_from_slice(&Fields::of(insn).bytes()),
+        _ => bytes.extend_from_slice(&Fields::of(&insn).bytes()),
     }
 }

@@ -1,7 +1,7 @@
 //! The fields of a slot: read from its bytes and written to them, with the first rule that they break.
 ghost use Rattle.std.specs.Prelude.{◌≡◌, ◌<◌, ◌+◌, ◌*◌, ◌/◌, ◌%◌, ◌^◌, ℕ, List, [], ◌∷◌, None, true, length};
 ghost use Rattle.std.specs.Int.{w16, w32, cast_signed};
-ghost use Rattle.fc_isa.specs.Encoding.{bytes_of, fields_of, insn_of, insn_with, read_fields, second_half, slot_fault, unused_are_zero, values_allowed, is_second_half, alu_values_allowed, arithmetic, moved, operand_of, called, sign_offset, signed_by, extended_bits, extended_width, swap_width, swap_bits, source_of, src_of, imm_of};
+ghost use Rattle.fc_isa.specs.Encoding.{bytes_of, fields, fields_of, insn_of, insn_with, read_fields, second_half, slot_fault, unused_are_zero, values_allowed, is_second_half, alu_values_allowed, arithmetic, moved, operand_of, called, sign_offset, signed_by, extended_bits, extended_width, swap_width, swap_bits, source_of, src_of, imm_of};
 ghost use Rattle.fc_isa.specs.Shapes.{shape_of, writes_dst};
 
 use crate::insn::{
@@ -57,16 +57,141 @@ impl Fields {
     }
 
     /// The fields of an instruction's own slot. A second half has none of its own.
-    pub(crate) fn of(insn: Insn) -> Self
-        ensures { result ≡ fields_of insn }
+    pub(crate) fn of(insn: &Insn) -> Self
+        ensures { result ≡ fields_of insn.now }
+    {
+        match *insn {
+            Insn::Alu {
+                op,
+                width,
+                dst,
+                operand,
+            } => Fields::form(Shape::Alu {
+                op,
+                width,
+                source: source_of(&operand),
+            })
+            .dst(dst.number())
+            .src(src_of(&operand))
+            .offset(sign_offset(op))
+            .imm(imm_of(&operand)),
+            Insn::Neg { width, dst } => Fields::form(Shape::Neg { width }).dst(dst.number()),
+            Insn::SignExtend {
+                extension,
+                dst,
+                src,
+            } => Fields::form(moving(extension))
+                .dst(dst.number())
+                .src(src.number())
+                .offset(extended_bits(extension)),
+            Insn::End { order, width, dst } => Fields::form(Shape::End { order })
+                .dst(dst.number())
+                .imm(swap_bits(width)),
+            Insn::LoadWide { dst, value } => Fields::form(Shape::LoadWide)
+                .dst(dst.number())
+                .imm(low_half(value)),
+            Insn::WideSecond => Fields {
+                opcode: 0,
+                dst: 0,
+                src: 0,
+                offset: 0,
+                imm: 0,
+            },
+            Insn::Load {
+                loaded,
+                dst,
+                base,
+                offset,
+            } => Fields::form(Shape::Load { loaded })
+                .dst(dst.number())
+                .src(base.number())
+                .offset(offset.cast_unsigned()),
+            Insn::StoreImm {
+                size,
+                base,
+                offset,
+                imm,
+            } => Fields::form(Shape::StoreImm { size })
+                .dst(base.number())
+                .offset(offset.cast_unsigned())
+                .imm(imm.cast_unsigned()),
+            Insn::Store {
+                size,
+                base,
+                offset,
+                src,
+            } => Fields::form(Shape::Store { size })
+                .dst(base.number())
+                .src(src.number())
+                .offset(offset.cast_unsigned()),
+            Insn::JumpAlways { offset } => Fields::form(Shape::JumpAlways).offset(
+                offset.cast_unsigned(),
+            ),
+            Insn::JumpAlwaysLong { offset } => Fields::form(Shape::JumpAlwaysLong).imm(
+                offset.cast_unsigned(),
+            ),
+            Insn::JumpIf(jump) => Fields::compared(&jump),
+            Insn::CallHelper { number } => Fields::form(Shape::Call).imm(number.cast_unsigned()),
+            Insn::CallLocal { offset } => Fields::form(Shape::Call)
+                .src(1)
+                .imm(offset.cast_unsigned()),
+            Insn::Exit => Fields::form(Shape::Exit),
+        }
+    }
+
+    /// The fields of a conditional jump.
+    fn compared(jump: &Jump) -> Self
+        ensures { result ≡ fields_of (Insn.JumpIf jump.now) }
+    {
+        let shape = Shape::JumpIf {
+            width: jump.width,
+            relation: jump.relation,
+            source: source_of(&jump.right),
+        };
+        Fields::form(shape)
+            .dst(jump.left.number())
+            .src(src_of(&jump.right))
+            .offset(jump.offset.cast_unsigned())
+            .imm(imm_of(&jump.right))
+    }
+
+    /// A form's opcode, and zeros.
+    fn form(shape: Shape) -> Self
+        ensures { result ≡ fields shape 0 0 0 0 }
     {
         Fields {
-            opcode: own_opcode(&insn),
-            dst: own_dst(&insn),
-            src: own_src(&insn),
-            offset: own_offset(&insn),
-            imm: own_imm(&insn),
+            opcode: shape.opcode(),
+            dst: 0,
+            src: 0,
+            offset: 0,
+            imm: 0,
         }
+    }
+
+    fn dst(self, dst: u8) -> Self
+        requires { dst < 16 }
+        ensures { result ≡ record self { dst = dst } }
+    {
+        Fields { dst, ..self }
+    }
+
+    fn src(self, src: u8) -> Self
+        requires { src < 16 }
+        ensures { result ≡ record self { src = src } }
+    {
+        Fields { src, ..self }
+    }
+
+    fn offset(self, offset: u16) -> Self
+        ensures { result ≡ record self { offset = offset } }
+    {
+        Fields { offset, ..self }
+    }
+
+    fn imm(self, imm: u32) -> Self
+        ensures { result ≡ record self { imm = imm } }
+    {
+        Fields { imm, ..self }
     }
 
     /// The second slot of the wide load of this value.
@@ -383,6 +508,17 @@ fn sign_offset(op: AluOp) -> u16
     }
 }
 
+/// The form of a move with sign extension.
+fn moving(extension: SignExtension) -> Shape
+    ensures { result ≡ Shape.Alu AluOp.Mov (extended_width extension) Source.X }
+{
+    Shape::Alu {
+        op: AluOp::Mov,
+        width: extended_width(extension),
+        source: Source::X,
+    }
+}
+
 /// The width of a move with sign extension.
 fn extended_width(extension: SignExtension) -> Width
     ensures { result ≡ extended_width extension }
@@ -425,8 +561,8 @@ fn swap_bits(width: SwapWidth) -> u32
 }
 
 /// Where an operand comes from.
-fn source_of(operand: Operand) -> Source
-    ensures { result ≡ source_of operand }
+fn source_of(operand: &Operand) -> Source
+    ensures { result ≡ source_of operand.now }
 {
     match operand {
         Operand::Imm(_) => Source::K,
@@ -435,8 +571,8 @@ fn source_of(operand: Operand) -> Source
 }
 
 /// The source register of an operand, 0 where it is an immediate.
-fn src_of(operand: Operand) -> u8
-    ensures src { result ≡ src_of operand }
+fn src_of(operand: &Operand) -> u8
+    ensures src { result ≡ src_of operand.now }
     ensures below { result < 16 }
 {
     match operand {
@@ -446,115 +582,12 @@ fn src_of(operand: Operand) -> u8
 }
 
 /// The immediate of an operand, 0 where it is a register.
-fn imm_of(operand: Operand) -> u32
-    ensures { result ≡ imm_of operand }
+fn imm_of(operand: &Operand) -> u32
+    ensures { result ≡ imm_of operand.now }
 {
     match operand {
         Operand::Imm(imm) => imm.cast_unsigned(),
         Operand::Reg(_) => 0,
-    }
-}
-
-/// The opcode of an instruction's form; a second half has 0.
-fn own_opcode(insn: &Insn) -> u8
-    ensures { result ≡ (fields_of insn.now).opcode }
-{
-    let shape = match *insn {
-        Insn::Alu {
-            op,
-            width,
-            operand,
-            ..
-        } => {
-            let source = source_of(operand);
-            Shape::Alu { op, width, source }
-        }
-        Insn::Neg { width, .. } => Shape::Neg { width },
-        Insn::SignExtend { extension, .. } => Shape::Alu {
-            op: AluOp::Mov,
-            width: extended_width(extension),
-            source: Source::X,
-        },
-        Insn::End { order, .. } => Shape::End { order },
-        Insn::LoadWide { .. } => Shape::LoadWide,
-        Insn::WideSecond => return 0,
-        Insn::Load { loaded, .. } => Shape::Load { loaded },
-        Insn::StoreImm { size, .. } => Shape::StoreImm { size },
-        Insn::Store { size, .. } => Shape::Store { size },
-        Insn::JumpAlways { .. } => Shape::JumpAlways,
-        Insn::JumpAlwaysLong { .. } => Shape::JumpAlwaysLong,
-        Insn::JumpIf(jump) => Shape::JumpIf {
-            width: jump.width,
-            relation: jump.relation,
-            source: source_of(jump.right),
-        },
-        Insn::CallHelper { .. } | Insn::CallLocal { .. } => Shape::Call,
-        Insn::Exit => Shape::Exit,
-    };
-    shape.opcode()
-}
-
-/// The destination field: the register that is written, a store's base, or the left of a comparison.
-fn own_dst(insn: &Insn) -> u8
-    ensures dst { result ≡ (fields_of insn.now).dst }
-    ensures below { result < 16 }
-{
-    match *insn {
-        Insn::Alu { dst, .. } | Insn::Neg { dst, .. } | Insn::End { dst, .. } => dst.number(),
-        Insn::SignExtend { dst, .. } => dst.number(),
-        Insn::LoadWide { dst, .. } | Insn::Load { dst, .. } => dst.number(),
-        Insn::StoreImm { base, .. } | Insn::Store { base, .. } => base.number(),
-        Insn::JumpIf(jump) => jump.left.number(),
-        _ => 0,
-    }
-}
-
-/// The source field: an operand, a load's base, what a store writes, or 1 in the call of a function of the program.
-fn own_src(insn: &Insn) -> u8
-    ensures src { result ≡ (fields_of insn.now).src }
-    ensures below { result < 16 }
-{
-    match *insn {
-        Insn::Alu { operand, .. } => src_of(operand),
-        Insn::SignExtend { src, .. } | Insn::Store { src, .. } => src.number(),
-        Insn::Load { base, .. } => base.number(),
-        Insn::JumpIf(jump) => src_of(jump.right),
-        Insn::CallLocal { .. } => 1,
-        _ => 0,
-    }
-}
-
-/// The offset: of an address or a jump; in arithmetic it tells signed operations and moves with sign extension.
-fn own_offset(insn: &Insn) -> u16
-    ensures { result ≡ (fields_of insn.now).offset }
-{
-    match *insn {
-        Insn::Alu { op, .. } => sign_offset(op),
-        Insn::SignExtend { extension, .. } => extended_bits(extension),
-        // An arm each: the checker doesn't cover a pattern of several forms that binds an integer.
-        Insn::Load { offset, .. } => offset.cast_unsigned(),
-        Insn::StoreImm { offset, .. } => offset.cast_unsigned(),
-        Insn::Store { offset, .. } => offset.cast_unsigned(),
-        Insn::JumpAlways { offset } => offset.cast_unsigned(),
-        Insn::JumpIf(jump) => jump.offset.cast_unsigned(),
-        _ => 0,
-    }
-}
-
-/// The immediate: a number of the instruction, the bits that a change of the byte order keeps, or a wide load's low half.
-fn own_imm(insn: &Insn) -> u32
-    ensures { result ≡ (fields_of insn.now).imm }
-{
-    match *insn {
-        Insn::Alu { operand, .. } => imm_of(operand),
-        Insn::End { width, .. } => swap_bits(width),
-        Insn::LoadWide { value, .. } => low_half(value),
-        Insn::StoreImm { imm, .. } => imm.cast_unsigned(),
-        Insn::JumpAlwaysLong { offset } => offset.cast_unsigned(),
-        Insn::JumpIf(jump) => imm_of(jump.right),
-        Insn::CallHelper { number } => number.cast_unsigned(),
-        Insn::CallLocal { offset } => offset.cast_unsigned(),
-        _ => 0,
     }
 }
 

@@ -176,7 +176,12 @@ impl Shape {
             Shape::End { .. } => used(true, false, false, true),
             Shape::JumpAlways => used(false, false, true, false),
             Shape::JumpAlwaysLong => used(false, false, false, true),
-            Shape::JumpIf { source, .. } => used(true, source.is_register(), true, !source.is_register()),
+            Shape::JumpIf { source, .. } => used(
+                true,
+                source.is_register(),
+                true,
+                !source.is_register(),
+            ),
             Shape::Call => used(false, true, false, true),
             Shape::Exit | Shape::Unknown => used(false, false, false, false),
             Shape::LoadWide => used(true, false, false, true),
