@@ -12,6 +12,8 @@ mod isa_tests;
 #[cfg(test)]
 mod message_tests;
 #[cfg(test)]
+mod opcode_tests;
+#[cfg(test)]
 mod play_tests;
 #[cfg(test)]
 mod request_tests;
