@@ -1,6 +1,6 @@
 -- How many bytes a message takes.
 use Rattle.std.proofs.Common.{ℕ, ◌+◌, ◌<◌, ◌≤◌, Bool, true, false, if◌then◌else◌, List, [], ◌∷◌, ◌++◌, length, arith, length-append}
-use Rattle.coap_msg.specs.Wire.{Message, IsMessage, AreOptions, extension, option_bytes, options_bytes, payload_bytes, bytes_of}
+use Rattle.coap_msg.specs.Wire.{Message, IsMessage, AreOptions, extension, option_bytes, options_bytes, payload_bytes, message_bytes}
 
 extension_by : (n : ℕ) (is_small is_middle : Bool) (a : ℕ) (b c : ℕ) → length (if is_small then [] else (if is_middle then a ∷ [] else b ∷ c ∷ [])) ≤ 2
 extension_by n true middle a b c = omega arith
@@ -22,7 +22,7 @@ payload_size [] = omega arith
 payload_size (b ∷ payload) = omega arith
 
 -- header, marker, and the parts
-pub message_size : (m : Message) → length (bytes_of m) ≤ length m.token + length (options_bytes 0 m.options) + length m.payload + 5
+pub message_size : (m : Message) → length (message_bytes m) ≤ length m.token + length (options_bytes 0 m.options) + length m.payload + 5
 message_size m =
     let rest = options_bytes 0 m.options ++ payload_bytes m.payload in
     omega (arith, length-append m.token rest, length-append (options_bytes 0 m.options) (payload_bytes m.payload), payload_size m.payload)

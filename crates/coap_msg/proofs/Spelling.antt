@@ -3,7 +3,7 @@ use Rattle.std.proofs.Common.{◌≡◌, ℕ, zero, suc, ◌+◌, ◌-◌, ◌*�
 use Rattle.std.proofs.lemmas.Bool.{ltb-true, eqb-true, lt-ltb, le-ltb, ne_eqb, cases_lt}
 use Rattle.std.proofs.lemmas.List.{append-nil}
 use Rattle.coap_msg.specs.Wire.{nibble, extension, option_bytes, options_bytes, IsOption, AreOptions}
-use Rattle.coap_msg.specs.Reading.{with_some, guard, split, ext8, ext16, number_at, RawOption, option_at, Listed, with_first, is_end, options_at, all_of, options_of, HasOptions}
+use Rattle.coap_msg.specs.Reading.{◌>>=◌, guard, split, ext8, ext16, number_at, RawOption, option_at, Listed, with_first, is_end, options_at, all_of, options_of, HasOptions}
 use Rattle.coap_msg.proofs.Steps.{came, passed, passes, split-append, joins, AreBytes, tail_bytes, back_bytes}
 
 -- ---- numbers
@@ -33,7 +33,7 @@ number_large n rest l =
     let whole : 256 * ((n - 269) / 256) + (n - 269) % 256 + 269 ≡ n = omega arith in
     rw ((large n l).0, (large n l).1) (ap (λ m. Some (m, rest)) whole)
 
--- a number that is written is read, with what is behind it
+-- a number that is written is read, with what is after it
 number_at-of : (n : ℕ) (rest : List ℕ) → number_at (nibble n) (extension n ++ rest) ≡ Some (n, rest)
 number_at-of n rest =
     elim (cases_lt n 13) [
@@ -105,7 +105,7 @@ nibble_below n =
 option_by : (before number : ℕ) (value rest : List ℕ) (upper lower : ℕ) → IsOption before number value →
     upper ≡ nibble (number - before) → lower ≡ nibble (length value) →
     (16 * upper + lower) / 16 ≡ upper → (16 * upper + lower) % 16 ≡ lower →
-    option_at before ((16 * upper + lower) ∷ (extension (number - before) ++ (extension (length value) ++ (value ++ rest)))) ≡ Some (record { number = number; value = value; behind = rest })
+    option_at before ((16 * upper + lower) ∷ (extension (number - before) ++ (extension (length value) ++ (value ++ rest)))) ≡ Some (record { number = number; value = value; after = rest })
 unfolding option_at
 option_by before number value rest upper lower o u l du ml =
     let delta = number - before in
@@ -115,12 +115,12 @@ option_by before number value rest upper lower o u l du ml =
     let below : before + delta < 65536 = omega arith in
     rw (du, ml, u, l, number_at-of delta (extension (length value) ++ (value ++ rest)), number_at-of (length value) (value ++ rest)) (
     rw (passes (nat_lt (before + delta) 65536) (before + delta) (lt-ltb _ _ below), split-append value rest) (
-    ap (λ n. Some (record { number = n; value = value; behind = rest })) whole
+    ap (λ n. Some (record { number = n; value = value; after = rest })) whole
     ))
 
--- an option that is written is read, with what is behind it
+-- an option that is written is read, with what is after it
 pub option_at-of : (before number : ℕ) (value rest : List ℕ) → IsOption before number value →
-    option_at before (option_bytes (number - before) value ++ rest) ≡ Some (record { number = number; value = value; behind = rest })
+    option_at before (option_bytes (number - before) value ++ rest) ≡ Some (record { number = number; value = value; after = rest })
 option_at-of before number value rest o =
     let upper = nibble (number - before) in
     let lower = nibble (length value) in
@@ -132,25 +132,25 @@ option_at-of before number value rest o =
 
 -- bytes that are read as an option
 pub record IsRawOption (before : ℕ) (bytes : List ℕ) (o : RawOption) : Type 0 where
-  pub bytes_are : bytes ≡ option_bytes (o.number - before) o.value ++ o.behind
+  pub bytes_are : bytes ≡ option_bytes (o.number - before) o.value ++ o.after
   pub option : IsOption before o.number o.value
-  pub behind : AreBytes o.behind
+  pub after : AreBytes o.after
 
-parted_from : (before first : ℕ) (rest : List ℕ) (delta count number : ℕ) (after_delta after_count value behind : List ℕ) → AreBytes rest →
+parted_from : (before first : ℕ) (rest : List ℕ) (delta count number : ℕ) (after_delta after_count value after : List ℕ) → AreBytes rest →
     IsNumber (first / 16) rest (delta, after_delta) → IsNumber (first % 16) after_delta (count, after_count) → before + delta ≡ number → number < 65536 →
-    after_count ≡ value ++ behind → length value ≡ count →
-    IsRawOption before (first ∷ rest) (record { number = number; value = value; behind = behind })
-parted_from before first rest delta count number after_delta after_count value behind b d c sum below cut len =
+    after_count ≡ value ++ after → length value ≡ count →
+    IsRawOption before (first ∷ rest) (record { number = number; value = value; after = after })
+parted_from before first rest delta count number after_delta after_count value after b d c sum below cut len =
     let step : number - before ≡ delta = omega arith in
-    let rest_is : rest ≡ extension delta ++ ((extension count ++ value) ++ behind) =
-    d.bytes_are ∙ ap (λ xs. extension delta ++ xs) (c.bytes_are ∙ ap (λ xs. extension count ++ xs) cut ∙ sym (append_assoc (extension count) value behind)) in
+    let rest_is : rest ≡ extension delta ++ ((extension count ++ value) ++ after) =
+    d.bytes_are ∙ ap (λ xs. extension delta ++ xs) (c.bytes_are ∙ ap (λ xs. extension count ++ xs) cut ∙ sym (append_assoc (extension count) value after)) in
     let first_is : first ≡ 16 * nibble delta + nibble count = omega (arith, d.nibble_is, c.nibble_is) in
-    let whole : first ∷ rest ≡ option_bytes delta value ++ behind =
-    rw (len, first_is) (ap (λ xs. (16 * nibble delta + nibble count) ∷ xs) (rest_is ∙ sym (append_assoc (extension delta) (extension count ++ value) behind))) in
+    let whole : first ∷ rest ≡ option_bytes delta value ++ after =
+    rw (len, first_is) (ap (λ xs. (16 * nibble delta + nibble count) ∷ xs) (rest_is ∙ sym (append_assoc (extension delta) (extension count ++ value) after))) in
     record {
       bytes_are = rw step whole;
       option = record { rises = omega arith; is_number = below; is_short = omega (arith, c.below) };
-      behind = back_bytes (extension delta ++ (extension count ++ value)) behind (subst (λ xs. AreBytes xs) (rest_is ∙ sym (append_assoc (extension delta) (extension count ++ value) behind)) b);
+      after = back_bytes (extension delta ++ (extension count ++ value)) after (subst (λ xs. AreBytes xs) (rest_is ∙ sym (append_assoc (extension delta) (extension count ++ value) after)) b);
     }
 
 pub option_from : (before : ℕ) (bytes : List ℕ) (o : RawOption) → AreBytes bytes → option_at before bytes ≡ Some o → IsRawOption before bytes o
@@ -168,7 +168,7 @@ option_from before (first ∷ rest) o b e =
     let p = came (split c.value.0 c.value.1) _ o n.second in
     let j = joins c.value.0 c.value.1 p.value p.first in
     let below : before + d.value.0 < 65536 = ltb-true _ _ t.test in
-    let same : record { number = n.value; value = p.value.0; behind = p.value.1 } ≡ o = cc p.second in
+    let same : record { number = n.value; value = p.value.0; after = p.value.1 } ≡ o = cc p.second in
     subst (λ x. IsRawOption before (first ∷ rest) x) same
     (parted_from before first rest d.value.0 c.value.0 n.value d.value.1 c.value.1 p.value.0 p.value.1 bytes delta count t.same (omega (arith, t.same)) j.bytes_are j.count_is)
 
@@ -186,9 +186,9 @@ unmarked delta value e =
     let l : nibble (length value) < 15 = nibble_below (length value) in
     omega arith
 
--- what is found behind an option that is written
+-- what is found after an option that is written
 options_at-first : (n before number : ℕ) (value rest : List ℕ) → IsOption before number value →
-    options_at (suc n) before (option_bytes (number - before) value ++ rest) ≡ with_first (record { number = number; value = value; behind = rest }) (options_at n number rest)
+    options_at (suc n) before (option_bytes (number - before) value ++ rest) ≡ with_first (record { number = number; value = value; after = rest }) (options_at n number rest)
 unfolding options_at
 options_at-first n before number value rest o =
     rw (ne_eqb (16 * nibble (number - before) + nibble (length value)) 255 (unmarked (number - before) value), option_at-of before number value rest o) refl
@@ -196,7 +196,7 @@ options_at-first n before number value rest o =
 length-first : (delta : ℕ) (value rest : List ℕ) → length rest < length (option_bytes delta value ++ rest)
 length-first delta value rest = omega (arith, length-append (extension delta ++ (extension (length value) ++ value)) rest)
 
--- options that are written are read, with what is behind them
+-- options that are written are read, with what is after them
 pub options_at-of : (n before : ℕ) (options : List (ℕ × List ℕ)) (after : List ℕ) → AreOptions before options → is_end after ≡ true →
     length (options_bytes before options ++ after) ≤ n → options_at n before (options_bytes before options ++ after) ≡ Some (options, after)
 options_at-of n before [] after o e h = options_at-end n before after e h
@@ -211,11 +211,11 @@ options_at-of (suc n) before ((number, value) ∷ options) after o e h =
 pub record AreListed (before : ℕ) (bytes : List ℕ) (found : Listed) : Type 0 where
   pub bytes_are : bytes ≡ options_bytes before found.0 ++ found.1
   pub options : AreOptions before found.0
-  pub behind : AreBytes found.1
+  pub after : AreBytes found.1
   pub end : is_end found.1 ≡ true
 
 listed_first : (before : ℕ) (bytes : List ℕ) (o : RawOption) (more : Option Listed) (found : Listed) → IsRawOption before bytes o →
-    ((rest : Listed) → more ≡ Some rest → AreListed o.number o.behind rest) → with_first o more ≡ Some found → AreListed before bytes found
+    ((rest : Listed) → more ≡ Some rest → AreListed o.number o.after rest) → with_first o more ≡ Some found → AreListed before bytes found
 listed_first before bytes o None found p h e = absurd (cc e)
 listed_first before bytes o (Some rest) found p h e =
     let r = h rest refl in
@@ -223,29 +223,29 @@ listed_first before bytes o (Some rest) found p h e =
     subst (λ f. AreListed before bytes f) same (record {
       bytes_are = p.bytes_are ∙ (ap (λ xs. option_bytes (o.number - before) o.value ++ xs) r.bytes_are ∙ sym (append_assoc (option_bytes (o.number - before) o.value) (options_bytes o.number rest.0) rest.1));
       options = (p.option, r.options);
-      behind = r.behind;
+      after = r.after;
       end = r.end;
     })
 
 listed_by : (n before b : ℕ) (bytes : List ℕ) (found : Listed) (marked : Bool) → AreBytes (b ∷ bytes) → (b == 255) ≡ marked →
-    ((o : RawOption) (rest : Listed) → AreBytes o.behind → options_at n o.number o.behind ≡ Some rest → AreListed o.number o.behind rest) →
-    (if marked then Some ([], b ∷ bytes) else with_some (option_at before (b ∷ bytes)) (λ o. with_first o (options_at n o.number o.behind))) ≡ Some found →
+    ((o : RawOption) (rest : Listed) → AreBytes o.after → options_at n o.number o.after ≡ Some rest → AreListed o.number o.after rest) →
+    (if marked then Some ([], b ∷ bytes) else (option_at before (b ∷ bytes) >>= λ o. with_first o (options_at n o.number o.after))) ≡ Some found →
     AreListed before (b ∷ bytes) found
 listed_by n before b bytes found true h m ih e =
     let same : ([], b ∷ bytes) ≡ found = cc e in
-    subst (λ f. AreListed before (b ∷ bytes) f) same (record { bytes_are = refl; options = tt; behind = h; end = m })
+    subst (λ f. AreListed before (b ∷ bytes) f) same (record { bytes_are = refl; options = tt; after = h; end = m })
 listed_by n before b bytes found false h m ih e =
     let o = came (option_at before (b ∷ bytes)) _ found e in
     let p = option_from before (b ∷ bytes) o.value h o.first in
-    listed_first before (b ∷ bytes) o.value _ found p (λ rest r. ih o.value rest p.behind r) o.second
+    listed_first before (b ∷ bytes) o.value _ found p (λ rest r. ih o.value rest p.after r) o.second
 
 pub options_from : (n before : ℕ) (bytes : List ℕ) (found : Listed) → AreBytes bytes → options_at n before bytes ≡ Some found → AreListed before bytes found
 unfolding options_at
 options_from n before [] found b e =
     let same : ([], []) ≡ found = cc e in
-    subst (λ f. AreListed before [] f) same (record { bytes_are = refl; options = tt; behind = b; end = refl })
+    subst (λ f. AreListed before [] f) same (record { bytes_are = refl; options = tt; after = b; end = refl })
 options_from zero before (x ∷ bytes) found b e = absurd (cc e)
-options_from (suc n) before (x ∷ bytes) found b e = listed_by n before x bytes found _ b refl (λ o rest h r. options_from n o.number o.behind rest h r) e
+options_from (suc n) before (x ∷ bytes) found b e = listed_by n before x bytes found _ b refl (λ o rest h r. options_from n o.number o.after rest h r) e
 
 -- ---- options alone
 
@@ -271,15 +271,15 @@ pub none_left : (before : ℕ) (bytes : List ℕ) → HasOptions before bytes �
 none_left before bytes h e = none_by before bytes (options_of before bytes) h.bytes_are h.options e
 
 pub record Next (before : ℕ) (bytes : List ℕ) (o : RawOption) : Type 0 where
-  pub first : options_of before bytes ≡ (o.number, o.value) ∷ options_of o.number o.behind
-  pub left : HasOptions o.number o.behind
+  pub first : options_of before bytes ≡ (o.number, o.value) ∷ options_of o.number o.after
+  pub left : HasOptions o.number o.after
 
 some_by : (before : ℕ) (bytes : List ℕ) (options : List (ℕ × List ℕ)) (o : RawOption) → bytes ≡ options_bytes before options → AreOptions before options → options_of before bytes ≡ options →
     option_at before bytes ≡ Some o → Next before bytes o
 unfolding option_at
 some_by before bytes [] o b a s e = absurd (cc e)
 some_by before bytes ((number, value) ∷ options) o b a s e =
-    let same : record { number = number; value = value; behind = options_bytes number options } ≡ o = cc (e, ap (option_at before) b ∙ option_at-of before number value (options_bytes number options) a.0) in
+    let same : record { number = number; value = value; after = options_bytes number options } ≡ o = cc (e, ap (option_at before) b ∙ option_at-of before number value (options_bytes number options) a.0) in
     let rest = HasOptions-of number options (options_bytes number options) a.1 refl in
     subst (λ x. Next before bytes x) same (record { first = s ∙ ap (λ xs. (number, value) ∷ xs) (sym rest.1); left = rest.0 })
 

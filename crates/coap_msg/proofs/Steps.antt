@@ -1,9 +1,9 @@
--- Values that come in steps or behind a test, lists in two parts, and lists of bytes.
+-- Values that come in steps or after a test, lists in two parts, and lists of bytes.
 use Rattle.std.proofs.Common.{◌≡◌, ℕ, suc, ◌<◌, Bool, true, false, nat_le, List, [], ◌∷◌, ◌++◌, length, take, drop, get_or, Option, Some, None, refl, sym, ◌∙◌, subst, arith, length-append}
 use Rattle.std.proofs.Math.Seq.{take-append_seam, drop-append_seam}
 use Rattle.std.proofs.lemmas.List.{take-append-drop, length-take-le}
 use Rattle.std.proofs.lemmas.Bool.{leb-true, le-leb}
-use Rattle.coap_msg.specs.Reading.{with_some, guard, split}
+use Rattle.coap_msg.specs.Reading.{◌>>=◌, guard, split}
 
 -- a value that comes in two steps
 pub record Came {A B : Type 0} (o : Option A) (f : A → Option B) (y : B) : Type 0 where
@@ -11,11 +11,11 @@ pub record Came {A B : Type 0} (o : Option A) (f : A → Option B) (y : B) : Typ
   pub first : o ≡ Some value
   pub second : f value ≡ Some y
 
-pub came : {A B : Type 0} (o : Option A) (f : A → Option B) (y : B) → with_some o f ≡ Some y → Came o f y
+pub came : {A B : Type 0} (o : Option A) (f : A → Option B) (y : B) → (o >>= f) ≡ Some y → Came o f y
 came None f y e = absurd (cc e)
 came (Some x) f y e = record { value = x; first = refl; second = e }
 
--- a value behind a test
+-- a value after a test
 pub record Passed {A : Type 0} (b : Bool) (x y : A) : Type 0 where
   pub test : b ≡ true
   pub same : x ≡ y
@@ -53,7 +53,7 @@ pub record AreBytes (bytes : List ℕ) : Type 0 where
 pub tail_bytes : (b : ℕ) (bytes : List ℕ) → AreBytes (b ∷ bytes) → AreBytes bytes
 tail_bytes b bytes h = record { each = λ k. h.each (suc k) }
 
--- what is behind bytes are bytes
+-- what is after bytes are bytes
 pub back_bytes : (xs ys : List ℕ) → AreBytes (xs ++ ys) → AreBytes ys
 back_bytes [] ys h = h
 back_bytes (x ∷ xs) ys h = back_bytes xs ys (tail_bytes x (xs ++ ys) h)

@@ -1,15 +1,15 @@
--- A walk over options finds what is behind them.
+-- A walk over options finds what is after them.
 use Rattle.std.proofs.Common.{◌≡◌, ℕ, zero, suc, ◌-◌, ◌<◌, ◌≤◌, true, false, List, [], ◌∷◌, ◌++◌, length, take, Option, Some, None, refl, sym, ◌∙◌, ap, arith, append_assoc, length-append}
 use Rattle.std.proofs.Math.Seq.{take-append_seam}
 use Rattle.coap_msg.specs.Wire.{options_bytes}
-use Rattle.coap_msg.specs.Reading.{with_some, RawOption, option_at, Listed, with_first, is_end, options_at, EndsIn, AreSplit}
+use Rattle.coap_msg.specs.Reading.{◌>>=◌, RawOption, option_at, Listed, with_first, is_end, options_at, EndsIn, AreSplit}
 use Rattle.coap_msg.proofs.Steps.{AreBytes}
 use Rattle.coap_msg.proofs.Spelling.{options_from, HasOptions-of}
 
 -- what is found, with options before it
 abbrev pub after_all : List (ℕ × List ℕ) → Option Listed → Option Listed
 after_all done None = None
-after_all done (Some (options, behind)) = Some (done ++ options, behind)
+after_all done (Some (options, after)) = Some (done ++ options, after)
 
 -- options were passed, and the rest is still to be found
 pub record Walked (bytes : List ℕ) (number : ℕ) (rest : List ℕ) : Type 0 where
@@ -31,24 +31,24 @@ after_all-first done o (Some x) = ap (λ os. Some (os, x.1)) (sym (append_assoc 
 
 -- what stands first isn't the marker
 unmarked : (count number : ℕ) (rest : List ℕ) → is_end rest ≡ false →
-    options_at (suc count) number rest ≡ with_some (option_at number rest) (λ o. with_first o (options_at count o.number o.behind))
+    options_at (suc count) number rest ≡ (option_at number rest >>= λ o. with_first o (options_at count o.number o.after))
 unfolding options_at
 unmarked count number [] n = absurd (cc n)
 unmarked count number (b ∷ rest) n = rw n refl
 
 walked_by : (bytes : List ℕ) (number : ℕ) (rest : List ℕ) (o : RawOption) (done : List (ℕ × List ℕ)) (count : ℕ) → length rest ≤ count →
     options_at (length bytes) 0 bytes ≡ after_all done (options_at count number rest) → is_end rest ≡ false → option_at number rest ≡ Some o →
-    length o.behind < length rest → Walked bytes o.number o.behind
+    length o.after < length rest → Walked bytes o.number o.after
 walked_by bytes number rest o done zero h s n e f = absurd (omega arith)
 walked_by bytes number rest o done (suc count) h s n e f = record {
   done = done ++ ((o.number, o.value) ∷ []);
   count = count;
   enough = omega arith;
-  same = s ∙ (ap (after_all done) (unmarked count number rest n ∙ rw e refl) ∙ after_all-first done o (options_at count o.number o.behind));
+  same = s ∙ (ap (after_all done) (unmarked count number rest n ∙ rw e refl) ∙ after_all-first done o (options_at count o.number o.after));
 }
 
 pub walked_more : (bytes : List ℕ) (number : ℕ) (rest : List ℕ) (o : RawOption) → Walked bytes number rest → is_end rest ≡ false →
-    option_at number rest ≡ Some o → length o.behind < length rest → Walked bytes o.number o.behind
+    option_at number rest ≡ Some o → length o.after < length rest → Walked bytes o.number o.after
 walked_more bytes number rest o w n e f = walked_by bytes number rest o w.done w.count w.enough w.same n e f
 
 cut_by : (bytes : List ℕ) (number : ℕ) (rest : List ℕ) (done : List (ℕ × List ℕ)) (count : ℕ) → length rest ≤ count →
@@ -75,21 +75,21 @@ at_end (suc count) number (b ∷ rest) h e = rw e refl
 pub walked_end : (bytes : List ℕ) (number : ℕ) (rest : List ℕ) → Walked bytes number rest → is_end rest ≡ true → EndsIn bytes rest
 walked_end bytes number rest w e = record { options = w.done ++ []; found = w.same ∙ ap (after_all w.done) (at_end w.count number rest w.enough e) }
 
--- what is behind them isn't longer
-pub ends_shorter : (bytes behind : List ℕ) → AreBytes bytes → EndsIn bytes behind → length behind ≤ length bytes
-ends_shorter bytes behind b e =
-    let l = options_from (length bytes) 0 bytes (e.options, behind) b e.found in
+-- what is after them isn't longer
+pub ends_shorter : (bytes after : List ℕ) → AreBytes bytes → EndsIn bytes after → length after ≤ length bytes
+ends_shorter bytes after b e =
+    let l = options_from (length bytes) 0 bytes (e.options, after) b e.found in
     let own = options_bytes 0 e.options in
-    let whole : bytes ≡ own ++ behind = l.bytes_are in
-    omega (arith, ap length whole, length-append own behind)
+    let whole : bytes ≡ own ++ after = l.bytes_are in
+    omega (arith, ap length whole, length-append own after)
 
 -- the options' own bytes
-pub ends_split : (bytes front behind : List ℕ) → AreBytes bytes → EndsIn bytes behind → front ≡ take (length bytes - length behind) bytes → AreSplit bytes front behind
-ends_split bytes front behind b e f =
-    let l = options_from (length bytes) 0 bytes (e.options, behind) b e.found in
+pub ends_split : (bytes front after : List ℕ) → AreBytes bytes → EndsIn bytes after → front ≡ take (length bytes - length after) bytes → AreSplit bytes front after
+ends_split bytes front after b e f =
+    let l = options_from (length bytes) 0 bytes (e.options, after) b e.found in
     let own = options_bytes 0 e.options in
-    let whole : bytes ≡ own ++ behind = l.bytes_are in
-    let count : length bytes - length behind ≡ length own = omega (arith, ap length whole, length-append own behind) in
-    let front_is : front ≡ own = f ∙ (ap (λ n. take n bytes) count ∙ (ap (take (length own)) whole ∙ take-append_seam own behind)) in
+    let whole : bytes ≡ own ++ after = l.bytes_are in
+    let count : length bytes - length after ≡ length own = omega (arith, ap length whole, length-append own after) in
+    let front_is : front ≡ own = f ∙ (ap (λ n. take n bytes) count ∙ (ap (take (length own)) whole ∙ take-append_seam own after)) in
     let has = HasOptions-of 0 e.options front l.options front_is in
-    record { found = e.found ∙ ap (λ os. Some (os, behind)) (sym has.1); has_options = has.0 }
+    record { found = e.found ∙ ap (λ os. Some (os, after)) (sym has.1); has_options = has.0 }

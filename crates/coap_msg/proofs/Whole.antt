@@ -5,7 +5,7 @@ use Rattle.std.proofs.lemmas.Bool.{leb-true, eqb-true, eqb-false, le-leb, eq-eqb
 use Rattle.coap_msg.specs.declared.types.MessageType.{MessageType}
 use Rattle.coap_msg.specs.declared.types.MessageType.TheVariants.{Confirmable, NonConfirmable, Acknowledgement, Reset}
 use Rattle.coap_msg.specs.declared.types.Bad.TheVariants as bad
-use Rattle.coap_msg.specs.Wire.{Message, type_number, first_byte, options_bytes, payload_bytes, bytes_of, AreOptions, IsMessage, Spells}
+use Rattle.coap_msg.specs.Wire.{Message, type_number, first_byte, options_bytes, payload_bytes, message_bytes, AreOptions, IsMessage, SpellsMessage}
 use Rattle.coap_msg.specs.Reading.{SpellsNone, id_of, IsBad, type_of, token_length, split, is_end, options_at, payload_at, message_by, is_sized, message_of, bad_of, reading_of}
 use Rattle.coap_msg.proofs.Steps.{came, passed, passes, split-append, joins, AreBytes, back_bytes}
 use Rattle.coap_msg.proofs.Spelling.{options_at-of, options_from}
@@ -55,7 +55,7 @@ payload_from (b ∷ c ∷ rest) payload e =
     let p = passed (b == 255) (c ∷ rest) payload e in
     ap (λ x. x ∷ c ∷ rest) (eqb-true b 255 p.test) ∙ ap payload_bytes p.same
 
--- ---- how much stands behind the id
+-- ---- how much stands after the id
 
 sized_by : (code : ℕ) (rest : List ℕ) (is_empty : Bool) → (code == 0) ≡ is_empty → length rest ≤ 1276 → (code ≡ 0 → length rest ≡ 0) → nat_le (length rest) (if is_empty then 0 else 1276) ≡ true
 sized_by code rest true e h f = le-leb (length rest) 0 (omega (arith, f (eqb-true code 0 e)))
@@ -70,25 +70,25 @@ sized_to code rest false e h = (leb-true _ _ h, λ z. absurd (eqb-false code 0 e
 message_by-of : (m : Message) → IsMessage m →
     message_by (first_byte m.kind m.token) m.code m.id (m.token ++ (options_bytes 0 m.options ++ payload_bytes m.payload)) ≡ Some m
 message_by-of m h =
-    let behind = options_bytes 0 m.options ++ payload_bytes m.payload in
+    let after = options_bytes 0 m.options ++ payload_bytes m.payload in
     let n = length m.token in
     let short : n ≤ 8 = h.token in
     let upper : first_byte m.kind m.token / 16 ≡ 4 + type_number m.kind = omega arith in
     let lower : first_byte m.kind m.token % 16 ≡ n = omega arith in
     let token : token_length (first_byte m.kind m.token) ≡ Some n = rw lower (passes (nat_le n 8) n (le-leb n 8 short)) in
-    let listed = options_at-of (length behind) 0 m.options (payload_bytes m.payload) h.options (payload_end m.payload) (omega arith) in
-    rw (type_of-kind (first_byte m.kind m.token) m.kind upper, token, split-append m.token behind, listed, payload_at-of m.payload) refl
+    let listed = options_at-of (length after) 0 m.options (payload_bytes m.payload) h.options (payload_end m.payload) (omega arith) in
+    rw (type_of-kind (first_byte m.kind m.token) m.kind upper, token, split-append m.token after, listed, payload_at-of m.payload) refl
 
-message_of-of : (m : Message) → IsMessage m → message_of (bytes_of m) ≡ Some m
+message_of-of : (m : Message) → IsMessage m → message_of (message_bytes m) ≡ Some m
 unfolding message_of
 message_of-of m h =
     let rest = m.token ++ (options_bytes 0 m.options ++ payload_bytes m.payload) in
-    let size : length (bytes_of m) ≤ 1280 = h.size in
+    let size : length (message_bytes m) ≤ 1280 = h.size in
     let id : 256 * (m.id / 256) + m.id % 256 ≡ m.id = omega arith in
-    let sized = sized_by m.code rest _ refl (omega arith) (λ z. let four : length (bytes_of m) ≡ 4 = h.empty z in omega arith) in
+    let sized = sized_by m.code rest _ refl (omega arith) (λ z. let four : length (message_bytes m) ≡ 4 = h.empty z in omega arith) in
     rw (sized, id) (message_by-of m h)
 
-pub spelled_is_found : (bytes : List ℕ) (m : Message) → Spells bytes m → message_of bytes ≡ Some m
+pub spelled_is_found : (bytes : List ℕ) (m : Message) → SpellsMessage bytes m → message_of bytes ≡ Some m
 spelled_is_found bytes m s = ap message_of s.bytes_are ∙ message_of-of m s.limits
 
 -- ---- bytes that are read are what is written
@@ -111,9 +111,9 @@ behind_from first code id rest m b e =
     let count = came (token_length first) _ m kind.second in
     let token = came (split count.value rest) _ m count.second in
     let j = joins count.value rest token.value token.first in
-    let behind = back_bytes token.value.0 token.value.1 (subst (λ xs. AreBytes xs) j.bytes_are b) in
+    let after = back_bytes token.value.0 token.value.1 (subst (λ xs. AreBytes xs) j.bytes_are b) in
     let options = came (options_at (length token.value.1) 0 token.value.1) _ m token.second in
-    let l = options_from (length token.value.1) 0 token.value.1 options.value behind options.first in
+    let l = options_from (length token.value.1) 0 token.value.1 options.value after options.first in
     let payload = came (payload_at options.value.1) _ m options.second in
     let upper = type_from first kind.value kind.first in
     let t = passed (nat_le (first % 16) 8) (first % 16) count.value count.first in
@@ -129,20 +129,20 @@ behind_from first code id rest m b e =
     })
 
 whole_from : (first code high low : ℕ) (rest : List ℕ) (m : Message) → AreBytes (first ∷ code ∷ high ∷ low ∷ rest) → message_of (first ∷ code ∷ high ∷ low ∷ rest) ≡ Some m →
-    Spells (first ∷ code ∷ high ∷ low ∷ rest) m
+    SpellsMessage (first ∷ code ∷ high ∷ low ∷ rest) m
 unfolding message_of
 whole_from first code high low rest m b e =
     let small_code : code < 256 = b.each 1 in
     let small_high : high < 256 = b.each 2 in
     let small_low : low < 256 = b.each 3 in
-    let behind = back_bytes (first ∷ code ∷ high ∷ low ∷ []) rest b in
+    let after = back_bytes (first ∷ code ∷ high ∷ low ∷ []) rest b in
     let t = chosen (is_sized code rest) (message_by first code (256 * high + low) rest) m e in
     let sized = sized_to code rest _ refl t.0 in
-    let p = behind_from first code (256 * high + low) rest m behind t.1 in
+    let p = behind_from first code (256 * high + low) rest m after t.1 in
     let high_is : high ≡ m.id / 256 = omega (arith, p.id_is) in
     let low_is : low ≡ m.id % 256 = omega (arith, p.id_is) in
-    let bytes_are : first ∷ code ∷ high ∷ low ∷ rest ≡ bytes_of m = rw (p.first_is, p.code_is, high_is, low_is, p.rest_is) refl in
-    let size : 4 + length rest ≡ length (bytes_of m) = omega (arith, ap length bytes_are) in
+    let bytes_are : first ∷ code ∷ high ∷ low ∷ rest ≡ message_bytes m = rw (p.first_is, p.code_is, high_is, low_is, p.rest_is) refl in
+    let size : 4 + length rest ≡ length (message_bytes m) = omega (arith, ap length bytes_are) in
     record {
       bytes_are = bytes_are;
       limits = record {
@@ -155,7 +155,7 @@ whole_from first code high low rest m b e =
       };
     }
 
-pub found_is_spelled : (bytes : List ℕ) (m : Message) → AreBytes bytes → message_of bytes ≡ Some m → Spells bytes m
+pub found_is_spelled : (bytes : List ℕ) (m : Message) → AreBytes bytes → message_of bytes ≡ Some m → SpellsMessage bytes m
 unfolding message_of
 found_is_spelled [] m b e = absurd (cc e)
 found_is_spelled (x ∷ []) m b e = absurd (cc e)
@@ -191,5 +191,5 @@ pub read_none : (bytes : List ℕ) → message_of bytes ≡ None → reading_of 
 unfolding reading_of
 read_none bytes e = rw e refl
 
-pub written_again : (m : Message) → IsMessage m → reading_of (bytes_of m) ≡ Ok m
-written_again m h = read_some (bytes_of m) m (message_of-of m h)
+pub written_again : (m : Message) → IsMessage m → reading_of (message_bytes m) ≡ Ok m
+written_again m h = read_some (message_bytes m) m (message_of-of m h)

@@ -5,4 +5,4 @@ use Rattle.coap_msg.specs.Reading.{option_at}
 
 -- the option is the first of these bytes, after one of this number
 abbrev pub IsFirstOf : ℕ → List ℕ → RawOption → Type 0
-IsFirstOf before bytes o = option_at before bytes ≡ Some (record { number = o.number; value = o.value.now; behind = o.behind.now })
+IsFirstOf before bytes o = option_at before bytes ≡ Some (record { number = o.number; value = o.value.now; after = o.after.now })

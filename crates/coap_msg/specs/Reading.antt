@@ -1,15 +1,15 @@
 -- The message that bytes spell, as a function, and what they are where they spell none.
-use Rattle.std.specs.Prelude.{◌≡◌, ℕ, zero, suc, ◌+◌, ◌*◌, ◌/◌, ◌%◌, ◌≤◌, ◌==◌, ◌&&◌, Bool, true, false, nat_lt, nat_le, if◌then◌else◌, List, [], ◌∷◌, length, take, drop, slice_index, Option, Some, None, Result, Ok, Err}
+use Rattle.std.specs.Prelude.{◌≡◌, ℕ, zero, suc, ◌+◌, ◌*◌, ◌/◌, ◌%◌, ◌≤◌, ◌==◌, ◌&&◌, Bool, true, false, nat_lt, nat_le, if◌then◌else◌, List, [], ◌∷◌, length, take, drop, slice_index, Option, Some, None, option_and_then, Result, Ok, Err}
 use Rattle.coap_msg.specs.declared.types.MessageType.{MessageType}
 use Rattle.coap_msg.specs.declared.types.MessageType.TheVariants.{Confirmable, NonConfirmable, Acknowledgement, Reset}
 use Rattle.coap_msg.specs.declared.types.Bad.{Bad}
 use Rattle.coap_msg.specs.declared.types.Bad.TheVariants as bad
-use Rattle.coap_msg.specs.Wire.{Message, Spells, AreOptions, options_bytes}
+use Rattle.coap_msg.specs.Wire.{Message, SpellsMessage, AreOptions, options_bytes}
 
 -- the next step of a value that may be missing
-abbrev pub with_some : {A B : Type 0} → Option A → (A → Option B) → Option B
-with_some None f = None
-with_some (Some x) f = f x
+infixl 10 ◌>>=◌
+abbrev pub ◌>>=◌ : {A B : Type 0} → Option A → (A → Option B) → Option B
+o >>= f = option_and_then f o
 
 -- a value where the test holds
 abbrev pub guard : {A : Type 0} → Bool → A → Option A
@@ -20,7 +20,7 @@ guard true x = Some x
 
 -- the bytes spell no message
 abbrev pub SpellsNone : List ℕ → Type 0
-SpellsNone bytes = (m : Message) → Spells bytes m → ⊥
+SpellsNone bytes = (m : Message) → SpellsMessage bytes m → ⊥
 
 -- version 1 and type 0 stand in a header that isn't cut, of a datagram that isn't too long
 pub record IsConfirmable (bytes : List ℕ) : Type 0 where
@@ -49,7 +49,7 @@ type_of first =
 abbrev pub token_length : ℕ → Option ℕ
 token_length first = guard (nat_le (first % 16) 8) (first % 16)
 
--- the first so many bytes, and what is behind them, where there are so many
+-- the first so many bytes, and what is after them, where there are so many
 abbrev pub split : ℕ → List ℕ → Option (List ℕ × List ℕ)
 split count bytes = guard (nat_le count (length bytes)) (take count bytes, drop count bytes)
 
@@ -63,34 +63,34 @@ abbrev pub ext16 : List ℕ → Option (ℕ × List ℕ)
 ext16 (b ∷ c ∷ rest) = Some (256 * b + c + 269, rest)
 ext16 _ = None
 
--- the delta or length by its nibble and the bytes after it, and what is behind those
+-- the delta or length by its nibble and the bytes after it, and what is after those
 abbrev pub number_at : ℕ → List ℕ → Option (ℕ × List ℕ)
 number_at nibble bytes =
     if nat_lt nibble 13 then Some (nibble, bytes) else (if nibble == 13 then ext8 bytes else (if nibble == 14 then ext16 bytes else None))
 
--- an option, after one of this number, and what is behind it
+-- an option, after one of this number, and what is after it
 pub record RawOption : Type 0 where
   pub number : ℕ
   pub value : List ℕ
-  pub behind : List ℕ
+  pub after : List ℕ
 
 unfoldable pub option_at : ℕ → List ℕ → Option RawOption
 option_at before [] = None
 option_at before (first ∷ rest) =
-    with_some (number_at (first / 16) rest) (λ (delta, after_delta).
-    with_some (number_at (first % 16) after_delta) (λ (count, after_count).
-    with_some (guard (nat_lt (before + delta) 65536) (before + delta)) (λ number.
-    with_some (split count after_count) (λ (value, behind).
-    Some (record { number = number; value = value; behind = behind })))))
+    number_at (first / 16) rest >>= λ (delta, after_delta).
+    number_at (first % 16) after_delta >>= λ (count, after_count).
+    guard (nat_lt (before + delta) 65536) (before + delta) >>= λ number.
+    split count after_count >>= λ (value, after).
+    Some (record { number = number; value = value; after = after })
 
--- options, and the bytes behind them: none, or what a marker begins
+-- options, and the bytes after them: none, or what a marker begins
 abbrev pub Listed : Type 0
 Listed = List (ℕ × List ℕ) × List ℕ
 
 -- an option in front of those that were found
 abbrev pub with_first : RawOption → Option Listed → Option Listed
 with_first o None = None
-with_first o (Some (options, behind)) = Some (((o.number, o.value) ∷ options), behind)
+with_first o (Some (options, after)) = Some (((o.number, o.value) ∷ options), after)
 
 -- there the options end: nothing stands there, or a marker
 abbrev pub is_end : List ℕ → Bool
@@ -103,14 +103,14 @@ options_at count before [] = Some ([], [])
 options_at zero before (b ∷ bytes) = None
 options_at (suc count) before (b ∷ bytes) =
     if b == 255 then Some ([], b ∷ bytes) else
-    with_some (option_at before (b ∷ bytes)) (λ o. with_first o (options_at count o.number o.behind))
+    (option_at before (b ∷ bytes) >>= λ o. with_first o (options_at count o.number o.after))
 
 -- the options alone; none where bytes spell none
 abbrev pub all_of : Option Listed → List (ℕ × List ℕ)
 all_of None = []
-all_of (Some (options, behind)) = options
+all_of (Some (options, after)) = options
 
--- the options that bytes spell with nothing behind them
+-- the options that bytes spell with nothing after them
 unfoldable pub options_of : ℕ → List ℕ → List (ℕ × List ℕ)
 options_of before bytes = all_of (options_at (length bytes) before bytes)
 
@@ -123,31 +123,31 @@ pub record HasOptions (before : ℕ) (bytes : List ℕ) : Type 0 where
   pub bytes_are : bytes ≡ options_bytes before (options_of before bytes)
   pub options : AreOptions before (options_of before bytes)
 
--- what is behind the options that stand first
-pub record EndsIn (bytes behind : List ℕ) : Type 0 where
+-- what is after the options that stand first
+pub record EndsIn (bytes after : List ℕ) : Type 0 where
   pub options : List (ℕ × List ℕ)
-  pub found : options_at (length bytes) 0 bytes ≡ Some (options, behind)
+  pub found : options_at (length bytes) 0 bytes ≡ Some (options, after)
 
 -- the same, with the options' own bytes
-pub record AreSplit (bytes options behind : List ℕ) : Type 0 where
-  pub found : options_at (length bytes) 0 bytes ≡ Some (options_of 0 options, behind)
+pub record AreSplit (bytes options after : List ℕ) : Type 0 where
+  pub found : options_at (length bytes) 0 bytes ≡ Some (options_of 0 options, after)
   pub has_options : HasOptions 0 options
 
--- what stands behind the options: nothing, or the marker and at least one byte
+-- what stands after the options: nothing, or the marker and at least one byte
 abbrev pub payload_at : List ℕ → Option (List ℕ)
 payload_at [] = Some []
 payload_at (b ∷ []) = None
 payload_at (b ∷ c ∷ payload) = guard (b == 255) (c ∷ payload)
 
--- a header's bytes, and what is behind them
+-- a header's bytes, and what is after them
 abbrev pub message_by : ℕ → ℕ → ℕ → List ℕ → Option Message
 message_by first code id rest =
-    with_some (type_of first) (λ kind.
-    with_some (token_length first) (λ count.
-    with_some (split count rest) (λ (token, behind).
-    with_some (options_at (length behind) 0 behind) (λ (options, after).
-    with_some (payload_at after) (λ payload.
-    Some (record { kind = kind; code = code; id = id; token = token; options = options; payload = payload }))))))
+    type_of first >>= λ kind.
+    token_length first >>= λ count.
+    split count rest >>= λ (token, encoded).
+    options_at (length encoded) 0 encoded >>= λ (options, after).
+    payload_at after >>= λ payload.
+    Some (record { kind = kind; code = code; id = id; token = token; options = options; payload = payload })
 
 -- code 0.00 has nothing after the id, and there are at most 1,280 bytes
 abbrev pub is_sized : ℕ → List ℕ → Bool

@@ -44,14 +44,14 @@ abbrev pub options_bytes : ℕ → List (ℕ × List ℕ) → List ℕ
 options_bytes before [] = []
 options_bytes before ((number, value) ∷ options) = option_bytes (number - before) value ++ options_bytes number options
 
--- a payload stands behind a marker; where there is none, there is no marker
+-- a payload stands after a marker; where there is none, there is no marker
 abbrev pub payload_bytes : List ℕ → List ℕ
 payload_bytes [] = []
 payload_bytes (b ∷ payload) = 255 ∷ b ∷ payload
 
 -- the one spelling of a message
-abbrev pub bytes_of : Message → List ℕ
-bytes_of m = header m.kind m.code m.id m.token ++ (options_bytes 0 m.options ++ payload_bytes m.payload)
+abbrev pub message_bytes : Message → List ℕ
+message_bytes m = header m.kind m.code m.id m.token ++ (options_bytes 0 m.options ++ payload_bytes m.payload)
 
 -- an option has a number of 16 bits that is at least the one before, and at most 65,804 bytes
 pub record IsOption (before number : ℕ) (value : List ℕ) : Type 0 where
@@ -70,10 +70,10 @@ pub record IsMessage (m : Message) : Type 0 where
   pub id : m.id < 65536
   pub token : length m.token ≤ 8
   pub options : AreOptions 0 m.options
-  pub size : length (bytes_of m) ≤ 1280
-  pub empty : m.code ≡ 0 → length (bytes_of m) ≡ 4
+  pub size : length (message_bytes m) ≤ 1280
+  pub empty : m.code ≡ 0 → length (message_bytes m) ≡ 4
 
 -- the bytes spell the message
-pub record Spells (bytes : List ℕ) (m : Message) : Type 0 where
-  pub bytes_are : bytes ≡ bytes_of m
+pub record SpellsMessage (bytes : List ℕ) (m : Message) : Type 0 where
+  pub bytes_are : bytes ≡ message_bytes m
   pub limits : IsMessage m

@@ -11,8 +11,8 @@ abbrev pub options_in : List (ℕ × Bor (List ℕ)) → List (ℕ × List ℕ)
 options_in options = map (λ o. (o.0, o.1.now)) options
 
 -- a message without where its parts lie
-abbrev pub stated : Outgoing → Message
-stated m = record { kind = m.kind; code = m.code.byte; id = m.id; token = m.token.now; options = options_in m.options.now; payload = m.payload.now }
+abbrev pub message_stated : Outgoing → Message
+message_stated m = record { kind = m.kind; code = m.code.byte; id = m.id; token = m.token.now; options = options_in m.options.now; payload = m.payload.now }
 
 -- the option of this number, where there is a value
 abbrev pub optional : ℕ → Option (List ℕ) → List (ℕ × List ℕ)

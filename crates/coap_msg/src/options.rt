@@ -45,24 +45,24 @@ impl<'a> Iterator for Options<'a> {
     fn next(&mut self) -> Option<(u16, &'a [u8])> {
         let option = split_option(self.before, self.bytes)?;
         self.before = option.number;
-        self.bytes = option.behind;
+        self.bytes = option.after;
         Some((option.number, option.value))
     }
 }
 
-/// An option as it is encoded, and the bytes behind it.
+/// An option as it is encoded, and the bytes after it.
 #[derive(Drop)]
 struct RawOption<'a> {
     number: u16,
     value: &'a [u8],
-    behind: &'a [u8],
+    after: &'a [u8],
 }
 
 /// Decodes the first option, after one of the number `before`.
 #[tactic(auto, unfolding(crate::specs::Reading::option_at))]
 fn split_option(before: u16, bytes: &[u8]) -> Option<RawOption<'_>>
     ensures option { MatchOption result (option_at before bytes.now ≡ None) (IsFirstOf before bytes.now) }
-    ensures shorter { IfSome result (λ o. length o.behind.now < length bytes.now) }
+    ensures shorter { IfSome result (λ o. length o.after.now < length bytes.now) }
 {
     let [first, rest @ ..] = bytes else {
         return None;
@@ -70,15 +70,15 @@ fn split_option(before: u16, bytes: &[u8]) -> Option<RawOption<'_>>
     let (delta, rest) = read_extended(*first / 16, rest)?;
     let (length, rest) = read_extended(*first % 16, rest)?;
     let number = number_above(before, delta)?;
-    let (value, behind) = rest.split_at_checked(length as usize)?;
+    let (value, after) = rest.split_at_checked(length as usize)?;
     Some(RawOption {
         number,
         value,
-        behind,
+        after,
     })
 }
 
-/// Decodes a delta or length by its nibble and the bytes after it, and gives what is behind those.
+/// Decodes a delta or length by its nibble and the bytes after it, and gives what is after those.
 fn read_extended(nibble: u8, bytes: &[u8]) -> Option<(u32, &[u8])>
     ensures number { MatchOption result (number_at nibble bytes.now ≡ None)
         (λ n. number_at nibble bytes.now ≡ Some (n.0, n.1.now)) }
@@ -109,27 +109,27 @@ fn number_above(before: u16, delta: u32) -> Option<u16>
     }
 }
 
-/// The options that stand first, and what is behind them.
+/// The options that stand first, and what is after them.
 pub(crate) fn split_options(bytes: &[u8]) -> Option<(&[u8], &[u8])>
     ensures { MatchOption result (options_at (length bytes.now) 0 bytes.now ≡ None)
         (λ parts. AreSplit bytes.now parts.0.now parts.1.now) }
 {
-    let behind = behind_options(bytes)?;
-    let options = &bytes[..bytes.len() - behind.len()];
-    Some((options, behind))
+    let after = after_options(bytes)?;
+    let options = &bytes[..bytes.len() - after.len()];
+    Some((options, after))
 }
 
-/// What is behind the options that stand first.
-fn behind_options(bytes: &[u8]) -> Option<&[u8]>
+/// What is after the options that stand first.
+fn after_options(bytes: &[u8]) -> Option<&[u8]>
     ensures { MatchOption result (options_at (length bytes.now) 0 bytes.now ≡ None)
-        (λ behind. EndsIn bytes.now behind.now) }
+        (λ after. EndsIn bytes.now after.now) }
 {
     let mut number = 0;
     let mut rest = bytes;
     while !at_end(rest) {
         let option = split_option(number, rest)?;
         number = option.number;
-        rest = option.behind;
+        rest = option.after;
     }
     Some(rest)
 }

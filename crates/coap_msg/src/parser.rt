@@ -1,6 +1,6 @@
 //! From a datagram to a message.
 ghost use Rattle.std.specs.Prelude.{◌≡◌, ◌/◌, ◌==◌, IfErr, IfOk, MatchOption, Ok};
-ghost use Rattle.coap_msg.specs.Wire.{Message as Stated, Spells};
+ghost use Rattle.coap_msg.specs.Wire.{Message as Stated, SpellsMessage};
 ghost use Rattle.coap_msg.specs.Reading.{IsBad, bad_of, is_sized, message_by, message_of, payload_at, reading_of};
 ghost use Rattle.coap_msg.specs.Reading as spec;
 
@@ -18,8 +18,8 @@ use crate::wire::{
 /// What is to be done about a datagram that spells none: a confirmable message with a format error is rejected, by its
 /// message id; everything else is ignored.
 pub fn read(bytes: &[u8]) -> Result<Message<'_>, Bad>
-    ensures message { IfOk result (Spells bytes.now) }
-    ensures spelled { (m : Stated) → Spells bytes.now m → result ≡ Ok m }
+    ensures message { IfOk result (SpellsMessage bytes.now) }
+    ensures spelled { (m : Stated) → SpellsMessage bytes.now m → result ≡ Ok m }
     ensures bad { IfErr result (IsBad bytes.now) }
     ensures function { result ≡ reading_of bytes.now }
 {
@@ -104,7 +104,7 @@ fn token_length(first: u8) -> Option<usize>
     if length <= TOKEN { Some(length) } else { None }
 }
 
-/// What stands behind the options: nothing, or the marker and a payload that isn't empty.
+/// What stands after the options: nothing, or the marker and a payload that isn't empty.
 fn payload_of(bytes: &[u8]) -> Option<&[u8]>
     ensures { MatchOption result (payload_at bytes.now ≡ None)
         (λ payload. payload_at bytes.now ≡ Some payload.now) }

@@ -1,8 +1,8 @@
 //! From a message to a datagram: [`write`], and the steps that write a message's parts one after another.
 ghost use Rattle.std.specs.Prelude.{◌≡◌, ◌+◌, ◌-◌, ◌<◌, ◌≤◌, ◌++◌, ◌/◌, length};
 ghost use Rattle.arrayvec.specs.ArrayVec.{array_vec_len};
-ghost use Rattle.coap_msg.specs.Wire.{IsMessage, AreOptions, bytes_of, extension, nibble, header, option_bytes, options_bytes, payload_bytes, type_number};
-ghost use Rattle.coap_msg.specs.Writing.{last_number, options_in, short_option, stated};
+ghost use Rattle.coap_msg.specs.Wire.{IsMessage, AreOptions, message_bytes, extension, nibble, header, option_bytes, options_bytes, payload_bytes, type_number};
+ghost use Rattle.coap_msg.specs.Writing.{last_number, options_in, short_option, message_stated};
 
 use crate::code::Code;
 use crate::types::{DATAGRAM, Datagram, MessageType, SHORT_OPTION, ShortValue};
@@ -31,8 +31,8 @@ pub struct Outgoing<'a> {
 
 /// Writes a message in its one encoding, in place of what the datagram held.
 pub fn write(message: &Outgoing<'_>, datagram: &mut Datagram)
-    requires { IsMessage (stated message.now) }
-    ensures { datagram.new.items ≡ bytes_of (stated message.now) }
+    requires { IsMessage (message_stated message.now) }
+    ensures { datagram.new.items ≡ message_bytes (message_stated message.now) }
 {
     datagram.clear();
     write_head(
@@ -151,7 +151,7 @@ fn write_extension<const N: usize>(number: u32, datagram: &mut ArrayVec<u8, N>)
     }
 }
 
-/// Appends a payload behind its marker; nothing where it is empty.
+/// Appends a payload after its marker; nothing where it is empty.
 pub fn write_payload(payload: &[u8], datagram: &mut Datagram)
     requires { array_vec_len datagram.old + length (payload_bytes payload.now) ≤ DATAGRAM }
     ensures { datagram.new.items ≡ datagram.old.items ++ payload_bytes payload.now }

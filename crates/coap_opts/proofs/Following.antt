@@ -1,4 +1,4 @@
--- Options written one behind another.
+-- Options written one after another.
 use Rattle.std.proofs.Common.{◌≡◌, ℕ, ◌-◌, List, [], ◌∷◌, ◌++◌, refl, sym, ap, subst, ◌∙◌, append_assoc}
 use Rattle.coap_msg.specs.Wire.{AreOptions, option_bytes, options_bytes}
 use Rattle.coap_msg.specs.Writing.{last_number}
@@ -15,7 +15,7 @@ are_append : (before : ℕ) (xs ys : List (ℕ × List ℕ)) → AreOptions befo
 are_append before [] ys a b = b
 are_append before ((n, v) ∷ xs) ys a b = (a.0, are_append n xs ys a.1 b)
 
--- behind those that are written
+-- after those that are written
 pub record IsSoFar (start bytes : List ℕ) (last : ℕ) (done : List (ℕ × List ℕ)) : Type 0 where
   pub bytes_are : bytes ≡ start ++ options_bytes 0 done
   pub last_is : last ≡ last_number 0 done

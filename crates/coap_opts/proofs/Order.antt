@@ -7,42 +7,42 @@ use Rattle.coap_opts.specs.declared.request.Resource.{Resource}
 use Rattle.coap_opts.specs.Path.{method_of}
 use Rattle.coap_opts.specs.Served.{serves, there}
 use Rattle.coap_opts.specs.Recognition.{has_unknown_critical}
-use Rattle.coap_opts.specs.Verdict.{IsKnown, IsServed, asked, has, resource, names_proxy, number_in, query, etags, observe_at, is_reserved, has_bad_value, refusal_of}
+use Rattle.coap_opts.specs.Verdict.{IsKnown, IsServedAt, asked, has, resource, names_proxy, number_in, query, etags, observe_at, is_reserved, has_bad_value, refusal_code}
 use Rattle.coap_opts.specs.Collected.{IsCollected, IsQueryBy, lent, resource_with}
 use Rattle.coap_opts.specs.declared.collector.Collected.{Collected}
-use Rattle.coap_opts.specs.Values.{number_of}
+use Rattle.coap_opts.specs.Values.{uint_value}
 use Rattle.std.specs.Option.{option_map}
 
-pub proxy_fails : (m : Message) → names_proxy m ≡ true → refusal_of m ≡ Some 165
-unfolding refusal_of
+pub proxy_fails : (m : Message) → names_proxy m ≡ true → refusal_code m ≡ Some 165
+unfolding refusal_code
 proxy_fails m p = rw p refl
 
-pub unknown_fails : (m : Message) → names_proxy m ≡ false → has_unknown_critical m.code None m.options ≡ true → refusal_of m ≡ Some 130
-unfolding refusal_of
+pub unknown_fails : (m : Message) → names_proxy m ≡ false → has_unknown_critical m.code None m.options ≡ true → refusal_code m ≡ Some 130
+unfolding refusal_code
 unknown_fails m p u = rw (p, u) refl
 
-pub method_fails : (m : Message) → IsKnown m → method_of m.code ≡ None → refusal_of m ≡ Some 133
-unfolding refusal_of
+pub method_fails : (m : Message) → IsKnown m → method_of m.code ≡ None → refusal_code m ≡ Some 133
+unfolding refusal_code
 method_fails m k e = rw (k.no_proxy, k.no_unknown, e) refl
 
-pub path_fails : (m : Message) (method : Method) → IsKnown m → method_of m.code ≡ Some method → resource m ≡ None → refusal_of m ≡ Some 132
-unfolding refusal_of
+pub path_fails : (m : Message) (method : Method) → IsKnown m → method_of m.code ≡ Some method → resource m ≡ None → refusal_code m ≡ Some 132
+unfolding refusal_code
 path_fails m method k e r = rw (k.no_proxy, k.no_unknown, e, r) refl
 
-pub service_fails : (m : Message) (method : Method) (at : Resource) → IsKnown m → method_of m.code ≡ Some method → resource m ≡ Some at → serves at method ≡ false → refusal_of m ≡ Some 133
-unfolding refusal_of
+pub service_fails : (m : Message) (method : Method) (at : Resource) → IsKnown m → method_of m.code ≡ Some method → resource m ≡ Some at → serves at method ≡ false → refusal_code m ≡ Some 133
+unfolding refusal_code
 service_fails m method at k e r s = rw (k.no_proxy, k.no_unknown, e, r, s) refl
 
-pub value_fails : (m : Message) (method : Method) (at : Resource) → IsServed m method at → has_bad_value m ≡ true → refusal_of m ≡ Some 128
-unfolding refusal_of
+pub value_fails : (m : Message) (method : Method) (at : Resource) → IsServedAt m method at → has_bad_value m ≡ true → refusal_code m ≡ Some 128
+unfolding refusal_code
 value_fails m method at s b = rw (s.known.no_proxy, s.known.no_unknown, s.method_is, s.resource_is, s.served, b) refl
 
-pub payload_fails : (m : Message) (method : Method) (at : Resource) → IsServed m method at → has_bad_value m ≡ false → nat_lt 1024 (length m.payload) ≡ true → refusal_of m ≡ Some 141
-unfolding refusal_of
+pub payload_fails : (m : Message) (method : Method) (at : Resource) → IsServedAt m method at → has_bad_value m ≡ false → nat_lt 1024 (length m.payload) ≡ true → refusal_code m ≡ Some 141
+unfolding refusal_code
 payload_fails m method at s b p = rw (s.known.no_proxy, s.known.no_unknown, s.method_is, s.resource_is, s.served, b, p) refl
 
-pub none_fails : (m : Message) (method : Method) (at : Resource) → IsServed m method at → has_bad_value m ≡ false → nat_lt 1024 (length m.payload) ≡ false → refusal_of m ≡ None
-unfolding refusal_of
+pub none_fails : (m : Message) (method : Method) (at : Resource) → IsServedAt m method at → has_bad_value m ≡ false → nat_lt 1024 (length m.payload) ≡ false → refusal_code m ≡ None
+unfolding refusal_code
 none_fails m method at s b p = rw (s.known.no_proxy, s.known.no_unknown, s.method_is, s.resource_is, s.served, b, p) refl
 
 -- ---- by what is collected
@@ -58,10 +58,10 @@ long_by true items all h = lt-ltb 64 (length all) h
 long_by false items all h = rw (sym h.0) (le-ltb 64 (length items) h.1)
 
 pub collected_served : (m : Message) (g : Collected) (method : Method) (at : Resource) → IsCollected m g → IsKnown m → method_of m.code ≡ Some method → there (resource_with g.path []) ≡ Some at →
-    serves at method ≡ true → IsServed m method at
+    serves at method ≡ true → IsServedAt m method at
 collected_served m g method at h k e r s = record { known = k; method_is = e; resource_is = ap there (sym h.path) ∙ r; served = s }
 
-pub collected_bad : (m : Message) (g : Collected) → IsCollected m g → (first second : Option ℕ) → first ≡ option_map number_of (lent g.block1) → second ≡ option_map number_of (lent g.block2) →
+pub collected_bad : (m : Message) (g : Collected) → IsCollected m g → (first second : Option ℕ) → first ≡ option_map uint_value (lent g.block1) → second ≡ option_map uint_value (lent g.block2) →
     has_bad_value m ≡ ((is_reserved first || is_reserved second) || g.query.is_long)
 collected_bad m g h first second a b = rw (a, b, h.block1, h.block2, long_by _ _ _ h.query) refl
 
@@ -77,7 +77,7 @@ pub collected_query : (m : Message) (g : Collected) → IsCollected m g → has_
 collected_query m g h e = query_by _ _ _ h.query (or_right (is_reserved (number_in 27 m) || is_reserved (number_in 23 m)) _ e)
 
 -- the request
-asked_is : (m : Message) (method : Method) (at : Resource) → IsServed m method at → asked m ≡ Some (record {
+asked_is : (m : Message) (method : Method) (at : Resource) → IsServedAt m method at → asked m ≡ Some (record {
   method = method;
   resource = at;
   query = query m;
@@ -92,7 +92,7 @@ unfolding asked
 asked_is m method at s = rw (s.method_is, s.resource_is) refl
 
 pub asked_with : (m : Message) (method : Method) (at : Resource) (whole : List ℕ) (format : Option ℕ) (tags : List ℕ) (watch first second : Option ℕ) (payload : List ℕ) →
-    IsServed m method at → whole ≡ query m → format ≡ number_in 12 m → tags ≡ etags m → watch ≡ observe_at at (number_in 6 m) → first ≡ number_in 27 m → second ≡ number_in 23 m → payload ≡ m.payload →
+    IsServedAt m method at → whole ≡ query m → format ≡ number_in 12 m → tags ≡ etags m → watch ≡ observe_at at (number_in 6 m) → first ≡ number_in 27 m → second ≡ number_in 23 m → payload ≡ m.payload →
     asked m ≡ Some (record {
       method = method;
       resource = at;

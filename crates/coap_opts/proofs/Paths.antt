@@ -5,7 +5,7 @@ use Rattle.std.specs.Fmt.{decimal}
 use Rattle.std.proofs.lemmas.Bool.{ltb-true, leb-true, lt-ltb, le-leb, and_from, and_parts, cases_lt}
 use Rattle.std.proofs.lemmas.Fmt.{decimal_digit, decimal_step}
 use Rattle.std.proofs.lemmas.Slice.Eq.{bytes_eq-Decides}
-use Rattle.coap_msg.specs.Reading.{with_some, guard}
+use Rattle.coap_msg.specs.Reading.{◌>>=◌, guard}
 use Rattle.coap_opts.specs.declared.request.Resource.{Resource}
 use Rattle.coap_opts.specs.declared.request.Resource.TheVariants.{Run, Program, Core}
 use Rattle.coap_opts.specs.Path.{digit, slot_named, resource_of, IsResource, path_of}
@@ -16,11 +16,11 @@ record Came {A B : Type 0} (o : Option A) (f : A → Option B) (y : B) : Type 0 
   first : o ≡ Some value
   second : f value ≡ Some y
 
-came : {A B : Type 0} (o : Option A) (f : A → Option B) (y : B) → with_some o f ≡ Some y → Came o f y
+came : {A B : Type 0} (o : Option A) (f : A → Option B) (y : B) → (o >>= f) ≡ Some y → Came o f y
 came None f y e = absurd (cc e)
 came (Some x) f y e = record { value = x; first = refl; second = e }
 
--- a value behind a test
+-- a value after a test
 record Passed {A : Type 0} (b : Bool) (x y : A) : Type 0 where
   test : b ≡ true
   same : x ≡ y
@@ -113,7 +113,7 @@ same_bytes xs ys e = (bytes_eq-Decides xs ys).0 e
 
 named_by : (first second : List ℕ) (r : Resource) (run program core : Bool) → bytes_eq first (codes "r") ≡ run → bytes_eq first (codes "p") ≡ program →
     (bytes_eq first (codes ".well-known") && bytes_eq second (codes "core")) ≡ core →
-    (if run then with_some (slot_named second) (λ n. Some (Run n)) else (if program then with_some (slot_named second) (λ n. Some (Program n)) else (if core then Some Core else None))) ≡ Some r →
+    (if run then (slot_named second >>= λ n. Some (Run n)) else (if program then (slot_named second >>= λ n. Some (Program n)) else (if core then Some Core else None))) ≡ Some r →
     IsNamed first second r
 named_by first second r true program core a b c e =
     let s = came (slot_named second) _ r e in

@@ -5,7 +5,7 @@ use Rattle.std.specs.Option.{option_map}
 use Rattle.std.proofs.lemmas.List.{length-take}
 use Rattle.std.proofs.lemmas.Bool.{ltb-false, leb-true, eqb-false, and_parts}
 use Rattle.coap_msg.specs.Wire.{Message}
-use Rattle.coap_msg.specs.Reading.{with_some}
+use Rattle.coap_msg.specs.Reading.{◌>>=◌}
 use Rattle.coap_msg.specs.declared.types.MessageType.{MessageType}
 use Rattle.coap_msg.specs.declared.types.MessageType.TheVariants as kind
 use Rattle.coap_msg.specs.declared.code.TheConstants.Code.{GET, PUT, BAD_OPTION}
@@ -15,8 +15,8 @@ use Rattle.coap_opts.specs.declared.request.Method.TheVariants.{Get, Put}
 use Rattle.coap_opts.specs.declared.request.Resource.{Resource}
 use Rattle.coap_opts.specs.declared.request.Resource.TheVariants.{Run, Program, Core}
 use Rattle.coap_opts.specs.Path.{method_of}
-use Rattle.coap_opts.specs.Values.{number_of}
-use Rattle.coap_opts.specs.Verdict.{Asked, IsAsked, IsAskedWithin, IsBlockFor, IsErrorCode, IsRefused, IsSilent, IsReset, IsSignal, IsIgnored, Verdict, asked, accepted, resource, verdict, verdict_by, judged, judged_by, refused, refusal_of, checks, first_failing, first_of, is_request, is_reserved, is_run, is_served, has_bad_value, query, values, number_in, etags, observe_at}
+use Rattle.coap_opts.specs.Values.{uint_value}
+use Rattle.coap_opts.specs.Verdict.{Asked, IsAsked, IsAskedWithin, IsBlockFor, IsErrorCode, IsRefused, IsSilent, IsReset, IsSignal, IsIgnored, Verdict, asked, accepted, resource, verdict, verdict_by, request_verdict, verdict_by_check, refusal_verdict, refusal_code, checks, first_failing, first_of, is_request, is_reserved, is_run, is_served, has_bad_value, query, values, number_in, etags, observe_at}
 use Rattle.coap_opts.specs.Served.{is_there, there, serves}
 use Rattle.coap_opts.proofs.Known.{block1_in_put, block2_in_get, etag_in_get, observe_in_get}
 use Rattle.coap_opts.proofs.Paths.{path_only}
@@ -47,7 +47,7 @@ fields m method at = record {
 }
 
 made_by : (m : Message) (r : Asked) (method : Option Method) (at : Option Resource) → method_of m.code ≡ method → resource m ≡ at →
-    with_some method (λ method. with_some at (λ at. Some (fields m method at))) ≡ Some r → IsMadeOf m r
+    (method >>= λ method. at >>= λ at. Some (fields m method at)) ≡ Some r → IsMadeOf m r
 made_by m r None at e f h = absurd (cc h)
 made_by m r (Some method) None e f h = absurd (cc h)
 made_by m r (Some method) (Some at) e f h =
@@ -91,8 +91,8 @@ not_false : (b : Bool) → not b ≡ false → b ≡ true
 not_false true h = refl
 not_false false h = absurd (cc h)
 
-passed : (m : Message) → refusal_of m ≡ None → IsPassed m
-unfolding refusal_of
+passed : (m : Message) → refusal_code m ≡ None → IsPassed m
+unfolding refusal_code
 passed m h =
     let behind_path = (all_pass (checks m) h).1.1.1.1 in
     record { served = not_false _ behind_path.0; values_are_good = behind_path.1.0; payload = behind_path.1.1.0 }
@@ -121,21 +121,21 @@ served_by (Some at) (Some method) r q a e h =
 good_size : (value : ℕ) → is_reserved (Some value) ≡ false → value % 8 < 7
 good_size value h = let not_seven : value % 8 ≢ 7 = eqb-false (value % 8) 7 h in omega arith
 
-block_by : (wanted method : Method) (value : Option (List ℕ)) → is_reserved (option_map number_of value) ≡ false → ((v : List ℕ) → value ≡ Some v → method ≡ wanted) → IsBlockFor wanted method (option_map number_of value)
+block_by : (wanted method : Method) (value : Option (List ℕ)) → is_reserved (option_map uint_value value) ≡ false → ((v : List ℕ) → value ≡ Some v → method ≡ wanted) → IsBlockFor wanted method (option_map uint_value value)
 block_by wanted method None g h = tt
-block_by wanted method (Some v) g h = (h v refl, good_size (number_of v) g)
+block_by wanted method (Some v) g h = (h v refl, good_size (uint_value v) g)
 
 or_false : (a b : Bool) → a || b ≡ false → (a ≡ false) × (b ≡ false)
 or_false true b h = absurd (cc h)
 or_false false b h = (refl, h)
 
-observe_by : (method : Method) (at : Resource) (value : Option (List ℕ)) → ((v : List ℕ) → value ≡ Some v → method ≡ Get) → IfSome (observe_at at (option_map number_of value)) (λ n. (method ≡ Get) × (is_run at ≡ true))
+observe_by : (method : Method) (at : Resource) (value : Option (List ℕ)) → ((v : List ℕ) → value ≡ Some v → method ≡ Get) → IfSome (observe_at at (option_map uint_value value)) (λ n. (method ≡ Get) × (is_run at ≡ true))
 observe_by method (Run n) None h = tt
 observe_by method (Run n) (Some v) h = (h v refl, refl)
 observe_by method (Program n) value h = tt
 observe_by method Core value h = tt
 
-no_tags : (method : Method) (tags : List (List ℕ)) → ((v : List ℕ) → first_of tags ≡ Some v → method ≡ Get) → method ≢ Get → take 4 (map number_of (filter (λ v. length v == 8) tags)) ≡ []
+no_tags : (method : Method) (tags : List (List ℕ)) → ((v : List ℕ) → first_of tags ≡ Some v → method ≡ Get) → method ≢ Get → take 4 (map uint_value (filter (λ v. length v == 8) tags)) ≡ []
 no_tags method [] h n = refl
 no_tags method (v ∷ tags) h n = absurd (n (h v refl))
 
@@ -182,8 +182,8 @@ failing_is_error ((fails, first) ∷ more) answer e h =
     let both = and_parts _ _ e in
     failing_by fails first answer more both.0 (failing_is_error more answer both.1) h
 
-refusal_is_error : (m : Message) (answer : ℕ) → refusal_of m ≡ Some answer → IsErrorCode answer
-unfolding refusal_of
+refusal_is_error : (m : Message) (answer : ℕ) → refusal_code m ≡ Some answer → IsErrorCode answer
+unfolding refusal_code
 refusal_is_error m answer h =
     let parts = and_parts _ _ (failing_is_error (checks m) answer refl h) in
     record { at_least = leb-true 128 answer parts.0; at_most = leb-true answer 191 parts.1 }
@@ -200,7 +200,7 @@ if_within : (m : Message) (b : Bool) (v w : Verdict) → IsWithin m v → IsWith
 if_within m true v w p q = p
 if_within m false v w p q = q
 
-refused_by : (m : Message) (k : MessageType) (answer : ℕ) → IsErrorCode answer → IsWithin m (refused k answer)
+refused_by : (m : Message) (k : MessageType) (answer : ℕ) → IsErrorCode answer → IsWithin m (refusal_verdict k answer)
 refused_by m kind.NonConfirmable answer h = if_within m (answer == BAD_OPTION.byte) IsSilent (IsRefused answer) tt h
 refused_by m kind.Confirmable answer h = h
 refused_by m kind.Acknowledgement answer h = h
@@ -210,13 +210,13 @@ accepted_by : (m : Message) (r : Option Asked) → asked m ≡ r → IsPassed m 
 accepted_by m None e p = tt
 accepted_by m (Some r) e p = fields_within m r (made_of m r e) p
 
-judged_within : (m : Message) (o : Option ℕ) → refusal_of m ≡ o → IsWithin m (judged_by m o)
+judged_within : (m : Message) (o : Option ℕ) → refusal_code m ≡ o → IsWithin m (verdict_by_check m o)
 judged_within m (Some answer) e = refused_by m m.kind answer (refusal_is_error m answer e)
 judged_within m None e = accepted_by m (asked m) refl (passed m e)
 
 kind_within : (m : Message) (k : MessageType) → IsWithin m (verdict_by k m)
-kind_within m kind.Confirmable = if_within m (is_request m.code) (judged m) IsReset (judged_within m _ refl) tt
-kind_within m kind.NonConfirmable = if_within m (is_request m.code) (judged m) IsIgnored (judged_within m _ refl) tt
+kind_within m kind.Confirmable = if_within m (is_request m.code) (request_verdict m) IsReset (judged_within m _ refl) tt
+kind_within m kind.NonConfirmable = if_within m (is_request m.code) (request_verdict m) IsIgnored (judged_within m _ refl) tt
 kind_within m kind.Acknowledgement = if_within m (m.code == 0) (IsSignal false) IsIgnored tt tt
 kind_within m kind.Reset = if_within m (m.code == 0) (IsSignal true) IsIgnored tt tt
 

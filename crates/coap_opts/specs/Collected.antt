@@ -10,7 +10,7 @@ use Rattle.coap_opts.specs.declared.collector.Segments.TheVariants.{Empty, One, 
 use Rattle.coap_opts.specs.declared.collector.JoinedQuery.{JoinedQuery}
 use Rattle.coap_opts.specs.declared.collector.Collected.{Collected}
 use Rattle.coap_opts.specs.declared.request.Resource.{Resource}
-use Rattle.coap_opts.specs.Values.{number_of}
+use Rattle.coap_opts.specs.Values.{uint_value}
 use Rattle.coap_opts.specs.Path.{resource_of}
 use Rattle.coap_opts.specs.Recognition.{values_of}
 use Rattle.coap_opts.specs.Verdict.{first_of, values, query, etags}
@@ -35,7 +35,7 @@ resource_with More left = None
 
 -- the numbers of the values of eight bytes
 abbrev pub eights : List (List ℕ) → List ℕ
-eights values = map number_of (filter (λ v. length v == 8) values)
+eights values = map uint_value (filter (λ v. length v == 8) values)
 
 -- the first four ETags
 abbrev pub tags_with : List ℕ → List (List ℕ) → List ℕ
@@ -69,7 +69,7 @@ pub record IsTaken (old new : Collected) (number : ℕ) (value : List ℕ) : Typ
   pub proxy_uri : (left : List (List ℕ)) → first_with (lent old.proxy_uri) (cons_if (number == option.PROXY_URI) value left) ≡ first_with (lent new.proxy_uri) left
   pub proxy_scheme : (left : List (List ℕ)) → first_with (lent old.proxy_scheme) (cons_if (number == option.PROXY_SCHEME) value left) ≡ first_with (lent new.proxy_scheme) left
 
--- with the options still to come, behind one of the number before, each part is the message's
+-- with the options still to come, after one of the number before, each part is the message's
 pub record IsLeft (m : Message) (g : Collected) (before : Option ℕ) (left : List (ℕ × List ℕ)) : Type 0 where
   pub etags : tags_with g.etags.items (values_of option.ETAG m.code before left) ≡ etags m
   pub observe : first_with (lent g.observe) (values_of option.OBSERVE m.code before left) ≡ first_of (values option.OBSERVE m)

@@ -2,7 +2,7 @@
 use Rattle.std.specs.Prelude.{ℕ, ◌+◌, ◌-◌, ◌*◌, ◌<◌, ◌==◌, ◌&&◌, nat_lt, nat_le, if◌then◌else◌, List, [], ◌∷◌, Option, Some, None, codes}
 use Rattle.std.specs.Str.{bytes_eq}
 use Rattle.std.specs.Fmt.{decimal}
-use Rattle.coap_msg.specs.Reading.{with_some, guard}
+use Rattle.coap_msg.specs.Reading.{◌>>=◌, guard}
 use Rattle.coap_msg.specs.declared.code.TheConstants.Code.{GET, POST, PUT, DELETE}
 use Rattle.coap_opts.specs.declared.request.Method.{Method}
 use Rattle.coap_opts.specs.declared.request.Method.TheVariants.{Get, Post, Put, Delete}
@@ -22,14 +22,14 @@ digit b = guard (nat_le 48 b && nat_lt b 58) (b - 48)
 -- the slot by a segment: one digit, or two of which the first isn't 0, below 64
 abbrev pub slot_named : List ℕ → Option ℕ
 slot_named (b ∷ []) = digit b
-slot_named (b ∷ c ∷ []) = with_some (digit b) (λ tens. with_some (digit c) (λ ones. guard (nat_lt 0 tens && nat_lt (10 * tens + ones) 64) (10 * tens + ones)))
+slot_named (b ∷ c ∷ []) = digit b >>= λ tens. digit c >>= λ ones. guard (nat_lt 0 tens && nat_lt (10 * tens + ones) 64) (10 * tens + ones)
 slot_named _ = None
 
 -- `/r/N` and `/p/N` for a slot N, and `/.well-known/core` (RFC 6690, 4)
 abbrev pub resource_named : List ℕ → List ℕ → Option Resource
 resource_named first second =
-    if bytes_eq first (codes "r") then with_some (slot_named second) (λ n. Some (Run n)) else (
-    if bytes_eq first (codes "p") then with_some (slot_named second) (λ n. Some (Program n)) else (
+    if bytes_eq first (codes "r") then (slot_named second >>= λ n. Some (Run n)) else (
+    if bytes_eq first (codes "p") then (slot_named second >>= λ n. Some (Program n)) else (
     if bytes_eq first (codes ".well-known") && bytes_eq second (codes "core") then Some Core else None))
 
 -- what a path names, by its segments

@@ -5,8 +5,8 @@ use Rattle.std.specs.Int.{w64, to_be_bytes}
 use Rattle.coap_opts.specs.declared.block.Block.{Block}
 
 -- the number of bytes in network order; leading zeros change nothing
-abbrev pub number_of : List ℕ → ℕ
-number_of bytes = fold (λ n b. 256 * n + b) 0 bytes
+abbrev pub uint_value : List ℕ → ℕ
+uint_value bytes = fold (λ n b. 256 * n + b) 0 bytes
 
 -- without leading zeros
 abbrev pub without_zeros : List ℕ → List ℕ

@@ -8,7 +8,7 @@ use Rattle.coap_msg.specs.declared.code.Code.{Code}
 use Rattle.coap_msg.specs.declared.code.TheConstants.Code as registered
 use Rattle.coap_msg.specs.Wire.{Message}
 use Rattle.coap_msg.specs.Codes.{code}
-use Rattle.coap_msg.specs.Reading.{with_some}
+use Rattle.coap_msg.specs.Reading.{◌>>=◌}
 use Rattle.coap_opts.specs.declared.number.TheConstants as option
 use Rattle.coap_opts.specs.declared.request.Method.{Method}
 use Rattle.coap_opts.specs.declared.request.Method.TheVariants.{Get, Put}
@@ -17,7 +17,7 @@ use Rattle.coap_opts.specs.declared.request.Resource.TheVariants.{Run}
 use Rattle.coap_opts.specs.declared.request.Request.{Request}
 use Rattle.coap_opts.specs.declared.request.Classified.{Classified}
 use Rattle.coap_opts.specs.declared.request.Classified.TheVariants as classified
-use Rattle.coap_opts.specs.Values.{number_of, block_value}
+use Rattle.coap_opts.specs.Values.{uint_value, block_value}
 use Rattle.coap_opts.specs.Recognition.{values_of, has_unknown_critical}
 use Rattle.coap_opts.specs.Path.{IsResource, method_of, resource_of}
 use Rattle.coap_opts.specs.Served.{serves, there}
@@ -40,7 +40,7 @@ has (Some x) = true
 
 -- the number that the first of them means
 abbrev pub number_in : ℕ → Message → Option ℕ
-number_in number m = option_map number_of (first_of (values number m))
+number_in number m = option_map uint_value (first_of (values number m))
 
 -- the values of Uri-Query, joined by `&`
 abbrev pub query : Message → List ℕ
@@ -48,7 +48,7 @@ query m = join_by (λ v. v) (codes "&") (values option.URI_QUERY m)
 
 -- the first four ETags of 8 bytes
 abbrev pub etags : Message → List ℕ
-etags m = take 4 (map number_of (filter (λ v. length v == 8) (values option.ETAG m)))
+etags m = take 4 (map uint_value (filter (λ v. length v == 8) (values option.ETAG m)))
 
 -- what the segments of Uri-Path name, where something is served there
 abbrev pub resource : Message → Option Resource
@@ -74,8 +74,8 @@ pub record Asked : Type 0 where
 -- the fields of a request whose method and resource there are
 unfoldable pub asked : Message → Option Asked
 asked m =
-    with_some (method_of m.code) (λ method.
-    with_some (resource m) (λ resource.
+    method_of m.code >>= λ method.
+    resource m >>= λ resource.
     Some (record {
       method = method;
       resource = resource;
@@ -86,7 +86,7 @@ asked m =
       block1 = number_in option.BLOCK1 m;
       block2 = number_in option.BLOCK2 m;
       payload = m.payload;
-    })))
+    })
 
 -- ---- the checks
 
@@ -130,8 +130,8 @@ first_failing [] = None
 first_failing ((fails, answer) ∷ more) = if fails then Some answer else first_failing more
 
 -- the code by which a request is refused
-unfoldable pub refusal_of : Message → Option ℕ
-refusal_of m = first_failing (checks m)
+unfoldable pub refusal_code : Message → Option ℕ
+refusal_code m = first_failing (checks m)
 
 -- the checks on the options are passed
 pub record IsKnown (m : Message) : Type 0 where
@@ -139,7 +139,7 @@ pub record IsKnown (m : Message) : Type 0 where
   pub no_unknown : has_unknown_critical m.code None m.options ≡ false
 
 -- and those on method and path
-pub record IsServed (m : Message) (method : Method) (at : Resource) : Type 0 where
+pub record IsServedAt (m : Message) (method : Method) (at : Resource) : Type 0 where
   pub known : IsKnown m
   pub method_is : method_of m.code ≡ Some method
   pub resource_is : resource m ≡ Some at
@@ -161,9 +161,9 @@ abbrev pub is_request : ℕ → Bool
 is_request c = nat_lt 0 c && nat_lt c 32
 
 -- a non-confirmable request with an unrecognised critical option gets no answer (RFC 7252, 5.4.1)
-abbrev pub refused : MessageType → ℕ → Verdict
-refused kind.NonConfirmable answer = if answer == registered.BAD_OPTION.byte then IsSilent else IsRefused answer
-refused _ answer = IsRefused answer
+abbrev pub refusal_verdict : MessageType → ℕ → Verdict
+refusal_verdict kind.NonConfirmable answer = if answer == registered.BAD_OPTION.byte then IsSilent else IsRefused answer
+refusal_verdict _ answer = IsRefused answer
 
 -- a request that passed each check
 abbrev pub accepted : Option Asked → Verdict
@@ -171,18 +171,18 @@ accepted (Some r) = IsAsked r
 accepted None = IsIgnored
 
 -- by the code of the first check that fails
-abbrev pub judged_by : Message → Option ℕ → Verdict
-judged_by m (Some answer) = refused m.kind answer
-judged_by m None = accepted (asked m)
+abbrev pub verdict_by_check : Message → Option ℕ → Verdict
+verdict_by_check m (Some answer) = refusal_verdict m.kind answer
+verdict_by_check m None = accepted (asked m)
 
 -- what a request is to the server
-abbrev pub judged : Message → Verdict
-judged m = judged_by m (refusal_of m)
+abbrev pub request_verdict : Message → Verdict
+request_verdict m = verdict_by_check m (refusal_code m)
 
 -- by type and code (RFC 7252, 4.2 and 4.3)
 abbrev pub verdict_by : MessageType → Message → Verdict
-verdict_by kind.Confirmable m = if is_request m.code then judged m else IsReset
-verdict_by kind.NonConfirmable m = if is_request m.code then judged m else IsIgnored
+verdict_by kind.Confirmable m = if is_request m.code then request_verdict m else IsReset
+verdict_by kind.NonConfirmable m = if is_request m.code then request_verdict m else IsIgnored
 verdict_by kind.Acknowledgement m = if m.code == 0 then IsSignal false else IsIgnored
 verdict_by kind.Reset m = if m.code == 0 then IsSignal true else IsIgnored
 
@@ -193,8 +193,8 @@ verdict m = verdict_by m.kind m
 -- ---- what is answered, as a verdict
 
 -- a request without where its payload lies
-abbrev pub stated : Request → Asked
-stated r = record {
+abbrev pub asked_by : Request → Asked
+asked_by r = record {
   method = r.method;
   resource = r.resource;
   query = r.query.items;
@@ -208,16 +208,16 @@ stated r = record {
 
 -- the request where no check fails, or the code of the first that does
 abbrev pub IsRequestOf : Message → Result Request Code → Type 0
-IsRequestOf m (Ok r) = (refusal_of m ≡ None) × (asked m ≡ Some (stated r))
-IsRequestOf m (Err answer) = refusal_of m ≡ Some answer.byte
+IsRequestOf m (Ok r) = (refusal_code m ≡ None) × (asked m ≡ Some (asked_by r))
+IsRequestOf m (Err answer) = refusal_code m ≡ Some answer.byte
 
-abbrev pub seen : Classified → Verdict
-seen (classified.Request r) = IsAsked (stated r)
-seen (classified.Refused answer) = IsRefused answer.byte
-seen classified.Silent = IsSilent
-seen classified.Reset = IsReset
-seen (classified.Signal reset) = IsSignal reset
-seen classified.Ignored = IsIgnored
+abbrev pub verdict_of : Classified → Verdict
+verdict_of (classified.Request r) = IsAsked (asked_by r)
+verdict_of (classified.Refused answer) = IsRefused answer.byte
+verdict_of classified.Silent = IsSilent
+verdict_of classified.Reset = IsReset
+verdict_of (classified.Signal reset) = IsSignal reset
+verdict_of classified.Ignored = IsIgnored
 
 -- ---- what a verdict is within
 

@@ -18,12 +18,12 @@ pub struct Block {
 
 impl Block {
     ghost use Rattle.std.specs.Prelude.{◌≡◌, ◌≤◌, ◌+◌, ◌^◌, length};
-    ghost use Rattle.coap_opts.specs.Values.{block_value, uint_bytes, number_of};
+    ghost use Rattle.coap_opts.specs.Values.{block_value, uint_bytes, uint_value};
 
     /// Decodes a value of at most 3 bytes. Leading zeros are legal.
     pub fn read(bytes: &[u8]) -> Block
         requires { length bytes.now ≤ 3 }
-        ensures { block_value result ≡ number_of bytes.now }
+        ensures { block_value result ≡ uint_value bytes.now }
     {
         let value = decode_uint(bytes) as u32;
         Block {

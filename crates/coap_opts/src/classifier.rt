@@ -1,6 +1,6 @@
 //! Request classification: message type, options, method, path, in the order of the checks.
 ghost use Rattle.std.specs.Prelude.{◌≡◌, ◌||◌, None, Some};
-ghost use Rattle.coap_opts.specs.Verdict.{IsRequestOf, judged, seen, verdict};
+ghost use Rattle.coap_opts.specs.Verdict.{IsRequestOf, refusal_verdict, request_verdict, verdict_of, verdict};
 ghost use Rattle.coap_opts.specs.Verdict as spec;
 ghost use Rattle.std.specs.Option.{option_map};
 ghost use Rattle.coap_opts.specs.Values.{block_value};
@@ -17,7 +17,7 @@ use coap_msg::{Code, Message, MessageType};
 /// Its options are walked once.
 #[tactic(auto, unfolding(crate::specs::Verdict::verdict))]
 pub fn classify<'a>(message: &Message<'a>) -> Classified<'a>
-    ensures { seen result ≡ verdict message.now }
+    ensures { verdict_of result ≡ verdict message.now }
 {
     let is_empty = message.code() == Code::EMPTY;
     match message.kind() {
@@ -38,7 +38,7 @@ fn is_request(code: Code) -> bool
 }
 
 fn judge<'a>(message: &Message<'a>) -> Classified<'a>
-    ensures { seen result ≡ judged message.now }
+    ensures { verdict_of result ≡ request_verdict message.now }
 {
     match request(message) {
         Ok(request) => Classified::Request(request),
@@ -48,7 +48,7 @@ fn judge<'a>(message: &Message<'a>) -> Classified<'a>
 
 /// A non-confirmable request with an unrecognised critical option gets no answer.
 fn refused<'a>(kind: MessageType, code: Code) -> Classified<'a>
-    ensures { seen result ≡ spec.refused kind code.byte }
+    ensures { verdict_of result ≡ refusal_verdict kind code.byte }
 {
     if kind == MessageType::NonConfirmable && code == Code::BAD_OPTION {
         Classified::Silent

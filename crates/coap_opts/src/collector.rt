@@ -52,7 +52,7 @@ pub(crate) struct JoinedQuery {
 }
 
 impl JoinedQuery {
-    /// Appends a value, behind a `&` where it isn't the first.
+    /// Appends a value, after a `&` where it isn't the first.
     fn push(&mut self, value: &[u8])
         ensures { (left : List (List ℕ)) (all : List ℕ) →
             IsJoined self.old (value.now ∷ left) all → IsJoined self.new left all }

@@ -1,7 +1,7 @@
 //! The fields of a request, each decoded from the value of its option.
 ghost use Rattle.std.specs.Prelude.{◌≡◌, ◌≤◌, [], length};
 ghost use Rattle.std.specs.Option.{option_map};
-ghost use Rattle.coap_opts.specs.Values.{block_value, number_of};
+ghost use Rattle.coap_opts.specs.Values.{block_value, uint_value};
 ghost use Rattle.coap_opts.specs.Collected.{IsShort, lent, resource_with};
 
 use crate::block::Block;
@@ -13,14 +13,14 @@ use crate::uint::decode_uint;
 /// Decodes a Content-Format.
 pub(crate) fn format_of(value: Option<&[u8]>) -> Option<u16>
     requires { IsShort 2 value }
-    ensures { result ≡ option_map number_of (lent value.entry) }
+    ensures { result ≡ option_map uint_value (lent value.entry) }
 {
     Some(decode_u16(value?))
 }
 
 fn decode_u16(bytes: &[u8]) -> u16
     requires { length bytes.now ≤ 2 }
-    ensures { result ≡ number_of bytes.now }
+    ensures { result ≡ uint_value bytes.now }
 {
     decode_uint(bytes) as u16
 }
@@ -28,14 +28,14 @@ fn decode_u16(bytes: &[u8]) -> u16
 /// Decodes a value of Observe.
 pub(crate) fn observe_of(value: Option<&[u8]>) -> Option<u32>
     requires { IsShort 3 value }
-    ensures { result ≡ option_map number_of (lent value.entry) }
+    ensures { result ≡ option_map uint_value (lent value.entry) }
 {
     Some(decode_u24(value?))
 }
 
 fn decode_u24(bytes: &[u8]) -> u32
     requires { length bytes.now ≤ 3 }
-    ensures { result ≡ number_of bytes.now }
+    ensures { result ≡ uint_value bytes.now }
 {
     decode_uint(bytes) as u32
 }
@@ -43,7 +43,7 @@ fn decode_u24(bytes: &[u8]) -> u32
 /// Decodes a Block1 or a Block2.
 pub(crate) fn block_of(value: Option<&[u8]>) -> Option<Block>
     requires { IsShort 3 value }
-    ensures { option_map block_value result ≡ option_map number_of (lent value.entry) }
+    ensures { option_map block_value result ≡ option_map uint_value (lent value.entry) }
 {
     Some(Block::read(value?))
 }

@@ -1,6 +1,6 @@
 //! Laws of what the definitions say, for the crates above: each function is a law, and its contract says it.
 ghost use Rattle.std.specs.Prelude.{◌≡◌, ◌≢◌, ◌<◌, ◌≤◌, ◌^◌, ℕ, List, Some, length, slice_index};
-ghost use Rattle.coap_opts.specs.Values.{uint_bytes, number_of};
+ghost use Rattle.coap_opts.specs.Values.{uint_bytes, uint_value};
 ghost use Rattle.coap_opts.specs.Path.{IsResource, path_of, resource_of};
 ghost use Rattle.coap_msg.specs.Wire.{Message};
 ghost use Rattle.coap_opts.specs.Verdict.{Asked, IsAsked, IsAskedWithin, IsErrorCode, IsRefused, verdict};
@@ -13,7 +13,7 @@ use crate::number::{
 
 /// A number is read again from its spelling, which has no byte to spare.
 pub fn uints_are_read_again()
-    ensures again { (n : ℕ) → n < 2 ^ 64 → number_of (uint_bytes n) ≡ n }
+    ensures again { (n : ℕ) → n < 2 ^ 64 → uint_value (uint_bytes n) ≡ n }
     ensures shortest { (n : ℕ) → 0 < length (uint_bytes n) → slice_index (uint_bytes n) 0 ≢ 0 }
     ensures short { (n : ℕ) → length (uint_bytes n) ≤ 8 }
 {}

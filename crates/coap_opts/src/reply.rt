@@ -3,7 +3,7 @@ ghost use Rattle.std.specs.Prelude.{◌≡◌, ◌+◌, ◌++◌, ◌≤◌, ◌
 ghost use Rattle.std.specs.Int.{w64, to_be_bytes};
 ghost use Rattle.std.specs.Option.{option_map};
 ghost use Rattle.arrayvec.specs.ArrayVec.{array_vec_len};
-ghost use Rattle.coap_msg.specs.Wire.{AreOptions, IsMessage, bytes_of, options_bytes};
+ghost use Rattle.coap_msg.specs.Wire.{AreOptions, IsMessage, message_bytes, options_bytes};
 ghost use Rattle.coap_opts.specs.Values as spec;
 ghost use Rattle.coap_opts.specs.Values.{uint_bytes};
 
@@ -77,7 +77,7 @@ impl Reply<'_> {
         requires code { 0 < self.now.code.byte }
         requires token { length self.now.token.now ≤ TOKEN }
         requires payload { length self.now.payload.now ≤ PAYLOAD }
-        ensures bytes { datagram.new.items ≡ bytes_of (reply_message self.now) }
+        ensures bytes { datagram.new.items ≡ message_bytes (reply_message self.now) }
         ensures message { IsMessage (reply_message self.now) }
     {
         datagram.clear();

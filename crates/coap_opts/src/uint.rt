@@ -1,6 +1,6 @@
 //! Unsigned integers in the values of options (RFC 7252, 3.2).
 ghost use Rattle.std.specs.Prelude.{◌≡◌, ◌<◌, ◌≤◌, ◌*◌, ◌^◌, length};
-ghost use Rattle.coap_opts.specs.Values.{uint_bytes, number_of, without_zeros};
+ghost use Rattle.coap_opts.specs.Values.{uint_bytes, uint_value, without_zeros};
 
 use coap_msg::ShortValue;
 
@@ -10,7 +10,7 @@ pub type UintBytes = ShortValue;
 /// Decodes at most 8 bytes in network order. Leading zeros are legal.
 pub fn decode_uint(bytes: &[u8]) -> u64
     requires { length bytes.now ≤ 8 }
-    ensures number { result ≡ number_of bytes.now }
+    ensures number { result ≡ uint_value bytes.now }
     ensures below { result < 256 ^ length bytes.now }
 {
     let mut number: u64 = 0;
@@ -36,8 +36,8 @@ fn without_leading_zeros(bytes: &[u8]) -> &[u8]
     ensures short { length result.now ≤ length bytes.now }
 {
     let mut rest = bytes;
-    while let [0, behind @ ..] = rest {
-        rest = behind;
+    while let [0, after @ ..] = rest {
+        rest = after;
     }
     rest
 }

@@ -9,14 +9,15 @@ use Rattle.fc_isa.specs.declared.insn.Insn.{Insn}
 use Rattle.fc_isa.specs.declared.insn.Insn.TheVariants.{Alu, Neg, SignExtend, End, LoadWide, WideSecond, Load, StoreImm, Store, JumpAlways, JumpAlwaysLong, JumpIf, CallHelper, CallLocal, Exit}
 use Rattle.fc_isa.specs.declared.insn.SignExtension.{SignExtension}
 use Rattle.fc_isa.specs.declared.insn.SignExtension.TheVariants.{Byte, HalfWord, Word}
+use Rattle.fc_isa.specs.Encoding.{extended_bits, extended_width}
 use Rattle.fc_isa.specs.Program.{IsInsn, is_program}
 use Rattle.fc_asm.specs.declared.mnemonic.Mnemonic.{Mnemonic}
-use Rattle.fc_asm.specs.declared.mnemonic.Mnemonic.TheVariants.{Arithmetic, Negate, Extend, Swap, Wide, Read, WriteImm, WriteReg, Go, GoFar, Branch, Helper, Function, Return}
+use Rattle.fc_asm.specs.declared.mnemonic.Mnemonic.TheVariants as mnemonic
 use Rattle.fc_asm.specs.Names.{Text, name_of}
-use Rattle.fc_asm.specs.Operands.{Reading, map_ok, if_ok, both_of, extended, width_of}
-use Rattle.fc_asm.specs.Listing.{register, extended_to, extended_bits, operands_of, rest_of_line, line, line_of, listing}
-use Rattle.fc_asm.specs.Syntax.{lines_of, code_of, parts_of, words_of, named, insn_from, meaning, meaning_of}
-use Rattle.fc_asm.specs.Assembled.{slots_of, slots_in, line_slots, mistake_in}
+use Rattle.fc_asm.specs.Operands.{Reading, map_ok, if_ok, both_of, extended, extension_from}
+use Rattle.fc_asm.specs.Listing.{register, operands_of, rest_of_line, line, line_of, listing}
+use Rattle.fc_asm.specs.Syntax.{lines_of, before_comment, split_words, words_of, named, insn_from, meaning, line_meaning}
+use Rattle.fc_asm.specs.Assembled.{slots_taken, slots_in, line_slots, mistake_in}
 use Rattle.fc_asm.proofs.Listed.{is_plain, is_word, are_words, joined, word_lacks, list_all-append, split_at, parts_last, parts_space, parts_joined}
 use Rattle.fc_asm.proofs.Named.{named_name}
 use Rattle.fc_asm.proofs.Operands.{register_means, target_means, imm_means, offset_means, wide_means, operand_means}
@@ -35,10 +36,10 @@ three_mean {A} {B} {C} make r s t a b c e f g =
     ∙ ap (λ y. map_ok (λ (p : (A × B) × C). make p.0.0 p.0.1 p.1) (both_of (both_of (Ok a) y) t)) f
     ∙ ap (λ z. map_ok (λ (p : (A × B) × C). make p.0.0 p.0.1 p.1) (both_of (Ok (a, b)) z)) g
 
-extension_means : (x : SignExtension) → (width_of (extended_to x) (signed_decimal (extended_bits x)) ≡ Ok x) × (is_word (signed_decimal (extended_bits x)) ≡ true)
+extension_means : (x : SignExtension) → (extension_from (extended_width x) (signed_decimal (pos (extended_bits x))) ≡ Ok x) × (is_word (signed_decimal (pos (extended_bits x))) ≡ true)
 extension_means (Byte w) = let m = imm_means (pos 8) (record { sfits = lit< tt }) in (ap (λ r. if_ok r (extended w)) m.0, m.1)
 extension_means (HalfWord w) = let m = imm_means (pos 16) (record { sfits = lit< tt }) in (ap (λ r. if_ok r (extended w)) m.0, m.1)
-extension_means Word = let m = imm_means (pos 32) (record { sfits = lit< tt }) in (ap (λ r. if_ok r (extended (extended_to Word))) m.0, m.1)
+extension_means Word = let m = imm_means (pos 32) (record { sfits = lit< tt }) in (ap (λ r. if_ok r (extended (extended_width Word))) m.0, m.1)
 
 -- the mnemonic, and its operands as words
 pub record IsSpelled (i : Insn) (m : Mnemonic) : Type 0 where
@@ -67,25 +68,25 @@ words_three a b c h k l = and_from _ _ h (and_from _ _ k (and_from _ _ l refl))
 
 spelled : (i : Insn) → IsInsn i → (i ≡ WideSecond → ⊥) → (m : Mnemonic) × IsSpelled i m
 spelled (Alu op w d o) h n = (
-  Arithmetic op w,
+  mnemonic.Alu op w,
   record {
     line_is = refl;
     means = two_mean _ _ _ d o (target_means d h.0) (operand_means o h.1).0;
     words = words_two _ _ (register_word d h.0) (operand_means o h.1).1;
   },
 )
-spelled (Neg w d) h n = (Negate w, record { line_is = refl; means = one_means _ _ d (target_means d h); words = words_one _ (register_word d h) })
+spelled (Neg w d) h n = (mnemonic.Neg w, record { line_is = refl; means = one_means _ _ d (target_means d h); words = words_one _ (register_word d h) })
 spelled (SignExtend x d s) h n = (
-  Extend (extended_to x),
+  mnemonic.SignExtend (extended_width x),
   record {
     line_is = refl;
     means = three_mean _ _ _ _ d s x (target_means d h.0) (register_means s h.1).0 (extension_means x).0;
     words = words_three _ _ _ (register_word d h.0) (register_means s h.1).1 (extension_means x).1;
   },
 )
-spelled (End o w d) h n = (Swap o w, record { line_is = refl; means = one_means _ _ d (target_means d h); words = words_one _ (register_word d h) })
+spelled (End o w d) h n = (mnemonic.End o w, record { line_is = refl; means = one_means _ _ d (target_means d h); words = words_one _ (register_word d h) })
 spelled (LoadWide d v) h n = (
-  Wide,
+  mnemonic.LoadWide,
   record {
     line_is = refl;
     means = two_mean _ _ _ d v (target_means d h.0) (wide_means v h.1).0;
@@ -94,7 +95,7 @@ spelled (LoadWide d v) h n = (
 )
 spelled WideSecond h n = absurd (n refl)
 spelled (Load t d b o) h n = (
-  Read t,
+  mnemonic.Load t,
   record {
     line_is = refl;
     means = three_mean _ _ _ _ d b o (target_means d h.0) (register_means b h.1).0 (offset_means o h.2).0;
@@ -102,7 +103,7 @@ spelled (Load t d b o) h n = (
   },
 )
 spelled (StoreImm s b o k) h n = (
-  WriteImm s,
+  mnemonic.StoreImm s,
   record {
     line_is = refl;
     means = three_mean _ _ _ _ b o k (register_means b h.0).0 (offset_means o h.1).0 (imm_means k h.2).0;
@@ -110,26 +111,26 @@ spelled (StoreImm s b o k) h n = (
   },
 )
 spelled (Store s b o r) h n = (
-  WriteReg s,
+  mnemonic.Store s,
   record {
     line_is = refl;
     means = three_mean _ _ _ _ b o r (register_means b h.0).0 (offset_means o h.1).0 (register_means r h.2).0;
     words = words_three _ _ _ (register_means b h.0).1 (offset_means o h.1).1 (register_means r h.2).1;
   },
 )
-spelled (JumpAlways o) h n = (Go, record { line_is = refl; means = one_means _ _ o (offset_means o h).0; words = words_one _ (offset_means o h).1 })
-spelled (JumpAlwaysLong o) h n = (GoFar, record { line_is = refl; means = one_means _ _ o (imm_means o h).0; words = words_one _ (imm_means o h).1 })
+spelled (JumpAlways o) h n = (mnemonic.JumpAlways, record { line_is = refl; means = one_means _ _ o (offset_means o h).0; words = words_one _ (offset_means o h).1 })
+spelled (JumpAlwaysLong o) h n = (mnemonic.JumpAlwaysLong, record { line_is = refl; means = one_means _ _ o (imm_means o h).0; words = words_one _ (imm_means o h).1 })
 spelled (JumpIf j) h n = (
-  Branch j.relation j.width,
+  mnemonic.JumpIf j.relation j.width,
   record {
     line_is = refl;
     means = three_mean _ _ _ _ j.left j.right j.offset (register_means j.left h.0).0 (operand_means j.right h.1).0 (offset_means j.offset h.2).0;
     words = words_three _ _ _ (register_means j.left h.0).1 (operand_means j.right h.1).1 (offset_means j.offset h.2).1;
   },
 )
-spelled (CallHelper k) h n = (Helper, record { line_is = refl; means = one_means _ _ k (imm_means k h).0; words = words_one _ (imm_means k h).1 })
-spelled (CallLocal k) h n = (Function, record { line_is = refl; means = one_means _ _ k (imm_means k h).0; words = words_one _ (imm_means k h).1 })
-spelled Exit h n = (Return, record { line_is = refl; means = refl; words = no_words })
+spelled (CallHelper k) h n = (mnemonic.CallHelper, record { line_is = refl; means = one_means _ _ k (imm_means k h).0; words = words_one _ (imm_means k h).1 })
+spelled (CallLocal k) h n = (mnemonic.CallLocal, record { line_is = refl; means = one_means _ _ k (imm_means k h).0; words = words_one _ (imm_means k h).1 })
+spelled Exit h n = (mnemonic.Exit, record { line_is = refl; means = refl; words = no_words })
 
 -- ---- a line without its line feed
 
@@ -174,20 +175,20 @@ prefix_all : (q : ℕ → Bool) (xs : Text) → list_all q xs ≡ true → prefi
 prefix_all q [] h = refl
 prefix_all q (x ∷ xs) h = let t = and_parts _ _ h in cond-true (q x) (1 + prefix_len q xs) 0 t.0 ∙ omega (arith, prefix_all q xs t.1)
 
-code_whole : (t : Text) → list_all (λ b. not (b == 59)) t ≡ true → code_of t ≡ t
+code_whole : (t : Text) → list_all (λ b. not (b == 59)) t ≡ true → before_comment t ≡ t
 code_whole t h = take_all (position_or_len (λ b. b == 59) t) t (omega (arith, prefix_all (λ b. not (b == 59)) t h))
 
-parts_body : (m : Mnemonic) (ops : List Text) → are_words ops ≡ true → parts_of (body m ops) ≡ name_of m ∷ ops
+parts_body : (m : Mnemonic) (ops : List Text) → are_words ops ≡ true → split_words (body m ops) ≡ name_of m ∷ ops
 unfolding body
 parts_body m [] h = parts_last (name_of m) (named_name m).1
 parts_body m (a ∷ more) h = parts_space (name_of m) (joined (a ∷ more)) (named_name m).1 ∙ ap (λ ws. name_of m ∷ ws) (parts_joined (a ∷ more) h (omega arith))
 
 words_body : (m : Mnemonic) (ops : List Text) → are_words ops ≡ true → words_of (body m ops) ≡ name_of m ∷ ops
 unfolding words_of
-words_body m ops h = ap parts_of (code_whole (body m ops) (body_lacks 59 refl refl (word_lacks 59 not_plain_comment) m ops h)) ∙ parts_body m ops h
+words_body m ops h = ap split_words (code_whole (body m ops) (body_lacks 59 refl refl (word_lacks 59 not_plain_comment) m ops h)) ∙ parts_body m ops h
 
-body_means : (i : Insn) (m : Mnemonic) → IsSpelled i m → meaning_of (body m (operands_of i)) ≡ Ok (Some i)
-unfolding meaning_of
+body_means : (i : Insn) (m : Mnemonic) → IsSpelled i m → line_meaning (body m (operands_of i)) ≡ Ok (Some i)
+unfolding line_meaning
 body_means i m s =
     ap meaning (words_body m (operands_of i) s.words) ∙ ap (λ o. named o (operands_of i)) (named_name m).0 ∙ ap (map_ok (λ j. Some j)) s.means
 
@@ -202,7 +203,7 @@ first_line i m rest s =
 -- ---- all lines
 
 record IsListed (lines : List Text) (p : List Insn) : Type 0 where
-  faultless : All (λ l. mistake_in (meaning_of l) ≡ None) lines
+  faultless : All (λ l. mistake_in (line_meaning l) ≡ None) lines
   slots : flat_map line_slots lines ≡ p
 
 all_cons : (P : Text → Type 0) (x : Text) (xs : List Text) → P x → All P xs → All P (x ∷ xs)
@@ -210,19 +211,19 @@ all_cons P x xs p h zero d l = p
 all_cons P x xs p h (suc k) d l = h k d (omega arith)
 
 no_lines : IsListed (lines_of []) []
-unfolding lines_of meaning_of words_of
-no_lines = record { faultless = all_cons (λ l. mistake_in (meaning_of l) ≡ None) [] [] refl (λ k d l. absurd (omega arith)); slots = refl }
+unfolding lines_of line_meaning words_of
+no_lines = record { faultless = all_cons (λ l. mistake_in (line_meaning l) ≡ None) [] [] refl (λ k d l. absurd (omega arith)); slots = refl }
 
-line_more : (i : Insn) (m : Mnemonic) (rest : Text) (p : List Insn) → IsSpelled i m → IsListed (lines_of rest) p → IsListed (lines_of (line_of i ++ rest)) (slots_of i ++ p)
+line_more : (i : Insn) (m : Mnemonic) (rest : Text) (p : List Insn) → IsSpelled i m → IsListed (lines_of rest) p → IsListed (lines_of (line_of i ++ rest)) (slots_taken i ++ p)
 line_more i m rest p s h =
-    let P : List Text → Type 0 = λ ls. IsListed ls (slots_of i ++ p) in
+    let P : List Text → Type 0 = λ ls. IsListed ls (slots_taken i ++ p) in
     let means = body_means i m s in
     subst P (sym (first_line i m rest s)) (record {
-      faultless = all_cons (λ l. mistake_in (meaning_of l) ≡ None) (body m (operands_of i)) (lines_of rest) (ap mistake_in means) h.faultless;
-      slots = ap (λ r. slots_in r ++ flat_map line_slots (lines_of rest)) means ∙ ap (λ q. slots_of i ++ q) h.slots;
+      faultless = all_cons (λ l. mistake_in (line_meaning l) ≡ None) (body m (operands_of i)) (lines_of rest) (ap mistake_in means) h.faultless;
+      slots = ap (λ r. slots_in r ++ flat_map line_slots (lines_of rest)) means ∙ ap (λ q. slots_taken i ++ q) h.slots;
     })
 
-insn_more : (i : Insn) (rest : Text) (p : List Insn) → IsInsn i → (i ≡ WideSecond → ⊥) → IsListed (lines_of rest) p → IsListed (lines_of (line_of i ++ rest)) (slots_of i ++ p)
+insn_more : (i : Insn) (rest : Text) (p : List Insn) → IsInsn i → (i ≡ WideSecond → ⊥) → IsListed (lines_of rest) p → IsListed (lines_of (line_of i ++ rest)) (slots_taken i ++ p)
 insn_more i rest p h n = let s = spelled i h n in line_more i s.0 rest p s.1
 
 law : (p : List Insn) → is_program p ≡ true → All IsInsn p → IsListed (lines_of (listing p)) p
@@ -233,8 +234,8 @@ law (LoadWide d v ∷ rest) e h = absurd (cc e)
 law (WideSecond ∷ p) e h = absurd (cc e)
 law (other ∷ p) e h = insn_more other (listing p) p (h 0 Exit (omega arith)) (λ x. cc x) (law p e (λ k y l. h (suc k) y (omega arith)))
 
-pub listed_faultless : (text : Text) (p : List Insn) → is_program p ≡ true → All IsInsn p → text ≡ listing p → All (λ l. mistake_in (meaning_of l) ≡ None) (lines_of text)
-listed_faultless text p program insns e = let P : Text → Type 0 = λ t. All (λ l. mistake_in (meaning_of l) ≡ None) (lines_of t) in subst P (sym e) (law p program insns).faultless
+pub listed_faultless : (text : Text) (p : List Insn) → is_program p ≡ true → All IsInsn p → text ≡ listing p → All (λ l. mistake_in (line_meaning l) ≡ None) (lines_of text)
+listed_faultless text p program insns e = let P : Text → Type 0 = λ t. All (λ l. mistake_in (line_meaning l) ≡ None) (lines_of t) in subst P (sym e) (law p program insns).faultless
 
 pub listed_slots : (text : Text) (p : List Insn) → is_program p ≡ true → All IsInsn p → text ≡ listing p → flat_map line_slots (lines_of text) ≡ p
 listed_slots text p program insns e = ap (λ t. flat_map line_slots (lines_of t)) e ∙ (law p program insns).slots

@@ -4,7 +4,7 @@ use Rattle.std.specs.Prelude.{◌==◌, nat_lt, codes}
 use Rattle.std.specs.List.{slice_split, flat_map, list_all, onto_first}
 use Rattle.std.proofs.lemmas.Bool.{and_parts, and_from, eqb-true, both_ways, not-true, cond-true, cond-false}
 use Rattle.fc_asm.specs.Names.{Text}
-use Rattle.fc_asm.specs.Syntax.{comma_parts, parts_of}
+use Rattle.fc_asm.specs.Syntax.{split_commas, split_words}
 
 -- a byte that may stand in a word: no line feed, space, comma or `;`
 unfoldable pub is_plain : ℕ → Bool
@@ -55,34 +55,34 @@ list_all-append p (x ∷ xs) ys h g = let t = and_parts _ _ h in and_from _ _ t.
 -- ---- the words of a line
 
 -- one word between spaces, and one with a comma behind it
-comma_word : (w : Text) → is_word w ≡ true → comma_parts w ≡ w ∷ []
+comma_word : (w : Text) → is_word w ≡ true → split_commas w ≡ w ∷ []
 unfolding is_word
 comma_word w h =
     let t = and_parts _ _ h in
     ap (filter (λ word. nat_lt 0 (length word))) (split_whole (λ b. b == 44) w (no_comma w t.1)) ∙ cond-true _ (w ∷ []) [] t.0
 
-comma_behind : (w : Text) → is_word w ≡ true → comma_parts (w ++ 44 ∷ []) ≡ w ∷ []
+comma_behind : (w : Text) → is_word w ≡ true → split_commas (w ++ 44 ∷ []) ≡ w ∷ []
 unfolding is_word
 comma_behind w h =
     let t = and_parts _ _ h in
     ap (filter (λ word. nat_lt 0 (length word))) (split_at (λ b. b == 44) w 44 [] (no_comma w t.1) refl) ∙ cond-true _ (w ∷ []) [] t.0
 
-pub parts_last : (w : Text) → is_word w ≡ true → parts_of w ≡ w ∷ []
+pub parts_last : (w : Text) → is_word w ≡ true → split_words w ≡ w ∷ []
 unfolding is_word
-parts_last w h = ap (flat_map comma_parts) (split_whole (λ b. b == 32) w (no_space w (and_parts _ _ h).1)) ∙ append-nil _ ∙ comma_word w h
+parts_last w h = ap (flat_map split_commas) (split_whole (λ b. b == 32) w (no_space w (and_parts _ _ h).1)) ∙ append-nil _ ∙ comma_word w h
 
-pub parts_space : (w rest : Text) → is_word w ≡ true → parts_of (w ++ 32 ∷ rest) ≡ w ∷ parts_of rest
+pub parts_space : (w rest : Text) → is_word w ≡ true → split_words (w ++ 32 ∷ rest) ≡ w ∷ split_words rest
 unfolding is_word
 parts_space w rest h =
-    ap (flat_map comma_parts) (split_at (λ b. b == 32) w 32 rest (no_space w (and_parts _ _ h).1) refl)
-    ∙ ap (λ ws. ws ++ parts_of rest) (comma_word w h)
+    ap (flat_map split_commas) (split_at (λ b. b == 32) w 32 rest (no_space w (and_parts _ _ h).1) refl)
+    ∙ ap (λ ws. ws ++ split_words rest) (comma_word w h)
 
-parts_comma : (w rest : Text) → is_word w ≡ true → parts_of (w ++ (codes ", " ++ rest)) ≡ w ∷ parts_of rest
+parts_comma : (w rest : Text) → is_word w ≡ true → split_words (w ++ (codes ", " ++ rest)) ≡ w ∷ split_words rest
 unfolding is_word
 parts_comma w rest h =
-    ap parts_of (sym (append_assoc w (44 ∷ []) (32 ∷ rest)))
-    ∙ ap (flat_map comma_parts) (split_at (λ b. b == 32) (w ++ 44 ∷ []) 32 rest (list_all-append (λ b. not (b == 32)) w (44 ∷ []) (no_space w (and_parts _ _ h).1) refl) refl)
-    ∙ ap (λ ws. ws ++ parts_of rest) (comma_behind w h)
+    ap split_words (sym (append_assoc w (44 ∷ []) (32 ∷ rest)))
+    ∙ ap (flat_map split_commas) (split_at (λ b. b == 32) (w ++ 44 ∷ []) 32 rest (list_all-append (λ b. not (b == 32)) w (44 ∷ []) (no_space w (and_parts _ _ h).1) refl) refl)
+    ∙ ap (λ ws. ws ++ split_words rest) (comma_behind w h)
 
 -- the operands as a line has them, without its line feed
 unfoldable pub joined : List Text → Text
@@ -93,7 +93,7 @@ joined (a ∷ b ∷ more) = a ++ (codes ", " ++ joined (b ∷ more))
 unfoldable pub are_words : List Text → Bool
 are_words ws = list_all is_word ws
 
-pub parts_joined : (ws : List Text) → are_words ws ≡ true → 0 < length ws → parts_of (joined ws) ≡ ws
+pub parts_joined : (ws : List Text) → are_words ws ≡ true → 0 < length ws → split_words (joined ws) ≡ ws
 unfolding are_words joined
 parts_joined [] h l = absurd (omega arith)
 parts_joined (a ∷ []) h l = parts_last a (and_parts _ _ h).0

@@ -11,7 +11,7 @@ use mir.Syntax.{Width, w16, w32}
 use mir.Val.{hbits}
 use lib.IntN.{neg_ℤ}
 use Rattle.fc_asm.specs.declared.error.Mistake.TheVariants.{Operand, OutOfRange}
-use Rattle.fc_asm.specs.Operands.{Reading, if_ok, is_digits, is_number, within, in_range, natural, number_of, imm_of, offset_of, wide_of}
+use Rattle.fc_asm.specs.Operands.{Reading, if_ok, is_digits, writes_number, within, in_range, natural, number_from, imm_from, offset_from, wide_from}
 
 -- digits, as `all` finds them
 pub list_all-digits : (ds : List ℕ) → list_all is_ascii_digit ds ≡ all_ascii_digits ds
@@ -35,7 +35,7 @@ numeral_at bs true h = digits_numeral (drop 1 bs) h
 numeral_at bs false h = subst (λ ds. IsNumeral 10 ds) (sym (without_leading_plus_none bs (first_no_plus bs h))) (digits_numeral bs h)
 
 -- a number is a numeral behind its sign
-pub number_numeral : (bs : List ℕ) → is_number bs ≡ true → IsNumeral 10 (without_leading_sign bs)
+pub number_numeral : (bs : List ℕ) → writes_number bs ≡ true → IsNumeral 10 (without_leading_sign bs)
 number_numeral bs h = numeral_at bs (get_or bs 0 0 == 45) h
 
 -- ---- ranges
@@ -48,10 +48,10 @@ fits_within : (w : Width) (z : ℤ) → within (hbits w) z ≡ true → FitsSign
 fits_within w (pos n) h = record { sfits = ltb-true n (2 ^ hbits w) h }
 fits_within w (negsuc n) h = record { sfits = ltb-true n (2 ^ hbits w) h }
 
-pub number_yes : {A : Type 0} (bs : List ℕ) (f : ℤ → Reading A) → is_number bs ≡ true → if_ok (number_of bs) f ≡ f (signed_digits_value 10 bs)
+pub number_yes : {A : Type 0} (bs : List ℕ) (f : ℤ → Reading A) → writes_number bs ≡ true → if_ok (number_from bs) f ≡ f (signed_digits_value 10 bs)
 number_yes bs f h = ap (λ r. if_ok r f) (cond-true _ (Ok (signed_digits_value 10 bs)) (Err Operand) h)
 
-number_no : {A : Type 0} (bs : List ℕ) (f : ℤ → Reading A) → is_number bs ≡ false → if_ok (number_of bs) f ≡ Err Operand
+number_no : {A : Type 0} (bs : List ℕ) (f : ℤ → Reading A) → writes_number bs ≡ false → if_ok (number_from bs) f ≡ Err Operand
 number_no bs f h = ap (λ r. if_ok r f) (cond-false _ (Ok (signed_digits_value 10 bs)) (Err Operand) h)
 
 pub in_range_yes : (w : Width) (z : ℤ) → FitsSigned w z → in_range (hbits w) z ≡ Ok z
@@ -62,44 +62,44 @@ in_range_at w z true e h = absurd (h (fits_within w z e))
 in_range_at w z false e h = cond-false _ (Ok z) (Err OutOfRange) e
 
 -- what `parse` reads of a number
-parsed : {E : Type 0} (w : Width) (bs : List ℕ) (r : Result ℤ E) (v : ℤ) → is_number bs ≡ true → ParsesSigned w 10 bs r → r ≡ Ok v → if_ok (number_of bs) (in_range (hbits w)) ≡ Ok v
+parsed : {E : Type 0} (w : Width) (bs : List ℕ) (r : Result ℤ E) (v : ℤ) → writes_number bs ≡ true → ParsesSigned w 10 bs r → r ≡ Ok v → if_ok (number_from bs) (in_range (hbits w)) ≡ Ok v
 parsed w bs (Ok x) v n h e = number_yes bs (in_range (hbits w)) n ∙ in_range_yes w _ h.0.1 ∙ ap Ok (sym h.1) ∙ cc
 parsed w bs (Err x) v n h e = absurd (cc e)
 
-unparsed : {E : Type 0} (w : Width) (bs : List ℕ) (r : Result ℤ E) (x : E) → is_number bs ≡ true → ParsesSigned w 10 bs r → r ≡ Err x → if_ok (number_of bs) (in_range (hbits w)) ≡ Err OutOfRange
+unparsed : {E : Type 0} (w : Width) (bs : List ℕ) (r : Result ℤ E) (x : E) → writes_number bs ≡ true → ParsesSigned w 10 bs r → r ≡ Err x → if_ok (number_from bs) (in_range (hbits w)) ≡ Err OutOfRange
 unparsed w bs (Ok y) x n h e = absurd (cc e)
 unparsed w bs (Err y) x n h e = number_yes bs (in_range (hbits w)) n ∙ in_range_at w _ _ refl (λ f. h (number_numeral bs n, f))
 
 -- ---- `imm` and `offset`
 
-pub imm_no : (bs : List ℕ) → is_number bs ≡ false → imm_of bs ≡ Err Operand
-unfolding imm_of
+pub imm_no : (bs : List ℕ) → writes_number bs ≡ false → imm_from bs ≡ Err Operand
+unfolding imm_from
 imm_no bs h = number_no bs (in_range 31) h
 
-pub imm_parsed : {E : Type 0} (bs : List ℕ) (r : Result ℤ E) (v : ℤ) → is_number bs ≡ true → ParsesSigned w32 10 bs r → r ≡ Ok v → imm_of bs ≡ Ok v
-unfolding imm_of
+pub imm_parsed : {E : Type 0} (bs : List ℕ) (r : Result ℤ E) (v : ℤ) → writes_number bs ≡ true → ParsesSigned w32 10 bs r → r ≡ Ok v → imm_from bs ≡ Ok v
+unfolding imm_from
 imm_parsed bs r v = parsed w32 bs r v
 
-pub imm_unparsed : {E : Type 0} (bs : List ℕ) (r : Result ℤ E) (x : E) → is_number bs ≡ true → ParsesSigned w32 10 bs r → r ≡ Err x → imm_of bs ≡ Err OutOfRange
-unfolding imm_of
+pub imm_unparsed : {E : Type 0} (bs : List ℕ) (r : Result ℤ E) (x : E) → writes_number bs ≡ true → ParsesSigned w32 10 bs r → r ≡ Err x → imm_from bs ≡ Err OutOfRange
+unfolding imm_from
 imm_unparsed bs r x = unparsed w32 bs r x
 
-pub offset_no : (bs : List ℕ) → is_number bs ≡ false → offset_of bs ≡ Err Operand
-unfolding offset_of
+pub offset_no : (bs : List ℕ) → writes_number bs ≡ false → offset_from bs ≡ Err Operand
+unfolding offset_from
 offset_no bs h = number_no bs (in_range 15) h
 
-pub offset_parsed : {E : Type 0} (bs : List ℕ) (r : Result ℤ E) (v : ℤ) → is_number bs ≡ true → ParsesSigned w16 10 bs r → r ≡ Ok v → offset_of bs ≡ Ok v
-unfolding offset_of
+pub offset_parsed : {E : Type 0} (bs : List ℕ) (r : Result ℤ E) (v : ℤ) → writes_number bs ≡ true → ParsesSigned w16 10 bs r → r ≡ Ok v → offset_from bs ≡ Ok v
+unfolding offset_from
 offset_parsed bs r v = parsed w16 bs r v
 
-pub offset_unparsed : {E : Type 0} (bs : List ℕ) (r : Result ℤ E) (x : E) → is_number bs ≡ true → ParsesSigned w16 10 bs r → r ≡ Err x → offset_of bs ≡ Err OutOfRange
-unfolding offset_of
+pub offset_unparsed : {E : Type 0} (bs : List ℕ) (r : Result ℤ E) (x : E) → writes_number bs ≡ true → ParsesSigned w16 10 bs r → r ≡ Err x → offset_from bs ≡ Err OutOfRange
+unfolding offset_from
 offset_unparsed bs r x = unparsed w16 bs r x
 
 -- ---- `wide`
 
-pub wide_no : (bs : List ℕ) → is_number bs ≡ false → wide_of bs ≡ Err Operand
-unfolding wide_of
+pub wide_no : (bs : List ℕ) → writes_number bs ≡ false → wide_from bs ≡ Err Operand
+unfolding wide_from
 wide_no bs h = number_no bs natural h
 
 -- the first byte is a `-`, or none
@@ -125,54 +125,54 @@ natural_minus : (n : ℕ) → n ≢ 0 → natural (neg_ℤ (pos n)) ≡ Err OutO
 natural_minus zero h = absurd (h refl)
 natural_minus (suc n) h = refl
 
-wide_plain : (bs : List ℕ) → is_number bs ≡ true → ((rest : List ℕ) → bs ≢ 45 ∷ rest) → if_ok (number_of bs) natural ≡ natural (pos (digits_value 10 (without_leading_plus bs)))
+wide_plain : (bs : List ℕ) → writes_number bs ≡ true → ((rest : List ℕ) → bs ≢ 45 ∷ rest) → if_ok (number_from bs) natural ≡ natural (pos (digits_value 10 (without_leading_plus bs)))
 wide_plain bs n h = number_yes bs natural n ∙ ap natural (value_at bs false (minus_no bs h))
 
-plain_numeral : (bs : List ℕ) → is_number bs ≡ true → ((rest : List ℕ) → bs ≢ 45 ∷ rest) → IsNumeral 10 (without_leading_plus bs)
+plain_numeral : (bs : List ℕ) → writes_number bs ≡ true → ((rest : List ℕ) → bs ≢ 45 ∷ rest) → IsNumeral 10 (without_leading_plus bs)
 plain_numeral bs n h = subst (λ b. IsNumeral 10 (cond b (drop 1 bs) (without_leading_plus bs))) (minus_no bs h) (number_numeral bs n)
 
-plain_parsed : {E : Type 0} (bs : List ℕ) (r : Result ℕ E) (v : ℕ) → is_number bs ≡ true → ((rest : List ℕ) → bs ≢ 45 ∷ rest) → ParsesUnsigned 64 10 bs r → r ≡ Ok v → if_ok (number_of bs) natural ≡ Ok v
+plain_parsed : {E : Type 0} (bs : List ℕ) (r : Result ℕ E) (v : ℕ) → writes_number bs ≡ true → ((rest : List ℕ) → bs ≢ 45 ∷ rest) → ParsesUnsigned 64 10 bs r → r ≡ Ok v → if_ok (number_from bs) natural ≡ Ok v
 plain_parsed bs (Ok x) v n m h e = wide_plain bs n m ∙ natural_yes _ h.0.1 ∙ ap Ok (sym h.1) ∙ cc
 plain_parsed bs (Err x) v n m h e = absurd (cc e)
 
-plain_unparsed : {E : Type 0} (bs : List ℕ) (r : Result ℕ E) (x : E) → is_number bs ≡ true → ((rest : List ℕ) → bs ≢ 45 ∷ rest) → ParsesUnsigned 64 10 bs r → r ≡ Err x → if_ok (number_of bs) natural ≡ Err OutOfRange
+plain_unparsed : {E : Type 0} (bs : List ℕ) (r : Result ℕ E) (x : E) → writes_number bs ≡ true → ((rest : List ℕ) → bs ≢ 45 ∷ rest) → ParsesUnsigned 64 10 bs r → r ≡ Err x → if_ok (number_from bs) natural ≡ Err OutOfRange
 plain_unparsed bs (Ok y) x n m h e = absurd (cc e)
 plain_unparsed bs (Err y) x n m h e = wide_plain bs n m ∙ natural_no _ (cases_lt _ (2 ^ 64)) (λ l. h (plain_numeral bs n m, l))
 
 -- behind a `-`
-minus_digits : (ds : List ℕ) → is_number (45 ∷ ds) ≡ true → is_digits ds ≡ true
+minus_digits : (ds : List ℕ) → writes_number (45 ∷ ds) ≡ true → is_digits ds ≡ true
 minus_digits ds h = h
 
-minus_value : (ds : List ℕ) → is_number (45 ∷ ds) ≡ true → if_ok (number_of (45 ∷ ds)) natural ≡ natural (neg_ℤ (pos (digits_value 10 (without_leading_plus ds))))
+minus_value : (ds : List ℕ) → writes_number (45 ∷ ds) ≡ true → if_ok (number_from (45 ∷ ds)) natural ≡ natural (neg_ℤ (pos (digits_value 10 (without_leading_plus ds))))
 minus_value ds n = number_yes (45 ∷ ds) natural n ∙ ap (λ x. natural (neg_ℤ (pos (digits_value 10 x)))) (sym (without_leading_plus_none ds (first_no_plus ds n)))
 
-minus_numeral : (ds : List ℕ) → is_number (45 ∷ ds) ≡ true → IsNumeral 10 (without_leading_plus ds)
+minus_numeral : (ds : List ℕ) → writes_number (45 ∷ ds) ≡ true → IsNumeral 10 (without_leading_plus ds)
 minus_numeral ds n = subst (λ x. IsNumeral 10 x) (sym (without_leading_plus_none ds (first_no_plus ds n))) (digits_numeral ds n)
 
-minus_parsed : {E : Type 0} (ds : List ℕ) (r : Result ℕ E) (v : ℕ) → is_number (45 ∷ ds) ≡ true → ParsesUnsigned 64 10 ds r → r ≡ Ok v → if_ok (number_of (45 ∷ ds)) natural ≡ natural (neg_ℤ (pos v))
+minus_parsed : {E : Type 0} (ds : List ℕ) (r : Result ℕ E) (v : ℕ) → writes_number (45 ∷ ds) ≡ true → ParsesUnsigned 64 10 ds r → r ≡ Ok v → if_ok (number_from (45 ∷ ds)) natural ≡ natural (neg_ℤ (pos v))
 minus_parsed ds (Ok x) v n h e = minus_value ds n ∙ ap (λ y. natural (neg_ℤ (pos y))) (sym h.1 ∙ cc)
 minus_parsed ds (Err x) v n h e = absurd (cc e)
 
-minus_unparsed : {E : Type 0} (ds : List ℕ) (r : Result ℕ E) (x : E) → is_number (45 ∷ ds) ≡ true → ParsesUnsigned 64 10 ds r → r ≡ Err x → if_ok (number_of (45 ∷ ds)) natural ≡ Err OutOfRange
+minus_unparsed : {E : Type 0} (ds : List ℕ) (r : Result ℕ E) (x : E) → writes_number (45 ∷ ds) ≡ true → ParsesUnsigned 64 10 ds r → r ≡ Err x → if_ok (number_from (45 ∷ ds)) natural ≡ Err OutOfRange
 minus_unparsed ds (Ok y) x n h e = absurd (cc e)
 minus_unparsed ds (Err y) x n h e = minus_value ds n ∙ natural_minus _ (λ z. h (minus_numeral ds n, omega (arith, z)))
 
-pub wide_parsed : {E : Type 0} (bs : List ℕ) (r : Result ℕ E) (v : ℕ) → is_number bs ≡ true → ((rest : List ℕ) → bs ≢ 45 ∷ rest) → ParsesUnsigned 64 10 bs r → r ≡ Ok v → wide_of bs ≡ Ok v
-unfolding wide_of
+pub wide_parsed : {E : Type 0} (bs : List ℕ) (r : Result ℕ E) (v : ℕ) → writes_number bs ≡ true → ((rest : List ℕ) → bs ≢ 45 ∷ rest) → ParsesUnsigned 64 10 bs r → r ≡ Ok v → wide_from bs ≡ Ok v
+unfolding wide_from
 wide_parsed bs r v = plain_parsed bs r v
 
-pub wide_unparsed : {E : Type 0} (bs : List ℕ) (r : Result ℕ E) (x : E) → is_number bs ≡ true → ((rest : List ℕ) → bs ≢ 45 ∷ rest) → ParsesUnsigned 64 10 bs r → r ≡ Err x → wide_of bs ≡ Err OutOfRange
-unfolding wide_of
+pub wide_unparsed : {E : Type 0} (bs : List ℕ) (r : Result ℕ E) (x : E) → writes_number bs ≡ true → ((rest : List ℕ) → bs ≢ 45 ∷ rest) → ParsesUnsigned 64 10 bs r → r ≡ Err x → wide_from bs ≡ Err OutOfRange
+unfolding wide_from
 wide_unparsed bs r x = plain_unparsed bs r x
 
-pub wide_minus_zero : {E : Type 0} (bs ds : List ℕ) (r : Result ℕ E) → bs ≡ 45 ∷ ds → is_number bs ≡ true → ParsesUnsigned 64 10 ds r → r ≡ Ok 0 → wide_of bs ≡ Ok 0
-unfolding wide_of
-wide_minus_zero bs ds r b n h e = ap (λ x. if_ok (number_of x) natural) b ∙ minus_parsed ds r 0 (sym (ap is_number b) ∙ n) h e
+pub wide_minus_zero : {E : Type 0} (bs ds : List ℕ) (r : Result ℕ E) → bs ≡ 45 ∷ ds → writes_number bs ≡ true → ParsesUnsigned 64 10 ds r → r ≡ Ok 0 → wide_from bs ≡ Ok 0
+unfolding wide_from
+wide_minus_zero bs ds r b n h e = ap (λ x. if_ok (number_from x) natural) b ∙ minus_parsed ds r 0 (sym (ap writes_number b) ∙ n) h e
 
-pub wide_minus : {E : Type 0} (bs ds : List ℕ) (r : Result ℕ E) (v : ℕ) → bs ≡ 45 ∷ ds → is_number bs ≡ true → ParsesUnsigned 64 10 ds r → r ≡ Ok v → v ≢ 0 → wide_of bs ≡ Err OutOfRange
-unfolding wide_of
-wide_minus bs ds r v b n h e z = ap (λ x. if_ok (number_of x) natural) b ∙ minus_parsed ds r v (sym (ap is_number b) ∙ n) h e ∙ natural_minus v z
+pub wide_minus : {E : Type 0} (bs ds : List ℕ) (r : Result ℕ E) (v : ℕ) → bs ≡ 45 ∷ ds → writes_number bs ≡ true → ParsesUnsigned 64 10 ds r → r ≡ Ok v → v ≢ 0 → wide_from bs ≡ Err OutOfRange
+unfolding wide_from
+wide_minus bs ds r v b n h e z = ap (λ x. if_ok (number_from x) natural) b ∙ minus_parsed ds r v (sym (ap writes_number b) ∙ n) h e ∙ natural_minus v z
 
-pub wide_minus_unparsed : {E : Type 0} (bs ds : List ℕ) (r : Result ℕ E) (x : E) → bs ≡ 45 ∷ ds → is_number bs ≡ true → ParsesUnsigned 64 10 ds r → r ≡ Err x → wide_of bs ≡ Err OutOfRange
-unfolding wide_of
-wide_minus_unparsed bs ds r x b n h e = ap (λ x. if_ok (number_of x) natural) b ∙ minus_unparsed ds r x (sym (ap is_number b) ∙ n) h e
+pub wide_minus_unparsed : {E : Type 0} (bs ds : List ℕ) (r : Result ℕ E) (x : E) → bs ≡ 45 ∷ ds → writes_number bs ≡ true → ParsesUnsigned 64 10 ds r → r ≡ Err x → wide_from bs ≡ Err OutOfRange
+unfolding wide_from
+wide_minus_unparsed bs ds r x b n h e = ap (λ x. if_ok (number_from x) natural) b ∙ minus_unparsed ds r x (sym (ap writes_number b) ∙ n) h e

@@ -5,11 +5,11 @@ use Rattle.fc_isa.specs.declared.insn.Insn.{Insn}
 use Rattle.fc_isa.specs.declared.insn.Insn.TheVariants.{WideSecond, Exit}
 use Rattle.fc_isa.specs.Program.{is_program}
 use Rattle.fc_asm.specs.declared.mnemonic.Mnemonic.{Mnemonic}
-use Rattle.fc_asm.specs.declared.mnemonic.Mnemonic.TheVariants.{Arithmetic, Negate, Extend, Swap, Wide, Read, WriteImm, WriteReg, Go, GoFar, Branch, Helper, Function, Return}
+use Rattle.fc_asm.specs.declared.mnemonic.Mnemonic.TheVariants as mnemonic
 use Rattle.fc_asm.specs.Names.{Text, mnemonic_named}
 use Rattle.fc_asm.specs.Operands.{Reading, map_ok, if_ok}
-use Rattle.fc_asm.specs.Syntax.{one_of, two_of, three_of, insn_from, named, meaning, meaning_of, words_of}
-use Rattle.fc_asm.specs.Assembled.{slots_of, slots_in, line_slots}
+use Rattle.fc_asm.specs.Syntax.{one_of, two_of, three_of, insn_from, named, meaning, line_meaning, words_of}
+use Rattle.fc_asm.specs.Assembled.{slots_taken, slots_in, line_slots}
 
 -- it stands first in a line's slots
 abbrev leads : Insn → Bool
@@ -24,25 +24,25 @@ read_then : {A : Type 0} (r : Reading A) (f : A → Reading Insn) (i : Insn) →
 read_then (Ok a) f i h e = h a e
 read_then (Err m) f i h e = absurd (cc e)
 
-none_leads : (operands : List Text) (i : Insn) → insn_from Return operands ≡ Ok i → leads i ≡ true
+none_leads : (operands : List Text) (i : Insn) → insn_from mnemonic.Exit operands ≡ Ok i → leads i ≡ true
 none_leads [] i e = let same : Exit ≡ i = cc e in ap leads (sym same)
 none_leads (a ∷ more) i e = absurd (cc e)
 
 insn_leads : (m : Mnemonic) (operands : List Text) (i : Insn) → insn_from m operands ≡ Ok i → leads i ≡ true
-insn_leads (Arithmetic op width) ops i e = read_then (two_of ops) _ i (λ ws. made _ _ i (λ a. refl)) e
-insn_leads (Negate width) ops i e = read_then (one_of ops) _ i (λ ws. made _ _ i (λ a. refl)) e
-insn_leads (Extend width) ops i e = read_then (three_of ops) _ i (λ ws. made _ _ i (λ a. refl)) e
-insn_leads (Swap order width) ops i e = read_then (one_of ops) _ i (λ ws. made _ _ i (λ a. refl)) e
-insn_leads Wide ops i e = read_then (two_of ops) _ i (λ ws. made _ _ i (λ a. refl)) e
-insn_leads (Read loaded) ops i e = read_then (three_of ops) _ i (λ ws. made _ _ i (λ a. refl)) e
-insn_leads (WriteImm size) ops i e = read_then (three_of ops) _ i (λ ws. made _ _ i (λ a. refl)) e
-insn_leads (WriteReg size) ops i e = read_then (three_of ops) _ i (λ ws. made _ _ i (λ a. refl)) e
-insn_leads Go ops i e = read_then (one_of ops) _ i (λ ws. made _ _ i (λ a. refl)) e
-insn_leads GoFar ops i e = read_then (one_of ops) _ i (λ ws. made _ _ i (λ a. refl)) e
-insn_leads (Branch relation width) ops i e = read_then (three_of ops) _ i (λ ws. made _ _ i (λ a. refl)) e
-insn_leads Helper ops i e = read_then (one_of ops) _ i (λ ws. made _ _ i (λ a. refl)) e
-insn_leads Function ops i e = read_then (one_of ops) _ i (λ ws. made _ _ i (λ a. refl)) e
-insn_leads Return ops i e = none_leads ops i e
+insn_leads (mnemonic.Alu op width) ops i e = read_then (two_of ops) _ i (λ ws. made _ _ i (λ a. refl)) e
+insn_leads (mnemonic.Neg width) ops i e = read_then (one_of ops) _ i (λ ws. made _ _ i (λ a. refl)) e
+insn_leads (mnemonic.SignExtend width) ops i e = read_then (three_of ops) _ i (λ ws. made _ _ i (λ a. refl)) e
+insn_leads (mnemonic.End order width) ops i e = read_then (one_of ops) _ i (λ ws. made _ _ i (λ a. refl)) e
+insn_leads mnemonic.LoadWide ops i e = read_then (two_of ops) _ i (λ ws. made _ _ i (λ a. refl)) e
+insn_leads (mnemonic.Load loaded) ops i e = read_then (three_of ops) _ i (λ ws. made _ _ i (λ a. refl)) e
+insn_leads (mnemonic.StoreImm size) ops i e = read_then (three_of ops) _ i (λ ws. made _ _ i (λ a. refl)) e
+insn_leads (mnemonic.Store size) ops i e = read_then (three_of ops) _ i (λ ws. made _ _ i (λ a. refl)) e
+insn_leads mnemonic.JumpAlways ops i e = read_then (one_of ops) _ i (λ ws. made _ _ i (λ a. refl)) e
+insn_leads mnemonic.JumpAlwaysLong ops i e = read_then (one_of ops) _ i (λ ws. made _ _ i (λ a. refl)) e
+insn_leads (mnemonic.JumpIf relation width) ops i e = read_then (three_of ops) _ i (λ ws. made _ _ i (λ a. refl)) e
+insn_leads mnemonic.CallHelper ops i e = read_then (one_of ops) _ i (λ ws. made _ _ i (λ a. refl)) e
+insn_leads mnemonic.CallLocal ops i e = read_then (one_of ops) _ i (λ ws. made _ _ i (λ a. refl)) e
+insn_leads mnemonic.Exit ops i e = none_leads ops i e
 
 some_leads : (m : Mnemonic) (ops : List Text) (r : Reading Insn) (i : Insn) → insn_from m ops ≡ r → map_ok (λ j. Some j) r ≡ Ok (Some i) → leads i ≡ true
 some_leads m ops (Ok j) i e h = insn_leads m ops i (e ∙ cc h)
@@ -56,7 +56,7 @@ meaning_leads : (ws : List Text) (i : Insn) → meaning ws ≡ Ok (Some i) → l
 meaning_leads [] i h = absurd (cc h)
 meaning_leads (name ∷ ops) i h = named_leads (mnemonic_named name) ops i h
 
-slots_program : (i : Insn) (p : List Insn) → leads i ≡ true → is_program (slots_of i ++ p) ≡ is_program p
+slots_program : (i : Insn) (p : List Insn) → leads i ≡ true → is_program (slots_taken i ++ p) ≡ is_program p
 slots_program WideSecond p h = absurd (cc h)
 slots_program other p h = refl
 
@@ -66,8 +66,8 @@ line_program (Ok (Some i)) p h = slots_program i p (h i refl)
 line_program (Err m) p h = refl
 
 line_slots_program : (line : Text) (p : List Insn) → is_program (line_slots line ++ p) ≡ is_program p
-unfolding meaning_of
-line_slots_program line p = line_program (meaning_of line) p (meaning_leads (words_of line))
+unfolding line_meaning
+line_slots_program line p = line_program (line_meaning line) p (meaning_leads (words_of line))
 
 -- what lines mean is a program
 pub lines_program : (lines : List Text) → is_program (flat_map line_slots lines) ≡ true

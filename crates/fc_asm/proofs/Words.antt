@@ -5,13 +5,13 @@ use Rattle.std.specs.List.{position_or_len, before_first, flat_map}
 use Rattle.std.specs.Vec.{vec_items}
 use Rattle.std.proofs.lemmas.List.{take_all, take_more, map_push, length_push, flat_map_more}
 use Rattle.std.proofs.lemmas.List.Elements.{filter_more}
-use Rattle.fc_asm.specs.Syntax.{parts_of, words_of}
+use Rattle.fc_asm.specs.Syntax.{split_words, words_of}
 
-pub words_before : {A E : Type 0} (line code : List ℕ) (r : Result (Vec (Bor (List ℕ)) A) E) → code ≡ before_first (λ b. b == 59) line → IfOk r (λ v. map (λ word. word.now) (vec_items v) ≡ parts_of code) → IfOk r (λ v. map (λ word. word.now) (vec_items v) ≡ words_of line)
+pub words_before : {A E : Type 0} (line code : List ℕ) (r : Result (Vec (Bor (List ℕ)) A) E) → code ≡ before_first (λ b. b == 59) line → IfOk r (λ v. map (λ word. word.now) (vec_items v) ≡ split_words code) → IfOk r (λ v. map (λ word. word.now) (vec_items v) ≡ words_of line)
 unfolding words_of
-words_before line code r e h = subst (λ t. IfOk r (λ v. map (λ word. word.now) (vec_items v) ≡ parts_of t)) e h
+words_before line code r e h = subst (λ t. IfOk r (λ v. map (λ word. word.now) (vec_items v) ≡ split_words t)) e h
 
-pub words_whole : {A E : Type 0} (line : List ℕ) (r : Result (Vec (Bor (List ℕ)) A) E) → position_or_len (λ b. b == 59) line ≡ length line → IfOk r (λ v. map (λ word. word.now) (vec_items v) ≡ parts_of line) → IfOk r (λ v. map (λ word. word.now) (vec_items v) ≡ words_of line)
+pub words_whole : {A E : Type 0} (line : List ℕ) (r : Result (Vec (Bor (List ℕ)) A) E) → position_or_len (λ b. b == 59) line ≡ length line → IfOk r (λ v. map (λ word. word.now) (vec_items v) ≡ split_words line) → IfOk r (λ v. map (λ word. word.now) (vec_items v) ≡ words_of line)
 words_whole line r e h = words_before line line r (sym (take_all (position_or_len (λ b. b == 59) line) line (omega arith))) h
 
 -- ---- the loops: one more piece

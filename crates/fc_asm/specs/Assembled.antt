@@ -1,31 +1,33 @@
 -- The program that lines mean, and the fault of lines that mean none.
 use Rattle.std.specs.Option.{option_to_list}
-use Rattle.std.specs.Prelude.{ℕ, ◌+◌, length, ◌≡◌, List, [], ◌∷◌, ◌++◌, All, Option, Some, None, Ok, Err}
+use Rattle.std.specs.Prelude.{ℕ, ◌+◌, length, ◌≡◌, IsTrue, List, [], ◌∷◌, ◌++◌, All, Option, Some, None, Ok, Err}
 use Rattle.std.specs.List.{flat_map}
 use Rattle.fc_isa.specs.declared.insn.Insn.{Insn}
 use Rattle.fc_isa.specs.declared.insn.Insn.TheVariants.{LoadWide, WideSecond}
+use Rattle.fc_isa.specs.Program.{IsInsn, is_program}
 use Rattle.fc_asm.specs.declared.error.Mistake.{Mistake}
 use Rattle.fc_asm.specs.declared.error.AsmError.{AsmError}
 use Rattle.fc_asm.specs.declared.error.AsmError.TheVariants.{Faulty, NoMemory}
 use Rattle.fc_asm.specs.Names.{Text}
 use Rattle.fc_asm.specs.Operands.{Reading}
-use Rattle.fc_asm.specs.Syntax.{meaning_of}
+use Rattle.fc_asm.specs.Listing.{listing}
+use Rattle.fc_asm.specs.Syntax.{line_meaning}
 
 -- a wide load has two slots
 abbrev pub second_slot : Insn → Option Insn
 second_slot (LoadWide dst value) = Some WideSecond
 second_slot other = None
 
-abbrev pub slots_of : Insn → List Insn
-slots_of i = i ∷ option_to_list (second_slot i)
+abbrev pub slots_taken : Insn → List Insn
+slots_taken i = i ∷ option_to_list (second_slot i)
 
 -- the slots of what a line means
 abbrev pub slots_in : Reading (Option Insn) → List Insn
-slots_in (Ok (Some i)) = slots_of i
+slots_in (Ok (Some i)) = slots_taken i
 slots_in other = []
 
 abbrev pub line_slots : Text → List Insn
-line_slots line = slots_in (meaning_of line)
+line_slots line = slots_in (line_meaning line)
 
 abbrev pub mistake_in : Reading (Option Insn) → Option Mistake
 mistake_in (Ok i) = None
@@ -33,7 +35,7 @@ mistake_in (Err mistake) = Some mistake
 
 -- no line has a mistake, and the program is what the lines mean, one after another
 pub record IsAssembled (lines : List Text) (program : List Insn) : Type 0 where
-  pub faultless : All (λ line. mistake_in (meaning_of line) ≡ None) lines
+  pub faultless : All (λ line. mistake_in (line_meaning line) ≡ None) lines
   pub slots : program ≡ flat_map line_slots lines
 
 -- the line of this number, counted from 1, has the mistake, and none before it has one
@@ -42,9 +44,9 @@ pub record IsFirstMistake (lines : List Text) (mistake : Mistake) (number : ℕ)
   pub faulty : Text
   pub after : List Text
   pub parted : lines ≡ before ++ faulty ∷ after
-  pub faultless : All (λ line. mistake_in (meaning_of line) ≡ None) before
+  pub faultless : All (λ line. mistake_in (line_meaning line) ≡ None) before
   pub counted : number ≡ length before + 1
-  pub here : mistake_in (meaning_of faulty) ≡ Some mistake
+  pub here : mistake_in (line_meaning faulty) ≡ Some mistake
 
 abbrev pub IsAsmError : List Text → AsmError → Type 0
 IsAsmError lines (Faulty mistake line) = IsFirstMistake lines mistake line
@@ -52,5 +54,9 @@ IsAsmError lines NoMemory = Unit {0}
 
 -- what is wrong with the line of this number
 abbrev pub IsLineError : Text → ℕ → AsmError → Type 0
-IsLineError line number (Faulty mistake at) = (meaning_of line ≡ Err mistake) × (at ≡ number)
+IsLineError line number (Faulty mistake at) = (line_meaning line ≡ Err mistake) × (at ≡ number)
 IsLineError line number NoMemory = Unit {0}
+
+-- what is so of each program that this text lists
+abbrev pub ForListed : Text → (List Insn → Type 0) → Type 0
+ForListed text P = (program : List Insn) → IsTrue (is_program program) → All IsInsn program → text ≡ listing program → P program

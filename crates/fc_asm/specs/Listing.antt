@@ -6,12 +6,9 @@ use Rattle.fc_isa.specs.declared.insn.Insn.{Insn}
 use Rattle.fc_isa.specs.declared.insn.Insn.TheVariants.{Alu, Neg, SignExtend, End, LoadWide, WideSecond, Load, StoreImm, Store, JumpAlways, JumpAlwaysLong, JumpIf, CallHelper, CallLocal, Exit}
 use Rattle.fc_isa.specs.declared.insn.Operand.{Operand}
 use Rattle.fc_isa.specs.declared.insn.Operand.TheVariants.{Imm, Reg}
-use Rattle.fc_isa.specs.declared.insn.SignExtension.{SignExtension}
-use Rattle.fc_isa.specs.declared.insn.SignExtension.TheVariants.{Byte, HalfWord, Word}
-use Rattle.fc_isa.specs.declared.insn.Width.{Width}
-use Rattle.fc_isa.specs.declared.insn.Width.TheVariants.{W64}
+use Rattle.fc_isa.specs.Encoding.{extended_bits, extended_width}
 use Rattle.fc_asm.specs.declared.mnemonic.Mnemonic.{Mnemonic}
-use Rattle.fc_asm.specs.declared.mnemonic.Mnemonic.TheVariants.{Arithmetic, Negate, Extend, Swap, Wide, Read, WriteImm, WriteReg, Go, GoFar, Branch, Helper, Function, Return}
+use Rattle.fc_asm.specs.declared.mnemonic.Mnemonic.TheVariants as mnemonic
 use Rattle.fc_asm.specs.Names.{Text, name_of}
 
 -- `r0` to `r10`
@@ -22,40 +19,29 @@ abbrev pub operand_text : Operand → Text
 operand_text (Imm k) = signed_decimal k
 operand_text (Reg r) = register r
 
--- the width that is extended to, and how many bits are extended
-abbrev pub extended_to : SignExtension → Width
-extended_to (Byte width) = width
-extended_to (HalfWord width) = width
-extended_to Word = W64
-
-abbrev pub extended_bits : SignExtension → ℤ
-extended_bits (Byte width) = pos 8
-extended_bits (HalfWord width) = pos 16
-extended_bits Word = pos 32
-
 -- the second half of a wide load has no line
 abbrev pub mnemonic_of : Insn → Option Mnemonic
-mnemonic_of (Alu op width dst operand) = Some (Arithmetic op width)
-mnemonic_of (Neg width dst) = Some (Negate width)
-mnemonic_of (SignExtend extension dst src) = Some (Extend (extended_to extension))
-mnemonic_of (End order width dst) = Some (Swap order width)
-mnemonic_of (LoadWide dst value) = Some Wide
+mnemonic_of (Alu op width dst operand) = Some (mnemonic.Alu op width)
+mnemonic_of (Neg width dst) = Some (mnemonic.Neg width)
+mnemonic_of (SignExtend extension dst src) = Some (mnemonic.SignExtend (extended_width extension))
+mnemonic_of (End order width dst) = Some (mnemonic.End order width)
+mnemonic_of (LoadWide dst value) = Some mnemonic.LoadWide
 mnemonic_of WideSecond = None
-mnemonic_of (Load loaded dst base offset) = Some (Read loaded)
-mnemonic_of (StoreImm size base offset imm) = Some (WriteImm size)
-mnemonic_of (Store size base offset src) = Some (WriteReg size)
-mnemonic_of (JumpAlways offset) = Some Go
-mnemonic_of (JumpAlwaysLong offset) = Some GoFar
-mnemonic_of (JumpIf j) = Some (Branch j.relation j.width)
-mnemonic_of (CallHelper number) = Some Helper
-mnemonic_of (CallLocal offset) = Some Function
-mnemonic_of Exit = Some Return
+mnemonic_of (Load loaded dst base offset) = Some (mnemonic.Load loaded)
+mnemonic_of (StoreImm size base offset imm) = Some (mnemonic.StoreImm size)
+mnemonic_of (Store size base offset src) = Some (mnemonic.Store size)
+mnemonic_of (JumpAlways offset) = Some mnemonic.JumpAlways
+mnemonic_of (JumpAlwaysLong offset) = Some mnemonic.JumpAlwaysLong
+mnemonic_of (JumpIf j) = Some (mnemonic.JumpIf j.relation j.width)
+mnemonic_of (CallHelper number) = Some mnemonic.CallHelper
+mnemonic_of (CallLocal offset) = Some mnemonic.CallLocal
+mnemonic_of Exit = Some mnemonic.Exit
 
 -- an instruction's operands, in the order of the line
 abbrev pub operands_of : Insn → List Text
 operands_of (Alu op width dst operand) = register dst ∷ operand_text operand ∷ []
 operands_of (Neg width dst) = register dst ∷ []
-operands_of (SignExtend extension dst src) = register dst ∷ register src ∷ signed_decimal (extended_bits extension) ∷ []
+operands_of (SignExtend extension dst src) = register dst ∷ register src ∷ signed_decimal (pos (extended_bits extension)) ∷ []
 operands_of (End order width dst) = register dst ∷ []
 operands_of (LoadWide dst value) = register dst ∷ decimal value ∷ []
 operands_of WideSecond = []

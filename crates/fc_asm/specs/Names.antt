@@ -15,8 +15,9 @@ use Rattle.fc_isa.specs.declared.insn.SwapWidth.{SwapWidth}
 use Rattle.fc_isa.specs.declared.insn.SwapWidth.TheVariants.{S16, S32, S64}
 use Rattle.fc_isa.specs.declared.insn.Width.{Width}
 use Rattle.fc_isa.specs.declared.insn.Width.TheVariants.{W32, W64}
+use Rattle.fc_isa.specs.Shapes.{relations, sizes}
 use Rattle.fc_asm.specs.declared.mnemonic.Mnemonic.{Mnemonic}
-use Rattle.fc_asm.specs.declared.mnemonic.Mnemonic.TheVariants.{Arithmetic, Negate, Extend, Swap, Wide, Read, WriteImm, WriteReg, Go, GoFar, Branch, Helper, Function, Return}
+use Rattle.fc_asm.specs.declared.mnemonic.Mnemonic.TheVariants as mnemonic
 
 abbrev pub Text : Type 0
 Text = List ℕ
@@ -37,19 +38,19 @@ alu_name Arsh = codes "arsh"
 alu_name Sdiv = codes "sdiv"
 alu_name Smod = codes "smod"
 
-abbrev pub width_bits : Width → Text
-width_bits W32 = codes "32"
-width_bits W64 = codes "64"
+abbrev pub width_digits : Width → Text
+width_digits W32 = codes "32"
+width_digits W64 = codes "64"
 
 abbrev pub order_name : ByteOrder → Text
 order_name Little = codes "le"
 order_name Big = codes "be"
 order_name Swapped = codes "swap"
 
-abbrev pub swap_bits : SwapWidth → Text
-swap_bits S16 = codes "16"
-swap_bits S32 = codes "32"
-swap_bits S64 = codes "64"
+abbrev pub swap_digits : SwapWidth → Text
+swap_digits S16 = codes "16"
+swap_digits S32 = codes "32"
+swap_digits S64 = codes "64"
 
 abbrev pub size_name : Size → Text
 size_name Byte = codes "b"
@@ -78,42 +79,36 @@ relation_name Sle = codes "jsle"
 
 -- the word that an instruction's line begins with
 abbrev pub name_of : Mnemonic → Text
-name_of (Arithmetic op width) = alu_name op ++ width_bits width
-name_of (Negate width) = codes "neg" ++ width_bits width
-name_of (Extend width) = codes "movsx" ++ width_bits width
-name_of (Swap order width) = order_name order ++ swap_bits width
-name_of Wide = codes "lddw"
-name_of (Read loaded) = load_name loaded
-name_of (WriteImm size) = codes "st" ++ size_name size
-name_of (WriteReg size) = codes "stx" ++ size_name size
-name_of Go = codes "ja"
-name_of GoFar = codes "ja32"
-name_of (Branch relation W64) = relation_name relation
-name_of (Branch relation W32) = relation_name relation ++ codes "32"
-name_of Helper = codes "call"
-name_of Function = codes "callf"
-name_of Return = codes "exit"
+name_of (mnemonic.Alu op width) = alu_name op ++ width_digits width
+name_of (mnemonic.Neg width) = codes "neg" ++ width_digits width
+name_of (mnemonic.SignExtend width) = codes "movsx" ++ width_digits width
+name_of (mnemonic.End order width) = order_name order ++ swap_digits width
+name_of mnemonic.LoadWide = codes "lddw"
+name_of (mnemonic.Load loaded) = load_name loaded
+name_of (mnemonic.StoreImm size) = codes "st" ++ size_name size
+name_of (mnemonic.Store size) = codes "stx" ++ size_name size
+name_of mnemonic.JumpAlways = codes "ja"
+name_of mnemonic.JumpAlwaysLong = codes "ja32"
+name_of (mnemonic.JumpIf relation W64) = relation_name relation
+name_of (mnemonic.JumpIf relation W32) = relation_name relation ++ codes "32"
+name_of mnemonic.CallHelper = codes "call"
+name_of mnemonic.CallLocal = codes "callf"
+name_of mnemonic.Exit = codes "exit"
 
 -- the names of all mnemonics
 abbrev pub alu_ops : List AluOp
 alu_ops = Add ∷ Sub ∷ Mul ∷ Div ∷ Or ∷ And ∷ Lsh ∷ Rsh ∷ Mod ∷ Xor ∷ Mov ∷ Arsh ∷ Sdiv ∷ Smod ∷ []
 
-abbrev pub relations : List Relation
-relations = Eq ∷ Gt ∷ Ge ∷ Set ∷ Ne ∷ Sgt ∷ Sge ∷ Lt ∷ Le ∷ Slt ∷ Sle ∷ []
-
-abbrev pub sizes : List Size
-sizes = Byte ∷ HalfWord ∷ Word ∷ DoubleWord ∷ []
-
 abbrev pub swaps : ByteOrder → List Mnemonic
-swaps order = Swap order S16 ∷ Swap order S32 ∷ Swap order S64 ∷ []
+swaps order = mnemonic.End order S16 ∷ mnemonic.End order S32 ∷ mnemonic.End order S64 ∷ []
 
 abbrev pub mnemonics : List Mnemonic
 mnemonics =
-    map (λ op. Arithmetic op W64) alu_ops ++ (map (λ op. Arithmetic op W32) alu_ops
-    ++ (Negate W64 ∷ Negate W32 ∷ Extend W64 ∷ Extend W32 ∷ [] ++ (swaps Little ++ (swaps Big ++ (swaps Swapped
-    ++ (Wide ∷ [] ++ (map (λ size. Read (Unsigned size)) sizes ++ (Read SignedByte ∷ Read SignedHalfWord ∷ Read SignedWord ∷ []
-    ++ (map WriteImm sizes ++ (map WriteReg sizes ++ (Go ∷ GoFar ∷ [] ++ (map (λ relation. Branch relation W64) relations
-    ++ (map (λ relation. Branch relation W32) relations ++ (Helper ∷ Function ∷ Return ∷ []))))))))))))))
+    map (λ op. mnemonic.Alu op W64) alu_ops ++ (map (λ op. mnemonic.Alu op W32) alu_ops
+    ++ (mnemonic.Neg W64 ∷ mnemonic.Neg W32 ∷ mnemonic.SignExtend W64 ∷ mnemonic.SignExtend W32 ∷ [] ++ (swaps Little ++ (swaps Big ++ (swaps Swapped
+    ++ (mnemonic.LoadWide ∷ [] ++ (map (λ size. mnemonic.Load (Unsigned size)) sizes ++ (mnemonic.Load SignedByte ∷ mnemonic.Load SignedHalfWord ∷ mnemonic.Load SignedWord ∷ []
+    ++ (map mnemonic.StoreImm sizes ++ (map mnemonic.Store sizes ++ (mnemonic.JumpAlways ∷ mnemonic.JumpAlwaysLong ∷ [] ++ (map (λ relation. mnemonic.JumpIf relation W64) relations
+    ++ (map (λ relation. mnemonic.JumpIf relation W32) relations ++ (mnemonic.CallHelper ∷ mnemonic.CallLocal ∷ mnemonic.Exit ∷ []))))))))))))))
 
 -- the mnemonic of this name
 unfoldable pub mnemonic_named : Text → Option Mnemonic

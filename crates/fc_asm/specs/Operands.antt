@@ -43,23 +43,23 @@ both_of (Err e) (Err f) = Err (graver e f)
 abbrev pub registers : List Text
 registers = codes "r0" ∷ codes "r1" ∷ codes "r2" ∷ codes "r3" ∷ codes "r4" ∷ codes "r5" ∷ codes "r6" ∷ codes "r7" ∷ codes "r8" ∷ codes "r9" ∷ codes "r10" ∷ []
 
-unfoldable pub register_of : Text → Reading ℕ
-register_of word = ok_or (position (λ name. bytes_eq name word) registers) mistake.Operand
+unfoldable pub register_from : Text → Reading ℕ
+register_from word = ok_or (position (λ name. bytes_eq name word) registers) mistake.Operand
 
 -- R10 is not written
 abbrev pub written : ℕ → Reading ℕ
 written r = if nat_lt r 10 then Ok r else Err mistake.Operand
 
-abbrev pub target_of : Text → Reading ℕ
-target_of word = if_ok (register_of word) written
+abbrev pub target_from : Text → Reading ℕ
+target_from word = if_ok (register_from word) written
 
 -- one or more decimal digits
 abbrev pub is_digits : Text → Bool
 is_digits digits = nat_lt 0 (length digits) && all_ascii_digits digits
 
 -- a `-` may stand before them
-abbrev pub is_number : Text → Bool
-is_number word = is_digits (if slice_index word 0 == 45 then drop 1 word else word)
+abbrev pub writes_number : Text → Bool
+writes_number word = is_digits (if slice_index word 0 == 45 then drop 1 word else word)
 
 -- -2^k to 2^k - 1
 abbrev pub within : ℕ → ℤ → Bool
@@ -75,25 +75,25 @@ natural (pos n) = if nat_lt n (2 ^ 64) then Ok n else Err OutOfRange
 natural (negsuc n) = Err OutOfRange
 
 -- the number that a word writes, whatever its length
-abbrev pub number_of : Text → Reading ℤ
-number_of word = if is_number word then Ok (signed_digits_value 10 word) else Err mistake.Operand
+abbrev pub number_from : Text → Reading ℤ
+number_from word = if writes_number word then Ok (signed_digits_value 10 word) else Err mistake.Operand
 
-unfoldable pub imm_of : Text → Reading ℤ
-imm_of word = if_ok (number_of word) (in_range 31)
+unfoldable pub imm_from : Text → Reading ℤ
+imm_from word = if_ok (number_from word) (in_range 31)
 
-unfoldable pub offset_of : Text → Reading ℤ
-offset_of word = if_ok (number_of word) (in_range 15)
+unfoldable pub offset_from : Text → Reading ℤ
+offset_from word = if_ok (number_from word) (in_range 15)
 
-unfoldable pub wide_of : Text → Reading ℕ
-wide_of word = if_ok (number_of word) natural
+unfoldable pub wide_from : Text → Reading ℕ
+wide_from word = if_ok (number_from word) natural
 
 -- a register, or else an immediate
 abbrev pub register_or : Reading ℕ → Reading ℤ → Reading Operand
 register_or (Ok r) number = Ok (Reg r)
 register_or (Err e) number = map_ok Imm number
 
-abbrev pub operand_of : Text → Reading Operand
-operand_of word = register_or (register_of word) (imm_of word)
+abbrev pub operand_from : Text → Reading Operand
+operand_from word = register_or (register_from word) (imm_from word)
 
 -- 8 and 16 bits are extended to both widths, 32 to 64 alone
 abbrev pub word_to : Width → Reading SignExtension
@@ -104,5 +104,5 @@ abbrev pub extended : Width → ℤ → Reading SignExtension
 extended width (pos n) = if n == 8 then Ok (Byte width) else (if n == 16 then Ok (HalfWord width) else (if n == 32 then word_to width else Err OutOfRange))
 extended width (negsuc n) = Err OutOfRange
 
-abbrev pub width_of : Width → Text → Reading SignExtension
-width_of width word = if_ok (imm_of word) (extended width)
+abbrev pub extension_from : Width → Text → Reading SignExtension
+extension_from width word = if_ok (imm_from word) (extended width)

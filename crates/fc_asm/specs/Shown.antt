@@ -10,17 +10,17 @@ use Rattle.fc_asm.specs.declared.listing.Operands.TheVariants.{Zero, One, Two, T
 use Rattle.fc_asm.specs.Names.{Text}
 use Rattle.fc_asm.specs.Listing.{register}
 
-abbrev pub text_of : Shown → Text
-text_of (Register r) = register r
-text_of (Number k) = signed_decimal k
-text_of (Wide n) = decimal n
+abbrev pub shown_text : Shown → Text
+shown_text (Register r) = register r
+shown_text (Number k) = signed_decimal k
+shown_text (Wide n) = decimal n
 
 abbrev pub shown_operand : Operand → Shown
 shown_operand (Imm k) = Number k
 shown_operand (Reg r) = Register r
 
-abbrev pub texts_of : Operands → List Text
-texts_of Zero = []
-texts_of (One a) = text_of a ∷ []
-texts_of (Two a b) = text_of a ∷ text_of b ∷ []
-texts_of (Three a b c) = text_of a ∷ text_of b ∷ text_of c ∷ []
+abbrev pub shown_texts : Operands → List Text
+shown_texts Zero = []
+shown_texts (One a) = shown_text a ∷ []
+shown_texts (Two a b) = shown_text a ∷ shown_text b ∷ []
+shown_texts (Three a b c) = shown_text a ∷ shown_text b ∷ shown_text c ∷ []

@@ -5,29 +5,29 @@ use Rattle.fc_isa.specs.declared.insn.Insn.{Insn}
 use Rattle.fc_isa.specs.declared.insn.Insn.TheVariants.{Alu, Neg, SignExtend, End, LoadWide, Load, StoreImm, Store, JumpAlways, JumpAlwaysLong, JumpIf, CallHelper, CallLocal, Exit}
 use Rattle.fc_asm.specs.declared.error.Mistake.TheVariants.{UnknownWord, Operand}
 use Rattle.fc_asm.specs.declared.mnemonic.Mnemonic.{Mnemonic}
-use Rattle.fc_asm.specs.declared.mnemonic.Mnemonic.TheVariants.{Arithmetic, Negate, Extend, Swap, Wide, Read, WriteImm, WriteReg, Go, GoFar, Branch, Helper, Function, Return}
+use Rattle.fc_asm.specs.declared.mnemonic.Mnemonic.TheVariants as mnemonic
 use Rattle.fc_asm.specs.Names.{Text, mnemonic_named}
-use Rattle.fc_asm.specs.Operands.{Reading, map_ok, if_ok, both_of, target_of, register_of, imm_of, offset_of, wide_of, operand_of, width_of}
+use Rattle.fc_asm.specs.Operands.{Reading, map_ok, if_ok, both_of, target_from, register_from, imm_from, offset_from, wide_from, operand_from, extension_from}
 
 -- lines end with a line feed
 unfoldable pub lines_of : Text → List Text
 lines_of text = slice_split (λ b. b == 10) text
 
 -- what stands before a `;`
-abbrev pub code_of : Text → Text
-code_of line = before_first (λ b. b == 59) line
+abbrev pub before_comment : Text → Text
+before_comment line = before_first (λ b. b == 59) line
 
 -- words are parted by commas
-abbrev pub comma_parts : Text → List Text
-comma_parts part = filter (λ word. nat_lt 0 (length word)) (slice_split (λ b. b == 44) part)
+abbrev pub split_commas : Text → List Text
+split_commas part = filter (λ word. nat_lt 0 (length word)) (slice_split (λ b. b == 44) part)
 
 -- and by spaces
-abbrev pub parts_of : Text → List Text
-parts_of code = flat_map comma_parts (slice_split (λ b. b == 32) code)
+abbrev pub split_words : Text → List Text
+split_words code = flat_map split_commas (slice_split (λ b. b == 32) code)
 
 -- the words of a line
 unfoldable pub words_of : Text → List Text
-words_of line = parts_of (code_of line)
+words_of line = split_words (before_comment line)
 
 -- just one operand, two, or three
 abbrev pub one_of : List Text → Reading Text
@@ -59,20 +59,20 @@ of_none insn other = Err Operand
 
 -- the instruction of a mnemonic and its operands
 abbrev pub insn_from : Mnemonic → List Text → Reading Insn
-insn_from (Arithmetic op width) = of_two (λ dst operand. Alu op width dst operand) target_of operand_of
-insn_from (Negate width) = of_one (λ dst. Neg width dst) target_of
-insn_from (Extend width) = of_three (λ dst src extension. SignExtend extension dst src) target_of register_of (width_of width)
-insn_from (Swap order width) = of_one (λ dst. End order width dst) target_of
-insn_from Wide = of_two (λ dst value. LoadWide dst value) target_of wide_of
-insn_from (Read loaded) = of_three (λ dst base offset. Load loaded dst base offset) target_of register_of offset_of
-insn_from (WriteImm size) = of_three (λ base offset imm. StoreImm size base offset imm) register_of offset_of imm_of
-insn_from (WriteReg size) = of_three (λ base offset src. Store size base offset src) register_of offset_of register_of
-insn_from Go = of_one (λ offset. JumpAlways offset) offset_of
-insn_from GoFar = of_one (λ offset. JumpAlwaysLong offset) imm_of
-insn_from (Branch relation width) = of_three (λ left right offset. JumpIf (record { width = width; relation = relation; left = left; right = right; offset = offset })) register_of operand_of offset_of
-insn_from Helper = of_one (λ number. CallHelper number) imm_of
-insn_from Function = of_one (λ offset. CallLocal offset) imm_of
-insn_from Return = of_none Exit
+insn_from (mnemonic.Alu op width) = of_two (λ dst operand. Alu op width dst operand) target_from operand_from
+insn_from (mnemonic.Neg width) = of_one (λ dst. Neg width dst) target_from
+insn_from (mnemonic.SignExtend width) = of_three (λ dst src extension. SignExtend extension dst src) target_from register_from (extension_from width)
+insn_from (mnemonic.End order width) = of_one (λ dst. End order width dst) target_from
+insn_from mnemonic.LoadWide = of_two (λ dst value. LoadWide dst value) target_from wide_from
+insn_from (mnemonic.Load loaded) = of_three (λ dst base offset. Load loaded dst base offset) target_from register_from offset_from
+insn_from (mnemonic.StoreImm size) = of_three (λ base offset imm. StoreImm size base offset imm) register_from offset_from imm_from
+insn_from (mnemonic.Store size) = of_three (λ base offset src. Store size base offset src) register_from offset_from register_from
+insn_from mnemonic.JumpAlways = of_one (λ offset. JumpAlways offset) offset_from
+insn_from mnemonic.JumpAlwaysLong = of_one (λ offset. JumpAlwaysLong offset) imm_from
+insn_from (mnemonic.JumpIf relation width) = of_three (λ left right offset. JumpIf (record { width = width; relation = relation; left = left; right = right; offset = offset })) register_from operand_from offset_from
+insn_from mnemonic.CallHelper = of_one (λ number. CallHelper number) imm_from
+insn_from mnemonic.CallLocal = of_one (λ offset. CallLocal offset) imm_from
+insn_from mnemonic.Exit = of_none Exit
 
 abbrev pub named : Option Mnemonic → List Text → Reading (Option Insn)
 named None operands = Err UnknownWord
@@ -83,5 +83,5 @@ abbrev pub meaning : List Text → Reading (Option Insn)
 meaning [] = Ok None
 meaning (name ∷ operands) = named (mnemonic_named name) operands
 
-unfoldable pub meaning_of : Text → Reading (Option Insn)
-meaning_of line = meaning (words_of line)
+unfoldable pub line_meaning : Text → Reading (Option Insn)
+line_meaning line = meaning (words_of line)

@@ -1,10 +1,8 @@
 //! From text to instructions.
-ghost use Rattle.std.specs.Prelude.{All, IfErr, IfOk, IsTrue, List, MatchResult, None, OnOk, ◌++◌, ◌≡◌};
-ghost use Rattle.fc_isa.specs.Program.{IsInsn, is_program};
-ghost use Rattle.fc_isa.specs.declared.insn.Insn.{Insn};
-ghost use Rattle.fc_asm.specs.Listing.{listing};
-ghost use Rattle.fc_asm.specs.Assembled.{IsAsmError, IsAssembled, IsLineError, line_slots, mistake_in, second_slot};
-ghost use Rattle.fc_asm.specs.Syntax.{lines_of, meaning_of};
+ghost use Rattle.std.specs.Prelude.{IfErr, IfOk, IsTrue, MatchResult, None, OnOk, ◌++◌, ◌≡◌};
+ghost use Rattle.fc_isa.specs.Program.{is_program};
+ghost use Rattle.fc_asm.specs.Assembled.{ForListed, IsAsmError, IsAssembled, IsLineError, line_slots, mistake_in, second_slot};
+ghost use Rattle.fc_asm.specs.Syntax.{lines_of, line_meaning};
 
 use crate::error::AsmError;
 use crate::line::{read, words};
@@ -21,7 +19,7 @@ pub fn assemble(alloc: Global, text: &str) -> Result<Vec<Insn>, AsmError>
     ensures program { IfOk result (λ v. IsAssembled (lines_of text.now) v.items) }
     ensures slots { IfOk result (λ v. IsTrue (is_program v.items)) }
     ensures fault { IfErr result (IsAsmError (lines_of text.now)) }
-    ensures listed { (p : List Insn) → IsTrue (is_program p) → All IsInsn p → text.now ≡ listing p → MatchResult result (λ v. v.items ≡ p) (λ e. e ≡ AsmError.NoMemory) }
+    ensures listed { ForListed text.now (λ p. MatchResult result (λ v. v.items ≡ p) (λ e. e ≡ AsmError.NoMemory)) }
 {
     let names = Names::new(alloc)?;
     assemble_lines(alloc, &names, text)
@@ -32,7 +30,7 @@ fn assemble_lines(alloc: Global, names: &Names, text: &str) -> Result<Vec<Insn>,
     ensures program { IfOk result (λ v. IsAssembled (lines_of text.now) v.items) }
     ensures slots { IfOk result (λ v. IsTrue (is_program v.items)) }
     ensures fault { IfErr result (IsAsmError (lines_of text.now)) }
-    ensures listed { (p : List Insn) → IsTrue (is_program p) → All IsInsn p → text.now ≡ listing p → MatchResult result (λ v. v.items ≡ p) (λ e. e ≡ AsmError.NoMemory) }
+    ensures listed { ForListed text.now (λ p. MatchResult result (λ v. v.items ≡ p) (λ e. e ≡ AsmError.NoMemory)) }
 {
     let mut program = Vec::new(alloc);
     let mut line = 0;
@@ -52,7 +50,7 @@ fn assemble_line(
     program: &mut Vec<Insn>,
 ) -> Result<(), AsmError>
     ensures slots { OnOk result (program.new.items ≡ program.old.items ++ line_slots code.now) }
-    ensures faultless { OnOk result (mistake_in (meaning_of code.now) ≡ None) }
+    ensures faultless { OnOk result (mistake_in (line_meaning code.now) ≡ None) }
     ensures fault { IfErr result (IsLineError code.now line) }
 {
     let words = words(alloc, code)?;

@@ -1,7 +1,7 @@
 //! From a line to the instruction that it names.
 ghost use Rattle.std.specs.Prelude.{IfOk, List, OnOk, map, ◌++◌, ◌≡◌};
-ghost use Rattle.fc_asm.specs.Operands.{if_ok, imm_of, map_ok, offset_of, target_of};
-ghost use Rattle.fc_asm.specs.Syntax.{comma_parts, insn_from, meaning, one_of, parts_of, three_of, two_of, words_of};
+ghost use Rattle.fc_asm.specs.Operands.{if_ok, imm_from, map_ok, offset_from, target_from};
+ghost use Rattle.fc_asm.specs.Syntax.{split_commas, insn_from, meaning, one_of, split_words, three_of, two_of, words_of};
 
 use crate::error::Mistake;
 use crate::mnemonic::Mnemonic;
@@ -22,7 +22,7 @@ pub fn words<'a>(alloc: Global, line: &'a str) -> Result<Vec<&'a str>, AllocErro
 
 /// What stands between spaces and commas.
 fn parts<'a>(alloc: Global, code: &'a str) -> Result<Vec<&'a str>, AllocError>
-    ensures { IfOk result (λ v. map (λ word. word.now) v.items ≡ parts_of code.now) }
+    ensures { IfOk result (λ v. map (λ word. word.now) v.items ≡ split_words code.now) }
 {
     let mut words = Vec::new(alloc);
     for part in code.split(' ') {
@@ -33,7 +33,7 @@ fn parts<'a>(alloc: Global, code: &'a str) -> Result<Vec<&'a str>, AllocError>
 
 /// Adds what stands between commas.
 fn push_words<'a>(words: &mut Vec<&'a str>, part: &'a str) -> Result<(), AllocError>
-    ensures { OnOk result (map (λ word. word.now) words.new.items ≡ map (λ word. word.now) words.old.items ++ comma_parts part.now) }
+    ensures { OnOk result (map (λ word. word.now) words.new.items ≡ map (λ word. word.now) words.old.items ++ split_commas part.now) }
 {
     for word in part.split(',') {
         if !word.is_empty() {
@@ -61,35 +61,35 @@ fn insn(mnemonic: Mnemonic, operands: &[&str]) -> Result<Insn, Mistake>
     ensures { result ≡ insn_from mnemonic (map (λ word. word.now) operands.now) }
 {
     match mnemonic {
-        Mnemonic::Arithmetic(op, width) => arithmetic(op, width, operands),
-        Mnemonic::Negate(width) => Ok(Insn::Neg {
+        Mnemonic::Alu(op, width) => arithmetic(op, width, operands),
+        Mnemonic::Neg(width) => Ok(Insn::Neg {
             width,
             dst: only_target(operands)?,
         }),
-        Mnemonic::Extend(width) => extend(width, operands),
-        Mnemonic::Swap(order, width) => Ok(Insn::End {
+        Mnemonic::SignExtend(width) => extend(width, operands),
+        Mnemonic::End(order, width) => Ok(Insn::End {
             order,
             width,
             dst: only_target(operands)?,
         }),
-        Mnemonic::Wide => load_wide(operands),
-        Mnemonic::Read(loaded) => load(loaded, operands),
-        Mnemonic::WriteImm(size) => store_imm(size, operands),
-        Mnemonic::WriteReg(size) => store(size, operands),
-        Mnemonic::Go => Ok(Insn::JumpAlways {
+        Mnemonic::LoadWide => load_wide(operands),
+        Mnemonic::Load(loaded) => load(loaded, operands),
+        Mnemonic::StoreImm(size) => store_imm(size, operands),
+        Mnemonic::Store(size) => store(size, operands),
+        Mnemonic::JumpAlways => Ok(Insn::JumpAlways {
             offset: only_offset(operands)?,
         }),
-        Mnemonic::GoFar => Ok(Insn::JumpAlwaysLong {
+        Mnemonic::JumpAlwaysLong => Ok(Insn::JumpAlwaysLong {
             offset: only_imm(operands)?,
         }),
-        Mnemonic::Branch(relation, width) => jump_if(relation, width, operands),
-        Mnemonic::Helper => Ok(Insn::CallHelper {
+        Mnemonic::JumpIf(relation, width) => jump_if(relation, width, operands),
+        Mnemonic::CallHelper => Ok(Insn::CallHelper {
             number: only_imm(operands)?,
         }),
-        Mnemonic::Function => Ok(Insn::CallLocal {
+        Mnemonic::CallLocal => Ok(Insn::CallLocal {
             offset: only_imm(operands)?,
         }),
-        Mnemonic::Return => match operands {
+        Mnemonic::Exit => match operands {
             [] => Ok(Insn::Exit),
             _ => Err(Mistake::Operand),
         },
@@ -97,7 +97,7 @@ fn insn(mnemonic: Mnemonic, operands: &[&str]) -> Result<Insn, Mistake>
 }
 
 fn arithmetic(op: AluOp, width: Width, operands: &[&str]) -> Result<Insn, Mistake>
-    ensures { result ≡ insn_from (Mnemonic.Arithmetic op width) (map (λ word. word.now) operands.now) }
+    ensures { result ≡ insn_from (Mnemonic.Alu op width) (map (λ word. word.now) operands.now) }
 {
     let (dst, source) = two(operands)?;
     let (dst, operand) = both(target(dst), operand(source))?;
@@ -110,7 +110,7 @@ fn arithmetic(op: AluOp, width: Width, operands: &[&str]) -> Result<Insn, Mistak
 }
 
 fn extend(width: Width, operands: &[&str]) -> Result<Insn, Mistake>
-    ensures { result ≡ insn_from (Mnemonic.Extend width) (map (λ word. word.now) operands.now) }
+    ensures { result ≡ insn_from (Mnemonic.SignExtend width) (map (λ word. word.now) operands.now) }
 {
     let (dst, src, bits) = three(operands)?;
     let ((dst, src), extension) = both(both(target(dst), register(src)), extension(width, bits))?;
@@ -122,7 +122,7 @@ fn extend(width: Width, operands: &[&str]) -> Result<Insn, Mistake>
 }
 
 fn load_wide(operands: &[&str]) -> Result<Insn, Mistake>
-    ensures { result ≡ insn_from Mnemonic.Wide (map (λ word. word.now) operands.now) }
+    ensures { result ≡ insn_from Mnemonic.LoadWide (map (λ word. word.now) operands.now) }
 {
     let (dst, value) = two(operands)?;
     let (dst, value) = both(target(dst), wide(value))?;
@@ -130,7 +130,7 @@ fn load_wide(operands: &[&str]) -> Result<Insn, Mistake>
 }
 
 fn load(loaded: LoadType, operands: &[&str]) -> Result<Insn, Mistake>
-    ensures { result ≡ insn_from (Mnemonic.Read loaded) (map (λ word. word.now) operands.now) }
+    ensures { result ≡ insn_from (Mnemonic.Load loaded) (map (λ word. word.now) operands.now) }
 {
     let (dst, base, place) = three(operands)?;
     let ((dst, base), offset) = both(both(target(dst), register(base)), offset(place))?;
@@ -143,7 +143,7 @@ fn load(loaded: LoadType, operands: &[&str]) -> Result<Insn, Mistake>
 }
 
 fn store_imm(size: Size, operands: &[&str]) -> Result<Insn, Mistake>
-    ensures { result ≡ insn_from (Mnemonic.WriteImm size) (map (λ word. word.now) operands.now) }
+    ensures { result ≡ insn_from (Mnemonic.StoreImm size) (map (λ word. word.now) operands.now) }
 {
     let (base, place, value) = three(operands)?;
     let ((base, offset), imm) = both(both(register(base), offset(place)), imm(value))?;
@@ -156,7 +156,7 @@ fn store_imm(size: Size, operands: &[&str]) -> Result<Insn, Mistake>
 }
 
 fn store(size: Size, operands: &[&str]) -> Result<Insn, Mistake>
-    ensures { result ≡ insn_from (Mnemonic.WriteReg size) (map (λ word. word.now) operands.now) }
+    ensures { result ≡ insn_from (Mnemonic.Store size) (map (λ word. word.now) operands.now) }
 {
     let (base, place, src) = three(operands)?;
     let ((base, offset), src) = both(both(register(base), offset(place)), register(src))?;
@@ -169,7 +169,7 @@ fn store(size: Size, operands: &[&str]) -> Result<Insn, Mistake>
 }
 
 fn jump_if(relation: Relation, width: Width, operands: &[&str]) -> Result<Insn, Mistake>
-    ensures { result ≡ insn_from (Mnemonic.Branch relation width) (map (λ word. word.now) operands.now) }
+    ensures { result ≡ insn_from (Mnemonic.JumpIf relation width) (map (λ word. word.now) operands.now) }
 {
     let (left, right, place) = three(operands)?;
     let ((left, right), offset) = both(both(register(left), operand(right)), offset(place))?;
@@ -184,7 +184,7 @@ fn jump_if(relation: Relation, width: Width, operands: &[&str]) -> Result<Insn, 
 
 /// The only operand, as a register that a program may write.
 fn only_target(operands: &[&str]) -> Result<Target, Mistake>
-    ensures { result ≡ if_ok (one_of (map (λ word. word.now) operands.now)) target_of }
+    ensures { result ≡ if_ok (one_of (map (λ word. word.now) operands.now)) target_from }
 {
     match operands {
         [word] => target(word),
@@ -194,7 +194,7 @@ fn only_target(operands: &[&str]) -> Result<Target, Mistake>
 
 /// The only operand, as a number of 32 bits.
 fn only_imm(operands: &[&str]) -> Result<i32, Mistake>
-    ensures { result ≡ if_ok (one_of (map (λ word. word.now) operands.now)) imm_of }
+    ensures { result ≡ if_ok (one_of (map (λ word. word.now) operands.now)) imm_from }
 {
     match operands {
         [word] => imm(word),
@@ -204,7 +204,7 @@ fn only_imm(operands: &[&str]) -> Result<i32, Mistake>
 
 /// The only operand, as a number of 16 bits.
 fn only_offset(operands: &[&str]) -> Result<i16, Mistake>
-    ensures { result ≡ if_ok (one_of (map (λ word. word.now) operands.now)) offset_of }
+    ensures { result ≡ if_ok (one_of (map (λ word. word.now) operands.now)) offset_from }
 {
     match operands {
         [word] => offset(word),

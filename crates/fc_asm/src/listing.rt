@@ -1,8 +1,9 @@
 //! From instructions to text.
-ghost use Rattle.std.specs.Prelude.{IfOk, IsTrue, ◌≡◌, ◌≢◌, string_bytes, Some, None};
+ghost use Rattle.std.specs.Prelude.{IfOk, IsTrue, ◌≡◌, ◌≢◌, string_bytes, Some, None, pos};
 ghost use Rattle.fc_isa.specs.Program.{is_program};
-ghost use Rattle.fc_asm.specs.Listing.{extended_bits, listing, mnemonic_of, operands_of};
-ghost use Rattle.fc_asm.specs.Shown.{texts_of};
+ghost use Rattle.fc_isa.specs.Encoding.{extended_bits};
+ghost use Rattle.fc_asm.specs.Listing.{listing, mnemonic_of, operands_of};
+ghost use Rattle.fc_asm.specs.Shown.{shown_texts};
 
 use crate::mnemonic::Mnemonic;
 use fc_isa::{Insn, Operand, Reg, SignExtension, Target, Width};
@@ -40,9 +41,9 @@ enum Shown {
 
 impl fmt::Display for Shown {
     ghost use Rattle.std.specs.Prelude.{Some};
-    ghost use Rattle.fc_asm.specs.Shown.{text_of};
+    ghost use Rattle.fc_asm.specs.Shown.{shown_text};
 
-    ghost output = { λ s. Some (text_of s) };
+    ghost output = { λ s. Some (shown_text s) };
 
     fn fmt<W: fmt::Write>(&self, f: &mut fmt::Formatter<W>) -> fmt::Result {
         match *self {
@@ -130,9 +131,9 @@ struct Line {
 impl fmt::Display for Line {
     ghost use Rattle.std.specs.Prelude.{Some};
     ghost use Rattle.fc_asm.specs.Listing.{line};
-    ghost use Rattle.fc_asm.specs.Shown.{texts_of};
+    ghost use Rattle.fc_asm.specs.Shown.{shown_texts};
 
-    ghost output = { λ l. Some (line l.mnemonic (texts_of l.operands)) };
+    ghost output = { λ l. Some (line l.mnemonic (shown_texts l.operands)) };
 
     fn fmt<W: fmt::Write>(&self, f: &mut fmt::Formatter<W>) -> fmt::Result {
         let name = self.mnemonic;
@@ -150,21 +151,21 @@ fn mnemonic(insn: Insn) -> Option<Mnemonic>
     ensures { result ≡ mnemonic_of insn }
 {
     Some(match insn {
-        Insn::Alu { op, width, .. } => Mnemonic::Arithmetic(op, width),
-        Insn::Neg { width, .. } => Mnemonic::Negate(width),
+        Insn::Alu { op, width, .. } => Mnemonic::Alu(op, width),
+        Insn::Neg { width, .. } => Mnemonic::Neg(width),
         Insn::SignExtend { extension, .. } => extend(extension),
-        Insn::End { order, width, .. } => Mnemonic::Swap(order, width),
-        Insn::LoadWide { .. } => Mnemonic::Wide,
+        Insn::End { order, width, .. } => Mnemonic::End(order, width),
+        Insn::LoadWide { .. } => Mnemonic::LoadWide,
         Insn::WideSecond => return None,
-        Insn::Load { loaded, .. } => Mnemonic::Read(loaded),
-        Insn::StoreImm { size, .. } => Mnemonic::WriteImm(size),
-        Insn::Store { size, .. } => Mnemonic::WriteReg(size),
-        Insn::JumpAlways { .. } => Mnemonic::Go,
-        Insn::JumpAlwaysLong { .. } => Mnemonic::GoFar,
-        Insn::JumpIf(jump) => Mnemonic::Branch(jump.relation, jump.width),
-        Insn::CallHelper { .. } => Mnemonic::Helper,
-        Insn::CallLocal { .. } => Mnemonic::Function,
-        Insn::Exit => Mnemonic::Return,
+        Insn::Load { loaded, .. } => Mnemonic::Load(loaded),
+        Insn::StoreImm { size, .. } => Mnemonic::StoreImm(size),
+        Insn::Store { size, .. } => Mnemonic::Store(size),
+        Insn::JumpAlways { .. } => Mnemonic::JumpAlways,
+        Insn::JumpAlwaysLong { .. } => Mnemonic::JumpAlwaysLong,
+        Insn::JumpIf(jump) => Mnemonic::JumpIf(jump.relation, jump.width),
+        Insn::CallHelper { .. } => Mnemonic::CallHelper,
+        Insn::CallLocal { .. } => Mnemonic::CallLocal,
+        Insn::Exit => Mnemonic::Exit,
     })
 }
 
@@ -172,14 +173,14 @@ fn extend(extension: SignExtension) -> Mnemonic
     ensures { Some result ≡ mnemonic_of (Insn.SignExtend extension 0 0) }
 {
     match extension {
-        SignExtension::Byte(width) | SignExtension::HalfWord(width) => Mnemonic::Extend(width),
-        SignExtension::Word => Mnemonic::Extend(Width::W64),
+        SignExtension::Byte(width) | SignExtension::HalfWord(width) => Mnemonic::SignExtend(width),
+        SignExtension::Word => Mnemonic::SignExtend(Width::W64),
     }
 }
 
 /// How many bits are extended.
 fn bits(extension: SignExtension) -> i32
-    ensures { result ≡ extended_bits extension }
+    ensures { result ≡ pos (extended_bits extension) }
 {
     match extension {
         SignExtension::Byte(_) => 8,
@@ -190,7 +191,7 @@ fn bits(extension: SignExtension) -> i32
 
 /// An instruction's operands, in the order of the line.
 fn shown_operands(insn: Insn) -> Operands
-    ensures { texts_of result ≡ operands_of insn }
+    ensures { shown_texts result ≡ operands_of insn }
 {
     match insn {
         Insn::Alu { dst, operand, .. } => Operands::Two(dst.into(), operand.into()),

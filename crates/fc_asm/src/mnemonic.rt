@@ -1,6 +1,6 @@
 //! The names of instructions.
 ghost use Rattle.std.specs.Prelude.{◌++◌, ◌≡◌};
-ghost use Rattle.fc_asm.specs.Names.{alu_name, load_name, name_of, order_name, relation_name, size_name, swap_bits, width_bits};
+ghost use Rattle.fc_asm.specs.Names.{alu_name, load_name, name_of, order_name, relation_name, size_name, swap_digits, width_digits};
 
 use fc_isa::{AluOp, ByteOrder, LoadType, Relation, Size, SwapWidth, Width};
 use std::fmt;
@@ -9,33 +9,33 @@ use std::fmt;
 #[derive(Clone, Copy)]
 pub enum Mnemonic {
     /// `add64` and its like.
-    Arithmetic(AluOp, Width),
+    Alu(AluOp, Width),
     /// `neg64`, `neg32`.
-    Negate(Width),
+    Neg(Width),
     /// `movsx64`, `movsx32`.
-    Extend(Width),
+    SignExtend(Width),
     /// `le16`, `be32`, `swap64` and their like.
-    Swap(ByteOrder, SwapWidth),
+    End(ByteOrder, SwapWidth),
     /// `lddw`.
-    Wide,
+    LoadWide,
     /// `ldxw`, `ldsxw` and their like.
-    Read(LoadType),
+    Load(LoadType),
     /// `stw` and its like.
-    WriteImm(Size),
+    StoreImm(Size),
     /// `stxw` and its like.
-    WriteReg(Size),
+    Store(Size),
     /// `ja`.
-    Go,
+    JumpAlways,
     /// `ja32`.
-    GoFar,
+    JumpAlwaysLong,
     /// `jgt`, `jgt32` and their like.
-    Branch(Relation, Width),
+    JumpIf(Relation, Width),
     /// `call`.
-    Helper,
+    CallHelper,
     /// `callf`.
-    Function,
+    CallLocal,
     /// `exit`.
-    Return,
+    Exit,
 }
 
 impl fmt::Display for Mnemonic {
@@ -55,21 +55,21 @@ fn parts(mnemonic: Mnemonic) -> (&'static str, &'static str)
     ensures { result.0.now ++ result.1.now ≡ name_of mnemonic }
 {
     match mnemonic {
-        Mnemonic::Arithmetic(op, width) => (alu_name(op), width_bits(width)),
-        Mnemonic::Negate(width) => ("neg", width_bits(width)),
-        Mnemonic::Extend(width) => ("movsx", width_bits(width)),
-        Mnemonic::Swap(order, width) => (order_name(order), swap_bits(width)),
-        Mnemonic::Wide => ("lddw", ""),
-        Mnemonic::Read(loaded) => (load_name(loaded), ""),
-        Mnemonic::WriteImm(size) => ("st", size_name(size)),
-        Mnemonic::WriteReg(size) => ("stx", size_name(size)),
-        Mnemonic::Go => ("ja", ""),
-        Mnemonic::GoFar => ("ja32", ""),
-        Mnemonic::Branch(relation, Width::W64) => (relation_name(relation), ""),
-        Mnemonic::Branch(relation, Width::W32) => (relation_name(relation), "32"),
-        Mnemonic::Helper => ("call", ""),
-        Mnemonic::Function => ("callf", ""),
-        Mnemonic::Return => ("exit", ""),
+        Mnemonic::Alu(op, width) => (alu_name(op), width_digits(width)),
+        Mnemonic::Neg(width) => ("neg", width_digits(width)),
+        Mnemonic::SignExtend(width) => ("movsx", width_digits(width)),
+        Mnemonic::End(order, width) => (order_name(order), swap_digits(width)),
+        Mnemonic::LoadWide => ("lddw", ""),
+        Mnemonic::Load(loaded) => (load_name(loaded), ""),
+        Mnemonic::StoreImm(size) => ("st", size_name(size)),
+        Mnemonic::Store(size) => ("stx", size_name(size)),
+        Mnemonic::JumpAlways => ("ja", ""),
+        Mnemonic::JumpAlwaysLong => ("ja32", ""),
+        Mnemonic::JumpIf(relation, Width::W64) => (relation_name(relation), ""),
+        Mnemonic::JumpIf(relation, Width::W32) => (relation_name(relation), "32"),
+        Mnemonic::CallHelper => ("call", ""),
+        Mnemonic::CallLocal => ("callf", ""),
+        Mnemonic::Exit => ("exit", ""),
     }
 }
 
@@ -94,8 +94,8 @@ fn alu_name(op: AluOp) -> &'static str
     }
 }
 
-fn width_bits(width: Width) -> &'static str
-    ensures { result.now ≡ width_bits width }
+fn width_digits(width: Width) -> &'static str
+    ensures { result.now ≡ width_digits width }
 {
     match width {
         Width::W32 => "32",
@@ -113,8 +113,8 @@ fn order_name(order: ByteOrder) -> &'static str
     }
 }
 
-fn swap_bits(width: SwapWidth) -> &'static str
-    ensures { result.now ≡ swap_bits width }
+fn swap_digits(width: SwapWidth) -> &'static str
+    ensures { result.now ≡ swap_digits width }
 {
     match width {
         SwapWidth::S16 => "16",

@@ -1,13 +1,13 @@
 //! From words to operands.
 ghost use Rattle.std.specs.Prelude.{◌≡◌, length};
-ghost use Rattle.fc_asm.specs.Operands.{both_of, graver, imm_of, is_digits, is_number, offset_of, operand_of, register_of, target_of, wide_of, width_of};
+ghost use Rattle.fc_asm.specs.Operands.{both_of, graver, imm_from, is_digits, writes_number, offset_from, operand_from, register_from, target_from, wide_from, extension_from};
 
 use crate::error::Mistake;
 use fc_isa::{Operand, Reg, SignExtension, Target, Width};
 
 /// `r0` to `r10`.
 pub fn register(word: &str) -> Result<Reg, Mistake>
-    ensures { result ≡ register_of word.now }
+    ensures { result ≡ register_from word.now }
 {
     match REGISTERS.iter().position(|name| *name == word) {
         Some(number) => Ok(Reg::new(number as u8)),
@@ -21,7 +21,7 @@ const REGISTERS: [&'static str; 11] = [
 
 /// `r0` to `r9`, which a program may write.
 pub fn target(word: &str) -> Result<Target, Mistake>
-    ensures { result ≡ target_of word.now }
+    ensures { result ≡ target_from word.now }
 {
     let number = register(word)?.index();
     if number < 10 {
@@ -33,9 +33,9 @@ pub fn target(word: &str) -> Result<Target, Mistake>
 
 /// A number of 32 bits with a sign.
 pub fn imm(word: &str) -> Result<i32, Mistake>
-    ensures { result ≡ imm_of word.now }
+    ensures { result ≡ imm_from word.now }
 {
-    if !is_number(word) {
+    if !writes_number(word) {
         return Err(Mistake::Operand);
     }
     match word.parse::<i32>() {
@@ -46,9 +46,9 @@ pub fn imm(word: &str) -> Result<i32, Mistake>
 
 /// A number of 16 bits with a sign.
 pub fn offset(word: &str) -> Result<i16, Mistake>
-    ensures { result ≡ offset_of word.now }
+    ensures { result ≡ offset_from word.now }
 {
-    if !is_number(word) {
+    if !writes_number(word) {
         return Err(Mistake::Operand);
     }
     match word.parse::<i16>() {
@@ -59,9 +59,9 @@ pub fn offset(word: &str) -> Result<i16, Mistake>
 
 /// A number of 64 bits without a sign; `-0` is zero.
 pub fn wide(word: &str) -> Result<u64, Mistake>
-    ensures { result ≡ wide_of word.now }
+    ensures { result ≡ wide_from word.now }
 {
-    if !is_number(word) {
+    if !writes_number(word) {
         return Err(Mistake::Operand);
     }
     match word.strip_prefix('-') {
@@ -82,7 +82,7 @@ pub fn wide(word: &str) -> Result<u64, Mistake>
 
 /// A register or a number.
 pub fn operand(word: &str) -> Result<Operand, Mistake>
-    ensures { result ≡ operand_of word.now }
+    ensures { result ≡ operand_from word.now }
 {
     match register(word) {
         Ok(reg) => Ok(Operand::Reg(reg)),
@@ -92,7 +92,7 @@ pub fn operand(word: &str) -> Result<Operand, Mistake>
 
 /// How many bits are extended to this width.
 pub fn extension(width: Width, word: &str) -> Result<SignExtension, Mistake>
-    ensures { result ≡ width_of width word.now }
+    ensures { result ≡ extension_from width word.now }
 {
     match (width, imm(word)?) {
         (_, 8) => Ok(SignExtension::Byte(width)),
@@ -128,8 +128,8 @@ fn graver(a: Mistake, b: Mistake) -> Mistake
 }
 
 /// Whether it is digits, after a `-` or none.
-fn is_number(word: &str) -> bool
-    ensures { result ≡ is_number word.now }
+fn writes_number(word: &str) -> bool
+    ensures { result ≡ writes_number word.now }
 {
     match word.as_bytes() {
         [b'-', digits @ ..] => is_digits(digits),

@@ -2,13 +2,13 @@
 use Rattle.std.specs.Prelude.{ℕ, ◌<◌, ◌≤◌, length}
 use Rattle.coap_msg.specs.Wire.{Message}
 use Rattle.coap_opts.specs.Path.{IsResource}
-use Rattle.coap_opts.specs.Verdict.{Asked, stated}
+use Rattle.coap_opts.specs.Verdict.{Asked, asked_by}
 use Rattle.fc_core.specs.declared.front.Asking.{Asking}
 use Rattle.fc_core.specs.declared.front.Asking.TheVariants.{Serve, Refuse, Hush}
 use Rattle.fc_core.specs.Receiving.{Received, Opened, Refused, Silenced}
 
 abbrev pub new_request : Message → Asking → Received
-new_request m (Serve request) = Opened m (stated request)
+new_request m (Serve request) = Opened m (asked_by request)
 new_request m (Refuse answer) = Refused m answer.byte
 new_request m Hush = Silenced m
 
@@ -20,6 +20,6 @@ pub record IsWithinLimits (asked : Asked) : Type 0 where
 
 -- a refusal has the code of a reply
 abbrev pub IsAsking : Asking → Type 0
-IsAsking (Serve request) = IsWithinLimits (stated request)
+IsAsking (Serve request) = IsWithinLimits (asked_by request)
 IsAsking (Refuse answer) = 64 ≤ answer.byte
 IsAsking Hush = Unit {0}

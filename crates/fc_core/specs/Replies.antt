@@ -6,7 +6,7 @@ use Rattle.coap_msg.specs.declared.types.Emission.{Emission}
 use Rattle.coap_msg.specs.declared.types.MessageType.{MessageType}
 use Rattle.coap_msg.specs.declared.types.MessageType.TheVariants.{NonConfirmable, Acknowledgement, Reset}
 use Rattle.coap_msg.specs.Codes.{code}
-use Rattle.coap_msg.specs.Wire.{bytes_of}
+use Rattle.coap_msg.specs.Wire.{message_bytes}
 use Rattle.coap_opts.specs.declared.number.TheConstants as option
 use Rattle.fc_isa.specs.Rules.{number_of, fault_text}
 use Rattle.fc_registry.specs.Receipts.{receipt_text}
@@ -59,7 +59,7 @@ reply_kind false = NonConfirmable
 unfoldable pub sent_in : Envelope → Response → Emission
 sent_in e r = record {
   to = e.to;
-  bytes = record { items = bytes_of (record { kind = e.kind; code = r.code; id = e.id; token = e.token; options = r.options; payload = r.payload }) };
+  bytes = record { items = message_bytes (record { kind = e.kind; code = r.code; id = e.id; token = e.token; options = r.options; payload = r.payload }) };
 }
 
 -- a Reset message (RFC 7252, 4.2)

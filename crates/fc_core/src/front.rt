@@ -1,6 +1,6 @@
 //! The front: exchanges, and the way in and out.
 ghost use Rattle.std.specs.Prelude.{◌≡◌, ◌≤◌, [], false, IfOk};
-ghost use Rattle.coap_opts.specs.Verdict.{stated, verdict};
+ghost use Rattle.coap_opts.specs.Verdict.{asked_by, verdict};
 ghost use Rattle.coap_dedup.specs.Exchanges.{IsNew};
 ghost use Rattle.fc_core.specs.Answering.{AnswersIn, after_answered, emission_of};
 ghost use Rattle.fc_core.specs.Askings.{IsAsking, IsWithinLimits, new_request};
@@ -314,8 +314,8 @@ fn make_job(
     message: &Message<'_>,
     request: &Request<'_>,
 ) -> Job
-    requires { IsWithinLimits (stated request.now) }
-    ensures { result ≡ job_of opening endpoint message.now (stated request.now) }
+    requires { IsWithinLimits (asked_by request.now) }
+    ensures { result ≡ job_of opening endpoint message.now (asked_by request.now) }
 {
     let mut token = ArrayVec::new();
     let _fits = token.try_extend_from_slice(message.token());
@@ -342,8 +342,8 @@ fn slot_named(resource: Resource) -> u8
 }
 
 fn make_ask(request: &Request<'_>) -> Ask
-    requires { IsWithinLimits (stated request.now) }
-    ensures { result ≡ ask_by request.now.method request.now.resource (stated request.now) }
+    requires { IsWithinLimits (asked_by request.now) }
+    ensures { result ≡ ask_by request.now.method request.now.resource (asked_by request.now) }
 {
     match (request.method, request.resource) {
         (Method::Get, Resource::Run(_)) => Ask::Run(run_request(Verb::Get, request)),
@@ -357,8 +357,8 @@ fn make_ask(request: &Request<'_>) -> Ask
 }
 
 fn run_request(method: Verb, request: &Request<'_>) -> fc_help::Request
-    requires { IsWithinLimits (stated request.now) }
-    ensures { result ≡ request_asked method (stated request.now) }
+    requires { IsWithinLimits (asked_by request.now) }
+    ensures { result ≡ request_asked method (asked_by request.now) }
 {
     fc_help::Request::new(
         method,

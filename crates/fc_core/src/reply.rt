@@ -1,6 +1,6 @@
 //! From answers to datagrams.
 ghost use Rattle.std.specs.Prelude.{◌≡◌, ◌≤◌, length};
-ghost use Rattle.coap_msg.specs.Wire.{bytes_of};
+ghost use Rattle.coap_msg.specs.Wire.{message_bytes};
 ghost use Rattle.coap_opts.specs.Replies.{reply_message, reply_options};
 ghost use Rattle.fc_core.specs.Ends.{content_of};
 ghost use Rattle.fc_core.specs.Receiving.{told_by};
@@ -137,7 +137,7 @@ fn send(to: Endpoint, reply: &Reply<'_>) -> Emission
     requires code { 64 ≤ reply.now.code.byte }
     requires token { length reply.now.token.now ≤ 8 }
     requires payload { length reply.now.payload.now ≤ 1024 }
-    ensures { result ≡ record { to = to; bytes = record { items = bytes_of (reply_message reply.now) } } }
+    ensures { result ≡ record { to = to; bytes = record { items = message_bytes (reply_message reply.now) } } }
 {
     let mut bytes = ArrayVec::new();
     reply.write(&mut bytes);

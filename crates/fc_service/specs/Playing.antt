@@ -22,9 +22,9 @@ endpoint_of peer = record { ip = 127 ∷ 0 ∷ 0 ∷ peer ∷ []; port = 5683 }
 abbrev pub printed : Emission → List ℕ
 printed e = decimal (slice_index e.to.ip 3) ++ (space ∷ (encode_lower e.bytes.items ++ (10 ∷ [])))
 
-abbrev pub text_of : Option Emission → List ℕ
-text_of None = []
-text_of (Some emission) = printed emission
+abbrev pub output_of : Option Emission → List ℕ
+output_of None = []
+output_of (Some emission) = printed emission
 
 -- a datagram of these bytes was heard, whatever the history so far, and this was sent
 pub record IsHeard (now peer : ℕ) (bytes : List ℕ) (old : ServerState) (sent : Option Emission) (new : ServerState) : Type 0 where

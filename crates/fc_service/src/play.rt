@@ -3,10 +3,11 @@ ghost use Rattle.std.specs.Prelude.{◌≡◌, ◌≤◌, Option, OnOk};
 ghost use Rattle.std.specs.Io.KnownBytes.{Appends};
 ghost use Rattle.coap_msg.specs.declared.types.Emission.{Emission as Sent};
 ghost use Rattle.fc_registry.specs.Slots.{last_serial};
-ghost use Rattle.fc_service.specs.Playing.{endpoint_of, printed, text_of, IsCarriedOut};
+ghost use Rattle.fc_service.specs.Playing.{endpoint_of, printed, output_of, IsCarriedOut};
 
 use crate::hexadecimal;
 use crate::line::{Line, LineError, parse};
+use crate::status::{Status, tell};
 use coap_msg::{Emission, Endpoint};
 use fc_server::Engine;
 use std::alloc::{AllocError, Global};
@@ -17,30 +18,31 @@ use thiserror::Error;
 /// The port of CoAP (RFC 7252, 6.1).
 const PORT: u16 = 5683;
 
-/// The status of a play that came to the end of its input.
-const DONE: u8 = 0;
-
-/// The status where a line is bad.
-const BAD_LINE: u8 = 2;
-
-/// The status where reading or writing failed, or memory was refused.
-const FAILED: u8 = 3;
-
 // Why a play stops before the end of its input.
 #[derive(Debug, Drop, Error)]
 enum Stop {
     #[error("line {0}: bad")]
     BadLine(u64),
-    #[error("{0}")]
-    Io(#[from] io::Error),
+    #[error("standard input: {0}")]
+    Input(io::Error),
+    #[error("standard output: {0}")]
+    Output(io::Error),
     #[error("{0}")]
     Memory(#[from] AllocError),
 }
 
+impl Stop {
+    fn status(&self) -> Status {
+        match self {
+            Stop::BadLine(_) => Status::Bad,
+            Stop::Input(_) | Stop::Output(_) | Stop::Memory(_) => Status::Failed,
+        }
+    }
+}
+
 /// Reads lines, carries out each in turn on an engine of its own, and prints what each sends before it reads the next.
-/// What it answers is the status of the program: 0 at the end of the input, 2 where a line is bad, which `err` is told
-/// by its number from 1, and 3 where reading or writing failed, or there was no memory for the engine or a line, which
-/// `err` is told as well.
+/// It ends `Done` at the end of the input; `Bad` where a line is bad, which `err` is told by its number from 1; and
+/// `Failed` where reading or writing failed, or there was no memory for the engine or a line, which `err` is told as well.
 pub fn play<R: BufRead + Drop, W: Write, E: Write>(
     alloc: Global,
     input: R,
@@ -48,21 +50,12 @@ pub fn play<R: BufRead + Drop, W: Write, E: Write>(
     err: &mut E,
     first_serial: u64,
     first_id: u16,
-) -> u8
+) -> Status
     requires { first_serial ≤ last_serial }
 {
     match play_lines(alloc, input, out, first_serial, first_id) {
-        Ok(()) => DONE,
-        Err(stop) => tell(err, &stop),
-    }
-}
-
-// Tells why a play stopped: the status.
-fn tell<E: Write>(err: &mut E, stop: &Stop) -> u8 {
-    let told = writeln!(err, "{stop}");
-    match stop {
-        Stop::BadLine(_) if told.is_ok() => BAD_LINE,
-        _ => FAILED,
+        Ok(()) => Status::Done,
+        Err(stop) => tell(err, &stop, stop.status()),
     }
 }
 
@@ -79,7 +72,8 @@ fn play_lines<R: BufRead + Drop, W: Write>(
     let mut number = 0u64;
     for text in input.split(alloc, b'\n') {
         number = number.saturating_add(1);
-        play_line(alloc, &mut engine, &text?, number, out)?;
+        let text = text.map_err(Stop::Input)?;
+        play_line(alloc, &mut engine, &text, number, out)?;
     }
     Ok(())
 }
@@ -93,7 +87,7 @@ fn play_line<W: Write>(
     out: &mut W,
 ) -> Result<(), Stop> {
     match parse(alloc, text) {
-        Ok(line) => Ok(carry_out(alloc, engine, &line, out)?),
+        Ok(line) => carry_out(alloc, engine, &line, out).map_err(Stop::Output),
         Err(LineError::Bad) => Err(Stop::BadLine(number)),
         Err(LineError::NoMemory) => Err(Stop::Memory(AllocError)),
     }
@@ -106,7 +100,7 @@ fn carry_out<W: Write>(
     line: &Line,
     out: &mut W,
 ) -> io::Result<()>
-    ensures { (sent : Option Sent) × IsCarriedOut line.now engine.old sent engine.new × OnOk result (Appends (W.contents out.old) (W.contents out.new) (text_of sent)) }
+    ensures { (sent : Option Sent) × IsCarriedOut line.now engine.old sent engine.new × OnOk result (Appends (W.contents out.old) (W.contents out.new) (output_of sent)) }
 {
     match line {
         Line::Tick { now } => {

@@ -2,6 +2,7 @@
 ghost use Rattle.std.specs.Prelude.{IfOk, string_bytes, ◌≡◌};
 ghost use Rattle.fc_service.specs.Tools.{IsImageOf, IsListingOf};
 
+use crate::status::{Status, tell};
 use fc_asm::{AsmError, Mistake, assemble, disassemble};
 use fc_image::{HEADER_SIZE, Head, head};
 use fc_isa::{DecodeError, Fault, decode, encode};
@@ -11,14 +12,8 @@ use std::io;
 use std::io::{Read, Write};
 use thiserror::Error;
 
-/// The status where the work is done.
-const DONE: u8 = 0;
-
-/// The status where a text or an image is refused.
-const REFUSED: u8 = 1;
-
-/// The status where reading or writing failed, or memory was refused.
-const FAILED: u8 = 3;
+/// The most bytes of an image whose length fits its count: a header, and 65,535 slots of eight bytes.
+const LONGEST_IMAGE: u64 = 16 + 8 * 65_535;
 
 /// Why a tool has no result.
 #[derive(Debug, Drop, Error)]
@@ -29,12 +24,24 @@ pub enum ToolError {
     /// The image, or a number of its header, breaks a rule.
     #[error("{0}")]
     Image(Fault),
-    /// Reading or writing failed.
-    #[error("{0}")]
-    Io(#[from] io::Error),
+    /// Reading failed.
+    #[error("standard input: {0}")]
+    Input(io::Error),
+    /// Writing failed.
+    #[error("standard output: {0}")]
+    Output(io::Error),
     /// There was no memory.
     #[error("{0}")]
     Memory(#[from] AllocError),
+}
+
+impl ToolError {
+    fn status(&self) -> Status {
+        match self {
+            ToolError::Text(_) | ToolError::Image(_) => Status::Refused,
+            ToolError::Input(_) | ToolError::Output(_) | ToolError::Memory(_) => Status::Failed,
+        }
+    }
 }
 
 impl From<AsmError> for ToolError {
@@ -61,9 +68,9 @@ impl From<Fault> for ToolError {
     }
 }
 
-/// Reads a text, assembles it, and writes the image with this size of the variables, in bytes, and this budget. What it
-/// answers is the status of the program: 0 where the image is written; 1 where the text has a mistake, or else a number
-/// of the header is out of its limits; 3 where reading or writing failed, or there was no memory. `err` is told why.
+/// Reads a text, assembles it, and writes the image with this size of the variables, in bytes, and this budget of steps.
+/// It ends `Done` where the image is written; `Refused` where the text has a mistake, or else a number of the header is
+/// out of its limits; `Failed` where reading or writing failed, or there was no memory. `err` is told why.
 pub fn image<R: Read, W: Write, E: Write>(
     alloc: Global,
     input: &mut R,
@@ -71,50 +78,54 @@ pub fn image<R: Read, W: Write, E: Write>(
     err: &mut E,
     vars_size: u16,
     budget: u32,
-) -> u8 {
+) -> Status {
     match write_image(alloc, input, out, vars_size, budget) {
-        Ok(()) => DONE,
-        Err(error) => tell(err, &error),
+        Ok(()) => Status::Done,
+        Err(error) => tell(err, &error, error.status()),
     }
 }
 
-/// Reads an image and writes its listing. What it answers is the status of the program: 0 where the listing is written; 1
-/// where the header or a slot breaks a rule; 3 where reading or writing failed, or there was no memory. `err` is told
-/// why.
+/// Reads an image and writes its listing. It ends `Done` where the listing is written; `Refused` where the header or a
+/// slot breaks a rule; `Failed` where reading or writing failed, or there was no memory. `err` is told why.
 pub fn list<R: Read, W: Write, E: Write>(
     alloc: Global,
     input: &mut R,
     out: &mut W,
     err: &mut E,
-) -> u8 {
+) -> Status {
     match write_listing(alloc, input, out) {
-        Ok(()) => DONE,
-        Err(error) => tell(err, &error),
+        Ok(()) => Status::Done,
+        Err(error) => tell(err, &error, error.status()),
     }
 }
 
 /// Reads an image, and says on `out` whether it is accepted: with its cost and budget, or the first rule that it breaks.
-/// What it answers is the status of the program: 0 where it is accepted, 1 where it is not, 3 where reading or writing
-/// failed, or there was no memory, which `err` is told.
+/// It ends `Done` where it is accepted, `Refused` where it is not, and `Failed` where reading or writing failed, or there
+/// was no memory, which `err` is told.
 pub fn check<R: Read, W: Write, E: Write>(
     alloc: Global,
     input: &mut R,
     out: &mut W,
     err: &mut E,
-) -> u8 {
+) -> Status {
     match write_verdict(alloc, input, out) {
         Ok(status) => status,
-        Err(error) => tell(err, &error),
+        Err(error) => tell(err, &error, error.status()),
     }
 }
 
-// Tells why there is no result: the status.
-fn tell<E: Write>(err: &mut E, error: &ToolError) -> u8 {
-    let told = writeln!(err, "{error}");
-    match error {
-        ToolError::Text(_) | ToolError::Image(_) if told.is_ok() => REFUSED,
-        _ => FAILED,
-    }
+// Reads an image; of one that is too long to have its length fit its count, as much as shows that.
+fn read_image<R: Read>(alloc: Global, input: &mut R) -> Result<Vec<u8>, ToolError> {
+    let mut image = Vec::new(alloc);
+    let mut input = input.by_ref().take(LONGEST_IMAGE + 1);
+    input.read_to_end(&mut image).map_err(ToolError::Input)?;
+    Ok(image)
+}
+
+// Writes all of these bytes, and has them written out.
+fn write_whole<W: Write>(out: &mut W, bytes: &[u8]) -> Result<(), ToolError> {
+    out.write_all(bytes).map_err(ToolError::Output)?;
+    out.flush().map_err(ToolError::Output)
 }
 
 fn write_image<R: Read, W: Write>(
@@ -125,10 +136,9 @@ fn write_image<R: Read, W: Write>(
     budget: u32,
 ) -> Result<(), ToolError> {
     let mut text = Vec::new(alloc);
-    input.read_to_end(&mut text)?;
+    input.read_to_end(&mut text).map_err(ToolError::Input)?;
     let image = image_of(alloc, &text, vars_size, budget)?;
-    out.write_all(&image)?;
-    Ok(out.flush()?)
+    write_whole(out, &image)
 }
 
 fn write_listing<R: Read, W: Write>(
@@ -136,33 +146,30 @@ fn write_listing<R: Read, W: Write>(
     input: &mut R,
     out: &mut W,
 ) -> Result<(), ToolError> {
-    let mut image = Vec::new(alloc);
-    input.read_to_end(&mut image)?;
+    let image = read_image(alloc, input)?;
     let listing = listing_of(alloc, &image)?;
-    out.write_all(listing.as_bytes())?;
-    Ok(out.flush()?)
+    write_whole(out, listing.as_bytes())
 }
 
 fn write_verdict<R: Read, W: Write>(
     alloc: Global,
     input: &mut R,
     out: &mut W,
-) -> Result<u8, ToolError> {
-    let mut image = Vec::new(alloc);
-    input.read_to_end(&mut image)?;
+) -> Result<Status, ToolError> {
+    let image = read_image(alloc, input)?;
     let status = match verify(alloc, &image) {
         Ok(program) => {
             let (cost, budget) = (program.cost(), program.budget());
-            writeln!(out, "accepted cost {cost} budget {budget}")?;
-            DONE
+            writeln!(out, "accepted cost {cost} budget {budget}").map_err(ToolError::Output)?;
+            Status::Done
         }
         Err(Refusal::Broken(fault)) => {
-            writeln!(out, "{fault}")?;
-            REFUSED
+            writeln!(out, "{fault}").map_err(ToolError::Output)?;
+            Status::Refused
         }
         Err(Refusal::NoMemory) => return Err(ToolError::Memory(AllocError)),
     };
-    out.flush()?;
+    out.flush().map_err(ToolError::Output)?;
     Ok(status)
 }
 

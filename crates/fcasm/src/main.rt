@@ -1,8 +1,9 @@
 //! The assembler's program: it parses its command line, and calls the service.
 #![tactic(auto)]
 
-use clap::error::ErrorKind;
-use clap::{Arg, ArgMatches, Command, Error, value_parser};
+use clap::{Arg, ArgMatches, Command, value_parser};
+use fc_service::Status;
+use fc_service::command_line::{VERSION, exit_code, explain, words};
 use fc_service::tools::{check, image, list};
 use std::alloc::{AllocError, Global};
 use std::io;
@@ -10,11 +11,15 @@ use std::io::{BufReader, BufWriter, Read, Write};
 use std::process::ExitCode;
 use std::rt::Runtime;
 
-/// The status where the command line is bad.
-const BAD_COMMAND: u8 = 2;
+/// What `--help` tells of how the commands are used and how they end.
+const STATUSES: &str = "\
+Example: a text with the lines `mov64 r0, 0` and `exit`
 
-/// The status where reading or writing failed, or memory was refused.
-const FAILED: u8 = 3;
+  fcasm image --vars 0 --budget 2 < program.txt > program.img
+  fcasm check < program.img
+
+Exit status: 0 where the work is done; 1 where a text or an image is refused; 2 where the
+command line is bad; 3 where reading or writing failed, or memory was refused.";
 
 // An option that takes a number and can't be left out.
 fn number<'a>(
@@ -33,39 +38,37 @@ fn number<'a>(
 fn image_command<'a>(alloc: Global) -> Result<Command<'a>, AllocError> {
     Command::new(alloc, "image")
         .about("Assemble a text to an image")
-        .arg(number(alloc, "vars", "V", "The size of the variables in bytes").value_parser(
-            value_parser!(u16),
-        ))?
-        .arg(number(alloc, "budget", "B", "The budget of steps").value_parser(value_parser!(u32)))
+        .arg(number(
+            alloc,
+            "vars",
+            "V",
+            "The size of the variables: 0 to 256 bytes, a multiple of 8",
+        )
+        .value_parser(value_parser!(u16)))?
+        .arg(number(
+            alloc,
+            "budget",
+            "B",
+            "The most steps that a run may take: 1 to 65536",
+        )
+        .value_parser(value_parser!(u32)))
 }
 
 fn command<'a>(alloc: Global) -> Result<Command<'a>, AllocError> {
     Command::new(alloc, "fcasm")
+        .version(VERSION)
         .about("Assemble, list and check resource programs: from standard input to standard output")
+        .after_help(STATUSES)
         .subcommand_required(true)
         .subcommand(image_command(alloc)?)?
         .subcommand(Command::new(alloc, "list").about("List the program of an image"))?
         .subcommand(Command::new(alloc, "check").about("Say whether an image is accepted"))
 }
 
-// Tells why there is no command, with the status: help that was asked for is no mistake.
-fn tell<R: Runtime>(rt: &R, error: &Error) -> anyhow::Result<u8> {
-    error.print(rt)?;
-    Ok(match error.kind() {
-        ErrorKind::OutOfMemory => FAILED,
-        _ if error.use_stderr() => BAD_COMMAND,
-        _ => 0,
-    })
-}
-
-fn run<R: Runtime + AllocGlobal, E: Write>(rt: &R, err: &mut E) -> anyhow::Result<u8> {
-    match std::env::args(rt) {
-        Ok(words) => obey(rt, err, words.collect(rt.alloc())?),
-        Err(error) if error.kind() == io::ErrorKind::InvalidData => {
-            writeln!(err, "error: a word of the command line isn't UTF-8")?;
-            Ok(BAD_COMMAND)
-        }
-        Err(error) => Err(error.into()),
+fn run<R: Runtime + AllocGlobal, E: Write>(rt: &R, err: &mut E) -> anyhow::Result<Status> {
+    match words(rt, err)? {
+        Some(words) => obey(rt, err, words),
+        None => Ok(Status::Bad),
     }
 }
 
@@ -74,11 +77,11 @@ fn obey<R: Runtime + AllocGlobal, E: Write>(
     rt: &R,
     err: &mut E,
     words: Vec<String>,
-) -> anyhow::Result<u8> {
+) -> anyhow::Result<Status> {
     let alloc = rt.alloc();
     let matches = match command(alloc)?.try_get_matches_from(words.as_slice()) {
         Ok(matches) => matches,
-        Err(error) => return tell(rt, &error),
+        Err(error) => return explain(rt, &error),
     };
     let mut input = BufReader::new(alloc, rt.reader())?;
     let mut out = BufWriter::new(alloc, io::writer(rt))?;
@@ -86,7 +89,7 @@ fn obey<R: Runtime + AllocGlobal, E: Write>(
         Some(("image", numbers)) => Ok(write_image(alloc, &mut input, &mut out, err, numbers)),
         Some(("list", _)) => Ok(list(alloc, &mut input, &mut out, err)),
         Some(("check", _)) => Ok(check(alloc, &mut input, &mut out, err)),
-        _ => Ok(BAD_COMMAND),
+        _ => Ok(Status::Bad),
     }
 }
 
@@ -97,23 +100,18 @@ fn write_image<R: Read, W: Write, E: Write>(
     out: &mut W,
     err: &mut E,
     numbers: &ArgMatches<'_>,
-) -> u8 {
+) -> Status {
     match (
         numbers.get_one::<u16>("vars"),
         numbers.get_one::<u32>("budget"),
     ) {
         (Some(vars), Some(budget)) => image(alloc, input, out, err, vars, budget),
-        _ => BAD_COMMAND,
+        _ => Status::Bad,
     }
 }
 
 fn main(rt: HostRuntime) -> ExitCode {
     let mut err = rt.stderr();
-    match run(&rt, &mut err) {
-        Ok(status) => ExitCode::from(status),
-        Err(error) => {
-            let _told = writeln!(err, "{error}");
-            ExitCode::from(FAILED)
-        }
-    }
+    let ended = run(&rt, &mut err);
+    exit_code(&mut err, ended)
 }

@@ -12,14 +12,17 @@ mod isa_tests;
 #[cfg(test)]
 mod message_tests;
 #[cfg(test)]
+mod opcode_tests;
+#[cfg(test)]
 mod play_tests;
 #[cfg(test)]
 mod request_tests;
 #[cfg(test)]
 mod tool_tests;
 
-use clap::error::ErrorKind;
 use clap::{Command, Error};
+use fc_service::Status;
+use fc_service::command_line::{VERSION, exit_code, explain, words};
 use fc_service::play::play;
 use std::alloc::Global;
 use std::io;
@@ -27,47 +30,38 @@ use std::io::{BufReader, BufWriter, Write};
 use std::process::ExitCode;
 use std::rt::Runtime;
 
-/// The status where the command line is bad.
-const BAD_COMMAND: u8 = 2;
-
-/// The status where reading or writing failed, or memory was refused.
-const FAILED: u8 = 3;
-
 /// The serial that an empty slot begins with, and the first message id of the server's own.
 const FIRST_SERIAL: u64 = 0;
 
 const FIRST_ID: u16 = 0;
 
+/// What `--help` tells of the lines and of how a play ends.
+const LINES: &str = "\
+A line is `now peer hex`, parted by single spaces: the moment in milliseconds, the last
+number of the peer's address 127.0.0.peer (0 to 255), and the datagram in hex digits.
+A line `now - -` says that time passes. Each datagram that is sent is printed as
+`peer hex`. The line `0 1 40000001` is answered by `1 70000001`.
+
+Exit status: 0 at the end of the input; 2 where a line or the command line is bad; 3 where
+reading or writing failed, or memory was refused.";
+
 fn command<'a>(alloc: Global) -> Result<Command<'a>, Error> {
-    let play = Command::new(alloc, "play").about(
-        "Play the lines of standard input: `now peer hex`, or `now - -`",
-    );
+    let play = Command::new(alloc, "play")
+        .about("Play the lines of standard input")
+        .after_help(LINES);
     Ok(
         Command::new(alloc, "fcd")
+            .version(VERSION)
             .about("A CoAP server whose resources are answered by small programs")
             .subcommand_required(true)
             .subcommand(play)?,
     )
 }
 
-// Tells why there is no command, with the status: help that was asked for is no mistake.
-fn tell<R: Runtime>(rt: &R, error: &Error) -> anyhow::Result<u8> {
-    error.print(rt)?;
-    Ok(match error.kind() {
-        ErrorKind::OutOfMemory => FAILED,
-        _ if error.use_stderr() => BAD_COMMAND,
-        _ => 0,
-    })
-}
-
-fn run<R: Runtime + AllocGlobal, E: Write>(rt: &R, err: &mut E) -> anyhow::Result<u8> {
-    match std::env::args(rt) {
-        Ok(words) => obey(rt, err, words.collect(rt.alloc())?),
-        Err(error) if error.kind() == io::ErrorKind::InvalidData => {
-            writeln!(err, "error: a word of the command line isn't UTF-8")?;
-            Ok(BAD_COMMAND)
-        }
-        Err(error) => Err(error.into()),
+fn run<R: Runtime + AllocGlobal, E: Write>(rt: &R, err: &mut E) -> anyhow::Result<Status> {
+    match words(rt, err)? {
+        Some(words) => obey(rt, err, words),
+        None => Ok(Status::Bad),
     }
 }
 
@@ -76,19 +70,19 @@ fn obey<R: Runtime + AllocGlobal, E: Write>(
     rt: &R,
     err: &mut E,
     words: Vec<String>,
-) -> anyhow::Result<u8> {
+) -> anyhow::Result<Status> {
     let matches = match command(rt.alloc())?.try_get_matches_from(words.as_slice()) {
         Ok(matches) => matches,
-        Err(error) => return tell(rt, &error),
+        Err(error) => return explain(rt, &error),
     };
     match matches.subcommand() {
         Some(("play", _)) => play_input(rt, err),
-        _ => Ok(BAD_COMMAND),
+        _ => Ok(Status::Bad),
     }
 }
 
 // Plays standard input, onto standard output.
-fn play_input<R: Runtime + AllocGlobal, E: Write>(rt: &R, err: &mut E) -> anyhow::Result<u8> {
+fn play_input<R: Runtime + AllocGlobal, E: Write>(rt: &R, err: &mut E) -> anyhow::Result<Status> {
     let alloc = rt.alloc();
     let input = BufReader::new(alloc, rt.reader())?;
     let mut out = BufWriter::new(alloc, io::writer(rt))?;
@@ -97,11 +91,6 @@ fn play_input<R: Runtime + AllocGlobal, E: Write>(rt: &R, err: &mut E) -> anyhow
 
 fn main(rt: HostRuntime) -> ExitCode {
     let mut err = rt.stderr();
-    match run(&rt, &mut err) {
-        Ok(status) => ExitCode::from(status),
-        Err(error) => {
-            let _told = writeln!(err, "{error}");
-            ExitCode::from(FAILED)
-        }
-    }
+    let ended = run(&rt, &mut err);
+    exit_code(&mut err, ended)
 }

@@ -1,6 +1,8 @@
 // Lines that are played, and what is printed: the expected bytes are those of the protocol, worked out by hand.
 use crate::faulty::{Full, Unflushed};
 use clap::Error;
+use fc_service::Status;
+use fc_service::command_line::explain;
 use fc_service::play::play;
 use std::alloc::{AllocError, Global};
 use std::io;
@@ -15,7 +17,7 @@ fn plays<R: BufRead + Drop>(
     alloc: Global,
     input: R,
     first_serial: u64,
-    status: u8,
+    status: Status,
     printed: &str,
     told: &str,
 ) -> bool {
@@ -32,7 +34,7 @@ fn plays<R: BufRead + Drop>(
 // Plays lines from the first serial 0, which are all good, and compares what is printed.
 fn check_printed<R: Abort + AllocGlobal>(rt: &R, input: &str, want: &str) {
     assert!(rt;
-        plays(rt.alloc(), input.as_bytes(), 0, 0, want, ""),
+        plays(rt.alloc(), input.as_bytes(), 0, Status::Done, want, ""),
         "{input}"
     );
 }
@@ -103,7 +105,16 @@ fn last_serial_is_not_passed(rt: HostRuntime) {
         "0 1 4103123370b1700130ff46434231000002000200000000000000b7000000450000009500000000000000\n\
                  1 1 4101123471b1720130\n";
     let want = "1 61a3123370\n1 6184123471\n";
-    assert!(rt; plays(rt.alloc(), input.as_bytes(), LAST_SERIAL, 0, want, ""));
+    assert!(rt;
+        plays(
+            rt.alloc(),
+            input.as_bytes(),
+            LAST_SERIAL,
+            Status::Done,
+            want,
+            ""
+        )
+    );
 }
 
 // Slots 0, 7, 8 and 63, of two shards: programs that answer 2.05, 4.00, 4.03 and 4.04 are installed and asked.
@@ -162,7 +173,9 @@ fn check_answered<R: Abort + AllocGlobal>(rt: &R, datagram: &[u8], answer: &str)
     let input = install.as_slice().chain(datagram);
     let mut out = Vec::new(rt.alloc());
     let mut err = Vec::new(rt.alloc());
-    assert!(rt; play(rt.alloc(), input, &mut out, &mut err, 0, 0) == 0 && err.is_empty());
+    assert!(rt;
+        play(rt.alloc(), input, &mut out, &mut err, 0, 0) == Status::Done && err.is_empty()
+    );
     assert!(rt; out.ends_with(answer.as_bytes()), "{answer}");
 }
 
@@ -218,7 +231,7 @@ fn copies_are_told_by_endpoint_and_id(rt: HostRuntime) {
 fn a_datagram_of_1281_bytes_is_ignored(rt: HostRuntime) {
     let digits = [b'0'; 2562];
     let input = b"0 1 ".as_slice().chain(digits.as_slice());
-    assert!(rt; plays(rt.alloc(), input, 0, 0, "", ""));
+    assert!(rt; plays(rt.alloc(), input, 0, Status::Done, "", ""));
 }
 
 #[test]
@@ -259,7 +272,14 @@ fn check_bad<R: Abort + AllocGlobal>(rt: &R, line: &str) {
     let before = b"0 1 4101123471b1720130\n".as_slice();
     let after = b"\n0 1 4101123471b1720130\n".as_slice();
     let input = before.chain(line.as_bytes()).chain(after);
-    let is_told = plays(rt.alloc(), input, 0, 2, "1 6184123471\n", "line 2: bad\n");
+    let is_told = plays(
+        rt.alloc(),
+        input,
+        0,
+        Status::Bad,
+        "1 6184123471\n",
+        "line 2: bad\n",
+    );
     assert!(rt; is_told, "{line}");
 }
 
@@ -277,7 +297,7 @@ fn bytes_that_are_no_text_are_bad(rt: HostRuntime) {
             rt.alloc(),
             b"0 1 \xff\xfe".as_slice(),
             0,
-            2,
+            Status::Bad,
             "",
             "line 1: bad\n"
         )
@@ -311,11 +331,20 @@ impl BufRead for Torn<'_> {
 #[test]
 fn failed_reading_is_status_3(rt: HostRuntime) {
     let input = Torn(b"0 1 4101123471b1720130\n0 1");
-    assert!(rt; plays(rt.alloc(), input, 0, 3, "1 6184123471\n", "broken pipe\n"));
+    assert!(rt;
+        plays(
+            rt.alloc(),
+            input,
+            0,
+            Status::Failed,
+            "1 6184123471\n",
+            "standard input: broken pipe\n"
+        )
+    );
 }
 
 // The status of a play whose output, and then whose faults, have room for so many bytes.
-fn status_in(alloc: Global, input: &[u8], out_room: usize, err_room: usize) -> u8 {
+fn status_in(alloc: Global, input: &[u8], out_room: usize, err_room: usize) -> Status {
     play(alloc, input, &mut Full(out_room), &mut Full(err_room), 0, 0)
 }
 
@@ -323,21 +352,24 @@ fn status_in(alloc: Global, input: &[u8], out_room: usize, err_room: usize) -> u
 fn failed_writing_is_status_3(rt: HostRuntime) {
     let line = b"0 1 4101123471b1720130\n";
     for room in 0..13usize {
-        assert!(rt; status_in(rt.alloc(), line, room, 99) == 3, "at {room}");
+        assert!(rt;
+            status_in(rt.alloc(), line, room, 99) == Status::Failed,
+            "at {room}"
+        );
     }
-    assert!(rt; status_in(rt.alloc(), line, 13, 99) == 0);
-    assert!(rt; status_in(rt.alloc(), b"bad", 99, 5) == 3);
+    assert!(rt; status_in(rt.alloc(), line, 13, 99) == Status::Done);
+    assert!(rt; status_in(rt.alloc(), b"bad", 99, 5) == Status::Failed);
 }
 
 #[test]
 fn failed_flushing_is_status_3(rt: HostRuntime) {
     let input: &[u8] = b"0 1 4101123471b1720130\n";
-    assert!(rt; play(rt.alloc(), input, &mut Unflushed, &mut Full(99), 0, 0) == 3);
+    assert!(rt; play(rt.alloc(), input, &mut Unflushed, &mut Full(99), 0, 0) == Status::Failed);
 }
 
 // A command line that finds no memory isn't a bad one.
 #[test]
 fn a_command_without_memory_is_status_3(rt: HostRuntime) {
-    let status = crate::tell(&rt, &Error::from(AllocError));
-    assert!(rt; status.is_ok_and(|status| status == 3));
+    let status = explain(&rt, &Error::from(AllocError));
+    assert!(rt; status.is_ok_and(|status| status == Status::Failed));
 }

@@ -1,5 +1,6 @@
 // Texts and images through the tools, with what is written and told: the expected values are the format's rules.
 use crate::faulty::{Full, Unflushed};
+use fc_service::Status;
 use fc_service::tools::{check, image, list};
 use std::alloc::{AllocError, Global};
 use std::io;
@@ -21,7 +22,7 @@ const EXIT: [u8; 8] = [0x95, 0, 0, 0, 0, 0, 0, 0];
 // What a tool gave.
 #[derive(Drop)]
 struct Done {
-    status: u8,
+    status: Status,
     out: Vec<u8>,
     err: Vec<u8>,
 }
@@ -29,7 +30,7 @@ struct Done {
 // Memory alone can fail where the reader and the writers are bytes.
 fn with_memory(done: Done) -> Result<Done, AllocError> {
     match done.status {
-        3 => Err(AllocError),
+        Status::Failed => Err(AllocError),
         _ => Ok(done),
     }
 }
@@ -61,7 +62,10 @@ fn checked(alloc: Global, image: &[u8]) -> Result<Done, AllocError> {
 // The tool refuses, tells this, and writes nothing.
 fn is_refused<R: Abort>(rt: &R, done: &Done, told: &str) -> Result<(), Fail> {
     assert!(rt; done.err.as_slice() == told.as_bytes(), "{told}");
-    assert!(rt; done.status == 1 && done.out.is_empty(), "{told}");
+    assert!(rt;
+        done.status == Status::Refused && done.out.is_empty(),
+        "{told}"
+    );
     Ok(())
 }
 
@@ -69,7 +73,10 @@ fn is_refused<R: Abort>(rt: &R, done: &Done, told: &str) -> Result<(), Fail> {
 fn is_listed<R: Abort + AllocGlobal>(rt: &R, image: &[u8], text: &str) -> Result<(), Fail> {
     let done = listed(rt.alloc(), image)?;
     assert!(rt; done.out.as_slice() == text.as_bytes(), "{text}");
-    assert!(rt; done.status == 0 && done.err.is_empty(), "{text}");
+    assert!(rt;
+        done.status == Status::Done && done.err.is_empty(),
+        "{text}"
+    );
     Ok(())
 }
 
@@ -89,7 +96,7 @@ fn image_with(alloc: Global, budget: u8, slots: &[[u8; 8]]) -> Result<Vec<u8>, F
 fn a_text_becomes_an_image(rt: HostRuntime) -> Result<(), Fail> {
     let done = assembled(rt.alloc(), b"mov64 r0, 69\nexit\n", 0, 2)?;
     assert!(rt; done.out.as_slice() == IMAGE);
-    assert!(rt; done.status == 0 && done.err.is_empty());
+    assert!(rt; done.status == Status::Done && done.err.is_empty());
     Ok(())
 }
 
@@ -119,7 +126,7 @@ fn a_text_is_refused_by_its_first_mistake(rt: HostRuntime) -> Result<(), Fail> {
 #[test]
 fn the_greatest_numbers_of_the_header_are_taken(rt: HostRuntime) -> Result<(), Fail> {
     let done = assembled(rt.alloc(), b"exit", 256, 65536)?;
-    assert!(rt; done.status == 0);
+    assert!(rt; done.status == Status::Done);
     Ok(())
 }
 
@@ -183,20 +190,20 @@ fn an_image_with_a_bad_slot_is_not_listed(rt: HostRuntime) -> Result<(), Fail> {
 }
 
 // Budgets and slots, and how the image is judged.
-static JUDGED: [(u8, &[[u8; 8]], u8, &str); 9] = [
-    (9, &[MOV_69, EXIT], 0, "accepted cost 2 budget 9\n"),
-    (1, &[MOV_69, EXIT], 1, "V16 slot 0\n"),
-    (1, &[EXIT], 1, "V25 slot 0\n"),
-    (1, &[MOV_0], 1, "V13 slot 0\n"),
-    (1, &[[0x18, 0, 0, 0, 0, 0, 0, 0]], 1, "V10 slot 0\n"),
+static JUDGED: [(u8, &[[u8; 8]], Status, &str); 9] = [
+    (9, &[MOV_69, EXIT], Status::Done, "accepted cost 2 budget 9\n"),
+    (1, &[MOV_69, EXIT], Status::Refused, "V16 slot 0\n"),
+    (1, &[EXIT], Status::Refused, "V25 slot 0\n"),
+    (1, &[MOV_0], Status::Refused, "V13 slot 0\n"),
+    (1, &[[0x18, 0, 0, 0, 0, 0, 0, 0]], Status::Refused, "V10 slot 0\n"),
     // programs have no calls yet: the opcode comes before what else is wrong with its slot, and after what is wrong before it
     (
         2,
         &[MOV_0, [0x85, 0x20, 0, 0, 0, 0, 0, 0], EXIT],
-        1,
+        Status::Refused,
         "V06 slot 1\n",
     ),
-    (2, &[[0x85, 0x20, 0, 0, 0, 0, 0, 0]], 1, "V06 slot 0\n"),
+    (2, &[[0x85, 0x20, 0, 0, 0, 0, 0, 0]], Status::Refused, "V06 slot 0\n"),
     (
         2,
         &[
@@ -204,7 +211,7 @@ static JUDGED: [(u8, &[[u8; 8]], u8, &str); 9] = [
             [0x85, 0, 0, 0, 1, 0, 0, 0],
             EXIT,
         ],
-        1,
+        Status::Refused,
         "V07 slot 0\n",
     ),
     // a second half is no call
@@ -215,7 +222,7 @@ static JUDGED: [(u8, &[[u8; 8]], u8, &str); 9] = [
             [0x85, 0, 0, 0, 1, 0, 0, 0],
             EXIT,
         ],
-        1,
+        Status::Refused,
         "V10 slot 0\n",
     ),
 ];
@@ -312,10 +319,24 @@ static PROGRAMS: [(&[u8], u32, &str); 18] = [
 fn a_program_is_checked(rt: HostRuntime) -> Result<(), Fail> {
     for (text, budget, printed) in PROGRAMS.iter().copied() {
         let image = assembled(rt.alloc(), text, 0, budget)?;
-        assert!(rt; image.status == 0, "{printed}");
+        assert!(rt; image.status == Status::Done, "{printed}");
         let done = checked(rt.alloc(), image.out.as_slice())?;
         assert!(rt; done.out.as_slice() == printed.as_bytes(), "{printed}");
     }
+    Ok(())
+}
+
+// As many bytes as are asked for: no count of slots fits their length.
+#[test]
+fn an_image_without_end_is_refused(rt: HostRuntime) -> Result<(), Fail> {
+    let alloc = rt.alloc();
+    let mut out = Vec::new(alloc);
+    let mut err = Vec::new(alloc);
+    let status = check(alloc, &mut io::repeat(b'F'), &mut out, &mut err);
+    let done = with_memory(Done { status, out, err })?;
+    assert!(rt;
+        done.status == Status::Refused && done.out.as_slice() == b"V01 slot 0\n".as_slice()
+    );
     Ok(())
 }
 
@@ -334,11 +355,13 @@ fn a_failed_reader_is_status_3(rt: HostRuntime) -> Result<(), Fail> {
     let alloc = rt.alloc();
     let mut out = Vec::new(alloc);
     let mut err = Vec::new(alloc);
-    assert!(rt; image(alloc, &mut Torn, &mut out, &mut err, 0, 1) == 3);
-    assert!(rt; list(alloc, &mut Torn, &mut out, &mut err) == 3);
-    assert!(rt; check(alloc, &mut Torn, &mut out, &mut err) == 3);
+    assert!(rt; image(alloc, &mut Torn, &mut out, &mut err, 0, 1) == Status::Failed);
+    assert!(rt; list(alloc, &mut Torn, &mut out, &mut err) == Status::Failed);
+    assert!(rt; check(alloc, &mut Torn, &mut out, &mut err) == Status::Failed);
     assert!(rt;
-        out.is_empty() && err.as_slice() == b"broken pipe\nbroken pipe\nbroken pipe\n".as_slice()
+        out.is_empty()
+            && err.as_slice()
+                == b"standard input: broken pipe\nstandard input: broken pipe\nstandard input: broken pipe\n".as_slice()
     );
     Ok(())
 }
@@ -348,13 +371,14 @@ fn a_failed_writer_is_status_3(rt: HostRuntime) -> Result<(), Fail> {
     let alloc = rt.alloc();
     let mut err = Vec::new(alloc);
     let mut text: &[u8] = b"exit";
-    assert!(rt; image(alloc, &mut text, &mut Full(23), &mut err, 0, 1) == 3);
+    assert!(rt; image(alloc, &mut text, &mut Full(23), &mut err, 0, 1) == Status::Failed);
     let mut input = IMAGE;
-    assert!(rt; list(alloc, &mut input, &mut Full(17), &mut err) == 3);
+    assert!(rt; list(alloc, &mut input, &mut Full(17), &mut err) == Status::Failed);
     let mut input = IMAGE;
-    assert!(rt; check(alloc, &mut input, &mut Full(3), &mut err) == 3);
+    assert!(rt; check(alloc, &mut input, &mut Full(3), &mut err) == Status::Failed);
     assert!(rt;
-        err.as_slice() == b"no storage space\nno storage space\nno storage space\n".as_slice()
+        err.as_slice()
+            == b"standard output: no storage space\nstandard output: no storage space\nstandard output: no storage space\n".as_slice()
     );
     Ok(())
 }
@@ -364,11 +388,11 @@ fn a_failed_flush_is_status_3(rt: HostRuntime) -> Result<(), Fail> {
     let alloc = rt.alloc();
     let mut err = Vec::new(alloc);
     let mut text: &[u8] = b"exit";
-    assert!(rt; image(alloc, &mut text, &mut Unflushed, &mut err, 0, 1) == 3);
+    assert!(rt; image(alloc, &mut text, &mut Unflushed, &mut err, 0, 1) == Status::Failed);
     let mut input = IMAGE;
-    assert!(rt; list(alloc, &mut input, &mut Unflushed, &mut err) == 3);
+    assert!(rt; list(alloc, &mut input, &mut Unflushed, &mut err) == Status::Failed);
     let mut input = IMAGE;
-    assert!(rt; check(alloc, &mut input, &mut Unflushed, &mut err) == 3);
+    assert!(rt; check(alloc, &mut input, &mut Unflushed, &mut err) == Status::Failed);
     Ok(())
 }
 
@@ -377,7 +401,7 @@ fn a_mistake_that_is_not_told_is_status_3(rt: HostRuntime) -> Result<(), Fail> {
     let alloc = rt.alloc();
     let mut out = Vec::new(alloc);
     let mut text: &[u8] = b"movq";
-    assert!(rt; image(alloc, &mut text, &mut out, &mut Full(3), 0, 1) == 3);
+    assert!(rt; image(alloc, &mut text, &mut out, &mut Full(3), 0, 1) == Status::Failed);
     assert!(rt; out.is_empty());
     Ok(())
 }

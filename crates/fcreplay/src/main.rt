@@ -6,44 +6,41 @@ mod replay;
 #[cfg(test)]
 mod replay_tests;
 
-use clap::error::ErrorKind;
 use clap::{Command, Error};
+use fc_service::Status;
+use fc_service::command_line::{VERSION, exit_code, explain, words};
 use std::alloc::Global;
 use std::io;
 use std::io::{BufReader, BufWriter, Write};
 use std::process::ExitCode;
 use std::rt::Runtime;
 
-/// The status where the command line is bad.
-const BAD_COMMAND: u8 = 2;
+/// What `--help` tells of the events, of what is printed, and of how a replay ends.
+const EVENTS: &str = "\
+An event is its name and its parts in any order, parted by single spaces:
 
-/// The status where reading or writing failed, or memory was refused.
-const FAILED: u8 = 3;
+  Deliver now=0 ep=1 data=40000001
+  Take job=0 memory=1
+  Commit job=0 now=5
+
+Jobs are numbered from 0 in the order of their coming; moments are in milliseconds. For
+each event `none` is printed, or the datagram that it sends as `peer hex`; then each slot
+whose serial is above 0.
+
+Exit status: 0 where all is printed; 2 where a line or the command line is bad, and nothing
+is carried out; 3 where reading or writing failed, or memory was refused.";
 
 fn command<'a>(alloc: Global) -> Command<'a> {
-    Command::new(alloc, "fcreplay").about(
-        "Carry out the events of standard input, one a line, and print what each emits",
-    )
+    Command::new(alloc, "fcreplay")
+        .version(VERSION)
+        .about("Carry out the events of standard input, one a line, and print what each emits")
+        .after_help(EVENTS)
 }
 
-// Tells why there is no command, with the status: help that was asked for is no mistake.
-fn tell<R: Runtime>(rt: &R, error: &Error) -> anyhow::Result<u8> {
-    error.print(rt)?;
-    Ok(match error.kind() {
-        ErrorKind::OutOfMemory => FAILED,
-        _ if error.use_stderr() => BAD_COMMAND,
-        _ => 0,
-    })
-}
-
-fn run<R: Runtime + AllocGlobal, E: Write>(rt: &R, err: &mut E) -> anyhow::Result<u8> {
-    match std::env::args(rt) {
-        Ok(words) => obey(rt, err, words.collect(rt.alloc())?),
-        Err(error) if error.kind() == io::ErrorKind::InvalidData => {
-            writeln!(err, "error: a word of the command line isn't UTF-8")?;
-            Ok(BAD_COMMAND)
-        }
-        Err(error) => Err(error.into()),
+fn run<R: Runtime + AllocGlobal, E: Write>(rt: &R, err: &mut E) -> anyhow::Result<Status> {
+    match words(rt, err)? {
+        Some(words) => obey(rt, err, words),
+        None => Ok(Status::Bad),
     }
 }
 
@@ -52,10 +49,10 @@ fn obey<R: Runtime + AllocGlobal, E: Write>(
     rt: &R,
     err: &mut E,
     words: Vec<String>,
-) -> anyhow::Result<u8> {
+) -> anyhow::Result<Status> {
     let alloc = rt.alloc();
     if let Err(error) = command(alloc).try_get_matches_from(words.as_slice()) {
-        return tell(rt, &error);
+        return explain(rt, &error);
     }
     let mut input = BufReader::new(alloc, rt.reader())?;
     let mut out = BufWriter::new(alloc, io::writer(rt))?;
@@ -64,11 +61,6 @@ fn obey<R: Runtime + AllocGlobal, E: Write>(
 
 fn main(rt: HostRuntime) -> ExitCode {
     let mut err = rt.stderr();
-    match run(&rt, &mut err) {
-        Ok(status) => ExitCode::from(status),
-        Err(error) => {
-            let _told = writeln!(err, "{error}");
-            ExitCode::from(FAILED)
-        }
-    }
+    let ended = run(&rt, &mut err);
+    exit_code(&mut err, ended)
 }

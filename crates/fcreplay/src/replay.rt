@@ -4,60 +4,54 @@ use coap_msg::Emission;
 use fc_registry::{SLOTS, Shard, SlotNumber};
 use fc_service::line::LineError;
 use fc_service::play::print;
+use fc_service::status::{Status, tell};
 use fc_world::{Event, run_world};
 use std::alloc::{AllocError, Global};
 use std::io;
 use std::io::{Read, Write};
 use thiserror::Error;
 
-/// The status where the list was carried out.
-const DONE: u8 = 0;
-
-/// The status where a line is bad.
-const BAD_LINE: u8 = 2;
-
-/// The status where reading or writing failed, or memory was refused.
-const FAILED: u8 = 3;
-
 // Why a list isn't carried out, or isn't told.
 #[derive(Debug, Drop, Error)]
 enum Stop {
     #[error("line {0}: bad")]
     BadLine(u64),
-    #[error("{0}")]
-    Io(#[from] io::Error),
+    #[error("standard input: {0}")]
+    Input(io::Error),
+    #[error("standard output: {0}")]
+    Output(#[from] io::Error),
     #[error("{0}")]
     Memory(#[from] AllocError),
 }
 
+impl Stop {
+    fn status(&self) -> Status {
+        match self {
+            Stop::BadLine(_) => Status::Bad,
+            Stop::Input(_) | Stop::Output(_) | Stop::Memory(_) => Status::Failed,
+        }
+    }
+}
+
 /// Reads a list of events, one a line, carries it out, and prints a line for each event, `none` or what it emitted as
-/// `peer hex`, and then one for each slot whose serial is above 0. What it answers is the status of the program: 0 where
-/// all is printed; 2 where a line is bad, which `err` is told by its number from 1, and nothing is carried out; 3 where
-/// reading or writing failed, or there was no memory, which `err` is told as well.
+/// `peer hex`, and then one for each slot whose serial is above 0. It ends `Done` where all is printed; `Bad` where a
+/// line is bad, which `err` is told by its number from 1, and nothing is carried out; `Failed` where reading or writing
+/// failed, or there was no memory, which `err` is told as well.
 pub fn replay<R: Read, W: Write, E: Write>(
     alloc: Global,
     input: &mut R,
     out: &mut W,
     err: &mut E,
-) -> u8 {
+) -> Status {
     match replay_list(alloc, input, out) {
-        Ok(()) => DONE,
-        Err(stop) => tell(err, &stop),
-    }
-}
-
-// Tells why a list isn't carried out: the status.
-fn tell<E: Write>(err: &mut E, stop: &Stop) -> u8 {
-    let told = writeln!(err, "{stop}");
-    match stop {
-        Stop::BadLine(_) if told.is_ok() => BAD_LINE,
-        _ => FAILED,
+        Ok(()) => Status::Done,
+        Err(stop) => tell(err, &stop, stop.status()),
     }
 }
 
 fn replay_list<R: Read, W: Write>(alloc: Global, input: &mut R, out: &mut W) -> Result<(), Stop> {
     let mut text = Vec::new(alloc);
-    input.read_to_end(&mut text)?;
+    input.read_to_end(&mut text).map_err(Stop::Input)?;
     let list = text.strip_suffix(b"\n").unwrap_or(&text);
     if text.is_empty() {
         return Ok(());

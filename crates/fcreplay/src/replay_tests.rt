@@ -1,10 +1,11 @@
 // Lists that are replayed: what a bad line is, and what is printed and told.
 use crate::replay::replay;
+use fc_service::Status;
 use std::alloc::Global;
 use std::process::Abort;
 
 // Whether a replay ends in this status, and writes just this to its output and to where faults are told.
-fn replays(alloc: Global, list: &str, status: u8, printed: &str, told: &str) -> bool {
+fn replays(alloc: Global, list: &str, status: Status, printed: &str, told: &str) -> bool {
     let mut out = Vec::new(alloc);
     let mut err = Vec::new(alloc);
     let mut input = list.as_bytes();
@@ -14,7 +15,10 @@ fn replays(alloc: Global, list: &str, status: u8, printed: &str, told: &str) -> 
 }
 
 fn check_replayed<R: Abort + AllocGlobal>(rt: &R, list: &str, printed: &str) {
-    assert!(rt; replays(rt.alloc(), list, 0, printed, ""), "{list}");
+    assert!(rt;
+        replays(rt.alloc(), list, Status::Done, printed, ""),
+        "{list}"
+    );
 }
 
 // Parts come in any order, and what isn't served emits nothing.
@@ -56,7 +60,13 @@ static BAD_LINES: [&str; 16] = [
 fn a_bad_line_is_told_by_its_number(rt: HostRuntime) {
     for line in BAD_LINES.iter().copied() {
         let list = format!(in rt.alloc(); "Deliver now=0 ep=1 data=40000007\n{line}\nTick\n");
-        let is_told = list.is_ok_and(|list| replays(rt.alloc(), &list, 2, "", "line 2: bad\n"));
+        let is_told = list.is_ok_and(|list| replays(
+            rt.alloc(),
+            &list,
+            Status::Bad,
+            "",
+            "line 2: bad\n",
+        ));
         assert!(rt; is_told, "{line}");
     }
 }

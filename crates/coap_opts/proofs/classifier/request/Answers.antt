@@ -3,7 +3,7 @@ use Rattle.std.proofs.lemmas.Bool.{lt-ltb, le-ltb}
 use Rattle.std.specs.Option.{option_map}
 use Rattle.coap_opts.specs.Path.{method_of}
 use Rattle.coap_opts.specs.Served.{there}
-use Rattle.coap_opts.specs.Values.{number_of}
+use Rattle.coap_opts.specs.Values.{uint_value}
 use Rattle.coap_opts.specs.Verdict as spec
 use Rattle.coap_opts.proofs.Order.{proxy_fails, unknown_fails, method_fails, path_fails, service_fails, value_fails, payload_fails, none_fails, collected_proxy, collected_bad, collected_query, collected_served, known_by, asked_with}
 use Rattle.coap_opts.proofs.classifier.request.Goals as goal
@@ -56,8 +56,8 @@ returns c =
     let good = collected_bad _ _ c.collect-collected.ensures.parts _ _ c.block_of-block1.ensures c.block_of-block2.ensures ∙ (sym c.is_bad.ensures ∙ c.if-is_bad.false) in (
       none_fails c.args.message.now c.in-Some.method c.in-Some-there.resource served good (le-ltb 1024 (length c.args.message.now.payload) (omega (arith, ap length c.payload-payload.ensures))),
       asked_with c.args.message.now c.in-Some.method c.in-Some-there.resource _ _ _ _ _ _ _ served (collected_query _ _ c.collect-collected.ensures.parts good)
-          (c.format_of.ensures ∙ ap (option_map number_of) c.collect-collected.ensures.parts.content_format) c.collect-collected.ensures.parts.etags
-          (c.observe_at.ensures ∙ ap (spec.observe_at c.in-Some-there.resource) (c.observe_of.ensures ∙ ap (option_map number_of) c.collect-collected.ensures.parts.observe))
-          (c.block_of-block1.ensures ∙ ap (option_map number_of) c.collect-collected.ensures.parts.block1) (c.block_of-block2.ensures ∙ ap (option_map number_of) c.collect-collected.ensures.parts.block2)
+          (c.format_of.ensures ∙ ap (option_map uint_value) c.collect-collected.ensures.parts.content_format) c.collect-collected.ensures.parts.etags
+          (c.observe_at.ensures ∙ ap (spec.observe_at c.in-Some-there.resource) (c.observe_of.ensures ∙ ap (option_map uint_value) c.collect-collected.ensures.parts.observe))
+          (c.block_of-block1.ensures ∙ ap (option_map uint_value) c.collect-collected.ensures.parts.block1) (c.block_of-block2.ensures ∙ ap (option_map uint_value) c.collect-collected.ensures.parts.block2)
           c.payload-payload.ensures,
     )

@@ -6,7 +6,7 @@ use Rattle.std.proofs.lemmas.Iterator.Splits.{YieldsList-from_str_split}
 use Rattle.std.proofs.lemmas.Iterator.Consumers.{YieldsList-at, YieldsList-turn, YieldsList-end}
 use Rattle.fc_isa.specs.Program.{is_program}
 use Rattle.fc_asm.specs.Names.{Text}
-use Rattle.fc_asm.specs.Syntax.{lines_of, meaning_of}
+use Rattle.fc_asm.specs.Syntax.{lines_of, line_meaning}
 use Rattle.fc_asm.specs.Assembled.{line_slots, mistake_in}
 use Rattle.fc_asm.proofs.Lines.{more_faultless, more_slots, first_error, no_error}
 use Rattle.fc_asm.proofs.Slots.{lines_program}
@@ -47,7 +47,7 @@ returns-clause-program c =
     let road = YieldsList-at c.into_iter-code-iterator.ensures.into_iter_gives (YieldsList-from_str_split 10 c.args.text.now (lit< tt) c.split-code-items.ensures.text c.split-code-items.ensures.has_more c.split-code-items.ensures.pattern) in
     let end = YieldsList-end road c.loop-code.yielded _ c.loop-code.yielded_by _ _ c.in-None.is c.next.ensures.steps in
     let whole = take_all (length c.loop-code.yielded) (lines_of c.args.text.now) (omega (arith, end.1)) in
-    let P : List Text → Type 0 = λ t. All (λ l. mistake_in (meaning_of l) ≡ None) t in
+    let P : List Text → Type 0 = λ t. All (λ l. mistake_in (line_meaning l) ≡ None) t in
     record {
       faultless = subst P whole c.loop-code.invariant.faultless;
       slots = c.loop-code.invariant.slots ∙ ap (flat_map line_slots) whole;

@@ -5,14 +5,14 @@ use Rattle.fc_asm.proofs.Numbers.{offset_no, offset_parsed, offset_unparsed}
 use Rattle.fc_asm.proofs.operand.offset.Goals as goal
 use mir.Syntax.{w16}
 
-pub returns-then-not-is_number : goal.returns-then-not-is_number
-returns-then-not-is_number c = sym (offset_no c.args.word.now (sym c.if-not-is_number.ensures))
+pub returns-then-not-writes_number : goal.returns-then-not-writes_number
+returns-then-not-writes_number c = sym (offset_no c.args.word.now (sym c.if-not-writes_number.ensures))
 
 pub returns-in-Ok : goal.returns-in-Ok
 returns-in-Ok c =
     let read = c.in-Ok.ensures.value.0 in
     ap Ok (to_z-of_z w16 c.in-Ok.value (subst (λ z. FitsSigned w16 z) (sym read.1) read.0.1))
-    ∙ sym (offset_parsed c.args.word.now c.parse.result c.in-Ok.value (sym c.if-not-is_number.ensures) c.parse.ensures.value.0 c.in-Ok.is)
+    ∙ sym (offset_parsed c.args.word.now c.parse.result c.in-Ok.value (sym c.if-not-writes_number.ensures) c.parse.ensures.value.0 c.in-Ok.is)
 
 pub returns-in-Err : goal.returns-in-Err
-returns-in-Err c = sym (offset_unparsed c.args.word.now c.parse.result c.in-Err.field-0 (sym c.if-not-is_number.ensures) c.parse.ensures.value.0 c.in-Err.is)
+returns-in-Err c = sym (offset_unparsed c.args.word.now c.parse.result c.in-Err.field-0 (sym c.if-not-writes_number.ensures) c.parse.ensures.value.0 c.in-Err.is)

@@ -1,5 +1,5 @@
 use Rattle.coap_msg.proofs.Walk.{walked_none, walked_more, walked_cut, walked_end}
-use Rattle.coap_msg.proofs.options.behind_options.Goals as goal
+use Rattle.coap_msg.proofs.options.after_options.Goals as goal
 
 pub loop-rest-init : goal.loop-rest-init
 loop-rest-init c = walked_none c.args.bytes.now
