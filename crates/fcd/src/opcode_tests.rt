@@ -107,7 +107,10 @@ static OPCODES: [(&[u8], &str); 117] = [
     (b"\xde\x06\xf3\xff\x00\x00\x00\x00", "jsle32 r6, r0, -13\n"),
     (b"\x85\x00\x00\x00\x03\x00\x00\x00", "call 3\n"),
     (b"\x95\x00\x00\x00\x00\x00\x00\x00", "exit\n"),
-    (b"\x18\x08\x00\x00\x05\x00\x00\x00\x00\x00\x00\x00\x02\x00\x00\x00", "lddw r8, 8589934597\n"),
+    (
+        b"\x18\x08\x00\x00\x05\x00\x00\x00\x00\x00\x00\x00\x02\x00\x00\x00",
+        "lddw r8, 8589934597\n",
+    ),
     (b"\x61\xa1\xf8\xff\x00\x00\x00\x00", "ldxw r1, r10, -8\n"),
     (b"\x69\xa1\xf0\xff\x00\x00\x00\x00", "ldxh r1, r10, -16\n"),
     (b"\x71\xa1\xe8\xff\x00\x00\x00\x00", "ldxb r1, r10, -24\n"),
@@ -148,7 +151,10 @@ static FORMS: [(&[u8], &str); 16] = [
 // The bytes are listed as the line, and the line is assembled to the bytes.
 fn check_listed<R: Abort + AllocGlobal>(rt: &R, bytes: &[u8], line: &str) -> Result<(), Fail> {
     let program = decode(rt.alloc(), bytes)?;
-    assert!(rt; disassemble(rt.alloc(), &program)?.as_str() == line, "{line}");
+    assert!(rt;
+        disassemble(rt.alloc(), &program)?.as_str() == line,
+        "{line}"
+    );
     let assembled = assemble(rt.alloc(), line)?;
     let written = encode(rt.alloc(), &assembled)?;
     assert!(rt; written.as_slice() == bytes, "{line}");

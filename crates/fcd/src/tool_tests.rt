@@ -191,11 +191,21 @@ fn an_image_with_a_bad_slot_is_not_listed(rt: HostRuntime) -> Result<(), Fail> {
 
 // Budgets and slots, and how the image is judged.
 static JUDGED: [(u8, &[[u8; 8]], Status, &str); 9] = [
-    (9, &[MOV_69, EXIT], Status::Done, "accepted cost 2 budget 9\n"),
+    (
+        9,
+        &[MOV_69, EXIT],
+        Status::Done,
+        "accepted cost 2 budget 9\n",
+    ),
     (1, &[MOV_69, EXIT], Status::Refused, "V16 slot 0\n"),
     (1, &[EXIT], Status::Refused, "V25 slot 0\n"),
     (1, &[MOV_0], Status::Refused, "V13 slot 0\n"),
-    (1, &[[0x18, 0, 0, 0, 0, 0, 0, 0]], Status::Refused, "V10 slot 0\n"),
+    (
+        1,
+        &[[0x18, 0, 0, 0, 0, 0, 0, 0]],
+        Status::Refused,
+        "V10 slot 0\n",
+    ),
     // programs have no calls yet: the opcode comes before what else is wrong with its slot, and after what is wrong before it
     (
         2,
@@ -203,7 +213,12 @@ static JUDGED: [(u8, &[[u8; 8]], Status, &str); 9] = [
         Status::Refused,
         "V06 slot 1\n",
     ),
-    (2, &[[0x85, 0x20, 0, 0, 0, 0, 0, 0]], Status::Refused, "V06 slot 0\n"),
+    (
+        2,
+        &[[0x85, 0x20, 0, 0, 0, 0, 0, 0]],
+        Status::Refused,
+        "V06 slot 0\n",
+    ),
     (
         2,
         &[
@@ -283,29 +298,17 @@ static PROGRAMS: [(&[u8], u32, &str); 18] = [
         3,
         "accepted cost 3 budget 3\n",
     ),
-    (
-        b"stb r10, -257, 0\nmov64 r0, 0\nexit",
-        3,
-        "V22 slot 0\n",
-    ),
+    (b"stb r10, -257, 0\nmov64 r0, 0\nexit", 3, "V22 slot 0\n"),
     (b"stb r10, 0, 0\nmov64 r0, 0\nexit", 3, "V22 slot 0\n"),
     (b"stb r1, 0, 0\nmov64 r0, 0\nexit", 3, "V23 slot 0\n"),
-    (
-        b"stxdw r10, -8, r1\nmov64 r0, 0\nexit",
-        3,
-        "V24 slot 0\n",
-    ),
+    (b"stxdw r10, -8, r1\nmov64 r0, 0\nexit", 3, "V24 slot 0\n"),
     // a pointer's step, and its low half
     (
         b"add64 r1, 65536\nmov64 r0, 0\nexit",
         3,
         "accepted cost 3 budget 3\n",
     ),
-    (
-        b"add64 r1, 65537\nmov64 r0, 0\nexit",
-        3,
-        "V26 slot 0\n",
-    ),
+    (b"add64 r1, 65537\nmov64 r0, 0\nexit", 3, "V26 slot 0\n"),
     (b"mov32 r4, r1\nmov64 r0, 0\nexit", 3, "V21 slot 0\n"),
     // what no path reaches isn't typed
     (
