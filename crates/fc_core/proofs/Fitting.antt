@@ -7,6 +7,7 @@ use borrow.Author.Tests.{ltb-true}
 use Rattle.fc_help.specs.declared.request.Method.{Method}
 use Rattle.fc_help.specs.declared.request.Method.TheVariants.{Get, Post}
 use Rattle.fc_help.specs.Request.{Request}
+use Rattle.fc_help.specs.Region.{FitsRegion}
 use Rattle.fc_kinds.specs.Meaning.{Program, IsInput, meant}
 use Rattle.fc_verify.specs.Accepted.{Judgement, Accepts, Breaks, Untypable}
 use Rattle.fc_verify.specs.Judged.{judged}
@@ -178,13 +179,13 @@ row_chain other job first cs s f chain = chain
 
 -- ---- safe programs
 
-payload_fits : (ask : Ask) → AskWithin ask → length (request_of ask).payload ≤ 1024
-payload_fits (Run request) f = f.1
-payload_fits (Installs image) f = omega arith
+request_fits : (ask : Ask) → AskWithin ask → FitsRegion (request_of ask)
+request_fits (Run request) f = record { query = f.0; payload = f.1 }
+request_fits (Installs image) f = record { query = omega arith; payload = omega arith }
 
 -- what a slot that fits gives to a job within its limits is an input of its program
 pub input_of : (job : Job) (p : Present) (request : Request) → AskWithin job.ask → request ≡ request_of job.ask → FitsPresent p → IsInput p.program request p.vars
-input_of job p request within is fits = record { payload = subst (λ (r : Request). length r.payload ≤ 1024) (sym is) (payload_fits job.ask within); vars = fits.vars }
+input_of job p request within is fits = record { fits = subst FitsRegion (sym is) (request_fits job.ask within); vars = fits.vars }
 
 written_fits : (job : Job) (slot : Slot) (t : Ticket) → AskWithin job.ask → IsTicketOf job slot t → slot.present ≡ Some t.found → FitsSlot slot.present → FitsSlot (with_vars (meaning_at t).vars slot.present)
 written_fits job slot t within own e fits =

@@ -1,5 +1,6 @@
 //! The request that a program answers.
-ghost use Rattle.std.specs.Prelude.{◌≡◌, ◌<◌, ◌≤◌, ◌↔◌, length, IsTrue};
+ghost use Rattle.std.specs.Prelude.{◌≡◌, ◌+◌, ◌++◌, ◌≤◌, ◌↔◌, length, IsTrue};
+ghost use Rattle.fc_help.specs.Region.{head_of, method_number, padded, region_of};
 
 use arrayvec::ArrayVec;
 use std::marker::Model;
@@ -20,22 +21,83 @@ pub const PAYLOAD: usize = 1024;
 /// The most bytes of a request's query.
 pub const QUERY: usize = 64;
 
-/// A request to a resource that a program answers. Its type keeps the limits of query and payload.
+/// The bytes of the region that a program finds a request in.
+pub const REGION: usize = 1104;
+
+/// The bytes before the query: the method, the slot, lengths and the Content-Format.
+const HEAD: usize = 16;
+
+/// Where the payload begins.
+const BEFORE_PAYLOAD: usize = HEAD + QUERY;
+
+/// A request to a resource that a program answers, laid out once as the region of memory that a program finds it in. Its type
+/// keeps the limits of query and payload.
 #[derive(Drop)]
 pub struct Request {
     method: Method,
     slot: u8,
     content_format: Option<u16>,
-    query: ArrayVec<u8, QUERY>,
-    payload: ArrayVec<u8, PAYLOAD>,
+    query_size: u8,
+    payload_size: u16,
+    region: ArrayVec<u8, REGION>,
 }
 
 impl Model for Request {
+    ghost use Rattle.fc_help.specs.Region.{IsLaidOut, part_at};
     ghost use Rattle.fc_help.specs.Request.{Request as Stated};
 
     ghost Value = { Stated };
 
-    ghost view = { λ r. record { method = r.method; slot = r.slot; content_format = r.content_format; query = r.query.items; payload = r.payload.items } };
+    ghost view = { λ r. record { method = r.method; slot = r.slot; content_format = r.content_format; query = part_at r.region.items 16 r.query_size; payload = part_at r.region.items 80 r.payload_size } };
+
+    ghost invariant = { λ r. IsLaidOut (record { method = r.method; slot = r.slot; content_format = r.content_format; query = part_at r.region.items 16 r.query_size; payload = part_at r.region.items 80 r.payload_size }) r.query_size r.payload_size r.region.items };
+}
+
+/// Zeros to pad with.
+const ZEROS: [u8; PAYLOAD] = [0; PAYLOAD];
+
+/// Appends bytes, and zeros after them up to a size.
+fn put_padded(region: &mut ArrayVec<u8, REGION>, bytes: &[u8], size: usize)
+    requires fits { length bytes.now ≤ size }
+    requires size { size ≤ 1024 }
+    requires room { length region.old.items + size ≤ 1104 }
+    ensures { region.new.items ≡ region.old.items ++ padded size bytes.now }
+{
+    let _fits = region.try_extend_from_slice(bytes);
+    let _fits = region.try_extend_from_slice(&ZEROS[..size - bytes.len()]);
+}
+
+/// The first bytes of a region.
+fn head(
+    method: Method,
+    slot: u8,
+    content_format: Option<u16>,
+    query: &[u8],
+    payload: &[u8],
+) -> [u8; HEAD]
+    requires query { length query.now ≤ QUERY }
+    requires payload { length payload.now ≤ PAYLOAD }
+    ensures { result ≡ head_of (record { method = method; slot = slot; content_format = content_format; query = query.now; payload = payload.now }) }
+{
+    let method = method_byte(method);
+    let length = (payload.len() as u16).to_le_bytes();
+    let format = content_format.unwrap_or(0).to_le_bytes();
+    let said = u8::from(content_format.is_some());
+    let query = query.len() as u8;
+    [
+        method, slot, length[0], length[1], format[0], format[1], said, query, 0, 0, 0, 0, 0, 0, 0,
+        0,
+    ]
+}
+
+/// A method's byte.
+fn method_byte(method: Method) -> u8
+    ensures { result ≡ method_number method }
+{
+    match method {
+        Method::Get => 1,
+        Method::Post => 2,
+    }
 }
 
 impl Request {
@@ -52,16 +114,32 @@ impl Request {
         requires payload { length payload.now ≤ PAYLOAD }
         ensures { result ≡ record { method = method; slot = slot; content_format = content_format; query = query.now; payload = payload.now } }
     {
-        let mut request = Request {
+        let mut region = ArrayVec::new();
+        let _fits = region.try_extend_from_slice(&head(
             method,
             slot,
             content_format,
-            query: ArrayVec::new(),
-            payload: ArrayVec::new(),
-        };
-        let _fits = request.query.try_extend_from_slice(query);
-        let _fits = request.payload.try_extend_from_slice(payload);
-        request
+            query,
+            payload,
+        ));
+        put_padded(&mut region, query, QUERY);
+        put_padded(&mut region, payload, PAYLOAD);
+        Request {
+            method,
+            slot,
+            content_format,
+            query_size: query.len() as u8,
+            payload_size: payload.len() as u16,
+            region,
+        }
+    }
+
+    /// The region of memory that a program finds the request in.
+    pub fn region(&self) -> &[u8]
+        ensures region { result.now ≡ region_of self.now }
+        ensures size { length result.now ≡ 1104 }
+    {
+        self.region.as_slice()
     }
 
     /// The method.
@@ -90,7 +168,7 @@ impl Request {
         ensures query { result.now ≡ self.now.query }
         ensures limit { length result.now ≤ QUERY }
     {
-        self.query.as_slice()
+        &self.region.as_slice()[HEAD..HEAD + self.query_size as usize]
     }
 
     /// The payload.
@@ -98,7 +176,7 @@ impl Request {
         ensures payload { result.now ≡ self.now.payload }
         ensures limit { length result.now ≤ PAYLOAD }
     {
-        self.payload.as_slice()
+        &self.region.as_slice()[BEFORE_PAYLOAD..BEFORE_PAYLOAD + self.payload_size as usize]
     }
 
     /// Whether it is the same request.
@@ -108,8 +186,8 @@ impl Request {
         self.method == other.method
             && self.slot == other.slot
             && self.content_format == other.content_format
-            && self.query.as_slice() == other.query.as_slice()
-            && self.payload.as_slice() == other.payload.as_slice()
+            && self.query() == other.query()
+            && self.payload() == other.payload()
     }
 
     /// Another copy.
@@ -120,8 +198,8 @@ impl Request {
             self.method,
             self.slot,
             self.content_format,
-            self.query.as_slice(),
-            self.payload.as_slice(),
+            self.query(),
+            self.payload(),
         )
     }
 }
