@@ -7,3 +7,4 @@ pub mod Low
 pub mod PassLaws
 mod Rows
 pub mod RunLaws
+pub mod Lowered

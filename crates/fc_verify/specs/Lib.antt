@@ -6,3 +6,4 @@ pub mod Forward
 pub mod Stages
 pub mod Pass
 pub mod Runs
+pub mod Ops

@@ -3,12 +3,15 @@
 #![tactic(auto)]
 
 pub mod laws;
+pub mod lowering;
+pub mod op;
 pub mod pass;
 pub mod refusal;
 mod typing;
 pub mod verified;
 pub mod verifying;
 
+pub use op::Op;
 pub use refusal::Refusal;
 pub use verified::Verified;
 pub use verifying::verify;
