@@ -1,2 +1,6 @@
 pub mod Live
 pub mod Codes
+mod Pointers
+mod Splices
+mod Stays
+mod Regions

@@ -1,2 +1,4 @@
 pub mod Ran
 pub mod Words
+pub mod Steps
+pub mod Array
