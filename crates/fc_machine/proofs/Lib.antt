@@ -4,3 +4,4 @@ mod Pointers
 mod Splices
 mod Stays
 mod Regions
+mod Computes
