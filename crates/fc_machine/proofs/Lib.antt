@@ -5,3 +5,4 @@ mod Splices
 mod Stays
 mod Regions
 mod Computes
+mod Follows

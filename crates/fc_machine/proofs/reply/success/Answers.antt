@@ -1,3 +1,2 @@
-use Rattle.fc_machine.proofs.Regions.{lie_written}
-use Rattle.fc_machine.proofs.Computes.{result_word}
+use Rattle.fc_machine.proofs.Follows.{follows}
 use Rattle.fc_machine.proofs.reply.success.Goals as goal
