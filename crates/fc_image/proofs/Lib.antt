@@ -1,6 +1,4 @@
 pub mod Kept
-pub mod Paths
-pub mod Faults
 pub mod Written
 pub mod Restated
 pub mod CostTable

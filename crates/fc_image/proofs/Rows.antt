@@ -10,7 +10,7 @@ use Rattle.fc_isa.specs.declared.insn.Operand.TheVariants.{Imm}
 use Rattle.fc_isa.specs.declared.rule.Rule.TheVariants.{JumpTarget, BackwardJump, Boundary, BackwardCall, FrameDepth, Cost, Helper}
 use Rattle.fc_image.specs.Functions.{is_start, frames}
 use Rattle.fc_image.specs.Paths.{costs, longest}
-use Rattle.fc_image.specs.ShapeRules.{breaks_shape, fault_of_shape}
+use Rattle.fc_image.specs.ShapeRules.{breaks_shape, shape_fault}
 
 abbrev mov : Insn
 mov = Alu Mov W64 0 (Imm (pos 0))
@@ -31,52 +31,52 @@ callee_counts_twice : longest (CallLocal (pos 2) ∷ CallLocal (pos 1) ∷ Exit 
 unfolding longest costs
 callee_counts_twice = refl
 
-twice_is_above_six : fault_of_shape 6 (CallLocal (pos 2) ∷ CallLocal (pos 1) ∷ Exit ∷ mov ∷ Exit ∷ []) ≡ Some (0, Cost)
-unfolding fault_of_shape breaks_shape longest costs is_start frames
+twice_is_above_six : shape_fault 6 (CallLocal (pos 2) ∷ CallLocal (pos 1) ∷ Exit ∷ mov ∷ Exit ∷ []) ≡ Some (0, Cost)
+unfolding shape_fault breaks_shape longest costs is_start frames
 twice_is_above_six = refl
 
-four_frames : fault_of_shape 8 (caller ∷ Exit ∷ caller ∷ Exit ∷ caller ∷ Exit ∷ mov ∷ Exit ∷ []) ≡ None
-unfolding fault_of_shape breaks_shape longest costs is_start frames
+four_frames : shape_fault 8 (caller ∷ Exit ∷ caller ∷ Exit ∷ caller ∷ Exit ∷ mov ∷ Exit ∷ []) ≡ None
+unfolding shape_fault breaks_shape longest costs is_start frames
 four_frames = refl
 
-five_frames : fault_of_shape 10 (caller ∷ Exit ∷ caller ∷ Exit ∷ caller ∷ Exit ∷ caller ∷ Exit ∷ mov ∷ Exit ∷ []) ≡ Some (0, FrameDepth)
-unfolding fault_of_shape breaks_shape longest costs is_start frames
+five_frames : shape_fault 10 (caller ∷ Exit ∷ caller ∷ Exit ∷ caller ∷ Exit ∷ caller ∷ Exit ∷ mov ∷ Exit ∷ []) ≡ Some (0, FrameDepth)
+unfolding shape_fault breaks_shape longest costs is_start frames
 five_frames = refl
 
-call_back : fault_of_shape 8 (caller ∷ Exit ∷ CallLocal (negsuc 2) ∷ Exit ∷ []) ≡ Some (2, BackwardCall)
-unfolding fault_of_shape breaks_shape longest costs is_start frames
+call_back : shape_fault 8 (caller ∷ Exit ∷ CallLocal (negsuc 2) ∷ Exit ∷ []) ≡ Some (2, BackwardCall)
+unfolding shape_fault breaks_shape longest costs is_start frames
 call_back = refl
 
 -- the start that a call back makes ends the function before it
-call_back_ends_a_function : fault_of_shape 8 (mov ∷ CallLocal (negsuc 0) ∷ Exit ∷ []) ≡ Some (0, Boundary)
-unfolding fault_of_shape breaks_shape longest costs is_start frames
+call_back_ends_a_function : shape_fault 8 (mov ∷ CallLocal (negsuc 0) ∷ Exit ∷ []) ≡ Some (0, Boundary)
+unfolding shape_fault breaks_shape longest costs is_start frames
 call_back_ends_a_function = refl
 
-jump_into_a_wide_load : fault_of_shape 8 (JumpAlways (pos 1) ∷ LoadWide 0 7 ∷ WideSecond ∷ Exit ∷ []) ≡ Some (0, JumpTarget)
-unfolding fault_of_shape breaks_shape longest costs is_start frames
+jump_into_a_wide_load : shape_fault 8 (JumpAlways (pos 1) ∷ LoadWide 0 7 ∷ WideSecond ∷ Exit ∷ []) ≡ Some (0, JumpTarget)
+unfolding shape_fault breaks_shape longest costs is_start frames
 jump_into_a_wide_load = refl
 
-jump_below_zero : fault_of_shape 8 (JumpAlways (negsuc 1) ∷ Exit ∷ []) ≡ Some (0, JumpTarget)
-unfolding fault_of_shape breaks_shape longest costs is_start frames
+jump_below_zero : shape_fault 8 (JumpAlways (negsuc 1) ∷ Exit ∷ []) ≡ Some (0, JumpTarget)
+unfolding shape_fault breaks_shape longest costs is_start frames
 jump_below_zero = refl
 
-jump_to_itself : fault_of_shape 8 (JumpAlways (negsuc 0) ∷ Exit ∷ []) ≡ Some (0, BackwardJump)
-unfolding fault_of_shape breaks_shape longest costs is_start frames
+jump_to_itself : shape_fault 8 (JumpAlways (negsuc 0) ∷ Exit ∷ []) ≡ Some (0, BackwardJump)
+unfolding shape_fault breaks_shape longest costs is_start frames
 jump_to_itself = refl
 
-jump_out_of_its_function : fault_of_shape 8 (caller ∷ JumpAlways (pos 1) ∷ mov ∷ Exit ∷ []) ≡ Some (1, Boundary)
-unfolding fault_of_shape breaks_shape longest costs is_start frames
+jump_out_of_its_function : shape_fault 8 (caller ∷ JumpAlways (pos 1) ∷ mov ∷ Exit ∷ []) ≡ Some (1, Boundary)
+unfolding shape_fault breaks_shape longest costs is_start frames
 jump_out_of_its_function = refl
 
-end_in_a_wide_load : fault_of_shape 8 (mov ∷ LoadWide 0 7 ∷ WideSecond ∷ []) ≡ Some (1, Boundary)
-unfolding fault_of_shape breaks_shape longest costs is_start frames
+end_in_a_wide_load : shape_fault 8 (mov ∷ LoadWide 0 7 ∷ WideSecond ∷ []) ≡ Some (1, Boundary)
+unfolding shape_fault breaks_shape longest costs is_start frames
 end_in_a_wide_load = refl
 
-no_helper_eight : fault_of_shape 8 (CallHelper (pos 8) ∷ mov ∷ Exit ∷ []) ≡ Some (0, Helper)
-unfolding fault_of_shape breaks_shape longest costs is_start frames
+no_helper_eight : shape_fault 8 (CallHelper (pos 8) ∷ mov ∷ Exit ∷ []) ≡ Some (0, Helper)
+unfolding shape_fault breaks_shape longest costs is_start frames
 no_helper_eight = refl
 
 -- the cost is told before the helper
-cost_before_helper : fault_of_shape 2 (CallHelper (pos 8) ∷ mov ∷ Exit ∷ []) ≡ Some (0, Cost)
-unfolding fault_of_shape breaks_shape longest costs is_start frames
+cost_before_helper : shape_fault 2 (CallHelper (pos 8) ∷ mov ∷ Exit ∷ []) ≡ Some (0, Cost)
+unfolding shape_fault breaks_shape longest costs is_start frames
 cost_before_helper = refl

@@ -6,8 +6,9 @@ use Rattle.fc_isa.specs.declared.insn.Insn.{Insn}
 use Rattle.fc_isa.specs.declared.rule.Rule.{Rule}
 use Rattle.fc_isa.specs.declared.rule.Rule.TheVariants.{JumpTarget, BackwardJump, Boundary, BackwardCall, FrameDepth, Cost, Helper}
 use Rattle.std.specs.List.{AllByRecursion}
+use Rattle.fc_isa.specs.Rules.{number_of}
 use Rattle.fc_image.specs.Paths.{longest}
-use Rattle.fc_image.specs.ShapeRules.{breaks_flow, breaks_shape, KeepsBudget, IsShapeFault, KeepsRule, least, or_next, first_broken, flow_rules, fault_of_shape}
+use Rattle.fc_image.specs.ShapeRules.{breaks_flow, breaks_shape, KeepsBudget, IsShapeFault, KeepsRule, least, or_next, first_broken, flow_rules, shape_fault}
 use Rattle.fc_image.proofs.CostTable.{drop_at}
 
 -- ---- the least slot
@@ -163,14 +164,14 @@ first_is budget code [] after slot rule h e = ap (λ o. or_next o rule (first_br
 first_is budget code (r ∷ before) after slot rule h e =
     ap (λ o. or_next o r (first_broken budget code (before ++ (rule ∷ after)))) (kept_rule budget code r h.0) ∙ first_is budget code before after slot rule h.1 e
 
-pub fault_is : (budget : ℕ) (code : List Insn) (slot : ℕ) (rule : Rule) → fault_of_shape budget code ≡ Some (slot, rule) → IsShapeFault budget code slot rule
-unfolding fault_of_shape
+pub fault_is : (budget : ℕ) (code : List Insn) (slot : ℕ) (rule : Rule) → shape_fault budget code ≡ Some (slot, rule) → IsShapeFault budget code slot rule
+unfolding shape_fault
 fault_is budget code slot rule e =
     let f = first_breaks budget code flow_rules slot rule e in
     record { before = f.before; after = f.after; order = f.order; kept = f.kept; insn = f.breaks.insn; stands = f.breaks.stands; broken = f.breaks.broken; slots_before = f.breaks.slots_before }
 
-pub is_fault : (budget : ℕ) (code : List Insn) (slot : ℕ) (rule : Rule) → IsShapeFault budget code slot rule → fault_of_shape budget code ≡ Some (slot, rule)
-unfolding fault_of_shape
+pub is_fault : (budget : ℕ) (code : List Insn) (slot : ℕ) (rule : Rule) → IsShapeFault budget code slot rule → shape_fault budget code ≡ Some (slot, rule)
+unfolding shape_fault
 is_fault budget code slot rule f =
     let test = λ (slot : ℕ) (insn : Insn). breaks_shape budget code slot insn rule in
     let n : slot ≡ 0 + slot = omega arith in
@@ -210,8 +211,8 @@ unfolding breaks_shape
 within_budget budget code some h = let i = first_insn code some in let e : nat_lt budget (longest code) ≡ false = h.each 0 i.0 i.1 in grind (arith, nat_tests, e)
 
 -- a program with no fault is shaped, and its longest path within the budget
-pub faultless : (budget : ℕ) (code : List Insn) → fault_of_shape budget code ≡ None → (0 < length code) → KeepsBudget budget code
-unfolding fault_of_shape
+pub faultless : (budget : ℕ) (code : List Insn) → shape_fault budget code ≡ None → (0 < length code) → KeepsBudget budget code
+unfolding shape_fault
 faultless budget code e some =
     let all = kept_by_all budget code (all_keep budget code flow_rules e) in
     record {
@@ -237,6 +238,25 @@ all_kept budget code k FrameDepth = record { each = k.shaped.each FrameDepth }
 all_kept budget code k Helper = record { each = k.shaped.each Helper }
 all_kept budget code k _ = record { each = λ slot insn g. refl }
 
-pub no_fault : (budget : ℕ) (code : List Insn) → KeepsBudget budget code → fault_of_shape budget code ≡ None
-unfolding fault_of_shape
+pub no_fault : (budget : ℕ) (code : List Insn) → KeepsBudget budget code → shape_fault budget code ≡ None
+unfolding shape_fault
 no_fault budget code k = kept_all budget code flow_rules (all_kept budget code k)
+
+-- ---- the rules of a shape have numbers below 20
+
+low_from : (budget : ℕ) (code : List Insn) (rules : List Rule) (slot : ℕ) (rule : Rule) → AllByRecursion (λ r. number_of r < 20) rules → first_broken budget code rules ≡ Some (slot, rule) → number_of rule < 20
+low_from budget code [] slot rule h e = absurd (cc e)
+low_from budget code (r ∷ rules) slot rule h e = go (least (λ slot insn. breaks_shape budget code slot insn r) 0 code) e (low_from budget code rules slot rule h.1)
+  where
+    go : (o : Option ℕ) → or_next o r (first_broken budget code rules) ≡ Some (slot, rule) → (first_broken budget code rules ≡ Some (slot, rule) → number_of rule < 20) → number_of rule < 20
+    go (Some s) g rest =
+        let same : ◌≡◌ {A = ℕ × Rule} (s, r) (slot, rule) = cc g in
+        subst (λ x. number_of x < 20) (ap (λ (p : ℕ × Rule). p.1) same) h.0
+    go None g rest = rest g
+
+low_rules : AllByRecursion (λ r. number_of r < 20) flow_rules
+low_rules = (omega arith, (omega arith, (omega arith, (omega arith, (omega arith, (omega arith, (omega arith, tt)))))))
+
+pub fault_low : (budget : ℕ) (code : List Insn) (slot : ℕ) (rule : Rule) → shape_fault budget code ≡ Some (slot, rule) → number_of rule < 20
+unfolding shape_fault
+fault_low budget code slot rule e = low_from budget code flow_rules slot rule low_rules e

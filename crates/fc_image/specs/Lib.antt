@@ -1,6 +1,4 @@
 pub mod Head
-pub mod Shape
-pub mod Longest
 pub mod Flow
 pub mod Paths
 pub mod Functions

@@ -96,5 +96,5 @@ abbrev pub first_broken : ℕ → List Insn → List Rule → Option (ℕ × Rul
 first_broken budget code [] = None
 first_broken budget code (rule ∷ rules) = or_next (least (λ slot insn. breaks_shape budget code slot insn rule) 0 code) rule (first_broken budget code rules)
 
-unfoldable pub fault_of_shape : ℕ → List Insn → Option (ℕ × Rule)
-fault_of_shape budget code = first_broken budget code flow_rules
+unfoldable pub shape_fault : ℕ → List Insn → Option (ℕ × Rule)
+shape_fault budget code = first_broken budget code flow_rules

@@ -1,11 +1,11 @@
-//! The rules of a program's control flow, in their order.
+//! The shape of a program: the rules of its control flow, in their order.
 ghost use Rattle.std.specs.Prelude.{IfErr, IfOk, List, MatchOption, None, Some, drop, false, length, not, slice_get, true, ℕ, ◌+◌, ◌-◌, ◌<◌, ◌||◌, ◌≡◌, ◌≤◌};
 ghost use Rattle.fc_isa.specs.declared.insn.Insn.{Insn as Instruction};
 ghost use Rattle.fc_image.specs.Flow.{call_offset, jump_offset, target};
 ghost use Rattle.fc_image.specs.Functions.{with_offset};
 ghost use Rattle.fc_image.specs.Judged.{AreTables};
 ghost use Rattle.fc_image.specs.Paths.{IsLongest, longest};
-ghost use Rattle.fc_image.specs.ShapeRules.{IsShaped, breaks_shape, calls_no_helper, fault_of_shape, first_broken, is_later, is_place, least, leaves};
+ghost use Rattle.fc_image.specs.ShapeRules.{IsShaped, breaks_shape, calls_no_helper, shape_fault, first_broken, is_later, is_place, least, leaves};
 
 use crate::flow::{call_offset, jump_offset, target};
 use crate::functions::{crosses, is_open_end};
@@ -18,12 +18,12 @@ use fc_isa::{Fault, Insn, Rule};
 ///
 /// # Errors
 /// The least rule, 11 to 17, that a slot breaks, with the least slot that breaks it.
-#[tactic(auto, unfolding(crate::specs::ShapeRules::fault_of_shape))]
+#[tactic(auto, unfolding(crate::specs::ShapeRules::shape_fault))]
 pub fn shape(head: &Head, code: &[Insn]) -> Result<u32, Fault>
     requires { length code.now ≡ head.now.count }
     ensures shape { IfOk result (λ cost. IsShaped code.now × IsLongest code.now cost × (cost ≤ head.now.budget)) }
-    ensures cost { IfOk result (λ cost. (fault_of_shape head.now.budget code.now ≡ None) × (cost ≡ longest code.now)) }
-    ensures fault { IfErr result (λ f. fault_of_shape head.now.budget code.now ≡ Some (f.slot, f.rule)) }
+    ensures cost { IfOk result (λ cost. (shape_fault head.now.budget code.now ≡ None) × (cost ≡ longest code.now)) }
+    ensures fault { IfErr result (λ f. shape_fault head.now.budget code.now ≡ Some (f.slot, f.rule)) }
 {
     // The checker learns from this call how many slots there are at most.
     let _slots = head.count();

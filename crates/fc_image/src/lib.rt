@@ -8,9 +8,9 @@ mod functions;
 pub mod header;
 pub mod laws;
 pub mod limits;
-pub mod shapes;
 mod table;
 
+pub use control_flow::shape;
 pub use header::{HEADER_SIZE, head};
 pub use limits::Head;
-pub use shapes::shape;
+

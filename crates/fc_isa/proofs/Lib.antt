@@ -7,4 +7,4 @@ pub mod Programs
 pub mod Slots
 pub mod First
 pub mod Steps
-pub mod Narrow
+pub mod Low

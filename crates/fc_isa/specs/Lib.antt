@@ -2,4 +2,3 @@ pub mod Rules
 pub mod Program
 pub mod Shapes
 pub mod Encoding
-pub mod Served

@@ -1,8 +1,9 @@
 //! What programs and their bytes are to one another, and what the table of forms says, for the crates above: each function
 //! is a law, and its contract says it.
-ghost use Rattle.std.specs.Prelude.{All, List, None, Option, Some, count_by, false, length, slice_index_or, true, ℕ, ◌*◌, ◌/◌, ◌≡◌};
-ghost use Rattle.fc_isa.specs.Encoding.{Fields, IsFirstFault, Spells, encoded, first_fault, program_of, slot_fault};
+ghost use Rattle.std.specs.Prelude.{All, List, None, Option, Some, count_by, false, length, slice_index_or, true, ℕ, ◌*◌, ◌/◌, ◌<◌, ◌≡◌};
+ghost use Rattle.fc_isa.specs.Encoding.{Fields, IsFirstFault, Spells, encoded, fault_at, first_fault, program_of, slot_fault};
 ghost use Rattle.fc_isa.specs.Program.{IsInsn, is_program};
+ghost use Rattle.fc_isa.specs.Rules.{number_of};
 ghost use Rattle.fc_isa.specs.declared.insn.Insn.{Insn};
 ghost use Rattle.fc_isa.specs.Shapes.{is_known, opcode_of, opcode_uses_dst, opcode_uses_imm, opcode_uses_offset, opcode_uses_src, shape_of, uses_dst, uses_imm, uses_offset, uses_src};
 ghost use Rattle.fc_isa.specs.declared.rule.Rule.{Rule};
@@ -24,10 +25,11 @@ pub fn spelled_bytes_are_faultless(bytes: &[u8])
     ensures one_program { (p : List Insn) → Spells bytes.now p → p ≡ program_of bytes.now }
 {}
 
-/// The fault of bytes is that of the first slot that has one, with the least rule that it breaks.
+/// The fault of bytes is that of the first slot that has one, with the least rule that it breaks: a rule below 20.
 pub fn first_fault_is_first(bytes: &[u8])
     ensures is_first { (rule : Rule) (slot : ℕ) → first_fault bytes.now ≡ Some (slot, rule) → IsFirstFault bytes.now rule slot }
     ensures only_first { (rule : Rule) (slot : ℕ) → IsFirstFault bytes.now rule slot → first_fault bytes.now ≡ Some (slot, rule) }
+    ensures low { (rule : Rule) (slot : ℕ) → fault_at bytes.now slot ≡ Some rule → number_of rule < 20 }
 {}
 
 /// The bytes that a program is written as are read as that program.

@@ -8,7 +8,6 @@ pub mod insn;
 pub mod laws;
 mod program;
 pub mod rule;
-pub mod served;
 pub mod shape;
 mod table;
 
@@ -20,6 +19,5 @@ pub use insn::{
 };
 pub use program::is_program;
 pub use rule::{Fault, Rule};
-pub use served::{Served, decode_served};
 pub use shape::{Shape, Source};
 pub use table::SHAPES;

@@ -1,3 +1,4 @@
+pub mod MeaningLaws
 pub mod IntervalsGrow
 pub mod IntervalsProper
 pub mod IntervalsRefined

@@ -13,7 +13,7 @@ use Rattle.fc_kinds.proofs.IntervalsRefined.{refined_narrower, refined_proper}
 use Rattle.fc_kinds.specs.declared.kind.Kind.{Kind}
 use Rattle.fc_kinds.specs.declared.kind.Kind.TheVariants.{Unset, Num, Stack, Req, Vars}
 use Rattle.fc_kinds.specs.Kinds.{kind_at, KindWithin, Within}
-use Rattle.fc_kinds.specs.Machine.{with_some}
+use Rattle.fc_kinds.specs.Values.{with_some}
 use Rattle.fc_kinds.specs.Transfer.{num, is_number, operand_kind}
 use Rattle.fc_kinds.specs.Refinement.{put_right, put_both, relation_of, refines, both_numbers, when}
 use Rattle.fc_kinds.specs.Lattice.{IsKind, AreKinds}

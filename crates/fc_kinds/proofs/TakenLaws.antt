@@ -17,7 +17,7 @@ use Rattle.fc_kinds.specs.Intervals.{interval, Inside, opposite, refined}
 use Rattle.fc_kinds.proofs.IntervalsRefined.{Leaves, refined_leaves}
 use Rattle.fc_kinds.specs.declared.kind.Kind.{Kind}
 use Rattle.fc_kinds.specs.declared.kind.Kind.TheVariants.{Unset, Num, Stack, Req, Vars}
-use Rattle.fc_kinds.specs.Machine.{Value, Number, value_at, with_some}
+use Rattle.fc_kinds.specs.Values.{Value, Number, value_at, with_some}
 use Rattle.fc_kinds.specs.Kinds.{kind_at, Contains, Holds}
 use Rattle.fc_kinds.specs.Transfer.{num, operand_kind}
 use Rattle.fc_kinds.specs.Refinement.{put_right, put_both, relation_of, refines_at, is_same, refines, both_numbers, when}

@@ -9,7 +9,7 @@ use Rattle.fc_isa.specs.declared.insn.Operand.TheVariants.{Imm, Reg}
 use Rattle.fc_isa.specs.Program.{IsInsn}
 use Rattle.fc_kinds.specs.declared.kind.Kind.{Kind}
 use Rattle.fc_kinds.specs.Kinds.{kind_at, Within}
-use Rattle.fc_kinds.specs.Machine.{with_some}
+use Rattle.fc_kinds.specs.Values.{with_some}
 use Rattle.fc_kinds.specs.Lattice.{AreKinds}
 use Rattle.fc_kinds.specs.Transfer.{is_number, operand_kind, where_met, transfer}
 use Rattle.fc_kinds.specs.Refinement.{when}

@@ -2,7 +2,7 @@
 use Rattle.std.specs.Prelude.{◌≡◌, ℕ, ◌+◌, ◌≤◌, ◌≤ℤ◌, List, slice_index_or}
 use Rattle.fc_kinds.specs.declared.kind.Kind.{Kind}
 use Rattle.fc_kinds.specs.declared.kind.Kind.TheVariants.{Unset, Num, Stack, Req, Vars}
-use Rattle.fc_kinds.specs.Machine.{Value, Number, Pointer, Frame, Asked, Variables, value_at}
+use Rattle.fc_kinds.specs.Values.{Value, Number, Pointer, Frame, Asked, Variables, value_at}
 
 abbrev pub kind_at : List Kind → ℕ → Kind
 kind_at kinds r = slice_index_or kinds r Unset

@@ -4,7 +4,7 @@ use Rattle.fc_isa.specs.declared.insn.Width.TheVariants.{W64}
 use Rattle.fc_isa.specs.declared.insn.Jump.{Jump}
 use Rattle.fc_kinds.specs.declared.kind.Kind.{Kind}
 use Rattle.fc_kinds.specs.Kinds.{Holds, Within, kind_at}
-use Rattle.fc_kinds.specs.Machine.{Value, Number, value_at}
+use Rattle.fc_kinds.specs.Values.{Value, Number, value_at}
 use Rattle.fc_kinds.specs.Transfer.{is_number, operand_kind}
 use Rattle.fc_kinds.specs.Operations.{operand_value}
 use Rattle.fc_kinds.specs.Lattice.{AreKinds}

@@ -1,15 +1,13 @@
-pub mod Machine
-pub mod Meaning
+pub mod Values
 pub mod Kinds
-pub mod Effects
 pub mod Typing
 pub mod Intervals
 pub mod Lattice
 pub mod Transfer
 pub mod Refinement
 pub mod Ways
-pub mod WellTyped
 pub mod Laws
 pub mod Operations
 pub mod Execution
 pub mod Soundness
+pub mod Meaning

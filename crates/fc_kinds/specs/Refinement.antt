@@ -10,7 +10,7 @@ use Rattle.fc_kinds.specs.declared.interval.Interval.{Interval}
 use Rattle.fc_kinds.specs.Intervals.{interval, refined, opposite}
 use Rattle.fc_kinds.specs.declared.kind.Kind.{Kind}
 use Rattle.fc_kinds.specs.declared.kind.Kind.TheVariants.{Num}
-use Rattle.fc_kinds.specs.Machine.{with_some}
+use Rattle.fc_kinds.specs.Values.{with_some}
 use Rattle.fc_kinds.specs.Kinds.{kind_at}
 use Rattle.fc_kinds.specs.Transfer.{num, operand_kind}
 

@@ -22,7 +22,7 @@ use Rattle.fc_kinds.specs.declared.interval.Interval.{Interval}
 use Rattle.fc_kinds.specs.Intervals.{interval, all, alu_interval, extended_values}
 use Rattle.fc_kinds.specs.declared.kind.Kind.{Kind}
 use Rattle.fc_kinds.specs.declared.kind.Kind.TheVariants.{Unset, Num, Stack, Req, Vars}
-use Rattle.fc_kinds.specs.Machine.{with_some}
+use Rattle.fc_kinds.specs.Values.{with_some}
 use Rattle.fc_kinds.specs.Kinds.{kind_at}
 
 abbrev pub num : Interval → Kind

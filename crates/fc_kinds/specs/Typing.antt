@@ -1,11 +1,10 @@
--- Typings: a state of kinds for slots of a program, such that each run keeps to them.
+-- Typings: kinds for slots of a program, such that what each instruction hands on is contained in its successors'.
 use Rattle.std.specs.Prelude.{◌≡◌, ℕ, ◌+◌, pos, List, [], ◌∷◌, Option, Some, None, slice_get, slice_index_or}
-use Rattle.fc_isa.specs.declared.served.Served.{Served}
-use Rattle.fc_isa.specs.declared.served.Served.TheVariants.{MovImm, Exit}
+use Rattle.fc_isa.specs.declared.insn.Insn.{Insn}
 use Rattle.fc_kinds.specs.declared.kind.Kind.{Kind}
 use Rattle.fc_kinds.specs.declared.kind.Kind.TheVariants.{Unset, Num, Stack, Req, Vars}
 use Rattle.fc_kinds.specs.Kinds.{Within}
-use Rattle.fc_kinds.specs.Effects.{effect}
+use Rattle.fc_kinds.specs.Ways.{Way, ways}
 
 -- the kinds at a program's entry
 abbrev pub entry : List Kind
@@ -24,18 +23,18 @@ pub record Leads (states : States) (slot : ℕ) (kinds : List Kind) : Type 0 whe
   pub state_is : state_at states slot ≡ Some state
   pub within : Within kinds state
 
--- where an instruction leads, its kinds are contained in the state
-abbrev pub Continues : States → ℕ → Served → List Kind → Type 0
-Continues states slot (MovImm dst imm) kinds = Leads states (slot + 1) kinds
-Continues states slot Exit kinds = Unit {0}
+-- the kinds on each way are contained in the state of the slot that it leads to
+abbrev pub AllLead : States → ℕ → List Way → Type 0
+AllLead states slot [] = Unit {0}
+AllLead states slot (w ∷ ws) = Leads states (slot + 1 + w.skip) w.kinds × AllLead states slot ws
 
--- at a slot with this state the instruction's demands are met, and its effect is contained in what follows
-pub record IsFine (states : States) (slot : ℕ) (insn : Served) (kinds : List Kind) : Type 0 where
-  pub after : List Kind
-  pub effect_is : effect insn kinds ≡ Some after
-  pub continues : Continues states slot insn after
+-- at a slot with these kinds the instruction's demands are met, and each of its ways leads to a state that contains it
+pub record IsWellTypedAt (vars : ℕ) (states : States) (slot : ℕ) (insn : Insn) (kinds : List Kind) : Type 0 where
+  pub handed : List Way
+  pub ways_are : ways vars insn kinds ≡ Some handed
+  pub lead : AllLead states slot handed
 
--- the states are a typing of the program
-pub record IsTyping (code : List Served) (states : States) : Type 0 where
+-- the states are a typing of the program, whose variables have this size; a slot without a state is never reached
+pub record IsTypingOf (vars : ℕ) (code : List Insn) (states : States) : Type 0 where
   pub entered : Leads states 0 entry
-  pub each : (slot : ℕ) (insn : Served) (kinds : List Kind) → slice_get code slot ≡ Some insn → state_at states slot ≡ Some kinds → IsFine states slot insn kinds
+  pub each : (slot : ℕ) (insn : Insn) (kinds : List Kind) → slice_get code slot ≡ Some insn → state_at states slot ≡ Some kinds → IsWellTypedAt vars states slot insn kinds

@@ -5,7 +5,7 @@ use Rattle.fc_isa.specs.declared.insn.Insn.TheVariants.{LoadWide, WideSecond, Ju
 use Rattle.fc_kinds.specs.declared.kind.Kind.{Kind}
 use Rattle.fc_kinds.specs.Kinds.{Within}
 use Rattle.fc_kinds.specs.Lattice.{AreKinds}
-use Rattle.fc_kinds.specs.Machine.{with_some}
+use Rattle.fc_kinds.specs.Values.{with_some}
 use Rattle.fc_kinds.specs.Transfer.{transfer, enter}
 use Rattle.fc_kinds.specs.Refinement.{when}
 

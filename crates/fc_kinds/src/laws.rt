@@ -5,11 +5,13 @@ ghost use Rattle.fc_isa.specs.declared.insn.Insn.{Insn};
 ghost use Rattle.fc_isa.specs.declared.insn.Insn.TheVariants.{JumpIf};
 ghost use Rattle.fc_isa.specs.declared.insn.Jump.{Jump};
 ghost use Rattle.fc_alu.specs.Comparison.{truth};
+ghost use Rattle.fc_help.specs.Request.{Request};
 ghost use Rattle.fc_kinds.specs.Execution.{Config, act, depth};
 ghost use Rattle.fc_kinds.specs.Kinds.{Holds, Within};
 ghost use Rattle.fc_kinds.specs.Lattice.{AreKinds, joined};
 ghost use Rattle.fc_kinds.specs.Laws.{AreNarrowerWays, ComparesNumbers, IsNarrowerState, IsNarrowerWay, IsOpenTo, TakesNumbers};
-ghost use Rattle.fc_kinds.specs.Machine.{Value};
+ghost use Rattle.fc_kinds.specs.Values.{Value};
+ghost use Rattle.fc_kinds.specs.Meaning.{Meaning, Means, Program};
 ghost use Rattle.fc_kinds.specs.Refinement.{when};
 ghost use Rattle.fc_kinds.specs.Soundness.{IsConfig, StaysInFunction, StepsAlong};
 ghost use Rattle.fc_kinds.specs.Transfer.{enter, transfer};
@@ -65,4 +67,9 @@ pub fn effects_contain_the_step()
 /// The way that a conditional jump takes is open where the kinds contain the values, and its kinds contain them.
 pub fn refinement_keeps_what_takes_the_way()
     ensures { (jump : Jump) (depth : ℕ) (ks : List What) (values : List Value) (x y : ℕ) → TakesNumbers jump values x y → Holds depth ks values → IsOpenTo depth (when jump (truth jump x y) ks) values }
+{}
+
+/// A run has at most one meaning.
+pub fn runs_have_one_meaning()
+    ensures { (p : Program) (request : Request) (vars : List ℕ) (m n : Meaning) → Means p request vars m → Means p request vars n → m ≡ n }
 {}

@@ -6,7 +6,6 @@
 
 mod arithmetic;
 pub mod calls;
-pub mod effect;
 pub mod interval;
 pub mod kind;
 pub mod lattice;
@@ -18,7 +17,7 @@ pub mod refinement;
 pub mod transfer;
 
 pub use calls::enter;
-pub use effect::after;
 pub use kind::{ENTRY, Kind, Regs};
 pub use lattice::join;
 pub use refinement::when;
+pub use transfer::after;

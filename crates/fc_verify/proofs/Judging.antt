@@ -1,28 +1,37 @@
 -- The judgement of an image, by what each step finds.
-use Rattle.std.proofs.Common.{◌≡◌, ℕ, ◌<◌, ◌/◌, true, false, List, length, Option, Some, None, Result, Ok, Err, refl, sym, ap, ◌∙◌, subst, arith}
+use Rattle.std.proofs.Common.{◌≡◌, ℕ, ◌<◌, ◌≤◌, ◌/◌, Bool, true, false, List, length, Option, Some, None, Result, Ok, Err, refl, sym, ap, ◌∙◌, subst, arith}
 use Rattle.std.proofs.lemmas.List.{length-drop}
-use Rattle.std.specs.Prelude.{IfErr}
+use Rattle.std.proofs.lemmas.Option.{slice_get_within, get_or_from_slice_get}
+use Rattle.std.specs.Prelude.{IfErr, slice_get, All}
 use Rattle.std.specs.Result.{IsErrAnd}
-use Rattle.fc_isa.specs.declared.served.Served.{Served}
+use Rattle.fc_isa.specs.declared.insn.Insn.{Insn}
 use Rattle.fc_isa.specs.declared.rule.Rule.{Rule}
-use Rattle.fc_isa.specs.declared.rule.Rule.TheVariants.{ExitValue}
 use Rattle.fc_isa.specs.declared.rule.Fault.{Fault}
 use Rattle.fc_isa.specs.declared.decoding.DecodeError.{DecodeError}
 use Rattle.fc_isa.specs.declared.decoding.DecodeError.TheVariants.{Fault as FaultAt, NoMemory as NoRoom}
+use Rattle.fc_isa.specs.Encoding.{Spells, program_of}
+use Rattle.fc_isa.specs.Program.{IsInsn}
 use Rattle.fc_isa.specs.Rules.{number_of}
-use Rattle.fc_isa.specs.Served.{IsFirstRefused, IsRefusedBy, SpellsServed, first_refused, served_program}
-use Rattle.fc_image.specs.Longest.{longest}
+use Rattle.fc_isa.proofs.Slots.{spelled_once, length-insns_below}
 use Rattle.fc_image.specs.Head.{Head, head_fault, stated}
-use Rattle.fc_image.specs.Shape.{shape_fault}
-use Rattle.fc_kinds.specs.Typing.{entry}
+use Rattle.fc_image.specs.Paths.{longest}
+use Rattle.fc_image.specs.ShapeRules.{IsShaped, shape_fault}
 use Rattle.fc_verify.specs.declared.refusal.Refusal.{Refusal}
 use Rattle.fc_verify.specs.declared.refusal.Refusal.TheVariants.{Broken}
 use Rattle.fc_verify.specs.Accepted.{Judgement, Accepts, Breaks, Untypable, slots_of}
-use Rattle.fc_verify.specs.Judged.{is_typable, program_in, judged}
+use Rattle.fc_verify.specs.Calls.{HasNoCall, IsRefusedBy, first_refused}
+use Rattle.fc_verify.specs.Judged.{code_in, program_in, judged}
+use Rattle.fc_verify.specs.Pass.{beginning, is_typable}
 use Rattle.fc_verify.specs.Refusals.{IsFaultOf, IsRefusal, refusal_of}
+use Rattle.fc_verify.specs.Runs.{IsNoCall, IsUntypedProgram}
+use Rattle.fc_verify.specs.Stages.{IsHeadOf, IsCodeOf, IsTypingFault}
 use Rattle.fc_verify.specs.Verified.{program_of as program}
-use Rattle.fc_verify.specs.Stages.{IsHeadOf, IsCodeOf}
-use Rattle.fc_verify.proofs.Low.{head_rule_low, shape_rule_low}
+use Rattle.fc_verify.proofs.CallLaws.{first_refused_is, low_refused, program_no_call}
+use Rattle.fc_verify.proofs.LowHead.{head_rule_low}
+
+-- the typing's judgement of the program in an image
+abbrev pub types : List ℕ → Bool
+types image = is_typable (stated image).vars_size (code_in image) (beginning (code_in image))
 
 pub judged_head : (image : List ℕ) (rule : Rule) → head_fault image ≡ Some rule → judged image ≡ Breaks rule 0
 unfolding judged
@@ -32,15 +41,15 @@ pub judged_slots : (image : List ℕ) (rule : Rule) (slot : ℕ) → head_fault 
 unfolding judged
 judged_slots image rule slot e f = rw (e, f) refl
 
-pub judged_shape : (image : List ℕ) (rule : Rule) (slot : ℕ) → head_fault image ≡ None → first_refused (slots_of image) ≡ None → shape_fault (stated image).budget (served_program (slots_of image)) ≡ Some (slot, rule) → judged image ≡ Breaks rule slot
+pub judged_shape : (image : List ℕ) (rule : Rule) (slot : ℕ) → head_fault image ≡ None → first_refused (slots_of image) ≡ None → shape_fault (stated image).budget (code_in image) ≡ Some (slot, rule) → judged image ≡ Breaks rule slot
 unfolding judged
 judged_shape image rule slot e f s = rw (e, f, s) refl
 
-pub judged_untypable : (image : List ℕ) → head_fault image ≡ None → first_refused (slots_of image) ≡ None → shape_fault (stated image).budget (served_program (slots_of image)) ≡ None → is_typable (served_program (slots_of image)) entry ≡ false → judged image ≡ Untypable
+pub judged_untypable : (image : List ℕ) → head_fault image ≡ None → first_refused (slots_of image) ≡ None → shape_fault (stated image).budget (code_in image) ≡ None → types image ≡ false → judged image ≡ Untypable
 unfolding judged
 judged_untypable image e f s t = rw (e, f, s, t) refl
 
-pub judged_accepts : (image : List ℕ) → head_fault image ≡ None → first_refused (slots_of image) ≡ None → shape_fault (stated image).budget (served_program (slots_of image)) ≡ None → is_typable (served_program (slots_of image)) entry ≡ true → judged image ≡ Accepts (program_in image)
+pub judged_accepts : (image : List ℕ) → head_fault image ≡ None → first_refused (slots_of image) ≡ None → shape_fault (stated image).budget (code_in image) ≡ None → types image ≡ true → judged image ≡ Accepts (program_in image)
 unfolding judged
 judged_accepts image e f s t = rw (e, f, s, t) refl
 
@@ -55,37 +64,65 @@ fault_of image j f e h = subst (λ k. IsFaultOf image k f) (sym e) h
 pub refused_head : (image : List ℕ) (f : Fault) → head_fault image ≡ Some f.rule → f.slot ≡ 0 → IsRefusal image (Broken f)
 refused_head image f e z = fault_of image (Breaks f.rule 0) f (judged_head image f.rule e) (refl, z, head_rule_low image f.rule e)
 
-pub code_found : (image : List ℕ) (head : Head) (code : List Served) → IsHeadOf image head → code ≡ served_program (slots_of image) → first_refused (slots_of image) ≡ None → SpellsServed (slots_of image) code
-    → length (served_program (slots_of image)) ≡ length (slots_of image) / 8 → IsCodeOf image code
-code_found image head code h e f s n = record {
+-- an instruction for each eight bytes
+pub code_count : (image : List ℕ) → length (code_in image) ≡ length (slots_of image) / 8
+unfolding program_of
+code_count image = length-insns_below (slots_of image) (length (slots_of image) / 8)
+
+pub code_found : (image : List ℕ) (head : Head) (code : List Insn) → IsHeadOf image head → code ≡ code_in image → first_refused (slots_of image) ≡ None → Spells (slots_of image) code → HasNoCall (slots_of image)
+    → IsCodeOf image code
+code_found image head code h e f s none = record {
   fault = f;
   code_is = e;
   spelled = s;
-  count = let c = ap (λ x. x.count) h.stated_is in omega (arith, ap length e, n, length-drop 16 image, h.size, c);
+  calls = none;
+  count = let c = ap (λ x. x.count) h.stated_is in omega (arith, ap length e, code_count image, length-drop 16 image, h.size, c);
 }
 
-pub refused_decode : (image : List ℕ) (head : Head) (e : DecodeError) → IsHeadOf image head → ((rule : Rule) (slot : ℕ) → IsFirstRefused (slots_of image) rule slot → first_refused (slots_of image) ≡ Some (slot, rule)) → ((rule : Rule) (slot : ℕ) → first_refused (slots_of image) ≡ Some (slot, rule) → number_of rule < 20) → IsRefusedBy (slots_of image) e → IsRefusal image (refusal_of e)
-refused_decode image head (FaultAt f) h only low d = fault_of image (Breaks f.rule f.slot) f (judged_slots image f.rule f.slot h.fault (only f.rule f.slot d)) (refl, refl, low f.rule f.slot (only f.rule f.slot d))
-refused_decode image head NoRoom h only low d = h.fault
+pub refused_decode : (image : List ℕ) (head : Head) (e : DecodeError) → IsHeadOf image head → IsRefusedBy (slots_of image) e → IsRefusal image (refusal_of e)
+refused_decode image head (FaultAt f) h d =
+    fault_of image (Breaks f.rule f.slot) f (judged_slots image f.rule f.slot h.fault (first_refused_is (slots_of image) f.rule f.slot d)) (refl, refl, low_refused (slots_of image) f.rule f.slot d)
+refused_decode image head NoRoom h d = h.fault
 
--- the shape's fault of the program in the image
-pub shape_of : (image : List ℕ) (head : Head) (code : List Served) (o : Option (ℕ × Rule)) → IsHeadOf image head → IsCodeOf image code → shape_fault head.budget code ≡ o → shape_fault (stated image).budget (served_program (slots_of image)) ≡ o
-shape_of image head code o h k e = ap (λ x. shape_fault x.budget (served_program (slots_of image))) (sym h.stated_is) ∙ ap (shape_fault head.budget) (sym k.code_is) ∙ e
+-- ---- a program without calls
 
-pub refused_shape : (image : List ℕ) (head : Head) (code : List Served) (f : Fault) → IsHeadOf image head → IsCodeOf image code → shape_fault head.budget code ≡ Some (f.slot, f.rule) → IsRefusal image (Broken f)
-refused_shape image head code f h k e =
-    fault_of image (Breaks f.rule f.slot) f (judged_shape image f.rule f.slot h.fault k.fault (shape_of image head code (Some (f.slot, f.rule)) h k e)) (refl, refl, shape_rule_low head.budget code f.slot f.rule e)
+insn_there : (code : List Insn) (slot : ℕ) (insn : Insn) → All IsInsn code → slice_get code slot ≡ Some insn → IsInsn insn
+insn_there code slot insn h e = subst IsInsn (get_or_from_slice_get code slot insn insn e) (h slot insn (slice_get_within code slot insn e))
 
-pub refused_typing : (image : List ℕ) (head : Head) (code : List Served) (f : Fault) → IsHeadOf image head → IsCodeOf image code → shape_fault head.budget code ≡ None → is_typable code entry ≡ false → f.rule ≡ ExitValue → f.slot < (stated image).count → IsRefusal image (Broken f)
-refused_typing image head code f h k s t r lt =
-    let n : number_of f.rule ≡ 25 = ap number_of r in
-    fault_of image Untypable f
-    (judged_untypable image h.fault k.fault (shape_of image head code None h k s) (subst (λ p. is_typable p entry ≡ false) k.code_is t))
-    (omega (arith, n), omega (arith, n), lt)
+pub untyped_program : (bytes : List ℕ) (code : List Insn) → 1 ≤ length code → Spells bytes code → HasNoCall bytes → IsShaped code → IsUntypedProgram code
+untyped_program bytes code some s none shaped = record {
+  some = some;
+  insns = λ slot insn e. insn_there code slot insn s.insns e;
+  calls = λ slot insn e. program_no_call bytes none slot insn (subst (λ p. slice_get p slot ≡ Some insn) (spelled_once bytes code s) e);
+  shaped = shaped;
+}
 
-pub accepts_is : (image : List ℕ) (head : Head) (code : List Served) (cost : ℕ) → IsHeadOf image head → IsCodeOf image code → shape_fault head.budget code ≡ None → cost ≡ longest code → is_typable code entry ≡ true → judged image ≡ Accepts (program code head.vars_size head.budget cost)
+pub untyped_of : (image : List ℕ) (head : Head) (code : List Insn) → IsHeadOf image head → IsCodeOf image code → IsShaped code → IsUntypedProgram code
+untyped_of image head code h k s =
+    let c = ap (λ x. x.count) h.stated_is in
+    untyped_program (slots_of image) code (omega (arith, h.limits.some, c, k.count)) k.spelled k.calls s
+
+-- the shape's fault of the program in the image, and its typing's judgement
+pub shape_of : (image : List ℕ) (head : Head) (code : List Insn) (o : Option (ℕ × Rule)) → IsHeadOf image head → IsCodeOf image code → shape_fault head.budget code ≡ o → shape_fault (stated image).budget (code_in image) ≡ o
+shape_of image head code o h k e = ap (λ x. shape_fault x.budget (code_in image)) (sym h.stated_is) ∙ ap (shape_fault head.budget) (sym k.code_is) ∙ e
+
+pub types_of : (image : List ℕ) (head : Head) (code : List Insn) (b : Bool) → IsHeadOf image head → IsCodeOf image code → is_typable head.vars_size code (beginning code) ≡ b → types image ≡ b
+types_of image head code b h k e =
+    ap (λ x. is_typable x.vars_size (code_in image) (beginning (code_in image))) (sym h.stated_is) ∙ ap (λ x. is_typable head.vars_size x (beginning x)) (sym k.code_is) ∙ e
+
+pub refused_shape : (image : List ℕ) (head : Head) (code : List Insn) (f : Fault) → IsHeadOf image head → IsCodeOf image code → shape_fault head.budget code ≡ Some (f.slot, f.rule) → number_of f.rule < 20 → IsRefusal image (Broken f)
+refused_shape image head code f h k e low =
+    fault_of image (Breaks f.rule f.slot) f (judged_shape image f.rule f.slot h.fault k.fault (shape_of image head code (Some (f.slot, f.rule)) h k e)) (refl, refl, low)
+
+pub refused_typing : (image : List ℕ) (head : Head) (code : List Insn) (f : Fault) → IsHeadOf image head → IsCodeOf image code → shape_fault head.budget code ≡ None → is_typable head.vars_size code (beginning code) ≡ false → IsTypingFault code f → IsRefusal image (Broken f)
+refused_typing image head code f h k s t r =
+    fault_of image Untypable f (judged_untypable image h.fault k.fault (shape_of image head code None h k s) (types_of image head code false h k t))
+    (r.from, r.upto, omega (arith, r.within, k.count))
+
+pub accepts_is : (image : List ℕ) (head : Head) (code : List Insn) (cost : ℕ) → IsHeadOf image head → IsCodeOf image code → shape_fault head.budget code ≡ None → cost ≡ longest code → is_typable head.vars_size code (beginning code) ≡ true
+    → judged image ≡ Accepts (program code head.vars_size head.budget cost)
 accepts_is image head code cost h k s l t =
-    judged_accepts image h.fault k.fault (shape_of image head code None h k s) (subst (λ p. is_typable p entry ≡ true) k.code_is t)
-    ∙ ap (λ x. Accepts (program (served_program (slots_of image)) x.vars_size x.budget (longest (served_program (slots_of image))))) (sym h.stated_is)
+    judged_accepts image h.fault k.fault (shape_of image head code None h k s) (types_of image head code true h k t)
+    ∙ ap (λ x. Accepts (program (code_in image) x.vars_size x.budget (longest (code_in image)))) (sym h.stated_is)
     ∙ ap (λ x. Accepts (program x head.vars_size head.budget (longest x))) (sym k.code_is)
     ∙ ap (λ x. Accepts (program code head.vars_size head.budget x)) (sym l)

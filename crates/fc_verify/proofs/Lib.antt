@@ -1,10 +1,10 @@
-pub mod KindLaws
-pub mod Sound
-pub mod Exact
+pub mod CallLaws
+pub mod LowHead
+pub mod PassLaws
+pub mod RunLaws
 pub mod Judging
 pub mod Right
-pub mod Low
-pub mod PassLaws
+pub mod SameCode
+pub mod Sound
 mod Rows
-pub mod RunLaws
 pub mod Lowered

@@ -13,12 +13,12 @@ use Rattle.fc_kinds.specs.declared.kind.Kind.{Kind}
 use Rattle.fc_kinds.specs.Kinds.{kind_at, Within}
 use Rattle.fc_kinds.specs.Lattice.{IsKind, AreKinds, joined}
 use Rattle.fc_kinds.specs.Laws.{AreNarrowerWays}
-use Rattle.fc_kinds.specs.Machine.{with_some}
+use Rattle.fc_kinds.specs.Values.{with_some}
 use Rattle.fc_kinds.specs.Refinement.{when}
 use Rattle.fc_kinds.specs.Transfer.{transfer}
 use Rattle.fc_kinds.specs.Typing.{States, state_at, Leads, entry}
 use Rattle.fc_kinds.specs.Ways.{Way, way_where, skipped, ways_after, ways, IsAmong, AreAmong, AreHeld}
-use Rattle.fc_kinds.specs.WellTyped.{AllLead, IsWellTypedAt, IsTypingOf}
+use Rattle.fc_kinds.specs.Typing.{AllLead, IsWellTypedAt, IsTypingOf}
 use Rattle.fc_verify.specs.Pass.{joined_in, led, passed, types_on, is_typable, states_on, forward, beginning, AreProper, Stays, StayIn}
 
 -- the laws of kinds
@@ -160,7 +160,7 @@ ways_below n (JumpAlwaysLong offset) before after h = (h.1, tt)
 ways_below n (JumpIf j) before after h =
     below_both n (way_where (skipped j.offset) (when j true after)) (way_where 0 (when j false after))
     (below_where n (skipped j.offset) (when j true after) h.0.1) (below_where n 0 (when j false after) h.1)
-ways_below n (CallHelper number) before after h = (h, tt)
+ways_below n (CallHelper number) before after h = absurd h
 ways_below n (CallLocal offset) before after h = absurd h
 ways_below n Exit before after h = tt
 

@@ -1,29 +1,30 @@
 -- Which images are accepted, and what is wrong first with the others.
-use Rattle.std.specs.Prelude.{◌≡◌, ℕ, ◌-◌, ◌<◌, ◌≤◌, List, length, drop, Some, None, ◌⊎◌}
+use Rattle.std.specs.Prelude.{◌≡◌, ℕ, ◌≤◌, List, drop, Some, None, ◌⊎◌}
 use Rattle.fc_isa.specs.declared.rule.Rule.{Rule}
-use Rattle.fc_isa.specs.declared.rule.Rule.TheVariants.{Boundary, Cost}
-use Rattle.fc_isa.specs.Served.{SpellsServed, IsFirstRefused}
+use Rattle.fc_isa.specs.Encoding.{Spells}
 use Rattle.fc_image.specs.Head.{head_fault, stated}
-use Rattle.fc_image.specs.Shape.{HasShape}
-use Rattle.fc_image.specs.Longest.{IsLongest}
+use Rattle.fc_image.specs.Paths.{IsLongest}
+use Rattle.fc_image.specs.ShapeRules.{IsShapeFault, IsShaped}
 use Rattle.fc_kinds.specs.Meaning.{Program}
-use Rattle.fc_kinds.specs.Typing.{States, IsTyping}
+use Rattle.fc_kinds.specs.Typing.{States, IsTypingOf}
+use Rattle.fc_verify.specs.Calls.{HasNoCall, IsFirstRefused}
 
 -- the slots of an image: what stands behind its header
 abbrev pub slots_of : List ℕ → List ℕ
 slots_of image = drop 16 image
 
--- the image keeps the header's rules, and its slots spell this program
+-- the image keeps the header's rules, and its slots spell this program, without calls
 pub record IsProgramOf (image : List ℕ) (p : Program) : Type 0 where
   pub head : head_fault image ≡ None
-  pub code : SpellsServed (slots_of image) p.code
+  pub code : Spells (slots_of image) p.code
+  pub calls : HasNoCall (slots_of image)
   pub vars_size : p.vars_size ≡ (stated image).vars_size
   pub budget : p.budget ≡ (stated image).budget
 
 -- its shape is kept too, and its longest path is within the budget
 pub record IsShapely (image : List ℕ) (p : Program) : Type 0 where
   pub program : IsProgramOf image p
-  pub shape : HasShape p.code
+  pub shape : IsShaped p.code
   pub cost : IsLongest p.code p.cost
   pub within : p.cost ≤ p.budget
 
@@ -31,25 +32,13 @@ pub record IsShapely (image : List ℕ) (p : Program) : Type 0 where
 pub record IsAccepted (image : List ℕ) (p : Program) : Type 0 where
   pub shapely : IsShapely image p
   pub states : States
-  pub typing : IsTyping p.code states
+  pub typing : IsTypingOf p.vars_size p.code states
 
--- the program's last instruction is no exit, which is rule 13 at its slot
-pub record BreaksBoundary (image : List ℕ) (rule : Rule) (slot : ℕ) : Type 0 where
+-- the program's shape breaks a rule, and this one first
+pub record BreaksShape (image : List ℕ) (rule : Rule) (slot : ℕ) : Type 0 where
   pub p : Program
   pub program : IsProgramOf image p
-  pub rule_is : rule ≡ Boundary
-  pub slot_is : slot ≡ length p.code - 1
-  pub open_ended : HasShape p.code → ⊥
-
--- the longest path is above the budget, which is rule 16 at slot 0
-pub record BreaksCost (image : List ℕ) (rule : Rule) (slot : ℕ) : Type 0 where
-  pub p : Program
-  pub program : IsProgramOf image p
-  pub rule_is : rule ≡ Cost
-  pub slot_is : slot ≡ 0
-  pub shape : HasShape p.code
-  pub cost : IsLongest p.code p.cost
-  pub above : p.budget < p.cost
+  pub fault : IsShapeFault p.budget p.code slot rule
 
 -- a slot breaks a rule of the encoding
 pub record BreaksSlot (image : List ℕ) (rule : Rule) (slot : ℕ) : Type 0 where
@@ -65,7 +54,7 @@ pub record BreaksHead (image : List ℕ) (rule : Rule) (slot : ℕ) : Type 0 whe
 pub record IsUntypable (image : List ℕ) : Type 0 where
   pub p : Program
   pub shapely : IsShapely image p
-  pub untyped : (states : States) → IsTyping p.code states → ⊥
+  pub untyped : (states : States) → IsTypingOf p.vars_size p.code states → ⊥
 
 -- what is to be said of an image: the program that it is accepted as, the rule that it breaks first with its slot,
 -- or that only the typing is missing
@@ -76,5 +65,5 @@ pub data Judgement : Type 0 where
 
 abbrev pub Judges : List ℕ → Judgement → Type 0
 Judges image (Accepts p) = IsAccepted image p
-Judges image (Breaks rule slot) = BreaksHead image rule slot ⊎ (BreaksSlot image rule slot ⊎ (BreaksBoundary image rule slot ⊎ BreaksCost image rule slot))
+Judges image (Breaks rule slot) = BreaksHead image rule slot ⊎ (BreaksSlot image rule slot ⊎ BreaksShape image rule slot)
 Judges image Untypable = IsUntypable image

@@ -1,9 +1,9 @@
+pub mod Calls
 pub mod Accepted
-pub mod Judged
-pub mod Refusals
-pub mod Verified
-pub mod Forward
-pub mod Stages
 pub mod Pass
+pub mod Judged
+pub mod Stages
+pub mod Refusals
 pub mod Runs
+pub mod Verified
 pub mod Ops

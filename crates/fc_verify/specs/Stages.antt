@@ -1,19 +1,31 @@
 -- What the steps of a verification find of an image, one after the other.
-use Rattle.std.specs.Prelude.{◌≡◌, ℕ, ◌+◌, ◌*◌, List, length, None}
-use Rattle.fc_isa.specs.declared.served.Served.{Served}
-use Rattle.fc_isa.specs.Served.{SpellsServed, first_refused, served_program}
-use Rattle.fc_image.specs.Head.{Head, head_fault, stated}
+use Rattle.std.specs.Prelude.{◌≡◌, ℕ, ◌+◌, ◌*◌, ◌<◌, ◌≤◌, List, length, None}
+use Rattle.fc_isa.specs.declared.insn.Insn.{Insn}
+use Rattle.fc_isa.specs.declared.rule.Fault.{Fault}
+use Rattle.fc_isa.specs.Encoding.{Spells}
+use Rattle.fc_isa.specs.Rules.{number_of}
+use Rattle.fc_image.specs.Head.{Head, IsHead, head_fault, stated}
 use Rattle.fc_verify.specs.Accepted.{slots_of}
+use Rattle.fc_verify.specs.Calls.{HasNoCall, first_refused}
+use Rattle.fc_verify.specs.Judged.{code_in}
 
 -- the header breaks no rule, and says this
 pub record IsHeadOf (image : List ℕ) (head : Head) : Type 0 where
   pub fault : head_fault image ≡ None
   pub stated_is : head ≡ stated image
   pub size : length image ≡ 16 + 8 * head.count
+  pub limits : IsHead head
 
 -- the slots break no rule, and spell this program
-pub record IsCodeOf (image : List ℕ) (code : List Served) : Type 0 where
+pub record IsCodeOf (image : List ℕ) (code : List Insn) : Type 0 where
   pub fault : first_refused (slots_of image) ≡ None
-  pub code_is : code ≡ served_program (slots_of image)
-  pub spelled : SpellsServed (slots_of image) code
+  pub code_is : code ≡ code_in image
+  pub spelled : Spells (slots_of image) code
+  pub calls : HasNoCall (slots_of image)
   pub count : length code ≡ (stated image).count
+
+-- a rule of typings, at a slot of the program
+pub record IsTypingFault (code : List Insn) (f : Fault) : Type 0 where
+  pub from : 20 ≤ number_of f.rule
+  pub upto : number_of f.rule ≤ 27
+  pub within : f.slot < length code

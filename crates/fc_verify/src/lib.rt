@@ -2,12 +2,12 @@
 //! some typing of its registers exists. Then it runs with no check left in its loop.
 #![tactic(auto)]
 
+mod calls;
 pub mod laws;
 pub mod lowering;
 pub mod op;
 pub mod pass;
 pub mod refusal;
-mod typing;
 pub mod verified;
 pub mod verifying;
 

@@ -3,28 +3,23 @@ ghost use Rattle.std.specs.Prelude.{IfErr, IfOk, List, None, Some, [], false, le
 ghost use Rattle.std.specs.List.{AllByRecursion};
 ghost use Rattle.std.specs.Vec.{vec_capacity};
 ghost use Rattle.fc_isa.specs.Program.{IsInsn};
-ghost use Rattle.fc_isa.specs.declared.insn.Insn.{Insn as Instruction};
-ghost use Rattle.fc_help.specs.Request.{Request as Asked};
-ghost use Rattle.fc_image.specs.Paths.{longest};
-ghost use Rattle.fc_kinds.specs.Execution.{start};
+ghost use Rattle.fc_isa.specs.Rules.{number_of};
 ghost use Rattle.fc_kinds.specs.Lattice.{AreKinds};
 ghost use Rattle.fc_kinds.specs.Transfer.{transfer};
-ghost use Rattle.fc_kinds.specs.Typing.{States, entry, state_at};
+ghost use Rattle.fc_kinds.specs.Typing.{IsTypingOf, States, entry, state_at};
 ghost use Rattle.fc_kinds.specs.Ways.{skipped, ways_after};
-ghost use Rattle.fc_kinds.specs.WellTyped.{IsTypingOf};
-ghost use Rattle.fc_verify.specs.Runs.{IsHanded, IsTypedProgram, IsUntypedProgram, RunsToExit};
+ghost use Rattle.fc_verify.specs.Runs.{IsTypedProgram, IsUntypedProgram};
+ghost use Rattle.fc_verify.specs.Stages.{IsTypingFault};
 ghost use Rattle.fc_verify.specs.Pass.{Stays, StayIn, beginning, forward, is_typable, joined_in, led, passed};
 
-use fc_image::laws::{longest_path_is_longest, shaped_programs_go_forward};
+use fc_image::laws::shaped_programs_go_forward;
 use fc_isa::{Fault, Insn, Jump};
 use fc_kinds::laws::{
-    containment_is_an_order, effects_contain_the_step, effects_keep_kinds, joins_are_least,
-    ways_are_monotone,
+    containment_is_an_order, effects_keep_kinds, joins_are_least, ways_are_monotone,
 };
-use fc_kinds::transfer::after;
-use fc_kinds::{ENTRY, Regs, join, when};
+use fc_kinds::{ENTRY, Regs, after, join, when};
 
-/// Finds a typing of a program that keeps its shape and has no local call, whose variables have this many bytes; `room` has
+/// Finds a typing of a program that keeps its shape and has no call, whose variables have this many bytes; `room` has
 /// place for a state a slot.
 ///
 /// # Errors
@@ -38,7 +33,10 @@ pub fn typed(
     requires empty { room.items ≡ [] }
     requires room { length code.now ≤ vec_capacity room }
     ensures typing { IfOk result (λ v. IsTypedProgram vars_size code.now v.items) }
+    ensures typable { IfOk result (λ v. is_typable vars_size code.now (beginning code.now) ≡ true) }
     ensures untyped { IfErr result (λ fault. (t : States) → IsTypingOf vars_size code.now t → ⊥) }
+    ensures untypable { IfErr result (λ fault. is_typable vars_size code.now (beginning code.now) ≡ false) }
+    ensures fault { IfErr result (IsTypingFault code.now) }
 {
     shaped_programs_go_forward();
     typed_within(vars_size, code, room)
@@ -59,7 +57,10 @@ fn typed_within(
     requires empty { room.items ≡ [] }
     requires room { length code.now ≤ vec_capacity room }
     ensures typing { IfOk result (λ v. IsTypingOf vars_size code.now v.items) }
+    ensures typable { IfOk result (λ v. is_typable vars_size code.now (beginning code.now) ≡ true) }
     ensures untyped { IfErr result (λ fault. (t : States) → IsTypingOf vars_size code.now t → ⊥) }
+    ensures untypable { IfErr result (λ fault. is_typable vars_size code.now (beginning code.now) ≡ false) }
+    ensures fault { IfErr result (IsTypingFault code.now) }
 {
     containment_is_an_order();
     joins_are_least();
@@ -101,6 +102,7 @@ fn pass_slots(vars_size: u16, code: &[Insn], states: &mut [Option<Regs>]) -> Res
     ensures typable { IfOk result (λ u. is_typable vars_size code.now (beginning code.now) ≡ true) }
     ensures states { IfOk result (λ u. states.new ≡ forward vars_size code.now (beginning code.now)) }
     ensures untypable { IfErr result (λ fault. is_typable vars_size code.now (beginning code.now) ≡ false) }
+    ensures fault { IfErr result (IsTypingFault code.now) }
 {
     containment_is_an_order();
     joins_are_least();
@@ -131,6 +133,8 @@ fn pass(
     requires insn { IsInsn insn.now }
     ensures passed { IfOk result (λ u. passed vars_size insn.now (Some regs.now) pending.old ≡ Some pending.new) }
     ensures refused { IfErr result (λ fault. passed vars_size insn.now (Some regs.now) pending.old ≡ None) }
+    ensures rule { IfErr result (λ fault. (20 ≤ number_of fault.rule) × (number_of fault.rule ≤ 27)) }
+    ensures slot { IfErr result (λ fault. fault.slot ≡ slot) }
 {
     let next = checked(vars_size, slot, *insn, regs)?;
     spread(*insn, regs, &next, pending);
@@ -147,6 +151,8 @@ fn checked(vars_size: u16, slot: usize, insn: Insn, regs: &Regs) -> Result<Regs,
     ensures after { IfOk result (λ ks. transfer vars_size insn regs.now ≡ Some ks) }
     ensures kinds { IfOk result AreKinds }
     ensures refused { IfErr result (λ fault. transfer vars_size insn regs.now ≡ None) }
+    ensures rule { IfErr result (λ fault. (20 ≤ number_of fault.rule) × (number_of fault.rule ≤ 27)) }
+    ensures slot { IfErr result (λ fault. fault.slot ≡ slot) }
 {
     effects_keep_kinds();
     match after(insn, regs, vars_size) {
@@ -167,12 +173,11 @@ fn spread(insn: Insn, before: &Regs, after: &Regs, pending: &mut [Option<Regs>])
         Insn::JumpAlwaysLong { offset } => lead(pending, skip(offset), after),
         Insn::JumpIf(jump) => branch(&jump, before, after, pending),
         Insn::Exit | Insn::WideSecond => {}
-        Insn::CallLocal { .. } => unreachable!(),
+        Insn::CallHelper { .. } | Insn::CallLocal { .. } => unreachable!(),
         Insn::Alu { .. } | Insn::Neg { .. } | Insn::SignExtend { .. } | Insn::End { .. } => {
             lead(pending, 0, after);
         }
         Insn::Load { .. } | Insn::StoreImm { .. } | Insn::Store { .. } => lead(pending, 0, after),
-        Insn::CallHelper { .. } => lead(pending, 0, after),
     }
 }
 
@@ -207,14 +212,4 @@ fn lead(states: &mut [Option<Regs>], slot: usize, regs: &Regs)
         Some(state) => Some(join(state, regs)),
         None => Some(*regs),
     };
-}
-
-/// A program that keeps its shape, has a typing and has no local call runs to its exit, in at most the steps of its longest path.
-pub fn typed_programs_end()
-    ensures { (vars : ℕ) (code : List Instruction) (states : States) (request : Asked) (found : List ℕ) → IsTypedProgram vars code states → IsHanded vars request found → RunsToExit code (start request found) (longest code) }
-{
-    containment_is_an_order();
-    effects_contain_the_step();
-    shaped_programs_go_forward();
-    longest_path_is_longest();
 }

@@ -6,19 +6,22 @@ ghost use Rattle.fc_verify.specs.Judged.{judged};
 ghost use Rattle.fc_verify.specs.Refusals.{IsRefusal};
 ghost use Rattle.fc_verify.specs.Stages.{IsHeadOf, IsCodeOf};
 
+use crate::calls::decode_without_calls;
+use crate::lowering::lower;
+use crate::pass::typed;
 use crate::refusal::Refusal;
-use crate::typing::type_slots;
 use crate::verified::Verified;
+use fc_image::laws::shape_fault_is_first;
 use fc_image::{HEADER_SIZE, Head, head, shape};
-use fc_isa::served::{first_refused_is_first, unrefused_bytes_spell};
-use fc_isa::{Served, decode_served};
+use fc_isa::Insn;
+use fc_isa::laws::faultless_bytes_spell;
 use std::alloc::Global;
 
 /// Verifies an image: the sixteen bytes of its header, and its slots of eight bytes each.
 ///
 /// # Errors
-/// The first rule that the image breaks, with its slot, or some rule from 20 to 27 where only the typing is missing;
-/// or that memory was refused, which comes before all but the header's rules.
+/// The first rule that the image breaks, with its slot, or some rule from 20 to 27 and a slot of the program where only the
+/// typing is missing; or that memory was refused, which comes before all but the header's rules.
 pub fn verify(alloc: Global, image: &[u8]) -> Result<Verified, Refusal>
     ensures accepted { IfOk result (IsAccepted image.now) }
     ensures judged { IfOk result (λ v. judged image.now ≡ Accepts v) }
@@ -27,10 +30,13 @@ pub fn verify(alloc: Global, image: &[u8]) -> Result<Verified, Refusal>
 {
     let head = read_head(image)?;
     let room = Vec::with_capacity(alloc, head.count() as usize)?;
+    let ops = Vec::with_capacity(alloc, head.count() as usize)?;
     let code = read_code(alloc, image, &head)?;
+    shape_fault_is_first();
     let cost = shape(&head, &code)?;
-    let states = type_slots(&code, room)?;
-    Ok(Verified::new(&head, code, cost, states))
+    let states = typed(head.vars_size(), &code, room)?;
+    let ops = lower(&code, ops);
+    Ok(Verified::new(&head, code, ops, cost, &states))
 }
 
 /// What the header says.
@@ -45,15 +51,14 @@ fn read_head(image: &[u8]) -> Result<Head, Refusal>
 }
 
 /// The program that the slots spell.
-fn read_code(alloc: Global, image: &[u8], head: &Head) -> Result<Vec<Served>, Refusal>
+fn read_code(alloc: Global, image: &[u8], head: &Head) -> Result<Vec<Insn>, Refusal>
     requires { IsHeadOf image.now head.now }
     ensures code { IfOk result (λ code. IsCodeOf image.now code.items) }
     ensures refused { IfErr result (IsRefusal image.now) }
 {
     let slots = slots(image);
-    unrefused_bytes_spell(slots);
-    first_refused_is_first(slots);
-    Ok(decode_served(alloc, slots)?)
+    faultless_bytes_spell(slots);
+    Ok(decode_without_calls(alloc, slots)?)
 }
 
 /// The bytes behind the header.

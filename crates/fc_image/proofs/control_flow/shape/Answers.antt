@@ -1,13 +1,13 @@
 use Rattle.std.proofs.Common.{◌≡◌, None, sym, subst, arith}
 use Rattle.fc_image.specs.Paths.{IsLongest, longest}
-use Rattle.fc_image.specs.ShapeRules.{KeepsBudget, fault_of_shape}
+use Rattle.fc_image.specs.ShapeRules.{KeepsBudget, shape_fault}
 use Rattle.fc_image.proofs.PathLaws.{longest_is}
 use Rattle.fc_image.proofs.ShapeLaws.{faultless}
 use Rattle.fc_image.proofs.control_flow.shape.Goals as goal
 
-none_found : (c : goal.In-None) → fault_of_shape c.args.head.now.budget c.args.code.now ≡ None
-unfolding fault_of_shape
-none_found c = subst (λ b. fault_of_shape b c.args.code.now ≡ None) c.budget.ensures.value c.in-None.ensures
+none_found : (c : goal.In-None) → shape_fault c.args.head.now.budget c.args.code.now ≡ None
+unfolding shape_fault
+none_found c = subst (λ b. shape_fault b c.args.code.now ≡ None) c.budget.ensures.value c.in-None.ensures
 
 kept : (c : goal.In-None) → KeepsBudget c.args.head.now.budget c.args.code.now
 kept c = faultless c.args.head.now.budget c.args.code.now (none_found c) (omega (arith, c.requires, c.count-slots.ensures.value, c.count-slots.ensures.some))

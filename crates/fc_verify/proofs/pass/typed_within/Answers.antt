@@ -1,7 +1,7 @@
 use Rattle.std.proofs.Common.{rules, ◌≡◌, drop, length, sym, subst}
 use Rattle.std.proofs.lemmas.List.{take_at}
 use Rattle.fc_kinds.specs.Typing.{States}
-use Rattle.fc_kinds.specs.WellTyped.{IsTypingOf}
+use Rattle.fc_kinds.specs.Typing.{IsTypingOf}
 use Rattle.fc_verify.proofs.PassLaws.{KindRules, typing_of}
 use Rattle.fc_verify.proofs.PassLaws.{no_typing}
 use Rattle.fc_verify.proofs.pass.typed_within.Goals as goal

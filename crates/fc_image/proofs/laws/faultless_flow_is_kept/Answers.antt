@@ -1,8 +1,0 @@
-use Rattle.fc_image.proofs.ShapeLaws.{faultless, no_fault}
-use Rattle.fc_image.proofs.laws.faultless_flow_is_kept.Goals as goal
-
-pub returns-clause-kept : goal.returns-clause-kept
-returns-clause-kept c = λ code some e. faultless c.args.budget code e some
-
-pub returns-clause-only_kept : goal.returns-clause-only_kept
-returns-clause-only_kept c = no_fault c.args.budget

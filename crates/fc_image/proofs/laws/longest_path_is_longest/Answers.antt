@@ -1,5 +1,0 @@
-use Rattle.fc_image.proofs.PathLaws.{longest_is}
-use Rattle.fc_image.proofs.laws.longest_path_is_longest.Goals as goal
-
-pub returns : goal.returns
-returns c = longest_is
