@@ -1,4 +1,3 @@
-pub mod Live
 pub mod Codes
 mod Pointers
 mod Splices
@@ -6,3 +5,6 @@ mod Stays
 mod Regions
 mod Computes
 mod Follows
+mod Beginning
+mod Live
+mod Small

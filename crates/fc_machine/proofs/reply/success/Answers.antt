@@ -1,2 +1,0 @@
-use Rattle.fc_machine.proofs.Follows.{follows}
-use Rattle.fc_machine.proofs.reply.success.Goals as goal
