@@ -1,2 +1,3 @@
 pub mod Ran
-pub mod Words
+pub mod Steps
+pub mod Array

@@ -1,20 +1,21 @@
 //! Where programs run.
+use crate::state::State;
 use std::alloc::{AllocError, Global};
 
-/// The registers of the machine. One is made at the start, and each run uses it again.
+/// The registers and the memory of the machine. One is made at the start, and each run uses it again.
 #[derive(Drop)]
 pub struct Frame {
-    pub(crate) regs: Box<[u64; 11]>,
+    pub(crate) state: Box<State>,
 }
 
 impl Frame {
-    /// A frame. Nothing of what a run leaves in it can be seen.
+    /// A frame. Nothing of what a run leaves in it can be seen by the next.
     ///
     /// # Errors
     /// There was no memory for it.
     pub fn new(alloc: Global) -> Result<Frame, AllocError> {
         Ok(Frame {
-            regs: Box::new(alloc, [0; 11])?,
+            state: Box::new(alloc, State::zeros())?,
         })
     }
 }

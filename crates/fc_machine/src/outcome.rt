@@ -13,6 +13,7 @@ pub struct Outcome<'a> {
     pub(crate) request: &'a Request,
     pub(crate) found: &'a Vars,
     pub(crate) code: u8,
+    pub(crate) after: &'a [u8],
     pub(crate) steps: u32,
 }
 
@@ -23,7 +24,7 @@ impl<'a> Model for Outcome<'a> {
 
     ghost view = { λ o. record { program = o.program.now; request = o.request.now; found = o.found.now } };
 
-    ghost invariant = { λ o. IsOutcome (record { program = o.program.now; request = o.request.now; found = o.found.now }) o.code o.steps };
+    ghost invariant = { λ o. IsOutcome (record { program = o.program.now; request = o.request.now; found = o.found.now }) o.code o.after.now o.steps };
 }
 
 impl<'a> Outcome<'a> {
@@ -56,12 +57,12 @@ impl<'a> Outcome<'a> {
         self.code
     }
 
-    /// The variables that it left, of the program's size.
-    pub fn after(&self) -> &'a Vars
+    /// The variables that it left, of the program's size. They lie in the frame.
+    pub fn after(&self) -> &'a [u8]
         ensures vars { result.now ≡ (meaning_of self.now).vars }
         ensures size { length result.now ≡ self.now.program.vars_size }
     {
-        self.found
+        self.after
     }
 
     /// The steps that it took, its exit among them: at most the program's budget.

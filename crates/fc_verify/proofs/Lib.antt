@@ -7,3 +7,4 @@ pub mod Right
 pub mod SameCode
 pub mod Sound
 mod Rows
+pub mod Lowered

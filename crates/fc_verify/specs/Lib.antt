@@ -6,3 +6,4 @@ pub mod Stages
 pub mod Refusals
 pub mod Runs
 pub mod Verified
+pub mod Ops

@@ -4,11 +4,14 @@
 
 mod calls;
 pub mod laws;
+pub mod lowering;
+pub mod op;
 pub mod pass;
 pub mod refusal;
 pub mod verified;
 pub mod verifying;
 
+pub use op::Op;
 pub use refusal::Refusal;
 pub use verified::Verified;
 pub use verifying::verify;

@@ -7,6 +7,7 @@ ghost use Rattle.fc_verify.specs.Refusals.{IsRefusal};
 ghost use Rattle.fc_verify.specs.Stages.{IsHeadOf, IsCodeOf};
 
 use crate::calls::decode_without_calls;
+use crate::lowering::lower;
 use crate::pass::typed;
 use crate::refusal::Refusal;
 use crate::verified::Verified;
@@ -29,11 +30,13 @@ pub fn verify(alloc: Global, image: &[u8]) -> Result<Verified, Refusal>
 {
     let head = read_head(image)?;
     let room = Vec::with_capacity(alloc, head.count() as usize)?;
+    let ops = Vec::with_capacity(alloc, head.count() as usize)?;
     let code = read_code(alloc, image, &head)?;
     shape_fault_is_first();
     let cost = shape(&head, &code)?;
     let states = typed(head.vars_size(), &code, room)?;
-    Ok(Verified::new(&head, code, cost, &states))
+    let ops = lower(&code, ops);
+    Ok(Verified::new(&head, code, ops, cost, &states))
 }
 
 /// What the header says.
