@@ -1,6 +1,6 @@
 //! The request that a program answers.
 ghost use Rattle.std.specs.Prelude.{◌≡◌, ◌+◌, ◌++◌, ◌≤◌, ◌↔◌, length, IsTrue};
-ghost use Rattle.fc_help.specs.Region.{head_of, method_number, padded, region_of};
+ghost use Rattle.fc_help.specs.Region.{FitsRegion, head_of, method_number, padded, region_of};
 
 use arrayvec::ArrayVec;
 use std::marker::Model;
@@ -138,6 +138,7 @@ impl Request {
     pub fn region(&self) -> &[u8]
         ensures region { result.now ≡ region_of self.now }
         ensures size { length result.now ≡ 1104 }
+        ensures fits { FitsRegion self.now }
     {
         self.region.as_slice()
     }

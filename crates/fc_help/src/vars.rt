@@ -34,6 +34,18 @@ impl Vars {
         Vars { bytes }
     }
 
+    /// These bytes, at most 256.
+    pub fn of(bytes: &[u8]) -> Self
+        requires { length bytes.now ≤ VARS }
+        ensures { result ≡ bytes.now }
+    {
+        let mut vars = Vars {
+            bytes: ArrayVec::new(),
+        };
+        let _fits = vars.bytes.try_extend_from_slice(bytes);
+        vars
+    }
+
     /// The bytes.
     pub fn as_slice(&self) -> &[u8]
         ensures { result.now ≡ self.now }
@@ -52,8 +64,6 @@ impl Vars {
     pub fn copy(&self) -> Vars
         ensures { result ≡ self.now }
     {
-        let mut bytes = ArrayVec::new();
-        let _fits = bytes.try_extend_from_slice(self.bytes.as_slice());
-        Vars { bytes }
+        Vars::of(self.bytes.as_slice())
     }
 }

@@ -5,3 +5,4 @@ pub mod Functions
 pub mod ShapeRules
 pub mod Tables
 pub mod Judged
+pub mod Laws

@@ -1,12 +1,10 @@
 //! What headers and the shape of a program say, for the crates above: each function is a law, and its contract says it.
-ghost use Rattle.std.specs.Prelude.{List, None, Some, drop, length, slice_get, ℕ, ◌*◌, ◌++◌, ◌<◌, ◌≡◌};
+ghost use Rattle.std.specs.Prelude.{List, None, drop, length, ℕ, ◌*◌, ◌++◌, ◌<◌, ◌≡◌};
 ghost use Rattle.fc_isa.specs.declared.insn.Insn.{Insn};
-ghost use Rattle.fc_isa.specs.declared.rule.Rule.{Rule};
-ghost use Rattle.fc_isa.specs.Rules.{number_of};
-ghost use Rattle.fc_image.specs.Flow.{IsForward, flow};
 ghost use Rattle.fc_image.specs.Head.{Head, IsHead, KeepsHead, head_bytes, head_fault, stated};
+ghost use Rattle.fc_image.specs.Laws.{FirstShapeFaultIsFound, ShapeFaultIsFirst, ShapeFaultIsLow, ShapedProgramsGoForward};
 ghost use Rattle.fc_image.specs.Paths.{IsLongest, longest};
-ghost use Rattle.fc_image.specs.ShapeRules.{IsShapeFault, IsShaped, KeepsBudget, shape_fault};
+ghost use Rattle.fc_image.specs.ShapeRules.{IsShaped, KeepsBudget, shape_fault};
 
 /// An image whose header breaks no rule is the header and its slots, with numbers within their limits.
 pub fn faultless_head_is_kept(image: &[u8])
@@ -25,14 +23,14 @@ pub fn longest_is_longest()
 
 /// In a program that keeps the rules of the control flow each instruction leads to later slots of the program.
 pub fn shaped_programs_go_forward()
-    ensures { (code : List Insn) (slot : ℕ) (insn : Insn) → IsShaped code → slice_get code slot ≡ Some insn → IsForward (length code) slot (flow slot insn) }
+    ensures { ShapedProgramsGoForward }
 {}
 
 /// The fault of a program's shape is the least slot that breaks the first rule that is broken, one below 20.
 pub fn shape_fault_is_first()
-    ensures is_first { (budget : ℕ) (code : List Insn) (slot : ℕ) (rule : Rule) → shape_fault budget code ≡ Some (slot, rule) → IsShapeFault budget code slot rule }
-    ensures only_first { (budget : ℕ) (code : List Insn) (slot : ℕ) (rule : Rule) → IsShapeFault budget code slot rule → shape_fault budget code ≡ Some (slot, rule) }
-    ensures low { (budget : ℕ) (code : List Insn) (slot : ℕ) (rule : Rule) → shape_fault budget code ≡ Some (slot, rule) → number_of rule < 20 }
+    ensures is_first { ShapeFaultIsFirst }
+    ensures only_first { FirstShapeFaultIsFound }
+    ensures low { ShapeFaultIsLow }
 {}
 
 /// There is none exactly where the rules are kept and the longest path is within the budget.

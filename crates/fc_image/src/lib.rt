@@ -13,4 +13,3 @@ mod table;
 pub use control_flow::shape;
 pub use header::{HEADER_SIZE, head};
 pub use limits::Head;
-

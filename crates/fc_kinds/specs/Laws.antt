@@ -1,14 +1,21 @@
--- What the laws of kinds say of one state, way or list of ways beside another.
-use Rattle.std.specs.Prelude.{◌≡◌, ℕ, ◌<◌, ◌^◌, true, List, Option, Some, None}
+-- The laws of kinds, and what they say of one state, way or list of ways beside another.
+use Rattle.std.specs.Prelude.{◌≡◌, ℕ, ◌<◌, ◌^◌, Bool, true, List, Option, Some, None}
 use Rattle.fc_isa.specs.declared.insn.Width.TheVariants.{W64}
 use Rattle.fc_isa.specs.declared.insn.Jump.{Jump}
+use Rattle.fc_isa.specs.declared.insn.Insn.{Insn}
+use Rattle.fc_isa.specs.declared.insn.Insn.TheVariants.{JumpIf}
+use Rattle.fc_isa.specs.Program.{IsInsn}
+use Rattle.fc_alu.specs.Comparison.{truth}
 use Rattle.fc_kinds.specs.declared.kind.Kind.{Kind}
 use Rattle.fc_kinds.specs.Kinds.{Holds, Within, kind_at}
 use Rattle.fc_kinds.specs.Values.{Value, Number, value_at}
-use Rattle.fc_kinds.specs.Transfer.{is_number, operand_kind}
+use Rattle.fc_kinds.specs.Transfer.{is_number, operand_kind, transfer}
+use Rattle.fc_kinds.specs.Refinement.{when}
 use Rattle.fc_kinds.specs.Operations.{operand_value}
 use Rattle.fc_kinds.specs.Lattice.{AreKinds}
-use Rattle.fc_kinds.specs.Ways.{Way, AreAmong, AreHeld}
+use Rattle.fc_kinds.specs.Ways.{Way, ways, AreAmong, AreHeld}
+use Rattle.fc_kinds.specs.Execution.{Config, act, depth}
+use Rattle.fc_kinds.specs.Soundness.{IsConfig, StaysInFunction, StepsAlong}
 
 -- there is a state, and it is contained in the other
 abbrev pub IsNarrowerState : Option (List Kind) → List Kind → Type 0
@@ -41,3 +48,35 @@ IsOpenTo depth (Some kinds) values = Holds depth kinds values
 -- a conditional jump's operands are numbers
 abbrev pub ComparesNumbers : Jump → List Kind → Type 0
 ComparesNumbers j kinds = (is_number (kind_at kinds j.left) ≡ true) × (is_number (operand_kind W64 j.right kinds) ≡ true)
+
+-- ---- the laws
+
+-- where an instruction's demands are met at wider kinds they are met at narrower ones, and the kinds after it are narrower
+abbrev pub EffectsAreMonotone : Type 0
+EffectsAreMonotone =
+    (vars : ℕ) (insn : Insn) (ks wider after : List Kind) → IsInsn insn → AreKinds ks → Within ks wider
+    → transfer vars insn wider ≡ Some after → IsNarrowerState (transfer vars insn ks) after
+
+-- a way that is open at narrower kinds is open at wider ones, with wider kinds on it
+abbrev pub RefinementIsMonotone : Type 0
+RefinementIsMonotone =
+    (j : Jump) (taken : Bool) (ks wider : List Kind) → IsInsn (JumpIf j) → AreKinds ks → Within ks wider
+    → ComparesNumbers j wider → IsNarrowerWay (when j taken ks) (when j taken wider)
+
+-- the ways from narrower kinds are among those from wider ones
+abbrev pub WaysAreMonotone : Type 0
+WaysAreMonotone =
+    (vars : ℕ) (insn : Insn) (ks wider : List Kind) (handed : List Way) → IsInsn insn → AreKinds ks → Within ks wider
+    → ways vars insn wider ≡ Some handed → AreNarrowerWays (ways vars insn ks) handed
+
+-- at kinds that contain the registers' values an instruction whose demands are met has a step, along some of its ways
+abbrev pub EffectsContainTheStep : Type 0
+EffectsContainTheStep =
+    (vars : ℕ) (insn : Insn) (c : Config) (ks : List Kind) (handed : List Way) → StaysInFunction insn → IsInsn insn
+    → IsConfig vars c → Holds (depth c) ks c.regs → ways vars insn ks ≡ Some handed → StepsAlong vars (act insn c) c handed
+
+-- the way that a conditional jump takes is open where the kinds contain the values, and its kinds contain them
+abbrev pub RefinementKeepsWhatTakesTheWay : Type 0
+RefinementKeepsWhatTakesTheWay =
+    (j : Jump) (depth : ℕ) (ks : List Kind) (values : List Value) (x y : ℕ) → TakesNumbers j values x y
+    → Holds depth ks values → IsOpenTo depth (when j (truth j x y) ks) values

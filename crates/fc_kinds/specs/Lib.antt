@@ -6,8 +6,8 @@ pub mod Lattice
 pub mod Transfer
 pub mod Refinement
 pub mod Ways
-pub mod Laws
 pub mod Operations
 pub mod Execution
 pub mod Soundness
 pub mod Meaning
+pub mod Laws

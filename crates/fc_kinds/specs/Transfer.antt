@@ -158,21 +158,27 @@ IsShallow kind = Unit {0}
 -- what a local call hands to the start of its function: R1 to R5, and R10 at the end of a fresh frame
 abbrev pub enter : List Kind → List Kind
 enter kinds =
-    Unset ∷ raised (kind_at kinds 1) ∷ raised (kind_at kinds 2) ∷ raised (kind_at kinds 3) ∷ raised (kind_at kinds 4) ∷ raised (kind_at kinds 5)
+    Unset ∷ raised (kind_at kinds 1) ∷ raised (kind_at kinds 2) ∷ raised (kind_at kinds 3) ∷ raised (kind_at kinds 4)
+    ∷ raised (kind_at kinds 5)
     ∷ Unset ∷ Unset ∷ Unset ∷ Unset ∷ Stack 0 (pos 256) (pos 256) ∷ []
 
 -- the kinds after an instruction, or nothing where its demands aren't met; a program's variables have this size. The helpers'
 -- calls have none yet
 unfoldable pub transfer : ℕ → Insn → List Kind → Option (List Kind)
-transfer vars (Alu op width dst operand) kinds = put_kind kinds dst (alu_kind op width operand (kind_at kinds dst) (operand_kind width operand kinds))
+transfer vars (Alu op width dst operand) kinds =
+    put_kind kinds dst (alu_kind op width operand (kind_at kinds dst) (operand_kind width operand kinds))
 transfer vars (Neg width dst) kinds = put_kind kinds dst (on_number (kind_at kinds dst) (λ s. Some (num (all (bits_of width)))))
-transfer vars (SignExtend extension dst src) kinds = put_kind kinds dst (on_number (kind_at kinds src) (λ s. Some (num (extended_values extension s))))
-transfer vars (End order width dst) kinds = put_kind kinds dst (on_number (kind_at kinds dst) (λ s. Some (num (ordered_interval order width s))))
+transfer vars (SignExtend extension dst src) kinds =
+    put_kind kinds dst (on_number (kind_at kinds src) (λ s. Some (num (extended_values extension s))))
+transfer vars (End order width dst) kinds =
+    put_kind kinds dst (on_number (kind_at kinds dst) (λ s. Some (num (ordered_interval order width s))))
 transfer vars (LoadWide dst value) kinds = put_kind kinds dst (Some (Num value value))
 transfer vars WideSecond kinds = None
-transfer vars (Load loaded dst base offset) kinds = put_kind kinds dst (if may_read vars (bytes_loaded loaded) offset (kind_at kinds base) then Some (num (loaded_interval loaded)) else None)
+transfer vars (Load loaded dst base offset) kinds =
+    put_kind kinds dst (if may_read vars (bytes_loaded loaded) offset (kind_at kinds base) then Some (num (loaded_interval loaded)) else None)
 transfer vars (StoreImm size base offset imm) kinds = where_met (may_write vars (size_of size) offset (kind_at kinds base)) kinds
-transfer vars (Store size base offset src) kinds = where_met (may_write vars (size_of size) offset (kind_at kinds base) && is_number (kind_at kinds src)) kinds
+transfer vars (Store size base offset src) kinds =
+    where_met (may_write vars (size_of size) offset (kind_at kinds base) && is_number (kind_at kinds src)) kinds
 transfer vars (JumpAlways offset) kinds = Some kinds
 transfer vars (JumpAlwaysLong offset) kinds = Some kinds
 transfer vars (JumpIf j) kinds = where_met (is_number (kind_at kinds j.left) && is_number (operand_kind j.width j.right kinds)) kinds

@@ -8,7 +8,9 @@ use Rattle.fc_kinds.specs.Ways.{Way, ways}
 
 -- the kinds at a program's entry
 abbrev pub entry : List Kind
-entry = Unset ∷ Req (pos 0) (pos 0) ∷ Vars (pos 0) (pos 0) ∷ Num 0 1024 ∷ Unset ∷ Unset ∷ Unset ∷ Unset ∷ Unset ∷ Unset ∷ Stack 0 (pos 256) (pos 256) ∷ []
+entry =
+    Unset ∷ Req (pos 0) (pos 0) ∷ Vars (pos 0) (pos 0) ∷ Num 0 1024 ∷ Unset ∷ Unset ∷ Unset ∷ Unset ∷ Unset ∷ Unset
+    ∷ Stack 0 (pos 256) (pos 256) ∷ []
 
 -- a state for each slot, or none
 abbrev pub States : Type 0
@@ -37,4 +39,6 @@ pub record IsWellTypedAt (vars : ℕ) (states : States) (slot : ℕ) (insn : Ins
 -- the states are a typing of the program, whose variables have this size; a slot without a state is never reached
 pub record IsTypingOf (vars : ℕ) (code : List Insn) (states : States) : Type 0 where
   pub entered : Leads states 0 entry
-  pub each : (slot : ℕ) (insn : Insn) (kinds : List Kind) → slice_get code slot ≡ Some insn → state_at states slot ≡ Some kinds → IsWellTypedAt vars states slot insn kinds
+  pub each :
+      (slot : ℕ) (insn : Insn) (kinds : List Kind) → slice_get code slot ≡ Some insn → state_at states slot ≡ Some kinds
+      → IsWellTypedAt vars states slot insn kinds

@@ -1,28 +1,21 @@
 //! Laws of kinds, for the crates above: each function is a law, and its contract says it.
-ghost use Rattle.std.specs.Prelude.{Bool, List, None, Some, ℕ, ◌≡◌};
+ghost use Rattle.std.specs.Prelude.{List, Some, ℕ, ◌≡◌};
 ghost use Rattle.fc_isa.specs.Program.{IsInsn};
 ghost use Rattle.fc_isa.specs.declared.insn.Insn.{Insn};
-ghost use Rattle.fc_isa.specs.declared.insn.Insn.TheVariants.{JumpIf};
-ghost use Rattle.fc_isa.specs.declared.insn.Jump.{Jump};
-ghost use Rattle.fc_alu.specs.Comparison.{truth};
 ghost use Rattle.fc_help.specs.Request.{Request};
-ghost use Rattle.fc_kinds.specs.Execution.{Config, act, depth};
 ghost use Rattle.fc_kinds.specs.Kinds.{Holds, Within};
 ghost use Rattle.fc_kinds.specs.Lattice.{AreKinds, joined};
-ghost use Rattle.fc_kinds.specs.Laws.{AreNarrowerWays, ComparesNumbers, IsNarrowerState, IsNarrowerWay, IsOpenTo, TakesNumbers};
-ghost use Rattle.fc_kinds.specs.Values.{Value};
+ghost use Rattle.fc_kinds.specs.Laws.{EffectsAreMonotone, EffectsContainTheStep, RefinementIsMonotone, RefinementKeepsWhatTakesTheWay, WaysAreMonotone};
 ghost use Rattle.fc_kinds.specs.Meaning.{Meaning, Means, Program};
-ghost use Rattle.fc_kinds.specs.Refinement.{when};
-ghost use Rattle.fc_kinds.specs.Soundness.{IsConfig, StaysInFunction, StepsAlong};
 ghost use Rattle.fc_kinds.specs.Transfer.{enter, transfer};
-ghost use Rattle.fc_kinds.specs.Ways.{Way, ways};
+ghost use Rattle.fc_kinds.specs.Values.{Value};
 ghost use Rattle.fc_kinds.specs.declared.kind.Kind.{Kind as What};
 
 /// Containment of states is reflexive and transitive, and what a state contains each wider one does.
 pub fn containment_is_an_order()
     ensures same { (ks : List What) → Within ks ks }
     ensures then { (a b c : List What) → Within a b → Within b c → Within a c }
-    ensures values { (depth : ℕ) (ks wider : List What) (values : List Value) → Within ks wider → Holds depth ks values → Holds depth wider values }
+    ensures values { (depth : ℕ) (ks wider : List What) (vs : List Value) → Within ks wider → Holds depth ks vs → Holds depth wider vs }
 {}
 
 /// A join contains both states, each state that contains both contains it, and it holds values where both do.
@@ -35,17 +28,17 @@ pub fn joins_are_least()
 
 /// Where an instruction's demands are met at wider kinds they are met at narrower ones, and the kinds after it are narrower.
 pub fn effects_are_monotone()
-    ensures { (vars : ℕ) (insn : Insn) (ks wider after : List What) → IsInsn insn → AreKinds ks → Within ks wider → transfer vars insn wider ≡ Some after → IsNarrowerState (transfer vars insn ks) after }
+    ensures { EffectsAreMonotone }
 {}
 
 /// The kinds after an instruction hold some values where those before it do.
 pub fn effects_keep_kinds()
-    ensures { (vars : ℕ) (insn : Insn) (ks after : List What) → IsInsn insn → AreKinds ks → transfer vars insn ks ≡ Some after → AreKinds after }
+    ensures { (vars : ℕ) (insn : Insn) (ks next : List What) → IsInsn insn → AreKinds ks → transfer vars insn ks ≡ Some next → AreKinds next }
 {}
 
 /// A way that is open at narrower kinds is open at wider ones, with wider kinds on it.
 pub fn refinement_is_monotone()
-    ensures { (jump : Jump) (taken : Bool) (ks wider : List What) → IsInsn (JumpIf jump) → AreKinds ks → Within ks wider → ComparesNumbers jump wider → IsNarrowerWay (when jump taken ks) (when jump taken wider) }
+    ensures { RefinementIsMonotone }
 {}
 
 /// What a local call hands on grows with its caller's kinds.
@@ -55,18 +48,18 @@ pub fn entering_is_monotone()
 
 /// The ways from narrower kinds are among those from wider ones.
 pub fn ways_are_monotone()
-    ensures { (vars : ℕ) (insn : Insn) (ks wider : List What) (handed : List Way) → IsInsn insn → AreKinds ks → Within ks wider → ways vars insn wider ≡ Some handed → AreNarrowerWays (ways vars insn ks) handed }
+    ensures { WaysAreMonotone }
 {}
 
 /// Where an instruction's demands are met by kinds that contain the registers' values, it has a step; the step leads along some
 /// way, whose kinds contain the values after it, and keeps the sizes of the regions. Of calls and exits nothing is said.
 pub fn effects_contain_the_step()
-    ensures { (vars : ℕ) (insn : Insn) (c : Config) (ks : List What) (handed : List Way) → StaysInFunction insn → IsInsn insn → IsConfig vars c → Holds (depth c) ks c.regs → ways vars insn ks ≡ Some handed → StepsAlong vars (act insn c) c handed }
+    ensures { EffectsContainTheStep }
 {}
 
 /// The way that a conditional jump takes is open where the kinds contain the values, and its kinds contain them.
 pub fn refinement_keeps_what_takes_the_way()
-    ensures { (jump : Jump) (depth : ℕ) (ks : List What) (values : List Value) (x y : ℕ) → TakesNumbers jump values x y → Holds depth ks values → IsOpenTo depth (when jump (truth jump x y) ks) values }
+    ensures { RefinementKeepsWhatTakesTheWay }
 {}
 
 /// A run has at most one meaning.

@@ -1,5 +1,6 @@
 //! Shards of slots.
-ghost use Rattle.std.specs.Prelude.{◌≡◌, ℕ, ◌+◌, ◌<◌, ◌≤◌, ◌↔◌, true, replicate, IfOk, IsTrue};
+ghost use Rattle.std.specs.Prelude.{◌≡◌, ℕ, ◌+◌, ◌<◌, ◌≤◌, ◌↔◌, true, length, replicate, IfOk, IsTrue};
+ghost use Rattle.fc_machine.specs.Ran.{meaning_of};
 ghost use Rattle.fc_registry.specs.Slots.{IsOwned, slot_in, with_slot, new_slot, last_serial, version_in, vars_in};
 ghost use Rattle.fc_registry.specs.Changes.{after_changes};
 ghost use Rattle.fc_registry.specs.Calls.{IsTaking, CommitsTo, IsCommit, ComesTo, IsOwn, IsCurrent, commits, is_post, mark_of, put, request_of, wants_by};
@@ -323,15 +324,25 @@ fn write(slot: &mut SlotState, outcome: &Outcome<'_>, ticket: &Ticket) -> Mark
 {
     slot.serial += 1;
     if let Some(body) = &mut slot.body {
-        body.vars = outcome.after().copy();
+        body.vars = vars_after(outcome);
     }
     slot.ring.push(Entry {
         serial: slot.serial,
         request: outcome.request().copy(),
         before: outcome.found().copy(),
-        after: outcome.after().copy(),
+        after: vars_after(outcome),
     });
     mark(ticket, slot.serial, true)
+}
+
+// The variables that a run left.
+fn vars_after(outcome: &Outcome<'_>) -> Vars
+    ensures vars { result ≡ (meaning_of outcome.now).vars }
+    ensures size { length result ≡ outcome.now.program.vars_size }
+{
+    // The checker learns from this call how many bytes they have at most.
+    let _size = outcome.program().vars_size();
+    Vars::of(outcome.after())
 }
 
 fn mark(ticket: &Ticket, serial: u64, changed: bool) -> Mark

@@ -1,5 +1,5 @@
 -- Bytes without calls, and the first slot that is refused.
-use Rattle.std.proofs.Common.{◌≡◌, ◌⊎◌, inl, inr, ℕ, zero, suc, ◌+◌, ◌*◌, ◌/◌, ◌<◌, ◌≤◌, ◌==◌, ◌&&◌, Bool, true, false, if◌then◌else◌, Option, Some, None, List, [], ◌∷◌, ◌++◌, length, refl, sym, ap, ◌∙◌, subst, arith, below_more, lit<}
+use Rattle.std.proofs.Common.{◌≡◌, ◌⊎◌, inl, inr, ℕ, zero, suc, ◌+◌, ◌*◌, ◌/◌, ◌<◌, ◌≤◌, ◌==◌, ◌&&◌, Bool, true, false, if◌then◌else◌, Some, None, List, [], ◌∷◌, ◌++◌, length, refl, sym, ap, ◌∙◌, subst, arith, below_more}
 use Rattle.std.specs.Prelude.{slice_get}
 use Rattle.std.proofs.lemmas.Bool.{lt-leb, le-leb, cases_lt}
 use Rattle.std.proofs.lemmas.Bool.Decides.{nat_tests}
@@ -18,7 +18,7 @@ use Rattle.fc_isa.specs.declared.rule.Rule.{Rule}
 use Rattle.fc_isa.specs.declared.rule.Rule.TheVariants.{Opcode}
 use Rattle.fc_isa.specs.Rules.{number_of}
 use Rattle.fc_isa.specs.Shapes.{shape_of}
-use Rattle.fc_isa.specs.Encoding.{Fields, fields_at, slot_at, is_whole, is_second, arithmetic, moved, insn_with, insn_of, imm_after, insn_at, insns_below, program_of, fault_at, first_fault, IsFirstFault}
+use Rattle.fc_isa.specs.Encoding.{Fields, fields_at, slot_at, is_whole, is_second, arithmetic, insn_with, insn_of, imm_after, insn_at, insns_below, program_of, fault_at, first_fault, IsFirstFault}
 use Rattle.fc_isa.proofs.First.{none_below, first_some_none, first_of_some, some_of_first, none_faultless, faultless_none}
 use Rattle.fc_isa.proofs.Forms.{form_is}
 use Rattle.fc_isa.proofs.Low.{low_fault_at}

@@ -23,7 +23,7 @@ use Rattle.fc_verify.specs.Calls.{HasNoCall, IsRefusedBy, first_refused}
 use Rattle.fc_verify.specs.Judged.{code_in, program_in, judged}
 use Rattle.fc_verify.specs.Pass.{beginning, is_typable}
 use Rattle.fc_verify.specs.Refusals.{IsFaultOf, IsRefusal, refusal_of}
-use Rattle.fc_verify.specs.Runs.{IsNoCall, IsUntypedProgram}
+use Rattle.fc_verify.specs.Runs.{IsUntypedProgram}
 use Rattle.fc_verify.specs.Stages.{IsHeadOf, IsCodeOf, IsTypingFault}
 use Rattle.fc_verify.specs.Verified.{program_of as program}
 use Rattle.fc_verify.proofs.CallLaws.{first_refused_is, low_refused, program_no_call}

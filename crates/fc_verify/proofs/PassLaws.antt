@@ -12,7 +12,7 @@ use Rattle.fc_isa.specs.Program.{IsInsn}
 use Rattle.fc_kinds.specs.declared.kind.Kind.{Kind}
 use Rattle.fc_kinds.specs.Kinds.{kind_at, Within}
 use Rattle.fc_kinds.specs.Lattice.{IsKind, AreKinds, joined}
-use Rattle.fc_kinds.specs.Laws.{AreNarrowerWays}
+use Rattle.fc_kinds.specs.Laws.{AreNarrowerWays, WaysAreMonotone}
 use Rattle.fc_kinds.specs.Values.{with_some}
 use Rattle.fc_kinds.specs.Refinement.{when}
 use Rattle.fc_kinds.specs.Transfer.{transfer}
@@ -29,7 +29,7 @@ pub record KindRules : Type 0 where
   pub right : (a b : List Kind) → Within b (joined a b)
   pub least : (a b c : List Kind) → Within a c → Within b c → Within (joined a b) c
   pub kinds : (a b : List Kind) → AreKinds a → AreKinds b → AreKinds (joined a b)
-  pub monotone : (vars : ℕ) (insn : Insn) (ks wider : List Kind) (handed : List Way) → IsInsn insn → AreKinds ks → Within ks wider → ways vars insn wider ≡ Some handed → AreNarrowerWays (ways vars insn ks) handed
+  pub monotone : WaysAreMonotone
 
 set_past : {X : Type 0} (xs : List X) (i : ℕ) (y : X) → length xs ≤ i → slice_set xs i y ≡ xs
 set_past [] i y h = refl

@@ -1,5 +1,5 @@
-use Rattle.std.proofs.Common.{◌+◌, ◌<◌, ◌≡◌, false, ℕ, arith, subst, sym}
-use Rattle.fc_verify.specs.Calls.{IsFirstRefused, is_call}
+use Rattle.std.proofs.Common.{arith, subst, sym}
+use Rattle.fc_verify.specs.Calls.{IsFirstRefused}
 use Rattle.fc_verify.proofs.CallLaws.{call_refused, fault_refused}
 use Rattle.fc_verify.proofs.calls.earlier.Goals as goal
 
