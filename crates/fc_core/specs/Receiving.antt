@@ -25,6 +25,8 @@ use Rattle.fc_registry.specs.declared.job.Ask.TheVariants.{Run, Install}
 use Rattle.fc_registry.specs.declared.job.Job.{Job}
 use Rattle.fc_core.specs.declared.front.Delivered.{Delivered}
 use Rattle.fc_core.specs.declared.front.Delivered.TheVariants.{Nothing, Reply, Job as Brings, Signal}
+use Rattle.fc_core.specs.declared.front.Heard.{Heard}
+use Rattle.fc_core.specs.declared.front.Heard.TheVariants as hearing
 use Rattle.fc_core.specs.Replies.{Response, Envelope, bare, reply_kind, sent_in, reset_of}
 use Rattle.fc_core.specs.Ids.{Ids, free_id, reply_id, drawn_for}
 use Rattle.fc_core.specs.Exchanges.{FrontState, table_of}
@@ -173,6 +175,17 @@ brought other o to = []
 abbrev pub reply_or_nothing : Option Emission → Delivered
 reply_or_nothing None = Nothing
 reply_or_nothing (Some emission) = Reply emission
+
+-- a delivery whose job was written to a place
+abbrev pub heard : Heard → Job → Delivered
+heard hearing.Nothing job = Nothing
+heard (hearing.Reply emission) job = Reply emission
+heard hearing.Job job = Brings job
+heard (hearing.Signal id reset) job = Signal id reset
+
+abbrev pub reply_heard : Option Emission → Heard
+reply_heard None = hearing.Nothing
+reply_heard (Some emission) = hearing.Reply emission
 
 -- what is handed on: a job, a signal for the observers, or what is sent at once
 abbrev pub handed_on : Received → FrontState → Endpoint → Delivered

@@ -12,15 +12,17 @@ ghost use Rattle.fc_server.specs.Serving.{Hears, IsBegun, IsServed, Passes, Serv
 
 use crate::server::Server;
 use coap_msg::{Emission, Endpoint};
-use fc_core::{Delivered, Task};
+use fc_core::{Heard, Task};
 use fc_registry::Ask;
 use std::alloc::{AllocError, Global};
 use std::marker::Model;
 
-/// A server on one thread that some history leaves, whatever was called. A clause sees what its front holds, and its shards.
+/// A server on one thread that some history leaves, whatever was called, and the place of the task that it works off. A clause
+/// sees what its front holds, and its shards.
 #[derive(Drop)]
 pub struct Engine {
     server: Server,
+    task: Task,
 }
 
 impl Model for Engine {
@@ -46,6 +48,7 @@ impl Engine {
     {
         Ok(Engine {
             server: Server::new(alloc, first_serial, first_id)?,
+            task: Task::blank(),
         })
     }
 
@@ -62,7 +65,14 @@ impl Engine {
     ) -> Option<Emission>
         ensures { Hears now (Event.Deliver now endpoint bytes.entry) (delivered (advanced self.old.front now) endpoint bytes.now) self.old self.new result }
     {
-        hear(&mut self.server, alloc, now, endpoint, bytes)
+        hear(
+            &mut self.server,
+            &mut self.task,
+            alloc,
+            now,
+            endpoint,
+            bytes,
+        )
     }
 
     /// Takes in a moment in milliseconds: what it does is the event Tick.
@@ -75,6 +85,7 @@ impl Engine {
 
 fn hear(
     server: &mut Server,
+    task: &mut Task,
     alloc: Global,
     now: u64,
     endpoint: Endpoint,
@@ -83,10 +94,13 @@ fn hear(
     requires { IsServed server.old }
     ensures { Hears now (Event.Deliver now endpoint bytes.entry) (delivered (advanced server.old.front now) endpoint bytes.now) server.old server.new result }
 {
-    match server.deliver(now, endpoint, bytes) {
-        Delivered::Nothing | Delivered::Signal { .. } => None,
-        Delivered::Reply(emission) => Some(emission),
-        Delivered::Job(job) => work_off(server, alloc, now, &mut Task::new(job)),
+    match server.hear(now, endpoint, bytes, &mut task.job) {
+        Heard::Nothing | Heard::Signal { .. } => None,
+        Heard::Reply(emission) => Some(emission),
+        Heard::Job => {
+            task.begin();
+            work_off(server, alloc, now, task)
+        }
     }
 }
 

@@ -5,13 +5,13 @@ ghost use Rattle.fc_registry.specs.Slots.{last_serial};
 ghost use Rattle.fc_core.specs.declared.event.Event.{Event};
 ghost use Rattle.fc_core.specs.Exchanges.{advanced};
 ghost use Rattle.fc_core.specs.Ids.{first_ids};
-ghost use Rattle.fc_core.specs.Receiving.{after_delivered, delivered};
+ghost use Rattle.fc_core.specs.Receiving.{after_delivered, delivered, heard};
 ghost use Rattle.fc_server.specs.States.{Answers, AtWork, Does};
 
 use coap_msg::{Emission, Endpoint};
-use fc_core::{Answered, Delivered, Front, Task};
+use fc_core::{Answered, Delivered, Front, Heard, Task};
 use fc_machine::Frame;
-use fc_registry::{Shard, make_shards};
+use fc_registry::{Job, Shard, make_shards};
 use std::alloc::{AllocError, Global};
 use std::marker::Model;
 
@@ -57,6 +57,15 @@ impl Server {
         ensures shards { self.new.shards ≡ self.old.shards }
     {
         self.front.deliver(now, endpoint, bytes)
+    }
+
+    /// Takes a datagram in, at a moment in milliseconds, and writes the job that it brings over another.
+    pub fn hear(&mut self, now: u64, endpoint: Endpoint, bytes: &[u8], job: &mut Job) -> Heard
+        ensures delivered { heard result job.new ≡ delivered (advanced self.old.front now) endpoint bytes.now }
+        ensures front { self.new.front ≡ after_delivered (advanced self.old.front now) endpoint bytes.now }
+        ensures shards { self.new.shards ≡ self.old.shards }
+    {
+        self.front.hear(now, endpoint, bytes, job)
     }
 
     /// Advances the front to a moment in milliseconds.
