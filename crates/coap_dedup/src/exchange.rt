@@ -39,7 +39,7 @@ pub(crate) fn is_live(now: u64, opened: &Opened) -> bool
 pub(crate) fn is_from(endpoint: Endpoint, id: u16, opened: &Opened) -> bool
     ensures { result ≡ is_from endpoint id opened.now }
 {
-    opened.endpoint == endpoint && opened.id == id
+    opened.id == id && opened.endpoint == endpoint
 }
 
 // The place of the exchange of this number: no two that are held at once have the same.

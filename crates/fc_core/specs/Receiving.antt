@@ -176,16 +176,21 @@ abbrev pub reply_or_nothing : Option Emission → Delivered
 reply_or_nothing None = Nothing
 reply_or_nothing (Some emission) = Reply emission
 
--- a delivery whose job was written to a place
-abbrev pub heard : Heard → Job → Delivered
-heard hearing.Nothing job = Nothing
-heard (hearing.Reply emission) job = Reply emission
-heard hearing.Job job = Brings job
-heard (hearing.Signal id reset) job = Signal id reset
+-- a delivery whose job and reply were written
+abbrev pub heard : Heard → Job → Emission → Delivered
+heard hearing.Nothing job emission = Nothing
+heard hearing.Reply job emission = Reply emission
+heard hearing.Job job emission = Brings job
+heard (hearing.Signal id reset) job emission = Signal id reset
 
-abbrev pub reply_heard : Option Emission → Heard
-reply_heard None = hearing.Nothing
-reply_heard (Some emission) = hearing.Reply emission
+abbrev pub heard_if : Bool → Heard
+heard_if true = hearing.Reply
+heard_if false = hearing.Nothing
+
+-- what is sent, where something is
+abbrev pub emission_if : Bool → Emission → Option Emission
+emission_if true emission = Some emission
+emission_if false emission = None
 
 -- what is handed on: a job, a signal for the observers, or what is sent at once
 abbrev pub handed_on : Received → FrontState → Endpoint → Delivered

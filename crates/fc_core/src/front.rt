@@ -2,13 +2,13 @@
 ghost use Rattle.std.specs.Prelude.{◌≡◌, ◌≤◌, [], false, IfOk, length};
 ghost use Rattle.coap_opts.specs.Verdict.{stated, verdict};
 ghost use Rattle.coap_dedup.specs.Exchanges.{IsNew};
-ghost use Rattle.fc_core.specs.Answering.{AnswersIn, after_answered, emission_of};
-ghost use Rattle.fc_core.specs.Askings.{IsAsking, IsWithinLimits, new_request};
+ghost use Rattle.fc_core.specs.Answering.{AnswersIn, after_answered, emission_of, responded};
+ghost use Rattle.fc_core.specs.Askings.{IsAsking, IsWithinLimits, asked_in, new_request};
 ghost use Rattle.fc_core.specs.Contents.{IsOf};
 ghost use Rattle.fc_core.specs.Exchanges as spec;
 ghost use Rattle.fc_core.specs.Exchanges.{advanced, expired, handed};
 ghost use Rattle.fc_core.specs.Ids.{drawn_for, first_ids, free_id};
-ghost use Rattle.fc_core.specs.Receiving.{after_delivered, after_received, ask_by, handed_on, heard, id_in, is_confirmable, job_of, keeping, look_in, looked, received_as, reply_heard, request_asked, told};
+ghost use Rattle.fc_core.specs.Receiving.{after_delivered, after_received, ask_by, emission_if, handed_on, heard, heard_if, id_in, is_confirmable, job_of, keeping, look_in, received_as, reply_or_nothing, request_asked, told};
 ghost use Rattle.fc_core.specs.Receiving as receiving;
 ghost use Rattle.fc_core.specs.Replies.{reset_of};
 
@@ -40,14 +40,14 @@ pub enum Delivered {
     Signal { mid: u16, reset: bool },
 }
 
-/// What a delivery comes to, where the job that it brings is written to a place of the caller's.
-#[derive(Drop)]
+/// What a delivery comes to, where job and reply are written over others of the caller's.
+#[derive(Clone, Copy, Debug, PartialEq, Eq)]
 pub enum Heard {
     /// Nothing: the datagram is ignored.
     Nothing,
-    /// A datagram that is sent at once.
-    Reply(Emission),
-    /// A job, which was written to its place.
+    /// A datagram that is sent at once, which was written.
+    Reply,
+    /// A job, which was written.
     Job,
     /// An acknowledgement or a reset, which is for the observers.
     Signal { mid: u16, reset: bool },
@@ -58,6 +58,17 @@ pub enum Heard {
 pub enum Answered {
     /// It is sent.
     Sent(Emission),
+    /// Its exchange was opened a whole window before or earlier: nothing is sent.
+    Late,
+    /// No message id was free for it: nothing is sent.
+    NoId,
+}
+
+/// What becomes of an answer, where what is sent is written over another emission.
+#[derive(Clone, Copy, Debug, PartialEq, Eq)]
+pub enum Responded {
+    /// It is sent, and was written.
+    Sent,
     /// Its exchange was opened a whole window before or earlier: nothing is sent.
     Late,
     /// No message id was free for it: nothing is sent.
@@ -115,25 +126,33 @@ impl Front {
         ensures after { self.new ≡ after_delivered (advanced self.old now) endpoint bytes.now }
     {
         let mut job = blank_job();
-        match self.hear(now, endpoint, bytes, &mut job) {
+        let mut reply = blank_emission();
+        match self.hear(now, endpoint, bytes, &mut job, &mut reply) {
             Heard::Nothing => Delivered::Nothing,
-            Heard::Reply(emission) => Delivered::Reply(emission),
+            Heard::Reply => Delivered::Reply(reply),
             Heard::Job => Delivered::Job(job),
             Heard::Signal { mid, reset } => Delivered::Signal { mid, reset },
         }
     }
 
-    /// Takes a datagram in as `deliver` does, and writes the job that it brings over another: no job is moved.
+    /// Takes a datagram in as `deliver` does, and writes the job that it brings, or the reply, over another: none is moved.
     #[tactic(auto, unfolding(crate::specs::Receiving::received))]
-    pub fn hear(&mut self, now: u64, endpoint: Endpoint, bytes: &[u8], job: &mut Job) -> Heard
-        ensures delivered { heard result job.new ≡ receiving.delivered (advanced self.old now) endpoint bytes.now }
+    pub fn hear(
+        &mut self,
+        now: u64,
+        endpoint: Endpoint,
+        bytes: &[u8],
+        job: &mut Job,
+        reply: &mut Emission,
+    ) -> Heard
+        ensures delivered { heard result job.new reply.new ≡ receiving.delivered (advanced self.old now) endpoint bytes.now }
         ensures after { self.new ≡ after_delivered (advanced self.old now) endpoint bytes.now }
     {
         self.hand(now);
         match read(bytes) {
-            Ok(message) => self.receive(endpoint, &message, job),
+            Ok(message) => self.receive(endpoint, &message, job, reply),
             Err(Bad::Ignore) => self.ignore(),
-            Err(Bad::Reset(id)) => self.reject(endpoint, id),
+            Err(Bad::Reset(id)) => self.reject(endpoint, id, reply),
         }
     }
 
@@ -161,21 +180,38 @@ impl Front {
         ensures answered { AnswersIn (advanced self.old now) job.now answer.now result }
         ensures after { self.new ≡ after_answered job.now (emission_of result) (advanced self.old now) }
     {
+        let mut reply = blank_emission();
+        match self.respond(now, job, answer, &mut reply) {
+            Responded::Sent => Answered::Sent(reply),
+            Responded::Late => Answered::Late,
+            Responded::NoId => Answered::NoId,
+        }
+    }
+
+    /// Answers a job as `answer` does, and writes what is sent over another emission.
+    pub fn respond(
+        &mut self,
+        now: u64,
+        job: &Job,
+        answer: &Answer,
+        reply: &mut Emission,
+    ) -> Responded
+        requires { IsOf job.now answer.now }
+        ensures answered { AnswersIn (advanced self.old now) job.now answer.now (responded result reply.new) }
+        ensures after { self.new ≡ after_answered job.now (emission_of (responded result reply.new)) (advanced self.old now) }
+    {
         self.tick(now);
         if !is_live(self.now, &job.origin.opening) {
-            return Answered::Late;
+            return Responded::Late;
         }
         let Some(id) = self.reply_id(job.confirmable, job.origin.id) else {
-            return Answered::NoId;
+            return Responded::NoId;
         };
-        let mut bytes = Datagram::new();
-        reply::answer(job, id, answer, &mut bytes);
+        reply.to = job.origin.endpoint;
+        reply::answer(job, id, answer, &mut reply.bytes);
         self.exchanges
-            .close(self.now, job.origin.opening.number, &bytes);
-        Answered::Sent(Emission {
-            to: job.origin.endpoint,
-            bytes,
-        })
+            .close(self.now, job.origin.opening.number, &reply.bytes);
+        Responded::Sent
     }
 
     // The message id of a reply: an acknowledgement has the request's, another message one of the server's own.
@@ -207,18 +243,28 @@ impl Front {
     }
 
     // Rejects a message by its id.
-    fn reject(&mut self, endpoint: Endpoint, id: u16) -> Heard
-        ensures heard { result ≡ Heard.Reply (reset_of endpoint id) }
+    fn reject(&mut self, endpoint: Endpoint, id: u16, reply: &mut Emission) -> Heard
+        ensures heard { result ≡ Heard.Reply }
+        ensures reply { reply.new ≡ reset_of endpoint id }
         ensures after { self.new ≡ expired self.old }
     {
         self.exchanges.expire(self.now);
-        Heard::Reply(reset(endpoint, id))
+        reset(endpoint, id, reply);
+        Heard::Reply
     }
 
     // Takes a message in.
-    fn receive(&mut self, endpoint: Endpoint, message: &Message<'_>, job: &mut Job) -> Heard
-        ensures delivered { let f = expired self.old in heard result job.new ≡ handed_on (received_as f endpoint message.now (verdict message.now)) f endpoint }
-        ensures after { let f = expired self.old in self.new ≡ after_received (received_as f endpoint message.now (verdict message.now)) f endpoint }
+    fn receive(
+        &mut self,
+        endpoint: Endpoint,
+        message: &Message<'_>,
+        job: &mut Job,
+        reply: &mut Emission,
+    ) -> Heard
+        ensures delivered { let f = expired self.old in
+            heard result job.new reply.new ≡ handed_on (received_as f endpoint message.now (verdict message.now)) f endpoint }
+        ensures after { let f = expired self.old in
+            self.new ≡ after_received (received_as f endpoint message.now (verdict message.now)) f endpoint }
     {
         requests_are_within();
         match classify(message) {
@@ -227,15 +273,17 @@ impl Front {
                 message,
                 &Asking::Serve(request),
                 job,
+                reply,
             ),
             Classified::Refused(code) => self.request(
                 endpoint,
                 message,
                 &Asking::Refuse(code),
                 job,
+                reply,
             ),
-            Classified::Silent => self.request(endpoint, message, &Asking::Hush, job),
-            Classified::Reset => self.reject(endpoint, message.id()),
+            Classified::Silent => self.request(endpoint, message, &Asking::Hush, job, reply),
+            Classified::Reset => self.reject(endpoint, message.id(), reply),
             Classified::Signal { reset } => {
                 self.exchanges.expire(self.now);
                 Heard::Signal {
@@ -254,18 +302,24 @@ impl Front {
         message: &Message<'_>,
         asking: &Asking<'_>,
         job: &mut Job,
+        reply: &mut Emission,
     ) -> Heard
         requires { IsAsking asking.now }
-        ensures delivered { let f = expired self.old in heard result job.new ≡ handed_on (looked (look_in f endpoint message.now) message.now (new_request message.now asking.entry.now)) f endpoint }
-        ensures after { let f = expired self.old in self.new ≡ after_received (looked (look_in f endpoint message.now) message.now (new_request message.now asking.entry.now)) f endpoint }
+        ensures delivered { let f = expired self.old in
+            heard result job.new reply.new ≡ handed_on (asked_in f endpoint message.now asking.entry.now) f endpoint }
+        ensures after { let f = expired self.old in
+            self.new ≡ after_received (asked_in f endpoint message.now asking.entry.now) f endpoint }
     {
         match self.exchanges.look(self.now, endpoint, message.id()) {
-            Looked::New => self.open(endpoint, message, asking, job),
-            Looked::Again(bytes) => Heard::Reply(Emission {
-                to: endpoint,
-                bytes,
-            }),
-            Looked::Full => handed_on(self.refuse(endpoint, message, Code::SERVICE_UNAVAILABLE)),
+            Looked::New => self.open(endpoint, message, asking, job, reply),
+            Looked::Again(bytes) => {
+                reply.to = endpoint;
+                reply.bytes = bytes;
+                Heard::Reply
+            }
+            Looked::Full => {
+                replied(self.refuse(endpoint, message, Code::SERVICE_UNAVAILABLE, reply))
+            }
             Looked::Busy | Looked::Silent => Heard::Nothing,
         }
     }
@@ -277,10 +331,11 @@ impl Front {
         message: &Message<'_>,
         asking: &Asking<'_>,
         job: &mut Job,
+        reply: &mut Emission,
     ) -> Heard
         requires new { look_in self.old endpoint message.now ≡ IsNew }
         requires asking { IsAsking asking.now }
-        ensures delivered { heard result job.new ≡ handed_on (new_request message.now asking.entry.now) self.old endpoint }
+        ensures delivered { heard result job.new reply.new ≡ handed_on (new_request message.now asking.entry.now) self.old endpoint }
         ensures after { self.new ≡ after_received (new_request message.now asking.entry.now) self.old endpoint }
     {
         let confirmable = message.kind() == MessageType::Confirmable;
@@ -289,7 +344,7 @@ impl Front {
             .open(self.now, endpoint, message.id(), confirmable);
         match asking {
             Asking::Hush => Heard::Nothing,
-            Asking::Refuse(code) => self.refuse_opened(number, endpoint, message, *code),
+            Asking::Refuse(code) => self.refuse_opened(number, endpoint, message, *code, reply),
             Asking::Serve(request) => {
                 let opening = Opening {
                     number,
@@ -301,19 +356,24 @@ impl Front {
         }
     }
 
-    // Answers a request by a code.
-    fn refuse(&mut self, endpoint: Endpoint, message: &Message<'_>, code: Code) -> Option<Emission>
+    // Answers a request by a code. Tells whether there was a message id for it.
+    fn refuse(
+        &mut self,
+        endpoint: Endpoint,
+        message: &Message<'_>,
+        code: Code,
+        reply: &mut Emission,
+    ) -> bool
         requires { 64 ≤ code.byte }
-        ensures emission { result ≡ told self.old endpoint message.now code.byte }
+        ensures emission { emission_if result reply.new ≡ told self.old endpoint message.now code.byte }
         ensures after { self.new ≡ record self.old { ids = drawn_for (is_confirmable message.now.kind) self.old.ids self.old.now } }
     {
         let confirmable = message.kind() == MessageType::Confirmable;
-        refusal(
-            self.reply_id(confirmable, message.id()),
-            endpoint,
-            message,
-            code,
-        )
+        let Some(id) = self.reply_id(confirmable, message.id()) else {
+            return false;
+        };
+        refusal(id, endpoint, message, code, reply);
+        true
     }
 
     // Answers a request whose exchange was opened with this number.
@@ -323,16 +383,18 @@ impl Front {
         endpoint: Endpoint,
         message: &Message<'_>,
         code: Code,
+        reply: &mut Emission,
     ) -> Heard
         requires { 64 ≤ code.byte }
-        ensures heard { result ≡ reply_heard (told self.old endpoint message.now code.byte) }
-        ensures after { self.new ≡ keeping number (told self.old endpoint message.now code.byte) (record self.old { ids = drawn_for (is_confirmable message.now.kind) self.old.ids self.old.now }) }
+        ensures heard { (job : Job) → heard result job reply.new ≡ reply_or_nothing (told self.old endpoint message.now code.byte) }
+        ensures after { self.new ≡ keeping number (told self.old endpoint message.now code.byte)
+            (record self.old { ids = drawn_for (is_confirmable message.now.kind) self.old.ids self.old.now }) }
     {
-        let emission = self.refuse(endpoint, message, code);
-        if let Some(emission) = &emission {
-            self.exchanges.close(self.now, number, &emission.bytes);
+        let sent = self.refuse(endpoint, message, code, reply);
+        if sent {
+            self.exchanges.close(self.now, number, &reply.bytes);
         }
-        handed_on(emission)
+        replied(sent)
     }
 }
 
@@ -343,12 +405,17 @@ pub fn is_live(now: u64, opening: &Opening) -> bool
     now < opening.at || now - opening.at < WINDOW
 }
 
-fn handed_on(emission: Option<Emission>) -> Heard
-    ensures { result ≡ reply_heard emission }
+fn replied(sent: bool) -> Heard
+    ensures { result ≡ heard_if sent }
 {
-    match emission {
-        None => Heard::Nothing,
-        Some(emission) => Heard::Reply(emission),
+    if sent { Heard::Reply } else { Heard::Nothing }
+}
+
+/// An emission that says nothing, to be written over.
+pub fn blank_emission() -> Emission {
+    Emission {
+        to: Endpoint::default(),
+        bytes: Datagram::new(),
     }
 }
 

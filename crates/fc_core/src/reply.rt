@@ -1,5 +1,5 @@
 //! From answers to datagrams.
-ghost use Rattle.std.specs.Prelude.{◌≡◌, ◌≤◌, length};
+ghost use Rattle.std.specs.Prelude.{◌≡◌, ◌≤◌, Some, length};
 ghost use Rattle.coap_opts.specs.Replies.{reply_options};
 ghost use Rattle.fc_core.specs.Ends.{content_of};
 ghost use Rattle.fc_core.specs.Receiving.{told_by};
@@ -98,35 +98,34 @@ fn reply(
 }
 
 #[tactic(auto, unfolding(crate::specs::Replies::sent_in))]
-// The datagram that answers a request by a code alone, where it gets a message id.
+// Writes the datagram of this message id that answers a request by a code alone.
 pub(crate) fn refusal(
-    id: Option<u16>,
+    id: u16,
     to: Endpoint,
     message: &Message<'_>,
     code: Code,
-) -> Option<Emission>
+    emission: &mut Emission,
+)
     requires { 64 ≤ code.byte }
-    ensures { result ≡ told_by id to message.now code.byte }
+    ensures { Some emission.new ≡ told_by (Some id) to message.now code.byte }
 {
     let reply = Reply {
         kind: reply_kind(message.kind() == MessageType::Confirmable),
         code,
-        id: id?,
+        id,
         token: message.token(),
         options: ReplyOptions::default(),
         payload: &[],
     };
-    let mut bytes = Datagram::new();
-    reply.write(&mut bytes);
-    Some(Emission { to, bytes })
+    emission.to = to;
+    reply.write(&mut emission.bytes);
 }
 
 #[tactic(auto, unfolding(crate::specs::Replies::sent_in))]
-// The Reset message with this id.
-pub(crate) fn reset(to: Endpoint, id: u16) -> Emission
-    ensures { result ≡ reset_of to id }
+// Writes the Reset message with this id.
+pub(crate) fn reset(to: Endpoint, id: u16, emission: &mut Emission)
+    ensures { emission.new ≡ reset_of to id }
 {
-    let mut bytes = Datagram::new();
     let message = Outgoing {
         kind: MessageType::Reset,
         code: Code::EMPTY,
@@ -135,8 +134,8 @@ pub(crate) fn reset(to: Endpoint, id: u16) -> Emission
         options: &[],
         payload: &[],
     };
-    write(&message, &mut bytes);
-    Emission { to, bytes }
+    emission.to = to;
+    write(&message, &mut emission.bytes);
 }
 
 fn reply_kind(confirmable: bool) -> MessageType

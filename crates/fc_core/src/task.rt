@@ -3,7 +3,7 @@ ghost use Rattle.std.specs.Prelude.{◌≡◌, ◌<◌, false, IfOk, OnOk, IsErr
 ghost use Rattle.fc_verify.specs.Accepted.{Accepts};
 ghost use Rattle.fc_verify.specs.Judged.{judged};
 ghost use Rattle.fc_registry.specs.Slots.{Slot, IsOwned, slot_in};
-ghost use Rattle.fc_core.specs.Contents.{AreDone, Unavailable};
+ghost use Rattle.fc_core.specs.Contents.{AreDone, Missing as Misses, Unavailable};
 ghost use Rattle.fc_core.specs.Ends.{refused};
 ghost use Rattle.fc_core.specs.Fits.{FitsStage};
 ghost use Rattle.fc_core.specs.Sound.{AllSafe};
@@ -43,7 +43,7 @@ impl Stage {
         ensures { result ≡ rows.took count taken }
     {
         match taken {
-            Taken::Missing => Stage::ToAnswer(Answer::other(End::Missing)),
+            Taken::Missing => Stage::missing(),
             Taken::Given(ticket) => Stage::ToCommit(count + 1, ticket),
             Taken::Refused => Stage::unavailable(),
         }
@@ -96,6 +96,13 @@ impl Stage {
         ensures { result ≡ Stage.ToAnswer (refused (Refusal.Broken fault)) }
     {
         Stage::ToAnswer(Answer::other(End::Rejected(Refusal::Broken(fault))))
+    }
+
+    /// After the slot was found empty.
+    pub fn missing() -> Stage
+        ensures { result ≡ Stage.ToAnswer Misses }
+    {
+        Stage::ToAnswer(Answer::other(End::Missing))
     }
 
     /// After memory was refused, or where serials are at their end.
@@ -152,10 +159,20 @@ impl Task {
         let Stage::ToTake(count) = self.stage else {
             return true;
         };
-        let taken = shard.take(&self.job);
-        let memory = !matches!(&taken, Taken::Refused);
-        self.stage = Stage::took(count, taken);
-        memory
+        match shard.take(&self.job) {
+            Taken::Given(ticket) => {
+                self.stage = Stage::ToCommit(count + 1, ticket);
+                true
+            }
+            Taken::Missing => {
+                self.stage = Stage::missing();
+                true
+            }
+            Taken::Refused => {
+                self.stage = Stage::unavailable();
+                false
+            }
+        }
     }
 
     /// Takes without memory: only an empty slot needs none.

@@ -3,11 +3,13 @@ ghost use Rattle.std.specs.Prelude.{◌≡◌, ◌≤◌, Option, OnOk};
 ghost use Rattle.std.specs.Io.KnownBytes.{Appends};
 ghost use Rattle.coap_msg.specs.declared.types.Emission.{Emission as Sent};
 ghost use Rattle.fc_registry.specs.Slots.{last_serial};
+ghost use Rattle.fc_core.specs.Receiving.{emission_if};
 ghost use Rattle.fc_service.specs.Playing.{endpoint_of, printed, text_of, IsCarriedOut};
 
 use crate::hexadecimal;
 use crate::line::{Line, LineError, parse};
 use coap_msg::{Emission, Endpoint};
+use fc_core::front::blank_emission;
 use fc_server::Engine;
 use std::alloc::{AllocError, Global};
 use std::io;
@@ -76,10 +78,11 @@ fn play_lines<R: BufRead + Drop, W: Write>(
     requires { first_serial ≤ last_serial }
 {
     let mut engine = Engine::new(alloc, first_serial, first_id)?;
+    let mut reply = blank_emission();
     let mut number = 0u64;
     for text in input.split(alloc, b'\n') {
         number = number.saturating_add(1);
-        play_line(alloc, &mut engine, &text?, number, out)?;
+        play_line(alloc, &mut engine, &mut reply, &text?, number, out)?;
     }
     Ok(())
 }
@@ -88,25 +91,28 @@ fn play_lines<R: BufRead + Drop, W: Write>(
 fn play_line<W: Write>(
     alloc: Global,
     engine: &mut Engine,
+    reply: &mut Emission,
     text: &[u8],
     number: u64,
     out: &mut W,
 ) -> Result<(), Stop> {
     match parse(alloc, text) {
-        Ok(line) => Ok(carry_out(alloc, engine, &line, out)?),
+        Ok(line) => Ok(carry_out(alloc, engine, reply, &line, out)?),
         Err(LineError::Bad) => Err(Stop::BadLine(number)),
         Err(LineError::NoMemory) => Err(Stop::Memory(AllocError)),
     }
 }
 
-// Carries out a line, and prints what it sends.
+// Carries out a line, and prints what it sends, which is written over another emission.
 fn carry_out<W: Write>(
     alloc: Global,
     engine: &mut Engine,
+    reply: &mut Emission,
     line: &Line,
     out: &mut W,
 ) -> io::Result<()>
-    ensures { (sent : Option Sent) × IsCarriedOut line.now engine.old sent engine.new × OnOk result (Appends (W.contents out.old) (W.contents out.new) (text_of sent)) }
+    ensures { (sent : Option Sent) × IsCarriedOut line.now engine.old sent engine.new
+        × OnOk result (Appends (W.contents out.old) (W.contents out.new) (text_of sent)) }
 {
     match line {
         Line::Tick { now } => {
@@ -114,10 +120,8 @@ fn carry_out<W: Write>(
             Ok(())
         }
         Line::Deliver { now, peer, bytes } => {
-            match engine.hear(alloc, *now, endpoint(*peer), bytes) {
-                None => Ok(()),
-                Some(emission) => print(out, &emission),
-            }
+            let sent = engine.hear(alloc, *now, endpoint(*peer), bytes, reply);
+            print_if(out, sent, reply)
         }
     }
 }
@@ -130,6 +134,13 @@ pub fn endpoint(peer: u8) -> Endpoint
         ip: [127, 0, 0, peer],
         port: PORT,
     }
+}
+
+// Prints an emission, where it is sent.
+fn print_if<W: Write>(out: &mut W, sent: bool, emission: &Emission) -> io::Result<()>
+    ensures { OnOk result (Appends (W.contents out.old) (W.contents out.new) (text_of (emission_if sent emission.now))) }
+{
+    if sent { print(out, emission) } else { Ok(()) }
 }
 
 /// Prints an emission as `peer hex`, and has it written out.

@@ -4,7 +4,7 @@ use Rattle.fc_core.specs.declared.front.Delivered.{Delivered}
 use Rattle.fc_core.specs.declared.front.Delivered.TheVariants.{Job as Brings}
 use Rattle.fc_core.specs.declared.front.Heard.{Heard as Hearing}
 use Rattle.fc_core.specs.declared.stage.Task.{Task}
-use Rattle.fc_core.specs.Receiving.{heard}
+use Rattle.fc_core.specs.Receiving.{emission_if, heard}
 use Rattle.fc_server.specs.Serving.{Serves, Heard, Worked, next}
 use Rattle.fc_server.proofs.Served.{IsJobless, delivered_on, heard_on, sent_by}
 use Rattle.fc_server.proofs.engine.hear.Goals as goal
@@ -13,7 +13,7 @@ pub work_off-requires : goal.work_off-requires
 work_off-requires c =
     let e = c.hear.ensures in
     let job = c.hear.new.job in
-    let is = sym e.delivered ∙ ap (λ (r : Hearing). heard r job) c.in-Job.is in
+    let is = sym e.delivered ∙ ap (λ (r : Hearing). heard r job c.hear.new.reply) c.in-Job.is in
     let event = Deliver c.args.now c.args.endpoint c.args.bytes in
     let serves = delivered_on c.args.now c.args.endpoint c.args.bytes c.args.server.now c.hear.new.self (Brings job) is e.front e.shards c.requires.history c.requires.tasks c.requires.serves in
     record {
@@ -26,25 +26,25 @@ pub returns-in-Nothing : goal.returns-in-Nothing
 returns-in-Nothing c =
     let e = c.hear.ensures in
     let job = c.hear.new.job in
-    let d = heard c.hear.result job in
+    let d = heard c.hear.result job c.hear.new.reply in
     ⊎_elim
-    (λ p. let is = ap (λ (r : Hearing). heard r job) p in heard_on c.args.now c.args.endpoint c.args.bytes c.args.server.now c.hear.new.self d None (subst IsJobless (sym is) tt) (sym (ap sent_by is)) (sym e.delivered) e.front e.shards)
-    (λ q. let is = ap (λ (r : Hearing). heard r job) q.2 in heard_on c.args.now c.args.endpoint c.args.bytes c.args.server.now c.hear.new.self d None (subst IsJobless (sym is) tt) (sym (ap sent_by is)) (sym e.delivered) e.front e.shards)
+    (λ p. let is = ap (λ (r : Hearing). heard r job c.hear.new.reply) p in heard_on c.args.now c.args.endpoint c.args.bytes c.args.server.now c.hear.new.self d None (subst IsJobless (sym is) tt) (sym (ap sent_by is)) (sym e.delivered) e.front e.shards)
+    (λ q. let is = ap (λ (r : Hearing). heard r job c.hear.new.reply) q.2 in heard_on c.args.now c.args.endpoint c.args.bytes c.args.server.now c.hear.new.self d None (subst IsJobless (sym is) tt) (sym (ap sent_by is)) (sym e.delivered) e.front e.shards)
     c.in-Nothing.is
 
 pub returns-in-Reply : goal.returns-in-Reply
 returns-in-Reply c =
     let e = c.hear.ensures in
     let job = c.hear.new.job in
-    let is = ap (λ (r : Hearing). heard r job) c.in-Reply.is in
-    heard_on c.args.now c.args.endpoint c.args.bytes c.args.server.now c.hear.new.self (heard c.hear.result job) _ (subst IsJobless (sym is) tt) (sym (ap sent_by is)) (sym e.delivered) e.front e.shards
+    let is = ap (λ (r : Hearing). heard r job c.hear.new.reply) c.in-Reply.is in
+    heard_on c.args.now c.args.endpoint c.args.bytes c.args.server.now c.hear.new.self (heard c.hear.result job c.hear.new.reply) _ (subst IsJobless (sym is) tt) (sym (ap sent_by is)) (sym e.delivered) e.front e.shards
 
 pub returns-in-Job : goal.returns-in-Job
 returns-in-Job c = λ h tasks v.
     let e = c.hear.ensures in
     let job = c.hear.new.job in
-    let is = sym e.delivered ∙ ap (λ (r : Hearing). heard r job) c.in-Job.is in
+    let is = sym e.delivered ∙ ap (λ (r : Hearing). heard r job c.hear.new.reply) c.in-Job.is in
     let event = Deliver c.args.now c.args.endpoint c.args.bytes in
     let serves = delivered_on c.args.now c.args.endpoint c.args.bytes c.args.server.now c.hear.new.self (Brings job) is e.front e.shards h tasks v in
     let worked = c.work_off.ensures (next h event None) tasks (subst (λ (t : Task). Serves (next h event None) c.hear.new.self (tasks ++ t ∷ [])) (sym c.begin.ensures) serves) in
-    subst (λ (y : Delivered). Heard h (length tasks) event y c.args.now c.work_off.new.server c.work_off.result) (sym is) (subst (λ (t : Task). Worked (next h event None) (length tasks) t.job.ask c.args.now c.work_off.new.server c.work_off.result) c.begin.ensures worked)
+    subst (λ (y : Delivered). Heard h (length tasks) event y c.args.now c.work_off.new.server (emission_if c.work_off.result c.work_off.new.reply)) (sym is) (subst (λ (t : Task). Worked (next h event None) (length tasks) t.job.ask c.args.now c.work_off.new.server (emission_if c.work_off.result c.work_off.new.reply)) c.begin.ensures worked)
