@@ -1,2 +1,2 @@
-mod Seams
 pub mod Arrival
+pub mod Places

@@ -3,9 +3,18 @@ use Rattle.std.specs.Prelude.{ℕ, ◌+◌, ◌==◌, ◌&&◌, nat_eq, Bool, tr
 use Rattle.std.specs.Cmp.Lexicographic.{pointwise}
 use Rattle.arrayvec.specs.ArrayVec.{ArrayVec}
 use Rattle.coap_msg.specs.declared.types.Endpoint.{Endpoint}
-use Rattle.coap_dedup.specs.declared.exchange.Exchange.{Exchange}
 use Rattle.coap_dedup.specs.declared.exchanges.Closed.{Closed}
 use Rattle.coap_dedup.specs.declared.exchanges.Closed.TheVariants as answers
+
+-- a request that was opened: whose it is, its message id, whether it is confirmable, its number and moment, and its answer,
+-- where it has one
+pub record Exchange : Type 0 where
+  pub endpoint : Endpoint
+  pub id : ℕ
+  pub confirmable : Bool
+  pub number : ℕ
+  pub at : ℕ
+  pub answer : Option (ArrayVec ℕ)
 
 -- the moment, how many exchanges were opened, and those that are held, in order of arrival
 pub record Table : Type 0 where
@@ -17,9 +26,13 @@ pub record Table : Type 0 where
 abbrev pub window : ℕ
 window = 247000
 
+-- that moment was less than a window before
+abbrev pub is_within : ℕ → ℕ → Bool
+is_within now at = nat_lt now (at + window)
+
 -- it was opened less than a window before
 abbrev pub is_live : ℕ → Exchange → Bool
-is_live now e = nat_lt now (e.at + window)
+is_live now e = is_within now e.at
 
 abbrev pub is_same : Endpoint → Endpoint → Bool
 is_same a b = pointwise nat_eq a.ip b.ip && (a.port == b.port)

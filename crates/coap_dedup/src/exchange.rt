@@ -1,48 +1,88 @@
 //! One exchange.
-ghost use Rattle.std.specs.Prelude.{◌≡◌};
-ghost use Rattle.coap_dedup.specs.Exchanges.{is_live, is_of, is_open, answered};
+ghost use Rattle.std.specs.Prelude.{◌≡◌, ◌%◌, ◌<◌, true, false, length, slice_set};
+ghost use Rattle.coap_dedup.specs.Exchanges.{is_within};
+ghost use Rattle.coap_dedup.specs.Views.{is_from, kept_at};
 
 use coap_msg::{Datagram, Endpoint};
 
 /// How long an exchange is kept, in milliseconds.
 pub const WINDOW: u64 = 247_000;
 
-/// A request that was opened: whose it is, its message id, whether it is confirmable, its number and moment, and its
-/// answer, where it has one.
+/// How many exchanges are held at once.
+pub const EXCHANGES: usize = 1024;
+
+/// A request that was opened: whose it is, its message id, whether it is confirmable, its number and moment.
+#[derive(Clone, Copy, Debug)]
+pub(crate) struct Opened {
+    pub(crate) endpoint: Endpoint,
+    pub(crate) id: u16,
+    pub(crate) confirmable: bool,
+    pub(crate) number: u64,
+    pub(crate) at: u64,
+}
+
+/// Where the answer of an exchange is kept, once it is answered.
 #[derive(Drop)]
-pub struct Exchange {
-    pub endpoint: Endpoint,
-    pub id: u16,
-    pub confirmable: bool,
-    pub number: u64,
-    pub at: u64,
-    pub answer: Option<Datagram>,
+pub(crate) struct Kept {
+    pub(crate) answered: bool,
+    pub(crate) bytes: Datagram,
 }
 
 // Whether it was opened less than a window before.
-pub(crate) fn is_live(now: u64, exchange: &Exchange) -> bool
-    ensures { result ≡ is_live now exchange.now }
+pub(crate) fn is_live(now: u64, opened: &Opened) -> bool
+    ensures { result ≡ is_within now opened.now.at }
 {
-    now < exchange.at || now - exchange.at < WINDOW
+    now < opened.at || now - opened.at < WINDOW
 }
 
 // Whether it is of this endpoint and message id.
-pub(crate) fn is_of(endpoint: Endpoint, id: u16, exchange: &Exchange) -> bool
-    ensures { result ≡ is_of endpoint id exchange.now }
+pub(crate) fn is_from(endpoint: Endpoint, id: u16, opened: &Opened) -> bool
+    ensures { result ≡ is_from endpoint id opened.now }
 {
-    exchange.endpoint == endpoint && exchange.id == id
+    opened.id == id && opened.endpoint == endpoint
 }
 
-// Keeps the answer, where it is the exchange of this number and live. Says whether it is.
-pub(crate) fn answer(now: u64, number: u64, bytes: &Datagram, exchange: &mut Exchange) -> bool
-    ensures found { result ≡ is_open now number exchange.old }
-    ensures after { exchange.new ≡ answered now number bytes.now exchange.old }
+// The place of the exchange of this number: no two that are held at once have the same.
+pub(crate) fn place(number: u64) -> usize
+    ensures place { result ≡ number % 1024 }
+    ensures below { result < 1024 }
 {
-    let found = exchange.number == number && is_live(now, exchange);
-    if found {
-        exchange.answer = Some(copy(bytes));
-    }
-    found
+    (number % EXCHANGES as u64) as usize
+}
+
+// What is kept at the place of this number.
+pub(crate) fn answer_of(answers: &Vec<Kept>, number: u64) -> &Kept
+    requires { length answers.now.items ≡ 1024 }
+    ensures { result.now ≡ kept_at answers.now.items number }
+{
+    &answers[place(number)]
+}
+
+// Makes the place of this number free of an answer.
+pub(crate) fn forget(answers: &mut Vec<Kept>, number: u64)
+    requires { length answers.old.items ≡ 1024 }
+    ensures { answers.new.items ≡ slice_set answers.old.items (number % 1024) (record { answered = false; bytes = (kept_at answers.old.items number).bytes }) }
+{
+    let kept = &mut answers[place(number)];
+    kept.answered = false;
+}
+
+// Writes an answer to the place of this number.
+pub(crate) fn keep(answers: &mut Vec<Kept>, number: u64, bytes: &Datagram)
+    requires { length answers.old.items ≡ 1024 }
+    ensures { answers.new.items ≡ slice_set answers.old.items (number % 1024) (record { answered = true; bytes = bytes.now }) }
+{
+    let kept = &mut answers[place(number)];
+    kept.answered = true;
+    write_over(&mut kept.bytes, bytes);
+}
+
+// Writes a datagram over another.
+fn write_over(written: &mut Datagram, bytes: &Datagram)
+    ensures { written.new ≡ bytes.now }
+{
+    written.clear();
+    let _fits = written.try_extend_from_slice(bytes.as_slice());
 }
 
 // Another copy of a datagram.

@@ -1,16 +1,16 @@
 //! The exchanges that are held.
-ghost use Rattle.std.specs.Prelude.{◌≡◌, ◌+◌, ◌≤◌, [], ◌∷◌, ◌++◌, filter, find, length, map, None, IfOk, MatchOption, vec_capacity};
-ghost use Rattle.coap_dedup.specs.Exchanges.{is_live, is_of, is_open, answered, expired, look_at, looked, has_room, repeated, IsNew, closing, opened};
+ghost use Rattle.std.specs.Prelude.{◌≡◌, ◌+◌, ◌<◌, ◌≤◌, [], ◌∷◌, ◌++◌, filter, find, length, map, IfOk, MatchOption};
 ghost use Rattle.std.specs.List.{list_any};
+ghost use Rattle.circular_buffer.specs.Buffer.{buffer};
+ghost use Rattle.coap_dedup.specs.Exchanges.{is_open, answered, expired, look_at, looked, has_room, repeated_by, IsNew, closing, opened};
 ghost use Rattle.coap_dedup.specs.Looks.{seen};
+ghost use Rattle.coap_dedup.specs.Views.{InOrder, IsGone, IsNumbered, answer_if, is_from, is_recent};
 
-use crate::exchange::{Exchange, answer, copy, is_live, is_of};
+use crate::exchange::{EXCHANGES, Kept, Opened, answer_of, copy, forget, is_from, is_live, keep};
+use circular_buffer::HeapCircularBuffer;
 use coap_msg::{Datagram, Endpoint};
 use std::alloc::{AllocError, Global};
 use std::marker::Model;
-
-/// How many exchanges are held at once.
-pub const EXCHANGES: usize = 1024;
 
 /// What a request is to the exchanges that are held.
 #[derive(Drop)]
@@ -37,22 +37,26 @@ pub enum Closed {
 }
 
 /// The exchanges that are less than a window old, in order of arrival. Moments are in milliseconds.
+///
+/// The requests are a ring. Their answers lie apart, each at its exchange's number modulo 1,024, and are never moved.
 #[derive(Drop)]
 pub struct Exchanges {
     now: u64,
     opened: u64,
-    held: Vec<Exchange>,
+    requests: HeapCircularBuffer<Opened>,
+    answers: Vec<Kept>,
 }
 
 impl Model for Exchanges {
-    ghost use Rattle.std.specs.Prelude.{◌≤◌, length, vec_capacity};
+    ghost use Rattle.std.specs.Prelude.{◌≡◌, ◌≤◌, length, map};
     ghost use Rattle.coap_dedup.specs.Exchanges.{Table};
+    ghost use Rattle.coap_dedup.specs.Views.{IsArrived, as_exchange};
 
     ghost Value = { Table };
 
-    ghost view = { λ x. record { now = x.now; opened = x.opened; held = x.held.items } };
+    ghost view = { λ x. record { now = x.now; opened = x.opened; held = map (as_exchange x.answers.items) x.requests.items } };
 
-    ghost invariant = { λ x. (length x.held.items ≤ 1024) × (1024 ≤ vec_capacity x.held) };
+    ghost invariant = { λ x. (x.requests.capacity ≡ 1024) × (length x.requests.items ≤ 1024) × (length x.answers.items ≡ 1024) × IsArrived x.now x.opened x.requests.items };
 }
 
 impl Exchanges {
@@ -66,7 +70,8 @@ impl Exchanges {
         Ok(Exchanges {
             now: 0,
             opened: 0,
-            held: Vec::with_capacity(alloc, EXCHANGES)?,
+            requests: HeapCircularBuffer::with_capacity(alloc, EXCHANGES)?,
+            answers: no_answers(alloc)?,
         })
     }
 
@@ -77,9 +82,9 @@ impl Exchanges {
         ensures after { self.new ≡ expired self.old now }
     {
         self.expire(now);
-        match find(&self.held, endpoint, id) {
-            Some(exchange) => repeat(exchange),
-            None => new_in(self.held.len(), self.opened),
+        match find(&self.requests, endpoint, id) {
+            Some(opened) => repeat(opened.confirmable, answer_of(&self.answers, opened.number)),
+            None => new_in(self.requests.len(), self.opened),
         }
     }
 
@@ -91,13 +96,13 @@ impl Exchanges {
         ensures after { self.new ≡ opened self.old now endpoint id confirmable }
     {
         let number = self.opened;
-        self.held.push_reserved(Exchange {
+        forget(&mut self.answers, number);
+        self.requests.push_back(Opened {
             endpoint,
             id,
             confirmable,
             number,
             at: now,
-            answer: None,
         });
         self.now = now;
         self.opened += 1;
@@ -109,10 +114,12 @@ impl Exchanges {
         ensures closed { result ≡ closing (list_any (is_open now opening) self.old.held) }
         ensures after { self.new ≡ record self.old { held = map (answered now opening bytes.now) self.old.held } }
     {
-        if close(&mut self.held, now, opening, bytes) {
-            Closed::Closed
-        } else {
-            Closed::Late
+        match numbered(&self.requests, self.opened, opening) {
+            Some(opened) if is_live(now, &opened) => {
+                keep(&mut self.answers, opening, bytes);
+                Closed::Closed
+            }
+            _ => Closed::Late,
         }
     }
 
@@ -122,8 +129,22 @@ impl Exchanges {
         ensures { self.new ≡ expired self.old now }
     {
         self.now = now;
-        expire(&mut self.held, now);
+        expire(&mut self.requests, now);
     }
+}
+
+// 1,024 places without an answer.
+fn no_answers(alloc: Global) -> Result<Vec<Kept>, AllocError>
+    ensures { IfOk result (λ v. length v.items ≡ 1024) }
+{
+    let mut answers = Vec::with_capacity(alloc, EXCHANGES)?;
+    for _place in 0..EXCHANGES {
+        answers.push(Kept {
+            answered: false,
+            bytes: Datagram::new(),
+        })?;
+    }
+    Ok(answers)
 }
 
 // What a new request is, where so many are held, and so many were opened.
@@ -137,46 +158,62 @@ fn new_in(held: usize, opened: u64) -> Looked
     }
 }
 
-// What a repeat of this exchange is.
-fn repeat(exchange: &Exchange) -> Looked
-    ensures { seen result ≡ repeated exchange.now }
+// What a repeat of an exchange is, by its request and its answer.
+fn repeat(confirmable: bool, kept: &Kept) -> Looked
+    ensures { seen result ≡ repeated_by confirmable (answer_if kept.now.answered kept.now.bytes) }
 {
-    match &exchange.answer {
-        None => Looked::Busy,
-        Some(bytes) if exchange.confirmable => Looked::Again(copy(bytes)),
-        Some(_) => Looked::Silent,
+    if !kept.answered {
+        Looked::Busy
+    } else if confirmable {
+        Looked::Again(copy(&kept.bytes))
+    } else {
+        Looked::Silent
     }
 }
 
-// Lets go of what is too old.
-fn expire(held: &mut Vec<Exchange>, now: u64)
-    ensures held { held.new.items ≡ filter (is_live now) held.old.items }
-    ensures room { vec_capacity held.new ≡ vec_capacity held.old }
-    ensures fewer { length held.new.items ≤ length held.old.items }
+// Lets go of what is too old: the oldest, while they are.
+fn expire(requests: &mut HeapCircularBuffer<Opened>, now: u64)
+    requires { InOrder requests.old.items }
+    ensures { requests.new ≡ buffer (filter (is_recent now) requests.old.items) requests.old.capacity }
 {
-    held.retain(|exchange| is_live(now, exchange));
+    'oldest: while let Some(oldest) = requests.front() {
+        if is_live(now, oldest) {
+            return;
+        }
+        requests.pop_front();
+    }
 }
 
-// The exchange of this endpoint and message id.
-fn find(held: &[Exchange], endpoint: Endpoint, id: u16) -> Option<&Exchange>
-    ensures { MatchOption result (find (is_of endpoint id) held.now ≡ None) (λ e. find (is_of endpoint id) held.now ≡ Some e.now) }
+// The request of this endpoint and message id.
+fn find(requests: &HeapCircularBuffer<Opened>, endpoint: Endpoint, id: u16) -> Option<Opened>
+    ensures { result ≡ find (is_from endpoint id) requests.now.items }
 {
-    for exchange in held {
-        if is_of(endpoint, id, exchange) {
-            return Some(exchange);
+    let (older, newer) = requests.as_slices();
+    match find_in(older, endpoint, id) {
+        None => find_in(newer, endpoint, id),
+        found => found,
+    }
+}
+
+fn find_in(requests: &[Opened], endpoint: Endpoint, id: u16) -> Option<Opened>
+    ensures { result ≡ find (is_from endpoint id) requests.now }
+{
+    for opened in requests {
+        if is_from(endpoint, id, opened) {
+            return Some(*opened);
         }
     }
     None
 }
 
-// Keeps the answer of the exchange of this number, where it is held.
-fn close(held: &mut [Exchange], now: u64, number: u64, bytes: &Datagram) -> bool
-    ensures found { result ≡ list_any (is_open now number) held.old }
-    ensures after { held.new ≡ map (answered now number bytes.now) held.old }
+// The request of this number, of those that are held, where so many were opened.
+fn numbered(requests: &HeapCircularBuffer<Opened>, opened: u64, number: u64) -> Option<Opened>
+    ensures { MatchOption result (IsGone requests.now.items opened number) (IsNumbered requests.now.items opened number) }
 {
-    let mut found = false;
-    for exchange in held.iter_mut() {
-        found |= answer(now, number, bytes, exchange);
+    let held = requests.len() as u64;
+    if opened <= number || held < opened - number {
+        return None;
     }
-    found
+    let place = held - (opened - number);
+    requests.get(place as usize).copied()
 }

@@ -7,5 +7,4 @@
 pub mod exchange;
 pub mod exchanges;
 
-pub use exchange::Exchange;
 pub use exchanges::{Closed, Exchanges, Looked};

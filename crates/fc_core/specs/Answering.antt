@@ -4,6 +4,8 @@ use Rattle.coap_msg.specs.declared.types.Emission.{Emission}
 use Rattle.fc_registry.specs.declared.job.Job.{Job}
 use Rattle.fc_core.specs.declared.front.Answered.{Answered}
 use Rattle.fc_core.specs.declared.front.Answered.TheVariants.{Sent, Late, NoId}
+use Rattle.fc_core.specs.declared.front.Responded.{Responded}
+use Rattle.fc_core.specs.declared.front.Responded.TheVariants as responds
 use Rattle.fc_core.specs.Contents.{Content}
 use Rattle.fc_core.specs.Ids.{drawn_for}
 use Rattle.fc_core.specs.Replies.{IsReplyTo}
@@ -19,6 +21,12 @@ Answers live id job content other = ⊥
 -- of a front that has advanced to the moment
 abbrev pub AnswersIn : FrontState → Job → Content → Answered → Type 0
 AnswersIn f job content answered = Answers (is_live f.now job.origin.opening) (id_in f job.confirmable job.origin.id) job content answered
+
+-- an answer whose emission was written
+abbrev pub responded : Responded → Emission → Answered
+responded responds.Sent emission = Sent emission
+responded responds.Late emission = Late
+responded responds.NoId emission = NoId
 
 abbrev pub emission_of : Answered → Option Emission
 emission_of (Sent emission) = Some emission

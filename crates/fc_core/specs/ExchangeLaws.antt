@@ -6,7 +6,7 @@ use Rattle.coap_msg.specs.declared.types.Endpoint.{Endpoint}
 use Rattle.coap_msg.specs.Reading.{reading_of}
 use Rattle.coap_msg.specs.Wire.{Message}
 use Rattle.coap_opts.specs.Verdict.{Verdict, IsAsked, IsRefused, IsSilent, verdict}
-use Rattle.coap_dedup.specs.declared.exchange.Exchange.{Exchange}
+use Rattle.coap_dedup.specs.Exchanges.{Exchange}
 use Rattle.coap_dedup.specs.Exchanges.{is_of}
 use Rattle.fc_core.specs.declared.event.Event.{Event}
 use Rattle.fc_core.specs.declared.event.Event.TheVariants.{Deliver}

@@ -1,6 +1,6 @@
 -- What a front holds.
 use Rattle.std.specs.Prelude.{ℕ, ◌+◌, Bool, nat_lt, List, filter, max}
-use Rattle.coap_dedup.specs.declared.exchange.Exchange.{Exchange}
+use Rattle.coap_dedup.specs.Exchanges.{Exchange}
 use Rattle.coap_dedup.specs.Exchanges.{Table, window, is_live as is_held}
 use Rattle.fc_registry.specs.declared.job.Opening.{Opening}
 use Rattle.fc_core.specs.Ids.{Ids}

@@ -14,7 +14,7 @@ use Rattle.coap_opts.specs.declared.request.Method.TheVariants as methods
 use Rattle.coap_opts.specs.declared.request.Resource.{Resource}
 use Rattle.coap_opts.specs.declared.request.Resource.TheVariants as resources
 use Rattle.coap_opts.specs.Verdict.{Asked, Verdict, IsAsked, IsRefused, IsSilent, IsReset, IsSignal, IsIgnored, verdict}
-use Rattle.coap_dedup.specs.declared.exchange.Exchange.{Exchange}
+use Rattle.coap_dedup.specs.Exchanges.{Exchange}
 use Rattle.coap_dedup.specs.Exchanges.{Look, IsNew, IsBusy, IsAgain, IsSilent as IsAnsweredNon, IsFull, look_at, answered}
 use Rattle.fc_help.specs.Request.{Request}
 use Rattle.fc_help.specs.declared.request.Method.{Method as Verb}
@@ -25,6 +25,8 @@ use Rattle.fc_registry.specs.declared.job.Ask.TheVariants.{Run, Install}
 use Rattle.fc_registry.specs.declared.job.Job.{Job}
 use Rattle.fc_core.specs.declared.front.Delivered.{Delivered}
 use Rattle.fc_core.specs.declared.front.Delivered.TheVariants.{Nothing, Reply, Job as Brings, Signal}
+use Rattle.fc_core.specs.declared.front.Heard.{Heard}
+use Rattle.fc_core.specs.declared.front.Heard.TheVariants as hearing
 use Rattle.fc_core.specs.Replies.{Response, Envelope, bare, reply_kind, sent_in, reset_of}
 use Rattle.fc_core.specs.Ids.{Ids, free_id, reply_id, drawn_for}
 use Rattle.fc_core.specs.Exchanges.{FrontState, table_of}
@@ -173,6 +175,22 @@ brought other o to = []
 abbrev pub reply_or_nothing : Option Emission → Delivered
 reply_or_nothing None = Nothing
 reply_or_nothing (Some emission) = Reply emission
+
+-- a delivery whose job and reply were written
+abbrev pub heard : Heard → Job → Emission → Delivered
+heard hearing.Nothing job emission = Nothing
+heard hearing.Reply job emission = Reply emission
+heard hearing.Job job emission = Brings job
+heard (hearing.Signal id reset) job emission = Signal id reset
+
+abbrev pub heard_if : Bool → Heard
+heard_if true = hearing.Reply
+heard_if false = hearing.Nothing
+
+-- what is sent, where something is
+abbrev pub emission_if : Bool → Emission → Option Emission
+emission_if true emission = Some emission
+emission_if false emission = None
 
 -- what is handed on: a job, a signal for the observers, or what is sent at once
 abbrev pub handed_on : Received → FrontState → Endpoint → Delivered

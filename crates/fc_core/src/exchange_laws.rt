@@ -1,5 +1,5 @@
 //! What a history promises of exchanges and message ids: each function is a law, and its contract says it.
-ghost use Rattle.coap_dedup.specs.declared.exchange.Exchange.{Exchange};
+ghost use Rattle.coap_dedup.specs.Exchanges.{Exchange};
 ghost use Rattle.fc_core.specs.ExchangeLaws.{AreApart, AreInOrder, Opens, Repeats, draws_of, first_id, repeat_emits};
 ghost use Rattle.fc_core.specs.History.{Entry, History, Seen, seen, and_then, job};
 ghost use Rattle.fc_core.specs.Laws.{HasCome};

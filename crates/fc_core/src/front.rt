@@ -1,14 +1,14 @@
 //! The front: exchanges, and the way in and out.
-ghost use Rattle.std.specs.Prelude.{◌≡◌, ◌≤◌, [], false, IfOk};
+ghost use Rattle.std.specs.Prelude.{◌≡◌, ◌≤◌, [], false, IfOk, length};
 ghost use Rattle.coap_opts.specs.Verdict.{asked_by, verdict};
 ghost use Rattle.coap_dedup.specs.Exchanges.{IsNew};
-ghost use Rattle.fc_core.specs.Answering.{AnswersIn, after_answered, emission_of};
-ghost use Rattle.fc_core.specs.Askings.{IsAsking, IsWithinLimits, new_request};
+ghost use Rattle.fc_core.specs.Answering.{AnswersIn, after_answered, emission_of, responded};
+ghost use Rattle.fc_core.specs.Askings.{IsAsking, IsWithinLimits, asked_in, new_request};
 ghost use Rattle.fc_core.specs.Contents.{IsOf};
 ghost use Rattle.fc_core.specs.Exchanges as spec;
 ghost use Rattle.fc_core.specs.Exchanges.{advanced, expired, handed};
 ghost use Rattle.fc_core.specs.Ids.{drawn_for, first_ids, free_id};
-ghost use Rattle.fc_core.specs.Receiving.{after_delivered, after_received, ask_by, handed_on, id_in, is_confirmable, job_of, keeping, look_in, looked, received_as, reply_or_nothing, request_asked, told};
+ghost use Rattle.fc_core.specs.Receiving.{after_delivered, after_received, ask_by, emission_if, handed_on, heard, heard_if, id_in, is_confirmable, job_of, keeping, look_in, received_as, reply_or_nothing, request_asked, told};
 ghost use Rattle.fc_core.specs.Receiving as receiving;
 ghost use Rattle.fc_core.specs.Replies.{reset_of};
 
@@ -19,11 +19,11 @@ use crate::reply::{refusal, reset};
 use arrayvec::ArrayVec;
 use coap_dedup::exchange::WINDOW;
 use coap_dedup::{Exchanges, Looked};
-use coap_msg::{Bad, Code, Emission, Endpoint, Message, MessageType, read};
+use coap_msg::{Bad, Code, Datagram, Emission, Endpoint, Message, MessageType, Token, read};
 use coap_opts::laws::requests_are_within;
 use coap_opts::{Classified, Method, Request, Resource, classify};
 use fc_help::Method as Verb;
-use fc_registry::{Ask, Job, Opening, Origin, SlotNumber};
+use fc_registry::{Ask, Image, Job, Opening, Origin, SlotNumber};
 use std::alloc::{AllocError, Global};
 use std::marker::Model;
 
@@ -40,11 +40,35 @@ pub enum Delivered {
     Signal { mid: u16, reset: bool },
 }
 
+/// What a delivery comes to, where job and reply are written over others of the caller's.
+#[derive(Clone, Copy, Debug, PartialEq, Eq)]
+pub enum Heard {
+    /// Nothing: the datagram is ignored.
+    Nothing,
+    /// A datagram that is sent at once, which was written.
+    Reply,
+    /// A job, which was written.
+    Job,
+    /// An acknowledgement or a reset, which is for the observers.
+    Signal { mid: u16, reset: bool },
+}
+
 /// What becomes of an answer.
 #[derive(Drop)]
 pub enum Answered {
     /// It is sent.
     Sent(Emission),
+    /// Its exchange was opened a whole window before or earlier: nothing is sent.
+    Late,
+    /// No message id was free for it: nothing is sent.
+    NoId,
+}
+
+/// What becomes of an answer, where what is sent is written over another emission.
+#[derive(Clone, Copy, Debug, PartialEq, Eq)]
+pub enum Responded {
+    /// It is sent, and was written.
+    Sent,
     /// Its exchange was opened a whole window before or earlier: nothing is sent.
     Late,
     /// No message id was free for it: nothing is sent.
@@ -97,16 +121,38 @@ impl Front {
     }
 
     /// Takes a datagram in, at a moment in milliseconds: it is read, classified, and looked up among the exchanges.
-    #[tactic(auto, unfolding(crate::specs::Receiving::received))]
     pub fn deliver(&mut self, now: u64, endpoint: Endpoint, bytes: &[u8]) -> Delivered
         ensures delivered { result ≡ receiving.delivered (advanced self.old now) endpoint bytes.now }
         ensures after { self.new ≡ after_delivered (advanced self.old now) endpoint bytes.now }
     {
+        let mut job = blank_job();
+        let mut reply = blank_emission();
+        match self.hear(now, endpoint, bytes, &mut job, &mut reply) {
+            Heard::Nothing => Delivered::Nothing,
+            Heard::Reply => Delivered::Reply(reply),
+            Heard::Job => Delivered::Job(job),
+            Heard::Signal { mid, reset } => Delivered::Signal { mid, reset },
+        }
+    }
+
+    /// Takes a datagram in as `deliver` does, and writes the job that it brings, or the reply, over another: none is moved.
+    #[tactic(auto, unfolding(crate::specs::Receiving::received))]
+    pub fn hear(
+        &mut self,
+        now: u64,
+        endpoint: Endpoint,
+        bytes: &[u8],
+        job: &mut Job,
+        reply: &mut Emission,
+    ) -> Heard
+        ensures delivered { heard result job.new reply.new ≡ receiving.delivered (advanced self.old now) endpoint bytes.now }
+        ensures after { self.new ≡ after_delivered (advanced self.old now) endpoint bytes.now }
+    {
         self.hand(now);
         match read(bytes) {
-            Ok(message) => self.receive(endpoint, &message),
+            Ok(message) => self.receive(endpoint, &message, job, reply),
             Err(Bad::Ignore) => self.ignore(),
-            Err(Bad::Reset(id)) => self.reject(endpoint, id),
+            Err(Bad::Reset(id)) => self.reject(endpoint, id, reply),
         }
     }
 
@@ -134,17 +180,38 @@ impl Front {
         ensures answered { AnswersIn (advanced self.old now) job.now answer.now result }
         ensures after { self.new ≡ after_answered job.now (emission_of result) (advanced self.old now) }
     {
+        let mut reply = blank_emission();
+        match self.respond(now, job, answer, &mut reply) {
+            Responded::Sent => Answered::Sent(reply),
+            Responded::Late => Answered::Late,
+            Responded::NoId => Answered::NoId,
+        }
+    }
+
+    /// Answers a job as `answer` does, and writes what is sent over another emission.
+    pub fn respond(
+        &mut self,
+        now: u64,
+        job: &Job,
+        answer: &Answer,
+        reply: &mut Emission,
+    ) -> Responded
+        requires { IsOf job.now answer.now }
+        ensures answered { AnswersIn (advanced self.old now) job.now answer.now (responded result reply.new) }
+        ensures after { self.new ≡ after_answered job.now (emission_of (responded result reply.new)) (advanced self.old now) }
+    {
         self.tick(now);
         if !is_live(self.now, &job.origin.opening) {
-            return Answered::Late;
+            return Responded::Late;
         }
         let Some(id) = self.reply_id(job.confirmable, job.origin.id) else {
-            return Answered::NoId;
+            return Responded::NoId;
         };
-        let emission = reply::answer(job, id, answer);
+        reply.to = job.origin.endpoint;
+        reply::answer(job, id, answer, &mut reply.bytes);
         self.exchanges
-            .close(self.now, job.origin.opening.number, &emission.bytes);
-        Answered::Sent(emission)
+            .close(self.now, job.origin.opening.number, &reply.bytes);
+        Responded::Sent
     }
 
     // The message id of a reply: an acknowledgement has the request's, another message one of the server's own.
@@ -167,27 +234,37 @@ impl Front {
     }
 
     // Ignores a datagram.
-    fn ignore(&mut self) -> Delivered
-        ensures delivered { result ≡ Delivered.Nothing }
+    fn ignore(&mut self) -> Heard
+        ensures heard { result ≡ Heard.Nothing }
         ensures after { self.new ≡ expired self.old }
     {
         self.exchanges.expire(self.now);
-        Delivered::Nothing
+        Heard::Nothing
     }
 
     // Rejects a message by its id.
-    fn reject(&mut self, endpoint: Endpoint, id: u16) -> Delivered
-        ensures delivered { result ≡ Delivered.Reply (reset_of endpoint id) }
+    fn reject(&mut self, endpoint: Endpoint, id: u16, reply: &mut Emission) -> Heard
+        ensures heard { result ≡ Heard.Reply }
+        ensures reply { reply.new ≡ reset_of endpoint id }
         ensures after { self.new ≡ expired self.old }
     {
         self.exchanges.expire(self.now);
-        Delivered::Reply(reset(endpoint, id))
+        reset(endpoint, id, reply);
+        Heard::Reply
     }
 
     // Takes a message in.
-    fn receive(&mut self, endpoint: Endpoint, message: &Message<'_>) -> Delivered
-        ensures delivered { let f = expired self.old in result ≡ handed_on (received_as f endpoint message.now (verdict message.now)) f endpoint }
-        ensures after { let f = expired self.old in self.new ≡ after_received (received_as f endpoint message.now (verdict message.now)) f endpoint }
+    fn receive(
+        &mut self,
+        endpoint: Endpoint,
+        message: &Message<'_>,
+        job: &mut Job,
+        reply: &mut Emission,
+    ) -> Heard
+        ensures delivered { let f = expired self.old in
+            heard result job.new reply.new ≡ handed_on (received_as f endpoint message.now (verdict message.now)) f endpoint }
+        ensures after { let f = expired self.old in
+            self.new ≡ after_received (received_as f endpoint message.now (verdict message.now)) f endpoint }
     {
         requests_are_within();
         match classify(message) {
@@ -195,13 +272,21 @@ impl Front {
                 endpoint,
                 message,
                 &Asking::Serve(request),
+                job,
+                reply,
             ),
-            Classified::Refused(code) => self.request(endpoint, message, &Asking::Refuse(code)),
-            Classified::Silent => self.request(endpoint, message, &Asking::Hush),
-            Classified::Reset => self.reject(endpoint, message.id()),
+            Classified::Refused(code) => self.request(
+                endpoint,
+                message,
+                &Asking::Refuse(code),
+                job,
+                reply,
+            ),
+            Classified::Silent => self.request(endpoint, message, &Asking::Hush, job, reply),
+            Classified::Reset => self.reject(endpoint, message.id(), reply),
             Classified::Signal { reset } => {
                 self.exchanges.expire(self.now);
-                Delivered::Signal {
+                Heard::Signal {
                     mid: message.id(),
                     reset,
                 }
@@ -216,27 +301,41 @@ impl Front {
         endpoint: Endpoint,
         message: &Message<'_>,
         asking: &Asking<'_>,
-    ) -> Delivered
+        job: &mut Job,
+        reply: &mut Emission,
+    ) -> Heard
         requires { IsAsking asking.now }
-        ensures delivered { let f = expired self.old in result ≡ handed_on (looked (look_in f endpoint message.now) message.now (new_request message.now asking.entry.now)) f endpoint }
-        ensures after { let f = expired self.old in self.new ≡ after_received (looked (look_in f endpoint message.now) message.now (new_request message.now asking.entry.now)) f endpoint }
+        ensures delivered { let f = expired self.old in
+            heard result job.new reply.new ≡ handed_on (asked_in f endpoint message.now asking.entry.now) f endpoint }
+        ensures after { let f = expired self.old in
+            self.new ≡ after_received (asked_in f endpoint message.now asking.entry.now) f endpoint }
     {
         match self.exchanges.look(self.now, endpoint, message.id()) {
-            Looked::New => self.open(endpoint, message, asking),
-            Looked::Again(bytes) => Delivered::Reply(Emission {
-                to: endpoint,
-                bytes,
-            }),
-            Looked::Full => handed_on(self.refuse(endpoint, message, Code::SERVICE_UNAVAILABLE)),
-            Looked::Busy | Looked::Silent => Delivered::Nothing,
+            Looked::New => self.open(endpoint, message, asking, job, reply),
+            Looked::Again(bytes) => {
+                reply.to = endpoint;
+                reply.bytes = bytes;
+                Heard::Reply
+            }
+            Looked::Full => {
+                replied(self.refuse(endpoint, message, Code::SERVICE_UNAVAILABLE, reply))
+            }
+            Looked::Busy | Looked::Silent => Heard::Nothing,
         }
     }
 
     // Opens an exchange for a request that is new.
-    fn open(&mut self, endpoint: Endpoint, message: &Message<'_>, asking: &Asking<'_>) -> Delivered
+    fn open(
+        &mut self,
+        endpoint: Endpoint,
+        message: &Message<'_>,
+        asking: &Asking<'_>,
+        job: &mut Job,
+        reply: &mut Emission,
+    ) -> Heard
         requires new { look_in self.old endpoint message.now ≡ IsNew }
         requires asking { IsAsking asking.now }
-        ensures delivered { result ≡ handed_on (new_request message.now asking.entry.now) self.old endpoint }
+        ensures delivered { heard result job.new reply.new ≡ handed_on (new_request message.now asking.entry.now) self.old endpoint }
         ensures after { self.new ≡ after_received (new_request message.now asking.entry.now) self.old endpoint }
     {
         let confirmable = message.kind() == MessageType::Confirmable;
@@ -244,31 +343,37 @@ impl Front {
             .exchanges
             .open(self.now, endpoint, message.id(), confirmable);
         match asking {
-            Asking::Hush => Delivered::Nothing,
-            Asking::Refuse(code) => self.refuse_opened(number, endpoint, message, *code),
+            Asking::Hush => Heard::Nothing,
+            Asking::Refuse(code) => self.refuse_opened(number, endpoint, message, *code, reply),
             Asking::Serve(request) => {
                 let opening = Opening {
                     number,
                     at: self.now,
                 };
-                Delivered::Job(make_job(opening, endpoint, message, request))
+                write_job(job, opening, endpoint, message, request);
+                Heard::Job
             }
         }
     }
 
-    // Answers a request by a code.
-    fn refuse(&mut self, endpoint: Endpoint, message: &Message<'_>, code: Code) -> Option<Emission>
+    // Answers a request by a code. Tells whether there was a message id for it.
+    fn refuse(
+        &mut self,
+        endpoint: Endpoint,
+        message: &Message<'_>,
+        code: Code,
+        reply: &mut Emission,
+    ) -> bool
         requires { 64 ≤ code.byte }
-        ensures emission { result ≡ told self.old endpoint message.now code.byte }
+        ensures emission { emission_if result reply.new ≡ told self.old endpoint message.now code.byte }
         ensures after { self.new ≡ record self.old { ids = drawn_for (is_confirmable message.now.kind) self.old.ids self.old.now } }
     {
         let confirmable = message.kind() == MessageType::Confirmable;
-        refusal(
-            self.reply_id(confirmable, message.id()),
-            endpoint,
-            message,
-            code,
-        )
+        let Some(id) = self.reply_id(confirmable, message.id()) else {
+            return false;
+        };
+        refusal(id, endpoint, message, code, reply);
+        true
     }
 
     // Answers a request whose exchange was opened with this number.
@@ -278,16 +383,18 @@ impl Front {
         endpoint: Endpoint,
         message: &Message<'_>,
         code: Code,
-    ) -> Delivered
+        reply: &mut Emission,
+    ) -> Heard
         requires { 64 ≤ code.byte }
-        ensures delivered { result ≡ reply_or_nothing (told self.old endpoint message.now code.byte) }
-        ensures after { self.new ≡ keeping number (told self.old endpoint message.now code.byte) (record self.old { ids = drawn_for (is_confirmable message.now.kind) self.old.ids self.old.now }) }
+        ensures heard { (job : Job) → heard result job reply.new ≡ reply_or_nothing (told self.old endpoint message.now code.byte) }
+        ensures after { self.new ≡ keeping number (told self.old endpoint message.now code.byte)
+            (record self.old { ids = drawn_for (is_confirmable message.now.kind) self.old.ids self.old.now }) }
     {
-        let emission = self.refuse(endpoint, message, code);
-        if let Some(emission) = &emission {
-            self.exchanges.close(self.now, number, &emission.bytes);
+        let sent = self.refuse(endpoint, message, code, reply);
+        if sent {
+            self.exchanges.close(self.now, number, &reply.bytes);
         }
-        handed_on(emission)
+        replied(sent)
     }
 }
 
@@ -298,38 +405,57 @@ pub fn is_live(now: u64, opening: &Opening) -> bool
     now < opening.at || now - opening.at < WINDOW
 }
 
-fn handed_on(emission: Option<Emission>) -> Delivered
-    ensures { result ≡ reply_or_nothing emission }
+fn replied(sent: bool) -> Heard
+    ensures { result ≡ heard_if sent }
 {
-    match emission {
-        None => Delivered::Nothing,
-        Some(emission) => Delivered::Reply(emission),
+    if sent { Heard::Reply } else { Heard::Nothing }
+}
+
+/// An emission that says nothing, to be written over.
+pub fn blank_emission() -> Emission {
+    Emission {
+        to: Endpoint::default(),
+        bytes: Datagram::new(),
     }
 }
 
-// The job that a request brings.
-fn make_job(
+// A job that says nothing, to be written over.
+pub(crate) fn blank_job() -> Job {
+    Job {
+        origin: Origin::default(),
+        confirmable: false,
+        token: ArrayVec::new(),
+        ask: Ask::Run(fc_help::Request::new(Verb::Get, 0, None, &[], &[])),
+    }
+}
+
+// Writes the job that a request brings.
+fn write_job(
+    job: &mut Job,
     opening: Opening,
     endpoint: Endpoint,
     message: &Message<'_>,
     request: &Request<'_>,
-) -> Job
+)
     requires { IsWithinLimits (asked_by request.now) }
-    ensures { result ≡ job_of opening endpoint message.now (asked_by request.now) }
+    ensures { job.new ≡ job_of opening endpoint message.now (asked_by request.now) }
 {
-    let mut token = ArrayVec::new();
+    job.origin = Origin {
+        opening,
+        endpoint,
+        id: message.id(),
+        slot: SlotNumber::new(slot_named(request.resource)),
+    };
+    job.confirmable = message.kind() == MessageType::Confirmable;
+    write_token(&mut job.token, message);
+    write_ask(&mut job.ask, request);
+}
+
+fn write_token(token: &mut Token, message: &Message<'_>)
+    ensures { token.new.items ≡ message.now.token }
+{
+    token.clear();
     let _fits = token.try_extend_from_slice(message.token());
-    Job {
-        origin: Origin {
-            opening,
-            endpoint,
-            id: message.id(),
-            slot: SlotNumber::new(slot_named(request.resource)),
-        },
-        confirmable: message.kind() == MessageType::Confirmable,
-        token,
-        ask: make_ask(request),
-    }
 }
 
 fn slot_named(resource: Resource) -> u8
@@ -341,19 +467,49 @@ fn slot_named(resource: Resource) -> u8
     }
 }
 
-fn make_ask(request: &Request<'_>) -> Ask
+fn write_ask(ask: &mut Ask, request: &Request<'_>)
     requires { IsWithinLimits (asked_by request.now) }
-    ensures { result ≡ ask_by request.now.method request.now.resource (asked_by request.now) }
+    ensures { ask.new ≡ ask_by request.now.method request.now.resource (asked_by request.now) }
 {
     match (request.method, request.resource) {
-        (Method::Get, Resource::Run(_)) => Ask::Run(run_request(Verb::Get, request)),
-        (Method::Post, Resource::Run(_)) => Ask::Run(run_request(Verb::Post, request)),
-        _ => {
-            let mut image = ArrayVec::new();
-            let _fits = image.try_extend_from_slice(request.payload);
-            Ask::Install(image)
-        }
+        (Method::Get, Resource::Run(_)) => write_run(ask, Verb::Get, request),
+        (Method::Post, Resource::Run(_)) => write_run(ask, Verb::Post, request),
+        _ => write_image(ask, request.payload),
     }
+}
+
+// Writes a request over what was asked. The room of an image isn't touched, unless there was one.
+fn write_run(ask: &mut Ask, method: Verb, request: &Request<'_>)
+    requires { IsWithinLimits (asked_by request.now) }
+    ensures { ask.new ≡ Ask.Run (request_asked method (asked_by request.now)) }
+{
+    match ask {
+        Ask::Run(before) => *before = run_request(method, request),
+        Ask::Install(_) => write_run_anew(ask, method, request),
+    }
+}
+
+fn write_run_anew(ask: &mut Ask, method: Verb, request: &Request<'_>)
+    requires { IsWithinLimits (asked_by request.now) }
+    ensures { ask.new ≡ Ask.Run (request_asked method (asked_by request.now)) }
+{
+    *ask = Ask::Run(run_request(method, request));
+}
+
+fn write_image(ask: &mut Ask, image: &[u8])
+    requires { length image.now ≤ 1024 }
+    ensures { ask.new ≡ Ask.Install (record { items = image.now }) }
+{
+    *ask = Ask::Install(image_of(image));
+}
+
+fn image_of(payload: &[u8]) -> Image
+    requires { length payload.now ≤ 1024 }
+    ensures { result.items ≡ payload.now }
+{
+    let mut image = Image::new();
+    let _fits = image.try_extend_from_slice(payload);
+    image
 }
 
 fn run_request(method: Verb, request: &Request<'_>) -> fc_help::Request

@@ -20,5 +20,5 @@ mod text;
 
 pub use answer::{Answer, End};
 pub use event::Event;
-pub use front::{Answered, Delivered, Front};
+pub use front::{Answered, Delivered, Front, Heard, Responded};
 pub use stage::{Stage, Task};

@@ -3,7 +3,7 @@ ghost use Rattle.std.specs.Prelude.{◌≡◌, ◌<◌, false, IfOk, OnOk, IsErr
 ghost use Rattle.fc_verify.specs.Accepted.{Accepts};
 ghost use Rattle.fc_verify.specs.Judged.{judged};
 ghost use Rattle.fc_registry.specs.Slots.{Slot, IsOwned, slot_in};
-ghost use Rattle.fc_core.specs.Contents.{AreDone, Unavailable};
+ghost use Rattle.fc_core.specs.Contents.{AreDone, Missing as Misses, Unavailable};
 ghost use Rattle.fc_core.specs.Ends.{refused};
 ghost use Rattle.fc_core.specs.Fits.{FitsStage};
 ghost use Rattle.fc_core.specs.Sound.{AllSafe};
@@ -12,6 +12,7 @@ ghost use Rattle.fc_core.specs.Stages as rows;
 ghost use Rattle.fc_core.specs.Stages.{at_answer, at_commit, at_install, at_raise, at_take, content_at, first_stage, image_of, installed, moved, new_task, receipt_of, scene_at, shard_moved};
 
 use crate::answer::{Answer, End};
+use crate::front::blank_job;
 use crate::stage::{Stage, Task};
 use fc_isa::Fault;
 use fc_machine::{Frame, Outcome, run};
@@ -42,7 +43,7 @@ impl Stage {
         ensures { result ≡ rows.took count taken }
     {
         match taken {
-            Taken::Missing => Stage::ToAnswer(Answer::other(End::Missing)),
+            Taken::Missing => Stage::missing(),
             Taken::Given(ticket) => Stage::ToCommit(count + 1, ticket),
             Taken::Refused => Stage::unavailable(),
         }
@@ -97,6 +98,13 @@ impl Stage {
         Stage::ToAnswer(Answer::other(End::Rejected(Refusal::Broken(fault))))
     }
 
+    /// After the slot was found empty.
+    pub fn missing() -> Stage
+        ensures { result ≡ Stage.ToAnswer Misses }
+    {
+        Stage::ToAnswer(Answer::other(End::Missing))
+    }
+
     /// After memory was refused, or where serials are at their end.
     pub fn unavailable() -> Stage
         ensures { result ≡ Stage.ToAnswer Unavailable }
@@ -126,6 +134,21 @@ impl Task {
         Task { job, stage }
     }
 
+    /// A task to be begun with a job that is written to it.
+    pub fn blank() -> Task {
+        Task::new(blank_job())
+    }
+
+    /// Puts its job at its first stage.
+    pub fn begin(&mut self)
+        ensures { self.new ≡ new_task self.old.job }
+    {
+        match &self.job.ask {
+            Ask::Run(_) => self.stage = Stage::ToTake(0),
+            Ask::Install(_) => self.stage = Stage::ToInstall,
+        }
+    }
+
     /// Takes its slot at its shard. Tells whether there was memory: where there was none it is answered 5.03.
     pub fn take(&mut self, shard: &mut Shard) -> bool
         requires owned { IsOwned shard.old self.old.job.origin.slot }
@@ -133,16 +156,21 @@ impl Task {
         ensures task { self.new ≡ moved self.old (at_take result (scene_at self.old (slot_in shard.old self.old.job.origin.slot)) self.old.stage) }
         ensures shard { shard.new ≡ shard.old }
     {
-        match self.leave() {
-            Stage::ToTake(count) => {
-                let taken = shard.take(&self.job);
-                let memory = !matches!(&taken, Taken::Refused);
-                self.stage = Stage::took(count, taken);
-                memory
-            }
-            other => {
-                self.stage = other;
+        let Stage::ToTake(count) = self.stage else {
+            return true;
+        };
+        match shard.take(&self.job) {
+            Taken::Given(ticket) => {
+                self.stage = Stage::ToCommit(count + 1, ticket);
                 true
+            }
+            Taken::Missing => {
+                self.stage = Stage::missing();
+                true
+            }
+            Taken::Refused => {
+                self.stage = Stage::unavailable();
+                false
             }
         }
     }
@@ -173,12 +201,10 @@ impl Task {
         ensures task { self.new ≡ moved self.old (at_commit now (scene_at self.old (slot_in shard.old self.old.job.origin.slot)) self.old.stage) }
         ensures shard { shard.new ≡ shard_moved (at_commit now (scene_at self.old (slot_in shard.old self.old.job.origin.slot)) self.old.stage) self.old.job.origin.slot shard.old }
     {
-        match self.leave() {
-            Stage::ToCommit(count, ticket) => {
-                self.stage = run_and_commit(frame, count, ticket, shard, now);
-            }
-            other => self.stage = other,
-        }
+        let Stage::ToCommit(count, ticket) = &self.stage else {
+            return;
+        };
+        self.stage = run_and_commit(frame, *count, ticket, shard, now);
     }
 
     /// Verifies its image, and installs the program at its shard. Tells whether there was memory: where there was none, no
@@ -224,9 +250,8 @@ impl Task {
     pub fn raise(&mut self)
         ensures { self.new ≡ moved self.old (at_raise self.old.stage) }
     {
-        match self.leave() {
-            Stage::ToRaise(answer) => self.stage = Stage::ToAnswer(answer),
-            other => self.stage = other,
+        if matches!(&self.stage, Stage::ToRaise(_)) {
+            self.stage = published(self.leave());
         }
     }
 
@@ -260,6 +285,16 @@ impl Task {
     }
 }
 
+// A stage, after the new serial was published.
+fn published(stage: Stage) -> Stage
+    ensures { result ≡ (at_raise stage).stage }
+{
+    match stage {
+        Stage::ToRaise(answer) => Stage::ToAnswer(answer),
+        other => other,
+    }
+}
+
 // The image that is to be installed.
 fn image(ask: &Ask) -> &[u8]
     ensures { result.now ≡ image_of ask.now }
@@ -273,18 +308,18 @@ fn image(ask: &Ask) -> &[u8]
 fn run_and_commit(
     frame: &mut Frame,
     count: u8,
-    ticket: Ticket,
+    ticket: &Ticket,
     shard: &mut Shard,
     now: u64,
 ) -> Stage
-    requires owned { IsOwned shard.old ticket.origin.slot }
-    requires given { HasGiven (slot_in shard.old ticket.origin.slot) ticket }
-    ensures stage { result ≡ (rows.committed (outcome ticket (slot_in shard.old ticket.origin.slot)) count ticket now).stage }
-    ensures shard { shard.new ≡ shard_moved (rows.committed (outcome ticket (slot_in shard.old ticket.origin.slot)) count ticket now) ticket.origin.slot shard.old }
+    requires owned { IsOwned shard.old ticket.now.origin.slot }
+    requires given { HasGiven (slot_in shard.old ticket.now.origin.slot) ticket.now }
+    ensures stage { result ≡ (rows.committed (outcome ticket.now (slot_in shard.old ticket.now.origin.slot)) count ticket.now now).stage }
+    ensures shard { shard.new ≡ shard_moved (rows.committed (outcome ticket.now (slot_in shard.old ticket.now.origin.slot)) count ticket.now now) ticket.now.origin.slot shard.old }
 {
     let outcome = run(frame, ticket.program(), ticket.request(), ticket.vars());
-    let committed = shard.commit(now, &outcome, &ticket);
-    Stage::committed(count, &outcome, &ticket, committed)
+    let committed = shard.commit(now, &outcome, ticket);
+    Stage::committed(count, &outcome, ticket, committed)
 }
 
 // Where an accepted program is installed, or which rule an image breaks.

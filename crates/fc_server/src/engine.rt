@@ -7,20 +7,22 @@ ghost use Rattle.fc_registry.specs.Slots.{last_serial};
 ghost use Rattle.fc_core.specs.declared.event.Event.{Event};
 ghost use Rattle.fc_core.specs.Exchanges.{advanced};
 ghost use Rattle.fc_core.specs.History.{Begins};
-ghost use Rattle.fc_core.specs.Receiving.{delivered};
+ghost use Rattle.fc_core.specs.Receiving.{delivered, emission_if};
 ghost use Rattle.fc_server.specs.Serving.{Hears, IsBegun, IsServed, Passes, Serves, WorksOff};
 
 use crate::server::Server;
 use coap_msg::{Emission, Endpoint};
-use fc_core::{Delivered, Task};
+use fc_core::{Heard, Task};
 use fc_registry::Ask;
 use std::alloc::{AllocError, Global};
 use std::marker::Model;
 
-/// A server on one thread that some history leaves, whatever was called. A clause sees what its front holds, and its shards.
+/// A server on one thread that some history leaves, whatever was called, and the place of the task that it works off. A clause
+/// sees what its front holds, and its shards.
 #[derive(Drop)]
 pub struct Engine {
     server: Server,
+    task: Task,
 }
 
 impl Model for Engine {
@@ -46,11 +48,12 @@ impl Engine {
     {
         Ok(Engine {
             server: Server::new(alloc, first_serial, first_id)?,
+            task: Task::blank(),
         })
     }
 
-    /// Takes in a datagram from an endpoint at a moment in milliseconds, works off the job that it brings, and gives what is
-    /// to be sent. What it does is the list of the events Deliver, Take, Commit, Raise and Answer of a job that runs a
+    /// Takes in a datagram from an endpoint at a moment in milliseconds, works off the job that it brings, and writes
+    /// what is to be sent over another emission. Tells whether anything is. What it does is the list of the events Deliver, Take, Commit, Raise and Answer of a job that runs a
     /// program, Deliver, Install, Raise and Answer of one that installs, and else Deliver alone: whatever the history was,
     /// with these it is legal, and the server is what it leaves.
     pub fn hear(
@@ -59,10 +62,20 @@ impl Engine {
         now: u64,
         endpoint: Endpoint,
         bytes: &[u8],
-    ) -> Option<Emission>
-        ensures { Hears now (Event.Deliver now endpoint bytes.entry) (delivered (advanced self.old.front now) endpoint bytes.now) self.old self.new result }
+        reply: &mut Emission,
+    ) -> bool
+        ensures { Hears now (Event.Deliver now endpoint bytes.entry) (delivered (advanced self.old.front now) endpoint bytes.now)
+            self.old self.new (emission_if result reply.new) }
     {
-        hear(&mut self.server, alloc, now, endpoint, bytes)
+        hear(
+            &mut self.server,
+            &mut self.task,
+            alloc,
+            now,
+            endpoint,
+            bytes,
+            reply,
+        )
     }
 
     /// Takes in a moment in milliseconds: what it does is the event Tick.
@@ -75,47 +88,65 @@ impl Engine {
 
 fn hear(
     server: &mut Server,
+    task: &mut Task,
     alloc: Global,
     now: u64,
     endpoint: Endpoint,
     bytes: &[u8],
-) -> Option<Emission>
+    reply: &mut Emission,
+) -> bool
     requires { IsServed server.old }
-    ensures { Hears now (Event.Deliver now endpoint bytes.entry) (delivered (advanced server.old.front now) endpoint bytes.now) server.old server.new result }
+    ensures { Hears now (Event.Deliver now endpoint bytes.entry) (delivered (advanced server.old.front now) endpoint bytes.now)
+        server.old server.new (emission_if result reply.new) }
 {
-    match server.deliver(now, endpoint, bytes) {
-        Delivered::Nothing | Delivered::Signal { .. } => None,
-        Delivered::Reply(emission) => Some(emission),
-        Delivered::Job(job) => work_off(server, alloc, now, &mut Task::new(job)),
+    match server.hear(now, endpoint, bytes, &mut task.job, reply) {
+        Heard::Nothing | Heard::Signal { .. } => false,
+        Heard::Reply => true,
+        Heard::Job => {
+            task.begin();
+            work_off(server, alloc, now, task, reply)
+        }
     }
 }
 
-// Works a job off, which the front has just brought.
-fn work_off(server: &mut Server, alloc: Global, now: u64, task: &mut Task) -> Option<Emission>
+// Works a job off, which the front has just brought. Tells whether anything is sent.
+fn work_off(
+    server: &mut Server,
+    alloc: Global,
+    now: u64,
+    task: &mut Task,
+    reply: &mut Emission,
+) -> bool
     requires { IsBegun server.old task.old }
-    ensures { WorksOff task.old.job.ask now server.old task.old server.new result }
+    ensures { WorksOff task.old.job.ask now server.old task.old server.new (emission_if result reply.new) }
 {
     match &task.job.ask {
-        Ask::Run(_) => run(server, now, task),
-        Ask::Install(_) => install(server, alloc, now, task),
+        Ask::Run(_) => run(server, now, task, reply),
+        Ask::Install(_) => install(server, alloc, now, task, reply),
     }
 }
 
-fn run(server: &mut Server, now: u64, task: &mut Task) -> Option<Emission>
+fn run(server: &mut Server, now: u64, task: &mut Task, reply: &mut Emission) -> bool
     requires { IsBegun server.old task.old }
-    ensures { (request : Request) → WorksOff (Ask.Run request) now server.old task.old server.new result }
+    ensures { (request : Request) → WorksOff (Ask.Run request) now server.old task.old server.new (emission_if result reply.new) }
 {
     server.take(task);
     server.commit(now, task);
     server.raise(task);
-    server.answer(now, task)
+    server.respond(now, task, reply)
 }
 
-fn install(server: &mut Server, alloc: Global, now: u64, task: &mut Task) -> Option<Emission>
+fn install(
+    server: &mut Server,
+    alloc: Global,
+    now: u64,
+    task: &mut Task,
+    reply: &mut Emission,
+) -> bool
     requires { IsBegun server.old task.old }
-    ensures { (image : ArrayVec ℕ) → WorksOff (Ask.Install image) now server.old task.old server.new result }
+    ensures { (image : ArrayVec ℕ) → WorksOff (Ask.Install image) now server.old task.old server.new (emission_if result reply.new) }
 {
     server.install(alloc, task);
     server.raise(task);
-    server.answer(now, task)
+    server.respond(now, task, reply)
 }

@@ -5,13 +5,14 @@ ghost use Rattle.fc_registry.specs.Slots.{last_serial};
 ghost use Rattle.fc_core.specs.declared.event.Event.{Event};
 ghost use Rattle.fc_core.specs.Exchanges.{advanced};
 ghost use Rattle.fc_core.specs.Ids.{first_ids};
-ghost use Rattle.fc_core.specs.Receiving.{after_delivered, delivered};
+ghost use Rattle.fc_core.specs.Receiving.{after_delivered, delivered, emission_if, heard};
 ghost use Rattle.fc_server.specs.States.{Answers, AtWork, Does};
 
 use coap_msg::{Emission, Endpoint};
-use fc_core::{Answered, Delivered, Front, Task};
+use fc_core::front::blank_emission;
+use fc_core::{Delivered, Front, Heard, Responded, Task};
 use fc_machine::Frame;
-use fc_registry::{Shard, make_shards};
+use fc_registry::{Job, Shard, make_shards};
 use std::alloc::{AllocError, Global};
 use std::marker::Model;
 
@@ -57,6 +58,22 @@ impl Server {
         ensures shards { self.new.shards ≡ self.old.shards }
     {
         self.front.deliver(now, endpoint, bytes)
+    }
+
+    /// Takes a datagram in, at a moment in milliseconds, and writes the job that it brings, or the reply, over another.
+    pub fn hear(
+        &mut self,
+        now: u64,
+        endpoint: Endpoint,
+        bytes: &[u8],
+        job: &mut Job,
+        reply: &mut Emission,
+    ) -> Heard
+        ensures delivered { heard result job.new reply.new ≡ delivered (advanced self.old.front now) endpoint bytes.now }
+        ensures front { self.new.front ≡ after_delivered (advanced self.old.front now) endpoint bytes.now }
+        ensures shards { self.new.shards ≡ self.old.shards }
+    {
+        self.front.hear(now, endpoint, bytes, job, reply)
     }
 
     /// Advances the front to a moment in milliseconds.
@@ -130,10 +147,26 @@ impl Server {
         requires { AtWork self.old task.old }
         ensures { Answers now self.old task.old self.new task.new result }
     {
-        let answer = task.answer()?;
-        match self.front.answer(now, &task.job, &answer) {
-            Answered::Sent(emission) => Some(emission),
-            Answered::Late | Answered::NoId => None,
+        let mut reply = blank_emission();
+        if self.respond(now, task, &mut reply) {
+            Some(reply)
+        } else {
+            None
+        }
+    }
+
+    /// A task is answered at a moment in milliseconds, where it stands there, and what is sent is written over another
+    /// emission. Tells whether anything is sent.
+    pub fn respond(&mut self, now: u64, task: &mut Task, reply: &mut Emission) -> bool
+        requires { AtWork self.old task.old }
+        ensures { Answers now self.old task.old self.new task.new (emission_if result reply.new) }
+    {
+        let Some(answer) = task.answer() else {
+            return false;
+        };
+        match self.front.respond(now, &task.job, &answer, reply) {
+            Responded::Sent => true,
+            Responded::Late | Responded::NoId => false,
         }
     }
 

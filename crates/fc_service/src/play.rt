@@ -3,12 +3,14 @@ ghost use Rattle.std.specs.Prelude.{◌≡◌, ◌≤◌, Option, OnOk};
 ghost use Rattle.std.specs.Io.KnownBytes.{Appends};
 ghost use Rattle.coap_msg.specs.declared.types.Emission.{Emission as Sent};
 ghost use Rattle.fc_registry.specs.Slots.{last_serial};
+ghost use Rattle.fc_core.specs.Receiving.{emission_if};
 ghost use Rattle.fc_service.specs.Playing.{endpoint_of, printed, output_of, IsCarriedOut};
 
 use crate::hexadecimal;
 use crate::line::{Line, LineError, parse};
 use crate::status::{Status, tell};
 use coap_msg::{Emission, Endpoint};
+use fc_core::front::blank_emission;
 use fc_server::Engine;
 use std::alloc::{AllocError, Global};
 use std::io;
@@ -69,11 +71,12 @@ fn play_lines<R: BufRead + Drop, W: Write>(
     requires { first_serial ≤ last_serial }
 {
     let mut engine = Engine::new(alloc, first_serial, first_id)?;
+    let mut reply = blank_emission();
     let mut number = 0u64;
     for text in input.split(alloc, b'\n') {
         number = number.saturating_add(1);
         let text = text.map_err(Stop::Input)?;
-        play_line(alloc, &mut engine, &text, number, out)?;
+        play_line(alloc, &mut engine, &mut reply, &text, number, out)?;
     }
     Ok(())
 }
@@ -82,25 +85,28 @@ fn play_lines<R: BufRead + Drop, W: Write>(
 fn play_line<W: Write>(
     alloc: Global,
     engine: &mut Engine,
+    reply: &mut Emission,
     text: &[u8],
     number: u64,
     out: &mut W,
 ) -> Result<(), Stop> {
     match parse(alloc, text) {
-        Ok(line) => carry_out(alloc, engine, &line, out).map_err(Stop::Output),
+        Ok(line) => carry_out(alloc, engine, reply, &line, out).map_err(Stop::Output),
         Err(LineError::Bad) => Err(Stop::BadLine(number)),
         Err(LineError::NoMemory) => Err(Stop::Memory(AllocError)),
     }
 }
 
-// Carries out a line, and prints what it sends.
+// Carries out a line, and prints what it sends, which is written over another emission.
 fn carry_out<W: Write>(
     alloc: Global,
     engine: &mut Engine,
+    reply: &mut Emission,
     line: &Line,
     out: &mut W,
 ) -> io::Result<()>
-    ensures { (sent : Option Sent) × IsCarriedOut line.now engine.old sent engine.new × OnOk result (Appends (W.contents out.old) (W.contents out.new) (output_of sent)) }
+    ensures { (sent : Option Sent) × IsCarriedOut line.now engine.old sent engine.new
+        × OnOk result (Appends (W.contents out.old) (W.contents out.new) (output_of sent)) }
 {
     match line {
         Line::Tick { now } => {
@@ -108,10 +114,8 @@ fn carry_out<W: Write>(
             Ok(())
         }
         Line::Deliver { now, peer, bytes } => {
-            match engine.hear(alloc, *now, endpoint(*peer), bytes) {
-                None => Ok(()),
-                Some(emission) => print(out, &emission),
-            }
+            let sent = engine.hear(alloc, *now, endpoint(*peer), bytes, reply);
+            print_if(out, sent, reply)
         }
     }
 }
@@ -124,6 +128,13 @@ pub fn endpoint(peer: u8) -> Endpoint
         ip: [127, 0, 0, peer],
         port: PORT,
     }
+}
+
+// Prints an emission, where it is sent.
+fn print_if<W: Write>(out: &mut W, sent: bool, emission: &Emission) -> io::Result<()>
+    ensures { OnOk result (Appends (W.contents out.old) (W.contents out.new) (output_of (emission_if sent emission.now))) }
+{
+    if sent { print(out, emission) } else { Ok(()) }
 }
 
 /// Prints an emission as `peer hex`, and has it written out.

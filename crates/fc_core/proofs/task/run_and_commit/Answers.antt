@@ -10,26 +10,26 @@ use Rattle.fc_core.proofs.task.run_and_commit.Goals as goal
 pub committed-requires : goal.committed-requires
 committed-requires c =
     let w = c.commit-committed.ensures in
-    commit_done c.run-outcome.result c.args.ticket (slot_in c.args.shard.now c.args.ticket.origin.slot) c.commit-committed.result w.after w.commit
+    commit_done c.run-outcome.result c.args.ticket.now (slot_in c.args.shard.now c.args.ticket.now.origin.slot) c.commit-committed.result w.after w.commit
 
 -- the row of the commit
-row : (c : goal.After-drop-ticket-inside) → IsRow c.args.ticket (slot_in c.args.shard.now c.args.ticket.origin.slot) c.commit-committed.result c.commit-committed.ensures.after
+row : (c : goal.After-frame-1) → IsRow c.args.ticket.now (slot_in c.args.shard.now c.args.ticket.now.origin.slot) c.commit-committed.result c.commit-committed.ensures.after
 row c =
     let made = c.run-outcome.ensures.made in
     let w = c.commit-committed.ensures in
-    commit_row c.run-outcome.result c.args.ticket (slot_in c.args.shard.now c.args.ticket.origin.slot) c.commit-committed.result w.after
+    commit_row c.run-outcome.result c.args.ticket.now (slot_in c.args.shard.now c.args.ticket.now.origin.slot) c.commit-committed.result w.after
     (ap (λ (r : Ran). r.program) made ∙ c.program.ensures) (ap (λ (r : Ran). r.request) made ∙ c.request.ensures) (ap (λ (r : Ran). r.found) made ∙ c.vars.ensures.vars)
     c.requires.given w.commit
 
 pub returns-clause-stage : goal.returns-clause-stage
 returns-clause-stage c =
-    let slot = slot_in c.args.shard.now c.args.ticket.origin.slot in
-    c.committed.ensures ∙ (ap (λ (x : Committed). after_commit c.args.count c.args.ticket x) (row c).answer ∙ stage_of_row (outcome c.args.ticket slot) c.args.count c.args.ticket c.args.now slot.serial)
+    let slot = slot_in c.args.shard.now c.args.ticket.now.origin.slot in
+    c.committed.ensures ∙ (ap (λ (x : Committed). after_commit c.args.count c.args.ticket.now x) (row c).answer ∙ stage_of_row (outcome c.args.ticket.now slot) c.args.count c.args.ticket.now c.args.now slot.serial)
 
 pub returns-clause-shard : goal.returns-clause-shard
 returns-clause-shard c =
     let shard = c.args.shard.now in
-    let slot = slot_in shard c.args.ticket.origin.slot in
+    let slot = slot_in shard c.args.ticket.now.origin.slot in
     c.commit-committed.ensures.shard
-    ∙ (ap (λ (s : Slot). with_slot (record shard { now = max shard.now c.args.now }) c.args.ticket.origin.slot s) (row c).after_is
-    ∙ shard_of_row (outcome c.args.ticket slot) c.args.count c.args.ticket c.args.now shard)
+    ∙ (ap (λ (s : Slot). with_slot (record shard { now = max shard.now c.args.now }) c.args.ticket.now.origin.slot s) (row c).after_is
+    ∙ shard_of_row (outcome c.args.ticket.now slot) c.args.count c.args.ticket.now c.args.now shard)

@@ -10,8 +10,8 @@ raise-requires c =
     let rest = c.requires.rest in
     at_work rest (installed_on rest c.requires.serves c.install.result (c.install.ensures (length rest)))
 
-pub answer-requires : goal.answer-requires
-answer-requires c =
+pub respond-requires : goal.respond-requires
+respond-requires c =
     let rest = c.requires.rest in
     let installed = installed_on rest c.requires.serves c.install.result (c.install.ensures (length rest)) in
     at_work rest (raised_on rest installed (c.raise.ensures (length rest)))
@@ -20,4 +20,4 @@ pub returns : goal.returns
 returns c = λ image h rest v.
     let installed = installed_on rest v c.install.result (c.install.ensures (length rest)) in
     let raised = raised_on rest installed (c.raise.ensures (length rest)) in
-    record { memory = c.install.result; tasks = rest ++ c.answer.new.task ∷ []; serves = answered_on rest raised c.args.now c.answer.result c.answer.ensures }
+    record { memory = c.install.result; tasks = rest ++ c.respond.new.task ∷ []; serves = answered_on rest raised c.args.now _ c.respond.ensures }

@@ -16,8 +16,8 @@ raise-requires c =
     let took = took_on rest c.requires.serves c.take.result (c.take.ensures (length rest)) in
     at_work rest (committed_on rest took c.args.now (c.commit.ensures (length rest)))
 
-pub answer-requires : goal.answer-requires
-answer-requires c =
+pub respond-requires : goal.respond-requires
+respond-requires c =
     let rest = c.requires.rest in
     let took = took_on rest c.requires.serves c.take.result (c.take.ensures (length rest)) in
     let committed = committed_on rest took c.args.now (c.commit.ensures (length rest)) in
@@ -28,4 +28,4 @@ returns c = λ request h rest v.
     let took = took_on rest v c.take.result (c.take.ensures (length rest)) in
     let committed = committed_on rest took c.args.now (c.commit.ensures (length rest)) in
     let raised = raised_on rest committed (c.raise.ensures (length rest)) in
-    record { memory = c.take.result; tasks = rest ++ c.answer.new.task ∷ []; serves = answered_on rest raised c.args.now c.answer.result c.answer.ensures }
+    record { memory = c.take.result; tasks = rest ++ c.respond.new.task ∷ []; serves = answered_on rest raised c.args.now _ c.respond.ensures }

@@ -1,0 +1,181 @@
+-- Which place an exchange has, and what an answer there changes.
+use Rattle.std.proofs.Common.{◌≡◌, ℕ, zero, suc, ◌+◌, ◌-◌, ◌%◌, ◌<◌, ◌≤◌, List, [], ◌∷◌, ◌++◌, length, map, drop, set, Bool, true, false, cond, Option, Some, None, refl, sym, ap, ◌∙◌, ⊎_elim, arith}
+use Rattle.std.specs.Prelude.{find, nat_lt, slice_get, ◌==◌, ◌&&◌, ◌||◌}
+use Rattle.std.specs.List.{list_any}
+use Rattle.std.proofs.lemmas.List.{get_or-set_other, map-append}
+use Rattle.std.proofs.lemmas.Grind.{get_or-set_at}
+use Rattle.std.proofs.lemmas.Option.{slice_get_within}
+use Rattle.std.proofs.lemmas.Bool.{cases_eq, ne_eqb, eq-eqb, ltb-true}
+use Rattle.circular_buffer.specs.Buffer.{keep_last}
+use Rattle.arrayvec.specs.ArrayVec.{ArrayVec}
+use Rattle.coap_msg.specs.declared.types.Endpoint.{Endpoint}
+use Rattle.coap_dedup.specs.declared.exchange.Kept.{Kept}
+use Rattle.coap_dedup.specs.declared.exchange.Opened.{Opened}
+use Rattle.coap_dedup.specs.Exchanges.{Exchange, IsNew, Look, answered, answered_if, has_room, is_live, is_of, is_open, look_by, looked, repeated_by}
+use Rattle.coap_dedup.specs.Views.{Arrives, IsArrived, IsGone, IsNumbered, answer_if, as_exchange, is_from, is_recent, kept_at, no_answer, with_answer}
+
+-- numbers less than 1,024 apart have different places
+apart : (p q : ℕ) → q < p → p < q + 1024 → q % 1024 ≡ p % 1024 → ⊥
+apart p q lt near e = omega (arith, lt, near, e)
+
+-- what is kept elsewhere stays
+elsewhere : (kept : List Kept) (p : ℕ) (k : Kept) (o : Opened) → (o.number % 1024 ≡ p % 1024 → ⊥) → as_exchange (set kept (p % 1024) k) o ≡ as_exchange kept o
+elsewhere kept p k o ne = ap (λ (x : Kept). with_answer x o) (get_or-set_other kept (p % 1024) (o.number % 1024) k no_answer ne)
+
+pub all_after : (number since now p : ℕ) (kept : List Kept) (k : Kept) (os : List Opened) → p < number → number + length os ≤ p + 1024 → Arrives number since now os → map (as_exchange (set kept (p % 1024) k)) os ≡ map (as_exchange kept) os
+all_after number since now p kept k [] lt near a = refl
+all_after number since now p kept k (o ∷ os) lt near a =
+    let is = a.0 in
+    λ i. elsewhere kept p k o (λ e. apart o.number p (omega (arith, is, lt)) (omega (arith, is, near)) (sym e)) i
+    ∷ all_after (number + 1) o.at now p kept k os (omega (arith, lt)) (omega (arith, near)) a.3 i
+
+pub all_before : (number since now p : ℕ) (kept : List Kept) (k : Kept) (os : List Opened) → number + length os ≤ p → p < number + 1024 → Arrives number since now os → map (as_exchange (set kept (p % 1024) k)) os ≡ map (as_exchange kept) os
+all_before number since now p kept k [] lt near a = refl
+all_before number since now p kept k (o ∷ os) lt near a =
+    let is = a.0 in
+    λ i. elsewhere kept p k o (apart p o.number (omega (arith, is, lt)) (omega (arith, is, near))) i
+    ∷ all_before (number + 1) o.at now p kept k os (omega (arith, lt)) (omega (arith, near)) a.3 i
+
+-- ---- an answer that comes too late, or to no exchange that is held
+
+-- the exchange of this number, if it is among these, isn't live
+abbrev pub NoneLive : ℕ → ℕ → ℕ → List Opened → Type 0
+NoneLive number at p os = (i : ℕ) (o : Opened) → slice_get os i ≡ Some o → p ≡ number + i → is_recent at o ≡ false
+
+or-true : (b : Bool) → (b || true) ≡ true
+or-true true = refl
+or-true false = refl
+
+and-false : (b : Bool) → (b && false) ≡ false
+and-false true = refl
+and-false false = refl
+
+head_closed : (number at p : ℕ) (kept : List Kept) (o : Opened) (os : List Opened) → o.number ≡ number → NoneLive number at p (o ∷ os) → is_open at p (as_exchange kept o) ≡ false
+head_closed number at p kept o os is none = ⊎_elim
+    (λ (e : o.number ≡ p). ap (λ (b : Bool). (o.number == p) && b) (none 0 o refl (omega (arith, e, is))) ∙ and-false (o.number == p))
+    (λ (ne : o.number ≡ p → ⊥). ap (λ (b : Bool). b && is_recent at o) (ne_eqb o.number p ne))
+    (cases_eq o.number p)
+
+tail_closed : (number at p : ℕ) (o : Opened) (os : List Opened) → NoneLive number at p (o ∷ os) → NoneLive (number + 1) at p os
+tail_closed number at p o os none i x found is = none (suc i) x found (omega (arith, is))
+
+pub none_answered : (number since now at p : ℕ) (bytes : ArrayVec ℕ) (kept : List Kept) (os : List Opened) → Arrives number since now os → NoneLive number at p os → map (answered at p bytes) (map (as_exchange kept) os) ≡ map (as_exchange kept) os
+none_answered number since now at p bytes kept [] a none = refl
+none_answered number since now at p bytes kept (o ∷ os) a none =
+    λ i. answered_if (head_closed number at p kept o os a.0 none i) bytes (as_exchange kept o)
+    ∷ none_answered (number + 1) o.at now at p bytes kept os a.3 (tail_closed number at p o os none) i
+
+pub none_open : (number since now at p : ℕ) (kept : List Kept) (os : List Opened) → Arrives number since now os → NoneLive number at p os → list_any (is_open at p) (map (as_exchange kept) os) ≡ false
+none_open number since now at p kept [] a none = refl
+none_open number since now at p kept (o ∷ os) a none =
+    λ i. head_closed number at p kept o os a.0 none i || none_open (number + 1) o.at now at p kept os a.3 (tail_closed number at p o os none) i
+
+pub none_held : (opened now at number : ℕ) (os : List Opened) → IsGone os opened number → (a : IsArrived now opened os) → NoneLive a.first at number os
+none_held opened now at number os gone a i o found is =
+    let count = a.count in
+    let inside = slice_get_within os i o found in
+    let past = gone (omega (arith, count, is, inside)) in
+    absurd (omega (arith, count, is, past))
+
+pub too_old : (opened now at number : ℕ) (os : List Opened) (o : Opened) → IsNumbered os opened number o → is_recent at o ≡ false → (a : IsArrived now opened os) → NoneLive a.first at number os
+too_old opened now at number os o numbered old a i x found is =
+    let count = a.count in
+    let inside = slice_get_within os i x found in
+    let place : length os - (opened - number) ≡ i = omega (arith, count, is, inside) in
+    let same : x ≡ o = cc (ap (slice_get os) place, numbered.place, found) in
+    ap (is_recent at) same ∙ old
+
+pub numbered_from : (opened now number : ℕ) (os : List Opened) (o : Opened) → IsNumbered os opened number o → (a : IsArrived now opened os) → a.first + (length os - (opened - number)) ≡ number
+numbered_from opened now number os o numbered a =
+    let count = a.count in
+    let before = numbered.before in
+    let held = numbered.held in
+    omega (arith, count, before, held)
+
+-- ---- an answer in time
+
+head_open : (at p : ℕ) (kept : List Kept) (o : Opened) → o.number ≡ p → is_recent at o ≡ true → is_open at p (as_exchange kept o) ≡ true
+head_open at p kept o is live = λ i. eq-eqb o.number p is i && live i
+
+pub one_open : (number since now at i : ℕ) (kept : List Kept) (os : List Opened) (o : Opened) → slice_get os i ≡ Some o → is_recent at o ≡ true → Arrives number since now os → list_any (is_open at (number + i)) (map (as_exchange kept) os) ≡ true
+one_open number since now at i kept [] o found live a = absurd (cc found)
+one_open number since now at zero kept (x ∷ os) o found live a =
+    let is = a.0 in
+    let same : x ≡ o = cc found in
+    ap (λ (b : Bool). b || list_any (is_open at (number + 0)) (map (as_exchange kept) os)) (head_open at (number + 0) kept x (omega (arith, is)) (ap (is_recent at) same ∙ live))
+one_open number since now at (suc i) kept (x ∷ os) o found live a =
+    let place : number + suc i ≡ (number + 1) + i = omega arith in
+    ap (λ (n : ℕ). is_open at n (as_exchange kept x) || list_any (is_open at n) (map (as_exchange kept) os)) place
+    ∙ (ap (λ (b : Bool). is_open at ((number + 1) + i) (as_exchange kept x) || b) (one_open (number + 1) x.at now at i kept os o found live a.3) ∙ or-true (is_open at ((number + 1) + i) (as_exchange kept x)))
+
+-- the place of the request is written
+head_written : (at p : ℕ) (kept : List Kept) (bytes : ArrayVec ℕ) (o : Opened) → length kept ≡ 1024 → o.number ≡ p → is_recent at o ≡ true → as_exchange (set kept (p % 1024) (record { answered = true; bytes = bytes })) o ≡ answered at p bytes (as_exchange kept o)
+head_written at p kept bytes o long is live =
+    let k : Kept = record { answered = true; bytes = bytes } in
+    let low : p % 1024 < length kept = omega (arith, long) in
+    ap (λ (x : Kept). with_answer x o) (get_or-set_at kept (p % 1024) (o.number % 1024) k no_answer (ap (λ (n : ℕ). n % 1024) is) low)
+    ∙ ap (λ (b : Bool). answered_if b bytes (as_exchange kept o)) (sym (head_open at p kept o is live))
+
+none_after : (number at p : ℕ) (os : List Opened) → p < number → NoneLive number at p os
+none_after number at p os lt i o found is = absurd (omega (arith, lt, is))
+
+pub one_answered : (number since now at i : ℕ) (kept : List Kept) (bytes : ArrayVec ℕ) (os : List Opened) (o : Opened) → length kept ≡ 1024 → length os ≤ 1024 → slice_get os i ≡ Some o → is_recent at o ≡ true → Arrives number since now os → map (as_exchange (set kept ((number + i) % 1024) (record { answered = true; bytes = bytes }))) os ≡ map (answered at (number + i) bytes) (map (as_exchange kept) os)
+one_answered number since now at i kept bytes [] o long few found live a = absurd (cc found)
+one_answered number since now at zero kept bytes (x ∷ os) o long few found live a =
+    let is = a.0 in
+    let same : x ≡ o = cc found in
+    let p : ℕ = number + 0 in
+    let k : Kept = record { answered = true; bytes = bytes } in
+    let rest = all_after (number + 1) x.at now p kept k os (omega arith) (omega (arith, few)) a.3 ∙ sym (none_answered (number + 1) x.at now at p bytes kept os a.3 (none_after (number + 1) at p os (omega arith))) in
+    λ j. head_written at p kept bytes x long (omega (arith, is)) (ap (is_recent at) same ∙ live) j ∷ rest j
+one_answered number since now at (suc i) kept bytes (x ∷ os) o long few found live a =
+    let is = a.0 in
+    let inside = slice_get_within os i o found in
+    let place : (number + 1) + i ≡ number + suc i = omega arith in
+    let k : Kept = record { answered = true; bytes = bytes } in
+    let head = elsewhere kept (number + suc i) k x (apart (number + suc i) x.number (omega (arith, is)) (omega (arith, is, few, inside))) in
+    let other : (x.number == (number + suc i)) ≡ false = ne_eqb x.number (number + suc i) (λ q. absurd (omega (arith, is, q))) in
+    let rest = ap (λ (n : ℕ). map (as_exchange (set kept (n % 1024) k)) os) (sym place) ∙ (one_answered (number + 1) x.at now at i kept bytes os o long (omega (arith, few)) found live a.3 ∙ ap (λ (n : ℕ). map (answered at n bytes) (map (as_exchange kept) os)) place) in
+    λ j. (head ∙ ap (λ (b : Bool). answered_if (b && is_recent at x) bytes (as_exchange kept x)) (sym other)) j ∷ rest j
+
+-- ---- a request of an endpoint and a message id
+
+abbrev pub found_look : List Kept → Option Opened → Bool → Look
+found_look kept (Some o) room = repeated_by o.confirmable (answer_if (kept_at kept o.number).answered (kept_at kept o.number).bytes)
+found_look kept None room = looked room
+
+look_step : (kept : List Kept) (b : Bool) (o : Opened) (seen : Option Exchange) (found : Option Opened) (room : Bool) → look_by seen room ≡ found_look kept found room → look_by (cond b (Some (as_exchange kept o)) seen) room ≡ found_look kept (cond b (Some o) found) room
+look_step kept true o seen found room rest = refl
+look_step kept false o seen found room rest = rest
+
+pub look_seen : (kept : List Kept) (to : Endpoint) (id : ℕ) (room : Bool) (os : List Opened) → look_by (find (is_of to id) (map (as_exchange kept) os)) room ≡ found_look kept (find (is_from to id) os) room
+look_seen kept to id room [] = refl
+look_seen kept to id room (o ∷ os) = look_step kept (is_from to id o) o _ _ room (look_seen kept to id room os)
+
+-- ---- a new request
+
+new_in_room : (b c : Bool) → looked (b && c) ≡ IsNew → b ≡ true
+new_in_room true c new = refl
+new_in_room false c new = absurd (cc new)
+
+not_again : (confirmable : Bool) (answer : Option (ArrayVec ℕ)) → repeated_by confirmable answer ≡ IsNew → ⊥
+not_again confirmable None new = cc new
+not_again true (Some bytes) new = cc new
+not_again false (Some bytes) new = cc new
+
+pub has_space : (found : Option Exchange) (held opened : ℕ) → look_by found (has_room held opened) ≡ IsNew → held < 1024
+has_space None held opened new = ltb-true held 1024 (new_in_room (nat_lt held 1024) (nat_lt opened 18446744073709551615) new)
+has_space (Some e) held opened new = absurd (not_again e.confirmable e.answer new)
+
+pub keeps_all : {X : Type 0} (n : ℕ) (xs : List X) → length xs ≤ n → keep_last n xs ≡ xs
+keeps_all n xs le = let none : length xs - n ≡ 0 = omega (arith, le) in ap (λ (k : ℕ). drop k xs) none
+
+-- it is seen last, without an answer
+pub opened_last : (first now p : ℕ) (kept : List Kept) (bytes : ArrayVec ℕ) (os : List Opened) (o : Opened) → p ≡ first + length os → length os < 1024 → length kept ≡ 1024 → o.number ≡ p → Arrives first 0 now os →
+    map (as_exchange (set kept (p % 1024) (record { answered = false; bytes = bytes }))) (os ++ o ∷ []) ≡ map (as_exchange kept) os ++ with_answer no_answer o ∷ []
+opened_last first now p kept bytes os o count few long is a =
+    let k : Kept = record { answered = false; bytes = bytes } in
+    let low : p % 1024 < length kept = omega (arith, long) in
+    let before = all_before first 0 now p kept k os (omega (arith, count)) (omega (arith, count, few)) a in
+    let last : as_exchange (set kept (p % 1024) k) o ≡ with_answer k o = ap (λ (x : Kept). with_answer x o) (get_or-set_at kept (p % 1024) (o.number % 1024) k no_answer (ap (λ (n : ℕ). n % 1024) is) low) in
+    map-append (as_exchange (set kept (p % 1024) k)) os (o ∷ []) ∙ (λ i. before i ++ last i ∷ [])
