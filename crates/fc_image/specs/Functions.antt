@@ -43,7 +43,8 @@ may_end other = false
 
 -- it is the last instruction of its function, and no exit
 abbrev pub is_open_end : List Insn → ℕ → Insn → Bool
-is_open_end code slot insn = not (may_end insn) && (not (nat_lt (slot + slots_taken insn) (length code)) || is_start code (slot + slots_taken insn))
+is_open_end code slot insn =
+    not (may_end insn) && (not (nat_lt (slot + slots_taken insn) (length code)) || is_start code (slot + slots_taken insn))
 
 -- ---- frames
 

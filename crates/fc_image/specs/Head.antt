@@ -10,6 +10,9 @@ pub record Head : Type 0 where
   pub count : ℕ
   pub budget : ℕ
 
+abbrev pub head_of : ℕ → ℕ → ℕ → Head
+head_of vars_size count budget = record { vars_size = vars_size; count = count; budget = budget }
+
 -- the limits of these numbers
 pub record IsHead (h : Head) : Type 0 where
   pub vars : h.vars_size ≤ 256
@@ -29,7 +32,8 @@ stated image = record {
 
 -- the first four of these bytes are a, b, c and d
 abbrev pub is_word : ℕ → ℕ → ℕ → ℕ → List ℕ → Bool
-is_word a b c d bytes = ((slice_index bytes 0 == a) && (slice_index bytes 1 == b)) && ((slice_index bytes 2 == c) && (slice_index bytes 3 == d))
+is_word a b c d bytes =
+    ((slice_index bytes 0 == a) && (slice_index bytes 1 == b)) && ((slice_index bytes 2 == c) && (slice_index bytes 3 == d))
 
 -- an image begins with the magic bytes `FCB1`
 abbrev pub has_magic : List ℕ → Bool
@@ -66,7 +70,8 @@ head_fault image = find (head_breaks image) (Format ∷ SlotCount ∷ VarsSize �
 
 -- the sixteen bytes that say these numbers: the magic, the numbers, four zeros
 abbrev pub head_bytes : Head → List ℕ
-head_bytes h = 70 ∷ 67 ∷ 66 ∷ 49 ∷ (to_le_bytes w16 h.vars_size ++ (to_le_bytes w16 h.count ++ (to_le_bytes w32 h.budget ++ (0 ∷ 0 ∷ 0 ∷ 0 ∷ []))))
+head_bytes h =
+    70 ∷ 67 ∷ 66 ∷ 49 ∷ (to_le_bytes w16 h.vars_size ++ (to_le_bytes w16 h.count ++ (to_le_bytes w32 h.budget ++ (0 ∷ 0 ∷ 0 ∷ 0 ∷ []))))
 
 -- what an image keeps whose header breaks no rule: it is the header and its slots, and the numbers are within their limits
 pub record KeepsHead (image : List ℕ) : Type 0 where

@@ -1,9 +1,10 @@
 -- The rules of a program's control flow.
-use Rattle.std.specs.Prelude.{◌≡◌, ℕ, ◌+◌, ◌-◌, ◌<◌, ◌≤◌, ◌==◌, ◌||◌, ◌&&◌, not, nat_lt, nat_le, Bool, true, false, if◌then◌else◌, ℤ, pos, negsuc, List, [], ◌∷◌, ◌++◌, length, Option, Some, None, slice_get}
+use Rattle.std.specs.Prelude.{◌≡◌, ℕ, ◌+◌, ◌-◌, ◌<◌, ◌≤◌, ◌==◌, ◌||◌, ◌&&◌, not, nat_lt, nat_le, Bool, true, false, if◌then◌else◌, ℤ, pos, negsuc, List, [], ◌∷◌, ◌++◌, length, Option, Some, None, MatchOption, slice_get}
 use Rattle.std.specs.List.{AllByRecursion}
 use Rattle.fc_isa.specs.declared.insn.Insn.{Insn}
 use Rattle.fc_isa.specs.declared.insn.Insn.TheVariants.{CallHelper}
 use Rattle.fc_isa.specs.declared.rule.Rule.{Rule}
+use Rattle.fc_isa.specs.declared.rule.Fault.{Fault}
 use Rattle.fc_isa.specs.declared.rule.Rule.TheVariants.{JumpTarget, BackwardJump, Boundary, BackwardCall, FrameDepth, Cost, Helper}
 use Rattle.fc_isa.specs.Program.{is_wide_second}
 use Rattle.fc_image.specs.Flow.{jump_offset, call_offset, target}
@@ -39,7 +40,9 @@ calls_no_helper other = false
 -- what a slot breaks: its target is no instruction of the program; a jump or a call isn't to a later slot; a jump leaves its
 -- function, or the function's last instruction is no exit; slot 0 has more than four frames; a helper doesn't exist
 abbrev pub breaks_flow : List Insn → ℕ → Insn → Rule → Bool
-breaks_flow code slot insn JumpTarget = with_offset (jump_offset insn) (λ o. not (is_place code (target slot o))) || with_offset (call_offset insn) (λ o. not (is_place code (target slot o)))
+breaks_flow code slot insn JumpTarget =
+    with_offset (jump_offset insn) (λ o. not (is_place code (target slot o)))
+    || with_offset (call_offset insn) (λ o. not (is_place code (target slot o)))
 breaks_flow code slot insn BackwardJump = with_offset (jump_offset insn) (λ o. not (is_later slot (target slot o)))
 breaks_flow code slot insn Boundary = with_offset (jump_offset insn) (λ o. leaves code slot (target slot o)) || is_open_end code slot insn
 breaks_flow code slot insn BackwardCall = with_offset (call_offset insn) (λ o. not (is_later slot (target slot o)))
@@ -94,7 +97,12 @@ or_next None rule more = more
 -- the first of these rules that some slot breaks, with the least such slot
 abbrev pub first_broken : ℕ → List Insn → List Rule → Option (ℕ × Rule)
 first_broken budget code [] = None
-first_broken budget code (rule ∷ rules) = or_next (least (λ slot insn. breaks_shape budget code slot insn rule) 0 code) rule (first_broken budget code rules)
+first_broken budget code (rule ∷ rules) =
+    or_next (least (λ slot insn. breaks_shape budget code slot insn rule) 0 code) rule (first_broken budget code rules)
 
 unfoldable pub shape_fault : ℕ → List Insn → Option (ℕ × Rule)
 shape_fault budget code = first_broken budget code flow_rules
+
+-- a fault or none, as a slot and a rule say
+abbrev pub IsSame : Option (ℕ × Rule) → Option Fault → Type 0
+IsSame found fault = MatchOption fault (found ≡ None) (λ f. found ≡ Some (f.slot, f.rule))

@@ -1,8 +1,19 @@
 -- The tables that a program's control flow is judged by.
-use Rattle.std.specs.Prelude.{◌≡◌, ℕ, ◌<◌, Bool, false, List, slice_index_or}
+use Rattle.std.specs.Prelude.{◌≡◌, ℕ, ◌+◌, ◌<◌, ◌||◌, Bool, false, if◌then◌else◌, min, max, List, drop, slice_index, slice_index_or}
 use Rattle.fc_isa.specs.declared.insn.Insn.{Insn}
-use Rattle.fc_image.specs.Functions.{is_start}
+use Rattle.fc_image.specs.Functions.{calls, frames_called, is_start}
 
 -- a flag for each of 512 slots: a function starts there
 pub record AreStarts (code : List Insn) (flags : List Bool) : Type 0 where
   pub each : (place : ℕ) → place < 512 → slice_index_or flags place false ≡ is_start code place
+
+-- the flags with that of the function which an instruction calls
+abbrev pub IsMarked : ℕ → Insn → List Bool → List Bool → Type 0
+IsMarked slot insn old new =
+    (place : ℕ) → place < 512 → slice_index_or new place false ≡ (calls slot insn place || slice_index_or old place false)
+
+-- the frames that calls add from a slot to the end of its function, up to 5, given those of the later slots
+abbrev pub frames_from : List ℕ → List Bool → ℕ → Insn → ℕ
+frames_from depths flags slot insn =
+    min 5 (max (frames_called insn (drop (slot + 1) depths))
+    (if slice_index_or flags (slot + 1) false then 0 else slice_index depths (slot + 1)))

@@ -5,7 +5,7 @@ ghost use Rattle.fc_image.specs.Flow.{call_offset, jump_offset, target};
 ghost use Rattle.fc_image.specs.Functions.{with_offset};
 ghost use Rattle.fc_image.specs.Judged.{AreTables};
 ghost use Rattle.fc_image.specs.Paths.{IsLongest, longest};
-ghost use Rattle.fc_image.specs.ShapeRules.{IsShaped, breaks_shape, calls_no_helper, shape_fault, first_broken, is_later, is_place, least, leaves};
+ghost use Rattle.fc_image.specs.ShapeRules.{IsSame, IsShaped, breaks_shape, calls_no_helper, shape_fault, first_broken, is_later, is_place, least, leaves};
 
 use crate::flow::{call_offset, jump_offset, target};
 use crate::functions::{crosses, is_open_end};
@@ -50,7 +50,7 @@ fn first_broken(code: &[Insn], tables: &Tables, budget: u32, rules: &[Rule]) -> 
     requires tables { AreTables code.now tables.now }
     requires count { length code.now ≤ 512 }
     requires budget { budget ≤ 65536 }
-    ensures { MatchOption result (first_broken budget code.now rules.now ≡ None) (λ f. first_broken budget code.now rules.now ≡ Some (f.slot, f.rule)) }
+    ensures { IsSame (first_broken budget code.now rules.now) result }
 {
     for rule in rules {
         if let Some(slot) = least(code, tables, budget, *rule) {

@@ -2,7 +2,7 @@
 ghost use Rattle.std.specs.Prelude.{Bool, List, None, Some, drop, false, if◌then◌else◌, length, max, min, slice_index, slice_index_or, true, ℕ, ◌+◌, ◌-◌, ◌<◌, ◌||◌, ◌≡◌, ◌≤◌};
 ghost use Rattle.fc_image.specs.Functions.{calls, frames, frames_called, is_called, is_open_end, is_start, may_end, slots_taken, starts_within};
 ghost use Rattle.fc_image.specs.Paths.{at_offset};
-ghost use Rattle.fc_image.specs.Tables.{AreStarts};
+ghost use Rattle.fc_image.specs.Tables.{AreStarts, IsMarked, frames_from};
 
 use crate::flow::{call_offset, target};
 use crate::table::SLOTS;
@@ -29,7 +29,7 @@ pub(crate) fn starts(code: &[Insn]) -> [bool; SLOTS]
 /// Marks the function that an instruction calls, where it starts at a slot of a program.
 fn mark(starts: &mut [bool; SLOTS], slot: usize, insn: &Insn)
     requires { slot < 512 }
-    ensures { (place : ℕ) → place < 512 → slice_index_or starts.new place false ≡ (calls slot insn.now place || slice_index_or starts.old place false) }
+    ensures { IsMarked slot insn.now starts.old starts.new }
 {
     if let Some(offset) = call_offset(insn)
         && let Some(place) = target(slot, offset)
@@ -100,7 +100,7 @@ pub(crate) fn deepest(code: &[Insn], starts: &[bool; SLOTS]) -> u8
 fn depth(depths: &[u8; SLOTS], starts: &[bool; SLOTS], slot: usize, insn: &Insn) -> u8
     requires slot { slot < 512 }
     requires capped { (k : ℕ) → slice_index depths.now k ≤ 5 }
-    ensures { result ≡ min 5 (max (frames_called insn.now (drop (slot + 1) depths.now)) (if slice_index_or starts.now (slot + 1) false then 0 else slice_index depths.now (slot + 1))) }
+    ensures { result ≡ frames_from depths.now starts.now slot insn.now }
 {
     let rest = if at_start(starts, slot + 1) {
         0

@@ -27,15 +27,15 @@ impl Model for Head {
 
 impl Head {
     ghost use Rattle.std.specs.Prelude.{IfErr, IfOk, None, Some, ◌%◌, ◌≡◌, ◌≤◌};
-    ghost use Rattle.fc_image.specs.Head.{IsHead, head_bytes, limit_fault};
+    ghost use Rattle.fc_image.specs.Head.{IsHead, head_bytes, head_of, limit_fault};
 
     /// The header of these numbers: the size of the variables in bytes, the count of slots, and the budget of steps.
     ///
     /// # Errors
     /// The least rule, 2 to 4, that a number breaks, at slot 0.
     pub fn new(vars_size: u16, count: usize, budget: u32) -> Result<Self, Fault>
-        ensures head { IfOk result (λ h. (h ≡ record { vars_size = vars_size; count = count; budget = budget }) × (limit_fault (record { vars_size = vars_size; count = count; budget = budget }) ≡ None)) }
-        ensures fault { IfErr result (λ f. (limit_fault (record { vars_size = vars_size; count = count; budget = budget }) ≡ Some f.rule) × (f.slot ≡ 0)) }
+        ensures head { IfOk result (λ h. (h ≡ head_of vars_size count budget) × (limit_fault (head_of vars_size count budget) ≡ None)) }
+        ensures fault { IfErr result (λ f. (limit_fault (head_of vars_size count budget) ≡ Some f.rule) × (f.slot ≡ 0)) }
     {
         match broken_limit(vars_size, count, budget) {
             Some(rule) => Err(Fault { rule, slot: 0 }),

@@ -91,7 +91,8 @@ fields_of (StoreImm size base offset imm) = fields (StoreImmShape size) base 0 (
 fields_of (Store size base offset src) = fields (StoreShape size) base src (cast_unsigned w16 offset) 0
 fields_of (JumpAlways offset) = fields JumpAlwaysShape 0 0 (cast_unsigned w16 offset) 0
 fields_of (JumpAlwaysLong offset) = fields JumpAlwaysLongShape 0 0 0 (cast_unsigned w32 offset)
-fields_of (JumpIf j) = fields (JumpIfShape j.width j.relation (source_of j.right)) j.left (src_of j.right) (cast_unsigned w16 j.offset) (imm_of j.right)
+fields_of (JumpIf j) =
+    fields (JumpIfShape j.width j.relation (source_of j.right)) j.left (src_of j.right) (cast_unsigned w16 j.offset) (imm_of j.right)
 fields_of (CallHelper number) = fields CallShape 0 0 0 (cast_unsigned w32 number)
 fields_of (CallLocal offset) = fields CallShape 0 1 0 (cast_unsigned w32 offset)
 fields_of Exit = fields ExitShape 0 0 0 0

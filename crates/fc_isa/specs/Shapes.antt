@@ -229,7 +229,8 @@ opcode_uses_src opcode =
     ((class_of opcode == 1) || (class_of opcode == 3))
     || (((is_arithmetic opcode || is_jump opcode) && takes_register opcode) || (opcode == 133))
 
--- loads and stores; jumps of class JMP but calls and exit, of class JMP32 with a condition; division (3), modulo (9), and a move (11) of a register
+-- loads and stores; jumps of class JMP but calls and exit, of class JMP32 with a condition; division (3), modulo (9), and a
+-- move (11) of a register
 unfoldable pub opcode_uses_offset : ℕ → Bool
 opcode_uses_offset opcode =
     (((class_of opcode == 1) || (class_of opcode == 2)) || (class_of opcode == 3))

@@ -405,7 +405,7 @@ impl Fields {
     fn jump_if(self, width: Width, relation: Relation, source: Source) -> Insn
         requires dst { self.dst < 11 }
         requires src { self.src < 11 }
-        ensures { result ≡ Insn.JumpIf (record { width = width; relation = relation; left = self.dst; right = operand_of source self; offset = cast_signed w16 self.offset }) }
+        ensures { result ≡ insn_with (Shape.JumpIf width relation source) self 0 }
     {
         Insn::JumpIf(Jump {
             width,

@@ -63,5 +63,5 @@ pub fn rows_fix_the_used_fields(opcode: u8)
 
 /// A slot whose opcode has no known form breaks the opcode rule, whatever else it has.
 pub fn unknown_opcodes_are_refused(opcode: u8)
-    ensures { is_known (shape_of opcode) ≡ false → (f : Fields) (next : Option Fields) → f.opcode ≡ opcode → slot_fault f next ≡ Some Rule.Opcode }
+    ensures { is_known (shape_of opcode) ≡ false → (f : Fields) (n : Option Fields) → f.opcode ≡ opcode → slot_fault f n ≡ Some Rule.Opcode }
 {}

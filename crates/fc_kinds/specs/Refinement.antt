@@ -49,5 +49,6 @@ both_numbers a b f kinds = Some kinds
 unfoldable pub when : Jump → Bool → List Kind → Option (List Kind)
 when j taken kinds =
     if refines j
-    then both_numbers (kind_at kinds j.left) (operand_kind W64 j.right kinds) (λ a b. with_some (refined (relation_of taken j) a b) (λ pair. Some (put_both j kinds pair))) kinds
+    then both_numbers (kind_at kinds j.left) (operand_kind W64 j.right kinds) (λ a b.
+    with_some (refined (relation_of taken j) a b) (λ pair. Some (put_both j kinds pair))) kinds
     else Some kinds

@@ -33,7 +33,7 @@ pub fn effects_are_monotone()
 
 /// The kinds after an instruction hold some values where those before it do.
 pub fn effects_keep_kinds()
-    ensures { (vars : ℕ) (insn : Insn) (ks next : List What) → IsInsn insn → AreKinds ks → transfer vars insn ks ≡ Some next → AreKinds next }
+    ensures { (vars : ℕ) (insn : Insn) (ks ls : List What) → IsInsn insn → AreKinds ks → transfer vars insn ks ≡ Some ls → AreKinds ls }
 {}
 
 /// A way that is open at narrower kinds is open at wider ones, with wider kinds on it.

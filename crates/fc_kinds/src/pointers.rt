@@ -20,7 +20,8 @@ const REQUEST: u16 = 1104;
 pub(crate) fn distance(operand: Operand, b: Kind) -> Result<(i64, i64), Rule>
     requires { IsKind b }
     ensures far { IfOk result (λ d. distance operand b ≡ Some d) }
-    ensures bound { IfOk result (λ d. (negsuc 2147483647 ≤ℤ d.0) × (d.0 ≤ℤ pos 2147483647) × (negsuc 2147483647 ≤ℤ d.1) × (d.1 ≤ℤ pos 2147483647)) }
+    ensures least { IfOk result (λ d. (negsuc 2147483647 ≤ℤ d.0) × (d.0 ≤ℤ pos 2147483647)) }
+    ensures most { IfOk result (λ d. (negsuc 2147483647 ≤ℤ d.1) × (d.1 ≤ℤ pos 2147483647)) }
     ensures refused { IfErr result (λ rule. distance operand b ≡ None) }
     ensures rule { IfErr result (λ rule. (20 ≤ number_of rule) × (number_of rule ≤ 27)) }
 {
