@@ -5,35 +5,35 @@ use Rattle.std.proofs.lemmas.Bool.{cases_lt, lt-ltb, le-ltb, ltb-true}
 use Rattle.coap_dedup.specs.declared.exchange.Kept.{Kept}
 use Rattle.coap_dedup.specs.declared.exchange.Opened.{Opened}
 use Rattle.coap_dedup.specs.Exchanges.{Exchange, is_live}
-use Rattle.coap_dedup.specs.Views.{Arrives, IsArrived, InOrder, as_exchange, is_recent}
+use Rattle.coap_dedup.specs.Views.{Arrives, IsArrived, InOrder, as_exchange, request_is_live}
 
 -- ---- what expires
 
 -- the first is live, so all are
-all_live : (number since now at : ℕ) (os : List Opened) → Arrives number since now os → at < since + 247000 → filter (is_recent at) os ≡ os
+all_live : (number since now at : ℕ) (os : List Opened) → Arrives number since now os → at < since + 247000 → filter (request_is_live at) os ≡ os
 all_live number since now at [] a lt = refl
 all_live number since now at (o ∷ os) a lt =
     let le = a.1 in
-    let live : is_recent at o ≡ true = lt-ltb at (o.at + 247000) (omega (arith, le, lt)) in
-    ap (λ (b : Bool). cond b (o ∷ filter (is_recent at) os) (filter (is_recent at) os)) live ∙ ap (λ (l : List Opened). o ∷ l) (all_live (number + 1) o.at now at os a.3 (omega (arith, le, lt)))
+    let live : request_is_live at o ≡ true = lt-ltb at (o.at + 247000) (omega (arith, le, lt)) in
+    ap (λ (b : Bool). cond b (o ∷ filter (request_is_live at) os) (filter (request_is_live at) os)) live ∙ ap (λ (l : List Opened). o ∷ l) (all_live (number + 1) o.at now at os a.3 (omega (arith, le, lt)))
 
-live_from : (number since now at : ℕ) (o : Opened) (os : List Opened) → Arrives number since now (o ∷ os) → is_recent at o ≡ true → filter (is_recent at) (o ∷ os) ≡ o ∷ os
+live_from : (number since now at : ℕ) (o : Opened) (os : List Opened) → Arrives number since now (o ∷ os) → request_is_live at o ≡ true → filter (request_is_live at) (o ∷ os) ≡ o ∷ os
 live_from number since now at o os a live =
-    ap (λ (b : Bool). cond b (o ∷ filter (is_recent at) os) (filter (is_recent at) os)) live ∙ ap (λ (l : List Opened). o ∷ l) (all_live (number + 1) o.at now at os a.3 (ltb-true at (o.at + 247000) live))
+    ap (λ (b : Bool). cond b (o ∷ filter (request_is_live at) os) (filter (request_is_live at) os)) live ∙ ap (λ (l : List Opened). o ∷ l) (all_live (number + 1) o.at now at os a.3 (ltb-true at (o.at + 247000) live))
 
-dead_from : (at : ℕ) (o : Opened) (os : List Opened) → is_recent at o ≡ false → filter (is_recent at) (o ∷ os) ≡ filter (is_recent at) os
-dead_from at o os dead = ap (λ (b : Bool). cond b (o ∷ filter (is_recent at) os) (filter (is_recent at) os)) dead
+dead_from : (at : ℕ) (o : Opened) (os : List Opened) → request_is_live at o ≡ false → filter (request_is_live at) (o ∷ os) ≡ filter (request_is_live at) os
+dead_from at o os dead = ap (λ (b : Bool). cond b (o ∷ filter (request_is_live at) os) (filter (request_is_live at) os)) dead
 
 -- of a ring, by its front
-pub live_front : (at : ℕ) (os : List Opened) (o : Opened) → InOrder os → slice_get os 0 ≡ Some o → is_recent at o ≡ true → filter (is_recent at) os ≡ os
+pub live_front : (at : ℕ) (os : List Opened) (o : Opened) → InOrder os → slice_get os 0 ≡ Some o → request_is_live at o ≡ true → filter (request_is_live at) os ≡ os
 live_front at [] o a front live = refl
-live_front at (x ∷ os) o a front live = let same : x ≡ o = cc front in live_from a.first 0 a.now at x os a.order (ap (is_recent at) same ∙ live)
+live_front at (x ∷ os) o a front live = let same : x ≡ o = cc front in live_from a.first 0 a.now at x os a.order (ap (request_is_live at) same ∙ live)
 
-pub dead_front : (at : ℕ) (os : List Opened) (o : Opened) → slice_get os 0 ≡ Some o → is_recent at o ≡ false → filter (is_recent at) (drop 1 os) ≡ filter (is_recent at) os
+pub dead_front : (at : ℕ) (os : List Opened) (o : Opened) → slice_get os 0 ≡ Some o → request_is_live at o ≡ false → filter (request_is_live at) (drop 1 os) ≡ filter (request_is_live at) os
 dead_front at [] o front dead = refl
-dead_front at (x ∷ os) o front dead = let same : x ≡ o = cc front in sym (dead_from at x os (ap (is_recent at) same ∙ dead))
+dead_front at (x ∷ os) o front dead = let same : x ≡ o = cc front in sym (dead_from at x os (ap (request_is_live at) same ∙ dead))
 
-pub no_front : (at : ℕ) (os : List Opened) → slice_get os 0 ≡ None → filter (is_recent at) os ≡ os
+pub no_front : (at : ℕ) (os : List Opened) → slice_get os 0 ≡ None → filter (request_is_live at) os ≡ os
 no_front at [] none = refl
 no_front at (o ∷ os) none = absurd (cc none)
 
@@ -54,8 +54,8 @@ later number since now at (o ∷ os) le a = let b = a.2 in (a.0, a.1, omega (ari
 -- what is let go is the first so many
 record IsCut (first at : ℕ) (os : List Opened) : Type 0 where
   gone : ℕ
-  order : Arrives (first + gone) 0 at (filter (is_recent at) os)
-  count : length os ≡ gone + length (filter (is_recent at) os)
+  order : Arrives (first + gone) 0 at (filter (request_is_live at) os)
+  count : length os ≡ gone + length (filter (request_is_live at) os)
 
 cut : (first since now at : ℕ) (os : List Opened) → now ≤ at → Arrives first since now os → IsCut first at os
 cut first since now at [] le a = record { gone = 0; order = tt; count = refl }
@@ -66,28 +66,28 @@ cut first since now at (o ∷ os) le a = ⊎_elim
     record {
       gone = 0;
       order = subst (λ (l : List Opened). Arrives (first + 0) 0 at l) (sym same) (subst (λ (n : ℕ). Arrives n 0 at (o ∷ os)) (omega arith) order);
-      count = let long : length (filter (is_recent at) (o ∷ os)) ≡ length (o ∷ os) = ap length same in omega (arith, long);
+      count = let long : length (filter (request_is_live at) (o ∷ os)) ≡ length (o ∷ os) = ap length same in omega (arith, long);
     })
     (λ (ge : o.at + 247000 ≤ at).
     let same = dead_from at o os (le-ltb at (o.at + 247000) ge) in
     let c = cut (first + 1) o.at now at os le a.3 in
     let count = c.count in
-    let fewer : length (filter (is_recent at) (o ∷ os)) ≡ length (filter (is_recent at) os) = ap length same in
+    let fewer : length (filter (request_is_live at) (o ∷ os)) ≡ length (filter (request_is_live at) os) = ap length same in
     record {
       gone = c.gone + 1;
-      order = subst (λ (l : List Opened). Arrives (first + (c.gone + 1)) 0 at l) (sym same) (subst (λ (n : ℕ). Arrives n 0 at (filter (is_recent at) os)) (omega arith) c.order);
+      order = subst (λ (l : List Opened). Arrives (first + (c.gone + 1)) 0 at l) (sym same) (subst (λ (n : ℕ). Arrives n 0 at (filter (request_is_live at) os)) (omega arith) c.order);
       count = omega (arith, count, fewer);
     })
     (cases_lt at (o.at + 247000))
 
-pub expired_arrived : (opened now at : ℕ) (os : List Opened) → now ≤ at → IsArrived now opened os → IsArrived at opened (filter (is_recent at) os)
+pub expired_arrived : (opened now at : ℕ) (os : List Opened) → now ≤ at → IsArrived now opened os → IsArrived at opened (filter (request_is_live at) os)
 expired_arrived opened now at os le a =
     let c = cut a.first 0 now at os le a.order in
     let count = a.count in
     let few = c.count in
     record { first = a.first + c.gone; order = c.order; count = omega (arith, count, few) }
 
-pub fewer : (opened now at : ℕ) (os : List Opened) → now ≤ at → IsArrived now opened os → length (filter (is_recent at) os) ≤ length os
+pub fewer : (opened now at : ℕ) (os : List Opened) → now ≤ at → IsArrived now opened os → length (filter (request_is_live at) os) ≤ length os
 fewer opened now at os le a = let c = (cut a.first 0 now at os le a.order).count in omega (arith, c)
 
 -- one more, opened now
@@ -107,7 +107,7 @@ seen_if : (kept : List Kept) (b : Bool) (o : Opened) (os : List Opened) → map 
 seen_if kept true o os = refl
 seen_if kept false o os = refl
 
-pub filter_seen : (kept : List Kept) (at : ℕ) (os : List Opened) → map (as_exchange kept) (filter (is_recent at) os) ≡ filter (is_live at) (map (as_exchange kept) os)
+pub filter_seen : (kept : List Kept) (at : ℕ) (os : List Opened) → map (as_exchange kept) (filter (request_is_live at) os) ≡ filter (is_live at) (map (as_exchange kept) os)
 filter_seen kept at [] = refl
 filter_seen kept at (o ∷ os) =
-    seen_if kept (is_recent at o) o (filter (is_recent at) os) ∙ ap (λ (l : List Exchange). cond (is_recent at o) (as_exchange kept o ∷ l) l) (filter_seen kept at os)
+    seen_if kept (request_is_live at o) o (filter (request_is_live at) os) ∙ ap (λ (l : List Exchange). cond (request_is_live at o) (as_exchange kept o ∷ l) l) (filter_seen kept at os)

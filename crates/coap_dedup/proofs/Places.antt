@@ -11,8 +11,8 @@ use Rattle.arrayvec.specs.ArrayVec.{ArrayVec}
 use Rattle.coap_msg.specs.declared.types.Endpoint.{Endpoint}
 use Rattle.coap_dedup.specs.declared.exchange.Kept.{Kept}
 use Rattle.coap_dedup.specs.declared.exchange.Opened.{Opened}
-use Rattle.coap_dedup.specs.Exchanges.{Exchange, IsNew, Look, answered, answered_if, has_room, is_live, is_of, is_open, look_by, looked, repeated_by}
-use Rattle.coap_dedup.specs.Views.{Arrives, IsArrived, IsGone, IsNumbered, answer_if, as_exchange, is_from, is_recent, kept_at, no_answer, with_answer}
+use Rattle.coap_dedup.specs.Exchanges.{Exchange, IsNew, Look, answered, answered_if, has_room, is_live, is_of, is_open, look_by, new_or_full, repeated_by}
+use Rattle.coap_dedup.specs.Views.{Arrives, IsArrived, IsGone, IsNumbered, answer_if, as_exchange, is_from, request_is_live, kept_at, no_answer, with_answer}
 
 -- numbers less than 1,024 apart have different places
 apart : (p q : ℕ) → q < p → p < q + 1024 → q % 1024 ≡ p % 1024 → ⊥
@@ -40,7 +40,7 @@ all_before number since now p kept k (o ∷ os) lt near a =
 
 -- the exchange of this number, if it is among these, isn't live
 abbrev pub NoneLive : ℕ → ℕ → ℕ → List Opened → Type 0
-NoneLive number at p os = (i : ℕ) (o : Opened) → slice_get os i ≡ Some o → p ≡ number + i → is_recent at o ≡ false
+NoneLive number at p os = (i : ℕ) (o : Opened) → slice_get os i ≡ Some o → p ≡ number + i → request_is_live at o ≡ false
 
 or-true : (b : Bool) → (b || true) ≡ true
 or-true true = refl
@@ -53,7 +53,7 @@ and-false false = refl
 head_closed : (number at p : ℕ) (kept : List Kept) (o : Opened) (os : List Opened) → o.number ≡ number → NoneLive number at p (o ∷ os) → is_open at p (as_exchange kept o) ≡ false
 head_closed number at p kept o os is none = ⊎_elim
     (λ (e : o.number ≡ p). ap (λ (b : Bool). (o.number == p) && b) (none 0 o refl (omega (arith, e, is))) ∙ and-false (o.number == p))
-    (λ (ne : o.number ≡ p → ⊥). ap (λ (b : Bool). b && is_recent at o) (ne_eqb o.number p ne))
+    (λ (ne : o.number ≡ p → ⊥). ap (λ (b : Bool). b && request_is_live at o) (ne_eqb o.number p ne))
     (cases_eq o.number p)
 
 tail_closed : (number at p : ℕ) (o : Opened) (os : List Opened) → NoneLive number at p (o ∷ os) → NoneLive (number + 1) at p os
@@ -77,13 +77,13 @@ none_held opened now at number os gone a i o found is =
     let past = gone (omega (arith, count, is, inside)) in
     absurd (omega (arith, count, is, past))
 
-pub too_old : (opened now at number : ℕ) (os : List Opened) (o : Opened) → IsNumbered os opened number o → is_recent at o ≡ false → (a : IsArrived now opened os) → NoneLive a.first at number os
+pub too_old : (opened now at number : ℕ) (os : List Opened) (o : Opened) → IsNumbered os opened number o → request_is_live at o ≡ false → (a : IsArrived now opened os) → NoneLive a.first at number os
 too_old opened now at number os o numbered old a i x found is =
     let count = a.count in
     let inside = slice_get_within os i x found in
     let place : length os - (opened - number) ≡ i = omega (arith, count, is, inside) in
     let same : x ≡ o = cc (ap (slice_get os) place, numbered.place, found) in
-    ap (is_recent at) same ∙ old
+    ap (request_is_live at) same ∙ old
 
 pub numbered_from : (opened now number : ℕ) (os : List Opened) (o : Opened) → IsNumbered os opened number o → (a : IsArrived now opened os) → a.first + (length os - (opened - number)) ≡ number
 numbered_from opened now number os o numbered a =
@@ -94,22 +94,22 @@ numbered_from opened now number os o numbered a =
 
 -- ---- an answer in time
 
-head_open : (at p : ℕ) (kept : List Kept) (o : Opened) → o.number ≡ p → is_recent at o ≡ true → is_open at p (as_exchange kept o) ≡ true
+head_open : (at p : ℕ) (kept : List Kept) (o : Opened) → o.number ≡ p → request_is_live at o ≡ true → is_open at p (as_exchange kept o) ≡ true
 head_open at p kept o is live = λ i. eq-eqb o.number p is i && live i
 
-pub one_open : (number since now at i : ℕ) (kept : List Kept) (os : List Opened) (o : Opened) → slice_get os i ≡ Some o → is_recent at o ≡ true → Arrives number since now os → list_any (is_open at (number + i)) (map (as_exchange kept) os) ≡ true
+pub one_open : (number since now at i : ℕ) (kept : List Kept) (os : List Opened) (o : Opened) → slice_get os i ≡ Some o → request_is_live at o ≡ true → Arrives number since now os → list_any (is_open at (number + i)) (map (as_exchange kept) os) ≡ true
 one_open number since now at i kept [] o found live a = absurd (cc found)
 one_open number since now at zero kept (x ∷ os) o found live a =
     let is = a.0 in
     let same : x ≡ o = cc found in
-    ap (λ (b : Bool). b || list_any (is_open at (number + 0)) (map (as_exchange kept) os)) (head_open at (number + 0) kept x (omega (arith, is)) (ap (is_recent at) same ∙ live))
+    ap (λ (b : Bool). b || list_any (is_open at (number + 0)) (map (as_exchange kept) os)) (head_open at (number + 0) kept x (omega (arith, is)) (ap (request_is_live at) same ∙ live))
 one_open number since now at (suc i) kept (x ∷ os) o found live a =
     let place : number + suc i ≡ (number + 1) + i = omega arith in
     ap (λ (n : ℕ). is_open at n (as_exchange kept x) || list_any (is_open at n) (map (as_exchange kept) os)) place
     ∙ (ap (λ (b : Bool). is_open at ((number + 1) + i) (as_exchange kept x) || b) (one_open (number + 1) x.at now at i kept os o found live a.3) ∙ or-true (is_open at ((number + 1) + i) (as_exchange kept x)))
 
 -- the place of the request is written
-head_written : (at p : ℕ) (kept : List Kept) (bytes : ArrayVec ℕ) (o : Opened) → length kept ≡ 1024 → o.number ≡ p → is_recent at o ≡ true → as_exchange (set kept (p % 1024) (record { answered = true; bytes = bytes })) o ≡ answered at p bytes (as_exchange kept o)
+head_written : (at p : ℕ) (kept : List Kept) (bytes : ArrayVec ℕ) (o : Opened) → length kept ≡ 1024 → o.number ≡ p → request_is_live at o ≡ true → as_exchange (set kept (p % 1024) (record { answered = true; bytes = bytes })) o ≡ answered at p bytes (as_exchange kept o)
 head_written at p kept bytes o long is live =
     let k : Kept = record { answered = true; bytes = bytes } in
     let low : p % 1024 < length kept = omega (arith, long) in
@@ -119,7 +119,7 @@ head_written at p kept bytes o long is live =
 none_after : (number at p : ℕ) (os : List Opened) → p < number → NoneLive number at p os
 none_after number at p os lt i o found is = absurd (omega (arith, lt, is))
 
-pub one_answered : (number since now at i : ℕ) (kept : List Kept) (bytes : ArrayVec ℕ) (os : List Opened) (o : Opened) → length kept ≡ 1024 → length os ≤ 1024 → slice_get os i ≡ Some o → is_recent at o ≡ true → Arrives number since now os → map (as_exchange (set kept ((number + i) % 1024) (record { answered = true; bytes = bytes }))) os ≡ map (answered at (number + i) bytes) (map (as_exchange kept) os)
+pub one_answered : (number since now at i : ℕ) (kept : List Kept) (bytes : ArrayVec ℕ) (os : List Opened) (o : Opened) → length kept ≡ 1024 → length os ≤ 1024 → slice_get os i ≡ Some o → request_is_live at o ≡ true → Arrives number since now os → map (as_exchange (set kept ((number + i) % 1024) (record { answered = true; bytes = bytes }))) os ≡ map (answered at (number + i) bytes) (map (as_exchange kept) os)
 one_answered number since now at i kept bytes [] o long few found live a = absurd (cc found)
 one_answered number since now at zero kept bytes (x ∷ os) o long few found live a =
     let is = a.0 in
@@ -127,7 +127,7 @@ one_answered number since now at zero kept bytes (x ∷ os) o long few found liv
     let p : ℕ = number + 0 in
     let k : Kept = record { answered = true; bytes = bytes } in
     let rest = all_after (number + 1) x.at now p kept k os (omega arith) (omega (arith, few)) a.3 ∙ sym (none_answered (number + 1) x.at now at p bytes kept os a.3 (none_after (number + 1) at p os (omega arith))) in
-    λ j. head_written at p kept bytes x long (omega (arith, is)) (ap (is_recent at) same ∙ live) j ∷ rest j
+    λ j. head_written at p kept bytes x long (omega (arith, is)) (ap (request_is_live at) same ∙ live) j ∷ rest j
 one_answered number since now at (suc i) kept bytes (x ∷ os) o long few found live a =
     let is = a.0 in
     let inside = slice_get_within os i o found in
@@ -136,13 +136,13 @@ one_answered number since now at (suc i) kept bytes (x ∷ os) o long few found 
     let head = elsewhere kept (number + suc i) k x (apart (number + suc i) x.number (omega (arith, is)) (omega (arith, is, few, inside))) in
     let other : (x.number == (number + suc i)) ≡ false = ne_eqb x.number (number + suc i) (λ q. absurd (omega (arith, is, q))) in
     let rest = ap (λ (n : ℕ). map (as_exchange (set kept (n % 1024) k)) os) (sym place) ∙ (one_answered (number + 1) x.at now at i kept bytes os o long (omega (arith, few)) found live a.3 ∙ ap (λ (n : ℕ). map (answered at n bytes) (map (as_exchange kept) os)) place) in
-    λ j. (head ∙ ap (λ (b : Bool). answered_if (b && is_recent at x) bytes (as_exchange kept x)) (sym other)) j ∷ rest j
+    λ j. (head ∙ ap (λ (b : Bool). answered_if (b && request_is_live at x) bytes (as_exchange kept x)) (sym other)) j ∷ rest j
 
 -- ---- a request of an endpoint and a message id
 
 abbrev pub found_look : List Kept → Option Opened → Bool → Look
 found_look kept (Some o) room = repeated_by o.confirmable (answer_if (kept_at kept o.number).answered (kept_at kept o.number).bytes)
-found_look kept None room = looked room
+found_look kept None room = new_or_full room
 
 look_step : (kept : List Kept) (b : Bool) (o : Opened) (seen : Option Exchange) (found : Option Opened) (room : Bool) → look_by seen room ≡ found_look kept found room → look_by (cond b (Some (as_exchange kept o)) seen) room ≡ found_look kept (cond b (Some o) found) room
 look_step kept true o seen found room rest = refl
@@ -154,7 +154,7 @@ look_seen kept to id room (o ∷ os) = look_step kept (is_from to id o) o _ _ ro
 
 -- ---- a new request
 
-new_in_room : (b c : Bool) → looked (b && c) ≡ IsNew → b ≡ true
+new_in_room : (b c : Bool) → new_or_full (b && c) ≡ IsNew → b ≡ true
 new_in_room true c new = refl
 new_in_room false c new = absurd (cc new)
 

@@ -27,19 +27,19 @@ abbrev pub window : ℕ
 window = 247000
 
 -- that moment was less than a window before
-abbrev pub is_within : ℕ → ℕ → Bool
-is_within now at = nat_lt now (at + window)
+abbrev pub within_window : ℕ → ℕ → Bool
+within_window now at = nat_lt now (at + window)
 
 -- it was opened less than a window before
 abbrev pub is_live : ℕ → Exchange → Bool
-is_live now e = is_within now e.at
+is_live now e = within_window now e.at
 
-abbrev pub is_same : Endpoint → Endpoint → Bool
-is_same a b = pointwise nat_eq a.ip b.ip && (a.port == b.port)
+abbrev pub same_endpoint : Endpoint → Endpoint → Bool
+same_endpoint a b = pointwise nat_eq a.ip b.ip && (a.port == b.port)
 
 -- it is of this endpoint and message id
 abbrev pub is_of : Endpoint → ℕ → Exchange → Bool
-is_of to id e = is_same e.endpoint to && (e.id == id)
+is_of to id e = same_endpoint e.endpoint to && (e.id == id)
 
 -- what is a window old or more is let go
 abbrev pub expired : Table → ℕ → Table
@@ -58,25 +58,25 @@ pub data Look : Type 0 where
   IsSilent : Look
   IsFull : Look
 
-abbrev pub looked : Bool → Look
-looked true = IsNew
-looked false = IsFull
+abbrev pub new_or_full : Bool → Look
+new_or_full true = IsNew
+new_or_full false = IsFull
 
-abbrev pub told : Bool → List ℕ → Look
-told true bytes = IsAgain bytes
-told false bytes = IsSilent
+abbrev pub answered_again : Bool → List ℕ → Look
+answered_again true bytes = IsAgain bytes
+answered_again false bytes = IsSilent
 
 -- a repeat of this exchange
 abbrev pub repeated_by : Bool → Option (ArrayVec ℕ) → Look
 repeated_by confirmable None = IsBusy
-repeated_by confirmable (Some bytes) = told confirmable bytes.items
+repeated_by confirmable (Some bytes) = answered_again confirmable bytes.items
 
-abbrev pub repeated : Exchange → Look
-repeated e = repeated_by e.confirmable e.answer
+abbrev pub repeat_of : Exchange → Look
+repeat_of e = repeated_by e.confirmable e.answer
 
 abbrev pub look_by : Option Exchange → Bool → Look
-look_by (Some e) room = repeated e
-look_by None room = looked room
+look_by (Some e) room = repeat_of e
+look_by None room = new_or_full room
 
 -- what a request of this endpoint and message id is, to what is held
 abbrev pub look_at : Table → Endpoint → ℕ → Look

@@ -3,9 +3,9 @@ use Rattle.coap_dedup.specs.declared.exchanges.Looked.{Looked}
 use Rattle.coap_dedup.specs.declared.exchanges.Looked.TheVariants as looks
 use Rattle.coap_dedup.specs.Exchanges.{Look, IsNew, IsBusy, IsAgain, IsSilent, IsFull}
 
-abbrev pub seen : Looked → Look
-seen looks.New = IsNew
-seen looks.Busy = IsBusy
-seen (looks.Again bytes) = IsAgain bytes.items
-seen looks.Silent = IsSilent
-seen looks.Full = IsFull
+abbrev pub look_of : Looked → Look
+look_of looks.New = IsNew
+look_of looks.Busy = IsBusy
+look_of (looks.Again bytes) = IsAgain bytes.items
+look_of looks.Silent = IsSilent
+look_of looks.Full = IsFull

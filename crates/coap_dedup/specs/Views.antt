@@ -1,10 +1,11 @@
 -- How what is held is seen: the requests in order of arrival, and their answers, each at its number modulo 1,024.
-use Rattle.std.specs.Prelude.{◌≡◌, ℕ, ◌+◌, ◌-◌, ◌%◌, ◌<◌, ◌≤◌, ◌==◌, ◌&&◌, Bool, true, false, List, [], ◌∷◌, length, slice_get, slice_index_or, Option, Some, None}
+use Rattle.std.specs.Prelude.{◌≡◌, ℕ, ◌+◌, ◌-◌, ◌%◌, ◌<◌, ◌≤◌, ◌==◌, ◌&&◌, Bool, true, false, List, [], ◌∷◌, length, slice_get, slice_index_or, slice_set, Option, Some, None}
+use Rattle.circular_buffer.specs.Buffer.{Buffer}
 use Rattle.arrayvec.specs.ArrayVec.{ArrayVec}
 use Rattle.coap_msg.specs.declared.types.Endpoint.{Endpoint}
 use Rattle.coap_dedup.specs.declared.exchange.Kept.{Kept}
 use Rattle.coap_dedup.specs.declared.exchange.Opened.{Opened}
-use Rattle.coap_dedup.specs.Exchanges.{Exchange, is_same, is_within}
+use Rattle.coap_dedup.specs.Exchanges.{Exchange, same_endpoint, within_window}
 
 abbrev pub no_answer : Kept
 no_answer = record { answered = false; bytes = record { items = [] } }
@@ -23,11 +24,11 @@ with_answer k o = record { endpoint = o.endpoint; id = o.id; confirmable = o.con
 abbrev pub as_exchange : List Kept → Opened → Exchange
 as_exchange kept o = with_answer (kept_at kept o.number) o
 
-abbrev pub is_recent : ℕ → Opened → Bool
-is_recent now o = is_within now o.at
+abbrev pub request_is_live : ℕ → Opened → Bool
+request_is_live now o = within_window now o.at
 
 abbrev pub is_from : Endpoint → ℕ → Opened → Bool
-is_from to id o = is_same o.endpoint to && (o.id == id)
+is_from to id o = same_endpoint o.endpoint to && (o.id == id)
 
 -- consecutive numbers, and moments that never fall, up to this one
 abbrev pub Arrives : ℕ → ℕ → ℕ → List Opened → Type 0
@@ -55,3 +56,14 @@ pub record IsNumbered (os : List Opened) (opened number : ℕ) (o : Opened) : Ty
 -- no request of this number is held
 abbrev pub IsGone : List Opened → ℕ → ℕ → Type 0
 IsGone os opened number = number < opened → number + length os < opened
+
+-- the requests fill a ring of 1,024 at most, in order of arrival, and there are 1,024 places for answers
+abbrev pub AreExchanges : ℕ → ℕ → Buffer Opened → List Kept → Type 0
+AreExchanges now opened ring kept = (ring.capacity ≡ 1024) × (length ring.items ≤ 1024) × (length kept ≡ 1024) × IsArrived now opened ring.items
+
+-- the places, one of them without its answer, or with this one
+abbrev pub forgotten : List Kept → ℕ → List Kept
+forgotten kept number = slice_set kept (number % 1024) (record { answered = false; bytes = (kept_at kept number).bytes })
+
+abbrev pub answered_at : List Kept → ℕ → ArrayVec ℕ → List Kept
+answered_at kept number bytes = slice_set kept (number % 1024) (record { answered = true; bytes = bytes })

@@ -1,7 +1,7 @@
 //! One exchange.
-ghost use Rattle.std.specs.Prelude.{◌≡◌, ◌%◌, ◌<◌, true, false, length, slice_set};
-ghost use Rattle.coap_dedup.specs.Exchanges.{is_within};
-ghost use Rattle.coap_dedup.specs.Views.{is_from, kept_at};
+ghost use Rattle.std.specs.Prelude.{◌≡◌, ◌%◌, ◌<◌, length};
+ghost use Rattle.coap_dedup.specs.Exchanges.{within_window};
+ghost use Rattle.coap_dedup.specs.Views.{answered_at, forgotten, is_from, kept_at};
 
 use coap_msg::{Datagram, Endpoint};
 
@@ -30,7 +30,7 @@ pub(crate) struct Kept {
 
 // Whether it was opened less than a window before.
 pub(crate) fn is_live(now: u64, opened: &Opened) -> bool
-    ensures { result ≡ is_within now opened.now.at }
+    ensures { result ≡ within_window now opened.now.at }
 {
     now < opened.at || now - opened.at < WINDOW
 }
@@ -61,7 +61,7 @@ pub(crate) fn answer_of(answers: &Vec<Kept>, number: u64) -> &Kept
 // Makes the place of this number free of an answer.
 pub(crate) fn forget(answers: &mut Vec<Kept>, number: u64)
     requires { length answers.old.items ≡ 1024 }
-    ensures { answers.new.items ≡ slice_set answers.old.items (number % 1024) (record { answered = false; bytes = (kept_at answers.old.items number).bytes }) }
+    ensures { answers.new.items ≡ forgotten answers.old.items number }
 {
     let kept = &mut answers[place(number)];
     kept.answered = false;
@@ -70,7 +70,7 @@ pub(crate) fn forget(answers: &mut Vec<Kept>, number: u64)
 // Writes an answer to the place of this number.
 pub(crate) fn keep(answers: &mut Vec<Kept>, number: u64, bytes: &Datagram)
     requires { length answers.old.items ≡ 1024 }
-    ensures { answers.new.items ≡ slice_set answers.old.items (number % 1024) (record { answered = true; bytes = bytes.now }) }
+    ensures { answers.new.items ≡ answered_at answers.old.items number bytes.now }
 {
     let kept = &mut answers[place(number)];
     kept.answered = true;

@@ -2,9 +2,9 @@
 ghost use Rattle.std.specs.Prelude.{◌≡◌, ◌+◌, ◌<◌, ◌≤◌, [], ◌∷◌, ◌++◌, filter, find, length, map, IfOk, MatchOption};
 ghost use Rattle.std.specs.List.{list_any};
 ghost use Rattle.circular_buffer.specs.Buffer.{buffer};
-ghost use Rattle.coap_dedup.specs.Exchanges.{is_open, answered, expired, look_at, looked, has_room, repeated_by, IsNew, closing, opened};
-ghost use Rattle.coap_dedup.specs.Looks.{seen};
-ghost use Rattle.coap_dedup.specs.Views.{InOrder, IsGone, IsNumbered, answer_if, is_from, is_recent};
+ghost use Rattle.coap_dedup.specs.Exchanges.{is_open, answered, expired, look_at, new_or_full, has_room, repeated_by, IsNew, closing, opened};
+ghost use Rattle.coap_dedup.specs.Looks.{look_of};
+ghost use Rattle.coap_dedup.specs.Views.{InOrder, IsGone, IsNumbered, answer_if, is_from, request_is_live};
 
 use crate::exchange::{EXCHANGES, Kept, Opened, answer_of, copy, forget, is_from, is_live, keep};
 use circular_buffer::HeapCircularBuffer;
@@ -48,15 +48,15 @@ pub struct Exchanges {
 }
 
 impl Model for Exchanges {
-    ghost use Rattle.std.specs.Prelude.{◌≡◌, ◌≤◌, length, map};
+    ghost use Rattle.std.specs.Prelude.{map};
     ghost use Rattle.coap_dedup.specs.Exchanges.{Table};
-    ghost use Rattle.coap_dedup.specs.Views.{IsArrived, as_exchange};
+    ghost use Rattle.coap_dedup.specs.Views.{AreExchanges, as_exchange};
 
     ghost Value = { Table };
 
     ghost view = { λ x. record { now = x.now; opened = x.opened; held = map (as_exchange x.answers.items) x.requests.items } };
 
-    ghost invariant = { λ x. (x.requests.capacity ≡ 1024) × (length x.requests.items ≤ 1024) × (length x.answers.items ≡ 1024) × IsArrived x.now x.opened x.requests.items };
+    ghost invariant = { λ x. AreExchanges x.now x.opened x.requests x.answers.items };
 }
 
 impl Exchanges {
@@ -78,7 +78,7 @@ impl Exchanges {
     /// Lets go of what is a window old or more, and tells what a request of this endpoint and message id is.
     pub fn look(&mut self, now: u64, endpoint: Endpoint, id: u16) -> Looked
         requires { self.old.now ≤ now }
-        ensures looked { seen result ≡ look_at (expired self.old now) endpoint id }
+        ensures looked { look_of result ≡ look_at (expired self.old now) endpoint id }
         ensures after { self.new ≡ expired self.old now }
     {
         self.expire(now);
@@ -149,7 +149,7 @@ fn no_answers(alloc: Global) -> Result<Vec<Kept>, AllocError>
 
 // What a new request is, where so many are held, and so many were opened.
 fn new_in(held: usize, opened: u64) -> Looked
-    ensures { seen result ≡ looked (has_room held opened) }
+    ensures { look_of result ≡ new_or_full (has_room held opened) }
 {
     if held < EXCHANGES && opened < u64::MAX {
         Looked::New
@@ -160,7 +160,7 @@ fn new_in(held: usize, opened: u64) -> Looked
 
 // What a repeat of an exchange is, by its request and its answer.
 fn repeat(confirmable: bool, kept: &Kept) -> Looked
-    ensures { seen result ≡ repeated_by confirmable (answer_if kept.now.answered kept.now.bytes) }
+    ensures { look_of result ≡ repeated_by confirmable (answer_if kept.now.answered kept.now.bytes) }
 {
     if !kept.answered {
         Looked::Busy
@@ -174,7 +174,7 @@ fn repeat(confirmable: bool, kept: &Kept) -> Looked
 // Lets go of what is too old: the oldest, while they are.
 fn expire(requests: &mut HeapCircularBuffer<Opened>, now: u64)
     requires { InOrder requests.old.items }
-    ensures { requests.new ≡ buffer (filter (is_recent now) requests.old.items) requests.old.capacity }
+    ensures { requests.new ≡ buffer (filter (request_is_live now) requests.old.items) requests.old.capacity }
 {
     'oldest: while let Some(oldest) = requests.front() {
         if is_live(now, oldest) {

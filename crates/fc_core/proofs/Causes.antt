@@ -18,7 +18,7 @@ use Rattle.fc_core.specs.declared.stage.Stage.{Stage}
 use Rattle.fc_core.specs.declared.stage.Stage.TheVariants.{ToTake, ToCommit, ToInstall, ToRaise, ToAnswer}
 use Rattle.fc_core.specs.History.{Entry, History, Begins, Then, Seen, seen, and_then, job, scene, slot_at, stage}
 use Rattle.fc_core.specs.Laws.{slot_of}
-use Rattle.fc_core.specs.SlotLaws.{AllOfImages, Does, IsInstall, IsOfImage, IsWriting, Installs, Nothing, Writes}
+use Rattle.fc_core.specs.SlotLaws.{AllOfImages, ChangesBy, IsInstall, IsOfImage, IsWriting, Installs, Nothing, Writes}
 use Rattle.fc_core.specs.Stages.{Scene, committed, image_of, installed, names, row, verified}
 use Rattle.fc_core.proofs.Others.{no_slot, other_slot, own_slot}
 
@@ -63,7 +63,7 @@ row_makes (Answer k now) job slot (ToAnswer content) = None_made refl
 row_makes (Answer k now) job slot other = None_made refl
 row_makes other job slot s = None_made refl
 
-own_does : (r : Entry) (s : Seen) (k : ℕ) (cs : List Change) → names r.event ≡ Some k → (and_then r s).changes (slot_of s k) ≡ cs ++ s.changes (slot_of s k) → Makes r.event (job s k) (slot_at s (slot_of s k)) (stage s k) cs → Does r s (slot_of s k)
+own_does : (r : Entry) (s : Seen) (k : ℕ) (cs : List Change) → names r.event ≡ Some k → (and_then r s).changes (slot_of s k) ≡ cs ++ s.changes (slot_of s k) → Makes r.event (job s k) (slot_at s (slot_of s k)) (stage s k) cs → ChangesBy r s (slot_of s k)
 own_does r s k cs named grown (None_made is) = Nothing (grown ∙ ap (λ (l : List Change). l ++ s.changes (slot_of s k)) is)
 own_does r s k cs named grown (Puts j p event stands accepted below is) =
     let same : j ≡ k = cc (sym (ap names event) ∙ named) in
@@ -72,19 +72,19 @@ own_does r s k cs named grown (Leaves j now n t event stands is) =
     let same : j ≡ k = cc (sym (ap names event) ∙ named) in
     Writes (subst (λ (i : ℕ). r.event ≡ Commit i now → IsWriting r s (slot_of s k)) (sym same) (λ e. record { number = k; now = now; count = n; ticket = t; event = e; at = stands; slot = refl; change = grown ∙ ap (λ (l : List Change). l ++ s.changes (slot_of s k)) is }) event)
 
-does_by : (r : Entry) (s : Seen) (n : ℕ) (o : Option ℕ) → names r.event ≡ o → Does r s n
+does_by : (r : Entry) (s : Seen) (n : ℕ) (o : Option ℕ) → names r.event ≡ o → ChangesBy r s n
 does_by r s n None named = Nothing (no_slot r s n named)
 does_by r s n (Some k) named = ⊎_elim
-    (λ (is : n ≡ slot_of s k). subst (Does r s) (sym is) (own_does r s k (row r.event (scene s k)).changes named (own_slot r s k named) (row_makes r.event (job s k) (slot_at s (slot_of s k)) (stage s k))))
+    (λ (is : n ≡ slot_of s k). subst (ChangesBy r s) (sym is) (own_does r s k (row r.event (scene s k)).changes named (own_slot r s k named) (row_makes r.event (job s k) (slot_at s (slot_of s k)) (stage s k))))
     (λ (ne : n ≡ slot_of s k → ⊥). Nothing (other_slot r s k n named ne))
     (cases_eq n (slot_of s k))
 
-pub does : (r : Entry) (s : Seen) (n : ℕ) → Does r s n
+pub does : (r : Entry) (s : Seen) (n : ℕ) → ChangesBy r s n
 does r s n = does_by r s n (names r.event) refl
 
 -- ---- refusals
 
-refused_by : (r : Entry) (s : Seen) (k n : ℕ) (memory : Bool) → r.event ≡ Install k memory → ((p : Program) → judged (image_of (job s k).ask) ≡ Accepts p → ⊥) → Does r s n → (and_then r s).changes n ≡ s.changes n
+refused_by : (r : Entry) (s : Seen) (k n : ℕ) (memory : Bool) → r.event ≡ Install k memory → ((p : Program) → judged (image_of (job s k).ask) ≡ Accepts p → ⊥) → ChangesBy r s n → (and_then r s).changes n ≡ s.changes n
 refused_by r s k n memory is refused (Nothing same) = same
 refused_by r s k n memory is refused (Installs w) =
     let e : Install w.number true ≡ Install k memory = sym w.event ∙ is in
@@ -97,7 +97,7 @@ refused_stays r s k n memory is refused = refused_by r s k n memory is refused (
 
 -- ---- every program in a slot is of an image
 
-images_by : (r : Entry) (s : Seen) (n : ℕ) → Does r s n → AllOfImages (s.changes n) → AllOfImages ((and_then r s).changes n)
+images_by : (r : Entry) (s : Seen) (n : ℕ) → ChangesBy r s n → AllOfImages (s.changes n) → AllOfImages ((and_then r s).changes n)
 images_by r s n (Nothing is) a = subst AllOfImages (sym is) a
 images_by r s n (Installs w) a = subst AllOfImages (sym w.change) (record { image = image_of (job s w.number).ask; accepted = w.accepted }, a)
 images_by r s n (Writes w) a = subst AllOfImages (sym w.change) a

@@ -8,7 +8,7 @@ use Rattle.std.proofs.Math.Nat.{le-max_left}
 use Rattle.fc_core.specs.declared.event.Event.{Event}
 use Rattle.fc_core.specs.declared.event.Event.TheVariants.{Deliver, Answer, Tick}
 use Rattle.fc_core.specs.Contents.{Content}
-use Rattle.fc_core.specs.Exchanges.{is_live}
+use Rattle.fc_core.specs.Exchanges.{opening_is_live}
 use Rattle.fc_core.specs.ExchangeLaws.{AllBefore, AreApart, AreInOrder, Draw, draws_by, draws_of, first_id}
 use Rattle.fc_core.specs.History.{History, Begins, Then, Seen, seen, and_then, ids_after, ids_answered, job, moment_after, received_at, stage}
 use Rattle.fc_core.specs.Ids.{Ids, drawn, drawn_by, drawn_for, is_recent, last_drawn, no_draws}
@@ -41,7 +41,7 @@ draw_answered None live confirmable old m now = Same refl
 
 event_draws : (e : Event) (s : Seen) → Draws s.ids (moment_after e s) (ids_after e s)
 event_draws (Deliver now to bytes) s = draw_received (received_at s now to bytes.now) s.ids (max s.moment now)
-event_draws (Answer k now) s = draw_answered (content_at (stage s k)) (is_live (max s.moment now) (job s k).origin.opening) (job s k).confirmable s.ids s.moment now
+event_draws (Answer k now) s = draw_answered (content_at (stage s k)) (opening_is_live (max s.moment now) (job s k).origin.opening) (job s k).confirmable s.ids s.moment now
 event_draws other s = Same refl
 
 -- each draw was at the moment at which its id was last drawn, or before

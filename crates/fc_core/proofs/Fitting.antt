@@ -18,8 +18,8 @@ use Rattle.fc_registry.specs.declared.commit.CommitOutcome.{CommitOutcome}
 use Rattle.fc_registry.specs.declared.commit.CommitOutcome.TheVariants.{Writes, Keeps, Overtakes, Ends}
 use Rattle.fc_registry.specs.Slots.{Slot, Present, Ticket, last_serial}
 use Rattle.fc_registry.specs.Changes.{Change, Installed, Committed, Removed, changed, after_changes, with_vars}
-use Rattle.fc_registry.specs.Record.{IsChain, IsLink, class_of}
-use Rattle.fc_registry.specs.Calls.{HasGiven, commit_of, is_post, meaning_at, outcome, outcome_by, put, put_by, request_of, taking, ticket_of, wants}
+use Rattle.fc_registry.specs.Record.{IsChain, IsLink, code_class}
+use Rattle.fc_registry.specs.Calls.{HasGiven, commit_of, is_post, meaning_at, outcome, outcome_by, install_in, put_by, request_of, taking, ticket_of, wants}
 use Rattle.fc_core.specs.declared.event.Event.{Event}
 use Rattle.fc_core.specs.declared.event.Event.TheVariants.{Take, Commit as Commits, Install, Raise, Answer, Lose}
 use Rattle.fc_core.specs.declared.stage.Stage.{Stage}
@@ -98,7 +98,7 @@ verified_fits false s = tt
 abbrev at : Job → Slot → Stage → Scene
 at job slot stage = record { job = job; slot = slot; stage = stage }
 
--- a job that an event moved fits its slot as it was
+-- a job that an event task_moved fits its slot as it was
 pub row_fits : (e : Event) (job : Job) (slot : Slot) (s : Stage) → FitsStage job slot s → FitsStage job slot (row e (at job slot s)).stage
 row_fits (Lose k) job slot s f = tt
 row_fits (Take k memory) job slot (ToTake n) f = took_fits memory job slot n slot.present refl f
@@ -135,14 +135,14 @@ writes_found slot t g e =
 writes_link : (slot : Slot) (t : Ticket) → HasGiven slot t → outcome t slot ≡ Writes → IsLink slot (commit_of t)
 writes_link slot t g e =
     let tests = outcome_tests (wants t) (slot.serial == t.serial) (nat_lt slot.serial last_serial) e in
-    let post = wants_post t.request.method (class_of (meaning_at t).code == 2) tests.0 in
+    let post = wants_post t.request.method (code_class (meaning_at t).code == 2) tests.0 in
     record {
       found = t.found;
       present = writes_found slot t g e;
       before = refl;
       after = refl;
       post = post.0;
-      class = eqb-true (class_of (meaning_at t).code) 2 post.1;
+      class = eqb-true (code_class (meaning_at t).code) 2 post.1;
     }
 
 commit_chain : (first : Slot) (cs : List Change) (n : ℕ) (t : Ticket) (now : ℕ) (o : CommitOutcome) → outcome t (after_changes first cs) ≡ o → HasGiven (after_changes first cs) t → IsChain first cs → IsChain first ((committed o n t now).changes ++ cs)

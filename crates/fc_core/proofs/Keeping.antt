@@ -27,10 +27,10 @@ use Rattle.fc_core.specs.declared.stage.Task.{Task}
 use Rattle.fc_core.specs.Exchanges.{FrontState}
 use Rattle.fc_core.specs.Fits.{FitsSlot, FitsStage}
 use Rattle.fc_core.specs.History.{Entry, Seen, and_then, changes_after, front_at, job, no_task, received_at, scene, slot_at, stage, task_at, tasks_brought, tasks_moved}
-use Rattle.fc_core.specs.Receiving.{AskWithin, JobWithin, Received, Opened, ask_by, brought, job_of, look_in, looked, next_opening, received, received_as, received_read, slot_named}
+use Rattle.fc_core.specs.Receiving.{AskWithin, JobWithin, Received, Opened, ask_by, brought, job_of, look_in, looked, next_opening, received, received_as, received_read, slot_of_resource}
 use Rattle.fc_core.specs.Receiving as x
 use Rattle.fc_core.specs.Sound.{AllSafe, IsSafelySeen, IsSound}
-use Rattle.fc_core.specs.Stages.{Move, moved, names, new_task, row}
+use Rattle.fc_core.specs.Stages.{Move, task_moved, names, new_task, row}
 use Rattle.fc_core.proofs.Lists.{Each, appended_all, written_all}
 use Rattle.fc_core.proofs.Fitting.{after_changes-append, first_fits, fits_changed, row_chain, row_fits, row_safe}
 
@@ -50,7 +50,7 @@ ask_within r methods.Post resources.Core q p = tt
 ask_within r methods.Put resources.Core q p = tt
 ask_within r methods.Delete resources.Core q p = tt
 
-slot_within : (at : Resource) → IsResource at → slot_named at < 64
+slot_within : (at : Resource) → IsResource at → slot_of_resource at < 64
 slot_within (resources.Run n) is = is
 slot_within (resources.Program n) is = is
 slot_within resources.Core is = omega arith
@@ -136,7 +136,7 @@ old_fit s e o a k = (a.within k, later_fits s e o (job s k) (stage s k) (a.stage
 moved_fit : (s : Seen) (e : Event) (o : Option ℕ) → IsSound s → (p : Option ℕ) → (k : ℕ) → FitsAfter o e s (task_at (tasks_moved p e s) k)
 moved_fit s e o a None k = old_fit s e o a k
 moved_fit s e o a (Some j) k =
-    let new = moved (task_at s.tasks j) (row e (scene s j)) in
+    let new = task_moved (task_at s.tasks j) (row e (scene s j)) in
     written_all (FitsAfter o e s) s.tasks j new no_task (old_fit s e o a) (a.within j, later_fits s e o (job s j) new.stage (row_fits e (job s j) (slot_at s (job s j).origin.slot) (stage s j) (a.stages j))) k
 
 new_fit : (s : Seen) (e : Event) (o : Option ℕ) (jobs : List Job) → Each JobWithin jobs → Each (FitsAfter o e s) (map new_task jobs)

@@ -14,7 +14,7 @@ use Rattle.coap_msg.specs.Reading.{reading_of}
 use Rattle.coap_msg.specs.Wire.{Message}
 use Rattle.coap_opts.specs.Verdict.{Verdict, IsAsked, IsRefused, IsSilent, IsReset, IsSignal, IsIgnored, verdict}
 use Rattle.coap_dedup.specs.Exchanges.{Exchange}
-use Rattle.coap_dedup.specs.Exchanges.{Look, IsNew, IsBusy, IsAgain, IsSilent as IsAnsweredNon, IsFull, answered_if, is_of, is_same}
+use Rattle.coap_dedup.specs.Exchanges.{Look, IsNew, IsBusy, IsAgain, IsSilent as IsAnsweredNon, IsFull, answered_if, is_of, same_endpoint}
 use Rattle.fc_registry.specs.declared.job.Job.{Job}
 use Rattle.fc_registry.specs.declared.job.Opening.{Opening}
 use Rattle.fc_registry.specs.declared.job.Origin.{Origin}
@@ -175,8 +175,8 @@ same_bytes : (xs : List ℕ) → pointwise nat_eq xs xs ≡ true
 same_bytes [] = refl
 same_bytes (x ∷ xs) = and_from (nat_eq x x) (pointwise nat_eq xs xs) (eq-eqb x x refl) (same_bytes xs)
 
-same_endpoint : (a b : Endpoint) → a ≡ b → is_same a b ≡ true
-same_endpoint a b is = subst (λ (x : Endpoint). is_same a x ≡ true) is (and_from (pointwise nat_eq a.ip a.ip) (a.port == a.port) (same_bytes a.ip) (eq-eqb a.port a.port refl))
+equal_endpoints : (a b : Endpoint) → a ≡ b → same_endpoint a b ≡ true
+equal_endpoints a b is = subst (λ (x : Endpoint). same_endpoint a x ≡ true) is (and_from (pointwise nat_eq a.ip a.ip) (a.port == a.port) (same_bytes a.ip) (eq-eqb a.port a.port refl))
 
 second_false : (a b : Bool) → (a && b) ≡ false → b ≡ true → a ≡ false
 second_false true b e is = absurd (cc (e, is))
@@ -187,7 +187,7 @@ past_window : (s : Seen) (at : ℕ) (o p : Origin) → repeated s at p.endpoint 
 past_window s at o p none a to id =
     let found = not_found (IsOf o) (λ e. is_within at e && is_of p.endpoint p.id e) s.exchanges none a in
     let e = found.0 in
-    let passes : is_of p.endpoint p.id e ≡ true = and_from (is_same e.endpoint p.endpoint) (e.id == p.id) (same_endpoint e.endpoint p.endpoint (found.1.0 ∙ to)) (eq-eqb e.id p.id (found.1.1 ∙ id)) in
+    let passes : is_of p.endpoint p.id e ≡ true = and_from (same_endpoint e.endpoint p.endpoint) (e.id == p.id) (equal_endpoints e.endpoint p.endpoint (found.1.0 ∙ to)) (eq-eqb e.id p.id (found.1.1 ∙ id)) in
     let old : e.at + 247000 ≤ at = ltb-false at (e.at + 247000) (second_false (is_within at e) (is_of p.endpoint p.id e) found.2 passes) in
     subst (λ (n : ℕ). n + 247000 ≤ at) found.1.2 old
 

@@ -10,7 +10,7 @@ use Rattle.fc_core.specs.declared.event.Event.TheVariants.{Deliver, Take, Commit
 use Rattle.fc_core.specs.declared.stage.Stage.{Stage}
 use Rattle.fc_core.specs.declared.stage.Stage.TheVariants.{ToTake, ToCommit, ToInstall, ToRaise, ToAnswer, Gone}
 use Rattle.fc_core.specs.Contents.{Content}
-use Rattle.fc_core.specs.Stages.{Move, Scene, content_at, handed, moved, moves, names, row}
+use Rattle.fc_core.specs.Stages.{Move, Scene, content_at, handed, task_moved, moves, names, row}
 use Rattle.fc_core.specs.History.{Entry, Seen, and_then, changes_after, did, exchanges_after, ids_after, job, moment_after, no_task, scene, shard_moment_after, stage, task_at, tasks_brought, tasks_moved}
 use Rattle.fc_core.specs.Laws.{is_stray, is_stray_at}
 use Rattle.fc_core.specs.Legal.{Emits, AnswerEmits}
@@ -35,7 +35,7 @@ none_answered k now other e = refl
 
 module _ (s : Seen) (e : Event) (k : ℕ) (still : row e (scene s k) ≡ moves (stage s k)) where
   tasks_still : tasks_moved (Some k) e s ≡ s.tasks
-  tasks_still = ap (λ (m : Move). set s.tasks k (moved (task_at s.tasks k) m)) still ∙ set-get_or s.tasks k no_task
+  tasks_still = ap (λ (m : Move). set s.tasks k (task_moved (task_at s.tasks k) m)) still ∙ set-get_or s.tasks k no_task
 
   changes_if : (n : ℕ) (b : Bool) → (if b then (row e (scene s k)).changes ++ s.changes n else s.changes n) ≡ s.changes n
   changes_if n true = ap (λ (m : Move). m.changes ++ s.changes n) still

@@ -12,7 +12,7 @@ use Rattle.fc_registry.specs.declared.commit.CommitOutcome.{CommitOutcome}
 use Rattle.fc_registry.specs.declared.commit.CommitOutcome.TheVariants.{Writes, Keeps, Overtakes, Ends}
 use Rattle.fc_registry.specs.Slots.{Slot, Present, Ticket, last_serial, new_slot}
 use Rattle.fc_registry.specs.Changes.{Change, Committed, after_changes}
-use Rattle.fc_registry.specs.Record.{IsChain, class_of}
+use Rattle.fc_registry.specs.Record.{IsChain, code_class}
 use Rattle.fc_registry.specs.Calls.{commit_of, is_post, meaning_at, outcome, outcome_by, wants}
 use Rattle.fc_registry.proofs.Installs.{serials_count}
 use Rattle.fc_core.specs.declared.event.Event.{Event}
@@ -134,7 +134,7 @@ post_wants Post b p e = e
 written_outcome : (h : History) (k n : ℕ) (t : Ticket) → stage (seen h) k ≡ ToCommit n t → IsWritten h k t → outcome t (slot_at (seen h) (slot_of (seen h) k)) ≡ Writes
 written_outcome h k n t is w =
     let slot = slot_at (seen h) (slot_of (seen h) k) in
-    ap (λ (b : Bool). outcome_by b (slot.serial == t.serial) (nat_lt slot.serial last_serial)) (post_wants t.request.method (class_of (meaning_at t).code == 2) w.post (eq-eqb (class_of (meaning_at t).code) 2 w.class))
+    ap (λ (b : Bool). outcome_by b (slot.serial == t.serial) (nat_lt slot.serial last_serial)) (post_wants t.request.method (code_class (meaning_at t).code == 2) w.post (eq-eqb (code_class (meaning_at t).code) 2 w.class))
     ∙ (ap (λ (b : Bool). outcome_by true b (nat_lt slot.serial last_serial)) (eq-eqb slot.serial t.serial (same_serial h k n t is w.unchanged))
     ∙ ap (λ (b : Bool). outcome_by true true b) (lt-ltb slot.serial last_serial w.below))
 
@@ -156,10 +156,10 @@ writes_written : (h : History) (k n : ℕ) (t : Ticket) → stage (seen h) k ≡
 writes_written h k n t is e =
     let slot = slot_at (seen h) (slot_of (seen h) k) in
     let tests = outcome_tests (wants t) (slot.serial == t.serial) (nat_lt slot.serial last_serial) e in
-    let post = wants_post t.request.method (class_of (meaning_at t).code == 2) tests.0 in
+    let post = wants_post t.request.method (code_class (meaning_at t).code == 2) tests.0 in
     record {
       post = post.0;
-      class = eqb-true (class_of (meaning_at t).code) 2 post.1;
+      class = eqb-true (code_class (meaning_at t).code) 2 post.1;
       unchanged = unchanged h k n t is (eqb-true slot.serial t.serial tests.1);
       below = ltb-true slot.serial last_serial tests.2;
     }

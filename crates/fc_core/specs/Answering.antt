@@ -9,7 +9,7 @@ use Rattle.fc_core.specs.declared.front.Responded.TheVariants as responds
 use Rattle.fc_core.specs.Contents.{Content}
 use Rattle.fc_core.specs.Ids.{drawn_for}
 use Rattle.fc_core.specs.Replies.{IsReplyTo}
-use Rattle.fc_core.specs.Exchanges.{FrontState, is_live}
+use Rattle.fc_core.specs.Exchanges.{FrontState, opening_is_live}
 use Rattle.fc_core.specs.Receiving.{id_in, keeping}
 
 abbrev pub Answers : Bool → Option ℕ → Job → Content → Answered → Type 0
@@ -20,7 +20,7 @@ Answers live id job content other = ⊥
 
 -- of a front that has advanced to the moment
 abbrev pub AnswersIn : FrontState → Job → Content → Answered → Type 0
-AnswersIn f job content answered = Answers (is_live f.now job.origin.opening) (id_in f job.confirmable job.origin.id) job content answered
+AnswersIn f job content answered = Answers (opening_is_live f.now job.origin.opening) (id_in f job.confirmable job.origin.id) job content answered
 
 -- an answer whose emission was written
 abbrev pub responded : Responded → Emission → Answered
@@ -38,4 +38,4 @@ after_answered_by true job emitted f = keeping job.origin.opening.number emitted
 after_answered_by false job emitted f = f
 
 abbrev pub after_answered : Job → Option Emission → FrontState → FrontState
-after_answered job emitted f = after_answered_by (is_live f.now job.origin.opening) job emitted f
+after_answered job emitted f = after_answered_by (opening_is_live f.now job.origin.opening) job emitted f

@@ -6,8 +6,8 @@ use Rattle.fc_registry.specs.declared.job.Opening.{Opening}
 use Rattle.fc_core.specs.Ids.{Ids}
 
 -- an exchange was opened less than a window before
-abbrev pub is_live : ℕ → Opening → Bool
-is_live now opening = nat_lt now (opening.at + window)
+abbrev pub opening_is_live : ℕ → Opening → Bool
+opening_is_live now opening = nat_lt now (opening.at + window)
 
 -- what a front holds: its moment, how many exchanges it opened, those that are live, and the message ids of its own
 pub record FrontState : Type 0 where
@@ -24,9 +24,9 @@ abbrev pub handed : FrontState → ℕ → FrontState
 handed f now = record f { now = max f.now now }
 
 -- a front that expired the exchanges past the window
-abbrev pub expired : FrontState → FrontState
-expired f = record f { held = filter (is_held f.now) f.held }
+abbrev pub front_expired : FrontState → FrontState
+front_expired f = record f { held = filter (is_held f.now) f.held }
 
 -- a front that advanced to a moment
 abbrev pub advanced : FrontState → ℕ → FrontState
-advanced f now = expired (handed f now)
+advanced f now = front_expired (handed f now)

@@ -16,9 +16,9 @@ use Rattle.fc_core.specs.declared.stage.Stage.TheVariants.{Gone}
 use Rattle.fc_core.specs.declared.stage.Task.{Task}
 use Rattle.fc_core.specs.Contents.{Content}
 use Rattle.fc_core.specs.Ids.{Ids, first_ids, drawn_for}
-use Rattle.fc_core.specs.Exchanges.{FrontState, is_live}
+use Rattle.fc_core.specs.Exchanges.{FrontState, opening_is_live}
 use Rattle.fc_core.specs.Receiving.{Received, received, opened_by, kept_of, drawn_by, brought, next_opening}
-use Rattle.fc_core.specs.Stages.{Scene, Move, names, new_task, scene_at, row, content_at, moved, handed}
+use Rattle.fc_core.specs.Stages.{Scene, Move, names, new_task, scene_at, row, content_at, task_moved, handed}
 
 -- an event, and what it emitted
 pub record Entry : Type 0 where
@@ -116,14 +116,14 @@ ids_answered content live confirmable ids at = ids
 
 abbrev pub ids_after : Event → Seen → Ids
 ids_after (Deliver now to bytes) s = drawn_by (received_at s now to bytes.now) s.ids (max s.moment now)
-ids_after (Answer k now) s = ids_answered (content_at (stage s k)) (is_live (max s.moment now) (job s k).origin.opening) (job s k).confirmable s.ids (max s.moment now)
+ids_after (Answer k now) s = ids_answered (content_at (stage s k)) (opening_is_live (max s.moment now) (job s k).origin.opening) (job s k).confirmable s.ids (max s.moment now)
 ids_after other s = s.ids
 
 -- ---- the jobs and their slots
 
 abbrev pub tasks_moved : Option ℕ → Event → Seen → List Task
 tasks_moved None e s = s.tasks
-tasks_moved (Some k) e s = slice_set s.tasks k (moved (task_at s.tasks k) (row e (scene s k)))
+tasks_moved (Some k) e s = slice_set s.tasks k (task_moved (task_at s.tasks k) (row e (scene s k)))
 
 abbrev pub tasks_brought : Event → Seen → List Task
 tasks_brought (Deliver now to bytes) s = map new_task (brought (received_at s now to bytes.now) (next_opening (front_at s now)) to)

@@ -12,7 +12,7 @@ use Rattle.fc_core.specs.declared.stage.Stage.{Stage}
 use Rattle.fc_core.specs.declared.stage.Stage.TheVariants.{ToTake}
 use Rattle.fc_core.specs.Contents.{Content}
 use Rattle.fc_core.specs.Replies.{IsReplyTo}
-use Rattle.fc_core.specs.Exchanges.{FrontState, is_live}
+use Rattle.fc_core.specs.Exchanges.{FrontState, opening_is_live}
 use Rattle.fc_core.specs.Receiving.{sent, id_in}
 use Rattle.fc_core.specs.Stages.{Scene, content_at}
 use Rattle.fc_core.specs.History.{Entry, History, Begins, Then, Seen, seen, front_at, received_at, job, stage, scene}
@@ -26,7 +26,7 @@ IsAnswered false id j content emitted = emitted ≡ None
 
 abbrev pub AnswerEmits : Option Content → Job → FrontState → Option Emission → Type 0
 AnswerEmits None j f emitted = emitted ≡ None
-AnswerEmits (Some content) j f emitted = IsAnswered (is_live f.now j.origin.opening) (id_in f j.confirmable j.origin.id) j content emitted
+AnswerEmits (Some content) j f emitted = IsAnswered (opening_is_live f.now j.origin.opening) (id_in f j.confirmable j.origin.id) j content emitted
 
 -- what an event may emit
 abbrev pub Emits : Seen → Event → Option Emission → Type 0

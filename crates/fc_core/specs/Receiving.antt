@@ -85,14 +85,14 @@ is_confirmable Confirmable = true
 is_confirmable other = false
 
 -- the slot of a resource
-abbrev pub slot_named : Resource → ℕ
-slot_named (resources.Run n) = n
-slot_named (resources.Program n) = n
-slot_named resources.Core = 0
+abbrev pub slot_of_resource : Resource → ℕ
+slot_of_resource (resources.Run n) = n
+slot_of_resource (resources.Program n) = n
+slot_of_resource resources.Core = 0
 
 -- the request that slot N's program is to answer
 abbrev pub request_asked : Verb → Asked → Request
-request_asked method r = record { method = method; slot = slot_named r.resource; content_format = r.content_format; query = r.query; payload = r.payload }
+request_asked method r = record { method = method; slot = slot_of_resource r.resource; content_format = r.content_format; query = r.query; payload = r.payload }
 
 -- a GET or POST on /r/N asks slot N's program; a PUT on /p/N installs its payload
 abbrev pub ask_by : Method → Resource → Asked → Ask
@@ -102,7 +102,7 @@ ask_by method at r = Install (record { items = r.payload })
 
 abbrev pub job_of : Opening → Endpoint → Message → Asked → Job
 job_of opening to m r = record {
-  origin = record { opening = opening; endpoint = to; id = m.id; slot = slot_named r.resource };
+  origin = record { opening = opening; endpoint = to; id = m.id; slot = slot_of_resource r.resource };
   confirmable = is_confirmable m.kind;
   token = record { items = m.token };
   ask = ask_by r.method r.resource r;

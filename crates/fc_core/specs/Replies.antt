@@ -1,6 +1,7 @@
 -- What an answer becomes on the wire (RFC 7252, 5.2).
 use Rattle.std.specs.Prelude.{◌≡◌, ℕ, ◌≤◌, ◌==◌, Bool, true, false, if◌then◌else◌, List, [], ◌∷◌}
 use Rattle.std.specs.Int.{w64, to_be_bytes}
+use Rattle.arrayvec.specs.ArrayVec.{ArrayVec}
 use Rattle.coap_msg.specs.declared.types.Endpoint.{Endpoint}
 use Rattle.coap_msg.specs.declared.types.Emission.{Emission}
 use Rattle.coap_msg.specs.declared.types.MessageType.{MessageType}
@@ -69,6 +70,10 @@ reset_of to id = sent_in (record { to = to; kind = Reset; id = id; token = [] })
 -- the envelope of a job's reply by this message id
 abbrev pub envelope_of : Job → ℕ → Envelope
 envelope_of job id = record { to = job.origin.endpoint; kind = reply_kind job.confirmable; id = id; token = job.token.items }
+
+-- a datagram to the endpoint of a job
+abbrev pub to_job : Job → ArrayVec ℕ → Emission
+to_job job bytes = record { to = job.origin.endpoint; bytes = bytes }
 
 -- the emission, of this message id, answers the job by this content
 pub record IsReplyTo (job : Job) (id : ℕ) (content : Content) (emission : Emission) : Type 0 where

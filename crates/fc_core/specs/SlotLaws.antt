@@ -6,7 +6,7 @@ use Rattle.fc_verify.specs.Accepted.{Accepts}
 use Rattle.fc_verify.specs.Judged.{judged}
 use Rattle.fc_registry.specs.Calls.{commit_of, meaning_at}
 use Rattle.fc_registry.specs.Changes.{Change, Installed, Committed, Removed}
-use Rattle.fc_registry.specs.Record.{class_of}
+use Rattle.fc_registry.specs.Record.{code_class}
 use Rattle.fc_registry.specs.Slots.{Ticket}
 use Rattle.fc_core.specs.declared.event.Event.TheVariants.{Commit, Install}
 use Rattle.fc_core.specs.declared.stage.Stage.{Stage}
@@ -45,10 +45,10 @@ pub record IsWriting (r : Entry) (s : Seen) (n : ℕ) : Type 0 where
   pub change : (and_then r s).changes n ≡ Committed (commit_of ticket) ∷ s.changes n
 
 -- what an event does to a slot
-pub data Does (r : Entry) (s : Seen) (n : ℕ) : Type 0 where
-  Nothing : (is : (and_then r s).changes n ≡ s.changes n) → Does r s n
-  Installs : (is : IsInstall r s n) → Does r s n
-  Writes : (is : IsWriting r s n) → Does r s n
+pub data ChangesBy (r : Entry) (s : Seen) (n : ℕ) : Type 0 where
+  Nothing : (is : (and_then r s).changes n ≡ s.changes n) → ChangesBy r s n
+  Installs : (is : IsInstall r s n) → ChangesBy r s n
+  Writes : (is : IsWriting r s n) → ChangesBy r s n
 
 -- some image is accepted as this program
 pub record IsOfImage (p : Program) : Type 0 where
@@ -73,6 +73,6 @@ IsUnchanged (t ∷ ts) cs = cs ≡ t.changes
 -- at the last serial
 pub record IsWritten (h : History) (k : ℕ) (t : Ticket) : Type 0 where
   pub post : t.request.method ≡ Post
-  pub class : class_of (meaning_at t).code ≡ 2
+  pub class : code_class (meaning_at t).code ≡ 2
   pub unchanged : IsUnchanged (takings_of h k) ((seen h).changes (slot_of (seen h) k))
   pub below : (slot_at (seen h) (slot_of (seen h) k)).serial < 9223372036854775807

@@ -17,7 +17,7 @@ use Rattle.fc_registry.specs.Slots.{Slot, Shard, Ticket, slot_in, with_slot}
 use Rattle.fc_registry.specs.Changes.{Change, Committed as Wrote, after_changes}
 use Rattle.fc_registry.specs.declared.commit.CommitOutcome.{CommitOutcome}
 use Rattle.fc_registry.specs.declared.commit.CommitOutcome.TheVariants.{Writes, Keeps, Overtakes, Ends}
-use Rattle.fc_registry.specs.Calls.{taking, put, outcome, commit_of, meaning_at}
+use Rattle.fc_registry.specs.Calls.{taking, install_in, outcome, commit_of, meaning_at}
 use Rattle.fc_core.specs.Contents.{Content, Ran, Missing as Misses, Unavailable, Made as Makes, Rejected, Untyped}
 use Rattle.fc_core.specs.declared.event.Event.{Event}
 use Rattle.fc_core.specs.declared.event.Event.TheVariants.{Take, Commit, Install, Raise, Answer, Lose}
@@ -106,7 +106,7 @@ abbrev pub receipt_of : Program → Receipt
 receipt_of p = record { version = 0; cost = p.cost; budget = p.budget; vars = p.vars_size }
 
 abbrev pub installed : Judgement → Slot → Move
-installed (Accepts p) slot = record { stage = made (receipt_of p) (put slot p).answer; changes = (put slot p).changes; hands = None }
+installed (Accepts p) slot = record { stage = made (receipt_of p) (install_in slot p).answer; changes = (install_in slot p).changes; hands = None }
 installed (Breaks rule k) slot = moves (ToAnswer (Rejected rule k))
 installed Untypable slot = moves (ToAnswer Untyped)
 
@@ -159,8 +159,16 @@ content_at other = None
 abbrev pub scene_at : Task → Slot → Scene
 scene_at task slot = record { job = task.job; slot = slot; stage = task.stage }
 
-abbrev pub moved : Task → Move → Task
-moved task m = record { job = task.job; stage = m.stage }
+-- what an event on a task finds at a shard
+abbrev pub scene_of : Shard → Task → Scene
+scene_of shard task = scene_at task (slot_in shard task.job.origin.slot)
+
+-- the move of a commit of this ticket at a shard
+abbrev pub commit_move : Shard → ℕ → Ticket → ℕ → Move
+commit_move shard count t now = committed (outcome t (slot_in shard t.origin.slot)) count t now
+
+abbrev pub task_moved : Task → Move → Task
+task_moved task m = record { job = task.job; stage = m.stage }
 
 abbrev pub handed : Option ℕ → ℕ → ℕ
 handed None before = before
@@ -169,3 +177,7 @@ handed (Some now) before = max before now
 -- the shard after a move of a job of slot n
 abbrev pub shard_moved : Move → ℕ → Shard → Shard
 shard_moved m n shard = with_slot (record shard { now = handed m.hands shard.now }) n (after_changes (slot_in shard n) m.changes)
+
+-- a shard after a move of this task
+abbrev pub shard_after : Move → Task → Shard → Shard
+shard_after m task shard = shard_moved m task.job.origin.slot shard

@@ -6,7 +6,7 @@ ghost use Rattle.fc_core.specs.Answering.{AnswersIn, after_answered, emission_of
 ghost use Rattle.fc_core.specs.Askings.{IsAsking, IsWithinLimits, asked_in, new_request};
 ghost use Rattle.fc_core.specs.Contents.{IsOf};
 ghost use Rattle.fc_core.specs.Exchanges as spec;
-ghost use Rattle.fc_core.specs.Exchanges.{advanced, expired, handed};
+ghost use Rattle.fc_core.specs.Exchanges.{advanced, front_expired, handed};
 ghost use Rattle.fc_core.specs.Ids.{drawn_for, first_ids, free_id};
 ghost use Rattle.fc_core.specs.Receiving.{after_delivered, after_received, ask_by, emission_if, handed_on, heard, heard_if, id_in, is_confirmable, job_of, keeping, look_in, received_as, reply_or_nothing, request_asked, told};
 ghost use Rattle.fc_core.specs.Receiving as receiving;
@@ -236,7 +236,7 @@ impl Front {
     // Ignores a datagram.
     fn ignore(&mut self) -> Heard
         ensures heard { result ≡ Heard.Nothing }
-        ensures after { self.new ≡ expired self.old }
+        ensures after { self.new ≡ front_expired self.old }
     {
         self.exchanges.expire(self.now);
         Heard::Nothing
@@ -246,7 +246,7 @@ impl Front {
     fn reject(&mut self, endpoint: Endpoint, id: u16, reply: &mut Emission) -> Heard
         ensures heard { result ≡ Heard.Reply }
         ensures reply { reply.new ≡ reset_of endpoint id }
-        ensures after { self.new ≡ expired self.old }
+        ensures after { self.new ≡ front_expired self.old }
     {
         self.exchanges.expire(self.now);
         reset(endpoint, id, reply);
@@ -261,9 +261,9 @@ impl Front {
         job: &mut Job,
         reply: &mut Emission,
     ) -> Heard
-        ensures delivered { let f = expired self.old in
+        ensures delivered { let f = front_expired self.old in
             heard result job.new reply.new ≡ handed_on (received_as f endpoint message.now (verdict message.now)) f endpoint }
-        ensures after { let f = expired self.old in
+        ensures after { let f = front_expired self.old in
             self.new ≡ after_received (received_as f endpoint message.now (verdict message.now)) f endpoint }
     {
         requests_are_within();
@@ -305,9 +305,9 @@ impl Front {
         reply: &mut Emission,
     ) -> Heard
         requires { IsAsking asking.now }
-        ensures delivered { let f = expired self.old in
+        ensures delivered { let f = front_expired self.old in
             heard result job.new reply.new ≡ handed_on (asked_in f endpoint message.now asking.entry.now) f endpoint }
-        ensures after { let f = expired self.old in
+        ensures after { let f = front_expired self.old in
             self.new ≡ after_received (asked_in f endpoint message.now asking.entry.now) f endpoint }
     {
         match self.exchanges.look(self.now, endpoint, message.id()) {
@@ -400,7 +400,7 @@ impl Front {
 
 /// Whether an exchange was opened less than a window before.
 pub fn is_live(now: u64, opening: &Opening) -> bool
-    ensures { result ≡ spec.is_live now opening.now }
+    ensures { result ≡ spec.opening_is_live now opening.now }
 {
     now < opening.at || now - opening.at < WINDOW
 }
@@ -459,7 +459,7 @@ fn write_token(token: &mut Token, message: &Message<'_>)
 }
 
 fn slot_named(resource: Resource) -> u8
-    ensures { result ≡ receiving.slot_named resource }
+    ensures { result ≡ receiving.slot_of_resource resource }
 {
     match resource {
         Resource::Run(slot) | Resource::Program(slot) => slot,

@@ -4,7 +4,7 @@ ghost use Rattle.coap_opts.specs.Replies.{reply_options};
 ghost use Rattle.fc_core.specs.Ends.{content_of};
 ghost use Rattle.fc_core.specs.Receiving.{told_by};
 ghost use Rattle.fc_core.specs.Replies as spec;
-ghost use Rattle.fc_core.specs.Replies.{IsReplyTo, envelope_of, reset_of, sent_in};
+ghost use Rattle.fc_core.specs.Replies.{IsReplyTo, envelope_of, reset_of, sent_in, to_job};
 
 use crate::answer::{Answer, End, Said};
 use crate::text::{fault_line, receipt_line};
@@ -15,7 +15,7 @@ use fc_verify::Refusal;
 
 // Writes the datagram of this message id that answers a job, over another.
 pub(crate) fn answer(job: &Job, id: u16, answer: &Answer, bytes: &mut Datagram)
-    ensures { IsReplyTo job.now id answer.now (record { to = job.now.origin.endpoint; bytes = bytes.new }) }
+    ensures { IsReplyTo job.now id answer.now (to_job job.now bytes.new) }
 {
     match answer.said() {
         Said::Ran { code, serial, .. } => ran(job, id, code, serial, bytes),
@@ -26,7 +26,7 @@ pub(crate) fn answer(job: &Job, id: u16, answer: &Answer, bytes: &mut Datagram)
 // That of a run: a 2.05 carries the serial that was found, as its ETag.
 fn ran(job: &Job, id: u16, code: Code, serial: u64, bytes: &mut Datagram)
     requires { 64 ≤ code.byte }
-    ensures { record { to = job.now.origin.endpoint; bytes = bytes.new } ≡ sent_in (envelope_of job.now id) (spec.ran_response code.byte serial) }
+    ensures { to_job job.now bytes.new ≡ sent_in (envelope_of job.now id) (spec.ran_response code.byte serial) }
 {
     if code != Code::CONTENT {
         text(job, id, code, &[], bytes);
@@ -41,7 +41,7 @@ fn ran(job: &Job, id: u16, code: Code, serial: u64, bytes: &mut Datagram)
 
 // That of a job that ran no program.
 fn ended(job: &Job, id: u16, end: End, bytes: &mut Datagram)
-    ensures { IsReplyTo job.now id (content_of end) (record { to = job.now.origin.endpoint; bytes = bytes.new }) }
+    ensures { IsReplyTo job.now id (content_of end) (to_job job.now bytes.new) }
 {
     match end {
         End::Missing => text(job, id, Code::NOT_FOUND, &[], bytes),
@@ -67,7 +67,7 @@ fn ended(job: &Job, id: u16, end: End, bytes: &mut Datagram)
 fn text(job: &Job, id: u16, code: Code, payload: &[u8], bytes: &mut Datagram)
     requires code { 64 ≤ code.byte }
     requires payload { length payload.now ≤ 1024 }
-    ensures { record { to = job.now.origin.endpoint; bytes = bytes.new } ≡ sent_in (envelope_of job.now id) (spec.text code.byte payload.now) }
+    ensures { to_job job.now bytes.new ≡ sent_in (envelope_of job.now id) (spec.text code.byte payload.now) }
 {
     reply(job, id, code, ReplyOptions::default(), payload, bytes);
 }
@@ -84,7 +84,8 @@ fn reply(
 )
     requires code { 64 ≤ code.byte }
     requires payload { length payload.now ≤ 1024 }
-    ensures { record { to = job.now.origin.endpoint; bytes = bytes.new } ≡ sent_in (envelope_of job.now id) (record { code = code.byte; options = reply_options options; payload = payload.now }) }
+    ensures { to_job job.now bytes.new ≡ sent_in (envelope_of job.now id)
+        (record { code = code.byte; options = reply_options options; payload = payload.now }) }
 {
     let reply = Reply {
         kind: reply_kind(job.confirmable),

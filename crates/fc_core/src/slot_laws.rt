@@ -3,7 +3,7 @@ ghost use Rattle.coap_msg.specs.declared.types.Emission.{Emission};
 ghost use Rattle.fc_core.specs.Contents.{Content};
 ghost use Rattle.fc_core.specs.History.{Entry, History, Then, Seen, seen, and_then, did, job, slot_at, stage};
 ghost use Rattle.fc_core.specs.Laws.{changes_by, slot_of, takings_of};
-ghost use Rattle.fc_core.specs.SlotLaws.{AllOfImages, Does, IsOfImage, IsToRaise, IsUnchanged, IsWritten};
+ghost use Rattle.fc_core.specs.SlotLaws.{AllOfImages, ChangesBy, IsOfImage, IsToRaise, IsUnchanged, IsWritten};
 ghost use Rattle.fc_core.specs.Stages.{image_of, names};
 ghost use Rattle.fc_core.specs.declared.event.Event.TheVariants.{Commit, Install};
 ghost use Rattle.fc_core.specs.declared.stage.Stage.TheVariants.{ToCommit, ToRaise};
@@ -31,7 +31,7 @@ pub fn changes_are_published()
 /// A slot changes by an install or a commit alone: the install of its job's own accepted image, with memory for the
 /// program and below the last serial, or the commit of its job's ticket.
 pub fn slots_change_by_installs_and_commits()
-    ensures { (r : Entry) (s : Seen) (n : ℕ) → Does r s n }
+    ensures { (r : Entry) (s : Seen) (n : ℕ) → ChangesBy r s n }
 {}
 
 /// The install of an image that is refused changes no slot.

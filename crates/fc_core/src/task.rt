@@ -7,9 +7,9 @@ ghost use Rattle.fc_core.specs.Contents.{AreDone, Missing as Misses, Unavailable
 ghost use Rattle.fc_core.specs.Ends.{refused};
 ghost use Rattle.fc_core.specs.Fits.{FitsStage};
 ghost use Rattle.fc_core.specs.Sound.{AllSafe};
-ghost use Rattle.fc_registry.specs.Calls.{HasGiven, outcome};
+ghost use Rattle.fc_registry.specs.Calls.{HasGiven};
 ghost use Rattle.fc_core.specs.Stages as rows;
-ghost use Rattle.fc_core.specs.Stages.{at_answer, at_commit, at_install, at_raise, at_take, content_at, first_stage, image_of, installed, moved, new_task, receipt_of, scene_at, shard_moved};
+ghost use Rattle.fc_core.specs.Stages.{at_answer, at_commit, at_install, at_raise, at_take, commit_move, content_at, first_stage, image_of, installed, task_moved, new_task, receipt_of, scene_at, scene_of, shard_after, shard_moved};
 
 use crate::answer::{Answer, End};
 use crate::front::blank_job;
@@ -153,7 +153,7 @@ impl Task {
     pub fn take(&mut self, shard: &mut Shard) -> bool
         requires owned { IsOwned shard.old self.old.job.origin.slot }
         requires fits { FitsStage self.old.job (slot_in shard.old self.old.job.origin.slot) self.old.stage }
-        ensures task { self.new ≡ moved self.old (at_take result (scene_at self.old (slot_in shard.old self.old.job.origin.slot)) self.old.stage) }
+        ensures task { self.new ≡ task_moved self.old (at_take result (scene_of shard.old self.old) self.old.stage) }
         ensures shard { shard.new ≡ shard.old }
     {
         let Stage::ToTake(count) = self.stage else {
@@ -179,7 +179,7 @@ impl Task {
     pub fn refuse_take(&mut self, shard: &mut Shard)
         requires owned { IsOwned shard.old self.old.job.origin.slot }
         requires fits { FitsStage self.old.job (slot_in shard.old self.old.job.origin.slot) self.old.stage }
-        ensures task { self.new ≡ moved self.old (at_take false (scene_at self.old (slot_in shard.old self.old.job.origin.slot)) self.old.stage) }
+        ensures task { self.new ≡ task_moved self.old (at_take false (scene_of shard.old self.old) self.old.stage) }
         ensures shard { shard.new ≡ shard.old }
     {
         match self.leave() {
@@ -198,8 +198,8 @@ impl Task {
     pub fn commit(&mut self, frame: &mut Frame, shard: &mut Shard, now: u64)
         requires owned { IsOwned shard.old self.old.job.origin.slot }
         requires fits { FitsStage self.old.job (slot_in shard.old self.old.job.origin.slot) self.old.stage }
-        ensures task { self.new ≡ moved self.old (at_commit now (scene_at self.old (slot_in shard.old self.old.job.origin.slot)) self.old.stage) }
-        ensures shard { shard.new ≡ shard_moved (at_commit now (scene_at self.old (slot_in shard.old self.old.job.origin.slot)) self.old.stage) self.old.job.origin.slot shard.old }
+        ensures task { self.new ≡ task_moved self.old (at_commit now (scene_of shard.old self.old) self.old.stage) }
+        ensures shard { shard.new ≡ shard_after (at_commit now (scene_of shard.old self.old) self.old.stage) self.old shard.old }
     {
         let Stage::ToCommit(count, ticket) = &self.stage else {
             return;
@@ -211,9 +211,9 @@ impl Task {
     /// slot changes, and it is answered 5.03.
     pub fn install(&mut self, alloc: Global, shard: &mut Shard) -> bool
         requires { IsOwned shard.old self.old.job.origin.slot }
-        ensures task { self.new ≡ moved self.old (at_install result (scene_at self.old (slot_in shard.old self.old.job.origin.slot)) self.old.stage) }
-        ensures shard { shard.new ≡ shard_moved (at_install result (scene_at self.old (slot_in shard.old self.old.job.origin.slot)) self.old.stage) self.old.job.origin.slot shard.old }
-        ensures safe { AllSafe (at_install result (scene_at self.old (slot_in shard.old self.old.job.origin.slot)) self.old.stage).changes }
+        ensures task { self.new ≡ task_moved self.old (at_install result (scene_of shard.old self.old) self.old.stage) }
+        ensures shard { shard.new ≡ shard_after (at_install result (scene_of shard.old self.old) self.old.stage) self.old shard.old }
+        ensures safe { AllSafe (at_install result (scene_of shard.old self.old) self.old.stage).changes }
     {
         match self.leave() {
             Stage::ToInstall => {
@@ -238,7 +238,7 @@ impl Task {
 
     /// Installs without memory.
     pub fn refuse_install(&mut self)
-        ensures { (slot : Slot) → self.new ≡ moved self.old (at_install false (scene_at self.old slot) self.old.stage) }
+        ensures { (slot : Slot) → self.new ≡ task_moved self.old (at_install false (scene_at self.old slot) self.old.stage) }
     {
         match self.leave() {
             Stage::ToInstall => self.stage = Stage::unavailable(),
@@ -248,7 +248,7 @@ impl Task {
 
     /// Publishes the new serial of its slot.
     pub fn raise(&mut self)
-        ensures { self.new ≡ moved self.old (at_raise self.old.stage) }
+        ensures { self.new ≡ task_moved self.old (at_raise self.old.stage) }
     {
         if matches!(&self.stage, Stage::ToRaise(_)) {
             self.stage = published(self.leave());
@@ -257,7 +257,7 @@ impl Task {
 
     /// What it is answered, once, where it stands there.
     pub fn answer(&mut self) -> Option<Answer>
-        ensures task { self.new ≡ moved self.old (at_answer self.old.stage) }
+        ensures task { self.new ≡ task_moved self.old (at_answer self.old.stage) }
         ensures content { result ≡ content_at self.old.stage }
     {
         match self.leave() {
@@ -271,7 +271,7 @@ impl Task {
 
     /// Ends it: its worker is lost.
     pub fn lose(&mut self)
-        ensures { self.new ≡ moved self.old (rows.moves Stage.Gone) }
+        ensures { self.new ≡ task_moved self.old (rows.moves Stage.Gone) }
     {
         self.stage = Stage::Gone;
     }
@@ -279,7 +279,7 @@ impl Task {
     // Its stage, which it leaves.
     fn leave(&mut self) -> Stage
         ensures stage { result ≡ self.old.stage }
-        ensures after { self.new ≡ moved self.old (rows.moves Stage.Gone) }
+        ensures after { self.new ≡ task_moved self.old (rows.moves Stage.Gone) }
     {
         mem::replace(&mut self.stage, Stage::Gone)
     }
@@ -314,8 +314,8 @@ fn run_and_commit(
 ) -> Stage
     requires owned { IsOwned shard.old ticket.now.origin.slot }
     requires given { HasGiven (slot_in shard.old ticket.now.origin.slot) ticket.now }
-    ensures stage { result ≡ (rows.committed (outcome ticket.now (slot_in shard.old ticket.now.origin.slot)) count ticket.now now).stage }
-    ensures shard { shard.new ≡ shard_moved (rows.committed (outcome ticket.now (slot_in shard.old ticket.now.origin.slot)) count ticket.now now) ticket.now.origin.slot shard.old }
+    ensures stage { result ≡ (commit_move shard.old count ticket.now now).stage }
+    ensures shard { shard.new ≡ shard_moved (commit_move shard.old count ticket.now now) ticket.now.origin.slot shard.old }
 {
     let outcome = run(frame, ticket.program(), ticket.request(), ticket.vars());
     let committed = shard.commit(now, &outcome, ticket);

@@ -15,11 +15,11 @@ use Rattle.fc_registry.specs.declared.commit.CommitOutcome.{CommitOutcome}
 use Rattle.fc_registry.specs.declared.commit.CommitOutcome.TheVariants.{Writes, Keeps, Overtakes, Ends}
 use Rattle.fc_help.specs.declared.request.Method.{Method}
 use Rattle.fc_help.specs.declared.request.Method.TheVariants.{Get, Post}
-use Rattle.fc_registry.specs.Calls.{IsCommit, IsOwnCommit, IsCommitOf, ComesTo, IsCurrent, commit_of, commits, is_post, wants, meaning_at, put, put_by}
+use Rattle.fc_registry.specs.Calls.{IsCommit, IsOwnCommit, IsCommitOf, ComesTo, IsCurrent, commit_of, commits, is_post, wants, meaning_at, install_in, put_by}
 use Rattle.fc_registry.specs.declared.ring.Entry.{Entry}
 use Rattle.fc_registry.specs.Slots.{Slot, Present, Ticket, new_slot, last_serial}
 use Rattle.fc_registry.specs.Changes.{Change, Installed, Committed, Removed, Commit, after_changes, changed, with_vars, entry_of}
-use Rattle.fc_registry.specs.Record.{IsLink, IsChain, IsEntry, AreEntries, left_by, HasRing, HasRingIf, IsRing, class_of}
+use Rattle.fc_registry.specs.Record.{IsLink, IsChain, IsEntry, AreEntries, left_by, HasRing, HasRingIf, IsRing, code_class}
 
 -- one more entry, that begins with what the others left
 entries_more : (p : Program) (serial : ℕ) (vars : List ℕ) (es : List Entry) (e : Entry) → AreEntries p serial vars es → IsEntry p (serial + length es) (left_by vars es) e → AreEntries p serial vars (es ++ e ∷ [])
@@ -39,7 +39,7 @@ entry_is slot c p is link =
       before = link.before ∙ ap (λ (q : Present). q.vars) same;
       after = subst (λ (q : Present). c.after ≡ (meant q.program c.request q.vars).vars) same link.after;
       post = link.post;
-      class = subst (λ (q : Present). class_of (meant q.program c.request q.vars).code ≡ 2) same link.class;
+      class = subst (λ (q : Present). code_class (meant q.program c.request q.vars).code ≡ 2) same link.class;
     }
 
 abbrev with_after : Present → Commit → Present
@@ -115,14 +115,14 @@ rings_follow serial (Removed ∷ cs) chain = refl
 -- a commit that writes is a link of what the slot held
 commit_link : (slot : Slot) (t : Ticket) → wants t ≡ true → IsCurrent t slot → IsLink slot (commit_of t)
 commit_link slot t w current =
-    let post = wants_post t.request.method (class_of (meaning_at t).code == 2) w in
+    let post = wants_post t.request.method (code_class (meaning_at t).code == 2) w in
     record {
       found = t.found;
       present = current.present;
       before = refl;
       after = refl;
       post = post.0;
-      class = eqb-true (class_of (meaning_at t).code) 2 post.1;
+      class = eqb-true (code_class (meaning_at t).code) 2 post.1;
     }
   where
     wants_post : (m : Method) (b : Bool) → (is_post m && b) ≡ true → (m ≡ Post) × (b ≡ true)
@@ -149,7 +149,7 @@ put_ring_by : (slot : Slot) (p : Program) (b : Bool) → IsRing slot → IsRing 
 put_ring_by slot p true h = ring_installed slot p
 put_ring_by slot p false h = h
 
-pub ring_put : (slot : Slot) (p : Program) → IsRing slot → IsRing (after_changes slot (put slot p).changes)
+pub ring_put : (slot : Slot) (p : Program) → IsRing slot → IsRing (after_changes slot (install_in slot p).changes)
 ring_put slot p h = put_ring_by slot p (nat_lt slot.serial last_serial) h
 
 -- each slot of a list, after one of them was written

@@ -18,7 +18,7 @@ use Rattle.fc_registry.specs.declared.commit.Committed.{Committed}
 use Rattle.fc_registry.specs.declared.commit.Committed.TheVariants.{Done, Overtaken, Ended, Stranger}
 use Rattle.fc_registry.specs.Slots.{Slot, Shard, Present, Ticket, Mark, slot_in, with_slot, last_serial}
 use Rattle.fc_registry.specs.Changes.{Change, Installed, Committed as Wrote, Commit, after_changes}
-use Rattle.fc_registry.specs.Record.{class_of}
+use Rattle.fc_registry.specs.Record.{code_class}
 
 -- ---- take
 
@@ -53,8 +53,8 @@ abbrev pub put_by : Bool → Slot → Program → Called Made
 put_by true slot p = record { answer = Raised (slot.serial + 1) (is_none slot.present); changes = Installed p ∷ [] }
 put_by false slot p = record { answer = AtEnd; changes = [] }
 
-abbrev pub put : Slot → Program → Called Made
-put slot p = put_by (nat_lt slot.serial last_serial) slot p
+abbrev pub install_in : Slot → Program → Called Made
+install_in slot p = put_by (nat_lt slot.serial last_serial) slot p
 
 -- ---- commit
 
@@ -64,7 +64,7 @@ is_post Post = true
 
 -- a run that answers a POST with a code of class 2 wants to write
 abbrev pub wants_by : Ran → Bool
-wants_by ran = is_post ran.request.method && (class_of (meaning_of ran).code == 2)
+wants_by ran = is_post ran.request.method && (code_class (meaning_of ran).code == 2)
 
 -- the run of a ticket
 abbrev pub run_of : Ticket → Ran

@@ -7,8 +7,8 @@ use Rattle.fc_registry.specs.Slots.{Slot, Present}
 use Rattle.fc_registry.specs.Changes.{Change, Installed, Committed, Removed, Commit, after_changes}
 
 -- the class of a code: its upper three bits (RFC 7252, 3)
-abbrev pub class_of : ℕ → ℕ
-class_of code = code / 32
+abbrev pub code_class : ℕ → ℕ
+code_class code = code / 32
 
 -- a commit found the program and the variables that the slot then held, and left just what the program means there: it
 -- answered a POST, with a code of class 2
@@ -18,7 +18,7 @@ pub record IsLink (slot : Slot) (c : Commit) : Type 0 where
   pub before : c.before ≡ found.vars
   pub after : c.after ≡ (meant found.program c.request found.vars).vars
   pub post : c.request.method ≡ Post
-  pub class : class_of (meant found.program c.request found.vars).code ≡ 2
+  pub class : code_class (meant found.program c.request found.vars).code ≡ 2
 
 -- each commit in a list of changes, the newest first, is a link: it begins with what the changes before it left
 abbrev pub IsChain : Slot → List Change → Type 0
@@ -34,7 +34,7 @@ pub record IsEntry (p : Program) (serial : ℕ) (vars : List ℕ) (e : Entry) : 
   pub before : e.before ≡ vars
   pub after : e.after ≡ (meant p e.request vars).vars
   pub post : e.request.method ≡ Post
-  pub class : class_of (meant p e.request vars).code ≡ 2
+  pub class : code_class (meant p e.request vars).code ≡ 2
 
 -- entries of consecutive serials, the oldest first: each begins with what the one before it left
 abbrev pub AreEntries : Program → ℕ → List ℕ → List Entry → Type 0

@@ -14,7 +14,8 @@ pub fn serials_count_changes()
 /// The program in a slot is that of the newest install, with no removal since. Its version is the serial of that
 /// install; the install set its variables to zeros, and only commits have written them.
 pub fn versions_are_installs()
-    ensures { (serial : ℕ) (cs : List Change) (p : Present) → (after_changes (new_slot serial) cs).present ≡ Some p → FollowsInstall serial cs p }
+    ensures { (serial : ℕ) (cs : List Change) (p : Present) →
+        (after_changes (new_slot serial) cs).present ≡ Some p → FollowsInstall serial cs p }
 {}
 
 /// What the commit of a ticket comes to at the slot that gave it is decided by the ticket's serial: the slot has changed

@@ -3,7 +3,7 @@ ghost use Rattle.std.specs.Prelude.{◌≡◌, ℕ, ◌+◌, ◌<◌, ◌≤◌,
 ghost use Rattle.fc_machine.specs.Ran.{meaning_of};
 ghost use Rattle.fc_registry.specs.Slots.{IsOwned, slot_in, with_slot, new_slot, last_serial, version_in, vars_in};
 ghost use Rattle.fc_registry.specs.Changes.{after_changes};
-ghost use Rattle.fc_registry.specs.Calls.{IsTaking, CommitsTo, IsCommit, ComesTo, IsOwn, IsCurrent, commits, is_post, mark_of, put, request_of, wants_by};
+ghost use Rattle.fc_registry.specs.Calls.{IsTaking, CommitsTo, IsCommit, ComesTo, IsOwn, IsCurrent, commits, is_post, mark_of, install_in, request_of, wants_by};
 ghost use Rattle.fc_registry.specs.Views.{as_seen};
 ghost use Rattle.fc_registry.specs.Record.{IsRing};
 
@@ -119,8 +119,9 @@ impl Shard {
     /// Installs a program, with variables of zeros. At the last serial it changes nothing, and answers `AtEnd`.
     pub fn install(&mut self, slot: SlotNumber, program: Arc<Verified>) -> Made
         requires { IsOwned self.old slot }
-        ensures answer { result ≡ (put (slot_in self.old slot) program.value).answer }
-        ensures slots { self.new ≡ with_slot self.old slot (after_changes (slot_in self.old slot) (put (slot_in self.old slot) program.value).changes) }
+        ensures answer { result ≡ (install_in (slot_in self.old slot) program.value).answer }
+        ensures slots { self.new ≡ with_slot self.old slot
+            (after_changes (slot_in self.old slot) (install_in (slot_in self.old slot) program.value).changes) }
     {
         let state = &mut self.slots[slot.place()];
         install(state, program)
@@ -226,8 +227,8 @@ fn request_of(ask: &Ask) -> Request
 
 // Installs a program in a slot.
 fn install(slot: &mut SlotState, program: Arc<Verified>) -> Made
-    ensures answer { result ≡ (put (as_seen slot.old) program.value).answer }
-    ensures slot { as_seen slot.new ≡ after_changes (as_seen slot.old) (put (as_seen slot.old) program.value).changes }
+    ensures answer { result ≡ (install_in (as_seen slot.old) program.value).answer }
+    ensures slot { as_seen slot.new ≡ after_changes (as_seen slot.old) (install_in (as_seen slot.old) program.value).changes }
 {
     if slot.serial >= LAST_SERIAL {
         return Made::AtEnd;
@@ -320,7 +321,8 @@ fn write(slot: &mut SlotState, outcome: &Outcome<'_>, ticket: &Ticket) -> Mark
     requires current { IsCurrent ticket.now (as_seen slot.old) }
     requires below { (as_seen slot.old).serial < last_serial }
     ensures mark { result ≡ mark_of ticket.now ((as_seen slot.old).serial + 1) true }
-    ensures slot { as_seen slot.new ≡ after_changes (as_seen slot.old) ((commits CommitOutcome.Writes ticket.now (as_seen slot.old).serial).changes) }
+    ensures slot { as_seen slot.new ≡ after_changes (as_seen slot.old)
+        ((commits CommitOutcome.Writes ticket.now (as_seen slot.old).serial).changes) }
 {
     slot.serial += 1;
     if let Some(body) = &mut slot.body {

@@ -26,7 +26,12 @@ impl Model for Ticket {
 
     ghost use Rattle.std.specs.Prelude.{◌≡◌, length};
 
-    ghost view = { λ t. record { origin = t.origin; request = t.request; serial = t.serial; found = record { program = t.program.value; version = t.version; vars = t.vars } } };
+    ghost view = { λ t. record {
+      origin = t.origin;
+      request = t.request;
+      serial = t.serial;
+      found = record { program = t.program.value; version = t.version; vars = t.vars };
+    } };
 
     ghost invariant = { λ t. length t.vars ≡ t.program.value.vars_size };
 }

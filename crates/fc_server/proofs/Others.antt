@@ -16,13 +16,13 @@ use Rattle.fc_core.specs.declared.stage.Stage.TheVariants.{ToTake, ToCommit, ToI
 use Rattle.fc_core.specs.declared.stage.Task.{Task}
 use Rattle.fc_core.specs.Answering.{after_answered_by}
 use Rattle.fc_core.specs.Contents.{Content}
-use Rattle.fc_core.specs.Exchanges.{FrontState, advanced, is_live}
+use Rattle.fc_core.specs.Exchanges.{FrontState, advanced, opening_is_live}
 use Rattle.fc_core.specs.History.{Seen, and_then, answered_in, did, exchanges_after, front_at, front_in, ids_after, ids_answered, job, moment_after, no_task, received_at, shard_moment_after, stage, task_at, tasks_brought, tasks_moved, changes_after}
 use Rattle.fc_core.specs.Ids.{drawn_for}
 use Rattle.fc_core.specs.Legal.{AnswerEmits, Emits, IsAnswered, TakesMeaning}
 use Rattle.fc_core.specs.Receiving.{after_received, brought, drawn_by, id_in, keeping, kept_of, next_opening, opened_by, received, sent}
 use Rattle.fc_core.specs.Sound.{AllSafe}
-use Rattle.fc_core.specs.Stages.{Move, at_answer, content_at, moved, moves, names, new_task, row, scene_at}
+use Rattle.fc_core.specs.Stages.{Move, at_answer, content_at, task_moved, moves, names, new_task, row, scene_at}
 use Rattle.fc_core.proofs.Keeping.{IsSafeMove, still_safe, still_sound}
 use Rattle.fc_core.proofs.Rejections.{same_slot}
 use Rattle.fc_server.specs.Agreement.{Agrees, Parts, ShardsAgree}
@@ -164,18 +164,18 @@ deliver_step now to b old new emitted t s a =
 -- ---- an answer
 
 -- the front after it, by the content of the answer, if there is one
-front_answered : (s : Seen) (now : ℕ) (j : Job) (emitted : Option Emission) (live : Bool) (c : Option Content) → is_live (max s.moment now) j.origin.opening ≡ live → AnswerEmits c j (front_at s now) emitted →
+front_answered : (s : Seen) (now : ℕ) (j : Job) (emitted : Option Emission) (live : Bool) (c : Option Content) → opening_is_live (max s.moment now) j.origin.opening ≡ live → AnswerEmits c j (front_at s now) emitted →
     front_after c j emitted (front_in s s.moment) now
     ≡ front_of (if is_some c then max s.moment now else s.moment) (if is_some c then answered_in j.origin.opening.number emitted s.exchanges else s.exchanges) (ids_answered c live j.confirmable s.ids (max s.moment now))
 front_answered s now j emitted live None is emits = refl
 front_answered s now j emitted true (Some content) is emits =
     let at = max s.moment now in
-    (λ i. after_answered_by (is_live (front_advances s now i).now j.origin.opening) j emitted (front_advances s now i))
+    (λ i. after_answered_by (opening_is_live (front_advances s now i).now j.origin.opening) j emitted (front_advances s now i))
     ∙ (ap (λ (b : Bool). after_answered_by b j emitted (front_at s now)) is
     ∙ front_keeps at j.origin.opening.number emitted s.exchanges (drawn_for j.confirmable s.ids at))
 front_answered s now j emitted false (Some content) is emits =
     let late : emitted ≡ None = subst (λ (b : Bool). IsAnswered b (id_in (front_at s now) j.confirmable j.origin.id) j content emitted) is emits in
-    (λ i. after_answered_by (is_live (front_advances s now i).now j.origin.opening) j emitted (front_advances s now i))
+    (λ i. after_answered_by (opening_is_live (front_advances s now i).now j.origin.opening) j emitted (front_advances s now i))
     ∙ (ap (λ (b : Bool). after_answered_by b j emitted (front_at s now)) is
     ∙ ap (λ (em : Option Emission). front_of (max s.moment now) (answered_in j.origin.opening.number em s.exchanges) s.ids) (sym late))
 
@@ -207,8 +207,8 @@ answer_step k now old new emitted t s a =
       emits = emits;
       means = tt;
       agrees = record {
-        front = t'.front ∙ (ap (λ (f : FrontState). front_after (content_at (stage s k)) (job s k) emitted f now) a.front ∙ front_answered s now (job s k) emitted (is_live (max s.moment now) (job s k).origin.opening) (content_at (stage s k)) refl emits);
-        tasks = t'.tasks ∙ sym (append-nil (set s.tasks k (moved (task_at s.tasks k) (at_answer (stage s k)))));
+        front = t'.front ∙ (ap (λ (f : FrontState). front_after (content_at (stage s k)) (job s k) emitted f now) a.front ∙ front_answered s now (job s k) emitted (opening_is_live (max s.moment now) (job s k).origin.opening) (content_at (stage s k)) refl emits);
+        tasks = t'.tasks ∙ sym (append-nil (set s.tasks k (task_moved (task_at s.tasks k) (at_answer (stage s k)))));
         shards = subst (λ (xs : List Shard). ShardsAgree (and_then (did e emitted) s) xs) (answer_unmoved (stage s k) (job s k).origin.slot old.shards ∙ sym t.shards) shards;
         sound = still_sound (did e emitted) s a.sound;
         safe = still_safe (did e emitted) s a.sound (answer_safe (stage s k)) a.safe;

@@ -17,10 +17,10 @@ use Rattle.fc_core.specs.Legal.{AnswerEmits}
 use Rattle.fc_core.specs.Receiving as x
 use Rattle.fc_core.specs.Receiving.{Received, after_delivered, after_received, brought, delivered, handed_on, next_opening, received, reply_or_nothing, sent}
 use Rattle.fc_core.specs.Sound.{AllSafe}
-use Rattle.fc_core.specs.Stages.{at_answer, content_at, moved, new_task, row}
+use Rattle.fc_core.specs.Stages.{at_answer, content_at, task_moved, new_task, row}
 use Rattle.fc_server.specs.Agreement.{Agrees, Parts}
-use Rattle.fc_server.specs.Serving.{Delivers, Heard, Hears, IsServed, Passes, Serves, next, parts_of, worked}
-use Rattle.fc_server.specs.States.{Answers, AtWork, Does, ServerState, front_after, scene_in, shards_moved}
+use Rattle.fc_server.specs.Serving.{Delivers, Heard, Hears, IsReachable, Passes, Serves, next, with_tasks, worked}
+use Rattle.fc_server.specs.States.{Responds, AtWork, Does, ServerState, front_after, scene_in, shards_moved}
 use Rattle.fc_server.specs.Steps.{AnsweredTo, DeliveredTo, IsReached, Moves, Steps}
 use Rattle.fc_server.proofs.Others.{answer_step, deliver_step, tick_step}
 use Rattle.fc_server.proofs.Stepping.{commit_step, install_step, raise_step, take_step}
@@ -46,28 +46,28 @@ pub reached_at_work : (p : Parts) (k : ℕ) → IsReached p → AtWork (record {
 reached_at_work p k r = at_seen r.seen p k (task_at p.tasks k) r.agrees (ap (λ (ts : List Task). task_at ts k) (sym r.agrees.tasks))
 
 pub at_work : {h : History} {s : ServerState} (rest : List Task) {task : Task} → Serves h s (rest ++ task ∷ []) → AtWork s task
-at_work {h} {s} rest {task} v = at_seen (seen h) (parts_of s (rest ++ task ∷ [])) (length rest) task v.agrees (ap (λ (ts : List Task). task_at ts (length rest)) (sym v.agrees.tasks) ∙ seam rest task)
+at_work {h} {s} rest {task} v = at_seen (seen h) (with_tasks s (rest ++ task ∷ [])) (length rest) task v.agrees (ap (λ (ts : List Task). task_at ts (length rest)) (sym v.agrees.tasks) ∙ seam rest task)
 
 -- one event more
-goes_on : (h : History) (e : Event) (old : ServerState) (tasks : List Task) (out : Option Emission) (new : ServerState) (later : List Task) → Steps e (parts_of old tasks) out (parts_of new later) → Serves h old tasks → Serves (next h e out) new later
+goes_on : (h : History) (e : Event) (old : ServerState) (tasks : List Task) (out : Option Emission) (new : ServerState) (later : List Task) → Steps e (with_tasks old tasks) out (with_tasks new later) → Serves h old tasks → Serves (next h e out) new later
 unfolding seen
 goes_on h e old tasks out new later steps v =
     let s = steps (seen h) v.agrees in
     record { legal = (s.emits, v.legal); means = (s.means, v.means); agrees = s.agrees }
 
-moves_by : (e : Event) (old : ServerState) (rest : List Task) (task : Task) (new : ServerState) (later : Task) → Does e old task new later → Moves e (length rest) (parts_of old (rest ++ task ∷ [])) (parts_of new (rest ++ later ∷ []))
+moves_by : (e : Event) (old : ServerState) (rest : List Task) (task : Task) (new : ServerState) (later : Task) → Does e old task new later → Moves e (length rest) (with_tasks old (rest ++ task ∷ [])) (with_tasks new (rest ++ later ∷ []))
 moves_by e old rest task new later d =
     let at = sym (seam rest task) in
     record {
       front = d.front;
-      tasks = ap (λ (t : Task). rest ++ t ∷ []) d.task_is ∙ (sym (set-append_seam rest task [] _) ∙ ap (λ (t : Task). set (rest ++ task ∷ []) (length rest) (moved t (row e (scene_in old.shards t)))) at);
+      tasks = ap (λ (t : Task). rest ++ t ∷ []) d.task_is ∙ (sym (set-append_seam rest task [] _) ∙ ap (λ (t : Task). set (rest ++ task ∷ []) (length rest) (task_moved t (row e (scene_in old.shards t)))) at);
       shards = subst (λ (t : Task). new.shards ≡ shards_moved (row e (scene_in old.shards t)) t.job.origin.slot old.shards) at d.shards;
       safe = subst (λ (t : Task). AllSafe (row e (scene_in old.shards t)).changes) at d.safe;
     }
 
 module _ (rest : List Task) {h : History} {old : ServerState} {task : Task} {new : ServerState} {later : Task} (v : Serves h old (rest ++ task ∷ [])) where
   does_on : (e : Event) → ((p q : Parts) → Moves e (length rest) p q → Steps e p None q) → Does e old task new later → Serves (next h e None) new (rest ++ later ∷ [])
-  does_on e step d = goes_on h e old (rest ++ task ∷ []) None new (rest ++ later ∷ []) (step (parts_of old (rest ++ task ∷ [])) (parts_of new (rest ++ later ∷ [])) (moves_by e old rest task new later d)) v
+  does_on e step d = goes_on h e old (rest ++ task ∷ []) None new (rest ++ later ∷ []) (step (with_tasks old (rest ++ task ∷ [])) (with_tasks new (rest ++ later ∷ [])) (moves_by e old rest task new later d)) v
 
   pub took_on : (memory : Bool) → Does (Take (length rest) memory) old task new later → Serves (next h (Take (length rest) memory) None) new (rest ++ later ∷ [])
   took_on memory d = does_on (Take (length rest) memory) (take_step (length rest) memory) d
@@ -81,16 +81,16 @@ module _ (rest : List Task) {h : History} {old : ServerState} {task : Task} {new
   pub raised_on : Does (Raise (length rest)) old task new later → Serves (next h (Raise (length rest)) None) new (rest ++ later ∷ [])
   raised_on d = does_on (Raise (length rest)) (raise_step (length rest)) d
 
-  pub answered_on : (now : ℕ) (out : Option Emission) → Answers now old task new later out → Serves (next h (Answer (length rest) now) out) new (rest ++ later ∷ [])
+  pub answered_on : (now : ℕ) (out : Option Emission) → Responds now old task new later out → Serves (next h (Answer (length rest) now) out) new (rest ++ later ∷ [])
   answered_on now out d =
       let at = sym (seam rest task) in
-      let to : AnsweredTo (length rest) now (parts_of old (rest ++ task ∷ [])) (parts_of new (rest ++ later ∷ [])) out = record {
+      let to : AnsweredTo (length rest) now (with_tasks old (rest ++ task ∷ [])) (with_tasks new (rest ++ later ∷ [])) out = record {
         front = subst (λ (t : Task). new.front ≡ front_after (content_at t.stage) t.job out old.front now) at d.front;
-        tasks = ap (λ (t : Task). rest ++ t ∷ []) d.task_is ∙ (sym (set-append_seam rest task [] _) ∙ ap (λ (t : Task). set (rest ++ task ∷ []) (length rest) (moved t (at_answer t.stage))) at);
+        tasks = ap (λ (t : Task). rest ++ t ∷ []) d.task_is ∙ (sym (set-append_seam rest task [] _) ∙ ap (λ (t : Task). set (rest ++ task ∷ []) (length rest) (task_moved t (at_answer t.stage))) at);
         shards = d.shards;
         emits = subst (λ (t : Task). AnswerEmits (content_at t.stage) t.job (advanced old.front now) out) at d.emits;
       } in
-      goes_on h (Answer (length rest) now) old (rest ++ task ∷ []) out new (rest ++ later ∷ []) (answer_step (length rest) now (parts_of old (rest ++ task ∷ [])) (parts_of new (rest ++ later ∷ [])) out to) v
+      goes_on h (Answer (length rest) now) old (rest ++ task ∷ []) out new (rest ++ later ∷ []) (answer_step (length rest) now (with_tasks old (rest ++ task ∷ [])) (with_tasks new (rest ++ later ∷ [])) out to) v
 
 -- ---- a delivery
 
@@ -134,7 +134,7 @@ handed_jobs (x.Silenced m) f to = refl
 handed_jobs (x.Refused m answer) f to = jobs_or (sent (x.Refused m answer) f to)
 
 -- what a delivery leaves, by what the front handed on
-pub delivered_to : (now : ℕ) (to : Endpoint) (bytes : List ℕ) (old new : ServerState) (tasks : List Task) (d : Delivered) → delivered (advanced old.front now) to bytes ≡ d → new.front ≡ after_delivered (advanced old.front now) to bytes → new.shards ≡ old.shards → DeliveredTo now to bytes (parts_of old tasks) (parts_of new (tasks ++ map new_task (jobs_by d))) (sent_by d)
+pub delivered_to : (now : ℕ) (to : Endpoint) (bytes : List ℕ) (old new : ServerState) (tasks : List Task) (d : Delivered) → delivered (advanced old.front now) to bytes ≡ d → new.front ≡ after_delivered (advanced old.front now) to bytes → new.shards ≡ old.shards → DeliveredTo now to bytes (with_tasks old tasks) (with_tasks new (tasks ++ map new_task (jobs_by d))) (sent_by d)
 delivered_to now to bytes old new tasks d is front shards =
     let f = advanced old.front now in
     record {
@@ -146,7 +146,7 @@ delivered_to now to bytes old new tasks d is front shards =
 
 pub delivered_on : (now : ℕ) (to : Endpoint) (b : Bor (List ℕ)) (old new : ServerState) (d : Delivered) → delivered (advanced old.front now) to b.now ≡ d → new.front ≡ after_delivered (advanced old.front now) to b.now → new.shards ≡ old.shards → (h : History) (tasks : List Task) → Serves h old tasks → Serves (next h (Deliver now to b) (sent_by d)) new (tasks ++ map new_task (jobs_by d))
 delivered_on now to b old new d is front shards h tasks v =
-    goes_on h (Deliver now to b) old tasks (sent_by d) new (tasks ++ map new_task (jobs_by d)) (deliver_step now to b (parts_of old tasks) (parts_of new (tasks ++ map new_task (jobs_by d))) (sent_by d) (delivered_to now to b.now old new tasks d is front shards)) v
+    goes_on h (Deliver now to b) old tasks (sent_by d) new (tasks ++ map new_task (jobs_by d)) (deliver_step now to b (with_tasks old tasks) (with_tasks new (tasks ++ map new_task (jobs_by d))) (sent_by d) (delivered_to now to b.now old new tasks d is front shards)) v
 
 abbrev pub IsJobless : Delivered → Type 0
 IsJobless (Brings job) = ⊥
@@ -163,17 +163,17 @@ heard_on now to b old new d out none emits is front shards h tasks v =
     subst (λ (y : Delivered). Heard h (length tasks) (Deliver now to b) y now new out) (sym is) (heard_jobless h (length tasks) (Deliver now to b) now new out d none (record { tasks = tasks ++ map new_task (jobs_by d); serves = serves }))
 
 -- a server that heard a datagram is one that some history leaves
-heard_served : (h : History) (k : ℕ) (e : Event) (now : ℕ) (new : ServerState) (out : Option Emission) (d : Delivered) → Heard h k e d now new out → IsServed new
+heard_served : (h : History) (k : ℕ) (e : Event) (now : ℕ) (new : ServerState) (out : Option Emission) (d : Delivered) → Heard h k e d now new out → IsReachable new
 heard_served h k e now new out (Brings job) w = record { history = worked job.ask k w.memory now out (next h e None); tasks = w.tasks; serves = w.serves }
 heard_served h k e now new out other w = record { history = next h e out; tasks = w.tasks; serves = w.serves }
 
-pub still_served : (now : ℕ) (e : Event) (d : Delivered) (old new : ServerState) (out : Option Emission) → IsServed old → Hears now e d old new out → IsServed new
+pub still_served : (now : ℕ) (e : Event) (d : Delivered) (old new : ServerState) (out : Option Emission) → IsReachable old → Hears now e d old new out → IsReachable new
 still_served now e d old new out s hears = heard_served s.history (length s.tasks) e now new out d (hears s.history s.tasks s.serves)
 
 -- ---- a tick
 
 pub ticked_on : (now : ℕ) (old new : ServerState) → new.front ≡ advanced old.front now → new.shards ≡ old.shards → Passes now old new
-ticked_on now old new front shards h tasks v = goes_on h (Tick now) old tasks None new tasks (tick_step now (parts_of old tasks) (parts_of new tasks) (record { front = front; tasks = refl; shards = shards })) v
+ticked_on now old new front shards h tasks v = goes_on h (Tick now) old tasks None new tasks (tick_step now (with_tasks old tasks) (with_tasks new tasks) (record { front = front; tasks = refl; shards = shards })) v
 
-pub passed_served : (now : ℕ) (old new : ServerState) → IsServed old → Passes now old new → IsServed new
+pub passed_served : (now : ℕ) (old new : ServerState) → IsReachable old → Passes now old new → IsReachable new
 passed_served now old new s passes = record { history = next s.history (Tick now) None; tasks = s.tasks; serves = passes s.history s.tasks s.serves }

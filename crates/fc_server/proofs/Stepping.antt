@@ -19,7 +19,7 @@ use Rattle.fc_core.specs.History.{Seen, and_then, changes_after, did, exchanges_
 use Rattle.fc_core.specs.Legal.{Emits, FindsMeaning, FoundMeans, TakesMeaning}
 use Rattle.fc_core.specs.Receiving.{AskWithin}
 use Rattle.fc_core.specs.Sound.{AllSafe, IsSafelySeen, IsSound}
-use Rattle.fc_core.specs.Stages.{Move, Scene, handed, moved, names, row, scene_at}
+use Rattle.fc_core.specs.Stages.{Move, Scene, handed, task_moved, names, row, scene_at}
 use Rattle.fc_core.proofs.Fitting.{after_changes-append, input_of}
 use Rattle.fc_core.proofs.Keeping.{IsSafeMove, still_safe, still_sound}
 use Rattle.fc_server.specs.Agreement.{Parts, ShardsAgree}
@@ -99,8 +99,8 @@ front_same s e k q = λ i. record { now = sym (q.moment s) i; opened = length (s
 safe_move : (s : Seen) (e : Event) (k : ℕ) (o : Option ℕ) → o ≡ Some k → AllSafe (row e (scene s k)).changes → IsSafeMove o e s
 safe_move s e k o is safe = subst (λ (p : Option ℕ). IsSafeMove p e s) (sym is) safe
 
-tasks_named : (s : Seen) (e : Event) (k : ℕ) (o : Option ℕ) → o ≡ Some k → tasks_brought e s ≡ [] → tasks_moved o e s ++ tasks_brought e s ≡ set s.tasks k (moved (task_at s.tasks k) (row e (scene s k)))
-tasks_named s e k o is none = (λ i. tasks_moved (is i) e s ++ none i) ∙ append-nil (set s.tasks k (moved (task_at s.tasks k) (row e (scene s k))))
+tasks_named : (s : Seen) (e : Event) (k : ℕ) (o : Option ℕ) → o ≡ Some k → tasks_brought e s ≡ [] → tasks_moved o e s ++ tasks_brought e s ≡ set s.tasks k (task_moved (task_at s.tasks k) (row e (scene s k)))
+tasks_named s e k o is none = (λ i. tasks_moved (is i) e s ++ none i) ∙ append-nil (set s.tasks k (task_moved (task_at s.tasks k) (row e (scene s k))))
 
 pub moves_step : (e : Event) (k : ℕ) (old new : Parts) → Quiet e k → Moves e k old new → Steps e old None new
 moves_step e k old new q t s a =
@@ -114,7 +114,7 @@ moves_step e k old new q t s a =
       means = q.means s (all_mean s a.sound a.safe);
       agrees = record {
         front = t.front ∙ (a.front ∙ front_same s e k q);
-        tasks = t'.tasks ∙ (ap (λ (x : Scene). set s.tasks k (moved (task_at s.tasks k) (row e x))) is ∙ sym (tasks_named s e k (names e) q.named (q.brings s)));
+        tasks = t'.tasks ∙ (ap (λ (x : Scene). set s.tasks k (task_moved (task_at s.tasks k) (row e x))) is ∙ sym (tasks_named s e k (names e) q.named (q.brings s)));
         shards = subst (λ (xs : List Shard). ShardsAgree (and_then (did e None) s) xs) (sym (t'.shards ∙ ap (λ (x : Scene). shards_moved (row e x) (job s k).origin.slot old.shards) is)) (shards_move s e k q.named old.shards a.shards low None);
         sound = still_sound (did e None) s a.sound;
         safe = still_safe (did e None) s a.sound (safe_move s e k (names e) q.named safe) a.safe;

@@ -14,15 +14,15 @@ use Rattle.fc_core.specs.Legal.{AllMean, IsLegal}
 use Rattle.fc_server.specs.Agreement.{Agrees, Parts}
 use Rattle.fc_server.specs.States.{ServerState}
 
-abbrev pub parts_of : ServerState → List Task → Parts
-parts_of s tasks = record { front = s.front; shards = s.shards; tasks = tasks }
+abbrev pub with_tasks : ServerState → List Task → Parts
+with_tasks s tasks = record { front = s.front; shards = s.shards; tasks = tasks }
 
 -- the server, with these jobs, is one that this history leaves: each event of it emitted what it may, each taking that found a
 -- program has a meaning, and its front, its slots and its jobs are what is seen of it
 pub record Serves (h : History) (s : ServerState) (tasks : List Task) : Type 0 where
   pub legal : IsLegal h
   pub means : AllMean h
-  pub agrees : Agrees (seen h) (parts_of s tasks)
+  pub agrees : Agrees (seen h) (with_tasks s tasks)
 
 abbrev pub next : History → Event → Option Emission → History
 next h event emitted = Then h (did event emitted)
@@ -66,7 +66,7 @@ pub record IsBegun (s : ServerState) (task : Task) : Type 0 where
   pub rest : List Task
   pub serves : Serves history s (rest ++ task ∷ [])
 
-pub record IsServed (s : ServerState) : Type 0 where
+pub record IsReachable (s : ServerState) : Type 0 where
   pub history : History
   pub tasks : List Task
   pub serves : Serves history s tasks

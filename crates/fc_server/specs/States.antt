@@ -12,7 +12,7 @@ use Rattle.fc_core.specs.Exchanges.{FrontState, advanced}
 use Rattle.fc_core.specs.Fits.{FitsStage}
 use Rattle.fc_core.specs.Legal.{AnswerEmits}
 use Rattle.fc_core.specs.Sound.{AllSafe}
-use Rattle.fc_core.specs.Stages.{Move, Scene, at_answer, content_at, moved, row, scene_at, shard_moved}
+use Rattle.fc_core.specs.Stages.{Move, Scene, at_answer, content_at, task_moved, row, scene_at, shard_moved}
 
 -- its front, and its shards
 pub record ServerState : Type 0 where
@@ -37,7 +37,7 @@ pub record AtWork (s : ServerState) (task : Task) : Type 0 where
 -- an event on a task: it moves by its row, and so does its slot; what is installed is safe
 pub record Does (e : Event) (old : ServerState) (task : Task) (new : ServerState) (next : Task) : Type 0 where
   pub front : new.front ≡ old.front
-  pub task_is : next ≡ moved task (row e (scene_in old.shards task))
+  pub task_is : next ≡ task_moved task (row e (scene_in old.shards task))
   pub shards : new.shards ≡ shards_moved (row e (scene_in old.shards task)) task.job.origin.slot old.shards
   pub safe : AllSafe (row e (scene_in old.shards task)).changes
 
@@ -47,8 +47,8 @@ front_after None job emitted f now = f
 front_after (Some content) job emitted f now = after_answered job emitted (advanced f now)
 
 -- a task's answer
-pub record Answers (now : ℕ) (old : ServerState) (task : Task) (new : ServerState) (next : Task) (emitted : Option Emission) : Type 0 where
+pub record Responds (now : ℕ) (old : ServerState) (task : Task) (new : ServerState) (next : Task) (emitted : Option Emission) : Type 0 where
   pub front : new.front ≡ front_after (content_at task.stage) task.job emitted old.front now
-  pub task_is : next ≡ moved task (at_answer task.stage)
+  pub task_is : next ≡ task_moved task (at_answer task.stage)
   pub shards : new.shards ≡ old.shards
   pub emits : AnswerEmits (content_at task.stage) task.job (advanced old.front now) emitted

@@ -8,14 +8,14 @@ use Rattle.fc_core.specs.History.{Seen, and_then, did, task_at}
 use Rattle.fc_core.specs.Legal.{AnswerEmits, Emits, TakesMeaning}
 use Rattle.fc_core.specs.Receiving.{after_received, brought, next_opening, received, sent}
 use Rattle.fc_core.specs.Sound.{AllSafe}
-use Rattle.fc_core.specs.Stages.{at_answer, content_at, moved, new_task, row}
+use Rattle.fc_core.specs.Stages.{at_answer, content_at, task_moved, new_task, row}
 use Rattle.fc_server.specs.Agreement.{Agrees, Parts}
 use Rattle.fc_server.specs.States.{front_after, scene_in, shards_moved}
 
 -- an event on the job of this number
 pub record Moves (e : Event) (k : ℕ) (old new : Parts) : Type 0 where
   pub front : new.front ≡ old.front
-  pub tasks : new.tasks ≡ slice_set old.tasks k (moved (task_at old.tasks k) (row e (scene_in old.shards (task_at old.tasks k))))
+  pub tasks : new.tasks ≡ slice_set old.tasks k (task_moved (task_at old.tasks k) (row e (scene_in old.shards (task_at old.tasks k))))
   pub shards : new.shards ≡ shards_moved (row e (scene_in old.shards (task_at old.tasks k))) (task_at old.tasks k).job.origin.slot old.shards
   pub safe : AllSafe (row e (scene_in old.shards (task_at old.tasks k))).changes
 
@@ -28,7 +28,7 @@ pub record DeliveredTo (now : ℕ) (to : Endpoint) (bytes : List ℕ) (old new :
 
 pub record AnsweredTo (k now : ℕ) (old new : Parts) (emitted : Option Emission) : Type 0 where
   pub front : new.front ≡ front_after (content_at (task_at old.tasks k).stage) (task_at old.tasks k).job emitted old.front now
-  pub tasks : new.tasks ≡ slice_set old.tasks k (moved (task_at old.tasks k) (at_answer (task_at old.tasks k).stage))
+  pub tasks : new.tasks ≡ slice_set old.tasks k (task_moved (task_at old.tasks k) (at_answer (task_at old.tasks k).stage))
   pub shards : new.shards ≡ old.shards
   pub emits : AnswerEmits (content_at (task_at old.tasks k).stage) (task_at old.tasks k).job (advanced old.front now) emitted
 

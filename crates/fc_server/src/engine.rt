@@ -8,7 +8,7 @@ ghost use Rattle.fc_core.specs.declared.event.Event.{Event};
 ghost use Rattle.fc_core.specs.Exchanges.{advanced};
 ghost use Rattle.fc_core.specs.History.{Begins};
 ghost use Rattle.fc_core.specs.Receiving.{delivered, emission_if};
-ghost use Rattle.fc_server.specs.Serving.{Hears, IsBegun, IsServed, Passes, Serves, WorksOff};
+ghost use Rattle.fc_server.specs.Serving.{Hears, IsBegun, IsReachable, Passes, Serves, WorksOff};
 
 use crate::server::Server;
 use coap_msg::{Emission, Endpoint};
@@ -27,13 +27,13 @@ pub struct Engine {
 
 impl Model for Engine {
     ghost use Rattle.fc_server.specs.States.{ServerState};
-    ghost use Rattle.fc_server.specs.Serving.{IsServed};
+    ghost use Rattle.fc_server.specs.Serving.{IsReachable};
 
     ghost Value = { ServerState };
 
     ghost view = { λ e. e.server };
 
-    ghost invariant = { λ e. IsServed e.server };
+    ghost invariant = { λ e. IsReachable e.server };
 }
 
 impl Engine {
@@ -95,7 +95,7 @@ fn hear(
     bytes: &[u8],
     reply: &mut Emission,
 ) -> bool
-    requires { IsServed server.old }
+    requires { IsReachable server.old }
     ensures { Hears now (Event.Deliver now endpoint bytes.entry) (delivered (advanced server.old.front now) endpoint bytes.now)
         server.old server.new (emission_if result reply.new) }
 {

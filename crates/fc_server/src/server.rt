@@ -6,7 +6,7 @@ ghost use Rattle.fc_core.specs.declared.event.Event.{Event};
 ghost use Rattle.fc_core.specs.Exchanges.{advanced};
 ghost use Rattle.fc_core.specs.Ids.{first_ids};
 ghost use Rattle.fc_core.specs.Receiving.{after_delivered, delivered, emission_if, heard};
-ghost use Rattle.fc_server.specs.States.{Answers, AtWork, Does};
+ghost use Rattle.fc_server.specs.States.{Responds, AtWork, Does};
 
 use coap_msg::{Emission, Endpoint};
 use fc_core::front::blank_emission;
@@ -145,7 +145,7 @@ impl Server {
     /// A task is answered at a moment in milliseconds, where it stands there: what is sent.
     pub fn answer(&mut self, now: u64, task: &mut Task) -> Option<Emission>
         requires { AtWork self.old task.old }
-        ensures { Answers now self.old task.old self.new task.new result }
+        ensures { Responds now self.old task.old self.new task.new result }
     {
         let mut reply = blank_emission();
         if self.respond(now, task, &mut reply) {
@@ -159,7 +159,7 @@ impl Server {
     /// emission. Tells whether anything is sent.
     pub fn respond(&mut self, now: u64, task: &mut Task, reply: &mut Emission) -> bool
         requires { AtWork self.old task.old }
-        ensures { Answers now self.old task.old self.new task.new (emission_if result reply.new) }
+        ensures { Responds now self.old task.old self.new task.new (emission_if result reply.new) }
     {
         let Some(answer) = task.answer() else {
             return false;

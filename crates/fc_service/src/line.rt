@@ -63,7 +63,8 @@ fn fields(text: &[u8]) -> Option<(&[u8], &[u8], &[u8])>
 
 // What stands before the first space, and what stands behind it.
 fn cut(text: &[u8]) -> Option<(&[u8], &[u8])>
-    ensures { MatchOption result (IsUnspaced text.now) (λ parts. (text.now ≡ parts.0.now ++ (space ∷ parts.1.now)) × IsUnspaced parts.0.now) }
+    ensures { MatchOption result (IsUnspaced text.now)
+        (λ parts. (text.now ≡ parts.0.now ++ (space ∷ parts.1.now)) × IsUnspaced parts.0.now) }
 {
     let at = text.iter().position(|byte| *byte == b' ')?;
     Some((&text[..at], &text[at + 1..]))

@@ -11,7 +11,7 @@ use Rattle.fc_core.specs.History.{Begins, Entry, History, Then, did, history_aft
 use Rattle.fc_core.specs.Legal.{AllMean, IsLegal}
 use Rattle.fc_core.specs.declared.stage.Task.{Task}
 use Rattle.fc_server.specs.Agreement.{Agrees, Parts}
-use Rattle.fc_server.specs.Serving.{Serves, parts_of}
+use Rattle.fc_server.specs.Serving.{Serves, with_tasks}
 use Rattle.fc_server.specs.States.{ServerState}
 use Rattle.fc_server.specs.Steps.{Step}
 
@@ -24,12 +24,12 @@ pub record RunsTo (es : List Event) (i : ℕ) (os : List (Option Emission)) (w :
   pub first : (seen (history_of (take i es) os)).first_serial ≡ 0
 
 -- nothing is carried out yet
-pub starts : (es : List Event) (os : List (Option Emission)) (s : ServerState) (tasks : List Task) → os ≡ [] → Serves (Begins 0 0) s [] → tasks ≡ [] → RunsTo es 0 os (parts_of s tasks)
+pub starts : (es : List Event) (os : List (Option Emission)) (s : ServerState) (tasks : List Task) → os ≡ [] → Serves (Begins 0 0) s [] → tasks ≡ [] → RunsTo es 0 os (with_tasks s tasks)
 unfolding seen
 starts es os s tasks fresh v none =
-    let started : RunsTo es 0 [] (parts_of s []) = record { long = refl; legal = v.legal; means = v.means; agrees = v.agrees; first = refl } in
-    let later : RunsTo es 0 [] (parts_of s tasks) = subst (λ (ts : List Task). RunsTo es 0 [] (parts_of s ts)) (sym none) started in
-    subst (λ (xs : List (Option Emission)). RunsTo es 0 xs (parts_of s tasks)) (sym fresh) later
+    let started : RunsTo es 0 [] (with_tasks s []) = record { long = refl; legal = v.legal; means = v.means; agrees = v.agrees; first = refl } in
+    let later : RunsTo es 0 [] (with_tasks s tasks) = subst (λ (ts : List Task). RunsTo es 0 [] (with_tasks s ts)) (sym none) started in
+    subst (λ (xs : List (Option Emission)). RunsTo es 0 xs (with_tasks s tasks)) (sym fresh) later
 
 -- one more event
 history_snoc : (h : History) (es : List Event) (os : List (Option Emission)) (e : Event) (o : Option Emission) → length es ≡ length os → history_after h (es ++ e ∷ []) (os ++ o ∷ []) ≡ Then (history_after h es os) (did e o)

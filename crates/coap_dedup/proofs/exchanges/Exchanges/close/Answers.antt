@@ -4,7 +4,7 @@ use Rattle.std.specs.Option.{MatchOption}
 use Rattle.coap_dedup.specs.declared.exchange.Opened.{Opened}
 use Rattle.coap_dedup.specs.declared.exchange.Kept.{Kept}
 use Rattle.coap_dedup.specs.Exchanges.{Exchange, Table, answered, closing, is_open}
-use Rattle.coap_dedup.specs.Views.{IsGone, IsNumbered, as_exchange, is_recent}
+use Rattle.coap_dedup.specs.Views.{IsGone, IsNumbered, as_exchange, request_is_live}
 use Rattle.coap_dedup.proofs.Places.{none_answered, none_held, none_open, numbered_from, one_answered, one_open, too_old}
 use Rattle.coap_dedup.proofs.exchanges.Exchanges.close.Goals as goal
 

@@ -3,7 +3,7 @@ use Rattle.std.specs.Prelude.{filter}
 use Rattle.circular_buffer.specs.Buffer.{Buffer, buffer}
 use Rattle.coap_dedup.specs.declared.exchange.Opened.{Opened}
 use Rattle.coap_dedup.specs.Exchanges.{Exchange, Table, expired}
-use Rattle.coap_dedup.specs.Views.{IsArrived, as_exchange, is_recent}
+use Rattle.coap_dedup.specs.Views.{IsArrived, as_exchange, request_is_live}
 use Rattle.coap_dedup.proofs.Arrival.{expired_arrived, fewer, filter_seen}
 use Rattle.coap_dedup.proofs.exchanges.Exchanges.expire.Goals as goal
 
@@ -15,7 +15,7 @@ invariant_of-self c =
     let capacity = ap (λ (b : Buffer Opened). b.capacity) c.expire.ensures in
     let few = fewer c.self.inside.opened c.self.inside.now c.args.now c.self.inside.requests.items le inv.3 in
     let low = inv.1 in
-    let long : length c.expire.new.requests.items ≡ length (filter (is_recent c.args.now) c.self.inside.requests.items) = ap length items in
+    let long : length c.expire.new.requests.items ≡ length (filter (request_is_live c.args.now) c.self.inside.requests.items) = ap length items in
     (capacity ∙ inv.0, omega (arith, few, low, long), inv.2, subst (IsArrived c.args.now c.self.inside.opened) (sym items) (expired_arrived c.self.inside.opened c.self.inside.now c.args.now c.self.inside.requests.items le inv.3))
 
 pub returns : goal.returns

@@ -3,8 +3,8 @@ use Rattle.std.proofs.lemmas.List.{length-map}
 use Rattle.std.specs.Prelude.{find}
 use Rattle.coap_dedup.specs.declared.exchange.Kept.{Kept}
 use Rattle.coap_dedup.specs.declared.exchange.Opened.{Opened}
-use Rattle.coap_dedup.specs.Exchanges.{Exchange, Look, Table, expired, has_room, look_at, looked, repeated_by}
-use Rattle.coap_dedup.specs.Looks.{seen}
+use Rattle.coap_dedup.specs.Exchanges.{Exchange, Look, Table, expired, has_room, look_at, new_or_full, repeated_by}
+use Rattle.coap_dedup.specs.Looks.{look_of}
 use Rattle.coap_dedup.specs.Views.{answer_if, as_exchange, is_from, kept_at}
 use Rattle.coap_dedup.proofs.Places.{found_look, look_seen}
 use Rattle.coap_dedup.proofs.exchanges.Exchanges.look.Goals as goal
@@ -17,11 +17,11 @@ returns-clause-looked c =
     let room = has_room (length (map (as_exchange kept) os)) c.self.inside.opened in
     let looks : found_look kept c.find.result room ≡ look_at (expired c.args.self.now c.args.now) c.args.endpoint c.args.id =
     ap (λ (o : Option Opened). found_look kept o room) c.find.ensures ∙ (sym (look_seen kept c.args.endpoint c.args.id room os) ∙ ap (λ (t : Table). look_at t c.args.endpoint c.args.id) (c.self.view_is ∙ c.expire.ensures)) in
-    let tells : seen c.match-find.result ≡ found_look kept c.find.result room = elim c.match-find.branch [
+    let tells : look_of c.match-find.result ≡ found_look kept c.find.result room = elim c.match-find.branch [
       | in-Some w ↦
           (let o = w.in-Some.opened in
-          ap seen w.result-is ∙ (w.repeat.ensures ∙ (ap (λ (k : Kept). repeated_by o.confirmable (answer_if k.answered k.bytes)) w.answer_of.ensures ∙ ap (λ (x : Option Opened). found_look kept x room) (sym w.in-Some.is))))
+          ap look_of w.result-is ∙ (w.repeat.ensures ∙ (ap (λ (k : Kept). repeated_by o.confirmable (answer_if k.answered k.bytes)) w.answer_of.ensures ∙ ap (λ (x : Option Opened). found_look kept x room) (sym w.in-Some.is))))
       | in-None w ↦
-          ap seen w.result-is ∙ (w.new_in.ensures ∙ (ap (λ (n : ℕ). looked (has_room n c.self.inside.opened)) (w.len.ensures.len ∙ sym (length-map os (as_exchange kept))) ∙ ap (λ (x : Option Opened). found_look kept x room) (sym w.in-None.is)))
+          ap look_of w.result-is ∙ (w.new_in.ensures ∙ (ap (λ (n : ℕ). new_or_full (has_room n c.self.inside.opened)) (w.len.ensures.len ∙ sym (length-map os (as_exchange kept))) ∙ ap (λ (x : Option Opened). found_look kept x room) (sym w.in-None.is)))
     ] in
     tells ∙ looks

@@ -1,7 +1,7 @@
 use Rattle.std.proofs.Common.{◌≡◌, ℕ, ◌/◌, ◌∙◌, ap, subst, sym}
 use Rattle.fc_registry.specs.Slots.{Slot, slot_in}
 use Rattle.fc_registry.specs.Changes.{after_changes}
-use Rattle.fc_registry.specs.Calls.{put}
+use Rattle.fc_registry.specs.Calls.{install_in}
 use Rattle.fc_registry.specs.Record.{IsRing}
 use Rattle.fc_registry.specs.Views.{as_seen}
 use Rattle.fc_registry.proofs.Rings.{written_rings, ring_put}
@@ -15,15 +15,15 @@ found c =
     ∙ ap (λ (j : ℕ). slot_in_place c.args.self.now j) c.place.ensures.place
 
 pub returns-clause-answer : goal.returns-clause-answer
-returns-clause-answer c = c.install.ensures.answer ∙ ap (λ (s : Slot). (put s c.args.program.value).answer) (found c)
+returns-clause-answer c = c.install.ensures.answer ∙ ap (λ (s : Slot). (install_in s c.args.program.value).answer) (found c)
 
 pub returns-clause-slots : goal.returns-clause-slots
 returns-clause-slots c =
     let in_ = c.self.inside in
     slot_write in_.index in_.now in_.slots.items c.args.self.now c.self.view_is c.self.invariant.0 c.place.result in_.now c.args.self.now.now c.install.new.slot _
     (now_is in_.index in_.now in_.slots.items c.args.self.now c.self.view_is c.self.invariant.0)
-    (c.install.ensures.slot ∙ ap (λ (s : Slot). after_changes s (put s c.args.program.value).changes) (found c))
-    ∙ ap (λ (j : ℕ). written c.args.self.now c.args.self.now.now j (after_changes (slot_in c.args.self.now c.args.slot) (put (slot_in c.args.self.now c.args.slot) c.args.program.value).changes)) c.place.ensures.place
+    (c.install.ensures.slot ∙ ap (λ (s : Slot). after_changes s (install_in s c.args.program.value).changes) (found c))
+    ∙ ap (λ (j : ℕ). written c.args.self.now c.args.self.now.now j (after_changes (slot_in c.args.self.now c.args.slot) (install_in (slot_in c.args.self.now c.args.slot) c.args.program.value).changes)) c.place.ensures.place
 
 pub invariant_of-self : goal.invariant_of-self
 invariant_of-self c =
