@@ -1,4 +1,4 @@
-use Rattle.std.proofs.Common.{◌≡◌, ℕ, refl, sym, ap, ◌∙◌, rules, arith, length}
+use Rattle.std.proofs.Common.{◌≡◌, refl, ap, ◌∙◌, rules, length}
 use Rattle.fc_machine.specs.Steps.{spliced}
 use Rattle.fc_machine.proofs.Beginning.{start_stands}
 use Rattle.fc_machine.proofs.begin.begin.Goals as goal
