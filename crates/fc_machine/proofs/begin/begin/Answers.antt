@@ -1,4 +1,4 @@
-use Rattle.std.proofs.Common.{◌≡◌, refl, ap, ◌∙◌, rules, length}
+use Rattle.std.proofs.Common.{◌≡◌, ℕ, refl, sym, ap, ◌∙◌, rules, arith, length}
 use Rattle.fc_machine.specs.Steps.{spliced}
 use Rattle.fc_machine.proofs.Beginning.{start_stands}
 use Rattle.fc_machine.proofs.begin.begin.Goals as goal
@@ -9,4 +9,4 @@ returns-clause-stands c =
     let len : length c.args.state.now.memory ≡ 2384 = search rules in
     let count : length c.payload.result.now ≡ length q.payload = ap length c.payload.ensures.payload in
     start_stands q c.args.found.now c.args.state.now.memory c.clear.new.memory c.put_request.new.memory _ (length c.payload.result.now) len c.put_request.ensures.limit c.requires count refl
-    c.clear.ensures c.put_request.ensures.region (c.put.ensures ∙ ap (spliced c.put_request.new.memory 2128) c.as_slice.ensures)
+      c.clear.ensures c.put_request.ensures.region (c.put.ensures ∙ ap (spliced c.put_request.new.memory 2128) c.as_slice.ensures)

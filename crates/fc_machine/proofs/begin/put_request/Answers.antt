@@ -1,4 +1,5 @@
-use Rattle.std.proofs.Common.{◌≡◌, ap, ◌∙◌, rules, length}
+use Rattle.std.proofs.Common.{◌≡◌, refl, sym, ap, ◌∙◌, rules, arith, length, List, ℕ, [], ◌∷◌}
+use Rattle.std.specs.Int.{w16, to_le_bytes}
 use Rattle.fc_help.specs.Region.{method_number}
 use Rattle.fc_machine.specs.Steps.{spliced}
 use Rattle.fc_machine.proofs.Beginning.{head_is, request_put}
