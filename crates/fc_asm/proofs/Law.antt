@@ -17,7 +17,7 @@ use Rattle.fc_asm.specs.Names.{Text, name_of}
 use Rattle.fc_asm.specs.Operands.{Reading, map_ok, if_ok, both_of, extended, extension_from}
 use Rattle.fc_asm.specs.Listing.{register, operands_of, rest_of_line, line, line_of, listing}
 use Rattle.fc_asm.specs.Syntax.{lines_of, before_comment, split_words, words_of, named, insn_from, meaning, line_meaning}
-use Rattle.fc_asm.specs.Assembled.{slots_taken, slots_in, line_slots, mistake_in}
+use Rattle.fc_asm.specs.Assembled.{as_slots, slots_in, line_slots, mistake_in}
 use Rattle.fc_asm.proofs.Listed.{is_plain, is_word, are_words, joined, word_lacks, list_all-append, split_at, parts_last, parts_space, parts_joined}
 use Rattle.fc_asm.proofs.Named.{named_name}
 use Rattle.fc_asm.proofs.Operands.{register_means, target_means, imm_means, offset_means, wide_means, operand_means}
@@ -214,16 +214,16 @@ no_lines : IsListed (lines_of []) []
 unfolding lines_of line_meaning words_of
 no_lines = record { faultless = all_cons (λ l. mistake_in (line_meaning l) ≡ None) [] [] refl (λ k d l. absurd (omega arith)); slots = refl }
 
-line_more : (i : Insn) (m : Mnemonic) (rest : Text) (p : List Insn) → IsSpelled i m → IsListed (lines_of rest) p → IsListed (lines_of (line_of i ++ rest)) (slots_taken i ++ p)
+line_more : (i : Insn) (m : Mnemonic) (rest : Text) (p : List Insn) → IsSpelled i m → IsListed (lines_of rest) p → IsListed (lines_of (line_of i ++ rest)) (as_slots i ++ p)
 line_more i m rest p s h =
-    let P : List Text → Type 0 = λ ls. IsListed ls (slots_taken i ++ p) in
+    let P : List Text → Type 0 = λ ls. IsListed ls (as_slots i ++ p) in
     let means = body_means i m s in
     subst P (sym (first_line i m rest s)) (record {
       faultless = all_cons (λ l. mistake_in (line_meaning l) ≡ None) (body m (operands_of i)) (lines_of rest) (ap mistake_in means) h.faultless;
-      slots = ap (λ r. slots_in r ++ flat_map line_slots (lines_of rest)) means ∙ ap (λ q. slots_taken i ++ q) h.slots;
+      slots = ap (λ r. slots_in r ++ flat_map line_slots (lines_of rest)) means ∙ ap (λ q. as_slots i ++ q) h.slots;
     })
 
-insn_more : (i : Insn) (rest : Text) (p : List Insn) → IsInsn i → (i ≡ WideSecond → ⊥) → IsListed (lines_of rest) p → IsListed (lines_of (line_of i ++ rest)) (slots_taken i ++ p)
+insn_more : (i : Insn) (rest : Text) (p : List Insn) → IsInsn i → (i ≡ WideSecond → ⊥) → IsListed (lines_of rest) p → IsListed (lines_of (line_of i ++ rest)) (as_slots i ++ p)
 insn_more i rest p h n = let s = spelled i h n in line_more i s.0 rest p s.1
 
 law : (p : List Insn) → is_program p ≡ true → All IsInsn p → IsListed (lines_of (listing p)) p

@@ -9,7 +9,7 @@ use Rattle.fc_asm.specs.declared.mnemonic.Mnemonic.TheVariants as mnemonic
 use Rattle.fc_asm.specs.Names.{Text, mnemonic_named}
 use Rattle.fc_asm.specs.Operands.{Reading, map_ok, if_ok}
 use Rattle.fc_asm.specs.Syntax.{one_of, two_of, three_of, insn_from, named, meaning, line_meaning, words_of}
-use Rattle.fc_asm.specs.Assembled.{slots_taken, slots_in, line_slots}
+use Rattle.fc_asm.specs.Assembled.{as_slots, slots_in, line_slots}
 
 -- it stands first in a line's slots
 abbrev leads : Insn → Bool
@@ -56,7 +56,7 @@ meaning_leads : (ws : List Text) (i : Insn) → meaning ws ≡ Ok (Some i) → l
 meaning_leads [] i h = absurd (cc h)
 meaning_leads (name ∷ ops) i h = named_leads (mnemonic_named name) ops i h
 
-slots_program : (i : Insn) (p : List Insn) → leads i ≡ true → is_program (slots_taken i ++ p) ≡ is_program p
+slots_program : (i : Insn) (p : List Insn) → leads i ≡ true → is_program (as_slots i ++ p) ≡ is_program p
 slots_program WideSecond p h = absurd (cc h)
 slots_program other p h = refl
 

@@ -18,12 +18,12 @@ abbrev pub second_slot : Insn → Option Insn
 second_slot (LoadWide dst value) = Some WideSecond
 second_slot other = None
 
-abbrev pub slots_taken : Insn → List Insn
-slots_taken i = i ∷ option_to_list (second_slot i)
+abbrev pub as_slots : Insn → List Insn
+as_slots i = i ∷ option_to_list (second_slot i)
 
 -- the slots of what a line means
 abbrev pub slots_in : Reading (Option Insn) → List Insn
-slots_in (Ok (Some i)) = slots_taken i
+slots_in (Ok (Some i)) = as_slots i
 slots_in other = []
 
 abbrev pub line_slots : Text → List Insn

@@ -3,7 +3,7 @@ use Rattle.std.specs.Prelude.{◌≡◌, ℕ, ◌-◌, ◌≤◌, List, [], ◌�
 use Rattle.std.specs.Int.{w16, to_le_bytes}
 use Rattle.fc_help.specs.declared.request.Method.{Method}
 use Rattle.fc_help.specs.declared.request.Method.TheVariants.{Get, Post}
-use Rattle.fc_help.specs.Request.{Request}
+use Rattle.fc_help.specs.Request.{Request, request_with}
 
 abbrev pub method_number : Method → ℕ
 method_number Get = 1
@@ -24,8 +24,8 @@ padded size bytes = bytes ++ replicate (size - length bytes) 0
 
 -- the first 16 bytes: the method, the slot, the payload's length in two bytes, the Content-Format in two, whether it is said, the
 -- query's length, and eight zeros; numbers have their least byte first
-abbrev pub head_of : Request → List ℕ
-head_of r =
+abbrev pub region_head : Request → List ℕ
+region_head r =
     method_number r.method ∷ r.slot
     ∷ slice_index (to_le_bytes w16 (length r.payload)) 0 ∷ slice_index (to_le_bytes w16 (length r.payload)) 1
     ∷ slice_index (to_le_bytes w16 (format_number r.content_format)) 0 ∷ slice_index (to_le_bytes w16 (format_number r.content_format)) 1
@@ -33,20 +33,24 @@ head_of r =
 
 -- then 64 bytes for the query, and 1,024 for the payload
 unfoldable pub region_of : Request → List ℕ
-region_of r = head_of r ++ (padded 64 r.query ++ padded 1024 r.payload)
+region_of r = region_head r ++ (padded 64 r.query ++ padded 1024 r.payload)
 
 -- a request whose query and payload fit into its region
 pub record FitsRegion (r : Request) : Type 0 where
   pub query : length r.query ≤ 64
   pub payload : length r.payload ≤ 1024
 
--- the region is this request's, whose query and payload have these sizes
-pub record IsLaidOut (r : Request) (query payload : ℕ) (region : List ℕ) : Type 0 where
-  pub region_is : region ≡ region_of r
-  pub fits : FitsRegion r
-  pub query_is : length r.query ≡ query
-  pub payload_is : length r.payload ≡ payload
-
 -- a part of the region
 abbrev pub part_at : List ℕ → ℕ → ℕ → List ℕ
 part_at region at size = take size (drop at region)
+
+-- the request whose query and payload, of these sizes, stand in the region
+abbrev pub read_from : Method → ℕ → Option ℕ → ℕ → ℕ → List ℕ → Request
+read_from method slot content_format query payload region = request_with method slot content_format (part_at region 16 query) (part_at region 80 payload)
+
+-- the region is that request's
+pub record IsLaidOut (method : Method) (slot : ℕ) (content_format : Option ℕ) (query payload : ℕ) (region : List ℕ) : Type 0 where
+  pub region_is : region ≡ region_of (read_from method slot content_format query payload region)
+  pub fits : FitsRegion (read_from method slot content_format query payload region)
+  pub query_is : length (part_at region 16 query) ≡ query
+  pub payload_is : length (part_at region 80 payload) ≡ payload

@@ -1,6 +1,7 @@
 //! The request that a program answers.
 ghost use Rattle.std.specs.Prelude.{◌≡◌, ◌+◌, ◌++◌, ◌≤◌, ◌↔◌, length, IsTrue};
-ghost use Rattle.fc_help.specs.Region.{FitsRegion, head_of, method_number, padded, region_of};
+ghost use Rattle.fc_help.specs.Request.{request_with};
+ghost use Rattle.fc_help.specs.Region.{FitsRegion, region_head, method_number, padded, region_of};
 
 use arrayvec::ArrayVec;
 use std::marker::Model;
@@ -43,14 +44,14 @@ pub struct Request {
 }
 
 impl Model for Request {
-    ghost use Rattle.fc_help.specs.Region.{IsLaidOut, part_at};
+    ghost use Rattle.fc_help.specs.Region.{IsLaidOut, read_from};
     ghost use Rattle.fc_help.specs.Request.{Request as Stated};
 
     ghost Value = { Stated };
 
-    ghost view = { λ r. record { method = r.method; slot = r.slot; content_format = r.content_format; query = part_at r.region.items 16 r.query_size; payload = part_at r.region.items 80 r.payload_size } };
+    ghost view = { λ r. read_from r.method r.slot r.content_format r.query_size r.payload_size r.region.items };
 
-    ghost invariant = { λ r. IsLaidOut (record { method = r.method; slot = r.slot; content_format = r.content_format; query = part_at r.region.items 16 r.query_size; payload = part_at r.region.items 80 r.payload_size }) r.query_size r.payload_size r.region.items };
+    ghost invariant = { λ r. IsLaidOut r.method r.slot r.content_format r.query_size r.payload_size r.region.items };
 }
 
 /// Zeros to pad with.
@@ -77,7 +78,7 @@ fn head(
 ) -> [u8; HEAD]
     requires query { length query.now ≤ QUERY }
     requires payload { length payload.now ≤ PAYLOAD }
-    ensures { result ≡ head_of (record { method = method; slot = slot; content_format = content_format; query = query.now; payload = payload.now }) }
+    ensures { result ≡ region_head (request_with method slot content_format query.now payload.now) }
 {
     let method = method_byte(method);
     let length = (payload.len() as u16).to_le_bytes();
@@ -112,7 +113,7 @@ impl Request {
     ) -> Self
         requires query { length query.now ≤ QUERY }
         requires payload { length payload.now ≤ PAYLOAD }
-        ensures { result ≡ record { method = method; slot = slot; content_format = content_format; query = query.now; payload = payload.now } }
+        ensures { result ≡ request_with method slot content_format query.now payload.now }
     {
         let mut region = ArrayVec::new();
         let _fits = region.try_extend_from_slice(&head(

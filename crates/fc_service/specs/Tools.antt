@@ -8,15 +8,15 @@ use Rattle.fc_asm.specs.Assembled.{IsAssembled}
 use Rattle.fc_asm.specs.Listing.{listing}
 
 -- the header of a program
-abbrev pub head_of : ℕ → ℕ → List Insn → Head
-head_of vars_size budget program = record { vars_size = vars_size; count = length program; budget = budget }
+abbrev pub program_head : ℕ → ℕ → List Insn → Head
+program_head vars_size budget program = record { vars_size = vars_size; count = length program; budget = budget }
 
 -- the text is assembled to a program, and the image is its header and its slots
 pub record IsImageOf (text : List ℕ) (vars_size budget : ℕ) (image : List ℕ) : Type 0 where
   pub program : List Insn
   pub assembled : IsAssembled (lines_of text) program
-  pub limits : limit_fault (head_of vars_size budget program) ≡ None
-  pub bytes_are : image ≡ head_bytes (head_of vars_size budget program) ++ encoded program
+  pub limits : limit_fault (program_head vars_size budget program) ≡ None
+  pub bytes_are : image ≡ head_bytes (program_head vars_size budget program) ++ encoded program
 
 -- the image's slots spell a program, and the text is its listing
 pub record IsListingOf (image text : List ℕ) : Type 0 where
