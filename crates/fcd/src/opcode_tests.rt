@@ -4,8 +4,8 @@ use fc_isa::{decode, encode};
 use std::process::Abort;
 use std::test::Fail;
 
-// A line of each opcode.
-static OPCODES: [(&[u8], &str); 117] = [
+// Arithmetic of 32 bits, with an immediate and with a register.
+static ARITHMETIC_OF_32_BITS: [(&[u8], &str); 24] = [
     (b"\x04\x01\x00\x00\xfd\xff\xff\xff", "add32 r1, -3\n"),
     (b"\x0c\x41\x00\x00\x00\x00\x00\x00", "add32 r1, r4\n"),
     (b"\x14\x02\x00\x00\xfa\xff\xff\xff", "sub32 r2, -6\n"),
@@ -30,6 +30,10 @@ static OPCODES: [(&[u8], &str); 117] = [
     (b"\xbc\x41\x00\x00\x00\x00\x00\x00", "mov32 r1, r4\n"),
     (b"\xc4\x02\x00\x00\xd9\xff\xff\xff", "arsh32 r2, -39\n"),
     (b"\xcc\x52\x00\x00\x00\x00\x00\x00", "arsh32 r2, r5\n"),
+];
+
+// Arithmetic of 64 bits.
+static ARITHMETIC_OF_64_BITS: [(&[u8], &str); 24] = [
     (b"\x07\x03\x00\x00\xfd\xff\xff\xff", "add64 r3, -3\n"),
     (b"\x0f\x63\x00\x00\x00\x00\x00\x00", "add64 r3, r6\n"),
     (b"\x17\x04\x00\x00\xfa\xff\xff\xff", "sub64 r4, -6\n"),
@@ -54,13 +58,10 @@ static OPCODES: [(&[u8], &str); 117] = [
     (b"\xbf\x63\x00\x00\x00\x00\x00\x00", "mov64 r3, r6\n"),
     (b"\xc7\x04\x00\x00\xd9\xff\xff\xff", "arsh64 r4, -39\n"),
     (b"\xcf\x74\x00\x00\x00\x00\x00\x00", "arsh64 r4, r7\n"),
-    (b"\x84\x03\x00\x00\x00\x00\x00\x00", "neg32 r3\n"),
-    (b"\x87\x04\x00\x00\x00\x00\x00\x00", "neg64 r4\n"),
-    (b"\xd4\x05\x00\x00\x10\x00\x00\x00", "le16 r5\n"),
-    (b"\xdc\x06\x00\x00\x20\x00\x00\x00", "be32 r6\n"),
-    (b"\xd7\x07\x00\x00\x40\x00\x00\x00", "swap64 r7\n"),
-    (b"\x05\x00\xfe\xff\x00\x00\x00\x00", "ja -2\n"),
-    (b"\x06\x00\x00\x00\x70\x11\x01\x00", "ja32 70000\n"),
+];
+
+// Conditional jumps that compare whole registers.
+static JUMPS_BY_WHOLE_REGISTERS: [(&[u8], &str); 22] = [
     (b"\x15\x05\x01\x00\xdf\xff\xff\xff", "jeq r5, -33, 1\n"),
     (b"\x1d\xa5\xff\xff\x00\x00\x00\x00", "jeq r5, r10, -1\n"),
     (b"\x25\x06\x02\x00\xe6\xff\xff\xff", "jgt r6, -26, 2\n"),
@@ -83,6 +84,10 @@ static OPCODES: [(&[u8], &str); 117] = [
     (b"\xcd\x94\xf4\xff\x00\x00\x00\x00", "jslt r4, r9, -12\n"),
     (b"\xd5\x05\x0d\x00\x33\x00\x00\x00", "jsle r5, 51, 13\n"),
     (b"\xdd\xa5\xf3\xff\x00\x00\x00\x00", "jsle r5, r10, -13\n"),
+];
+
+// Conditional jumps that compare the low halves.
+static JUMPS_BY_LOW_HALVES: [(&[u8], &str); 22] = [
     (b"\x16\x06\x01\x00\xdf\xff\xff\xff", "jeq32 r6, -33, 1\n"),
     (b"\x1e\x06\xff\xff\x00\x00\x00\x00", "jeq32 r6, r0, -1\n"),
     (b"\x26\x07\x02\x00\xe6\xff\xff\xff", "jgt32 r7, -26, 2\n"),
@@ -105,12 +110,10 @@ static OPCODES: [(&[u8], &str); 117] = [
     (b"\xce\xa5\xf4\xff\x00\x00\x00\x00", "jslt32 r5, r10, -12\n"),
     (b"\xd6\x06\x0d\x00\x33\x00\x00\x00", "jsle32 r6, 51, 13\n"),
     (b"\xde\x06\xf3\xff\x00\x00\x00\x00", "jsle32 r6, r0, -13\n"),
-    (b"\x85\x00\x00\x00\x03\x00\x00\x00", "call 3\n"),
-    (b"\x95\x00\x00\x00\x00\x00\x00\x00", "exit\n"),
-    (
-        b"\x18\x08\x00\x00\x05\x00\x00\x00\x00\x00\x00\x00\x02\x00\x00\x00",
-        "lddw r8, 8589934597\n",
-    ),
+];
+
+// Loads and stores.
+static MEMORY: [(&[u8], &str); 15] = [
     (b"\x61\xa1\xf8\xff\x00\x00\x00\x00", "ldxw r1, r10, -8\n"),
     (b"\x69\xa1\xf0\xff\x00\x00\x00\x00", "ldxh r1, r10, -16\n"),
     (b"\x71\xa1\xe8\xff\x00\x00\x00\x00", "ldxb r1, r10, -24\n"),
@@ -126,6 +129,23 @@ static OPCODES: [(&[u8], &str); 117] = [
     (b"\x6b\x72\x08\x00\x00\x00\x00\x00", "stxh r2, 8, r7\n"),
     (b"\x73\x72\x10\x00\x00\x00\x00\x00", "stxb r2, 16, r7\n"),
     (b"\x7b\x72\x18\x00\x00\x00\x00\x00", "stxdw r2, 24, r7\n"),
+];
+
+// Negation, byte order, jumps without a condition, calls, the exit and the wide load.
+static OTHERS: [(&[u8], &str); 10] = [
+    (b"\x84\x03\x00\x00\x00\x00\x00\x00", "neg32 r3\n"),
+    (b"\x87\x04\x00\x00\x00\x00\x00\x00", "neg64 r4\n"),
+    (b"\xd4\x05\x00\x00\x10\x00\x00\x00", "le16 r5\n"),
+    (b"\xdc\x06\x00\x00\x20\x00\x00\x00", "be32 r6\n"),
+    (b"\xd7\x07\x00\x00\x40\x00\x00\x00", "swap64 r7\n"),
+    (b"\x05\x00\xfe\xff\x00\x00\x00\x00", "ja -2\n"),
+    (b"\x06\x00\x00\x00\x70\x11\x01\x00", "ja32 70000\n"),
+    (b"\x85\x00\x00\x00\x03\x00\x00\x00", "call 3\n"),
+    (b"\x95\x00\x00\x00\x00\x00\x00\x00", "exit\n"),
+    (
+        b"\x18\x08\x00\x00\x05\x00\x00\x00\x00\x00\x00\x00\x02\x00\x00\x00",
+        "lddw r8, 8589934597\n",
+    ),
 ];
 
 // The forms that share an opcode, told apart by the offset, the immediate or the source.
@@ -161,18 +181,44 @@ fn check_listed<R: Abort + AllocGlobal>(rt: &R, bytes: &[u8], line: &str) -> Res
     Ok(())
 }
 
-#[test]
-fn each_opcode_is_listed_and_assembled(rt: HostRuntime) -> Result<(), Fail> {
-    for (bytes, line) in OPCODES.iter().copied() {
-        check_listed(&rt, bytes, line)?;
+fn check_rows<R: Abort + AllocGlobal>(rt: &R, rows: &[(&[u8], &str)]) -> Result<(), Fail> {
+    for (bytes, line) in rows.iter().copied() {
+        check_listed(rt, bytes, line)?;
     }
     Ok(())
 }
 
 #[test]
+fn arithmetic_of_32_bits_is_listed(rt: HostRuntime) -> Result<(), Fail> {
+    check_rows(&rt, ARITHMETIC_OF_32_BITS.as_slice())
+}
+
+#[test]
+fn arithmetic_of_64_bits_is_listed(rt: HostRuntime) -> Result<(), Fail> {
+    check_rows(&rt, ARITHMETIC_OF_64_BITS.as_slice())
+}
+
+#[test]
+fn jumps_by_whole_registers_are_listed(rt: HostRuntime) -> Result<(), Fail> {
+    check_rows(&rt, JUMPS_BY_WHOLE_REGISTERS.as_slice())
+}
+
+#[test]
+fn jumps_by_low_halves_are_listed(rt: HostRuntime) -> Result<(), Fail> {
+    check_rows(&rt, JUMPS_BY_LOW_HALVES.as_slice())
+}
+
+#[test]
+fn loads_and_stores_are_listed(rt: HostRuntime) -> Result<(), Fail> {
+    check_rows(&rt, MEMORY.as_slice())
+}
+
+#[test]
+fn other_opcodes_are_listed(rt: HostRuntime) -> Result<(), Fail> {
+    check_rows(&rt, OTHERS.as_slice())
+}
+
+#[test]
 fn forms_of_an_opcode_are_told_apart(rt: HostRuntime) -> Result<(), Fail> {
-    for (bytes, line) in FORMS.iter().copied() {
-        check_listed(&rt, bytes, line)?;
-    }
-    Ok(())
+    check_rows(&rt, FORMS.as_slice())
 }
