@@ -18,13 +18,13 @@ pub struct Outcome<'a> {
 }
 
 impl<'a> Model for Outcome<'a> {
-    ghost use Rattle.fc_machine.specs.Ran.{Ran, IsOutcome};
+    ghost use Rattle.fc_machine.specs.Ran.{IsOutcome, Ran, ran};
 
     ghost Value = { Ran };
 
-    ghost view = { λ o. record { program = o.program.now; request = o.request.now; found = o.found.now } };
+    ghost view = { λ o. ran o.program.now o.request.now o.found.now };
 
-    ghost invariant = { λ o. IsOutcome (record { program = o.program.now; request = o.request.now; found = o.found.now }) o.code o.after.now o.steps };
+    ghost invariant = { λ o. IsOutcome (ran o.program.now o.request.now o.found.now) o.code o.after.now o.steps };
 }
 
 impl<'a> Outcome<'a> {
