@@ -1,5 +1,5 @@
 //! The exchanges that are held.
-ghost use Rattle.std.specs.Prelude.{◌≡◌, ◌+◌, ◌<◌, ◌≤◌, [], ◌∷◌, ◌++◌, filter, find, length, map, IfOk, MatchOption};
+ghost use Rattle.std.specs.Prelude.{◌≡◌, ◌+◌, ◌<◌, ◌≤◌, [], filter, find, length, map, IfOk, MatchOption};
 ghost use Rattle.std.specs.List.{list_any};
 ghost use Rattle.circular_buffer.specs.Buffer.{buffer};
 ghost use Rattle.coap_dedup.specs.Exchanges.{is_open, answered, expired, look_at, new_or_full, has_room, repeated_by, IsNew, closing, opened};

@@ -1,5 +1,5 @@
 -- Each row keeps what is true of jobs and slots.
-use Rattle.std.proofs.Common.{◌≡◌, ℕ, ◌+◌, ◌<◌, ◌≤◌, List, [], ◌∷◌, ◌++◌, Bool, true, false, Option, Some, None, length, refl, sym, ap, ◌∙◌, subst, arith, if◌then◌else◌}
+use Rattle.std.proofs.Common.{◌≡◌, ℕ, ◌+◌, ◌<◌, ◌≤◌, List, [], ◌∷◌, ◌++◌, Bool, true, false, Option, Some, None, length, refl, sym, ap, subst, arith, if◌then◌else◌}
 use Rattle.std.proofs.lemmas.List.{length-replicate}
 use Rattle.std.specs.Prelude.{nat_lt, ◌==◌, ◌&&◌}
 use Rattle.std.proofs.lemmas.Bool.{eqb-true}
@@ -8,7 +8,7 @@ use Rattle.fc_help.specs.declared.request.Method.{Method}
 use Rattle.fc_help.specs.declared.request.Method.TheVariants.{Get, Post}
 use Rattle.fc_help.specs.Request.{Request}
 use Rattle.fc_help.specs.Region.{FitsRegion}
-use Rattle.fc_kinds.specs.Meaning.{Program, IsInput, meant}
+use Rattle.fc_kinds.specs.Meaning.{Program, IsInput}
 use Rattle.fc_verify.specs.Accepted.{Judgement, Accepts, Breaks, Untypable}
 use Rattle.fc_verify.specs.Judged.{judged}
 use Rattle.fc_registry.specs.declared.job.Ask.{Ask}
@@ -19,13 +19,13 @@ use Rattle.fc_registry.specs.declared.commit.CommitOutcome.TheVariants.{Writes, 
 use Rattle.fc_registry.specs.Slots.{Slot, Present, Ticket, last_serial}
 use Rattle.fc_registry.specs.Changes.{Change, Installed, Committed, Removed, changed, after_changes, with_vars}
 use Rattle.fc_registry.specs.Record.{IsChain, IsLink, code_class}
-use Rattle.fc_registry.specs.Calls.{HasGiven, commit_of, is_post, meaning_at, outcome, outcome_by, install_in, put_by, request_of, taking, ticket_of, wants}
+use Rattle.fc_registry.specs.Calls.{HasGiven, commit_of, is_post, meaning_at, outcome, outcome_by, put_by, request_of, taking, wants}
 use Rattle.fc_core.specs.declared.event.Event.{Event}
 use Rattle.fc_core.specs.declared.event.Event.TheVariants.{Take, Commit as Commits, Install, Raise, Answer, Lose}
 use Rattle.fc_core.specs.declared.stage.Stage.{Stage}
 use Rattle.fc_core.specs.declared.stage.Stage.TheVariants.{ToTake, ToCommit, ToInstall, ToRaise, ToAnswer, Gone}
 use Rattle.fc_core.specs.Contents.{Unavailable}
-use Rattle.fc_core.specs.Fits.{FitsPresent, FitsSlot, FitsStage, IsSafe, IsTicketOf}
+use Rattle.fc_core.specs.Fits.{FitsPresent, FitsSlot, FitsStage, IsTicketOf}
 use Rattle.fc_core.specs.Receiving.{AskWithin}
 use Rattle.fc_core.specs.Sound.{AllSafe}
 use Rattle.fc_core.specs.Stages.{Scene, committed, first_by, image_of, installed, made, receipt_of, row, took, verified}

@@ -26,11 +26,11 @@ use Rattle.fc_core.specs.declared.stage.Stage.{Stage}
 use Rattle.fc_core.specs.declared.stage.Task.{Task}
 use Rattle.fc_core.specs.Exchanges.{FrontState}
 use Rattle.fc_core.specs.Fits.{FitsSlot, FitsStage}
-use Rattle.fc_core.specs.History.{Entry, Seen, and_then, changes_after, front_at, job, no_task, received_at, scene, slot_at, stage, task_at, tasks_brought, tasks_moved}
+use Rattle.fc_core.specs.History.{Entry, Seen, and_then, changes_after, front_at, job, no_task, scene, slot_at, stage, task_at, tasks_brought, tasks_moved}
 use Rattle.fc_core.specs.Receiving.{AskWithin, JobWithin, Received, Opened, ask_by, brought, job_of, look_in, looked, next_opening, received, received_as, received_read, slot_of_resource}
 use Rattle.fc_core.specs.Receiving as x
 use Rattle.fc_core.specs.Sound.{AllSafe, IsSafelySeen, IsSound}
-use Rattle.fc_core.specs.Stages.{Move, task_moved, names, new_task, row}
+use Rattle.fc_core.specs.Stages.{task_moved, names, new_task, row}
 use Rattle.fc_core.proofs.Lists.{Each, appended_all, written_all}
 use Rattle.fc_core.proofs.Fitting.{after_changes-append, first_fits, fits_changed, row_chain, row_fits, row_safe}
 

@@ -12,7 +12,7 @@ use Rattle.fc_registry.specs.Slots.{Slot, Shard, slot_in, with_slot, new_slot}
 use Rattle.fc_core.specs.declared.stage.Stage.TheVariants.{ToAnswer}
 use Rattle.fc_core.specs.Contents.{Rejected}
 use Rattle.fc_core.specs.Ends.{refused_by}
-use Rattle.fc_core.specs.Stages.{Move, installed, moves}
+use Rattle.fc_core.specs.Stages.{installed, moves}
 
 -- the move of a refusal is the one that the judgement says
 pub rejected_move : (image : List ℕ) (j : Judgement) (f : Fault) (slot : Slot) → IsFaultOf image j f → moves (ToAnswer (refused_by (nat_lt (number_of f.rule) 20) f)) ≡ installed j slot

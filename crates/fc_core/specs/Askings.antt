@@ -1,5 +1,5 @@
 -- What is done about a request that is new, as it is seen.
-use Rattle.std.specs.Prelude.{ℕ, ◌<◌, ◌≤◌, length}
+use Rattle.std.specs.Prelude.{◌≤◌, length}
 use Rattle.coap_msg.specs.Wire.{Message}
 use Rattle.coap_opts.specs.Path.{IsResource}
 use Rattle.coap_opts.specs.Verdict.{Asked, asked_by}

@@ -1,5 +1,5 @@
 -- What is true of each job and its slot, at any history.
-use Rattle.std.specs.Prelude.{◌≡◌, ℕ, ◌<◌, ◌≤◌, length, Option, Some, None}
+use Rattle.std.specs.Prelude.{◌≡◌, ◌<◌, ◌≤◌, length, Option, Some, None}
 use Rattle.fc_image.specs.Paths.{IsLongest}
 use Rattle.fc_kinds.specs.Meaning.{Program, IsRunnable}
 use Rattle.fc_registry.specs.declared.job.Job.{Job}

@@ -18,7 +18,7 @@ use Rattle.fc_core.specs.Contents.{Content}
 use Rattle.fc_core.specs.Ids.{Ids, first_ids, drawn_for}
 use Rattle.fc_core.specs.Exchanges.{FrontState, opening_is_live}
 use Rattle.fc_core.specs.Receiving.{Received, received, opened_by, kept_of, drawn_by, brought, next_opening}
-use Rattle.fc_core.specs.Stages.{Scene, Move, names, new_task, scene_at, row, content_at, task_moved, handed}
+use Rattle.fc_core.specs.Stages.{Scene, names, new_task, scene_at, row, content_at, task_moved, handed}
 
 -- an event, and what it emitted
 pub record Entry : Type 0 where

@@ -15,7 +15,7 @@ use Rattle.fc_core.specs.Replies.{IsReplyTo}
 use Rattle.fc_core.specs.Exchanges.{FrontState, opening_is_live}
 use Rattle.fc_core.specs.Receiving.{sent, id_in}
 use Rattle.fc_core.specs.Stages.{Scene, content_at}
-use Rattle.fc_core.specs.History.{Entry, History, Begins, Then, Seen, seen, front_at, received_at, job, stage, scene}
+use Rattle.fc_core.specs.History.{History, Begins, Then, Seen, seen, front_at, received_at, job, stage, scene}
 
 -- a job's answer goes out while its exchange is live and a message id is free, and not after
 abbrev pub IsAnswered : Bool → Option ℕ → Job → Content → Option Emission → Type 0

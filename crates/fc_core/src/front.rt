@@ -412,7 +412,9 @@ fn replied(sent: bool) -> Heard
 }
 
 /// An emission that says nothing, to be written over.
-pub fn blank_emission() -> Emission {
+pub fn blank_emission() -> Emission
+    ensures { result.bytes.items ≡ [] }
+{
     Emission {
         to: Endpoint::default(),
         bytes: Datagram::new(),

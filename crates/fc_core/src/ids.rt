@@ -1,5 +1,5 @@
 //! The message ids of the server's own.
-ghost use Rattle.std.specs.Prelude.{◌≡◌, ◌<◌, ◌≤◌, IfOk, length};
+ghost use Rattle.std.specs.Prelude.{◌≡◌, ◌<◌, IfOk, length};
 ghost use Rattle.fc_core.specs.Ids.{first_ids, free_id, drawn, is_recent};
 
 use coap_dedup::exchange::WINDOW;

@@ -135,7 +135,9 @@ impl Task {
     }
 
     /// A task to be begun with a job that is written to it.
-    pub fn blank() -> Task {
+    pub fn blank() -> Task
+        ensures { result ≡ new_task result.job }
+    {
         Task::new(blank_job())
     }
 

@@ -5,7 +5,7 @@ use Rattle.std.proofs.lemmas.Bool.{lt-ltb, le-ltb, eqb-true, eq-eqb}
 use Rattle.fc_registry.specs.declared.commit.CommitOutcome.{CommitOutcome}
 use Rattle.fc_registry.specs.declared.commit.CommitOutcome.TheVariants.{Writes, Keeps, Overtakes, Ends}
 use Rattle.fc_registry.specs.Slots.{Slot, Ticket, last_serial}
-use Rattle.fc_registry.specs.Calls.{HasGiven, IsCurrent, ComesTo, outcome, outcome_by, wants}
+use Rattle.fc_registry.specs.Calls.{HasGiven, ComesTo, outcome, outcome_by, wants}
 
 decided : (t : Ticket) (slot : Slot) (w same below : Bool) → wants t ≡ w → (slot.serial == t.serial) ≡ same → nat_lt slot.serial last_serial ≡ below → outcome t slot ≡ outcome_by w same below
 decided t slot w same below e f g = λ i. outcome_by (e i) (f i) (g i)

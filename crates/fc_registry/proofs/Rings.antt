@@ -1,11 +1,11 @@
 -- The ring of a slot after a change.
-use Rattle.std.proofs.Common.{◌≡◌, ℕ, ◌+◌, ◌-◌, ◌<◌, ◌≤◌, min, List, [], ◌∷◌, ◌++◌, length, map, set, get_or, drop, replicate, Bool, true, false, if◌then◌else◌, Option, Some, None, refl, sym, ap, ◌∙◌, subst, arith, ⊎_elim, length-append}
+use Rattle.std.proofs.Common.{◌≡◌, ℕ, ◌+◌, ◌-◌, ◌<◌, ◌≤◌, List, [], ◌∷◌, ◌++◌, length, map, set, get_or, drop, replicate, Bool, true, false, if◌then◌else◌, Option, Some, refl, sym, ap, ◌∙◌, subst, arith, ⊎_elim, length-append}
 use Rattle.std.specs.Prelude.{nat_lt, ◌==◌, ◌&&◌}
 use Rattle.std.specs.List.{All}
 use Rattle.std.proofs.lemmas.Bool.{cases_lt, cases_eq, eqb-true}
 use Rattle.std.proofs.lemmas.List.{get_or-set_same, get_or-set_other, get_or-map, get_or-replicate, length-map, length-replicate, length-set}
 use Rattle.circular_buffer.specs.Buffer.{keep_last}
-use Rattle.fc_kinds.specs.Meaning.{Program, Meaning, meant}
+use Rattle.fc_kinds.specs.Meaning.{Program, meant}
 use Rattle.fc_machine.specs.Ran.{Ran}
 use Rattle.fc_registry.specs.declared.shard.SlotState.{SlotState}
 use Rattle.fc_registry.specs.declared.commit.Committed.{Committed as Answer}
@@ -15,7 +15,7 @@ use Rattle.fc_registry.specs.declared.commit.CommitOutcome.{CommitOutcome}
 use Rattle.fc_registry.specs.declared.commit.CommitOutcome.TheVariants.{Writes, Keeps, Overtakes, Ends}
 use Rattle.fc_help.specs.declared.request.Method.{Method}
 use Rattle.fc_help.specs.declared.request.Method.TheVariants.{Get, Post}
-use Rattle.fc_registry.specs.Calls.{IsCommit, IsOwnCommit, IsCommitOf, ComesTo, IsCurrent, commit_of, commits, is_post, wants, meaning_at, install_in, put_by}
+use Rattle.fc_registry.specs.Calls.{IsCommit, IsOwnCommit, ComesTo, IsCurrent, commit_of, commits, is_post, wants, meaning_at, install_in, put_by}
 use Rattle.fc_registry.specs.declared.ring.Entry.{Entry}
 use Rattle.fc_registry.specs.Slots.{Slot, Present, Ticket, new_slot, last_serial}
 use Rattle.fc_registry.specs.Changes.{Change, Installed, Committed, Removed, Commit, after_changes, changed, with_vars, entry_of}

@@ -1,6 +1,6 @@
 -- Eight shards as sixty-four slots.
 use Rattle.std.specs.Prelude.{◌≡◌, ◌<◌, length, ℕ, zero, suc, ◌%◌, List, [], ◌∷◌, ◌++◌, replicate, slice_index_or, slice_set}
-use Rattle.fc_registry.specs.Slots.{Slot, Shard, slot_in, with_slot, new_slot}
+use Rattle.fc_registry.specs.Slots.{Slot, Shard, slot_in, new_slot}
 
 abbrev pub no_shard : Shard
 no_shard = record { index = 0; now = 0; slots = [] }

@@ -15,7 +15,7 @@ use Rattle.fc_core.specs.Fits.{FitsStage}
 use Rattle.fc_core.specs.History.{History, Seen, seen, task_at, no_task}
 use Rattle.fc_core.specs.Legal.{AnswerEmits}
 use Rattle.fc_core.specs.Receiving as x
-use Rattle.fc_core.specs.Receiving.{Received, after_delivered, after_received, brought, delivered, handed_on, next_opening, received, reply_or_nothing, sent}
+use Rattle.fc_core.specs.Receiving.{Received, after_delivered, brought, delivered, handed_on, next_opening, received, reply_or_nothing, sent}
 use Rattle.fc_core.specs.Sound.{AllSafe}
 use Rattle.fc_core.specs.Stages.{at_answer, content_at, task_moved, new_task, row}
 use Rattle.fc_server.specs.Agreement.{Agrees, Parts}

@@ -1,5 +1,5 @@
 //! Assembling, listing and checking images: the bodies of `fcasm`.
-ghost use Rattle.std.specs.Prelude.{IfOk, string_bytes, ◌≡◌};
+ghost use Rattle.std.specs.Prelude.{IfOk, string_bytes};
 ghost use Rattle.fc_service.specs.Tools.{IsImageOf, IsListingOf};
 
 use crate::status::{Status, tell};

@@ -1,4 +1,4 @@
-use Rattle.std.proofs.Common.{◌≡◌, ◌∙◌, drop, ap, List, sym, subst, true, false}
+use Rattle.std.proofs.Common.{◌∙◌, ap, sym, subst, true, false}
 use Rattle.std.specs.Prelude.{filter}
 use Rattle.circular_buffer.specs.Buffer.{Buffer, buffer}
 use Rattle.coap_dedup.specs.declared.exchange.Opened.{Opened}

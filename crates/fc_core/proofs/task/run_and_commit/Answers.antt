@@ -1,4 +1,4 @@
-use Rattle.std.proofs.Common.{◌≡◌, ◌∙◌, ap, sym, max}
+use Rattle.std.proofs.Common.{◌∙◌, ap, max}
 use Rattle.fc_registry.specs.Slots.{Slot, slot_in, with_slot}
 use Rattle.fc_registry.specs.declared.commit.Committed.{Committed}
 use Rattle.fc_machine.specs.Ran.{Ran}

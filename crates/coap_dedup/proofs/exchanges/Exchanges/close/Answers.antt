@@ -1,10 +1,10 @@
-use Rattle.std.proofs.Common.{◌≡◌, ◌∙◌, ap, sym, set, subst, Option, length, List, map, ◌-◌, ◌%◌, ◌+◌, ℕ, true, false, Bool}
+use Rattle.std.proofs.Common.{◌≡◌, ◌∙◌, ap, sym, set, subst, Option, length, List, map, ◌-◌, ◌%◌, ℕ, true, false}
 use Rattle.std.specs.List.{list_any}
 use Rattle.std.specs.Option.{MatchOption}
 use Rattle.coap_dedup.specs.declared.exchange.Opened.{Opened}
 use Rattle.coap_dedup.specs.declared.exchange.Kept.{Kept}
-use Rattle.coap_dedup.specs.Exchanges.{Exchange, Table, answered, closing, is_open}
-use Rattle.coap_dedup.specs.Views.{IsGone, IsNumbered, as_exchange, request_is_live}
+use Rattle.coap_dedup.specs.Exchanges.{Table, answered, closing, is_open}
+use Rattle.coap_dedup.specs.Views.{IsGone, IsNumbered, as_exchange}
 use Rattle.coap_dedup.proofs.Places.{none_answered, none_held, none_open, numbered_from, one_answered, one_open, too_old}
 use Rattle.coap_dedup.proofs.exchanges.Exchanges.close.Goals as goal
 

@@ -1,8 +1,8 @@
-use Rattle.std.proofs.Common.{◌≡◌, ◌∙◌, ◌≤◌, ap, sym, subst, length, List, map, arith}
+use Rattle.std.proofs.Common.{◌≡◌, ◌∙◌, ◌≤◌, ap, sym, subst, length, map, arith}
 use Rattle.std.specs.Prelude.{filter}
-use Rattle.circular_buffer.specs.Buffer.{Buffer, buffer}
+use Rattle.circular_buffer.specs.Buffer.{Buffer}
 use Rattle.coap_dedup.specs.declared.exchange.Opened.{Opened}
-use Rattle.coap_dedup.specs.Exchanges.{Exchange, Table, expired}
+use Rattle.coap_dedup.specs.Exchanges.{Table, expired}
 use Rattle.coap_dedup.specs.Views.{IsArrived, as_exchange, request_is_live}
 use Rattle.coap_dedup.proofs.Arrival.{expired_arrived, fewer, filter_seen}
 use Rattle.coap_dedup.proofs.exchanges.Exchanges.expire.Goals as goal

@@ -1,11 +1,11 @@
-use Rattle.std.proofs.Common.{◌≡◌, ◌∙◌, ap, sym, length, List, map, Option, None, Some, Bool, ℕ, rules}
+use Rattle.std.proofs.Common.{◌≡◌, ◌∙◌, ap, sym, length, map, Option, ℕ}
 use Rattle.std.proofs.lemmas.List.{length-map}
 use Rattle.std.specs.Prelude.{find}
 use Rattle.coap_dedup.specs.declared.exchange.Kept.{Kept}
 use Rattle.coap_dedup.specs.declared.exchange.Opened.{Opened}
-use Rattle.coap_dedup.specs.Exchanges.{Exchange, Look, Table, expired, has_room, look_at, new_or_full, repeated_by}
+use Rattle.coap_dedup.specs.Exchanges.{Table, expired, has_room, look_at, new_or_full, repeated_by}
 use Rattle.coap_dedup.specs.Looks.{look_of}
-use Rattle.coap_dedup.specs.Views.{answer_if, as_exchange, is_from, kept_at}
+use Rattle.coap_dedup.specs.Views.{answer_if, as_exchange}
 use Rattle.coap_dedup.proofs.Places.{found_look, look_seen}
 use Rattle.coap_dedup.proofs.exchanges.Exchanges.look.Goals as goal
 use Rattle.coap_dedup.proofs.exchanges.Exchanges.look.Goals.{in-Some, in-None}

@@ -1,13 +1,12 @@
 use Rattle.std.proofs.Common.{◌≡◌, ◌∙◌, ◌+◌, ◌<◌, ◌≤◌, ◌%◌, [], ◌∷◌, ◌++◌, ap, sym, subst, refl, length, List, map, set, length-append, length-set, false, arith}
-use Rattle.std.proofs.lemmas.Grind.{get_or-set_at}
 use Rattle.std.proofs.lemmas.List.{length-map}
-use Rattle.circular_buffer.specs.Buffer.{Buffer, buffer, keep_last}
+use Rattle.circular_buffer.specs.Buffer.{Buffer}
 use Rattle.coap_dedup.specs.declared.exchange.Kept.{Kept}
 use Rattle.coap_dedup.specs.declared.exchange.Opened.{Opened}
-use Rattle.coap_dedup.specs.Exchanges.{Exchange, IsNew, Table, look_at, opened}
-use Rattle.coap_dedup.specs.Views.{IsArrived, as_exchange, kept_at, no_answer, with_answer}
+use Rattle.coap_dedup.specs.Exchanges.{IsNew, Table, look_at, opened}
+use Rattle.coap_dedup.specs.Views.{IsArrived, as_exchange, kept_at}
 use Rattle.coap_dedup.proofs.Arrival.{opened_arrived}
-use Rattle.coap_dedup.proofs.Places.{all_before, has_space, keeps_all, opened_last}
+use Rattle.coap_dedup.proofs.Places.{has_space, keeps_all, opened_last}
 use Rattle.coap_dedup.proofs.exchanges.Exchanges.open.Goals as goal
 
 -- a new request finds room

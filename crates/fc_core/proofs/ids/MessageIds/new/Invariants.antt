@@ -1,5 +1,4 @@
-use Rattle.std.proofs.Common.{◌≡◌, replicate, None, ◌≤◌}
-use Rattle.std.specs.Prelude.{vec_capacity}
+use Rattle.std.proofs.Common.{◌≡◌, replicate, None}
 use Rattle.fc_core.proofs.ids.MessageIds.new.Given as goal
 
 abbrev pub invariant-loop-id : goal.invariant-loop-id

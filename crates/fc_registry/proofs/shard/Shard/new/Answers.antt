@@ -1,4 +1,4 @@
-use Rattle.std.proofs.Common.{◌≡◌, ℕ, length, arith, sym, ◌++◌, ◌∷◌, ◌∙◌, [], ap, map}
+use Rattle.std.proofs.Common.{◌≡◌, length, arith, sym, ◌++◌, ◌∷◌, ◌∙◌, [], ap, map}
 use Rattle.fc_registry.proofs.Rings.{all_new}
 use Rattle.std.proofs.lemmas.List.{length-map, length-replicate, map-append, replicate-append-replicate}
 use Rattle.fc_registry.specs.Slots.{new_slot}

@@ -1,5 +1,5 @@
-use Rattle.std.proofs.Common.{ℕ, ◌/◌, ◌<◌, List, length, get_or, ap, subst, arith}
-use Rattle.fc_registry.specs.Slots.{Slot, Shard, new_slot}
+use Rattle.std.proofs.Common.{◌/◌, ◌<◌, length, get_or, subst, arith}
+use Rattle.fc_registry.specs.Slots.{Shard, new_slot}
 use Rattle.fc_registry.specs.Record.{IsRing}
 use Rattle.fc_registry.proofs.Rings.{all_seen}
 use Rattle.fc_registry.proofs.shard.Shard.rings_are_chains.Goals as goal
