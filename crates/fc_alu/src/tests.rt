@@ -131,6 +131,15 @@ fn bits_and_shifts(rt: HostRuntime) {
             0xffff_ffff_ffed_cba9,
         ),
         (AluOp::Arsh, MASK, 36, 0xf0_f0f0, 0xf0_f0f0),
+        (AluOp::Lsh, 3, 63, 0x8000_0000, 0x8000_0000_0000_0000),
+        (AluOp::Rsh, 0x8000_0000_8000_0000, 63, 1, 1),
+        (
+            AluOp::Arsh,
+            0x8000_0000_8000_0000,
+            63,
+            0xffff_ffff,
+            0xffff_ffff_ffff_ffff,
+        ),
     ] {
         let narrow = alu(operation(op, Width::W32), dst, operand);
         let whole = alu(operation(op, Width::W64), dst, operand);
@@ -225,6 +234,21 @@ fn comparisons_hold_as_their_rows_say(rt: HostRuntime) {
     ] {
         assert_eq!(rt; truths(relation, Width::W32), want32, "{relation:?} at 32");
         assert_eq!(rt; truths(relation, Width::W64), want64, "{relation:?} at 64");
+    }
+}
+
+/// One common bit is enough for JSET, and one is asked for.
+#[test]
+fn jset_asks_for_a_common_bit(rt: HostRuntime) {
+    for (left, right, want32, want64) in [
+        (5, 3, true, true),
+        (5, 2, false, false),
+        (0x1_0000_0000, 0x1_0000_0000, false, true),
+    ] {
+        let narrow = truth(jump(Relation::Set, Width::W32), left, right);
+        let whole = truth(jump(Relation::Set, Width::W64), left, right);
+        assert_eq!(rt; narrow, want32, "{left} {right} at 32");
+        assert_eq!(rt; whole, want64, "{left} {right} at 64");
     }
 }
 

@@ -329,6 +329,21 @@ fn a_program_is_checked(rt: HostRuntime) -> Result<(), Fail> {
     Ok(())
 }
 
+// The most slots that a program has are an image of 4,112 bytes.
+#[test]
+fn the_longest_program_is_accepted(rt: HostRuntime) -> Result<(), Fail> {
+    let mut text = Vec::new(rt.alloc());
+    for _line in 0..511u16 {
+        text.extend_from_slice(b"mov64 r0, 0\n")?;
+    }
+    text.extend_from_slice(b"exit")?;
+    let image = assembled(rt.alloc(), text.as_slice(), 0, 512)?;
+    assert!(rt; image.status == Status::Done && image.out.len() == 4112);
+    let done = checked(rt.alloc(), image.out.as_slice())?;
+    assert!(rt; done.out.as_slice() == b"accepted cost 512 budget 512\n".as_slice());
+    Ok(())
+}
+
 // As many bytes as are asked for: no count of slots fits their length.
 #[test]
 fn an_image_without_end_is_refused(rt: HostRuntime) -> Result<(), Fail> {
