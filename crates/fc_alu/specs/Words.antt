@@ -1,4 +1,4 @@
--- Numbers of so many bits, read with and without a sign (RFC 9669, 1.1 and 2).
+-- Numbers of so many bits, read with and without a sign (RFC 9669, 2.1 and 2.3).
 use Rattle.std.specs.Prelude.{ℕ, ◌-◌, ◌%◌, ◌^◌, nat_lt, if◌then◌else◌, ℤ, pos, negsuc, ◌-ℤ◌}
 use Rattle.fc_isa.specs.declared.insn.Width.{Width}
 use Rattle.fc_isa.specs.declared.insn.Width.TheVariants.{W32, W64}

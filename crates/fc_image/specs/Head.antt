@@ -64,9 +64,13 @@ head_breaks image Budget = is_bad_budget (stated image).budget
 head_breaks image Reserved = not (is_word 0 0 0 0 (drop 12 image))
 head_breaks image other = false
 
+-- the rules of a header, the least number first
+abbrev pub head_rules : List Rule
+head_rules = Format ∷ SlotCount ∷ VarsSize ∷ Budget ∷ Reserved ∷ []
+
 -- the least rule that a header breaks
 abbrev pub head_fault : List ℕ → Option Rule
-head_fault image = find (head_breaks image) (Format ∷ SlotCount ∷ VarsSize ∷ Budget ∷ Reserved ∷ [])
+head_fault image = find (head_breaks image) head_rules
 
 -- the sixteen bytes that say these numbers: the magic, the numbers, four zeros
 abbrev pub head_bytes : Head → List ℕ

@@ -81,7 +81,8 @@ fn may_end(insn: &Insn) -> bool
     matches!(insn, Insn::Exit | Insn::WideSecond)
 }
 
-/// The most stack frames that a program has at a time, or 5 where it has more.
+/// The most stack frames that the calls in a program's text nest, those that no path reaches among them, or 5 where they
+/// nest more.
 pub(crate) fn deepest(code: &[Insn], starts: &[bool; SLOTS]) -> u8
     requires starts { AreStarts code.now starts.now }
     requires count { length code.now ≤ 512 }

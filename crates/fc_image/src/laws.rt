@@ -1,10 +1,11 @@
 //! What headers and the shape of a program say, for the crates above: each function is a law, and its contract says it.
-ghost use Rattle.std.specs.Prelude.{List, None, drop, length, ℕ, ◌*◌, ◌++◌, ◌<◌, ◌≡◌};
+ghost use Rattle.std.specs.Prelude.{List, None, [], drop, length, map, ℕ, ◌*◌, ◌++◌, ◌<◌, ◌≡◌, ◌∷◌};
+ghost use Rattle.fc_isa.specs.Rules.{number_of};
 ghost use Rattle.fc_isa.specs.declared.insn.Insn.{Insn};
-ghost use Rattle.fc_image.specs.Head.{Head, IsHead, KeepsHead, head_bytes, head_fault, stated};
+ghost use Rattle.fc_image.specs.Head.{Head, IsHead, KeepsHead, head_bytes, head_fault, head_rules, stated};
 ghost use Rattle.fc_image.specs.Laws.{FirstShapeFaultIsFound, ShapeFaultIsFirst, ShapeFaultIsLow, ShapedProgramsGoForward};
 ghost use Rattle.fc_image.specs.Paths.{IsLongest, longest};
-ghost use Rattle.fc_image.specs.ShapeRules.{IsShaped, KeepsBudget, shape_fault};
+ghost use Rattle.fc_image.specs.ShapeRules.{IsShaped, KeepsBudget, flow_rules, shape_fault};
 
 /// An image whose header breaks no rule is the header and its slots, with numbers within their limits.
 pub fn faultless_head_is_kept(image: &[u8])
@@ -43,4 +44,10 @@ pub fn faultless_shape_is_kept()
 pub fn written_head_is_read()
     ensures faultless { (h : Head) (slots : List ℕ) → IsHead h → length slots ≡ 8 * h.count → head_fault (head_bytes h ++ slots) ≡ None }
     ensures stated { (h : Head) (slots : List ℕ) → IsHead h → stated (head_bytes h ++ slots) ≡ h }
+{}
+
+/// The rules of a header are judged in the order of their numbers, and so are those of the control flow.
+pub fn rules_come_by_number()
+    ensures head { map number_of head_rules ≡ 1 ∷ 2 ∷ 3 ∷ 4 ∷ 5 ∷ [] }
+    ensures flow { map number_of flow_rules ≡ 11 ∷ 12 ∷ 13 ∷ 14 ∷ 15 ∷ 16 ∷ 17 ∷ [] }
 {}

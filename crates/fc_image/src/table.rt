@@ -14,7 +14,7 @@ pub(crate) const SLOTS: usize = 512;
 pub(crate) struct Tables {
     /// Which slots start a function.
     pub(crate) starts: [bool; SLOTS],
-    /// The most stack frames at a time, up to 5.
+    /// The most stack frames that calls nest, up to 5.
     pub(crate) frames: u8,
     /// The steps of the longest path, up to 65,537.
     pub(crate) cost: u32,

@@ -1,7 +1,7 @@
 //! What programs and their bytes are to one another, and what the table of forms says, for the crates above: each function
 //! is a law, and its contract says it.
-ghost use Rattle.std.specs.Prelude.{All, List, None, Option, Some, count_by, false, length, slice_index_or, true, ℕ, ◌*◌, ◌/◌, ◌<◌, ◌≡◌};
-ghost use Rattle.fc_isa.specs.Encoding.{Fields, IsFirstFault, Spells, encoded, fault_at, first_fault, program_of, slot_fault};
+ghost use Rattle.std.specs.Prelude.{All, List, None, Option, Some, [], count_by, false, length, map, slice_index_or, true, ℕ, ◌*◌, ◌/◌, ◌<◌, ◌≡◌, ◌∷◌};
+ghost use Rattle.fc_isa.specs.Encoding.{Fields, IsFirstFault, Spells, encoded, fault_at, first_fault, program_of, slot_fault, slot_rules};
 ghost use Rattle.fc_isa.specs.Program.{IsInsn, is_program};
 ghost use Rattle.fc_isa.specs.Rules.{number_of};
 ghost use Rattle.fc_isa.specs.declared.insn.Insn.{Insn};
@@ -59,6 +59,11 @@ pub fn rows_fix_the_used_fields(opcode: u8)
     ensures src { is_known (shape_of opcode) ≡ true → (uses (shape_of opcode)).src ≡ opcode_uses_src opcode }
     ensures offset { is_known (shape_of opcode) ≡ true → (uses (shape_of opcode)).offset ≡ opcode_uses_offset opcode }
     ensures imm { is_known (shape_of opcode) ≡ true → (uses (shape_of opcode)).imm ≡ opcode_uses_imm opcode }
+{}
+
+/// The rules of a slot are judged in the order of their numbers.
+pub fn slot_rules_come_by_number()
+    ensures { map number_of slot_rules ≡ 6 ∷ 7 ∷ 8 ∷ 9 ∷ 10 ∷ [] }
 {}
 
 /// A slot whose opcode has no known form breaks the opcode rule, whatever else it has.

@@ -4,7 +4,7 @@ ghost use Rattle.fc_isa.specs.Rules.{number_of, fault_text};
 
 use std::fmt;
 
-/// A rule that an image broke. Its number is 1 to 27, and a refusal prints it as `V` and two digits.
+/// A rule that an image broke. Its number is 1 to 17 or 20 to 27, and a refusal prints it as `V` and two digits.
 #[derive(Clone, Copy, Debug, PartialEq, Eq)]
 pub enum Rule {
     /// 1: under 16 bytes, another magic, or a length that isn't that of the header and the slots.

@@ -136,7 +136,7 @@ pub(crate) fn may_write(vars_size: u16, bytes: u16, offset: i16, kind: Kind) -> 
     }
 }
 
-/// Why an access through this kind is refused: what it isn't a pointer for, its place, or that it would write the request.
+/// Why an access through this kind is refused: it is no pointer, it may lie outside its region, or it would write the request.
 pub(crate) fn access_fault(vars_size: u16, bytes: u16, offset: i16, kind: Kind) -> Rule
     requires { IsKind kind }
     ensures { (20 ≤ number_of result) × (number_of result ≤ 27) }

@@ -16,7 +16,7 @@ use fc_isa::{Insn, Jump, Rule};
 /// local call's are those after its function's exit. A helper's call has none yet.
 ///
 /// # Errors
-/// The least rule, 20 to 26, that the instruction breaks at these kinds.
+/// A rule, 20 to 27, that the instruction breaks at these kinds; 27 is a helper's call, or the second half of a wide load.
 #[tactic(auto, unfolding(crate::specs::Transfer::transfer))]
 pub fn after(insn: Insn, regs: &Regs, vars_size: u16) -> Result<Regs, Rule>
     requires { AreKinds regs.now }

@@ -23,7 +23,7 @@ use fc_kinds::{ENTRY, Regs, after, join, when};
 /// place for a state a slot.
 ///
 /// # Errors
-/// The first slot in order whose demands aren't met, with the least rule, 20 to 26, that it breaks: the program has no typing.
+/// The first slot in order whose demands aren't met, with a rule, 20 to 27, that it breaks: the program has no typing.
 pub fn typed(
     vars_size: u16,
     code: &[Insn],
