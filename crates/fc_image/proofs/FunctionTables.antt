@@ -61,13 +61,13 @@ depths-drop starts from zero to code e = let same : to ≡ from = omega (arith, 
 depths-drop starts from (suc k) to [] e = refl
 depths-drop starts from (suc k) to (insn ∷ code) e = depths-drop starts (from + 1) k to code (omega (arith, e))
 
-abbrev unless : Bool → ℕ → ℕ
+abbrev pub unless : Bool → ℕ → ℕ
 unless b n = if b then 0 else n
 
-abbrev rest_of : Bool → List ℕ → ℕ
+abbrev pub rest_of : Bool → List ℕ → ℕ
 rest_of ends after = unless ends (get_or after 0 0)
 
-depth_is : (starts : ℕ → Bool) (code : List Insn) (slot : ℕ) (insn : Insn) → slice_get code slot ≡ Some insn
+pub depth_is : (starts : ℕ → Bool) (code : List Insn) (slot : ℕ) (insn : Insn) → slice_get code slot ≡ Some insn
     → get_or (depths starts 0 code) slot 0 ≡ max (frames_called insn (drop (suc slot) (depths starts 0 code))) (rest_of (starts (slot + 1)) (drop (suc slot) (depths starts 0 code)))
 depth_is starts code slot insn e =
     let after : depths starts (slot + 1) (drop (suc slot) code) ≡ drop (suc slot) (depths starts 0 code) = depths-drop starts 0 (suc slot) (slot + 1) code (omega arith) in

@@ -5,4 +5,5 @@ pub mod CostTable
 pub mod FunctionTables
 pub mod ShapeLaws
 pub mod PathLaws
+pub mod FrameLaws
 mod Rows

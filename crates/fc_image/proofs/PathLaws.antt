@@ -11,24 +11,25 @@ use Rattle.fc_isa.specs.declared.rule.Rule.TheVariants.{JumpTarget, BackwardJump
 use Rattle.fc_image.specs.Flow.{IsLater, IsForward, target, landing, Flow, Halts, Goes, Forks, Enters, flow, flow_of, flow_at}
 use Rattle.fc_image.specs.Functions.{is_start}
 use Rattle.fc_image.specs.Paths.{GoesOn, IsPath, IsLongest, at_offset, cost_of, costs, longest}
+use Rattle.fc_image.specs.Laws.{cost_at}
 use Rattle.fc_image.specs.ShapeRules.{is_instruction, is_place, is_later, IsShaped}
 use Rattle.fc_image.proofs.CostTable.{cost_is}
 
 -- ---- where a shaped program's instructions lead
 
-not_true : (b : Bool) → not b ≡ false → b ≡ true
+pub not_true : (b : Bool) → not b ≡ false → b ≡ true
 not_true true e = refl
 not_true false e = absurd (cc e)
 
-first_false : (a b : Bool) → (a || b) ≡ false → a ≡ false
+pub first_false : (a b : Bool) → (a || b) ≡ false → a ≡ false
 first_false false b e = refl
 first_false true b e = absurd (cc e)
 
-second_false : (a b : Bool) → (a || b) ≡ false → b ≡ false
+pub second_false : (a b : Bool) → (a || b) ≡ false → b ≡ false
 second_false false b e = e
 second_false true b e = absurd (cc e)
 
-placed : (code : List Insn) (t : ℕ) → is_instruction (slice_get code t) ≡ true → t < length code
+pub placed : (code : List Insn) (t : ℕ) → is_instruction (slice_get code t) ≡ true → t < length code
 placed code t e = go (slice_get code t) refl e
   where
     go : (o : Option Insn) → slice_get code t ≡ o → is_instruction o ≡ true → t < length code
@@ -81,9 +82,6 @@ forward code slot (CallHelper number) s e = goes_on code slot (slot + 1) (is_sta
 
 -- ---- the cost of a slot, by the costs of the slots that it leads to
 
-abbrev pub cost_at : List Insn → ℕ → ℕ
-cost_at code slot = get_or (costs code) slot 0
-
 abbrev pub cost_along : (ℕ → ℕ) → Flow → ℕ
 cost_along at Halts = 1
 cost_along at (Goes next) = 1 + at next
@@ -91,7 +89,7 @@ cost_along at (Forks taken next) = 1 + max (at taken) (at next)
 cost_along at (Enters start next) = 1 + (at start + at next)
 
 -- an offset that lands later is read among the later costs
-offset_lands : (table : List ℕ) (slot : ℕ) (o : ℤ) → slot < landing slot o → at_offset (drop (suc slot) table) o ≡ get_or table (landing slot o) 0
+pub offset_lands : (table : List ℕ) (slot : ℕ) (o : ℤ) → slot < landing slot o → at_offset (drop (suc slot) table) o ≡ get_or table (landing slot o) 0
 offset_lands table slot (pos n) lt = let e : suc slot + n ≡ slot + 1 + n = omega arith in get_or-drop (suc slot) table n 0 ∙ ap (λ k. get_or table k 0) e
 offset_lands table slot (negsuc n) lt = absurd (back (nat_le n slot) lt)
   where

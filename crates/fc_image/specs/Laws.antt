@@ -1,9 +1,12 @@
 -- The laws of a program's shape.
-use Rattle.std.specs.Prelude.{◌≡◌, ℕ, ◌<◌, List, length, Some, slice_get}
+use Rattle.std.specs.Prelude.{◌≡◌, ℕ, ◌<◌, ◌≤◌, ◌+◌, true, List, length, Some, slice_get, slice_index}
 use Rattle.fc_isa.specs.declared.insn.Insn.{Insn}
 use Rattle.fc_isa.specs.declared.rule.Rule.{Rule}
 use Rattle.fc_isa.specs.Rules.{number_of}
-use Rattle.fc_image.specs.Flow.{IsForward, flow}
+use Rattle.fc_isa.specs.Program.{is_program}
+use Rattle.fc_image.specs.Flow.{Flow, Halts, Goes, Forks, Enters, IsForward, flow}
+use Rattle.fc_image.specs.Functions.{is_start, depths}
+use Rattle.fc_image.specs.Paths.{costs}
 use Rattle.fc_image.specs.ShapeRules.{IsShapeFault, IsShaped, shape_fault}
 
 -- in a shaped program each instruction leads to later slots of the program
@@ -27,3 +30,35 @@ abbrev pub ShapeFaultIsLow : Type 0
 ShapeFaultIsLow =
     (budget : ℕ) (code : List Insn) (slot : ℕ) (rule : Rule) → shape_fault budget code ≡ Some (slot, rule)
     → number_of rule < 20
+
+-- ---- what is left of a run
+
+-- the steps of the longest path from a slot to its function's exit
+abbrev pub cost_at : List Insn → ℕ → ℕ
+cost_at code slot = slice_index (costs code) slot
+
+-- the most frames that calls add from a slot to the end of its function
+abbrev pub frames_at : List Insn → ℕ → ℕ
+frames_at code slot = slice_index (depths (is_start code) 0 code) slot
+
+-- from one slot to the next, fewer steps are left and no more frames are needed
+abbrev pub IsNearer : List Insn → ℕ → ℕ → Type 0
+IsNearer code slot next = (cost_at code next < cost_at code slot) × (frames_at code next ≤ frames_at code slot)
+
+-- and so for each slot that a flow leads to; a call's function needs a frame fewer, and leaves time for the slot after the call
+abbrev pub LeadsNearer : List Insn → ℕ → Flow → Type 0
+LeadsNearer code slot Halts = 1 ≤ cost_at code slot
+LeadsNearer code slot (Goes next) = IsNearer code slot next
+LeadsNearer code slot (Forks taken next) = IsNearer code slot taken × IsNearer code slot next
+LeadsNearer code slot (Enters start next) =
+    (cost_at code start + cost_at code next < cost_at code slot) × (frames_at code start < frames_at code slot)
+    × (frames_at code next ≤ frames_at code slot)
+
+-- each step of a shaped program leads nearer to its end, and calls add at most three frames
+abbrev pub ShapedProgramsGoOn : Type 0
+ShapedProgramsGoOn =
+    (code : List Insn) (slot : ℕ) (insn : Insn) → IsShaped code → is_program code ≡ true → slice_get code slot ≡ Some insn
+    → LeadsNearer code slot (flow slot insn)
+
+abbrev pub ShapedProgramsHaveFewFrames : Type 0
+ShapedProgramsHaveFewFrames = (code : List Insn) → IsShaped code → frames_at code 0 ≤ 3

@@ -3,7 +3,7 @@ ghost use Rattle.std.specs.Prelude.{List, None, [], drop, length, map, ℕ, ◌*
 ghost use Rattle.fc_isa.specs.Rules.{number_of};
 ghost use Rattle.fc_isa.specs.declared.insn.Insn.{Insn};
 ghost use Rattle.fc_image.specs.Head.{Head, IsHead, KeepsHead, head_bytes, head_fault, head_rules, stated};
-ghost use Rattle.fc_image.specs.Laws.{FirstShapeFaultIsFound, ShapeFaultIsFirst, ShapeFaultIsLow, ShapedProgramsGoForward};
+ghost use Rattle.fc_image.specs.Laws.{FirstShapeFaultIsFound, ShapeFaultIsFirst, ShapeFaultIsLow, ShapedProgramsGoForward, ShapedProgramsGoOn, ShapedProgramsHaveFewFrames};
 ghost use Rattle.fc_image.specs.Paths.{IsLongest, longest};
 ghost use Rattle.fc_image.specs.ShapeRules.{IsShaped, KeepsBudget, flow_rules, shape_fault};
 
@@ -25,6 +25,13 @@ pub fn longest_is_longest()
 /// In a program that keeps the rules of the control flow each instruction leads to later slots of the program.
 pub fn shaped_programs_go_forward()
     ensures { ShapedProgramsGoForward }
+{}
+
+/// In a program that keeps the rules of the control flow each step leads nearer to its end, and calls add at most three frames
+/// to the first.
+pub fn shaped_programs_go_on()
+    ensures nearer { ShapedProgramsGoOn }
+    ensures frames { ShapedProgramsHaveFewFrames }
 {}
 
 /// The fault of a program's shape is the least slot that breaks the first rule that is broken, one below 20.

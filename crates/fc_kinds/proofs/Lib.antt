@@ -13,4 +13,7 @@ pub mod WayLaws
 pub mod OperationLaws
 pub mod TakenLaws
 pub mod StepLaws
+pub mod CallLaws
+pub mod Levels
 mod Rows
+mod Meanings

@@ -162,6 +162,19 @@ may_read_follows vars n f (Req lo hi) (Req lo' hi') w e = inside_follows 1104 n 
 may_read_follows vars n f (Vars lo hi) (Vars lo' hi') w e = inside_follows vars n f lo hi lo' hi' w.0 w.1 e
 may_read_follows vars n f _ _ w e = absurd w
 
+inside_fewer : (region n m : ℕ) (lo hi lo' hi' : ℤ) → lo' ≤ℤ lo → hi ≤ℤ hi' → n ≤ m → inside region m (pos 0) lo' hi' ≡ true → inside region n (pos 0) lo hi ≡ true
+inside_fewer region n m lo hi lo' hi' p q r e =
+    ends_follow (pos 0) (pos region) (lo +ℤ pos 0) (hi +ℤ pos 0 +ℤ pos n) (lo' +ℤ pos 0) (hi' +ℤ pos 0 +ℤ pos m) (omega (arith, ints, p)) (omega (arith, ints, q, r)) e
+
+-- and so are fewer bytes from a pointer on
+pub fewer_follow : (vars n m : ℕ) (k k' : Kind) → KindWithin k k' → n ≤ m → may_read vars m (pos 0) k' ≡ true → may_read vars n (pos 0) k ≡ true
+fewer_follow vars n m k Unset w r e = absurd (cc e)
+fewer_follow vars n m k (Num lo' hi') w r e = absurd (cc e)
+fewer_follow vars n m (Stack l lo hi) (Stack l' lo' hi') w r e = inside_fewer 256 n m lo hi lo' hi' w.1 w.2 r e
+fewer_follow vars n m (Req lo hi) (Req lo' hi') w r e = inside_fewer 1104 n m lo hi lo' hi' w.0 w.1 r e
+fewer_follow vars n m (Vars lo hi) (Vars lo' hi') w r e = inside_fewer vars n m lo hi lo' hi' w.0 w.1 r e
+fewer_follow vars n m _ _ w r e = absurd w
+
 pub may_write_follows : (vars n : ℕ) (f : ℤ) (k k' : Kind) → KindWithin k k' → may_write vars n f k' ≡ true → may_write vars n f k ≡ true
 may_write_follows vars n f k Unset w e = absurd (cc e)
 may_write_follows vars n f k (Num lo' hi') w e = absurd (cc e)

@@ -1,6 +1,6 @@
 -- Worked rows of the transfer function, of refinement and of joins.
 use Rattle.std.proofs.Common.{◌≡◌, ℕ, true, false, List, [], ◌∷◌, Option, Some, None, refl}
-use Rattle.std.specs.Prelude.{pos, negsuc}
+use Rattle.std.specs.Prelude.{ℤ, pos, negsuc}
 use Rattle.fc_isa.specs.declared.insn.AluOp.{AluOp}
 use Rattle.fc_isa.specs.declared.insn.AluOp.TheVariants.{Add, Sub, Mul, Div, Or, And, Lsh, Rsh, Mod, Xor, Mov, Arsh, Sdiv, Smod}
 use Rattle.fc_isa.specs.declared.insn.Width.{Width}
@@ -14,13 +14,13 @@ use Rattle.fc_isa.specs.declared.insn.LoadType.TheVariants.{Unsigned, SignedByte
 use Rattle.fc_isa.specs.declared.insn.Relation.{Relation}
 use Rattle.fc_isa.specs.declared.insn.Relation.TheVariants.{Eq, Gt, Ge, Set, Ne, Sgt, Lt, Le}
 use Rattle.fc_isa.specs.declared.insn.Insn.{Insn}
-use Rattle.fc_isa.specs.declared.insn.Insn.TheVariants.{Alu, Neg, SignExtend, End, LoadWide, Load, StoreImm, Store, Exit}
+use Rattle.fc_isa.specs.declared.insn.Insn.TheVariants.{Alu, Neg, SignExtend, End, LoadWide, Load, StoreImm, Store, CallHelper, CallLocal, Exit}
 use Rattle.fc_kinds.specs.declared.kind.Kind.{Kind}
 use Rattle.fc_kinds.specs.declared.kind.Kind.TheVariants.{Unset, Num, Stack, Req, Vars}
 use Rattle.fc_kinds.specs.Kinds.{kind_at}
 use Rattle.fc_kinds.specs.Intervals.{interval_of, alu_interval, extended_values, refined}
 use Rattle.fc_kinds.specs.Lattice.{join_kind}
-use Rattle.fc_kinds.specs.Transfer.{alu_kind, transfer}
+use Rattle.fc_kinds.specs.Transfer.{alu_kind, enter, transfer}
 use Rattle.fc_kinds.specs.Refinement.{when}
 
 -- the kind of R0 after an instruction that has R0 and R1 of these kinds, in a program of 8 variable bytes
@@ -128,3 +128,33 @@ ways_unrefined = (refl, refl, refl, refl)
 
 joins : (join_kind (Num 0 10) (Num 20 30) ≡ Num 0 30) × (join_kind (Num 0 10) (Req (pos 0) (pos 0)) ≡ Unset) × (join_kind (Stack 0 (pos 1) (pos 2)) (Stack 1 (pos 1) (pos 2)) ≡ Unset) × (join_kind (Stack 1 (pos 1) (pos 2)) (Stack 1 (negsuc 0) (pos 1)) ≡ Stack 1 (negsuc 0) (pos 2)) × (join_kind Unset (Num 1 1) ≡ Unset)
 joins = (refl, refl, refl, refl, refl)
+
+-- ---- helpers and local calls, in a program of 8 variable bytes
+
+abbrev helps : ℤ → Kind → Kind → Option Kind
+helps number a b = first_of (transfer 8 (CallHelper number) (Unset ∷ a ∷ b ∷ []))
+
+rows_helpers : (helps (pos 1) Unset Unset ≡ Some (Num 0 1024)) × (helps (pos 2) (Num 5 6) Unset ≡ Some all64) × (helps (pos 2) (Req (pos 0) (pos 0)) Unset ≡ None) × (helps (pos 3) Unset Unset ≡ None)
+    × (helps (pos 3) (Num 0 0) Unset ≡ Some all64) × (helps (pos 4) (Num 1 1) Unset ≡ None) × (helps (pos 4) (Num 1 1) (Num 2 2) ≡ Some (Num 0 1)) × (helps (pos 6) (Num 1 1) Unset ≡ Some (Num 0 1))
+    × (helps (pos 7) Unset Unset ≡ Some (Num 0 0)) × (helps (pos 0) (Num 1 1) (Num 1 1) ≡ None) × (helps (pos 8) (Num 1 1) (Num 1 1) ≡ None) × (helps (negsuc 0) (Num 1 1) (Num 1 1) ≡ None)
+unfolding transfer
+rows_helpers = (refl, refl, refl, refl, refl, refl, refl, refl, refl, refl, refl, refl)
+
+-- no bytes may begin at a region's end
+rows_reply_put : (helps (pos 5) (Vars (pos 8) (pos 8)) (Num 0 0) ≡ Some (Num 0 1)) × (helps (pos 5) (Vars (pos 8) (pos 8)) (Num 0 1) ≡ None) × (helps (pos 5) (Req (pos 80) (pos 80)) (Num 0 1024) ≡ Some (Num 0 1))
+    × (helps (pos 5) (Req (pos 80) (pos 81)) (Num 0 1024) ≡ None) × (helps (pos 5) (Stack 1 (pos 0) (pos 0)) (Num 0 256) ≡ Some (Num 0 1)) × (helps (pos 5) (Stack 0 (negsuc 0) (pos 0)) (Num 0 1) ≡ None)
+    × (helps (pos 5) (Num 0 0) (Num 0 0) ≡ None) × (helps (pos 5) (Req (pos 0) (pos 0)) (Req (pos 0) (pos 0)) ≡ None) × (helps (pos 5) (Req (pos 0) (pos 0)) Unset ≡ None)
+unfolding transfer
+rows_reply_put = (refl, refl, refl, refl, refl, refl, refl, refl, refl)
+
+abbrev regs : List Kind
+regs = Num 0 0 ∷ Num 1 1 ∷ Stack 0 (pos 1) (pos 2) ∷ Req (pos 3) (pos 3) ∷ Num 4 4 ∷ Stack 2 (pos 5) (pos 5) ∷ Num 6 6 ∷ Stack 1 (pos 7) (pos 7) ∷ Num 8 8 ∷ Num 9 9 ∷ Stack 0 (pos 256) (pos 256) ∷ []
+
+-- R0 is the answer, R1 to R5 are unset, R6 to R10 are kept
+calls_answer : (transfer 8 (CallHelper (pos 7)) regs ≡ Some (Num 0 0 ∷ Unset ∷ Unset ∷ Unset ∷ Unset ∷ Unset ∷ Num 6 6 ∷ Stack 1 (pos 7) (pos 7) ∷ Num 8 8 ∷ Num 9 9 ∷ Stack 0 (pos 256) (pos 256) ∷ []))
+    × (transfer 8 (CallLocal (pos 0)) regs ≡ Some (all64 ∷ Unset ∷ Unset ∷ Unset ∷ Unset ∷ Unset ∷ Num 6 6 ∷ Stack 1 (pos 7) (pos 7) ∷ Num 8 8 ∷ Num 9 9 ∷ Stack 0 (pos 256) (pos 256) ∷ []))
+unfolding transfer
+calls_answer = (refl, refl)
+
+call_hands_on : enter regs ≡ Unset ∷ Num 1 1 ∷ Stack 1 (pos 1) (pos 2) ∷ Req (pos 3) (pos 3) ∷ Num 4 4 ∷ Stack 3 (pos 5) (pos 5) ∷ Unset ∷ Unset ∷ Unset ∷ Unset ∷ Stack 0 (pos 256) (pos 256) ∷ []
+call_hands_on = refl

@@ -14,10 +14,16 @@ use Rattle.fc_isa.specs.Program.{IsInsn}
 use Rattle.fc_kinds.specs.declared.kind.Kind.{Kind}
 use Rattle.fc_kinds.specs.declared.kind.Kind.TheVariants.{Unset, Num, Stack, Req, Vars}
 use Rattle.fc_kinds.specs.Kinds.{kind_at, KindWithin, Within}
-use Rattle.fc_kinds.specs.Transfer.{num, is_number, operand_kind, alu_kind, may_read, bytes_loaded, loaded_interval, size_of, put_kind, where_met, returned, raised, enter, transfer}
+use Rattle.fc_kinds.specs.Transfer.{num, is_number, operand_kind, alu_kind, may_read, bytes_loaded, loaded_interval, size_of, put_kind, where_met, after_call, returned, are_bytes, are_arguments, helped_kinds, raised, enter, transfer}
+use Rattle.fc_kinds.specs.Values.{with_some}
+use Rattle.fc_kinds.specs.Intervals.{all}
+use Rattle.fc_help.specs.declared.helper.Helper.{Helper}
+use Rattle.fc_help.specs.declared.helper.Arguments.{Arguments}
+use Rattle.fc_help.specs.declared.helper.Arguments.TheVariants.{NoArgument, OneNumber, TwoNumbers, Bytes}
+use Rattle.fc_help.specs.Helpers.{helper_of, signature_of}
 use Rattle.fc_kinds.proofs.KindLaws.{kind_within_same, within_put}
 use Rattle.fc_kinds.specs.Lattice.{IsKind, AreKinds}
-use Rattle.fc_kinds.proofs.Monotone.{KindFollows, alu_follows, neg_follows, extended_follows, ordered_follows, may_read_follows, may_write_follows, is_number_follows, where_follows, operand_within}
+use Rattle.fc_kinds.proofs.Monotone.{KindFollows, alu_follows, neg_follows, extended_follows, ordered_follows, may_read_follows, may_write_follows, fewer_follow, is_number_follows, where_follows, operand_within}
 
 pub kinds_put : (ks : List Kind) (r : ℕ) (k : Kind) → r < 11 → IsKind k → AreKinds ks → AreKinds (slice_set ks r k)
 kinds_put ks r k lt i h = record {
@@ -102,11 +108,11 @@ all_kinds [] h r = tt
 all_kinds (k ∷ ks) h zero = h.0
 all_kinds (k ∷ ks) h (suc r) = all_kinds ks h.1 r
 
-returned_within : (ks ks' : List Kind) → Within ks ks' → Within (returned ks) (returned ks')
-returned_within ks ks' w = lists_within (returned ks) (returned ks') refl ((omega arith, omega arith), (tt, (tt, (tt, (tt, (tt, (w.each 6, (w.each 7, (w.each 8, (w.each 9, (w.each 10, tt)))))))))))
+call_within : (a a' : Kind) (ks ks' : List Kind) → KindWithin a a' → Within ks ks' → Within (after_call a ks) (after_call a' ks')
+call_within a a' ks ks' v w = lists_within (after_call a ks) (after_call a' ks') refl (v, (tt, (tt, (tt, (tt, (tt, (w.each 6, (w.each 7, (w.each 8, (w.each 9, (w.each 10, tt)))))))))))
 
-returned_kinds : (ks : List Kind) → AreKinds ks → AreKinds (returned ks)
-returned_kinds ks a = record { count = refl; each = all_kinds (returned ks) (omega arith, (tt, (tt, (tt, (tt, (tt, (a.each 6, (a.each 7, (a.each 8, (a.each 9, (a.each 10, tt))))))))))) }
+call_kinds : (k : Kind) (ks : List Kind) → IsKind k → AreKinds ks → AreKinds (after_call k ks)
+call_kinds k ks i a = record { count = refl; each = all_kinds (after_call k ks) (i, (tt, (tt, (tt, (tt, (tt, (a.each 6, (a.each 7, (a.each 8, (a.each 9, (a.each 10, tt))))))))))) }
 
 raised_within : (k k' : Kind) → KindWithin k k' → KindWithin (raised k) (raised k')
 raised_within k Unset w = tt
@@ -134,6 +140,31 @@ enter_kinds ks a =
     let h = λ (r : ℕ). raised_is (kind_at ks r) (a.each r) in
     record { count = refl; each = all_kinds (enter ks) (tt, (h 1, (h 2, (h 3, (h 4, (h 5, (tt, (tt, (tt, (tt, (grind (arith, ints), tt))))))))))) }
 
+-- ---- helpers
+
+count_follows : (vars : ℕ) (p p' c c' : Kind) → KindWithin p p' → KindWithin c c' → are_bytes vars p' c' ≡ true → are_bytes vars p c ≡ true
+count_follows vars p p' (Num lo hi) (Num lo' hi') v w e = fewer_follow vars hi hi' p p' v w.1 e
+count_follows vars p p' c Unset v w e = absurd (cc e)
+count_follows vars p p' c (Stack l lo hi) v w e = absurd (cc e)
+count_follows vars p p' c (Req lo hi) v w e = absurd (cc e)
+count_follows vars p p' c (Vars lo hi) v w e = absurd (cc e)
+count_follows vars p p' _ (Num lo' hi') v w e = absurd w
+
+arguments_follow : (vars : ℕ) (arguments : Arguments) (ks ks' : List Kind) → Within ks ks' → are_arguments vars arguments ks' ≡ true → are_arguments vars arguments ks ≡ true
+arguments_follow vars NoArgument ks ks' w e = refl
+arguments_follow vars OneNumber ks ks' w e = is_number_follows (kind_at ks 1) (kind_at ks' 1) (w.each 1) e
+arguments_follow vars TwoNumbers ks ks' w e =
+    let b = both_true (is_number (kind_at ks' 1)) (is_number (kind_at ks' 2)) e in
+    true_both (is_number (kind_at ks 1)) (is_number (kind_at ks 2)) (is_number_follows (kind_at ks 1) (kind_at ks' 1) (w.each 1) b.0) (is_number_follows (kind_at ks 2) (kind_at ks' 2) (w.each 2) b.1)
+arguments_follow vars Bytes ks ks' w e = count_follows vars (kind_at ks 1) (kind_at ks' 1) (kind_at ks 2) (kind_at ks' 2) (w.each 1) (w.each 2) e
+
+helper_meets : (vars : ℕ) (o : Option Helper) (ks ks' after' : List Kind) → AreKinds ks → Within ks ks' → with_some o (helped_kinds vars ks') ≡ Some after' → Meets (with_some o (helped_kinds vars ks)) (with_some o (helped_kinds vars ks')) after'
+helper_meets vars None ks ks' after' a w e = absurd (cc e)
+helper_meets vars (Some h) ks ks' after' a w e =
+    let most = Num 0 (signature_of h).most in
+    where_meets (after_call most ks) (after_call most ks') after' (are_arguments vars (signature_of h).arguments ks) (are_arguments vars (signature_of h).arguments ks')
+    (call_kinds most ks (omega arith) a) (call_within most most ks ks' (omega arith, omega arith) w) (arguments_follow vars (signature_of h).arguments ks ks' w) e
+
 pub transfer_meets : (vars : ℕ) (insn : Insn) (ks ks' after' : List Kind) → IsInsn insn → AreKinds ks → Within ks ks' → transfer vars insn ks' ≡ Some after' → Meets (transfer vars insn ks) (transfer vars insn ks') after'
 unfolding transfer
 transfer_meets vars (Alu op width dst operand) ks ks' after' i a w e =
@@ -155,6 +186,7 @@ transfer_meets vars (JumpAlways offset) ks ks' after' i a w e = where_meets ks k
 transfer_meets vars (JumpAlwaysLong offset) ks ks' after' i a w e = where_meets ks ks' after' true true a w (λ t. t) e
 transfer_meets vars (JumpIf j) ks ks' after' i a w e = where_meets ks ks' after' _ _ a w
     (λ t. let b = both_true _ _ t in true_both _ _ (is_number_follows (kind_at ks j.left) (kind_at ks' j.left) (w.each j.left) b.0) (number_operand j.width j.right ks ks' w b.1)) e
-transfer_meets vars (CallHelper number) ks ks' after' i a w e = absurd (cc e)
-transfer_meets vars (CallLocal offset) ks ks' after' i a w e = record { after = returned ks; is = refl; within = subst (Within (returned ks)) (cc e) (returned_within ks ks' w); kinds = returned_kinds ks a }
+transfer_meets vars (CallHelper number) ks ks' after' i a w e = helper_meets vars (helper_of number) ks ks' after' a w e
+transfer_meets vars (CallLocal offset) ks ks' after' i a w e =
+    record { after = returned ks; is = refl; within = subst (Within (returned ks)) (cc e) (call_within (num (all 64)) (num (all 64)) ks ks' (omega arith, omega arith) w); kinds = call_kinds (num (all 64)) ks (omega arith) a }
 transfer_meets vars Exit ks ks' after' i a w e = where_meets ks ks' after' _ _ a w (is_number_follows (kind_at ks 0) (kind_at ks' 0) (w.each 0)) e

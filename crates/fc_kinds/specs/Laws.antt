@@ -1,21 +1,21 @@
 -- The laws of kinds, and what they say of one state, way or list of ways beside another.
-use Rattle.std.specs.Prelude.{◌≡◌, ℕ, ◌<◌, ◌^◌, Bool, true, List, Option, Some, None}
+use Rattle.std.specs.Prelude.{◌≡◌, ℕ, ◌+◌, ◌<◌, ◌^◌, Bool, true, ℤ, pos, ◌≤ℤ◌, List, ◌∷◌, length, Option, Some, None}
 use Rattle.fc_isa.specs.declared.insn.Width.TheVariants.{W64}
 use Rattle.fc_isa.specs.declared.insn.Jump.{Jump}
 use Rattle.fc_isa.specs.declared.insn.Insn.{Insn}
-use Rattle.fc_isa.specs.declared.insn.Insn.TheVariants.{JumpIf}
+use Rattle.fc_isa.specs.declared.insn.Insn.TheVariants.{JumpIf, CallLocal, Exit}
 use Rattle.fc_isa.specs.Program.{IsInsn}
 use Rattle.fc_alu.specs.Comparison.{truth}
 use Rattle.fc_kinds.specs.declared.kind.Kind.{Kind}
 use Rattle.fc_kinds.specs.Kinds.{Holds, Within, kind_at}
 use Rattle.fc_kinds.specs.Values.{Value, Number, value_at}
-use Rattle.fc_kinds.specs.Transfer.{is_number, operand_kind, transfer}
+use Rattle.fc_kinds.specs.Transfer.{AreShallow, is_number, operand_kind, transfer}
 use Rattle.fc_kinds.specs.Refinement.{when}
 use Rattle.fc_kinds.specs.Operations.{operand_value}
 use Rattle.fc_kinds.specs.Lattice.{AreKinds}
-use Rattle.fc_kinds.specs.Ways.{Way, ways, AreAmong, AreHeld}
-use Rattle.fc_kinds.specs.Execution.{Config, act, depth}
-use Rattle.fc_kinds.specs.Soundness.{IsConfig, StaysInFunction, StepsAlong}
+use Rattle.fc_kinds.specs.Ways.{Way, ways, AllShallow, AreAmong, AreHeld}
+use Rattle.fc_kinds.specs.Execution.{Caller, Config, act, depth}
+use Rattle.fc_kinds.specs.Soundness.{IsConfig, StaysInFunction, StepsAlong, Waits, IsEntered, IsLeft, StepsTo}
 
 -- there is a state, and it is contained in the other
 abbrev pub IsNarrowerState : Option (List Kind) → List Kind → Type 0
@@ -69,11 +69,30 @@ WaysAreMonotone =
     (vars : ℕ) (insn : Insn) (ks wider : List Kind) (handed : List Way) → IsInsn insn → AreKinds ks → Within ks wider
     → ways vars insn wider ≡ Some handed → AreNarrowerWays (ways vars insn ks) handed
 
+-- on an instruction's ways stack frames are at most one level further above
+abbrev pub WaysRaiseByOne : Type 0
+WaysRaiseByOne =
+    (top vars : ℕ) (insn : Insn) (ks : List Kind) (handed : List Way) → AreShallow top ks → ways vars insn ks ≡ Some handed
+    → AllShallow (top + 1) handed
+
 -- at kinds that contain the registers' values an instruction whose demands are met has a step, along some of its ways
 abbrev pub EffectsContainTheStep : Type 0
 EffectsContainTheStep =
     (vars : ℕ) (insn : Insn) (c : Config) (ks : List Kind) (handed : List Way) → StaysInFunction insn → IsInsn insn
     → IsConfig vars c → Holds (depth c) ks c.regs → ways vars insn ks ≡ Some handed → StepsAlong vars (act insn c) c handed
+
+-- with fewer than four frames a local call has a step
+abbrev pub CallsContainTheStep : Type 0
+CallsContainTheStep =
+    (vars : ℕ) (offset : ℤ) (c : Config) (ks : List Kind) → pos 0 ≤ℤ offset → depth c < 3 → IsConfig vars c
+    → Holds (depth c) ks c.regs → StepsTo (IsEntered vars offset ks c) (act (CallLocal offset) c)
+
+-- an exit whose demands are met, with a caller that waits, has a step
+abbrev pub ExitsContainTheStep : Type 0
+ExitsContainTheStep =
+    (vars : ℕ) (c : Config) (w : Caller) (callers : List Caller) (ks handed : List Kind) (after : List Way)
+    → c.callers ≡ w ∷ callers → IsConfig vars c → Holds (depth c) ks c.regs → ways vars Exit ks ≡ Some after → Waits (length callers) handed w.kept
+    → StepsTo (IsLeft vars w callers handed c) (act Exit c)
 
 -- the way that a conditional jump takes is open where the kinds contain the values, and its kinds contain them
 abbrev pub RefinementKeepsWhatTakesTheWay : Type 0

@@ -1,5 +1,5 @@
 -- The transfer function: the registers' kinds after each instruction, where its demands are met.
-use Rattle.std.specs.Prelude.{ℕ, ◌+◌, ◌-◌, ◌<◌, ◌^◌, ◌&&◌, Bool, true, false, nat_lt, nat_le, if◌then◌else◌, ℤ, pos, negsuc, ◌+ℤ◌, ◌-ℤ◌, int_le, List, [], ◌∷◌, Option, Some, None, slice_set}
+use Rattle.std.specs.Prelude.{ℕ, ◌+◌, ◌-◌, ◌≤◌, ◌^◌, ◌&&◌, Bool, true, false, nat_lt, nat_le, if◌then◌else◌, ℤ, pos, negsuc, ◌+ℤ◌, ◌-ℤ◌, int_le, List, [], ◌∷◌, Option, Some, None, slice_set}
 use Rattle.std.specs.Int.{w32, w64, cast_unsigned}
 use Rattle.fc_isa.specs.declared.insn.Width.{Width}
 use Rattle.fc_isa.specs.declared.insn.Width.TheVariants.{W32, W64}
@@ -16,6 +16,10 @@ use Rattle.fc_isa.specs.declared.insn.LoadType.{LoadType}
 use Rattle.fc_isa.specs.declared.insn.LoadType.TheVariants.{Unsigned, SignedByte, SignedHalfWord, SignedWord}
 use Rattle.fc_isa.specs.declared.insn.Insn.{Insn}
 use Rattle.fc_isa.specs.declared.insn.Insn.TheVariants.{Alu, Neg, SignExtend, End, LoadWide, WideSecond, Load, StoreImm, Store, JumpAlways, JumpAlwaysLong, JumpIf, CallHelper, CallLocal, Exit}
+use Rattle.fc_help.specs.declared.helper.Helper.{Helper}
+use Rattle.fc_help.specs.declared.helper.Arguments.{Arguments}
+use Rattle.fc_help.specs.declared.helper.Arguments.TheVariants.{NoArgument, OneNumber, TwoNumbers, Bytes}
+use Rattle.fc_help.specs.Helpers.{helper_of, signature_of}
 use Rattle.fc_alu.specs.Words.{bits_of}
 use Rattle.fc_alu.specs.Arithmetic.{bytes_in}
 use Rattle.fc_kinds.specs.declared.interval.Interval.{Interval}
@@ -139,21 +143,46 @@ abbrev pub where_met : Bool → List Kind → Option (List Kind)
 where_met true kinds = Some kinds
 where_met false kinds = None
 
--- after a local call R0 is a number, R1 to R5 are unset, and the others are as they were
-abbrev pub returned : List Kind → List Kind
-returned kinds =
-    num (all 64) ∷ Unset ∷ Unset ∷ Unset ∷ Unset ∷ Unset
+-- after a call R0 is its answer, R1 to R5 are unset, and the others are as they were
+abbrev pub after_call : Kind → List Kind → List Kind
+after_call answer kinds =
+    answer ∷ Unset ∷ Unset ∷ Unset ∷ Unset ∷ Unset
     ∷ kind_at kinds 6 ∷ kind_at kinds 7 ∷ kind_at kinds 8 ∷ kind_at kinds 9 ∷ kind_at kinds 10 ∷ []
+
+-- a local call answers any number
+abbrev pub returned : List Kind → List Kind
+returned kinds = after_call (num (all 64)) kinds
+
+-- the bytes from a pointer on, as many as a number says, lie in its region
+abbrev pub are_bytes : ℕ → Kind → Kind → Bool
+are_bytes vars pointer (Num lo hi) = may_read vars hi (pos 0) pointer
+are_bytes vars pointer other = false
+
+-- R1, or R1 and R2, are what a helper takes
+abbrev pub are_arguments : ℕ → Arguments → List Kind → Bool
+are_arguments vars NoArgument kinds = true
+are_arguments vars OneNumber kinds = is_number (kind_at kinds 1)
+are_arguments vars TwoNumbers kinds = is_number (kind_at kinds 1) && is_number (kind_at kinds 2)
+are_arguments vars Bytes kinds = are_bytes vars (kind_at kinds 1) (kind_at kinds 2)
+
+-- the kinds after a helper's call, where it gets what it takes
+abbrev pub helped_kinds : ℕ → List Kind → Helper → Option (List Kind)
+helped_kinds vars kinds helper =
+    where_met (are_arguments vars (signature_of helper).arguments kinds) (after_call (Num 0 (signature_of helper).most) kinds)
 
 -- a caller's frame is one level further above in the function that it calls
 abbrev pub raised : Kind → Kind
 raised (Stack level lo hi) = Stack (level + 1) lo hi
 raised kind = kind
 
--- frames nest at most a few deep
-abbrev pub IsShallow : Kind → Type 0
-IsShallow (Stack level lo hi) = level < 1024
-IsShallow kind = Unit {0}
+-- a stack frame is at most so many levels above the present one
+abbrev pub IsShallow : ℕ → Kind → Type 0
+IsShallow top (Stack level lo hi) = level ≤ top
+IsShallow top kind = Unit {0}
+
+-- and so it is for each register
+pub record AreShallow (top : ℕ) (kinds : List Kind) : Type 0 where
+  pub each : (r : ℕ) → IsShallow top (kind_at kinds r)
 
 -- what a local call hands to the start of its function: R1 to R5, and R10 at the end of a fresh frame
 abbrev pub enter : List Kind → List Kind
@@ -162,8 +191,7 @@ enter kinds =
     ∷ raised (kind_at kinds 5)
     ∷ Unset ∷ Unset ∷ Unset ∷ Unset ∷ Stack 0 (pos 256) (pos 256) ∷ []
 
--- the kinds after an instruction, or nothing where its demands aren't met; a program's variables have this size. The helpers'
--- calls have none yet
+-- the kinds after an instruction, or nothing where its demands aren't met; a program's variables have this size
 unfoldable pub transfer : ℕ → Insn → List Kind → Option (List Kind)
 transfer vars (Alu op width dst operand) kinds =
     put_kind kinds dst (alu_kind op width operand (kind_at kinds dst) (operand_kind width operand kinds))
@@ -182,6 +210,6 @@ transfer vars (Store size base offset src) kinds =
 transfer vars (JumpAlways offset) kinds = Some kinds
 transfer vars (JumpAlwaysLong offset) kinds = Some kinds
 transfer vars (JumpIf j) kinds = where_met (is_number (kind_at kinds j.left) && is_number (operand_kind j.width j.right kinds)) kinds
-transfer vars (CallHelper number) kinds = None
+transfer vars (CallHelper number) kinds = with_some (helper_of number) (helped_kinds vars kinds)
 transfer vars (CallLocal offset) kinds = Some (returned kinds)
 transfer vars Exit kinds = where_met (is_number (kind_at kinds 0)) kinds

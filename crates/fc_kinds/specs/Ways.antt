@@ -6,7 +6,7 @@ use Rattle.fc_kinds.specs.declared.kind.Kind.{Kind}
 use Rattle.fc_kinds.specs.Kinds.{Within}
 use Rattle.fc_kinds.specs.Lattice.{AreKinds}
 use Rattle.fc_kinds.specs.Values.{with_some}
-use Rattle.fc_kinds.specs.Transfer.{transfer, enter}
+use Rattle.fc_kinds.specs.Transfer.{AreShallow, transfer, enter}
 use Rattle.fc_kinds.specs.Refinement.{when}
 
 -- a way on: how many slots it skips from the next one, and the kinds on it
@@ -56,3 +56,8 @@ AreAmong (w ∷ ws) vs = IsAmong w vs × AreAmong ws vs
 abbrev pub AreHeld : List Way → Type 0
 AreHeld [] = Unit {0}
 AreHeld (w ∷ ws) = AreKinds w.kinds × AreHeld ws
+
+-- no way's kinds have a stack frame more than so many levels above
+abbrev pub AllShallow : ℕ → List Way → Type 0
+AllShallow top [] = Unit {0}
+AllShallow top (w ∷ ws) = AreShallow top w.kinds × AllShallow top ws

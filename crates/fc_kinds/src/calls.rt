@@ -1,17 +1,20 @@
-//! Local calls: what they hand to a function, and what they leave.
-ghost use Rattle.std.specs.Prelude.{ℕ, ◌<◌, ◌≡◌};
-ghost use Rattle.fc_kinds.specs.Kinds.{kind_at};
-ghost use Rattle.fc_kinds.specs.Transfer.{IsShallow, enter, raised, returned};
+//! Calls: what they take, what they hand to a function, and what they leave.
+ghost use Rattle.std.specs.Prelude.{IfErr, IfOk, None, Some, ◌≡◌, ◌≤◌};
+ghost use Rattle.fc_isa.specs.Rules.{number_of};
+ghost use Rattle.fc_kinds.specs.Lattice.{AreKinds, IsKind};
+ghost use Rattle.fc_kinds.specs.Transfer.{AreShallow, IsShallow, after_call, are_arguments, are_bytes, enter, helped_kinds, raised, returned, transfer};
 
 use crate::interval::all;
 use crate::kind::{Kind, Regs};
-use crate::operands::num;
-use fc_isa::Width;
+use crate::operands::{is_number, num};
+use crate::pointers::may_read;
+use fc_help::{Arguments, Helper, Signature, helper_of, signature_of};
+use fc_isa::{Insn, Rule, Width};
 
 /// Computes the kinds that a local call hands to the start of its function: R1 to R5, with stack frames one level further
 /// above, and R10 at the end of a fresh frame. Levels are below 1,024.
 pub fn enter(regs: &Regs) -> Regs
-    requires { (r : ℕ) → IsShallow (kind_at regs.now r) }
+    requires { AreShallow 1023 regs.now }
     ensures { result ≡ enter regs.now }
 {
     let frame_end = Kind::Stack {
@@ -36,7 +39,7 @@ pub fn enter(regs: &Regs) -> Regs
 }
 
 fn raised(kind: Kind) -> Kind
-    requires { IsShallow kind }
+    requires { IsShallow 1023 kind }
     ensures { result ≡ raised kind }
 {
     match kind {
@@ -49,22 +52,90 @@ fn raised(kind: Kind) -> Kind
     }
 }
 
-/// The kinds after a local call: R0 is a number, R1 to R5 are unset, and the others as they were.
+/// The kinds after a local call: R0 is a number.
 pub(crate) fn returned(regs: &Regs) -> Regs
     ensures { result ≡ returned regs.now }
 {
+    after_call(num(all(Width::W64)), regs)
+}
+
+/// The kinds after a call: R0 is its answer, R1 to R5 are unset, and the others are as they were.
+fn after_call(answer: Kind, regs: &Regs) -> Regs
+    ensures { result ≡ after_call answer regs.now }
+{
     let unset = Kind::Unset;
     [
-        num(all(Width::W64)),
-        unset,
-        unset,
-        unset,
-        unset,
-        unset,
-        regs[6],
-        regs[7],
-        regs[8],
-        regs[9],
-        regs[10],
+        answer, unset, unset, unset, unset, unset, regs[6], regs[7], regs[8], regs[9], regs[10],
     ]
+}
+
+/// The kinds after a helper's call, where the helper exists and gets what it takes.
+///
+/// # Errors
+/// An argument is unset, or another than the helper takes.
+#[tactic(auto, unfolding(crate::specs::Transfer::transfer))]
+pub(crate) fn call_helper(number: i32, regs: &Regs, vars_size: u16) -> Result<Regs, Rule>
+    requires { AreKinds regs.now }
+    ensures after { IfOk result (λ ks. transfer vars_size (Insn.CallHelper number) regs.now ≡ Some ks) }
+    ensures refused { IfErr result (λ rule. transfer vars_size (Insn.CallHelper number) regs.now ≡ None) }
+    ensures rule { IfErr result (λ rule. (20 ≤ number_of rule) × (number_of rule ≤ 27)) }
+{
+    match helper_of(number) {
+        None => Err(Rule::HelperArgument),
+        Some(helper) => helped_kinds(helper, regs, vars_size),
+    }
+}
+
+/// The kinds after the call of a helper that gets what it takes.
+///
+/// # Errors
+/// An argument is unset, or another than the helper takes.
+fn helped_kinds(helper: Helper, regs: &Regs, vars_size: u16) -> Result<Regs, Rule>
+    requires { AreKinds regs.now }
+    ensures after { IfOk result (λ ks. helped_kinds vars_size regs.now helper ≡ Some ks) }
+    ensures refused { IfErr result (λ rule. helped_kinds vars_size regs.now helper ≡ None) }
+    ensures rule { IfErr result (λ rule. (20 ≤ number_of rule) × (number_of rule ≤ 27)) }
+{
+    let Signature { arguments, most } = signature_of(helper);
+    if are_arguments(vars_size, arguments, regs) {
+        Ok(after_call(Kind::Num { lo: 0, hi: most }, regs))
+    } else {
+        Err(argument_fault(arguments, regs))
+    }
+}
+
+/// Whether R1, or R1 and R2, are what a helper takes.
+fn are_arguments(vars_size: u16, arguments: Arguments, regs: &Regs) -> bool
+    requires { AreKinds regs.now }
+    ensures { result ≡ are_arguments vars_size arguments regs.now }
+{
+    match arguments {
+        Arguments::NoArgument => true,
+        Arguments::OneNumber => is_number(regs[1]),
+        Arguments::TwoNumbers => is_number(regs[1]) && is_number(regs[2]),
+        Arguments::Bytes => are_bytes(vars_size, regs[1], regs[2]),
+    }
+}
+
+/// Whether the bytes from a pointer on, as many as a number says, lie in its region.
+fn are_bytes(vars_size: u16, pointer: Kind, count: Kind) -> bool
+    requires { IsKind pointer }
+    ensures { result ≡ are_bytes vars_size pointer count }
+{
+    match count {
+        Kind::Num { hi, .. } if hi <= 65_535 => may_read(vars_size, hi as u16, 0, pointer),
+        _ => false,
+    }
+}
+
+/// Why a helper doesn't get what it takes: an unset register comes first.
+fn argument_fault(arguments: Arguments, regs: &Regs) -> Rule
+    ensures { (20 ≤ number_of result) × (number_of result ≤ 27) }
+{
+    match (arguments, regs[1], regs[2]) {
+        (Arguments::OneNumber, Kind::Unset, _) => Rule::UnsetRegister,
+        (Arguments::TwoNumbers | Arguments::Bytes, Kind::Unset, _) => Rule::UnsetRegister,
+        (Arguments::TwoNumbers | Arguments::Bytes, _, Kind::Unset) => Rule::UnsetRegister,
+        _ => Rule::HelperArgument,
+    }
 }

@@ -5,9 +5,9 @@ ghost use Rattle.fc_isa.specs.declared.insn.Insn.{Insn};
 ghost use Rattle.fc_help.specs.Request.{Request};
 ghost use Rattle.fc_kinds.specs.Kinds.{Holds, Within};
 ghost use Rattle.fc_kinds.specs.Lattice.{AreKinds, joined};
-ghost use Rattle.fc_kinds.specs.Laws.{EffectsAreMonotone, EffectsContainTheStep, RefinementIsMonotone, RefinementKeepsWhatTakesTheWay, WaysAreMonotone};
+ghost use Rattle.fc_kinds.specs.Laws.{CallsContainTheStep, EffectsAreMonotone, EffectsContainTheStep, ExitsContainTheStep, RefinementIsMonotone, RefinementKeepsWhatTakesTheWay, WaysAreMonotone, WaysRaiseByOne};
 ghost use Rattle.fc_kinds.specs.Meaning.{Meaning, Means, Program};
-ghost use Rattle.fc_kinds.specs.Transfer.{enter, transfer};
+ghost use Rattle.fc_kinds.specs.Transfer.{AreShallow, enter, transfer};
 ghost use Rattle.fc_kinds.specs.Values.{Value};
 ghost use Rattle.fc_kinds.specs.declared.kind.Kind.{Kind as What};
 
@@ -51,10 +51,28 @@ pub fn ways_are_monotone()
     ensures { WaysAreMonotone }
 {}
 
+/// On an instruction's ways stack frames are at most one level further above than before it, and a join raises none.
+pub fn ways_raise_by_one()
+    ensures ways { WaysRaiseByOne }
+    ensures join { (top : ℕ) (a b : List What) → AreShallow top a → AreShallow top b → AreShallow top (joined a b) }
+{}
+
 /// Where an instruction's demands are met by kinds that contain the registers' values, it has a step; the step leads along some
-/// way, whose kinds contain the values after it, and keeps the sizes of the regions. Of calls and exits nothing is said.
+/// way, whose kinds contain the values after it, and keeps the sizes of the regions. Of local calls and exits nothing is said.
 pub fn effects_contain_the_step()
     ensures { EffectsContainTheStep }
+{}
+
+/// Where the kinds contain the registers' values, and there are fewer than four frames, a local call has a step: into its
+/// function, with what it hands on; its caller waits.
+pub fn calls_contain_the_step()
+    ensures { CallsContainTheStep }
+{}
+
+/// Where an exit's demands are met by kinds that contain the registers' values, and a caller waits, it has a step: back to the
+/// caller, where the kinds after the call contain the registers' values.
+pub fn exits_contain_the_step()
+    ensures { ExitsContainTheStep }
 {}
 
 /// The way that a conditional jump takes is open where the kinds contain the values, and its kinds contain them.

@@ -5,7 +5,7 @@ ghost use Rattle.fc_kinds.specs.Lattice.{AreKinds};
 ghost use Rattle.fc_kinds.specs.Transfer.{alu_kind, operand_kind, returned, transfer};
 
 use crate::arithmetic::{alu_after, ordered_interval};
-use crate::calls::returned;
+use crate::calls::{call_helper, returned};
 use crate::interval::{all, extended_values};
 use crate::kind::{Kind, Regs};
 use crate::memory::{load, store, store_imm};
@@ -13,10 +13,10 @@ use crate::operands::{is_number, num, number, operand_fault, operand_kind, put};
 use fc_isa::{Insn, Jump, Rule};
 
 /// Computes the kinds after an instruction of a program whose variables have this many bytes, where its demands are met; a
-/// local call's are those after its function's exit. A helper's call has none yet.
+/// local call's are those after its function's exit.
 ///
 /// # Errors
-/// A rule, 20 to 27, that the instruction breaks at these kinds; 27 is a helper's call, or the second half of a wide load.
+/// A rule, 20 to 27, that the instruction breaks at these kinds; a wide load's second half breaks rule 27.
 #[tactic(auto, unfolding(crate::specs::Transfer::transfer))]
 pub fn after(insn: Insn, regs: &Regs, vars_size: u16) -> Result<Regs, Rule>
     requires { AreKinds regs.now }
@@ -81,7 +81,8 @@ pub fn after(insn: Insn, regs: &Regs, vars_size: u16) -> Result<Regs, Rule>
         Insn::CallLocal { .. } => Ok(returned(regs)),
         Insn::Exit if is_number(regs[0]) => Ok(*regs),
         Insn::Exit => Err(Rule::ExitValue),
-        Insn::WideSecond | Insn::CallHelper { .. } => Err(Rule::HelperArgument),
+        Insn::CallHelper { number } => call_helper(number, regs, vars_size),
+        Insn::WideSecond => Err(Rule::HelperArgument),
     }
 }
 

@@ -9,24 +9,24 @@ use Rattle.fc_isa.specs.declared.rule.Rule.{Rule}
 use Rattle.fc_isa.specs.declared.rule.Fault.{Fault}
 use Rattle.fc_isa.specs.declared.decoding.DecodeError.{DecodeError}
 use Rattle.fc_isa.specs.declared.decoding.DecodeError.TheVariants.{Fault as FaultAt, NoMemory as NoRoom}
-use Rattle.fc_isa.specs.Encoding.{Spells, program_of}
+use Rattle.fc_isa.specs.Encoding.{Spells, IsDecodeError, first_fault, program_of}
 use Rattle.fc_isa.specs.Program.{IsInsn}
 use Rattle.fc_isa.specs.Rules.{number_of}
-use Rattle.fc_isa.proofs.Slots.{spelled_once, length-insns_below}
+use Rattle.fc_isa.proofs.Slots.{length-insns_below}
 use Rattle.fc_image.specs.Head.{Head, head_fault, stated}
 use Rattle.fc_image.specs.Paths.{longest}
 use Rattle.fc_image.specs.ShapeRules.{IsShaped, shape_fault}
 use Rattle.fc_verify.specs.declared.refusal.Refusal.{Refusal}
 use Rattle.fc_verify.specs.declared.refusal.Refusal.TheVariants.{Broken}
 use Rattle.fc_verify.specs.Accepted.{Judgement, Accepts, Breaks, Untypable, slots_of}
-use Rattle.fc_verify.specs.Calls.{HasNoCall, IsRefusedBy, first_refused}
 use Rattle.fc_verify.specs.Judged.{code_in, program_in, judged}
 use Rattle.fc_verify.specs.Pass.{beginning, is_typable}
 use Rattle.fc_verify.specs.Refusals.{IsFaultOf, IsRefusal, refusal_of}
 use Rattle.fc_verify.specs.Runs.{IsUntypedProgram}
 use Rattle.fc_verify.specs.Stages.{IsHeadOf, IsCodeOf, IsTypingFault}
 use Rattle.fc_verify.specs.Verified.{program_of as program}
-use Rattle.fc_verify.proofs.CallLaws.{first_refused_is, low_refused, program_no_call}
+use Rattle.fc_isa.proofs.First.{first_fault_is}
+use Rattle.fc_isa.proofs.Low.{low_fault_at}
 use Rattle.fc_verify.proofs.LowHead.{head_rule_low}
 
 -- the typing's judgement of the program in an image
@@ -37,19 +37,19 @@ pub judged_head : (image : List ℕ) (rule : Rule) → head_fault image ≡ Some
 unfolding judged
 judged_head image rule e = rw e refl
 
-pub judged_slots : (image : List ℕ) (rule : Rule) (slot : ℕ) → head_fault image ≡ None → first_refused (slots_of image) ≡ Some (slot, rule) → judged image ≡ Breaks rule slot
+pub judged_slots : (image : List ℕ) (rule : Rule) (slot : ℕ) → head_fault image ≡ None → first_fault (slots_of image) ≡ Some (slot, rule) → judged image ≡ Breaks rule slot
 unfolding judged
 judged_slots image rule slot e f = rw (e, f) refl
 
-pub judged_shape : (image : List ℕ) (rule : Rule) (slot : ℕ) → head_fault image ≡ None → first_refused (slots_of image) ≡ None → shape_fault (stated image).budget (code_in image) ≡ Some (slot, rule) → judged image ≡ Breaks rule slot
+pub judged_shape : (image : List ℕ) (rule : Rule) (slot : ℕ) → head_fault image ≡ None → first_fault (slots_of image) ≡ None → shape_fault (stated image).budget (code_in image) ≡ Some (slot, rule) → judged image ≡ Breaks rule slot
 unfolding judged
 judged_shape image rule slot e f s = rw (e, f, s) refl
 
-pub judged_untypable : (image : List ℕ) → head_fault image ≡ None → first_refused (slots_of image) ≡ None → shape_fault (stated image).budget (code_in image) ≡ None → types image ≡ false → judged image ≡ Untypable
+pub judged_untypable : (image : List ℕ) → head_fault image ≡ None → first_fault (slots_of image) ≡ None → shape_fault (stated image).budget (code_in image) ≡ None → types image ≡ false → judged image ≡ Untypable
 unfolding judged
 judged_untypable image e f s t = rw (e, f, s, t) refl
 
-pub judged_accepts : (image : List ℕ) → head_fault image ≡ None → first_refused (slots_of image) ≡ None → shape_fault (stated image).budget (code_in image) ≡ None → types image ≡ true → judged image ≡ Accepts (program_in image)
+pub judged_accepts : (image : List ℕ) → head_fault image ≡ None → first_fault (slots_of image) ≡ None → shape_fault (stated image).budget (code_in image) ≡ None → types image ≡ true → judged image ≡ Accepts (program_in image)
 unfolding judged
 judged_accepts image e f s t = rw (e, f, s, t) refl
 
@@ -69,38 +69,38 @@ pub code_count : (image : List ℕ) → length (code_in image) ≡ length (slots
 unfolding program_of
 code_count image = length-insns_below (slots_of image) (length (slots_of image) / 8)
 
-pub code_found : (image : List ℕ) (head : Head) (code : List Insn) → IsHeadOf image head → code ≡ code_in image → first_refused (slots_of image) ≡ None → Spells (slots_of image) code → HasNoCall (slots_of image)
+pub code_found : (image : List ℕ) (head : Head) (code : List Insn) → IsHeadOf image head → code ≡ code_in image → first_fault (slots_of image) ≡ None → Spells (slots_of image) code
     → IsCodeOf image code
-code_found image head code h e f s none = record {
+code_found image head code h e f s = record {
   fault = f;
   code_is = e;
   spelled = s;
-  calls = none;
   count = let c = ap (λ x. x.count) h.stated_is in omega (arith, ap length e, code_count image, length-drop 16 image, h.size, c);
 }
 
-pub refused_decode : (image : List ℕ) (head : Head) (e : DecodeError) → IsHeadOf image head → IsRefusedBy (slots_of image) e → IsRefusal image (refusal_of e)
+pub refused_decode : (image : List ℕ) (head : Head) (e : DecodeError) → IsHeadOf image head → IsDecodeError (slots_of image) e → IsRefusal image (refusal_of e)
 refused_decode image head (FaultAt f) h d =
-    fault_of image (Breaks f.rule f.slot) f (judged_slots image f.rule f.slot h.fault (first_refused_is (slots_of image) f.rule f.slot d)) (refl, refl, low_refused (slots_of image) f.rule f.slot d)
+    fault_of image (Breaks f.rule f.slot) f (judged_slots image f.rule f.slot h.fault (first_fault_is (slots_of image) f.rule f.slot d)) (refl, refl, low_fault_at (slots_of image) f.slot f.rule d.broken)
 refused_decode image head NoRoom h d = h.fault
 
--- ---- a program without calls
+-- ---- the program that the slots spell
 
 insn_there : (code : List Insn) (slot : ℕ) (insn : Insn) → All IsInsn code → slice_get code slot ≡ Some insn → IsInsn insn
 insn_there code slot insn h e = subst IsInsn (get_or_from_slice_get code slot insn insn e) (h slot insn (slice_get_within code slot insn e))
 
-pub untyped_program : (bytes : List ℕ) (code : List Insn) → 1 ≤ length code → Spells bytes code → HasNoCall bytes → IsShaped code → IsUntypedProgram code
-untyped_program bytes code some s none shaped = record {
+pub untyped_program : (bytes : List ℕ) (code : List Insn) → 1 ≤ length code → length code ≤ 512 → Spells bytes code → IsShaped code → IsUntypedProgram code
+untyped_program bytes code some few s shaped = record {
   some = some;
+  few = few;
   insns = λ slot insn e. insn_there code slot insn s.insns e;
-  calls = λ slot insn e. program_no_call bytes none slot insn (subst (λ p. slice_get p slot ≡ Some insn) (spelled_once bytes code s) e);
+  whole = s.whole;
   shaped = shaped;
 }
 
 pub untyped_of : (image : List ℕ) (head : Head) (code : List Insn) → IsHeadOf image head → IsCodeOf image code → IsShaped code → IsUntypedProgram code
 untyped_of image head code h k s =
     let c = ap (λ x. x.count) h.stated_is in
-    untyped_program (slots_of image) code (omega (arith, h.limits.some, c, k.count)) k.spelled k.calls s
+    untyped_program (slots_of image) code (omega (arith, h.limits.some, c, k.count)) (omega (arith, h.limits.count, c, k.count)) k.spelled s
 
 -- the shape's fault of the program in the image, and its typing's judgement
 pub shape_of : (image : List ℕ) (head : Head) (code : List Insn) (o : Option (ℕ × Rule)) → IsHeadOf image head → IsCodeOf image code → shape_fault head.budget code ≡ o → shape_fault (stated image).budget (code_in image) ≡ o

@@ -1,6 +1,6 @@
-pub mod CallLaws
 pub mod LowHead
 pub mod PassLaws
+pub mod Levels
 pub mod RunLaws
 pub mod Judging
 pub mod Right

@@ -31,7 +31,7 @@ pub record KindRules : Type 0 where
   pub kinds : (a b : List Kind) → AreKinds a → AreKinds b → AreKinds (joined a b)
   pub monotone : WaysAreMonotone
 
-set_past : {X : Type 0} (xs : List X) (i : ℕ) (y : X) → length xs ≤ i → slice_set xs i y ≡ xs
+pub set_past : {X : Type 0} (xs : List X) (i : ℕ) (y : X) → length xs ≤ i → slice_set xs i y ≡ xs
 set_past [] i y h = refl
 set_past (x ∷ xs) zero y h = absurd (omega arith)
 set_past (x ∷ xs) (suc i) y h = ap (λ l. x ∷ l) (set_past xs i y (omega arith))
@@ -53,7 +53,7 @@ leads_then laws states wider slot kinds l w =
 are_within_then : KindRules → (a b c : States) → AreWithin a b → AreWithin b c → AreWithin a c
 are_within_then laws a b c p q = record { each = λ slot kinds e. leads_then laws b c slot kinds (p.each slot kinds e) q }
 
-abbrev met : States → ℕ → List Kind → States
+abbrev pub met : States → ℕ → List Kind → States
 met states slot kinds = slice_set states slot (joined_in (state_at states slot) kinds)
 
 -- the joined state at a slot that there is
@@ -160,8 +160,8 @@ ways_below n (JumpAlwaysLong offset) before after h = (h.1, tt)
 ways_below n (JumpIf j) before after h =
     below_both n (way_where (skipped j.offset) (when j true after)) (way_where 0 (when j false after))
     (below_where n (skipped j.offset) (when j true after) h.0.1) (below_where n 0 (when j false after) h.1)
-ways_below n (CallHelper number) before after h = absurd h
-ways_below n (CallLocal offset) before after h = absurd h
+ways_below n (CallHelper number) before after h = (h, tt)
+ways_below n (CallLocal offset) before after h = (h.0.1, (h.1, tt))
 ways_below n Exit before after h = tt
 
 handed_below : (n vars : ℕ) (insn : Insn) (ks : List Kind) (handed : List Way) → Stays n insn → ways vars insn ks ≡ Some handed → AllBelow n handed
@@ -367,7 +367,7 @@ typable_from laws vars (insn ∷ code) (s ∷ pending) (t ∷ states) i f w p =
     let r = stays laws vars insn code s t pending states i.0 f w p in
     rw r.is (typable_from laws vars code r.next states i.1 (tail_fine vars insn code t states f) r.within r.proper)
 
-none_at : (code : List Insn) (slot : ℕ) → state_at (map (λ i. None) code) slot ≡ None
+pub none_at : (code : List Insn) (slot : ℕ) → state_at (map (λ i. None) code) slot ≡ None
 none_at [] slot = refl
 none_at (insn ∷ code) zero = refl
 none_at (insn ∷ code) (suc slot) = none_at code slot
@@ -438,7 +438,7 @@ dropped code slot insn g =
     ∙ ap (λ x. x ∷ drop (suc slot) code) (get_or_from_slice_get code slot insn insn g)
     ∙ ap (λ n. insn ∷ drop n code) (sym (add-one slot))
 
-dropped_state : (states : States) (slot : ℕ) (s : Option (List Kind)) → slot < length states → state_at states slot ≡ s → drop slot states ≡ s ∷ drop (slot + 1) states
+pub dropped_state : (states : States) (slot : ℕ) (s : Option (List Kind)) → slot < length states → state_at states slot ≡ s → drop slot states ≡ s ∷ drop (slot + 1) states
 dropped_state states slot s lt e = drop-cons states slot None lt ∙ ap (λ x. x ∷ drop (suc slot) states) e ∙ ap (λ n. s ∷ drop n states) (sym (add-one slot))
 
 taken : (states : States) (slot : ℕ) (rest : States) → slot < length states → take (suc slot) states ++ rest ≡ take slot states ++ (state_at states slot ∷ rest)

@@ -1,5 +1,5 @@
 -- Programs of which a typing exists or none does, by computation.
-use Rattle.std.proofs.Common.{◌≡◌, ℤ, pos, negsuc, Bool, true, false, List, [], ◌∷◌, refl}
+use Rattle.std.proofs.Common.{◌≡◌, ℕ, ℤ, pos, negsuc, Bool, true, false, List, [], ◌∷◌, refl}
 use Rattle.fc_isa.specs.declared.insn.Width.TheVariants.{W32, W64}
 use Rattle.fc_isa.specs.declared.insn.AluOp.TheVariants.{Add, Mov}
 use Rattle.fc_isa.specs.declared.insn.Relation.TheVariants.{Eq, Gt}
@@ -7,7 +7,7 @@ use Rattle.fc_isa.specs.declared.insn.Operand.TheVariants.{Imm, Reg}
 use Rattle.fc_isa.specs.declared.insn.Size.TheVariants.{Byte, DoubleWord}
 use Rattle.fc_isa.specs.declared.insn.LoadType.TheVariants.{Unsigned}
 use Rattle.fc_isa.specs.declared.insn.Insn.{Insn}
-use Rattle.fc_isa.specs.declared.insn.Insn.TheVariants.{Alu, LoadWide, WideSecond, Load, StoreImm, Store, JumpIf, Exit}
+use Rattle.fc_isa.specs.declared.insn.Insn.TheVariants.{Alu, LoadWide, WideSecond, Load, StoreImm, Store, JumpIf, CallHelper, CallLocal, Exit}
 use Rattle.fc_isa.specs.declared.insn.Width.{Width}
 use Rattle.fc_kinds.specs.Intervals.{interval_of, alu_interval, refined}
 use Rattle.fc_kinds.specs.Transfer.{transfer, alu_kind}
@@ -57,3 +57,55 @@ payload offset = Alu Mov W64 4 (Reg 1) ∷ Alu Add W64 4 (Reg 3) ∷ Load (Unsig
 fifth : (is_typable 0 (payload (pos 80)) (beginning (payload (pos 80))) ≡ false) × (is_typable 0 (payload (pos 79)) (beginning (payload (pos 79))) ≡ true)
 unfolding transfer when alu_kind interval_of alu_interval refined ways costs longest
 fifth = (refl, refl)
+
+-- ---- calls
+
+abbrev types : List Insn → Bool
+types code = is_typable 8 code (beginning code)
+
+abbrev fixed : ℕ → ℤ → Insn
+fixed r k = Alu Mov W64 r (Imm k)
+
+abbrev moves : ℕ → ℕ → Insn
+moves r q = Alu Mov W64 r (Reg q)
+
+-- counts the requests in the first word of the variables
+abbrev counter : List Insn
+counter = fixed 1 (pos 0) ∷ CallHelper (pos 3) ∷ Alu Add W64 0 (Imm (pos 1)) ∷ moves 2 0 ∷ fixed 1 (pos 0) ∷ CallHelper (pos 4) ∷ CallHelper (pos 7) ∷ fixed 0 (pos 0) ∷ Exit ∷ []
+
+counter_row : (types counter ≡ true) × (longest counter ≡ 9)
+unfolding transfer when alu_kind interval_of alu_interval refined ways costs longest
+counter_row = (refl, refl)
+
+-- a program that sets R1 and R6, calls a function of these instructions, and then has these
+abbrev calling : List Insn → List Insn
+calling body = fixed 1 (pos 1) ∷ fixed 6 (pos 6) ∷ CallLocal (pos 2) ∷ moves 0 6 ∷ Exit ∷ body
+
+-- the function finds R1, but not R6 or R0, and an exit of it wants a number too
+functions_find : (types (calling (moves 0 1 ∷ Exit ∷ [])) ≡ true) × (types (calling (moves 0 6 ∷ Exit ∷ [])) ≡ false) × (types (calling (Exit ∷ [])) ≡ false) × (types (calling (moves 0 10 ∷ Exit ∷ [])) ≡ false)
+unfolding transfer when alu_kind interval_of alu_interval refined ways costs longest
+functions_find = (refl, refl, refl, refl)
+
+-- after a call R1 is unset, and R6 is kept
+abbrev after : ℕ → List Insn
+after r = fixed 1 (pos 1) ∷ fixed 6 (pos 6) ∷ CallLocal (pos 2) ∷ moves 0 r ∷ Exit ∷ fixed 0 (pos 0) ∷ Exit ∷ []
+
+calls_keep : (types (after 6) ≡ true) × (types (after 1) ≡ false) × (types (after 0) ≡ true)
+unfolding transfer when alu_kind interval_of alu_interval refined ways costs longest
+calls_keep = (refl, refl, refl)
+
+-- a function called twice finds what both calls hand on: two numbers, or a number and a pointer
+abbrev twice : Insn → List Insn
+twice second = fixed 1 (pos 1) ∷ CallLocal (pos 3) ∷ second ∷ CallLocal (pos 1) ∷ Exit ∷ moves 0 1 ∷ Exit ∷ []
+
+callers_are_joined : (types (twice (fixed 1 (pos 2))) ≡ true) × (types (twice (moves 1 10)) ≡ false) × (longest (twice (fixed 1 (pos 2))) ≡ 9)
+unfolding transfer when alu_kind interval_of alu_interval refined ways costs longest
+callers_are_joined = (refl, refl, refl)
+
+-- a function may write to its caller's frame, which is one level above its own
+abbrev frames_of : ℤ → List Insn
+frames_of offset = moves 1 10 ∷ CallLocal (pos 1) ∷ Exit ∷ StoreImm Byte 1 offset (pos 0) ∷ StoreImm Byte 10 (negsuc 255) (pos 0) ∷ fixed 0 (pos 0) ∷ Exit ∷ []
+
+frames_are_apart : (types (frames_of (negsuc 255)) ≡ true) × (types (frames_of (negsuc 256)) ≡ false) × (types (frames_of (pos 0)) ≡ false)
+unfolding transfer when alu_kind interval_of alu_interval refined ways costs longest
+frames_are_apart = (refl, refl, refl)

@@ -1,23 +1,21 @@
 -- Which images are accepted, and what is wrong first with the others.
 use Rattle.std.specs.Prelude.{◌≡◌, ℕ, ◌≤◌, List, drop, Some, None, ◌⊎◌}
 use Rattle.fc_isa.specs.declared.rule.Rule.{Rule}
-use Rattle.fc_isa.specs.Encoding.{Spells}
+use Rattle.fc_isa.specs.Encoding.{Spells, IsFirstFault}
 use Rattle.fc_image.specs.Head.{head_fault, stated}
 use Rattle.fc_image.specs.Paths.{IsLongest}
 use Rattle.fc_image.specs.ShapeRules.{IsShapeFault, IsShaped}
 use Rattle.fc_kinds.specs.Meaning.{Program}
 use Rattle.fc_kinds.specs.Typing.{States, IsTypingOf}
-use Rattle.fc_verify.specs.Calls.{HasNoCall, IsFirstRefused}
 
 -- the slots of an image: what stands behind its header
 abbrev pub slots_of : List ℕ → List ℕ
 slots_of image = drop 16 image
 
--- the image keeps the header's rules, and its slots spell this program, without calls
+-- the image keeps the header's rules, and its slots spell this program
 pub record IsProgramOf (image : List ℕ) (p : Program) : Type 0 where
   pub head : head_fault image ≡ None
   pub code : Spells (slots_of image) p.code
-  pub calls : HasNoCall (slots_of image)
   pub vars_size : p.vars_size ≡ (stated image).vars_size
   pub budget : p.budget ≡ (stated image).budget
 
@@ -43,7 +41,7 @@ pub record BreaksShape (image : List ℕ) (rule : Rule) (slot : ℕ) : Type 0 wh
 -- a slot breaks a rule of the encoding
 pub record BreaksSlot (image : List ℕ) (rule : Rule) (slot : ℕ) : Type 0 where
   pub head : head_fault image ≡ None
-  pub fault : IsFirstRefused (slots_of image) rule slot
+  pub fault : IsFirstFault (slots_of image) rule slot
 
 -- the header breaks a rule, which names slot 0
 pub record BreaksHead (image : List ℕ) (rule : Rule) (slot : ℕ) : Type 0 where

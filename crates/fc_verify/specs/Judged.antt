@@ -2,13 +2,12 @@
 use Rattle.std.specs.Prelude.{ℕ, Bool, true, false, List, Option, Some, None}
 use Rattle.fc_isa.specs.declared.insn.Insn.{Insn}
 use Rattle.fc_isa.specs.declared.rule.Rule.{Rule}
-use Rattle.fc_isa.specs.Encoding.{program_of}
+use Rattle.fc_isa.specs.Encoding.{first_fault, program_of}
 use Rattle.fc_image.specs.Head.{head_fault, stated}
 use Rattle.fc_image.specs.Paths.{longest}
 use Rattle.fc_image.specs.ShapeRules.{shape_fault}
 use Rattle.fc_kinds.specs.Meaning.{Program}
 use Rattle.fc_verify.specs.Accepted.{Judgement, Accepts, Breaks, Untypable, slots_of}
-use Rattle.fc_verify.specs.Calls.{first_refused}
 use Rattle.fc_verify.specs.Pass.{beginning, is_typable}
 
 -- the program that an image's slots spell, where they spell one
@@ -38,7 +37,7 @@ by_slots None image = by_shape (shape_fault (stated image).budget (code_in image
 
 abbrev pub by_head : Option Rule → List ℕ → Judgement
 by_head (Some rule) image = Breaks rule 0
-by_head None image = by_slots (first_refused (slots_of image)) image
+by_head None image = by_slots (first_fault (slots_of image)) image
 
 -- the header's rules come first, then the slots', then the shape's, then the typing
 unfoldable pub judged : List ℕ → Judgement

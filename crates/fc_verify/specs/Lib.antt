@@ -1,4 +1,3 @@
-pub mod Calls
 pub mod Accepted
 pub mod Pass
 pub mod Judged

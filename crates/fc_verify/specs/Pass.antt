@@ -1,7 +1,7 @@
 -- The least states of a program's slots, computed slot by slot from its entry on. Each slot's predecessors come earlier.
 use Rattle.std.specs.Prelude.{◌≡◌, ℕ, ◌<◌, ℤ, pos, ◌≤ℤ◌, Bool, true, false, List, [], ◌∷◌, length, map, Option, Some, None, slice_set}
 use Rattle.fc_isa.specs.declared.insn.Insn.{Insn}
-use Rattle.fc_isa.specs.declared.insn.Insn.TheVariants.{LoadWide, WideSecond, JumpAlways, JumpAlwaysLong, JumpIf, CallHelper, CallLocal, Exit}
+use Rattle.fc_isa.specs.declared.insn.Insn.TheVariants.{LoadWide, WideSecond, JumpAlways, JumpAlwaysLong, JumpIf, CallLocal, Exit}
 use Rattle.fc_kinds.specs.declared.kind.Kind.{Kind}
 use Rattle.fc_kinds.specs.Lattice.{AreKinds, joined}
 use Rattle.fc_kinds.specs.Values.{with_some}
@@ -56,15 +56,14 @@ pub record AreProper (states : States) : Type 0 where
 abbrev pub Skips : ℕ → ℤ → Type 0
 Skips n offset = (pos 0 ≤ℤ offset) × (skipped offset < n)
 
--- an instruction leads to some of the n slots after it alone; programs with calls are refused before they are typed
+-- an instruction leads to some of the n slots after it alone
 abbrev pub Stays : ℕ → Insn → Type 0
 Stays n (LoadWide dst value) = 1 < n
 Stays n WideSecond = Unit {0}
 Stays n (JumpAlways offset) = Skips n offset
 Stays n (JumpAlwaysLong offset) = Skips n offset
 Stays n (JumpIf j) = Skips n j.offset × (0 < n)
-Stays n (CallHelper number) = ⊥
-Stays n (CallLocal offset) = ⊥
+Stays n (CallLocal offset) = Skips n offset × (0 < n)
 Stays n Exit = Unit {0}
 Stays n other = 0 < n
 

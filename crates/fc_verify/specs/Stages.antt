@@ -2,11 +2,10 @@
 use Rattle.std.specs.Prelude.{◌≡◌, ℕ, ◌+◌, ◌*◌, ◌<◌, ◌≤◌, List, length, None}
 use Rattle.fc_isa.specs.declared.insn.Insn.{Insn}
 use Rattle.fc_isa.specs.declared.rule.Fault.{Fault}
-use Rattle.fc_isa.specs.Encoding.{Spells}
+use Rattle.fc_isa.specs.Encoding.{Spells, first_fault}
 use Rattle.fc_isa.specs.Rules.{number_of}
 use Rattle.fc_image.specs.Head.{Head, IsHead, head_fault, stated}
 use Rattle.fc_verify.specs.Accepted.{slots_of}
-use Rattle.fc_verify.specs.Calls.{HasNoCall, first_refused}
 use Rattle.fc_verify.specs.Judged.{code_in}
 
 -- the header breaks no rule, and says this
@@ -18,10 +17,9 @@ pub record IsHeadOf (image : List ℕ) (head : Head) : Type 0 where
 
 -- the slots break no rule, and spell this program
 pub record IsCodeOf (image : List ℕ) (code : List Insn) : Type 0 where
-  pub fault : first_refused (slots_of image) ≡ None
+  pub fault : first_fault (slots_of image) ≡ None
   pub code_is : code ≡ code_in image
   pub spelled : Spells (slots_of image) code
-  pub calls : HasNoCall (slots_of image)
   pub count : length code ≡ (stated image).count
 
 -- a rule of typings, at a slot of the program

@@ -2,7 +2,6 @@
 //! some typing of its registers exists. Then it runs with no check left in its loop.
 #![tactic(auto)]
 
-mod calls;
 pub mod laws;
 pub mod lowering;
 pub mod op;

@@ -5,7 +5,7 @@ ghost use Rattle.std.specs.Vec.{vec_capacity};
 ghost use Rattle.fc_isa.specs.Program.{IsInsn};
 ghost use Rattle.fc_isa.specs.Rules.{number_of};
 ghost use Rattle.fc_kinds.specs.Lattice.{AreKinds};
-ghost use Rattle.fc_kinds.specs.Transfer.{transfer};
+ghost use Rattle.fc_kinds.specs.Transfer.{AreShallow, transfer};
 ghost use Rattle.fc_kinds.specs.Typing.{IsTypingOf, States, entry, state_at};
 ghost use Rattle.fc_kinds.specs.Ways.{skipped, ways_after};
 ghost use Rattle.fc_verify.specs.Runs.{IsTypedProgram, IsUntypedProgram};
@@ -16,10 +16,11 @@ use fc_image::laws::shaped_programs_go_forward;
 use fc_isa::{Fault, Insn, Jump};
 use fc_kinds::laws::{
     containment_is_an_order, effects_keep_kinds, joins_are_least, ways_are_monotone,
+    ways_raise_by_one,
 };
-use fc_kinds::{ENTRY, Regs, after, join, when};
+use fc_kinds::{ENTRY, Regs, after, enter, join, when};
 
-/// Finds a typing of a program that keeps its shape and has no call, whose variables have this many bytes; `room` has
+/// Finds a typing of a program that keeps its shape, whose variables have this many bytes; `room` has
 /// place for a state a slot.
 ///
 /// # Errors
@@ -52,6 +53,7 @@ fn typed_within(
     room: Vec<Option<Regs>>,
 ) -> Result<Vec<Option<Regs>>, Fault>
     requires some { 1 ≤ length code.now }
+    requires count { length code.now ≤ 512 }
     requires stay { StayIn code.now }
     requires insns { AllByRecursion IsInsn code.now }
     requires empty { room.items ≡ [] }
@@ -97,6 +99,7 @@ fn first_state(slot: usize) -> Option<Regs>
 /// The first slot whose demands aren't met.
 fn pass_slots(vars_size: u16, code: &[Insn], states: &mut [Option<Regs>]) -> Result<(), Fault>
     requires beginning { states.old ≡ beginning code.now }
+    requires count { length code.now ≤ 512 }
     requires stay { StayIn code.now }
     requires insns { AllByRecursion IsInsn code.now }
     ensures typable { IfOk result (λ u. is_typable vars_size code.now (beginning code.now) ≡ true) }
@@ -107,6 +110,7 @@ fn pass_slots(vars_size: u16, code: &[Insn], states: &mut [Option<Regs>]) -> Res
     containment_is_an_order();
     joins_are_least();
     ways_are_monotone();
+    ways_raise_by_one();
     for (slot, insn) in code.iter().enumerate() {
         if let Some(regs) = states[slot] {
             let (_, pending) = states.split_at_mut(slot + 1);
@@ -129,6 +133,7 @@ fn pass(
     pending: &mut [Option<Regs>],
 ) -> Result<(), Fault>
     requires kinds { AreKinds regs.now }
+    requires levels { AreShallow 1023 regs.now }
     requires stays { Stays (length pending.old) insn.now }
     requires insn { IsInsn insn.now }
     ensures passed { IfOk result (λ u. passed vars_size insn.now (Some regs.now) pending.old ≡ Some pending.new) }
@@ -164,6 +169,7 @@ fn checked(vars_size: u16, slot: usize, insn: Insn, regs: &Regs) -> Result<Regs,
 /// Joins what an instruction's ways hand on to the states of the slots after it.
 fn spread(insn: Insn, before: &Regs, after: &Regs, pending: &mut [Option<Regs>])
     requires kinds { AreKinds after.now }
+    requires levels { AreShallow 1023 before.now }
     requires stays { Stays (length pending.old) insn }
     ensures { pending.new ≡ led pending.old (ways_after insn before.now after.now) }
 {
@@ -173,7 +179,11 @@ fn spread(insn: Insn, before: &Regs, after: &Regs, pending: &mut [Option<Regs>])
         Insn::JumpAlwaysLong { offset } => lead(pending, skip(offset), after),
         Insn::JumpIf(jump) => branch(&jump, before, after, pending),
         Insn::Exit | Insn::WideSecond => {}
-        Insn::CallHelper { .. } | Insn::CallLocal { .. } => unreachable!(),
+        Insn::CallLocal { offset } => {
+            lead(pending, skip(offset), &enter(before));
+            lead(pending, 0, after);
+        }
+        Insn::CallHelper { .. } => lead(pending, 0, after),
         Insn::Alu { .. } | Insn::Neg { .. } | Insn::SignExtend { .. } | Insn::End { .. } => {
             lead(pending, 0, after);
         }

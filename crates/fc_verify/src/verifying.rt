@@ -6,15 +6,14 @@ ghost use Rattle.fc_verify.specs.Judged.{judged};
 ghost use Rattle.fc_verify.specs.Refusals.{IsRefusal};
 ghost use Rattle.fc_verify.specs.Stages.{IsHeadOf, IsCodeOf};
 
-use crate::calls::decode_without_calls;
 use crate::lowering::lower;
 use crate::pass::typed;
 use crate::refusal::Refusal;
 use crate::verified::Verified;
 use fc_image::laws::shape_fault_is_first;
 use fc_image::{HEADER_SIZE, Head, head, shape};
-use fc_isa::Insn;
 use fc_isa::laws::faultless_bytes_spell;
+use fc_isa::{Insn, decode};
 use std::alloc::Global;
 
 /// Verifies an image: the sixteen bytes of its header, and its slots of eight bytes each.
@@ -58,7 +57,7 @@ fn read_code(alloc: Global, image: &[u8], head: &Head) -> Result<Vec<Insn>, Refu
 {
     let slots = slots(image);
     faultless_bytes_spell(slots);
-    Ok(decode_without_calls(alloc, slots)?)
+    Ok(decode(alloc, slots)?)
 }
 
 /// The bytes behind the header.

@@ -1,7 +1,6 @@
-use Rattle.std.proofs.Common.{◌≡◌, ◌-◌, ◌++◌, ◌≤◌, length, ap, sym, ◌∙◌, append_assoc, rules, arith, ℕ, List}
+use Rattle.std.proofs.Common.{◌≡◌, ◌-◌, ◌++◌, length, ap, ◌∙◌, append_assoc, rules, arith}
 use Rattle.std.specs.Prelude.{replicate, take}
 use Rattle.std.proofs.lemmas.List.{take-replicate}
-use Rattle.fc_help.specs.Region.{padded}
 use Rattle.fc_help.proofs.request.put_padded.Goals as goal
 
 pub returns : goal.returns

@@ -1,4 +1,6 @@
-use Rattle.std.proofs.Common.{◌≡◌, ◌+◌, Some, length, sym, ap, ◌∙◌, subst, drop, take, ◌++◌}
+use Rattle.std.proofs.Common.{◌≡◌, ◌+◌, ◌≤◌, Some, None, length, sym, ap, ◌∙◌, subst, drop, take, ◌++◌, arith}
+use Rattle.std.proofs.lemmas.List.{length-take-le, drop_at}
+use Rattle.fc_verify.proofs.Levels.{AreLow, LevelRules, shallow_up, low_here, low_later, low_passed, beginning_low}
 use Rattle.std.specs.Prelude.{slice_get}
 use Rattle.std.proofs.lemmas.Option.{slice_get-get_or}
 use Rattle.fc_verify.specs.Pass.{Stays, passed}
@@ -7,7 +9,7 @@ use Rattle.fc_verify.proofs.pass.pass_slots.Goals as goal
 use Rattle.fc_verify.proofs.pass.pass_slots.Goals.{in-Some+in_ok-pass, in_default}
 
 pub loop-slot-init : goal.loop-slot-init
-loop-slot-init c = record { passing = subst (Passing c.args.vars_size c.args.code.now 0) (sym c.requires.beginning) (passing_start c.args.vars_size c.args.code.now c.requires.stay c.requires.insns) }
+loop-slot-init c = record { low = subst (AreLow 0) (sym c.requires.beginning) (beginning_low c.args.code.now); passing = subst (Passing c.args.vars_size c.args.code.now 0) (sym c.requires.beginning) (passing_start c.args.vars_size c.args.code.now c.requires.stay c.requires.insns) }
 
 pub pass-requires-clause-kinds : goal.pass-requires-clause-kinds
 pass-requires-clause-kinds c =
@@ -15,6 +17,14 @@ pass-requires-clause-kinds c =
     let at : slice_get c.args.code.now l.slot ≡ Some c.index-code-slot.result = slice_get-get_or c.args.code.now l.slot c.index-code-slot.result c.loop-slot-test.true ∙ ap Some (sym c.index-code-slot.is) in
     let s = stands_at c.args.vars_size c.args.code.now l.slot l.states c.index-code-slot.result l.invariant.passing at in
     kinds_at c.args.vars_size c.args.code.now l.slot l.states c.in-Some.regs l.invariant.passing s.here c.in-Some.is
+
+pub pass-requires-clause-levels : goal.pass-requires-clause-levels
+pass-requires-clause-levels c =
+    let l = c.loop-slot in
+    let at : slice_get c.args.code.now l.slot ≡ Some c.index-code-slot.result = slice_get-get_or c.args.code.now l.slot c.index-code-slot.result c.loop-slot-test.true ∙ ap Some (sym c.index-code-slot.is) in
+    let s = stands_at c.args.vars_size c.args.code.now l.slot l.states c.index-code-slot.result l.invariant.passing at in
+    let few : l.slot ≤ 1023 = omega (arith, c.requires.count, c.loop-slot-test.true) in
+    shallow_up l.slot 1023 c.in-Some.regs few (low_here l.slot l.slot l.states c.in-Some.regs s.here c.in-Some.is l.invariant.low)
 
 pub pass-requires-clause-stays : goal.pass-requires-clause-stays
 pass-requires-clause-stays c =
@@ -34,8 +44,10 @@ loop-slot-preserved c =
       kinds = c.joins_are_least.ensures.kinds;
       monotone = c.ways_are_monotone.ensures;
     } in
+    let rules : LevelRules = record { ways = c.ways_raise_by_one.ensures.ways; join = c.ways_raise_by_one.ensures.join } in
     let l = c.loop-slot in
     let at : slice_get c.args.code.now l.slot ≡ Some c.index-code-slot.result = slice_get-get_or c.args.code.now l.slot c.index-code-slot.result c.loop-slot-test.true ∙ ap Some (sym c.index-code-slot.is) in
+    let here = (stands_at c.args.vars_size c.args.code.now l.slot l.states c.index-code-slot.result l.invariant.passing at).here in
     elim c.match-states-slot.branch [
       | in-Some+in_ok-pass w ↦
           let vars = c.args.vars_size in
@@ -43,9 +55,18 @@ loop-slot-preserved c =
           subst (λ x. passed vars c.index-code-slot.result (Some w.in-Some.regs) x ≡ Some w.pass.new.pending) w.split_at_mut-pending.ensures.back w.in_ok-pass.ensures.passed in
           let next = passing_some laws vars c.args.code.now l.slot l.states c.index-code-slot.result w.in-Some.regs w.pass.new.pending l.invariant.passing at w.in-Some.is passed_is in
           let is : c.match-states-slot.states ≡ take (l.slot + 1) l.states ++ w.pass.new.pending = w.states-is ∙ ap (λ x. x ++ w.pass.new.pending) w.split_at_mut-pending.ensures.front in
-          record { passing = subst (Passing vars c.args.code.now (l.slot + 1)) (sym is) next }
+          let size : length (take (l.slot + 1) l.states) ≡ l.slot + 1 = length-take-le (l.slot + 1) l.states (omega (arith, here)) in
+          let rest : drop (l.slot + 1) (take (l.slot + 1) l.states ++ w.pass.new.pending) ≡ w.pass.new.pending = drop_at (take (l.slot + 1) l.states) w.pass.new.pending (l.slot + 1) size in
+          let low = low_passed rules l.slot vars c.index-code-slot.result l.states w.pass.new.pending w.in-Some.regs here w.in-Some.is l.invariant.low passed_is in
+          record {
+            passing = subst (Passing vars c.args.code.now (l.slot + 1)) (sym is) next;
+            low = subst (λ x. AreLow (l.slot + 1) (drop (l.slot + 1) x)) (sym is) (subst (AreLow (l.slot + 1)) (sym rest) low);
+          }
       | in_default w ↦
-          record { passing = subst (Passing c.args.vars_size c.args.code.now (l.slot + 1)) (sym w.states-is) (passing_none c.args.vars_size c.args.code.now l.slot l.states c.index-code-slot.result l.invariant.passing at w.in_default.is) }
+          record {
+            passing = subst (Passing c.args.vars_size c.args.code.now (l.slot + 1)) (sym w.states-is) (passing_none c.args.vars_size c.args.code.now l.slot l.states c.index-code-slot.result l.invariant.passing at w.in_default.is);
+            low = subst (λ x. AreLow (l.slot + 1) (drop (l.slot + 1) x)) (sym w.states-is) (low_later l.slot l.slot l.states None here w.in_default.is l.invariant.low);
+          }
     ]
 
 pub pass-requires-clause-insn : goal.pass-requires-clause-insn

@@ -13,7 +13,7 @@ typed_within-requires-clause-some c = c.requires.program.some
 
 pub typed_within-requires-clause-stay : goal.typed_within-requires-clause-stay
 typed_within-requires-clause-stay c =
-    stay_in c.args.code.now c.requires.program.shaped c.requires.program.calls (λ k insn g. c.shaped_programs_go_forward.ensures c.args.code.now k insn c.requires.program.shaped g)
+    stay_in c.args.code.now c.requires.program.shaped (λ k insn g. c.shaped_programs_go_forward.ensures c.args.code.now k insn c.requires.program.shaped g)
 
 pub typed_within-requires-clause-insns : goal.typed_within-requires-clause-insns
 typed_within-requires-clause-insns c = all_insns c.args.code.now c.requires.program.insns

@@ -1,4 +1,4 @@
-use Rattle.std.proofs.Common.{◌≡◌, ◌++◌, ◌≤◌, List, ℕ, [], length, refl, sym, ap, ◌∙◌, append_assoc, rules, arith}
+use Rattle.std.proofs.Common.{◌≡◌, ◌++◌, List, ℕ, length, refl, ap, ◌∙◌, append_assoc, rules, arith}
 use Rattle.fc_help.specs.Request.{Request, request_with}
 use Rattle.fc_help.specs.Region.{FitsRegion, region_head, padded, region_of}
 use Rattle.fc_help.proofs.Laid.{laid_out}

@@ -1,4 +1,4 @@
-use Rattle.std.proofs.Common.{◌≡◌, length, ap, ◌∙◌, rules}
+use Rattle.std.proofs.Common.{◌≡◌, length, rules}
 use Rattle.fc_help.proofs.Laid.{laid_size}
 use Rattle.fc_help.proofs.request.Request.region.Goals as goal
 

@@ -1,0 +1,221 @@
+-- Each step of a shaped program leads nearer to its end, and its calls add at most three frames.
+use Rattle.std.proofs.Common.{◌≡◌, ℕ, zero, suc, ◌+◌, ◌-◌, ◌<◌, ◌≤◌, ◌==◌, ◌||◌, ◌&&◌, not, nat_lt, Bool, true, false, ℤ, List, [], ◌∷◌, length, drop, Option, Some, None, get_or, inl, inr, refl, sym, ap, ◌∙◌, subst, arith}
+use Rattle.std.specs.Prelude.{slice_get}
+use Rattle.std.proofs.lemmas.Bool.{cases_lt}
+use Rattle.std.proofs.lemmas.Bool.Decides.{nat_tests}
+use Rattle.std.proofs.lemmas.List.{get_or-drop, get_or_past}
+use Rattle.fc_isa.specs.declared.insn.Insn.{Insn}
+use Rattle.fc_isa.specs.declared.insn.Insn.TheVariants.{Alu, Neg, SignExtend, End, LoadWide, WideSecond, Load, StoreImm, Store, JumpAlways, JumpAlwaysLong, JumpIf, CallHelper, CallLocal, Exit}
+use Rattle.fc_isa.specs.declared.rule.Rule.TheVariants.{JumpTarget, BackwardJump, Boundary, FrameDepth}
+use Rattle.fc_isa.specs.Program.{is_program}
+use Rattle.fc_image.specs.Flow.{target, landing, Goes, flow, flow_of, flow_at}
+use Rattle.fc_image.specs.Functions.{is_at, calls, is_called, is_start, starts_within, depths, frames}
+use Rattle.fc_image.specs.Laws.{frames_at, IsNearer, LeadsNearer}
+use Rattle.fc_image.specs.ShapeRules.{is_place, is_instruction, is_later, leaves, IsShaped}
+use Rattle.fc_image.proofs.FunctionTables.{length-depths, depth_is, rest_of}
+use Rattle.fc_image.proofs.PathLaws.{Known, known, offset_lands, not_true, first_false, second_false, placed}
+
+-- ---- the frames of a slot, by those of later ones
+
+stay_frames : (code : List Insn) (slot : ℕ) (insn : Insn) → slice_get code slot ≡ Some insn → is_start code (slot + 1) ≡ false → frames_at code (slot + 1) ≤ frames_at code slot
+stay_frames code slot insn g s =
+    let table = depths (is_start code) 0 code in
+    let is = depth_is (is_start code) code slot insn g in
+    let rest : rest_of (is_start code (slot + 1)) (drop (suc slot) table) ≡ get_or (drop (suc slot) table) 0 0 = ap (λ b. rest_of b (drop (suc slot) table)) s in
+    let n : suc slot + 0 ≡ slot + 1 = omega arith in
+    let next : get_or (drop (suc slot) table) 0 0 ≡ get_or table (slot + 1) 0 = get_or-drop (suc slot) table 0 0 ∙ ap (λ k. get_or table k 0) n in
+    omega (arith, is, rest, next)
+
+call_frames : (code : List Insn) (slot : ℕ) (o : ℤ) → slice_get code slot ≡ Some (CallLocal o) → slot < landing slot o → frames_at code (landing slot o) < frames_at code slot
+call_frames code slot o g lt =
+    let table = depths (is_start code) 0 code in
+    let is = depth_is (is_start code) code slot (CallLocal o) g in
+    let at = offset_lands table slot o lt in
+    omega (arith, is, at)
+
+past_frames : (code : List Insn) (slot : ℕ) → length code ≤ slot → frames_at code slot ≡ 0
+past_frames code slot le = get_or_past (depths (is_start code) 0 code) slot 0 (let n = length-depths (is_start code) 0 code in omega (arith, n, le))
+
+there : (code : List Insn) (i : ℕ) → i < length code → (insn : Insn) × (slice_get code i ≡ Some insn)
+there [] i h = absurd (omega arith)
+there (x ∷ code) zero h = (x, refl)
+there (x ∷ code) (suc i) h = there code i (omega arith)
+
+-- no function starts from the next slot on to a later one
+within_frames : (code : List Insn) (slot n : ℕ) → starts_within code slot n ≡ false → frames_at code (slot + n) ≤ frames_at code slot
+within_frames code slot zero e = let z : slot + 0 ≡ slot = omega arith in rw z (omega arith)
+within_frames code slot (suc n) e =
+    let a = within_frames code slot n (first_false (starts_within code slot n) (is_start code (slot + suc n)) e) in
+    let z : slot + suc n ≡ slot + n + 1 = omega arith in
+    let s : is_start code (slot + n + 1) ≡ false = ap (is_start code) (sym z) ∙ second_false (starts_within code slot n) (is_start code (slot + suc n)) e in
+    let b : frames_at code (slot + n + 1) ≤ frames_at code (slot + n) = elim (cases_lt (slot + n) (length code)) [
+      | inl lt ↦ let i = there code (slot + n) lt in stay_frames code (slot + n) i.0 i.1 s
+      | inr ge ↦ let p = past_frames code (slot + n + 1) (omega (arith, ge)) in omega (arith, p)
+    ] in
+    let c : frames_at code (slot + suc n) ≡ frames_at code (slot + n + 1) = ap (frames_at code) z in
+    omega (arith, a, b, c)
+
+-- ---- a jump stays in its function
+
+jump_frames : (code : List Insn) (slot : ℕ) (o : ℤ) → not (is_place code (target slot o)) ≡ false → not (is_later slot (target slot o)) ≡ false → leaves code slot (target slot o) ≡ false → frames_at code (landing slot o) ≤ frames_at code slot
+jump_frames code slot o p l e = go (target slot o) refl (not_true (is_place code (target slot o)) p) (not_true (is_later slot (target slot o)) l) e
+  where
+    test : (a b : ℕ) → nat_lt a b ≡ true → a < b
+    test a b h = grind (arith, nat_tests, h)
+
+    tested : (a b : ℕ) → a < b → nat_lt a b ≡ true
+    tested a b h = grind (arith, nat_tests, h)
+
+    only : (b c : Bool) → b ≡ true → (b && c) ≡ false → c ≡ false
+    only true c h f = f
+    only false c h f = absurd (cc h)
+
+    go : (t : Option ℕ) → target slot o ≡ t → is_place code (target slot o) ≡ true → is_later slot (target slot o) ≡ true → leaves code slot (target slot o) ≡ false → frames_at code (landing slot o) ≤ frames_at code slot
+    go None k f g h = let n : false ≡ true = rw k at f in absurd (cc n)
+    go (Some t) k f g h =
+        let in_code : is_instruction (slice_get code t) ≡ true = rw k at f in
+        let later : nat_lt slot t ≡ true = rw k at g in
+        let stays : (nat_lt t (length code) && starts_within code slot (t - slot)) ≡ false = rw k at h in
+        let at_t : landing slot o ≡ t = rw k refl in
+        let none = only (nat_lt t (length code)) (starts_within code slot (t - slot)) (tested t (length code) (placed code t in_code)) stays in
+        let lt = test slot t later in
+        let z : slot + (t - slot) ≡ landing slot o = omega (arith, at_t, lt) in
+        subst (λ k. frames_at code k ≤ frames_at code slot) z (within_frames code slot (t - slot) none)
+
+-- ---- no function starts at a second half
+
+-- a call of these that calls a place
+record Called (slot : ℕ) (code : List Insn) (place : ℕ) : Type 0 where
+  at : ℕ
+  offset : ℤ
+  stands : slice_get code at ≡ Some (CallLocal offset)
+  aims : target (slot + at) offset ≡ Some place
+
+aims_at : (o : Option ℕ) (place : ℕ) → is_at o place ≡ true → o ≡ Some place
+aims_at None place e = absurd (cc e)
+aims_at (Some t) place e = let same : t ≡ place = grind (arith, nat_tests, e) in ap Some same
+
+call_there : (slot : ℕ) (insn : Insn) (place : ℕ) → calls slot insn place ≡ true → (offset : ℤ) × (insn ≡ CallLocal offset) × (target slot offset ≡ Some place)
+call_there slot (CallLocal offset) place e = (offset, refl, aims_at (target slot offset) place e)
+call_there slot Exit place e = absurd (cc e)
+call_there slot WideSecond place e = absurd (cc e)
+call_there slot (JumpAlways offset) place e = absurd (cc e)
+call_there slot (JumpAlwaysLong offset) place e = absurd (cc e)
+call_there slot (JumpIf j) place e = absurd (cc e)
+call_there slot (LoadWide dst value) place e = absurd (cc e)
+call_there slot (Alu op width dst operand) place e = absurd (cc e)
+call_there slot (Neg width dst) place e = absurd (cc e)
+call_there slot (SignExtend extension dst src) place e = absurd (cc e)
+call_there slot (End order width dst) place e = absurd (cc e)
+call_there slot (Load loaded dst base offset) place e = absurd (cc e)
+call_there slot (StoreImm size base offset imm) place e = absurd (cc e)
+call_there slot (Store size base offset src) place e = absurd (cc e)
+call_there slot (CallHelper number) place e = absurd (cc e)
+
+called_by : (slot : ℕ) (code : List Insn) (place : ℕ) → is_called slot code place ≡ true → Called slot code place
+called_by slot [] place e = absurd (cc e)
+called_by slot (insn ∷ code) place e = go (calls slot insn place) refl e (called_by (slot + 1) code place)
+  where
+    go : (b : Bool) → calls slot insn place ≡ b → (b || is_called (slot + 1) code place) ≡ true → (is_called (slot + 1) code place ≡ true → Called (slot + 1) code place) → Called slot (insn ∷ code) place
+    go true f g ih =
+        let c = call_there slot insn place f in
+        let z : slot ≡ slot + 0 = omega arith in
+        record { at = 0; offset = c.0; stands = ap Some c.1; aims = subst (λ k. target k c.0 ≡ Some place) z c.2 }
+    go false f g ih =
+        let c = ih g in
+        let z : slot + 1 + c.at ≡ slot + suc c.at = omega arith in
+        record { at = suc c.at; offset = c.offset; stands = c.stands; aims = subst (λ k. target k c.offset ≡ Some place) z c.aims }
+
+no_half : (code : List Insn) (place : ℕ) → IsShaped code → slice_get code (suc place) ≡ Some WideSecond → is_start code (suc place) ≡ false
+unfolding is_start
+no_half code place s g = go (is_called 0 code (suc place)) refl
+  where
+    not_zero : (n : ℕ) → (suc n == 0) ≡ false
+    not_zero n = grind (arith, nat_tests)
+
+    go : (b : Bool) → is_called 0 code (suc place) ≡ b → (b || (suc place == 0)) ≡ false
+    go false e = not_zero place
+    go true e =
+        let c = called_by 0 code (suc place) e in
+        let z : 0 + c.at ≡ c.at = omega arith in
+        let aims : target c.at c.offset ≡ Some (suc place) = ap (λ k. target k c.offset) (sym z) ∙ c.aims in
+        let is = not_true (is_place code (target c.at c.offset)) (s.each JumpTarget c.at (CallLocal c.offset) c.stands) in
+        let bad : is_instruction (Some WideSecond) ≡ true = ap is_instruction (sym g) ∙ ap (is_place code) (sym aims) ∙ is in
+        absurd (cc bad)
+
+-- behind a wide load stands its second half
+second_half : (code : List Insn) (slot dst value : ℕ) → is_program code ≡ true → slice_get code slot ≡ Some (LoadWide dst value) → slice_get code (suc slot) ≡ Some WideSecond
+second_half [] slot dst value p e = absurd (cc e)
+second_half (LoadWide d v ∷ WideSecond ∷ rest) zero dst value p e = refl
+second_half (LoadWide d v ∷ WideSecond ∷ rest) (suc zero) dst value p e = absurd (cc e)
+second_half (LoadWide d v ∷ WideSecond ∷ rest) (suc (suc slot)) dst value p e = second_half rest slot dst value p e
+second_half (LoadWide d v ∷ rest) slot dst value p e = absurd (cc p)
+second_half (WideSecond ∷ rest) slot dst value p e = absurd (cc p)
+second_half (i ∷ rest) zero dst value p e = absurd (cc e)
+second_half (i ∷ rest) (suc slot) dst value p e = second_half rest slot dst value p e
+
+-- ---- each step
+
+-- a next slot that doesn't start a function
+next_frames : (code : List Insn) (slot : ℕ) (insn : Insn) (a : Bool) → slice_get code slot ≡ Some insn → (a || is_start code (slot + 1)) ≡ false → frames_at code (slot + 1) ≤ frames_at code slot
+next_frames code slot insn a g e = stay_frames code slot insn g (second_false a (is_start code (slot + 1)) e)
+
+cost_there : (code : List Insn) (slot : ℕ) (insn : Insn) → IsShaped code → slice_get code slot ≡ Some insn → Known code slot (flow slot insn)
+unfolding flow_at
+cost_there code slot insn s g = known code slot (flow slot insn) s (ap (flow_of slot) g)
+
+step_next : (code : List Insn) (slot : ℕ) (insn : Insn) (a : Bool) → slice_get code slot ≡ Some insn → Known code slot (Goes (slot + 1)) → (a || is_start code (slot + 1)) ≡ false → IsNearer code slot (slot + 1)
+step_next code slot insn a g k e = let c = k.cost in (omega (arith, c), next_frames code slot insn a g e)
+
+pub nearer : (code : List Insn) (slot : ℕ) (insn : Insn) → IsShaped code → is_program code ≡ true → slice_get code slot ≡ Some insn → LeadsNearer code slot (flow slot insn)
+nearer code slot (JumpAlways o) s p g =
+    let k = cost_there code slot (JumpAlways o) s g in
+    let c = k.cost in
+    (omega (arith, c), jump_frames code slot o (first_false _ false (s.each JumpTarget slot (JumpAlways o) g)) (s.each BackwardJump slot (JumpAlways o) g) (first_false _ _ (s.each Boundary slot (JumpAlways o) g)))
+nearer code slot (JumpAlwaysLong o) s p g =
+    let k = cost_there code slot (JumpAlwaysLong o) s g in
+    let c = k.cost in
+    (omega (arith, c), jump_frames code slot o (first_false _ false (s.each JumpTarget slot (JumpAlwaysLong o) g)) (s.each BackwardJump slot (JumpAlwaysLong o) g) (first_false _ _ (s.each Boundary slot (JumpAlwaysLong o) g)))
+nearer code slot (JumpIf j) s p g =
+    let k = cost_there code slot (JumpIf j) s g in
+    let c = k.cost in
+    let b = s.each Boundary slot (JumpIf j) g in (
+      (omega (arith, c), jump_frames code slot j.offset (first_false _ false (s.each JumpTarget slot (JumpIf j) g)) (s.each BackwardJump slot (JumpIf j) g) (first_false _ _ b)),
+      (omega (arith, c), next_frames code slot (JumpIf j) _ g (second_false _ _ b)),
+    )
+nearer code slot (CallLocal o) s p g =
+    let k = cost_there code slot (CallLocal o) s g in
+    let c = k.cost in
+    (omega (arith, c), call_frames code slot o g k.forward.0.0, next_frames code slot (CallLocal o) _ g (s.each Boundary slot (CallLocal o) g))
+nearer code slot (LoadWide dst value) s p g =
+    let k = cost_there code slot (LoadWide dst value) s g in
+    let c = k.cost in
+    let half = second_half code slot dst value p g in
+    let z : suc slot ≡ slot + 1 = omega arith in
+    let y : slot + 1 + 1 ≡ slot + 2 = omega arith in
+    let first : is_start code (slot + 1) ≡ false = ap (is_start code) (sym z) ∙ no_half code slot s half in
+    let last : is_start code (slot + 1 + 1) ≡ false = ap (is_start code) y ∙ second_false _ _ (s.each Boundary slot (LoadWide dst value) g) in
+    let a = stay_frames code slot (LoadWide dst value) g first in
+    let b = stay_frames code (slot + 1) WideSecond (subst (λ n. slice_get code n ≡ Some WideSecond) z half) last in
+    let e : frames_at code (slot + 1 + 1) ≡ frames_at code (slot + 2) = ap (frames_at code) y in
+    (omega (arith, c), omega (arith, a, b, e))
+nearer code slot Exit s p g = let k = cost_there code slot Exit s g in let c = k.cost in omega (arith, c)
+nearer code slot WideSecond s p g = let k = cost_there code slot WideSecond s g in let c = k.cost in omega (arith, c)
+nearer code slot (Alu op width dst operand) s p g = step_next code slot _ _ g (cost_there code slot (Alu op width dst operand) s g) (s.each Boundary slot (Alu op width dst operand) g)
+nearer code slot (Neg width dst) s p g = step_next code slot _ _ g (cost_there code slot (Neg width dst) s g) (s.each Boundary slot (Neg width dst) g)
+nearer code slot (SignExtend extension dst src) s p g = step_next code slot _ _ g (cost_there code slot (SignExtend extension dst src) s g) (s.each Boundary slot (SignExtend extension dst src) g)
+nearer code slot (End order width dst) s p g = step_next code slot _ _ g (cost_there code slot (End order width dst) s g) (s.each Boundary slot (End order width dst) g)
+nearer code slot (Load loaded dst base offset) s p g = step_next code slot _ _ g (cost_there code slot (Load loaded dst base offset) s g) (s.each Boundary slot (Load loaded dst base offset) g)
+nearer code slot (StoreImm size base offset imm) s p g = step_next code slot _ _ g (cost_there code slot (StoreImm size base offset imm) s g) (s.each Boundary slot (StoreImm size base offset imm) g)
+nearer code slot (Store size base offset src) s p g = step_next code slot _ _ g (cost_there code slot (Store size base offset src) s g) (s.each Boundary slot (Store size base offset src) g)
+nearer code slot (CallHelper number) s p g = step_next code slot _ _ g (cost_there code slot (CallHelper number) s g) (s.each Boundary slot (CallHelper number) g)
+
+-- ---- at most four frames
+
+at_most : (code : List Insn) → nat_lt 4 (frames code) ≡ false → frames_at code 0 ≤ 3
+unfolding frames
+at_most code e = let le : frames code ≤ 4 = grind (arith, nat_tests, e) in omega (arith, le)
+
+pub few_frames : (code : List Insn) → IsShaped code → frames_at code 0 ≤ 3
+few_frames [] s = let e = past_frames [] 0 (omega arith) in omega (arith, e)
+few_frames (insn ∷ code) s = at_most (insn ∷ code) (s.each FrameDepth 0 insn refl)
