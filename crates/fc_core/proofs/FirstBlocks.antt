@@ -1,6 +1,6 @@
 -- The first block of a body, and what an error carries of it.
-use Rattle.std.proofs.Common.{◌≡◌, ℕ, ◌+◌, ◌<◌, ◌≤◌, List, ◌++◌, length, Bool, true, false, refl, sym, ap, ◌∙◌, subst, arith, if◌then◌else◌}
-use Rattle.std.specs.Prelude.{◌==◌, take, drop}
+use Rattle.std.proofs.Common.{◌≡◌, ℕ, ◌<◌, ◌≤◌, List, ◌++◌, length, Bool, true, false, refl, ap, subst, arith, if◌then◌else◌}
+use Rattle.std.specs.Prelude.{◌==◌, drop}
 use Rattle.std.proofs.lemmas.Bool.{eqb-true, le-ltb, lt-ltb}
 use Rattle.std.proofs.lemmas.List.{length-take-le, take-append-drop, take_all}
 use Rattle.fc_help.specs.Helpers.{room_of}
@@ -27,9 +27,9 @@ post p request vars r is = take_all 1024 (meant p request vars).reply (subst (λ
 
 -- a code that isn't of class 2 is neither 2.05 nor 2.04
 by_tests : (answer : ℕ) (block : BodyBlock) (serial : ℕ) (tested changed : Bool) → (answer == 69) ≡ tested → (answer == 68) ≡ changed → (code_class answer ≡ 2 → ⊥) → (if tested then content serial block else (if changed then text answer block.bytes.items else bare answer)) ≡ bare answer
-by_tests answer block serial true changed is other no = absurd (no (ap code_class (eqb-true answer 69 is)))
-by_tests answer block serial false true other is no = absurd (no (ap code_class (eqb-true answer 68 is)))
-by_tests answer block serial false false other others no = refl
+by_tests answer block serial true changed is other differs = absurd (differs (ap code_class (eqb-true answer 69 is)))
+by_tests answer block serial false true other is differs = absurd (differs (ap code_class (eqb-true answer 68 is)))
+by_tests answer block serial false false other others differs = refl
 
 pub errors_are_bare : (answer : ℕ) (block : BodyBlock) (serial : ℕ) → (code_class answer ≡ 2 → ⊥) → ran_response answer block serial ≡ bare answer
-errors_are_bare answer block serial no = by_tests answer block serial (answer == 69) (answer == 68) refl refl no
+errors_are_bare answer block serial differs = by_tests answer block serial (answer == 69) (answer == 68) refl refl differs

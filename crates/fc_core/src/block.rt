@@ -22,7 +22,7 @@ impl BodyBlock {
         ensures { result ≡ first_block body.now }
     {
         let mut bytes = ArrayVec::new();
-        let _fits = bytes.try_extend_from_slice(&body[..body.len().min(BLOCK)]);
+        let _fits = bytes.try_extend_from_slice(&body[..BLOCK.min(body.len())]);
         BodyBlock {
             bytes,
             more: body.len() > BLOCK,

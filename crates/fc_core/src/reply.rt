@@ -55,21 +55,30 @@ fn content(job: &Job, id: u16, serial: u64, block: &BodyBlock, bytes: &mut Datag
         block2: block2(block.more),
         ..ReplyOptions::default()
     };
-    reply(job, id, Code::CONTENT, options, block.bytes.as_slice(), bytes);
+    reply(
+        job,
+        id,
+        Code::CONTENT,
+        options,
+        block.bytes.as_slice(),
+        bytes,
+    );
 }
 
+#[tactic(auto, unfolding(coap_opts::specs::Values::uint_bytes))]
 // The Block2 option of a first block, where more follow it.
 fn block2(more: bool) -> Option<Block>
     ensures { optional option.BLOCK2 (option_map block_bytes result) ≡ option_of more }
 {
-    if !more {
-        return None;
+    if more {
+        Some(Block {
+            number: 0,
+            more: true,
+            szx: 6,
+        })
+    } else {
+        None
     }
-    Some(Block {
-        number: 0,
-        more,
-        szx: 6,
-    })
 }
 
 // That of a job that ran no program.
