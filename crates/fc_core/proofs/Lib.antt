@@ -19,3 +19,4 @@ pub mod Moments
 pub mod Repeats
 pub mod DrawnIds
 pub mod Once
+pub mod FirstBlocks

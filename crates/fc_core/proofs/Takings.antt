@@ -1,5 +1,5 @@
 -- A job takes at most eight tickets, and a run's answer is of the newest.
-use Rattle.std.proofs.Common.{◌≡◌, ℕ, ◌+◌, ◌<◌, ◌≤◌, List, [], ◌∷◌, ◌++◌, length, Bool, true, false, Option, Some, None, refl, sym, ap, ◌∙◌, subst, arith, if◌then◌else◌}
+use Rattle.std.proofs.Common.{◌≡◌, ℕ, ◌<◌, ◌≤◌, List, [], ◌∷◌, ◌++◌, length, Bool, true, false, Option, Some, None, refl, sym, ap, ◌∙◌, subst, arith, if◌then◌else◌}
 use Rattle.std.specs.Prelude.{nat_lt, ◌==◌}
 use borrow.Author.Tests.{ltb-true, lt-ltb}
 use Rattle.std.proofs.lemmas.Bool.{ne_eqb}
@@ -19,7 +19,8 @@ use Rattle.fc_core.specs.declared.event.Event.{Event}
 use Rattle.fc_core.specs.declared.event.Event.TheVariants.{Take, Commit, Install, Raise, Answer, Lose}
 use Rattle.fc_core.specs.declared.stage.Stage.{Stage}
 use Rattle.fc_core.specs.declared.stage.Stage.TheVariants.{ToTake, ToCommit, ToInstall, ToRaise, ToAnswer, Gone}
-use Rattle.fc_core.specs.Contents.{Content, Ran, RunAnswer, Unavailable}
+use Rattle.fc_core.specs.Blocks.{first_block}
+use Rattle.fc_core.specs.Contents.{Content, Ran, RunAnswer, run_answer, Unavailable}
 use Rattle.fc_core.specs.History.{Entry, History, Then, Seen, seen, and_then, did, job, slot_at, stage}
 use Rattle.fc_core.specs.Laws.{IsOfNewest, IsOvertaken, Taking, TakesAgain, answer_at, gives, slot_of, takings_of}
 use Rattle.fc_core.specs.Stages.{Scene, committed, first_by, image_of, installed, made, receipt_of, retaken, row, took, verified}
@@ -62,9 +63,9 @@ retaken_took : (n : ℕ) (ts : List Taking) (b : Bool) → nat_lt n 8 ≡ b → 
 retaken_took n ts true e is le = (is, ltb-true n 8 e)
 retaken_took n ts false e is le = (omega arith, tt)
 
-newest_says : (ts : List Taking) (t : Ticket) → IsNewest ts t → IsOfNewest ts (record { by = t.origin; code = (meaning_at t).code; serial = t.serial })
+newest_says : (ts : List Taking) (t : Ticket) → IsNewest ts t → IsOfNewest ts (run_answer t (meaning_at t))
 newest_says [] t e = e
-newest_says (x ∷ xs) t e = (ap (λ (y : Ticket). (meaning_at y).code) (sym e), ap (λ (y : Ticket). y.serial) (sym e))
+newest_says (x ∷ xs) t e = (ap (λ (y : Ticket). (meaning_at y).code) (sym e), ap (λ (y : Ticket). first_block (meaning_at y).reply) (sym e), ap (λ (y : Ticket). y.serial) (sym e))
 
 committed_took : (n : ℕ) (ts : List Taking) (t : Ticket) (now : ℕ) (o : CommitOutcome) → length ts ≡ n → n ≤ 8 → IsNewest ts t → Took ts (committed o n t now).stage
 committed_took n ts t now Writes is le e = (omega arith, newest_says ts t e)

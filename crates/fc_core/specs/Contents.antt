@@ -8,12 +8,20 @@ use Rattle.fc_registry.specs.declared.commit.Committed.{Committed}
 use Rattle.fc_registry.specs.declared.commit.Committed.TheVariants.{Done}
 use Rattle.fc_registry.specs.Slots.{Ticket, Mark}
 use Rattle.fc_machine.specs.Ran.{Ran as Run}
+use Rattle.fc_kinds.specs.Meaning.{Meaning}
+use Rattle.fc_core.specs.Blocks.{first_block}
+use Rattle.fc_core.specs.declared.block.BodyBlock.{BodyBlock}
 
--- the answer of a run: the job that it is of, its code, and the serial that its taking found
+-- the answer of a run: the job that it is of, its code, the block that is kept of its reply, and the serial that its taking found
 pub record RunAnswer : Type 0 where
   pub by : Origin
   pub code : ℕ
+  pub block : BodyBlock
   pub serial : ℕ
+
+-- that of a run of this meaning: its code, the first block of its reply, and the serial that its taking found
+abbrev pub run_answer : Ticket → Meaning → RunAnswer
+run_answer t m = record { by = t.origin; code = m.code; block = first_block m.reply; serial = t.serial }
 
 pub data Content : Type 0 where
   -- a program ran

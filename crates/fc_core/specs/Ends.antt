@@ -26,10 +26,10 @@ content_of (Made receipt created) = Makes receipt created
 content_of (Rejected refusal) = refused refusal
 
 abbrev pub said_of : Said → Content
-said_of (Ran by code serial) = Runs (record { by = by; code = code.byte; serial = serial })
+said_of (Ran by code block serial) = Runs (record { by = by; code = code.byte; block = block; serial = serial })
 said_of (Other end) = content_of end
 
 -- a run's code is that of a reply, of class 2 or above
 abbrev pub IsTold : Said → Type 0
-IsTold (Ran by code serial) = 64 ≤ code.byte
+IsTold (Ran by code block serial) = 64 ≤ code.byte
 IsTold (Other end) = Unit {0}

@@ -1,4 +1,5 @@
 pub mod Ids
+pub mod Blocks
 pub mod Contents
 pub mod Ends
 pub mod Replies

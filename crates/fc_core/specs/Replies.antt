@@ -1,5 +1,5 @@
 -- What an answer becomes on the wire (RFC 7252, 5.2).
-use Rattle.std.specs.Prelude.{◌≡◌, ℕ, ◌≤◌, ◌==◌, Bool, true, false, if◌then◌else◌, List, [], ◌∷◌}
+use Rattle.std.specs.Prelude.{◌≡◌, ℕ, ◌≤◌, ◌==◌, Bool, true, false, if◌then◌else◌, List, [], ◌∷◌, ◌++◌}
 use Rattle.std.specs.Int.{w64, to_be_bytes}
 use Rattle.arrayvec.specs.ArrayVec.{ArrayVec}
 use Rattle.coap_msg.specs.declared.types.Endpoint.{Endpoint}
@@ -12,6 +12,8 @@ use Rattle.coap_opts.specs.declared.number.TheConstants as option
 use Rattle.fc_isa.specs.Rules.{number_of, fault_text}
 use Rattle.fc_registry.specs.Receipts.{receipt_text}
 use Rattle.fc_registry.specs.declared.job.Job.{Job}
+use Rattle.fc_core.specs.declared.block.BodyBlock.{BodyBlock}
+use Rattle.fc_core.specs.Blocks.{block2}
 use Rattle.fc_core.specs.Contents.{Content, Ran, Missing, Unavailable, Made, Rejected, Untyped}
 
 -- a response: its code, its options in the order of their numbers, and its payload
@@ -30,14 +32,19 @@ bare answer = text answer []
 abbrev pub etag : ℕ → List (ℕ × List ℕ)
 etag serial = (option.ETAG, to_be_bytes w64 serial) ∷ []
 
--- a run's reply bytes are empty, since no instruction of today adds to them; a 2.05 Content carries the serial found
-abbrev pub ran_response : ℕ → ℕ → Response
-ran_response answer serial = if answer == code 2 5 then record { code = answer; options = etag serial; payload = [] } else bare answer
+-- a 2.05 Content: the serial found as its ETag, and a block of the reply with its Block2 option
+abbrev pub content : ℕ → BodyBlock → Response
+content serial block = record { code = code 2 5; options = etag serial ++ block2 block.more; payload = block.bytes.items }
+
+-- a run's response by its code: a 2.05 Content is as above, a 2.04 Changed carries the block alone, and an error carries nothing
+abbrev pub ran_response : ℕ → BodyBlock → ℕ → Response
+ran_response answer block serial =
+    if answer == code 2 5 then content serial block else (if answer == code 2 4 then text answer block.bytes.items else bare answer)
 
 -- what a job's response is, by its answer: 2.01 Created, 2.04 Changed, 4.00 Bad Request, 4.04 Not Found, 5.03 Service Unavailable.
 -- A refusal by typing names any rule from 20 to 27, and any slot
 abbrev pub Says : Job → Content → Response → Type 0
-Says j (Ran run) r = r ≡ ran_response run.code run.serial
+Says j (Ran run) r = r ≡ ran_response run.code run.block run.serial
 Says j Missing r = r ≡ bare (code 4 4)
 Says j Unavailable r = r ≡ bare (code 5 3)
 Says j (Made receipt true) r = r ≡ text (code 2 1) (receipt_text receipt)

@@ -18,7 +18,7 @@ use Rattle.fc_registry.specs.Changes.{Change, Committed as Wrote, after_changes}
 use Rattle.fc_registry.specs.declared.commit.CommitOutcome.{CommitOutcome}
 use Rattle.fc_registry.specs.declared.commit.CommitOutcome.TheVariants.{Writes, Keeps, Overtakes, Ends}
 use Rattle.fc_registry.specs.Calls.{taking, install_in, outcome, commit_of, meaning_at}
-use Rattle.fc_core.specs.Contents.{Content, Ran, Missing as Misses, Unavailable, Made as Makes, Rejected, Untyped}
+use Rattle.fc_core.specs.Contents.{Content, Ran, run_answer, Missing as Misses, Unavailable, Made as Makes, Rejected, Untyped}
 use Rattle.fc_core.specs.declared.event.Event.{Event}
 use Rattle.fc_core.specs.declared.event.Event.TheVariants.{Take, Commit, Install, Raise, Answer, Lose}
 use Rattle.fc_core.specs.declared.stage.Stage.{Stage}
@@ -57,9 +57,9 @@ took count (Given t) = ToCommit (count + 1) t
 took count Missing = ToAnswer Misses
 took count Refused = ToAnswer Unavailable
 
--- the answer of a run: the meaning's code, and the serial that its taking found
+-- the answer of a ticket's run
 abbrev pub ran : Ticket → Content
-ran t = Ran (record { by = t.origin; code = (meaning_at t).code; serial = t.serial })
+ran t = Ran (run_answer t (meaning_at t))
 
 -- a run that was overtaken is taken again, eight times at most
 abbrev pub retaken : ℕ → Stage

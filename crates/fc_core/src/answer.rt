@@ -1,9 +1,10 @@
 //! What a job is answered.
 ghost use Rattle.std.specs.Prelude.{◌≡◌};
 ghost use Rattle.fc_machine.specs.Ran.{meaning_of};
-ghost use Rattle.fc_core.specs.Contents.{Ran, AreOne};
+ghost use Rattle.fc_core.specs.Contents.{Ran, AreOne, run_answer};
 ghost use Rattle.fc_core.specs.Ends.{IsTold, content_of, said_of};
 
+use crate::block::BodyBlock;
 use coap_msg::Code;
 use fc_machine::Outcome;
 use fc_registry::{Mark, Origin, Receipt, Ticket};
@@ -23,9 +24,14 @@ pub enum End {
     Rejected(Refusal),
 }
 
-#[derive(Clone, Copy, Debug, PartialEq, Eq)]
+#[derive(Drop)]
 pub(crate) enum Said {
-    Ran { by: Origin, code: Code, serial: u64 },
+    Ran {
+        by: Origin,
+        code: Code,
+        block: BodyBlock,
+        serial: u64,
+    },
     Other(End),
 }
 
@@ -49,10 +55,11 @@ impl Model for Answer {
 }
 
 impl Answer {
-    /// The answer of a run, with its outcome's code and its ticket's serial. It spends the mark of the run's commit.
+    /// The answer of a run, with its outcome's code, the first block of its reply, and its ticket's serial. It spends the mark of
+    /// the run's commit.
     pub fn ran(outcome: &Outcome<'_>, ticket: &Ticket, mark: Mark) -> Answer
         requires { AreOne outcome.now ticket.now mark }
-        ensures { result ≡ Ran (record { by = ticket.now.origin; code = (meaning_of outcome.now).code; serial = ticket.now.serial }) }
+        ensures { result ≡ Ran (run_answer ticket.now (meaning_of outcome.now)) }
     {
         let serial = mark.spend();
         Answer {
@@ -61,6 +68,7 @@ impl Answer {
                 code: Code {
                     byte: outcome.code(),
                 },
+                block: BodyBlock::first(outcome.reply()),
                 serial,
             },
         }
@@ -76,10 +84,10 @@ impl Answer {
     }
 
     // What it says.
-    pub(crate) fn said(&self) -> Said
-        ensures said { said_of result ≡ self.now }
-        ensures told { IsTold result }
+    pub(crate) fn said(&self) -> &Said
+        ensures said { said_of result.now ≡ self.now }
+        ensures told { IsTold result.now }
     {
-        self.said
+        &self.said
     }
 }

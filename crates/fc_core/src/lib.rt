@@ -7,6 +7,7 @@
 
 pub mod answer;
 pub mod answer_laws;
+pub mod block;
 pub mod event;
 pub mod exchange_laws;
 pub mod front;
@@ -19,6 +20,7 @@ pub mod task;
 mod text;
 
 pub use answer::{Answer, End};
+pub use block::BodyBlock;
 pub use event::Event;
 pub use front::{Answered, Delivered, Front, Heard, Responded};
 pub use stage::{Stage, Task};

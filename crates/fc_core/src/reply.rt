@@ -1,15 +1,21 @@
 //! From answers to datagrams.
 ghost use Rattle.std.specs.Prelude.{◌≡◌, ◌≤◌, Some, length};
+ghost use Rattle.std.specs.Option.{option_map};
+ghost use Rattle.coap_msg.specs.Writing.{optional};
 ghost use Rattle.coap_opts.specs.Replies.{reply_options};
+ghost use Rattle.coap_opts.specs.Values.{block_bytes};
+ghost use Rattle.coap_opts.specs.declared.number.TheConstants as option;
+ghost use Rattle.fc_core.specs.Blocks.{block2 as option_of};
 ghost use Rattle.fc_core.specs.Ends.{content_of};
 ghost use Rattle.fc_core.specs.Receiving.{told_by};
 ghost use Rattle.fc_core.specs.Replies as spec;
 ghost use Rattle.fc_core.specs.Replies.{IsReplyTo, envelope_of, reset_of, sent_in, to_job};
 
 use crate::answer::{Answer, End, Said};
+use crate::block::BodyBlock;
 use crate::text::{fault_line, receipt_line};
 use coap_msg::{Code, Datagram, Emission, Endpoint, Message, MessageType, Outgoing, write};
-use coap_opts::{Reply, ReplyOptions};
+use coap_opts::{Block, Reply, ReplyOptions};
 use fc_registry::Job;
 use fc_verify::Refusal;
 
@@ -18,25 +24,61 @@ pub(crate) fn answer(job: &Job, id: u16, answer: &Answer, bytes: &mut Datagram)
     ensures { IsReplyTo job.now id answer.now (to_job job.now bytes.new) }
 {
     match answer.said() {
-        Said::Ran { code, serial, .. } => ran(job, id, code, serial, bytes),
-        Said::Other(end) => ended(job, id, end, bytes),
+        Said::Ran {
+            code,
+            block,
+            serial,
+            ..
+        } => ran(job, id, *code, block, *serial, bytes),
+        Said::Other(end) => ended(job, id, *end, bytes),
     }
 }
 
-// That of a run: a 2.05 carries the serial that was found, as its ETag.
-fn ran(job: &Job, id: u16, code: Code, serial: u64, bytes: &mut Datagram)
+// That of a run: a success alone carries the block that is kept of its reply.
+fn ran(job: &Job, id: u16, code: Code, block: &BodyBlock, serial: u64, bytes: &mut Datagram)
     requires { 64 ≤ code.byte }
-    ensures { to_job job.now bytes.new ≡ sent_in (envelope_of job.now id) (spec.ran_response code.byte serial) }
+    ensures { to_job job.now bytes.new ≡ sent_in (envelope_of job.now id) (spec.ran_response code.byte block.now serial) }
 {
-    if code != Code::CONTENT {
-        text(job, id, code, &[], bytes);
-        return;
+    match code {
+        Code::CONTENT => content(job, id, serial, block, bytes),
+        Code::CHANGED => text(job, id, code, block.bytes.as_slice(), bytes),
+        _ => text(job, id, code, &[], bytes),
     }
+}
+
+// A 2.05 Content: the serial that was found, as its ETag, and the block with its Block2 option.
+fn content(job: &Job, id: u16, serial: u64, block: &BodyBlock, bytes: &mut Datagram)
+    ensures { to_job job.now bytes.new ≡ sent_in (envelope_of job.now id) (spec.content serial block.now) }
+{
     let options = ReplyOptions {
         etag: Some(serial),
+        block2: block2(block.more),
         ..ReplyOptions::default()
     };
-    reply(job, id, code, options, &[], bytes);
+    reply(
+        job,
+        id,
+        Code::CONTENT,
+        options,
+        block.bytes.as_slice(),
+        bytes,
+    );
+}
+
+#[tactic(auto, unfolding(coap_opts::specs::Values::uint_bytes))]
+// The Block2 option of a first block, where more follow it.
+fn block2(more: bool) -> Option<Block>
+    ensures { optional option.BLOCK2 (option_map block_bytes result) ≡ option_of more }
+{
+    if more {
+        Some(Block {
+            number: 0,
+            more: true,
+            szx: 6,
+        })
+    } else {
+        None
+    }
 }
 
 // That of a job that ran no program.

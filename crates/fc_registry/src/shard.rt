@@ -106,7 +106,8 @@ impl Shard {
 
     /// Commits a run, at a moment in milliseconds: it writes where the run answered a POST with a code of class 2,
     /// nothing has changed since the ticket was taken, and the slot's serials aren't at their end. `Overtaken`, `Ended`
-    /// and `Stranger` leave the slot as it was. The shard advances to the moment, whatever it answers.
+    /// and `Stranger` leave the slot as it was. The shard advances to the moment, whatever it answers. What a GET's run wrote
+    /// to its variables is dropped, and a notice has no effect yet.
     pub fn commit(&mut self, now: u64, outcome: &Outcome<'_>, ticket: &Ticket) -> Committed
         requires { IsOwned self.old ticket.now.origin.slot }
         ensures { CommitsTo outcome.now ticket.now self.old now result self.new }
