@@ -4,6 +4,8 @@
 #[cfg(test)]
 mod asm_tests;
 #[cfg(test)]
+mod call_tests;
+#[cfg(test)]
 mod event_tests;
 #[cfg(test)]
 mod faulty;
@@ -19,6 +21,8 @@ mod play_tests;
 mod request_tests;
 #[cfg(test)]
 mod tool_tests;
+#[cfg(test)]
+mod tooling;
 
 use clap::{Command, Error};
 use fc_service::Status;
