@@ -1,5 +1,6 @@
 //! What a run gave.
 ghost use Rattle.std.specs.Prelude.{length, ◌≡◌, ◌≤◌};
+ghost use Rattle.fc_help.specs.Helpers.{room_of};
 ghost use Rattle.fc_machine.specs.Ran.{meaning_of};
 
 use fc_help::{Request, Vars};
@@ -13,7 +14,9 @@ pub struct Outcome<'a> {
     pub(crate) request: &'a Request,
     pub(crate) found: &'a Vars,
     pub(crate) code: u8,
+    pub(crate) reply: &'a [u8],
     pub(crate) after: &'a [u8],
+    pub(crate) notice: bool,
     pub(crate) steps: u32,
 }
 
@@ -24,7 +27,7 @@ impl<'a> Model for Outcome<'a> {
 
     ghost view = { λ o. ran o.program.now o.request.now o.found.now };
 
-    ghost invariant = { λ o. IsOutcome (ran o.program.now o.request.now o.found.now) o.code o.after.now o.steps };
+    ghost invariant = { λ o. IsOutcome (ran o.program.now o.request.now o.found.now) o.code o.reply.now o.after.now o.notice o.steps };
 }
 
 impl<'a> Outcome<'a> {
@@ -55,6 +58,21 @@ impl<'a> Outcome<'a> {
         ensures reply { 64 ≤ result }
     {
         self.code
+    }
+
+    /// The reply's bytes, at most 4,096 to a GET and 1,024 to a POST. They lie in the frame.
+    pub fn reply(&self) -> &'a [u8]
+        ensures reply { result.now ≡ (meaning_of self.now).reply }
+        ensures room { length result.now ≤ room_of self.now.request.method }
+    {
+        self.reply
+    }
+
+    /// Whether the program gave a notice.
+    pub fn notice(&self) -> bool
+        ensures { result ≡ (meaning_of self.now).notice }
+    {
+        self.notice
     }
 
     /// The variables that it left, of the program's size. They lie in the frame.
