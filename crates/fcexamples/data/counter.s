@@ -1,0 +1,1 @@
+../../../docs/programs/counter.s
