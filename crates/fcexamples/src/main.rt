@@ -1,4 +1,4 @@
-//! The worked programs of docs/programs: each is assembled, checked, installed in slot 0 of a server, and asked.
+//! The worked programs of data/: each is assembled, checked, installed in slot 0 of a server, and asked.
 #![tactic(auto)]
 
 use fc_service::Status;
