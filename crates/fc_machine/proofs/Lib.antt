@@ -1,0 +1,15 @@
+pub mod Codes
+mod Pointers
+mod Splices
+mod Lists
+mod Stays
+mod Regions
+mod Computes
+mod Beside
+mod Moves
+mod Calling
+mod Helping
+mod Follows
+mod Beginning
+mod Live
+mod Small

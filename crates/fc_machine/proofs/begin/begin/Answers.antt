@@ -1,0 +1,29 @@
+use Rattle.std.proofs.Common.{◌≡◌, ◌≤◌, ℕ, refl, sym, ap, ◌∙◌, rules, arith, length}
+use Rattle.fc_help.specs.Helpers.{room_of}
+use Rattle.fc_kinds.specs.Execution.{start}
+use Rattle.fc_machine.specs.Array.{StandBeside}
+use Rattle.fc_machine.specs.Steps.{spliced}
+use Rattle.fc_machine.proofs.Beginning.{start_stands}
+use Rattle.fc_machine.proofs.begin.begin.Goals as goal
+
+pub returns-clause-stands : goal.returns-clause-stands
+returns-clause-stands c =
+    let q = c.args.request.now in
+    let len : length c.args.state.now.memory ≡ 2384 = search rules in
+    let three : length c.args.state.now.callers ≡ 3 = search rules in
+    let count : length c.payload.result.now ≡ length q.payload = ap length c.payload.ensures.payload in
+    let beside : StandBeside (start q c.args.found.now) _ = record {
+      depth = refl;
+      shallow = omega arith;
+      places = three;
+      saved = tt;
+      frames = refl;
+      reply = c.clear.ensures;
+      notice = refl;
+      payload = count;
+      vars = ap length c.as_slice.ensures;
+      room = c.room_of.ensures ∙ ap room_of c.method.ensures;
+      fits = c.region.ensures.fits;
+    } in
+    start_stands q c.args.found.now c.args.state.now.memory c.clear-2.new.memory c.put.new.memory _ (length c.payload.result.now) len beside c.requires count refl
+    c.clear-2.ensures (c.put.ensures ∙ ap (spliced c.clear-2.new.memory 1024) c.region.ensures.region) (c.put-2.ensures ∙ ap (spliced c.put.new.memory 2128) c.as_slice-2.ensures)
