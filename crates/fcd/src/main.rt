@@ -18,6 +18,8 @@ mod opcode_tests;
 #[cfg(test)]
 mod play_tests;
 #[cfg(test)]
+mod reply_tests;
+#[cfg(test)]
 mod request_tests;
 #[cfg(test)]
 mod tool_tests;
