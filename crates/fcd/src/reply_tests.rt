@@ -54,7 +54,7 @@ fn check_code<R: Abort + AllocGlobal>(rt: &R, text: &[u8], code: &str) -> Result
 }
 
 // Programs without variables that get no payload, and their replies.
-static REPLIES: [(&[u8], &str); 10] = [
+static REPLIES: [(&[u8], &str); 11] = [
     // a byte of the frame, and no byte
     (
         b"stb r10, -1, 7\nmov64 r1, r10\nadd64 r1, -1\nmov64 r2, 1\ncall 5\nmov64 r0, 0\nexit",
@@ -71,10 +71,15 @@ static REPLIES: [(&[u8], &str); 10] = [
         b"mov64 r1, r10\nadd64 r1, -8\ncallf 2\nldxdw r0, r10, -8\nexit\nstdw r1, 0, 69\nmov64 r0, 0\nexit",
         "",
     ),
-    // four frames
+    // and into that of its caller's caller it looks
     (
-        b"callf 1\nexit\ncallf 1\nexit\ncallf 1\nexit\nmov64 r0, 0\nexit",
-        "",
+        b"stdw r10, -8, 65\nmov64 r1, r10\nadd64 r1, -8\ncallf 1\nexit\ncallf 1\nexit\nldxb r1, r1, 0\ncall 6\nmov64 r0, 0\nexit",
+        "ff41",
+    ),
+    // four frames: each function puts its number into its own, calls the next, and then shows the number
+    (
+        b"stdw r10, -8, 1\ncallf 4\nldxb r1, r10, -8\ncall 6\nmov64 r0, 0\nexit\nstdw r10, -8, 2\ncallf 3\nldxb r1, r10, -8\ncall 6\nexit\nstdw r10, -8, 3\ncallf 3\nldxb r1, r10, -8\ncall 6\nexit\nstdw r10, -8, 4\nldxb r1, r10, -8\ncall 6\nexit",
+        "ff04030201",
     ),
     // a function that is called twice
     (
