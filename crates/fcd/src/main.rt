@@ -4,6 +4,8 @@
 #[cfg(test)]
 mod asm_tests;
 #[cfg(test)]
+mod call_tests;
+#[cfg(test)]
 mod event_tests;
 #[cfg(test)]
 mod faulty;
@@ -16,9 +18,13 @@ mod opcode_tests;
 #[cfg(test)]
 mod play_tests;
 #[cfg(test)]
+mod reply_tests;
+#[cfg(test)]
 mod request_tests;
 #[cfg(test)]
 mod tool_tests;
+#[cfg(test)]
+mod tooling;
 
 use clap::{Command, Error};
 use fc_service::Status;

@@ -1,8 +1,9 @@
 // Texts and images through the tools, with what is written and told: the expected values are the format's rules.
 use crate::faulty::{Full, Unflushed};
+use crate::tooling::{Done, assembled, check_program, checked, listed, with_memory};
 use fc_service::Status;
 use fc_service::tools::{check, image, list};
-use std::alloc::{AllocError, Global};
+use std::alloc::Global;
 use std::io;
 use std::io::{ErrorKind, Read};
 use std::process::Abort;
@@ -18,46 +19,6 @@ const MOV_69: [u8; 8] = [0xb7, 0, 0, 0, 0x45, 0, 0, 0];
 const MOV_0: [u8; 8] = [0xb7, 0, 0, 0, 0, 0, 0, 0];
 
 const EXIT: [u8; 8] = [0x95, 0, 0, 0, 0, 0, 0, 0];
-
-// What a tool gave.
-#[derive(Drop)]
-struct Done {
-    status: Status,
-    out: Vec<u8>,
-    err: Vec<u8>,
-}
-
-// Memory alone can fail where the reader and the writers are bytes.
-fn with_memory(done: Done) -> Result<Done, AllocError> {
-    match done.status {
-        Status::Failed => Err(AllocError),
-        _ => Ok(done),
-    }
-}
-
-fn assembled(alloc: Global, text: &[u8], vars_size: u16, budget: u32) -> Result<Done, AllocError> {
-    let mut out = Vec::new(alloc);
-    let mut err = Vec::new(alloc);
-    let mut input = text;
-    let status = image(alloc, &mut input, &mut out, &mut err, vars_size, budget);
-    with_memory(Done { status, out, err })
-}
-
-fn listed(alloc: Global, image: &[u8]) -> Result<Done, AllocError> {
-    let mut out = Vec::new(alloc);
-    let mut err = Vec::new(alloc);
-    let mut input = image;
-    let status = list(alloc, &mut input, &mut out, &mut err);
-    with_memory(Done { status, out, err })
-}
-
-fn checked(alloc: Global, image: &[u8]) -> Result<Done, AllocError> {
-    let mut out = Vec::new(alloc);
-    let mut input = image;
-    let mut err = Vec::new(alloc);
-    let status = check(alloc, &mut input, &mut out, &mut err);
-    with_memory(Done { status, out, err })
-}
 
 // The tool refuses, tells this, and writes nothing.
 fn is_refused<R: Abort>(rt: &R, done: &Done, told: &str) -> Result<(), Fail> {
@@ -206,24 +167,24 @@ static JUDGED: [(u8, &[[u8; 8]], Status, &str); 9] = [
         Status::Refused,
         "V10 slot 0\n",
     ),
-    // programs have no calls yet: the opcode comes before what else is wrong with its slot, and after what is wrong before it
+    // a call is a helper's (0) or a function's (1): another source comes before what is missing behind it
     (
         2,
         &[MOV_0, [0x85, 0x20, 0, 0, 0, 0, 0, 0], EXIT],
         Status::Refused,
-        "V06 slot 1\n",
+        "V09 slot 1\n",
     ),
     (
         2,
         &[[0x85, 0x20, 0, 0, 0, 0, 0, 0]],
         Status::Refused,
-        "V06 slot 0\n",
+        "V09 slot 0\n",
     ),
     (
         2,
         &[
             [0xb7, 0x0b, 0, 0, 0, 0, 0, 0],
-            [0x85, 0, 0, 0, 1, 0, 0, 0],
+            [0x85, 0x20, 0, 0, 1, 0, 0, 0],
             EXIT,
         ],
         Status::Refused,
@@ -321,10 +282,7 @@ static PROGRAMS: [(&[u8], u32, &str); 18] = [
 #[test]
 fn a_program_is_checked(rt: HostRuntime) -> Result<(), Fail> {
     for (text, budget, printed) in PROGRAMS.iter().copied() {
-        let image = assembled(rt.alloc(), text, 0, budget)?;
-        assert!(rt; image.status == Status::Done, "{printed}");
-        let done = checked(rt.alloc(), image.out.as_slice())?;
-        assert!(rt; done.out.as_slice() == printed.as_bytes(), "{printed}");
+        check_program(&rt, text, 0, budget, printed)?;
     }
     Ok(())
 }

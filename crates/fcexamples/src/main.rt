@@ -1,0 +1,116 @@
+//! The program of the worked examples: each is assembled, checked, installed in slot 0 of a server, and asked.
+#![tactic(auto)]
+
+use clap::{Arg, Command, Error};
+use fc_service::Status;
+use fc_service::command_line::{VERSION, exit_code, explain, words};
+use fc_service::play::play;
+use fc_service::tools::{check, image_of};
+use std::alloc::Global;
+use std::io::{BufWriter, Write};
+use std::process::ExitCode;
+use std::rt::Files;
+use std::{fs, io};
+
+/// A worked program: the file of its text, the size of its variables in bytes, its budget of steps, and the lines of
+/// `fcd play` that ask slot 0.
+struct Example {
+    file: &'static str,
+    vars_size: u16,
+    budget: u32,
+    requests: &'static str,
+}
+
+/// GETs of slot 0: what they bring is told beside them.
+static EXAMPLES: [Example; 3] = [
+    Example {
+        file: "counter.s",
+        vars_size: 8,
+        budget: 15,
+        requests: "1 1 40010002b1720130\n",
+    },
+    // the payloads 101 and 100, and none
+    Example {
+        file: "threshold.s",
+        vars_size: 0,
+        budget: 13,
+        requests: "1 1 40010002b1720130ff65\n1 1 40010003b1720130ff64\n1 1 40010004b1720130\n",
+    },
+    Example {
+        file: "level.s",
+        vars_size: 8,
+        budget: 39,
+        requests: "1 1 40010002b1720130\n",
+    },
+];
+
+fn command<'a>(alloc: Global) -> Result<Command<'a>, Error> {
+    let folder = Arg::new(alloc, "folder").value_name("FOLDER").help(
+        "Where the texts of the programs lie; the current folder where it isn't given",
+    );
+    Ok(
+        Command::new(alloc, "fcexamples")
+            .version(VERSION)
+            .about("Assemble the worked programs, check them, and play them")
+            .arg(folder)?,
+    )
+}
+
+fn run<E: Write>(rt: &HostRuntime, err: &mut E) -> anyhow::Result<Status> {
+    match words(rt, err)? {
+        Some(words) => obey(rt, err, words),
+        None => Ok(Status::Bad),
+    }
+}
+
+// Shows the programs of the folder that the command line names.
+fn obey<E: Write>(rt: &HostRuntime, err: &mut E, words: Vec<String>) -> anyhow::Result<Status> {
+    let matches = match command(rt.alloc())?.try_get_matches_from(words.as_slice()) {
+        Ok(matches) => matches,
+        Err(error) => return explain(rt, &error),
+    };
+    show_all(rt, err, matches.get_str("folder").unwrap_or("."))
+}
+
+// Shows each program, up to one that isn't accepted or can't be played.
+fn show_all<E: Write>(rt: &HostRuntime, err: &mut E, folder: &str) -> anyhow::Result<Status> {
+    let mut out = BufWriter::new(rt.alloc(), io::writer(rt))?;
+    for example in &EXAMPLES {
+        let status = show(rt, &mut out, err, folder, example)?;
+        if status != Status::Done {
+            return Ok(status);
+        }
+    }
+    out.flush()?;
+    Ok(Status::Done)
+}
+
+// Prints the verdict on a program, the lines that install and ask it, and what those print.
+fn show<R: Files + AllocGlobal, W: Write, E: Write>(
+    rt: &R,
+    out: &mut W,
+    err: &mut E,
+    folder: &str,
+    example: &Example,
+) -> anyhow::Result<Status> {
+    let alloc = rt.alloc();
+    let text = fs::read(rt, format!(in alloc; "{folder}/{}", example.file)?)?;
+    let image = image_of(alloc, &text, example.vars_size, example.budget)?;
+    write!(out, "{}: ", example.file)?;
+    let judged = check(alloc, &mut image.as_slice(), out, err);
+    if judged != Status::Done {
+        return Ok(judged);
+    }
+    let digits = hex::encode(alloc, &image)?;
+    let lines = format!(in alloc; "0 1 40030001b1700130ff{digits}\n{}", example.requests)?;
+    writeln!(out, "\n{lines}")?;
+    let played = play(alloc, lines.as_bytes(), out, err, 0, 0);
+    writeln!(out)?;
+    Ok(played)
+}
+
+fn main(rt: HostRuntime) -> ExitCode {
+    let mut err = rt.stderr();
+    let ended = run(&rt, &mut err);
+    exit_code(&mut err, ended)
+}
