@@ -18,7 +18,7 @@ use Rattle.fc_isa.specs.declared.rule.Rule.{Rule}
 use Rattle.fc_isa.specs.declared.rule.Rule.TheVariants.{Opcode}
 use Rattle.fc_isa.specs.Rules.{number_of}
 use Rattle.fc_isa.specs.Shapes.{shape_of}
-use Rattle.fc_isa.specs.Encoding.{Fields, fields_at, slot_at, is_whole, is_second, arithmetic, insn_with, insn_of, imm_after, insn_at, insns_below, program_of, fault_at, first_fault, IsFirstFault}
+use Rattle.fc_isa.specs.Encoding.{Fields, fields_at, whole_fields_at, is_whole, is_second, arithmetic, insn_with, insn_of, imm_after, insn_at, insns_below, decoded_program, fault_at, first_fault, IsFirstFault}
 use Rattle.fc_isa.proofs.First.{none_below, first_some_none, first_of_some, some_of_first, none_faultless, faultless_none}
 use Rattle.fc_isa.proofs.Forms.{form_is}
 use Rattle.fc_isa.proofs.Low.{low_fault_at}
@@ -169,7 +169,7 @@ at_no_call : (bytes : List ℕ) (k : ℕ) → HasNoCall bytes → 8 * k + 8 ≤ 
 at_no_call bytes k a l =
     let f = fields_at bytes k in
     let other : (f.opcode == 133) ≡ false = whole_opcode (is_whole bytes k) (f.opcode == 133) (le-leb (8 * k + 8) (length bytes) l) (a.each k) in
-    either_no_call (is_second bytes k) (insn_of f (slot_at bytes (k + 1))) (form_no_call (shape_of f.opcode) f (imm_after (slot_at bytes (k + 1))) (other_form f.opcode other))
+    either_no_call (is_second bytes k) (insn_of f (whole_fields_at bytes (k + 1))) (form_no_call (shape_of f.opcode) f (imm_after (whole_fields_at bytes (k + 1))) (other_form f.opcode other))
 
 -- what holds of each member and of one more
 each_more : {A : Type 0} (P : A → Type 0) (xs : List A) (y : A) → ((k : ℕ) (x : A) → slice_get xs k ≡ Some x → P x) → P y → (k : ℕ) (x : A) → slice_get (xs ++ (y ∷ [])) k ≡ Some x → P x
@@ -183,6 +183,6 @@ below_no_call bytes zero a l k insn e = absurd (cc e)
 below_no_call bytes (suc n) a l k insn e =
     each_more IsNoCall (insns_below bytes n) (insn_at bytes n) (below_no_call bytes n a (omega (arith, l))) (at_no_call bytes n a (omega (arith, l))) k insn e
 
-pub program_no_call : (bytes : List ℕ) → HasNoCall bytes → (k : ℕ) (insn : Insn) → slice_get (program_of bytes) k ≡ Some insn → IsNoCall insn
-unfolding program_of
+pub program_no_call : (bytes : List ℕ) → HasNoCall bytes → (k : ℕ) (insn : Insn) → slice_get (decoded_program bytes) k ≡ Some insn → IsNoCall insn
+unfolding decoded_program
 program_no_call bytes a = below_no_call bytes (length bytes / 8) a (omega arith)

@@ -1,6 +1,6 @@
 //! Calls are refused by their opcode until programs may have them: this file goes then.
 ghost use Rattle.std.specs.Prelude.{IfErr, IfOk, MatchOption, true, ◌≡◌, ◌≤◌, ◌*◌, ◌+◌, length};
-ghost use Rattle.fc_isa.specs.Encoding.{IsFirstFault, Spells, program_of};
+ghost use Rattle.fc_isa.specs.Encoding.{IsFirstFault, Spells, decoded_program};
 ghost use Rattle.fc_verify.specs.Calls.{HasNoCall, IsFirstCall, IsFirstRefused, IsRefusedBy, first_refused, is_call};
 
 use fc_isa::{DecodeError, Fault, Insn, Rule, decode};
@@ -17,7 +17,7 @@ const CALL: u8 = 0x85;
 pub(crate) fn decode_without_calls(alloc: Global, bytes: &[u8]) -> Result<Vec<Insn>, DecodeError>
     ensures program { IfOk result (λ v. Spells bytes.now v.items) }
     ensures calls { IfOk result (λ v. HasNoCall bytes.now) }
-    ensures function { IfOk result (λ v. (v.items ≡ program_of bytes.now) × (first_refused bytes.now ≡ None)) }
+    ensures function { IfOk result (λ v. (v.items ≡ decoded_program bytes.now) × (first_refused bytes.now ≡ None)) }
     ensures fault { IfErr result (IsRefusedBy bytes.now) }
 {
     match decode(alloc, bytes) {
