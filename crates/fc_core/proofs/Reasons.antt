@@ -23,7 +23,7 @@ use Rattle.fc_core.specs.Contents.{Content, Missing, Unavailable, Made, Rejected
 use Rattle.fc_core.specs.AnswerLaws.{IsCause, NoTicket, NoMemory, Overtaken, LastCommit, LastInstall}
 use Rattle.fc_core.specs.History.{Entry, History, Then, Seen, seen, and_then, did, job, slot_at, stage, task_at}
 use Rattle.fc_core.specs.Laws.{answer_at, slot_of, takings_of}
-use Rattle.fc_core.specs.Stages.{Scene, committed, first_by, image_of, installed, made, names, ran, receipt_of, row, took, verified}
+use Rattle.fc_core.specs.Stages.{Scene, committed, first_by, image_of, installed, made, names, run_content, receipt_of, row, took, verified}
 use Rattle.fc_core.proofs.Others.{is_here, named_stage}
 use Rattle.fc_core.proofs.Steps.{Becomes, Moves, Stays, Comes, becomes}
 use Rattle.fc_core.proofs.Takings.{Took, known}
@@ -68,8 +68,8 @@ module _ (k : ℕ) (job : Job) (slot : Slot) (taken : ℕ) where
       so (Commit k now) (ToCommit n t) Unavailable c (Overtaken now n t refl refl tests.0 (λ (same : slot.serial ≡ t.serial). let is_same : (slot.serial == t.serial) ≡ true = eq-eqb slot.serial t.serial same in absurd (cc (is_same, tests.1))) (omega arith)) e
 
   committed_why : (now n : ℕ) (t : Ticket) (o : CommitOutcome) (c : Content) → taken ≡ n → n ≤ 8 → outcome t slot ≡ o → Answered (Commit k now) (ToCommit n t) (committed o n t now).stage c
-  committed_why now n t Writes c is le comes e = so (Commit k now) (ToCommit n t) (ran t) c tt e
-  committed_why now n t Keeps c is le comes e = so (Commit k now) (ToCommit n t) (ran t) c tt e
+  committed_why now n t Writes c is le comes e = so (Commit k now) (ToCommit n t) (run_content t) c tt e
+  committed_why now n t Keeps c is le comes e = so (Commit k now) (ToCommit n t) (run_content t) c tt e
   committed_why now n t Overtakes c is le comes e = retaken_why now n t (nat_lt n 8) c refl is le comes e
   committed_why now n t Ends c is le comes e =
       let tests = outcome_ends (wants t) (slot.serial == t.serial) (nat_lt slot.serial last_serial) comes in

@@ -1,6 +1,6 @@
 //! Events as lines of text: a name, and its parts as `name=value`, in any order.
 ghost use Rattle.std.specs.Prelude.{◌≡◌, ◌++◌, ◌∷◌, ◌^◌, ℕ, List, length, map, codes, IfOk, IfSome, OnSome};
-ghost use Rattle.fcreplay.specs.Listed.{HasData, HasEndpoint, HasFlag, HasNumber, HasPart, SayEvent, Says, equals, words_of};
+ghost use Rattle.fcreplay.specs.Listed.{HasData, HasEndpoint, HasFlag, HasNumber, HasPart, AreOfEvent, IsEventOf, equals, line_words};
 
 use coap_msg::Endpoint;
 use fc_service::hexadecimal::decode;
@@ -35,7 +35,7 @@ impl<'a> ListedEvent<'a> {
     /// # Errors
     /// The line says no event, or its data are no hex digits, or there was no memory.
     pub fn read(alloc: Global, line: &'a [u8]) -> Result<ListedEvent<'a>, LineError>
-        ensures { IfOk result (λ l. l.words ≡ words_of line.now) }
+        ensures { IfOk result (λ l. l.words ≡ line_words line.now) }
     {
         let words = words(alloc, line)?;
         let datagram = datagram(alloc, &words)?;
@@ -48,7 +48,7 @@ impl<'a> ListedEvent<'a> {
 
     /// The event that the line says, where it says one.
     pub fn event(&self) -> Option<Event<'_>>
-        ensures { IfSome result (SayEvent self.now.words) }
+        ensures { IfSome result (AreOfEvent self.now.words) }
     {
         let [name, parts @ ..] = self.words.as_slice() else {
             return None;
@@ -65,7 +65,7 @@ impl<'a> ListedEvent<'a> {
 
 // The words of a line, which single spaces part.
 fn words(alloc: Global, line: &[u8]) -> Result<Vec<&str>, LineError>
-    ensures { IfOk result (λ v. map (λ word. word.now) v.items ≡ words_of line.now) }
+    ensures { IfOk result (λ v. map (λ word. word.now) v.items ≡ line_words line.now) }
 {
     let Ok(text) = str::from_utf8(line) else {
         return Err(LineError::Bad);
@@ -148,7 +148,7 @@ fn peer(parts: &[&str]) -> Option<Endpoint>
 // The events of one part.
 fn with_one<'a>(name: &str, parts: &[&str]) -> Option<Event<'a>>
     requires { length parts.now ≡ 1 }
-    ensures { IfSome result (Says name.now (map (λ part. part.now) parts.now)) }
+    ensures { IfSome result (IsEventOf name.now (map (λ part. part.now) parts.now)) }
 {
     match name {
         "Remove" => Some(Event::Remove {
@@ -173,7 +173,7 @@ fn with_one<'a>(name: &str, parts: &[&str]) -> Option<Event<'a>>
 // The events of two parts.
 fn with_two<'a>(name: &str, parts: &[&str]) -> Option<Event<'a>>
     requires { length parts.now ≡ 2 }
-    ensures { IfSome result (Says name.now (map (λ part. part.now) parts.now)) }
+    ensures { IfSome result (IsEventOf name.now (map (λ part. part.now) parts.now)) }
 {
     match name {
         "Due" => Some(Event::Due {
@@ -192,7 +192,7 @@ fn with_two<'a>(name: &str, parts: &[&str]) -> Option<Event<'a>>
 fn of_job<'a>(name: &str, parts: &[&str], job: usize) -> Option<Event<'a>>
     requires count { length parts.now ≡ 2 }
     requires job { HasNumber (map (λ part. part.now) parts.now) (codes "job") (2 ^ 64) job }
-    ensures { IfSome result (Says name.now (map (λ part. part.now) parts.now)) }
+    ensures { IfSome result (IsEventOf name.now (map (λ part. part.now) parts.now)) }
 {
     match name {
         "Peek" => Some(Event::Peek {
@@ -231,7 +231,7 @@ fn of_job<'a>(name: &str, parts: &[&str], job: usize) -> Option<Event<'a>>
 fn with_three<'a>(name: &str, parts: &[&str], datagram: &'a Option<Vec<u8>>) -> Option<Event<'a>>
     requires count { length parts.now ≡ 3 }
     requires datagram { IfSome datagram.now (λ v. HasData (name.now ∷ map (λ part. part.now) parts.now) v.items) }
-    ensures { IfSome result (Says name.now (map (λ part. part.now) parts.now)) }
+    ensures { IfSome result (IsEventOf name.now (map (λ part. part.now) parts.now)) }
 {
     match name {
         "Deliver" => match datagram {
@@ -254,7 +254,7 @@ fn with_three<'a>(name: &str, parts: &[&str], datagram: &'a Option<Vec<u8>>) -> 
 // The events of four parts.
 fn with_four<'a>(name: &str, parts: &[&str]) -> Option<Event<'a>>
     requires { length parts.now ≡ 4 }
-    ensures { IfSome result (Says name.now (map (λ part. part.now) parts.now)) }
+    ensures { IfSome result (IsEventOf name.now (map (λ part. part.now) parts.now)) }
 {
     match name {
         "Signal" => Some(Event::Signal {
