@@ -1,5 +1,5 @@
 //! What the programs do alike with their command lines.
-ghost use Rattle.std.specs.Prelude.{◌≡◌, IfOk, MatchResult};
+ghost use Rattle.std.specs.Prelude.{◌≡◌, IfErr, IfOk};
 ghost use Rattle.clap.specs.Values.{kind_of};
 ghost use Rattle.std.specs.Process.{exit_status};
 ghost use Rattle.fc_service.specs.Ending.{explained, status_number};
@@ -50,7 +50,8 @@ pub fn explain<R: Runtime>(rt: &R, error: &Error) -> anyhow::Result<Status>
 
 /// The exit code of a program that ended so; `err` is told why where it failed.
 pub fn exit_code<E: Write>(err: &mut E, ended: anyhow::Result<Status>) -> ExitCode
-    ensures { MatchResult ended (λ status. exit_status result ≡ status_number status) (λ _. exit_status result ≡ 3) }
+    ensures ended { IfOk ended (λ status. exit_status result ≡ status_number status) }
+    ensures failed { IfErr ended (λ _. exit_status result ≡ 3) }
 {
     match ended {
         Ok(status) => ExitCode::from(status),

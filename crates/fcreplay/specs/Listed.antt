@@ -1,5 +1,6 @@
 -- Events as lines of text.
-use Rattle.std.specs.Prelude.{◌≡◌, ◌==◌, ℕ, ◌<◌, ◌^◌, List, ◌∷◌, ◌++◌, Bool, true, false, length, Option, Ok, codes}
+use Rattle.std.specs.Prelude.{◌≡◌, ◌==◌, ℕ, ◌<◌, ◌^◌, List, ◌∷◌, ◌++◌, Bool, true, false, length, map, Option, Ok, codes}
+use Rattle.std.specs.Borrow.{Bor}
 use Rattle.std.specs.List.{Contains, slice_split}
 use Rattle.hex.specs.Hex.{decode_of}
 use Rattle.fc_core.specs.declared.event.Event.{Event}
@@ -17,6 +18,10 @@ equals = 61
 -- single spaces part the words of a line
 abbrev pub line_words : Bytes → List Bytes
 line_words line = slice_split (λ b. b == space) line
+
+-- words by their bytes
+abbrev pub texts : List (Bor (List ℕ)) → List Bytes
+texts words = map (λ word. word.now) words
 
 -- one of the parts is `key=value`
 abbrev pub HasPart : List Bytes → Bytes → Bytes → Type 0

@@ -1,6 +1,6 @@
 //! Events as lines of text: a name, and its parts as `name=value`, in any order.
-ghost use Rattle.std.specs.Prelude.{◌≡◌, ◌++◌, ◌∷◌, ◌^◌, ℕ, List, length, map, codes, IfOk, IfSome, OnSome};
-ghost use Rattle.fcreplay.specs.Listed.{HasData, HasEndpoint, HasFlag, HasNumber, HasPart, AreOfEvent, IsEventOf, equals, line_words};
+ghost use Rattle.std.specs.Prelude.{◌≡◌, ◌++◌, ◌∷◌, ◌^◌, length, codes, IfOk, IfSome};
+ghost use Rattle.fcreplay.specs.Listed.{HasData, HasEndpoint, HasFlag, HasNumber, HasPart, AreOfEvent, IsEventOf, equals, line_words, texts};
 
 use coap_msg::Endpoint;
 use fc_service::hexadecimal::decode;
@@ -18,15 +18,15 @@ pub struct ListedEvent<'a> {
 }
 
 impl<'a> Model for ListedEvent<'a> {
-    ghost use Rattle.std.specs.Prelude.{map, IfSome};
+    ghost use Rattle.std.specs.Prelude.{IfSome};
     ghost use Rattle.std.specs.Option.{option_map};
-    ghost use Rattle.fcreplay.specs.Listed.{Line, HasData};
+    ghost use Rattle.fcreplay.specs.Listed.{Line, HasData, texts};
 
     ghost Value = { Line };
 
-    ghost view = { λ l. record { words = map (λ word. word.now) l.words.items; datagram = option_map (λ v. v.items) l.datagram } };
+    ghost view = { λ l. record { words = texts l.words.items; datagram = option_map (λ v. v.items) l.datagram } };
 
-    ghost invariant = { λ l. IfSome l.datagram (λ v. HasData (map (λ word. word.now) l.words.items) v.items) };
+    ghost invariant = { λ l. IfSome l.datagram (λ v. HasData (texts l.words.items) v.items) };
 }
 
 impl<'a> ListedEvent<'a> {
@@ -65,7 +65,7 @@ impl<'a> ListedEvent<'a> {
 
 // The words of a line, which single spaces part.
 fn words(alloc: Global, line: &[u8]) -> Result<Vec<&str>, LineError>
-    ensures { IfOk result (λ v. map (λ word. word.now) v.items ≡ line_words line.now) }
+    ensures { IfOk result (λ v. texts v.items ≡ line_words line.now) }
 {
     let Ok(text) = str::from_utf8(line) else {
         return Err(LineError::Bad);
@@ -78,7 +78,7 @@ fn words(alloc: Global, line: &[u8]) -> Result<Vec<&str>, LineError>
 
 // The datagram of a line's words; none where none of them is `data=hex`.
 fn datagram(alloc: Global, words: &[&str]) -> Result<Option<Vec<u8>>, LineError>
-    ensures { IfOk result (λ found. IfSome found (λ v. HasData (map (λ word. word.now) words.now) v.items)) }
+    ensures { IfOk result (λ found. IfSome found (λ v. HasData (texts words.now) v.items)) }
 {
     match value(words, "data") {
         None => Ok(None),
@@ -88,7 +88,7 @@ fn datagram(alloc: Global, words: &[&str]) -> Result<Option<Vec<u8>>, LineError>
 
 // The value of the part of this name.
 fn value<'a>(parts: &[&'a str], key: &str) -> Option<&'a str>
-    ensures { IfSome result (λ value. HasPart (map (λ part. part.now) parts.now) key.now value.now) }
+    ensures { IfSome result (λ value. HasPart (texts parts.now) key.now value.now) }
 {
     for part in parts.iter().copied() {
         if let Some(value) = value_of(part, key) {
@@ -106,31 +106,31 @@ fn value_of<'a>(part: &'a str, key: &str) -> Option<&'a str>
 }
 
 fn long(parts: &[&str], key: &str) -> Option<u64>
-    ensures { IfSome result (HasNumber (map (λ part. part.now) parts.now) key.now (2 ^ 64)) }
+    ensures { IfSome result (HasNumber (texts parts.now) key.now (2 ^ 64)) }
 {
     number(value(parts, key)?.as_bytes())
 }
 
 fn index(parts: &[&str], key: &str) -> Option<usize>
-    ensures { IfSome result (HasNumber (map (λ part. part.now) parts.now) key.now (2 ^ 64)) }
+    ensures { IfSome result (HasNumber (texts parts.now) key.now (2 ^ 64)) }
 {
     usize::try_from(long(parts, key)?).ok()
 }
 
 fn short(parts: &[&str], key: &str) -> Option<u16>
-    ensures { IfSome result (HasNumber (map (λ part. part.now) parts.now) key.now 65536) }
+    ensures { IfSome result (HasNumber (texts parts.now) key.now 65536) }
 {
     u16::try_from(long(parts, key)?).ok()
 }
 
 fn octet(parts: &[&str], key: &str) -> Option<u8>
-    ensures { IfSome result (HasNumber (map (λ part. part.now) parts.now) key.now 256) }
+    ensures { IfSome result (HasNumber (texts parts.now) key.now 256) }
 {
     byte(value(parts, key)?.as_bytes())
 }
 
 fn flag(parts: &[&str], key: &str) -> Option<bool>
-    ensures { IfSome result (HasFlag (map (λ part. part.now) parts.now) key.now) }
+    ensures { IfSome result (HasFlag (texts parts.now) key.now) }
 {
     match value(parts, key)? {
         "0" => Some(false),
@@ -140,7 +140,7 @@ fn flag(parts: &[&str], key: &str) -> Option<bool>
 }
 
 fn peer(parts: &[&str]) -> Option<Endpoint>
-    ensures { IfSome result (HasEndpoint (map (λ part. part.now) parts.now)) }
+    ensures { IfSome result (HasEndpoint (texts parts.now)) }
 {
     Some(endpoint(octet(parts, "ep")?))
 }
@@ -148,7 +148,7 @@ fn peer(parts: &[&str]) -> Option<Endpoint>
 // The events of one part.
 fn with_one<'a>(name: &str, parts: &[&str]) -> Option<Event<'a>>
     requires { length parts.now ≡ 1 }
-    ensures { IfSome result (IsEventOf name.now (map (λ part. part.now) parts.now)) }
+    ensures { IfSome result (IsEventOf name.now (texts parts.now)) }
 {
     match name {
         "Remove" => Some(Event::Remove {
@@ -173,7 +173,7 @@ fn with_one<'a>(name: &str, parts: &[&str]) -> Option<Event<'a>>
 // The events of two parts.
 fn with_two<'a>(name: &str, parts: &[&str]) -> Option<Event<'a>>
     requires { length parts.now ≡ 2 }
-    ensures { IfSome result (IsEventOf name.now (map (λ part. part.now) parts.now)) }
+    ensures { IfSome result (IsEventOf name.now (texts parts.now)) }
 {
     match name {
         "Due" => Some(Event::Due {
@@ -191,8 +191,8 @@ fn with_two<'a>(name: &str, parts: &[&str]) -> Option<Event<'a>>
 // The events of a job and one part more.
 fn of_job<'a>(name: &str, parts: &[&str], job: usize) -> Option<Event<'a>>
     requires count { length parts.now ≡ 2 }
-    requires job { HasNumber (map (λ part. part.now) parts.now) (codes "job") (2 ^ 64) job }
-    ensures { IfSome result (IsEventOf name.now (map (λ part. part.now) parts.now)) }
+    requires job { HasNumber (texts parts.now) (codes "job") (2 ^ 64) job }
+    ensures { IfSome result (IsEventOf name.now (texts parts.now)) }
 {
     match name {
         "Peek" => Some(Event::Peek {
@@ -230,8 +230,8 @@ fn of_job<'a>(name: &str, parts: &[&str], job: usize) -> Option<Event<'a>>
 // The events of three parts.
 fn with_three<'a>(name: &str, parts: &[&str], datagram: &'a Option<Vec<u8>>) -> Option<Event<'a>>
     requires count { length parts.now ≡ 3 }
-    requires datagram { IfSome datagram.now (λ v. HasData (name.now ∷ map (λ part. part.now) parts.now) v.items) }
-    ensures { IfSome result (IsEventOf name.now (map (λ part. part.now) parts.now)) }
+    requires datagram { IfSome datagram.now (λ v. HasData (name.now ∷ texts parts.now) v.items) }
+    ensures { IfSome result (IsEventOf name.now (texts parts.now)) }
 {
     match name {
         "Deliver" => match datagram {
@@ -254,7 +254,7 @@ fn with_three<'a>(name: &str, parts: &[&str], datagram: &'a Option<Vec<u8>>) -> 
 // The events of four parts.
 fn with_four<'a>(name: &str, parts: &[&str]) -> Option<Event<'a>>
     requires { length parts.now ≡ 4 }
-    ensures { IfSome result (IsEventOf name.now (map (λ part. part.now) parts.now)) }
+    ensures { IfSome result (IsEventOf name.now (texts parts.now)) }
 {
     match name {
         "Signal" => Some(Event::Signal {
