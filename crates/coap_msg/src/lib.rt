@@ -3,6 +3,16 @@
 //! [`read`] parses a datagram into a zero-copy [`Message`]; [`write`] emits the one encoding of an [`Outgoing`], and [`writer`]
 //! has its steps for who writes options of another type. A clause sees a message as `specs/Wire`'s record: type, code, id,
 //! token, options in order, payload.
+//!
+//! ```rust
+//! use coap_msg::{Code, read};
+//!
+//! /// The message id of a datagram that is a GET.
+//! fn id_of_get(bytes: &[u8]) -> Option<u16> {
+//!     let message = read(bytes).ok()?;
+//!     (message.code() == Code::GET).then_some(message.id())
+//! }
+//! ```
 #![tactic(auto)]
 
 pub mod code;

@@ -3,6 +3,23 @@
 //! [`classify`] says of a message whether it is a request that the server carries out, and with which fields, or what is
 //! answered to it: the first check that fails decides. What is served is one table, [`served`]. A [`Reply`] carries any set of
 //! the options that the server sends.
+//!
+//! ```rust
+//! use coap_msg::read;
+//! use coap_opts::{Classified, Method, Resource, classify};
+//!
+//! /// The slot whose program a datagram asks by a GET of `/r/N`.
+//! fn asked_slot(bytes: &[u8]) -> Option<u8> {
+//!     let message = read(bytes).ok()?;
+//!     match classify(&message) {
+//!         Classified::Request(request) => match (request.method, request.resource) {
+//!             (Method::Get, Resource::Run(slot)) => Some(slot),
+//!             _ => None,
+//!         },
+//!         _ => None,
+//!     }
+//! }
+//! ```
 #![tactic(auto)]
 
 pub mod block;

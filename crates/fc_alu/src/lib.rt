@@ -2,6 +2,16 @@
 //!
 //! `alu` computes an arithmetic instruction and `truth` a conditional jump's comparison. The interpreter's loop calls the
 //! functions behind them, which take an operation and a width that are constants at each call.
+//!
+//! ```rust
+//! use fc_alu::arithmetic;
+//! use fc_isa::{AluOp, Width};
+//!
+//! /// The remainder of two registers: the dividend itself where the divisor is 0.
+//! fn remainder(dividend: u64, divisor: u64) -> u64 {
+//!     arithmetic(AluOp::Mod, Width::W64, dividend, divisor)
+//! }
+//! ```
 #![tactic(auto)]
 
 pub mod byte_order;

@@ -1,4 +1,15 @@
 //! Instructions as text, one a line, and back.
+//!
+//! ```rust
+//! use fc_asm::{AsmError, assemble, disassemble};
+//! use std::alloc::Global;
+//!
+//! /// A text without its comments and blank lines, and with one space between words.
+//! fn lay_out(alloc: Global, text: &str) -> Result<String, AsmError> {
+//!     let program = assemble(alloc, text)?;
+//!     Ok(disassemble(alloc, &program)?)
+//! }
+//! ```
 #![tactic(auto)]
 
 pub mod assembling;

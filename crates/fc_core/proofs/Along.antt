@@ -9,14 +9,14 @@ use Rattle.fc_core.specs.declared.stage.Stage.{Stage}
 use Rattle.fc_core.specs.declared.stage.Stage.TheVariants.{Gone}
 use Rattle.fc_core.specs.declared.stage.Task.{Task}
 use Rattle.fc_core.specs.History.{Entry, History, Begins, Then, Seen, seen, and_then, no_task, scene, stage, task_at}
-use Rattle.fc_core.specs.Laws.{is_named, is_number}
+use Rattle.fc_core.specs.Laws.{is_named, is_job}
 use Rattle.fc_core.specs.Stages.{first_by, names, row}
 use Rattle.fc_core.proofs.Steps.{Becomes, Moves, Stays, Comes, becomes, tasks_grow}
 
-pub is_its_number : (k : ℕ) (o : Option ℕ) → o ≡ Some k → is_number k o ≡ true
-is_its_number k o is = ap (is_number k) is ∙ eq-eqb k k refl
+pub is_its_number : (k : ℕ) (o : Option ℕ) → o ≡ Some k → is_job k o ≡ true
+is_its_number k o is = ap (is_job k) is ∙ eq-eqb k k refl
 
-pub is_another : (k : ℕ) (o : Option ℕ) → (o ≡ Some k → ⊥) → is_number k o ≡ false
+pub is_another : (k : ℕ) (o : Option ℕ) → (o ≡ Some k → ⊥) → is_job k o ≡ false
 is_another k None ne = refl
 is_another k (Some j) ne = ne_eqb j k (λ e. ne (ap Some e))
 

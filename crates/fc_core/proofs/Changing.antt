@@ -18,7 +18,7 @@ use Rattle.fc_core.specs.declared.stage.Stage.{Stage}
 use Rattle.fc_core.specs.declared.stage.Stage.TheVariants.{ToTake, ToCommit, ToInstall, ToRaise, ToAnswer, Gone}
 use Rattle.fc_core.specs.Contents.{Content, Unavailable}
 use Rattle.fc_core.specs.History.{Entry, History, Then, Seen, seen, and_then, job, scene, slot_at, stage}
-use Rattle.fc_core.specs.Laws.{HasCome, changes_by, is_named, is_number, is_stray, is_stray_at, slot_of, stage_named}
+use Rattle.fc_core.specs.Laws.{HasCome, changes_by, is_named, is_job, is_stray, is_stray_at, slot_of, stage_named}
 use Rattle.fc_core.specs.SlotLaws.{IsToRaise}
 use Rattle.fc_core.specs.Stages.{Scene, committed, first_by, image_of, installed, made, names, receipt_of, row, took, verified}
 use Rattle.fc_core.proofs.Along.{IsTold, along, gone_before}
@@ -129,7 +129,7 @@ first_none (Installs image) = refl
 abbrev more_changes : Event → Seen → ℕ → ℕ → ℕ
 more_changes e s k n = n + length (row e (scene s k)).changes
 
-number_is : (k : ℕ) (o : Option ℕ) → is_number k o ≡ true → o ≡ Some k
+number_is : (k : ℕ) (o : Option ℕ) → is_job k o ≡ true → o ≡ Some k
 number_is k None e = absurd (cc)
 number_is k (Some j) e = ap Some (eqb-true j k e)
 

@@ -1,8 +1,8 @@
 -- Where each answer comes from.
-use Rattle.std.proofs.Common.{◌≡◌, ℕ, ◌+◌, ◌≤◌, length, Bool, true, false, Option, Some, None, refl, sym, ap, ◌∙◌, subst, ◌⊎◌, inl, inr, arith, if◌then◌else◌}
+use Rattle.std.proofs.Common.{◌≡◌, ℕ, ◌+◌, ◌<◌, ◌≤◌, length, Bool, true, false, Option, Some, None, refl, sym, ap, ◌∙◌, subst, ◌⊎◌, inl, inr, arith, if◌then◌else◌}
 use Rattle.std.specs.Prelude.{nat_lt, ◌==◌, is_none}
 use borrow.Author.Tests.{ltb-true, ltb-false}
-use Rattle.std.proofs.lemmas.Bool.{eq-eqb}
+use Rattle.std.proofs.lemmas.Bool.{eqb-true, eq-eqb}
 use Rattle.coap_msg.specs.declared.types.Emission.{Emission}
 use Rattle.fc_kinds.specs.Meaning.{Program}
 use Rattle.fc_verify.specs.Accepted.{Judgement, Accepts, Breaks, Untypable}
@@ -23,7 +23,7 @@ use Rattle.fc_core.specs.Contents.{Content, Missing, Unavailable, Made, Rejected
 use Rattle.fc_core.specs.AnswerLaws.{IsCause, NoTicket, NoMemory, Overtaken, LastCommit, LastInstall}
 use Rattle.fc_core.specs.History.{Entry, History, Then, Seen, seen, and_then, did, job, slot_at, stage, task_at}
 use Rattle.fc_core.specs.Laws.{answer_at, slot_of, takings_of}
-use Rattle.fc_core.specs.Stages.{Scene, committed, first_by, image_of, installed, made, names, ran, receipt_of, row, took, verified}
+use Rattle.fc_core.specs.Stages.{Scene, committed, first_by, image_of, installed, made, names, run_content, receipt_of, row, took, verified}
 use Rattle.fc_core.proofs.Others.{is_here, named_stage}
 use Rattle.fc_core.proofs.Steps.{Becomes, Moves, Stays, Comes, becomes}
 use Rattle.fc_core.proofs.Takings.{Took, known}
@@ -67,9 +67,29 @@ module _ (k : ℕ) (job : Job) (slot : Slot) (taken : ℕ) where
       let past : 8 ≤ n = ltb-false n 8 lt in
       so (Commit k now) (ToCommit n t) Unavailable c (Overtaken now n t refl refl tests.0 (λ (same : slot.serial ≡ t.serial). let is_same : (slot.serial == t.serial) ≡ true = eq-eqb slot.serial t.serial same in absurd (cc (is_same, tests.1))) (omega arith)) e
 
+  outcome_keeps : (w same below : Bool) → outcome_by w same below ≡ Keeps → w ≡ false
+  outcome_keeps false same below e = refl
+  outcome_keeps true false below e = absurd (cc)
+  outcome_keeps true true false e = absurd (cc)
+  outcome_keeps true true true e = absurd (cc)
+
+  outcome_writes : (w same below : Bool) → outcome_by w same below ≡ Writes → (same ≡ true) × (below ≡ true)
+  outcome_writes false same below e = absurd (cc)
+  outcome_writes true false below e = absurd (cc)
+  outcome_writes true true false e = absurd (cc)
+  outcome_writes true true true e = (refl, refl)
+
+  -- a run's answer, where a run that wants to write may
+  ran_why : (now n : ℕ) (t : Ticket) (c : Content) → (wants t ≡ true → (slot.serial ≡ t.serial) × (slot.serial < last_serial)) → Answered (Commit k now) (ToCommit n t) (ToAnswer (run_content t)) c
+  ran_why now n t c writes e = so (Commit k now) (ToCommit n t) (run_content t) c (record { now = now; count = n; ticket = t; event = refl; is = refl; code = refl; serial = refl; writes = writes }) e
+
   committed_why : (now n : ℕ) (t : Ticket) (o : CommitOutcome) (c : Content) → taken ≡ n → n ≤ 8 → outcome t slot ≡ o → Answered (Commit k now) (ToCommit n t) (committed o n t now).stage c
-  committed_why now n t Writes c is le comes e = so (Commit k now) (ToCommit n t) (ran t) c tt e
-  committed_why now n t Keeps c is le comes e = so (Commit k now) (ToCommit n t) (ran t) c tt e
+  committed_why now n t Writes c is le comes e =
+      let tests = outcome_writes (wants t) (slot.serial == t.serial) (nat_lt slot.serial last_serial) comes in
+      ran_why now n t c (λ w. (eqb-true slot.serial t.serial tests.0, ltb-true slot.serial last_serial tests.1)) e
+  committed_why now n t Keeps c is le comes e =
+      let keeps = outcome_keeps (wants t) (slot.serial == t.serial) (nat_lt slot.serial last_serial) comes in
+      ran_why now n t c (λ w. absurd (cc (keeps, w))) e
   committed_why now n t Overtakes c is le comes e = retaken_why now n t (nat_lt n 8) c refl is le comes e
   committed_why now n t Ends c is le comes e =
       let tests = outcome_ends (wants t) (slot.serial == t.serial) (nat_lt slot.serial last_serial) comes in

@@ -5,13 +5,13 @@ use Rattle.fc_verify.specs.Accepted.{Judgement, Accepts, Breaks, Untypable}
 use Rattle.fc_verify.specs.Judged.{judged}
 use Rattle.fc_registry.specs.declared.job.Job.{Job}
 use Rattle.fc_registry.specs.declared.receipt.Receipt.{Receipt}
-use Rattle.fc_registry.specs.Calls.{wants}
+use Rattle.fc_registry.specs.Calls.{meaning_at, wants}
 use Rattle.fc_registry.specs.Slots.{Slot, Present, Ticket}
 use Rattle.fc_core.specs.declared.event.Event.{Event}
 use Rattle.fc_core.specs.declared.event.Event.TheVariants.{Deliver, Take, Commit, Install, Answer, Tick}
 use Rattle.fc_core.specs.declared.stage.Stage.{Stage}
 use Rattle.fc_core.specs.declared.stage.Stage.TheVariants.{ToTake, ToCommit, ToInstall, ToAnswer}
-use Rattle.fc_core.specs.Contents.{Content, Ran, Missing, Unavailable, Made, Rejected, Untyped}
+use Rattle.fc_core.specs.Contents.{Content, RunAnswer, Ran, Missing, Unavailable, Made, Rejected, Untyped}
 use Rattle.fc_core.specs.History.{Entry, History, Begins, Then, Seen, seen, job, slot_at, stage}
 use Rattle.fc_core.specs.Laws.{slot_of, stage_named, takings_of}
 use Rattle.fc_core.specs.Stages.{image_of, names}
@@ -56,9 +56,21 @@ pub record IsRefused (e : Event) (k : ℕ) (j : Job) (at : Stage) (judgement : J
   pub is : at ≡ ToInstall
   pub judged_as : judged (image_of j.ask) ≡ judgement
 
--- why an event makes this a job's answer; that of a run is of the job's last taking
+-- it commits a run, whose code and ticket's serial the answer has: a run that wants to write is answered by its code only where
+-- the slot is still at its ticket's serial, below the last one
+pub record IsRan (e : Event) (k : ℕ) (slot : Slot) (at : Stage) (run : RunAnswer) : Type 0 where
+  pub now : ℕ
+  pub count : ℕ
+  pub ticket : Ticket
+  pub event : e ≡ Commit k now
+  pub is : at ≡ ToCommit count ticket
+  pub code : run.code ≡ (meaning_at ticket).code
+  pub serial : run.serial ≡ ticket.serial
+  pub writes : wants ticket ≡ true → (slot.serial ≡ ticket.serial) × (slot.serial < 9223372036854775807)
+
+-- why an event makes this a job's answer
 abbrev pub IsCause : Event → ℕ → Job → Slot → Stage → ℕ → Content → Type 0
-IsCause e k j slot at taken (Ran run) = Unit {0}
+IsCause e k j slot at taken (Ran run) = IsRan e k slot at run
 IsCause e k j slot at taken Missing = IsMissing e k slot at
 IsCause e k j slot at taken Unavailable = IsUnavailable e k j slot at taken
 IsCause e k j slot at taken (Made receipt created) = IsMade e k j slot at receipt created

@@ -43,12 +43,12 @@ abbrev pub HasCome : Seen → ℕ → Type 0
 HasCome s k = k < length s.tasks
 
 -- the event names the job of this number
-abbrev pub is_number : ℕ → Option ℕ → Bool
-is_number k None = false
-is_number k (Some j) = j == k
+abbrev pub is_job : ℕ → Option ℕ → Bool
+is_job k None = false
+is_job k (Some j) = j == k
 
 abbrev pub is_named : ℕ → Event → Bool
-is_named k e = is_number k (names e)
+is_named k e = is_job k (names e)
 
 -- the slot of the job of this number
 abbrev pub slot_of : Seen → ℕ → ℕ

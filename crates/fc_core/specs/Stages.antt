@@ -58,15 +58,15 @@ took count Missing = ToAnswer Misses
 took count Refused = ToAnswer Unavailable
 
 -- the answer of a ticket's run
-abbrev pub ran : Ticket → Content
-ran t = Ran (run_answer t (meaning_at t))
+abbrev pub run_content : Ticket → Content
+run_content t = Ran (run_answer t (meaning_at t))
 
 -- a run that was overtaken is taken again, eight times at most
 abbrev pub retaken : ℕ → Stage
 retaken count = if nat_lt count takings then ToTake count else ToAnswer Unavailable
 
 abbrev pub after_commit : ℕ → Ticket → Committed → Stage
-after_commit count t (Done m) = if m.changed then ToRaise (ran t) else ToAnswer (ran t)
+after_commit count t (Done m) = if m.changed then ToRaise (run_content t) else ToAnswer (run_content t)
 after_commit count t Overtaken = retaken count
 after_commit count t Ended = ToAnswer Unavailable
 after_commit count t Stranger = ToAnswer Unavailable
@@ -96,8 +96,8 @@ abbrev pub taken : Bool → ℕ → Scene → Move
 taken memory count s = moves (took count (taking memory s.job s.slot.serial s.slot.present))
 
 abbrev pub committed : CommitOutcome → ℕ → Ticket → ℕ → Move
-committed Writes count t now = record { stage = ToRaise (ran t); changes = Wrote (commit_of t) ∷ []; hands = Some now }
-committed Keeps count t now = record { stage = ToAnswer (ran t); changes = []; hands = Some now }
+committed Writes count t now = record { stage = ToRaise (run_content t); changes = Wrote (commit_of t) ∷ []; hands = Some now }
+committed Keeps count t now = record { stage = ToAnswer (run_content t); changes = []; hands = Some now }
 committed Overtakes count t now = record { stage = retaken count; changes = []; hands = Some now }
 committed Ends count t now = record { stage = ToAnswer Unavailable; changes = []; hands = Some now }
 

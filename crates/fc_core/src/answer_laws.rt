@@ -17,7 +17,8 @@ ghost use Rattle.std.specs.Prelude.{ℕ, ◌⊎◌, ◌++◌, ◌<◌, ◌≤◌
 
 /// A job that has an answer after an event had it before, or the event gives it for a reason. The answer is 5.03 (Service
 /// Unavailable) only where memory is refused, where the slot changes under the job's eighth ticket, or where the slot is
-/// at its last serial; 4.04 (Not Found) only where a taking finds the slot empty. The receipt of an install is its
+/// at its last serial; 4.04 (Not Found) only where a taking finds the slot empty. A run's code is the answer only at the commit
+/// of the run, and where the run wants to write only if it may. The receipt of an install is its
 /// program's, its version is the slot's new serial, and it tells whether the slot was empty.
 pub fn answers_have_causes()
     ensures { (h : History) (r : Entry) (k : ℕ) (c : Content)

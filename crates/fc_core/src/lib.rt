@@ -3,6 +3,23 @@
 //! [`Front`] keeps the exchanges: it reads datagrams, hands out jobs, and writes replies. Every moment and every byte is
 //! an argument: there is no clock and no socket here. `specs/` has the definitions that the list of all events is judged
 //! by: the history, the stages of jobs, the changes of slots, and what each event may emit.
+//!
+//! ```rust
+//! use coap_msg::{Emission, Endpoint};
+//! use fc_core::{Answer, Answered, Delivered, End, Front};
+//!
+//! /// What is sent where no slot has a program: each job is answered 4.04.
+//! fn reply(front: &mut Front, now: u64, from: Endpoint, bytes: &[u8]) -> Option<Emission> {
+//!     match front.deliver(now, from, bytes) {
+//!         Delivered::Reply(emission) => Some(emission),
+//!         Delivered::Job(job) => match front.answer(now, &job, &Answer::other(End::Missing)) {
+//!             Answered::Sent(emission) => Some(emission),
+//!             Answered::Late | Answered::NoId => None,
+//!         },
+//!         Delivered::Nothing | Delivered::Signal { .. } => None,
+//!     }
+//! }
+//! ```
 #![tactic(auto)]
 
 pub mod answer;

@@ -1,4 +1,16 @@
 //! What a run is given beside its program: the request, the slot's variables, and the helpers that it may call.
+//!
+//! ```rust
+//! use fc_help::{Method, Request, Vars};
+//!
+//! /// What a program is given for `GET /r/7?on`, with eight bytes of variables.
+//! fn given() -> (Request, Vars) {
+//!     (
+//!         Request::new(Method::Get, 7, None, b"on", b""),
+//!         Vars::zeros(8),
+//!     )
+//! }
+//! ```
 #![tactic(auto)]
 
 pub mod helper;

@@ -1,4 +1,14 @@
 //! Images of programs: the header, and the shape of the control flow with its greatest number of steps.
+//!
+//! ```rust
+//! use fc_image::Head;
+//! use fc_isa::Fault;
+//!
+//! /// The header of a program of two slots, with no variables, that may take two steps.
+//! fn header() -> Result<[u8; 16], Fault> {
+//!     Ok(Head::new(0, 2, 2)?.bytes())
+//! }
+//! ```
 #![tactic(auto)]
 
 pub mod control_flow;

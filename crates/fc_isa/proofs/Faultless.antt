@@ -22,7 +22,7 @@ use Rattle.fc_isa.specs.declared.rule.Rule.{Rule}
 use Rattle.fc_isa.specs.declared.rule.Rule.TheVariants.{Opcode, Register, FramePointer, Field, WideLoad}
 use Rattle.fc_isa.specs.Shapes.{opcode_of, shape_of, is_known, is_wide, uses, writes_dst}
 use Rattle.fc_isa.specs.Program.{IsOperand, IsInsn, is_wide_load, is_wide_second}
-use Rattle.fc_isa.specs.Encoding.{Fields, fields_of, second_half, source_of, src_of, imm_of, sign_offset, swap_bits, swap_width, unused_are_zero, values_allowed, is_move_offset, is_second_half, breaks, slot_fault, insn_with, insn_of, arithmetic, moved, called, operand_of, imm_after}
+use Rattle.fc_isa.specs.Encoding.{Fields, fields_of, second_half, source_of, src_of, imm_of, sign_offset, swap_bits, swap_width, unused_are_zero, values_allowed, is_move_offset, is_second_half, breaks, slot_fault, insn_with, insn_of, arithmetic, move_of, called, operand_of, imm_after}
 use Rattle.fc_isa.proofs.Forms.{IsForm, form_is}
 use Rattle.fc_isa.proofs.Insns.{Fit}
 
@@ -143,7 +143,7 @@ insn_if false x y f p q = q refl
 other : (n a b : ℕ) → ((n == a) || (n == b)) ≡ true → (n == a) ≡ false → b ≡ n
 other n a b h e = elim (either (n == a) (n == b) h) [ inl t ↦ absurd (cc (t, e)) | inr t ↦ sym (eqb-true n b t) ]
 
-moved_fields : (width : Width) (f : Fields) → opcode_of (AluShape Mov width X) ≡ f.opcode → Zeros (AluShape Mov width X) f → is_move_offset width f.offset ≡ true → fields_of (moved width f) ≡ f
+moved_fields : (width : Width) (f : Fields) → opcode_of (AluShape Mov width X) ≡ f.opcode → Zeros (AluShape Mov width X) f → is_move_offset width f.offset ≡ true → fields_of (move_of width f) ≡ f
 moved_fields W32 f o z v =
     insn_if (f.offset == 0) _ _ f (λ e. same f _ _ _ _ _ o refl refl (sym (eqb-true f.offset 0 e)) (sym (z.imm refl))) (λ a.
     insn_if (f.offset == 8) _ _ f (λ e. same f _ _ _ _ _ o refl refl (sym (eqb-true f.offset 8 e)) (sym (z.imm refl))) (λ b.
@@ -233,7 +233,7 @@ if_is P true x y p q = p
 if_is P false x y p q = q
 
 -- what a move and every sign extension are, a slot's move is
-moved_is : (P : Insn → Type 0) (width : Width) (f : Fields) → P (Alu Mov width f.dst (Reg f.src)) → ((e : SignExtension) → P (SignExtend e f.dst f.src)) → P (moved width f)
+moved_is : (P : Insn → Type 0) (width : Width) (f : Fields) → P (Alu Mov width f.dst (Reg f.src)) → ((e : SignExtension) → P (SignExtend e f.dst f.src)) → P (move_of width f)
 moved_is P width f p q =
     let word = SignExtend Word f.dst f.src in
     let half = SignExtend (HalfWord width) f.dst f.src in

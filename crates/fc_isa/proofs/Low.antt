@@ -3,7 +3,7 @@ use Rattle.std.proofs.Common.{◌≡◌, ℕ, ◌<◌, ◌+◌, ◌*◌, Bool, t
 use Rattle.fc_isa.specs.declared.rule.Rule.{Rule}
 use Rattle.fc_isa.specs.declared.rule.Rule.TheVariants.{Opcode, Register, FramePointer, Field, WideLoad}
 use Rattle.fc_isa.specs.Rules.{number_of}
-use Rattle.fc_isa.specs.Encoding.{Fields, fields_at, slot_at, is_whole, is_second, breaks, slot_fault, fault_at}
+use Rattle.fc_isa.specs.Encoding.{Fields, fields_at, whole_fields_at, is_whole, is_second, breaks, slot_fault, fault_at}
 
 low_of : (r rule : Rule) → number_of r < 20 → Some r ≡ Some rule → number_of rule < 20
 low_of r rule l e = let q : r ≡ rule = cc e in subst (λ x. number_of x < 20) q l
@@ -28,4 +28,4 @@ low_fault_if false second false f next rule h = absurd (cc h)
 
 pub low_fault_at : (bytes : List ℕ) (slot : ℕ) (rule : Rule) → fault_at bytes slot ≡ Some rule → number_of rule < 20
 unfolding fault_at
-low_fault_at bytes slot rule h = low_fault_if (is_whole bytes slot) (is_second bytes slot) (nat_lt (8 * slot) (length bytes)) (fields_at bytes slot) (slot_at bytes (slot + 1)) rule h
+low_fault_at bytes slot rule h = low_fault_if (is_whole bytes slot) (is_second bytes slot) (nat_lt (8 * slot) (length bytes)) (fields_at bytes slot) (whole_fields_at bytes (slot + 1)) rule h

@@ -11,7 +11,7 @@ use Rattle.fc_isa.specs.declared.insn.Insn.TheVariants.{LoadWide, WideSecond, Ex
 use Rattle.fc_isa.specs.declared.rule.Rule.TheVariants.{WideLoad}
 use Rattle.fc_isa.specs.Shapes.{shape_of, is_wide}
 use Rattle.fc_isa.specs.Program.{IsInsn, is_program, is_wide_load, is_wide_second}
-use Rattle.fc_isa.specs.Encoding.{Fields, fields_of, bytes_of, slots_of, second_half, fields_at, slot_at, is_second, encoded, Spells, slot_fault, insn_of, insn_at, imm_after, insns_below, program_of, fault_at}
+use Rattle.fc_isa.specs.Encoding.{Fields, fields_of, bytes_of_fields, insn_slots, second_half, fields_at, whole_fields_at, is_second, encoded, Spells, slot_fault, insn_of, insn_at, imm_after, insns_below, decoded_program, fault_at}
 use Rattle.fc_isa.proofs.Insns.{Fit, fields_fit, IsOwn, own_faultless, own_insn}
 use Rattle.fc_isa.proofs.Faultless.{fields_of-insn_of, IsInsn-insn_of, is_wide_insn, is_own_insn, IsWideLoad, wide_faultless}
 use Rattle.fc_isa.proofs.Slot.{AreBytes, slot_bytes, slot_fit, slot_is}
@@ -19,7 +19,7 @@ use Rattle.fc_isa.proofs.Programs.{after, same, same_true, cond_some, after_push
 
 -- ---- what a slot's fault is
 
-pub slot_at_whole : (bytes : List ℕ) (k : ℕ) → 8 * k + 8 ≤ length bytes → slot_at bytes k ≡ Some (fields_at bytes k)
+pub slot_at_whole : (bytes : List ℕ) (k : ℕ) → 8 * k + 8 ≤ length bytes → whole_fields_at bytes k ≡ Some (fields_at bytes k)
 slot_at_whole bytes k h = rw (le-leb (8 * k + 8) (length bytes) h) refl
 
 -- a second half answers for nothing
@@ -28,7 +28,7 @@ unfolding fault_at
 fault_at_second bytes k h s = rw (le-leb (8 * k + 8) (length bytes) h, s) refl
 
 -- every other whole slot breaks what its fields break
-pub fault_at_own : (bytes : List ℕ) (k : ℕ) → 8 * k + 8 ≤ length bytes → is_second bytes k ≡ false → fault_at bytes k ≡ slot_fault (fields_at bytes k) (slot_at bytes (k + 1))
+pub fault_at_own : (bytes : List ℕ) (k : ℕ) → 8 * k + 8 ≤ length bytes → is_second bytes k ≡ false → fault_at bytes k ≡ slot_fault (fields_at bytes k) (whole_fields_at bytes (k + 1))
 unfolding fault_at
 fault_at_own bytes k h s = rw (le-leb (8 * k + 8) (length bytes) h, s) refl
 
@@ -45,7 +45,7 @@ fault_at_past bytes k h = rw (lt-leb (8 * k + 8) (length bytes) (omega arith), l
 pub insn_at_second : (bytes : List ℕ) (k : ℕ) → is_second bytes k ≡ true → insn_at bytes k ≡ WideSecond
 insn_at_second bytes k s = rw s refl
 
-pub insn_at_own : (bytes : List ℕ) (k : ℕ) → is_second bytes k ≡ false → insn_at bytes k ≡ insn_of (fields_at bytes k) (slot_at bytes (k + 1))
+pub insn_at_own : (bytes : List ℕ) (k : ℕ) → is_second bytes k ≡ false → insn_at bytes k ≡ insn_of (fields_at bytes k) (whole_fields_at bytes (k + 1))
 insn_at_own bytes k s = rw s refl
 
 and_false : (a : Bool) → (a && false) ≡ false
@@ -60,7 +60,7 @@ and_true false = refl
 pub second_after : (bytes : List ℕ) (k : ℕ) (s : Bool) → is_second bytes k ≡ s → is_second bytes (suc k) ≡ is_wide_load (insn_at bytes k)
 second_after bytes k true s = rw s (and_false (is_wide (shape_of (fields_at bytes k).opcode)))
 second_after bytes k false s =
-    rw s (and_true (is_wide (shape_of (fields_at bytes k).opcode)) ∙ sym (is_wide_insn (shape_of (fields_at bytes k).opcode) (fields_at bytes k) (imm_after (slot_at bytes (k + 1)))))
+    rw s (and_true (is_wide (shape_of (fields_at bytes k).opcode)) ∙ sym (is_wide_insn (shape_of (fields_at bytes k).opcode) (fields_at bytes k) (imm_after (whole_fields_at bytes (k + 1)))))
 
 -- ---- bytes of faultless slots
 
@@ -71,17 +71,17 @@ due false = 0
 
 encoded-append : (p q : List Insn) → encoded (p ++ q) ≡ encoded p ++ encoded q
 encoded-append [] q = refl
-encoded-append (i ∷ p) q = ap (λ bs. flat_map bytes_of (slots_of i) ++ bs) (encoded-append p q) ∙ sym (append_assoc (flat_map bytes_of (slots_of i)) (encoded p) (encoded q))
+encoded-append (i ∷ p) q = ap (λ bs. flat_map bytes_of_fields (insn_slots i) ++ bs) (encoded-append p q) ∙ sym (append_assoc (flat_map bytes_of_fields (insn_slots i)) (encoded p) (encoded q))
 
-encoded-push : (p : List Insn) (i : Insn) → encoded (p ++ i ∷ []) ≡ encoded p ++ flat_map bytes_of (slots_of i)
-encoded-push p i = encoded-append p (i ∷ []) ∙ ap (λ bs. encoded p ++ bs) (append-nil (flat_map bytes_of (slots_of i)))
+encoded-push : (p : List Insn) (i : Insn) → encoded (p ++ i ∷ []) ≡ encoded p ++ flat_map bytes_of_fields (insn_slots i)
+encoded-push p i = encoded-append p (i ∷ []) ∙ ap (λ bs. encoded p ++ bs) (append-nil (flat_map bytes_of_fields (insn_slots i)))
 
 -- eight more bytes
 take_eight : (bytes : List ℕ) (n : ℕ) → take (8 * n) bytes ++ take 8 (drop (8 * n) bytes) ≡ take (8 * suc n) bytes
 take_eight bytes n = sym (take-add (8 * n) 8 bytes) ∙ ap (λ m. take m bytes) (omega arith)
 
 -- an instruction of one slot
-slots_plain : (i : Insn) → is_wide_load i ≡ false → is_wide_second i ≡ false → slots_of i ≡ fields_of i ∷ []
+slots_plain : (i : Insn) → is_wide_load i ≡ false → is_wide_second i ≡ false → insn_slots i ≡ fields_of i ∷ []
 slots_plain (LoadWide dst value) w s = absurd (cc w)
 slots_plain WideSecond w s = absurd (cc s)
 slots_plain i w s = refl
@@ -90,7 +90,7 @@ slots_plain i w s = refl
 pub record IsRead (bytes : List ℕ) (n : ℕ) (s : Bool) (t : Bool) : Type 0 where
   pub second : is_second bytes (suc n) ≡ t
   pub whole : 8 * (suc n + due t) ≤ length bytes
-  pub spelled : take (8 * (n + due s)) bytes ++ flat_map bytes_of (slots_of (insn_at bytes n)) ≡ take (8 * (suc n + due t)) bytes
+  pub spelled : take (8 * (n + due s)) bytes ++ flat_map bytes_of_fields (insn_slots (insn_at bytes n)) ≡ take (8 * (suc n + due t)) bytes
   pub insn : IsInsn (insn_at bytes n)
   pub kind : is_wide_second (insn_at bytes n) ≡ s
   pub wide : is_wide_load (insn_at bytes n) ≡ t
@@ -101,7 +101,7 @@ read_second bytes n l s =
     record {
       second = second_after bytes n true s ∙ ap is_wide_load i;
       whole = omega arith;
-      spelled = ap (λ i. take (8 * (n + 1)) bytes ++ flat_map bytes_of (slots_of i)) i ∙ append-nil (take (8 * (n + 1)) bytes) ∙ ap (λ m. take m bytes) (omega arith);
+      spelled = ap (λ i. take (8 * (n + 1)) bytes ++ flat_map bytes_of_fields (insn_slots i)) i ∙ append-nil (take (8 * (n + 1)) bytes) ∙ ap (λ m. take m bytes) (omega arith);
       insn = subst IsInsn (sym i) tt;
       kind = ap is_wide_second i;
       wide = ap is_wide_load i;
@@ -114,9 +114,9 @@ read_plain bytes n i b l s e f k o w =
       second = second_after bytes n false s ∙ ap is_wide_load e ∙ w;
       whole = omega arith;
       spelled =
-          ap (λ i. take (8 * (n + 0)) bytes ++ flat_map bytes_of (slots_of i)) e
-          ∙ ap (λ fs. take (8 * (n + 0)) bytes ++ flat_map bytes_of fs) (slots_plain i w o ∙ ap (λ f. f ∷ []) f)
-          ∙ ap (λ bs. take (8 * (n + 0)) bytes ++ bs) (append-nil (bytes_of (fields_at bytes n)) ∙ slot_bytes bytes n b l)
+          ap (λ i. take (8 * (n + 0)) bytes ++ flat_map bytes_of_fields (insn_slots i)) e
+          ∙ ap (λ fs. take (8 * (n + 0)) bytes ++ flat_map bytes_of_fields fs) (slots_plain i w o ∙ ap (λ f. f ∷ []) f)
+          ∙ ap (λ bs. take (8 * (n + 0)) bytes ++ bs) (append-nil (bytes_of_fields (fields_at bytes n)) ∙ slot_bytes bytes n b l)
           ∙ ap (λ m. take (8 * m) bytes ++ take 8 (drop (8 * n) bytes)) (add-zero n)
           ∙ take_eight bytes n
           ∙ ap (λ m. take m bytes) (omega arith);
@@ -129,26 +129,26 @@ read_plain bytes n i b l s e f k o w =
 halves : (high low : ℕ) → low < 2 ^ 32 → (high * 2 ^ 32 + low) / 2 ^ 32 ≡ high
 halves high low h = omega arith
 
-some_whole : (bytes : List ℕ) (k : ℕ) (g : Fields) → slot_at bytes k ≡ Some g → (length bytes < 8 * k + 8) ⊎ (8 * k + 8 ≤ length bytes) → (8 * k + 8 ≤ length bytes) × (fields_at bytes k ≡ g)
+some_whole : (bytes : List ℕ) (k : ℕ) (g : Fields) → whole_fields_at bytes k ≡ Some g → (length bytes < 8 * k + 8) ⊎ (8 * k + 8 ≤ length bytes) → (8 * k + 8 ≤ length bytes) × (fields_at bytes k ≡ g)
 some_whole bytes k g e (inr h) = let w = slot_at_whole bytes k h in (h, cc)
-some_whole bytes k g e (inl h) = let n : slot_at bytes k ≡ None = rw (lt-leb (8 * k + 8) (length bytes) h) refl in absurd (cc (n, e))
+some_whole bytes k g e (inl h) = let n : whole_fields_at bytes k ≡ None = rw (lt-leb (8 * k + 8) (length bytes) h) refl in absurd (cc (n, e))
 
-bits_of_two : (f g : Fields) → flat_map bytes_of (f ∷ g ∷ []) ≡ bytes_of f ++ bytes_of g
-bits_of_two f g = ap (λ bs. bytes_of f ++ bs) (append-nil (bytes_of g))
+bits_of_two : (f g : Fields) → flat_map bytes_of_fields (f ∷ g ∷ []) ≡ bytes_of_fields f ++ bytes_of_fields g
+bits_of_two f g = ap (λ bs. bytes_of_fields f ++ bs) (append-nil (bytes_of_fields g))
 
 -- a wide load's two slots
-wide_spelled : (bytes : List ℕ) (n : ℕ) (f g : Fields) → bytes_of f ≡ take 8 (drop (8 * n) bytes) → bytes_of g ≡ take 8 (drop (8 * suc n) bytes)
-    → take (8 * n) bytes ++ flat_map bytes_of (f ∷ g ∷ []) ≡ take (8 * suc (suc n)) bytes
+wide_spelled : (bytes : List ℕ) (n : ℕ) (f g : Fields) → bytes_of_fields f ≡ take 8 (drop (8 * n) bytes) → bytes_of_fields g ≡ take 8 (drop (8 * suc n) bytes)
+    → take (8 * n) bytes ++ flat_map bytes_of_fields (f ∷ g ∷ []) ≡ take (8 * suc (suc n)) bytes
 wide_spelled bytes n f g p q =
     ap (λ bs. take (8 * n) bytes ++ bs) (bits_of_two f g)
-    ∙ sym (append_assoc (take (8 * n) bytes) (bytes_of f) (bytes_of g))
-    ∙ ap (λ bs. (take (8 * n) bytes ++ bs) ++ bytes_of g) p
-    ∙ ap (λ bs. bs ++ bytes_of g) (take_eight bytes n)
+    ∙ sym (append_assoc (take (8 * n) bytes) (bytes_of_fields f) (bytes_of_fields g))
+    ∙ ap (λ bs. (take (8 * n) bytes ++ bs) ++ bytes_of_fields g) p
+    ∙ ap (λ bs. bs ++ bytes_of_fields g) (take_eight bytes n)
     ∙ ap (λ bs. take (8 * suc n) bytes ++ bs) q
     ∙ take_eight bytes (suc n)
 
 read_wide : (bytes : List ℕ) (n : ℕ) (g : Fields) → AreBytes bytes → 8 * n + 8 ≤ length bytes → is_second bytes n ≡ false → slot_fault (fields_at bytes n) (Some g) ≡ None
-    → slot_at bytes (n + 1) ≡ Some g → IsWideLoad (fields_at bytes n) g → IsRead bytes n false true
+    → whole_fields_at bytes (n + 1) ≡ Some g → IsWideLoad (fields_at bytes n) g → IsRead bytes n false true
 read_wide bytes n g b l s h e w =
     let f = fields_at bytes n in
     let next = some_whole bytes (n + 1) g e (cases_lt (length bytes) (8 * (n + 1) + 8)) in
@@ -157,15 +157,15 @@ read_wide bytes n g b l s h e w =
     let own : fields_of (LoadWide f.dst (g.imm * 2 ^ 32 + f.imm)) ≡ f = ap fields_of (sym w.insn) ∙ fields_of-insn_of f (Some g) fit h in
     let half : second_half ((g.imm * 2 ^ 32 + f.imm) / 2 ^ 32) ≡ g = ap second_half (halves g.imm f.imm fit.imm) ∙ w.half in
     let g_fit : Fit g = subst Fit next.1 (slot_fit bytes (n + 1) b) in
-    let g_bytes : bytes_of g ≡ take 8 (drop (8 * suc n) bytes) = ap bytes_of (sym next.1) ∙ slot_bytes bytes (n + 1) b next.0 ∙ ap (λ m. take 8 (drop m bytes)) (omega arith) in
+    let g_bytes : bytes_of_fields g ≡ take 8 (drop (8 * suc n) bytes) = ap bytes_of_fields (sym next.1) ∙ slot_bytes bytes (n + 1) b next.0 ∙ ap (λ m. take 8 (drop m bytes)) (omega arith) in
     record {
       second = second_after bytes n false s ∙ ap is_wide_load at;
       whole = let q = next.0 in omega arith;
       spelled =
-          ap (λ i. take (8 * (n + 0)) bytes ++ flat_map bytes_of (slots_of i)) at
-          ∙ ap (λ f. take (8 * (n + 0)) bytes ++ flat_map bytes_of (f ∷ second_half ((g.imm * 2 ^ 32 + (fields_at bytes n).imm) / 2 ^ 32) ∷ [])) own
-          ∙ ap (λ k. take (8 * (n + 0)) bytes ++ flat_map bytes_of (f ∷ k ∷ [])) half
-          ∙ ap (λ m. take (8 * m) bytes ++ flat_map bytes_of (f ∷ g ∷ [])) (add-zero n)
+          ap (λ i. take (8 * (n + 0)) bytes ++ flat_map bytes_of_fields (insn_slots i)) at
+          ∙ ap (λ f. take (8 * (n + 0)) bytes ++ flat_map bytes_of_fields (f ∷ second_half ((g.imm * 2 ^ 32 + (fields_at bytes n).imm) / 2 ^ 32) ∷ [])) own
+          ∙ ap (λ k. take (8 * (n + 0)) bytes ++ flat_map bytes_of_fields (f ∷ k ∷ [])) half
+          ∙ ap (λ m. take (8 * m) bytes ++ flat_map bytes_of_fields (f ∷ g ∷ [])) (add-zero n)
           ∙ wide_spelled bytes n f g (slot_bytes bytes n b l) g_bytes
           ∙ ap (λ m. take m bytes) (omega arith);
       insn = subst IsInsn (sym (insn_at_own bytes n s ∙ ap (insn_of f) e)) (IsInsn-insn_of f (Some g) fit g_fit.imm h);
@@ -174,18 +174,18 @@ read_wide bytes n g b l s h e w =
     }
 
 -- the imm of the slot after, where it is there
-after_small : (bytes : List ℕ) (k : ℕ) (next : Option Fields) → AreBytes bytes → slot_at bytes k ≡ next → imm_after next < 2 ^ 32
+after_small : (bytes : List ℕ) (k : ℕ) (next : Option Fields) → AreBytes bytes → whole_fields_at bytes k ≡ next → imm_after next < 2 ^ 32
 after_small bytes k (Some g) b e = let w = some_whole bytes k g e (cases_lt (length bytes) (8 * k + 8)) in let g_fit : Fit g = subst Fit w.1 (slot_fit bytes k b) in g_fit.imm
 after_small bytes k None b e = lit< tt
 
-read_own : (bytes : List ℕ) (n : ℕ) (w : Bool) → AreBytes bytes → 8 * n + 8 ≤ length bytes → is_second bytes n ≡ false → slot_fault (fields_at bytes n) (slot_at bytes (n + 1)) ≡ None
+read_own : (bytes : List ℕ) (n : ℕ) (w : Bool) → AreBytes bytes → 8 * n + 8 ≤ length bytes → is_second bytes n ≡ false → slot_fault (fields_at bytes n) (whole_fields_at bytes (n + 1)) ≡ None
     → is_wide (shape_of (fields_at bytes n).opcode) ≡ w → IsRead bytes n false w
 read_own bytes n true b l s h w =
-    let half = wide_faultless (fields_at bytes n) (slot_at bytes (n + 1)) w h in
+    let half = wide_faultless (fields_at bytes n) (whole_fields_at bytes (n + 1)) w h in
     read_wide bytes n half.half b l s (ap (slot_fault (fields_at bytes n)) (sym half.is) ∙ h) half.is half.wide
 read_own bytes n false b l s h w =
     let f = fields_at bytes n in
-    let next = slot_at bytes (n + 1) in
+    let next = whole_fields_at bytes (n + 1) in
     let fit = slot_fit bytes n b in
     read_plain bytes n (insn_of f next) b l s (insn_at_own bytes n s) (fields_of-insn_of f next fit h) (IsInsn-insn_of f next fit (after_small bytes (n + 1) next b refl) h)
     (is_own_insn (shape_of f.opcode) f (imm_after next)) (is_wide_insn (shape_of f.opcode) f (imm_after next) ∙ w)
@@ -218,7 +218,7 @@ read_more bytes n s t p r = record {
   below = record {
     second = r.second;
     whole = r.whole;
-    bytes_are = encoded-push (insns_below bytes n) (insn_at bytes n) ∙ ap (λ bs. bs ++ flat_map bytes_of (slots_of (insn_at bytes n))) p.bytes_are ∙ r.spelled;
+    bytes_are = encoded-push (insns_below bytes n) (insn_at bytes n) ∙ ap (λ bs. bs ++ flat_map bytes_of_fields (insn_slots (insn_at bytes n))) p.bytes_are ∙ r.spelled;
     insns = All-push IsInsn (insns_below bytes n) (insn_at bytes n) p.insns r.insn;
     state = after_push false (insns_below bytes n) (insn_at bytes n) s p.state r.kind ∙ ap Some r.wide;
   };
@@ -249,8 +249,8 @@ no_rest bytes h (inl e) = e
 no_rest bytes h (inr l) = absurd (cc (fault_at_rest bytes (length bytes / 8) (omega arith) l, h (length bytes / 8)))
 
 -- the bytes of faultless slots with no rest spell a program
-pub faultless_spell : (bytes : List ℕ) → AreBytes bytes → ((k : ℕ) → fault_at bytes k ≡ None) → Spells bytes (program_of bytes)
-unfolding program_of
+pub faultless_spell : (bytes : List ℕ) → AreBytes bytes → ((k : ℕ) → fault_at bytes k ≡ None) → Spells bytes (decoded_program bytes)
+unfolding decoded_program
 faultless_spell bytes b h = below_spell bytes (length bytes / 8) b (no_rest bytes h (grind arith)) (λ k lt. h k)
 
 pub length-insns_below : (bytes : List ℕ) (n : ℕ) → length (insns_below bytes n) ≡ n
@@ -295,14 +295,14 @@ next_second bytes n q r =
       };
     }
 
-next_plain : (bytes : List ℕ) (n : ℕ) (i : Insn) (q : List Insn) → IsRest bytes n false (i ∷ q) → slots_of i ≡ fields_of i ∷ [] → is_wide_load i ≡ false → ((next : Option Fields) → IsOwn i next)
+next_plain : (bytes : List ℕ) (n : ℕ) (i : Insn) (q : List Insn) → IsRest bytes n false (i ∷ q) → insn_slots i ≡ fields_of i ∷ [] → is_wide_load i ≡ false → ((next : Option Fields) → IsOwn i next)
     → after (is_wide_load i) q ≡ Some false → IsNext bytes n i q
 next_plain bytes n i q r one w own a =
     let k = first_insn i q r.insns in
-    let e : drop (8 * n) bytes ≡ bytes_of (fields_of i) ++ encoded q =
-    ap (λ m. drop (8 * m) bytes) (sym (add-zero n)) ∙ r.rest ∙ ap (λ fs. flat_map bytes_of fs ++ encoded q) one ∙ ap (λ bs. bs ++ encoded q) (append-nil (bytes_of (fields_of i))) in
+    let e : drop (8 * n) bytes ≡ bytes_of_fields (fields_of i) ++ encoded q =
+    ap (λ m. drop (8 * m) bytes) (sym (add-zero n)) ∙ r.rest ∙ ap (λ fs. flat_map bytes_of_fields fs ++ encoded q) one ∙ ap (λ bs. bs ++ encoded q) (append-nil (bytes_of_fields (fields_of i))) in
     let at = slot_is bytes n (fields_of i) (encoded q) (fields_fit i k) e in
-    let next = slot_at bytes (n + 1) in
+    let next = whole_fields_at bytes (n + 1) in
     let is : insn_at bytes n ≡ i = insn_at_own bytes n r.second ∙ ap (λ f. insn_of f next) at.fields ∙ own_insn i next k (own next) in
     record {
       fault = fault_at_own bytes n at.whole r.second ∙ ap (λ f. slot_fault f next) at.fields ∙ own_faultless i next k (own next);
@@ -325,14 +325,14 @@ next_wide bytes n dst value q r =
     let k = first_insn i q r.insns in
     let f = fields_of i in
     let g = second_half (value / 2 ^ 32) in
-    let e : drop (8 * n) bytes ≡ bytes_of f ++ (bytes_of g ++ encoded q) =
-    ap (λ m. drop (8 * m) bytes) (sym (add-zero n)) ∙ r.rest ∙ ap (λ bs. bs ++ encoded q) (bits_of_two f g) ∙ append_assoc (bytes_of f) (bytes_of g) (encoded q) in
-    let first = slot_is bytes n f (bytes_of g ++ encoded q) (fields_fit i k) e in
+    let e : drop (8 * n) bytes ≡ bytes_of_fields f ++ (bytes_of_fields g ++ encoded q) =
+    ap (λ m. drop (8 * m) bytes) (sym (add-zero n)) ∙ r.rest ∙ ap (λ bs. bs ++ encoded q) (bits_of_two f g) ∙ append_assoc (bytes_of_fields f) (bytes_of_fields g) (encoded q) in
+    let first = slot_is bytes n f (bytes_of_fields g ++ encoded q) (fields_fit i k) e in
     let after_it = slot_is bytes (suc n) g (encoded q) (half_fit value k.1) first.after in
-    let next : slot_at bytes (n + 1) ≡ Some g = ap (slot_at bytes) (add-one n) ∙ slot_at_whole bytes (suc n) after_it.whole ∙ ap Some after_it.fields in
-    let is : insn_at bytes n ≡ i = insn_at_own bytes n r.second ∙ ap (λ f. insn_of f (slot_at bytes (n + 1))) first.fields ∙ ap (insn_of f) next ∙ own_insn i (Some g) k (refl, refl) in
+    let next : whole_fields_at bytes (n + 1) ≡ Some g = ap (whole_fields_at bytes) (add-one n) ∙ slot_at_whole bytes (suc n) after_it.whole ∙ ap Some after_it.fields in
+    let is : insn_at bytes n ≡ i = insn_at_own bytes n r.second ∙ ap (λ f. insn_of f (whole_fields_at bytes (n + 1))) first.fields ∙ ap (insn_of f) next ∙ own_insn i (Some g) k (refl, refl) in
     record {
-      fault = fault_at_own bytes n first.whole r.second ∙ ap (λ f. slot_fault f (slot_at bytes (n + 1))) first.fields ∙ ap (slot_fault f) next ∙ own_faultless i (Some g) k (refl, refl);
+      fault = fault_at_own bytes n first.whole r.second ∙ ap (λ f. slot_fault f (whole_fields_at bytes (n + 1))) first.fields ∙ ap (slot_fault f) next ∙ own_faultless i (Some g) k (refl, refl);
       insn = is;
       rest = record {
         second = second_after bytes n false r.second ∙ ap is_wide_load is;
@@ -404,8 +404,8 @@ pub spelled_faultless : (bytes : List ℕ) (p : List Insn) → Spells bytes p �
 spelled_faultless bytes p s k = (read_all bytes p s).faultless k (omega arith)
 
 -- and no other program
-pub spelled_once : (bytes : List ℕ) (p : List Insn) → Spells bytes p → p ≡ program_of bytes
-unfolding program_of
+pub spelled_once : (bytes : List ℕ) (p : List Insn) → Spells bytes p → p ≡ decoded_program bytes
+unfolding decoded_program
 spelled_once bytes p s =
     let r = read_all bytes p s in
     let count : 0 + length p ≡ length bytes / 8 = (let c = r.count in omega arith) in
@@ -413,12 +413,12 @@ spelled_once bytes p s =
 
 -- ---- writing a program
 
-pub encode_more : (program : List Insn) (k : ℕ) (d : Insn) (old new : List ℕ) → k < length program → old ≡ encoded (take k program) → d ≡ get_or program k d → new ≡ old ++ flat_map bytes_of (slots_of d)
+pub encode_more : (program : List Insn) (k : ℕ) (d : Insn) (old new : List ℕ) → k < length program → old ≡ encoded (take k program) → d ≡ get_or program k d → new ≡ old ++ flat_map bytes_of_fields (insn_slots d)
     → new ≡ encoded (take (k + 1) program)
 encode_more program k d old new l h e n =
     n
-    ∙ ap (λ bs. bs ++ flat_map bytes_of (slots_of d)) h
-    ∙ ap (λ i. encoded (take k program) ++ flat_map bytes_of (slots_of i)) e
+    ∙ ap (λ bs. bs ++ flat_map bytes_of_fields (insn_slots d)) h
+    ∙ ap (λ i. encoded (take k program) ++ flat_map bytes_of_fields (insn_slots i)) e
     ∙ sym (encoded-push (take k program) (get_or program k d))
     ∙ ap encoded (sym (take_more program k d l))
 

@@ -4,7 +4,7 @@ use Rattle.fc_isa.specs.declared.insn.Insn.{Insn}
 use Rattle.fc_isa.specs.declared.rule.Rule.{Rule}
 use Rattle.fc_isa.specs.declared.rule.Rule.TheVariants.{WideLoad}
 use Rattle.fc_isa.specs.Program.{is_wide_load}
-use Rattle.fc_isa.specs.Encoding.{Fields, fields_at, slot_at, read_fields, Spells, slot_fault, insn_of, insn_at, is_second, insns_below, program_of, fault_at, first_fault, IsFirstFault}
+use Rattle.fc_isa.specs.Encoding.{Fields, fields_at, whole_fields_at, read_fields, Spells, slot_fault, insn_of, insn_at, is_second, insns_below, decoded_program, fault_at, first_fault, IsFirstFault}
 use Rattle.fc_isa.proofs.Slot.{AreBytes}
 use Rattle.fc_isa.proofs.Slots.{fault_at_own, fault_at_rest, insn_at_own, second_after, below_spell, spelled_faultless, spelled_once}
 use Rattle.fc_isa.proofs.First.{faultless_none}
@@ -15,13 +15,13 @@ fields_are bytes k f h = let e : 8 * k + 8 - 8 * k ≡ 8 = omega arith in h ∙ 
 
 -- what the fields of a slot break is the slot's fault
 pub own_fault : (bytes : List ℕ) (k : ℕ) (f : Fields) (next : Option Fields) (r : Option Rule) → 8 * k + 8 ≤ length bytes → is_second bytes k ≡ false → f ≡ fields_at bytes k
-    → next ≡ slot_at bytes (k + 1) → r ≡ slot_fault f next → fault_at bytes k ≡ r
+    → next ≡ whole_fields_at bytes (k + 1) → r ≡ slot_fault f next → fault_at bytes k ≡ r
 own_fault bytes k f next r l s ef en h =
-    fault_at_own bytes k l s ∙ ap (λ f. slot_fault f (slot_at bytes (k + 1))) (sym ef) ∙ ap (slot_fault f) (sym en) ∙ sym h
+    fault_at_own bytes k l s ∙ ap (λ f. slot_fault f (whole_fields_at bytes (k + 1))) (sym ef) ∙ ap (slot_fault f) (sym en) ∙ sym h
 
-pub own_insn_at : (bytes : List ℕ) (k : ℕ) (f : Fields) (next : Option Fields) (i : Insn) → is_second bytes k ≡ false → f ≡ fields_at bytes k → next ≡ slot_at bytes (k + 1) → i ≡ insn_of f next → i ≡ insn_at bytes k
+pub own_insn_at : (bytes : List ℕ) (k : ℕ) (f : Fields) (next : Option Fields) (i : Insn) → is_second bytes k ≡ false → f ≡ fields_at bytes k → next ≡ whole_fields_at bytes (k + 1) → i ≡ insn_of f next → i ≡ insn_at bytes k
 own_insn_at bytes k f next i s ef en h =
-    h ∙ ap (insn_of f) en ∙ ap (λ f. insn_of f (slot_at bytes (k + 1))) ef ∙ sym (insn_at_own bytes k s)
+    h ∙ ap (insn_of f) en ∙ ap (λ f. insn_of f (whole_fields_at bytes (k + 1))) ef ∙ sym (insn_at_own bytes k s)
 
 pub broken : (bytes : List ℕ) (k : ℕ) (rule : Rule) → fault_at bytes k ≡ Some rule → ((j : ℕ) → j < k → fault_at bytes j ≡ None) → IsFirstFault bytes rule k
 broken bytes k rule h before = record { broken = h; before = before }
@@ -46,7 +46,7 @@ second_more bytes k insn i = ap is_wide_load i ∙ sym (second_after bytes k (is
 -- what decoded bytes and their program are to one another
 pub record IsDecoded (bytes : List ℕ) (program : List Insn) : Type 0 where
   pub spells : Spells bytes program
-  pub program_is : program ≡ program_of bytes
+  pub program_is : program ≡ decoded_program bytes
   pub faultless : first_fault bytes ≡ None
 
 pub decoded : (bytes : List ℕ) (k : ℕ) (items : List Insn) → AreBytes bytes → k ≡ length bytes / 8 → length bytes % 8 ≡ 0 → ((j : ℕ) → j < k → fault_at bytes j ≡ None) → items ≡ insns_below bytes k

@@ -34,8 +34,8 @@ pub record Fields : Type 0 where
   pub imm : ℕ
 
 -- opcode; a byte of two registers, the destination in its low four bits; offset; imm
-abbrev pub bytes_of : Fields → List ℕ
-bytes_of f = f.opcode ∷ (16 * f.src + f.dst) ∷ (to_le_bytes w16 f.offset ++ to_le_bytes w32 f.imm)
+abbrev pub bytes_of_fields : Fields → List ℕ
+bytes_of_fields f = f.opcode ∷ (16 * f.src + f.dst) ∷ (to_le_bytes w16 f.offset ++ to_le_bytes w32 f.imm)
 
 -- ---- the spelling of a program
 
@@ -102,15 +102,15 @@ abbrev pub second_half : ℕ → Fields
 second_half high = record { opcode = 0; dst = 0; src = 0; offset = 0; imm = high }
 
 -- the slots that an instruction spells: a wide load two, so that the second half spells none
-abbrev pub slots_of : Insn → List Fields
-slots_of (LoadWide dst value) = fields_of (LoadWide dst value) ∷ second_half (value / 2 ^ 32) ∷ []
-slots_of WideSecond = []
-slots_of insn = fields_of insn ∷ []
+abbrev pub insn_slots : Insn → List Fields
+insn_slots (LoadWide dst value) = fields_of (LoadWide dst value) ∷ second_half (value / 2 ^ 32) ∷ []
+insn_slots WideSecond = []
+insn_slots insn = fields_of insn ∷ []
 
 -- the bytes of a program
 abbrev pub encoded : List Insn → List ℕ
 encoded [] = []
-encoded (insn ∷ program) = flat_map bytes_of (slots_of insn) ++ encoded program
+encoded (insn ∷ program) = flat_map bytes_of_fields (insn_slots insn) ++ encoded program
 
 -- the bytes spell the program
 pub record Spells (bytes : List ℕ) (program : List Insn) : Type 0 where
@@ -138,8 +138,8 @@ abbrev pub is_whole : List ℕ → ℕ → Bool
 is_whole bytes slot = nat_le (8 * slot + 8) (length bytes)
 
 -- the slot's fields, where it lies wholly within the bytes
-abbrev pub slot_at : List ℕ → ℕ → Option Fields
-slot_at bytes slot = if is_whole bytes slot then Some (fields_at bytes slot) else None
+abbrev pub whole_fields_at : List ℕ → ℕ → Option Fields
+whole_fields_at bytes slot = if is_whole bytes slot then Some (fields_at bytes slot) else None
 
 -- what an opcode doesn't use is zero
 abbrev pub unused_are_zero : Shape → Fields → Bool
@@ -187,6 +187,10 @@ slot_rules = Opcode ∷ Register ∷ FramePointer ∷ Field ∷ WideLoad ∷ []
 abbrev pub slot_fault : Fields → Option Fields → Option Rule
 slot_fault f next = find (breaks f next) slot_rules
 
+-- slots with this opcode break the opcode rule first, whatever else they have
+abbrev pub BreaksOpcodeFirst : ℕ → Type 0
+BreaksOpcodeFirst opcode = (f : Fields) (next : Option Fields) → f.opcode ≡ opcode → slot_fault f next ≡ Some Opcode
+
 -- a slot is a second half where the slot before it is a wide load, and no second half itself
 abbrev pub is_second : List ℕ → ℕ → Bool
 is_second bytes zero = false
@@ -196,7 +200,7 @@ is_second bytes (suc slot) = is_wide (shape_of (fields_at bytes slot).opcode) &&
 unfoldable pub fault_at : List ℕ → ℕ → Option Rule
 fault_at bytes slot =
     if is_whole bytes slot
-    then (if is_second bytes slot then None else slot_fault (fields_at bytes slot) (slot_at bytes (slot + 1)))
+    then (if is_second bytes slot then None else slot_fault (fields_at bytes slot) (whole_fields_at bytes (slot + 1)))
     else (if nat_lt (8 * slot) (length bytes) then Some WideLoad else None)
 
 -- the least slot that breaks a rule, with the least rule that it breaks
@@ -235,15 +239,15 @@ signed_by offset Mod = if offset == 0 then Mod else Smod
 signed_by offset op = op
 
 -- a move of a register extends the sign of as many bits as the offset says
-abbrev pub moved : Width → Fields → Insn
-moved width f =
+abbrev pub move_of : Width → Fields → Insn
+move_of width f =
     if f.offset == 0 then Alu Mov width f.dst (Reg f.src)
     else (if f.offset == 8 then SignExtend (Byte width) f.dst f.src
     else (if f.offset == 16 then SignExtend (HalfWord width) f.dst f.src
     else SignExtend Word f.dst f.src))
 
 abbrev pub arithmetic : AluOp → Width → Source → Fields → Insn
-arithmetic Mov width X f = moved width f
+arithmetic Mov width X f = move_of width f
 arithmetic op width source f = Alu (signed_by f.offset op) width f.dst (operand_of source f)
 
 abbrev pub swap_width : ℕ → SwapWidth
@@ -278,12 +282,12 @@ abbrev pub insn_of : Fields → Option Fields → Insn
 insn_of f next = insn_with (shape_of f.opcode) f (imm_after next)
 
 abbrev pub insn_at : List ℕ → ℕ → Insn
-insn_at bytes slot = if is_second bytes slot then WideSecond else insn_of (fields_at bytes slot) (slot_at bytes (slot + 1))
+insn_at bytes slot = if is_second bytes slot then WideSecond else insn_of (fields_at bytes slot) (whole_fields_at bytes (slot + 1))
 
 abbrev pub insns_below : List ℕ → ℕ → List Insn
 insns_below bytes zero = []
 insns_below bytes (suc n) = insns_below bytes n ++ (insn_at bytes n ∷ [])
 
 -- the program that faultless bytes spell
-unfoldable pub program_of : List ℕ → List Insn
-program_of bytes = insns_below bytes (length bytes / 8)
+unfoldable pub decoded_program : List ℕ → List Insn
+decoded_program bytes = insns_below bytes (length bytes / 8)

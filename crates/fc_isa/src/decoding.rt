@@ -1,6 +1,6 @@
 //! From bytes to instructions.
 ghost use Rattle.std.specs.Prelude.{IfErr, IfOk, List, MatchResult, None, Some, length, ◌+◌, ◌*◌, ◌≡◌, ◌≤◌};
-ghost use Rattle.fc_isa.specs.Encoding.{IsDecodeError, Spells, fault_at, first_fault, insn_at, is_second, program_of, slot_at};
+ghost use Rattle.fc_isa.specs.Encoding.{IsDecodeError, Spells, fault_at, first_fault, insn_at, is_second, decoded_program, whole_fields_at};
 ghost use Rattle.fc_isa.specs.declared.insn.Insn.{Insn};
 
 use crate::fields::Fields;
@@ -36,7 +36,7 @@ pub fn decode(alloc: Global, bytes: &[u8]) -> Result<Vec<Insn>, DecodeError>
     ensures program { IfOk result (λ v. Spells bytes.now v.items) }
     ensures spelled { (p : List Insn) → Spells bytes.now p → MatchResult result (λ v. v.items ≡ p) (λ e. e ≡ DecodeError.NoMemory) }
     ensures fault { IfErr result (IsDecodeError bytes.now) }
-    ensures function { IfOk result (λ v. (v.items ≡ program_of bytes.now) × (first_fault bytes.now ≡ None)) }
+    ensures function { IfOk result (λ v. (v.items ≡ decoded_program bytes.now) × (first_fault bytes.now ≡ None)) }
 {
     // The checker has to see the parts of an instruction where one is moved into a collection.
     let _parts: (Option<Operand>, Option<Jump>) = (None, None);
@@ -83,7 +83,7 @@ fn decode_slot(bytes: &[u8], slot: usize, second: bool) -> Result<Insn, Rule>
 /// The fields of a slot, if it lies wholly within the bytes.
 fn fields_at(bytes: &[u8], slot: usize) -> Option<Fields>
     requires { 8 * slot ≤ length bytes.now }
-    ensures { result ≡ slot_at bytes.now slot }
+    ensures { result ≡ whole_fields_at bytes.now slot }
 {
     if 8 * slot + 8 <= bytes.len() {
         Some(Fields::read(&bytes[8 * slot..8 * slot + 8]))

@@ -1,7 +1,7 @@
 //! From instructions to bytes.
 ghost use Rattle.std.specs.Prelude.{IfOk, true, ◌++◌, ◌≡◌};
 ghost use Rattle.std.specs.List.{flat_map};
-ghost use Rattle.fc_isa.specs.Encoding.{bytes_of, encoded, slots_of};
+ghost use Rattle.fc_isa.specs.Encoding.{bytes_of_fields, encoded, insn_slots};
 ghost use Rattle.fc_isa.specs.Program.{is_program};
 
 use crate::fields::Fields;
@@ -25,7 +25,7 @@ pub fn encode(alloc: Global, program: &[Insn]) -> Result<Vec<u8>, AllocError>
 
 /// Appends an instruction's slots: a wide load has two, and its second half none of its own.
 fn write(bytes: &mut Vec<u8>, insn: Insn) -> Result<(), AllocError>
-    ensures { IfOk result (λ _. bytes.new.items ≡ bytes.old.items ++ flat_map bytes_of (slots_of insn)) }
+    ensures { IfOk result (λ _. bytes.new.items ≡ bytes.old.items ++ flat_map bytes_of_fields (insn_slots insn)) }
 {
     match insn {
         Insn::WideSecond => Ok(()),

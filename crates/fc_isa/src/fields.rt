@@ -1,7 +1,7 @@
 //! The fields of a slot: read from its bytes and written to them, with the first rule that they break.
 ghost use Rattle.std.specs.Prelude.{◌≡◌, ◌<◌, ◌+◌, ◌*◌, ◌/◌, ◌%◌, ◌^◌, ℕ, List, [], ◌∷◌, None, true, length};
-ghost use Rattle.std.specs.Int.{w16, w32, cast_signed};
-ghost use Rattle.fc_isa.specs.Encoding.{bytes_of, fields, fields_of, insn_of, insn_with, read_fields, second_half, slot_fault, unused_are_zero, values_allowed, is_second_half, alu_values_allowed, arithmetic, moved, operand_of, called, sign_offset, signed_by, extended_bits, extended_width, swap_width, swap_bits, source_of, src_of, imm_of};
+ghost use Rattle.std.specs.Int.{w16, w32, cast_signed, cast_unsigned};
+ghost use Rattle.fc_isa.specs.Encoding.{bytes_of_fields, fields, fields_of, insn_of, insn_with, read_fields, second_half, slot_fault, unused_are_zero, values_allowed, is_second_half, alu_values_allowed, arithmetic, move_of, operand_of, called, sign_offset, signed_by, extended_bits, extended_width, swap_width, swap_bits, source_of, src_of, imm_of};
 ghost use Rattle.fc_isa.specs.Shapes.{shape_of, writes_dst};
 
 use crate::insn::{
@@ -66,77 +66,94 @@ impl Fields {
                 width,
                 dst,
                 operand,
-            } => Fields::form(Shape::Alu {
-                op,
-                width,
-                source: source_of(&operand),
-            })
-            .dst(dst.number())
-            .src(src_of(&operand))
-            .offset(sign_offset(op))
-            .imm(imm_of(&operand)),
+            } => Fields::computed(op, width, dst, &operand),
             Insn::Neg { width, dst } => Fields::form(Shape::Neg { width }).dst(dst.number()),
             Insn::SignExtend {
                 extension,
                 dst,
                 src,
-            } => Fields::form(moving(extension))
-                .dst(dst.number())
-                .src(src.number())
-                .offset(extended_bits(extension)),
-            Insn::End { order, width, dst } => Fields::form(Shape::End { order })
-                .dst(dst.number())
-                .imm(swap_bits(width)),
-            Insn::LoadWide { dst, value } => Fields::form(Shape::LoadWide)
-                .dst(dst.number())
-                .imm(low_half(value)),
-            Insn::WideSecond => Fields {
-                opcode: 0,
-                dst: 0,
-                src: 0,
-                offset: 0,
-                imm: 0,
-            },
+            } => Fields::extended(extension, dst, src),
+            Insn::End { order, width, dst } => Fields::swapped(order, width, dst),
+            Insn::LoadWide { dst, value } => Fields::loaded_wide(dst, value),
+            Insn::WideSecond => Fields::zeros(),
             Insn::Load {
                 loaded,
                 dst,
                 base,
                 offset,
-            } => Fields::form(Shape::Load { loaded })
-                .dst(dst.number())
-                .src(base.number())
-                .offset(offset.cast_unsigned()),
+            } => Fields::form(Shape::Load { loaded }).between(dst.number(), base.number(), offset),
             Insn::StoreImm {
                 size,
                 base,
                 offset,
                 imm,
-            } => Fields::form(Shape::StoreImm { size })
-                .dst(base.number())
-                .offset(offset.cast_unsigned())
-                .imm(imm.cast_unsigned()),
+            } => Fields::stored_imm(size, base, offset, imm),
             Insn::Store {
                 size,
                 base,
                 offset,
                 src,
-            } => Fields::form(Shape::Store { size })
-                .dst(base.number())
-                .src(src.number())
-                .offset(offset.cast_unsigned()),
+            } => Fields::form(Shape::Store { size }).between(base.number(), src.number(), offset),
             Insn::JumpAlways { offset } => Fields::form(Shape::JumpAlways).offset(
                 offset.cast_unsigned(),
             ),
-            Insn::JumpAlwaysLong { offset } => Fields::form(Shape::JumpAlwaysLong).imm(
-                offset.cast_unsigned(),
+            Insn::JumpAlwaysLong { offset } => Fields::form(Shape::JumpAlwaysLong).signed_imm(
+                offset,
             ),
             Insn::JumpIf(jump) => Fields::compared(&jump),
-            Insn::CallHelper { number } => Fields::form(Shape::Call).imm(number.cast_unsigned()),
-            Insn::CallLocal { offset } => Fields::form(Shape::Call)
-                .src(1)
-                .imm(offset.cast_unsigned()),
+            Insn::CallHelper { number } => Fields::form(Shape::Call).signed_imm(number),
+            Insn::CallLocal { offset } => Fields::form(Shape::Call).src(1).signed_imm(offset),
             Insn::Exit => Fields::form(Shape::Exit),
         }
+    }
+
+    /// The fields of an arithmetic instruction.
+    fn computed(op: AluOp, width: Width, dst: Target, operand: &Operand) -> Self
+        ensures { result ≡ fields_of (Insn.Alu op width dst operand.now) }
+    {
+        let source = source_of(operand);
+        Fields::form(Shape::Alu { op, width, source })
+            .dst(dst.number())
+            .src(src_of(operand))
+            .offset(sign_offset(op))
+            .imm(imm_of(operand))
+    }
+
+    /// The fields of a move with sign extension.
+    fn extended(extension: SignExtension, dst: Target, src: Reg) -> Self
+        ensures { result ≡ fields_of (Insn.SignExtend extension dst src) }
+    {
+        Fields::form(moving(extension))
+            .dst(dst.number())
+            .src(src.number())
+            .offset(extended_bits(extension))
+    }
+
+    /// The fields of a change of the byte order.
+    fn swapped(order: ByteOrder, width: SwapWidth, dst: Target) -> Self
+        ensures { result ≡ fields_of (Insn.End order width dst) }
+    {
+        Fields::form(Shape::End { order })
+            .dst(dst.number())
+            .imm(swap_bits(width))
+    }
+
+    /// The fields of a wide load's first slot.
+    fn loaded_wide(dst: Target, value: u64) -> Self
+        ensures { result ≡ fields_of (Insn.LoadWide dst value) }
+    {
+        Fields::form(Shape::LoadWide)
+            .dst(dst.number())
+            .imm(low_half(value))
+    }
+
+    /// The fields of a store of an immediate.
+    fn stored_imm(size: Size, base: Reg, offset: i16, imm: i32) -> Self
+        ensures { result ≡ fields_of (Insn.StoreImm size base offset imm) }
+    {
+        Fields::form(Shape::StoreImm { size })
+            .between(base.number(), 0, offset)
+            .signed_imm(imm)
     }
 
     /// The fields of a conditional jump.
@@ -161,11 +178,36 @@ impl Fields {
     {
         Fields {
             opcode: shape.opcode(),
+            ..Fields::zeros()
+        }
+    }
+
+    /// The fields of a second half, of which none is its own.
+    fn zeros() -> Self
+        ensures { result ≡ fields_of Insn.WideSecond }
+    {
+        Fields {
+            opcode: 0,
             dst: 0,
             src: 0,
             offset: 0,
             imm: 0,
         }
+    }
+
+    /// The registers of an access, and its signed offset.
+    fn between(self, dst: u8, src: u8, offset: i16) -> Self
+        requires dst { dst < 16 }
+        requires src { src < 16 }
+        ensures { result ≡ record self { dst = dst; src = src; offset = cast_unsigned w16 offset } }
+    {
+        self.dst(dst).src(src).offset(offset.cast_unsigned())
+    }
+
+    fn signed_imm(self, imm: i32) -> Self
+        ensures { result ≡ record self { imm = cast_unsigned w32 imm } }
+    {
+        self.imm(imm.cast_unsigned())
     }
 
     fn dst(self, dst: u8) -> Self
@@ -198,18 +240,12 @@ impl Fields {
     pub(crate) fn second_half_of(value: u64) -> Self
         ensures { result ≡ second_half (value / 2 ^ 32) }
     {
-        Fields {
-            opcode: 0,
-            dst: 0,
-            src: 0,
-            offset: 0,
-            imm: (value / WORD) as u32,
-        }
+        Fields::zeros().imm((value / WORD) as u32)
     }
 
     /// The slot's bytes.
     pub(crate) fn bytes(self) -> [u8; 8]
-        ensures { result ≡ bytes_of self }
+        ensures { result ≡ bytes_of_fields self }
     {
         let offset = self.offset.to_le_bytes();
         let imm = self.imm.to_le_bytes();
@@ -271,7 +307,7 @@ impl Fields {
         ensures { result ≡ arithmetic op width source self }
     {
         match (op, source) {
-            (AluOp::Mov, Source::X) => self.moved(width),
+            (AluOp::Mov, Source::X) => self.move_of(width),
             _ => Insn::Alu {
                 op: signed_by(self.offset, op),
                 width,
@@ -282,10 +318,10 @@ impl Fields {
     }
 
     /// A move of a register, which extends the sign of as many bits as the offset says.
-    fn moved(self, width: Width) -> Insn
+    fn move_of(self, width: Width) -> Insn
         requires target { self.dst < 10 }
         requires src { self.src < 11 }
-        ensures { result ≡ moved width self }
+        ensures { result ≡ move_of width self }
     {
         let (dst, src) = (Target::new(self.dst), Reg::new(self.src));
         let extension = match self.offset {

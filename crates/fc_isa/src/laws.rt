@@ -1,7 +1,7 @@
 //! What programs and their bytes are to one another, and what the table of forms says, for the crates above: each function
 //! is a law, and its contract says it.
 ghost use Rattle.std.specs.Prelude.{All, List, None, Option, Some, [], count_by, false, length, map, slice_index_or, true, ℕ, ◌*◌, ◌/◌, ◌<◌, ◌≡◌, ◌∷◌};
-ghost use Rattle.fc_isa.specs.Encoding.{Fields, IsFirstFault, Spells, encoded, fault_at, first_fault, program_of, slot_fault, slot_rules};
+ghost use Rattle.fc_isa.specs.Encoding.{BreaksOpcodeFirst, IsFirstFault, Spells, encoded, fault_at, first_fault, decoded_program, slot_rules};
 ghost use Rattle.fc_isa.specs.Program.{IsInsn, is_program};
 ghost use Rattle.fc_isa.specs.Rules.{number_of};
 ghost use Rattle.fc_isa.specs.declared.insn.Insn.{Insn};
@@ -15,14 +15,14 @@ use crate::table::SHAPES;
 
 /// Bytes with no fault spell a program, with an instruction for each eight of them.
 pub fn faultless_bytes_spell(bytes: &[u8])
-    ensures spells { first_fault bytes.now ≡ None → Spells bytes.now (program_of bytes.now) }
-    ensures count { length (program_of bytes.now) ≡ length bytes.now / 8 }
+    ensures spells { first_fault bytes.now ≡ None → Spells bytes.now (decoded_program bytes.now) }
+    ensures count { length (decoded_program bytes.now) ≡ length bytes.now / 8 }
 {}
 
 /// Bytes that spell a program have no fault, and spell no other.
 pub fn spelled_bytes_are_faultless(bytes: &[u8])
     ensures faultless { (p : List Insn) → Spells bytes.now p → first_fault bytes.now ≡ None }
-    ensures one_program { (p : List Insn) → Spells bytes.now p → p ≡ program_of bytes.now }
+    ensures one_program { (p : List Insn) → Spells bytes.now p → p ≡ decoded_program bytes.now }
 {}
 
 /// The fault of bytes is that of the first slot that has one, with the least rule that it breaks: a rule below 20.
@@ -35,7 +35,7 @@ pub fn first_fault_is_first(bytes: &[u8])
 /// The bytes that a program is written as are read as that program.
 pub fn written_programs_are_read(program: &[Insn])
     ensures spells { All IsInsn program.now → is_program program.now ≡ true → Spells (encoded program.now) program.now }
-    ensures read { All IsInsn program.now → is_program program.now ≡ true → program_of (encoded program.now) ≡ program.now }
+    ensures read { All IsInsn program.now → is_program program.now ≡ true → decoded_program (encoded program.now) ≡ program.now }
     ensures count { All IsInsn program.now → is_program program.now ≡ true → length (encoded program.now) ≡ 8 * length program.now }
 {}
 
@@ -68,5 +68,5 @@ pub fn slot_rules_come_by_number()
 
 /// A slot whose opcode has no known form breaks the opcode rule, whatever else it has.
 pub fn unknown_opcodes_are_refused(opcode: u8)
-    ensures { is_known (shape_of opcode) ≡ false → (f : Fields) (n : Option Fields) → f.opcode ≡ opcode → slot_fault f n ≡ Some Rule.Opcode }
+    ensures { is_known (shape_of opcode) ≡ false → BreaksOpcodeFirst opcode }
 {}

@@ -1,4 +1,15 @@
 //! The instructions of resource programs, and how eight bytes spell one (RFC 9669, 3).
+//!
+//! ```rust
+//! use fc_isa::{DecodeError, Insn, decode};
+//! use std::alloc::Global;
+//!
+//! /// Whether bytes spell a program that ends with an exit.
+//! fn ends_with_exit(alloc: Global, bytes: &[u8]) -> Result<bool, DecodeError> {
+//!     let program = decode(alloc, bytes)?;
+//!     Ok(matches!(program.last(), Some(Insn::Exit)))
+//! }
+//! ```
 #![tactic(auto)]
 
 pub mod decoding;

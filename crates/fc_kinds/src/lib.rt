@@ -2,6 +2,15 @@
 //!
 //! `specs/` has the machine (values, configurations, steps, the meaning of a run) and the typing rules; the
 //! code has what the verifier computes of them: the kinds after an instruction.
+//!
+//! ```rust
+//! use fc_kinds::{Kind, Regs, join};
+//!
+//! /// What is known of R0 where two paths meet: numbers of both are within the least interval that has both.
+//! fn met(a: &Regs, b: &Regs) -> Kind {
+//!     join(a, b)[0]
+//! }
+//! ```
 #![tactic(auto)]
 
 mod arithmetic;

@@ -2,6 +2,29 @@
 //!
 //! [`Server`] holds them; each of its calls does one event to a task, as the stages of jobs say. [`Engine`] works each
 //! datagram off to its answer.
+//!
+//! ```rust
+//! use coap_msg::{Emission, Endpoint};
+//! use fc_core::front::blank_emission;
+//! use fc_server::Engine;
+//! use std::alloc::Global;
+//!
+//! /// What a datagram is answered, after its job was worked off.
+//! fn reply(
+//!     alloc: Global,
+//!     engine: &mut Engine,
+//!     now: u64,
+//!     from: Endpoint,
+//!     bytes: &[u8],
+//! ) -> Option<Emission> {
+//!     let mut reply = blank_emission();
+//!     if engine.hear(alloc, now, from, bytes, &mut reply) {
+//!         Some(reply)
+//!     } else {
+//!         None
+//!     }
+//! }
+//! ```
 #![tactic(auto)]
 
 pub mod engine;

@@ -1,4 +1,9 @@
 //! What the programs do alike with their command lines.
+ghost use Rattle.std.specs.Prelude.{◌≡◌, IfErr, IfOk};
+ghost use Rattle.clap.specs.Values.{kind_of};
+ghost use Rattle.std.specs.Process.{exit_status};
+ghost use Rattle.fc_service.specs.Ending.{explained, status_number};
+
 use crate::status::Status;
 use clap::Error;
 use clap::error::ErrorKind;
@@ -32,17 +37,22 @@ pub fn words<R: Runtime + AllocGlobal, E: Write>(
 ///
 /// # Errors
 /// It can't be printed.
-pub fn explain<R: Runtime>(rt: &R, error: &Error) -> anyhow::Result<Status> {
+pub fn explain<R: Runtime>(rt: &R, error: &Error) -> anyhow::Result<Status>
+    ensures { IfOk result (λ status. status ≡ explained (kind_of error.now)) }
+{
     error.print(rt)?;
     Ok(match error.kind() {
         ErrorKind::OutOfMemory => Status::Failed,
-        _ if error.use_stderr() => Status::Bad,
-        _ => Status::Done,
+        ErrorKind::DisplayHelp | ErrorKind::DisplayVersion => Status::Done,
+        _ => Status::Bad,
     })
 }
 
 /// The exit code of a program that ended so; `err` is told why where it failed.
-pub fn exit_code<E: Write>(err: &mut E, ended: anyhow::Result<Status>) -> ExitCode {
+pub fn exit_code<E: Write>(err: &mut E, ended: anyhow::Result<Status>) -> ExitCode
+    ensures ended { IfOk ended (λ status. exit_status result ≡ status_number status) }
+    ensures failed { IfErr ended (λ _. exit_status result ≡ 3) }
+{
     match ended {
         Ok(status) => ExitCode::from(status),
         Err(error) => {

@@ -1,4 +1,20 @@
 //! The service: what a server does with each datagram, from end to end.
+//!
+//! ```rust
+//! use fc_service::Status;
+//! use fc_service::play::play;
+//! use std::alloc::Global;
+//!
+//! /// What a server prints of lines, where all of them are good.
+//! fn played(alloc: Global, lines: &[u8]) -> Option<Vec<u8>> {
+//!     let mut out = Vec::new(alloc);
+//!     let mut err = Vec::new(alloc);
+//!     match play(alloc, lines, &mut out, &mut err, 0, 0) {
+//!         Status::Done => Some(out),
+//!         _ => None,
+//!     }
+//! }
+//! ```
 #![tactic(auto)]
 
 pub mod command_line;

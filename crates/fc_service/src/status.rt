@@ -1,4 +1,6 @@
 //! How the programs end.
+ghost use Rattle.fc_service.specs.Ending.{IsEnding};
+
 use std::fmt::Display;
 use std::io::Write;
 use std::process::ExitCode;
@@ -17,6 +19,12 @@ pub enum Status {
 }
 
 impl From<Status> for ExitCode {
+    ghost use Rattle.std.specs.Prelude.{◌≡◌};
+    ghost use Rattle.std.specs.Process.{exit_status};
+    ghost use Rattle.fc_service.specs.Ending.{status_number};
+
+    ghost from_gives = { λ status code. exit_status code ≡ status_number status };
+
     fn from(status: Status) -> ExitCode {
         ExitCode::from(match status {
             Status::Done => 0u8,
@@ -28,7 +36,9 @@ impl From<Status> for ExitCode {
 }
 
 /// Tells `err`, in a line, why a program ends so. What can't be told is a failure of its own.
-pub fn tell<E: Write, D: Display>(err: &mut E, why: &D, status: Status) -> Status {
+pub fn tell<E: Write, D: Display>(err: &mut E, why: &D, status: Status) -> Status
+    ensures { IsEnding status result }
+{
     match writeln!(err, "{why}") {
         Ok(()) => status,
         Err(_) => Status::Failed,

@@ -9,7 +9,7 @@ use Rattle.fc_isa.specs.declared.rule.Rule.{Rule}
 use Rattle.fc_isa.specs.declared.rule.Fault.{Fault}
 use Rattle.fc_isa.specs.declared.decoding.DecodeError.{DecodeError}
 use Rattle.fc_isa.specs.declared.decoding.DecodeError.TheVariants.{Fault as FaultAt, NoMemory as NoRoom}
-use Rattle.fc_isa.specs.Encoding.{Spells, IsDecodeError, first_fault, program_of}
+use Rattle.fc_isa.specs.Encoding.{Spells, IsDecodeError, first_fault, decoded_program}
 use Rattle.fc_isa.specs.Program.{IsInsn}
 use Rattle.fc_isa.specs.Rules.{number_of}
 use Rattle.fc_isa.proofs.Slots.{length-insns_below}
@@ -66,7 +66,7 @@ refused_head image f e z = fault_of image (Breaks f.rule 0) f (judged_head image
 
 -- an instruction for each eight bytes
 pub code_count : (image : List ℕ) → length (code_in image) ≡ length (slots_of image) / 8
-unfolding program_of
+unfolding decoded_program
 code_count image = length-insns_below (slots_of image) (length (slots_of image) / 8)
 
 pub code_found : (image : List ℕ) (head : Head) (code : List Insn) → IsHeadOf image head → code ≡ code_in image → first_fault (slots_of image) ≡ None → Spells (slots_of image) code

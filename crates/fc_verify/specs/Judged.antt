@@ -2,7 +2,7 @@
 use Rattle.std.specs.Prelude.{ℕ, Bool, true, false, List, Option, Some, None}
 use Rattle.fc_isa.specs.declared.insn.Insn.{Insn}
 use Rattle.fc_isa.specs.declared.rule.Rule.{Rule}
-use Rattle.fc_isa.specs.Encoding.{first_fault, program_of}
+use Rattle.fc_isa.specs.Encoding.{first_fault, decoded_program}
 use Rattle.fc_image.specs.Head.{head_fault, stated}
 use Rattle.fc_image.specs.Paths.{longest}
 use Rattle.fc_image.specs.ShapeRules.{shape_fault}
@@ -12,7 +12,7 @@ use Rattle.fc_verify.specs.Pass.{beginning, is_typable}
 
 -- the program that an image's slots spell, where they spell one
 abbrev pub code_in : List ℕ → List Insn
-code_in image = program_of (slots_of image)
+code_in image = decoded_program (slots_of image)
 
 -- the program of an image whose header and slots are right
 abbrev pub program_in : List ℕ → Program

@@ -1,5 +1,16 @@
 //! The verifier: an image is accepted exactly when it keeps the rules, its longest path is within its budget, and
 //! some typing of its registers exists. Then it runs with no check left in its loop.
+//!
+//! ```rust
+//! use fc_verify::{Refusal, verify};
+//! use std::alloc::Global;
+//!
+//! /// The greatest number of steps that the program of an accepted image takes.
+//! fn cost_of(alloc: Global, image: &[u8]) -> Result<u32, Refusal> {
+//!     let program = verify(alloc, image)?;
+//!     Ok(program.cost())
+//! }
+//! ```
 #![tactic(auto)]
 
 pub mod laws;

@@ -6,6 +6,8 @@ mod asm_tests;
 #[cfg(test)]
 mod call_tests;
 #[cfg(test)]
+mod command_tests;
+#[cfg(test)]
 mod event_tests;
 #[cfg(test)]
 mod faulty;
@@ -41,7 +43,7 @@ const FIRST_SERIAL: u64 = 0;
 
 const FIRST_ID: u16 = 0;
 
-/// What `--help` tells of the lines and of how a play ends.
+/// What `--help` tells of the lines of `fcd play` and of how it ends.
 const LINES: &str = "\
 A line is `now peer hex`, parted by single spaces: the moment in milliseconds, the last
 number of the peer's address 127.0.0.peer (0 to 255), and the datagram in hex digits.
@@ -59,6 +61,7 @@ fn command<'a>(alloc: Global) -> Result<Command<'a>, Error> {
         Command::new(alloc, "fcd")
             .version(VERSION)
             .about("A CoAP server whose resources are answered by small programs")
+            .after_help(LINES)
             .subcommand_required(true)
             .subcommand(play)?,
     )

@@ -6,8 +6,9 @@ use fc_service::command_line::explain;
 use fc_service::play::play;
 use std::alloc::{AllocError, Global};
 use std::io;
-use std::io::{BufRead, ErrorKind, Read};
+use std::io::{BufRead, ErrorKind, Read, Write};
 use std::process::Abort;
+use std::test::Fail;
 
 // The greatest serial.
 const LAST_SERIAL: u64 = 9_223_372_036_854_775_807;
@@ -225,6 +226,34 @@ fn copies_are_told_by_endpoint_and_id(rt: HostRuntime) {
          2 5184000171\n\
          1 5184000271\n",
     );
+}
+
+// A GET of an empty slot for each of the message ids 0 to 1,023, all within a window; and the answers, 4.04.
+fn many_requests(alloc: Global) -> io::Result<(Vec<u8>, Vec<u8>)> {
+    let mut lines = Vec::new(alloc);
+    let mut answers = Vec::new(alloc);
+    for id in 0..1024u16 {
+        writeln!(lines, "0 1 4001{id:04x}b1720130")?;
+        writeln!(answers, "1 6084{id:04x}")?;
+    }
+    Ok((lines, answers))
+}
+
+// Behind 1,024 requests the next is answered 5.03, which isn't kept: its copy, when a window has gone by, is 4.04. A
+// copy of the first is no new request: it gets its bytes again.
+#[test]
+fn the_1025th_request_within_a_window_is_unavailable(rt: HostRuntime) -> Result<(), Fail> {
+    let (mut lines, mut answers) = many_requests(rt.alloc())?;
+    lines.extend_from_slice(
+        b"246999 1 40010400b1720130\n246999 1 40010000b1720130\n247000 1 40010400b1720130\n",
+    )?;
+    answers.extend_from_slice(b"1 60a30400\n1 60840000\n1 60840400\n")?;
+    let mut out = Vec::new(rt.alloc());
+    let mut err = Vec::new(rt.alloc());
+    let status = play(rt.alloc(), lines.as_slice(), &mut out, &mut err, 0, 0);
+    assert!(rt; status == Status::Done && err.is_empty());
+    assert!(rt; out == answers);
+    Ok(())
 }
 
 #[test]

@@ -1,208 +1,267 @@
 //! Events as lines of text: a name, and its parts as `name=value`, in any order.
-use arrayvec::ArrayVec;
+ghost use Rattle.std.specs.Prelude.{◌≡◌, ◌++◌, ◌∷◌, ◌^◌, length, codes, IfOk, IfSome};
+ghost use Rattle.fcreplay.specs.Listed.{HasData, HasEndpoint, HasFlag, HasNumber, HasPart, AreOfEvent, IsEventOf, equals, line_words, texts};
+
 use coap_msg::Endpoint;
 use fc_service::hexadecimal::decode;
 use fc_service::line::{LineError, byte, number};
 use fc_service::play::endpoint;
 use fc_world::Event;
 use std::alloc::Global;
+use std::marker::Model;
 
-/// The most parts of an event.
-const PARTS: usize = 4;
-
-// The words of a line.
+/// A line's words, and its datagram where one of its parts is `data=hex`.
 #[derive(Drop)]
-struct Words<'a> {
-    name: &'a str,
-    parts: ArrayVec<(&'a str, &'a str), PARTS>,
+pub struct ListedEvent<'a> {
+    words: Vec<&'a str>,
+    datagram: Option<Vec<u8>>,
 }
 
-impl<'a> Words<'a> {
-    // Single spaces part the words, and each but the first is a name and a value.
-    fn read(line: &'a [u8]) -> Option<Words<'a>> {
-        let Ok(text) = str::from_utf8(line) else {
+impl<'a> Model for ListedEvent<'a> {
+    ghost use Rattle.std.specs.Prelude.{IfSome};
+    ghost use Rattle.std.specs.Option.{option_map};
+    ghost use Rattle.fcreplay.specs.Listed.{Line, HasData, texts};
+
+    ghost Value = { Line };
+
+    ghost view = { λ l. record { words = texts l.words.items; datagram = option_map (λ v. v.items) l.datagram } };
+
+    ghost invariant = { λ l. IfSome l.datagram (λ v. HasData (texts l.words.items) v.items) };
+}
+
+impl<'a> ListedEvent<'a> {
+    /// Reads a line: single spaces part its words.
+    ///
+    /// # Errors
+    /// The line says no event, or its data are no hex digits, or there was no memory.
+    pub fn read(alloc: Global, line: &'a [u8]) -> Result<ListedEvent<'a>, LineError>
+        ensures { IfOk result (λ l. l.words ≡ line_words line.now) }
+    {
+        let words = words(alloc, line)?;
+        let datagram = datagram(alloc, &words)?;
+        let listed = ListedEvent { words, datagram };
+        if listed.event().is_none() {
+            return Err(LineError::Bad);
+        }
+        Ok(listed)
+    }
+
+    /// The event that the line says, where it says one.
+    pub fn event(&self) -> Option<Event<'_>>
+        ensures { IfSome result (AreOfEvent self.now.words) }
+    {
+        let [name, parts @ ..] = self.words.as_slice() else {
             return None;
         };
-        let mut words = text.split(' ');
-        let name = words.next()?;
-        let mut parts = ArrayVec::new();
-        for word in words {
-            parts.try_push(word.split_once('=')?).ok()?;
-        }
-        Some(Words { name, parts })
-    }
-
-    // The value of the part of this name.
-    fn value(&self, name: &str) -> Option<&'a str> {
-        for (key, value) in self.parts.iter().copied() {
-            if key == name {
-                return Some(value);
-            }
-        }
-        None
-    }
-
-    fn number(&self, name: &str) -> Option<u64> {
-        number(self.value(name)?.as_bytes())
-    }
-
-    fn index(&self, name: &str) -> Option<usize> {
-        usize::try_from(self.number(name)?).ok()
-    }
-
-    fn byte(&self, name: &str) -> Option<u8> {
-        byte(self.value(name)?.as_bytes())
-    }
-
-    fn word(&self, name: &str) -> Option<u16> {
-        u16::try_from(self.number(name)?).ok()
-    }
-
-    fn flag(&self, name: &str) -> Option<bool> {
-        match self.value(name)? {
-            "0" => Some(false),
-            "1" => Some(true),
+        match parts.len() {
+            1 => with_one(name, parts),
+            2 => with_two(name, parts),
+            3 => with_three(name, parts, &self.datagram),
+            4 => with_four(name, parts),
             _ => None,
         }
     }
-
-    fn endpoint(&self) -> Option<Endpoint> {
-        Some(endpoint(self.byte("ep")?))
-    }
 }
 
-/// The datagram of a line; no bytes where its event has none.
-///
-/// # Errors
-/// The line says no event, or its digits are bad, or there was no memory for the bytes.
-pub fn data(alloc: Global, line: &[u8]) -> Result<Vec<u8>, LineError> {
-    let Some(words) = Words::read(line) else {
+// The words of a line, which single spaces part.
+fn words(alloc: Global, line: &[u8]) -> Result<Vec<&str>, LineError>
+    ensures { IfOk result (λ v. texts v.items ≡ line_words line.now) }
+{
+    let Ok(text) = str::from_utf8(line) else {
         return Err(LineError::Bad);
     };
-    if event_of(&words, &[]).is_none() {
-        return Err(LineError::Bad);
-    }
-    match words.value("data") {
-        None => Ok(Vec::new(alloc)),
-        Some(digits) => decode(alloc, digits.as_bytes()),
+    match text.split(' ').collect(alloc) {
+        Ok(words) => Ok(words),
+        Err(_) => Err(LineError::NoMemory),
     }
 }
 
-/// The event of a line, where it says one; these are the bytes of its datagram.
-pub fn event<'a>(line: &[u8], bytes: &'a [u8]) -> Option<Event<'a>> {
-    event_of(&Words::read(line)?, bytes)
+// The datagram of a line's words; none where none of them is `data=hex`.
+fn datagram(alloc: Global, words: &[&str]) -> Result<Option<Vec<u8>>, LineError>
+    ensures { IfOk result (λ found. IfSome found (λ v. HasData (texts words.now) v.items)) }
+{
+    match value(words, "data") {
+        None => Ok(None),
+        Some(digits) => Ok(Some(decode(alloc, digits.as_bytes())?)),
+    }
 }
 
-fn event_of<'a>(words: &Words<'_>, bytes: &'a [u8]) -> Option<Event<'a>> {
-    match words.parts.len() {
-        1 => with_one(words),
-        2 => with_two(words),
-        3 => with_three(words, bytes),
-        4 => with_four(words),
+// The value of the part of this name.
+fn value<'a>(parts: &[&'a str], key: &str) -> Option<&'a str>
+    ensures { IfSome result (λ value. HasPart (texts parts.now) key.now value.now) }
+{
+    for part in parts.iter().copied() {
+        if let Some(value) = value_of(part, key) {
+            return Some(value);
+        }
+    }
+    None
+}
+
+// What stands behind `key=`.
+fn value_of<'a>(part: &'a str, key: &str) -> Option<&'a str>
+    ensures { IfSome result (λ value. part.now ≡ key.now ++ (equals ∷ value.now)) }
+{
+    part.strip_prefix(key)?.strip_prefix("=")
+}
+
+fn long(parts: &[&str], key: &str) -> Option<u64>
+    ensures { IfSome result (HasNumber (texts parts.now) key.now (2 ^ 64)) }
+{
+    number(value(parts, key)?.as_bytes())
+}
+
+fn index(parts: &[&str], key: &str) -> Option<usize>
+    ensures { IfSome result (HasNumber (texts parts.now) key.now (2 ^ 64)) }
+{
+    usize::try_from(long(parts, key)?).ok()
+}
+
+fn short(parts: &[&str], key: &str) -> Option<u16>
+    ensures { IfSome result (HasNumber (texts parts.now) key.now 65536) }
+{
+    u16::try_from(long(parts, key)?).ok()
+}
+
+fn octet(parts: &[&str], key: &str) -> Option<u8>
+    ensures { IfSome result (HasNumber (texts parts.now) key.now 256) }
+{
+    byte(value(parts, key)?.as_bytes())
+}
+
+fn flag(parts: &[&str], key: &str) -> Option<bool>
+    ensures { IfSome result (HasFlag (texts parts.now) key.now) }
+{
+    match value(parts, key)? {
+        "0" => Some(false),
+        "1" => Some(true),
         _ => None,
     }
 }
 
+fn peer(parts: &[&str]) -> Option<Endpoint>
+    ensures { IfSome result (HasEndpoint (texts parts.now)) }
+{
+    Some(endpoint(octet(parts, "ep")?))
+}
+
 // The events of one part.
-fn with_one<'a>(words: &Words<'_>) -> Option<Event<'a>> {
-    match words.name {
+fn with_one<'a>(name: &str, parts: &[&str]) -> Option<Event<'a>>
+    requires { length parts.now ≡ 1 }
+    ensures { IfSome result (IsEventOf name.now (texts parts.now)) }
+{
+    match name {
         "Remove" => Some(Event::Remove {
-            job: words.index("job")?,
+            job: index(parts, "job")?,
         }),
         "Receipt" => Some(Event::Receipt {
-            job: words.index("job")?,
+            job: index(parts, "job")?,
         }),
         "Raise" => Some(Event::Raise {
-            job: words.index("job")?,
+            job: index(parts, "job")?,
         }),
         "Tick" => Some(Event::Tick {
-            now: words.number("now")?,
+            now: long(parts, "now")?,
         }),
         "Lose" => Some(Event::Lose {
-            job: words.index("job")?,
+            job: index(parts, "job")?,
         }),
         _ => None,
     }
 }
 
 // The events of two parts.
-fn with_two<'a>(words: &Words<'_>) -> Option<Event<'a>> {
-    match words.name {
+fn with_two<'a>(name: &str, parts: &[&str]) -> Option<Event<'a>>
+    requires { length parts.now ≡ 2 }
+    ensures { IfSome result (IsEventOf name.now (texts parts.now)) }
+{
+    match name {
         "Due" => Some(Event::Due {
-            shard: words.byte("shard")?,
-            now: words.number("now")?,
+            shard: octet(parts, "shard")?,
+            now: long(parts, "now")?,
         }),
         "ShardTick" => Some(Event::ShardTick {
-            shard: words.byte("shard")?,
-            now: words.number("now")?,
+            shard: octet(parts, "shard")?,
+            now: long(parts, "now")?,
         }),
-        _ => of_job(words, words.index("job")?),
+        _ => of_job(name, parts, index(parts, "job")?),
     }
 }
 
 // The events of a job and one part more.
-fn of_job<'a>(words: &Words<'_>, job: usize) -> Option<Event<'a>> {
-    match words.name {
+fn of_job<'a>(name: &str, parts: &[&str], job: usize) -> Option<Event<'a>>
+    requires count { length parts.now ≡ 2 }
+    requires job { HasNumber (texts parts.now) (codes "job") (2 ^ 64) job }
+    ensures { IfSome result (IsEventOf name.now (texts parts.now)) }
+{
+    match name {
         "Peek" => Some(Event::Peek {
             job,
-            slot: words.byte("slot")?,
+            slot: octet(parts, "slot")?,
         }),
         "Take" => Some(Event::Take {
             job,
-            memory: words.flag("memory")?,
+            memory: flag(parts, "memory")?,
         }),
         "Commit" => Some(Event::Commit {
             job,
-            now: words.number("now")?,
+            now: long(parts, "now")?,
         }),
         "Install" => Some(Event::Install {
             job,
-            memory: words.flag("memory")?,
+            memory: flag(parts, "memory")?,
         }),
         "Answer" => Some(Event::Answer {
             job,
-            now: words.number("now")?,
+            now: long(parts, "now")?,
         }),
         "Fresh" => Some(Event::Fresh {
             job,
-            now: words.number("now")?,
+            now: long(parts, "now")?,
         }),
         "GiveUp" => Some(Event::GiveUp {
             job,
-            now: words.number("now")?,
+            now: long(parts, "now")?,
         }),
         _ => None,
     }
 }
 
 // The events of three parts.
-fn with_three<'a>(words: &Words<'_>, bytes: &'a [u8]) -> Option<Event<'a>> {
-    match words.name {
-        "Deliver" => {
-            let _digits = words.value("data")?;
-            Some(Event::Deliver {
-                now: words.number("now")?,
-                endpoint: words.endpoint()?,
+fn with_three<'a>(name: &str, parts: &[&str], datagram: &'a Option<Vec<u8>>) -> Option<Event<'a>>
+    requires count { length parts.now ≡ 3 }
+    requires datagram { IfSome datagram.now (λ v. HasData (name.now ∷ texts parts.now) v.items) }
+    ensures { IfSome result (IsEventOf name.now (texts parts.now)) }
+{
+    match name {
+        "Deliver" => match datagram {
+            Some(bytes) => Some(Event::Deliver {
+                now: long(parts, "now")?,
+                endpoint: peer(parts)?,
                 bytes,
-            })
-        }
+            }),
+            None => None,
+        },
         "Note" => Some(Event::Note {
-            job: words.index("job")?,
-            now: words.number("now")?,
-            random: words.word("random")?,
+            job: index(parts, "job")?,
+            now: long(parts, "now")?,
+            random: short(parts, "random")?,
         }),
         _ => None,
     }
 }
 
 // The events of four parts.
-fn with_four<'a>(words: &Words<'_>) -> Option<Event<'a>> {
-    match words.name {
+fn with_four<'a>(name: &str, parts: &[&str]) -> Option<Event<'a>>
+    requires { length parts.now ≡ 4 }
+    ensures { IfSome result (IsEventOf name.now (texts parts.now)) }
+{
+    match name {
         "Signal" => Some(Event::Signal {
-            shard: words.byte("shard")?,
-            endpoint: words.endpoint()?,
-            mid: words.word("mid")?,
-            reset: words.flag("reset")?,
+            shard: octet(parts, "shard")?,
+            endpoint: peer(parts)?,
+            mid: short(parts, "mid")?,
+            reset: flag(parts, "reset")?,
         }),
         _ => None,
     }

@@ -2,9 +2,11 @@
 #![tactic(auto)]
 
 mod listed;
+mod printing;
 mod replay;
 #[cfg(test)]
 mod replay_tests;
+mod stop;
 
 use clap::{Command, Error};
 use fc_service::Status;
