@@ -1,9 +1,9 @@
 -- Which deliveries open an exchange, and which are repeats.
-use Rattle.std.proofs.Common.{◌≡◌, ℕ, ◌+◌, List, [], ◌∷◌, ◌++◌, length, map, Bool, true, false, cond, Option, Some, None, Result, Ok, Err, refl, sym, ap, ◌∙◌, subst, arith, max, length-append}
+use Rattle.std.proofs.Common.{◌≡◌, ℕ, ◌+◌, List, [], ◌∷◌, ◌++◌, length, map, Bool, true, false, cond, Option, Some, None, Result, Ok, Err, refl, sym, ap, ◌∙◌, subst, max}
 use Rattle.std.specs.Prelude.{nat_lt, ◌==◌, ◌&&◌, filter, find, is_some, if◌then◌else◌}
 use borrow.Author.Tests.{ltb-true, lt-ltb}
 use Rattle.std.proofs.lemmas.Bool.{and_parts, and_from}
-use Rattle.std.proofs.lemmas.List.{append-nil, length-map}
+use Rattle.std.proofs.lemmas.List.{append-nil, map-append}
 use Rattle.arrayvec.specs.ArrayVec.{ArrayVec}
 use Rattle.coap_msg.specs.declared.types.Bad.{Bad}
 use Rattle.coap_msg.specs.declared.types.Bad.TheVariants as bad
@@ -19,11 +19,11 @@ use Rattle.fc_registry.specs.declared.job.Opening.{Opening}
 use Rattle.fc_core.specs.declared.event.Event.{Event}
 use Rattle.fc_core.specs.declared.event.Event.TheVariants.{Deliver, Answer}
 use Rattle.fc_core.specs.Exchanges.{FrontState}
-use Rattle.fc_core.specs.ExchangeLaws.{IsAsking, IsOpening, IsRepeat, Opens, Repeats, again, is_within, repeat_emits, repeated}
+use Rattle.fc_core.specs.ExchangeLaws.{Arrival, Arrives, IsArrival, IsAsking, IsOpening, IsRepeat, Opens, OpensOne, Repeats, again, arrival_of, arrivals, is_within, repeat_emits, repeated}
 use Rattle.fc_core.specs.History.{Entry, Seen, and_then, answered_in, exchanges_after, exchanges_received, front_at, ids_after, job, received_at, stage, tasks_brought, tasks_moved}
 use Rattle.fc_core.specs.Ids.{Ids}
 use Rattle.fc_core.specs.Legal.{Emits}
-use Rattle.fc_core.specs.Receiving.{Received, Repeated, Again, Silenced, Refused, Opened, brought, drawn_by, kept_of, look_in, looked, next_opening, opened_by, received, received_as, received_read, sent}
+use Rattle.fc_core.specs.Receiving.{Received, is_confirmable, Repeated, Again, Silenced, Refused, Opened, brought, drawn_by, kept_of, look_in, looked, next_opening, opened_by, received, received_as, received_read, sent}
 use Rattle.fc_core.specs.Stages.{content_at, names, new_task}
 
 -- ---- what a request is to the exchanges
@@ -140,14 +140,27 @@ repeats_emit_again r s e w legal = emits_again s r.event e r.emitted w legal
 
 -- ---- openings
 
-answered_length : (n : ℕ) (o : Option Emission) (es : List Exchange) → length (answered_in n o es) ≡ length es
-answered_length n None es = refl
-answered_length n (Some emission) es = length-map es (λ e. answered_if (e.number == n) emission.bytes e)
+-- an answer changes nothing of an exchange's arrival
+answered_arrival : (b : Bool) (bytes : ArrayVec ℕ) (e : Exchange) → arrival_of (answered_if b bytes e) ≡ arrival_of e
+answered_arrival true bytes e = refl
+answered_arrival false bytes e = refl
 
-received_length : (s : Seen) (now : ℕ) (to : Endpoint) (x : Received) (o : Option Emission) → length (exchanges_received x to o s now) ≡ length s.exchanges + length (opened_by x (next_opening (front_at s now)) to)
-received_length s now to x o = answered_length (length s.exchanges) (kept_of x o) (s.exchanges ++ opened_by x (next_opening (front_at s now)) to) ∙ length-append s.exchanges (opened_by x (next_opening (front_at s now)) to)
+answered_arrivals : (n : ℕ) (bytes : ArrayVec ℕ) (es : List Exchange) → map arrival_of (map (λ e. answered_if (e.number == n) bytes e) es) ≡ map arrival_of es
+answered_arrivals n bytes [] = refl
+answered_arrivals n bytes (e ∷ es) = ap (λ a. a ∷ map arrival_of (map (λ x. answered_if (x.number == n) bytes x) es)) (answered_arrival (e.number == n) bytes e) ∙ ap (λ l. arrival_of e ∷ l) (answered_arrivals n bytes es)
 
-new_opens : (v : Verdict) (m : Message) (o : Opening) (to : Endpoint) → length (opened_by (new_as v m) o to) ≡ 1
+kept_arrivals : (n : ℕ) (o : Option Emission) (es : List Exchange) → map arrival_of (answered_in n o es) ≡ map arrival_of es
+kept_arrivals n None es = refl
+kept_arrivals n (Some emission) es = answered_arrivals n emission.bytes es
+
+received_arrivals : (s : Seen) (now : ℕ) (to : Endpoint) (x : Received) (o : Option Emission) → map arrival_of (exchanges_received x to o s now) ≡ arrivals s ++ map arrival_of (opened_by x (next_opening (front_at s now)) to)
+received_arrivals s now to x o = kept_arrivals (length s.exchanges) (kept_of x o) (s.exchanges ++ opened_by x (next_opening (front_at s now)) to) ∙ map-append arrival_of s.exchanges (opened_by x (next_opening (front_at s now)) to)
+
+-- the arrival of a message
+abbrev arrival_by : Message → Opening → Endpoint → Arrival
+arrival_by m o to = record { endpoint = to; id = m.id; confirmable = is_confirmable m.kind; at = o.at }
+
+new_opens : (v : Verdict) (m : Message) (o : Opening) (to : Endpoint) → map arrival_of (opened_by (new_as v m) o to) ≡ arrival_by m o to ∷ []
 new_opens (IsAsked asked) m o to = refl
 new_opens (IsRefused answer) m o to = refl
 new_opens IsSilent m o to = refl
@@ -161,15 +174,20 @@ opening_is s now to bytes w =
     request_is s now to bytes w.message None w.read w.asks w.new
     ∙ ap (λ b. looked (look_by None b) w.message (new_as (verdict w.message) w.message)) (and_from (nat_lt (length (filter (is_within at) s.exchanges)) 1024) (nat_lt (length s.exchanges) 18446744073709551615) (lt-ltb (length (filter (is_within at) s.exchanges)) 1024 w.room) (lt-ltb (length s.exchanges) 18446744073709551615 w.numbers))
 
-opens_one : (s : Seen) (e : Event) (o : Option Emission) → Opens s e → length (exchanges_after e o s) ≡ length s.exchanges + 1
-opens_one s (Deliver now to bytes) o w =
-    received_length s now to (received_at s now to bytes.now) o
-    ∙ (ap (λ x. length s.exchanges + length (opened_by x (next_opening (front_at s now)) to)) (opening_is s now to bytes.now w)
-    ∙ ap (λ n. length s.exchanges + n) (new_opens (verdict w.message) w.message (next_opening (front_at s now)) to))
+opens_one : (s : Seen) (e : Event) (o : Option Emission) → Opens s e → (a : Arrival) × Arrives s e a × (map arrival_of (exchanges_after e o s) ≡ arrivals s ++ a ∷ [])
+opens_one s (Deliver now to bytes) o w = (
+  arrival_by w.message (next_opening (front_at s now)) to,
+  record { message = w.message; read = w.read; arrival_is = refl },
+  received_arrivals s now to (received_at s now to bytes.now) o
+      ∙ (ap (λ x. arrivals s ++ map arrival_of (opened_by x (next_opening (front_at s now)) to)) (opening_is s now to bytes.now w)
+      ∙ ap (λ l. arrivals s ++ l) (new_opens (verdict w.message) w.message (next_opening (front_at s now)) to)),
+)
 opens_one s other o w = absurd w
 
-pub requests_open : (r : Entry) (s : Seen) → Opens s r.event → length (and_then r s).exchanges ≡ length s.exchanges + 1
-requests_open r s w = opens_one s r.event r.emitted w
+pub requests_open : (r : Entry) (s : Seen) → Opens s r.event → OpensOne r s
+requests_open r s w =
+    let one = opens_one s r.event r.emitted w in
+    record { arrival = one.0; is = one.1; last = one.2 }
 
 -- a look that tells of a new request
 pub record IsNewLook (o : Option Exchange) (room : Bool) : Type 0 where
@@ -213,18 +231,23 @@ read_opens s now to bytes (Ok m) o read not = asked_opens s now to bytes m (verd
 read_opens s now to bytes (Err bad.Ignore) o read not = refl
 read_opens s now to bytes (Err (bad.Reset id)) o read not = refl
 
-same_length : (o : Option Emission) (es : List Exchange) (b : Bool) (i : ℕ) → length (if b then answered_in i o es else es) ≡ length es
-same_length o es true i = answered_length i o es
-same_length o es false i = refl
+same_arrivals : (o : Option Emission) (es : List Exchange) (b : Bool) (i : ℕ) → map arrival_of (if b then answered_in i o es else es) ≡ map arrival_of es
+same_arrivals o es true i = kept_arrivals i o es
+same_arrivals o es false i = refl
 
-opens_none : (s : Seen) (e : Event) (o : Option Emission) → (Opens s e → ⊥) → length (exchanges_after e o s) ≡ length s.exchanges
+-- nothing was opened, so no arrival
+no_arrival : (old : List Arrival) (es : List Exchange) → length es ≡ 0 → old ++ map arrival_of es ≡ old
+no_arrival old [] none = append-nil old
+no_arrival old (e ∷ es) none = absurd (cc none)
+
+opens_none : (s : Seen) (e : Event) (o : Option Emission) → (Opens s e → ⊥) → map arrival_of (exchanges_after e o s) ≡ arrivals s
 opens_none s (Deliver now to bytes) o not =
     let none : length (opened_by (received_at s now to bytes.now) (next_opening (front_at s now)) to) ≡ 0 =
     ap (λ x. length (opened_by x (next_opening (front_at s now)) to)) (received_of (front_at s now) to bytes.now (reading_of bytes.now) refl)
     ∙ read_opens s now to bytes.now (reading_of bytes.now) (next_opening (front_at s now)) refl not in
-    omega (arith, received_length s now to (received_at s now to bytes.now) o)
-opens_none s (Answer k now) o not = same_length o s.exchanges (is_some (content_at (stage s k))) (job s k).origin.opening.number
+    received_arrivals s now to (received_at s now to bytes.now) o ∙ no_arrival (arrivals s) (opened_by (received_at s now to bytes.now) (next_opening (front_at s now)) to) none
+opens_none s (Answer k now) o not = same_arrivals o s.exchanges (is_some (content_at (stage s k))) (job s k).origin.opening.number
 opens_none s other o not = refl
 
-pub others_open_nothing : (r : Entry) (s : Seen) → (Opens s r.event → ⊥) → length (and_then r s).exchanges ≡ length s.exchanges
+pub others_open_nothing : (r : Entry) (s : Seen) → (Opens s r.event → ⊥) → arrivals (and_then r s) ≡ arrivals s
 others_open_nothing r s not = opens_none s r.event r.emitted not

@@ -1,5 +1,5 @@
 -- What the laws of exchanges and message ids speak of.
-use Rattle.std.specs.Prelude.{◌≡◌, ℕ, ◌+◌, ◌%◌, ◌<◌, ◌≤◌, ◌==◌, ◌&&◌, Bool, true, false, nat_lt, List, [], ◌∷◌, length, filter, find, max, Option, Some, None, Ok}
+use Rattle.std.specs.Prelude.{◌≡◌, ℕ, ◌+◌, ◌%◌, ◌<◌, ◌≤◌, ◌==◌, ◌&&◌, Bool, true, false, nat_lt, List, [], ◌∷◌, ◌++◌, length, map, filter, find, max, Option, Some, None, Ok}
 use Rattle.arrayvec.specs.ArrayVec.{ArrayVec}
 use Rattle.coap_msg.specs.declared.types.Emission.{Emission}
 use Rattle.coap_msg.specs.declared.types.Endpoint.{Endpoint}
@@ -10,7 +10,8 @@ use Rattle.coap_dedup.specs.Exchanges.{Exchange}
 use Rattle.coap_dedup.specs.Exchanges.{is_of}
 use Rattle.fc_core.specs.declared.event.Event.{Event}
 use Rattle.fc_core.specs.declared.event.Event.TheVariants.{Deliver}
-use Rattle.fc_core.specs.History.{History, Begins, Then, Seen, seen}
+use Rattle.fc_core.specs.History.{Entry, History, Begins, Then, Seen, seen, and_then}
+use Rattle.fc_core.specs.Receiving.{is_confirmable}
 
 -- ---- repeats
 
@@ -63,6 +64,36 @@ repeat_emits other e = None
 abbrev pub Opens : Seen → Event → Type 0
 Opens s (Deliver now to bytes) = IsOpening s now to bytes.now
 Opens s other = ⊥
+
+-- whose an exchange is, its message id, whether it is confirmable, and when it was opened
+pub record Arrival : Type 0 where
+  pub endpoint : Endpoint
+  pub id : ℕ
+  pub confirmable : Bool
+  pub at : ℕ
+
+abbrev pub arrival_of : Exchange → Arrival
+arrival_of e = record { endpoint = e.endpoint; id = e.id; confirmable = e.confirmable; at = e.at }
+
+-- the exchanges that were opened, but for their answers
+abbrev pub arrivals : Seen → List Arrival
+arrivals s = map arrival_of s.exchanges
+
+-- what arrives is the datagram's: its endpoint, message id and type, at the front's moment
+pub record IsArrival (s : Seen) (now : ℕ) (to : Endpoint) (bytes : List ℕ) (a : Arrival) : Type 0 where
+  pub message : Message
+  pub read : reading_of bytes ≡ Ok message
+  pub arrival_is : a ≡ record { endpoint = to; id = message.id; confirmable = is_confirmable message.kind; at = max s.moment now }
+
+abbrev pub Arrives : Seen → Event → Arrival → Type 0
+Arrives s (Deliver now to bytes) a = IsArrival s now to bytes.now a
+Arrives s other a = ⊥
+
+-- one exchange is opened, the last
+pub record OpensOne (r : Entry) (s : Seen) : Type 0 where
+  pub arrival : Arrival
+  pub is : Arrives s r.event arrival
+  pub last : arrivals (and_then r s) ≡ arrivals s ++ arrival ∷ []
 
 -- ---- message ids
 

@@ -1,10 +1,10 @@
 //! What a history promises of exchanges and message ids: each function is a law, and its contract says it.
 ghost use Rattle.coap_dedup.specs.Exchanges.{Exchange};
-ghost use Rattle.fc_core.specs.ExchangeLaws.{AreApart, AreInOrder, Opens, Repeats, draws_of, first_id, repeat_emits};
+ghost use Rattle.fc_core.specs.ExchangeLaws.{AreApart, AreInOrder, Opens, OpensOne, Repeats, arrivals, draws_of, first_id, repeat_emits};
 ghost use Rattle.fc_core.specs.History.{Entry, History, Seen, seen, and_then, job};
 ghost use Rattle.fc_core.specs.Laws.{HasCome};
 ghost use Rattle.fc_core.specs.Legal.{Emits};
-ghost use Rattle.std.specs.Prelude.{ℕ, ◌+◌, ◌<◌, ◌≤◌, length, ◌≡◌};
+ghost use Rattle.std.specs.Prelude.{ℕ, ◌+◌, ◌<◌, ◌≤◌, ◌≡◌};
 
 /// A repeat, which is a request of an endpoint and message id of which an exchange was opened less than 247,000 ms before,
 /// opens no exchange, brings no job and draws no message id. It emits the bytes that are kept of that exchange, where its
@@ -20,12 +20,12 @@ pub fn repeats_do_nothing()
 {}
 
 /// An event opens an exchange exactly where it delivers a request that is no repeat, and there is room for it: fewer than
-/// 1,024 exchanges were opened less than 247,000 ms before.
+/// 1,024 exchanges were opened less than 247,000 ms before. It is of the delivery's endpoint, message id and type, and opened at
+/// the front's moment; none is ever lost.
 pub fn new_requests_open_exchanges()
-    ensures opens { (r : Entry) (s : Seen) → Opens s r.event
-        → length (and_then r s).exchanges ≡ length s.exchanges + 1 }
+    ensures opens { (r : Entry) (s : Seen) → Opens s r.event → OpensOne r s }
     ensures others { (r : Entry) (s : Seen) → (Opens s r.event → ⊥)
-        → length (and_then r s).exchanges ≡ length s.exchanges }
+        → arrivals (and_then r s) ≡ arrivals s }
 {}
 
 /// A request is carried out at most once in its window: two jobs of one endpoint and message id came at least 247,000 ms

@@ -25,7 +25,7 @@ pub struct SlotLine<'a> {
 
 /// What is told of a slot of this shard.
 pub fn slot_line(shard: &Shard, slot: SlotNumber) -> SlotLine<'_>
-    ensures { IsSlotLine (slot_in shard.entry.now slot) result.entry }
+    ensures { IsSlotLine (slot_in shard.entry.now slot) result }
 {
     SlotLine {
         serial: shard.serial(slot),
