@@ -70,7 +70,7 @@ pub record IsTaken (old new : Collected) (number : ℕ) (value : List ℕ) : Typ
   pub proxy_scheme : (left : List (List ℕ)) → first_with (lent old.proxy_scheme) (cons_if (number == option.PROXY_SCHEME) value left) ≡ first_with (lent new.proxy_scheme) left
 
 -- with the options still to come, after one of the number before, each part is the message's
-pub record IsLeft (m : Message) (g : Collected) (before : Option ℕ) (left : List (ℕ × List ℕ)) : Type 0 where
+pub record IsUncollected (m : Message) (g : Collected) (before : Option ℕ) (left : List (ℕ × List ℕ)) : Type 0 where
   pub etags : tags_with g.etags.items (values_of option.ETAG m.code before left) ≡ etags m
   pub observe : first_with (lent g.observe) (values_of option.OBSERVE m.code before left) ≡ first_of (values option.OBSERVE m)
   pub path : resource_with g.path (values_of option.URI_PATH m.code before left) ≡ resource_of (values option.URI_PATH m)

@@ -3,7 +3,7 @@ ghost use Rattle.std.specs.Prelude.{◌≡◌, ◌||◌, None, Some, List, ℕ, 
 ghost use Rattle.coap_msg.specs.Wire.{Message as Stated};
 ghost use Rattle.coap_opts.specs.Recognition as spec;
 ghost use Rattle.coap_opts.specs.Verdict.{has};
-ghost use Rattle.coap_opts.specs.Collected.{AreShort, IsCollected, IsJoined, IsLeft, IsTaken, first_with, lent, resource_with, tags_with};
+ghost use Rattle.coap_opts.specs.Collected.{AreShort, IsCollected, IsJoined, IsUncollected, IsTaken, first_with, lent, resource_with, tags_with};
 
 use crate::number::{
     BLOCK1, BLOCK2, CONTENT_FORMAT, ETAG, OBSERVE, PROXY_SCHEME, PROXY_URI, URI_PATH, URI_QUERY,
@@ -90,7 +90,7 @@ pub(crate) struct Collected<'a> {
 impl<'a> Collected<'a> {
     /// Nothing, as before the first option.
     fn new() -> Self
-        ensures parts { (m : Stated) → IsLeft m result None m.options }
+        ensures parts { (m : Stated) → IsUncollected m result None m.options }
         ensures unknown { result.has_unknown ≡ false }
     {
         Collected {
