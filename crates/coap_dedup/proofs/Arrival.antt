@@ -5,19 +5,19 @@ use Rattle.std.proofs.lemmas.Bool.{cases_lt, lt-ltb, le-ltb, ltb-true}
 use Rattle.coap_dedup.specs.declared.exchange.Kept.{Kept}
 use Rattle.coap_dedup.specs.declared.exchange.Opened.{Opened}
 use Rattle.coap_dedup.specs.Exchanges.{Exchange, is_live}
-use Rattle.coap_dedup.specs.Views.{IsArrival, IsArrived, InOrder, as_exchange, request_is_live}
+use Rattle.coap_dedup.specs.Views.{Arrives, IsArrived, InOrder, as_exchange, request_is_live}
 
 -- ---- what expires
 
 -- the first is live, so all are
-all_live : (number since now at : ℕ) (os : List Opened) → IsArrival number since now os → at < since + 247000 → filter (request_is_live at) os ≡ os
+all_live : (number since now at : ℕ) (os : List Opened) → Arrives number since now os → at < since + 247000 → filter (request_is_live at) os ≡ os
 all_live number since now at [] a lt = refl
 all_live number since now at (o ∷ os) a lt =
     let le = a.1 in
     let live : request_is_live at o ≡ true = lt-ltb at (o.at + 247000) (omega (arith, le, lt)) in
     ap (λ (b : Bool). cond b (o ∷ filter (request_is_live at) os) (filter (request_is_live at) os)) live ∙ ap (λ (l : List Opened). o ∷ l) (all_live (number + 1) o.at now at os a.3 (omega (arith, le, lt)))
 
-live_from : (number since now at : ℕ) (o : Opened) (os : List Opened) → IsArrival number since now (o ∷ os) → request_is_live at o ≡ true → filter (request_is_live at) (o ∷ os) ≡ o ∷ os
+live_from : (number since now at : ℕ) (o : Opened) (os : List Opened) → Arrives number since now (o ∷ os) → request_is_live at o ≡ true → filter (request_is_live at) (o ∷ os) ≡ o ∷ os
 live_from number since now at o os a live =
     ap (λ (b : Bool). cond b (o ∷ filter (request_is_live at) os) (filter (request_is_live at) os)) live ∙ ap (λ (l : List Opened). o ∷ l) (all_live (number + 1) o.at now at os a.3 (ltb-true at (o.at + 247000) live))
 
@@ -39,7 +39,7 @@ no_front at (o ∷ os) none = absurd (cc none)
 
 -- ---- the order
 
-from_zero : (number since now : ℕ) (os : List Opened) → IsArrival number since now os → IsArrival number 0 now os
+from_zero : (number since now : ℕ) (os : List Opened) → Arrives number since now os → Arrives number 0 now os
 from_zero number since now [] a = tt
 from_zero number since now (o ∷ os) a = (a.0, omega arith, a.2, a.3)
 
@@ -47,25 +47,25 @@ pub next_in_order : (os : List Opened) → InOrder os → InOrder (drop 1 os)
 next_in_order [] a = a
 next_in_order (o ∷ os) a = record { first = a.first + 1; now = a.now; order = from_zero (a.first + 1) o.at a.now os a.order.3 }
 
-later : (number since now at : ℕ) (os : List Opened) → now ≤ at → IsArrival number since now os → IsArrival number since at os
+later : (number since now at : ℕ) (os : List Opened) → now ≤ at → Arrives number since now os → Arrives number since at os
 later number since now at [] le a = tt
 later number since now at (o ∷ os) le a = let b = a.2 in (a.0, a.1, omega (arith, b, le), later (number + 1) o.at now at os le a.3)
 
 -- what is let go is the first so many
 record IsCut (first at : ℕ) (os : List Opened) : Type 0 where
   gone : ℕ
-  order : IsArrival (first + gone) 0 at (filter (request_is_live at) os)
+  order : Arrives (first + gone) 0 at (filter (request_is_live at) os)
   count : length os ≡ gone + length (filter (request_is_live at) os)
 
-cut : (first since now at : ℕ) (os : List Opened) → now ≤ at → IsArrival first since now os → IsCut first at os
+cut : (first since now at : ℕ) (os : List Opened) → now ≤ at → Arrives first since now os → IsCut first at os
 cut first since now at [] le a = record { gone = 0; order = tt; count = refl }
 cut first since now at (o ∷ os) le a = ⊎_elim
     (λ (lt : at < o.at + 247000).
     let same = live_from first since now at o os a (lt-ltb at (o.at + 247000) lt) in
-    let order : IsArrival first 0 at (o ∷ os) = from_zero first since at (o ∷ os) (later first since now at (o ∷ os) le a) in
+    let order : Arrives first 0 at (o ∷ os) = from_zero first since at (o ∷ os) (later first since now at (o ∷ os) le a) in
     record {
       gone = 0;
-      order = subst (λ (l : List Opened). IsArrival (first + 0) 0 at l) (sym same) (subst (λ (n : ℕ). IsArrival n 0 at (o ∷ os)) (omega arith) order);
+      order = subst (λ (l : List Opened). Arrives (first + 0) 0 at l) (sym same) (subst (λ (n : ℕ). Arrives n 0 at (o ∷ os)) (omega arith) order);
       count = let long : length (filter (request_is_live at) (o ∷ os)) ≡ length (o ∷ os) = ap length same in omega (arith, long);
     })
     (λ (ge : o.at + 247000 ≤ at).
@@ -75,7 +75,7 @@ cut first since now at (o ∷ os) le a = ⊎_elim
     let fewer : length (filter (request_is_live at) (o ∷ os)) ≡ length (filter (request_is_live at) os) = ap length same in
     record {
       gone = c.gone + 1;
-      order = subst (λ (l : List Opened). IsArrival (first + (c.gone + 1)) 0 at l) (sym same) (subst (λ (n : ℕ). IsArrival n 0 at (filter (request_is_live at) os)) (omega arith) c.order);
+      order = subst (λ (l : List Opened). Arrives (first + (c.gone + 1)) 0 at l) (sym same) (subst (λ (n : ℕ). Arrives n 0 at (filter (request_is_live at) os)) (omega arith) c.order);
       count = omega (arith, count, fewer);
     })
     (cases_lt at (o.at + 247000))
@@ -91,7 +91,7 @@ pub fewer : (opened now at : ℕ) (os : List Opened) → now ≤ at → IsArrive
 fewer opened now at os le a = let c = (cut a.first 0 now at os le a.order).count in omega (arith, c)
 
 -- one more, opened now
-more : (number since now at : ℕ) (os : List Opened) (o : Opened) → now ≤ at → since ≤ at → o.number ≡ number + length os → o.at ≡ at → IsArrival number since now os → IsArrival number since at (os ++ o ∷ [])
+more : (number since now at : ℕ) (os : List Opened) (o : Opened) → now ≤ at → since ≤ at → o.number ≡ number + length os → o.at ≡ at → Arrives number since now os → Arrives number since at (os ++ o ∷ [])
 more number since now at [] o le low n m a = (n ∙ omega arith, omega (arith, m, low), omega (arith, m), tt)
 more number since now at (x ∷ os) o le low n m a = let b = a.2 in (a.0, a.1, omega (arith, b, le), more (number + 1) x.at now at os o le (omega (arith, b, le)) (n ∙ omega arith) m a.3)
 

@@ -12,7 +12,7 @@ use Rattle.coap_msg.specs.declared.types.Endpoint.{Endpoint}
 use Rattle.coap_dedup.specs.declared.exchange.Kept.{Kept}
 use Rattle.coap_dedup.specs.declared.exchange.Opened.{Opened}
 use Rattle.coap_dedup.specs.Exchanges.{Exchange, IsNew, Look, answered, answered_if, has_room, is_of, is_open, look_by, new_or_full, repeated_by}
-use Rattle.coap_dedup.specs.Views.{IsArrival, IsArrived, IsGone, IsNumbered, answer_if, as_exchange, is_from, request_is_live, kept_at, no_answer, with_answer}
+use Rattle.coap_dedup.specs.Views.{Arrives, IsArrived, IsGone, IsNumbered, answer_if, as_exchange, is_from, request_is_live, kept_at, no_answer, with_answer}
 
 -- numbers less than 1,024 apart have different places
 apart : (p q : ℕ) → q < p → p < q + 1024 → q % 1024 ≡ p % 1024 → ⊥
@@ -22,14 +22,14 @@ apart p q lt near e = omega (arith, lt, near, e)
 elsewhere : (kept : List Kept) (p : ℕ) (k : Kept) (o : Opened) → (o.number % 1024 ≡ p % 1024 → ⊥) → as_exchange (set kept (p % 1024) k) o ≡ as_exchange kept o
 elsewhere kept p k o ne = ap (λ (x : Kept). with_answer x o) (get_or-set_other kept (p % 1024) (o.number % 1024) k no_answer ne)
 
-pub all_after : (number since now p : ℕ) (kept : List Kept) (k : Kept) (os : List Opened) → p < number → number + length os ≤ p + 1024 → IsArrival number since now os → map (as_exchange (set kept (p % 1024) k)) os ≡ map (as_exchange kept) os
+pub all_after : (number since now p : ℕ) (kept : List Kept) (k : Kept) (os : List Opened) → p < number → number + length os ≤ p + 1024 → Arrives number since now os → map (as_exchange (set kept (p % 1024) k)) os ≡ map (as_exchange kept) os
 all_after number since now p kept k [] lt near a = refl
 all_after number since now p kept k (o ∷ os) lt near a =
     let is = a.0 in
     λ i. elsewhere kept p k o (λ e. apart o.number p (omega (arith, is, lt)) (omega (arith, is, near)) (sym e)) i
     ∷ all_after (number + 1) o.at now p kept k os (omega (arith, lt)) (omega (arith, near)) a.3 i
 
-pub all_before : (number since now p : ℕ) (kept : List Kept) (k : Kept) (os : List Opened) → number + length os ≤ p → p < number + 1024 → IsArrival number since now os → map (as_exchange (set kept (p % 1024) k)) os ≡ map (as_exchange kept) os
+pub all_before : (number since now p : ℕ) (kept : List Kept) (k : Kept) (os : List Opened) → number + length os ≤ p → p < number + 1024 → Arrives number since now os → map (as_exchange (set kept (p % 1024) k)) os ≡ map (as_exchange kept) os
 all_before number since now p kept k [] lt near a = refl
 all_before number since now p kept k (o ∷ os) lt near a =
     let is = a.0 in
@@ -59,13 +59,13 @@ head_closed number at p kept o os is none = ⊎_elim
 tail_closed : (number at p : ℕ) (o : Opened) (os : List Opened) → NoneLive number at p (o ∷ os) → NoneLive (number + 1) at p os
 tail_closed number at p o os none i x found is = none (suc i) x found (omega (arith, is))
 
-pub none_answered : (number since now at p : ℕ) (bytes : ArrayVec ℕ) (kept : List Kept) (os : List Opened) → IsArrival number since now os → NoneLive number at p os → map (answered at p bytes) (map (as_exchange kept) os) ≡ map (as_exchange kept) os
+pub none_answered : (number since now at p : ℕ) (bytes : ArrayVec ℕ) (kept : List Kept) (os : List Opened) → Arrives number since now os → NoneLive number at p os → map (answered at p bytes) (map (as_exchange kept) os) ≡ map (as_exchange kept) os
 none_answered number since now at p bytes kept [] a none = refl
 none_answered number since now at p bytes kept (o ∷ os) a none =
     λ i. answered_if (head_closed number at p kept o os a.0 none i) bytes (as_exchange kept o)
     ∷ none_answered (number + 1) o.at now at p bytes kept os a.3 (tail_closed number at p o os none) i
 
-pub none_open : (number since now at p : ℕ) (kept : List Kept) (os : List Opened) → IsArrival number since now os → NoneLive number at p os → list_any (is_open at p) (map (as_exchange kept) os) ≡ false
+pub none_open : (number since now at p : ℕ) (kept : List Kept) (os : List Opened) → Arrives number since now os → NoneLive number at p os → list_any (is_open at p) (map (as_exchange kept) os) ≡ false
 none_open number since now at p kept [] a none = refl
 none_open number since now at p kept (o ∷ os) a none =
     λ i. head_closed number at p kept o os a.0 none i || none_open (number + 1) o.at now at p kept os a.3 (tail_closed number at p o os none) i
@@ -97,7 +97,7 @@ numbered_from opened now number os o numbered a =
 head_open : (at p : ℕ) (kept : List Kept) (o : Opened) → o.number ≡ p → request_is_live at o ≡ true → is_open at p (as_exchange kept o) ≡ true
 head_open at p kept o is live = λ i. eq-eqb o.number p is i && live i
 
-pub one_open : (number since now at i : ℕ) (kept : List Kept) (os : List Opened) (o : Opened) → slice_get os i ≡ Some o → request_is_live at o ≡ true → IsArrival number since now os → list_any (is_open at (number + i)) (map (as_exchange kept) os) ≡ true
+pub one_open : (number since now at i : ℕ) (kept : List Kept) (os : List Opened) (o : Opened) → slice_get os i ≡ Some o → request_is_live at o ≡ true → Arrives number since now os → list_any (is_open at (number + i)) (map (as_exchange kept) os) ≡ true
 one_open number since now at i kept [] o found live a = absurd (cc found)
 one_open number since now at zero kept (x ∷ os) o found live a =
     let is = a.0 in
@@ -119,7 +119,7 @@ head_written at p kept bytes o long is live =
 none_after : (number at p : ℕ) (os : List Opened) → p < number → NoneLive number at p os
 none_after number at p os lt i o found is = absurd (omega (arith, lt, is))
 
-pub one_answered : (number since now at i : ℕ) (kept : List Kept) (bytes : ArrayVec ℕ) (os : List Opened) (o : Opened) → length kept ≡ 1024 → length os ≤ 1024 → slice_get os i ≡ Some o → request_is_live at o ≡ true → IsArrival number since now os → map (as_exchange (set kept ((number + i) % 1024) (record { answered = true; bytes = bytes }))) os ≡ map (answered at (number + i) bytes) (map (as_exchange kept) os)
+pub one_answered : (number since now at i : ℕ) (kept : List Kept) (bytes : ArrayVec ℕ) (os : List Opened) (o : Opened) → length kept ≡ 1024 → length os ≤ 1024 → slice_get os i ≡ Some o → request_is_live at o ≡ true → Arrives number since now os → map (as_exchange (set kept ((number + i) % 1024) (record { answered = true; bytes = bytes }))) os ≡ map (answered at (number + i) bytes) (map (as_exchange kept) os)
 one_answered number since now at i kept bytes [] o long few found live a = absurd (cc found)
 one_answered number since now at zero kept bytes (x ∷ os) o long few found live a =
     let is = a.0 in
@@ -171,7 +171,7 @@ pub keeps_all : {X : Type 0} (n : ℕ) (xs : List X) → length xs ≤ n → kee
 keeps_all n xs le = let none : length xs - n ≡ 0 = omega (arith, le) in ap (λ (k : ℕ). drop k xs) none
 
 -- it is seen last, without an answer
-pub opened_last : (first now p : ℕ) (kept : List Kept) (bytes : ArrayVec ℕ) (os : List Opened) (o : Opened) → p ≡ first + length os → length os < 1024 → length kept ≡ 1024 → o.number ≡ p → IsArrival first 0 now os →
+pub opened_last : (first now p : ℕ) (kept : List Kept) (bytes : ArrayVec ℕ) (os : List Opened) (o : Opened) → p ≡ first + length os → length os < 1024 → length kept ≡ 1024 → o.number ≡ p → Arrives first 0 now os →
     map (as_exchange (set kept (p % 1024) (record { answered = false; bytes = bytes }))) (os ++ o ∷ []) ≡ map (as_exchange kept) os ++ with_answer no_answer o ∷ []
 opened_last first now p kept bytes os o count few long is a =
     let k : Kept = record { answered = false; bytes = bytes } in

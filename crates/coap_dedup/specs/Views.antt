@@ -31,21 +31,21 @@ abbrev pub is_from : Endpoint → ℕ → Opened → Bool
 is_from to id o = same_endpoint o.endpoint to && (o.id == id)
 
 -- consecutive numbers, and moments that never fall, up to this one
-abbrev pub IsArrival : ℕ → ℕ → ℕ → List Opened → Type 0
-IsArrival number since now [] = Unit {0}
-IsArrival number since now (o ∷ os) = (o.number ≡ number) × (since ≤ o.at) × (o.at ≤ now) × IsArrival (number + 1) o.at now os
+abbrev pub Arrives : ℕ → ℕ → ℕ → List Opened → Type 0
+Arrives number since now [] = Unit {0}
+Arrives number since now (o ∷ os) = (o.number ≡ number) × (since ≤ o.at) × (o.at ≤ now) × Arrives (number + 1) o.at now os
 
 -- the requests that are held, of so many that were opened
 pub record IsArrived (now opened : ℕ) (os : List Opened) : Type 0 where
   pub first : ℕ
-  pub order : IsArrival first 0 now os
+  pub order : Arrives first 0 now os
   pub count : opened ≡ first + length os
 
 -- they are in order of arrival
 pub record InOrder (os : List Opened) : Type 0 where
   pub first : ℕ
   pub now : ℕ
-  pub order : IsArrival first 0 now os
+  pub order : Arrives first 0 now os
 
 -- the request of this number, of those that are held, where so many were opened
 pub record IsNumbered (os : List Opened) (opened number : ℕ) (o : Opened) : Type 0 where
