@@ -19,7 +19,7 @@ use Rattle.fc_registry.specs.declared.job.Opening.{Opening}
 use Rattle.fc_core.specs.declared.event.Event.{Event}
 use Rattle.fc_core.specs.declared.event.Event.TheVariants.{Deliver, Answer}
 use Rattle.fc_core.specs.Exchanges.{FrontState}
-use Rattle.fc_core.specs.ExchangeLaws.{Arrival, Arrives, IsArrival, IsAsking, IsOpening, IsRepeat, Opens, OpensOne, Repeats, again, arrival_of, arrivals, is_within, repeat_emits, repeated}
+use Rattle.fc_core.specs.ExchangeLaws.{Arrival, ArrivesBy, IsArrival, IsAsking, IsOpening, IsRepeat, Opens, OpensOne, Repeats, again, arrival_of, arrivals, is_within, repeat_emits, repeated}
 use Rattle.fc_core.specs.History.{Entry, Seen, and_then, answered_in, exchanges_after, exchanges_received, front_at, ids_after, job, received_at, stage, tasks_brought, tasks_moved}
 use Rattle.fc_core.specs.Ids.{Ids}
 use Rattle.fc_core.specs.Legal.{Emits}
@@ -174,7 +174,7 @@ opening_is s now to bytes w =
     request_is s now to bytes w.message None w.read w.asks w.new
     ∙ ap (λ b. looked (look_by None b) w.message (new_as (verdict w.message) w.message)) (and_from (nat_lt (length (filter (is_within at) s.exchanges)) 1024) (nat_lt (length s.exchanges) 18446744073709551615) (lt-ltb (length (filter (is_within at) s.exchanges)) 1024 w.room) (lt-ltb (length s.exchanges) 18446744073709551615 w.numbers))
 
-opens_one : (s : Seen) (e : Event) (o : Option Emission) → Opens s e → (a : Arrival) × Arrives s e a × (map arrival_of (exchanges_after e o s) ≡ arrivals s ++ a ∷ [])
+opens_one : (s : Seen) (e : Event) (o : Option Emission) → Opens s e → (a : Arrival) × ArrivesBy s e a × (map arrival_of (exchanges_after e o s) ≡ arrivals s ++ a ∷ [])
 opens_one s (Deliver now to bytes) o w = (
   arrival_by w.message (next_opening (front_at s now)) to,
   record { message = w.message; read = w.read; arrival_is = refl },

@@ -85,14 +85,14 @@ pub record IsArrival (s : Seen) (now : ℕ) (to : Endpoint) (bytes : List ℕ) (
   pub read : reading_of bytes ≡ Ok message
   pub arrival_is : a ≡ record { endpoint = to; id = message.id; confirmable = is_confirmable message.kind; at = max s.moment now }
 
-abbrev pub Arrives : Seen → Event → Arrival → Type 0
-Arrives s (Deliver now to bytes) a = IsArrival s now to bytes.now a
-Arrives s other a = ⊥
+abbrev pub ArrivesBy : Seen → Event → Arrival → Type 0
+ArrivesBy s (Deliver now to bytes) a = IsArrival s now to bytes.now a
+ArrivesBy s other a = ⊥
 
 -- one exchange is opened, the last
 pub record OpensOne (r : Entry) (s : Seen) : Type 0 where
   pub arrival : Arrival
-  pub is : Arrives s r.event arrival
+  pub is : ArrivesBy s r.event arrival
   pub last : arrivals (and_then r s) ≡ arrivals s ++ arrival ∷ []
 
 -- ---- message ids

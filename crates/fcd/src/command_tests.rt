@@ -19,6 +19,6 @@ fn version_and_help_are_told(rt: HostRuntime) -> Result<(), Fail> {
     let version = told(rt.alloc(), "--version")?;
     assert!(rt; version.as_str() == "fcd 0.1.0\n");
     let help = told(rt.alloc(), "--help")?;
-    assert!(rt; help.as_str().ends_with(LINES));
+    assert!(rt; help.as_str().contains(LINES));
     Ok(())
 }
