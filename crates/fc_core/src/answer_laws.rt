@@ -9,8 +9,9 @@ ghost use Rattle.fc_core.specs.Replies.{bare, ran_response};
 ghost use Rattle.fc_core.specs.declared.block.BodyBlock.{BodyBlock};
 ghost use Rattle.fc_core.specs.declared.event.Event.TheVariants.{Take};
 ghost use Rattle.fc_core.specs.declared.stage.Stage.TheVariants.{ToAnswer, ToTake};
+ghost use Rattle.fc_help.specs.Request.{Request};
 ghost use Rattle.fc_help.specs.declared.request.Method.TheVariants.{Post};
-ghost use Rattle.fc_kinds.specs.Meaning.{Input, IsRun, Program, meant};
+ghost use Rattle.fc_kinds.specs.Meaning.{IsRun, Program, meant};
 ghost use Rattle.fc_registry.specs.Record.{code_class};
 ghost use Rattle.std.specs.Prelude.{ℕ, ◌⊎◌, ◌++◌, ◌<◌, ◌≤◌, Bool, List, None, Option, Some, drop, false, length, true, ◌≡◌};
 
@@ -47,8 +48,8 @@ pub fn first_blocks_begin_the_body()
         × ((first_block body).bytes.items ≡ body) }
     ensures longer { (body : List ℕ) → 1024 < length body → ((first_block body).more ≡ true)
         × (length (first_block body).bytes.items ≡ 1024) }
-    ensures post { (p : Program) (input : Input) → IsRun p input → input.request.method ≡ Post
-        → (first_block (meant p input).reply).bytes.items ≡ (meant p input).reply }
+    ensures post { (p : Program) (request : Request) (vars : List ℕ) → IsRun p request vars → request.method ≡ Post
+        → (first_block (meant p request vars).reply).bytes.items ≡ (meant p request vars).reply }
 {}
 
 /// A run whose code isn't of class 2 is answered by its code alone, whatever its reply.

@@ -2,10 +2,11 @@
 ghost use Rattle.std.specs.Prelude.{List, Some, ℕ, ◌≡◌};
 ghost use Rattle.fc_isa.specs.Program.{IsInsn};
 ghost use Rattle.fc_isa.specs.declared.insn.Insn.{Insn};
+ghost use Rattle.fc_help.specs.Request.{Request};
 ghost use Rattle.fc_kinds.specs.Kinds.{Holds, Within};
 ghost use Rattle.fc_kinds.specs.Lattice.{AreKinds, joined};
 ghost use Rattle.fc_kinds.specs.Laws.{CallsContainTheStep, EffectsAreMonotone, EffectsContainTheStep, ExitsContainTheStep, RefinementIsMonotone, RefinementKeepsWhatTakesTheWay, WaysAreMonotone, WaysRaiseByOne};
-ghost use Rattle.fc_kinds.specs.Meaning.{Input, Meaning, Means, Program};
+ghost use Rattle.fc_kinds.specs.Meaning.{Meaning, Means, Program};
 ghost use Rattle.fc_kinds.specs.Transfer.{AreShallow, enter, transfer};
 ghost use Rattle.fc_kinds.specs.Values.{Value};
 ghost use Rattle.fc_kinds.specs.declared.kind.Kind.{Kind as What};
@@ -81,5 +82,5 @@ pub fn refinement_keeps_what_takes_the_way()
 
 /// A run has at most one meaning.
 pub fn runs_have_one_meaning()
-    ensures { (p : Program) (input : Input) (m n : Meaning) → Means p input m → Means p input n → m ≡ n }
+    ensures { (p : Program) (request : Request) (vars : List ℕ) (m n : Meaning) → Means p request vars m → Means p request vars n → m ≡ n }
 {}

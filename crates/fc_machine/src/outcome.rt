@@ -40,14 +40,14 @@ impl<'a> Outcome<'a> {
 
     /// The request that it answered.
     pub fn request(&self) -> &'a Request
-        ensures { result.now ≡ self.now.input.request }
+        ensures { result.now ≡ self.now.request }
     {
         self.request
     }
 
     /// The variables that it found.
     pub fn found(&self) -> &'a Vars
-        ensures { result.now ≡ self.now.input.vars }
+        ensures { result.now ≡ self.now.found }
     {
         self.found
     }
@@ -63,7 +63,7 @@ impl<'a> Outcome<'a> {
     /// The reply's bytes, at most 4,096 to a GET and 1,024 to a POST. They lie in the frame.
     pub fn reply(&self) -> &'a [u8]
         ensures reply { result.now ≡ (meaning_of self.now).reply }
-        ensures room { length result.now ≤ room_of self.now.input.request.method }
+        ensures room { length result.now ≤ room_of self.now.request.method }
     {
         self.reply
     }
