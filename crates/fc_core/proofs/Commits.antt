@@ -41,7 +41,7 @@ own_row ran t slot c after given w =
       after_is = w.1.after_is ∙ ap (λ (o : CommitOutcome). after_changes slot (commits o t slot.serial).changes) is;
     }
 
-pub commit_row : (ran : Ran) (t : Ticket) (slot : Slot) (c : Committed) (after : Slot) → ran.program ≡ t.found.program → ran.request ≡ t.request → ran.found ≡ t.found.vars → HasGiven slot t → IsCommit ran t slot c after → IsRow t slot c after
+pub commit_row : (ran : Ran) (t : Ticket) (slot : Slot) (c : Committed) (after : Slot) → ran.program ≡ t.found.program → ran.input.request ≡ t.request → ran.input.vars ≡ t.found.vars → HasGiven slot t → IsCommit ran t slot c after → IsRow t slot c after
 commit_row ran t slot Stranger after p r v given w = absurd (w.stranger (record { program = p; request = r; vars = v; serial = given.serial }))
 commit_row ran t slot (Done m) after p r v given w = own_row ran t slot (Done m) after given w
 commit_row ran t slot Overtaken after p r v given w = own_row ran t slot Overtaken after given w

@@ -4,10 +4,9 @@ use Rattle.std.specs.Prelude.{◌==◌, drop}
 use Rattle.std.proofs.lemmas.Bool.{eqb-true, le-ltb, lt-ltb}
 use Rattle.std.proofs.lemmas.List.{length-take-le, take-append-drop, take_all}
 use Rattle.fc_help.specs.Helpers.{room_of}
-use Rattle.fc_help.specs.Request.{Request}
 use Rattle.fc_help.specs.declared.request.Method.{Method}
 use Rattle.fc_help.specs.declared.request.Method.TheVariants.{Post}
-use Rattle.fc_kinds.specs.Meaning.{IsRun, Program, meant}
+use Rattle.fc_kinds.specs.Meaning.{Input, IsRun, Program, meant}
 use Rattle.fc_registry.specs.Record.{code_class}
 use Rattle.fc_core.specs.declared.block.BodyBlock.{BodyBlock}
 use Rattle.fc_core.specs.Blocks.{first_block}
@@ -22,8 +21,8 @@ whole body le = (le-ltb 1024 (length body) le, take_all 1024 body le)
 pub longer : (body : List ℕ) → 1024 < length body → ((first_block body).more ≡ true) × (length (first_block body).bytes.items ≡ 1024)
 longer body lt = (lt-ltb 1024 (length body) lt, length-take-le 1024 body (omega arith))
 
-pub post : (p : Program) (request : Request) (vars : List ℕ) → IsRun p request vars → request.method ≡ Post → (first_block (meant p request vars).reply).bytes.items ≡ (meant p request vars).reply
-post p request vars r is = take_all 1024 (meant p request vars).reply (subst (λ (m : Method). length (meant p request vars).reply ≤ room_of m) is r.reply)
+pub post : (p : Program) (input : Input) → IsRun p input → input.request.method ≡ Post → ((first_block (meant p input).reply).more ≡ false) × ((first_block (meant p input).reply).bytes.items ≡ (meant p input).reply)
+post p input r is = whole (meant p input).reply (subst (λ (m : Method). length (meant p input).reply ≤ room_of m) is r.reply)
 
 -- a code that isn't of class 2 is neither 2.05 nor 2.04
 by_tests : (answer : ℕ) (block : BodyBlock) (serial : ℕ) (tested changed : Bool) → (answer == 69) ≡ tested → (answer == 68) ≡ changed → (code_class answer ≡ 2 → ⊥) → (if tested then content serial block else (if changed then text answer block.bytes.items else bare answer)) ≡ bare answer

@@ -8,7 +8,7 @@ use Rattle.fc_help.specs.declared.request.Method.{Method}
 use Rattle.fc_help.specs.declared.request.Method.TheVariants.{Get, Post}
 use Rattle.fc_help.specs.Request.{Request}
 use Rattle.fc_help.specs.Region.{FitsRegion}
-use Rattle.fc_kinds.specs.Meaning.{Program, IsInput}
+use Rattle.fc_kinds.specs.Meaning.{Program, IsInput, input_with}
 use Rattle.fc_verify.specs.Accepted.{Judgement, Accepts, Breaks, Untypable}
 use Rattle.fc_verify.specs.Judged.{judged}
 use Rattle.fc_registry.specs.declared.job.Ask.{Ask}
@@ -19,7 +19,7 @@ use Rattle.fc_registry.specs.declared.commit.CommitOutcome.TheVariants.{Writes, 
 use Rattle.fc_registry.specs.Slots.{Slot, Present, Ticket, last_serial}
 use Rattle.fc_registry.specs.Changes.{Change, Installed, Committed, Removed, changed, after_changes, with_vars}
 use Rattle.fc_registry.specs.Record.{IsChain, IsLink, code_class}
-use Rattle.fc_registry.specs.Calls.{HasGiven, commit_of, is_post, meaning_at, outcome, outcome_by, put_by, request_of, taking, wants}
+use Rattle.fc_registry.specs.Calls.{HasGiven, commit_of, input_of, is_post, meaning_at, outcome, outcome_by, put_by, request_of, taking, wants}
 use Rattle.fc_core.specs.declared.event.Event.{Event}
 use Rattle.fc_core.specs.declared.event.Event.TheVariants.{Take, Commit as Commits, Install, Raise, Answer, Lose}
 use Rattle.fc_core.specs.declared.stage.Stage.{Stage}
@@ -184,13 +184,13 @@ request_fits (Run request) f = record { query = f.0; payload = f.1 }
 request_fits (Installs image) f = record { query = omega arith; payload = omega arith }
 
 -- what a slot that fits gives to a job within its limits is an input of its program
-pub input_of : (job : Job) (p : Present) (request : Request) → AskWithin job.ask → request ≡ request_of job.ask → FitsPresent p → IsInput p.program request p.vars
-input_of job p request within is fits = record { fits = subst FitsRegion (sym is) (request_fits job.ask within); vars = fits.vars }
+pub is_input : (job : Job) (p : Present) (request : Request) → AskWithin job.ask → request ≡ request_of job.ask → FitsPresent p → IsInput p.program (input_with request p.vars)
+is_input job p request within is fits = record { fits = subst FitsRegion (sym is) (request_fits job.ask within); vars = fits.vars }
 
 written_fits : (job : Job) (slot : Slot) (t : Ticket) → AskWithin job.ask → IsTicketOf job slot t → slot.present ≡ Some t.found → FitsSlot slot.present → FitsSlot (with_vars (meaning_at t).vars slot.present)
 written_fits job slot t within own e fits =
     let found : FitsPresent t.found = subst FitsSlot e fits in
-    let runs = found.safe.runs.run t.request t.found.vars (input_of job t.found t.request within own.request found) in
+    let runs = found.safe.runs.run (input_of t) (is_input job t.found t.request within own.request found) in
     let here : FitsPresent (record t.found { vars = (meaning_at t).vars }) = record { safe = found.safe; vars = runs.vars } in
     subst (λ (p : Option Present). FitsSlot (with_vars (meaning_at t).vars p)) (sym e) here
 

@@ -11,6 +11,7 @@ use Rattle.fc_core.specs.declared.event.Event.{Event}
 use Rattle.fc_core.specs.declared.event.Event.TheVariants.{Deliver, Take, Commit, Install, Answer, Tick}
 use Rattle.fc_core.specs.declared.stage.Stage.{Stage}
 use Rattle.fc_core.specs.declared.stage.Stage.TheVariants.{ToTake, ToCommit, ToInstall, ToAnswer}
+use Rattle.fc_core.specs.Blocks.{first_block}
 use Rattle.fc_core.specs.Contents.{Content, RunAnswer, Ran, Missing, Unavailable, Made, Rejected, Untyped}
 use Rattle.fc_core.specs.History.{Entry, History, Begins, Then, Seen, seen, job, slot_at, stage}
 use Rattle.fc_core.specs.Laws.{slot_of, stage_named, takings_of}
@@ -56,8 +57,8 @@ pub record IsRefused (e : Event) (k : ℕ) (j : Job) (at : Stage) (judgement : J
   pub is : at ≡ ToInstall
   pub judged_as : judged (image_of j.ask) ≡ judgement
 
--- it commits a run, whose code and ticket's serial the answer has: a run that wants to write is answered by its code only where
--- the slot is still at its ticket's serial, below the last one
+-- it commits a run, whose code, first block of the reply and ticket's serial the answer has: a run that wants to write is
+-- answered so only where the slot is still at its ticket's serial, below the last one
 pub record IsRan (e : Event) (k : ℕ) (slot : Slot) (at : Stage) (run : RunAnswer) : Type 0 where
   pub now : ℕ
   pub count : ℕ
@@ -65,6 +66,7 @@ pub record IsRan (e : Event) (k : ℕ) (slot : Slot) (at : Stage) (run : RunAnsw
   pub event : e ≡ Commit k now
   pub is : at ≡ ToCommit count ticket
   pub code : run.code ≡ (meaning_at ticket).code
+  pub block : run.block ≡ first_block (meaning_at ticket).reply
   pub serial : run.serial ≡ ticket.serial
   pub writes : wants ticket ≡ true → (slot.serial ≡ ticket.serial) × (slot.serial < 9223372036854775807)
 

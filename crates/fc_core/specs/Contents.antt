@@ -40,8 +40,8 @@ pub data Content : Type 0 where
 -- an outcome, a ticket and a mark are of one run
 pub record AreOne (ran : Run) (t : Ticket) (m : Mark) : Type 0 where
   pub program : ran.program ≡ t.found.program
-  pub request : ran.request ≡ t.request
-  pub vars : ran.found ≡ t.found.vars
+  pub request : ran.input.request ≡ t.request
+  pub vars : ran.input.vars ≡ t.found.vars
   pub origin : m.origin ≡ t.origin
   pub serial : m.found ≡ t.serial
 

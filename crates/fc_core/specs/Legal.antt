@@ -5,7 +5,7 @@ use Rattle.fc_image.specs.Paths.{IsLongest}
 use Rattle.fc_kinds.specs.Meaning.{IsRun}
 use Rattle.fc_registry.specs.declared.job.Job.{Job}
 use Rattle.fc_registry.specs.Slots.{Present, Ticket}
-use Rattle.fc_registry.specs.Calls.{ticket_of}
+use Rattle.fc_registry.specs.Calls.{ticket_of, input_of}
 use Rattle.fc_core.specs.declared.event.Event.{Event}
 use Rattle.fc_core.specs.declared.event.Event.TheVariants.{Deliver, Take, Answer}
 use Rattle.fc_core.specs.declared.stage.Stage.{Stage}
@@ -42,7 +42,7 @@ IsLegal (Then h r) = Emits (seen h) r.event r.emitted × IsLegal h
 -- a ticket's program has a meaning for its request and the variables that were found: the run reaches its exit, in at most
 -- the steps of the longest path, which are at most the budget
 pub record IsMeant (t : Ticket) : Type 0 where
-  pub run : IsRun t.found.program t.request t.found.vars
+  pub run : IsRun t.found.program (input_of t)
   pub longest : IsLongest t.found.program.code t.found.program.cost
   pub cost : t.found.program.cost ≤ t.found.program.budget
 

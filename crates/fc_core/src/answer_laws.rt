@@ -9,17 +9,16 @@ ghost use Rattle.fc_core.specs.Replies.{bare, ran_response};
 ghost use Rattle.fc_core.specs.declared.block.BodyBlock.{BodyBlock};
 ghost use Rattle.fc_core.specs.declared.event.Event.TheVariants.{Take};
 ghost use Rattle.fc_core.specs.declared.stage.Stage.TheVariants.{ToAnswer, ToTake};
-ghost use Rattle.fc_help.specs.Request.{Request};
 ghost use Rattle.fc_help.specs.declared.request.Method.TheVariants.{Post};
-ghost use Rattle.fc_kinds.specs.Meaning.{IsRun, Program, meant};
+ghost use Rattle.fc_kinds.specs.Meaning.{Input, IsRun, Program, meant};
 ghost use Rattle.fc_registry.specs.Record.{code_class};
 ghost use Rattle.std.specs.Prelude.{ℕ, ◌⊎◌, ◌++◌, ◌<◌, ◌≤◌, Bool, List, None, Option, Some, drop, false, length, true, ◌≡◌};
 
 /// A job that has an answer after an event had it before, or the event gives it for a reason. The answer is 5.03 (Service
 /// Unavailable) only where memory is refused, where the slot changes under the job's eighth ticket, or where the slot is
-/// at its last serial; 4.04 (Not Found) only where a taking finds the slot empty. A run's code is the answer only at the commit
-/// of the run, and where the run wants to write only if it may. The receipt of an install is its
-/// program's, its version is the slot's new serial, and it tells whether the slot was empty.
+/// at its last serial; 4.04 (Not Found) only where a taking finds the slot empty. A run's code and the first block of its
+/// reply are the answer only at the commit of the run, and where the run wants to write only if it may. The receipt of an
+/// install is its program's, its version is the slot's new serial, and it tells whether the slot was empty.
 pub fn answers_have_causes()
     ensures { (h : History) (r : Entry) (k : ℕ) (c : Content)
         → answer_at (stage (seen (Then h r)) k) ≡ Some c
@@ -48,8 +47,9 @@ pub fn first_blocks_begin_the_body()
         × ((first_block body).bytes.items ≡ body) }
     ensures longer { (body : List ℕ) → 1024 < length body → ((first_block body).more ≡ true)
         × (length (first_block body).bytes.items ≡ 1024) }
-    ensures post { (p : Program) (request : Request) (vars : List ℕ) → IsRun p request vars → request.method ≡ Post
-        → (first_block (meant p request vars).reply).bytes.items ≡ (meant p request vars).reply }
+    ensures post { (p : Program) (input : Input) → IsRun p input → input.request.method ≡ Post
+        → ((first_block (meant p input).reply).more ≡ false)
+        × ((first_block (meant p input).reply).bytes.items ≡ (meant p input).reply) }
 {}
 
 /// A run whose code isn't of class 2 is answered by its code alone, whatever its reply.

@@ -43,7 +43,8 @@ pub struct Signature {
     pub most: u64,
 }
 
-/// What the helpers take and answer, by their numbers from 1 on.
+/// What the helpers take and answer, by their numbers from 1 on, as the law
+/// [`crate::laws::table_has_each_signature`] says.
 pub const HELPERS: [Signature; 7] = [
     Signature {
         arguments: Arguments::NoArgument,

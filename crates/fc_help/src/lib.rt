@@ -14,6 +14,7 @@
 #![tactic(auto)]
 
 pub mod helper;
+pub mod laws;
 pub mod request;
 pub mod vars;
 

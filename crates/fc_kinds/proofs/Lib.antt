@@ -1,4 +1,5 @@
 pub mod MeaningLaws
+pub mod ReplyCodes
 pub mod IntervalsGrow
 pub mod IntervalsProper
 pub mod IntervalsRefined

@@ -13,14 +13,14 @@ use Rattle.fc_help.specs.declared.request.Method.TheVariants.{Post}
 use Rattle.fc_help.specs.Request.{Request, request_with}
 use Rattle.fc_kinds.specs.Operations.{result_of}
 use Rattle.fc_kinds.specs.Execution.{act, helped, step}
-use Rattle.fc_kinds.specs.Meaning.{Meaning, meant}
+use Rattle.fc_kinds.specs.Meaning.{Meaning, input_with, meant}
 
 abbrev says : List ℕ → Request
 says payload = request_with Post 1 None [] payload
 
 -- what it means to a POST of this payload, with a word of variables
 abbrev means : List Insn → List ℕ → List ℕ → Meaning
-means code payload vars = meant (record { code = code; vars_size = 8; budget = 16; cost = 16 }) (says payload) vars
+means code payload vars = meant (record { code = code; vars_size = 8; budget = 16; cost = 16 }) (input_with (says payload) vars)
 
 abbrev set : ℕ → ℤ → Insn
 set r k = Alu Mov W64 r (Imm k)

@@ -1,12 +1,12 @@
 //! Laws of kinds, for the crates above: each function is a law, and its contract says it.
-ghost use Rattle.std.specs.Prelude.{List, Some, ℕ, ◌≡◌};
+ghost use Rattle.std.specs.Prelude.{List, Some, true, ℕ, ◌≡◌};
 ghost use Rattle.fc_isa.specs.Program.{IsInsn};
 ghost use Rattle.fc_isa.specs.declared.insn.Insn.{Insn};
-ghost use Rattle.fc_help.specs.Request.{Request};
+ghost use Rattle.fc_help.specs.declared.request.Method.{Method};
 ghost use Rattle.fc_kinds.specs.Kinds.{Holds, Within};
 ghost use Rattle.fc_kinds.specs.Lattice.{AreKinds, joined};
 ghost use Rattle.fc_kinds.specs.Laws.{CallsContainTheStep, EffectsAreMonotone, EffectsContainTheStep, ExitsContainTheStep, RefinementIsMonotone, RefinementKeepsWhatTakesTheWay, WaysAreMonotone, WaysRaiseByOne};
-ghost use Rattle.fc_kinds.specs.Meaning.{Meaning, Means, Program};
+ghost use Rattle.fc_kinds.specs.Meaning.{Input, Meaning, Means, Program, is_reply_code, reply_code};
 ghost use Rattle.fc_kinds.specs.Transfer.{AreShallow, enter, transfer};
 ghost use Rattle.fc_kinds.specs.Values.{Value};
 ghost use Rattle.fc_kinds.specs.declared.kind.Kind.{Kind as What};
@@ -82,5 +82,11 @@ pub fn refinement_keeps_what_takes_the_way()
 
 /// A run has at most one meaning.
 pub fn runs_have_one_meaning()
-    ensures { (p : Program) (request : Request) (vars : List ℕ) (m n : Meaning) → Means p request vars m → Means p request vars n → m ≡ n }
+    ensures { (p : Program) (input : Input) (m n : Meaning) → Means p input m → Means p input n → m ≡ n }
+{}
+
+/// Whatever R0 holds at the exit, the reply's code is its method's success (2.05 to a GET, 2.04 to a POST), 4.00, 4.03, 4.04
+/// or 5.00.
+pub fn reply_codes_are_known()
+    ensures { (method : Method) (n : ℕ) → is_reply_code method (reply_code method n) ≡ true }
 {}

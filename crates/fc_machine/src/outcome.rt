@@ -1,9 +1,11 @@
 //! What a run gave.
-ghost use Rattle.std.specs.Prelude.{length, ◌≡◌, ◌≤◌};
+ghost use Rattle.std.specs.Prelude.{length, true, ◌≡◌, ◌≤◌};
 ghost use Rattle.fc_help.specs.Helpers.{room_of};
+ghost use Rattle.fc_kinds.specs.Meaning.{is_reply_code};
 ghost use Rattle.fc_machine.specs.Ran.{meaning_of};
 
 use fc_help::{Request, Vars};
+use fc_kinds::laws::reply_codes_are_known;
 use fc_verify::Verified;
 use std::marker::Model;
 
@@ -40,30 +42,32 @@ impl<'a> Outcome<'a> {
 
     /// The request that it answered.
     pub fn request(&self) -> &'a Request
-        ensures { result.now ≡ self.now.request }
+        ensures { result.now ≡ self.now.input.request }
     {
         self.request
     }
 
     /// The variables that it found.
     pub fn found(&self) -> &'a Vars
-        ensures { result.now ≡ self.now.found }
+        ensures { result.now ≡ self.now.input.vars }
     {
         self.found
     }
 
-    /// The reply's code, of class 2, 4 or 5.
+    /// The reply's code, of class 2, 4 or 5: its method's success, 4.00, 4.03, 4.04 or 5.00.
     pub fn code(&self) -> u8
         ensures code { result ≡ (meaning_of self.now).code }
+        ensures known { is_reply_code self.now.input.request.method result ≡ true }
         ensures reply { 64 ≤ result }
     {
+        reply_codes_are_known();
         self.code
     }
 
     /// The reply's bytes, at most 4,096 to a GET and 1,024 to a POST. They lie in the frame.
     pub fn reply(&self) -> &'a [u8]
         ensures reply { result.now ≡ (meaning_of self.now).reply }
-        ensures room { length result.now ≤ room_of self.now.request.method }
+        ensures room { length result.now ≤ room_of self.now.input.request.method }
     {
         self.reply
     }

@@ -5,7 +5,7 @@ use Rattle.std.specs.List.{All}
 use Rattle.std.proofs.lemmas.Bool.{cases_lt, cases_eq, eqb-true}
 use Rattle.std.proofs.lemmas.List.{get_or-set_same, get_or-set_other, get_or-map, get_or-replicate, length-map, length-replicate, length-set}
 use Rattle.circular_buffer.specs.Buffer.{keep_last}
-use Rattle.fc_kinds.specs.Meaning.{Program, meant}
+use Rattle.fc_kinds.specs.Meaning.{Program, input_with, meant}
 use Rattle.fc_machine.specs.Ran.{Ran}
 use Rattle.fc_registry.specs.declared.shard.SlotState.{SlotState}
 use Rattle.fc_registry.specs.declared.commit.Committed.{Committed as Answer}
@@ -37,9 +37,9 @@ entry_is slot c p is link =
     record {
       serial_is = refl;
       before = link.before ∙ ap (λ (q : Present). q.vars) same;
-      after = subst (λ (q : Present). c.after ≡ (meant q.program c.request q.vars).vars) same link.after;
+      after = subst (λ (q : Present). c.after ≡ (meant q.program (input_with c.request q.vars)).vars) same link.after;
       post = link.post;
-      class = subst (λ (q : Present). code_class (meant q.program c.request q.vars).code ≡ 2) same link.class;
+      class = subst (λ (q : Present). code_class (meant q.program (input_with c.request q.vars)).code ≡ 2) same link.class;
     }
 
 abbrev with_after : Present → Commit → Present

@@ -3,7 +3,7 @@ use Rattle.std.specs.Prelude.{◌≡◌, ℕ, ◌+◌, ◌==◌, ◌&&◌, ◌<�
 use Rattle.fc_help.specs.Request.{Request, no_request}
 use Rattle.fc_help.specs.declared.request.Method.{Method}
 use Rattle.fc_help.specs.declared.request.Method.TheVariants.{Get, Post}
-use Rattle.fc_kinds.specs.Meaning.{Program, Meaning}
+use Rattle.fc_kinds.specs.Meaning.{Program, Input, input_with, Meaning}
 use Rattle.fc_machine.specs.Ran.{Ran, meaning_of}
 use Rattle.fc_registry.specs.declared.job.Ask.{Ask}
 use Rattle.fc_registry.specs.declared.job.Ask.TheVariants.{Run, Install}
@@ -64,11 +64,14 @@ is_post Post = true
 
 -- a run that answers a POST with a code of class 2 wants to write
 abbrev pub wants_by : Ran → Bool
-wants_by ran = is_post ran.request.method && (code_class (meaning_of ran).code == 2)
+wants_by ran = is_post ran.input.request.method && (code_class (meaning_of ran).code == 2)
 
--- the run of a ticket
+-- what a ticket's run is given: its request, and the variables that its taking found
+abbrev pub input_of : Ticket → Input
+input_of t = input_with t.request t.found.vars
+
 abbrev pub run_of : Ticket → Ran
-run_of t = record { program = t.found.program; request = t.request; found = t.found.vars }
+run_of t = record { program = t.found.program; input = input_of t }
 
 abbrev pub wants : Ticket → Bool
 wants t = wants_by (run_of t)
@@ -122,8 +125,8 @@ commits Ends t serial = record { answer = Ended; changes = [] }
 -- the outcome is of the ticket's program, request and variables, and the ticket's serial isn't above the slot's
 pub record IsOwn (ran : Ran) (t : Ticket) (slot : Slot) : Type 0 where
   pub program : ran.program ≡ t.found.program
-  pub request : ran.request ≡ t.request
-  pub vars : ran.found ≡ t.found.vars
+  pub request : ran.input.request ≡ t.request
+  pub vars : ran.input.vars ≡ t.found.vars
   pub serial : t.serial ≤ slot.serial
 
 -- the commit of an outcome that is the ticket's

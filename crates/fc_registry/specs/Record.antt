@@ -1,7 +1,7 @@
 -- The record of a slot's commits, and the chain that it keeps.
 use Rattle.std.specs.Prelude.{◌≡◌, ℕ, ◌+◌, ◌-◌, ◌/◌, ◌≤◌, min, List, [], ◌∷◌, length, replicate, Option, Some, None}
 use Rattle.fc_help.specs.declared.request.Method.TheVariants.{Post}
-use Rattle.fc_kinds.specs.Meaning.{Program, meant}
+use Rattle.fc_kinds.specs.Meaning.{Program, input_with, meant}
 use Rattle.fc_registry.specs.declared.ring.Entry.{Entry}
 use Rattle.fc_registry.specs.Slots.{Slot, Present}
 use Rattle.fc_registry.specs.Changes.{Change, Installed, Committed, Removed, Commit, after_changes}
@@ -16,9 +16,9 @@ pub record IsLink (slot : Slot) (c : Commit) : Type 0 where
   pub found : Present
   pub present : slot.present ≡ Some found
   pub before : c.before ≡ found.vars
-  pub after : c.after ≡ (meant found.program c.request found.vars).vars
+  pub after : c.after ≡ (meant found.program (input_with c.request found.vars)).vars
   pub post : c.request.method ≡ Post
-  pub class : code_class (meant found.program c.request found.vars).code ≡ 2
+  pub class : code_class (meant found.program (input_with c.request found.vars)).code ≡ 2
 
 -- each commit in a list of changes, the newest first, is a link: it begins with what the changes before it left
 abbrev pub IsChain : Slot → List Change → Type 0
@@ -32,9 +32,9 @@ IsChain first (Removed ∷ cs) = IsChain first cs
 pub record IsEntry (p : Program) (serial : ℕ) (vars : List ℕ) (e : Entry) : Type 0 where
   pub serial_is : e.serial ≡ serial
   pub before : e.before ≡ vars
-  pub after : e.after ≡ (meant p e.request vars).vars
+  pub after : e.after ≡ (meant p (input_with e.request vars)).vars
   pub post : e.request.method ≡ Post
-  pub class : code_class (meant p e.request vars).code ≡ 2
+  pub class : code_class (meant p (input_with e.request vars)).code ≡ 2
 
 -- entries of consecutive serials, the oldest first: each begins with what the one before it left
 abbrev pub AreEntries : Program → ℕ → List ℕ → List Entry → Type 0

@@ -20,7 +20,7 @@ use Rattle.fc_core.specs.Legal.{Emits, FindsMeaning, FoundMeans, TakesMeaning}
 use Rattle.fc_core.specs.Receiving.{AskWithin}
 use Rattle.fc_core.specs.Sound.{AllSafe, IsSafelySeen, IsSound}
 use Rattle.fc_core.specs.Stages.{Move, Scene, handed, task_moved, names, row, scene_at}
-use Rattle.fc_core.proofs.Fitting.{after_changes-append, input_of}
+use Rattle.fc_core.proofs.Fitting.{after_changes-append, is_input}
 use Rattle.fc_core.proofs.Keeping.{IsSafeMove, still_safe, still_sound}
 use Rattle.fc_server.specs.Agreement.{Parts, ShardsAgree}
 use Rattle.fc_server.specs.States.{scene_in, shards_moved}
@@ -31,7 +31,7 @@ use Rattle.fc_server.proofs.Places.{are_written, now_here, now_there, slot_here,
 
 found_means : (j : Job) (slot : Slot) (p : Option Present) → AskWithin j.ask → FitsSlot p → FoundMeans j slot.serial p
 found_means j slot None within fits = tt
-found_means j slot (Some p) within fits = record { run = fits.safe.runs.run _ _ (input_of j p _ within refl fits); longest = fits.safe.longest; cost = fits.safe.runs.cost }
+found_means j slot (Some p) within fits = record { run = fits.safe.runs.run _ (is_input j p _ within refl fits); longest = fits.safe.longest; cost = fits.safe.runs.cost }
 
 finds_by : (x : Scene) (st : Stage) → AskWithin x.job.ask → FitsSlot x.slot.present → FindsMeaning x st
 finds_by x (ToTake n) within fits = found_means x.job x.slot x.slot.present within fits

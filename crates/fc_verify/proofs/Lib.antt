@@ -6,5 +6,6 @@ pub mod Judging
 pub mod Right
 pub mod SameCode
 pub mod Sound
+pub mod Called
 mod Rows
 pub mod Lowered

@@ -1,5 +1,5 @@
 //! The verifier: an image is accepted exactly when it keeps the rules, its longest path is within its budget, and
-//! some typing of its registers exists. Then it runs with no check left in its loop.
+//! some typing of its registers exists. Then it runs without a check that it could fail.
 //!
 //! ```rust
 //! use fc_verify::{Refusal, verify};

@@ -15,7 +15,7 @@ fn check_all<R: Abort + AllocGlobal>(rt: &R, vars_size: u16, rows: &[Judged]) ->
 }
 
 // Functions that call the next one, and how many frames that needs: four may be.
-static NESTED: [Judged; 4] = [
+static NESTED: [Judged; 5] = [
     (
         b"callf 1\nexit\ncallf 1\nexit\ncallf 1\nexit\nmov64 r0, 0\nexit",
         8,
@@ -36,6 +36,12 @@ static NESTED: [Judged; 4] = [
         b"ja 1\ncallf 2\nmov64 r0, 0\nexit\ncallf 1\nexit\ncallf 1\nexit\nmov64 r0, 0\nexit",
         3,
         "accepted cost 3 budget 3\n",
+    ),
+    // a function ends where the next one starts: the calls in the text behind it aren't its own
+    (
+        b"callf 2\ncallf 5\nexit\ncallf 1\nexit\nmov64 r0, 0\nexit\ncallf 1\nexit\ncallf 1\nexit\nmov64 r0, 0\nexit",
+        13,
+        "accepted cost 13 budget 13\n",
     ),
 ];
 
@@ -307,7 +313,7 @@ fn the_variables_are_put_whole(rt: HostRuntime) -> Result<(), Fail> {
 }
 
 // What a helper may answer, shown by a load at R0 from a place in the frame.
-static ANSWERS: [Judged; 6] = [
+static ANSWERS: [Judged; 10] = [
     // 0 alone, and 0 or 1
     (
         b"call 7\nmov64 r4, r10\nadd64 r4, r0\nldxb r0, r4, -1\nexit",
@@ -321,6 +327,26 @@ static ANSWERS: [Judged; 6] = [
     ),
     (
         b"mov64 r1, 0\ncall 6\nmov64 r4, r10\nadd64 r4, r0\nldxb r0, r4, -2\nexit",
+        6,
+        "accepted cost 6 budget 6\n",
+    ),
+    (
+        b"mov64 r1, 0\nmov64 r2, 0\ncall 4\nmov64 r4, r10\nadd64 r4, r0\nldxb r0, r4, -1\nexit",
+        9,
+        "V22 slot 5\n",
+    ),
+    (
+        b"mov64 r1, 0\nmov64 r2, 0\ncall 4\nmov64 r4, r10\nadd64 r4, r0\nldxb r0, r4, -2\nexit",
+        7,
+        "accepted cost 7 budget 7\n",
+    ),
+    (
+        b"mov64 r2, 0\ncall 5\nmov64 r4, r10\nadd64 r4, r0\nldxb r0, r4, -1\nexit",
+        9,
+        "V22 slot 4\n",
+    ),
+    (
+        b"mov64 r2, 0\ncall 5\nmov64 r4, r10\nadd64 r4, r0\nldxb r0, r4, -2\nexit",
         6,
         "accepted cost 6 budget 6\n",
     ),

@@ -14,6 +14,8 @@ mod faulty;
 #[cfg(test)]
 mod isa_tests;
 #[cfg(test)]
+mod machine_tests;
+#[cfg(test)]
 mod message_tests;
 #[cfg(test)]
 mod opcode_tests;

@@ -56,6 +56,34 @@ fn install_is_run_and_kept(rt: HostRuntime) {
     );
 }
 
+// A program that answers 4.03 unless the payload begins with `k`: byte 80 of the request is the first of the payload, or 0.
+#[test]
+fn a_program_reads_the_payload(rt: HostRuntime) {
+    check_printed(
+        &rt,
+        "0 1 40030030b1700130ff464342310000070007000000000000007114500000000000720affff6b00000071a5ffff00000000b7000000000000001d54010000000000b7000000830000009500000000000000\n\
+         1 1 40010031b1720130\n\
+         2 1 40010032b1720130ff6b\n",
+        "1 60410030ff76657273696f6e3d3120636f73743d37206275646765743d3720766172733d30\n\
+         1 60830031\n\
+         1 60450032480000000000000001\n",
+    );
+}
+
+// Slot 5 replies the first 83 bytes of a GET with Content-Format 0x0102, the queries `a` and `b=c`, and three bytes of
+// payload: the method, the slot, the payload's length, the format, that it is said, the query's length, eight zeros, the query
+// in 64 bytes, and the payload.
+#[test]
+fn a_program_reads_its_request(rt: HostRuntime) {
+    check_printed(
+        &rt,
+        "0 1 40030001b1700135ff46434231000004000400000000000000b7020000530000008500000005000000b7000000000000009500000000000000\n\
+         1 1 40010002b1720135120102316103623d63ff0a0b0c\n",
+        "1 60410001ff76657273696f6e3d3120636f73743d34206275646765743d3420766172733d30\n\
+         1 60450002480000000000000001ff010503000201010500000000000000006126623d6300000000000000000000000000000000000000000000000000000000000000000000000000000000000000000000000000000000000000000000000a0b0c\n",
+    );
+}
+
 #[test]
 fn refused_image_is_told_its_rule(rt: HostRuntime) {
     // Fifteen bytes: V01 slot 0.

@@ -18,7 +18,7 @@ row c =
     let made = c.run-outcome.ensures.made in
     let w = c.commit-committed.ensures in
     commit_row c.run-outcome.result c.args.ticket.now (slot_in c.args.shard.now c.args.ticket.now.origin.slot) c.commit-committed.result w.after
-    (ap (λ (r : Ran). r.program) made ∙ c.program.ensures) (ap (λ (r : Ran). r.request) made ∙ c.request.ensures) (ap (λ (r : Ran). r.found) made ∙ c.vars.ensures.vars)
+    (ap (λ (r : Ran). r.program) made ∙ c.program.ensures) (ap (λ (r : Ran). r.input.request) made ∙ c.request.ensures) (ap (λ (r : Ran). r.input.vars) made ∙ c.vars.ensures.vars)
     c.requires.given w.commit
 
 pub returns-clause-stage : goal.returns-clause-stage
