@@ -31,9 +31,10 @@ rows =
     ∷ once option.PROXY_SCHEME 1 255 None
     ∷ []
 
--- a GET runs a program, and a PUT installs one
+-- a GET and a POST run a program, and a PUT installs one
 abbrev pub serves : Resource → Method → Bool
 serves (Run n) Get = true
+serves (Run n) Post = true
 serves (Program n) Put = true
 serves _ _ = false
 

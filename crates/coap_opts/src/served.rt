@@ -95,7 +95,7 @@ pub(crate) fn serves(resource: Resource, method: Method) -> bool
     ensures { result ≡ spec.serves resource method }
 {
     match (resource, method) {
-        (Resource::Run(_), Method::Get) => true,
+        (Resource::Run(_), Method::Get | Method::Post) => true,
         (Resource::Program(_), Method::Put) => true,
         _ => false,
     }

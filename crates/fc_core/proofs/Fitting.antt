@@ -141,6 +141,7 @@ writes_link slot t g e =
       present = writes_found slot t g e;
       before = refl;
       after = refl;
+      notice = refl;
       post = post.0;
       class = eqb-true (code_class (meaning_at t).code) 2 post.1;
     }

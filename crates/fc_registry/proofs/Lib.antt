@@ -2,3 +2,4 @@ pub mod Writes
 pub mod Installs
 pub mod Rings
 pub mod Outcomes
+pub mod Noticed

@@ -121,6 +121,7 @@ commit_link slot t w current =
       present = current.present;
       before = refl;
       after = refl;
+      notice = refl;
       post = post.0;
       class = eqb-true (code_class (meaning_at t).code) 2 post.1;
     }

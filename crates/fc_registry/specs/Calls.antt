@@ -111,9 +111,9 @@ pub record HasGiven (slot : Slot) (t : Ticket) : Type 0 where
 abbrev pub mark_of : Ticket → ℕ → Bool → Mark
 mark_of t serial changed = record { origin = t.origin; found = t.serial; serial = serial; changed = changed }
 
--- a commit that writes leaves just the variables that the run means
+-- a commit that writes leaves just the variables that the run means, and gives its notice
 abbrev pub commit_of : Ticket → Commit
-commit_of t = record { request = t.request; before = t.found.vars; after = (meaning_at t).vars }
+commit_of t = record { request = t.request; before = t.found.vars; after = (meaning_at t).vars; notice = (meaning_at t).notice }
 
 -- the commit at a slot of this serial
 abbrev pub commits : CommitOutcome → Ticket → ℕ → Called Committed

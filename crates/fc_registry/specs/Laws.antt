@@ -1,7 +1,7 @@
 -- What a slot's serials, version and variables say of its changes.
-use Rattle.std.specs.Prelude.{◌≡◌, ℕ, ◌+◌, List, [], ◌∷◌, ◌++◌, replicate}
+use Rattle.std.specs.Prelude.{◌≡◌, ℕ, ◌+◌, if◌then◌else◌, List, [], ◌∷◌, ◌++◌, length, replicate}
 use Rattle.fc_registry.specs.Slots.{Present, new_slot}
-use Rattle.fc_registry.specs.Changes.{Change, Installed, Committed, Removed, after_changes}
+use Rattle.fc_registry.specs.Changes.{Change, Installed, Committed, Removed, after_changes, is_noticed}
 
 -- no install and no removal is among the changes
 abbrev pub AllCommits : List Change → Type 0
@@ -16,6 +16,11 @@ vars_left vars [] = vars
 vars_left vars (Committed c ∷ cs) = c.after
 vars_left vars (Installed p ∷ cs) = vars_left vars cs
 vars_left vars (Removed ∷ cs) = vars_left vars cs
+
+-- the serial of the newest change that observers are told of, or the first serial where there is none
+abbrev pub noticed_serial : ℕ → List Change → ℕ
+noticed_serial serial [] = serial
+noticed_serial serial (c ∷ cs) = if is_noticed c then serial + length (c ∷ cs) else noticed_serial serial cs
 
 -- the changes of a slot, the newest first, hold the install of this program, and only commits after it: the version is the
 -- serial of that install, and the variables are zeros or what the newest commit left

@@ -10,13 +10,14 @@ use Rattle.fc_registry.specs.Changes.{Change, Installed, Committed, Removed, Com
 abbrev pub code_class : ℕ → ℕ
 code_class code = code / 32
 
--- a commit found the program and the variables that the slot then held, and left just what the program means there: it
--- answered a POST, with a code of class 2
+-- a commit found the program and the variables that the slot then held, and left just what the program means there, with its
+-- notice: it answered a POST, with a code of class 2
 pub record IsLink (slot : Slot) (c : Commit) : Type 0 where
   pub found : Present
   pub present : slot.present ≡ Some found
   pub before : c.before ≡ found.vars
   pub after : c.after ≡ (meant found.program (input_with c.request found.vars)).vars
+  pub notice : c.notice ≡ (meant found.program (input_with c.request found.vars)).notice
   pub post : c.request.method ≡ Post
   pub class : code_class (meant found.program (input_with c.request found.vars)).code ≡ 2
 

@@ -20,9 +20,11 @@ abbrev pub vars_in : Option Present → List ℕ
 vars_in None = []
 vars_in (Some p) = p.vars
 
--- a slot: its serial counts its changes, and its ring holds the last eight commits since its install, the oldest first
+-- a slot: its serial counts its changes, the noticed one is that of the last change that observers are told of, and its ring
+-- holds the last eight commits since its install, the oldest first
 pub record Slot : Type 0 where
   pub serial : ℕ
+  pub noticed : ℕ
   pub present : Option Present
   pub ring : List Entry
 
@@ -32,7 +34,7 @@ last_serial = 9223372036854775807
 
 -- a slot that nothing was installed in, at its first serial
 abbrev pub new_slot : ℕ → Slot
-new_slot serial = record { serial = serial; present = None; ring = [] }
+new_slot serial = record { serial = serial; noticed = serial; present = None; ring = [] }
 
 -- a shard: the greatest moment handed to it, and its slots, of which the place n / 8 is that of slot n
 pub record Shard : Type 0 where

@@ -9,4 +9,4 @@ present_of None = None
 present_of (Some b) = Some (record { program = b.program.value; version = b.version; vars = b.vars })
 
 abbrev pub as_seen : SlotState → Slot
-as_seen s = record { serial = s.serial; present = present_of s.body; ring = s.ring }
+as_seen s = record { serial = s.serial; noticed = s.noticed; present = present_of s.body; ring = s.ring }

@@ -1,14 +1,23 @@
 //! What the slots promise of their changes: each function is a law, and its contract says it.
 ghost use Rattle.fc_registry.specs.Changes.{Change, after_changes};
-ghost use Rattle.fc_registry.specs.Laws.{FollowsInstall};
+ghost use Rattle.fc_registry.specs.Laws.{FollowsInstall, noticed_serial};
 ghost use Rattle.fc_registry.specs.Slots.{Present, Slot, Ticket, new_slot};
 ghost use Rattle.fc_registry.specs.declared.commit.CommitOutcome.{CommitOutcome};
 ghost use Rattle.fc_registry.specs.Calls.{HasGiven, ComesTo, outcome};
-ghost use Rattle.std.specs.Prelude.{List, Some, length, ℕ, ◌+◌, ◌≡◌};
+ghost use Rattle.std.specs.Prelude.{List, Some, length, ℕ, ◌+◌, ◌≤◌, ◌≡◌};
 
 /// A slot's serial counts its changes, from its first serial on.
 pub fn serials_count_changes()
     ensures { (serial : ℕ) (cs : List Change) → (after_changes (new_slot serial) cs).serial ≡ serial + length cs }
+{}
+
+/// A slot's noticed serial is that of its newest change that observers are told of: an install, a removal, or a commit whose
+/// run gave a notice. It is its first serial where there is none, and never above its serial.
+pub fn noticed_serials_are_of_notices()
+    ensures serial { (serial : ℕ) (cs : List Change) → (after_changes (new_slot serial) cs).noticed
+        ≡ noticed_serial serial cs }
+    ensures limit { (serial : ℕ) (cs : List Change) → (after_changes (new_slot serial) cs).noticed
+        ≤ (after_changes (new_slot serial) cs).serial }
 {}
 
 /// The program in a slot is that of the newest install, with no removal since. Its version is the serial of that

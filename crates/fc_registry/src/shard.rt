@@ -26,6 +26,7 @@ pub const LAST_SERIAL: u64 = 9_223_372_036_854_775_807;
 #[derive(Drop)]
 struct SlotState {
     serial: u64,
+    noticed: u64,
     body: Option<Body>,
     ring: Ring,
 }
@@ -107,7 +108,7 @@ impl Shard {
     /// Commits a run, at a moment in milliseconds: it writes where the run answered a POST with a code of class 2,
     /// nothing has changed since the ticket was taken, and the slot's serials aren't at their end. `Overtaken`, `Ended`
     /// and `Stranger` leave the slot as it was. The shard advances to the moment, whatever it answers. What a GET's run wrote
-    /// to its variables is dropped, and a notice has no effect yet.
+    /// to its variables is dropped, and so is its notice; that of a commit that writes makes the new serial the noticed one.
     pub fn commit(&mut self, now: u64, outcome: &Outcome<'_>, ticket: &Ticket) -> Committed
         requires { IsOwned self.old ticket.now.origin.slot }
         ensures { CommitsTo outcome.now ticket.now self.old now result self.new }
@@ -134,6 +135,15 @@ impl Shard {
     {
         let state = &self.slots[slot.place()];
         serial_of(state)
+    }
+
+    /// The serial of the last change of a slot of this shard that observers are told of: an install, or a commit whose run
+    /// gave a notice. It is the first serial before any.
+    pub fn noticed(&self, slot: SlotNumber) -> u64
+        ensures { result ≡ (slot_in self.entry.now slot).noticed }
+    {
+        let state = &self.slots[slot.place()];
+        noticed_of(state)
     }
 
     /// The version of the program in a slot, where it has one.
@@ -167,6 +177,7 @@ fn empty_slot(alloc: Global, serial: u64) -> Result<SlotState, AllocError>
 {
     Ok(SlotState {
         serial,
+        noticed: serial,
         body: None,
         ring: Ring::new(alloc)?,
     })
@@ -176,6 +187,12 @@ fn serial_of(slot: &SlotState) -> u64
     ensures { result ≡ (as_seen slot.now).serial }
 {
     slot.serial
+}
+
+fn noticed_of(slot: &SlotState) -> u64
+    ensures { result ≡ (as_seen slot.now).noticed }
+{
+    slot.noticed
 }
 
 fn version_of(slot: &SlotState) -> Option<u64>
@@ -238,6 +255,7 @@ fn install(slot: &mut SlotState, program: Arc<Verified>) -> Made
     let vars = Vars::zeros(program.vars_size());
     let serial = slot.serial + 1;
     slot.serial = serial;
+    slot.noticed = serial;
     slot.ring.clear();
     slot.body = Some(Body {
         program,
@@ -326,6 +344,9 @@ fn write(slot: &mut SlotState, outcome: &Outcome<'_>, ticket: &Ticket) -> Mark
         ((commits CommitOutcome.Writes ticket.now (as_seen slot.old).serial).changes) }
 {
     slot.serial += 1;
+    if outcome.notice() {
+        slot.noticed = slot.serial;
+    }
     if let Some(body) = &mut slot.body {
         body.vars = vars_after(outcome);
     }
