@@ -2,33 +2,7 @@
 #![tactic(auto)]
 
 #[cfg(test)]
-mod asm_tests;
-#[cfg(test)]
-mod call_tests;
-#[cfg(test)]
 mod command_tests;
-#[cfg(test)]
-mod event_tests;
-#[cfg(test)]
-mod faulty;
-#[cfg(test)]
-mod isa_tests;
-#[cfg(test)]
-mod machine_tests;
-#[cfg(test)]
-mod message_tests;
-#[cfg(test)]
-mod opcode_tests;
-#[cfg(test)]
-mod play_tests;
-#[cfg(test)]
-mod reply_tests;
-#[cfg(test)]
-mod request_tests;
-#[cfg(test)]
-mod tool_tests;
-#[cfg(test)]
-mod tooling;
 
 use clap::{Command, Error};
 use fc_service::Status;

@@ -64,7 +64,7 @@ fn request_of(bytes: &[u8]) -> Option<Request<'_>> {
     }
 }
 
-static TYPE_CASES: [(&[u8], Outcome); 15] = [
+static TYPE_CASES: [(&[u8], Outcome); 16] = [
     // Empty messages.
     (b"\x40\x00\x00\x07", Outcome::Rejected),
     (b"\x50\x00\x00\x07", Outcome::Ignored),
@@ -78,7 +78,8 @@ static TYPE_CASES: [(&[u8], Outcome); 15] = [
     // Each method at its resources, and where it isn't served.
     (b"\x40\x01\x00\x01\xb1\x72\x01\x30", Outcome::Accepted),
     (b"\x50\x03\x00\x01\xb1\x70\x02\x36\x33", Outcome::Accepted),
-    (b"\x40\x02\x00\x01\xb1\x72\x01\x30", METHOD_NOT_ALLOWED),
+    (b"\x40\x02\x00\x01\xb1\x72\x01\x30", Outcome::Accepted),
+    (b"\x40\x02\x00\x01\xb1\x70\x01\x30", METHOD_NOT_ALLOWED),
     (b"\x40\x04\x00\x01\xb1\x70\x01\x30", METHOD_NOT_ALLOWED),
     (b"\x40\x03\x00\x01\xb1\x72\x01\x30", METHOD_NOT_ALLOWED),
     (b"\x40\x01\x00\x01\xb1\x70\x01\x30", METHOD_NOT_ALLOWED),
