@@ -1,8 +1,8 @@
 -- A commit writes exactly where its slot is as the job's last taking found it.
-use Rattle.std.proofs.Common.{◌≡◌, ℕ, ◌+◌, ◌<◌, ◌≤◌, List, [], ◌∷◌, ◌++◌, length, Bool, true, false, Option, Some, None, refl, sym, ap, ◌∙◌, subst, ⊎_elim, arith, if◌then◌else◌, length-append, append_assoc}
+use Rattle.std.proofs.Common.{◌≡◌, ℕ, ◌+◌, ◌<◌, ◌≤◌, ◌⊎◌, List, [], ◌∷◌, ◌++◌, length, Bool, true, false, Option, Some, None, refl, sym, ap, ◌∙◌, subst, ⊎_elim, arith, if◌then◌else◌, length-append, append_assoc}
 use Rattle.std.specs.Prelude.{nat_lt, ◌==◌, ◌&&◌}
 use borrow.Author.Tests.{ltb-true, lt-ltb}
-use Rattle.std.proofs.lemmas.Bool.{cases_lt, eqb-true, eq-eqb}
+use Rattle.std.proofs.lemmas.Bool.{cases_lt, eqb-true, eq-eqb, ne_eqb}
 use Rattle.std.proofs.lemmas.List.{nil_from_length}
 use Rattle.coap_msg.specs.declared.types.Emission.{Emission}
 use Rattle.fc_help.specs.declared.request.Method.{Method}
@@ -141,6 +141,41 @@ written_outcome h k n t is w =
 pub commit_writes : (h : History) (k now n : ℕ) (o : Option Emission) (t : Ticket) → stage (seen h) k ≡ ToCommit n t → IsWritten h k t → (seen (Then h (did (Commit k now) o))).changes (slot_of (seen h) k) ≡ Committed (commit_of t) ∷ (seen h).changes (slot_of (seen h) k)
 unfolding seen
 commit_writes h k now n o t is w = commit_changes (seen h) k now n o t Writes is (written_outcome h k n t is w)
+
+-- a GET and a code of another class than 2 want nothing written
+get_wants : (m : Method) (b : Bool) → m ≡ Get → (is_post m && b) ≡ false
+get_wants Get b g = refl
+get_wants Post b g = absurd (cc)
+
+error_wants : (m : Method) (a b : ℕ) → (a ≡ b → ⊥) → (is_post m && (a == b)) ≡ false
+error_wants Get a b not = refl
+error_wants Post a b not = ne_eqb a b not
+
+unwanted : (t : Ticket) → (t.request.method ≡ Get) ⊎ (code_class (meaning_at t).code ≡ 2 → ⊥) → wants t ≡ false
+unwanted t e = ⊎_elim
+    (λ (g : t.request.method ≡ Get). get_wants t.request.method (code_class (meaning_at t).code == 2) g)
+    (λ (not : code_class (meaning_at t).code ≡ 2 → ⊥). error_wants t.request.method (code_class (meaning_at t).code) 2 not)
+    e
+
+keeps_unwanted : (t : Ticket) (slot : Slot) (w : Bool) → wants t ≡ w → w ≡ false → outcome t slot ≡ Keeps
+keeps_unwanted t slot w is e = ap (λ (b : Bool). outcome_by b (slot.serial == t.serial) (nat_lt slot.serial last_serial)) (is ∙ e)
+
+-- a slot whose job, or another's, commits what isn't wanted
+kept_if : (s : Seen) (e : Event) (k n : ℕ) (b : Bool) (at : Scene) → (row e at).changes ≡ [] → (if b then (row e at).changes ++ s.changes n else s.changes n) ≡ s.changes n
+kept_if s e k n true at is = ap (λ (cs : List Change). cs ++ s.changes n) is
+kept_if s e k n false at is = refl
+
+row_keeps : (job : Job) (slot : Slot) (k now count : ℕ) (t : Ticket) (st : Stage) → st ≡ ToCommit count t → outcome t slot ≡ Keeps → (row (Commit k now) (at job slot st)).changes ≡ []
+row_keeps job slot k now count t st is keeps = ap (λ (x : Stage). (row (Commit k now) (at job slot x)).changes) is ∙ ap (λ (o : CommitOutcome). (committed o count t now).changes) keeps
+
+unwanted_at : (s : Seen) (k now count n : ℕ) (o : Option Emission) (t : Ticket) → stage s k ≡ ToCommit count t → wants t ≡ false → (and_then (did (Commit k now) o) s).changes n ≡ s.changes n
+unwanted_at s k now count n o t is w =
+    let slot = slot_at s (slot_of s k) in
+    kept_if s (Commit k now) k n (slot_of s k == n) (at (job s k) slot (stage s k)) (row_keeps (job s k) slot k now count t (stage s k) is (keeps_unwanted t slot (wants t) refl w))
+
+pub unwanted_changes_nothing : (r : Entry) (s : Seen) (k now count n : ℕ) (t : Ticket) → r.event ≡ Commit k now → stage s k ≡ ToCommit count t → (t.request.method ≡ Get) ⊎ (code_class (meaning_at t).code ≡ 2 → ⊥) → (and_then r s).changes n ≡ s.changes n
+unwanted_changes_nothing r s k now count n t is st e =
+    subst (λ (x : Event). (and_then (did x r.emitted) s).changes n ≡ s.changes n) (sym is) (unwanted_at s k now count n r.emitted t st (unwanted t e))
 
 wants_post : (m : Method) (b : Bool) → (is_post m && b) ≡ true → (m ≡ Post) × (b ≡ true)
 wants_post Get b e = absurd (cc)

@@ -7,10 +7,11 @@ ghost use Rattle.fc_core.specs.SlotLaws.{AllOfImages, ChangesBy, IsOfImage, IsTo
 ghost use Rattle.fc_core.specs.Stages.{image_of, names};
 ghost use Rattle.fc_core.specs.declared.event.Event.TheVariants.{Commit, Install};
 ghost use Rattle.fc_core.specs.declared.stage.Stage.TheVariants.{ToCommit, ToRaise};
+ghost use Rattle.fc_help.specs.declared.request.Method.TheVariants.{Get};
 ghost use Rattle.fc_kinds.specs.Meaning.{Program};
-ghost use Rattle.fc_registry.specs.Calls.{commit_of};
+ghost use Rattle.fc_registry.specs.Calls.{commit_of, meaning_at};
 ghost use Rattle.fc_registry.specs.Changes.{Committed};
-ghost use Rattle.fc_registry.specs.Record.{IsChain};
+ghost use Rattle.fc_registry.specs.Record.{IsChain, code_class};
 ghost use Rattle.fc_registry.specs.Slots.{Present, Ticket, new_slot};
 ghost use Rattle.fc_verify.specs.Accepted.{Accepts};
 ghost use Rattle.fc_verify.specs.Judged.{judged};
@@ -63,6 +64,13 @@ pub fn commits_write_where_nothing_changed()
     ensures serial { (h : History) (k n : ℕ) (t : Ticket) → stage (seen h) k ≡ ToCommit n t
         → IsUnchanged (takings_of h k) ((seen h).changes (slot_of (seen h) k))
         → (slot_at (seen h) (slot_of (seen h) k)).serial ≡ t.serial }
+{}
+
+/// The commit of a GET's run, and that of a run whose code isn't of class 2, changes no slot.
+pub fn gets_and_errors_change_nothing()
+    ensures { (r : Entry) (s : Seen) (k now count n : ℕ) (t : Ticket) → r.event ≡ Commit k now
+        → stage s k ≡ ToCommit count t → (t.request.method ≡ Get) ⊎ (code_class (meaning_at t).code ≡ 2 → ⊥)
+        → (and_then r s).changes n ≡ s.changes n }
 {}
 
 /// The commits of each slot are a chain: each finds what the changes before it left, and leaves what its program means
