@@ -4,7 +4,6 @@ pub mod Levels
 pub mod RunLaws
 pub mod Judging
 pub mod Right
-pub mod SameCode
 pub mod Sound
 pub mod Called
 mod Rows

@@ -30,12 +30,13 @@ pub fn verify(alloc: Global, image: &[u8]) -> Result<Verified, Refusal>
     let head = read_head(image)?;
     let room = Vec::with_capacity(alloc, head.count() as usize)?;
     let ops = Vec::with_capacity(alloc, head.count() as usize)?;
+    let slots = Vec::from_slice(alloc, slots(image))?;
     let code = read_code(alloc, image, &head)?;
     shape_fault_is_first();
     let cost = shape(&head, &code)?;
     let states = typed(head.vars_size(), &code, room)?;
     let ops = lower(&code, ops);
-    Ok(Verified::new(&head, code, ops, cost, &states))
+    Ok(Verified::new(&head, code, ops, slots, cost, &states))
 }
 
 /// What the header says.
