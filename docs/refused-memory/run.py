@@ -1,12 +1,12 @@
 #!/usr/bin/env python3
-"""Runs fcd's tests of the assembler, the instructions and the tools, and the programs, once with ample memory and once with
+"""Runs the tests of the assembler, the instructions, the tools and the calls, and the programs, once with ample memory and once with
 each request for memory refused.
 
-Run it at the top of the repository, behind `rt test` and `rt run` in crates/fcd and `rt run` in crates/fcasm, which build
+Run it at the top of the repository, behind `rt test` in crates/fctests and `rt run` in crates/fcd and crates/fcasm, which build
 what it runs. It needs a C compiler. It prints a line for each test and each command, and ends with 1 where an outcome is not
 one that refused memory may have: a test that passes, or that ends with the error that memory was refused; a command that ends
-as with ample memory, or with status 3; and `fcd play` where it replies 5.03. The tests of plays and of events are left out:
-they judge replies, which refused memory changes, so that their asserts fail then.
+as with ample memory, or with status 3; and `fcd play` where it replies 5.03. The tests of plays, of replies and of events are left
+out: they judge replies, which refused memory changes, so that their asserts fail then.
 """
 import collections
 import os
@@ -15,12 +15,12 @@ import sys
 import tempfile
 
 HERE = os.path.dirname(os.path.realpath(__file__))
-TESTS = "crates/fcd/out/fcd_tests"
+TESTS = "crates/fctests/out/fctests_tests"
 FCASM = "crates/fcasm/out/fcasm"
 FCD = "crates/fcd/out/fcd"
 
 # The modules whose tests are run.
-TRIED = ("asm_tests::", "isa_tests::", "tool_tests::")
+TRIED = ("asm_tests::", "call_tests::", "isa_tests::", "tool_tests::")
 
 # Two of them read what a failed read or write tells: where memory is refused first, that is told.
 LEFT_OUT = ("tool_tests::a_failed_reader_is_status_3", "tool_tests::a_failed_writer_is_status_3")

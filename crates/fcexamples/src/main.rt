@@ -21,26 +21,28 @@ struct Example {
     requests: &'static str,
 }
 
-/// GETs of slot 0: what they bring is told beside them.
+/// Requests of slot 0: what they bring is told beside them.
 static EXAMPLES: [Example; 3] = [
+    // two POSTs, and a GET
     Example {
         file: "counter.s",
         vars_size: 8,
         budget: 15,
-        requests: "1 1 40010002b1720130\n",
+        requests: "1 1 40020002b1720130\n1 1 40020003b1720130\n1 1 40010004b1720130\n",
     },
-    // the payloads 101 and 100, and none
+    // GETs with the payloads 101 and 100, and with none
     Example {
         file: "threshold.s",
         vars_size: 0,
         budget: 13,
         requests: "1 1 40010002b1720130ff65\n1 1 40010003b1720130ff64\n1 1 40010004b1720130\n",
     },
+    // a POST of 101, and a GET
     Example {
         file: "level.s",
         vars_size: 8,
         budget: 39,
-        requests: "1 1 40010002b1720130\n",
+        requests: "1 1 40020002b1720130ff65\n1 1 40010003b1720130\n",
     },
 ];
 
