@@ -1,0 +1,6 @@
+//! Workers.
+#![tactic(auto)]
+
+pub mod bench;
+
+pub use bench::Bench;
