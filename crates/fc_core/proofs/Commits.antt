@@ -7,15 +7,19 @@ use Rattle.fc_registry.specs.declared.commit.Committed.{Committed}
 use Rattle.fc_registry.specs.declared.commit.Committed.TheVariants.{Done, Overtaken, Ended, Stranger}
 use Rattle.fc_registry.specs.Slots.{Shard, Slot, Ticket, slot_in, with_slot}
 use Rattle.fc_registry.specs.Changes.{after_changes}
-use Rattle.fc_registry.specs.Calls.{IsCommit, IsOwnCommit, IsOwn, HasGiven, outcome, commits}
+use Rattle.fc_registry.specs.Calls.{IsCommit, IsOwnCommit, IsOwn, HasGiven, outcome, commits, run_of}
 use Rattle.fc_registry.proofs.Outcomes.{by_serials}
 use Rattle.fc_core.specs.Contents.{AreDone}
 use Rattle.fc_core.specs.Stages.{after_commit, committed, shard_moved}
 
+-- an outcome of the ticket's program, request and variables is the ticket's run
+own_run : (ran : Ran) (t : Ticket) (slot : Slot) → IsOwn ran t slot → ran ≡ run_of t
+own_run ran t slot own = λ i. record { program = own.program i; input = record { request = own.request i; vars = own.vars i } }
+
 -- the mark of a commit that is done is of the outcome and the ticket
 done_by : (ran : Ran) (t : Ticket) (slot : Slot) (o : CommitOutcome) → IsOwn ran t slot → AreDone ran t (commits o t slot.serial).answer
-done_by ran t slot Writes own = record { program = own.program; request = own.request; vars = own.vars; origin = refl; serial = refl }
-done_by ran t slot Keeps own = record { program = own.program; request = own.request; vars = own.vars; origin = refl; serial = refl }
+done_by ran t slot Writes own = record { run = own_run ran t slot own; origin = refl; serial = refl }
+done_by ran t slot Keeps own = record { run = own_run ran t slot own; origin = refl; serial = refl }
 done_by ran t slot Overtakes own = tt
 done_by ran t slot Ends own = tt
 

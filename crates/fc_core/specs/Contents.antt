@@ -7,6 +7,7 @@ use Rattle.fc_registry.specs.declared.job.Origin.{Origin}
 use Rattle.fc_registry.specs.declared.commit.Committed.{Committed}
 use Rattle.fc_registry.specs.declared.commit.Committed.TheVariants.{Done}
 use Rattle.fc_registry.specs.Slots.{Ticket, Mark}
+use Rattle.fc_registry.specs.Calls.{run_of}
 use Rattle.fc_machine.specs.Ran.{Ran as Run}
 use Rattle.fc_kinds.specs.Meaning.{Meaning}
 use Rattle.fc_core.specs.Blocks.{first_block}
@@ -37,11 +38,9 @@ pub data Content : Type 0 where
   -- only the typing was missing
   Untyped : Content
 
--- an outcome, a ticket and a mark are of one run
+-- an outcome, a ticket and a mark are of one run: the ticket's
 pub record AreOne (ran : Run) (t : Ticket) (m : Mark) : Type 0 where
-  pub program : ran.program ≡ t.found.program
-  pub request : ran.input.request ≡ t.request
-  pub vars : ran.input.vars ≡ t.found.vars
+  pub run : ran ≡ run_of t
   pub origin : m.origin ≡ t.origin
   pub serial : m.found ≡ t.serial
 
