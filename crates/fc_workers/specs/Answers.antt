@@ -45,3 +45,7 @@ AreTallied before after n changes = (shard : ℕ) → shard < 8 → after shard 
 -- a count of 64 bits stops at its greatest
 abbrev pub saturated : ℕ → ℕ
 saturated count = min count 18446744073709551615
+
+-- a count of 64 bits has risen by so many
+abbrev pub HasRisen : ℕ → ℕ → ℕ → Type 0
+HasRisen before n after = saturated after ≡ saturated (before + n)

@@ -1,6 +1,6 @@
 -- What is done with a job whose shard others change too: a list of calls, the newest first, each at the stage that needs it,
 -- and answered as its shard answers at some slot.
-use Rattle.std.specs.Prelude.{◌≡◌, ℕ, ◌+◌, ◌≤◌, if◌then◌else◌, List, [], ◌∷◌, map, sum}
+use Rattle.std.specs.Prelude.{◌≡◌, ℕ, ◌+◌, ◌≤◌, List, [], ◌∷◌}
 use Rattle.fc_kinds.specs.Meaning.{Program}
 use Rattle.fc_verify.specs.Accepted.{Accepts}
 use Rattle.fc_verify.specs.Judged.{judged}
@@ -19,7 +19,7 @@ use Rattle.fc_core.specs.declared.stage.Stage.TheVariants.{ToTake, ToCommit, ToI
 use Rattle.fc_core.specs.Contents.{Content, IsOf}
 use Rattle.fc_core.specs.Ends.{refused}
 use Rattle.fc_core.specs.Stages.{first_stage, image_of, receipt_of, took, after_commit, made, takings}
-use Rattle.fc_workers.specs.Answers.{IsSomeTaking, IsSomeCommit, IsSomeInstall, AreTallied, commit_changes, install_changes, saturated}
+use Rattle.fc_workers.specs.Answers.{IsSomeTaking, IsSomeCommit, IsSomeInstall, AreTallied, HasRisen, commit_changes, install_changes}
 use Rattle.fc_workers.specs.declared.work.Progress.{Progress}
 
 -- a call for a job, and what it answered
@@ -83,13 +83,14 @@ overtaking_by other = 0
 
 -- how many of these the calls have
 abbrev pub total : (Call → ℕ) → List Call → ℕ
-total by calls = sum (map by calls)
+total by [] = 0
+total by (call ∷ calls) = total by calls + by call
 
 -- a worker's counts, before and after these calls for a job of slot n
 pub record HasCounted {T : Type 0} (changes : T → ℕ → ℕ) (n : ℕ) (calls : List Call) (before after : Progress T) : Type 0 where
   pub tallies : AreTallied (changes before.tallies) (changes after.tallies) n (total changes_by calls)
-  pub refusals : after.refusals ≡ saturated (before.refusals + total refusal_by calls)
-  pub overtakings : after.overtakings ≡ saturated (before.overtakings + total overtaking_by calls)
+  pub refusals : HasRisen before.refusals (total refusal_by calls) after.refusals
+  pub overtakings : HasRisen before.overtakings (total overtaking_by calls) after.overtakings
 
 -- a job's calls, from its first stage to this answer
 pub record IsWorkedOff {T : Type 0} (changes : T → ℕ → ℕ) (job : Job) (content : Content) (before after : Progress T) : Type 0 where

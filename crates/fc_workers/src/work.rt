@@ -5,7 +5,7 @@ ghost use Rattle.fc_verify.specs.Accepted.{Accepts, IsAccepted};
 ghost use Rattle.fc_core.specs.Stages.{image_of};
 ghost use Rattle.fc_core.specs.declared.stage.Stage.TheVariants.{ToTake, ToCommit, ToInstall};
 ghost use Rattle.fc_workers.specs.Answers.{saturated};
-ghost use Rattle.fc_workers.specs.Work.{IsWorkedOff};
+ghost use Rattle.fc_workers.specs.Work.{Commits, IsWorkedOff, Takes, overtaking_by, refusal_by};
 ghost use Rattle.fc_workers.specs.Steps.{IsReady, IsStep};
 
 use crate::bench::Bench;
@@ -27,16 +27,31 @@ pub struct Progress<T: Drop> {
 }
 
 impl<T: Drop> Progress<T> {
+    // Counts a taking, if memory was refused.
+    fn count_taking(&mut self, taken: &Taken)
+        ensures { self.new ≡ record self.old {
+          refusals = saturated (self.old.refusals + refusal_by (Takes taken.now));
+        } }
+    {
+        let refused = matches!(taken, Taken::Refused);
+        self.refusals = self.refusals.saturating_add(u64::from(refused));
+    }
+
+    // Counts a commit, if it was overtaken.
+    fn count_commit(&mut self, committed: &Committed)
+        ensures { self.new ≡ record self.old {
+          overtakings = saturated (self.old.overtakings + overtaking_by (Commits committed.now));
+        } }
+    {
+        let overtaken = matches!(committed, Committed::Overtaken);
+        self.overtakings = self.overtakings.saturating_add(u64::from(overtaken));
+    }
+
+    // Counts an install that was refused memory.
     fn count_refusal(&mut self)
         ensures { self.new ≡ record self.old { refusals = saturated (self.old.refusals + 1) } }
     {
         self.refusals = self.refusals.saturating_add(1);
-    }
-
-    fn count_overtaking(&mut self)
-        ensures { self.new ≡ record self.old { overtakings = saturated (self.old.overtakings + 1) } }
-    {
-        self.overtakings = self.overtakings.saturating_add(1);
     }
 }
 
@@ -89,9 +104,7 @@ impl<'a, B: Bench, G: Gate, W: Wire, M: Moments> Workshop<'a, B, G, W, M> {
         ensures ended { B.ended progress.new.tallies ≡ B.ended progress.old.tallies }
     {
         let taken = self.bench.take(rt, job);
-        if matches!(&taken, Taken::Refused) {
-            progress.count_refusal();
-        }
+        progress.count_taking(&taken);
         Stage::took(count, taken)
     }
 
@@ -114,9 +127,7 @@ impl<'a, B: Bench, G: Gate, W: Wire, M: Moments> Workshop<'a, B, G, W, M> {
         let committed = self
             .bench
             .commit(rt, now, &outcome, &ticket, &mut progress.tallies);
-        if matches!(&committed, Committed::Overtaken) {
-            progress.count_overtaking();
-        }
+        progress.count_commit(&committed);
         Stage::committed(count, &outcome, &ticket, committed)
     }
 
