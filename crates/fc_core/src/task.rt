@@ -297,8 +297,8 @@ fn published(stage: Stage) -> Stage
     }
 }
 
-// The image that is to be installed.
-fn image(ask: &Ask) -> &[u8]
+/// The image that a job asks to install; no bytes where it asks for a run.
+pub fn image(ask: &Ask) -> &[u8]
     ensures { result.now ≡ image_of ask.now }
 {
     match ask {

@@ -1,0 +1,71 @@
+//! The ends of the channel.
+use crate::protocol::{Hand, Numbered, OnceEach};
+use crossbeam_channel::{Pass, RuledReceiver, RuledSender};
+use std::marker::Model;
+
+/// The end from which the workers get their jobs. A clause sees which channel it is.
+#[derive(Drop)]
+pub struct Jobs {
+    pub(crate) receiver: RuledReceiver<Numbered, Hand, OnceEach>,
+}
+
+impl Model for Jobs {
+    ghost use Rattle.fc_jobs.specs.Ends.{Channel};
+
+    ghost Value = { Channel };
+
+    ghost use Rattle.crossbeam_channel.specs.Claims.{IsKeyed};
+    ghost use Rattle.crossbeam_channel.specs.Ends.{receives_on};
+    ghost use Rattle.fc_jobs.specs.Views.{channel_at};
+
+    ghost view = { λ j. channel_at (receives_on j.receiver) };
+
+    ghost invariant = { λ j. IsKeyed (receives_on j.receiver) };
+}
+
+/// The one end that sends, with a list of all that was sent. Once it is dropped the channel is closed.
+#[derive(Drop)]
+pub struct Sent {
+    pub(crate) sender: RuledSender<Numbered, Hand, OnceEach>,
+    pub(crate) pass: Pass<Numbered, Hand>,
+    pub(crate) next: u64,
+}
+
+impl Model for Sent {
+    ghost use Rattle.fc_jobs.specs.Ends.{Sent as Sending};
+
+    ghost Value = { Sending };
+
+    ghost use Rattle.std.specs.Prelude.{◌≡◌, length};
+    ghost use Rattle.crossbeam_channel.specs.Claims.{view as view_of, IsSeatAt};
+    ghost use Rattle.crossbeam_channel.specs.Ends.{sends_on};
+    ghost use Rattle.fc_jobs.specs.Once.{sends_view};
+    ghost use Rattle.fc_jobs.specs.Views.{channel_of};
+
+    ghost view = { λ s. record { channel = channel_of s.pass; sent = (view_of s.pass).sent } };
+
+    ghost invariant = { λ s. IsSeatAt (sends_on s.sender) s.pass
+        × (view_of s.pass ≡ sends_view (view_of s.pass).sent)
+        × (length (view_of s.pass).sent ≡ s.next) };
+}
+
+/// A worker's place at the channel, with a list of what the worker got.
+#[derive(Drop)]
+pub struct Got {
+    pub(crate) pass: Pass<Numbered, Hand>,
+}
+
+impl Model for Got {
+    ghost use Rattle.fc_jobs.specs.Ends.{Got as Getting};
+
+    ghost Value = { Getting };
+
+    ghost use Rattle.std.specs.Prelude.{◌≡◌, []};
+    ghost use Rattle.crossbeam_channel.specs.Claims.{view as view_of};
+    ghost use Rattle.fc_jobs.specs.Once.{gets_view};
+    ghost use Rattle.fc_jobs.specs.Views.{channel_of};
+
+    ghost view = { λ g. record { channel = channel_of g.pass; got = (view_of g.pass).got } };
+
+    ghost invariant = { λ g. (view_of g.pass ≡ gets_view (view_of g.pass).got) × (g.pass.me.1 ≡ []) };
+}

@@ -1,0 +1,104 @@
+//! The calls of the ends.
+ghost use Rattle.std.specs.Prelude.{◌≡◌, ◌<◌, ◌≤◌, ◌^◌, ◌∷◌, ◌++◌, [], length, replicate, IfOk, IfSome, MatchOption, Some};
+ghost use Rattle.fc_jobs.specs.Once.{times};
+ghost use Rattle.fc_jobs.specs.Ends.{nothing_sent, nothing_got, with_sent, with_got};
+
+use crate::ends::{Got, Jobs, Sent};
+use crate::protocol::{Hires, Numbered, Puts, Takes};
+use crossbeam_channel::{SendError, bounded_with};
+use fc_registry::Job;
+use std::alloc::{AllocError, Global};
+use std::sync::Wait;
+
+/// The places of the channel: how many jobs may wait.
+const PLACES: usize = 256;
+
+/// The number of the first job that is not sent.
+const LAST: u64 = 1 << 61;
+
+impl Jobs {
+    /// Makes a channel of 256 places, with the end that sends and a `Got` for each worker.
+    ///
+    /// # Errors
+    /// There was no memory for it.
+    pub fn new(alloc: Global, workers: usize) -> Result<(Jobs, Sent, Vec<Got>), AllocError>
+        ensures sent { IfOk result (λ r. r.1 ≡ nothing_sent r.0) }
+        ensures got { IfOk result (λ r. r.2.items ≡ replicate workers (nothing_got r.0)) }
+    {
+        let (sender, receiver, pass) = bounded_with(alloc, PLACES)?;
+        let mut sent = Sent {
+            sender,
+            pass,
+            next: 0,
+        };
+        let gots = hire(alloc, &mut sent, workers)?;
+        Ok((Jobs { receiver }, sent, gots))
+    }
+
+    /// Sends a job under the next number, from 0 on, or hands it back; the numbers end at 2^61, from where on each job comes
+    /// back. It waits while the channel is full.
+    pub fn send<R: Wait>(&self, rt: &R, job: Job, sent: &mut Sent) -> Option<Job>
+        requires { sent.old.channel ≡ self.now }
+        ensures sent { MatchOption result (sent.new ≡ with_sent sent.old job)
+            (λ back. (back ≡ job) × (sent.new ≡ sent.old)) }
+        ensures end { 2 ^ 61 ≤ length sent.old.sent → result ≡ Some job }
+    {
+        if sent.next >= LAST {
+            return Some(job);
+        }
+        let number = sent.next;
+        sent.send(rt, Numbered { number, job })
+    }
+
+    /// The next job with its number, which is new to the worker; none once the sender is gone and nothing is left. It waits
+    /// while the channel is empty.
+    pub fn next<R: Wait>(&self, rt: &R, got: &mut Got) -> Option<(u64, Job)>
+        requires { got.old.channel ≡ self.now }
+        ensures got { MatchOption result (got.new ≡ got.old) (λ r. got.new ≡ with_got got.old r.0 r.1) }
+        ensures once { IfSome result (λ r. times r.0 got.old.got ≡ 0) }
+    {
+        match self.receiver.recv_as::<Takes, R>(rt, &mut got.pass) {
+            Ok(Numbered { number, job }) => Some((number, job)),
+            Err(_) => None,
+        }
+    }
+}
+
+impl Sent {
+    // Sends a job that has its number, or hands it back.
+    fn send<R: Wait>(&mut self, rt: &R, numbered: Numbered) -> Option<Job>
+        requires { (numbered.number ≡ length self.old.sent) × (numbered.number < 2 ^ 61) }
+        ensures { MatchOption result (self.new ≡ with_sent self.old numbered.job)
+            (λ back. (back ≡ numbered.job) × (self.new ≡ self.old)) }
+    {
+        match self.sender.send_as::<Puts, R>(rt, &mut self.pass, numbered) {
+            Ok(()) => {
+                self.next += 1;
+                None
+            }
+            Err(SendError::Disconnected(back)) => Some(back.job),
+            Err(SendError::OutOfMemory(back)) => Some(back.job),
+        }
+    }
+
+    // A place for another worker.
+    fn hire(&mut self) -> Got
+        ensures same { self.new ≡ self.old }
+        ensures got { result ≡ nothing_got self.old.channel }
+    {
+        let pass = self.sender.another::<Hires>(&mut self.pass);
+        Got { pass }
+    }
+}
+
+// A place for each worker.
+fn hire(alloc: Global, sent: &mut Sent, workers: usize) -> Result<Vec<Got>, AllocError>
+    ensures same { sent.new ≡ sent.old }
+    ensures got { IfOk result (λ v. v.items ≡ replicate workers (nothing_got sent.old.channel)) }
+{
+    let mut gots = Vec::new(alloc);
+    for worker in 0..workers {
+        gots.push(sent.hire())?;
+    }
+    Ok(gots)
+}

@@ -1,0 +1,74 @@
+//! The rule of the channel, and the moves under it.
+use crossbeam_channel::protocol::{Lesson, Outcome, Protocol, Split};
+use fc_registry::Job;
+use std::collections::LinkedList;
+
+/// A job under its number.
+#[derive(Drop)]
+pub struct Numbered {
+    pub number: u64,
+    pub job: Job,
+}
+
+/// What a pass knows: the sender's all that was sent, a worker's what it got. No value of it is made.
+pub struct Hand {
+    pub sends: bool,
+    pub sent: LinkedList<Numbered>,
+    pub got: LinkedList<Numbered>,
+}
+
+/// Each number is got once.
+pub struct OnceEach;
+
+impl Protocol<Numbered, Hand> for OnceEach {
+    ghost use Rattle.std.specs.Prelude.{[]};
+    ghost use Rattle.fc_jobs.specs.Once.{Once, sends_view};
+
+    ghost holds = { Once };
+
+    ghost first = { sends_view [] };
+}
+
+/// A send: the sender's view lists what it sent.
+pub(crate) struct Puts;
+
+impl Outcome<Numbered, Hand> for Puts {
+    ghost use Rattle.std.specs.Prelude.{◌≡◌, ◌++◌, [], ◌∷◌};
+    ghost use Rattle.fc_jobs.specs.Once.{sends_view};
+
+    ghost then = { λ v x w. w ≡ sends_view (v.sent ++ x ∷ []) };
+}
+
+impl Lesson<Numbered, Hand> for Puts {
+    ghost use Rattle.std.specs.Prelude.{⊤};
+
+    ghost fact = { λ _ _. ⊤ };
+}
+
+/// A receive: the worker's view lists what it got, whose number is new to it.
+pub(crate) struct Takes;
+
+impl Outcome<Numbered, Hand> for Takes {
+    ghost use Rattle.std.specs.Prelude.{◌≡◌, ◌++◌, [], ◌∷◌};
+    ghost use Rattle.fc_jobs.specs.Once.{gets_view, times};
+
+    ghost then = { λ v x w. (w ≡ gets_view (v.got ++ x ∷ [])) × (times x.number v.got ≡ 0) };
+}
+
+impl Lesson<Numbered, Hand> for Takes {
+    ghost use Rattle.std.specs.Prelude.{⊤};
+
+    ghost fact = { λ _ _. ⊤ };
+}
+
+/// Another worker's pass, cut from the sender's: nothing is got yet.
+pub(crate) struct Hires;
+
+impl Split<Hand> for Hires {
+    ghost use Rattle.std.specs.Prelude.{[]};
+    ghost use Rattle.fc_jobs.specs.Once.{gets_view};
+
+    ghost left = { λ v. v };
+
+    ghost right = { λ _. gets_view [] };
+}

@@ -1,0 +1,51 @@
+-- What a call answers at some slot, and what is tallied of it. Which slot it was is not said: between two calls of a job,
+-- others change the slots.
+use Rattle.std.specs.Prelude.{◌≡◌, ℕ, ◌+◌, ◌%◌, ◌<◌, ◌==◌, if◌then◌else◌, min}
+use Rattle.fc_kinds.specs.Meaning.{Program}
+use Rattle.fc_machine.specs.Ran.{Ran}
+use Rattle.fc_registry.specs.declared.job.Job.{Job}
+use Rattle.fc_registry.specs.declared.shard.Taken.{Taken}
+use Rattle.fc_registry.specs.declared.shard.Made.{Made}
+use Rattle.fc_registry.specs.declared.shard.Made.TheVariants.{Raised, AtEnd}
+use Rattle.fc_registry.specs.declared.commit.Committed.{Committed}
+use Rattle.fc_registry.specs.declared.commit.Committed.TheVariants.{Done}
+use Rattle.fc_registry.specs.Slots.{Slot, Ticket}
+use Rattle.fc_registry.specs.Calls.{IsTaking, IsCommit, install_in}
+
+-- a taking of the job at some slot answers this
+pub record IsSomeTaking (job : Job) (taken : Taken) : Type 0 where
+  pub slot : Slot
+  pub taking : IsTaking job slot taken
+
+-- a commit of a run, by the ticket, at some slot answers this
+pub record IsSomeCommit (ran : Ran) (t : Ticket) (committed : Committed) : Type 0 where
+  pub slot : Slot
+  pub after : Slot
+  pub commit : IsCommit ran t slot committed after
+
+-- an install of the program at some slot answers this
+pub record IsSomeInstall (p : Program) (made : Made) : Type 0 where
+  pub slot : Slot
+  pub made_is : made ≡ (install_in slot p).answer
+
+-- how many changes a commit's answer tells of
+abbrev pub commit_changes : Committed → ℕ
+commit_changes (Done m) = if m.changed then 1 else 0
+commit_changes other = 0
+
+-- how many an install's answer tells of
+abbrev pub install_changes : Made → ℕ
+install_changes (Raised serial created) = 1
+install_changes AtEnd = 0
+
+-- the tally of slot n's shard has risen by so many changes, and those of the other shards are as before
+abbrev pub AreTallied : (ℕ → ℕ) → (ℕ → ℕ) → ℕ → ℕ → Type 0
+AreTallied before after n changes = (shard : ℕ) → shard < 8 → after shard ≡ before shard + (if shard == n % 8 then changes else 0)
+
+-- a count of 64 bits stops at its greatest
+abbrev pub saturated : ℕ → ℕ
+saturated count = min count 18446744073709551615
+
+-- a count of 64 bits has risen by so many
+abbrev pub HasRisen : ℕ → ℕ → ℕ → Type 0
+HasRisen before n after = saturated after ≡ saturated (before + n)

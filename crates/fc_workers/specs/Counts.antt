@@ -1,0 +1,26 @@
+-- Shards whose changes are counted, and tallies, as a clause sees them.
+use Rattle.std.specs.Prelude.{◌≡◌, ℕ, ◌+◌, length, sum_by}
+use Rattle.fc_registry.specs.Slots.{Slot, Shard}
+
+abbrev pub serial_of : Slot → ℕ
+serial_of slot = slot.serial
+
+-- what the serials of a shard's slots add up to
+abbrev pub serials : Shard → ℕ
+serials shard = sum_by serial_of shard.slots
+
+abbrev pub HasEightSlots : Shard → Type 0
+HasEightSlots shard = length shard.slots ≡ 8
+
+-- a shard beside its book, and what its serials added up to when the book was opened
+pub record Counted : Type 0 where
+  pub shard : Shard
+  pub opened : ℕ
+
+-- parts of a shard's book, of which the tallies of all workers have all, and the changes that were counted on them
+pub record Tally : Type 0 where
+  pub parts : ℕ
+  pub changes : ℕ
+
+abbrev pub counts : Tally → ℕ → Tally
+counts tally changes = record tally { changes = tally.changes + changes }

@@ -1,0 +1,41 @@
+-- One step of a job's work, as the worker's loop keeps it.
+use Rattle.std.specs.Prelude.{◌≡◌, ℕ, ◌+◌, ◌*◌, ◌-◌, ◌<◌, ◌≤◌, [], ◌∷◌}
+use Rattle.fc_registry.specs.declared.job.Job.{Job}
+use Rattle.fc_core.specs.declared.stage.Stage.{Stage}
+use Rattle.fc_core.specs.declared.stage.Stage.TheVariants.{ToTake, ToCommit, ToInstall, ToRaise, ToAnswer, Gone}
+use Rattle.fc_core.specs.Contents.{IsOf}
+use Rattle.fc_core.specs.Stages.{takings}
+use Rattle.fc_workers.specs.declared.work.Progress.{Progress}
+use Rattle.fc_workers.specs.Work.{Call, next_stage, IsCallAt, taking_by, HasCounted}
+
+-- a job that is to take may take once more; a ticket is its job's, and so is an answer
+abbrev pub IsReady : Job → Stage → Type 0
+IsReady job (ToTake n) = n < takings
+IsReady job (ToCommit n t) = (n ≤ takings) × (t.origin ≡ job.origin)
+IsReady job ToInstall = Unit {0}
+IsReady job (ToRaise content) = IsOf job content
+IsReady job (ToAnswer content) = IsOf job content
+IsReady job Gone = ⊥
+
+-- how many calls there can still be
+abbrev pub left : Stage → ℕ
+left (ToTake n) = 2 * (takings - n) + 2
+left (ToCommit n t) = 2 * (takings - n) + 3
+left ToInstall = 2
+left (ToRaise content) = 1
+left other = 0
+
+-- how many takings there can have been
+abbrev pub taken_at : Stage → ℕ
+taken_at (ToTake n) = n
+taken_at (ToCommit n t) = n
+taken_at other = takings
+
+pub record IsStep {T : Type 0} (changes : T → ℕ → ℕ) (job : Job) (old new : Stage) (before after : Progress T) : Type 0 where
+  pub call : Call
+  pub is : IsCallAt job old call
+  pub next : new ≡ next_stage old call
+  pub ready : IsReady job new
+  pub fewer : left new < left old
+  pub few : taken_at old + taking_by call ≤ taken_at new
+  pub counted : HasCounted changes job.origin.slot (call ∷ []) before after

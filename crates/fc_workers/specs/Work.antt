@@ -1,0 +1,102 @@
+-- What is done with a job whose shard others change too: a list of calls, the newest first, each at the stage that needs it,
+-- and answered as its shard answers at some slot.
+use Rattle.std.specs.Prelude.{◌≡◌, ℕ, ◌+◌, ◌≤◌, List, [], ◌∷◌}
+use Rattle.fc_kinds.specs.Meaning.{Program}
+use Rattle.fc_verify.specs.Accepted.{Accepts}
+use Rattle.fc_verify.specs.Judged.{judged}
+use Rattle.fc_verify.specs.Refusals.{IsRefusal}
+use Rattle.fc_verify.specs.declared.refusal.Refusal.{Refusal}
+use Rattle.fc_verify.specs.declared.refusal.Refusal.TheVariants.{NoMemory}
+use Rattle.fc_registry.specs.declared.job.Job.{Job}
+use Rattle.fc_registry.specs.declared.shard.Taken.{Taken}
+use Rattle.fc_registry.specs.declared.shard.Taken.TheVariants.{Refused}
+use Rattle.fc_registry.specs.declared.shard.Made.{Made}
+use Rattle.fc_registry.specs.declared.commit.Committed.{Committed}
+use Rattle.fc_registry.specs.declared.commit.Committed.TheVariants.{Overtaken}
+use Rattle.fc_registry.specs.Calls.{run_of}
+use Rattle.fc_core.specs.declared.stage.Stage.{Stage}
+use Rattle.fc_core.specs.declared.stage.Stage.TheVariants.{ToTake, ToCommit, ToInstall, ToRaise, ToAnswer}
+use Rattle.fc_core.specs.Contents.{Content, IsOf}
+use Rattle.fc_core.specs.Ends.{refused}
+use Rattle.fc_core.specs.Stages.{first_stage, image_of, receipt_of, took, after_commit, made, takings}
+use Rattle.fc_workers.specs.Answers.{IsSomeTaking, IsSomeCommit, IsSomeInstall, AreTallied, HasRisen, commit_changes, install_changes}
+use Rattle.fc_workers.specs.declared.work.Progress.{Progress}
+
+-- a call for a job, and what it answered
+pub data Call : Type 0 where
+  Takes : (taken : Taken) → Call
+  Commits : (committed : Committed) → Call
+  Installs : (program : Program) (made : Made) → Call
+  -- no install: its image breaks a rule, or memory was refused
+  Refuses : (refusal : Refusal) → Call
+  Raises : Call
+
+-- the stage that a call leaves a job at: the row of its answer
+abbrev pub next_stage : Stage → Call → Stage
+next_stage (ToTake n) (Takes taken) = took n taken
+next_stage (ToCommit n t) (Commits committed) = after_commit n t committed
+next_stage ToInstall (Installs p answer) = made (receipt_of p) answer
+next_stage ToInstall (Refuses refusal) = ToAnswer (refused refusal)
+next_stage (ToRaise content) Raises = ToAnswer content
+next_stage stage call = stage
+
+-- the call is the one that the stage needs, and its answer is true of some slot
+abbrev pub IsCallAt : Job → Stage → Call → Type 0
+IsCallAt job (ToTake n) (Takes taken) = IsSomeTaking job taken
+IsCallAt job (ToCommit n t) (Commits committed) = IsSomeCommit (run_of t) t committed
+IsCallAt job ToInstall (Installs p answer) = (judged (image_of job.ask) ≡ Accepts p) × IsSomeInstall p answer
+IsCallAt job ToInstall (Refuses refusal) = IsRefusal (image_of job.ask) refusal
+IsCallAt job (ToRaise content) Raises = Unit {0}
+IsCallAt job stage call = ⊥
+
+-- the stage that these calls leave a job at
+unfoldable pub stage_after : Job → List Call → Stage
+stage_after job [] = first_stage job
+stage_after job (call ∷ calls) = next_stage (stage_after job calls) call
+
+-- each is the call that the stage needs which the ones before it left
+unfoldable pub AreCalls : Job → List Call → Type 0
+AreCalls job [] = Unit {0}
+AreCalls job (call ∷ calls) = AreCalls job calls × IsCallAt job (stage_after job calls) call
+
+-- ---- what is counted of them
+
+abbrev pub taking_by : Call → ℕ
+taking_by (Takes taken) = 1
+taking_by other = 0
+
+-- changes of the job's slot
+abbrev pub changes_by : Call → ℕ
+changes_by (Commits committed) = commit_changes committed
+changes_by (Installs p answer) = install_changes answer
+changes_by other = 0
+
+-- refusals of memory
+abbrev pub refusal_by : Call → ℕ
+refusal_by (Takes Refused) = 1
+refusal_by (Refuses NoMemory) = 1
+refusal_by other = 0
+
+abbrev pub overtaking_by : Call → ℕ
+overtaking_by (Commits Overtaken) = 1
+overtaking_by other = 0
+
+-- how many of these the calls have
+abbrev pub total : (Call → ℕ) → List Call → ℕ
+total by [] = 0
+total by (call ∷ calls) = total by calls + by call
+
+-- a worker's counts, before and after these calls for a job of slot n
+pub record HasCounted {T : Type 0} (changes : T → ℕ → ℕ) (n : ℕ) (calls : List Call) (before after : Progress T) : Type 0 where
+  pub tallies : AreTallied (changes before.tallies) (changes after.tallies) n (total changes_by calls)
+  pub refusals : HasRisen before.refusals (total refusal_by calls) after.refusals
+  pub overtakings : HasRisen before.overtakings (total overtaking_by calls) after.overtakings
+
+-- a job's calls, from its first stage to this answer
+pub record IsWorkedOff {T : Type 0} (changes : T → ℕ → ℕ) (job : Job) (content : Content) (before after : Progress T) : Type 0 where
+  pub calls : List Call
+  pub are : AreCalls job calls
+  pub ends : stage_after job calls ≡ ToAnswer content
+  pub few : total taking_by calls ≤ takings
+  pub own : IsOf job content
+  pub counted : HasCounted changes job.origin.slot calls before after

@@ -1,0 +1,77 @@
+//! What workers work at.
+ghost use Rattle.std.specs.Prelude.{◌≡◌, ℕ, ◌+◌, ◌<◌};
+ghost use Rattle.fc_core.specs.Contents.{IsOf};
+ghost use Rattle.fc_workers.specs.Answers.{AreTallied, IsSomeCommit, IsSomeInstall, IsSomeTaking, commit_changes, install_changes, saturated};
+
+use coap_msg::Emission;
+use fc_core::Answer;
+use fc_machine::Outcome;
+use fc_registry::{Committed, Job, Made, SlotNumber, Taken, Ticket};
+use fc_verify::Verified;
+use std::sync::{Arc, Wait};
+
+/// The calls of the shards and the front, for any number of workers at a time: a server keeps them behind its locks, and
+/// each call may wait for one. A call answers what the shard answers at some slot, and nothing ties one call's slot to the
+/// next's: what others change in between is not said here.
+///
+/// Each worker hands in tallies of its own. They count the changes of each shard that its calls answered, and the jobs
+/// that it ended.
+pub trait Bench {
+    /// What one worker changed, and how many jobs it ended.
+    type Tallies: Drop + Send;
+
+    // How many changes of a shard, by its index, from 0 to 7.
+    ghost changes: { Self.Tallies → ℕ → ℕ };
+
+    // How many jobs it ended. The count stops at 2^64 - 1.
+    ghost ended: { Self.Tallies → ℕ };
+
+    /// Takes what a job finds in its slot, as [`Shard::take`](fc_registry::Shard::take) does.
+    fn take<R: Wait>(&self, rt: &R, job: &Job) -> Taken
+        ensures { IsSomeTaking job.now result };
+
+    /// Commits a run, at a moment in milliseconds, as [`Shard::commit`](fc_registry::Shard::commit) does.
+    fn commit<R: Wait>(
+        &self,
+        rt: &R,
+        now: u64,
+        outcome: &Outcome<'_>,
+        ticket: &Ticket,
+        tallies: &mut Self::Tallies,
+    ) -> Committed
+        ensures committed { IsSomeCommit outcome.now ticket.now result }
+        ensures changes { AreTallied (changes tallies.old) (changes tallies.new)
+            ticket.now.origin.slot (commit_changes result) }
+        ensures ended { ended tallies.new ≡ ended tallies.old };
+
+    /// Installs a program in a slot, as [`Shard::install`](fc_registry::Shard::install) does.
+    fn install<R: Wait>(
+        &self,
+        rt: &R,
+        slot: SlotNumber,
+        program: Arc<Verified>,
+        tallies: &mut Self::Tallies,
+    ) -> Made
+        ensures made { IsSomeInstall program.value result }
+        ensures changes { AreTallied (changes tallies.old) (changes tallies.new)
+            slot (install_changes result) }
+        ensures ended { ended tallies.new ≡ ended tallies.old };
+
+    /// Publishes a slot's new serial.
+    fn raise<R: Wait>(&self, rt: &R, slot: SlotNumber);
+
+    /// Answers a job, at a moment in milliseconds, as [`Front::answer`](fc_core::Front::answer) does, and ends it: what is
+    /// to be sent, if anything.
+    fn answer<R: Wait>(
+        &self,
+        rt: &R,
+        now: u64,
+        job: &Job,
+        answer: &Answer,
+        tallies: &mut Self::Tallies,
+    ) -> Option<Emission>
+        requires { IsOf job.now answer.now }
+        ensures changes { (shard : ℕ) → shard < 8 →
+            changes tallies.new shard ≡ changes tallies.old shard }
+        ensures ended { ended tallies.new ≡ saturated (ended tallies.old + 1) };
+}

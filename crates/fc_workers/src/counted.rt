@@ -1,0 +1,167 @@
+//! Shards whose changes are counted.
+ghost use Rattle.std.specs.Prelude.{◌≡◌, ◌+◌, ◌<◌, if◌then◌else◌};
+ghost use Rattle.fc_registry.specs.Slots.{IsOwned, slot_in, with_slot, version_in, vars_in};
+ghost use Rattle.fc_registry.specs.Changes.{after_changes};
+ghost use Rattle.fc_registry.specs.Calls.{IsTaking, CommitsTo, install_in};
+ghost use Rattle.fc_workers.specs.Answers.{commit_changes, install_changes};
+ghost use Rattle.fc_workers.specs.Counts.{HasEightSlots, serials, counts};
+
+use crate::tally::Tally;
+use fc_machine::Outcome;
+use fc_registry::{Committed, Job, Made, SHARDS, Shard, SlotNumber, Taken, Ticket};
+use fc_verify::Verified;
+use std::marker::Model;
+use std::sync::Arc;
+use std::sync::ledger::{Blank, Book, Ledger};
+
+/// A shard beside the book of its changes: since the book was opened, its serials have risen by the book's total. A clause
+/// sees the shard, and what its serials added up to then.
+#[derive(Drop)]
+pub struct Counted<L: Ledger> {
+    shard: Shard,
+    book: Book<L>,
+    opened: u128,
+}
+
+impl<L: Ledger> Model for Counted<L> {
+    ghost use Rattle.fc_workers.specs.Counts.{Counted as Seen};
+
+    ghost Value = { Seen };
+
+    ghost use Rattle.std.specs.Prelude.{◌≡◌, ◌+◌};
+    ghost use Rattle.fc_workers.specs.Counts.{HasEightSlots, serials};
+
+    ghost view = { λ c. record { shard = c.shard; opened = c.opened } };
+
+    ghost invariant = { λ c. HasEightSlots c.shard × (serials c.shard ≡ c.opened + c.book.total) };
+}
+
+impl<L: Ledger> Counted<L> {
+    /// Opens the book of a shard. The tally has all its parts.
+    pub fn open(shard: Shard, blank: Blank) -> (Counted<L>, Tally<L>)
+        requires slots { HasEightSlots shard }
+        requires name { blank.name ≡ L.name }
+        requires parts { (blank.parts ≡ L.parts) × (0 < L.parts) }
+        ensures shard { result.0 ≡ record { shard = shard; opened = serials shard } }
+        ensures tally { result.1 ≡ record { parts = L.parts; changes = 0 } }
+    {
+        let (book, share) = blank.open::<L>();
+        let opened = serials_of(&shard);
+        let counted = Counted {
+            shard,
+            book,
+            opened,
+        };
+        (counted, Tally::of(share))
+    }
+
+    /// Takes what a job finds in its slot, as [`Shard::take`] does.
+    pub fn take(&mut self, job: &Job) -> Taken
+        requires { IsOwned self.old.shard job.now.origin.slot }
+        ensures taken { IsTaking job.now (slot_in self.old.shard job.now.origin.slot) result }
+        ensures same { self.new ≡ self.old }
+    {
+        self.shard.take(job)
+    }
+
+    /// Commits a run, as [`Shard::commit`] does. The tally counts it where it writes.
+    pub fn commit(
+        &mut self,
+        now: u64,
+        outcome: &Outcome<'_>,
+        ticket: &Ticket,
+        tally: &mut Tally<L>,
+    ) -> Committed
+        requires { IsOwned self.old.shard ticket.now.origin.slot }
+        ensures committed { CommitsTo outcome.now ticket.now self.old.shard now result self.new.shard }
+        ensures opened { self.new.opened ≡ self.old.opened }
+        ensures tally { tally.new ≡ counts tally.old (commit_changes result) }
+    {
+        let committed = self.shard.commit(now, outcome, ticket);
+        if changes(&committed) {
+            tally.count(&mut self.book);
+        }
+        committed
+    }
+
+    /// Installs a program, as [`Shard::install`] does. The tally counts it, but at the slot's last serial.
+    pub fn install(
+        &mut self,
+        slot: SlotNumber,
+        program: Arc<Verified>,
+        tally: &mut Tally<L>,
+    ) -> Made
+        requires { IsOwned self.old.shard slot }
+        ensures answer { result ≡ (install_in (slot_in self.old.shard slot) program.value).answer }
+        ensures slots { self.new ≡ record self.old {
+          shard = with_slot self.old.shard slot
+              (after_changes (slot_in self.old.shard slot) (install_in (slot_in self.old.shard slot) program.value).changes);
+        } }
+        ensures tally { tally.new ≡ counts tally.old (install_changes result) }
+    {
+        let made = self.shard.install(slot, program);
+        if matches!(made, Made::Raised { .. }) {
+            tally.count(&mut self.book);
+        }
+        made
+    }
+
+    /// The serial of a slot of this shard, as [`Shard::serial`] tells it.
+    pub fn serial(&self, slot: SlotNumber) -> u64
+        ensures { result ≡ (slot_in self.entry.now.shard slot).serial }
+    {
+        self.shard.serial(slot)
+    }
+
+    /// The version of the program in a slot, as [`Shard::version`] tells it.
+    pub fn version(&self, slot: SlotNumber) -> Option<u64>
+        ensures { result ≡ version_in (slot_in self.entry.now.shard slot).present }
+    {
+        self.shard.version(slot)
+    }
+
+    /// The variables of the program in a slot, as [`Shard::vars`] lends them.
+    pub fn vars(&self, slot: SlotNumber) -> &[u8]
+        ensures { result.now ≡ vars_in (slot_in self.entry.now.shard slot).present }
+    {
+        self.shard.vars(slot)
+    }
+
+    /// Closes the book, for the tally that has all its parts: the shard's serials have risen by its changes since the book
+    /// was opened.
+    pub fn close(self, all: &mut Tally<L>) -> Shard
+        requires { all.old.parts ≡ L.parts }
+        ensures shard { result ≡ self.shard }
+        ensures risen { serials result ≡ self.opened + all.old.changes }
+    {
+        let Counted {
+            shard,
+            mut book,
+            ..
+        } = self;
+        all.audit(&mut book);
+        shard
+    }
+}
+
+// Whether a commit's answer tells of a change.
+fn changes(committed: &Committed) -> bool
+    ensures { commit_changes committed.now ≡ (if result then 1 else 0) }
+{
+    match committed {
+        Committed::Done(mark) => mark.changed(),
+        Committed::Overtaken | Committed::Ended | Committed::Stranger => false,
+    }
+}
+
+// What the serials of a shard's slots add up to.
+fn serials_of(shard: &Shard) -> u128
+    requires { HasEightSlots shard.now }
+    ensures { result ≡ serials shard.entry.now }
+{
+    let mut total = 0u128;
+    for place in 0..SHARDS {
+        total += u128::from(shard.serial(SlotNumber::new(place * SHARDS)));
+    }
+    total
+}

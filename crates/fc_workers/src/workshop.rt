@@ -1,0 +1,37 @@
+//! What workers share.
+use crate::bench::Bench;
+use coap_msg::Emission;
+use std::alloc::Global;
+use std::sync::Wait;
+
+/// Where a job can be held up, so that a test can let another one overtake it.
+pub trait Gate {
+    /// Is called with a job's number before each of its runs: after a taking, and before the commit.
+    fn between<R: Wait>(&self, rt: &R, number: u64);
+}
+
+/// Where the replies of jobs go.
+pub trait Wire {
+    /// Sends the reply of the job of this number. Tells whether it went out.
+    fn send<R: Wait>(&self, rt: &R, number: u64, emission: &Emission) -> bool;
+
+    /// Is called last for each job, whether or not anything was sent: who waits for the job can go on.
+    fn ended<R: Wait>(&self, rt: &R, number: u64);
+}
+
+/// What moment it is, in milliseconds since a start of its own. It may run backwards: who is handed a moment keeps the
+/// greatest.
+pub trait Moments {
+    /// The moment of the call.
+    fn now<R: Wait>(&self, rt: &R) -> u64;
+}
+
+/// What all workers share.
+#[derive(Drop)]
+pub struct Workshop<'a, B: Bench, G: Gate, W: Wire, M: Moments> {
+    pub alloc: Global,
+    pub bench: &'a B,
+    pub gate: &'a G,
+    pub wire: &'a W,
+    pub moments: &'a M,
+}
