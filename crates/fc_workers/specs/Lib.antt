@@ -1,3 +1,4 @@
 pub mod Answers
 pub mod Work
 pub mod Steps
+pub mod Shares

@@ -2,9 +2,12 @@
 #![tactic(auto)]
 
 pub mod bench;
+pub mod seat;
+pub mod share;
 pub mod work;
 pub mod workshop;
 
 pub use bench::Bench;
-pub use work::Progress;
+pub use seat::{Seat, worker};
+pub use share::Share;
 pub use workshop::{Gate, Moments, Wire, Workshop};
