@@ -22,7 +22,7 @@ const PORT: u16 = 5683;
 
 // Why a play stops before the end of its input.
 #[derive(Debug, Drop, Error)]
-enum Stop {
+pub(crate) enum Stop {
     #[error("line {0}: bad")]
     BadLine(u64),
     #[error("standard input: {0}")]
@@ -34,7 +34,7 @@ enum Stop {
 }
 
 impl Stop {
-    fn status(&self) -> Status {
+    pub(crate) fn status(&self) -> Status {
         match self {
             Stop::BadLine(_) => Status::Bad,
             Stop::Input(_) | Stop::Output(_) | Stop::Memory(_) => Status::Failed,

@@ -29,13 +29,13 @@ use Rattle.fc_core.specs.declared.stage.Stage.TheVariants.{ToTake, ToCommit, ToI
 use Rattle.fc_core.specs.Contents.{Content, IsOf, Unavailable}
 use Rattle.fc_core.specs.Ends.{refused, refused_by}
 use Rattle.fc_core.specs.Stages.{first_stage, first_by, image_of, receipt_of, run_content, took, after_commit, made, takings}
-use Rattle.fc_workers.specs.declared.work.Progress.{Progress}
+use Rattle.fc_workers.specs.declared.share.Share.{Share}
 use Rattle.fc_workers.specs.Answers.{AreTallied, commit_changes, install_changes, saturated, IsSomeTaking, IsSomeCommit, IsSomeInstall}
 use Rattle.fc_workers.specs.Steps.{IsReady, IsStep, left, taken_at}
 use Rattle.fc_workers.specs.Work.{Call, Takes, Commits, Installs, Refuses, Raises, AreCalls, IsCallAt, IsWorkedOff, HasCounted, next_stage, stage_after, changes_by, overtaking_by, refusal_by, taking_by, total}
 
 -- the calls so far, and where they left the job
-pub record Walked {T : Type 0} (changes : T → ℕ → ℕ) (job : Job) (stage : Stage) (before now : Progress T) : Type 0 where
+pub record Walked {T : Type 0} (changes : T → ℕ → ℕ) (job : Job) (stage : Stage) (before now : Share T) : Type 0 where
   pub calls : List Call
   pub are : AreCalls job calls
   pub stands : stage ≡ stage_after job calls
@@ -60,8 +60,8 @@ one_tallied before after n k rises = subst (λ (x : ℕ). AreTallied before afte
 -- ---- a step of each stage
 
 -- a step to a stage and counts that are these
-pub is_step : {T : Type 0} (changes : T → ℕ → ℕ) (job : Job) (old : Stage) {new next : Stage} {before after counted : Progress T} → new ≡ next → after ≡ counted → IsStep changes job old next before counted → IsStep changes job old new before after
-is_step {T} changes job old {new} {next} {before} {after} {counted} e c s = subst (λ (x : Stage). IsStep changes job old x before after) (sym e) (subst (λ (p : Progress T). IsStep changes job old next before p) (sym c) s)
+pub is_step : {T : Type 0} (changes : T → ℕ → ℕ) (job : Job) (old : Stage) {new next : Stage} {before after counted : Share T} → new ≡ next → after ≡ counted → IsStep changes job old next before counted → IsStep changes job old new before after
+is_step {T} changes job old {new} {next} {before} {after} {counted} e c s = subst (λ (x : Stage). IsStep changes job old x before after) (sym e) (subst (λ (p : Share T). IsStep changes job old next before p) (sym c) s)
 
 -- a ticket is of the job that took it
 taking_ready : (memory : Bool) (job : Job) (n serial : ℕ) (p : Option Present) → n < takings → IsReady job (took n (taking memory job serial p))
@@ -82,7 +82,7 @@ took_few n (Given t) less = omega (arith, less)
 took_few n Missing less = omega (arith, less)
 took_few n Refused less = omega (arith, less)
 
-pub took_step : {T : Type 0} (changes : T → ℕ → ℕ) (job : Job) (n : ℕ) (x : Taken) (p : Progress T) → n < takings → IsSomeTaking job x → IsStep changes job (ToTake n) (took n x) p (record p { refusals = saturated (p.refusals + refusal_by (Takes x)) })
+pub took_step : {T : Type 0} (changes : T → ℕ → ℕ) (job : Job) (n : ℕ) (x : Taken) (p : Share T) → n < takings → IsSomeTaking job x → IsStep changes job (ToTake n) (took n x) p (record p { refusals = saturated (p.refusals + refusal_by (Takes x)) })
 took_step changes job n x p less is = record {
   call = Takes x;
   is = is;
@@ -90,7 +90,7 @@ took_step changes job n x p less is = record {
   ready = took_ready job n x less is;
   fewer = took_fewer n x less;
   few = took_few n x less;
-  counted = record { tallies = same_tallies (changes p.tallies) job.origin.slot; refusals = omega arith; overtakings = omega arith };
+  counted = record { tallies = same_tallies (changes p.tallies) job.origin.slot; refusals = omega arith; overtakings = omega arith; got = refl };
 }
 
 -- an outcome of the ticket's program, request and variables is that of its run
@@ -139,7 +139,7 @@ commit_few n t Overtaken le = retaken_few n (nat_lt n takings) le
 commit_few n t Ended le = omega (arith, le)
 commit_few n t Stranger le = omega (arith, le)
 
-pub commit_step : {T : Type 0} (changes : T → ℕ → ℕ) (job : Job) (n : ℕ) (t : Ticket) (c : Committed) (p : Progress T) (after : T) → IsReady job (ToCommit n t) → IsSomeCommit (run_of t) t c → AreTallied (changes p.tallies) (changes after) t.origin.slot (commit_changes c) → IsStep changes job (ToCommit n t) (after_commit n t c) p (record { tallies = after; refusals = p.refusals; overtakings = saturated (p.overtakings + overtaking_by (Commits c)) })
+pub commit_step : {T : Type 0} (changes : T → ℕ → ℕ) (job : Job) (n : ℕ) (t : Ticket) (c : Committed) (p : Share T) (after : T) → IsReady job (ToCommit n t) → IsSomeCommit (run_of t) t c → AreTallied (changes p.tallies) (changes after) t.origin.slot (commit_changes c) → IsStep changes job (ToCommit n t) (after_commit n t c) p (record p { tallies = after; overtakings = saturated (p.overtakings + overtaking_by (Commits c)) })
 commit_step changes job n t c p after ready is rises = record {
   call = Commits c;
   is = is;
@@ -151,6 +151,7 @@ commit_step changes job n t c p after ready is rises = record {
     tallies = one_tallied (changes p.tallies) (changes after) job.origin.slot (commit_changes c) (subst (λ (o : Origin). AreTallied (changes p.tallies) (changes after) o.slot (commit_changes c)) ready.1 rises);
     refusals = omega arith;
     overtakings = omega arith;
+    got = refl;
   };
 }
 
@@ -166,7 +167,7 @@ made_few : (r : Receipt) (x : Made) → takings + 0 ≤ taken_at (made r x)
 made_few r (Raised serial created) = omega arith
 made_few r AtEnd = omega arith
 
-pub install_step : {T : Type 0} (changes : T → ℕ → ℕ) (job : Job) (program : Program) (x : Made) (p : Progress T) (after : T) → judged (image_of job.ask) ≡ Accepts program → IsSomeInstall program x → AreTallied (changes p.tallies) (changes after) job.origin.slot (install_changes x) → IsStep changes job ToInstall (made (receipt_of program) x) p (record p { tallies = after })
+pub install_step : {T : Type 0} (changes : T → ℕ → ℕ) (job : Job) (program : Program) (x : Made) (p : Share T) (after : T) → judged (image_of job.ask) ≡ Accepts program → IsSomeInstall program x → AreTallied (changes p.tallies) (changes after) job.origin.slot (install_changes x) → IsStep changes job ToInstall (made (receipt_of program) x) p (record p { tallies = after })
 install_step changes job program x p after accepted is rises = record {
   call = Installs program x;
   is = (accepted, is);
@@ -178,6 +179,7 @@ install_step changes job program x p after accepted is rises = record {
     tallies = one_tallied (changes p.tallies) (changes after) job.origin.slot (install_changes x) rises;
     refusals = omega arith;
     overtakings = omega arith;
+    got = refl;
   };
 }
 
@@ -186,7 +188,7 @@ refused_by_ready job f true = tt
 refused_by_ready job f false = tt
 
 -- an image that breaks a rule
-pub reject_step : {T : Type 0} (changes : T → ℕ → ℕ) (job : Job) (f : Fault) (p : Progress T) → IsRefusal (image_of job.ask) (Broken f) → IsStep changes job ToInstall (ToAnswer (refused (Broken f))) p p
+pub reject_step : {T : Type 0} (changes : T → ℕ → ℕ) (job : Job) (f : Fault) (p : Share T) → IsRefusal (image_of job.ask) (Broken f) → IsStep changes job ToInstall (ToAnswer (refused (Broken f))) p p
 reject_step changes job f p is = record {
   call = Refuses (Broken f);
   is = is;
@@ -194,11 +196,11 @@ reject_step changes job f p is = record {
   ready = refused_by_ready job f (nat_lt (number_of f.rule) 20);
   fewer = omega arith;
   few = omega arith;
-  counted = record { tallies = same_tallies (changes p.tallies) job.origin.slot; refusals = omega arith; overtakings = omega arith };
+  counted = record { tallies = same_tallies (changes p.tallies) job.origin.slot; refusals = omega arith; overtakings = omega arith; got = refl };
 }
 
 -- memory that was refused
-pub refuse_step : {T : Type 0} (changes : T → ℕ → ℕ) (job : Job) (p : Progress T) → IsRefusal (image_of job.ask) NoMemory → IsStep changes job ToInstall (ToAnswer Unavailable) p (record p { refusals = saturated (p.refusals + 1) })
+pub refuse_step : {T : Type 0} (changes : T → ℕ → ℕ) (job : Job) (p : Share T) → IsRefusal (image_of job.ask) NoMemory → IsStep changes job ToInstall (ToAnswer Unavailable) p (record p { refusals = saturated (p.refusals + 1) })
 refuse_step changes job p is = record {
   call = Refuses NoMemory;
   is = is;
@@ -206,10 +208,10 @@ refuse_step changes job p is = record {
   ready = tt;
   fewer = omega arith;
   few = omega arith;
-  counted = record { tallies = same_tallies (changes p.tallies) job.origin.slot; refusals = omega arith; overtakings = omega arith };
+  counted = record { tallies = same_tallies (changes p.tallies) job.origin.slot; refusals = omega arith; overtakings = omega arith; got = refl };
 }
 
-pub raise_step : {T : Type 0} (changes : T → ℕ → ℕ) (job : Job) (content : Content) (p : Progress T) → IsOf job content → IsStep changes job (ToRaise content) (ToAnswer content) p p
+pub raise_step : {T : Type 0} (changes : T → ℕ → ℕ) (job : Job) (content : Content) (p : Share T) → IsOf job content → IsStep changes job (ToRaise content) (ToAnswer content) p p
 raise_step changes job content p own = record {
   call = Raises;
   is = tt;
@@ -217,7 +219,7 @@ raise_step changes job content p own = record {
   ready = own;
   fewer = omega arith;
   few = omega arith;
-  counted = record { tallies = same_tallies (changes p.tallies) job.origin.slot; refusals = omega arith; overtakings = omega arith };
+  counted = record { tallies = same_tallies (changes p.tallies) job.origin.slot; refusals = omega arith; overtakings = omega arith; got = refl };
 }
 
 -- ---- the calls so far
@@ -234,14 +236,14 @@ at_first : (job : Job) → first_stage job ≡ stage_after job []
 unfolding stage_after
 at_first job = refl
 
-pub sets_out : {T : Type 0} (changes : T → ℕ → ℕ) (job : Job) (p : Progress T) → Walked changes job (first_stage job) p p
+pub sets_out : {T : Type 0} (changes : T → ℕ → ℕ) (job : Job) (p : Share T) → Walked changes job (first_stage job) p p
 sets_out changes job p = record {
   calls = [];
   are = no_calls job;
   stands = at_first job;
   ready = first_ready job job.ask;
   few = omega arith;
-  counted = record { tallies = same_tallies (changes p.tallies) job.origin.slot; refusals = omega arith; overtakings = omega arith };
+  counted = record { tallies = same_tallies (changes p.tallies) job.origin.slot; refusals = omega arith; overtakings = omega arith; got = refl };
 }
 
 more_calls : (job : Job) (calls : List Call) (call : Call) → AreCalls job calls → IsCallAt job (stage_after job calls) call → AreCalls job (call ∷ calls)
@@ -256,15 +258,16 @@ tallied_on : (b : Bool) (before now after x y : ℕ) → now ≡ before + (if b 
 tallied_on true before now after x y e f = omega (arith, e, f)
 tallied_on false before now after x y e f = omega (arith, e, f)
 
-counts_on : {T : Type 0} (changes : T → ℕ → ℕ) (n : ℕ) (calls : List Call) (call : Call) (before now after : Progress T) → HasCounted changes n calls before now → HasCounted changes n (call ∷ []) now after → HasCounted changes n (call ∷ calls) before after
+counts_on : {T : Type 0} (changes : T → ℕ → ℕ) (n : ℕ) (calls : List Call) (call : Call) (before now after : Share T) → HasCounted changes n calls before now → HasCounted changes n (call ∷ []) now after → HasCounted changes n (call ∷ calls) before after
 counts_on changes n calls call before now after c d = record {
   tallies = λ shard less. tallied_on (shard == n % 8) (changes before.tallies shard) (changes now.tallies shard) (changes after.tallies shard) (total changes_by calls) (changes_by call) (c.tallies shard less) (d.tallies shard less);
   refusals = omega (arith, c.refusals, d.refusals);
   overtakings = omega (arith, c.overtakings, d.overtakings);
+  got = d.got ∙ c.got;
 }
 
 -- one more step, from a stage that is this one
-pub walks_on : {T : Type 0} (changes : T → ℕ → ℕ) (job : Job) {stage at next : Stage} {before now after : Progress T} → stage ≡ at → Walked changes job stage before now → IsStep changes job at next now after → Walked changes job next before after
+pub walks_on : {T : Type 0} (changes : T → ℕ → ℕ) (job : Job) {stage at next : Stage} {before now after : Share T} → stage ≡ at → Walked changes job stage before now → IsStep changes job at next now after → Walked changes job next before after
 walks_on changes job {stage} {at} {next} {before} {now} {after} e w s =
     let here = sym e ∙ w.stands in
     record {
@@ -276,7 +279,7 @@ walks_on changes job {stage} {at} {next} {before} {now} {after} e w s =
       counted = counts_on changes job.origin.slot w.calls s.call before now after w.counted s.counted;
     }
 
-pub arrives : {T : Type 0} (changes : T → ℕ → ℕ) (job : Job) (stage : Stage) (content : Content) (before now : Progress T) → stage ≡ ToAnswer content → Walked changes job stage before now → IsWorkedOff changes job content before now
+pub arrives : {T : Type 0} (changes : T → ℕ → ℕ) (job : Job) (stage : Stage) (content : Content) (before now : Share T) → stage ≡ ToAnswer content → Walked changes job stage before now → IsWorkedOff changes job content before now
 arrives changes job stage content before now e w = record {
   calls = w.calls;
   are = w.are;

@@ -1,6 +1,10 @@
 -- What a call answers at some slot, and what is tallied of it. Which slot it was is not said: between two calls of a job,
 -- others change the slots.
-use Rattle.std.specs.Prelude.{◌≡◌, ℕ, ◌+◌, ◌%◌, ◌<◌, ◌==◌, if◌then◌else◌, min}
+use Rattle.std.specs.Prelude.{◌≡◌, ℕ, ◌+◌, ◌%◌, ◌<◌, ◌==◌, if◌then◌else◌, List, min}
+use Rattle.coap_msg.specs.declared.types.Endpoint.{Endpoint}
+use Rattle.fc_core.specs.declared.front.Delivered.{Delivered}
+use Rattle.fc_core.specs.Exchanges.{FrontState}
+use Rattle.fc_core.specs.Receiving.{delivered}
 use Rattle.fc_kinds.specs.Meaning.{Program}
 use Rattle.fc_machine.specs.Ran.{Ran}
 use Rattle.fc_registry.specs.declared.job.Job.{Job}
@@ -11,6 +15,11 @@ use Rattle.fc_registry.specs.declared.commit.Committed.{Committed}
 use Rattle.fc_registry.specs.declared.commit.Committed.TheVariants.{Done}
 use Rattle.fc_registry.specs.Slots.{Slot, Ticket}
 use Rattle.fc_registry.specs.Calls.{IsTaking, IsCommit, install_in}
+
+-- a delivery to a front that holds something answers this
+pub record IsSomeDelivery (to : Endpoint) (bytes : List ℕ) (answer : Delivered) : Type 0 where
+  pub front : FrontState
+  pub answer_is : answer ≡ delivered front to bytes
 
 -- a taking of the job at some slot answers this
 pub record IsSomeTaking (job : Job) (taken : Taken) : Type 0 where

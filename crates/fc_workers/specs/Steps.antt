@@ -5,7 +5,7 @@ use Rattle.fc_core.specs.declared.stage.Stage.{Stage}
 use Rattle.fc_core.specs.declared.stage.Stage.TheVariants.{ToTake, ToCommit, ToInstall, ToRaise, ToAnswer, Gone}
 use Rattle.fc_core.specs.Contents.{IsOf}
 use Rattle.fc_core.specs.Stages.{takings}
-use Rattle.fc_workers.specs.declared.work.Progress.{Progress}
+use Rattle.fc_workers.specs.declared.share.Share.{Share}
 use Rattle.fc_workers.specs.Work.{Call, next_stage, IsCallAt, taking_by, HasCounted}
 
 -- a job that is to take may take once more; a ticket is its job's, and so is an answer
@@ -31,7 +31,7 @@ taken_at (ToTake n) = n
 taken_at (ToCommit n t) = n
 taken_at other = takings
 
-pub record IsStep {T : Type 0} (changes : T → ℕ → ℕ) (job : Job) (old new : Stage) (before after : Progress T) : Type 0 where
+pub record IsStep {T : Type 0} (changes : T → ℕ → ℕ) (job : Job) (old new : Stage) (before after : Share T) : Type 0 where
   pub call : Call
   pub is : IsCallAt job old call
   pub next : new ≡ next_stage old call

@@ -1,10 +1,10 @@
 //! What workers work at.
 ghost use Rattle.std.specs.Prelude.{◌≡◌, ℕ, ◌+◌, ◌<◌};
 ghost use Rattle.fc_core.specs.Contents.{IsOf};
-ghost use Rattle.fc_workers.specs.Answers.{AreTallied, IsSomeCommit, IsSomeInstall, IsSomeTaking, commit_changes, install_changes, saturated};
+ghost use Rattle.fc_workers.specs.Answers.{AreTallied, IsSomeCommit, IsSomeDelivery, IsSomeInstall, IsSomeTaking, commit_changes, install_changes, saturated};
 
-use coap_msg::Emission;
-use fc_core::Answer;
+use coap_msg::{Emission, Endpoint};
+use fc_core::{Answer, Delivered};
 use fc_machine::Outcome;
 use fc_registry::{Committed, Job, Made, SlotNumber, Taken, Ticket};
 use fc_verify::Verified;
@@ -25,6 +25,13 @@ pub trait Bench {
 
     // How many jobs it ended. The count stops at 2^64 - 1.
     ghost ended: { Self.Tallies → ℕ };
+
+    /// Takes a datagram in, at a moment in milliseconds, as [`Front::deliver`](fc_core::Front::deliver) does.
+    fn deliver<R: Wait>(&self, rt: &R, now: u64, endpoint: Endpoint, bytes: &[u8]) -> Delivered
+        ensures { IsSomeDelivery endpoint bytes.now result };
+
+    /// Advances the front to a moment in milliseconds, as [`Front::tick`](fc_core::Front::tick) does.
+    fn tick<R: Wait>(&self, rt: &R, now: u64);
 
     /// Takes what a job finds in its slot, as [`Shard::take`](fc_registry::Shard::take) does.
     fn take<R: Wait>(&self, rt: &R, job: &Job) -> Taken

@@ -11,4 +11,4 @@ returns-clause-step g c =
     let own = is_run c.run-outcome.result t _ _ _ c.run-outcome.ensures.made c.program.ensures c.request.ensures c.vars.ensures.vars in
     let is = subst (λ (r : Ran). IsSomeCommit r t c.commit-committed.result) own c.commit-committed.ensures.committed in
     is_step g.B.Bench.changes c.args.job.now (ToCommit c.args.count t) c.committed.ensures c.count_commit.ensures
-    (commit_step g.B.Bench.changes c.args.job.now c.args.count t c.commit-committed.result c.args.progress.now c.commit-committed.new.tallies c.requires is c.commit-committed.ensures.changes)
+    (commit_step g.B.Bench.changes c.args.job.now c.args.count t c.commit-committed.result c.args.share.now c.commit-committed.new.tallies c.requires is c.commit-committed.ensures.changes)

@@ -11,11 +11,11 @@ returns-in-Err-Broken-clause-step g c =
     let here = subst (λ (image : List ℕ). IsRefusal image c.in-Err-Broken.field-0) c.image.ensures c.in-Err-Broken.ensures.refused in
     let is = subst (λ (r : Refusal). IsRefusal (image_of c.args.job.now.ask) r) c.in-Err-Broken.field-0-is here in
     is_step g.B.Bench.changes c.args.job.now ToInstall c.rejected.ensures refl
-    (reject_step g.B.Bench.changes c.args.job.now c.in-Err-Broken.fault c.args.progress.now is)
+    (reject_step g.B.Bench.changes c.args.job.now c.in-Err-Broken.fault c.args.share.now is)
 
 pub returns-in-Err-NoMemory-clause-step : goal.returns-in-Err-NoMemory-clause-step
 returns-in-Err-NoMemory-clause-step g c =
     let here = subst (λ (image : List ℕ). IsRefusal image c.in-Err-NoMemory.field-0) c.image.ensures c.in-Err-NoMemory.ensures.refused in
     let is = subst (λ (r : Refusal). IsRefusal (image_of c.args.job.now.ask) r) c.in-Err-NoMemory.field-0-is here in
     is_step g.B.Bench.changes c.args.job.now ToInstall c.unavailable.ensures c.count_refusal.ensures
-    (refuse_step g.B.Bench.changes c.args.job.now c.args.progress.now is)
+    (refuse_step g.B.Bench.changes c.args.job.now c.args.share.now is)

@@ -12,9 +12,9 @@ returns-in-Ok-clause-step g c =
     let next = c.made.ensures ∙ ap (λ (r : Receipt). made r c.install-made.result) c.receipt_of-receipt.ensures in
     let is = subst (λ (p : Program). IsSomeInstall p c.install-made.result) c.in-Ok.ensures.ok c.install-made.ensures.made in
     is_step g.B.Bench.changes c.args.job.now ToInstall next refl
-    (install_step g.B.Bench.changes c.args.job.now c.args.program c.install-made.result c.args.progress.now c.install-made.new.tallies c.requires.judged is c.install-made.ensures.changes)
+    (install_step g.B.Bench.changes c.args.job.now c.args.program c.install-made.result c.args.share.now c.install-made.new.tallies c.requires.judged is c.install-made.ensures.changes)
 
 pub returns-clause-step : goal.returns-clause-step
 returns-clause-step g c =
     is_step g.B.Bench.changes c.args.job.now ToInstall c.unavailable.ensures c.count_refusal.ensures
-    (refuse_step g.B.Bench.changes c.args.job.now c.args.progress.now c.requires.accepted.shapely.program.head)
+    (refuse_step g.B.Bench.changes c.args.job.now c.args.share.now c.requires.accepted.shapely.program.head)

@@ -1,0 +1,182 @@
+//! Playing lines by workers: the job of a line is worked off by one of them, before the next line is read.
+ghost use Rattle.std.specs.Prelude.{◌≡◌};
+
+use crate::line::{Line, LineError, parse};
+use crate::play::{Stop, endpoint, print};
+use coap_msg::{Emission, Endpoint};
+use fc_core::Delivered;
+use fc_core::front::blank_emission;
+use fc_jobs::{Jobs, Sent};
+use fc_workers::{Bench, Gate, Moments, Wire};
+use std::alloc::{AllocError, Global};
+use std::io::{BufRead, Write};
+use std::sync::atomic::{AtomicU64, Ordering};
+use std::sync::{Condvar, Mutex, Wait};
+
+// Whether a worker is at a line's job, and what it has sent.
+#[derive(Drop)]
+struct Work {
+    busy: bool,
+    reply: Option<Emission>,
+}
+
+// Where the player waits for the worker that has a line's job. The moment is that of the line.
+#[derive(Drop)]
+pub(crate) struct Board {
+    work: Mutex<Work>,
+    done: Condvar,
+    now: AtomicU64,
+}
+
+impl Board {
+    pub(crate) fn new() -> Board {
+        let work = Work {
+            busy: false,
+            reply: None,
+        };
+        Board {
+            work: Mutex::new(work),
+            done: Condvar::new(),
+            now: AtomicU64::new(0),
+        }
+    }
+
+    // Says that a job of this moment is about to be sent.
+    fn begin<R: Wait>(&self, rt: &R, now: u64) {
+        self.now.store(now, Ordering::SeqCst);
+        let mut work = self.work.lock(rt);
+        work.busy = true;
+        work.reply = None;
+    }
+
+    // Waits until the job was worked off: what was sent for it.
+    fn wait<R: Wait>(&self, rt: &R) -> Option<Emission> {
+        let mut work = self.done.wait_while(rt, self.work.lock(rt), |work| work.busy);
+        work.reply.take()
+    }
+}
+
+impl Wire for Board {
+    fn send<R: Wait>(&self, rt: &R, number: u64, emission: &Emission) -> bool {
+        let _ = number;
+        let mut work = self.work.lock(rt);
+        work.reply = Some(copy(emission));
+        true
+    }
+
+    fn ended<R: Wait>(&self, rt: &R, number: u64) {
+        let _ = number;
+        let mut work = self.work.lock(rt);
+        work.busy = false;
+        self.done.notify_all();
+    }
+}
+
+impl Moments for Board {
+    fn now<R: Wait>(&self, rt: &R) -> u64 {
+        let _ = rt;
+        self.now.load(Ordering::SeqCst)
+    }
+}
+
+// No job is held up.
+#[derive(Drop)]
+pub(crate) struct Open;
+
+impl Gate for Open {
+    fn between<R: Wait>(&self, rt: &R, number: u64) {
+        let _ = rt;
+        let _ = number;
+    }
+}
+
+fn copy(emission: &Emission) -> Emission {
+    let mut copy = blank_emission();
+    copy.to = emission.to;
+    let _fits = copy.bytes.try_extend_from_slice(emission.bytes.as_slice());
+    copy
+}
+
+// What a line needs: the bench, the channel to the workers, and where they are waited for.
+#[derive(Drop)]
+pub(crate) struct Desk<'a, B: Bench> {
+    pub(crate) bench: &'a B,
+    pub(crate) jobs: &'a Jobs,
+    pub(crate) board: &'a Board,
+}
+
+impl<'a, B: Bench> Desk<'a, B> {
+    // Carries out the lines, each in turn, and prints what each sends.
+    pub(crate) fn play<R: Wait, I: BufRead + Drop, W: Write>(
+        &self,
+        rt: &R,
+        alloc: Global,
+        mut sent: Sent,
+        input: I,
+        out: &mut W,
+    ) -> Result<(), Stop>
+        requires { sent.channel ≡ self.now.jobs.now }
+    {
+        let mut number = 0u64;
+        for text in input.split(alloc, b'\n') {
+            number = number.saturating_add(1);
+            let text = text.map_err(Stop::Input)?;
+            match parse(alloc, &text) {
+                Ok(line) => self.carry_out(rt, &mut sent, &line, out)?,
+                Err(LineError::Bad) => return Err(Stop::BadLine(number)),
+                Err(LineError::NoMemory) => return Err(Stop::Memory(AllocError)),
+            }
+        }
+        Ok(())
+    }
+
+    // Carries out a line, and prints what it sends.
+    fn carry_out<R: Wait, W: Write>(
+        &self,
+        rt: &R,
+        sent: &mut Sent,
+        line: &Line,
+        out: &mut W,
+    ) -> Result<(), Stop>
+        requires { sent.old.channel ≡ self.now.jobs.now }
+        ensures { sent.new.channel ≡ sent.old.channel }
+    {
+        match line {
+            Line::Tick { now } => {
+                self.bench.tick(rt, *now);
+                Ok(())
+            }
+            Line::Deliver { now, peer, bytes } => {
+                match self.hear(rt, sent, *now, endpoint(*peer), bytes)? {
+                    Some(emission) => print(out, &emission).map_err(Stop::Output),
+                    None => Ok(()),
+                }
+            }
+        }
+    }
+
+    // Takes a datagram in, and has the job that it brings worked off: what is sent.
+    fn hear<R: Wait>(
+        &self,
+        rt: &R,
+        sent: &mut Sent,
+        now: u64,
+        endpoint: Endpoint,
+        bytes: &[u8],
+    ) -> Result<Option<Emission>, Stop>
+        requires { sent.old.channel ≡ self.now.jobs.now }
+        ensures { sent.new.channel ≡ sent.old.channel }
+    {
+        match self.bench.deliver(rt, now, endpoint, bytes) {
+            Delivered::Nothing | Delivered::Signal { .. } => Ok(None),
+            Delivered::Reply(emission) => Ok(Some(emission)),
+            Delivered::Job(job) => {
+                self.board.begin(rt, now);
+                match self.jobs.send(rt, job, sent) {
+                    None => Ok(self.board.wait(rt)),
+                    Some(_) => Err(Stop::Memory(AllocError)),
+                }
+            }
+        }
+    }
+}
