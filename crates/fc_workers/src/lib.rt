@@ -2,12 +2,14 @@
 #![tactic(auto)]
 
 pub mod bench;
+pub mod pool;
 pub mod seat;
 pub mod share;
 pub mod work;
 pub mod workshop;
 
 pub use bench::Bench;
+pub use pool::staff;
 pub use seat::{Seat, worker};
 pub use share::Share;
 pub use workshop::{Gate, Moments, Wire, Workshop};
