@@ -1,12 +1,28 @@
 -- What a worker's share says of the jobs that it got.
-use Rattle.std.specs.Prelude.{◌≡◌, ℕ, List, ◌++◌, length}
-use Rattle.fc_jobs.specs.Ends.{Got}
+use Rattle.std.specs.Prelude.{◌≡◌, ℕ, ◌+◌, List, [], ◌∷◌, ◌++◌, length, reverse}
+use Rattle.fc_jobs.specs.Ends.{Got, with_got}
 use Rattle.fc_jobs.specs.declared.protocol.Numbered.{Numbered}
 use Rattle.fc_workers.specs.declared.share.Share.{Share}
-use Rattle.fc_workers.specs.Answers.{HasRisen}
+use Rattle.fc_workers.specs.Answers.{HasRisen, saturated}
+use Rattle.fc_workers.specs.Work.{IsWorked}
 
--- the worker got these jobs besides, and ended as many
-pub record HasEnded {T : Type 0} (ended : T → ℕ) (got : Got) (tallies : T) (share : Share T) : Type 0 where
+-- the share of a worker that hasn't begun
+abbrev pub new_share : {T : Type 0} → Got → T → Share T
+new_share got tallies = record { tallies = tallies; got = got; sent = 0; failed = 0; refusals = 0; overtakings = 0 }
+
+-- the worker got a job, worked it off, and ended it
+pub record IsTurn {T : Type 0} (changes : T → ℕ → ℕ) (ended : T → ℕ) (n : Numbered) (before after : Share T) : Type 0 where
+  pub worked : IsWorked changes n.job (record before { got = with_got before.got n.number n.job }) after
+  pub ends : ended after.tallies ≡ saturated (ended before.tallies + 1)
+
+-- one job after the other, the newest first
+unfoldable pub AreTurns : {T : Type 0} → (T → ℕ → ℕ) → (T → ℕ) → List Numbered → Share T → Share T → Type 0
+AreTurns changes ended [] before after = after ≡ before
+AreTurns {T} changes ended (n ∷ ns) before after = (now : Share T) × (AreTurns changes ended ns before now × IsTurn changes ended n now after)
+
+-- the worker got these jobs besides, worked each off, and has ended as many
+pub record HasEnded {T : Type 0} (changes : T → ℕ → ℕ) (ended : T → ℕ) (before after : Share T) : Type 0 where
   pub jobs : List Numbered
-  pub more : share.got ≡ record got { got = got.got ++ jobs }
-  pub count : HasRisen (ended tallies) (length jobs) (ended share.tallies)
+  pub turns : AreTurns changes ended jobs before after
+  pub got : after.got ≡ record before.got { got = before.got.got ++ reverse jobs }
+  pub count : HasRisen (ended before.tallies) (length jobs) (ended after.tallies)

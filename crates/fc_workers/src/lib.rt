@@ -3,15 +3,21 @@
 
 pub mod bench;
 pub mod counted;
+pub mod pool;
 pub mod seat;
+pub mod server;
 pub mod share;
+pub mod tallies;
 pub mod tally;
 pub mod work;
 pub mod workshop;
 
 pub use bench::Bench;
 pub use counted::Counted;
+pub use pool::staff;
 pub use seat::{Seat, worker};
+pub use server::Locked;
 pub use share::Share;
+pub use tallies::Tallies;
 pub use tally::Tally;
 pub use workshop::{Gate, Moments, Wire, Workshop};

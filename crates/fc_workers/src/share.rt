@@ -1,6 +1,7 @@
 //! What a worker has done.
 ghost use Rattle.std.specs.Prelude.{◌≡◌, ◌+◌, if◌then◌else◌};
 ghost use Rattle.fc_workers.specs.Answers.{saturated};
+ghost use Rattle.fc_workers.specs.Shares.{new_share};
 ghost use Rattle.fc_workers.specs.Work.{Commits, Takes, overtaking_by, refusal_by};
 
 use fc_jobs::Got;
@@ -21,14 +22,7 @@ pub struct Share<T: Drop> {
 impl<T: Drop> Share<T> {
     /// The share of a worker that hasn't begun.
     pub fn new(got: Got, tallies: T) -> Share<T>
-        ensures { result ≡ record {
-          tallies = tallies;
-          got = got;
-          sent = 0;
-          failed = 0;
-          refusals = 0;
-          overtakings = 0;
-        } }
+        ensures { result ≡ new_share got tallies }
     {
         Share {
             tallies,
