@@ -1,5 +1,5 @@
 -- Shards whose changes are counted, and tallies, as a clause sees them.
-use Rattle.std.specs.Prelude.{◌≡◌, ℕ, ◌+◌, length, sum_by}
+use Rattle.std.specs.Prelude.{◌≡◌, ℕ, ◌+◌, List, length, sum_by}
 use Rattle.fc_registry.specs.Slots.{Slot, Shard}
 
 abbrev pub serial_of : Slot → ℕ
@@ -24,3 +24,8 @@ pub record Tally : Type 0 where
 
 abbrev pub counts : Tally → ℕ → Tally
 counts tally changes = record tally { changes = tally.changes + changes }
+
+-- a worker's tallies: the changes of shards 0 to 7, and the jobs that the worker ended
+pub record Tallies : Type 0 where
+  pub changes : List ℕ
+  pub ended : ℕ

@@ -1,0 +1,97 @@
+//! The tallies of eight shards.
+ghost use Rattle.std.specs.Prelude.{◌≡◌, ◌+◌, ◌<◌, slice_index};
+ghost use Rattle.fc_workers.specs.Answers.{saturated};
+
+use crate::tally::Tally;
+use std::marker::Model;
+use std::sync::ledger::Ledger;
+
+/// What one worker changed in each of the eight shards, one part of each book, and how many jobs it ended, up to 2^64 - 1.
+/// A clause sees the changes of shards 0 to 7, and the jobs.
+#[derive(Drop)]
+pub struct Tallies<
+    L0: Ledger,
+    L1: Ledger,
+    L2: Ledger,
+    L3: Ledger,
+    L4: Ledger,
+    L5: Ledger,
+    L6: Ledger,
+    L7: Ledger,
+> {
+    pub(crate) tally0: Tally<L0>,
+    pub(crate) tally1: Tally<L1>,
+    pub(crate) tally2: Tally<L2>,
+    pub(crate) tally3: Tally<L3>,
+    pub(crate) tally4: Tally<L4>,
+    pub(crate) tally5: Tally<L5>,
+    pub(crate) tally6: Tally<L6>,
+    pub(crate) tally7: Tally<L7>,
+    pub(crate) ended: u64,
+}
+
+impl<
+    L0: Ledger,
+    L1: Ledger,
+    L2: Ledger,
+    L3: Ledger,
+    L4: Ledger,
+    L5: Ledger,
+    L6: Ledger,
+    L7: Ledger,
+> Model for Tallies<L0, L1, L2, L3, L4, L5, L6, L7> {
+    ghost use Rattle.fc_workers.specs.Counts.{Tallies as Seen};
+
+    ghost Value = { Seen };
+
+    ghost use Rattle.std.specs.Prelude.{◌≡◌, [], ◌∷◌};
+
+    ghost view = { λ t. record {
+      changes = t.tally0.changes ∷ t.tally1.changes ∷ t.tally2.changes ∷ t.tally3.changes ∷ t.tally4.changes ∷ t.tally5.changes ∷ t.tally6.changes ∷ t.tally7.changes ∷ [];
+      ended = t.ended;
+    } };
+
+    ghost invariant = { λ t. (t.tally0.parts ≡ 1) × (t.tally1.parts ≡ 1) × (t.tally2.parts ≡ 1) × (t.tally3.parts ≡ 1) × (t.tally4.parts ≡ 1) × (t.tally5.parts ≡ 1) × (t.tally6.parts ≡ 1) × (t.tally7.parts ≡ 1) };
+}
+
+impl<
+    L0: Ledger,
+    L1: Ledger,
+    L2: Ledger,
+    L3: Ledger,
+    L4: Ledger,
+    L5: Ledger,
+    L6: Ledger,
+    L7: Ledger,
+> Tallies<L0, L1, L2, L3, L4, L5, L6, L7> {
+    /// The changes of a shard, by its index, up to 2^64 - 1.
+    pub fn shown(&self, shard: usize) -> u64
+        requires { shard < 8 }
+        ensures { result ≡ saturated (slice_index self.now.changes shard) }
+    {
+        match shard {
+            0 => self.tally0.shown(),
+            1 => self.tally1.shown(),
+            2 => self.tally2.shown(),
+            3 => self.tally3.shown(),
+            4 => self.tally4.shown(),
+            5 => self.tally5.shown(),
+            6 => self.tally6.shown(),
+            _ => self.tally7.shown(),
+        }
+    }
+
+    /// How many jobs it ended, up to 2^64 - 1.
+    pub fn ended(&self) -> u64
+        ensures { result ≡ self.now.ended }
+    {
+        self.ended
+    }
+
+    // One job more has ended.
+    pub(crate) fn end_job(&mut self)
+        ensures { self.new ≡ record self.old { ended = saturated (self.old.ended + 1) } }
+    {
+        self.ended = self.ended.saturating_add(1);
+    }
+}
