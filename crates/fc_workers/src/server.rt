@@ -6,8 +6,8 @@ ghost use Rattle.fc_workers.specs.Answers.{AreTallied, IsSomeCommit, IsSomeInsta
 use crate::bench::Bench;
 use crate::counted::Counted;
 use crate::tallies::Tallies;
-use coap_msg::Emission;
-use fc_core::{Answer, Answered, Front};
+use coap_msg::{Emission, Endpoint};
+use fc_core::{Answer, Answered, Delivered, Front};
 use fc_machine::Outcome;
 use fc_registry::{Committed, Job, Made, SlotNumber, Taken, Ticket};
 use fc_verify::Verified;
@@ -172,6 +172,16 @@ impl<
     ghost changes = { λ t. slice_index t.changes };
 
     ghost ended = { λ t. t.ended };
+
+    fn deliver<R: Wait>(&self, rt: &R, now: u64, endpoint: Endpoint, bytes: &[u8]) -> Delivered {
+        let mut state = self.state.lock(rt);
+        state.front.deliver(now, endpoint, bytes)
+    }
+
+    fn tick<R: Wait>(&self, rt: &R, now: u64) {
+        let mut state = self.state.lock(rt);
+        state.front.tick(now);
+    }
 
     fn take<R: Wait>(&self, rt: &R, job: &Job) -> Taken {
         let mut state = self.state.lock(rt);
