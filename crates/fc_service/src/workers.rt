@@ -1,5 +1,8 @@
 //! Playing lines by workers: the job of a line is worked off by one of them, before the next line is read.
-ghost use Rattle.std.specs.Prelude.{◌≡◌};
+ghost use Rattle.std.specs.Prelude.{◌≡◌, Option, OnOk};
+ghost use Rattle.std.specs.Io.KnownBytes.{Appends};
+ghost use Rattle.coap_msg.specs.declared.types.Emission.{Emission as Emitted};
+ghost use Rattle.fc_service.specs.Playing.{output_of};
 
 use crate::line::{Line, LineError, parse};
 use crate::play::{Stop, endpoint, print};
@@ -9,6 +12,7 @@ use fc_core::front::blank_emission;
 use fc_jobs::{Jobs, Sent};
 use fc_workers::{Bench, Gate, Moments, Wire};
 use std::alloc::{AllocError, Global};
+use std::io;
 use std::io::{BufRead, Write};
 use std::sync::atomic::{AtomicU64, Ordering};
 use std::sync::{Condvar, Mutex, Wait};
@@ -97,6 +101,16 @@ fn copy(emission: &Emission) -> Emission {
     copy
 }
 
+// Prints what was sent, if anything.
+fn print_sent<W: Write>(out: &mut W, emission: &Option<Emission>) -> io::Result<()>
+    ensures { OnOk result (Appends (W.contents out.old) (W.contents out.new) (output_of emission.now)) }
+{
+    match emission {
+        Some(emission) => print(out, emission),
+        None => Ok(()),
+    }
+}
+
 // What a line needs: the bench, the channel to the workers, and where they are waited for.
 #[derive(Drop)]
 pub(crate) struct Desk<'a, B: Bench> {
@@ -139,7 +153,9 @@ impl<'a, B: Bench> Desk<'a, B> {
         out: &mut W,
     ) -> Result<(), Stop>
         requires { sent.old.channel ≡ self.now.jobs.now }
-        ensures { sent.new.channel ≡ sent.old.channel }
+        ensures channel { sent.new.channel ≡ sent.old.channel }
+        ensures printed { (emission : Option Emitted)
+            × OnOk result (Appends (W.contents out.old) (W.contents out.new) (output_of emission)) }
     {
         match line {
             Line::Tick { now } => {
@@ -147,10 +163,8 @@ impl<'a, B: Bench> Desk<'a, B> {
                 Ok(())
             }
             Line::Deliver { now, peer, bytes } => {
-                match self.hear(rt, sent, *now, endpoint(*peer), bytes)? {
-                    Some(emission) => print(out, &emission).map_err(Stop::Output),
-                    None => Ok(()),
-                }
+                let emission = self.hear(rt, sent, *now, endpoint(*peer), bytes)?;
+                print_sent(out, &emission).map_err(Stop::Output)
             }
         }
     }
