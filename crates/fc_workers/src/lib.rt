@@ -9,7 +9,7 @@ pub mod work;
 pub mod workshop;
 
 pub use bench::Bench;
-pub use pool::staff;
+pub use pool::{feed_workers, run_workers};
 pub use seat::{Seat, worker};
 pub use share::Share;
 pub use workshop::{Gate, Moments, Wire, Workshop};
