@@ -1,14 +1,12 @@
 -- A worker's jobs, one after the other.
-use Rattle.std.proofs.Common.{◌≡◌, ℕ, ◌+◌, List, [], ◌∷◌, ◌++◌, length, arith, refl, sym, ap, subst, ◌∙◌}
+use Rattle.std.proofs.Common.{◌≡◌, ℕ, List, [], ◌∷◌, ◌++◌, arith, refl, sym, ap, ◌∙◌}
 use Rattle.std.specs.Prelude.{reverse}
 use Rattle.std.proofs.lemmas.List.{append-nil, append_assoc}
 use Rattle.std.proofs.lemmas.Grind.{reverse_onto}
 use Rattle.fc_jobs.specs.Ends.{Got, with_got}
 use Rattle.fc_jobs.specs.declared.protocol.Numbered.{Numbered}
 use Rattle.fc_workers.specs.declared.share.Share.{Share}
-use Rattle.fc_workers.specs.Answers.{HasRisen, saturated}
 use Rattle.fc_workers.specs.Shares.{AreTurns, HasEnded, IsTurn}
-use Rattle.fc_workers.specs.Work.{IsWorked}
 
 no_turns : {T : Type 0} (changes : T → ℕ → ℕ) (ended : T → ℕ) (s : Share T) → AreTurns changes ended [] s s
 unfolding AreTurns

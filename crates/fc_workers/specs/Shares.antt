@@ -1,7 +1,8 @@
 -- What a worker's share says of the jobs that it got.
-use Rattle.std.specs.Prelude.{◌≡◌, ℕ, ◌+◌, List, [], ◌∷◌, ◌++◌, length, reverse}
+use Rattle.std.specs.Prelude.{◌≡◌, ℕ, ◌+◌, ◌<◌, List, [], ◌∷◌, ◌++◌, length, reverse, slice_index_or}
 use Rattle.fc_jobs.specs.Ends.{Got, with_got}
 use Rattle.fc_jobs.specs.declared.protocol.Numbered.{Numbered}
+use Rattle.fc_workers.specs.declared.seat.Seat.{Seat}
 use Rattle.fc_workers.specs.declared.share.Share.{Share}
 use Rattle.fc_workers.specs.Answers.{HasRisen, saturated}
 use Rattle.fc_workers.specs.Work.{IsWorked}
@@ -26,3 +27,12 @@ pub record HasEnded {T : Type 0} (changes : T → ℕ → ℕ) (ended : T → �
   pub turns : AreTurns changes ended jobs before after
   pub got : after.got ≡ record before.got { got = before.got.got ++ reverse jobs }
   pub count : HasRisen (ended before.tallies) (length jobs) (ended after.tallies)
+
+-- the share of the worker at a seat
+abbrev pub IsShareOf : {T : Type 0} → (T → ℕ → ℕ) → (T → ℕ) → Seat T → Share T → Type 0
+IsShareOf changes ended seat share = HasEnded changes ended (new_share seat.got seat.tallies) share
+
+-- each seat's share, in the order of the seats
+pub record AreSharesOf {T : Type 0} (changes : T → ℕ → ℕ) (ended : T → ℕ) (seats : List (Seat T)) (shares : List (Share T)) : Type 0 where
+  pub count : length shares ≡ length seats
+  pub each : (i : ℕ) (seat : Seat T) (share : Share T) → i < length seats → IsShareOf changes ended (slice_index_or seats i seat) (slice_index_or shares i share)

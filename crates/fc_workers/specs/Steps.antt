@@ -31,11 +31,16 @@ taken_at (ToTake n) = n
 taken_at (ToCommit n t) = n
 taken_at other = takings
 
+-- a stage that a call, of so many takings, can lead to: the job is ready for it, and it is nearer to the end
+pub record Follows (job : Job) (old : Stage) (takes : ℕ) (new : Stage) : Type 0 where
+  pub ready : IsReady job new
+  pub fewer : left new < left old
+  pub few : taken_at old + takes ≤ taken_at new
+
+-- a call, and the stage and the share that it leaves
 pub record IsStep {T : Type 0} (changes : T → ℕ → ℕ) (job : Job) (old new : Stage) (before after : Share T) : Type 0 where
   pub call : Call
   pub is : IsCallAt job old call
   pub next : new ≡ next_stage old call
-  pub ready : IsReady job new
-  pub fewer : left new < left old
-  pub few : taken_at old + taking_by call ≤ taken_at new
+  pub follows : Follows job old (taking_by call) new
   pub counted : HasCounted changes job.origin.slot (call ∷ []) before after

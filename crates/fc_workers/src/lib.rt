@@ -14,7 +14,7 @@ pub mod workshop;
 
 pub use bench::Bench;
 pub use counted::Counted;
-pub use pool::staff;
+pub use pool::{feed_workers, run_workers};
 pub use seat::{Seat, worker};
 pub use server::Locked;
 pub use share::Share;

@@ -1,6 +1,7 @@
 //! Workers in threads of their own.
-ghost use Rattle.std.specs.Prelude.{◌≡◌, IfOk, length};
+ghost use Rattle.std.specs.Prelude.{◌≡◌, IfOk};
 ghost use Rattle.std.specs.List.{All};
+ghost use Rattle.fc_workers.specs.Shares.{AreSharesOf, IsShareOf};
 
 use crate::bench::Bench;
 use crate::seat::{Seat, worker};
@@ -12,21 +13,66 @@ use std::sync::Wait;
 use std::thread;
 use std::thread::Threads;
 
-/// Works jobs off with a worker at each seat, until the channel is closed and empty. Each seat comes back as a share, in the
-/// order of the seats. Where no thread can be had, the workers take turns.
+/// Runs a worker at each seat, in threads of their own, until the channel is closed and empty: the share of each, in the order
+/// of the seats. Where no thread can be made, the workers run one after another.
 ///
 /// # Errors
-/// There was no memory for the threads; then no job was got.
-pub fn staff<B: Bench + Sync, G: Gate + Sync, W: Wire + Sync, M: Moments + Sync, R: Threads + Wait + Sync>(
+/// There was no memory for the list of shares: then they are lost, and some seats may have had no worker.
+pub fn run_workers<
+    B: Bench + Sync,
+    G: Gate + Sync,
+    W: Wire + Sync,
+    M: Moments + Sync,
+    R: Threads + Wait + Sync,
+>(
     rt: &R,
     workshop: &Workshop<'_, B, G, W, M>,
     jobs: &Jobs,
     seats: Vec<Seat<B::Tallies>>,
 ) -> Result<Vec<Share<B::Tallies>>, AllocError>
     requires { All (λ s. s.got.channel ≡ jobs.now) seats.items }
-    ensures { IfOk result (λ v. length v.items ≡ length seats.items) }
+    ensures { IfOk result (λ v. AreSharesOf B.changes B.ended seats.items v.items) }
 {
-    thread::map_vec(rt, seats, &|seat: Seat<B::Tallies>| -> Share<B::Tallies>
-        requires { seat.got.channel ≡ jobs.now }
-    { worker(rt, workshop, jobs, seat) })
+    thread::map_vec(
+        rt,
+        seats,
+        &|seat: Seat<B::Tallies>| -> Share<B::Tallies>
+            requires { seat.got.channel ≡ jobs.now }
+            ensures { IsShareOf B.changes B.ended seat result }
+        { worker(rt, workshop, jobs, seat) },
+    )
+}
+
+/// Runs a worker at each seat, as `run_workers` does, and beside them a feeder, in the caller's own thread: what the feeder
+/// gives, and the shares. The feeder sends the jobs, and owns the end that sends: the channel is closed when it has returned,
+/// and the workers come to their end. Where no thread can be made, it would begin after the workers have ended.
+pub fn feed_workers<
+    B: Bench + Sync,
+    G: Gate + Sync,
+    W: Wire + Sync,
+    M: Moments + Sync,
+    R: Threads + Wait + Sync,
+    X: Drop,
+    F: FnOnce() -> X + Drop,
+>(
+    rt: &R,
+    workshop: &Workshop<'_, B, G, W, M>,
+    jobs: &Jobs,
+    seats: Vec<Seat<B::Tallies>>,
+    feed: F,
+) -> (X, Result<Vec<Share<B::Tallies>>, AllocError>)
+    requires seats { All (λ s. s.got.channel ≡ jobs.now) seats.items }
+    requires feed { F.pre feed }
+    ensures fed { F.post feed result.0 }
+    ensures shares { IfOk result.1 (λ v. AreSharesOf B.changes B.ended seats.items v.items) }
+{
+    let (shares, fed) = thread::join(
+        rt,
+        move || -> Result<Vec<Share<B::Tallies>>, AllocError>
+            requires { All (λ s. s.got.channel ≡ jobs.now) seats.items }
+            ensures { IfOk result (λ v. AreSharesOf B.changes B.ended seats.items v.items) }
+        { run_workers(rt, workshop, jobs, seats) },
+        feed,
+    );
+    (fed, shares)
 }

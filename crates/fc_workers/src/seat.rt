@@ -1,7 +1,7 @@
 //! Workers, each at a seat of its own.
 ghost use Rattle.std.specs.Prelude.{◌≡◌, ◌+◌, IfOk};
 ghost use Rattle.fc_workers.specs.Answers.{saturated};
-ghost use Rattle.fc_workers.specs.Shares.{HasEnded, new_share};
+ghost use Rattle.fc_workers.specs.Shares.{IsShareOf};
 ghost use Rattle.fc_workers.specs.Work.{IsWorked};
 
 use crate::bench::Bench;
@@ -48,7 +48,7 @@ pub fn worker<B: Bench, G: Gate, W: Wire, M: Moments, R: Wait>(
     seat: Seat<B::Tallies>,
 ) -> Share<B::Tallies>
     requires { seat.got.channel ≡ jobs.now }
-    ensures { HasEnded B.changes B.ended (new_share seat.got seat.tallies) result }
+    ensures { IsShareOf B.changes B.ended seat result }
 {
     let Seat {
         got,
