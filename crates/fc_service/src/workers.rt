@@ -194,3 +194,97 @@ impl<'a, B: Bench> Desk<'a, B> {
         }
     }
 }
+
+/// The serial that empty slots begin with, and the first message id of the server's own.
+#[derive(Clone, Copy, Debug)]
+pub struct Begin {
+    pub serial: u64,
+    pub id: u16,
+}
+
+/// Plays lines as [`play`](crate::play::play) does, and ends as it does, but a line's job is worked off by one of so many
+/// workers, 1 to 16, each in a thread of its own. No line is read before the worker of the one before it is done.
+pub fn play_by_workers<R: Threads + Wait + Sync, I: BufRead + Drop, W: Write, E: Write>(
+    rt: &R,
+    alloc: Global,
+    input: I,
+    out: &mut W,
+    err: &mut E,
+    workers: u8,
+    begin: Begin,
+) -> Status
+    requires { begin.serial ≤ last_serial }
+{
+    let blanks = Blanks::new(u64::from(workers) + 1);
+    let played = play_named::<Brand, Brand, Brand, Brand, Brand, Brand, Brand, Brand, R, I, W>(
+        rt, alloc, input, out, workers, begin, blanks,
+    );
+    match played {
+        Ok(()) => Status::Done,
+        Err(stop) => tell(err, &stop, stop.status()),
+    }
+}
+
+// Plays lines, with books of these names.
+fn play_named<
+    L0: Ledger + Send + Sync,
+    L1: Ledger + Send + Sync,
+    L2: Ledger + Send + Sync,
+    L3: Ledger + Send + Sync,
+    L4: Ledger + Send + Sync,
+    L5: Ledger + Send + Sync,
+    L6: Ledger + Send + Sync,
+    L7: Ledger + Send + Sync,
+    R: Threads + Wait + Sync,
+    I: BufRead + Drop,
+    W: Write,
+>(
+    rt: &R,
+    alloc: Global,
+    input: I,
+    out: &mut W,
+    workers: u8,
+    begin: Begin,
+    blanks: Blanks,
+) -> Result<(), Stop>
+    requires serial { begin.serial ≤ last_serial }
+    requires parts { blanks.parts ≡ workers + 1 }
+    requires book0 { (blanks.blank0.name ≡ L0.name) × (blanks.parts ≡ L0.parts) }
+    requires book1 { (blanks.blank1.name ≡ L1.name) × (blanks.parts ≡ L1.parts) }
+    requires book2 { (blanks.blank2.name ≡ L2.name) × (blanks.parts ≡ L2.parts) }
+    requires book3 { (blanks.blank3.name ≡ L3.name) × (blanks.parts ≡ L3.parts) }
+    requires book4 { (blanks.blank4.name ≡ L4.name) × (blanks.parts ≡ L4.parts) }
+    requires book5 { (blanks.blank5.name ≡ L5.name) × (blanks.parts ≡ L5.parts) }
+    requires book6 { (blanks.blank6.name ≡ L6.name) × (blanks.parts ≡ L6.parts) }
+    requires book7 { (blanks.blank7.name ≡ L7.name) × (blanks.parts ≡ L7.parts) }
+{
+    let (server, mut reserve) = Locked::<L0, L1, L2, L3, L4, L5, L6, L7>::new(
+        alloc, begin.serial, begin.id, blanks,
+    )?;
+    let (jobs, sent, gots) = Jobs::new(alloc, usize::from(workers))?;
+    let seats = seat_each(alloc, &jobs, gots, &mut reserve)?;
+    let board = Board::new();
+    let workshop = Workshop {
+        alloc,
+        bench: &server,
+        gate: &Open,
+        wire: &board,
+        moments: &board,
+    };
+    let desk = Desk {
+        bench: &server,
+        jobs: &jobs,
+        board: &board,
+    };
+    let (played, shares) = feed_workers(
+        rt,
+        &workshop,
+        &jobs,
+        seats,
+        move || -> Result<(), Stop>
+            requires { sent.channel ≡ desk.jobs.now }
+        { desk.play(rt, alloc, sent, input, out) },
+    );
+    let _shares = shares?;
+    played
+}

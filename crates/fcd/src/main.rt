@@ -4,15 +4,18 @@
 #[cfg(test)]
 mod command_tests;
 
-use clap::{Command, Error};
+use clap::{Arg, Command, Error, value_parser};
 use fc_service::Status;
 use fc_service::command_line::{VERSION, exit_code, explain, words};
 use fc_service::play::play;
+use fc_service::workers::{Begin, play_by_workers};
 use std::alloc::Global;
 use std::io;
 use std::io::{BufReader, BufWriter, Write};
 use std::process::ExitCode;
 use std::rt::Runtime;
+use std::sync::Wait;
+use std::thread::Threads;
 
 /// The serial that an empty slot begins with, and the first message id of the server's own.
 const FIRST_SERIAL: u64 = 0;
@@ -26,13 +29,22 @@ number of the peer's address 127.0.0.peer (0 to 255), and the datagram in hex di
 A line `now - -` says that time passes. Each datagram that is sent is printed as
 `peer hex`. The line `0 1 40000001` is answered by `1 70000001`.
 
+With `--workers W` the job of each line is worked off by one of W threads, before the next
+line is read; without, by the one thread there is. What is printed is the same.
+
 Exit status: 0 at the end of the input; 2 where a line or the command line is bad; 3 where
 reading or writing failed, or memory was refused.";
 
 fn command<'a>(alloc: Global) -> Result<Command<'a>, Error> {
+    let workers = Arg::new(alloc, "workers")
+        .long("workers")
+        .value_name("W")
+        .value_parser(value_parser!(u8).range(1..17))
+        .help("How many threads work jobs off: 1 to 16");
     let play = Command::new(alloc, "play")
         .about("Play the lines of standard input")
-        .after_help(LINES);
+        .after_help(LINES)
+        .arg(workers)?;
     Ok(
         Command::new(alloc, "fcd")
             .version(VERSION)
@@ -43,7 +55,10 @@ fn command<'a>(alloc: Global) -> Result<Command<'a>, Error> {
     )
 }
 
-fn run<R: Runtime + AllocGlobal, E: Write>(rt: &R, err: &mut E) -> anyhow::Result<Status> {
+fn run<R: Runtime + AllocGlobal + Threads + Wait + Sync, E: Write>(
+    rt: &R,
+    err: &mut E,
+) -> anyhow::Result<Status> {
     match words(rt, err)? {
         Some(words) => obey(rt, err, words),
         None => Ok(Status::Bad),
@@ -51,7 +66,7 @@ fn run<R: Runtime + AllocGlobal, E: Write>(rt: &R, err: &mut E) -> anyhow::Resul
 }
 
 // Does what the words of the command line ask for.
-fn obey<R: Runtime + AllocGlobal, E: Write>(
+fn obey<R: Runtime + AllocGlobal + Threads + Wait + Sync, E: Write>(
     rt: &R,
     err: &mut E,
     words: Vec<String>,
@@ -61,17 +76,31 @@ fn obey<R: Runtime + AllocGlobal, E: Write>(
         Err(error) => return explain(rt, &error),
     };
     match matches.subcommand() {
-        Some(("play", _)) => play_input(rt, err),
+        Some(("play", matches)) => {
+            let workers = matches.get_one::<u8>("workers").copied();
+            play_input(rt, err, workers)
+        }
         _ => Ok(Status::Bad),
     }
 }
 
-// Plays standard input, onto standard output.
-fn play_input<R: Runtime + AllocGlobal, E: Write>(rt: &R, err: &mut E) -> anyhow::Result<Status> {
+// Plays standard input, onto standard output, by so many workers, or on this thread alone.
+fn play_input<R: Runtime + AllocGlobal + Threads + Wait + Sync, E: Write>(
+    rt: &R,
+    err: &mut E,
+    workers: Option<u8>,
+) -> anyhow::Result<Status> {
     let alloc = rt.alloc();
     let input = BufReader::new(alloc, rt.reader())?;
     let mut out = BufWriter::new(alloc, io::writer(rt))?;
-    Ok(play(alloc, input, &mut out, err, FIRST_SERIAL, FIRST_ID))
+    let begin = Begin {
+        serial: FIRST_SERIAL,
+        id: FIRST_ID,
+    };
+    Ok(match workers {
+        None => play(alloc, input, &mut out, err, FIRST_SERIAL, FIRST_ID),
+        Some(count) => play_by_workers(rt, alloc, input, &mut out, err, count, begin),
+    })
 }
 
 fn main(rt: HostRuntime) -> ExitCode {
