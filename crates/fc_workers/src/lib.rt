@@ -2,7 +2,9 @@
 #![tactic(auto)]
 
 pub mod bench;
+pub mod blanks;
 pub mod counted;
+pub mod reserve;
 pub mod server;
 pub mod tallies;
 pub mod tally;
@@ -10,8 +12,10 @@ pub mod work;
 pub mod workshop;
 
 pub use bench::Bench;
+pub use blanks::Blanks;
 pub use counted::Counted;
-pub use server::Locked;
+pub use reserve::Reserve;
+pub use server::{Closed, Locked};
 pub use tallies::Tallies;
 pub use tally::Tally;
 pub use work::Progress;
