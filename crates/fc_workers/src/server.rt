@@ -318,11 +318,23 @@ impl<L0: Ledger, L1: Ledger, L2: Ledger, L3: Ledger, L4: Ledger, L5: Ledger, L6:
         ensures { IfOk result (λ r. r.1 ≡ record { parts = blanks.parts; changes = no_changes; ended = 0 }) }
     {
         let front = Front::new(alloc, first_id)?;
-        let parts = blanks.parts;
-        let pair0 = begin_two(alloc, 0, first_serial, parts, blanks.blank0, blanks.blank1)?;
-        let pair2 = begin_two(alloc, 2, first_serial, parts, blanks.blank2, blanks.blank3)?;
-        let pair4 = begin_two(alloc, 4, first_serial, parts, blanks.blank4, blanks.blank5)?;
-        let pair6 = begin_two(alloc, 6, first_serial, parts, blanks.blank6, blanks.blank7)?;
+        let Blanks {
+            parts,
+            blank0,
+            blank1,
+            blank2,
+            blank3,
+            blank4,
+            blank5,
+            blank6,
+            blank7,
+        } = blanks;
+        let (pair0, pair2) = begin_four(
+            alloc, 0, first_serial, parts, blank0, blank1, blank2, blank3,
+        )?;
+        let (pair4, pair6) = begin_four(
+            alloc, 4, first_serial, parts, blank4, blank5, blank6, blank7,
+        )?;
         Ok(assemble(front, first_serial, pair0, pair2, pair4, pair6))
     }
 
@@ -424,4 +436,29 @@ impl<
             Answered::Late | Answered::NoId => None,
         }
     }
+}
+
+fn begin_four<A: Ledger, B: Ledger, C: Ledger, D: Ledger>(
+    alloc: Global,
+    index: u8,
+    first_serial: u64,
+    parts: u64,
+    blank0: Blank,
+    blank1: Blank,
+    blank2: Blank,
+    blank3: Blank,
+) -> Result<(Pair<A, B>, Pair<C, D>), AllocError>
+    requires index { index < 5 }
+    requires serial { first_serial ≤ last_serial }
+    requires parts { 0 < parts }
+    requires book0 { (blank0.name ≡ A.name) × (blank0.parts ≡ A.parts) × (blank0.parts ≡ parts) }
+    requires book1 { (blank1.name ≡ B.name) × (blank1.parts ≡ B.parts) × (blank1.parts ≡ parts) }
+    requires book2 { (blank2.name ≡ C.name) × (blank2.parts ≡ C.parts) × (blank2.parts ≡ parts) }
+    requires book3 { (blank3.name ≡ D.name) × (blank3.parts ≡ D.parts) × (blank3.parts ≡ parts) }
+    ensures first { IfOk result (λ r. (r.0.index ≡ index) × (r.0.first_serial ≡ first_serial) × (r.0.parts ≡ parts)) }
+    ensures second { IfOk result (λ r. (r.1.index ≡ index + 2) × (r.1.first_serial ≡ first_serial) × (r.1.parts ≡ parts)) }
+{
+    let pair0 = begin_two(alloc, index, first_serial, parts, blank0, blank1)?;
+    let pair2 = begin_two(alloc, index + 2, first_serial, parts, blank2, blank3)?;
+    Ok((pair0, pair2))
 }
