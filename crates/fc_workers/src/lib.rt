@@ -19,7 +19,7 @@ pub use blanks::Blanks;
 pub use counted::Counted;
 pub use pool::{feed_workers, run_workers};
 pub use reserve::Reserve;
-pub use seat::{Seat, worker};
+pub use seat::{Seat, make_seats, worker};
 pub use server::{Closed, Locked};
 pub use share::Share;
 pub use tallies::Tallies;
