@@ -23,7 +23,7 @@ pub mod line;
 pub mod play;
 pub mod status;
 pub mod tools;
-mod workers;
+pub mod workers;
 
 pub use line::Line;
 pub use status::Status;

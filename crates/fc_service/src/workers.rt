@@ -1,21 +1,28 @@
 //! Playing lines by workers: the job of a line is worked off by one of them, before the next line is read.
-ghost use Rattle.std.specs.Prelude.{◌≡◌, Option, OnOk};
+ghost use Rattle.std.specs.Prelude.{◌≡◌, ◌+◌, ◌≤◌, Option, OnOk};
 ghost use Rattle.std.specs.Io.KnownBytes.{Appends};
 ghost use Rattle.coap_msg.specs.declared.types.Emission.{Emission as Emitted};
+ghost use Rattle.fc_registry.specs.Slots.{last_serial};
 ghost use Rattle.fc_service.specs.Playing.{output_of};
 
 use crate::line::{Line, LineError, parse};
 use crate::play::{Stop, endpoint, print};
+use crate::status::{Status, tell};
 use coap_msg::{Emission, Endpoint};
 use fc_core::Delivered;
 use fc_core::front::blank_emission;
 use fc_jobs::{Jobs, Sent};
-use fc_workers::{Bench, Gate, Moments, Wire};
+use fc_workers::{
+    Bench, Blanks, Gate, Locked, Moments, Wire, Workshop, feed_workers, make_seats,
+};
 use std::alloc::{AllocError, Global};
 use std::io;
 use std::io::{BufRead, Write};
+use std::marker::Brand;
 use std::sync::atomic::{AtomicU64, Ordering};
+use std::sync::ledger::Ledger;
 use std::sync::{Condvar, Mutex, Wait};
+use std::thread::Threads;
 
 // Whether a worker is at a line's job, and what it has sent.
 #[derive(Drop)]
@@ -261,18 +268,30 @@ fn play_named<
     let (server, mut reserve) = Locked::<L0, L1, L2, L3, L4, L5, L6, L7>::new(
         alloc, begin.serial, begin.id, blanks,
     )?;
-    let (jobs, sent, gots) = Jobs::new(alloc, usize::from(workers))?;
-    let seats = seat_each(alloc, &jobs, gots, &mut reserve)?;
+    let tallies = reserve.split_each(alloc, usize::from(workers))?;
+    play_at(rt, alloc, &server, tallies, input, out)
+}
+
+// Plays lines at a bench, with a worker for each of the tallies.
+fn play_at<B: Bench + Sync, R: Threads + Wait + Sync, I: BufRead + Drop, W: Write>(
+    rt: &R,
+    alloc: Global,
+    bench: &B,
+    tallies: Vec<B::Tallies>,
+    input: I,
+    out: &mut W,
+) -> Result<(), Stop> {
+    let (jobs, sent, seats) = make_seats(alloc, tallies)?;
     let board = Board::new();
     let workshop = Workshop {
         alloc,
-        bench: &server,
+        bench,
         gate: &Open,
         wire: &board,
         moments: &board,
     };
     let desk = Desk {
-        bench: &server,
+        bench,
         jobs: &jobs,
         board: &board,
     };
