@@ -17,7 +17,6 @@ use Rattle.fc_registry.specs.declared.receipt.Receipt.{Receipt}
 use Rattle.fc_isa.specs.declared.rule.Fault.{Fault}
 use Rattle.fc_isa.specs.Rules.{number_of}
 use Rattle.fc_registry.specs.declared.shard.Taken.{Taken}
-use Rattle.fc_registry.specs.declared.shard.Taken.TheVariants.{Given, Missing, Refused}
 use Rattle.fc_registry.specs.declared.shard.Made.{Made}
 use Rattle.fc_registry.specs.declared.shard.Made.TheVariants.{Raised, AtEnd}
 use Rattle.fc_registry.specs.declared.commit.Committed.{Committed}
@@ -31,7 +30,7 @@ use Rattle.fc_core.specs.Ends.{refused, refused_by}
 use Rattle.fc_core.specs.Stages.{first_stage, first_by, image_of, receipt_of, run_content, took, after_commit, made, takings}
 use Rattle.fc_workers.specs.declared.share.Share.{Share}
 use Rattle.fc_workers.specs.Answers.{AreTallied, commit_changes, install_changes, saturated, IsSomeTaking, IsSomeCommit, IsSomeInstall}
-use Rattle.fc_workers.specs.Steps.{Follows, IsReady, IsStep, left, taken_at}
+use Rattle.fc_workers.specs.Steps.{Follows, IsReady, IsStep, taken_at}
 use Rattle.fc_workers.specs.Work.{Call, Takes, Commits, Installs, Refuses, Raises, AreCalls, IsCallAt, IsWorkedOff, HasCounted, next_stage, stage_after, changes_by, overtaking_by, refusal_by, taking_by, total}
 
 -- the calls so far, and where they left the job
