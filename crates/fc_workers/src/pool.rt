@@ -83,8 +83,12 @@ pub fn run_workers<
 }
 
 /// Runs a worker at each seat, as `run_workers` does, and beside them a feeder, in the caller's own thread: what the feeder
-/// gives, and the shares. The feeder sends the jobs, and owns the end that sends: the channel is closed when it has returned,
-/// and the workers come to their end. Where no thread can be made, it would begin after the workers have ended.
+/// gives, and the shares. The feeder sends the jobs, and owns the end that sends: once it has returned the channel is closed,
+/// and the workers come to their end. Where not even one thread can be made the workers run first, and wait for ever.
+///
+/// # Errors
+/// The shares are as `run_workers` gives them. If memory is refused for every seat, a feeder of more than 256 jobs waits for
+/// ever.
 pub fn feed_workers<
     B: Bench + Sync,
     G: Gate + Sync,
