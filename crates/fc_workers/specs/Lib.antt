@@ -2,3 +2,4 @@ pub mod Answers
 pub mod Counts
 pub mod Work
 pub mod Steps
+pub mod Shares

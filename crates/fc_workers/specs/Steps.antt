@@ -5,7 +5,7 @@ use Rattle.fc_core.specs.declared.stage.Stage.{Stage}
 use Rattle.fc_core.specs.declared.stage.Stage.TheVariants.{ToTake, ToCommit, ToInstall, ToRaise, ToAnswer, Gone}
 use Rattle.fc_core.specs.Contents.{IsOf}
 use Rattle.fc_core.specs.Stages.{takings}
-use Rattle.fc_workers.specs.declared.work.Progress.{Progress}
+use Rattle.fc_workers.specs.declared.share.Share.{Share}
 use Rattle.fc_workers.specs.Work.{Call, next_stage, IsCallAt, taking_by, HasCounted}
 
 -- a job that is to take may take once more; a ticket is its job's, and so is an answer
@@ -18,12 +18,12 @@ IsReady job (ToAnswer content) = IsOf job content
 IsReady job Gone = ⊥
 
 -- how many calls there can still be
-abbrev pub left : Stage → ℕ
-left (ToTake n) = 2 * (takings - n) + 2
-left (ToCommit n t) = 2 * (takings - n) + 3
-left ToInstall = 2
-left (ToRaise content) = 1
-left other = 0
+abbrev pub calls_left : Stage → ℕ
+calls_left (ToTake n) = 2 * (takings - n) + 2
+calls_left (ToCommit n t) = 2 * (takings - n) + 3
+calls_left ToInstall = 2
+calls_left (ToRaise content) = 1
+calls_left other = 0
 
 -- how many takings there can have been
 abbrev pub taken_at : Stage → ℕ
@@ -31,11 +31,16 @@ taken_at (ToTake n) = n
 taken_at (ToCommit n t) = n
 taken_at other = takings
 
-pub record IsStep {T : Type 0} (changes : T → ℕ → ℕ) (job : Job) (old new : Stage) (before after : Progress T) : Type 0 where
+-- a stage that a call, of so many takings, can lead to: the job is ready for it, and it is nearer to the end
+pub record Follows (job : Job) (old : Stage) (takes : ℕ) (new : Stage) : Type 0 where
+  pub ready : IsReady job new
+  pub fewer : calls_left new < calls_left old
+  pub few : taken_at old + takes ≤ taken_at new
+
+-- a call, and the stage and the share that it leaves
+pub record IsStep {T : Type 0} (changes : T → ℕ → ℕ) (job : Job) (old new : Stage) (before after : Share T) : Type 0 where
   pub call : Call
   pub is : IsCallAt job old call
   pub next : new ≡ next_stage old call
-  pub ready : IsReady job new
-  pub fewer : left new < left old
-  pub few : taken_at old + taking_by call ≤ taken_at new
+  pub follows : Follows job old (taking_by call) new
   pub counted : HasCounted changes job.origin.slot (call ∷ []) before after

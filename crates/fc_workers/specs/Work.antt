@@ -20,7 +20,7 @@ use Rattle.fc_core.specs.Contents.{Content, IsOf}
 use Rattle.fc_core.specs.Ends.{refused}
 use Rattle.fc_core.specs.Stages.{first_stage, image_of, receipt_of, took, after_commit, made, takings}
 use Rattle.fc_workers.specs.Answers.{IsSomeTaking, IsSomeCommit, IsSomeInstall, AreTallied, HasRisen, commit_changes, install_changes}
-use Rattle.fc_workers.specs.declared.work.Progress.{Progress}
+use Rattle.fc_workers.specs.declared.share.Share.{Share}
 
 -- a call for a job, and what it answered
 pub data Call : Type 0 where
@@ -54,7 +54,7 @@ unfoldable pub stage_after : Job → List Call → Stage
 stage_after job [] = first_stage job
 stage_after job (call ∷ calls) = next_stage (stage_after job calls) call
 
--- each is the call that the stage needs which the ones before it left
+-- each is the call that the stage needs where the ones before it have led
 unfoldable pub AreCalls : Job → List Call → Type 0
 AreCalls job [] = Unit {0}
 AreCalls job (call ∷ calls) = AreCalls job calls × IsCallAt job (stage_after job calls) call
@@ -66,10 +66,10 @@ taking_by (Takes taken) = 1
 taking_by other = 0
 
 -- changes of the job's slot
-abbrev pub changes_by : Call → ℕ
-changes_by (Commits committed) = commit_changes committed
-changes_by (Installs p answer) = install_changes answer
-changes_by other = 0
+abbrev pub change_by : Call → ℕ
+change_by (Commits committed) = commit_changes committed
+change_by (Installs p answer) = install_changes answer
+change_by other = 0
 
 -- refusals of memory
 abbrev pub refusal_by : Call → ℕ
@@ -86,17 +86,23 @@ abbrev pub total : (Call → ℕ) → List Call → ℕ
 total by [] = 0
 total by (call ∷ calls) = total by calls + by call
 
--- a worker's counts, before and after these calls for a job of slot n
-pub record HasCounted {T : Type 0} (changes : T → ℕ → ℕ) (n : ℕ) (calls : List Call) (before after : Progress T) : Type 0 where
-  pub tallies : AreTallied (changes before.tallies) (changes after.tallies) n (total changes_by calls)
+-- a worker's share, before and after these calls for a job of slot n
+pub record HasCounted {T : Type 0} (changes : T → ℕ → ℕ) (n : ℕ) (calls : List Call) (before after : Share T) : Type 0 where
+  pub tallies : AreTallied (changes before.tallies) (changes after.tallies) n (total change_by calls)
   pub refusals : HasRisen before.refusals (total refusal_by calls) after.refusals
   pub overtakings : HasRisen before.overtakings (total overtaking_by calls) after.overtakings
+  pub got : after.got ≡ before.got
 
 -- a job's calls, from its first stage to this answer
-pub record IsWorkedOff {T : Type 0} (changes : T → ℕ → ℕ) (job : Job) (content : Content) (before after : Progress T) : Type 0 where
+pub record IsWorkedOff {T : Type 0} (changes : T → ℕ → ℕ) (job : Job) (content : Content) (before after : Share T) : Type 0 where
   pub calls : List Call
   pub are : AreCalls job calls
   pub ends : stage_after job calls ≡ ToAnswer content
   pub few : total taking_by calls ≤ takings
   pub own : IsOf job content
   pub counted : HasCounted changes job.origin.slot calls before after
+
+-- a job was worked off, to some answer
+pub record IsWorked {T : Type 0} (changes : T → ℕ → ℕ) (job : Job) (before after : Share T) : Type 0 where
+  pub content : Content
+  pub worked : IsWorkedOff changes job content before after

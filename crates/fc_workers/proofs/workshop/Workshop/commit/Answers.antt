@@ -1,8 +1,7 @@
 use Rattle.std.proofs.Common.{subst}
 use Rattle.fc_machine.specs.Ran.{Ran}
-use Rattle.fc_core.specs.declared.stage.Stage.TheVariants.{ToCommit}
 use Rattle.fc_workers.specs.Answers.{IsSomeCommit}
-use Rattle.fc_workers.proofs.Steps.{commit_step, is_run, is_step}
+use Rattle.fc_workers.proofs.Steps.{commit_step, is_run}
 use Rattle.fc_workers.proofs.workshop.Workshop.commit.Goals as goal
 
 pub returns-clause-step : goal.returns-clause-step
@@ -10,5 +9,4 @@ returns-clause-step g c =
     let t = c.args.ticket in
     let own = is_run c.run-outcome.result t _ _ _ c.run-outcome.ensures.made c.program.ensures c.request.ensures c.vars.ensures.vars in
     let is = subst (λ (r : Ran). IsSomeCommit r t c.commit-committed.result) own c.commit-committed.ensures.committed in
-    is_step g.B.Bench.changes c.args.job.now (ToCommit c.args.count t) c.committed.ensures c.count_commit.ensures
-    (commit_step g.B.Bench.changes c.args.job.now c.args.count t c.commit-committed.result c.args.progress.now c.commit-committed.new.tallies c.requires is c.commit-committed.ensures.changes)
+    commit_step g.B.Bench.changes c.args.job.now c.args.count t c.commit-committed.result c.args.share.now c.commit-committed.new.tallies c.requires is c.commit-committed.ensures.changes c.committed.ensures c.count_commit.ensures

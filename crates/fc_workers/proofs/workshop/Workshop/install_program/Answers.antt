@@ -1,20 +1,16 @@
-use Rattle.std.proofs.Common.{◌∙◌, ap, refl, subst}
+use Rattle.std.proofs.Common.{◌∙◌, ap, subst}
 use Rattle.fc_kinds.specs.Meaning.{Program}
 use Rattle.fc_registry.specs.declared.receipt.Receipt.{Receipt}
 use Rattle.fc_core.specs.Stages.{made}
-use Rattle.fc_core.specs.declared.stage.Stage.TheVariants.{ToInstall}
 use Rattle.fc_workers.specs.Answers.{IsSomeInstall}
-use Rattle.fc_workers.proofs.Steps.{install_step, is_step, refuse_step}
+use Rattle.fc_workers.proofs.Steps.{install_step, refuse_step}
 use Rattle.fc_workers.proofs.workshop.Workshop.install_program.Goals as goal
 
 pub returns-in-Ok-clause-step : goal.returns-in-Ok-clause-step
 returns-in-Ok-clause-step g c =
     let next = c.made.ensures ∙ ap (λ (r : Receipt). made r c.install-made.result) c.receipt_of-receipt.ensures in
     let is = subst (λ (p : Program). IsSomeInstall p c.install-made.result) c.in-Ok.ensures.ok c.install-made.ensures.made in
-    is_step g.B.Bench.changes c.args.job.now ToInstall next refl
-    (install_step g.B.Bench.changes c.args.job.now c.args.program c.install-made.result c.args.progress.now c.install-made.new.tallies c.requires.judged is c.install-made.ensures.changes)
+    install_step g.B.Bench.changes c.args.job.now c.args.program c.install-made.result c.args.share.now c.install-made.new.tallies c.requires.judged is c.install-made.ensures.changes next
 
 pub returns-clause-step : goal.returns-clause-step
-returns-clause-step g c =
-    is_step g.B.Bench.changes c.args.job.now ToInstall c.unavailable.ensures c.count_refusal.ensures
-    (refuse_step g.B.Bench.changes c.args.job.now c.args.progress.now c.requires.accepted.shapely.program.head)
+returns-clause-step g c = refuse_step g.B.Bench.changes c.args.job.now c.args.share.now c.requires.accepted.shapely.program.head c.unavailable.ensures c.count_refusal.ensures

@@ -6,7 +6,7 @@ use Rattle.fc_workers.proofs.workshop.Workshop.work_off.Goals as goal
 
 pub calls-init : goal.calls-init
 calls-init g c =
-    let before = c.args.progress.now in
+    let before = c.args.share.now in
     (subst (λ (s : Stage). Walked g.B.Bench.changes c.args.job.now s before before) (sym c.first-stage.ensures) (sets_out g.B.Bench.changes c.args.job.now before), refl)
 
 pub calls-preserved-in-ToTake : goal.calls-preserved-in-ToTake
@@ -21,4 +21,4 @@ calls-preserved-in-ToInstall g c = (walks_on g.B.Bench.changes c.args.job.now c.
 pub calls-preserved : goal.calls-preserved
 calls-preserved g c =
     let own = subst (λ (s : Stage). IsReady c.args.job.now s) c.in-ToRaise.is c.calls.invariant.0.ready in
-    (walks_on g.B.Bench.changes c.args.job.now c.in-ToRaise.is c.calls.invariant.0 (raise_step g.B.Bench.changes c.args.job.now c.in-ToRaise.answer c.calls.progress own), c.calls.invariant.1)
+    (walks_on g.B.Bench.changes c.args.job.now c.in-ToRaise.is c.calls.invariant.0 (raise_step g.B.Bench.changes c.args.job.now c.in-ToRaise.answer c.calls.share own), c.calls.invariant.1)

@@ -1,0 +1,90 @@
+//! Workers, each at a seat of its own.
+ghost use Rattle.std.specs.Prelude.{◌≡◌, ◌+◌, IfOk};
+ghost use Rattle.fc_workers.specs.Answers.{saturated};
+ghost use Rattle.fc_workers.specs.Shares.{IsShareOf};
+ghost use Rattle.fc_workers.specs.Work.{IsWorked};
+
+use crate::bench::Bench;
+use crate::share::Share;
+use crate::workshop::{Gate, Moments, Wire, Workshop};
+use fc_jobs::{Got, Jobs};
+use fc_machine::Frame;
+use fc_registry::Job;
+use std::alloc::{AllocError, Global};
+use std::sync::Wait;
+
+/// What a worker begins with: its place at the channel, its bench's tallies, and the frame that its programs run in.
+#[derive(Drop)]
+pub struct Seat<T: Drop> {
+    pub got: Got,
+    pub tallies: T,
+    pub frame: Frame,
+}
+
+impl<T: Drop> Seat<T> {
+    /// A seat with a new frame.
+    ///
+    /// # Errors
+    /// There was no memory for the frame.
+    pub fn new(alloc: Global, got: Got, tallies: T) -> Result<Seat<T>, AllocError>
+        ensures got { IfOk result (λ s. s.got ≡ got) }
+        ensures tallies { IfOk result (λ s. s.tallies ≡ tallies) }
+    {
+        let frame = Frame::new(alloc)?;
+        Ok(Seat {
+            got,
+            tallies,
+            frame,
+        })
+    }
+}
+
+/// Works jobs off until the channel is closed and empty: each is worked off, answered, and its reply is sent. The share has
+/// ended just the jobs that it got.
+pub fn worker<B: Bench, G: Gate, W: Wire, M: Moments, R: Wait>(
+    rt: &R,
+    workshop: &Workshop<'_, B, G, W, M>,
+    jobs: &Jobs,
+    seat: Seat<B::Tallies>,
+) -> Share<B::Tallies>
+    requires { seat.got.channel ≡ jobs.now }
+    ensures { IsShareOf B.changes B.ended seat result }
+{
+    let Seat {
+        got,
+        tallies,
+        mut frame,
+    } = seat;
+    let mut share = Share::new(got, tallies);
+    for _ in rt.forever() {
+        let Some((number, job)) = jobs.next(rt, &mut share.got) else {
+            break;
+        };
+        workshop.work(rt, &mut frame, number, &job, &mut share);
+    }
+    share
+}
+
+impl<'a, B: Bench, G: Gate, W: Wire, M: Moments> Workshop<'a, B, G, W, M> {
+    // Works a job off, answers it, and sends its reply.
+    fn work<R: Wait>(
+        &self,
+        rt: &R,
+        frame: &mut Frame,
+        number: u64,
+        job: &Job,
+        share: &mut Share<B::Tallies>,
+    )
+        ensures worked { IsWorked B.changes job.now share.old share.new }
+        ensures ended { B.ended share.new.tallies ≡ saturated (B.ended share.old.tallies + 1) }
+        ensures got { share.new.got ≡ share.old.got }
+    {
+        let answer = self.work_off(rt, frame, number, job, share);
+        let now = self.moments.now(rt);
+        let reply = self.bench.answer(rt, now, job, &answer, &mut share.tallies);
+        if let Some(emission) = reply {
+            share.count_reply(self.wire.send(rt, number, &emission));
+        }
+        self.wire.ended(rt, number);
+    }
+}

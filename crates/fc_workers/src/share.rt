@@ -1,0 +1,75 @@
+//! What a worker has done.
+ghost use Rattle.std.specs.Prelude.{◌≡◌, ◌+◌, if◌then◌else◌};
+ghost use Rattle.fc_workers.specs.Answers.{saturated};
+ghost use Rattle.fc_workers.specs.Shares.{new_share};
+ghost use Rattle.fc_workers.specs.Work.{Commits, Takes, overtaking_by, refusal_by};
+
+use fc_jobs::Got;
+use fc_registry::{Committed, Taken};
+
+/// What a worker has done: its bench's tallies, the jobs that it got, how many replies went out and how many didn't, how often
+/// memory was refused, and how often a commit was overtaken. Each count stops at 2^64 - 1.
+#[derive(Drop)]
+pub struct Share<T: Drop> {
+    pub tallies: T,
+    pub got: Got,
+    pub sent: u64,
+    pub failed: u64,
+    pub refusals: u64,
+    pub overtakings: u64,
+}
+
+impl<T: Drop> Share<T> {
+    /// The share of a worker that hasn't begun.
+    pub fn new(got: Got, tallies: T) -> Share<T>
+        ensures { result ≡ new_share got tallies }
+    {
+        Share {
+            tallies,
+            got,
+            sent: 0,
+            failed: 0,
+            refusals: 0,
+            overtakings: 0,
+        }
+    }
+
+    // Counts a taking, if memory was refused.
+    pub(crate) fn count_taking(&mut self, taken: &Taken)
+        ensures { self.new ≡ record self.old {
+          refusals = saturated (self.old.refusals + refusal_by (Takes taken.now));
+        } }
+    {
+        let refused = matches!(taken, Taken::Refused);
+        self.refusals = self.refusals.saturating_add(u64::from(refused));
+    }
+
+    // Counts a commit, if it was overtaken.
+    pub(crate) fn count_commit(&mut self, committed: &Committed)
+        ensures { self.new ≡ record self.old {
+          overtakings = saturated (self.old.overtakings + overtaking_by (Commits committed.now));
+        } }
+    {
+        let overtaken = matches!(committed, Committed::Overtaken);
+        self.overtakings = self.overtakings.saturating_add(u64::from(overtaken));
+    }
+
+    // Counts an install that was refused memory.
+    pub(crate) fn count_refusal(&mut self)
+        ensures { self.new ≡ record self.old { refusals = saturated (self.old.refusals + 1) } }
+    {
+        self.refusals = self.refusals.saturating_add(1);
+    }
+
+    // Counts a reply, which went out or didn't.
+    pub(crate) fn count_reply(&mut self, out: bool)
+        ensures { self.new ≡ (if out then record self.old { sent = saturated (self.old.sent + 1) }
+            else record self.old { failed = saturated (self.old.failed + 1) }) }
+    {
+        if out {
+            self.sent = self.sent.saturating_add(1);
+        } else {
+            self.failed = self.failed.saturating_add(1);
+        }
+    }
+}
