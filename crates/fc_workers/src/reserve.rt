@@ -52,11 +52,15 @@ impl<
 
     ghost view = { λ r. record {
       parts = r.tally0.parts;
-      changes = r.tally0.changes ∷ r.tally1.changes ∷ r.tally2.changes ∷ r.tally3.changes ∷ r.tally4.changes ∷ r.tally5.changes ∷ r.tally6.changes ∷ r.tally7.changes ∷ [];
+      changes = r.tally0.changes ∷ r.tally1.changes ∷ r.tally2.changes ∷ r.tally3.changes
+          ∷ r.tally4.changes ∷ r.tally5.changes ∷ r.tally6.changes ∷ r.tally7.changes ∷ [];
       ended = r.ended;
     } };
 
-    ghost invariant = { λ r. (r.tally1.parts ≡ r.tally0.parts) × (r.tally2.parts ≡ r.tally0.parts) × (r.tally3.parts ≡ r.tally0.parts) × (r.tally4.parts ≡ r.tally0.parts) × (r.tally5.parts ≡ r.tally0.parts) × (r.tally6.parts ≡ r.tally0.parts) × (r.tally7.parts ≡ r.tally0.parts) };
+    ghost invariant = { λ r. (r.tally1.parts ≡ r.tally0.parts) × (r.tally2.parts ≡ r.tally0.parts)
+        × (r.tally3.parts ≡ r.tally0.parts) × (r.tally4.parts ≡ r.tally0.parts)
+        × (r.tally5.parts ≡ r.tally0.parts) × (r.tally6.parts ≡ r.tally0.parts)
+        × (r.tally7.parts ≡ r.tally0.parts) };
 }
 
 impl<

@@ -402,7 +402,10 @@ impl<
     /// Closes the server, for a reserve that has all parts again: the serials of each shard have risen by the changes that
     /// were counted.
     pub fn close(self, reserve: &mut Reserve<L0, L1, L2, L3, L4, L5, L6, L7>) -> Closed
-        requires { (reserve.old.parts ≡ L0.parts) × (reserve.old.parts ≡ L1.parts) × (reserve.old.parts ≡ L2.parts) × (reserve.old.parts ≡ L3.parts) × (reserve.old.parts ≡ L4.parts) × (reserve.old.parts ≡ L5.parts) × (reserve.old.parts ≡ L6.parts) × (reserve.old.parts ≡ L7.parts) }
+        requires { (reserve.old.parts ≡ L0.parts) × (reserve.old.parts ≡ L1.parts)
+            × (reserve.old.parts ≡ L2.parts) × (reserve.old.parts ≡ L3.parts)
+            × (reserve.old.parts ≡ L4.parts) × (reserve.old.parts ≡ L5.parts)
+            × (reserve.old.parts ≡ L6.parts) × (reserve.old.parts ≡ L7.parts) }
         ensures { map serials result.shards ≡ map (λ n. 8 * result.first_serial + n) reserve.old.changes }
     {
         let state = self.state.into_inner();
