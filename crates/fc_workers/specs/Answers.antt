@@ -16,10 +16,10 @@ use Rattle.fc_registry.specs.declared.commit.Committed.TheVariants.{Done}
 use Rattle.fc_registry.specs.Slots.{Slot, Ticket}
 use Rattle.fc_registry.specs.Calls.{IsTaking, IsCommit, install_in}
 
--- a delivery to a front that holds something answers this
-pub record IsSomeDelivery (to : Endpoint) (bytes : List ℕ) (answer : Delivered) : Type 0 where
+-- a delivery at some front brings this
+pub record IsSomeDelivery (to : Endpoint) (bytes : List ℕ) (brings : Delivered) : Type 0 where
   pub front : FrontState
-  pub answer_is : answer ≡ delivered front to bytes
+  pub is : brings ≡ delivered front to bytes
 
 -- a taking of the job at some slot answers this
 pub record IsSomeTaking (job : Job) (taken : Taken) : Type 0 where

@@ -1,6 +1,5 @@
 //! Workers, each at a seat of its own.
 ghost use Rattle.std.specs.Prelude.{◌≡◌, ◌+◌, IfOk};
-ghost use Rattle.std.specs.List.{All};
 ghost use Rattle.fc_workers.specs.Answers.{saturated};
 ghost use Rattle.fc_workers.specs.Shares.{IsShareOf};
 ghost use Rattle.fc_workers.specs.Work.{IsWorked};
@@ -8,7 +7,7 @@ ghost use Rattle.fc_workers.specs.Work.{IsWorked};
 use crate::bench::Bench;
 use crate::share::Share;
 use crate::workshop::{Gate, Moments, Wire, Workshop};
-use fc_jobs::{Got, Jobs, Sent};
+use fc_jobs::{Got, Jobs};
 use fc_machine::Frame;
 use fc_registry::Job;
 use std::alloc::{AllocError, Global};
@@ -38,43 +37,6 @@ impl<T: Drop> Seat<T> {
             frame,
         })
     }
-}
-
-/// Makes a channel of jobs, with the end that sends, and a seat for a worker with each of these tallies.
-///
-/// # Errors
-/// There was no memory for them.
-pub fn make_seats<T: Drop>(
-    alloc: Global,
-    tallies: Vec<T>,
-) -> Result<(Jobs, Sent, Vec<Seat<T>>), AllocError>
-    ensures sent { IfOk result (λ r. r.1.channel ≡ r.0) }
-    ensures seats { IfOk result (λ r. All (λ s. s.got.channel ≡ r.0) r.2.items) }
-{
-    let (jobs, sent, gots) = Jobs::new(alloc, tallies.len())?;
-    let seats = seat_each(alloc, &jobs, gots, tallies)?;
-    Ok((jobs, sent, seats))
-}
-
-// A seat for each of the tallies, at a place of the channel.
-fn seat_each<T: Drop>(
-    alloc: Global,
-    jobs: &Jobs,
-    mut gots: Vec<Got>,
-    tallies: Vec<T>,
-) -> Result<Vec<Seat<T>>, AllocError>
-    requires { All (λ g. g.channel ≡ jobs.now) gots.items }
-    ensures { IfOk result (λ v. All (λ s. s.got.channel ≡ jobs.now) v.items) }
-{
-    let _ = jobs;
-    let mut seats = Vec::new(alloc);
-    for own in tallies {
-        let Some(got) = gots.pop() else {
-            break;
-        };
-        seats.push(Seat::new(alloc, got, own)?)?;
-    }
-    Ok(seats)
 }
 
 /// Works jobs off until the channel is closed and empty: each is worked off, answered, and its reply is sent. The share has

@@ -47,11 +47,14 @@ impl<
     ghost use Rattle.std.specs.Prelude.{◌≡◌, [], ◌∷◌};
 
     ghost view = { λ t. record {
-      changes = t.tally0.changes ∷ t.tally1.changes ∷ t.tally2.changes ∷ t.tally3.changes ∷ t.tally4.changes ∷ t.tally5.changes ∷ t.tally6.changes ∷ t.tally7.changes ∷ [];
+      changes = t.tally0.changes ∷ t.tally1.changes ∷ t.tally2.changes ∷ t.tally3.changes
+          ∷ t.tally4.changes ∷ t.tally5.changes ∷ t.tally6.changes ∷ t.tally7.changes ∷ [];
       ended = t.ended;
     } };
 
-    ghost invariant = { λ t. (t.tally0.parts ≡ 1) × (t.tally1.parts ≡ 1) × (t.tally2.parts ≡ 1) × (t.tally3.parts ≡ 1) × (t.tally4.parts ≡ 1) × (t.tally5.parts ≡ 1) × (t.tally6.parts ≡ 1) × (t.tally7.parts ≡ 1) };
+    ghost invariant = { λ t. (t.tally0.parts ≡ 1) × (t.tally1.parts ≡ 1) × (t.tally2.parts ≡ 1)
+        × (t.tally3.parts ≡ 1) × (t.tally4.parts ≡ 1) × (t.tally5.parts ≡ 1) × (t.tally6.parts ≡ 1)
+        × (t.tally7.parts ≡ 1) };
 }
 
 impl<
