@@ -1,4 +1,16 @@
 //! A server behind one lock.
+//!
+//! Each shard's changes are counted in a ledger of its own, which a type stands for: so a server has eight type parameters, and a
+//! function that opens one is generic in them. Its caller gives it `Brand` for each, and picks in its `Invariants.antt` the
+//! name and the parts of each ledger, from the function's argument `blanks`:
+//!
+//! ```text
+//! abbrev pub ghosts-run-L0-Ledger : goal.ghosts-run-L0-Ledger
+//! ghosts-run-L0-Ledger g a = record { name = a.blanks.blank0.name; parts = a.blanks.parts }
+//! ```
+//!
+//! No type of that function's signature may name a ledger: it opens the server, splits the reserve into the tallies of its
+//! workers, runs them, merges their tallies, and closes the server.
 ghost use Rattle.std.specs.Prelude.{◌≡◌, ◌+◌, ◌*◌, ◌<◌, ◌≤◌, ◌%◌, map, slice_index, IfOk};
 ghost use Rattle.fc_core.specs.Contents.{IsOf};
 ghost use Rattle.fc_registry.specs.Slots.{last_serial};

@@ -77,7 +77,7 @@ fn obey<R: Runtime + AllocGlobal + Threads + Wait + Sync, E: Write>(
     };
     match matches.subcommand() {
         Some(("play", matches)) => {
-            let workers = matches.get_one::<u8>("workers").copied();
+            let workers = matches.get_one::<u8>("workers");
             play_input(rt, err, workers)
         }
         _ => Ok(Status::Bad),
