@@ -12,9 +12,7 @@ use coap_msg::{Emission, Endpoint};
 use fc_core::Delivered;
 use fc_core::front::blank_emission;
 use fc_jobs::{Jobs, Sent};
-use fc_workers::{
-    Bench, Blanks, Gate, Locked, Moments, Wire, Workshop, feed_workers, make_seats,
-};
+use fc_workers::{Bench, Blanks, Gate, Locked, Moments, Wire, Workshop, feed_workers, make_seats};
 use std::alloc::{AllocError, Global};
 use std::io;
 use std::io::{BufRead, Write};
@@ -62,7 +60,9 @@ impl Board {
 
     // Waits until the job was worked off: what was sent for it.
     fn wait<R: Wait>(&self, rt: &R) -> Option<Emission> {
-        let mut work = self.done.wait_while(rt, self.work.lock(rt), |work| work.busy);
+        let mut work = self
+            .done
+            .wait_while(rt, self.work.lock(rt), |work| work.busy);
         work.reply.take()
     }
 }
@@ -266,7 +266,10 @@ fn play_named<
     requires book7 { (blanks.blank7.name ≡ L7.name) × (blanks.parts ≡ L7.parts) }
 {
     let (server, mut reserve) = Locked::<L0, L1, L2, L3, L4, L5, L6, L7>::new(
-        alloc, begin.serial, begin.id, blanks,
+        alloc,
+        begin.serial,
+        begin.id,
+        blanks,
     )?;
     let tallies = reserve.split_each(alloc, usize::from(workers))?;
     play_at(rt, alloc, &server, tallies, input, out)

@@ -3,13 +3,16 @@ use coap_msg::Endpoint;
 use fc_registry::SlotNumber;
 use fc_service::Status;
 use fc_service::play::play;
+use fc_service::workers::{Begin, play_by_workers};
 use fc_world::{Event, World, run_world};
 use std::alloc::{AllocError, Global};
 use std::process::Abort;
+use std::sync::Wait;
 use std::test::Fail;
+use std::thread::Threads;
 
-// Lines are printed so, from the first serial 0.
-fn check_played<R: Abort + AllocGlobal>(rt: &R, input: &str, want: &str) {
+// Lines are printed so, from the first serial 0: on one thread, and by so many workers.
+fn check_played<R: Abort + AllocGlobal + Threads + Wait + Sync>(rt: &R, input: &str, want: &str) {
     let alloc = rt.alloc();
     let mut out = Vec::new(alloc);
     let mut err = Vec::new(alloc);
@@ -17,6 +20,27 @@ fn check_played<R: Abort + AllocGlobal>(rt: &R, input: &str, want: &str) {
     assert!(rt;
         status == Status::Done && err.is_empty() && out.as_slice() == want.as_bytes(),
         "{input}"
+    );
+    for workers in 1..3u8 {
+        check_played_by(rt, workers, input, want);
+    }
+}
+
+fn check_played_by<R: Abort + AllocGlobal + Threads + Wait + Sync>(
+    rt: &R,
+    workers: u8,
+    input: &str,
+    want: &str,
+) {
+    let alloc = rt.alloc();
+    let mut out = Vec::new(alloc);
+    let mut err = Vec::new(alloc);
+    let begin = Begin { serial: 0, id: 0 };
+    let input = input.as_bytes();
+    let status = play_by_workers(rt, alloc, input, &mut out, &mut err, workers, begin);
+    assert!(rt;
+        status == Status::Done && err.is_empty() && out.as_slice() == want.as_bytes(),
+        "{workers} workers"
     );
 }
 
@@ -211,4 +235,17 @@ fn a_post_runs_the_version_that_it_takes_last(rt: HostRuntime) -> Result<(), Fai
     let world = run_world(alloc, &events)?;
     check_slot(&rt, &world, 5, 4, 1);
     Ok(())
+}
+
+// A bad line stops the workers, after the lines before it were carried out.
+#[test]
+fn a_bad_line_stops_the_workers(rt: HostRuntime) {
+    let alloc = rt.alloc();
+    let mut out = Vec::new(alloc);
+    let mut err = Vec::new(alloc);
+    let begin = Begin { serial: 0, id: 0 };
+    let input = b"0 1 40000007\n\n0 1 40000008\n".as_slice();
+    let status = play_by_workers(&rt, alloc, input, &mut out, &mut err, 2, begin);
+    assert!(rt; status == Status::Bad && out.as_slice() == b"1 70000007\n".as_slice());
+    assert!(rt; err.as_slice() == b"line 2: bad\n".as_slice());
 }
