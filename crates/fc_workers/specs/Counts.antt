@@ -1,5 +1,5 @@
 -- Shards whose changes are counted, and tallies, as a clause sees them.
-use Rattle.std.specs.Prelude.{◌≡◌, ℕ, ◌+◌, List, length, sum_by}
+use Rattle.std.specs.Prelude.{◌≡◌, ℕ, ◌+◌, List, [], ◌∷◌, length, replicate, sum_by}
 use Rattle.fc_registry.specs.Slots.{Slot, Shard}
 
 abbrev pub serial_of : Slot → ℕ
@@ -29,3 +29,21 @@ counts tally changes = record tally { changes = tally.changes + changes }
 pub record Tallies : Type 0 where
   pub changes : List ℕ
   pub ended : ℕ
+
+abbrev pub no_changes : List ℕ
+no_changes = replicate 8 0
+
+abbrev pub no_tallies : Tallies
+no_tallies = record { changes = no_changes; ended = 0 }
+
+-- as many parts of each book, the changes of shards 0 to 7 that were counted on them, and jobs that were ended
+pub record Reserve : Type 0 where
+  pub parts : ℕ
+  pub changes : List ℕ
+  pub ended : ℕ
+
+-- two lists added place by place
+abbrev pub sums : List ℕ → List ℕ → List ℕ
+sums [] ys = []
+sums (x ∷ xs) [] = []
+sums (x ∷ xs) (y ∷ ys) = (x + y) ∷ sums xs ys

@@ -133,6 +133,7 @@ impl<L: Ledger> Counted<L> {
         requires { all.old.parts ≡ L.parts }
         ensures shard { result ≡ self.shard }
         ensures risen { serials result ≡ self.opened + all.old.changes }
+        ensures tally { all.new ≡ all.old }
     {
         let Counted {
             shard,

@@ -1,17 +1,23 @@
 //! A server behind one lock.
-ghost use Rattle.std.specs.Prelude.{◌≡◌, ◌+◌, ◌<◌, ◌%◌, slice_index};
+ghost use Rattle.std.specs.Prelude.{◌≡◌, ◌+◌, ◌*◌, ◌<◌, ◌≤◌, ◌%◌, map, slice_index, IfOk};
 ghost use Rattle.fc_core.specs.Contents.{IsOf};
+ghost use Rattle.fc_registry.specs.Slots.{last_serial};
+ghost use Rattle.fc_workers.specs.Counts.{no_changes, serials};
 ghost use Rattle.fc_workers.specs.Answers.{AreTallied, IsSomeCommit, IsSomeInstall, IsSomeTaking, commit_changes, install_changes, saturated};
 
 use crate::bench::Bench;
+use crate::blanks::Blanks;
 use crate::counted::Counted;
+use crate::reserve::Reserve;
 use crate::tallies::Tallies;
+use crate::tally::Tally;
 use coap_msg::{Emission, Endpoint};
 use fc_core::{Answer, Answered, Delivered, Front};
 use fc_machine::Outcome;
-use fc_registry::{Committed, Job, Made, SlotNumber, Taken, Ticket};
+use fc_registry::{Committed, Job, Made, Shard, SlotNumber, Taken, Ticket};
 use fc_verify::Verified;
-use std::sync::ledger::Ledger;
+use std::alloc::{AllocError, Global};
+use std::sync::ledger::{Blank, Ledger};
 use std::sync::{Arc, Mutex, Wait};
 
 /// The front, and the eight shards, each beside its book.
@@ -35,6 +41,7 @@ struct State<
     shard5: Counted<L5>,
     shard6: Counted<L6>,
     shard7: Counted<L7>,
+    first_serial: u64,
     ghost index0: { shard0.shard.index ≡ 0 },
     ghost index1: { shard1.shard.index ≡ 1 },
     ghost index2: { shard2.shard.index ≡ 2 },
@@ -43,6 +50,14 @@ struct State<
     ghost index5: { shard5.shard.index ≡ 5 },
     ghost index6: { shard6.shard.index ≡ 6 },
     ghost index7: { shard7.shard.index ≡ 7 },
+    ghost opened0: { shard0.opened ≡ 8 * first_serial },
+    ghost opened1: { shard1.opened ≡ 8 * first_serial },
+    ghost opened2: { shard2.opened ≡ 8 * first_serial },
+    ghost opened3: { shard3.opened ≡ 8 * first_serial },
+    ghost opened4: { shard4.opened ≡ 8 * first_serial },
+    ghost opened5: { shard5.opened ≡ 8 * first_serial },
+    ghost opened6: { shard6.opened ≡ 8 * first_serial },
+    ghost opened7: { shard7.opened ≡ 8 * first_serial },
 }
 
 impl<
@@ -134,6 +149,24 @@ impl<
     }
 }
 
+// A shard of empty slots, each at the first serial, and its book, opened.
+fn begin<L: Ledger>(
+    alloc: Global,
+    index: u8,
+    first_serial: u64,
+    blank: Blank,
+) -> Result<(Counted<L>, Tally<L>), AllocError>
+    requires index { index < 8 }
+    requires serial { first_serial ≤ last_serial }
+    requires book { (blank.name ≡ L.name) × (blank.parts ≡ L.parts) × (0 < L.parts) }
+    ensures index { IfOk result (λ r. r.0.shard.index ≡ index) }
+    ensures opened { IfOk result (λ r. r.0.opened ≡ 8 * first_serial) }
+    ensures tally { IfOk result (λ r. r.1 ≡ record { parts = L.parts; changes = 0 }) }
+{
+    let shard = Shard::new(alloc, index, first_serial)?;
+    Ok(Counted::open(shard, blank))
+}
+
 // The index of the shard that owns a slot.
 fn shard_of(slot: SlotNumber) -> usize
     ensures { (result ≡ slot % 8) × (slot < 64) × (result < 8) }
@@ -155,6 +188,81 @@ pub struct Locked<
     L7: Ledger,
 > {
     state: Mutex<State<L0, L1, L2, L3, L4, L5, L6, L7>>,
+}
+
+/// The shards of a server that was closed, and the serial that each slot began with.
+#[derive(Drop)]
+pub struct Closed {
+    pub shards: [Shard; 8],
+    pub first_serial: u64,
+}
+
+impl<L0: Ledger, L1: Ledger, L2: Ledger, L3: Ledger, L4: Ledger, L5: Ledger, L6: Ledger, L7: Ledger> Locked<L0, L1, L2, L3, L4, L5, L6, L7> {
+    /// A server that holds nothing, with slots 0 to 63 empty, each at the first serial, and that draws this message id
+    /// first. It opens the books; the reserve has all their parts.
+    ///
+    /// # Errors
+    /// There was no memory for it.
+    pub fn new(
+        alloc: Global,
+        first_serial: u64,
+        first_id: u16,
+        blanks: Blanks,
+    ) -> Result<(Locked<L0, L1, L2, L3, L4, L5, L6, L7>, Reserve<L0, L1, L2, L3, L4, L5, L6, L7>), AllocError>
+        requires serial { first_serial ≤ last_serial }
+        requires book0 { (blanks.blank0.name ≡ L0.name) × (blanks.parts ≡ L0.parts) }
+        requires book1 { (blanks.blank1.name ≡ L1.name) × (blanks.parts ≡ L1.parts) }
+        requires book2 { (blanks.blank2.name ≡ L2.name) × (blanks.parts ≡ L2.parts) }
+        requires book3 { (blanks.blank3.name ≡ L3.name) × (blanks.parts ≡ L3.parts) }
+        requires book4 { (blanks.blank4.name ≡ L4.name) × (blanks.parts ≡ L4.parts) }
+        requires book5 { (blanks.blank5.name ≡ L5.name) × (blanks.parts ≡ L5.parts) }
+        requires book6 { (blanks.blank6.name ≡ L6.name) × (blanks.parts ≡ L6.parts) }
+        requires book7 { (blanks.blank7.name ≡ L7.name) × (blanks.parts ≡ L7.parts) }
+        ensures { IfOk result (λ r. r.1 ≡ record { parts = blanks.parts; changes = no_changes; ended = 0 }) }
+    {
+        let front = Front::new(alloc, first_id)?;
+        let (shard0, tally0) = begin(alloc, 0, first_serial, blanks.blank0)?;
+        let (shard1, tally1) = begin(alloc, 1, first_serial, blanks.blank1)?;
+        let (shard2, tally2) = begin(alloc, 2, first_serial, blanks.blank2)?;
+        let (shard3, tally3) = begin(alloc, 3, first_serial, blanks.blank3)?;
+        let (shard4, tally4) = begin(alloc, 4, first_serial, blanks.blank4)?;
+        let (shard5, tally5) = begin(alloc, 5, first_serial, blanks.blank5)?;
+        let (shard6, tally6) = begin(alloc, 6, first_serial, blanks.blank6)?;
+        let (shard7, tally7) = begin(alloc, 7, first_serial, blanks.blank7)?;
+        let state = State {
+            front,
+            shard0, shard1, shard2, shard3, shard4, shard5, shard6, shard7,
+            first_serial,
+        };
+        let reserve = Reserve {
+            tally0, tally1, tally2, tally3, tally4, tally5, tally6, tally7,
+            ended: 0,
+        };
+        Ok((Locked { state: Mutex::new(state) }, reserve))
+    }
+
+    /// Closes the server, for a reserve that has all parts again: the serials of each shard have risen by the changes that
+    /// were counted.
+    pub fn close(self, reserve: &mut Reserve<L0, L1, L2, L3, L4, L5, L6, L7>) -> Closed
+        requires { (reserve.old.parts ≡ L0.parts) × (reserve.old.parts ≡ L1.parts) × (reserve.old.parts ≡ L2.parts) × (reserve.old.parts ≡ L3.parts) × (reserve.old.parts ≡ L4.parts) × (reserve.old.parts ≡ L5.parts) × (reserve.old.parts ≡ L6.parts) × (reserve.old.parts ≡ L7.parts) }
+        ensures { map serials result.shards ≡ map (λ n. 8 * result.first_serial + n) reserve.old.changes }
+    {
+        let state = self.state.into_inner();
+        let shards = [
+            state.shard0.close(&mut reserve.tally0),
+            state.shard1.close(&mut reserve.tally1),
+            state.shard2.close(&mut reserve.tally2),
+            state.shard3.close(&mut reserve.tally3),
+            state.shard4.close(&mut reserve.tally4),
+            state.shard5.close(&mut reserve.tally5),
+            state.shard6.close(&mut reserve.tally6),
+            state.shard7.close(&mut reserve.tally7),
+        ];
+        Closed {
+            shards,
+            first_serial: state.first_serial,
+        }
+    }
 }
 
 impl<

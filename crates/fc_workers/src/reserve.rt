@@ -1,0 +1,135 @@
+//! The parts of the books that no worker has.
+ghost use Rattle.std.specs.Prelude.{◌≡◌, ◌+◌, ◌-◌, ◌<◌, ◌≤◌, replicate, slice_index, vec_len, IfOk};
+ghost use Rattle.fc_workers.specs.Answers.{saturated};
+ghost use Rattle.fc_workers.specs.Counts.{no_changes, no_tallies, sums};
+
+use crate::tallies::Tallies;
+use crate::tally::Tally;
+use std::alloc::{AllocError, Global};
+use std::marker::Model;
+use std::sync::ledger::Ledger;
+
+/// The tallies of the parts that no worker has: as many parts of each of the eight books. A clause sees how many, the
+/// changes of shards 0 to 7 that were counted on them, and how many jobs were ended by the workers whose tallies were
+/// merged into it, up to 2^64 - 1.
+#[derive(Drop)]
+pub struct Reserve<L0: Ledger, L1: Ledger, L2: Ledger, L3: Ledger, L4: Ledger, L5: Ledger, L6: Ledger, L7: Ledger> {
+    pub(crate) tally0: Tally<L0>,
+    pub(crate) tally1: Tally<L1>,
+    pub(crate) tally2: Tally<L2>,
+    pub(crate) tally3: Tally<L3>,
+    pub(crate) tally4: Tally<L4>,
+    pub(crate) tally5: Tally<L5>,
+    pub(crate) tally6: Tally<L6>,
+    pub(crate) tally7: Tally<L7>,
+    pub(crate) ended: u64,
+}
+
+impl<L0: Ledger, L1: Ledger, L2: Ledger, L3: Ledger, L4: Ledger, L5: Ledger, L6: Ledger, L7: Ledger> Model for Reserve<L0, L1, L2, L3, L4, L5, L6, L7> {
+    ghost use Rattle.fc_workers.specs.Counts.{Reserve as Seen};
+
+    ghost Value = { Seen };
+
+    ghost use Rattle.std.specs.Prelude.{◌≡◌, [], ◌∷◌};
+
+    ghost view = { λ r. record {
+        parts = r.tally0.parts;
+        changes = r.tally0.changes ∷ r.tally1.changes ∷ r.tally2.changes ∷ r.tally3.changes ∷ r.tally4.changes ∷ r.tally5.changes ∷ r.tally6.changes ∷ r.tally7.changes ∷ [];
+        ended = r.ended } };
+
+    ghost invariant = { λ r. (r.tally1.parts ≡ r.tally0.parts) × (r.tally2.parts ≡ r.tally0.parts) × (r.tally3.parts ≡ r.tally0.parts) × (r.tally4.parts ≡ r.tally0.parts) × (r.tally5.parts ≡ r.tally0.parts) × (r.tally6.parts ≡ r.tally0.parts) × (r.tally7.parts ≡ r.tally0.parts) };
+}
+
+impl<L0: Ledger, L1: Ledger, L2: Ledger, L3: Ledger, L4: Ledger, L5: Ledger, L6: Ledger, L7: Ledger> Reserve<L0, L1, L2, L3, L4, L5, L6, L7> {
+    /// The tallies of a worker: one part of each book. They are asked for before the first change, and a part is kept.
+    pub fn split(&mut self) -> Tallies<L0, L1, L2, L3, L4, L5, L6, L7>
+        requires parts { 1 < self.old.parts }
+        requires changes { self.old.changes ≡ no_changes }
+        ensures left { self.new ≡ record self.old { parts = self.old.parts - 1 } }
+        ensures given { result ≡ no_tallies }
+    {
+        Tallies {
+            tally0: self.tally0.split(),
+            tally1: self.tally1.split(),
+            tally2: self.tally2.split(),
+            tally3: self.tally3.split(),
+            tally4: self.tally4.split(),
+            tally5: self.tally5.split(),
+            tally6: self.tally6.split(),
+            tally7: self.tally7.split(),
+            ended: 0,
+        }
+    }
+
+    /// The tallies of so many workers.
+    ///
+    /// # Errors
+    /// There was no memory for them.
+    pub fn split_each(&mut self, alloc: Global, workers: usize) -> Result<Vec<Tallies<L0, L1, L2, L3, L4, L5, L6, L7>>, AllocError>
+        requires parts { workers < self.old.parts }
+        requires changes { self.old.changes ≡ no_changes }
+        ensures left { IfOk result (λ v. self.new ≡ record self.old { parts = self.old.parts - workers }) }
+        ensures given { IfOk result (λ v. v.items ≡ replicate workers no_tallies) }
+    {
+        let mut each = Vec::new(alloc);
+        for worker in 0..workers {
+            each.push(self.split())?;
+        }
+        Ok(each)
+    }
+
+    /// Takes the tallies of a worker in.
+    pub fn merge(&mut self, worker: Tallies<L0, L1, L2, L3, L4, L5, L6, L7>)
+        ensures { self.new ≡ record {
+            parts = self.old.parts + 1;
+            changes = sums self.old.changes worker.changes;
+            ended = saturated (self.old.ended + worker.ended) } }
+    {
+        let Tallies {
+            tally0, tally1, tally2, tally3, tally4, tally5, tally6, tally7,
+            ended,
+        } = worker;
+        self.tally0.merge(tally0);
+        self.tally1.merge(tally1);
+        self.tally2.merge(tally2);
+        self.tally3.merge(tally3);
+        self.tally4.merge(tally4);
+        self.tally5.merge(tally5);
+        self.tally6.merge(tally6);
+        self.tally7.merge(tally7);
+        self.ended = self.ended.saturating_add(ended);
+    }
+
+    /// Takes the tallies of all these workers in.
+    pub fn merge_each(&mut self, mut workers: Vec<Tallies<L0, L1, L2, L3, L4, L5, L6, L7>>)
+        ensures { self.new.parts ≡ self.old.parts + vec_len workers }
+    {
+        while let Some(worker) = workers.pop() {
+            self.merge(worker);
+        }
+    }
+
+    /// The changes of a shard, by its index, up to 2^64 - 1.
+    pub fn shown(&self, shard: usize) -> u64
+        requires { shard < 8 }
+        ensures { result ≡ saturated (slice_index self.now.changes shard) }
+    {
+        match shard {
+            0 => self.tally0.shown(),
+            1 => self.tally1.shown(),
+            2 => self.tally2.shown(),
+            3 => self.tally3.shown(),
+            4 => self.tally4.shown(),
+            5 => self.tally5.shown(),
+            6 => self.tally6.shown(),
+            _ => self.tally7.shown(),
+        }
+    }
+
+    /// How many jobs were ended, up to 2^64 - 1.
+    pub fn ended(&self) -> u64
+        ensures { result ≡ self.now.ended }
+    {
+        self.ended
+    }
+}
