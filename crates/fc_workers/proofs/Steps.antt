@@ -17,7 +17,6 @@ use Rattle.fc_registry.specs.declared.receipt.Receipt.{Receipt}
 use Rattle.fc_isa.specs.declared.rule.Fault.{Fault}
 use Rattle.fc_isa.specs.Rules.{number_of}
 use Rattle.fc_registry.specs.declared.shard.Taken.{Taken}
-use Rattle.fc_registry.specs.declared.shard.Taken.TheVariants.{Given, Missing, Refused}
 use Rattle.fc_registry.specs.declared.shard.Made.{Made}
 use Rattle.fc_registry.specs.declared.shard.Made.TheVariants.{Raised, AtEnd}
 use Rattle.fc_registry.specs.declared.commit.Committed.{Committed}
@@ -31,10 +30,10 @@ use Rattle.fc_core.specs.Ends.{refused, refused_by}
 use Rattle.fc_core.specs.Stages.{first_stage, first_by, image_of, receipt_of, run_content, took, after_commit, made, takings}
 use Rattle.fc_workers.specs.declared.share.Share.{Share}
 use Rattle.fc_workers.specs.Answers.{AreTallied, commit_changes, install_changes, saturated, IsSomeTaking, IsSomeCommit, IsSomeInstall}
-use Rattle.fc_workers.specs.Steps.{Follows, IsReady, IsStep, left, taken_at}
-use Rattle.fc_workers.specs.Work.{Call, Takes, Commits, Installs, Refuses, Raises, AreCalls, IsCallAt, IsWorkedOff, HasCounted, next_stage, stage_after, changes_by, overtaking_by, refusal_by, taking_by, total}
+use Rattle.fc_workers.specs.Steps.{Follows, IsReady, IsStep, taken_at}
+use Rattle.fc_workers.specs.Work.{Call, Takes, Commits, Installs, Refuses, Raises, AreCalls, IsCallAt, IsWorkedOff, HasCounted, next_stage, stage_after, change_by, overtaking_by, refusal_by, taking_by, total}
 
--- the calls so far, and where they left the job
+-- the calls so far, and where they led the job
 pub record Walked {T : Type 0} (changes : T → ℕ → ℕ) (job : Job) (stage : Stage) (before now : Share T) : Type 0 where
   pub calls : List Call
   pub are : AreCalls job calls
@@ -200,7 +199,7 @@ tallied_on false before now after x y e f = omega (arith, e, f)
 
 counts_on : {T : Type 0} (changes : T → ℕ → ℕ) (n : ℕ) (calls : List Call) (call : Call) (before now after : Share T) → HasCounted changes n calls before now → HasCounted changes n (call ∷ []) now after → HasCounted changes n (call ∷ calls) before after
 counts_on changes n calls call before now after c d = record {
-  tallies = λ shard less. tallied_on (shard == n % 8) (changes before.tallies shard) (changes now.tallies shard) (changes after.tallies shard) (total changes_by calls) (changes_by call) (c.tallies shard less) (d.tallies shard less);
+  tallies = λ shard less. tallied_on (shard == n % 8) (changes before.tallies shard) (changes now.tallies shard) (changes after.tallies shard) (total change_by calls) (change_by call) (c.tallies shard less) (d.tallies shard less);
   refusals = omega (arith, c.refusals, d.refusals);
   overtakings = omega (arith, c.overtakings, d.overtakings);
   got = d.got ∙ c.got;

@@ -1,6 +1,7 @@
 -- What a worker's share says of the jobs that it got.
-use Rattle.std.specs.Prelude.{◌≡◌, ℕ, ◌+◌, ◌<◌, List, [], ◌∷◌, ◌++◌, length, reverse, slice_index_or}
-use Rattle.fc_jobs.specs.Ends.{Got, with_got}
+use Rattle.std.specs.Prelude.{◌≡◌, ℕ, ◌+◌, ◌<◌, List, [], ◌∷◌, ◌++◌, length, map, reverse, slice_index_or}
+use Rattle.std.specs.List.{All}
+use Rattle.fc_jobs.specs.Ends.{Channel, Got, nothing_got, with_got}
 use Rattle.fc_jobs.specs.declared.protocol.Numbered.{Numbered}
 use Rattle.fc_workers.specs.declared.seat.Seat.{Seat}
 use Rattle.fc_workers.specs.declared.share.Share.{Share}
@@ -27,6 +28,11 @@ pub record HasEnded {T : Type 0} (changes : T → ℕ → ℕ) (ended : T → �
   pub turns : AreTurns changes ended jobs before after
   pub got : after.got ≡ record before.got { got = before.got.got ++ reverse jobs }
   pub count : HasRisen (ended before.tallies) (length jobs) (ended after.tallies)
+
+-- a seat for each of these tallies, whose worker has got nothing yet
+pub record AreNewSeats {T : Type 0} (channel : Channel) (tallies : List T) (seats : List (Seat T)) : Type 0 where
+  pub got : All (λ (s : Seat T). s.got ≡ nothing_got channel) seats
+  pub tallies_are : map (λ (s : Seat T). s.tallies) seats ≡ tallies
 
 -- the share of the worker at a seat
 abbrev pub IsShareOf : {T : Type 0} → (T → ℕ → ℕ) → (T → ℕ) → Seat T → Share T → Type 0

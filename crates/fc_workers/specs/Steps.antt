@@ -18,12 +18,12 @@ IsReady job (ToAnswer content) = IsOf job content
 IsReady job Gone = ⊥
 
 -- how many calls there can still be
-abbrev pub left : Stage → ℕ
-left (ToTake n) = 2 * (takings - n) + 2
-left (ToCommit n t) = 2 * (takings - n) + 3
-left ToInstall = 2
-left (ToRaise content) = 1
-left other = 0
+abbrev pub calls_left : Stage → ℕ
+calls_left (ToTake n) = 2 * (takings - n) + 2
+calls_left (ToCommit n t) = 2 * (takings - n) + 3
+calls_left ToInstall = 2
+calls_left (ToRaise content) = 1
+calls_left other = 0
 
 -- how many takings there can have been
 abbrev pub taken_at : Stage → ℕ
@@ -34,7 +34,7 @@ taken_at other = takings
 -- a stage that a call, of so many takings, can lead to: the job is ready for it, and it is nearer to the end
 pub record Follows (job : Job) (old : Stage) (takes : ℕ) (new : Stage) : Type 0 where
   pub ready : IsReady job new
-  pub fewer : left new < left old
+  pub fewer : calls_left new < calls_left old
   pub few : taken_at old + takes ≤ taken_at new
 
 -- a call, and the stage and the share that it leaves

@@ -54,7 +54,7 @@ unfoldable pub stage_after : Job → List Call → Stage
 stage_after job [] = first_stage job
 stage_after job (call ∷ calls) = next_stage (stage_after job calls) call
 
--- each is the call that the stage needs which the ones before it left
+-- each is the call that the stage needs where the ones before it have led
 unfoldable pub AreCalls : Job → List Call → Type 0
 AreCalls job [] = Unit {0}
 AreCalls job (call ∷ calls) = AreCalls job calls × IsCallAt job (stage_after job calls) call
@@ -66,10 +66,10 @@ taking_by (Takes taken) = 1
 taking_by other = 0
 
 -- changes of the job's slot
-abbrev pub changes_by : Call → ℕ
-changes_by (Commits committed) = commit_changes committed
-changes_by (Installs p answer) = install_changes answer
-changes_by other = 0
+abbrev pub change_by : Call → ℕ
+change_by (Commits committed) = commit_changes committed
+change_by (Installs p answer) = install_changes answer
+change_by other = 0
 
 -- refusals of memory
 abbrev pub refusal_by : Call → ℕ
@@ -88,7 +88,7 @@ total by (call ∷ calls) = total by calls + by call
 
 -- a worker's share, before and after these calls for a job of slot n
 pub record HasCounted {T : Type 0} (changes : T → ℕ → ℕ) (n : ℕ) (calls : List Call) (before after : Share T) : Type 0 where
-  pub tallies : AreTallied (changes before.tallies) (changes after.tallies) n (total changes_by calls)
+  pub tallies : AreTallied (changes before.tallies) (changes after.tallies) n (total change_by calls)
   pub refusals : HasRisen before.refusals (total refusal_by calls) after.refusals
   pub overtakings : HasRisen before.overtakings (total overtaking_by calls) after.overtakings
   pub got : after.got ≡ before.got

@@ -1,17 +1,56 @@
 //! Workers in threads of their own.
-ghost use Rattle.std.specs.Prelude.{◌≡◌, IfOk};
+ghost use Rattle.std.specs.Prelude.{◌≡◌, IfOk, vec_len};
 ghost use Rattle.std.specs.List.{All};
-ghost use Rattle.fc_workers.specs.Shares.{AreSharesOf, IsShareOf};
+ghost use Rattle.fc_jobs.specs.Ends.{nothing_got, nothing_sent};
+ghost use Rattle.fc_workers.specs.Shares.{AreNewSeats, AreSharesOf, IsShareOf};
 
 use crate::bench::Bench;
 use crate::seat::{Seat, worker};
 use crate::share::Share;
 use crate::workshop::{Gate, Moments, Wire, Workshop};
-use fc_jobs::Jobs;
-use std::alloc::AllocError;
+use fc_jobs::{Got, Jobs, Sent};
+use std::alloc::{AllocError, Global};
 use std::sync::Wait;
 use std::thread;
 use std::thread::Threads;
+
+/// Makes a channel of jobs, its one end that sends, and a seat for a worker with each of these tallies.
+///
+/// # Errors
+/// There was no memory for them.
+pub fn make_seats<T: Drop>(
+    alloc: Global,
+    tallies: Vec<T>,
+) -> Result<(Jobs, Sent, Vec<Seat<T>>), AllocError>
+    ensures sent { IfOk result (λ r. r.1 ≡ nothing_sent r.0) }
+    ensures seats { IfOk result (λ r. AreNewSeats r.0 tallies.items r.2.items) }
+{
+    let (jobs, sent, gots) = Jobs::new(alloc, tallies.len())?;
+    let seats = seats_at(alloc, &jobs, gots, tallies)?;
+    Ok((jobs, sent, seats))
+}
+
+// A seat for each place at the channel, with its tallies.
+fn seats_at<T: Drop>(
+    alloc: Global,
+    jobs: &Jobs,
+    mut gots: Vec<Got>,
+    tallies: Vec<T>,
+) -> Result<Vec<Seat<T>>, AllocError>
+    requires got { All (λ g. g ≡ nothing_got jobs.now) gots.items }
+    requires count { vec_len gots ≡ vec_len tallies }
+    ensures { IfOk result (λ v. AreNewSeats jobs.now tallies.items v.items) }
+{
+    let _ = jobs;
+    let mut seats = Vec::with_capacity(alloc, tallies.len())?;
+    for own in tallies {
+        let Some(got) = gots.pop() else {
+            unreachable!();
+        };
+        seats.push(Seat::new(alloc, got, own)?)?;
+    }
+    Ok(seats)
+}
 
 /// Runs a worker at each seat, in threads of their own, until the channel is closed and empty: the share of each, in the order
 /// of the seats. Where no thread can be made, the workers run one after another.
@@ -44,8 +83,12 @@ pub fn run_workers<
 }
 
 /// Runs a worker at each seat, as `run_workers` does, and beside them a feeder, in the caller's own thread: what the feeder
-/// gives, and the shares. The feeder sends the jobs, and owns the end that sends: the channel is closed when it has returned,
-/// and the workers come to their end. Where no thread can be made, it would begin after the workers have ended.
+/// gives, and the shares. The feeder sends the jobs, and owns the end that sends: once it has returned the channel is closed,
+/// and the workers come to their end. Where not even one thread can be made the workers run first, and wait for ever.
+///
+/// # Errors
+/// The shares are as `run_workers` gives them. If memory is refused for every seat, a feeder of more than 256 jobs waits for
+/// ever.
 pub fn feed_workers<
     B: Bench + Sync,
     G: Gate + Sync,

@@ -13,7 +13,16 @@ use std::sync::ledger::Ledger;
 /// changes of shards 0 to 7 that were counted on them, and how many jobs were ended by the workers whose tallies were
 /// merged into it, up to 2^64 - 1.
 #[derive(Drop)]
-pub struct Reserve<L0: Ledger, L1: Ledger, L2: Ledger, L3: Ledger, L4: Ledger, L5: Ledger, L6: Ledger, L7: Ledger> {
+pub struct Reserve<
+    L0: Ledger,
+    L1: Ledger,
+    L2: Ledger,
+    L3: Ledger,
+    L4: Ledger,
+    L5: Ledger,
+    L6: Ledger,
+    L7: Ledger,
+> {
     pub(crate) tally0: Tally<L0>,
     pub(crate) tally1: Tally<L1>,
     pub(crate) tally2: Tally<L2>,
@@ -25,7 +34,16 @@ pub struct Reserve<L0: Ledger, L1: Ledger, L2: Ledger, L3: Ledger, L4: Ledger, L
     pub(crate) ended: u64,
 }
 
-impl<L0: Ledger, L1: Ledger, L2: Ledger, L3: Ledger, L4: Ledger, L5: Ledger, L6: Ledger, L7: Ledger> Model for Reserve<L0, L1, L2, L3, L4, L5, L6, L7> {
+impl<
+    L0: Ledger,
+    L1: Ledger,
+    L2: Ledger,
+    L3: Ledger,
+    L4: Ledger,
+    L5: Ledger,
+    L6: Ledger,
+    L7: Ledger,
+> Model for Reserve<L0, L1, L2, L3, L4, L5, L6, L7> {
     ghost use Rattle.fc_workers.specs.Counts.{Reserve as Seen};
 
     ghost Value = { Seen };
@@ -33,14 +51,24 @@ impl<L0: Ledger, L1: Ledger, L2: Ledger, L3: Ledger, L4: Ledger, L5: Ledger, L6:
     ghost use Rattle.std.specs.Prelude.{◌≡◌, [], ◌∷◌};
 
     ghost view = { λ r. record {
-        parts = r.tally0.parts;
-        changes = r.tally0.changes ∷ r.tally1.changes ∷ r.tally2.changes ∷ r.tally3.changes ∷ r.tally4.changes ∷ r.tally5.changes ∷ r.tally6.changes ∷ r.tally7.changes ∷ [];
-        ended = r.ended } };
+      parts = r.tally0.parts;
+      changes = r.tally0.changes ∷ r.tally1.changes ∷ r.tally2.changes ∷ r.tally3.changes ∷ r.tally4.changes ∷ r.tally5.changes ∷ r.tally6.changes ∷ r.tally7.changes ∷ [];
+      ended = r.ended;
+    } };
 
     ghost invariant = { λ r. (r.tally1.parts ≡ r.tally0.parts) × (r.tally2.parts ≡ r.tally0.parts) × (r.tally3.parts ≡ r.tally0.parts) × (r.tally4.parts ≡ r.tally0.parts) × (r.tally5.parts ≡ r.tally0.parts) × (r.tally6.parts ≡ r.tally0.parts) × (r.tally7.parts ≡ r.tally0.parts) };
 }
 
-impl<L0: Ledger, L1: Ledger, L2: Ledger, L3: Ledger, L4: Ledger, L5: Ledger, L6: Ledger, L7: Ledger> Reserve<L0, L1, L2, L3, L4, L5, L6, L7> {
+impl<
+    L0: Ledger,
+    L1: Ledger,
+    L2: Ledger,
+    L3: Ledger,
+    L4: Ledger,
+    L5: Ledger,
+    L6: Ledger,
+    L7: Ledger,
+> Reserve<L0, L1, L2, L3, L4, L5, L6, L7> {
     /// The tallies of a worker: one part of each book. They are asked for before the first change, and a part is kept.
     pub fn split(&mut self) -> Tallies<L0, L1, L2, L3, L4, L5, L6, L7>
         requires parts { 1 < self.old.parts }
@@ -65,7 +93,11 @@ impl<L0: Ledger, L1: Ledger, L2: Ledger, L3: Ledger, L4: Ledger, L5: Ledger, L6:
     ///
     /// # Errors
     /// There was no memory for them.
-    pub fn split_each(&mut self, alloc: Global, workers: usize) -> Result<Vec<Tallies<L0, L1, L2, L3, L4, L5, L6, L7>>, AllocError>
+    pub fn split_each(
+        &mut self,
+        alloc: Global,
+        workers: usize,
+    ) -> Result<Vec<Tallies<L0, L1, L2, L3, L4, L5, L6, L7>>, AllocError>
         requires parts { workers < self.old.parts }
         requires changes { self.old.changes ≡ no_changes }
         ensures left { IfOk result (λ v. self.new ≡ record self.old { parts = self.old.parts - workers }) }
@@ -81,12 +113,20 @@ impl<L0: Ledger, L1: Ledger, L2: Ledger, L3: Ledger, L4: Ledger, L5: Ledger, L6:
     /// Takes the tallies of a worker in.
     pub fn merge(&mut self, worker: Tallies<L0, L1, L2, L3, L4, L5, L6, L7>)
         ensures { self.new ≡ record {
-            parts = self.old.parts + 1;
-            changes = sums self.old.changes worker.changes;
-            ended = saturated (self.old.ended + worker.ended) } }
+          parts = self.old.parts + 1;
+          changes = sums self.old.changes worker.changes;
+          ended = saturated (self.old.ended + worker.ended);
+        } }
     {
         let Tallies {
-            tally0, tally1, tally2, tally3, tally4, tally5, tally6, tally7,
+            tally0,
+            tally1,
+            tally2,
+            tally3,
+            tally4,
+            tally5,
+            tally6,
+            tally7,
             ended,
         } = worker;
         self.tally0.merge(tally0);

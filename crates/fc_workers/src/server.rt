@@ -2,7 +2,7 @@
 ghost use Rattle.std.specs.Prelude.{◌≡◌, ◌+◌, ◌*◌, ◌<◌, ◌≤◌, ◌%◌, map, slice_index, IfOk};
 ghost use Rattle.fc_core.specs.Contents.{IsOf};
 ghost use Rattle.fc_registry.specs.Slots.{last_serial};
-ghost use Rattle.fc_workers.specs.Counts.{no_changes, serials};
+ghost use Rattle.fc_workers.specs.Counts.{no_changes, serials, IsFresh};
 ghost use Rattle.fc_workers.specs.Answers.{AreTallied, IsSomeCommit, IsSomeInstall, IsSomeTaking, commit_changes, install_changes, saturated};
 
 use crate::bench::Bench;
@@ -17,8 +17,10 @@ use fc_machine::Outcome;
 use fc_registry::{Committed, Job, Made, Shard, SlotNumber, Taken, Ticket};
 use fc_verify::Verified;
 use std::alloc::{AllocError, Global};
-use std::sync::ledger::{Blank, Ledger};
+use std::sync::ledger::Ledger;
 use std::sync::{Arc, Mutex, Wait};
+
+type EightShards = (Shard, Shard, Shard, Shard, Shard, Shard, Shard, Shard);
 
 /// The front, and the eight shards, each beside its book.
 #[derive(Drop)]
@@ -149,22 +151,128 @@ impl<
     }
 }
 
-// A shard of empty slots, each at the first serial, and its book, opened.
-fn begin<L: Ledger>(
-    alloc: Global,
-    index: u8,
+// The server of these shards, each beside its book.
+fn server_of<
+    L0: Ledger,
+    L1: Ledger,
+    L2: Ledger,
+    L3: Ledger,
+    L4: Ledger,
+    L5: Ledger,
+    L6: Ledger,
+    L7: Ledger,
+>(
+    front: Front,
     first_serial: u64,
-    blank: Blank,
-) -> Result<(Counted<L>, Tally<L>), AllocError>
+    shard0: Counted<L0>,
+    shard1: Counted<L1>,
+    shard2: Counted<L2>,
+    shard3: Counted<L3>,
+    shard4: Counted<L4>,
+    shard5: Counted<L5>,
+    shard6: Counted<L6>,
+    shard7: Counted<L7>,
+) -> Locked<L0, L1, L2, L3, L4, L5, L6, L7>
+    requires shard0 { (shard0.shard.index ≡ 0) × (shard0.opened ≡ 8 * first_serial) }
+    requires shard1 { (shard1.shard.index ≡ 1) × (shard1.opened ≡ 8 * first_serial) }
+    requires shard2 { (shard2.shard.index ≡ 2) × (shard2.opened ≡ 8 * first_serial) }
+    requires shard3 { (shard3.shard.index ≡ 3) × (shard3.opened ≡ 8 * first_serial) }
+    requires shard4 { (shard4.shard.index ≡ 4) × (shard4.opened ≡ 8 * first_serial) }
+    requires shard5 { (shard5.shard.index ≡ 5) × (shard5.opened ≡ 8 * first_serial) }
+    requires shard6 { (shard6.shard.index ≡ 6) × (shard6.opened ≡ 8 * first_serial) }
+    requires shard7 { (shard7.shard.index ≡ 7) × (shard7.opened ≡ 8 * first_serial) }
+{
+    let state = State {
+        front,
+        shard0,
+        shard1,
+        shard2,
+        shard3,
+        shard4,
+        shard5,
+        shard6,
+        shard7,
+        first_serial,
+    };
+    Locked {
+        state: Mutex::new(state),
+    }
+}
+
+// The reserve of tallies that have as many parts each, and count no change.
+fn reserve_of<
+    L0: Ledger,
+    L1: Ledger,
+    L2: Ledger,
+    L3: Ledger,
+    L4: Ledger,
+    L5: Ledger,
+    L6: Ledger,
+    L7: Ledger,
+>(
+    tally0: Tally<L0>,
+    tally1: Tally<L1>,
+    tally2: Tally<L2>,
+    tally3: Tally<L3>,
+    tally4: Tally<L4>,
+    tally5: Tally<L5>,
+    tally6: Tally<L6>,
+    tally7: Tally<L7>,
+) -> Reserve<L0, L1, L2, L3, L4, L5, L6, L7>
+    requires some { tally0.changes ≡ 0 }
+    requires tally1 { tally1 ≡ tally0 }
+    requires tally2 { tally2 ≡ tally0 }
+    requires tally3 { tally3 ≡ tally0 }
+    requires tally4 { tally4 ≡ tally0 }
+    requires tally5 { tally5 ≡ tally0 }
+    requires tally6 { tally6 ≡ tally0 }
+    requires tally7 { tally7 ≡ tally0 }
+    ensures { result ≡ record { parts = tally0.parts; changes = no_changes; ended = 0 } }
+{
+    Reserve {
+        tally0,
+        tally1,
+        tally2,
+        tally3,
+        tally4,
+        tally5,
+        tally6,
+        tally7,
+        ended: 0,
+    }
+}
+
+// The shard of this index, of empty slots that are each at the first serial.
+fn fresh_shard(alloc: Global, index: u8, first_serial: u64) -> Result<Shard, AllocError>
     requires index { index < 8 }
     requires serial { first_serial ≤ last_serial }
-    requires book { (blank.name ≡ L.name) × (blank.parts ≡ L.parts) × (0 < L.parts) }
-    ensures index { IfOk result (λ r. r.0.shard.index ≡ index) }
-    ensures opened { IfOk result (λ r. r.0.opened ≡ 8 * first_serial) }
-    ensures tally { IfOk result (λ r. r.1 ≡ record { parts = L.parts; changes = 0 }) }
+    ensures { IfOk result (λ s. IsFresh s index first_serial) }
 {
-    let shard = Shard::new(alloc, index, first_serial)?;
-    Ok(Counted::open(shard, blank))
+    Shard::new(alloc, index, first_serial)
+}
+
+// The shards of index 0 to 7.
+fn fresh_shards(alloc: Global, first_serial: u64) -> Result<EightShards, AllocError>
+    requires { first_serial ≤ last_serial }
+    ensures shard0 { IfOk result (λ s. IsFresh s.0 0 first_serial) }
+    ensures shard1 { IfOk result (λ s. IsFresh s.1 1 first_serial) }
+    ensures shard2 { IfOk result (λ s. IsFresh s.2 2 first_serial) }
+    ensures shard3 { IfOk result (λ s. IsFresh s.3 3 first_serial) }
+    ensures shard4 { IfOk result (λ s. IsFresh s.4 4 first_serial) }
+    ensures shard5 { IfOk result (λ s. IsFresh s.5 5 first_serial) }
+    ensures shard6 { IfOk result (λ s. IsFresh s.6 6 first_serial) }
+    ensures shard7 { IfOk result (λ s. IsFresh s.7 7 first_serial) }
+{
+    Ok((
+        fresh_shard(alloc, 0, first_serial)?,
+        fresh_shard(alloc, 1, first_serial)?,
+        fresh_shard(alloc, 2, first_serial)?,
+        fresh_shard(alloc, 3, first_serial)?,
+        fresh_shard(alloc, 4, first_serial)?,
+        fresh_shard(alloc, 5, first_serial)?,
+        fresh_shard(alloc, 6, first_serial)?,
+        fresh_shard(alloc, 7, first_serial)?,
+    ))
 }
 
 // The index of the shard that owns a slot.
@@ -197,7 +305,16 @@ pub struct Closed {
     pub first_serial: u64,
 }
 
-impl<L0: Ledger, L1: Ledger, L2: Ledger, L3: Ledger, L4: Ledger, L5: Ledger, L6: Ledger, L7: Ledger> Locked<L0, L1, L2, L3, L4, L5, L6, L7> {
+impl<
+    L0: Ledger,
+    L1: Ledger,
+    L2: Ledger,
+    L3: Ledger,
+    L4: Ledger,
+    L5: Ledger,
+    L6: Ledger,
+    L7: Ledger,
+> Locked<L0, L1, L2, L3, L4, L5, L6, L7> {
     /// A server that holds nothing, with slots 0 to 63 empty, each at the first serial, and that draws this message id
     /// first. It opens the books; the reserve has all their parts.
     ///
@@ -208,7 +325,13 @@ impl<L0: Ledger, L1: Ledger, L2: Ledger, L3: Ledger, L4: Ledger, L5: Ledger, L6:
         first_serial: u64,
         first_id: u16,
         blanks: Blanks,
-    ) -> Result<(Locked<L0, L1, L2, L3, L4, L5, L6, L7>, Reserve<L0, L1, L2, L3, L4, L5, L6, L7>), AllocError>
+    ) -> Result<
+        (
+            Locked<L0, L1, L2, L3, L4, L5, L6, L7>,
+            Reserve<L0, L1, L2, L3, L4, L5, L6, L7>,
+        ),
+        AllocError,
+    >
         requires serial { first_serial ≤ last_serial }
         requires book0 { (blanks.blank0.name ≡ L0.name) × (blanks.parts ≡ L0.parts) }
         requires book1 { (blanks.blank1.name ≡ L1.name) × (blanks.parts ≡ L1.parts) }
@@ -221,24 +344,45 @@ impl<L0: Ledger, L1: Ledger, L2: Ledger, L3: Ledger, L4: Ledger, L5: Ledger, L6:
         ensures { IfOk result (λ r. r.1 ≡ record { parts = blanks.parts; changes = no_changes; ended = 0 }) }
     {
         let front = Front::new(alloc, first_id)?;
-        let (shard0, tally0) = begin(alloc, 0, first_serial, blanks.blank0)?;
-        let (shard1, tally1) = begin(alloc, 1, first_serial, blanks.blank1)?;
-        let (shard2, tally2) = begin(alloc, 2, first_serial, blanks.blank2)?;
-        let (shard3, tally3) = begin(alloc, 3, first_serial, blanks.blank3)?;
-        let (shard4, tally4) = begin(alloc, 4, first_serial, blanks.blank4)?;
-        let (shard5, tally5) = begin(alloc, 5, first_serial, blanks.blank5)?;
-        let (shard6, tally6) = begin(alloc, 6, first_serial, blanks.blank6)?;
-        let (shard7, tally7) = begin(alloc, 7, first_serial, blanks.blank7)?;
-        let state = State {
-            front,
-            shard0, shard1, shard2, shard3, shard4, shard5, shard6, shard7,
+        let (shard0, shard1, shard2, shard3, shard4, shard5, shard6, shard7) = fresh_shards(
+            alloc,
             first_serial,
-        };
-        let reserve = Reserve {
+        )?;
+        let Blanks {
+            blank0,
+            blank1,
+            blank2,
+            blank3,
+            blank4,
+            blank5,
+            blank6,
+            blank7,
+            ..
+        } = blanks;
+        let (shard0, tally0) = Counted::open(shard0, blank0);
+        let (shard1, tally1) = Counted::open(shard1, blank1);
+        let (shard2, tally2) = Counted::open(shard2, blank2);
+        let (shard3, tally3) = Counted::open(shard3, blank3);
+        let (shard4, tally4) = Counted::open(shard4, blank4);
+        let (shard5, tally5) = Counted::open(shard5, blank5);
+        let (shard6, tally6) = Counted::open(shard6, blank6);
+        let (shard7, tally7) = Counted::open(shard7, blank7);
+        let server = server_of(
+            front,
+            first_serial,
+            shard0,
+            shard1,
+            shard2,
+            shard3,
+            shard4,
+            shard5,
+            shard6,
+            shard7,
+        );
+        let reserve = reserve_of(
             tally0, tally1, tally2, tally3, tally4, tally5, tally6, tally7,
-            ended: 0,
-        };
-        Ok((Locked { state: Mutex::new(state) }, reserve))
+        );
+        Ok((server, reserve))
     }
 
     /// Closes the server, for a reserve that has all parts again: the serials of each shard have risen by the changes that
