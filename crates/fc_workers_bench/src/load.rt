@@ -2,12 +2,12 @@
 ghost use Rattle.std.specs.Prelude.{◌≡◌};
 
 use crate::feeder::{Feeder, Open, Request};
-use crate::session::{Held, Session, make_seats};
+use crate::session::{Held, Session};
 use coap_msg::Emission;
 use fc_jobs::Sent;
 use fc_registry::{SLOTS, SlotNumber};
-use fc_workers::{Bench, Moments, Wire, Workshop, feed_workers};
-use std::alloc::Global;
+use fc_workers::{Bench, Moments, Wire, Workshop, feed_workers, make_seats};
+use std::alloc::{AllocError, Global};
 use std::sync::atomic::{AtomicU64, Ordering};
 use std::sync::{Condvar, Mutex, Wait};
 use std::thread::Threads;
@@ -44,6 +44,29 @@ impl Board {
             done: Condvar::new(),
             now: AtomicU64::new(0),
         }
+    }
+
+    // Has so many requests answered, to slots 0 to 63 in turn: how many with a success.
+    fn round<B: Bench, R: Wait>(
+        &self,
+        rt: &R,
+        feeder: &Feeder<'_, B>,
+        sent: &mut Sent,
+        request: Request<'_>,
+        count: u16,
+    ) -> Result<u64, AllocError>
+        requires { sent.old.channel ≡ feeder.now.jobs.now }
+        ensures { sent.new.channel ≡ sent.old.channel }
+    {
+        let now = self.now(rt);
+        let mut jobs = 0u64;
+        for id in 0..count {
+            let slot = SlotNumber::new((id % 64) as u8);
+            if feeder.ask(rt, sent, now, request, id, slot)? {
+                jobs = jobs.saturating_add(1);
+            }
+        }
+        Ok(self.wait(rt, jobs))
     }
 
     // Waits until so many jobs are ended: how many were answered with a success. The next round is counted from 0.
@@ -146,7 +169,7 @@ impl<'a> Session for Load<'a> {
 }
 
 impl<'a> Load<'a> {
-    // Installs the program in all slots, and then has the rounds answered.
+    // Has the program installed in all slots, and then the rounds answered.
     fn feed<B: Bench, R: Wait + Clock>(
         &self,
         rt: &R,
@@ -156,60 +179,16 @@ impl<'a> Load<'a> {
     ) -> anyhow::Result<Took>
         requires { sent.channel ≡ feeder.now.jobs.now }
     {
-        self.install(rt, feeder, board, &mut sent)?;
+        let slots = u16::from(SLOTS);
+        board.round(rt, feeder, &mut sent, Request::Put(self.image), slots)?;
         let mut answered = 0u64;
         let start = Instant::now(rt)?;
         for round in 1..=self.rounds {
-            let now = u64::from(round) * ROUND;
-            let of_round = self.round(rt, feeder, board, &mut sent, now)?;
+            board.now.store(u64::from(round) * ROUND, Ordering::SeqCst);
+            let of_round = board.round(rt, feeder, &mut sent, Request::Post, self.posts)?;
             answered = answered.saturating_add(of_round);
         }
         let time = start.elapsed(rt)?;
         Ok(Took { answered, time })
-    }
-
-    fn install<B: Bench, R: Wait>(
-        &self,
-        rt: &R,
-        feeder: &Feeder<'_, B>,
-        board: &Board,
-        sent: &mut Sent,
-    ) -> anyhow::Result<()>
-        requires { sent.old.channel ≡ feeder.now.jobs.now }
-        ensures { sent.new.channel ≡ sent.old.channel }
-    {
-        let mut jobs = 0u64;
-        for number in 0..SLOTS {
-            let slot = SlotNumber::new(number);
-            let id = u16::from(number);
-            if feeder.ask(rt, sent, 0, Request::Put(self.image), id, slot)? {
-                jobs = jobs.saturating_add(1);
-            }
-        }
-        board.wait(rt, jobs);
-        Ok(())
-    }
-
-    // Has a round answered, at its moment in milliseconds: how many of its POSTs were answered with a success.
-    fn round<B: Bench, R: Wait>(
-        &self,
-        rt: &R,
-        feeder: &Feeder<'_, B>,
-        board: &Board,
-        sent: &mut Sent,
-        now: u64,
-    ) -> anyhow::Result<u64>
-        requires { sent.old.channel ≡ feeder.now.jobs.now }
-        ensures { sent.new.channel ≡ sent.old.channel }
-    {
-        board.now.store(now, Ordering::SeqCst);
-        let mut jobs = 0u64;
-        for id in 0..self.posts {
-            let slot = SlotNumber::new((id % 64) as u8);
-            if feeder.ask(rt, sent, now, Request::Post, id, slot)? {
-                jobs = jobs.saturating_add(1);
-            }
-        }
-        Ok(board.wait(rt, jobs))
     }
 }

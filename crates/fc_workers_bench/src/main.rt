@@ -12,7 +12,7 @@ mod session;
 mod tests;
 
 use load::{Load, Took};
-use program::Program;
+use program::{EMPTY, LONG, Program, SHORT};
 use std::alloc::Global;
 use std::io;
 use std::io::Write;
@@ -20,44 +20,43 @@ use std::sync::Wait;
 use std::thread::Threads;
 use std::time::Clock;
 
-// A program, and how many rounds of 960 POSTs it is measured by.
+// A program of so many steps, and by how many rounds of how many POSTs it is measured.
 #[derive(Drop)]
 struct Case {
     steps: u32,
     program: Program,
     rounds: u32,
+    posts: u16,
 }
 
-// Two levels of calls, one, and none: 38 (1 + 38 (1 + 41) + 2) + 2, 6 (1 + 82) + 2, and 2 steps.
-static CASES: [Case; 3] = [
+// The steps are 38 (1 + 38 (1 + 41) + 2) + 2, and 6 (1 + 82) + 2. Most rounds have 15 POSTs for each slot; those of the last one
+// have one POST each, so that its worker waits for each job.
+static CASES: [Case; 4] = [
     Case {
         steps: 60_764,
-        program: Program {
-            calls: &[38, 38],
-            additions: 39,
-        },
+        program: LONG,
         rounds: 10,
+        posts: 960,
     },
     Case {
         steps: 500,
-        program: Program {
-            calls: &[6],
-            additions: 80,
-        },
+        program: SHORT,
         rounds: 200,
+        posts: 960,
     },
     Case {
         steps: 2,
-        program: Program {
-            calls: &[],
-            additions: 0,
-        },
+        program: EMPTY,
         rounds: 200,
+        posts: 960,
+    },
+    Case {
+        steps: 2,
+        program: EMPTY,
+        rounds: 20_000,
+        posts: 1,
     },
 ];
-
-/// The POSTs of a round: 15 for each slot.
-const POSTS: u16 = 960;
 
 // Has 300 POSTs answered by two workers.
 fn smoke<R: Threads + Wait + Clock + Sync, W: Write>(
@@ -65,11 +64,7 @@ fn smoke<R: Threads + Wait + Clock + Sync, W: Write>(
     alloc: Global,
     out: &mut W,
 ) -> anyhow::Result<()> {
-    let program = Program {
-        calls: &[6],
-        additions: 80,
-    };
-    let image = program.image(alloc)?;
+    let image = SHORT.image(alloc)?;
     let load = Load {
         image: &image,
         rounds: 1,
@@ -92,7 +87,7 @@ fn measure<R: Threads + Wait + Clock + Sync, W: Write>(
             let load = Load {
                 image: &image,
                 rounds: case.rounds,
-                posts: POSTS,
+                posts: case.posts,
             };
             let took = session::hold(rt, alloc, workers, &load)?.given;
             tell(out, case, workers, &took)?;
@@ -107,10 +102,10 @@ fn tell<W: Write>(out: &mut W, case: &Case, workers: u8, took: &Took) -> anyhow:
     let answered = u128::from(took.answered);
     let rate = answered * 1_000_000_000 / nanos;
     let each = nanos / answered.max(1);
-    let steps = case.steps;
+    let Case { steps, posts, .. } = case;
     writeln!(
         out,
-        "{steps} steps, {workers} workers: {answered} answered, {rate} a second, {each} ns each"
+        "{steps} steps, {posts} at once, {workers} workers: {answered} answered, {rate} a second, {each} ns each"
     )?;
     Ok(())
 }

@@ -16,6 +16,24 @@ pub(crate) struct Program {
     pub(crate) additions: u8,
 }
 
+/// 38 calls of 38 calls.
+pub(crate) const LONG: Program = Program {
+    calls: &[38, 38],
+    additions: 39,
+};
+
+/// 6 calls.
+pub(crate) const SHORT: Program = Program {
+    calls: &[6],
+    additions: 80,
+};
+
+/// A success alone.
+pub(crate) const EMPTY: Program = Program {
+    calls: &[],
+    additions: 0,
+};
+
 impl Program {
     /// Its image, without variables.
     ///

@@ -1,10 +1,8 @@
 //! Sessions with a new server, whose eight ledgers they need not name.
-ghost use Rattle.std.specs.Prelude.{◌≡◌, ◌+◌, ◌<◌, IfOk};
-ghost use Rattle.std.specs.List.{All};
+ghost use Rattle.std.specs.Prelude.{◌≡◌, ◌+◌};
 
-use fc_jobs::{Got, Jobs, Sent};
-use fc_workers::{Bench, Blanks, Locked, Seat};
-use std::alloc::{AllocError, Global};
+use fc_workers::{Bench, Blanks, Locked};
+use std::alloc::Global;
 use std::marker::Brand;
 use std::sync::Wait;
 use std::sync::ledger::Ledger;
@@ -87,41 +85,4 @@ fn hold_named<
         given: held.given,
         tallies: changes,
     })
-}
-
-/// A channel of jobs, its end that sends, and a seat for a worker with each of these tallies.
-///
-/// # Errors
-/// There was no memory for them.
-pub(crate) fn make_seats<T: Drop>(
-    alloc: Global,
-    tallies: Vec<T>,
-) -> Result<(Jobs, Sent, Vec<Seat<T>>), AllocError>
-    ensures sent { IfOk result (λ r. r.1.channel ≡ r.0) }
-    ensures seats { IfOk result (λ r. All (λ s. s.got.channel ≡ r.0) r.2.items) }
-{
-    let (jobs, sent, gots) = Jobs::new(alloc, tallies.len())?;
-    let seats = seat_each(alloc, &jobs, gots, tallies)?;
-    Ok((jobs, sent, seats))
-}
-
-// A seat for each tallies, at a place of the channel.
-fn seat_each<T: Drop>(
-    alloc: Global,
-    jobs: &Jobs,
-    mut gots: Vec<Got>,
-    tallies: Vec<T>,
-) -> Result<Vec<Seat<T>>, AllocError>
-    requires { All (λ g. g.channel ≡ jobs.now) gots.items }
-    ensures { IfOk result (λ v. All (λ s. s.got.channel ≡ jobs.now) v.items) }
-{
-    let _ = jobs;
-    let mut seats = Vec::new(alloc);
-    for own in tallies {
-        let Some(got) = gots.pop() else {
-            break;
-        };
-        seats.push(Seat::new(alloc, got, own)?)?;
-    }
-    Ok(seats)
 }

@@ -2,13 +2,13 @@
 ghost use Rattle.std.specs.Prelude.{◌≡◌};
 
 use crate::feeder::{Feeder, Open, Request};
-use crate::session::{Held, Session, hold, make_seats};
+use crate::session::{Held, Session, hold};
 use arrayvec::ArrayVec;
 use coap_msg::Emission;
 use fc_jobs::Sent;
 use fc_registry::SlotNumber;
 use fc_verify::{Verified, verify};
-use fc_workers::{Bench, Gate, Moments, Share, Wire, Workshop, feed_workers};
+use fc_workers::{Bench, Gate, Moments, Share, Wire, Workshop, feed_workers, make_seats};
 use std::alloc::{AllocError, Global};
 use std::sync::{Arc, Mutex, Wait};
 use std::test::Fail;
