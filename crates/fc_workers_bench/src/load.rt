@@ -2,7 +2,7 @@
 ghost use Rattle.std.specs.Prelude.{◌≡◌};
 
 use crate::feeder::{Feeder, Open, Request};
-use crate::session::{Held, Session};
+use crate::session::Held;
 use coap_msg::Emission;
 use fc_jobs::Sent;
 use fc_registry::{SLOTS, SlotNumber};
@@ -124,10 +124,9 @@ pub(crate) struct Took {
     pub(crate) time: Duration,
 }
 
-impl<'a> Session for Load<'a> {
-    type Given = Took;
-
-    fn hold<B: Bench + Sync, R: Threads + Wait + Clock + Sync>(
+impl<'a> Load<'a> {
+    /// Has the rounds answered by workers with these tallies, which it gives back.
+    pub(crate) fn hold<B: Bench + Sync, R: Threads + Wait + Clock + Sync>(
         &self,
         rt: &R,
         alloc: Global,
@@ -166,9 +165,7 @@ impl<'a> Session for Load<'a> {
             tallies,
         })
     }
-}
 
-impl<'a> Load<'a> {
     // Has the program installed in all slots, and then the rounds answered.
     fn feed<B: Bench, R: Wait + Clock>(
         &self,

@@ -2,11 +2,16 @@
 use anyhow::anyhow;
 use fc_image::Head;
 use fc_image::header::HEADER_SIZE;
-use fc_isa::{AluOp, Insn, Operand, Target, Width, encode};
 use std::alloc::{AllocError, Global};
 
 /// The most steps of any program.
 const BUDGET: u32 = 65_536;
+
+/// `mov64 r0, 0`.
+const SUCCEED: [u8; 8] = [0xb7, 0, 0, 0, 0, 0, 0, 0];
+
+/// `exit`.
+const EXIT: [u8; 8] = [0x95, 0, 0, 0, 0, 0, 0, 0];
 
 /// A program without loops: each function calls the next one so many times, and the last one, which calls none, adds so many
 /// times. Each sets R0 first, or at last, to the success of the method.
@@ -40,51 +45,38 @@ impl Program {
     /// # Errors
     /// There was no memory for it, or it has no or too many slots.
     pub(crate) fn image(&self, alloc: Global) -> anyhow::Result<Vec<u8>> {
-        let mut program = Vec::new(alloc);
+        let mut code = Vec::new(alloc);
         for &count in self.calls {
-            push_caller(&mut program, count)?;
+            push_caller(&mut code, count)?;
         }
-        push_adder(&mut program, self.additions)?;
-        let Ok(head) = Head::new(0, program.len(), BUDGET) else {
+        push_adder(&mut code, self.additions)?;
+        let Ok(head) = Head::new(0, code.len() / 8, BUDGET) else {
             return Err(anyhow!("too many slots"));
         };
         let mut image = Vec::with_capacity(alloc, HEADER_SIZE)?;
         image.extend_from_slice(&head.bytes())?;
-        image.extend_from_slice(&encode(alloc, &program)?)?;
+        image.extend_from_slice(&code)?;
         Ok(image)
     }
 }
 
 // A function that calls the one behind it so many times.
-fn push_caller(program: &mut Vec<Insn>, count: u8) -> Result<(), AllocError> {
+fn push_caller(code: &mut Vec<u8>, count: u8) -> Result<(), AllocError> {
     for place in 0..count {
-        let offset = i32::from(count - place) + 1;
-        program.push(Insn::CallLocal { offset })?;
+        let offset = (u16::from(count - place) + 1).to_le_bytes();
+        code.extend_from_slice(&[0x85, 0x10, 0, 0, offset[0], offset[1], 0, 0])?;
     }
-    program.push(set(0))?;
-    program.push(Insn::Exit)?;
+    code.extend_from_slice(&SUCCEED)?;
+    code.extend_from_slice(&EXIT)?;
     Ok(())
 }
 
 // A function that adds so many times.
-fn push_adder(program: &mut Vec<Insn>, additions: u8) -> Result<(), AllocError> {
-    program.push(set(0))?;
+fn push_adder(code: &mut Vec<u8>, additions: u8) -> Result<(), AllocError> {
+    code.extend_from_slice(&SUCCEED)?;
     for addition in 0..additions {
-        program.push(alu(AluOp::Add, i32::from(addition)))?;
+        code.extend_from_slice(&[0x07, 0, 0, 0, addition, 0, 0, 0])?;
     }
-    program.push(Insn::Exit)?;
+    code.extend_from_slice(&EXIT)?;
     Ok(())
-}
-
-fn set(value: i32) -> Insn {
-    alu(AluOp::Mov, value)
-}
-
-fn alu(op: AluOp, value: i32) -> Insn {
-    Insn::Alu {
-        op,
-        width: Width::W64,
-        dst: Target::new(0),
-        operand: Operand::Imm(value),
-    }
 }

@@ -1,15 +1,19 @@
 // Jobs that overtake one another: in which order they are answered, and what the workers count.
-ghost use Rattle.std.specs.Prelude.{◌≡◌};
+ghost use Rattle.std.specs.Prelude.{◌≡◌, ◌+◌};
 
 use crate::feeder::{Feeder, Open, Request};
-use crate::session::{Held, Session, hold};
+use crate::session::Held;
 use arrayvec::ArrayVec;
 use coap_msg::Emission;
 use fc_jobs::Sent;
 use fc_registry::SlotNumber;
 use fc_verify::{Verified, verify};
-use fc_workers::{Bench, Gate, Moments, Share, Wire, Workshop, feed_workers, make_seats};
+use fc_workers::{
+    Bench, Blanks, Gate, Locked, Moments, Share, Wire, Workshop, feed_workers, make_seats,
+};
 use std::alloc::{AllocError, Global};
+use std::marker::Brand;
+use std::sync::ledger::Ledger;
 use std::sync::{Arc, Mutex, Wait};
 use std::test::Fail;
 use std::thread;
@@ -142,9 +146,7 @@ impl<'a, C: Clock> Gate for Holding<'a, C> {
 #[derive(Drop)]
 struct TwoAtOnce;
 
-impl Session for TwoAtOnce {
-    type Given = Seen;
-
+impl TwoAtOnce {
     fn hold<B: Bench + Sync, R: Threads + Wait + Clock + Sync>(
         &self,
         rt: &R,
@@ -247,9 +249,7 @@ struct Overtaken {
     ghost some: { every ≢ 0 },
 }
 
-impl Session for Overtaken {
-    type Given = Seen;
-
+impl Overtaken {
     fn hold<B: Bench + Sync, R: Threads + Wait + Clock + Sync>(
         &self,
         rt: &R,
@@ -319,9 +319,85 @@ fn feed_posts<B: Bench, R: Wait>(
     Ok(())
 }
 
+// What is tried with a new server.
+#[derive(Drop)]
+enum Trial {
+    TwoAtOnce(TwoAtOnce),
+    Overtaken(Overtaken),
+}
+
+impl Trial {
+    fn hold<B: Bench + Sync, R: Threads + Wait + Clock + Sync>(
+        &self,
+        rt: &R,
+        alloc: Global,
+        bench: &B,
+        tallies: Vec<B::Tallies>,
+    ) -> anyhow::Result<Held<Seen, B::Tallies>> {
+        match self {
+            Trial::TwoAtOnce(two) => two.hold(rt, alloc, bench, tallies),
+            Trial::Overtaken(overtaken) => overtaken.hold(rt, alloc, bench, tallies),
+        }
+    }
+}
+
+// Holds a trial with a new server of empty slots and so many tallies: how many changes of shard 0 each of them counted.
+fn hold<R: Threads + Wait + Clock + Sync>(
+    rt: &R,
+    alloc: Global,
+    tallies: u8,
+    trial: &Trial,
+) -> anyhow::Result<Held<Seen, u64>> {
+    let blanks = Blanks::new(u64::from(tallies) + 1);
+    hold_named::<Brand, Brand, Brand, Brand, Brand, Brand, Brand, Brand, R>(
+        rt, alloc, tallies, trial, blanks,
+    )
+}
+
+// Holds it with a server whose books have these names.
+fn hold_named<
+    L0: Ledger + Send + Sync,
+    L1: Ledger + Send + Sync,
+    L2: Ledger + Send + Sync,
+    L3: Ledger + Send + Sync,
+    L4: Ledger + Send + Sync,
+    L5: Ledger + Send + Sync,
+    L6: Ledger + Send + Sync,
+    L7: Ledger + Send + Sync,
+    R: Threads + Wait + Clock + Sync,
+>(
+    rt: &R,
+    alloc: Global,
+    tallies: u8,
+    trial: &Trial,
+    blanks: Blanks,
+) -> anyhow::Result<Held<Seen, u64>>
+    requires parts { blanks.parts ≡ tallies + 1 }
+    requires book0 { (blanks.blank0.name ≡ L0.name) × (blanks.parts ≡ L0.parts) }
+    requires book1 { (blanks.blank1.name ≡ L1.name) × (blanks.parts ≡ L1.parts) }
+    requires book2 { (blanks.blank2.name ≡ L2.name) × (blanks.parts ≡ L2.parts) }
+    requires book3 { (blanks.blank3.name ≡ L3.name) × (blanks.parts ≡ L3.parts) }
+    requires book4 { (blanks.blank4.name ≡ L4.name) × (blanks.parts ≡ L4.parts) }
+    requires book5 { (blanks.blank5.name ≡ L5.name) × (blanks.parts ≡ L5.parts) }
+    requires book6 { (blanks.blank6.name ≡ L6.name) × (blanks.parts ≡ L6.parts) }
+    requires book7 { (blanks.blank7.name ≡ L7.name) × (blanks.parts ≡ L7.parts) }
+{
+    let (server, mut reserve) = Locked::<L0, L1, L2, L3, L4, L5, L6, L7>::new(alloc, 0, 0, blanks)?;
+    let tallies = reserve.split_each(alloc, usize::from(tallies))?;
+    let held = trial.hold(rt, alloc, &server, tallies)?;
+    let mut changes = Vec::new(alloc);
+    for tally in &held.tallies {
+        changes.push(tally.shown(0))?;
+    }
+    Ok(Held {
+        given: held.given,
+        tallies: changes,
+    })
+}
+
 #[test]
 fn two_workers_run_at_once(rt: HostRuntime) -> Result<(), Fail> {
-    let held = hold(&rt, rt.alloc(), 2, &TwoAtOnce)?;
+    let held = hold(&rt, rt.alloc(), 2, &Trial::TwoAtOnce(TwoAtOnce))?;
     let Some(replies) = held.given.replies else {
         panic!(rt; "a reply was missed")
     };
@@ -343,7 +419,7 @@ fn overtaken_runs_are_run_again(rt: HostRuntime) -> Result<(), Fail> {
         every: 15,
         runs: 1,
     };
-    let held = hold(&rt, rt.alloc(), 2, &overtaken)?;
+    let held = hold(&rt, rt.alloc(), 2, &Trial::Overtaken(overtaken))?;
     let Some(replies) = held.given.replies else {
         panic!(rt; "a reply was missed")
     };
@@ -361,7 +437,7 @@ fn eight_overtakings_end_a_job(rt: HostRuntime) -> Result<(), Fail> {
         every: 1,
         runs: 8,
     };
-    let held = hold(&rt, rt.alloc(), 2, &overtaken)?;
+    let held = hold(&rt, rt.alloc(), 2, &Trial::Overtaken(overtaken))?;
     let Some(replies) = held.given.replies else {
         panic!(rt; "a reply was missed")
     };
