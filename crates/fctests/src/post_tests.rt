@@ -1,14 +1,9 @@
 // POSTs of a counter: the expected bytes, serials and variables are worked out by hand.
-use coap_msg::Endpoint;
-use fc_registry::SlotNumber;
 use fc_service::Status;
 use fc_service::play::play;
 use fc_service::workers::{Begin, play_by_workers};
-use fc_world::{Event, World, run_world};
-use std::alloc::{AllocError, Global};
 use std::process::Abort;
 use std::sync::Wait;
-use std::test::Fail;
 use std::thread::Threads;
 
 // Lines are printed so, from the first serial 0: on one thread, and by so many workers.
@@ -101,140 +96,6 @@ fn a_post_replies_its_bytes(rt: HostRuntime) {
         "1 60410001ff76657273696f6e3d3120636f73743d34206275646765743d3420766172733d30\n\
          1 60440002ff41\n",
     );
-}
-
-// ---- lists of events
-
-// What all datagrams come from.
-const PEER: Endpoint = Endpoint {
-    ip: [127, 0, 0, 1],
-    port: 5683,
-};
-
-// `PUT /p/1` of the counter, and `POST /r/1`; the last byte of the message id is at place 3.
-const PUT: &[u8] =
-    b"\x41\x03\x20\x00\x72\xb1\x70\x01\x31\xffFCB1\x08\x00\x09\x00\x09\x00\x00\x00\x00\x00\x00\x00\xb7\x01\x00\x00\x00\x00\x00\x00\x85\x00\x00\x00\x03\x00\x00\x00\x07\x00\x00\x00\x01\x00\x00\x00\xbf\x02\x00\x00\x00\x00\x00\x00\xb7\x01\x00\x00\x00\x00\x00\x00\x85\x00\x00\x00\x04\x00\x00\x00\x85\x00\x00\x00\x07\x00\x00\x00\xb7\x00\x00\x00\x00\x00\x00\x00\x95\x00\x00\x00\x00\x00\x00\x00";
-
-const POST: &[u8] = b"\x41\x02\x20\x00\x72\xb1\x72\x01\x31";
-
-// The datagram under the message ids 0x2000 to 0x200b.
-fn under_ids(alloc: Global, datagram: &[u8]) -> Result<Vec<Vec<u8>>, AllocError> {
-    let mut datagrams = Vec::new(alloc);
-    for id in 0..12u8 {
-        let mut bytes = Vec::from_slice(alloc, datagram)?;
-        if let Some(low) = bytes.get_mut(3) {
-            *low = id;
-        }
-        datagrams.push(bytes)?;
-    }
-    Ok(datagrams)
-}
-
-fn delivered(bytes: &Vec<u8>) -> Event<'_> {
-    Event::Deliver {
-        now: 0,
-        endpoint: PEER,
-        bytes: bytes.as_slice(),
-    }
-}
-
-// The counter is installed by this job.
-fn installed(job: usize, bytes: &Vec<u8>) -> [Event<'_>; 4] {
-    [
-        delivered(bytes),
-        Event::Install { job, memory: true },
-        Event::Raise { job },
-        Event::Answer { job, now: 0 },
-    ]
-}
-
-fn taken(job: usize) -> Event<'static> {
-    Event::Take { job, memory: true }
-}
-
-fn committed(job: usize) -> Event<'static> {
-    Event::Commit { job, now: 0 }
-}
-
-// Slot 1 has this serial, this version and this first byte of its eight variables, of which the others are zeros.
-fn check_slot<R: Abort>(rt: &R, world: &World, serial: u64, version: u64, first: u8) {
-    let slot = SlotNumber::new(1);
-    let is_so = world.shards.get(1).is_some_and(|shard| {
-        shard.serial(slot) == serial
-            && shard.version(slot) == Some(version)
-            && shard.vars(slot) == [first, 0, 0, 0, 0, 0, 0, 0].as_slice()
-    });
-    assert!(rt; is_so, "{serial}");
-}
-
-// What the last event sends.
-fn last_sent(world: &World) -> Option<&[u8]> {
-    let emission = world.emissions.last()?.as_ref()?;
-    Some(emission.bytes.as_slice())
-}
-
-// Two POSTs take the slot at serial 1: the first commits, the second is overtaken, and takes and commits again.
-#[test]
-fn an_overtaken_post_counts_on_top(rt: HostRuntime) -> Result<(), Fail> {
-    let alloc = rt.alloc();
-    let puts = under_ids(alloc, PUT)?;
-    let posts = under_ids(alloc, POST)?;
-    let mut events = Vec::from_slice(alloc, &installed(0, &puts[0]))?;
-    events.extend_from_slice(&[
-        delivered(&posts[1]),
-        delivered(&posts[2]),
-        taken(1),
-        taken(2),
-        committed(1),
-        committed(2),
-        taken(2),
-        committed(2),
-        Event::Raise { job: 2 },
-        Event::Answer { job: 2, now: 0 },
-    ])?;
-    let world = run_world(alloc, &events)?;
-    check_slot(&rt, &world, 3, 1, 2);
-    assert!(rt; last_sent(&world) == Some(b"\x61\x44\x20\x02\x72".as_slice()));
-    Ok(())
-}
-
-// The counter is installed anew under each of the eight tickets that a POST takes.
-#[test]
-fn the_eighth_overtaking_is_unavailable(rt: HostRuntime) -> Result<(), Fail> {
-    let alloc = rt.alloc();
-    let puts = under_ids(alloc, PUT)?;
-    let posts = under_ids(alloc, POST)?;
-    let mut events = Vec::from_slice(alloc, &installed(0, &puts[0]))?;
-    events.push(delivered(&posts[1]))?;
-    for (number, put) in puts.iter().enumerate().skip(2).take(8) {
-        events.push(taken(1))?;
-        events.extend_from_slice(&installed(number, put))?;
-        events.push(committed(1))?;
-    }
-    events.push(Event::Answer { job: 1, now: 0 })?;
-    let world = run_world(alloc, &events)?;
-    check_slot(&rt, &world, 9, 9, 0);
-    assert!(rt; last_sent(&world) == Some(b"\x61\xa3\x20\x01\x72".as_slice()));
-    Ok(())
-}
-
-// A POST takes version 3, and version 4 is installed under it: it takes again, and counts from zero.
-#[test]
-fn a_post_runs_the_version_that_it_takes_last(rt: HostRuntime) -> Result<(), Fail> {
-    let alloc = rt.alloc();
-    let puts = under_ids(alloc, PUT)?;
-    let posts = under_ids(alloc, POST)?;
-    let mut events = Vec::new(alloc);
-    for (number, put) in puts.iter().enumerate().take(3) {
-        events.extend_from_slice(&installed(number, put))?;
-    }
-    events.push(delivered(&posts[3]))?;
-    events.push(taken(3))?;
-    events.extend_from_slice(&installed(4, &puts[4]))?;
-    events.extend_from_slice(&[committed(3), taken(3), committed(3)])?;
-    let world = run_world(alloc, &events)?;
-    check_slot(&rt, &world, 5, 4, 1);
-    Ok(())
 }
 
 // A bad line stops the workers, after the lines before it were carried out.
