@@ -1,5 +1,5 @@
 -- What is told of a job along a history fits its stage, where each event keeps it so.
-use Rattle.std.proofs.Common.{◌≡◌, ℕ, ◌≤◌, Bool, true, false, Option, Some, None, refl, sym, ap, ◌∙◌, subst, arith, if◌then◌else◌}
+use Rattle.std.proofs.Common.{◌≡◌, ℕ, ◌≤◌, List, Bool, true, false, Option, Some, None, refl, sym, ap, ◌∙◌, subst, arith, if◌then◌else◌}
 use Rattle.std.specs.Prelude.{length}
 use Rattle.std.proofs.lemmas.Bool.{eq-eqb, ne_eqb}
 use Rattle.std.proofs.lemmas.List.{get_or_past}
@@ -31,7 +31,7 @@ module _ {A : Type 0} (told : History → ℕ → A) (update : Event → Seen �
     pub then_is : (h : History) (r : Entry) (k : ℕ) → told (Then h r) k ≡ (if is_named k r.event then update r.event (seen h) k (told h k) else told h k)
     pub still : (e : Event) (s : Seen) (k : ℕ) (a : A) → stage s k ≡ Gone → update e s k a ≡ a
     pub gone : P none Gone
-    pub first : (ask : Ask) → P none (first_by ask)
+    pub first : (ask : Ask) (serials : List ℕ) → P none (first_by ask serials)
     pub keeps : (e : Event) (s : Seen) (k : ℕ) (a : A) → P a (stage s k) → P (update e s k a) (row e (scene s k)).stage
 
   none_if : (w : IsTold) (e : Event) (s : Seen) (k : ℕ) (a : A) (b : Bool) → stage s k ≡ Gone → (if b then update e s k a else a) ≡ a
@@ -57,7 +57,7 @@ module _ {A : Type 0} (told : History → ℕ → A) (update : Event → Seen �
       (subst (λ (x : Task). P (told h k) x.stage) (sym is) p)
   step w h r k t (Comes new j is) p =
       subst (λ (x : Task). P (if is_named k r.event then update r.event (seen h) k (told h k) else told h k) x.stage) (sym is)
-      (subst (λ (a : A). P a (first_by j.ask)) (sym (none_if w r.event (seen h) k (told h k) (is_named k r.event) (gone_before (seen h) k new) ∙ none_yet w h k new)) (w.first j.ask))
+      (subst (λ (a : A). P a (first_by j.ask j.etags.items)) (sym (none_if w r.event (seen h) k (told h k) (is_named k r.event) (gone_before (seen h) k new) ∙ none_yet w h k new)) (w.first j.ask j.etags.items))
 
   pub along : IsTold → (h : History) (k : ℕ) → P (told h k) (stage (seen h) k)
   unfolding seen

@@ -1,30 +1,34 @@
 -- A commit that a shard carries out is the row of its table.
-use Rattle.std.proofs.Common.{◌≡◌, ℕ, refl, sym, ap, ◌∙◌, subst, max}
+use Rattle.std.proofs.Common.{◌≡◌, ℕ, ◌+◌, Bool, true, false, refl, sym, ap, ◌∙◌, subst, max, arith}
+use Rattle.std.specs.Prelude.{nat_lt, ◌==◌}
+use Rattle.std.proofs.lemmas.Bool.{eqb-true}
 use Rattle.fc_machine.specs.Ran.{Ran}
 use Rattle.fc_registry.specs.declared.commit.CommitOutcome.{CommitOutcome}
 use Rattle.fc_registry.specs.declared.commit.CommitOutcome.TheVariants.{Writes, Keeps, Overtakes, Ends}
 use Rattle.fc_registry.specs.declared.commit.Committed.{Committed}
 use Rattle.fc_registry.specs.declared.commit.Committed.TheVariants.{Done, Overtaken, Ended, Stranger}
-use Rattle.fc_registry.specs.Slots.{Shard, Slot, Ticket, slot_in, with_slot}
+use Rattle.fc_registry.specs.Slots.{Shard, Slot, Ticket, last_serial, slot_in, with_slot}
 use Rattle.fc_registry.specs.Changes.{after_changes}
-use Rattle.fc_registry.specs.Calls.{IsCommit, IsOwnCommit, IsOwn, HasGiven, outcome, commits, run_of}
+use Rattle.fc_registry.specs.Calls.{ComesTo, IsCommit, IsOwnCommit, IsOwn, HasGiven, outcome, outcome_by, commits, run_of, wants}
 use Rattle.fc_registry.proofs.Outcomes.{by_serials}
 use Rattle.fc_core.specs.Contents.{AreDone}
-use Rattle.fc_core.specs.Stages.{after_commit, committed, shard_moved}
+use Rattle.fc_core.specs.declared.stage.Stage.TheVariants.{ToRaise}
+use Rattle.fc_core.specs.Heads.{head_word}
+use Rattle.fc_core.specs.Stages.{after_commit, committed, run_content, shard_moved}
 
 -- an outcome of the ticket's program, request and variables is the ticket's run
 own_run : (ran : Ran) (t : Ticket) (slot : Slot) → IsOwn ran t slot → ran ≡ run_of t
 own_run ran t slot own = λ i. record { program = own.program i; input = record { request = own.request i; vars = own.vars i } }
 
 -- the mark of a commit that is done is of the outcome and the ticket
-done_by : (ran : Ran) (t : Ticket) (slot : Slot) (o : CommitOutcome) → IsOwn ran t slot → AreDone ran t (commits o t slot.serial).answer
-done_by ran t slot Writes own = record { run = own_run ran t slot own; origin = refl; serial = refl }
-done_by ran t slot Keeps own = record { run = own_run ran t slot own; origin = refl; serial = refl }
-done_by ran t slot Overtakes own = tt
-done_by ran t slot Ends own = tt
+done_by : (ran : Ran) (t : Ticket) (slot : Slot) (o : CommitOutcome) → IsOwn ran t slot → ComesTo t slot o → AreDone ran t (commits o t slot.serial).answer
+done_by ran t slot Writes own is = (record { run = own_run ran t slot own; origin = refl; serial = refl }, λ e. let below = is.2 in omega (arith, below))
+done_by ran t slot Keeps own is = (record { run = own_run ran t slot own; origin = refl; serial = refl }, λ e. absurd (cc e))
+done_by ran t slot Overtakes own is = tt
+done_by ran t slot Ends own is = tt
 
 own_done : (ran : Ran) (t : Ticket) (slot : Slot) (c : Committed) (after : Slot) → IsOwnCommit ran t slot c after → AreDone ran t c
-own_done ran t slot c after w = subst (AreDone ran t) (sym w.1.answer) (done_by ran t slot w.1.comes_to w.0)
+own_done ran t slot c after w = subst (AreDone ran t) (sym w.1.answer) (done_by ran t slot w.1.comes_to w.0 w.1.is)
 
 pub commit_done : (ran : Ran) (t : Ticket) (slot : Slot) (c : Committed) (after : Slot) → IsCommit ran t slot c after → AreDone ran t c
 commit_done ran t slot Stranger after w = tt
@@ -51,12 +55,21 @@ commit_row ran t slot (Done m) after p r v given w = own_row ran t slot (Done m)
 commit_row ran t slot Overtaken after p r v given w = own_row ran t slot Overtaken after given w
 commit_row ran t slot Ended after p r v given w = own_row ran t slot Ended after given w
 
+-- a commit that writes is at the ticket's serial
+writes_same : (w same below : Bool) → outcome_by w same below ≡ Writes → same ≡ true
+writes_same false same below e = absurd (cc)
+writes_same true false below e = absurd (cc)
+writes_same true true below e = refl
+
+pub writes_at : (t : Ticket) (slot : Slot) → outcome t slot ≡ Writes → slot.serial ≡ t.serial
+writes_at t slot e = eqb-true slot.serial t.serial (writes_same (wants t) (slot.serial == t.serial) (nat_lt slot.serial last_serial) e)
+
 -- where the shard's answer leaves the job is the row's stage, and what it changed is the row's change
-pub stage_of_row : (o : CommitOutcome) (n : ℕ) (t : Ticket) (now serial : ℕ) → after_commit n t (commits o t serial).answer ≡ (committed o n t now).stage
-stage_of_row Writes n t now serial = refl
-stage_of_row Keeps n t now serial = refl
-stage_of_row Overtakes n t now serial = refl
-stage_of_row Ends n t now serial = refl
+pub stage_of_row : (o : CommitOutcome) (n : ℕ) (t : Ticket) (now serial : ℕ) → (o ≡ Writes → serial ≡ t.serial) → after_commit n t (commits o t serial).answer ≡ (committed o n t now).stage
+stage_of_row Writes n t now serial is = ap (λ (k : ℕ). ToRaise (head_word (k + 1) true) (run_content t)) (is refl)
+stage_of_row Keeps n t now serial is = refl
+stage_of_row Overtakes n t now serial is = refl
+stage_of_row Ends n t now serial is = refl
 
 pub shard_of_row : (o : CommitOutcome) (n : ℕ) (t : Ticket) (now : ℕ) (shard : Shard) → with_slot (record shard { now = max shard.now now }) t.origin.slot (after_changes (slot_in shard t.origin.slot) (commits o t (slot_in shard t.origin.slot).serial).changes) ≡ shard_moved (committed o n t now) t.origin.slot shard
 shard_of_row Writes n t now shard = refl

@@ -9,9 +9,9 @@ use Rattle.fc_registry.specs.declared.commit.CommitOutcome.TheVariants.{Writes, 
 use Rattle.fc_registry.specs.Slots.{Slot, Ticket}
 use Rattle.fc_registry.specs.Calls.{outcome}
 use Rattle.fc_core.specs.declared.event.Event.{Event}
-use Rattle.fc_core.specs.declared.event.Event.TheVariants.{Deliver, Take, Commit, Install, Raise, Answer, Tick}
+use Rattle.fc_core.specs.declared.event.Event.TheVariants.{Deliver, Peek, Take, Commit, Install, Remove, Receipt, Raise, Answer, Tick}
 use Rattle.fc_core.specs.declared.stage.Stage.{Stage}
-use Rattle.fc_core.specs.declared.stage.Stage.TheVariants.{ToTake, ToCommit, ToInstall, ToRaise, ToAnswer}
+use Rattle.fc_core.specs.declared.stage.Stage.TheVariants.{ToMatch, ToTake, ToCommit, ToInstall, ToRemove, ToDescribe, ToList, ToRaise, ToAnswer}
 use Rattle.fc_core.specs.AnswerLaws.{answer_moment, commit_moment, greatest, is_of_shard, moments_in, moments_of, shard_moments_of}
 use Rattle.fc_core.specs.History.{History, Begins, Then, Seen, seen, job, moment_after, scene, shard_moment_after, slot_at, stage}
 use Rattle.fc_core.specs.Laws.{slot_of, stage_named}
@@ -32,8 +32,8 @@ unfolding seen
 moment_is_greatest (Begins serial id) = refl
 moment_is_greatest (Then h r) = front_handed r.event (seen h) (moments_of h) (moment_is_greatest h)
 
-abbrev at : Job → Slot → Stage → Scene
-at job slot stage = record { job = job; slot = slot; stage = stage }
+abbrev at : Job → Slot → List ℕ → Stage → Scene
+at job slot ws stage = record { job = job; slot = slot; words = ws; stage = stage }
 
 committed_hands : (n : ℕ) (t : Ticket) (now : ℕ) (o : CommitOutcome) → (committed o n t now).hands ≡ Some now
 committed_hands n t now Writes = refl
@@ -50,21 +50,28 @@ verified_hands : (memory : Bool) (s : Scene) → (verified memory s).hands ≡ N
 verified_hands true s = installed_hands (judged (image_of s.job.ask)) s.slot
 verified_hands false s = refl
 
-row_handed : (e : Event) (job : Job) (slot : Slot) (st : Stage) (m : ℕ) (ms : List ℕ) → m ≡ greatest ms → handed (row e (at job slot st)).hands m ≡ greatest (commit_moment e st ++ ms)
-row_handed (Commit k now) job slot (ToCommit n t) m ms is = ap (λ (o : Option ℕ). handed o m) (committed_hands n t now (outcome t slot)) ∙ ap (λ (x : ℕ). max x now) is
-row_handed (Commit k now) job slot other m ms is = is
-row_handed (Install k memory) job slot ToInstall m ms is = ap (λ (o : Option ℕ). handed o m) (verified_hands memory (at job slot ToInstall)) ∙ is
-row_handed (Install k memory) job slot other m ms is = is
-row_handed (Take k memory) job slot (ToTake n) m ms is = is
-row_handed (Take k memory) job slot other m ms is = is
-row_handed (Raise k) job slot (ToRaise content) m ms is = is
-row_handed (Raise k) job slot other m ms is = is
-row_handed (Answer k now) job slot (ToAnswer content) m ms is = is
-row_handed (Answer k now) job slot other m ms is = is
-row_handed other job slot st m ms is = is
+row_handed : (e : Event) (job : Job) (slot : Slot) (ws : List ℕ) (st : Stage) (m : ℕ) (ms : List ℕ) → m ≡ greatest ms → handed (row e (at job slot ws st)).hands m ≡ greatest (commit_moment e st ++ ms)
+row_handed (Commit k now) job slot ws (ToCommit n t) m ms is = ap (λ (o : Option ℕ). handed o m) (committed_hands n t now (outcome t slot)) ∙ ap (λ (x : ℕ). max x now) is
+row_handed (Commit k now) job slot ws other m ms is = is
+row_handed (Install k memory) job slot ws ToInstall m ms is = ap (λ (o : Option ℕ). handed o m) (verified_hands memory (at job slot ws ToInstall)) ∙ is
+row_handed (Install k memory) job slot ws other m ms is = is
+row_handed (Take k memory) job slot ws (ToTake n) m ms is = is
+row_handed (Take k memory) job slot ws other m ms is = is
+row_handed (Raise k) job slot ws (ToRaise word content) m ms is = is
+row_handed (Raise k) job slot ws other m ms is = is
+row_handed (Answer k now) job slot ws (ToAnswer content) m ms is = is
+row_handed (Answer k now) job slot ws other m ms is = is
+row_handed (Peek k n) job slot ws ToMatch m ms is = is
+row_handed (Peek k n) job slot ws (ToList seen) m ms is = is
+row_handed (Peek k n) job slot ws other m ms is = is
+row_handed (Remove k) job slot ws ToRemove m ms is = is
+row_handed (Remove k) job slot ws other m ms is = is
+row_handed (Receipt k) job slot ws ToDescribe m ms is = is
+row_handed (Receipt k) job slot ws other m ms is = is
+row_handed other job slot ws st m ms is = is
 
 shard_if : (s : Seen) (e : Event) (k i : ℕ) (b : Bool) (ms : List ℕ) → s.shard_moment i ≡ greatest ms → (if b then handed (row e (scene s k)).hands (s.shard_moment i) else s.shard_moment i) ≡ greatest (if b then commit_moment e (stage s k) ++ ms else ms)
-shard_if s e k i true ms is = row_handed e (job s k) (slot_at s (slot_of s k)) (stage s k) (s.shard_moment i) ms is
+shard_if s e k i true ms is = row_handed e (job s k) (slot_at s (slot_of s k)) s.words (stage s k) (s.shard_moment i) ms is
 shard_if s e k i false ms is = is
 
 shard_handed : (s : Seen) (e : Event) (o : Option ℕ) (i : ℕ) (ms : List ℕ) → s.shard_moment i ≡ greatest ms → shard_moment_after o e s i ≡ greatest (if is_of_shard i s o then commit_moment e (stage_named s o) ++ ms else ms)

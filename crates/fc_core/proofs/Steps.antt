@@ -20,12 +20,12 @@ pub data Becomes (o : Option ℕ) (e : Event) (s : Seen) (k : ℕ) (t : Task) : 
   Comes : (new : length s.tasks ≤ k) (job : Job) (is : t ≡ new_task job) → Becomes o e s k t
 
 -- a job that is gone stays gone, whatever names it
-pub gone_stays : (e : Event) (job : Job) (slot : Slot) → (row e (record { job = job; slot = slot; stage = Gone })).stage ≡ Gone
-gone_stays (Lose k) job slot = refl
-gone_stays other job slot = refl
+pub gone_stays : (e : Event) (job : Job) (slot : Slot) (ws : List ℕ) → (row e (record { job = job; slot = slot; words = ws; stage = Gone })).stage ≡ Gone
+gone_stays (Lose k) job slot ws = refl
+gone_stays other job slot ws = refl
 
 moved_gone : (e : Event) (s : Seen) (k : ℕ) → task_at s.tasks k ≡ no_task → task_moved (task_at s.tasks k) (row e (scene s k)) ≡ no_task
-moved_gone e s k is = ap (λ (t : Task). task_moved t (row e (scene_at t (slot_at s t.job.origin.slot)))) is ∙ ap (λ x. record { job = no_task.job; stage = x }) (gone_stays e no_task.job (slot_at s no_task.job.origin.slot))
+moved_gone e s k is = ap (λ (t : Task). task_moved t (row e (scene_at t (slot_at s t.job.origin.slot) s.words))) is ∙ ap (λ x. record { job = no_task.job; stage = x }) (gone_stays e no_task.job (slot_at s no_task.job.origin.slot) s.words)
 
 module _ (e : Event) (s : Seen) where
   written : (j k : ℕ) → k < length s.tasks → Becomes (Some j) e s k (task_at (tasks_moved (Some j) e s) k)

@@ -1,37 +1,52 @@
 -- A stray event changes nothing.
 use Rattle.std.proofs.Common.{◌≡◌, ℕ, [], ◌++◌, set, Bool, true, false, Option, Some, None, refl, ap, ◌∙◌, if◌then◌else◌}
-use Rattle.std.specs.Prelude.{◌==◌, ◌%◌}
+use Rattle.std.specs.Prelude.{◌==◌, ◌%◌, length, not, List}
 use Rattle.std.proofs.lemmas.List.{append-nil, set-get_or}
 use Rattle.coap_msg.specs.declared.types.Emission.{Emission}
 use Rattle.fc_registry.specs.declared.job.Job.{Job}
 use Rattle.fc_registry.specs.Slots.{Slot}
 use Rattle.fc_core.specs.declared.event.Event.{Event}
-use Rattle.fc_core.specs.declared.event.Event.TheVariants.{Deliver, Take, Commit, Install, Raise, Answer, Tick, Lose}
+use Rattle.fc_core.specs.declared.event.Event.TheVariants.{Deliver, Peek, Take, Commit, Install, Remove, Receipt, Raise, Answer, Tick, Lose}
 use Rattle.fc_core.specs.declared.stage.Stage.{Stage}
-use Rattle.fc_core.specs.declared.stage.Stage.TheVariants.{ToTake, ToCommit, ToInstall, ToRaise, ToAnswer, Gone}
+use Rattle.fc_core.specs.declared.stage.Stage.TheVariants.{ToMatch, ToTake, ToCommit, ToInstall, ToRemove, ToDescribe, ToList, ToRaise, ToAnswer, Gone}
 use Rattle.fc_core.specs.Contents.{Content}
-use Rattle.fc_core.specs.Stages.{Move, Scene, content_at, handed, task_moved, moves, names, row}
-use Rattle.fc_core.specs.History.{Entry, Seen, and_then, changes_after, did, exchanges_after, ids_after, job, moment_after, no_task, scene, shard_moment_after, stage, task_at, tasks_brought, tasks_moved}
+use Rattle.fc_core.specs.Stages.{Move, Scene, content_at, handed, task_moved, moves, names, peeked_next, peeked_own, row, words_after}
+use Rattle.fc_core.specs.Heads.{word_at}
+use Rattle.arrayvec.specs.ArrayVec.{ArrayVec}
+use Rattle.fc_core.specs.History.{Entry, Seen, and_then, changes_after, did, exchanges_after, ids_after, job, moment_after, no_task, scene, shard_moment_after, stage, task_at, tasks_brought, tasks_moved, words_seen}
 use Rattle.fc_core.specs.Laws.{is_stray, is_stray_at}
 use Rattle.fc_core.specs.Legal.{Emits, AnswerEmits}
 use Rattle.fc_core.specs.Exchanges.{FrontState}
 
-abbrev at : Job → Slot → Stage → Scene
-at job slot stage = record { job = job; slot = slot; stage = stage }
+abbrev at : Job → Slot → List ℕ → Stage → Scene
+at job slot ws stage = record { job = job; slot = slot; words = ws; stage = stage }
 
-row_still : (e : Event) (job : Job) (slot : Slot) (s : Stage) → is_stray_at e s ≡ true → row e (at job slot s) ≡ moves s
-row_still (Take k memory) job slot (ToTake n) e = absurd (cc)
-row_still (Commit k now) job slot (ToCommit n t) e = absurd (cc)
-row_still (Install k memory) job slot ToInstall e = absurd (cc)
-row_still (Raise k) job slot (ToRaise content) e = absurd (cc)
-row_still (Answer k now) job slot (ToAnswer content) e = absurd (cc)
-row_still (Lose k) job slot Gone e = refl
-row_still (Lose k) job slot other e = absurd (cc)
-row_still other job slot s e = refl
+-- a look at another slot's head word than the one that is needed
+peek_still : (n : ℕ) (x : Scene) (b : Bool) → not b ≡ true → moves (peeked_own b (word_at x.words n) x.job.etags.items) ≡ moves ToMatch
+peek_still n x true e = absurd (cc)
+peek_still n x false e = refl
 
-none_answered : (k now : ℕ) (s : Stage) → is_stray_at (Answer k now) s ≡ true → content_at s ≡ None
-none_answered k now (ToAnswer content) e = absurd (cc)
-none_answered k now other e = refl
+next_still : (n : ℕ) (x : Scene) (seen : ArrayVec ℕ) (b : Bool) → not b ≡ true → moves (peeked_next b (word_at x.words n) seen) ≡ moves (ToList seen)
+next_still n x seen true e = absurd (cc)
+next_still n x seen false e = refl
+
+row_still : (e : Event) (job : Job) (slot : Slot) (ws : List ℕ) (s : Stage) → is_stray_at e job.origin.slot s ≡ true → row e (at job slot ws s) ≡ moves s
+row_still (Peek k n) job slot ws ToMatch e = peek_still n (at job slot ws ToMatch) (n == job.origin.slot) e
+row_still (Peek k n) job slot ws (ToList seen) e = next_still n (at job slot ws (ToList seen)) seen (n == length seen.items) e
+row_still (Remove k) job slot ws ToRemove e = absurd (cc)
+row_still (Receipt k) job slot ws ToDescribe e = absurd (cc)
+row_still (Take k memory) job slot ws (ToTake n) e = absurd (cc)
+row_still (Commit k now) job slot ws (ToCommit n t) e = absurd (cc)
+row_still (Install k memory) job slot ws ToInstall e = absurd (cc)
+row_still (Raise k) job slot ws (ToRaise word content) e = absurd (cc)
+row_still (Answer k now) job slot ws (ToAnswer content) e = absurd (cc)
+row_still (Lose k) job slot ws Gone e = refl
+row_still (Lose k) job slot ws other e = absurd (cc)
+row_still other job slot ws s e = refl
+
+none_answered : (k now own : ℕ) (s : Stage) → is_stray_at (Answer k now) own s ≡ true → content_at s ≡ None
+none_answered k now own (ToAnswer content) e = absurd (cc)
+none_answered k now own other e = refl
 
 module _ (s : Seen) (e : Event) (k : ℕ) (still : row e (scene s k) ≡ moves (stage s k)) where
   tasks_still : tasks_moved (Some k) e s ≡ s.tasks
@@ -51,34 +66,42 @@ module _ (s : Seen) (e : Event) (k : ℕ) (still : row e (scene s k) ≡ moves (
   shard_still : (i : ℕ) → shard_moment_after (Some k) e s i ≡ s.shard_moment i
   shard_still i = shard_if i ((job s k).origin.slot % 8 == i)
 
-all_same : (a b : Seen) → a.first_serial ≡ b.first_serial → a.moment ≡ b.moment → a.exchanges ≡ b.exchanges → a.ids ≡ b.ids → a.tasks ≡ b.tasks → ((n : ℕ) → a.changes n ≡ b.changes n) → ((n : ℕ) → a.shard_moment n ≡ b.shard_moment n) → a ≡ b
-all_same a b f m x d t c h = λ i. record { first_serial = f i; moment = m i; exchanges = x i; ids = d i; tasks = t i; changes = λ n. c n i; shard_moment = λ n. h n i }
+  words_still : words_seen (Some k) e s ≡ s.words
+  words_still = ap (λ (m : Move). words_after m (task_at s.tasks k) s.words) still
+
+all_same : (a b : Seen) → a.first_serial ≡ b.first_serial → a.moment ≡ b.moment → a.exchanges ≡ b.exchanges → a.ids ≡ b.ids → a.tasks ≡ b.tasks → ((n : ℕ) → a.changes n ≡ b.changes n) → ((n : ℕ) → a.shard_moment n ≡ b.shard_moment n) → a.words ≡ b.words → a ≡ b
+all_same a b f m x d t c h w = λ i. record { first_serial = f i; moment = m i; exchanges = x i; ids = d i; tasks = t i; changes = λ n. c n i; shard_moment = λ n. h n i; words = w i }
 
 -- an event of a job that changes nothing of the front
-named_still : (s : Seen) (e : Event) (o : Option Emission) (k : ℕ) → names e ≡ Some k → is_stray_at e (stage s k) ≡ true → moment_after e s ≡ s.moment → exchanges_after e o s ≡ s.exchanges → ids_after e s ≡ s.ids → tasks_brought e s ≡ [] → and_then (did e o) s ≡ s
+named_still : (s : Seen) (e : Event) (o : Option Emission) (k : ℕ) → names e ≡ Some k → is_stray_at e (job s k).origin.slot (stage s k) ≡ true → moment_after e s ≡ s.moment → exchanges_after e o s ≡ s.exchanges → ids_after e s ≡ s.ids → tasks_brought e s ≡ [] → and_then (did e o) s ≡ s
 named_still s e o k is stray m x d b =
-    let still : row e (scene s k) ≡ moves (stage s k) = row_still e (job s k) (scene s k).slot (stage s k) stray in
+    let still : row e (scene s k) ≡ moves (stage s k) = row_still e (job s k) (scene s k).slot s.words (stage s k) stray in
     all_same (and_then (did e o) s) s refl m x d
     ((λ i. tasks_moved (is i) e s ++ b i) ∙ (append-nil (tasks_moved (Some k) e s) ∙ tasks_still s e k still))
     (λ n. (λ i. changes_after (is i) e s n) ∙ changes_still s e k still n)
     (λ n. (λ i. shard_moment_after (is i) e s n) ∙ shard_still s e k still n)
+    ((λ i. words_seen (is i) e s) ∙ words_still s e k still)
 
 unnamed_still : (s : Seen) (e : Event) (o : Option Emission) → names e ≡ None → moment_after e s ≡ s.moment → exchanges_after e o s ≡ s.exchanges → ids_after e s ≡ s.ids → tasks_brought e s ≡ [] → and_then (did e o) s ≡ s
 unnamed_still s e o is m x d b = all_same (and_then (did e o) s) s refl m x d
     ((λ i. tasks_moved (is i) e s ++ b i) ∙ append-nil s.tasks)
     (λ n. λ i. changes_after (is i) e s n)
     (λ n. λ i. shard_moment_after (is i) e s n)
+    (λ i. words_seen (is i) e s)
 
 stray_still : (e : Event) (o : Option Emission) (s : Seen) → is_stray s e ≡ true → and_then (did e o) s ≡ s
 stray_still (Deliver now to bytes) o s e = absurd (cc)
 stray_still (Tick now) o s e = absurd (cc)
+stray_still (Peek k n) o s e = named_still s (Peek k n) o k refl e refl refl refl refl
+stray_still (Remove k) o s e = named_still s (Remove k) o k refl e refl refl refl refl
+stray_still (Receipt k) o s e = named_still s (Receipt k) o k refl e refl refl refl refl
 stray_still (Take k memory) o s e = named_still s (Take k memory) o k refl e refl refl refl refl
 stray_still (Commit k now) o s e = named_still s (Commit k now) o k refl e refl refl refl refl
 stray_still (Install k memory) o s e = named_still s (Install k memory) o k refl e refl refl refl refl
 stray_still (Raise k) o s e = named_still s (Raise k) o k refl e refl refl refl refl
 stray_still (Lose k) o s e = named_still s (Lose k) o k refl e refl refl refl refl
 stray_still (Answer k now) o s e =
-    let none : content_at (stage s k) ≡ None = none_answered k now (stage s k) e in
+    let none : content_at (stage s k) ≡ None = none_answered k now (job s k).origin.slot (stage s k) e in
     named_still s (Answer k now) o k refl e (rw none) (rw none) (rw none) refl
 stray_still other o s e = unnamed_still s other o refl refl refl refl refl
 

@@ -1,18 +1,20 @@
 -- What the laws of answers and moments speak of.
-use Rattle.std.specs.Prelude.{◌≡◌, ℕ, ◌+◌, ◌%◌, ◌==◌, ◌<◌, ◌≤◌, Bool, true, false, if◌then◌else◌, List, [], ◌∷◌, ◌++◌, Option, Some, None, is_none, length, max}
+use Rattle.std.specs.Prelude.{◌≡◌, ℕ, ◌+◌, ◌%◌, ◌==◌, ◌<◌, ◌≤◌, ◌⊎◌, Bool, true, false, if◌then◌else◌, List, [], ◌∷◌, ◌++◌, Option, Some, None, is_none, length, max}
 use Rattle.fc_kinds.specs.Meaning.{Program}
 use Rattle.fc_verify.specs.Accepted.{Judgement, Accepts, Breaks, Untypable}
 use Rattle.fc_verify.specs.Judged.{judged}
 use Rattle.fc_registry.specs.declared.job.Job.{Job}
-use Rattle.fc_registry.specs.declared.receipt.Receipt.{Receipt}
-use Rattle.fc_registry.specs.Calls.{meaning_at, wants}
+use Rattle.fc_registry.specs.declared.receipt.Receipt.{Receipt as Facts}
+use Rattle.fc_registry.specs.Calls.{meaning_at, receipt_of, wants}
 use Rattle.fc_registry.specs.Slots.{Slot, Present, Ticket}
 use Rattle.fc_core.specs.declared.event.Event.{Event}
-use Rattle.fc_core.specs.declared.event.Event.TheVariants.{Deliver, Take, Commit, Install, Answer, Tick}
+use Rattle.fc_core.specs.declared.event.Event.TheVariants.{Deliver, Peek, Take, Commit, Install, Remove, Receipt, Answer, Tick}
 use Rattle.fc_core.specs.declared.stage.Stage.{Stage}
-use Rattle.fc_core.specs.declared.stage.Stage.TheVariants.{ToTake, ToCommit, ToInstall, ToAnswer}
+use Rattle.arrayvec.specs.ArrayVec.{ArrayVec}
+use Rattle.fc_core.specs.declared.stage.Stage.TheVariants.{ToMatch, ToTake, ToCommit, ToInstall, ToRemove, ToDescribe, ToList, ToAnswer}
 use Rattle.fc_core.specs.Blocks.{first_block}
-use Rattle.fc_core.specs.Contents.{Content, RunAnswer, Ran, Missing, Unavailable, Made, Rejected, Untyped}
+use Rattle.fc_core.specs.Contents.{Content, RunAnswer, Ran, Missing, Unavailable, Made, Rejected, Untyped, Valid, Deleted, Described, Listed}
+use Rattle.fc_core.specs.Heads.{head_word, word_at}
 use Rattle.fc_core.specs.History.{Entry, History, Begins, Then, Seen, seen, job, slot_at, stage}
 use Rattle.fc_core.specs.Laws.{slot_of, stage_named, takings_of}
 use Rattle.fc_core.specs.Stages.{image_of, names}
@@ -21,25 +23,23 @@ use Rattle.fc_core.specs.Stages.{image_of, names}
 
 -- the event, which names job k, finds the job at a stage and its slot, after so many tickets that the job took. It makes the
 -- job's answer 5.03: memory was refused for a ticket or an install, the slot changed under the eighth ticket, or the slot is
--- at its last serial
+-- at its last serial and is to change
 pub data IsUnavailable (e : Event) (k : ℕ) (j : Job) (slot : Slot) (at : Stage) (taken : ℕ) : Type 0 where
   NoTicket : (count : ℕ) (p : Present) (event : e ≡ Take k false) (is : at ≡ ToTake count) (found : slot.present ≡ Some p) → IsUnavailable e k j slot at taken
   NoMemory : (event : e ≡ Install k false) (is : at ≡ ToInstall) → IsUnavailable e k j slot at taken
   Overtaken : (now count : ℕ) (t : Ticket) (event : e ≡ Commit k now) (is : at ≡ ToCommit count t) (wants : wants t ≡ true) (other : slot.serial ≡ t.serial → ⊥) (eighth : taken ≡ 8) → IsUnavailable e k j slot at taken
   LastCommit : (now count : ℕ) (t : Ticket) (event : e ≡ Commit k now) (is : at ≡ ToCommit count t) (wants : wants t ≡ true) (last : 9223372036854775807 ≤ slot.serial) → IsUnavailable e k j slot at taken
   LastInstall : (p : Program) (event : e ≡ Install k true) (is : at ≡ ToInstall) (accepted : judged (image_of j.ask) ≡ Accepts p) (last : 9223372036854775807 ≤ slot.serial) → IsUnavailable e k j slot at taken
+  LastRemoval : (p : Present) (event : e ≡ Remove k) (is : at ≡ ToRemove) (found : slot.present ≡ Some p) (last : 9223372036854775807 ≤ slot.serial) → IsUnavailable e k j slot at taken
 
--- it makes the answer 4.04: the job's taking finds the slot empty
-pub record IsMissing (e : Event) (k : ℕ) (slot : Slot) (at : Stage) : Type 0 where
-  pub memory : Bool
-  pub count : ℕ
-  pub event : e ≡ Take k memory
-  pub is : at ≡ ToTake count
-  pub empty : slot.present ≡ None
+-- it makes the answer 4.04: the job's taking finds the slot empty, or there is nothing to describe
+pub data IsMissing (e : Event) (k : ℕ) (slot : Slot) (at : Stage) : Type 0 where
+  NothingTaken : (memory : Bool) (count : ℕ) (event : e ≡ Take k memory) (is : at ≡ ToTake count) (empty : slot.present ≡ None) → IsMissing e k slot at
+  NothingDescribed : (event : e ≡ Receipt k) (is : at ≡ ToDescribe) (empty : slot.present ≡ None) → IsMissing e k slot at
 
 -- it installs a program: the receipt is the program's and has the slot's new serial as its version, and the program is
 -- created where the slot was empty
-pub record IsMade (e : Event) (k : ℕ) (j : Job) (slot : Slot) (at : Stage) (receipt : Receipt) (created : Bool) : Type 0 where
+pub record IsMade (e : Event) (k : ℕ) (j : Job) (slot : Slot) (at : Stage) (receipt : Facts) (created : Bool) : Type 0 where
   pub program : Program
   pub event : e ≡ Install k true
   pub is : at ≡ ToInstall
@@ -70,18 +70,57 @@ pub record IsRan (e : Event) (k : ℕ) (slot : Slot) (at : Stage) (run : RunAnsw
   pub serial : run.serial ≡ ticket.serial
   pub writes : wants ticket ≡ true → (slot.serial ≡ ticket.serial) × (slot.serial < 9223372036854775807)
 
+-- it removes the slot's program, or finds none: below the last serial, or the slot is empty
+pub record IsDeleted (e : Event) (k : ℕ) (slot : Slot) (at : Stage) : Type 0 where
+  pub event : e ≡ Remove k
+  pub is : at ≡ ToRemove
+  pub may : (slot.present ≡ None) ⊎ (slot.serial < 9223372036854775807)
+
+-- it tells what the slot's program is: its version is that of its install, whatever the slot's serial
+pub record IsDescribed (e : Event) (k : ℕ) (slot : Slot) (at : Stage) (receipt : Facts) : Type 0 where
+  pub found : Present
+  pub event : e ≡ Receipt k
+  pub is : at ≡ ToDescribe
+  pub present : slot.present ≡ Some found
+  pub receipt_is : receipt ≡ receipt_of found.program found.version
+
+-- one of these is this
+pub record Contains (serials : List ℕ) (serial : ℕ) : Type 0 where
+  pub before : List ℕ
+  pub after : List ℕ
+  pub is : serials ≡ before ++ serial ∷ after
+
+-- it finds the slot's head word to be that of a program at this serial, which is one of the request's ETags
+pub record IsValid (e : Event) (k : ℕ) (j : Job) (words : List ℕ) (at : Stage) (serial : ℕ) : Type 0 where
+  pub event : e ≡ Peek k j.origin.slot
+  pub is : at ≡ ToMatch
+  pub word : word_at words j.origin.slot ≡ head_word serial true
+  pub asked : Contains j.etags.items serial
+
+-- it reads the last of the 64 head words, which the job has read in the order of the slots
+pub record IsListed (e : Event) (k : ℕ) (words : List ℕ) (at : Stage) (list : List ℕ) : Type 0 where
+  pub seen : ArrayVec ℕ
+  pub event : e ≡ Peek k 63
+  pub is : at ≡ ToList seen
+  pub list_is : list ≡ seen.items ++ word_at words 63 ∷ []
+  pub count : length list ≡ 64
+
 -- why an event makes this a job's answer
-abbrev pub IsCause : Event → ℕ → Job → Slot → Stage → ℕ → Content → Type 0
-IsCause e k j slot at taken (Ran run) = IsRan e k slot at run
-IsCause e k j slot at taken Missing = IsMissing e k slot at
-IsCause e k j slot at taken Unavailable = IsUnavailable e k j slot at taken
-IsCause e k j slot at taken (Made receipt created) = IsMade e k j slot at receipt created
-IsCause e k j slot at taken (Rejected rule n) = IsRefused e k j at (Breaks rule n)
-IsCause e k j slot at taken Untyped = IsRefused e k j at Untypable
+abbrev pub IsCause : Event → ℕ → Job → Slot → List ℕ → Stage → ℕ → Content → Type 0
+IsCause e k j slot words at taken (Ran run) = IsRan e k slot at run
+IsCause e k j slot words at taken Missing = IsMissing e k slot at
+IsCause e k j slot words at taken Unavailable = IsUnavailable e k j slot at taken
+IsCause e k j slot words at taken (Made receipt created) = IsMade e k j slot at receipt created
+IsCause e k j slot words at taken (Rejected rule n) = IsRefused e k j at (Breaks rule n)
+IsCause e k j slot words at taken Untyped = IsRefused e k j at Untypable
+IsCause e k j slot words at taken (Valid serial) = IsValid e k j words at serial
+IsCause e k j slot words at taken Deleted = IsDeleted e k slot at
+IsCause e k j slot words at taken (Described receipt) = IsDescribed e k slot at receipt
+IsCause e k j slot words at taken (Listed list) = IsListed e k words at list
 
 -- why an event after a history makes this the answer of the job that it names
 abbrev pub Causes : History → Entry → ℕ → Content → Type 0
-Causes h r k c = IsCause r.event k (job (seen h) k) (slot_at (seen h) (slot_of (seen h) k)) (stage (seen h) k) (length (takings_of h k)) c
+Causes h r k c = IsCause r.event k (job (seen h) k) (slot_at (seen h) (slot_of (seen h) k)) (seen h).words (stage (seen h) k) (length (takings_of h k)) c
 
 -- ---- moments
 

@@ -1,14 +1,14 @@
 -- What the calls' ends say.
-use Rattle.std.specs.Prelude.{◌≤◌, Bool, true, false, nat_lt}
+use Rattle.std.specs.Prelude.{◌≤◌, Bool, true, false, nat_lt, Option, Some, None}
 use Rattle.fc_isa.specs.Rules.{number_of}
 use Rattle.fc_isa.specs.declared.rule.Fault.{Fault}
 use Rattle.fc_verify.specs.declared.refusal.Refusal.{Refusal}
 use Rattle.fc_verify.specs.declared.refusal.Refusal.TheVariants.{Broken, NoMemory}
 use Rattle.fc_core.specs.declared.answer.End.{End}
-use Rattle.fc_core.specs.declared.answer.End.TheVariants.{Missing, Unavailable, Made, Rejected}
+use Rattle.fc_core.specs.declared.answer.End.TheVariants.{Match, Missing, Unavailable, Made, Rejected, Removed, Told, Core}
 use Rattle.fc_core.specs.declared.answer.Said.{Said}
 use Rattle.fc_core.specs.declared.answer.Said.TheVariants.{Ran, Other}
-use Rattle.fc_core.specs.Contents.{Content, Ran as Runs, Missing as Misses, Unavailable as NotNow, Made as Makes, Rejected as Rejects, Untyped}
+use Rattle.fc_core.specs.Contents.{Content, Ran as Runs, Missing as Misses, Unavailable as NotNow, Made as Makes, Rejected as Rejects, Untyped, Valid, Deleted, Described, Listed}
 
 -- a refusal by a rule below 20 is told as it is, one by typing without its rule and slot
 abbrev pub refused_by : Bool → Fault → Content
@@ -24,6 +24,11 @@ content_of Missing = Misses
 content_of Unavailable = NotNow
 content_of (Made receipt created) = Makes receipt created
 content_of (Rejected refusal) = refused refusal
+content_of (Match serial) = Valid serial
+content_of Removed = Deleted
+content_of (Told None) = Misses
+content_of (Told (Some receipt)) = Described receipt
+content_of (Core words) = Listed words.items
 
 abbrev pub said_of : Said → Content
 said_of (Ran by code block serial) = Runs (record { by = by; code = code.byte; block = block; serial = serial })

@@ -6,7 +6,7 @@ use Rattle.fc_registry.specs.declared.job.Job.{Job}
 use Rattle.fc_registry.specs.Slots.{Slot, Present, Ticket}
 use Rattle.fc_registry.specs.Calls.{HasGiven, request_of}
 use Rattle.fc_core.specs.declared.stage.Stage.{Stage}
-use Rattle.fc_core.specs.declared.stage.Stage.TheVariants.{ToTake, ToCommit, ToRaise, ToAnswer}
+use Rattle.fc_core.specs.declared.stage.Stage.TheVariants.{ToTake, ToCommit, ToList, ToRaise, ToAnswer}
 use Rattle.fc_core.specs.Contents.{IsOf}
 use Rattle.fc_core.specs.Stages.{takings}
 
@@ -16,11 +16,17 @@ pub record IsTicketOf (job : Job) (slot : Slot) (t : Ticket) : Type 0 where
   pub request : t.request ≡ request_of job.ask
   pub given : HasGiven slot t
 
+-- a job that lists head words has yet one to read
+abbrev pub HasNext : Stage → Type 0
+HasNext (ToList seen) = length seen.items < 64
+HasNext other = Unit {0}
+
 -- a job that is to take may take once more; a ticket is its job's, and so is an answer
 abbrev pub FitsStage : Job → Slot → Stage → Type 0
 FitsStage job slot (ToTake count) = count < takings
 FitsStage job slot (ToCommit count t) = (count ≤ takings) × IsTicketOf job slot t
-FitsStage job slot (ToRaise content) = IsOf job content
+FitsStage job slot (ToList seen) = HasNext (ToList seen)
+FitsStage job slot (ToRaise word content) = IsOf job content
 FitsStage job slot (ToAnswer content) = IsOf job content
 FitsStage job slot other = Unit {0}
 

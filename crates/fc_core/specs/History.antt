@@ -18,7 +18,8 @@ use Rattle.fc_core.specs.Contents.{Content}
 use Rattle.fc_core.specs.Ids.{Ids, first_ids, drawn_for}
 use Rattle.fc_core.specs.Exchanges.{FrontState, opening_is_live}
 use Rattle.fc_core.specs.Receiving.{Received, received, opened_by, kept_of, drawn_by, brought, next_opening}
-use Rattle.fc_core.specs.Stages.{Scene, names, new_task, scene_at, row, content_at, task_moved, handed}
+use Rattle.fc_core.specs.Heads.{no_words}
+use Rattle.fc_core.specs.Stages.{Scene, names, new_task, scene_at, row, content_at, task_moved, handed, words_after}
 
 -- an event, and what it emitted
 pub record Entry : Type 0 where
@@ -32,8 +33,8 @@ pub data History : Type 0 where
 
 -- all that can be asked of a history: the serial at which the slots began, the greatest moment handed to the front, the
 -- exchanges that were opened, the message ids of the server's own, the jobs that came, each at its stage, the changes of each
--- slot, the newest first, and the greatest moment handed to each shard. Exchanges and jobs are listed oldest first, since their
--- places are their numbers.
+-- slot, the newest first, the greatest moment handed to each shard, and the head words. Exchanges and jobs are listed oldest
+-- first, since their places are their numbers.
 pub record Seen : Type 0 where
   pub first_serial : ℕ
   pub moment : ℕ
@@ -42,9 +43,10 @@ pub record Seen : Type 0 where
   pub tasks : List Task
   pub changes : ℕ → List Change
   pub shard_moment : ℕ → ℕ
+  pub words : List ℕ
 
 abbrev pub begun : ℕ → ℕ → Seen
-begun serial id = record { first_serial = serial; moment = 0; exchanges = []; ids = first_ids id; tasks = []; changes = λ n. []; shard_moment = λ k. 0 }
+begun serial id = record { first_serial = serial; moment = 0; exchanges = []; ids = first_ids id; tasks = []; changes = λ n. []; shard_moment = λ k. 0; words = no_words }
 
 -- ---- slots and jobs
 
@@ -58,6 +60,7 @@ no_task = record {
     origin = record { opening = record { number = 0; at = 0 }; endpoint = record { ip = []; port = 0 }; id = 0; slot = 0 };
     confirmable = false;
     token = record { items = [] };
+    etags = record { items = [] };
     ask = Installs (record { items = [] });
   };
   stage = Gone;
@@ -74,7 +77,7 @@ stage s k = (task_at s.tasks k).stage
 
 -- what an event that names a job finds of it
 abbrev pub scene : Seen → ℕ → Scene
-scene s k = scene_at (task_at s.tasks k) (slot_at s (job s k).origin.slot)
+scene s k = scene_at (task_at s.tasks k) (slot_at s (job s k).origin.slot) s.words
 
 -- ---- the front
 
@@ -137,6 +140,11 @@ abbrev pub shard_moment_after : Option ℕ → Event → Seen → ℕ → ℕ
 shard_moment_after None e s i = s.shard_moment i
 shard_moment_after (Some k) e s i = if (job s k).origin.slot % 8 == i then handed (row e (scene s k)).hands (s.shard_moment i) else s.shard_moment i
 
+-- the greatest word raised for each slot
+abbrev pub words_seen : Option ℕ → Event → Seen → List ℕ
+words_seen None e s = s.words
+words_seen (Some k) e s = words_after (row e (scene s k)) (task_at s.tasks k) s.words
+
 -- ---- the fold
 
 abbrev pub and_then : Entry → Seen → Seen
@@ -148,6 +156,7 @@ and_then r s = record {
   tasks = tasks_moved (names r.event) r.event s ++ tasks_brought r.event s;
   changes = λ n. changes_after (names r.event) r.event s n;
   shard_moment = λ i. shard_moment_after (names r.event) r.event s i;
+  words = words_seen (names r.event) r.event s;
 }
 
 unfoldable pub seen : History → Seen

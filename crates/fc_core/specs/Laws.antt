@@ -1,13 +1,13 @@
 -- What the laws of jobs speak of.
-use Rattle.std.specs.Prelude.{◌≡◌, ℕ, ◌+◌, ◌-◌, ◌<◌, ◌==◌, Bool, true, false, if◌then◌else◌, Option, Some, None, List, [], ◌∷◌, ◌++◌, length}
+use Rattle.std.specs.Prelude.{◌≡◌, ℕ, ◌+◌, ◌-◌, ◌<◌, ◌==◌, Bool, true, false, not, if◌then◌else◌, Option, Some, None, List, [], ◌∷◌, ◌++◌, length}
 use Rattle.fc_registry.specs.declared.job.Job.{Job}
 use Rattle.fc_registry.specs.Slots.{Slot, Present, Ticket}
 use Rattle.fc_registry.specs.Changes.{Change}
 use Rattle.fc_registry.specs.Calls.{meaning_at, ticket_of, wants}
 use Rattle.fc_core.specs.declared.event.Event.{Event}
-use Rattle.fc_core.specs.declared.event.Event.TheVariants.{Deliver, Take, Commit, Install, Raise, Answer, Tick, Lose}
+use Rattle.fc_core.specs.declared.event.Event.TheVariants.{Deliver, Peek, Take, Commit, Install, Remove, Receipt, Raise, Answer, Tick, Lose}
 use Rattle.fc_core.specs.declared.stage.Stage.{Stage}
-use Rattle.fc_core.specs.declared.stage.Stage.TheVariants.{ToTake, ToCommit, ToInstall, ToRaise, ToAnswer, Gone}
+use Rattle.fc_core.specs.declared.stage.Stage.TheVariants.{ToMatch, ToTake, ToCommit, ToInstall, ToRemove, ToDescribe, ToList, ToRaise, ToAnswer, Gone}
 use Rattle.fc_core.specs.Blocks.{first_block}
 use Rattle.fc_core.specs.Contents.{Content, RunAnswer}
 use Rattle.fc_core.specs.Stages.{names}
@@ -15,26 +15,40 @@ use Rattle.fc_core.specs.History.{Entry, History, Begins, Then, Seen, seen, job,
 
 -- ---- strays
 
--- the job that the event names isn't at the stage that the event needs; an event of what isn't served is always a stray
-abbrev pub is_stray_at : Event → Stage → Bool
-is_stray_at (Take k memory) (ToTake count) = false
-is_stray_at (Commit k now) (ToCommit count t) = false
-is_stray_at (Install k memory) ToInstall = false
-is_stray_at (Raise k) (ToRaise content) = false
-is_stray_at (Answer k now) (ToAnswer content) = false
-is_stray_at (Lose k) Gone = true
-is_stray_at (Lose k) other = false
-is_stray_at (Deliver now to bytes) at = false
-is_stray_at (Tick now) at = false
-is_stray_at other at = true
+-- a job of slot own needs a look at the head word of slot n: of its own, or of the one after those that it has seen
+abbrev pub needs_word : ℕ → ℕ → Stage → Bool
+needs_word own n ToMatch = n == own
+needs_word own n (ToList seen) = n == length seen.items
+needs_word own n other = false
 
--- the stage of the job that is named, if one is
+-- the job that the event names, which is of slot own, isn't at the stage that the event needs; an event of what isn't served is
+-- always a stray
+abbrev pub is_stray_at : Event → ℕ → Stage → Bool
+is_stray_at (Peek k n) own at = not (needs_word own n at)
+is_stray_at (Take k memory) own (ToTake count) = false
+is_stray_at (Commit k now) own (ToCommit count t) = false
+is_stray_at (Install k memory) own ToInstall = false
+is_stray_at (Remove k) own ToRemove = false
+is_stray_at (Receipt k) own ToDescribe = false
+is_stray_at (Raise k) own (ToRaise word content) = false
+is_stray_at (Answer k now) own (ToAnswer content) = false
+is_stray_at (Lose k) own Gone = true
+is_stray_at (Lose k) own other = false
+is_stray_at (Deliver now to bytes) own at = false
+is_stray_at (Tick now) own at = false
+is_stray_at other own at = true
+
+-- the stage of the job that is named, if one is, and its slot
 abbrev pub stage_named : Seen → Option ℕ → Stage
 stage_named s None = Gone
 stage_named s (Some k) = stage s k
 
+abbrev pub slot_named : Seen → Option ℕ → ℕ
+slot_named s None = 0
+slot_named s (Some k) = (job s k).origin.slot
+
 abbrev pub is_stray : Seen → Event → Bool
-is_stray s e = is_stray_at e (stage_named s (names e))
+is_stray s e = is_stray_at e (slot_named s (names e)) (stage_named s (names e))
 
 -- ---- jobs
 
@@ -91,7 +105,7 @@ IsOfNewest (t ∷ ts) run = (run.code ≡ (meaning_at t.ticket).code) × (run.bl
 
 -- the answer that a job is about to give, once its slot's new serial is published
 abbrev pub answer_at : Stage → Option Content
-answer_at (ToRaise content) = Some content
+answer_at (ToRaise word content) = Some content
 answer_at (ToAnswer content) = Some content
 answer_at other = None
 

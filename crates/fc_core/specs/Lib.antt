@@ -1,6 +1,8 @@
 pub mod Ids
 pub mod Blocks
 pub mod Contents
+pub mod Heads
+pub mod Links
 pub mod Ends
 pub mod Replies
 pub mod Exchanges

@@ -21,7 +21,7 @@ use Rattle.fc_help.specs.declared.request.Method.{Method as Verb}
 use Rattle.fc_help.specs.declared.request.Method.TheVariants.{Get, Post}
 use Rattle.fc_registry.specs.declared.job.Opening.{Opening}
 use Rattle.fc_registry.specs.declared.job.Ask.{Ask}
-use Rattle.fc_registry.specs.declared.job.Ask.TheVariants.{Run, Install}
+use Rattle.fc_registry.specs.declared.job.Ask.TheVariants.{Run, Install, Remove, Describe, Discover}
 use Rattle.fc_registry.specs.declared.job.Job.{Job}
 use Rattle.fc_core.specs.declared.front.Delivered.{Delivered}
 use Rattle.fc_core.specs.declared.front.Delivered.TheVariants.{Nothing, Reply, Job as Brings, Signal}
@@ -94,10 +94,14 @@ slot_of_resource resources.Core = 0
 abbrev pub request_asked : Verb → Asked → Request
 request_asked method r = record { method = method; slot = slot_of_resource r.resource; content_format = r.content_format; query = r.query; payload = r.payload }
 
--- a GET or POST on /r/N asks slot N's program; a PUT on /p/N installs its payload
+-- a GET or POST on /r/N asks slot N's program; on /p/N a PUT installs its payload, a DELETE removes slot N's program, and a GET
+-- tells what it is; a GET on /.well-known/core lists the slots that have one
 abbrev pub ask_by : Method → Resource → Asked → Ask
 ask_by methods.Get (resources.Run n) r = Run (request_asked Get r)
 ask_by methods.Post (resources.Run n) r = Run (request_asked Post r)
+ask_by methods.Delete (resources.Program n) r = Remove
+ask_by methods.Get (resources.Program n) r = Describe
+ask_by methods.Get resources.Core r = Discover
 ask_by method at r = Install (record { items = r.payload })
 
 abbrev pub job_of : Opening → Endpoint → Message → Asked → Job
@@ -105,13 +109,14 @@ job_of opening to m r = record {
   origin = record { opening = opening; endpoint = to; id = m.id; slot = slot_of_resource r.resource };
   confirmable = is_confirmable m.kind;
   token = record { items = m.token };
+  etags = record { items = r.etags };
   ask = ask_by r.method r.resource r;
 }
 
 -- a job's slot is one of 64, and its request has at most 64 bytes of query and 1,024 of payload
 abbrev pub AskWithin : Ask → Type 0
 AskWithin (Run request) = (length request.query ≤ 64) × (length request.payload ≤ 1024)
-AskWithin (Install image) = Unit {0}
+AskWithin other = Unit {0}
 
 abbrev pub JobWithin : Job → Type 0
 JobWithin job = (job.origin.slot < 64) × AskWithin job.ask

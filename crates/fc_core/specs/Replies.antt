@@ -14,7 +14,8 @@ use Rattle.fc_registry.specs.Receipts.{receipt_text}
 use Rattle.fc_registry.specs.declared.job.Job.{Job}
 use Rattle.fc_core.specs.declared.block.BodyBlock.{BodyBlock}
 use Rattle.fc_core.specs.Blocks.{block2}
-use Rattle.fc_core.specs.Contents.{Content, Ran, Missing, Unavailable, Made, Rejected, Untyped}
+use Rattle.fc_core.specs.Contents.{Content, Ran, Missing, Unavailable, Made, Rejected, Untyped, Valid, Deleted, Described, Listed}
+use Rattle.fc_core.specs.Links.{links_text}
 
 -- a response: its code, its options in the order of their numbers, and its payload
 pub record Response : Type 0 where
@@ -41,8 +42,12 @@ abbrev pub ran_response : ℕ → BodyBlock → ℕ → Response
 ran_response answer block serial =
     if answer == code 2 5 then content serial block else (if answer == code 2 4 then text answer block.bytes.items else bare answer)
 
--- what a job's response is, by its answer: 2.01 Created, 2.04 Changed, 4.00 Bad Request, 4.04 Not Found, 5.03 Service Unavailable.
--- A refusal by typing names any rule from 20 to 27, and any slot
+-- the format of links (RFC 6690, 7.4)
+abbrev pub link_format : List (ℕ × List ℕ)
+link_format = (option.CONTENT_FORMAT, 40 ∷ []) ∷ []
+
+-- what a job's response is, by its answer: 2.01 Created, 2.02 Deleted, 2.03 Valid, 2.04 Changed, 2.05 Content, 4.00 Bad Request,
+-- 4.04 Not Found, 5.03 Service Unavailable. A refusal by typing names any rule from 20 to 27, and any slot
 abbrev pub Says : Job → Content → Response → Type 0
 Says j (Ran run) r = r ≡ ran_response run.code run.block run.serial
 Says j Missing r = r ≡ bare (code 4 4)
@@ -51,6 +56,10 @@ Says j (Made receipt true) r = r ≡ text (code 2 1) (receipt_text receipt)
 Says j (Made receipt false) r = r ≡ text (code 2 4) (receipt_text receipt)
 Says j (Rejected rule slot) r = r ≡ text (code 4 0) (fault_text (number_of rule) slot)
 Says j Untyped r = (number : ℕ) × (slot : ℕ) × (20 ≤ number) × (number ≤ 27) × (r ≡ text (code 4 0) (fault_text number slot))
+Says j (Valid serial) r = r ≡ record { code = code 2 3; options = etag serial; payload = [] }
+Says j Deleted r = r ≡ bare (code 2 2)
+Says j (Described receipt) r = r ≡ text (code 2 5) (receipt_text receipt)
+Says j (Listed words) r = r ≡ record { code = code 2 5; options = link_format; payload = links_text words }
 
 -- whom a reply is for: its endpoint, its type, its message id and the request's token
 pub record Envelope : Type 0 where

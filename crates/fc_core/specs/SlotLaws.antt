@@ -1,5 +1,5 @@
 -- What the laws of slots speak of.
-use Rattle.std.specs.Prelude.{◌≡◌, ℕ, ◌<◌, true, List, [], ◌∷◌}
+use Rattle.std.specs.Prelude.{◌≡◌, ℕ, ◌<◌, Bool, true, false, List, [], ◌∷◌, Option, Some, is_some}
 use Rattle.fc_help.specs.declared.request.Method.TheVariants.{Post}
 use Rattle.fc_kinds.specs.Meaning.{Program}
 use Rattle.fc_verify.specs.Accepted.{Accepts}
@@ -7,18 +7,19 @@ use Rattle.fc_verify.specs.Judged.{judged}
 use Rattle.fc_registry.specs.Calls.{commit_of, meaning_at}
 use Rattle.fc_registry.specs.Changes.{Change, Installed, Committed, Removed}
 use Rattle.fc_registry.specs.Record.{code_class}
-use Rattle.fc_registry.specs.Slots.{Ticket}
-use Rattle.fc_core.specs.declared.event.Event.TheVariants.{Commit, Install}
+use Rattle.fc_registry.specs.Slots.{Present, Slot, Ticket}
+use Rattle.fc_core.specs.declared.event.Event.TheVariants.{Commit, Install, Remove}
 use Rattle.fc_core.specs.declared.stage.Stage.{Stage}
-use Rattle.fc_core.specs.declared.stage.Stage.TheVariants.{ToCommit, ToInstall, ToRaise}
+use Rattle.fc_core.specs.declared.stage.Stage.TheVariants.{ToCommit, ToInstall, ToRemove, ToRaise}
+use Rattle.fc_core.specs.Heads.{head_word}
 use Rattle.fc_core.specs.History.{Entry, History, Seen, seen, and_then, job, slot_at, stage}
 use Rattle.fc_core.specs.Laws.{Taking, slot_of, takings_of}
 use Rattle.fc_core.specs.Stages.{image_of}
 
--- a job that is to publish its slot's new serial
-abbrev pub IsToRaise : Stage → Type 0
-IsToRaise (ToRaise content) = Unit {0}
-IsToRaise other = ⊥
+-- a job that is to raise its slot's head word to that of this state
+abbrev pub IsToRaise : Slot → Stage → Type 0
+IsToRaise slot (ToRaise word content) = word ≡ head_word slot.serial (is_some slot.present)
+IsToRaise slot other = ⊥
 
 -- ---- what changes a slot
 
@@ -44,11 +45,23 @@ pub record IsWriting (r : Entry) (s : Seen) (n : ℕ) : Type 0 where
   pub slot : slot_of s number ≡ n
   pub change : (and_then r s).changes n ≡ Committed (commit_of ticket) ∷ s.changes n
 
+-- the event removes the slot's program, by its job at its stage
+pub record IsRemoving (r : Entry) (s : Seen) (n : ℕ) : Type 0 where
+  pub number : ℕ
+  pub found : Present
+  pub event : r.event ≡ Remove number
+  pub at : stage s number ≡ ToRemove
+  pub slot : slot_of s number ≡ n
+  pub present : (slot_at s n).present ≡ Some found
+  pub below : (slot_at s n).serial < 9223372036854775807
+  pub change : (and_then r s).changes n ≡ Removed ∷ s.changes n
+
 -- what an event does to a slot
 pub data ChangesBy (r : Entry) (s : Seen) (n : ℕ) : Type 0 where
   Nothing : (is : (and_then r s).changes n ≡ s.changes n) → ChangesBy r s n
   Installs : (is : IsInstall r s n) → ChangesBy r s n
   Writes : (is : IsWriting r s n) → ChangesBy r s n
+  Clears : (is : IsRemoving r s n) → ChangesBy r s n
 
 -- some image is accepted as this program
 pub record IsOfImage (p : Program) : Type 0 where
@@ -60,7 +73,7 @@ abbrev pub AllOfImages : List Change → Type 0
 AllOfImages [] = Unit {0}
 AllOfImages (Installed p ∷ cs) = IsOfImage p × AllOfImages cs
 AllOfImages (Committed c ∷ cs) = AllOfImages cs
-AllOfImages (Removed ∷ cs) = ⊥
+AllOfImages (Removed ∷ cs) = AllOfImages cs
 
 -- ---- commits
 

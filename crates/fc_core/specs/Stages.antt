@@ -1,35 +1,42 @@
 -- What each event does to the job that it names, and to that job's slot and shard: one row a clause.
-use Rattle.std.specs.Prelude.{ℕ, ◌+◌, Bool, true, false, nat_lt, if◌then◌else◌, Option, Some, None, List, [], ◌∷◌, max}
+use Rattle.std.specs.Prelude.{ℕ, ◌+◌, ◌==◌, Bool, true, false, nat_lt, if◌then◌else◌, Option, Some, None, List, [], ◌∷◌, ◌++◌, length, max}
+use Rattle.arrayvec.specs.ArrayVec.{ArrayVec}
 use Rattle.fc_kinds.specs.Meaning.{Program}
 use Rattle.fc_verify.specs.Accepted.{Judgement, Accepts, Breaks, Untypable}
 use Rattle.fc_verify.specs.Judged.{judged}
 use Rattle.fc_registry.specs.declared.job.Ask.{Ask}
-use Rattle.fc_registry.specs.declared.job.Ask.TheVariants.{Run, Install as Installs}
+use Rattle.fc_registry.specs.declared.job.Ask.TheVariants.{Run, Install as Installs, Remove as Removes, Describe, Discover}
 use Rattle.fc_registry.specs.declared.job.Job.{Job}
-use Rattle.fc_registry.specs.declared.receipt.Receipt.{Receipt}
+use Rattle.fc_registry.specs.declared.receipt.Receipt.{Receipt as Facts}
 use Rattle.fc_registry.specs.declared.shard.Taken.{Taken}
 use Rattle.fc_registry.specs.declared.shard.Taken.TheVariants.{Given, Missing, Refused}
 use Rattle.fc_registry.specs.declared.shard.Made.{Made}
 use Rattle.fc_registry.specs.declared.shard.Made.TheVariants.{Raised, AtEnd}
+use Rattle.fc_registry.specs.declared.shard.Removal.{Removal}
+use Rattle.fc_registry.specs.declared.shard.Removal.TheVariants as removals
 use Rattle.fc_registry.specs.declared.commit.Committed.{Committed}
 use Rattle.fc_registry.specs.declared.commit.Committed.TheVariants.{Done, Overtaken, Ended, Stranger}
 use Rattle.fc_registry.specs.Slots.{Slot, Shard, Ticket, slot_in, with_slot}
 use Rattle.fc_registry.specs.Changes.{Change, Committed as Wrote, after_changes}
 use Rattle.fc_registry.specs.declared.commit.CommitOutcome.{CommitOutcome}
 use Rattle.fc_registry.specs.declared.commit.CommitOutcome.TheVariants.{Writes, Keeps, Overtakes, Ends}
-use Rattle.fc_registry.specs.Calls.{taking, install_in, outcome, commit_of, meaning_at}
-use Rattle.fc_core.specs.Contents.{Content, Ran, run_answer, Missing as Misses, Unavailable, Made as Makes, Rejected, Untyped}
+use Rattle.fc_registry.specs.Calls.{taking, install_in, remove_from, receipt_at, receipt_of, outcome, commit_of, meaning_at}
+use Rattle.fc_core.specs.Contents.{Content, Ran, run_answer, Missing as Misses, Unavailable, Made as Makes, Rejected, Untyped, Valid, Deleted, Described, Listed}
+use Rattle.fc_core.specs.Heads.{head_word, is_match, published, serial_in, word_at}
 use Rattle.fc_core.specs.declared.event.Event.{Event}
-use Rattle.fc_core.specs.declared.event.Event.TheVariants.{Take, Commit, Install, Raise, Answer, Lose}
+use Rattle.fc_core.specs.declared.event.Event.TheVariants.{Peek, Take, Commit, Install, Remove, Receipt, Raise, Answer, Lose}
 use Rattle.fc_core.specs.declared.stage.Stage.{Stage}
-use Rattle.fc_core.specs.declared.stage.Stage.TheVariants.{ToTake, ToCommit, ToInstall, ToRaise, ToAnswer, Gone}
+use Rattle.fc_core.specs.declared.stage.Stage.TheVariants.{ToMatch, ToTake, ToCommit, ToInstall, ToRemove, ToDescribe, ToList, ToRaise, ToAnswer, Gone}
 use Rattle.fc_core.specs.declared.stage.Task.{Task}
 
 -- the job that an event names
 abbrev pub names : Event → Option ℕ
+names (Peek job slot) = Some job
 names (Take job memory) = Some job
 names (Commit job now) = Some job
 names (Install job memory) = Some job
+names (Remove job) = Some job
+names (Receipt job) = Some job
 names (Raise job) = Some job
 names (Answer job now) = Some job
 names (Lose job) = Some job
@@ -39,13 +46,17 @@ names other = None
 abbrev pub takings : ℕ
 takings = 8
 
--- what a job needs first
-abbrev pub first_by : Ask → Stage
-first_by (Run request) = ToTake 0
-first_by (Installs image) = ToInstall
+-- what a job needs first; a run whose client has answers looks at its slot's head word
+abbrev pub first_by : Ask → List ℕ → Stage
+first_by (Run request) [] = ToTake 0
+first_by (Run request) (serial ∷ serials) = ToMatch
+first_by (Installs image) serials = ToInstall
+first_by Removes serials = ToRemove
+first_by Describe serials = ToDescribe
+first_by Discover serials = ToList (record { items = [] })
 
 abbrev pub first_stage : Job → Stage
-first_stage job = first_by job.ask
+first_stage job = first_by job.ask job.etags.items
 
 abbrev pub new_task : Job → Task
 new_task job = record { job = job; stage = first_stage job }
@@ -66,60 +77,98 @@ abbrev pub retaken : ℕ → Stage
 retaken count = if nat_lt count takings then ToTake count else ToAnswer Unavailable
 
 abbrev pub after_commit : ℕ → Ticket → Committed → Stage
-after_commit count t (Done m) = if m.changed then ToRaise (run_content t) else ToAnswer (run_content t)
+after_commit count t (Done m) = if m.changed then ToRaise (head_word m.serial true) (run_content t) else ToAnswer (run_content t)
 after_commit count t Overtaken = retaken count
 after_commit count t Ended = ToAnswer Unavailable
 after_commit count t Stranger = ToAnswer Unavailable
 
-abbrev pub made : Receipt → Made → Stage
-made r (Raised serial created) = ToRaise (Makes (record r { version = serial }) created)
+abbrev pub made : Facts → Made → Stage
+made r (Raised serial created) = ToRaise (head_word serial true) (Makes (record r { version = serial }) created)
 made r AtEnd = ToAnswer Unavailable
+
+abbrev pub removed : Removal → Stage
+removed (removals.Removed serial) = ToRaise (head_word serial false) Deleted
+removed removals.Absent = ToAnswer Deleted
+removed removals.AtEnd = ToAnswer Unavailable
+
+abbrev pub told : Option Facts → Content
+told None = Misses
+told (Some receipt) = Described receipt
+
+-- a client that has the answer of the slot's serial needs no run
+abbrev pub matched_by : Bool → ℕ → Stage
+matched_by true word = ToAnswer (Valid (serial_in word))
+matched_by false word = ToTake 0
+
+abbrev pub matched : ℕ → List ℕ → Stage
+matched word serials = matched_by (is_match word serials) word
+
+-- after the words of so many slots
+abbrev pub listed : List ℕ → Stage
+listed words = if nat_lt (length words) 64 then ToList (record { items = words }) else ToAnswer (Listed words)
 
 -- ---- the rows
 
--- what an event finds of the job that it names
+-- what an event finds of the job that it names, and of the head words of all slots
 pub record Scene : Type 0 where
   pub job : Job
   pub slot : Slot
+  pub words : List ℕ
   pub stage : Stage
 
--- where it leaves the job, the changes of the job's slot, the newest first, and the moment that it hands to the slot's shard
+-- where it leaves the job, the changes of the job's slot, the newest first, the moment that it hands to the slot's shard, and
+-- the head word that it raises the slot's to
 pub record Move : Type 0 where
   pub stage : Stage
   pub changes : List Change
   pub hands : Option ℕ
+  pub raises : Option ℕ
 
 abbrev pub moves : Stage → Move
-moves stage = record { stage = stage; changes = []; hands = None }
+moves stage = record { stage = stage; changes = []; hands = None; raises = None }
+
+-- of a call on the job's slot
+abbrev pub moves_by : Stage → List Change → Move
+moves_by stage changes = record { stage = stage; changes = changes; hands = None; raises = None }
 
 abbrev pub taken : Bool → ℕ → Scene → Move
 taken memory count s = moves (took count (taking memory s.job s.slot.serial s.slot.present))
 
 abbrev pub committed : CommitOutcome → ℕ → Ticket → ℕ → Move
-committed Writes count t now = record { stage = ToRaise (run_content t); changes = Wrote (commit_of t) ∷ []; hands = Some now }
-committed Keeps count t now = record { stage = ToAnswer (run_content t); changes = []; hands = Some now }
-committed Overtakes count t now = record { stage = retaken count; changes = []; hands = Some now }
-committed Ends count t now = record { stage = ToAnswer Unavailable; changes = []; hands = Some now }
-
--- what is told of a program; its version is the serial of its install
-abbrev pub receipt_of : Program → Receipt
-receipt_of p = record { version = 0; cost = p.cost; budget = p.budget; vars = p.vars_size }
+committed Writes count t now = record (moves_by (ToRaise (head_word (t.serial + 1) true) (run_content t)) (Wrote (commit_of t) ∷ [])) { hands = Some now }
+committed Keeps count t now = record (moves (ToAnswer (run_content t))) { hands = Some now }
+committed Overtakes count t now = record (moves (retaken count)) { hands = Some now }
+committed Ends count t now = record (moves (ToAnswer Unavailable)) { hands = Some now }
 
 abbrev pub installed : Judgement → Slot → Move
-installed (Accepts p) slot = record { stage = made (receipt_of p) (install_in slot p).answer; changes = (install_in slot p).changes; hands = None }
+installed (Accepts p) slot = moves_by (made (receipt_of p 0) (install_in slot p).answer) (install_in slot p).changes
 installed (Breaks rule k) slot = moves (ToAnswer (Rejected rule k))
 installed Untypable slot = moves (ToAnswer Untyped)
 
--- the image that is to be installed; a job that asks for a run has none
+-- the image that is to be installed; a job that asks for something else has none
 abbrev pub image_of : Ask → List ℕ
-image_of (Run request) = []
 image_of (Installs image) = image.items
+image_of other = []
 
 abbrev pub verified : Bool → Scene → Move
 verified true s = installed (judged (image_of s.job.ask)) s.slot
 verified false s = moves (ToAnswer Unavailable)
 
+-- a look at the head word of slot n: a run's job looks at its own slot's, and who lists them at each in its turn
+abbrev pub peeked_own : Bool → ℕ → List ℕ → Stage
+peeked_own true word serials = matched word serials
+peeked_own false word serials = ToMatch
+
+abbrev pub peeked_next : Bool → ℕ → ArrayVec ℕ → Stage
+peeked_next true word seen = listed (seen.items ++ word ∷ [])
+peeked_next false word seen = ToList seen
+
 -- the rows of the table; an event at another stage than it needs does nothing
+abbrev pub at_peek : ℕ → Scene → Stage → Move
+at_peek n s ToMatch = moves (peeked_own (n == s.job.origin.slot) (word_at s.words n) s.job.etags.items)
+at_peek n s (ToList seen) = moves (peeked_next (n == length seen.items) (word_at s.words n) seen)
+at_peek n s other = moves other
+
 abbrev pub at_take : Bool → Scene → Stage → Move
 at_take memory s (ToTake count) = taken memory count s
 at_take memory s other = moves other
@@ -132,8 +181,16 @@ abbrev pub at_install : Bool → Scene → Stage → Move
 at_install memory s ToInstall = verified memory s
 at_install memory s other = moves other
 
+abbrev pub at_remove : Scene → Stage → Move
+at_remove s ToRemove = moves_by (removed (remove_from s.slot).answer) (remove_from s.slot).changes
+at_remove s other = moves other
+
+abbrev pub at_receipt : Scene → Stage → Move
+at_receipt s ToDescribe = moves (ToAnswer (told (receipt_at s.slot.present)))
+at_receipt s other = moves other
+
 abbrev pub at_raise : Stage → Move
-at_raise (ToRaise content) = moves (ToAnswer content)
+at_raise (ToRaise word content) = record (moves (ToAnswer content)) { raises = Some word }
 at_raise other = moves other
 
 abbrev pub at_answer : Stage → Move
@@ -141,9 +198,12 @@ at_answer (ToAnswer content) = moves Gone
 at_answer other = moves other
 
 abbrev pub row : Event → Scene → Move
+row (Peek job n) s = at_peek n s s.stage
 row (Take job memory) s = at_take memory s s.stage
 row (Commit job now) s = at_commit now s s.stage
 row (Install job memory) s = at_install memory s s.stage
+row (Remove job) s = at_remove s s.stage
+row (Receipt job) s = at_receipt s s.stage
 row (Raise job) s = at_raise s.stage
 row (Answer job now) s = at_answer s.stage
 row (Lose job) s = moves Gone
@@ -156,12 +216,12 @@ content_at other = None
 
 -- ---- on a task and its shard
 
-abbrev pub scene_at : Task → Slot → Scene
-scene_at task slot = record { job = task.job; slot = slot; stage = task.stage }
+abbrev pub scene_at : Task → Slot → List ℕ → Scene
+scene_at task slot words = record { job = task.job; slot = slot; words = words; stage = task.stage }
 
 -- what an event on a task finds at a shard
-abbrev pub scene_of : Shard → Task → Scene
-scene_of shard task = scene_at task (slot_in shard task.job.origin.slot)
+abbrev pub scene_of : Shard → List ℕ → Task → Scene
+scene_of shard words task = scene_at task (slot_in shard task.job.origin.slot) words
 
 -- the move of a commit of this ticket at a shard
 abbrev pub commit_move : Shard → ℕ → Ticket → ℕ → Move
@@ -181,3 +241,7 @@ shard_moved m n shard = with_slot (record shard { now = handed m.hands shard.now
 -- a shard after a move of this task
 abbrev pub shard_after : Move → Task → Shard → Shard
 shard_after m task shard = shard_moved m task.job.origin.slot shard
+
+-- the head words after a move of this task
+abbrev pub words_after : Move → Task → List ℕ → List ℕ
+words_after m task words = published m.raises task.job.origin.slot words

@@ -5,6 +5,8 @@ ghost use Rattle.fc_core.specs.Contents.{Ran, AreOne, run_answer};
 ghost use Rattle.fc_core.specs.Ends.{IsTold, content_of, said_of};
 
 use crate::block::BodyBlock;
+use crate::heads::WORDS;
+use arrayvec::ArrayVec;
 use coap_msg::Code;
 use fc_machine::Outcome;
 use fc_registry::{Mark, Origin, Receipt, Ticket};
@@ -12,8 +14,10 @@ use fc_verify::Refusal;
 use std::marker::Model;
 
 /// What a job's last call gave, where it wasn't a run.
-#[derive(Clone, Copy, Debug, PartialEq, Eq)]
+#[derive(Drop)]
 pub enum End {
+    /// The slot has this serial, of which the client has an answer.
+    Match(u64),
     /// The slot was empty.
     Missing,
     /// The service was unavailable: the serials are at their end, memory was refused, or the job was overtaken eight times.
@@ -22,7 +26,16 @@ pub enum End {
     Made(Receipt, bool),
     /// An image was refused.
     Rejected(Refusal),
+    /// A program was removed, or the slot was empty.
+    Removed,
+    /// What the slot's program is; none where it is empty.
+    Told(Option<Receipt>),
+    /// The head words of all slots.
+    Core(Words),
 }
+
+/// The head words of slots, from slot 0 on.
+pub type Words = ArrayVec<u64, WORDS>;
 
 #[derive(Drop)]
 pub(crate) enum Said {

@@ -4,8 +4,8 @@ use coap_msg::Endpoint;
 /// What happens to a server. Jobs are numbered from 0 in the order in which they come, and shards from 0 to 7; moments
 /// are in milliseconds.
 ///
-/// An event whose job isn't at the stage that the event needs changes nothing. `Peek`, `Remove`, `Receipt`, `Due`,
-/// `Fresh`, `Note`, `GiveUp`, `Signal` and `ShardTick` belong to what isn't served yet: they change nothing either.
+/// An event whose job isn't at the stage that the event needs changes nothing. `Due`, `Fresh`, `Note`, `GiveUp`, `Signal` and
+/// `ShardTick` belong to what isn't served yet: they change nothing either.
 #[derive(Clone, Copy, Debug)]
 pub enum Event<'a> {
     /// A datagram comes.
@@ -103,9 +103,12 @@ impl Event<'_> {
         ensures { result ≡ names self.now }
     {
         match *self {
+            Event::Peek { job, .. } => Some(job),
             Event::Take { job, .. } => Some(job),
             Event::Commit { job, .. } => Some(job),
             Event::Install { job, .. } => Some(job),
+            Event::Remove { job } => Some(job),
+            Event::Receipt { job } => Some(job),
             Event::Raise { job } => Some(job),
             Event::Answer { job, .. } => Some(job),
             Event::Lose { job } => Some(job),

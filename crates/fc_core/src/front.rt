@@ -21,6 +21,7 @@ use coap_dedup::exchange::WINDOW;
 use coap_dedup::{Exchanges, Looked};
 use coap_msg::{Bad, Code, Datagram, Emission, Endpoint, Message, MessageType, Token, read};
 use coap_opts::laws::requests_are_within;
+use coap_opts::request::ETAGS;
 use coap_opts::{Classified, Method, Request, Resource, classify};
 use fc_help::Method as Verb;
 use fc_registry::{Ask, Image, Job, Opening, Origin, SlotNumber};
@@ -427,6 +428,7 @@ pub(crate) fn blank_job() -> Job {
         origin: Origin::default(),
         confirmable: false,
         token: ArrayVec::new(),
+        etags: ArrayVec::new(),
         ask: Ask::Run(fc_help::Request::new(Verb::Get, 0, None, &[], &[])),
     }
 }
@@ -450,6 +452,7 @@ fn write_job(
     };
     job.confirmable = message.kind() == MessageType::Confirmable;
     write_token(&mut job.token, message);
+    write_etags(&mut job.etags, request);
     write_ask(&mut job.ask, request);
 }
 
@@ -458,6 +461,13 @@ fn write_token(token: &mut Token, message: &Message<'_>)
 {
     token.clear();
     let _fits = token.try_extend_from_slice(message.token());
+}
+
+fn write_etags(etags: &mut ArrayVec<u64, ETAGS>, request: &Request<'_>)
+    ensures { etags.new.items ≡ request.now.etags.items }
+{
+    etags.clear();
+    let _fits = etags.try_extend_from_slice(request.etags.as_slice());
 }
 
 fn slot_named(resource: Resource) -> u8
@@ -476,6 +486,9 @@ fn write_ask(ask: &mut Ask, request: &Request<'_>)
     match (request.method, request.resource) {
         (Method::Get, Resource::Run(_)) => write_run(ask, Verb::Get, request),
         (Method::Post, Resource::Run(_)) => write_run(ask, Verb::Post, request),
+        (Method::Delete, Resource::Program(_)) => *ask = Ask::Remove,
+        (Method::Get, Resource::Program(_)) => *ask = Ask::Describe,
+        (Method::Get, Resource::Core) => *ask = Ask::Discover,
         _ => write_image(ask, request.payload),
     }
 }
@@ -487,7 +500,7 @@ fn write_run(ask: &mut Ask, method: Verb, request: &Request<'_>)
 {
     match ask {
         Ask::Run(before) => *before = run_request(method, request),
-        Ask::Install(_) => write_run_anew(ask, method, request),
+        _ => write_run_anew(ask, method, request),
     }
 }
 

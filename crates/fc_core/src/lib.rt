@@ -28,6 +28,7 @@ pub mod block;
 pub mod event;
 pub mod exchange_laws;
 pub mod front;
+pub mod heads;
 mod ids;
 pub mod laws;
 mod reply;
@@ -36,8 +37,9 @@ pub mod stage;
 pub mod task;
 mod text;
 
-pub use answer::{Answer, End};
+pub use answer::{Answer, End, Words};
 pub use block::BodyBlock;
 pub use event::Event;
 pub use front::{Answered, Delivered, Front, Heard, Responded};
+pub use heads::{Heads, head_word};
 pub use stage::{Stage, Task};

@@ -6,6 +6,7 @@ ghost use Rattle.coap_opts.specs.Replies.{reply_options};
 ghost use Rattle.coap_opts.specs.Values.{block_bytes};
 ghost use Rattle.coap_opts.specs.declared.number.TheConstants as option;
 ghost use Rattle.fc_core.specs.Blocks.{block2 as option_of};
+ghost use Rattle.fc_core.specs.Contents.{Listed, Valid};
 ghost use Rattle.fc_core.specs.Ends.{content_of};
 ghost use Rattle.fc_core.specs.Receiving.{told_by};
 ghost use Rattle.fc_core.specs.Replies as spec;
@@ -13,7 +14,7 @@ ghost use Rattle.fc_core.specs.Replies.{IsReplyTo, envelope_of, reset_of, sent_i
 
 use crate::answer::{Answer, End, Said};
 use crate::block::BodyBlock;
-use crate::text::{fault_line, receipt_line};
+use crate::text::{fault_line, link_lines, receipt_line};
 use coap_msg::{Code, Datagram, Emission, Endpoint, Message, MessageType, Outgoing, write};
 use coap_opts::{Block, Reply, ReplyOptions};
 use fc_registry::Job;
@@ -30,7 +31,7 @@ pub(crate) fn answer(job: &Job, id: u16, answer: &Answer, bytes: &mut Datagram)
             serial,
             ..
         } => ran(job, id, *code, block, *serial, bytes),
-        Said::Other(end) => ended(job, id, *end, bytes),
+        Said::Other(end) => ended(job, id, end, bytes),
     }
 }
 
@@ -82,27 +83,62 @@ fn block2(more: bool) -> Option<Block>
 }
 
 // That of a job that ran no program.
-fn ended(job: &Job, id: u16, end: End, bytes: &mut Datagram)
-    ensures { IsReplyTo job.now id (content_of end) (to_job job.now bytes.new) }
+fn ended(job: &Job, id: u16, end: &End, bytes: &mut Datagram)
+    ensures { IsReplyTo job.now id (content_of end.now) (to_job job.now bytes.new) }
 {
     match end {
-        End::Missing => text(job, id, Code::NOT_FOUND, &[], bytes),
+        End::Match(serial) => valid(job, id, *serial, bytes),
+        End::Missing | End::Told(None) => text(job, id, Code::NOT_FOUND, &[], bytes),
         End::Unavailable | End::Rejected(Refusal::NoMemory) => {
             text(job, id, Code::SERVICE_UNAVAILABLE, &[], bytes);
         }
         End::Made(receipt, true) => {
-            let line = receipt_line(&receipt);
+            let line = receipt_line(receipt);
             text(job, id, Code::CREATED, line.as_slice(), bytes);
         }
         End::Made(receipt, false) => {
-            let line = receipt_line(&receipt);
+            let line = receipt_line(receipt);
             text(job, id, Code::CHANGED, line.as_slice(), bytes);
         }
         End::Rejected(Refusal::Broken(fault)) => {
-            let line = fault_line(&fault);
+            let line = fault_line(fault);
             text(job, id, Code::BAD_REQUEST, line.as_slice(), bytes);
         }
+        End::Removed => text(job, id, Code::DELETED, &[], bytes),
+        End::Told(Some(receipt)) => {
+            let line = receipt_line(receipt);
+            text(job, id, Code::CONTENT, line.as_slice(), bytes);
+        }
+        End::Core(words) => links(job, id, words.as_slice(), bytes),
     }
+}
+
+// A 2.03 Valid: the serial of the slot, as the ETag of the answer that the client has.
+fn valid(job: &Job, id: u16, serial: u64, bytes: &mut Datagram)
+    ensures { IsReplyTo job.now id (Valid serial) (to_job job.now bytes.new) }
+{
+    let options = ReplyOptions {
+        etag: Some(serial),
+        ..ReplyOptions::default()
+    };
+    reply(job, id, Code::VALID, options, &[], bytes);
+}
+
+// The format of links (RFC 6690, 7.4).
+const LINK_FORMAT: u16 = 40;
+
+// A 2.05 Content: the links of the slots that have a program, by their head words.
+fn links(job: &Job, id: u16, words: &[u64], bytes: &mut Datagram)
+    requires { length words.now ≤ 64 }
+    ensures { IsReplyTo job.now id (Listed words.now) (to_job job.now bytes.new) }
+{
+    let lines = link_lines(words);
+    let options = ReplyOptions {
+        content_format: Some(LINK_FORMAT),
+        ..ReplyOptions::default()
+    };
+    let first = 1.min(lines.len());
+    reply(job, id, Code::CONTENT, options, &lines[first..], bytes);
 }
 
 // That of a code and a payload.

@@ -1,18 +1,26 @@
 //! Where jobs stand.
-use crate::answer::Answer;
+use crate::answer::{Answer, Words};
 use fc_registry::{Job, Ticket};
 
 /// Where a job stands: what it needs next.
 #[derive(Drop)]
 pub enum Stage {
+    /// A look at its slot's head word, which may answer it without a run.
+    ToMatch,
     /// A taking, after this many before it.
     ToTake(u8),
     /// The commit of this ticket; the number counts the takings so far.
     ToCommit(u8, Ticket),
     /// The install of its image.
     ToInstall,
-    /// Publish the new serial of its slot, then send this answer.
-    ToRaise(Answer),
+    /// The removal of its slot's program.
+    ToRemove,
+    /// The receipt of its slot's program.
+    ToDescribe,
+    /// A look at the head word of the slot after those of these words.
+    ToList(Words),
+    /// Raise the head word of its slot to this one, then send this answer.
+    ToRaise(u64, Answer),
     /// This answer.
     ToAnswer(Answer),
     /// Nothing: it was answered or lost, or it never came.

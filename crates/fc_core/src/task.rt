@@ -1,22 +1,27 @@
 //! Jobs at work: what each event does to a job, its slot and its shard.
-ghost use Rattle.std.specs.Prelude.{◌≡◌, ◌<◌, false, IfOk, OnOk, IsErr};
+ghost use Rattle.std.specs.Prelude.{◌≡◌, ℕ, ◌<◌, ◌∷◌, ◌++◌, ◌==◌, [], List, length, false, IfOk, OnOk, IsErr};
 ghost use Rattle.fc_verify.specs.Accepted.{Accepts};
 ghost use Rattle.fc_verify.specs.Judged.{judged};
 ghost use Rattle.fc_registry.specs.Slots.{Slot, IsOwned, slot_in};
-ghost use Rattle.fc_core.specs.Contents.{AreDone, Missing as Misses, Unavailable};
+ghost use Rattle.fc_core.specs.Contents.{AreDone, IsMadeBelow, IsRemovedBelow, Missing as Misses, Unavailable};
 ghost use Rattle.fc_core.specs.Ends.{refused};
-ghost use Rattle.fc_core.specs.Fits.{FitsStage};
+ghost use Rattle.fc_core.specs.Fits.{FitsStage, HasNext};
+ghost use Rattle.fc_core.specs.Heads.{word_at};
 ghost use Rattle.fc_core.specs.Sound.{AllSafe};
-ghost use Rattle.fc_registry.specs.Calls.{HasGiven};
+ghost use Rattle.fc_registry.specs.Calls.{HasGiven, receipt_of};
 ghost use Rattle.fc_core.specs.Stages as rows;
-ghost use Rattle.fc_core.specs.Stages.{at_answer, at_commit, at_install, at_raise, at_take, commit_move, content_at, first_stage, image_of, installed, task_moved, new_task, receipt_of, scene_at, scene_of, shard_after, shard_moved};
+ghost use Rattle.fc_core.specs.Stages.{at_answer, at_commit, at_install, at_peek, at_raise, at_receipt, at_remove, at_take, commit_move, content_at, first_stage, image_of, installed, peeked_next, peeked_own, task_moved, new_task, scene_at, scene_of, shard_after, shard_moved, words_after};
 
-use crate::answer::{Answer, End};
+use crate::answer::{Answer, End, Words};
 use crate::front::blank_job;
+use crate::heads::{Heads, WORDS, head_word, is_present, serial_in};
 use crate::stage::{Stage, Task};
 use fc_isa::Fault;
 use fc_machine::{Frame, Outcome, run};
-use fc_registry::{Ask, Committed, Job, Made, Receipt, Shard, SlotNumber, Taken, Ticket};
+use arrayvec::ArrayVec;
+use fc_registry::{
+    Ask, Committed, Job, Made, Receipt, Removal, Shard, SlotNumber, Taken, Ticket,
+};
 use fc_verify::{Refusal, Verified, verify};
 use std::alloc::{AllocError, Global};
 use std::mem;
@@ -32,8 +37,39 @@ impl Stage {
         ensures { result ≡ first_stage job.now }
     {
         match &job.ask {
-            Ask::Run(_) => Stage::ToTake(0),
+            Ask::Run(_) if job.etags.is_empty() => Stage::ToTake(0),
+            Ask::Run(_) => Stage::ToMatch,
             Ask::Install(_) => Stage::ToInstall,
+            Ask::Remove => Stage::ToRemove,
+            Ask::Describe => Stage::ToDescribe,
+            Ask::Discover => Stage::ToList(ArrayVec::new()),
+        }
+    }
+
+    /// After a look at the head word of a run's slot: where it is that of a program at a serial of which the client has the
+    /// answer, that is said, and there is no run.
+    pub fn matched(job: &Job, word: u64) -> Stage
+        ensures { result ≡ rows.matched word job.now.etags.items }
+    {
+        let serial = serial_in(word);
+        if is_present(word) && job.etags.as_slice().contains(&serial) {
+            Stage::ToAnswer(Answer::other(End::Match(serial)))
+        } else {
+            Stage::ToTake(0)
+        }
+    }
+
+    /// After a look at one more head word, of fewer than 64 slots before.
+    pub fn listed(seen: Words, word: u64) -> Stage
+        requires { length seen.items < 64 }
+        ensures { result ≡ rows.listed (seen.items ++ word ∷ []) }
+    {
+        let mut words = seen;
+        let _fits = words.try_push(word);
+        if words.len() < WORDS {
+            Stage::ToList(words)
+        } else {
+            Stage::ToAnswer(Answer::other(End::Core(words)))
         }
     }
 
@@ -63,9 +99,10 @@ impl Stage {
         match committed {
             Committed::Done(mark) => {
                 let changed = mark.changed();
+                let serial = mark.serial();
                 let answer = Answer::ran(outcome, ticket, mark);
                 if changed {
-                    Stage::ToRaise(answer)
+                    Stage::ToRaise(head_word(serial, true), answer)
                 } else {
                     Stage::ToAnswer(answer)
                 }
@@ -77,6 +114,7 @@ impl Stage {
 
     /// After an install, whose receipt is still without its version.
     pub fn made(receipt: Receipt, made: Made) -> Stage
+        requires { IsMadeBelow made }
         ensures { result ≡ rows.made receipt made }
     {
         match made {
@@ -85,10 +123,32 @@ impl Stage {
                     version: serial,
                     ..receipt
                 };
-                Stage::ToRaise(Answer::other(End::Made(receipt, created)))
+                let word = head_word(serial, true);
+                Stage::ToRaise(word, Answer::other(End::Made(receipt, created)))
             }
             Made::AtEnd => Stage::unavailable(),
         }
+    }
+
+    /// After a removal.
+    pub fn removed(removal: Removal) -> Stage
+        requires { IsRemovedBelow removal }
+        ensures { result ≡ rows.removed removal }
+    {
+        match removal {
+            Removal::Removed { serial } => {
+                Stage::ToRaise(head_word(serial, false), Answer::other(End::Removed))
+            }
+            Removal::Absent => Stage::ToAnswer(Answer::other(End::Removed)),
+            Removal::AtEnd => Stage::unavailable(),
+        }
+    }
+
+    /// After a receipt, or none.
+    pub fn told(receipt: Option<Receipt>) -> Stage
+        ensures { result ≡ Stage.ToAnswer (rows.told receipt) }
+    {
+        Stage::ToAnswer(Answer::other(End::Told(receipt)))
     }
 
     /// After an image was refused by a rule.
@@ -113,18 +173,6 @@ impl Stage {
     }
 }
 
-/// The receipt of a program, still without its version.
-pub fn receipt_of(program: &Verified) -> Receipt
-    ensures { result ≡ receipt_of program.now }
-{
-    Receipt {
-        version: 0,
-        cost: program.cost(),
-        budget: program.budget(),
-        vars: program.vars_size(),
-    }
-}
-
 impl Task {
     /// A job at its first stage.
     pub fn new(job: Job) -> Task
@@ -145,9 +193,18 @@ impl Task {
     pub fn begin(&mut self)
         ensures { self.new ≡ new_task self.old.job }
     {
-        match &self.job.ask {
-            Ask::Run(_) => self.stage = Stage::ToTake(0),
-            Ask::Install(_) => self.stage = Stage::ToInstall,
+        self.stage = Stage::first(&self.job);
+    }
+
+    /// Looks at the head word of a slot.
+    pub fn peek(&mut self, slot: u8, heads: &Heads)
+        requires { HasNext self.old.stage }
+        ensures { (x : Slot) → self.new ≡ task_moved self.old (at_peek slot (scene_at self.old x heads.now) self.old.stage) }
+    {
+        match self.leave() {
+            Stage::ToMatch => self.stage = look_own(&self.job, slot, heads),
+            Stage::ToList(seen) => self.stage = look_next(seen, slot, heads),
+            other => self.stage = other,
         }
     }
 
@@ -155,7 +212,7 @@ impl Task {
     pub fn take(&mut self, shard: &mut Shard) -> bool
         requires owned { IsOwned shard.old self.old.job.origin.slot }
         requires fits { FitsStage self.old.job (slot_in shard.old self.old.job.origin.slot) self.old.stage }
-        ensures task { self.new ≡ task_moved self.old (at_take result (scene_of shard.old self.old) self.old.stage) }
+        ensures task { (words : List ℕ) → self.new ≡ task_moved self.old (at_take result (scene_of shard.old words self.old) self.old.stage) }
         ensures shard { shard.new ≡ shard.old }
     {
         let Stage::ToTake(count) = self.stage else {
@@ -181,7 +238,7 @@ impl Task {
     pub fn refuse_take(&mut self, shard: &mut Shard)
         requires owned { IsOwned shard.old self.old.job.origin.slot }
         requires fits { FitsStage self.old.job (slot_in shard.old self.old.job.origin.slot) self.old.stage }
-        ensures task { self.new ≡ task_moved self.old (at_take false (scene_of shard.old self.old) self.old.stage) }
+        ensures task { (words : List ℕ) → self.new ≡ task_moved self.old (at_take false (scene_of shard.old words self.old) self.old.stage) }
         ensures shard { shard.new ≡ shard.old }
     {
         match self.leave() {
@@ -200,8 +257,8 @@ impl Task {
     pub fn commit(&mut self, frame: &mut Frame, shard: &mut Shard, now: u64)
         requires owned { IsOwned shard.old self.old.job.origin.slot }
         requires fits { FitsStage self.old.job (slot_in shard.old self.old.job.origin.slot) self.old.stage }
-        ensures task { self.new ≡ task_moved self.old (at_commit now (scene_of shard.old self.old) self.old.stage) }
-        ensures shard { shard.new ≡ shard_after (at_commit now (scene_of shard.old self.old) self.old.stage) self.old shard.old }
+        ensures task { (words : List ℕ) → self.new ≡ task_moved self.old (at_commit now (scene_of shard.old words self.old) self.old.stage) }
+        ensures shard { (words : List ℕ) → shard.new ≡ shard_after (at_commit now (scene_of shard.old words self.old) self.old.stage) self.old shard.old }
     {
         let Stage::ToCommit(count, ticket) = &self.stage else {
             return;
@@ -209,13 +266,35 @@ impl Task {
         self.stage = run_and_commit(frame, *count, ticket, shard, now);
     }
 
+    /// Removes its slot's program at its shard.
+    pub fn remove(&mut self, shard: &mut Shard)
+        requires { IsOwned shard.old self.old.job.origin.slot }
+        ensures task { (words : List ℕ) → self.new ≡ task_moved self.old (at_remove (scene_of shard.old words self.old) self.old.stage) }
+        ensures shard { (words : List ℕ) → shard.new ≡ shard_after (at_remove (scene_of shard.old words self.old) self.old.stage) self.old shard.old }
+    {
+        match self.leave() {
+            Stage::ToRemove => self.stage = Stage::removed(shard.remove(self.job.origin.slot)),
+            other => self.stage = other,
+        }
+    }
+
+    /// Asks its shard what its slot's program is.
+    pub fn describe(&mut self, shard: &Shard)
+        ensures { (words : List ℕ) → self.new ≡ task_moved self.old (at_receipt (scene_of shard.now words self.old) self.old.stage) }
+    {
+        match self.leave() {
+            Stage::ToDescribe => self.stage = Stage::told(shard.receipt(self.job.origin.slot)),
+            other => self.stage = other,
+        }
+    }
+
     /// Verifies its image, and installs the program at its shard. Tells whether there was memory: where there was none, no
     /// slot changes, and it is answered 5.03.
     pub fn install(&mut self, alloc: Global, shard: &mut Shard) -> bool
         requires { IsOwned shard.old self.old.job.origin.slot }
-        ensures task { self.new ≡ task_moved self.old (at_install result (scene_of shard.old self.old) self.old.stage) }
-        ensures shard { shard.new ≡ shard_after (at_install result (scene_of shard.old self.old) self.old.stage) self.old shard.old }
-        ensures safe { AllSafe (at_install result (scene_of shard.old self.old) self.old.stage).changes }
+        ensures task { (words : List ℕ) → self.new ≡ task_moved self.old (at_install result (scene_of shard.old words self.old) self.old.stage) }
+        ensures shard { (words : List ℕ) → shard.new ≡ shard_after (at_install result (scene_of shard.old words self.old) self.old.stage) self.old shard.old }
+        ensures safe { (words : List ℕ) → AllSafe (at_install result (scene_of shard.old words self.old) self.old.stage).changes }
     {
         match self.leave() {
             Stage::ToInstall => {
@@ -240,7 +319,7 @@ impl Task {
 
     /// Installs without memory.
     pub fn refuse_install(&mut self)
-        ensures { (slot : Slot) → self.new ≡ task_moved self.old (at_install false (scene_at self.old slot) self.old.stage) }
+        ensures { (slot : Slot) (words : List ℕ) → self.new ≡ task_moved self.old (at_install false (scene_at self.old slot words) self.old.stage) }
     {
         match self.leave() {
             Stage::ToInstall => self.stage = Stage::unavailable(),
@@ -248,12 +327,17 @@ impl Task {
         }
     }
 
-    /// Publishes the new serial of its slot.
-    pub fn raise(&mut self)
-        ensures { self.new ≡ task_moved self.old (at_raise self.old.stage) }
+    /// Publishes the new head word of its slot.
+    pub fn raise(&mut self, heads: &mut Heads)
+        ensures task { self.new ≡ task_moved self.old (at_raise self.old.stage) }
+        ensures words { heads.new ≡ words_after (at_raise self.old.stage) self.old heads.old }
     {
-        if matches!(&self.stage, Stage::ToRaise(_)) {
-            self.stage = published(self.leave());
+        match self.leave() {
+            Stage::ToRaise(word, answer) => {
+                heads.raise(self.job.origin.slot, word);
+                self.stage = Stage::ToAnswer(answer);
+            }
+            other => self.stage = other,
         }
     }
 
@@ -287,23 +371,36 @@ impl Task {
     }
 }
 
-// A stage, after the new serial was published.
-fn published(stage: Stage) -> Stage
-    ensures { result ≡ (at_raise stage).stage }
+// Where a run's job looks at its own slot's head word, and at no other's.
+fn look_own(job: &Job, slot: u8, heads: &Heads) -> Stage
+    ensures { result ≡ peeked_own (slot == job.now.origin.slot) (word_at heads.now slot) job.now.etags.items }
 {
-    match stage {
-        Stage::ToRaise(answer) => Stage::ToAnswer(answer),
-        other => other,
+    if slot == job.origin.slot.number() {
+        Stage::matched(job, heads.peek(job.origin.slot))
+    } else {
+        Stage::ToMatch
     }
 }
 
-/// The image that a job asks to install; no bytes where it asks for a run.
+// Where the head words are listed, each in its turn.
+fn look_next(seen: Words, slot: u8, heads: &Heads) -> Stage
+    requires { length seen.items < 64 }
+    ensures { result ≡ peeked_next (slot == length seen.items) (word_at heads.now slot) seen }
+{
+    if usize::from(slot) == seen.len() {
+        Stage::listed(seen, heads.peek(SlotNumber::new(slot)))
+    } else {
+        Stage::ToList(seen)
+    }
+}
+
+/// The image that a job asks to install; no bytes where it asks for something else.
 pub fn image(ask: &Ask) -> &[u8]
     ensures { result.now ≡ image_of ask.now }
 {
     match ask {
         Ask::Install(image) => image.as_slice(),
-        Ask::Run(_) => &[],
+        _ => &[],
     }
 }
 
@@ -355,7 +452,7 @@ fn install_program(
     ensures shard { OnOk result (shard.new ≡ shard_moved (installed (Accepts program) (slot_in shard.old slot)) slot shard.old) }
     ensures refused { IsErr result → shard.new ≡ shard.old }
 {
-    let receipt = receipt_of(&program);
+    let receipt = Receipt::of(&program, 0);
     let program = Arc::new(alloc, program)?;
     Ok(Stage::made(receipt, shard.install(slot, program)))
 }

@@ -1,9 +1,11 @@
 //! The texts of replies.
-ghost use Rattle.std.specs.Prelude.{◌≡◌, ◌+◌, ◌≤◌, ◌++◌, length};
+ghost use Rattle.std.specs.Prelude.{◌≡◌, ◌+◌, ◌<◌, ◌≤◌, ◌++◌, length};
 ghost use Rattle.std.specs.Fmt.{decimal};
 ghost use Rattle.fc_isa.specs.Rules.{number_of, fault_text};
 ghost use Rattle.fc_registry.specs.Receipts.{receipt_text};
+ghost use Rattle.fc_core.specs.Links.{link, links_from};
 
+use crate::heads::is_present;
 use arrayvec::ArrayVec;
 use fc_isa::Fault;
 use fc_registry::Receipt;
@@ -75,5 +77,37 @@ pub(crate) fn receipt_line(receipt: &Receipt) -> Text
     push_decimal(&mut text, u64::from(receipt.budget));
     push_bytes(&mut text, b" vars=");
     push_decimal(&mut text, u64::from(receipt.vars));
+    text
+}
+
+// The most bytes of the links: 64 times a comma, `</r/`, two digits and `>;obs`.
+pub(crate) const LINKS: usize = 1024;
+
+// The links of the slots that have a program, each after a comma.
+pub(crate) fn link_lines(words: &[u64]) -> ArrayVec<u8, LINKS>
+    requires { length words.now ≤ 64 }
+    ensures text { result.items ≡ links_from 0 words.now }
+    ensures short { length result.items ≤ 1024 }
+{
+    let mut links = ArrayVec::new();
+    for (slot, word) in words.iter().enumerate() {
+        if is_present(*word) {
+            let line = link_line(slot as u64);
+            let _fits = links.try_extend_from_slice(line.as_slice());
+        }
+    }
+    links
+}
+
+// The link of a slot's resource, after a comma.
+fn link_line(slot: u64) -> Text
+    requires { slot < 64 }
+    ensures text { result.items ≡ link slot }
+    ensures short { length result.items ≤ 16 }
+{
+    let mut text = ArrayVec::new();
+    push_bytes(&mut text, b",</r/");
+    push_decimal(&mut text, slot);
+    push_bytes(&mut text, b">;obs");
     text
 }

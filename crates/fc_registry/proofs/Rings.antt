@@ -1,5 +1,5 @@
 -- The ring of a slot after a change.
-use Rattle.std.proofs.Common.{◌≡◌, ℕ, ◌+◌, ◌-◌, ◌<◌, ◌≤◌, List, [], ◌∷◌, ◌++◌, length, map, set, get_or, drop, replicate, Bool, true, false, if◌then◌else◌, Option, Some, refl, sym, ap, ◌∙◌, subst, arith, ⊎_elim, length-append}
+use Rattle.std.proofs.Common.{◌≡◌, ℕ, ◌+◌, ◌-◌, ◌<◌, ◌≤◌, List, [], ◌∷◌, ◌++◌, length, map, set, get_or, drop, replicate, Bool, true, false, if◌then◌else◌, Option, Some, None, refl, sym, ap, ◌∙◌, subst, arith, ⊎_elim, length-append}
 use Rattle.std.specs.Prelude.{nat_lt, ◌==◌, ◌&&◌}
 use Rattle.std.specs.List.{All}
 use Rattle.std.proofs.lemmas.Bool.{cases_lt, cases_eq, eqb-true}
@@ -15,7 +15,7 @@ use Rattle.fc_registry.specs.declared.commit.CommitOutcome.{CommitOutcome}
 use Rattle.fc_registry.specs.declared.commit.CommitOutcome.TheVariants.{Writes, Keeps, Overtakes, Ends}
 use Rattle.fc_help.specs.declared.request.Method.{Method}
 use Rattle.fc_help.specs.declared.request.Method.TheVariants.{Get, Post}
-use Rattle.fc_registry.specs.Calls.{IsCommit, IsOwnCommit, ComesTo, IsCurrent, commit_of, commits, is_post, wants, meaning_at, install_in, put_by}
+use Rattle.fc_registry.specs.Calls.{IsCommit, IsOwnCommit, ComesTo, IsCurrent, commit_of, commits, is_post, wants, meaning_at, clear_by, install_in, put_by, remove_from}
 use Rattle.fc_registry.specs.declared.ring.Entry.{Entry}
 use Rattle.fc_registry.specs.Slots.{Slot, Present, Ticket, new_slot, last_serial}
 use Rattle.fc_registry.specs.Changes.{Change, Installed, Committed, Removed, Commit, after_changes, changed, with_vars, entry_of}
@@ -152,6 +152,14 @@ put_ring_by slot p false h = h
 
 pub ring_put : (slot : Slot) (p : Program) → IsRing slot → IsRing (after_changes slot (install_in slot p).changes)
 ring_put slot p h = put_ring_by slot p (nat_lt slot.serial last_serial) h
+
+clear_ring_by : (slot : Slot) (b : Bool) (p : Option Present) → IsRing slot → IsRing (after_changes slot (clear_by b slot.serial p).changes)
+clear_ring_by slot b None h = h
+clear_ring_by slot true (Some p) h = refl
+clear_ring_by slot false (Some p) h = h
+
+pub ring_clear : (slot : Slot) → IsRing slot → IsRing (after_changes slot (remove_from slot).changes)
+ring_clear slot h = clear_ring_by slot (nat_lt slot.serial last_serial) slot.present h
 
 -- each slot of a list, after one of them was written
 pub all_written : (items : List SlotState) (k : ℕ) (t : SlotState) → All (λ x. IsRing (as_seen x)) items → IsRing (as_seen t) → All (λ x. IsRing (as_seen x)) (set items k t)

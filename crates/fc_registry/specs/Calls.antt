@@ -6,18 +6,21 @@ use Rattle.fc_help.specs.declared.request.Method.TheVariants.{Get, Post}
 use Rattle.fc_kinds.specs.Meaning.{Program, Input, input_with, Meaning}
 use Rattle.fc_machine.specs.Ran.{Ran, meaning_of}
 use Rattle.fc_registry.specs.declared.job.Ask.{Ask}
-use Rattle.fc_registry.specs.declared.job.Ask.TheVariants.{Run, Install}
+use Rattle.fc_registry.specs.declared.job.Ask.TheVariants.{Run}
 use Rattle.fc_registry.specs.declared.job.Job.{Job}
 use Rattle.fc_registry.specs.declared.shard.Taken.{Taken}
 use Rattle.fc_registry.specs.declared.shard.Taken.TheVariants.{Given, Missing, Refused}
 use Rattle.fc_registry.specs.declared.shard.Made.{Made}
 use Rattle.fc_registry.specs.declared.shard.Made.TheVariants.{Raised, AtEnd}
+use Rattle.fc_registry.specs.declared.shard.Removal.{Removal}
+use Rattle.fc_registry.specs.declared.shard.Removal.TheVariants as removals
+use Rattle.fc_registry.specs.declared.receipt.Receipt.{Receipt}
 use Rattle.fc_registry.specs.declared.commit.CommitOutcome.{CommitOutcome}
 use Rattle.fc_registry.specs.declared.commit.CommitOutcome.TheVariants.{Writes, Keeps, Overtakes, Ends}
 use Rattle.fc_registry.specs.declared.commit.Committed.{Committed}
 use Rattle.fc_registry.specs.declared.commit.Committed.TheVariants.{Done, Overtaken, Ended, Stranger}
 use Rattle.fc_registry.specs.Slots.{Slot, Shard, Present, Ticket, Mark, slot_in, with_slot, last_serial}
-use Rattle.fc_registry.specs.Changes.{Change, Installed, Committed as Wrote, Commit, after_changes}
+use Rattle.fc_registry.specs.Changes.{Change, Installed, Committed as Wrote, Removed, Commit, after_changes}
 use Rattle.fc_registry.specs.Record.{code_class}
 
 -- ---- take
@@ -25,7 +28,7 @@ use Rattle.fc_registry.specs.Record.{code_class}
 -- the request that a job asks a program to answer; a job that asks for no run has an empty one
 abbrev pub request_of : Ask → Request
 request_of (Run request) = request
-request_of (Install image) = no_request
+request_of other = no_request
 
 -- a ticket of what a slot holds at a serial
 abbrev pub ticket_of : Job → ℕ → Present → Ticket
@@ -55,6 +58,27 @@ put_by false slot p = record { answer = AtEnd; changes = [] }
 
 abbrev pub install_in : Slot → Program → Called Made
 install_in slot p = put_by (nat_lt slot.serial last_serial) slot p
+
+-- ---- remove
+
+-- below the last serial the removal of a program is a change, and tells the new serial; an empty slot stays as it is
+abbrev pub clear_by : Bool → ℕ → Option Present → Called Removal
+clear_by below serial None = record { answer = removals.Absent; changes = [] }
+clear_by true serial (Some p) = record { answer = removals.Removed (serial + 1); changes = Removed ∷ [] }
+clear_by false serial (Some p) = record { answer = removals.AtEnd; changes = [] }
+
+abbrev pub remove_from : Slot → Called Removal
+remove_from slot = clear_by (nat_lt slot.serial last_serial) slot.serial slot.present
+
+-- ---- receipt
+
+-- what is told of a program whose install has this serial
+abbrev pub receipt_of : Program → ℕ → Receipt
+receipt_of p version = record { version = version; cost = p.cost; budget = p.budget; vars = p.vars_size }
+
+abbrev pub receipt_at : Option Present → Option Receipt
+receipt_at None = None
+receipt_at (Some p) = Some (receipt_of p.program p.version)
 
 -- ---- commit
 

@@ -2,6 +2,7 @@
 use crate::slot_number::SlotNumber;
 use arrayvec::ArrayVec;
 use coap_msg::{Endpoint, Token};
+use coap_opts::request::ETAGS;
 use fc_help::Request;
 
 /// An opened exchange: its number, counted from 0, and the moment at which it was opened, in milliseconds.
@@ -26,13 +27,19 @@ pub const IMAGE: usize = 4112;
 /// The bytes of an image.
 pub type Image = ArrayVec<u8, IMAGE>;
 
-/// What a job is to do with its slot.
+/// What a job is to do.
 #[derive(Drop)]
 pub enum Ask {
     /// Answer a request by the slot's program.
     Run(Request),
-    /// Install the program of an image.
+    /// Install the program of an image in the slot.
     Install(Image),
+    /// Remove the slot's program.
+    Remove,
+    /// Tell what the slot's program is.
+    Describe,
+    /// List the slots that have a program (RFC 6690, 4).
+    Discover,
 }
 
 /// A job: a request that was opened and is to be answered.
@@ -42,5 +49,7 @@ pub struct Job {
     /// Whether its request is confirmable.
     pub confirmable: bool,
     pub token: Token,
+    /// The serials that a GET names as ETags: its client has the answers of these (RFC 7252, 5.10.6.2).
+    pub etags: ArrayVec<u64, ETAGS>,
     pub ask: Ask,
 }

@@ -38,7 +38,7 @@ pub use commit::{CommitOutcome, Committed};
 pub use job::{Ask, Image, Job, Opening, Origin};
 pub use receipt::Receipt;
 pub use ring::Entry;
-pub use shard::{LAST_SERIAL, Made, Shard, Taken};
+pub use shard::{LAST_SERIAL, Made, Removal, Shard, Taken};
 pub use shards::make_shards;
 pub use slot_number::{SHARDS, SLOTS, SlotNumber};
 pub use ticket::{Mark, Ticket};

@@ -1,15 +1,16 @@
 //! Shards of slots.
-ghost use Rattle.std.specs.Prelude.{◌≡◌, ℕ, ◌+◌, ◌<◌, ◌≤◌, ◌↔◌, true, length, replicate, IfOk, IsTrue};
+ghost use Rattle.std.specs.Prelude.{◌≡◌, ℕ, ◌+◌, ◌<◌, ◌≤◌, ◌↔◌, [], true, length, replicate, IfOk, IsTrue};
 ghost use Rattle.fc_machine.specs.Ran.{meaning_of};
 ghost use Rattle.fc_registry.specs.Slots.{IsOwned, slot_in, with_slot, new_slot, last_serial, version_in, vars_in};
 ghost use Rattle.fc_registry.specs.Changes.{after_changes};
-ghost use Rattle.fc_registry.specs.Calls.{IsTaking, CommitsTo, IsCommit, ComesTo, IsOwn, IsCurrent, commits, is_post, mark_of, install_in, request_of, wants_by};
-ghost use Rattle.fc_registry.specs.Views.{as_seen};
+ghost use Rattle.fc_registry.specs.Calls.{IsTaking, CommitsTo, IsCommit, ComesTo, IsOwn, IsCurrent, commits, is_post, mark_of, install_in, receipt_at, remove_from, request_of, wants_by};
+ghost use Rattle.fc_registry.specs.Views.{as_seen, present_of};
 ghost use Rattle.fc_registry.specs.Record.{IsRing};
 
 use crate::body::Body;
 use crate::commit::{CommitOutcome, Committed};
 use crate::job::{Ask, Job};
+use crate::receipt::Receipt;
 use crate::ring::{Entry, Ring};
 use crate::slot_number::{SHARDS, SlotNumber};
 use crate::ticket::{Mark, Ticket};
@@ -74,6 +75,17 @@ pub enum Made {
     AtEnd,
 }
 
+/// What a removal answers.
+#[derive(Clone, Copy, Debug, PartialEq, Eq)]
+pub enum Removal {
+    /// The program is gone; the slot's new serial.
+    Removed { serial: u64 },
+    /// The slot was empty; nothing changed.
+    Absent,
+    /// The slot's serials are at their end; nothing changed.
+    AtEnd,
+}
+
 impl Shard {
     /// A shard of empty slots, each at this serial.
     ///
@@ -129,6 +141,26 @@ impl Shard {
         install(state, program)
     }
 
+    /// Removes the program of a slot, with its variables and its ring. An empty slot stays as it is, and answers `Absent`; at
+    /// the last serial a program stays, and the answer is `AtEnd`.
+    pub fn remove(&mut self, slot: SlotNumber) -> Removal
+        requires { IsOwned self.old slot }
+        ensures answer { result ≡ (remove_from (slot_in self.old slot)).answer }
+        ensures slots { self.new ≡ with_slot self.old slot
+            (after_changes (slot_in self.old slot) (remove_from (slot_in self.old slot)).changes) }
+    {
+        let state = &mut self.slots[slot.place()];
+        clear(state)
+    }
+
+    /// What the program in a slot is, where it has one.
+    pub fn receipt(&self, slot: SlotNumber) -> Option<Receipt>
+        ensures { result ≡ receipt_at (slot_in self.entry.now slot).present }
+    {
+        let state = &self.slots[slot.place()];
+        receipt_in(state)
+    }
+
     /// The serial of a slot of this shard. A slot that isn't is read as the one that stands at its place here.
     pub fn serial(&self, slot: SlotNumber) -> u64
         ensures { result ≡ (slot_in self.entry.now slot).serial }
@@ -137,8 +169,8 @@ impl Shard {
         serial_of(state)
     }
 
-    /// The serial of the last change of a slot of this shard that observers are told of: an install, or a commit whose run
-    /// gave a notice. It is the first serial before any.
+    /// The serial of the last change of a slot of this shard that observers are told of: an install, a removal, or a commit
+    /// whose run gave a notice. It is the first serial before any.
     pub fn noticed(&self, slot: SlotNumber) -> u64
         ensures { result ≡ (slot_in self.entry.now slot).noticed }
     {
@@ -239,7 +271,7 @@ fn request_of(ask: &Ask) -> Request
 {
     match ask {
         Ask::Run(request) => request.copy(),
-        Ask::Install(_) => Request::new(Method::Get, 0, None, &[], &[]),
+        _ => Request::new(Method::Get, 0, None, &[], &[]),
     }
 }
 
@@ -254,15 +286,49 @@ fn install(slot: &mut SlotState, program: Arc<Verified>) -> Made
     let created = slot.body.is_none();
     let vars = Vars::zeros(program.vars_size());
     let serial = slot.serial + 1;
-    slot.serial = serial;
-    slot.noticed = serial;
-    slot.ring.clear();
-    slot.body = Some(Body {
+    let body = Body {
         program,
         version: serial,
         vars,
-    });
+    };
+    put(slot, serial, Some(body));
     Made::Raised { serial, created }
+}
+
+// Puts a program with its variables, or none, in a slot, at a serial that observers are told of. The ring begins anew.
+fn put(slot: &mut SlotState, serial: u64, body: Option<Body>)
+    ensures { as_seen slot.new ≡ record { serial = serial; noticed = serial; present = present_of body; ring = [] } }
+{
+    slot.serial = serial;
+    slot.noticed = serial;
+    slot.ring.clear();
+    slot.body = body;
+}
+
+// Removes the program of a slot.
+fn clear(slot: &mut SlotState) -> Removal
+    ensures answer { result ≡ (remove_from (as_seen slot.old)).answer }
+    ensures slot { as_seen slot.new ≡ after_changes (as_seen slot.old) (remove_from (as_seen slot.old)).changes }
+{
+    if slot.body.is_none() {
+        return Removal::Absent;
+    }
+    if slot.serial >= LAST_SERIAL {
+        return Removal::AtEnd;
+    }
+    let serial = slot.serial + 1;
+    put(slot, serial, None);
+    Removal::Removed { serial }
+}
+
+// What the program in a slot is.
+fn receipt_in(slot: &SlotState) -> Option<Receipt>
+    ensures { result ≡ receipt_at (as_seen slot.now).present }
+{
+    match &slot.body {
+        None => None,
+        Some(body) => Some(Receipt::of(&body.program, body.version)),
+    }
 }
 
 // Whether the outcome is of the ticket's program, request and variables, and the ticket's serial isn't above the slot's.

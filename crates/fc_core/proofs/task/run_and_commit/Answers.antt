@@ -4,7 +4,7 @@ use Rattle.fc_registry.specs.declared.commit.Committed.{Committed}
 use Rattle.fc_machine.specs.Ran.{Ran}
 use Rattle.fc_registry.specs.Calls.{outcome}
 use Rattle.fc_core.specs.Stages.{after_commit}
-use Rattle.fc_core.proofs.Commits.{IsRow, commit_done, commit_row, shard_of_row, stage_of_row}
+use Rattle.fc_core.proofs.Commits.{IsRow, commit_done, commit_row, shard_of_row, stage_of_row, writes_at}
 use Rattle.fc_core.proofs.task.run_and_commit.Goals as goal
 
 pub committed-requires : goal.committed-requires
@@ -24,7 +24,7 @@ row c =
 pub returns-clause-stage : goal.returns-clause-stage
 returns-clause-stage c =
     let slot = slot_in c.args.shard.now c.args.ticket.now.origin.slot in
-    c.committed.ensures ∙ (ap (λ (x : Committed). after_commit c.args.count c.args.ticket.now x) (row c).answer ∙ stage_of_row (outcome c.args.ticket.now slot) c.args.count c.args.ticket.now c.args.now slot.serial)
+    c.committed.ensures ∙ (ap (λ (x : Committed). after_commit c.args.count c.args.ticket.now x) (row c).answer ∙ stage_of_row (outcome c.args.ticket.now slot) c.args.count c.args.ticket.now c.args.now slot.serial (writes_at c.args.ticket.now slot))
 
 pub returns-clause-shard : goal.returns-clause-shard
 returns-clause-shard c =

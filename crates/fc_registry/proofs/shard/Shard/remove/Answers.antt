@@ -1,0 +1,32 @@
+use Rattle.std.proofs.Common.{◌≡◌, ℕ, ◌∙◌, ap, subst, sym}
+use Rattle.fc_registry.specs.Slots.{Slot, slot_in}
+use Rattle.fc_registry.specs.Changes.{after_changes}
+use Rattle.fc_registry.specs.Calls.{remove_from}
+use Rattle.fc_registry.specs.Record.{IsRing}
+use Rattle.fc_registry.specs.Views.{as_seen}
+use Rattle.fc_registry.proofs.Rings.{written_rings, ring_clear}
+use Rattle.fc_registry.proofs.Writes.{slot_read, slot_write, now_is, slot_in_place, written}
+use Rattle.fc_registry.proofs.shard.Shard.remove.Goals as goal
+
+-- the slot that was found is the one that is seen
+found : (c : goal.After-self-1) → as_seen c.index_mut-state.result.now ≡ slot_in c.args.self.now c.args.slot
+found c =
+    slot_read c.self.inside.index c.self.inside.now c.self.inside.slots.items c.args.self.now c.self.view_is c.self.invariant.0 c.place.result c.index_mut-state.result.now c.place.ensures.limit c.index_mut-state.ensures.value
+    ∙ ap (λ (j : ℕ). slot_in_place c.args.self.now j) c.place.ensures.place
+
+pub returns-clause-answer : goal.returns-clause-answer
+returns-clause-answer c = c.clear.ensures.answer ∙ ap (λ (s : Slot). (remove_from s).answer) (found c)
+
+pub returns-clause-slots : goal.returns-clause-slots
+returns-clause-slots c =
+    let in_ = c.self.inside in
+    slot_write in_.index in_.now in_.slots.items c.args.self.now c.self.view_is c.self.invariant.0 c.place.result in_.now c.args.self.now.now c.clear.new.slot _
+    (now_is in_.index in_.now in_.slots.items c.args.self.now c.self.view_is c.self.invariant.0)
+    (c.clear.ensures.slot ∙ ap (λ (s : Slot). after_changes s (remove_from s).changes) (found c))
+    ∙ ap (λ (j : ℕ). written c.args.self.now c.args.self.now.now j (after_changes (slot_in c.args.self.now c.args.slot) (remove_from (slot_in c.args.self.now c.args.slot)).changes)) c.place.ensures.place
+
+pub invariant_of-self : goal.invariant_of-self
+invariant_of-self c =
+    let was = c.index_mut-state.result.now in
+    written_rings c.self.inside.slots.items c.place.result was c.clear.new.slot c.self.invariant c.place.ensures.limit c.index_mut-state.ensures.value
+    (λ old. subst IsRing (sym c.clear.ensures.slot) (ring_clear (as_seen was) old))
