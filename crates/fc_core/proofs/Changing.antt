@@ -1,36 +1,38 @@
 -- A job changes its slot at most once, and then publishes its serial.
 use Rattle.std.proofs.Common.{◌≡◌, ℕ, ◌+◌, ◌-◌, ◌<◌, ◌≤◌, length, Bool, true, false, Option, Some, None, refl, sym, ap, ◌∙◌, subst, ◌⊎◌, inl, inr, ⊎_elim, arith, if◌then◌else◌, length-append}
-use Rattle.std.specs.Prelude.{nat_lt}
+use Rattle.std.specs.Prelude.{List, [], ◌∷◌, ◌++◌, ◌==◌, nat_lt, not}
 use Rattle.std.proofs.lemmas.Bool.{cases_Bool, cases_lt, eqb-true}
 use Rattle.fc_kinds.specs.Meaning.{Program}
 use Rattle.fc_verify.specs.Accepted.{Judgement, Accepts, Breaks, Untypable}
 use Rattle.fc_verify.specs.Judged.{judged}
 use Rattle.fc_registry.specs.declared.job.Ask.{Ask}
-use Rattle.fc_registry.specs.declared.job.Ask.TheVariants.{Run, Install as Installs}
+use Rattle.fc_registry.specs.declared.job.Ask.TheVariants.{Run, Install as Installs, Remove as Removes, Describe, Discover}
 use Rattle.fc_registry.specs.declared.job.Job.{Job}
 use Rattle.fc_registry.specs.declared.commit.CommitOutcome.{CommitOutcome}
 use Rattle.fc_registry.specs.declared.commit.CommitOutcome.TheVariants.{Writes, Keeps, Overtakes, Ends}
 use Rattle.fc_registry.specs.Slots.{Slot, Present, Ticket, last_serial}
-use Rattle.fc_registry.specs.Calls.{outcome, put_by, taking}
+use Rattle.fc_registry.specs.Calls.{clear_by, outcome, put_by, receipt_of, taking}
 use Rattle.fc_core.specs.declared.event.Event.{Event}
-use Rattle.fc_core.specs.declared.event.Event.TheVariants.{Take, Commit, Install, Raise, Answer, Lose}
+use Rattle.fc_core.specs.declared.event.Event.TheVariants.{Peek, Take, Commit, Install, Remove, Receipt, Raise, Answer, Lose}
 use Rattle.fc_core.specs.declared.stage.Stage.{Stage}
-use Rattle.fc_core.specs.declared.stage.Stage.TheVariants.{ToTake, ToCommit, ToInstall, ToRaise, ToAnswer, Gone}
-use Rattle.fc_core.specs.Contents.{Content, Unavailable}
+use Rattle.fc_core.specs.declared.stage.Stage.TheVariants.{ToMatch, ToTake, ToCommit, ToInstall, ToRemove, ToDescribe, ToList, ToRaise, ToAnswer, Gone}
+use Rattle.arrayvec.specs.ArrayVec.{ArrayVec}
+use Rattle.fc_core.specs.Contents.{Content, Listed, Unavailable}
+use Rattle.fc_core.specs.Heads.{is_match, word_at}
 use Rattle.fc_core.specs.History.{Entry, History, Then, Seen, seen, and_then, job, scene, slot_at, stage}
-use Rattle.fc_core.specs.Laws.{HasCome, changes_by, is_named, is_job, is_stray, is_stray_at, slot_of, stage_named}
+use Rattle.fc_core.specs.Laws.{HasCome, changes_by, is_named, is_job, is_stray, is_stray_at, needs_word, slot_named, slot_of, stage_named}
 use Rattle.fc_core.specs.SlotLaws.{IsToRaise}
-use Rattle.fc_core.specs.Stages.{Scene, committed, first_by, image_of, installed, made, names, receipt_of, row, took, verified}
+use Rattle.fc_core.specs.Stages.{Scene, at_peek, committed, first_by, image_of, installed, made, matched_by, names, peeked_next, peeked_own, removed, row, took, verified}
 use Rattle.fc_core.proofs.Along.{IsTold, along, gone_before}
 use Rattle.fc_core.proofs.Others.{named_stage, own_slot}
 use Rattle.fc_core.proofs.Strays.{strays_stay}
 
-abbrev at : Job → Slot → Stage → Scene
-at job slot stage = record { job = job; slot = slot; stage = stage }
+abbrev at : Job → Slot → List ℕ → Stage → Scene
+at job slot ws stage = record { job = job; slot = slot; words = ws; stage = stage }
 
 -- how many changes a job publishes at this stage
 abbrev raises : Stage → ℕ
-raises (ToRaise content) = 1
+raises (ToRaise word content) = 1
 raises other = 0
 
 taking_raises : (memory : Bool) (job : Job) (slot : Slot) (n : ℕ) (p : Option Present) → 0 ≡ raises (took n (taking memory job slot.serial p))
@@ -48,7 +50,7 @@ committed_raises n t now Keeps = refl
 committed_raises n t now Overtakes = retaken_raises n (nat_lt n 8)
 committed_raises n t now Ends = refl
 
-put_raises : (b : Bool) (slot : Slot) (p : Program) → length (put_by b slot p).changes ≡ raises (made (receipt_of p) (put_by b slot p).answer)
+put_raises : (b : Bool) (slot : Slot) (p : Program) → length (put_by b slot p).changes ≡ raises (made (receipt_of p 0) (put_by b slot p).answer)
 put_raises true slot p = refl
 put_raises false slot p = refl
 
@@ -61,20 +63,62 @@ verified_raises : (memory : Bool) (s : Scene) → length (verified memory s).cha
 verified_raises true s = installed_raises (judged (image_of s.job.ask)) s.slot
 verified_raises false s = refl
 
+clear_raises : (below : Bool) (serial : ℕ) (p : Option Present) → length (clear_by below serial p).changes ≡ raises (removed (clear_by below serial p).answer)
+clear_raises below serial None = refl
+clear_raises true serial (Some p) = refl
+clear_raises false serial (Some p) = refl
+
+matched_raises : (b : Bool) (word : ℕ) → 0 ≡ raises (matched_by b word)
+matched_raises true word = refl
+matched_raises false word = refl
+
+own_raises : (b : Bool) (word : ℕ) (serials : List ℕ) → 0 ≡ raises (peeked_own b word serials)
+own_raises true word serials = matched_raises (is_match word serials) word
+own_raises false word serials = refl
+
+listed_raises : (b : Bool) (words : List ℕ) → 0 ≡ raises (if b then ToList (record { items = words }) else ToAnswer (Listed words))
+listed_raises true words = refl
+listed_raises false words = refl
+
+next_raises : (b : Bool) (word : ℕ) (seen : ArrayVec ℕ) → 0 ≡ raises (peeked_next b word seen)
+next_raises true word seen = listed_raises (nat_lt (length (seen.items ++ word ∷ [])) 64) (seen.items ++ word ∷ [])
+next_raises false word seen = refl
+
+peek_raises : (n : ℕ) (x : Scene) (s : Stage) → (raises s ≡ 0) → 0 ≡ raises (at_peek n x s).stage
+peek_raises n x ToMatch e = own_raises (n == x.job.origin.slot) (word_at x.words n) x.job.etags.items
+peek_raises n x (ToList seen) e = next_raises (n == length seen.items) (word_at x.words n) seen
+peek_raises n x other e = sym e
+
+-- what a look changes and leaves to publish: nothing
+peek_makes : (n : ℕ) (x : Scene) (s : Stage) → length (at_peek n x s).changes ≡ 0
+peek_makes n x ToMatch = refl
+peek_makes n x (ToList seen) = refl
+peek_makes n x other = refl
+
+-- a job that is at a look has nothing to publish
+needs_none : (own n : ℕ) (s : Stage) → not (needs_word own n s) ≡ false → raises s ≡ 0
+needs_none own n (ToRaise word content) e = absurd (cc)
+needs_none own n other e = refl
+
 -- an event that isn't a stray makes as many changes as it leaves to publish
-row_raises : (e : Event) (k : ℕ) (job : Job) (slot : Slot) (s : Stage) → names e ≡ Some k → is_stray_at e s ≡ false → length (row e (at job slot s)).changes ≡ raises (row e (at job slot s)).stage
-row_raises (Take j memory) k job slot (ToTake n) named e = taking_raises memory job slot n slot.present
-row_raises (Take j memory) k job slot other named e = absurd (cc)
-row_raises (Commit j now) k job slot (ToCommit n t) named e = committed_raises n t now (outcome t slot)
-row_raises (Commit j now) k job slot other named e = absurd (cc)
-row_raises (Install j memory) k job slot ToInstall named e = verified_raises memory (at job slot ToInstall)
-row_raises (Install j memory) k job slot other named e = absurd (cc)
-row_raises (Raise j) k job slot (ToRaise content) named e = refl
-row_raises (Raise j) k job slot other named e = absurd (cc)
-row_raises (Answer j now) k job slot (ToAnswer content) named e = refl
-row_raises (Answer j now) k job slot other named e = absurd (cc)
-row_raises (Lose j) k job slot s named e = refl
-row_raises other k job slot s named e = absurd (cc)
+row_raises : (e : Event) (k : ℕ) (job : Job) (slot : Slot) (ws : List ℕ) (s : Stage) → names e ≡ Some k → is_stray_at e job.origin.slot s ≡ false → length (row e (at job slot ws s)).changes ≡ raises (row e (at job slot ws s)).stage
+row_raises (Peek j n) k job slot ws s named e = peek_makes n (at job slot ws s) s ∙ peek_raises n (at job slot ws s) s (needs_none job.origin.slot n s e)
+row_raises (Remove j) k job slot ws ToRemove named e = clear_raises (nat_lt slot.serial last_serial) slot.serial slot.present
+row_raises (Remove j) k job slot ws other named e = absurd (cc)
+row_raises (Receipt j) k job slot ws ToDescribe named e = refl
+row_raises (Receipt j) k job slot ws other named e = absurd (cc)
+row_raises (Take j memory) k job slot ws (ToTake n) named e = taking_raises memory job slot n slot.present
+row_raises (Take j memory) k job slot ws other named e = absurd (cc)
+row_raises (Commit j now) k job slot ws (ToCommit n t) named e = committed_raises n t now (outcome t slot)
+row_raises (Commit j now) k job slot ws other named e = absurd (cc)
+row_raises (Install j memory) k job slot ws ToInstall named e = verified_raises memory (at job slot ws ToInstall)
+row_raises (Install j memory) k job slot ws other named e = absurd (cc)
+row_raises (Raise j) k job slot ws (ToRaise word content) named e = refl
+row_raises (Raise j) k job slot ws other named e = absurd (cc)
+row_raises (Answer j now) k job slot ws (ToAnswer content) named e = refl
+row_raises (Answer j now) k job slot ws other named e = absurd (cc)
+row_raises (Lose j) k job slot ws s named e = refl
+row_raises other k job slot ws s named e = absurd (cc)
 
 -- ---- at most once
 
@@ -83,13 +127,20 @@ abbrev FitsChanges : ℕ → Stage → Type 0
 FitsChanges n (ToTake count) = n ≡ 0
 FitsChanges n (ToCommit count t) = n ≡ 0
 FitsChanges n ToInstall = n ≡ 0
+FitsChanges n ToRemove = n ≡ 0
+FitsChanges n ToMatch = n ≡ 0
+FitsChanges n (ToList seen) = n ≡ 0
 FitsChanges n other = n ≤ 1
 
 one_change : (s : Stage) (n : ℕ) → FitsChanges n s → n ≤ 1
 one_change (ToTake count) n f = omega (arith, f)
 one_change (ToCommit count t) n f = omega (arith, f)
 one_change ToInstall n f = omega (arith, f)
-one_change (ToRaise content) n f = f
+one_change (ToRaise word content) n f = f
+one_change ToRemove n f = omega (arith, f)
+one_change ToMatch n f = omega (arith, f)
+one_change (ToList seen) n f = omega (arith, f)
+one_change ToDescribe n f = f
 one_change (ToAnswer content) n f = f
 one_change Gone n f = f
 
@@ -97,34 +148,49 @@ first_change : (s : Stage) (n m : ℕ) → n ≡ 0 → m ≡ raises s → FitsCh
 first_change (ToTake count) n m is more = omega arith
 first_change (ToCommit count t) n m is more = omega arith
 first_change ToInstall n m is more = omega arith
-first_change (ToRaise content) n m is more = omega arith
+first_change (ToRaise word content) n m is more = omega arith
+first_change ToMatch n m is more = omega arith
+first_change ToRemove n m is more = omega arith
+first_change ToDescribe n m is more = omega arith
+first_change (ToList seen) n m is more = omega arith
 first_change (ToAnswer content) n m is more = omega arith
 first_change Gone n m is more = omega arith
 
 no_change : (s : Stage) (n : ℕ) → FitsChanges n s → FitsChanges (n + 0) s
 no_change s n f = subst (λ (m : ℕ). FitsChanges m s) (let is : n ≡ n + 0 = omega arith in is) f
 
-row_changes : (e : Event) (job : Job) (slot : Slot) (s : Stage) (n : ℕ) → FitsChanges n s → FitsChanges (n + length (row e (at job slot s)).changes) (row e (at job slot s)).stage
-row_changes (Take k memory) job slot (ToTake c) n f = first_change (row (Take k memory) (at job slot (ToTake c))).stage n 0 f (row_raises (Take k memory) k job slot (ToTake c) refl refl)
-row_changes (Take k memory) job slot other n f = no_change other n f
-row_changes (Commit k now) job slot (ToCommit c t) n f = first_change (row (Commit k now) (at job slot (ToCommit c t))).stage n (length (row (Commit k now) (at job slot (ToCommit c t))).changes) f (row_raises (Commit k now) k job slot (ToCommit c t) refl refl)
-row_changes (Commit k now) job slot other n f = no_change other n f
-row_changes (Install k memory) job slot ToInstall n f = first_change (row (Install k memory) (at job slot ToInstall)).stage n (length (row (Install k memory) (at job slot ToInstall)).changes) f (row_raises (Install k memory) k job slot ToInstall refl refl)
-row_changes (Install k memory) job slot other n f = no_change other n f
-row_changes (Raise k) job slot (ToRaise content) n f = omega (arith, f)
-row_changes (Raise k) job slot other n f = no_change other n f
-row_changes (Answer k now) job slot (ToAnswer content) n f = omega (arith, f)
-row_changes (Answer k now) job slot other n f = no_change other n f
-row_changes (Lose k) job slot s n f = omega (arith, one_change s n f)
-row_changes other job slot s n f = no_change s n f
+row_changes : (e : Event) (job : Job) (slot : Slot) (ws : List ℕ) (s : Stage) (n : ℕ) → FitsChanges n s → FitsChanges (n + length (row e (at job slot ws s)).changes) (row e (at job slot ws s)).stage
+row_changes (Peek k i) job slot ws ToMatch n f = first_change (row (Peek k i) (at job slot ws ToMatch)).stage n 0 f (peek_raises i (at job slot ws ToMatch) ToMatch refl)
+row_changes (Peek k i) job slot ws (ToList seen) n f = first_change (row (Peek k i) (at job slot ws (ToList seen))).stage n 0 f (peek_raises i (at job slot ws (ToList seen)) (ToList seen) refl)
+row_changes (Peek k i) job slot ws other n f = no_change other n f
+row_changes (Remove k) job slot ws ToRemove n f = first_change (row (Remove k) (at job slot ws ToRemove)).stage n (length (row (Remove k) (at job slot ws ToRemove)).changes) f (row_raises (Remove k) k job slot ws ToRemove refl refl)
+row_changes (Remove k) job slot ws other n f = no_change other n f
+row_changes (Receipt k) job slot ws ToDescribe n f = omega (arith, f)
+row_changes (Receipt k) job slot ws other n f = no_change other n f
+row_changes (Take k memory) job slot ws (ToTake c) n f = first_change (row (Take k memory) (at job slot ws (ToTake c))).stage n 0 f (row_raises (Take k memory) k job slot ws (ToTake c) refl refl)
+row_changes (Take k memory) job slot ws other n f = no_change other n f
+row_changes (Commit k now) job slot ws (ToCommit c t) n f = first_change (row (Commit k now) (at job slot ws (ToCommit c t))).stage n (length (row (Commit k now) (at job slot ws (ToCommit c t))).changes) f (row_raises (Commit k now) k job slot ws (ToCommit c t) refl refl)
+row_changes (Commit k now) job slot ws other n f = no_change other n f
+row_changes (Install k memory) job slot ws ToInstall n f = first_change (row (Install k memory) (at job slot ws ToInstall)).stage n (length (row (Install k memory) (at job slot ws ToInstall)).changes) f (row_raises (Install k memory) k job slot ws ToInstall refl refl)
+row_changes (Install k memory) job slot ws other n f = no_change other n f
+row_changes (Raise k) job slot ws (ToRaise word content) n f = omega (arith, f)
+row_changes (Raise k) job slot ws other n f = no_change other n f
+row_changes (Answer k now) job slot ws (ToAnswer content) n f = omega (arith, f)
+row_changes (Answer k now) job slot ws other n f = no_change other n f
+row_changes (Lose k) job slot ws s n f = omega (arith, one_change s n f)
+row_changes other job slot ws s n f = no_change s n f
 
-gone_changes : (e : Event) (job : Job) (slot : Slot) (n : ℕ) → n + length (row e (at job slot Gone)).changes ≡ n
-gone_changes (Take k memory) job slot n = omega arith
-gone_changes other job slot n = omega arith
+gone_changes : (e : Event) (job : Job) (slot : Slot) (ws : List ℕ) (n : ℕ) → n + length (row e (at job slot ws Gone)).changes ≡ n
+gone_changes (Take k memory) job slot ws n = omega arith
+gone_changes other job slot ws n = omega arith
 
-first_none : (ask : Ask) → FitsChanges 0 (first_by ask)
-first_none (Run request) = refl
-first_none (Installs image) = refl
+first_none : (ask : Ask) (serials : List ℕ) → FitsChanges 0 (first_by ask serials)
+first_none (Run request) [] = refl
+first_none (Run request) (x ∷ xs) = refl
+first_none (Installs image) serials = refl
+first_none Removes serials = refl
+first_none Describe serials = omega arith
+first_none Discover serials = refl
 
 abbrev more_changes : Event → Seen → ℕ → ℕ → ℕ
 more_changes e s k n = n + length (row e (scene s k)).changes
@@ -148,10 +214,10 @@ changes_told : IsTold changes_by more_changes FitsChanges 0
 changes_told = record {
   begins = λ serial id k. refl;
   then_is = counted;
-  still = λ e s k n is. ap (λ (x : Stage). n + length (row e (at (job s k) (slot_at s (slot_of s k)) x)).changes) is ∙ gone_changes e (job s k) (slot_at s (slot_of s k)) n;
+  still = λ e s k n is. ap (λ (x : Stage). n + length (row e (at (job s k) (slot_at s (slot_of s k)) s.words x)).changes) is ∙ gone_changes e (job s k) (slot_at s (slot_of s k)) s.words n;
   gone = omega arith;
   first = first_none;
-  keeps = λ e s k n f. row_changes e (job s k) (slot_at s (slot_of s k)) (stage s k) n f;
+  keeps = λ e s k n f. row_changes e (job s k) (slot_at s (slot_of s k)) s.words (stage s k) n f;
 }
 
 pub changed_once : (h : History) (k : ℕ) → changes_by h k ≤ 1
@@ -159,32 +225,39 @@ changed_once h k = one_change (stage (seen h) k) (changes_by h k) (along changes
 
 -- ---- and it is published
 
-named_stray : (e : Event) (k : ℕ) → names e ≡ Some k → is_stray_at e Gone ≡ true
-named_stray (Take j memory) k e = refl
-named_stray (Commit j now) k e = refl
-named_stray (Install j memory) k e = refl
-named_stray (Raise j) k e = refl
-named_stray (Answer j now) k e = refl
-named_stray (Lose j) k e = refl
-named_stray other k e = absurd (cc)
+named_stray : (e : Event) (own k : ℕ) → names e ≡ Some k → is_stray_at e own Gone ≡ true
+named_stray (Peek j n) own k e = refl
+named_stray (Remove j) own k e = refl
+named_stray (Receipt j) own k e = refl
+named_stray (Take j memory) own k e = refl
+named_stray (Commit j now) own k e = refl
+named_stray (Install j memory) own k e = refl
+named_stray (Raise j) own k e = refl
+named_stray (Answer j now) own k e = refl
+named_stray (Lose j) own k e = refl
+named_stray other own k e = absurd (cc)
 
-came : (r : Entry) (s : Seen) (k : ℕ) → names r.event ≡ Some k → is_stray_at r.event (stage s k) ≡ false → HasCome s k
+came : (r : Entry) (s : Seen) (k : ℕ) → names r.event ≡ Some k → is_stray_at r.event (slot_of s k) (stage s k) ≡ false → HasCome s k
 came r s k named stray = ⊎_elim
     (λ (lt : k < length s.tasks). lt)
-    (λ (le : length s.tasks ≤ k). let is : is_stray_at r.event (stage s k) ≡ true = ap (is_stray_at r.event) (gone_before s k le) ∙ named_stray r.event k named in absurd (cc (stray, is)))
+    (λ (le : length s.tasks ≤ k). let is : is_stray_at r.event (slot_of s k) (stage s k) ≡ true = ap (is_stray_at r.event (slot_of s k)) (gone_before s k le) ∙ named_stray r.event (slot_of s k) k named in absurd (cc (stray, is)))
     (cases_lt k (length s.tasks))
 
-stray_is : (r : Entry) (s : Seen) (k : ℕ) → names r.event ≡ Some k → is_stray s r.event ≡ is_stray_at r.event (stage s k)
-stray_is r s k named = ap (λ (o : Option ℕ). is_stray_at r.event (stage_named s o)) named
+stray_is : (r : Entry) (s : Seen) (k : ℕ) → names r.event ≡ Some k → is_stray s r.event ≡ is_stray_at r.event (slot_of s k) (stage s k)
+stray_is r s k named = ap (λ (o : Option ℕ). is_stray_at r.event (slot_named s o) (stage_named s o)) named
 
 -- what an event that isn't a stray adds to its job's slot
-adds : (r : Entry) (s : Seen) (k : ℕ) → names r.event ≡ Some k → is_stray_at r.event (stage s k) ≡ false → length ((and_then r s).changes (slot_of s k)) ≡ raises (stage (and_then r s) k) + length (s.changes (slot_of s k))
+adds : (r : Entry) (s : Seen) (k : ℕ) → names r.event ≡ Some k → is_stray_at r.event (slot_of s k) (stage s k) ≡ false → length ((and_then r s).changes (slot_of s k)) ≡ raises (stage (and_then r s) k) + length (s.changes (slot_of s k))
 adds r s k named stray =
     own_length r s k named ∙ ap (λ (n : ℕ). n + length (s.changes (slot_of s k)))
-    (row_raises r.event k (job s k) (slot_at s (slot_of s k)) (stage s k) named stray ∙ ap raises (sym (named_stage r s k (came r s k named stray) named)))
+    (row_raises r.event k (job s k) (slot_at s (slot_of s k)) s.words (stage s k) named stray ∙ ap raises (sym (named_stage r s k (came r s k named stray) named)))
 
 to_raise : (s : Stage) (n m : ℕ) → m ≡ raises s + n → n < m → IsToRaise s
-to_raise (ToRaise content) n m is lt = tt
+to_raise (ToRaise word content) n m is lt = tt
+to_raise ToMatch n m is lt = absurd (omega arith)
+to_raise ToRemove n m is lt = absurd (omega arith)
+to_raise ToDescribe n m is lt = absurd (omega arith)
+to_raise (ToList seen) n m is lt = absurd (omega arith)
 to_raise (ToTake count) n m is lt = absurd (omega arith)
 to_raise (ToCommit count t) n m is lt = absurd (omega arith)
 to_raise ToInstall n m is lt = absurd (omega arith)
@@ -193,12 +266,12 @@ to_raise Gone n m is lt = absurd (omega arith)
 
 pub changes_are_published : (r : Entry) (s : Seen) (k : ℕ) → names r.event ≡ Some k → length (s.changes (slot_of s k)) < length ((and_then r s).changes (slot_of s k)) → IsToRaise (stage (and_then r s) k)
 changes_are_published r s k named lt = ⊎_elim
-    (λ (stray : is_stray_at r.event (stage s k) ≡ true). let same = strays_stay r s (stray_is r s k named ∙ stray) in absurd (omega (arith, lt, ap (λ (x : Seen). length (x.changes (slot_of s k))) same)))
-    (λ (acts : is_stray_at r.event (stage s k) ≡ false). to_raise (stage (and_then r s) k) (length (s.changes (slot_of s k))) (length ((and_then r s).changes (slot_of s k))) (adds r s k named acts) lt)
-    (cases_Bool (is_stray_at r.event (stage s k)))
+    (λ (stray : is_stray_at r.event (slot_of s k) (stage s k) ≡ true). let same = strays_stay r s (stray_is r s k named ∙ stray) in absurd (omega (arith, lt, ap (λ (x : Seen). length (x.changes (slot_of s k))) same)))
+    (λ (acts : is_stray_at r.event (slot_of s k) (stage s k) ≡ false). to_raise (stage (and_then r s) k) (length (s.changes (slot_of s k))) (length ((and_then r s).changes (slot_of s k))) (adds r s k named acts) lt)
+    (cases_Bool (is_stray_at r.event (slot_of s k) (stage s k)))
 
-pub only_changes_are_published : (r : Entry) (s : Seen) (k : ℕ) (content : Content) → names r.event ≡ Some k → stage (and_then r s) k ≡ ToRaise content → (stage s k ≡ ToRaise content) ⊎ (length ((and_then r s).changes (slot_of s k)) ≡ length (s.changes (slot_of s k)) + 1)
-only_changes_are_published r s k content named is = ⊎_elim
-    (λ (stray : is_stray_at r.event (stage s k) ≡ true). inl (sym (ap (λ (x : Seen). stage x k) (strays_stay r s (stray_is r s k named ∙ stray))) ∙ is))
-    (λ (acts : is_stray_at r.event (stage s k) ≡ false). inr (omega (arith, adds r s k named acts, ap raises is)))
-    (cases_Bool (is_stray_at r.event (stage s k)))
+pub only_changes_are_published : (r : Entry) (s : Seen) (k word : ℕ) (content : Content) → names r.event ≡ Some k → stage (and_then r s) k ≡ ToRaise word content → (stage s k ≡ ToRaise word content) ⊎ (length ((and_then r s).changes (slot_of s k)) ≡ length (s.changes (slot_of s k)) + 1)
+only_changes_are_published r s k word content named is = ⊎_elim
+    (λ (stray : is_stray_at r.event (slot_of s k) (stage s k) ≡ true). inl (sym (ap (λ (x : Seen). stage x k) (strays_stay r s (stray_is r s k named ∙ stray))) ∙ is))
+    (λ (acts : is_stray_at r.event (slot_of s k) (stage s k) ≡ false). inr (omega (arith, adds r s k named acts, ap raises is)))
+    (cases_Bool (is_stray_at r.event (slot_of s k) (stage s k)))

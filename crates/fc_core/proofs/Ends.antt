@@ -2,15 +2,15 @@
 use Rattle.std.proofs.Common.{◌≡◌, ℕ, ◌+◌, ◌≤◌, List, [], ◌∷◌, ◌++◌, Bool, true, false, Option, Some, refl, sym, ap, ◌∙◌, subst, arith, if◌then◌else◌}
 use Rattle.coap_msg.specs.declared.types.Emission.{Emission}
 use Rattle.fc_registry.specs.declared.job.Ask.{Ask}
-use Rattle.fc_registry.specs.declared.job.Ask.TheVariants.{Run, Install as Installs}
+use Rattle.fc_registry.specs.declared.job.Ask.TheVariants.{Run, Install as Installs, Remove as Removes, Describe, Discover}
 use Rattle.fc_registry.specs.declared.job.Job.{Job}
 use Rattle.fc_registry.specs.Slots.{Slot, Present}
 use Rattle.fc_registry.specs.Changes.{Change}
 use Rattle.fc_registry.specs.Calls.{taking}
 use Rattle.fc_core.specs.declared.event.Event.{Event}
-use Rattle.fc_core.specs.declared.event.Event.TheVariants.{Take, Commit, Install, Raise, Answer, Lose}
+use Rattle.fc_core.specs.declared.event.Event.TheVariants.{Peek, Take, Commit, Install, Remove, Receipt, Raise, Answer, Lose}
 use Rattle.fc_core.specs.declared.stage.Stage.{Stage}
-use Rattle.fc_core.specs.declared.stage.Stage.TheVariants.{ToTake, ToCommit, ToInstall, ToRaise, ToAnswer, Gone}
+use Rattle.fc_core.specs.declared.stage.Stage.TheVariants.{ToMatch, ToTake, ToCommit, ToInstall, ToRemove, ToDescribe, ToList, ToRaise, ToAnswer, Gone}
 use Rattle.fc_core.specs.Contents.{Content, Unavailable}
 use Rattle.fc_core.specs.History.{Entry, History, Then, Seen, seen, and_then, did, job, slot_at, stage, task_at}
 use Rattle.fc_core.specs.Laws.{HasCome, Taking, answers_of, gives, is_answered, is_named, later, slot_of, takings_of}
@@ -19,8 +19,8 @@ use Rattle.fc_core.proofs.Along.{IsTold, along}
 use Rattle.fc_core.proofs.Others.{is_here, kept_by, kept_later, named_stage, still_here}
 use Rattle.fc_core.proofs.Steps.{becomes, gone_stays}
 
-abbrev at : Job → Slot → Stage → Scene
-at job slot stage = record { job = job; slot = slot; stage = stage }
+abbrev at : Job → Slot → List ℕ → Stage → Scene
+at job slot ws stage = record { job = job; slot = slot; words = ws; stage = stage }
 
 -- ---- answered at most once
 
@@ -34,34 +34,44 @@ at_most_once Gone n f = f
 at_most_once (ToTake count) n f = omega (arith, f)
 at_most_once (ToCommit count t) n f = omega (arith, f)
 at_most_once ToInstall n f = omega (arith, f)
-at_most_once (ToRaise content) n f = omega (arith, f)
+at_most_once (ToRaise word content) n f = omega (arith, f)
+at_most_once ToMatch n f = omega (arith, f)
+at_most_once ToRemove n f = omega (arith, f)
+at_most_once ToDescribe n f = omega (arith, f)
+at_most_once (ToList seen) n f = omega (arith, f)
 at_most_once (ToAnswer content) n f = omega (arith, f)
 
 never_yet : (s : Stage) (n : ℕ) → n ≡ 0 → FitsAnswers n s
 never_yet Gone n is = omega arith
 never_yet other n is = is
 
-row_answers : (e : Event) (job : Job) (slot : Slot) (s : Stage) (n : ℕ) → FitsAnswers n s → FitsAnswers (if is_answered e s then n + 1 else n) (row e (at job slot s)).stage
-row_answers (Take k memory) job slot (ToTake count) n f = never_yet (row (Take k memory) (at job slot (ToTake count))).stage n f
-row_answers (Take k memory) job slot other n f = f
-row_answers (Commit k now) job slot (ToCommit count t) n f = never_yet (row (Commit k now) (at job slot (ToCommit count t))).stage n f
-row_answers (Commit k now) job slot other n f = f
-row_answers (Install k memory) job slot ToInstall n f = never_yet (row (Install k memory) (at job slot ToInstall)).stage n f
-row_answers (Install k memory) job slot other n f = f
-row_answers (Raise k) job slot (ToRaise content) n f = f
-row_answers (Raise k) job slot other n f = f
-row_answers (Answer k now) job slot (ToAnswer content) n f = omega (arith, f)
-row_answers (Answer k now) job slot other n f = f
-row_answers (Lose k) job slot s n f = at_most_once s n f
-row_answers other job slot s n f = f
+row_answers : (e : Event) (job : Job) (slot : Slot) (ws : List ℕ) (s : Stage) (n : ℕ) → FitsAnswers n s → FitsAnswers (if is_answered e s then n + 1 else n) (row e (at job slot ws s)).stage
+row_answers (Take k memory) job slot ws (ToTake count) n f = never_yet (row (Take k memory) (at job slot ws (ToTake count))).stage n f
+row_answers (Take k memory) job slot ws other n f = f
+row_answers (Commit k now) job slot ws (ToCommit count t) n f = never_yet (row (Commit k now) (at job slot ws (ToCommit count t))).stage n f
+row_answers (Commit k now) job slot ws other n f = f
+row_answers (Install k memory) job slot ws ToInstall n f = never_yet (row (Install k memory) (at job slot ws ToInstall)).stage n f
+row_answers (Install k memory) job slot ws other n f = f
+row_answers (Raise k) job slot ws (ToRaise word content) n f = f
+row_answers (Peek k i) job slot ws ToMatch n f = never_yet (row (Peek k i) (at job slot ws ToMatch)).stage n f
+row_answers (Peek k i) job slot ws (ToList seen) n f = never_yet (row (Peek k i) (at job slot ws (ToList seen))).stage n f
+row_answers (Peek k i) job slot ws other n f = f
+row_answers (Remove k) job slot ws ToRemove n f = never_yet (row (Remove k) (at job slot ws ToRemove)).stage n f
+row_answers (Remove k) job slot ws other n f = f
+row_answers (Receipt k) job slot ws ToDescribe n f = f
+row_answers (Receipt k) job slot ws other n f = f
+row_answers (Raise k) job slot ws other n f = f
+row_answers (Answer k now) job slot ws (ToAnswer content) n f = omega (arith, f)
+row_answers (Answer k now) job slot ws other n f = f
+row_answers (Lose k) job slot ws s n f = at_most_once s n f
+row_answers other job slot ws s n f = f
 
 gone_answered : (e : Event) → is_answered e Gone ≡ false
 gone_answered (Answer k now) = refl
 gone_answered other = refl
 
-first_answers : (ask : Ask) → FitsAnswers 0 (first_by ask)
-first_answers (Run request) = refl
-first_answers (Installs image) = refl
+first_answers : (ask : Ask) (serials : List ℕ) → FitsAnswers 0 (first_by ask serials)
+first_answers ask serials = never_yet (first_by ask serials) 0 refl
 
 abbrev once_more : Event → Seen → ℕ → ℕ → ℕ
 once_more e s k n = if is_answered e (stage s k) then n + 1 else n
@@ -73,7 +83,7 @@ answers_told = record {
   still = λ e s k n is. ap (λ (b : Bool). if b then n + 1 else n) (ap (is_answered e) is ∙ gone_answered e);
   gone = omega arith;
   first = first_answers;
-  keeps = λ e s k n f. row_answers e (job s k) (slot_at s (slot_of s k)) (stage s k) n f;
+  keeps = λ e s k n f. row_answers e (job s k) (slot_at s (slot_of s k)) s.words (stage s k) n f;
 }
 
 answers_fit : (h : History) (k : ℕ) → FitsAnswers (answers_of h k) (stage (seen h) k)
@@ -87,7 +97,11 @@ answered_by Gone n f le = refl
 answered_by (ToTake count) n f le = absurd (omega (arith, f))
 answered_by (ToCommit count t) n f le = absurd (omega (arith, f))
 answered_by ToInstall n f le = absurd (omega (arith, f))
-answered_by (ToRaise content) n f le = absurd (omega (arith, f))
+answered_by (ToRaise word content) n f le = absurd (omega (arith, f))
+answered_by ToMatch n f le = absurd (omega (arith, f))
+answered_by ToRemove n f le = absurd (omega (arith, f))
+answered_by ToDescribe n f le = absurd (omega (arith, f))
+answered_by (ToList seen) n f le = absurd (omega (arith, f))
 answered_by (ToAnswer content) n f le = absurd (omega (arith, f))
 
 pub answered_gone : (h : History) (k : ℕ) → 1 ≤ answers_of h k → stage (seen h) k ≡ Gone
@@ -95,8 +109,8 @@ answered_gone h k le = answered_by (stage (seen h) k) (answers_of h k) (answers_
 
 -- ---- ends
 
-row_gone : (e : Event) (job : Job) (slot : Slot) (s : Stage) → s ≡ Gone → (row e (at job slot s)).stage ≡ Gone
-row_gone e job slot s is = ap (λ (x : Stage). (row e (at job slot x)).stage) is ∙ gone_stays e job slot
+row_gone : (e : Event) (job : Job) (slot : Slot) (ws : List ℕ) (s : Stage) → s ≡ Gone → (row e (at job slot ws s)).stage ≡ Gone
+row_gone e job slot ws s is = ap (λ (x : Stage). (row e (at job slot ws x)).stage) is ∙ gone_stays e job slot ws
 
 pub gone_later : (h : History) (rs : List Entry) (k : ℕ) → HasCome (seen h) k → stage (seen h) k ≡ Gone → stage (seen (later h rs)) k ≡ Gone
 gone_later h rs k come is = kept_later (λ s. s ≡ Gone) row_gone rs h k come is
@@ -106,43 +120,50 @@ lost_gone s k o come = named_stage (did (Lose k) o) s k come refl
 
 pub answer_gone : (s : Seen) (k now : ℕ) (o : Option Emission) (content : Content) → stage s k ≡ ToAnswer content → stage (and_then (did (Answer k now) o) s) k ≡ Gone
 answer_gone s k now o content is = named_stage (did (Answer k now) o) s k (is_here s k (ToAnswer content) is (λ e. absurd (cc e))) refl
-    ∙ ap (λ (x : Stage). (row (Answer k now) (at (job s k) (slot_at s (slot_of s k)) x)).stage) is
+    ∙ ap (λ (x : Stage). (row (Answer k now) (at (job s k) (slot_at s (slot_of s k)) s.words x)).stage) is
 
-pub raise_keeps : (s : Seen) (k : ℕ) (o : Option Emission) (content : Content) → stage s k ≡ ToRaise content → stage (and_then (did (Raise k) o) s) k ≡ ToAnswer content
-raise_keeps s k o content is = named_stage (did (Raise k) o) s k (is_here s k (ToRaise content) is (λ e. absurd (cc e))) refl
-    ∙ ap (λ (x : Stage). (row (Raise k) (at (job s k) (slot_at s (slot_of s k)) x)).stage) is
+pub raise_keeps : (s : Seen) (k word : ℕ) (o : Option Emission) (content : Content) → stage s k ≡ ToRaise word content → stage (and_then (did (Raise k) o) s) k ≡ ToAnswer content
+raise_keeps s k word o content is = named_stage (did (Raise k) o) s k (is_here s k (ToRaise word content) is (λ e. absurd (cc e))) refl
+    ∙ ap (λ (x : Stage). (row (Raise k) (at (job s k) (slot_at s (slot_of s k)) s.words x)).stage) is
 
 -- ---- memory
 
 pub take_refused : (s : Seen) (k count : ℕ) (o : Option Emission) (p : Present) → stage s k ≡ ToTake count → (slot_at s (slot_of s k)).present ≡ Some p → stage (and_then (did (Take k false) o) s) k ≡ ToAnswer Unavailable
 take_refused s k count o p is holds = named_stage (did (Take k false) o) s k (is_here s k (ToTake count) is (λ e. absurd (cc e))) refl
-    ∙ (ap (λ (x : Stage). (row (Take k false) (at (job s k) (slot_at s (slot_of s k)) x)).stage) is
+    ∙ (ap (λ (x : Stage). (row (Take k false) (at (job s k) (slot_at s (slot_of s k)) s.words x)).stage) is
     ∙ ap (λ (x : Option Present). took count (taking false (job s k) (slot_at s (slot_of s k)).serial x)) holds)
 
 pub install_refused : (s : Seen) (k : ℕ) (o : Option Emission) → stage s k ≡ ToInstall → stage (and_then (did (Install k false) o) s) k ≡ ToAnswer Unavailable
 install_refused s k o is = named_stage (did (Install k false) o) s k (is_here s k ToInstall is (λ e. absurd (cc e))) refl
-    ∙ ap (λ (x : Stage). (row (Install k false) (at (job s k) (slot_at s (slot_of s k)) x)).stage) is
+    ∙ ap (λ (x : Stage). (row (Install k false) (at (job s k) (slot_at s (slot_of s k)) s.words x)).stage) is
 
 -- a job that takes no more
 abbrev IsSettled : Stage → Type 0
-IsSettled (ToRaise content) = Unit {0}
+IsSettled (ToRaise word content) = Unit {0}
 IsSettled (ToAnswer content) = Unit {0}
 IsSettled Gone = Unit {0}
 IsSettled other = ⊥
 
-row_settled : (e : Event) (job : Job) (slot : Slot) (s : Stage) → IsSettled s → IsSettled (row e (at job slot s)).stage
-row_settled (Take k memory) job slot (ToTake count) f = absurd f
-row_settled (Take k memory) job slot other f = f
-row_settled (Commit k now) job slot (ToCommit count t) f = absurd f
-row_settled (Commit k now) job slot other f = f
-row_settled (Install k memory) job slot ToInstall f = absurd f
-row_settled (Install k memory) job slot other f = f
-row_settled (Raise k) job slot (ToRaise content) f = tt
-row_settled (Raise k) job slot other f = f
-row_settled (Answer k now) job slot (ToAnswer content) f = tt
-row_settled (Answer k now) job slot other f = f
-row_settled (Lose k) job slot s f = tt
-row_settled other job slot s f = f
+row_settled : (e : Event) (job : Job) (slot : Slot) (ws : List ℕ) (s : Stage) → IsSettled s → IsSettled (row e (at job slot ws s)).stage
+row_settled (Take k memory) job slot ws (ToTake count) f = absurd f
+row_settled (Take k memory) job slot ws other f = f
+row_settled (Commit k now) job slot ws (ToCommit count t) f = absurd f
+row_settled (Commit k now) job slot ws other f = f
+row_settled (Install k memory) job slot ws ToInstall f = absurd f
+row_settled (Install k memory) job slot ws other f = f
+row_settled (Raise k) job slot ws (ToRaise word content) f = tt
+row_settled (Peek k i) job slot ws ToMatch f = absurd f
+row_settled (Peek k i) job slot ws (ToList seen) f = absurd f
+row_settled (Peek k i) job slot ws other f = f
+row_settled (Remove k) job slot ws ToRemove f = absurd f
+row_settled (Remove k) job slot ws other f = f
+row_settled (Receipt k) job slot ws ToDescribe f = absurd f
+row_settled (Receipt k) job slot ws other f = f
+row_settled (Raise k) job slot ws other f = f
+row_settled (Answer k now) job slot ws (ToAnswer content) f = tt
+row_settled (Answer k now) job slot ws other f = f
+row_settled (Lose k) job slot ws s f = tt
+row_settled other job slot ws s f = f
 
 settled_given : (e : Event) (job : Job) (slot : Slot) (cs : List Change) (s : Stage) → IsSettled s → gives e s job slot cs ≡ []
 settled_given (Take k true) job slot cs (ToTake count) f = absurd f

@@ -12,23 +12,26 @@ use Rattle.fc_kinds.specs.Meaning.{Program, IsInput, input_with}
 use Rattle.fc_verify.specs.Accepted.{Judgement, Accepts, Breaks, Untypable}
 use Rattle.fc_verify.specs.Judged.{judged}
 use Rattle.fc_registry.specs.declared.job.Ask.{Ask}
-use Rattle.fc_registry.specs.declared.job.Ask.TheVariants.{Run, Install as Installs}
+use Rattle.fc_registry.specs.declared.job.Ask.TheVariants.{Run, Install as Installs, Remove as Removes, Describe, Discover}
 use Rattle.fc_registry.specs.declared.job.Job.{Job}
 use Rattle.fc_registry.specs.declared.commit.CommitOutcome.{CommitOutcome}
 use Rattle.fc_registry.specs.declared.commit.CommitOutcome.TheVariants.{Writes, Keeps, Overtakes, Ends}
 use Rattle.fc_registry.specs.Slots.{Slot, Present, Ticket, last_serial}
 use Rattle.fc_registry.specs.Changes.{Change, Installed, Committed, Removed, changed, after_changes, with_vars}
 use Rattle.fc_registry.specs.Record.{IsChain, IsLink, code_class}
-use Rattle.fc_registry.specs.Calls.{HasGiven, commit_of, input_of, is_post, meaning_at, outcome, outcome_by, put_by, request_of, taking, wants}
+use Rattle.fc_registry.specs.declared.receipt.Receipt.{Receipt as Facts}
+use Rattle.fc_registry.specs.Calls.{HasGiven, clear_by, commit_of, input_of, is_post, meaning_at, outcome, outcome_by, put_by, receipt_at, receipt_of, request_of, taking, wants}
 use Rattle.fc_core.specs.declared.event.Event.{Event}
-use Rattle.fc_core.specs.declared.event.Event.TheVariants.{Take, Commit as Commits, Install, Raise, Answer, Lose}
+use Rattle.fc_core.specs.declared.event.Event.TheVariants.{Peek, Take, Commit as Commits, Install, Remove, Receipt, Raise, Answer, Lose}
 use Rattle.fc_core.specs.declared.stage.Stage.{Stage}
-use Rattle.fc_core.specs.declared.stage.Stage.TheVariants.{ToTake, ToCommit, ToInstall, ToRaise, ToAnswer, Gone}
-use Rattle.fc_core.specs.Contents.{Unavailable}
-use Rattle.fc_core.specs.Fits.{FitsPresent, FitsSlot, FitsStage, IsTicketOf}
+use Rattle.fc_core.specs.declared.stage.Stage.TheVariants.{ToMatch, ToTake, ToCommit, ToInstall, ToRemove, ToDescribe, ToList, ToRaise, ToAnswer, Gone}
+use Rattle.arrayvec.specs.ArrayVec.{ArrayVec}
+use Rattle.fc_core.specs.Contents.{Listed, Unavailable}
+use Rattle.fc_core.specs.Heads.{is_match, word_at}
+use Rattle.fc_core.specs.Fits.{FitsPresent, FitsSlot, FitsStage, HasNext, IsTicketOf}
 use Rattle.fc_core.specs.Receiving.{AskWithin}
 use Rattle.fc_core.specs.Sound.{AllSafe}
-use Rattle.fc_core.specs.Stages.{Scene, committed, first_by, image_of, installed, made, receipt_of, row, took, verified}
+use Rattle.fc_core.specs.Stages.{Scene, committed, first_by, image_of, installed, made, matched_by, peeked_next, peeked_own, removed, row, told, took, verified}
 
 -- ---- slots
 
@@ -59,13 +62,26 @@ pub fits_changed : (job : Job) (slot : Slot) (s : Stage) (cs : List Change) → 
 fits_changed job slot (ToTake n) cs f = f
 fits_changed job slot (ToCommit n t) cs f = (f.0, record { origin = f.1.origin; request = f.1.request; given = given_changed slot t cs f.1.given })
 fits_changed job slot ToInstall cs f = tt
-fits_changed job slot (ToRaise content) cs f = f
+fits_changed job slot ToMatch cs f = tt
+fits_changed job slot ToRemove cs f = tt
+fits_changed job slot ToDescribe cs f = tt
+fits_changed job slot (ToList seen) cs f = f
+fits_changed job slot (ToRaise word content) cs f = f
 fits_changed job slot (ToAnswer content) cs f = f
 fits_changed job slot Gone cs f = tt
 
-pub first_fits : (job : Job) (slot : Slot) (ask : Ask) → FitsStage job slot (first_by ask)
-first_fits job slot (Run request) = omega arith
-first_fits job slot (Installs image) = tt
+-- a job that lists head words has yet one to read
+pub fits_next : (job : Job) (slot : Slot) (s : Stage) → FitsStage job slot s → HasNext s
+fits_next job slot (ToList seen) f = f
+fits_next job slot other f = tt
+
+pub first_fits : (job : Job) (slot : Slot) (ask : Ask) (serials : List ℕ) → FitsStage job slot (first_by ask serials)
+first_fits job slot (Run request) [] = omega arith
+first_fits job slot (Run request) (x ∷ xs) = tt
+first_fits job slot (Installs image) serials = tt
+first_fits job slot Removes serials = tt
+first_fits job slot Describe serials = tt
+first_fits job slot Discover serials = omega arith
 
 took_fits : (memory : Bool) (job : Job) (slot : Slot) (n : ℕ) (p : Option Present) → slot.present ≡ p → n < 8 → FitsStage job slot (took n (taking memory job slot.serial p))
 took_fits memory job slot n None e lt = tt
@@ -82,7 +98,7 @@ committed_fits job slot n t Keeps now own = own
 committed_fits job slot n t Overtakes now own = retaken_fits job slot n (nat_lt n 8) refl
 committed_fits job slot n t Ends now own = tt
 
-made_fits : (job : Job) (slot : Slot) (b : Bool) (p : Program) → FitsStage job slot (made (receipt_of p) (put_by b slot p).answer)
+made_fits : (job : Job) (slot : Slot) (b : Bool) (p : Program) → FitsStage job slot (made (receipt_of p 0) (put_by b slot p).answer)
 made_fits job slot true p = tt
 made_fits job slot false p = tt
 
@@ -95,23 +111,55 @@ verified_fits : (memory : Bool) (s : Scene) → FitsStage s.job s.slot (verified
 verified_fits true s = installed_fits s.job s.slot (judged (image_of s.job.ask))
 verified_fits false s = tt
 
-abbrev at : Job → Slot → Stage → Scene
-at job slot stage = record { job = job; slot = slot; stage = stage }
+abbrev at : Job → Slot → List ℕ → Stage → Scene
+at job slot ws stage = record { job = job; slot = slot; words = ws; stage = stage }
 
--- a job that an event task_moved fits its slot as it was
-pub row_fits : (e : Event) (job : Job) (slot : Slot) (s : Stage) → FitsStage job slot s → FitsStage job slot (row e (at job slot s)).stage
-row_fits (Lose k) job slot s f = tt
-row_fits (Take k memory) job slot (ToTake n) f = took_fits memory job slot n slot.present refl f
-row_fits (Take k memory) job slot other f = f
-row_fits (Commits k now) job slot (ToCommit n t) f = committed_fits job slot n t (outcome t slot) now f.1.origin
-row_fits (Commits k now) job slot other f = f
-row_fits (Install k memory) job slot ToInstall f = verified_fits memory (at job slot ToInstall)
-row_fits (Install k memory) job slot other f = f
-row_fits (Raise k) job slot (ToRaise content) f = f
-row_fits (Raise k) job slot other f = f
-row_fits (Answer k now) job slot (ToAnswer content) f = tt
-row_fits (Answer k now) job slot other f = f
-row_fits other job slot s f = f
+clear_fits : (job : Job) (slot : Slot) (below : Bool) (serial : ℕ) (p : Option Present) → FitsStage job slot (removed (clear_by below serial p).answer)
+clear_fits job slot below serial None = tt
+clear_fits job slot true serial (Some p) = tt
+clear_fits job slot false serial (Some p) = tt
+
+told_fits : (job : Job) (slot : Slot) (receipt : Option Facts) → FitsStage job slot (ToAnswer (told receipt))
+told_fits job slot None = tt
+told_fits job slot (Some receipt) = tt
+
+matched_fits : (job : Job) (slot : Slot) (b : Bool) (word : ℕ) → FitsStage job slot (matched_by b word)
+matched_fits job slot true word = tt
+matched_fits job slot false word = omega arith
+
+own_fits : (job : Job) (slot : Slot) (b : Bool) (word : ℕ) (serials : List ℕ) → FitsStage job slot (peeked_own b word serials)
+own_fits job slot true word serials = matched_fits job slot (is_match word serials) word
+own_fits job slot false word serials = tt
+
+listed_fits : (job : Job) (slot : Slot) (b : Bool) (words : List ℕ) → nat_lt (length words) 64 ≡ b → FitsStage job slot (if b then ToList (record { items = words }) else ToAnswer (Listed words))
+listed_fits job slot true words e = ltb-true (length words) 64 e
+listed_fits job slot false words e = tt
+
+next_fits : (job : Job) (slot : Slot) (b : Bool) (word : ℕ) (seen : ArrayVec ℕ) → length seen.items < 64 → FitsStage job slot (peeked_next b word seen)
+next_fits job slot true word seen lt = listed_fits job slot (nat_lt (length (seen.items ++ word ∷ [])) 64) (seen.items ++ word ∷ []) refl
+next_fits job slot false word seen lt = lt
+
+-- a job that an event moved fits its slot as it was
+pub row_fits : (e : Event) (job : Job) (slot : Slot) (ws : List ℕ) (s : Stage) → FitsStage job slot s → FitsStage job slot (row e (at job slot ws s)).stage
+row_fits (Peek k n) job slot ws ToMatch f = own_fits job slot (n == job.origin.slot) (word_at ws n) job.etags.items
+row_fits (Peek k n) job slot ws (ToList seen) f = next_fits job slot (n == length seen.items) (word_at ws n) seen f
+row_fits (Peek k n) job slot ws other f = f
+row_fits (Remove k) job slot ws ToRemove f = clear_fits job slot (nat_lt slot.serial last_serial) slot.serial slot.present
+row_fits (Remove k) job slot ws other f = f
+row_fits (Receipt k) job slot ws ToDescribe f = told_fits job slot (receipt_at slot.present)
+row_fits (Receipt k) job slot ws other f = f
+row_fits (Lose k) job slot ws s f = tt
+row_fits (Take k memory) job slot ws (ToTake n) f = took_fits memory job slot n slot.present refl f
+row_fits (Take k memory) job slot ws other f = f
+row_fits (Commits k now) job slot ws (ToCommit n t) f = committed_fits job slot n t (outcome t slot) now f.1.origin
+row_fits (Commits k now) job slot ws other f = f
+row_fits (Install k memory) job slot ws ToInstall f = verified_fits memory (at job slot ws ToInstall)
+row_fits (Install k memory) job slot ws other f = f
+row_fits (Raise k) job slot ws (ToRaise word content) f = f
+row_fits (Raise k) job slot ws other f = f
+row_fits (Answer k now) job slot ws (ToAnswer content) f = tt
+row_fits (Answer k now) job slot ws other f = f
+row_fits other job slot ws s f = f
 
 -- ---- the chain
 
@@ -165,24 +213,36 @@ verified_chain : (memory : Bool) (first : Slot) (cs : List Change) (s : Scene) �
 verified_chain true first cs s chain = installed_chain first cs (judged (image_of s.job.ask)) s.slot chain
 verified_chain false first cs s chain = chain
 
-pub row_chain : (e : Event) (job : Job) (first : Slot) (cs : List Change) (s : Stage) → FitsStage job (after_changes first cs) s → IsChain first cs → IsChain first ((row e (at job (after_changes first cs) s)).changes ++ cs)
-row_chain (Commits k now) job first cs (ToCommit n t) f chain = commit_chain first cs n t now (outcome t (after_changes first cs)) refl f.1.given chain
-row_chain (Commits k now) job first cs other f chain = chain
-row_chain (Install k memory) job first cs ToInstall f chain = verified_chain memory first cs (at job (after_changes first cs) ToInstall) chain
-row_chain (Install k memory) job first cs other f chain = chain
-row_chain (Take k memory) job first cs (ToTake n) f chain = chain
-row_chain (Take k memory) job first cs other f chain = chain
-row_chain (Raise k) job first cs (ToRaise content) f chain = chain
-row_chain (Raise k) job first cs other f chain = chain
-row_chain (Answer k now) job first cs (ToAnswer content) f chain = chain
-row_chain (Answer k now) job first cs other f chain = chain
-row_chain other job first cs s f chain = chain
+clear_chain : (first : Slot) (cs : List Change) (below : Bool) (serial : ℕ) (p : Option Present) → IsChain first cs → IsChain first ((clear_by below serial p).changes ++ cs)
+clear_chain first cs below serial None chain = chain
+clear_chain first cs true serial (Some p) chain = chain
+clear_chain first cs false serial (Some p) chain = chain
+
+pub row_chain : (e : Event) (job : Job) (first : Slot) (cs : List Change) (ws : List ℕ) (s : Stage) → FitsStage job (after_changes first cs) s → IsChain first cs → IsChain first ((row e (at job (after_changes first cs) ws s)).changes ++ cs)
+row_chain (Peek k n) job first cs ws ToMatch f chain = chain
+row_chain (Peek k n) job first cs ws (ToList seen) f chain = chain
+row_chain (Peek k n) job first cs ws other f chain = chain
+row_chain (Remove k) job first cs ws ToRemove f chain = clear_chain first cs (nat_lt (after_changes first cs).serial last_serial) (after_changes first cs).serial (after_changes first cs).present chain
+row_chain (Remove k) job first cs ws other f chain = chain
+row_chain (Receipt k) job first cs ws ToDescribe f chain = chain
+row_chain (Receipt k) job first cs ws other f chain = chain
+row_chain (Commits k now) job first cs ws (ToCommit n t) f chain = commit_chain first cs n t now (outcome t (after_changes first cs)) refl f.1.given chain
+row_chain (Commits k now) job first cs ws other f chain = chain
+row_chain (Install k memory) job first cs ws ToInstall f chain = verified_chain memory first cs (at job (after_changes first cs) ws ToInstall) chain
+row_chain (Install k memory) job first cs ws other f chain = chain
+row_chain (Take k memory) job first cs ws (ToTake n) f chain = chain
+row_chain (Take k memory) job first cs ws other f chain = chain
+row_chain (Raise k) job first cs ws (ToRaise word content) f chain = chain
+row_chain (Raise k) job first cs ws other f chain = chain
+row_chain (Answer k now) job first cs ws (ToAnswer content) f chain = chain
+row_chain (Answer k now) job first cs ws other f chain = chain
+row_chain other job first cs ws s f chain = chain
 
 -- ---- safe programs
 
 request_fits : (ask : Ask) → AskWithin ask → FitsRegion (request_of ask)
 request_fits (Run request) f = record { query = f.0; payload = f.1 }
-request_fits (Installs image) f = record { query = omega arith; payload = omega arith }
+request_fits other f = record { query = omega arith; payload = omega arith }
 
 -- what a slot that fits gives to a job within its limits is an input of its program
 pub is_input : (job : Job) (p : Present) (request : Request) → AskWithin job.ask → request ≡ request_of job.ask → FitsPresent p → IsInput p.program (input_with request p.vars)
@@ -214,15 +274,27 @@ verified_safe : (memory : Bool) (s : Scene) → AllSafe (verified memory s).chan
 verified_safe true s safe fits = installed_safe s.slot (judged (image_of s.job.ask)) safe fits
 verified_safe false s safe fits = fits
 
-pub row_safe : (e : Event) (job : Job) (slot : Slot) (s : Stage) → AskWithin job.ask → FitsStage job slot s → AllSafe (row e (at job slot s)).changes → FitsSlot slot.present → FitsSlot (after_changes slot (row e (at job slot s)).changes).present
-row_safe (Commits k now) job slot (ToCommit n t) within f safe fits = commit_safe job slot n t now (outcome t slot) refl within f.1 fits
-row_safe (Commits k now) job slot other within f safe fits = fits
-row_safe (Install k memory) job slot ToInstall within f safe fits = verified_safe memory (at job slot ToInstall) safe fits
-row_safe (Install k memory) job slot other within f safe fits = fits
-row_safe (Take k memory) job slot (ToTake n) within f safe fits = fits
-row_safe (Take k memory) job slot other within f safe fits = fits
-row_safe (Raise k) job slot (ToRaise content) within f safe fits = fits
-row_safe (Raise k) job slot other within f safe fits = fits
-row_safe (Answer k now) job slot (ToAnswer content) within f safe fits = fits
-row_safe (Answer k now) job slot other within f safe fits = fits
-row_safe other job slot s within f safe fits = fits
+clear_safe : (slot : Slot) (below : Bool) (serial : ℕ) (p : Option Present) → FitsSlot slot.present → FitsSlot (after_changes slot (clear_by below serial p).changes).present
+clear_safe slot below serial None fits = fits
+clear_safe slot true serial (Some p) fits = tt
+clear_safe slot false serial (Some p) fits = fits
+
+pub row_safe : (e : Event) (job : Job) (slot : Slot) (ws : List ℕ) (s : Stage) → AskWithin job.ask → FitsStage job slot s → AllSafe (row e (at job slot ws s)).changes → FitsSlot slot.present → FitsSlot (after_changes slot (row e (at job slot ws s)).changes).present
+row_safe (Peek k n) job slot ws ToMatch within f safe fits = fits
+row_safe (Peek k n) job slot ws (ToList seen) within f safe fits = fits
+row_safe (Peek k n) job slot ws other within f safe fits = fits
+row_safe (Remove k) job slot ws ToRemove within f safe fits = clear_safe slot (nat_lt slot.serial last_serial) slot.serial slot.present fits
+row_safe (Remove k) job slot ws other within f safe fits = fits
+row_safe (Receipt k) job slot ws ToDescribe within f safe fits = fits
+row_safe (Receipt k) job slot ws other within f safe fits = fits
+row_safe (Commits k now) job slot ws (ToCommit n t) within f safe fits = commit_safe job slot n t now (outcome t slot) refl within f.1 fits
+row_safe (Commits k now) job slot ws other within f safe fits = fits
+row_safe (Install k memory) job slot ws ToInstall within f safe fits = verified_safe memory (at job slot ws ToInstall) safe fits
+row_safe (Install k memory) job slot ws other within f safe fits = fits
+row_safe (Take k memory) job slot ws (ToTake n) within f safe fits = fits
+row_safe (Take k memory) job slot ws other within f safe fits = fits
+row_safe (Raise k) job slot ws (ToRaise word content) within f safe fits = fits
+row_safe (Raise k) job slot ws other within f safe fits = fits
+row_safe (Answer k now) job slot ws (ToAnswer content) within f safe fits = fits
+row_safe (Answer k now) job slot ws other within f safe fits = fits
+row_safe other job slot ws s within f safe fits = fits

@@ -1,6 +1,7 @@
 -- Where each answer comes from.
-use Rattle.std.proofs.Common.{◌≡◌, ℕ, ◌+◌, ◌<◌, ◌≤◌, length, Bool, true, false, Option, Some, None, refl, sym, ap, ◌∙◌, subst, ◌⊎◌, inl, inr, arith, if◌then◌else◌}
-use Rattle.std.specs.Prelude.{nat_lt, ◌==◌, is_none}
+use Rattle.std.proofs.Common.{◌≡◌, ℕ, ◌+◌, ◌<◌, ◌≤◌, length, Bool, true, false, Option, Some, None, refl, sym, ap, ◌∙◌, subst, ◌⊎◌, inl, inr, arith, if◌then◌else◌, length-append}
+use Rattle.std.specs.Prelude.{List, [], ◌∷◌, ◌++◌, nat_lt, ◌==◌, ◌%◌, ◌&&◌, ◌||◌, is_none}
+use Rattle.std.specs.List.{list_any}
 use borrow.Author.Tests.{ltb-true, ltb-false}
 use Rattle.std.proofs.lemmas.Bool.{eqb-true, eq-eqb}
 use Rattle.coap_msg.specs.declared.types.Emission.{Emission}
@@ -8,33 +9,38 @@ use Rattle.fc_kinds.specs.Meaning.{Program}
 use Rattle.fc_verify.specs.Accepted.{Judgement, Accepts, Breaks, Untypable}
 use Rattle.fc_verify.specs.Judged.{judged}
 use Rattle.fc_registry.specs.declared.job.Ask.{Ask}
-use Rattle.fc_registry.specs.declared.job.Ask.TheVariants.{Run, Install as Installs}
+use Rattle.fc_registry.specs.declared.job.Ask.TheVariants.{Run, Install as Installs, Remove as Removes, Describe, Discover}
 use Rattle.fc_registry.specs.declared.job.Job.{Job}
 use Rattle.fc_registry.specs.declared.commit.CommitOutcome.{CommitOutcome}
 use Rattle.fc_registry.specs.declared.commit.CommitOutcome.TheVariants.{Writes, Keeps, Overtakes, Ends}
 use Rattle.fc_registry.specs.Slots.{Slot, Present, Ticket, last_serial}
-use Rattle.fc_registry.specs.Calls.{outcome, outcome_by, put_by, taking, wants}
+use Rattle.fc_registry.specs.Calls.{clear_by, outcome, outcome_by, put_by, receipt_at, receipt_of, taking, wants}
 use Rattle.fc_core.specs.declared.event.Event.{Event}
-use Rattle.fc_core.specs.declared.event.Event.TheVariants.{Take, Commit, Install, Raise, Answer, Lose}
+use Rattle.fc_core.specs.declared.event.Event.TheVariants.{Peek, Take, Commit, Install, Remove, Receipt, Raise, Answer, Lose}
 use Rattle.fc_core.specs.declared.stage.Stage.{Stage}
-use Rattle.fc_core.specs.declared.stage.Stage.TheVariants.{ToTake, ToCommit, ToInstall, ToRaise, ToAnswer}
+use Rattle.fc_core.specs.declared.stage.Stage.TheVariants.{ToMatch, ToTake, ToCommit, ToInstall, ToRemove, ToDescribe, ToList, ToRaise, ToAnswer}
 use Rattle.fc_core.specs.declared.stage.Task.{Task}
-use Rattle.fc_core.specs.Contents.{Content, Missing, Unavailable, Made, Rejected, Untyped}
-use Rattle.fc_core.specs.AnswerLaws.{IsCause, NoTicket, NoMemory, Overtaken, LastCommit, LastInstall}
+use Rattle.arrayvec.specs.ArrayVec.{ArrayVec}
+use Rattle.fc_core.specs.Contents.{Content, Missing, Unavailable, Made, Rejected, Untyped, Valid, Deleted, Described, Listed}
+use Rattle.fc_core.specs.Fits.{HasNext}
+use Rattle.fc_core.specs.Heads.{is_match, is_present, serial_in, word_at}
+use Rattle.fc_core.specs.AnswerLaws.{Contains, IsCause, NoTicket, NoMemory, NothingDescribed, NothingTaken, Overtaken, LastCommit, LastInstall, LastRemoval}
 use Rattle.fc_core.specs.History.{Entry, History, Then, Seen, seen, and_then, did, job, slot_at, stage, task_at}
 use Rattle.fc_core.specs.Laws.{answer_at, slot_of, takings_of}
-use Rattle.fc_core.specs.Stages.{Scene, committed, first_by, image_of, installed, made, names, run_content, receipt_of, row, took, verified}
+use Rattle.fc_core.specs.Stages.{Scene, committed, first_by, image_of, installed, made, matched_by, names, peeked_next, peeked_own, removed, run_content, row, told, took, verified}
 use Rattle.fc_core.proofs.Others.{is_here, named_stage}
 use Rattle.fc_core.proofs.Steps.{Becomes, Moves, Stays, Comes, becomes}
+use Rattle.fc_core.proofs.Fitting.{fits_next}
 use Rattle.fc_core.proofs.Takings.{Took, known}
+use Rattle.fc_core.proofs.Writing.{sound}
 
-abbrev at : Job → Slot → Stage → Scene
-at job slot stage = record { job = job; slot = slot; stage = stage }
+abbrev at : Job → Slot → List ℕ → Stage → Scene
+at job slot ws stage = record { job = job; slot = slot; words = ws; stage = stage }
 
-module _ (k : ℕ) (job : Job) (slot : Slot) (taken : ℕ) where
+module _ (k : ℕ) (job : Job) (slot : Slot) (ws : List ℕ) (taken : ℕ) where
   -- it answers this for a reason
   abbrev Why : Event → Stage → Content → Type 0
-  Why e s c = IsCause e k job slot s taken c
+  Why e s c = IsCause e k job slot ws s taken c
 
   abbrev Answered : Event → Stage → Stage → Content → Type 0
   Answered e s new c = answer_at new ≡ Some c → Why e s c
@@ -44,7 +50,7 @@ module _ (k : ℕ) (job : Job) (slot : Slot) (taken : ℕ) where
   so e s c d why is = let same : c ≡ d = cc is in subst (Why e s) same why
 
   taking_why : (memory : Bool) (n : ℕ) (p : Option Present) (c : Content) → slot.present ≡ p → Answered (Take k memory) (ToTake n) (took n (taking memory job slot.serial p)) c
-  taking_why memory n None c is e = so (Take k memory) (ToTake n) Missing c (record { memory = memory; count = n; event = refl; is = refl; empty = is }) e
+  taking_why memory n None c is e = so (Take k memory) (ToTake n) Missing c (NothingTaken memory n refl refl is) e
   taking_why true n (Some p) c is e = absurd (cc)
   taking_why false n (Some p) c is e = so (Take k false) (ToTake n) Unavailable c (NoTicket n p refl refl is) e
 
@@ -95,8 +101,8 @@ module _ (k : ℕ) (job : Job) (slot : Slot) (taken : ℕ) where
       let tests = outcome_ends (wants t) (slot.serial == t.serial) (nat_lt slot.serial last_serial) comes in
       so (Commit k now) (ToCommit n t) Unavailable c (LastCommit now n t refl refl tests.0 (ltb-false slot.serial last_serial tests.1)) e
 
-  put_why : (p : Program) (b : Bool) (c : Content) → judged (image_of job.ask) ≡ Accepts p → nat_lt slot.serial last_serial ≡ b → Answered (Install k true) ToInstall (made (receipt_of p) (put_by b slot p).answer) c
-  put_why p true c is lt e = so (Install k true) ToInstall (Made (record (receipt_of p) { version = slot.serial + 1 }) (is_none slot.present)) c (record { program = p; event = refl; is = refl; accepted = is; below = ltb-true slot.serial last_serial lt; version = refl; cost = refl; budget = refl; vars = refl; empty = refl }) e
+  put_why : (p : Program) (b : Bool) (c : Content) → judged (image_of job.ask) ≡ Accepts p → nat_lt slot.serial last_serial ≡ b → Answered (Install k true) ToInstall (made (receipt_of p 0) (put_by b slot p).answer) c
+  put_why p true c is lt e = so (Install k true) ToInstall (Made (record (receipt_of p 0) { version = slot.serial + 1 }) (is_none slot.present)) c (record { program = p; event = refl; is = refl; accepted = is; below = ltb-true slot.serial last_serial lt; version = refl; cost = refl; budget = refl; vars = refl; empty = refl }) e
   put_why p false c is lt e = so (Install k true) ToInstall Unavailable c (LastInstall p refl refl is (ltb-false slot.serial last_serial lt)) e
 
   installed_why : (j : Judgement) (c : Content) → judged (image_of job.ask) ≡ j → Answered (Install k true) ToInstall (installed j slot).stage c
@@ -104,48 +110,111 @@ module _ (k : ℕ) (job : Job) (slot : Slot) (taken : ℕ) where
   installed_why (Breaks rule n) c is e = so (Install k true) ToInstall (Rejected rule n) c (record { event = refl; is = refl; judged_as = is }) e
   installed_why Untypable c is e = so (Install k true) ToInstall Untyped c (record { event = refl; is = refl; judged_as = is }) e
 
-  verified_why : (memory : Bool) (c : Content) → Answered (Install k memory) ToInstall (verified memory (at job slot ToInstall)).stage c
+  verified_why : (memory : Bool) (c : Content) → Answered (Install k memory) ToInstall (verified memory (at job slot ws ToInstall)).stage c
   verified_why true c e = installed_why (judged (image_of job.ask)) c refl e
   verified_why false c e = so (Install k false) ToInstall Unavailable c (NoMemory refl refl) e
 
--- how many tickets a job took that is to commit
+  clear_why : (b : Bool) (o : Option Present) (c : Content) → nat_lt slot.serial last_serial ≡ b → slot.present ≡ o → Answered (Remove k) ToRemove (removed (clear_by b slot.serial o).answer) c
+  clear_why b None c lt is e = so (Remove k) ToRemove Deleted c (record { event = refl; is = refl; may = inl is }) e
+  clear_why true (Some p) c lt is e = so (Remove k) ToRemove Deleted c (record { event = refl; is = refl; may = inr (ltb-true slot.serial last_serial lt) }) e
+  clear_why false (Some p) c lt is e = so (Remove k) ToRemove Unavailable c (LastRemoval p refl refl is (ltb-false slot.serial last_serial lt)) e
+
+  told_why : (o : Option Present) (c : Content) → slot.present ≡ o → Answered (Receipt k) ToDescribe (ToAnswer (told (receipt_at o))) c
+  told_why None c is e = so (Receipt k) ToDescribe Missing c (NothingDescribed refl refl is) e
+  told_why (Some p) c is e = so (Receipt k) ToDescribe (Described (receipt_of p.program p.version)) c (record { found = p; event = refl; is = refl; present = is; receipt_is = refl }) e
+
+  -- one of the serials passes the test of the word
+  contains_by : (x serial : ℕ) (xs : List ℕ) (b : Bool) → (x == serial) ≡ b → (list_any (λ y. y == serial) xs ≡ true → Contains xs serial) → (b || list_any (λ y. y == serial) xs) ≡ true → Contains (x ∷ xs) serial
+  contains_by x serial xs true is more e = record { before = []; after = xs; is = ap (λ (y : ℕ). y ∷ xs) (eqb-true x serial is) }
+  contains_by x serial xs false is more e = let w = more e in record { before = x ∷ w.before; after = w.after; is = ap (λ (l : List ℕ). x ∷ l) w.is }
+
+  contains : (serials : List ℕ) (serial : ℕ) → list_any (λ x. x == serial) serials ≡ true → Contains serials serial
+  contains [] serial e = absurd (cc)
+  contains (x ∷ xs) serial e = contains_by x serial xs (x == serial) refl (contains xs serial) e
+
+  both : (a b : Bool) → (a && b) ≡ true → (a ≡ true) × (b ≡ true)
+  both true b e = (refl, e)
+  both false b e = absurd (cc)
+
+  matched_why : (word : ℕ) (b : Bool) (c : Content) → word ≡ word_at ws job.origin.slot → is_match word job.etags.items ≡ b → Answered (Peek k job.origin.slot) ToMatch (matched_by b word) c
+  matched_why word true c is e f =
+      let tests = both (is_present word) (list_any (λ x. x == serial_in word) job.etags.items) e in
+      let odd = eqb-true (word % 2) 1 tests.0 in
+      so (Peek k job.origin.slot) ToMatch (Valid (serial_in word)) c (record { event = refl; is = refl; word = sym is ∙ omega (arith, odd); asked = contains job.etags.items (serial_in word) tests.1 }) f
+  matched_why word false c is e f = absurd (cc f)
+
+  own_why : (n : ℕ) (b : Bool) (c : Content) → (n == job.origin.slot) ≡ b → Answered (Peek k n) ToMatch (peeked_own b (word_at ws n) job.etags.items) c
+  own_why n true c is e =
+      let same = eqb-true n job.origin.slot is in
+      subst (λ (i : ℕ). Answered (Peek k i) ToMatch (peeked_own true (word_at ws i) job.etags.items) c) (sym same)
+      (matched_why (word_at ws job.origin.slot) (is_match (word_at ws job.origin.slot) job.etags.items) c refl refl) e
+  own_why n false c is e = absurd (cc e)
+
+  listed_why : (seen : ArrayVec ℕ) (n : ℕ) (b : Bool) (c : Content) → n ≡ length seen.items → length seen.items < 64 → nat_lt (length (seen.items ++ word_at ws n ∷ [])) 64 ≡ b → Answered (Peek k n) (ToList seen) (if b then ToList (record { items = seen.items ++ word_at ws n ∷ [] }) else ToAnswer (Listed (seen.items ++ word_at ws n ∷ []))) c
+  listed_why seen n true c is below lt e = absurd (cc e)
+  listed_why seen n false c is below lt e =
+      let len : length (seen.items ++ word_at ws n ∷ []) ≡ length seen.items + 1 = length-append seen.items (word_at ws n ∷ []) in
+      let past : 64 ≤ length (seen.items ++ word_at ws n ∷ []) = ltb-false (length (seen.items ++ word_at ws n ∷ [])) 64 lt in
+      let last : n ≡ 63 = omega (arith, is, below, len, past) in
+      let count : length (seen.items ++ word_at ws n ∷ []) ≡ 64 = omega (arith, below, len, past) in
+      so (Peek k n) (ToList seen) (Listed (seen.items ++ word_at ws n ∷ [])) c
+      (record { seen = seen; event = ap (Peek k) last; is = refl; list_is = ap (λ (i : ℕ). seen.items ++ word_at ws i ∷ []) last; count = count }) e
+
+  next_why : (seen : ArrayVec ℕ) (n : ℕ) (b : Bool) (c : Content) → (n == length seen.items) ≡ b → length seen.items < 64 → Answered (Peek k n) (ToList seen) (peeked_next b (word_at ws n) seen) c
+  next_why seen n true c is below e = listed_why seen n (nat_lt (length (seen.items ++ word_at ws n ∷ [])) 64) c (eqb-true n (length seen.items) is) below refl e
+  next_why seen n false c is below e = absurd (cc e)
+
+-- how many tickets a job took that is to commit; a job that lists head words has yet one to read
 abbrev IsCount : Stage → ℕ → Type 0
 IsCount (ToCommit n t) taken = (taken ≡ n) × (n ≤ 8)
+IsCount (ToList seen) taken = length seen.items < 64
 IsCount other taken = Unit {0}
 
-row_why : (e : Event) (k : ℕ) (job : Job) (slot : Slot) (s : Stage) (taken : ℕ) (c : Content) → names e ≡ Some k → IsCount s taken → answer_at (row e (at job slot s)).stage ≡ Some c → (answer_at s ≡ Some c) ⊎ IsCause e k job slot s taken c
-row_why (Take j memory) k job slot (ToTake n) taken c named f e = let same : j ≡ k = cc named in inr (subst (λ (i : ℕ). IsCause (Take i memory) k job slot (ToTake n) taken c) (sym same) (taking_why k job slot taken memory n slot.present c refl e))
-row_why (Take j memory) k job slot other taken c named f e = inl e
-row_why (Commit j now) k job slot (ToCommit n t) taken c named f e = let same : j ≡ k = cc named in inr (subst (λ (i : ℕ). IsCause (Commit i now) k job slot (ToCommit n t) taken c) (sym same) (committed_why k job slot taken now n t (outcome t slot) c f.0 f.1 refl e))
-row_why (Commit j now) k job slot other taken c named f e = inl e
-row_why (Install j memory) k job slot ToInstall taken c named f e = let same : j ≡ k = cc named in inr (subst (λ (i : ℕ). IsCause (Install i memory) k job slot ToInstall taken c) (sym same) (verified_why k job slot taken memory c e))
-row_why (Install j memory) k job slot other taken c named f e = inl e
-row_why (Raise j) k job slot (ToRaise content) taken c named f e = inl e
-row_why (Raise j) k job slot other taken c named f e = inl e
-row_why (Answer j now) k job slot (ToAnswer content) taken c named f e = absurd (cc e)
-row_why (Answer j now) k job slot other taken c named f e = inl e
-row_why (Lose j) k job slot s taken c named f e = absurd (cc e)
-row_why other k job slot s taken c named f e = absurd (cc named)
+row_why : (e : Event) (k : ℕ) (job : Job) (slot : Slot) (ws : List ℕ) (s : Stage) (taken : ℕ) (c : Content) → names e ≡ Some k → IsCount s taken → answer_at (row e (at job slot ws s)).stage ≡ Some c → (answer_at s ≡ Some c) ⊎ IsCause e k job slot ws s taken c
+row_why (Peek j n) k job slot ws ToMatch taken c named f e = let same : j ≡ k = cc named in inr (subst (λ (i : ℕ). IsCause (Peek i n) k job slot ws ToMatch taken c) (sym same) (own_why k job slot ws taken n (n == job.origin.slot) c refl e))
+row_why (Peek j n) k job slot ws (ToList seen) taken c named f e = let same : j ≡ k = cc named in inr (subst (λ (i : ℕ). IsCause (Peek i n) k job slot ws (ToList seen) taken c) (sym same) (next_why k job slot ws taken seen n (n == length seen.items) c refl f e))
+row_why (Peek j n) k job slot ws other taken c named f e = inl e
+row_why (Remove j) k job slot ws ToRemove taken c named f e = let same : j ≡ k = cc named in inr (subst (λ (i : ℕ). IsCause (Remove i) k job slot ws ToRemove taken c) (sym same) (clear_why k job slot ws taken (nat_lt slot.serial last_serial) slot.present c refl refl e))
+row_why (Remove j) k job slot ws other taken c named f e = inl e
+row_why (Receipt j) k job slot ws ToDescribe taken c named f e = let same : j ≡ k = cc named in inr (subst (λ (i : ℕ). IsCause (Receipt i) k job slot ws ToDescribe taken c) (sym same) (told_why k job slot ws taken slot.present c refl e))
+row_why (Receipt j) k job slot ws other taken c named f e = inl e
+row_why (Take j memory) k job slot ws (ToTake n) taken c named f e = let same : j ≡ k = cc named in inr (subst (λ (i : ℕ). IsCause (Take i memory) k job slot ws (ToTake n) taken c) (sym same) (taking_why k job slot ws taken memory n slot.present c refl e))
+row_why (Take j memory) k job slot ws other taken c named f e = inl e
+row_why (Commit j now) k job slot ws (ToCommit n t) taken c named f e = let same : j ≡ k = cc named in inr (subst (λ (i : ℕ). IsCause (Commit i now) k job slot ws (ToCommit n t) taken c) (sym same) (committed_why k job slot ws taken now n t (outcome t slot) c f.0 f.1 refl e))
+row_why (Commit j now) k job slot ws other taken c named f e = inl e
+row_why (Install j memory) k job slot ws ToInstall taken c named f e = let same : j ≡ k = cc named in inr (subst (λ (i : ℕ). IsCause (Install i memory) k job slot ws ToInstall taken c) (sym same) (verified_why k job slot ws taken memory c e))
+row_why (Install j memory) k job slot ws other taken c named f e = inl e
+row_why (Raise j) k job slot ws (ToRaise word content) taken c named f e = inl e
+row_why (Raise j) k job slot ws other taken c named f e = inl e
+row_why (Answer j now) k job slot ws (ToAnswer content) taken c named f e = absurd (cc e)
+row_why (Answer j now) k job slot ws other taken c named f e = inl e
+row_why (Lose j) k job slot ws s taken c named f e = absurd (cc e)
+row_why other k job slot ws s taken c named f e = absurd (cc named)
 
-count_is : (s : Stage) (h : History) (k : ℕ) → Took (takings_of h k) s → IsCount s (length (takings_of h k))
-count_is (ToCommit n t) h k f = (f.0, f.1)
-count_is other h k f = tt
+count_is : (s : Stage) (h : History) (k : ℕ) → Took (takings_of h k) s → HasNext s → IsCount s (length (takings_of h k))
+count_is (ToCommit n t) h k f next = (f.0, f.1)
+count_is (ToList seen) h k f next = next
+count_is other h k f next = tt
 
-none_first : (ask : Ask) (c : Content) → answer_at (first_by ask) ≡ Some c → ⊥
-none_first (Run request) c e = absurd (cc e)
-none_first (Installs image) c e = absurd (cc e)
+none_first : (ask : Ask) (serials : List ℕ) (c : Content) → answer_at (first_by ask serials) ≡ Some c → ⊥
+none_first (Run request) [] c e = absurd (cc e)
+none_first (Run request) (x ∷ xs) c e = absurd (cc e)
+none_first (Installs image) serials c e = absurd (cc e)
+none_first Removes serials c e = absurd (cc e)
+none_first Describe serials c e = absurd (cc e)
+none_first Discover serials c e = absurd (cc e)
 
-why_by : (h : History) (r : Entry) (k : ℕ) (c : Content) (t : Task) → Becomes (names r.event) r.event (seen h) k t → answer_at t.stage ≡ Some c → (answer_at (stage (seen h) k) ≡ Some c) ⊎ IsCause r.event k (job (seen h) k) (slot_at (seen h) (slot_of (seen h) k)) (stage (seen h) k) (length (takings_of h k)) c
-why_by h r k c t (Moves named is) e = row_why r.event k (job (seen h) k) (slot_at (seen h) (slot_of (seen h) k)) (stage (seen h) k) (length (takings_of h k)) c named (count_is (stage (seen h) k) h k (known h k)) (ap (λ (x : Task). answer_at x.stage) (sym is) ∙ e)
+why_by : (h : History) (r : Entry) (k : ℕ) (c : Content) (t : Task) → Becomes (names r.event) r.event (seen h) k t → answer_at t.stage ≡ Some c → (answer_at (stage (seen h) k) ≡ Some c) ⊎ IsCause r.event k (job (seen h) k) (slot_at (seen h) (slot_of (seen h) k)) (seen h).words (stage (seen h) k) (length (takings_of h k)) c
+why_by h r k c t (Moves named is) e = row_why r.event k (job (seen h) k) (slot_at (seen h) (slot_of (seen h) k)) (seen h).words (stage (seen h) k) (length (takings_of h k)) c named (count_is (stage (seen h) k) h k (known h k) (fits_next (job (seen h) k) (slot_at (seen h) (slot_of (seen h) k)) (stage (seen h) k) ((sound h).stages k))) (ap (λ (x : Task). answer_at x.stage) (sym is) ∙ e)
 why_by h r k c t (Stays other is) e = inl (ap (λ (x : Task). answer_at x.stage) (sym is) ∙ e)
-why_by h r k c t (Comes new j is) e = absurd (none_first j.ask c (ap (λ (x : Task). answer_at x.stage) (sym is) ∙ e))
+why_by h r k c t (Comes new j is) e = absurd (none_first j.ask j.etags.items c (ap (λ (x : Task). answer_at x.stage) (sym is) ∙ e))
 
-pub answers_have_causes : (h : History) (r : Entry) (k : ℕ) (c : Content) → answer_at (stage (seen (Then h r)) k) ≡ Some c → (answer_at (stage (seen h) k) ≡ Some c) ⊎ IsCause r.event k (job (seen h) k) (slot_at (seen h) (slot_of (seen h) k)) (stage (seen h) k) (length (takings_of h k)) c
+pub answers_have_causes : (h : History) (r : Entry) (k : ℕ) (c : Content) → answer_at (stage (seen (Then h r)) k) ≡ Some c → (answer_at (stage (seen h) k) ≡ Some c) ⊎ IsCause r.event k (job (seen h) k) (slot_at (seen h) (slot_of (seen h) k)) (seen h).words (stage (seen h) k) (length (takings_of h k)) c
 unfolding seen
 answers_have_causes h r k c e = why_by h r k c (task_at (and_then r (seen h)).tasks k) (becomes r (seen h) k) e
 
 -- a taking that finds no program answers so
 pub empty_misses : (s : Seen) (k count : ℕ) (memory : Bool) (o : Option Emission) → stage s k ≡ ToTake count → (slot_at s (slot_of s k)).present ≡ None → stage (and_then (did (Take k memory) o) s) k ≡ ToAnswer Missing
 empty_misses s k count memory o is empty = named_stage (did (Take k memory) o) s k (is_here s k (ToTake count) is (λ e. absurd (cc e))) refl
-    ∙ (ap (λ (x : Stage). (row (Take k memory) (at (job s k) (slot_at s (slot_of s k)) x)).stage) is
+    ∙ (ap (λ (x : Stage). (row (Take k memory) (at (job s k) (slot_at s (slot_of s k)) s.words x)).stage) is
     ∙ ap (λ (x : Option Present). took count (taking memory (job s k) (slot_at s (slot_of s k)).serial x)) empty)

@@ -114,7 +114,7 @@ none_emits (Some content) j f o e w = absurd (cc)
 
 stray_emits : (s : Seen) (e : Event) (o : Option Emission) → is_stray s e ≡ true → Emits s e o → o ≡ None
 stray_emits s (Deliver now to bytes) o e w = absurd (cc)
-stray_emits s (Answer k now) o e w = none_emits (content_at (stage s k)) _ _ o (none_answered k now (stage s k) e) w
+stray_emits s (Answer k now) o e w = none_emits (content_at (stage s k)) _ _ o (none_answered k now (job s k).origin.slot (stage s k) e) w
 stray_emits s other o e w = w
 
 pub strays_emit_nothing : (r : Entry) (s : Seen) → is_stray s r.event ≡ true → Emits s r.event r.emitted → r.emitted ≡ None

@@ -8,22 +8,25 @@ use Rattle.fc_kinds.specs.Meaning.{Program}
 use Rattle.fc_verify.specs.Accepted.{Judgement, Accepts, Breaks, Untypable}
 use Rattle.fc_verify.specs.Judged.{judged}
 use Rattle.fc_registry.specs.declared.job.Ask.{Ask}
-use Rattle.fc_registry.specs.declared.job.Ask.TheVariants.{Run, Install as Installs}
+use Rattle.fc_registry.specs.declared.job.Ask.TheVariants.{Run, Install as Installs, Remove as Removes, Describe, Discover}
 use Rattle.fc_registry.specs.declared.job.Job.{Job}
 use Rattle.fc_registry.specs.declared.commit.CommitOutcome.{CommitOutcome}
 use Rattle.fc_registry.specs.declared.commit.CommitOutcome.TheVariants.{Writes, Keeps, Overtakes, Ends}
 use Rattle.fc_registry.specs.Slots.{Slot, Present, Ticket, last_serial}
 use Rattle.fc_registry.specs.Changes.{Change}
-use Rattle.fc_registry.specs.Calls.{meaning_at, outcome, outcome_by, put_by, taking, wants}
+use Rattle.fc_registry.specs.declared.receipt.Receipt.{Receipt as Facts}
+use Rattle.fc_registry.specs.Calls.{clear_by, meaning_at, outcome, outcome_by, put_by, receipt_at, receipt_of, taking, wants}
 use Rattle.fc_core.specs.declared.event.Event.{Event}
-use Rattle.fc_core.specs.declared.event.Event.TheVariants.{Take, Commit, Install, Raise, Answer, Lose}
+use Rattle.fc_core.specs.declared.event.Event.TheVariants.{Peek, Take, Commit, Install, Remove, Receipt, Raise, Answer, Lose}
 use Rattle.fc_core.specs.declared.stage.Stage.{Stage}
-use Rattle.fc_core.specs.declared.stage.Stage.TheVariants.{ToTake, ToCommit, ToInstall, ToRaise, ToAnswer, Gone}
+use Rattle.fc_core.specs.declared.stage.Stage.TheVariants.{ToMatch, ToTake, ToCommit, ToInstall, ToRemove, ToDescribe, ToList, ToRaise, ToAnswer, Gone}
 use Rattle.fc_core.specs.Blocks.{first_block}
-use Rattle.fc_core.specs.Contents.{Content, Ran, RunAnswer, run_answer, Unavailable}
+use Rattle.arrayvec.specs.ArrayVec.{ArrayVec}
+use Rattle.fc_core.specs.Contents.{Content, Listed, Ran, RunAnswer, run_answer, Unavailable}
+use Rattle.fc_core.specs.Heads.{is_match, word_at}
 use Rattle.fc_core.specs.History.{Entry, History, Then, Seen, seen, and_then, did, job, slot_at, stage}
 use Rattle.fc_core.specs.Laws.{IsOfNewest, IsOvertaken, Taking, TakesAgain, answer_at, gives, slot_of, takings_of}
-use Rattle.fc_core.specs.Stages.{Scene, committed, first_by, image_of, installed, made, receipt_of, retaken, row, took, verified}
+use Rattle.fc_core.specs.Stages.{Scene, committed, first_by, image_of, installed, made, matched_by, peeked_next, peeked_own, removed, retaken, row, told, took, verified}
 use Rattle.fc_core.proofs.Along.{IsTold, along}
 use Rattle.fc_core.proofs.Others.{is_here, named_stage}
 
@@ -41,7 +44,8 @@ IsNewest (x ∷ xs) t = x.ticket ≡ t
 abbrev pub Took : List Taking → Stage → Type 0
 Took ts (ToTake n) = (length ts ≡ n) × (n < 8)
 Took ts (ToCommit n t) = (length ts ≡ n) × (n ≤ 8) × IsNewest ts t
-Took ts (ToRaise content) = (length ts ≤ 8) × Says ts content
+Took ts ToMatch = length ts ≡ 0
+Took ts (ToRaise word content) = (length ts ≤ 8) × Says ts content
 Took ts (ToAnswer content) = (length ts ≤ 8) × Says ts content
 Took ts other = length ts ≤ 8
 
@@ -49,7 +53,11 @@ at_most_eight : (s : Stage) (ts : List Taking) → Took ts s → length ts ≤ 8
 at_most_eight (ToTake n) ts f = omega (arith, f.0, f.1)
 at_most_eight (ToCommit n t) ts f = omega (arith, f.0, f.1)
 at_most_eight ToInstall ts f = f
-at_most_eight (ToRaise content) ts f = f.0
+at_most_eight ToMatch ts f = omega (arith, f)
+at_most_eight ToRemove ts f = f
+at_most_eight ToDescribe ts f = f
+at_most_eight (ToList seen) ts f = f
+at_most_eight (ToRaise word content) ts f = f.0
 at_most_eight (ToAnswer content) ts f = f.0
 at_most_eight Gone ts f = f
 
@@ -73,7 +81,7 @@ committed_took n ts t now Keeps is le e = (omega arith, newest_says ts t e)
 committed_took n ts t now Overtakes is le e = retaken_took n ts (nat_lt n 8) refl is le
 committed_took n ts t now Ends is le e = (omega arith, tt)
 
-made_took : (b : Bool) (p : Program) (slot : Slot) (ts : List Taking) → length ts ≤ 8 → Took ts (made (receipt_of p) (put_by b slot p).answer)
+made_took : (b : Bool) (p : Program) (slot : Slot) (ts : List Taking) → length ts ≤ 8 → Took ts (made (receipt_of p 0) (put_by b slot p).answer)
 made_took true p slot ts le = (le, tt)
 made_took false p slot ts le = (le, tt)
 
@@ -82,27 +90,59 @@ installed_took (Accepts p) slot ts le = made_took (nat_lt slot.serial last_seria
 installed_took (Breaks rule k) slot ts le = (le, tt)
 installed_took Untypable slot ts le = (le, tt)
 
-abbrev at : Job → Slot → Stage → Scene
-at job slot stage = record { job = job; slot = slot; stage = stage }
+abbrev at : Job → Slot → List ℕ → Stage → Scene
+at job slot ws stage = record { job = job; slot = slot; words = ws; stage = stage }
 
 verified_took : (memory : Bool) (s : Scene) (ts : List Taking) → length ts ≤ 8 → Took ts (verified memory s).stage
 verified_took true s ts le = installed_took (judged (image_of s.job.ask)) s.slot ts le
 verified_took false s ts le = (le, tt)
 
-row_took : (e : Event) (job : Job) (slot : Slot) (cs : List Change) (s : Stage) (ts : List Taking) → Took ts s → Took (gives e s job slot cs ++ ts) (row e (at job slot s)).stage
-row_took (Take k memory) job slot cs (ToTake n) ts f = taking_took memory k job slot cs n ts slot.present refl f.0 f.1
-row_took (Take k true) job slot cs other ts f = f
-row_took (Take k false) job slot cs other ts f = f
-row_took (Commit k now) job slot cs (ToCommit n t) ts f = committed_took n ts t now (outcome t slot) f.0 f.1 f.2
-row_took (Commit k now) job slot cs other ts f = f
-row_took (Install k memory) job slot cs ToInstall ts f = verified_took memory (at job slot ToInstall) ts f
-row_took (Install k memory) job slot cs other ts f = f
-row_took (Raise k) job slot cs (ToRaise content) ts f = f
-row_took (Raise k) job slot cs other ts f = f
-row_took (Answer k now) job slot cs (ToAnswer content) ts f = f.0
-row_took (Answer k now) job slot cs other ts f = f
-row_took (Lose k) job slot cs s ts f = at_most_eight s ts f
-row_took other job slot cs s ts f = f
+clear_took : (below : Bool) (serial : ℕ) (p : Option Present) (ts : List Taking) → length ts ≤ 8 → Took ts (removed (clear_by below serial p).answer)
+clear_took below serial None ts le = (le, tt)
+clear_took true serial (Some p) ts le = (le, tt)
+clear_took false serial (Some p) ts le = (le, tt)
+
+told_took : (receipt : Option Facts) (ts : List Taking) → length ts ≤ 8 → Took ts (ToAnswer (told receipt))
+told_took None ts le = (le, tt)
+told_took (Some receipt) ts le = (le, tt)
+
+matched_took : (b : Bool) (word : ℕ) (ts : List Taking) → length ts ≡ 0 → Took ts (matched_by b word)
+matched_took true word ts is = (omega (arith, is), tt)
+matched_took false word ts is = (is, omega arith)
+
+own_took : (b : Bool) (word : ℕ) (serials : List ℕ) (ts : List Taking) → length ts ≡ 0 → Took ts (peeked_own b word serials)
+own_took true word serials ts is = matched_took (is_match word serials) word ts is
+own_took false word serials ts is = is
+
+listed_took : (b : Bool) (words : List ℕ) (ts : List Taking) → length ts ≤ 8 → Took ts (if b then ToList (record { items = words }) else ToAnswer (Listed words))
+listed_took true words ts le = le
+listed_took false words ts le = (le, tt)
+
+next_took : (b : Bool) (word : ℕ) (seen : ArrayVec ℕ) (ts : List Taking) → length ts ≤ 8 → Took ts (peeked_next b word seen)
+next_took true word seen ts le = listed_took (nat_lt (length (seen.items ++ word ∷ [])) 64) (seen.items ++ word ∷ []) ts le
+next_took false word seen ts le = le
+
+row_took : (e : Event) (job : Job) (slot : Slot) (cs : List Change) (ws : List ℕ) (s : Stage) (ts : List Taking) → Took ts s → Took (gives e s job slot cs ++ ts) (row e (at job slot ws s)).stage
+row_took (Peek k n) job slot cs ws ToMatch ts f = own_took (n == job.origin.slot) (word_at ws n) job.etags.items ts f
+row_took (Peek k n) job slot cs ws (ToList seen) ts f = next_took (n == length seen.items) (word_at ws n) seen ts f
+row_took (Peek k n) job slot cs ws other ts f = f
+row_took (Remove k) job slot cs ws ToRemove ts f = clear_took (nat_lt slot.serial last_serial) slot.serial slot.present ts f
+row_took (Remove k) job slot cs ws other ts f = f
+row_took (Receipt k) job slot cs ws ToDescribe ts f = told_took (receipt_at slot.present) ts f
+row_took (Receipt k) job slot cs ws other ts f = f
+row_took (Take k memory) job slot cs ws (ToTake n) ts f = taking_took memory k job slot cs n ts slot.present refl f.0 f.1
+row_took (Take k true) job slot cs ws other ts f = f
+row_took (Take k false) job slot cs ws other ts f = f
+row_took (Commit k now) job slot cs ws (ToCommit n t) ts f = committed_took n ts t now (outcome t slot) f.0 f.1 f.2
+row_took (Commit k now) job slot cs ws other ts f = f
+row_took (Install k memory) job slot cs ws ToInstall ts f = verified_took memory (at job slot ws ToInstall) ts f
+row_took (Install k memory) job slot cs ws other ts f = f
+row_took (Raise k) job slot cs ws (ToRaise word content) ts f = f
+row_took (Raise k) job slot cs ws other ts f = f
+row_took (Answer k now) job slot cs ws (ToAnswer content) ts f = f.0
+row_took (Answer k now) job slot cs ws other ts f = f
+row_took (Lose k) job slot cs ws s ts f = at_most_eight s ts f
+row_took other job slot cs ws s ts f = f
 
 -- nothing is given to a job that is gone
 gone_given : (e : Event) (job : Job) (slot : Slot) (cs : List Change) → gives e Gone job slot cs ≡ []
@@ -110,9 +150,13 @@ gone_given (Take k true) job slot cs = refl
 gone_given (Take k false) job slot cs = refl
 gone_given other job slot cs = refl
 
-first_took : (ask : Ask) → Took [] (first_by ask)
-first_took (Run request) = (refl, omega arith)
-first_took (Installs image) = omega arith
+first_took : (ask : Ask) (serials : List ℕ) → Took [] (first_by ask serials)
+first_took (Run request) [] = (refl, omega arith)
+first_took (Run request) (x ∷ xs) = refl
+first_took (Installs image) serials = omega arith
+first_took Removes serials = omega arith
+first_took Describe serials = omega arith
+first_took Discover serials = omega arith
 
 abbrev pub more : Event → Seen → ℕ → List Taking → List Taking
 more e s k ts = gives e (stage s k) (job s k) (slot_at s (slot_of s k)) (s.changes (slot_of s k)) ++ ts
@@ -124,7 +168,7 @@ is_told = record {
   still = λ e s k ts is. ap (λ (x : Stage). gives e x (job s k) (slot_at s (slot_of s k)) (s.changes (slot_of s k)) ++ ts) is ∙ ap (λ (l : List Taking). l ++ ts) (gone_given e (job s k) (slot_at s (slot_of s k)) (s.changes (slot_of s k)));
   gone = omega arith;
   first = first_took;
-  keeps = λ e s k ts f. row_took e (job s k) (slot_at s (slot_of s k)) (s.changes (slot_of s k)) (stage s k) ts f;
+  keeps = λ e s k ts f. row_took e (job s k) (slot_at s (slot_of s k)) (s.changes (slot_of s k)) s.words (stage s k) ts f;
 }
 
 pub known : (h : History) (k : ℕ) → Took (takings_of h k) (stage (seen h) k)
@@ -138,7 +182,11 @@ said ts (ToTake n) run f e = absurd (cc e)
 said ts (ToCommit n t) run f e = absurd (cc e)
 said ts ToInstall run f e = absurd (cc e)
 said ts Gone run f e = absurd (cc e)
-said ts (ToRaise content) run f e = let is : content ≡ Ran run = cc e in subst (Says ts) is f.1
+said ts ToMatch run f e = absurd (cc e)
+said ts ToRemove run f e = absurd (cc e)
+said ts ToDescribe run f e = absurd (cc e)
+said ts (ToList seen) run f e = absurd (cc e)
+said ts (ToRaise word content) run f e = let is : content ≡ Ran run = cc e in subst (Says ts) is f.1
 said ts (ToAnswer content) run f e = let is : content ≡ Ran run = cc e in subst (Says ts) is f.1
 
 pub answers_newest : (h : History) (k : ℕ) (run : RunAnswer) → answer_at (stage (seen h) k) ≡ Some (Ran run) → IsOfNewest (takings_of h k) run
@@ -156,7 +204,7 @@ committing k now o = did (Commit k now) o
 overtaken_stage : (s : Seen) (k now : ℕ) (o : Option Emission) (w : IsOvertaken s k) → stage (and_then (committing k now o) s) k ≡ retaken w.count
 overtaken_stage s k now o w =
     named_stage (committing k now o) s k (is_here s k (ToCommit w.count w.ticket) w.at (λ gone. absurd (cc gone))) refl
-    ∙ (ap (λ (x : Stage). (row (Commit k now) (at (job s k) (slot_at s (slot_of s k)) x)).stage) w.at
+    ∙ (ap (λ (x : Stage). (row (Commit k now) (at (job s k) (slot_at s (slot_of s k)) s.words x)).stage) w.at
     ∙ ap (λ (x : CommitOutcome). (committed x w.count w.ticket now).stage) (overtaken_outcome w.ticket (slot_at s (slot_of s k)) w.wants w.other))
 
 taken_so_far : (h : History) (k : ℕ) (w : IsOvertaken (seen h) k) → length (takings_of h k) ≡ w.count

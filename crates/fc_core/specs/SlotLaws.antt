@@ -1,5 +1,5 @@
 -- What the laws of slots speak of.
-use Rattle.std.specs.Prelude.{◌≡◌, ℕ, ◌<◌, Bool, true, false, List, [], ◌∷◌, Option, Some, is_some}
+use Rattle.std.specs.Prelude.{◌≡◌, ℕ, ◌<◌, true, List, [], ◌∷◌, Some}
 use Rattle.fc_help.specs.declared.request.Method.TheVariants.{Post}
 use Rattle.fc_kinds.specs.Meaning.{Program}
 use Rattle.fc_verify.specs.Accepted.{Accepts}
@@ -7,19 +7,18 @@ use Rattle.fc_verify.specs.Judged.{judged}
 use Rattle.fc_registry.specs.Calls.{commit_of, meaning_at}
 use Rattle.fc_registry.specs.Changes.{Change, Installed, Committed, Removed}
 use Rattle.fc_registry.specs.Record.{code_class}
-use Rattle.fc_registry.specs.Slots.{Present, Slot, Ticket}
+use Rattle.fc_registry.specs.Slots.{Present, Ticket}
 use Rattle.fc_core.specs.declared.event.Event.TheVariants.{Commit, Install, Remove}
 use Rattle.fc_core.specs.declared.stage.Stage.{Stage}
 use Rattle.fc_core.specs.declared.stage.Stage.TheVariants.{ToCommit, ToInstall, ToRemove, ToRaise}
-use Rattle.fc_core.specs.Heads.{head_word}
 use Rattle.fc_core.specs.History.{Entry, History, Seen, seen, and_then, job, slot_at, stage}
 use Rattle.fc_core.specs.Laws.{Taking, slot_of, takings_of}
 use Rattle.fc_core.specs.Stages.{image_of}
 
--- a job that is to raise its slot's head word to that of this state
-abbrev pub IsToRaise : Slot → Stage → Type 0
-IsToRaise slot (ToRaise word content) = word ≡ head_word slot.serial (is_some slot.present)
-IsToRaise slot other = ⊥
+-- a job that is to publish its slot's new head word
+abbrev pub IsToRaise : Stage → Type 0
+IsToRaise (ToRaise word content) = Unit {0}
+IsToRaise other = ⊥
 
 -- ---- what changes a slot
 
@@ -68,7 +67,7 @@ pub record IsOfImage (p : Program) : Type 0 where
   pub image : List ℕ
   pub accepted : judged image ≡ Accepts p
 
--- each program that was installed is one that an image is accepted as, and none was removed
+-- each program that was installed is one that an image is accepted as
 abbrev pub AllOfImages : List Change → Type 0
 AllOfImages [] = Unit {0}
 AllOfImages (Installed p ∷ cs) = IsOfImage p × AllOfImages cs

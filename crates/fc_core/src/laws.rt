@@ -71,8 +71,8 @@ pub fn ended_jobs_stay_ended()
 
 /// Once its slot's new serial is published, a job stands at its answer, which is the one that it had.
 pub fn raises_keep_the_answer()
-    ensures { (s : Seen) (k : ℕ) (o : Option Emission) (content : Content) → stage s k ≡ ToRaise content
-        → stage (and_then (did (Raise k) o) s) k ≡ ToAnswer content }
+    ensures { (s : Seen) (k word : ℕ) (o : Option Emission) (content : Content)
+        → stage s k ≡ ToRaise word content → stage (and_then (did (Raise k) o) s) k ≡ ToAnswer content }
 {}
 
 /// A job that is refused the memory for a ticket or an install answers 5.03 (Service Unavailable), and a job that stands

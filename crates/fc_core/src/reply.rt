@@ -1,5 +1,5 @@
 //! From answers to datagrams.
-ghost use Rattle.std.specs.Prelude.{◌≡◌, ◌≤◌, Some, length};
+ghost use Rattle.std.specs.Prelude.{◌≡◌, ◌≤◌, Some, drop, length};
 ghost use Rattle.std.specs.Option.{option_map};
 ghost use Rattle.coap_msg.specs.Writing.{optional};
 ghost use Rattle.coap_opts.specs.Replies.{reply_options};
@@ -10,7 +10,7 @@ ghost use Rattle.fc_core.specs.Contents.{Listed, Valid};
 ghost use Rattle.fc_core.specs.Ends.{content_of};
 ghost use Rattle.fc_core.specs.Receiving.{told_by};
 ghost use Rattle.fc_core.specs.Replies as spec;
-ghost use Rattle.fc_core.specs.Replies.{IsReplyTo, envelope_of, reset_of, sent_in, to_job};
+ghost use Rattle.fc_core.specs.Replies.{IsReplyTo, envelope_of, link_format, reset_of, sent_in, to_job};
 
 use crate::answer::{Answer, End, Said};
 use crate::block::BodyBlock;
@@ -133,12 +133,28 @@ fn links(job: &Job, id: u16, words: &[u64], bytes: &mut Datagram)
     ensures { IsReplyTo job.now id (Listed words.now) (to_job job.now bytes.new) }
 {
     let lines = link_lines(words);
-    let options = ReplyOptions {
+    let list = after_first(lines.as_slice());
+    reply(job, id, Code::CONTENT, link_options(), list, bytes);
+}
+
+#[tactic(auto, unfolding(coap_opts::specs::Values::uint_bytes))]
+fn link_options() -> ReplyOptions
+    ensures { reply_options result ≡ link_format }
+{
+    ReplyOptions {
         content_format: Some(LINK_FORMAT),
         ..ReplyOptions::default()
-    };
-    let first = 1.min(lines.len());
-    reply(job, id, Code::CONTENT, options, &lines[first..], bytes);
+    }
+}
+
+// All but the first byte.
+fn after_first(bytes: &[u8]) -> &[u8]
+    ensures { result.now ≡ drop 1 bytes.now }
+{
+    match bytes {
+        [] => bytes,
+        [_, rest @ ..] => rest,
+    }
 }
 
 // That of a code and a payload.

@@ -17,21 +17,21 @@ ghost use Rattle.fc_verify.specs.Accepted.{Accepts};
 ghost use Rattle.fc_verify.specs.Judged.{judged};
 ghost use Rattle.std.specs.Prelude.{ℕ, ◌+◌, ◌<◌, ◌≤◌, ◌∷◌, ◌⊎◌, Bool, Option, Some, length, ◌≡◌};
 
-/// A job changes its slot at most once. The event that changes it leaves the job to publish the slot's new serial, and no
+/// A job changes its slot at most once. The event that changes it leaves the job to publish the slot's new head word, and no
 /// other event does.
 pub fn changes_are_published()
     ensures once { (h : History) (k : ℕ) → changes_by h k ≤ 1 }
     ensures published { (r : Entry) (s : Seen) (k : ℕ) → names r.event ≡ Some k
         → length (s.changes (slot_of s k)) < length ((and_then r s).changes (slot_of s k))
         → IsToRaise (stage (and_then r s) k) }
-    ensures only { (r : Entry) (s : Seen) (k : ℕ) (content : Content) → names r.event ≡ Some k
-        → stage (and_then r s) k ≡ ToRaise content → (stage s k ≡ ToRaise content)
+    ensures only { (r : Entry) (s : Seen) (k word : ℕ) (content : Content) → names r.event ≡ Some k
+        → stage (and_then r s) k ≡ ToRaise word content → (stage s k ≡ ToRaise word content)
         ⊎ (length ((and_then r s).changes (slot_of s k)) ≡ length (s.changes (slot_of s k)) + 1) }
 {}
 
-/// A slot changes by an install or a commit alone: the install of its job's own accepted image, with memory for the
-/// program and below the last serial, or the commit of its job's ticket.
-pub fn slots_change_by_installs_and_commits()
+/// A slot changes by an install, a removal or a commit alone: the install of its job's own accepted image, with memory for
+/// the program and below the last serial; the removal of a program, below the last serial; or the commit of its job's ticket.
+pub fn slots_change_by_their_jobs()
     ensures { (r : Entry) (s : Seen) (n : ℕ) → ChangesBy r s n }
 {}
 
@@ -42,8 +42,7 @@ pub fn refused_images_change_nothing()
         → (and_then r s).changes n ≡ s.changes n }
 {}
 
-/// Each program that was installed is one that some image is accepted as, and none was removed; so each program in a slot
-/// is one that some image is accepted as.
+/// Each program that was installed is one that some image is accepted as, and so is each program in a slot.
 pub fn programs_in_slots_are_accepted()
     ensures changes { (h : History) (n : ℕ) → AllOfImages ((seen h).changes n) }
     ensures present { (h : History) (n : ℕ) (p : Present) → (slot_at (seen h) n).present ≡ Some p

@@ -280,7 +280,7 @@ impl Task {
 
     /// Asks its shard what its slot's program is.
     pub fn describe(&mut self, shard: &Shard)
-        ensures { (words : List ℕ) → self.new ≡ task_moved self.old (at_receipt (scene_of shard.now words self.old) self.old.stage) }
+        ensures { (words : List ℕ) → self.new ≡ task_moved self.old (at_receipt (scene_of shard.entry.now words self.old) self.old.stage) }
     {
         match self.leave() {
             Stage::ToDescribe => self.stage = Stage::told(shard.receipt(self.job.origin.slot)),

@@ -103,7 +103,7 @@ pub(crate) fn link_lines(words: &[u64]) -> ArrayVec<u8, LINKS>
 fn link_line(slot: u64) -> Text
     requires { slot < 64 }
     ensures text { result.items ≡ link slot }
-    ensures short { length result.items ≤ 16 }
+    ensures short { length result.items ≤ 12 }
 {
     let mut text = ArrayVec::new();
     push_bytes(&mut text, b",</r/");

@@ -8,10 +8,11 @@ use Rattle.fc_core.specs.Exchanges.{FrontState}
 use Rattle.fc_core.specs.History.{Seen, front_in, slot_at}
 use Rattle.fc_core.specs.Sound.{IsSafelySeen, IsSound}
 
--- a state by its parts: the front, the shards, and the jobs that came, each at its stage
+-- a state by its parts: the front, the shards, the head words, and the jobs that came, each at its stage
 pub record Parts : Type 0 where
   pub front : FrontState
   pub shards : List Shard
+  pub words : List ℕ
   pub tasks : List Task
 
 -- each slot, and each shard's moment, is what is seen
@@ -20,10 +21,12 @@ pub record ShardsAgree (s : Seen) (shards : List Shard) : Type 0 where
   pub slot : (n : ℕ) → n < 64 → slot_in_shards shards n ≡ slot_at s n
   pub now : (i : ℕ) → i < 8 → (shard_at shards i).now ≡ s.shard_moment i
 
--- the front holds the exchanges that are live, each with its answer; each job is at its stage
+-- the front holds the exchanges that are live, each with its answer; each head word is the greatest raised; each job is at its
+-- stage
 pub record Agrees (s : Seen) (p : Parts) : Type 0 where
   pub front : p.front ≡ front_in s s.moment
   pub tasks : p.tasks ≡ s.tasks
+  pub words : p.words ≡ s.words
   pub shards : ShardsAgree s p.shards
   pub sound : IsSound s
   pub safe : IsSafelySeen s

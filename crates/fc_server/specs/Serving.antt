@@ -1,11 +1,12 @@
 -- A server on one thread: what it does with a datagram is a list of events, whatever the history that it stands in. The clauses
 -- of the engine cite the agreement here: a server that agrees with a history is one that the history leaves.
-use Rattle.std.specs.Prelude.{ℕ, Bool, List, [], ◌∷◌, ◌++◌, length, Option, None}
+use Rattle.std.specs.Prelude.{ℕ, zero, suc, Bool, List, [], ◌∷◌, ◌++◌, length, Option, None}
 use Rattle.coap_msg.specs.declared.types.Emission.{Emission}
 use Rattle.fc_registry.specs.declared.job.Ask.{Ask}
-use Rattle.fc_registry.specs.declared.job.Ask.TheVariants.{Run, Install as Installs}
+use Rattle.fc_registry.specs.declared.job.Ask.TheVariants.{Run, Install as Installs, Remove as Removes, Describe, Discover}
+use Rattle.fc_registry.specs.declared.job.Job.{Job}
 use Rattle.fc_core.specs.declared.event.Event.{Event}
-use Rattle.fc_core.specs.declared.event.Event.TheVariants.{Take, Commit, Install, Raise, Answer, Tick}
+use Rattle.fc_core.specs.declared.event.Event.TheVariants.{Peek, Take, Commit, Install, Remove, Receipt, Raise, Answer, Tick}
 use Rattle.fc_core.specs.declared.front.Delivered.{Delivered}
 use Rattle.fc_core.specs.declared.front.Delivered.TheVariants.{Job as Brings}
 use Rattle.fc_core.specs.declared.stage.Task.{Task}
@@ -15,7 +16,7 @@ use Rattle.fc_server.specs.Agreement.{Agrees, Parts}
 use Rattle.fc_server.specs.States.{ServerState}
 
 abbrev pub with_tasks : ServerState → List Task → Parts
-with_tasks s tasks = record { front = s.front; shards = s.shards; tasks = tasks }
+with_tasks s tasks = record { front = s.front; shards = s.shards; words = s.words; tasks = tasks }
 
 -- the server, with these jobs, is one that this history leaves: each event of it emitted what it may, each taking that found a
 -- program has a meaning, and its front, its slots and its jobs are what is seen of it
@@ -27,16 +28,25 @@ pub record Serves (h : History) (s : ServerState) (tasks : List Task) : Type 0 w
 abbrev pub next : History → Event → Option Emission → History
 next h event emitted = Then h (did event emitted)
 
--- the events of a job of this number that is worked off at once
-abbrev pub worked : Ask → ℕ → Bool → ℕ → Option Emission → History → History
-worked (Run request) k memory now out h = next (next (next (next h (Take k memory) None) (Commit k now) None) (Raise k) None) (Answer k now) out
-worked (Installs image) k memory now out h = next (next (next h (Install k memory) None) (Raise k) None) (Answer k now) out
+-- the job of this number looks at the head words of the slots below n
+abbrev pub looked : ℕ → ℕ → History → History
+looked k zero h = h
+looked k (suc n) h = next (looked k n h) (Peek k n) None
+
+-- the events of a job of this number, which is of this slot, that is worked off at once
+abbrev pub worked : Ask → ℕ → ℕ → Bool → ℕ → Option Emission → History → History
+worked (Run request) slot k memory now out h =
+    next (next (next (next (next h (Peek k slot) None) (Take k memory) None) (Commit k now) None) (Raise k) None) (Answer k now) out
+worked (Installs image) slot k memory now out h = next (next (next h (Install k memory) None) (Raise k) None) (Answer k now) out
+worked Removes slot k memory now out h = next (next (next h (Remove k) None) (Raise k) None) (Answer k now) out
+worked Describe slot k memory now out h = next (next h (Receipt k) None) (Answer k now) out
+worked Discover slot k memory now out h = next (looked k 64 h) (Answer k now) out
 
 -- a job of this number was worked off
-pub record Worked (h : History) (k : ℕ) (ask : Ask) (now : ℕ) (new : ServerState) (out : Option Emission) : Type 0 where
+pub record Worked (h : History) (k : ℕ) (ask : Ask) (slot now : ℕ) (new : ServerState) (out : Option Emission) : Type 0 where
   pub memory : Bool
   pub tasks : List Task
-  pub serves : Serves (worked ask k memory now out h) new tasks
+  pub serves : Serves (worked ask slot k memory now out h) new tasks
 
 -- an event that brings no job
 pub record Delivers (h : History) (e : Event) (new : ServerState) (out : Option Emission) : Type 0 where
@@ -45,7 +55,7 @@ pub record Delivers (h : History) (e : Event) (new : ServerState) (out : Option 
 
 -- a delivery that brings a job: its delivery, and then the job is worked off; any other: its delivery
 abbrev pub Heard : History → ℕ → Event → Delivered → ℕ → ServerState → Option Emission → Type 0
-Heard h k e (Brings job) now new out = Worked (next h e None) k job.ask now new out
+Heard h k e (Brings job) now new out = Worked (next h e None) k job.ask job.origin.slot now new out
 Heard h k e other now new out = Delivers h e new out
 
 -- whatever the history so far; the job has the next number
@@ -58,7 +68,7 @@ Passes now old new = (h : History) → (tasks : List Task) → Serves h old task
 
 -- the job at work is the last that came
 abbrev pub WorksOff : Ask → ℕ → ServerState → Task → ServerState → Option Emission → Type 0
-WorksOff ask now old task new out = (h : History) → (rest : List Task) → Serves h old (rest ++ task ∷ []) → Worked h (length rest) ask now new out
+WorksOff ask now old task new out = (h : History) → (rest : List Task) → Serves h old (rest ++ task ∷ []) → Worked h (length rest) ask task.job.origin.slot now new out
 
 -- some history leaves this server with this job, which is not yet worked off
 pub record IsBegun (s : ServerState) (task : Task) : Type 0 where

@@ -12,16 +12,17 @@ use Rattle.fc_core.specs.Exchanges.{FrontState, advanced}
 use Rattle.fc_core.specs.Fits.{FitsStage}
 use Rattle.fc_core.specs.Legal.{AnswerEmits}
 use Rattle.fc_core.specs.Sound.{AllSafe}
-use Rattle.fc_core.specs.Stages.{Move, Scene, at_answer, content_at, task_moved, row, scene_at, shard_moved}
+use Rattle.fc_core.specs.Stages.{Move, Scene, at_answer, content_at, task_moved, row, scene_at, shard_moved, words_after}
 
--- its front, and its shards
+-- its front, its shards, and the head words of their slots
 pub record ServerState : Type 0 where
   pub front : FrontState
   pub shards : List Shard
+  pub words : List ℕ
 
 -- what an event finds of a task
-abbrev pub scene_in : List Shard → Task → Scene
-scene_in shards task = scene_at task (slot_in_shards shards task.job.origin.slot)
+abbrev pub scene_in : List Shard → List ℕ → Task → Scene
+scene_in shards words task = scene_at task (slot_in_shards shards task.job.origin.slot) words
 
 -- the shards after a move of a job of slot n
 abbrev pub shards_moved : Move → ℕ → List Shard → List Shard
@@ -34,12 +35,13 @@ pub record AtWork (s : ServerState) (task : Task) : Type 0 where
   pub slot : task.job.origin.slot < 64
   pub stage : FitsStage task.job (slot_in_shards s.shards task.job.origin.slot) task.stage
 
--- an event on a task: it moves by its row, and so does its slot; what is installed is safe
+-- an event on a task: it moves by its row, and so do its slot and the slot's head word; what is installed is safe
 pub record Does (e : Event) (old : ServerState) (task : Task) (new : ServerState) (next : Task) : Type 0 where
   pub front : new.front ≡ old.front
-  pub task_is : next ≡ task_moved task (row e (scene_in old.shards task))
-  pub shards : new.shards ≡ shards_moved (row e (scene_in old.shards task)) task.job.origin.slot old.shards
-  pub safe : AllSafe (row e (scene_in old.shards task)).changes
+  pub task_is : next ≡ task_moved task (row e (scene_in old.shards old.words task))
+  pub shards : new.shards ≡ shards_moved (row e (scene_in old.shards old.words task)) task.job.origin.slot old.shards
+  pub words : new.words ≡ words_after (row e (scene_in old.shards old.words task)) task old.words
+  pub safe : AllSafe (row e (scene_in old.shards old.words task)).changes
 
 -- the front after an answer of this content, if there is one, that sent this
 abbrev pub front_after : Option Content → Job → Option Emission → FrontState → ℕ → FrontState
@@ -51,4 +53,5 @@ pub record Responds (now : ℕ) (old : ServerState) (task : Task) (new : ServerS
   pub front : new.front ≡ front_after (content_at task.stage) task.job emitted old.front now
   pub task_is : next ≡ task_moved task (at_answer task.stage)
   pub shards : new.shards ≡ old.shards
+  pub words : new.words ≡ old.words
   pub emits : AnswerEmits (content_at task.stage) task.job (advanced old.front now) emitted

@@ -8,34 +8,38 @@ use Rattle.fc_core.specs.History.{Seen, and_then, did, task_at}
 use Rattle.fc_core.specs.Legal.{AnswerEmits, Emits, TakesMeaning}
 use Rattle.fc_core.specs.Receiving.{after_received, brought, next_opening, received, sent}
 use Rattle.fc_core.specs.Sound.{AllSafe}
-use Rattle.fc_core.specs.Stages.{at_answer, content_at, task_moved, new_task, row}
+use Rattle.fc_core.specs.Stages.{at_answer, content_at, task_moved, new_task, row, words_after}
 use Rattle.fc_server.specs.Agreement.{Agrees, Parts}
 use Rattle.fc_server.specs.States.{front_after, scene_in, shards_moved}
 
 -- an event on the job of this number
 pub record Moves (e : Event) (k : ℕ) (old new : Parts) : Type 0 where
   pub front : new.front ≡ old.front
-  pub tasks : new.tasks ≡ slice_set old.tasks k (task_moved (task_at old.tasks k) (row e (scene_in old.shards (task_at old.tasks k))))
-  pub shards : new.shards ≡ shards_moved (row e (scene_in old.shards (task_at old.tasks k))) (task_at old.tasks k).job.origin.slot old.shards
-  pub safe : AllSafe (row e (scene_in old.shards (task_at old.tasks k))).changes
+  pub tasks : new.tasks ≡ slice_set old.tasks k (task_moved (task_at old.tasks k) (row e (scene_in old.shards old.words (task_at old.tasks k))))
+  pub shards : new.shards ≡ shards_moved (row e (scene_in old.shards old.words (task_at old.tasks k))) (task_at old.tasks k).job.origin.slot old.shards
+  pub words : new.words ≡ words_after (row e (scene_in old.shards old.words (task_at old.tasks k))) (task_at old.tasks k) old.words
+  pub safe : AllSafe (row e (scene_in old.shards old.words (task_at old.tasks k))).changes
 
 -- a delivery, of a front that has advanced to its moment: the jobs that it brings, and what it sends
 pub record DeliveredTo (now : ℕ) (to : Endpoint) (bytes : List ℕ) (old new : Parts) (emitted : Option Emission) : Type 0 where
   pub front : let f = advanced old.front now in new.front ≡ after_received (received f to bytes) f to
   pub tasks : let f = advanced old.front now in new.tasks ≡ old.tasks ++ map new_task (brought (received f to bytes) (next_opening f) to)
   pub shards : new.shards ≡ old.shards
+  pub words : new.words ≡ old.words
   pub emits : let f = advanced old.front now in emitted ≡ sent (received f to bytes) f to
 
 pub record AnsweredTo (k now : ℕ) (old new : Parts) (emitted : Option Emission) : Type 0 where
   pub front : new.front ≡ front_after (content_at (task_at old.tasks k).stage) (task_at old.tasks k).job emitted old.front now
   pub tasks : new.tasks ≡ slice_set old.tasks k (task_moved (task_at old.tasks k) (at_answer (task_at old.tasks k).stage))
   pub shards : new.shards ≡ old.shards
+  pub words : new.words ≡ old.words
   pub emits : AnswerEmits (content_at (task_at old.tasks k).stage) (task_at old.tasks k).job (advanced old.front now) emitted
 
 pub record Ticked (now : ℕ) (old new : Parts) : Type 0 where
   pub front : new.front ≡ advanced old.front now
   pub tasks : new.tasks ≡ old.tasks
   pub shards : new.shards ≡ old.shards
+  pub words : new.words ≡ old.words
 
 -- a step: whatever is seen of the history that the state agrees with, what is emitted is what may be, what is taken means
 -- something, and the new state agrees with what is seen after this event

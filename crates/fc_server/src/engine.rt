@@ -13,7 +13,7 @@ ghost use Rattle.fc_server.specs.Serving.{Hears, IsBegun, IsReachable, Passes, S
 use crate::server::Server;
 use coap_msg::{Emission, Endpoint};
 use fc_core::{Heard, Task};
-use fc_registry::Ask;
+use fc_registry::{Ask, SLOTS};
 use std::alloc::{AllocError, Global};
 use std::marker::Model;
 
@@ -53,9 +53,10 @@ impl Engine {
     }
 
     /// Takes in a datagram from an endpoint at a moment in milliseconds, works off the job that it brings, and writes
-    /// what is to be sent over another emission. Tells whether anything is. What it does is the list of the events Deliver, Take, Commit, Raise and Answer of a job that runs a
-    /// program, Deliver, Install, Raise and Answer of one that installs, and else Deliver alone: whatever the history was,
-    /// with these it is legal, and the server is what it leaves.
+    /// what is to be sent over another emission. Tells whether anything is. What it does is a list of events: Deliver, and where it
+    /// brings a job that runs a program Peek of its slot, Take, Commit, Raise and Answer; one that installs Install, Raise and
+    /// Answer; one that removes Remove, Raise and Answer; one that describes Receipt and Answer; one that lists what is there
+    /// Peek of each slot and Answer. Whatever the history was, with these it is legal, and the server is what it leaves.
     pub fn hear(
         &mut self,
         alloc: Global,
@@ -123,6 +124,9 @@ fn work_off(
     match &task.job.ask {
         Ask::Run(_) => run(server, now, task, reply),
         Ask::Install(_) => install(server, alloc, now, task, reply),
+        Ask::Remove => remove(server, now, task, reply),
+        Ask::Describe => describe(server, now, task, reply),
+        Ask::Discover => discover(server, now, task, reply),
     }
 }
 
@@ -130,6 +134,8 @@ fn run(server: &mut Server, now: u64, task: &mut Task, reply: &mut Emission) -> 
     requires { IsBegun server.old task.old }
     ensures { (request : Request) → WorksOff (Ask.Run request) now server.old task.old server.new (emission_if result reply.new) }
 {
+    let slot = task.job.origin.slot.number();
+    server.peek(task, slot);
     server.take(task);
     server.commit(now, task);
     server.raise(task);
@@ -148,5 +154,32 @@ fn install(
 {
     server.install(alloc, task);
     server.raise(task);
+    server.respond(now, task, reply)
+}
+
+fn remove(server: &mut Server, now: u64, task: &mut Task, reply: &mut Emission) -> bool
+    requires { IsBegun server.old task.old }
+    ensures { WorksOff Ask.Remove now server.old task.old server.new (emission_if result reply.new) }
+{
+    server.remove(task);
+    server.raise(task);
+    server.respond(now, task, reply)
+}
+
+fn describe(server: &mut Server, now: u64, task: &mut Task, reply: &mut Emission) -> bool
+    requires { IsBegun server.old task.old }
+    ensures { WorksOff Ask.Describe now server.old task.old server.new (emission_if result reply.new) }
+{
+    server.describe(task);
+    server.respond(now, task, reply)
+}
+
+fn discover(server: &mut Server, now: u64, task: &mut Task, reply: &mut Emission) -> bool
+    requires { IsBegun server.old task.old }
+    ensures { WorksOff Ask.Discover now server.old task.old server.new (emission_if result reply.new) }
+{
+    for slot in 0..SLOTS {
+        server.peek(task, slot);
+    }
     server.respond(now, task, reply)
 }

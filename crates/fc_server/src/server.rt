@@ -4,24 +4,26 @@ ghost use Rattle.fc_registry.specs.Shards.{first_shards};
 ghost use Rattle.fc_registry.specs.Slots.{last_serial};
 ghost use Rattle.fc_core.specs.declared.event.Event.{Event};
 ghost use Rattle.fc_core.specs.Exchanges.{advanced};
+ghost use Rattle.fc_core.specs.Heads.{no_words};
 ghost use Rattle.fc_core.specs.Ids.{first_ids};
 ghost use Rattle.fc_core.specs.Receiving.{after_delivered, delivered, emission_if, heard};
 ghost use Rattle.fc_server.specs.States.{Responds, AtWork, Does};
 
 use coap_msg::{Emission, Endpoint};
 use fc_core::front::blank_emission;
-use fc_core::{Delivered, Front, Heard, Responded, Task};
+use fc_core::{Delivered, Front, Heads, Heard, Responded, Task};
 use fc_machine::Frame;
 use fc_registry::{Job, Shard, make_shards};
 use std::alloc::{AllocError, Global};
 use std::marker::Model;
 
-/// The front, the eight shards, and a frame to run programs in: all that a server on one thread holds beside its jobs. A
-/// clause sees what the front holds, and the shards.
+/// The front, the eight shards, the head words of their slots, and a frame to run programs in: all that a server on one
+/// thread holds beside its jobs. A clause sees what the front holds, the shards, and the head words.
 #[derive(Drop)]
 pub struct Server {
     front: Front,
     shards: Vec<Shard>,
+    heads: Heads,
     frame: Frame,
 }
 
@@ -30,7 +32,7 @@ impl Model for Server {
 
     ghost Value = { ServerState };
 
-    ghost view = { λ s. record { front = s.front; shards = s.shards.items } };
+    ghost view = { λ s. record { front = s.front; shards = s.shards.items; words = s.heads } };
 }
 
 impl Server {
@@ -43,10 +45,12 @@ impl Server {
         requires { first_serial ≤ last_serial }
         ensures front { IfOk result (λ s. s.front ≡ record { now = 0; opened = 0; held = []; ids = first_ids first_id }) }
         ensures shards { IfOk result (λ s. s.shards ≡ first_shards first_serial) }
+        ensures words { IfOk result (λ s. s.words ≡ no_words) }
     {
         Ok(Server {
             front: Front::new(alloc, first_id)?,
             shards: make_shards(alloc, first_serial)?,
+            heads: Heads::new(),
             frame: Frame::new(alloc)?,
         })
     }
@@ -56,6 +60,7 @@ impl Server {
         ensures delivered { result ≡ delivered (advanced self.old.front now) endpoint bytes.now }
         ensures front { self.new.front ≡ after_delivered (advanced self.old.front now) endpoint bytes.now }
         ensures shards { self.new.shards ≡ self.old.shards }
+        ensures words { self.new.words ≡ self.old.words }
     {
         self.front.deliver(now, endpoint, bytes)
     }
@@ -72,6 +77,7 @@ impl Server {
         ensures delivered { heard result job.new reply.new ≡ delivered (advanced self.old.front now) endpoint bytes.now }
         ensures front { self.new.front ≡ after_delivered (advanced self.old.front now) endpoint bytes.now }
         ensures shards { self.new.shards ≡ self.old.shards }
+        ensures words { self.new.words ≡ self.old.words }
     {
         self.front.hear(now, endpoint, bytes, job, reply)
     }
@@ -80,8 +86,33 @@ impl Server {
     pub fn tick(&mut self, now: u64)
         ensures front { self.new.front ≡ advanced self.old.front now }
         ensures shards { self.new.shards ≡ self.old.shards }
+        ensures words { self.new.words ≡ self.old.words }
     {
         self.front.tick(now);
+    }
+
+    /// A task looks at the head word of a slot.
+    pub fn peek(&mut self, task: &mut Task, slot: u8)
+        requires { AtWork self.old task.old }
+        ensures { (k : ℕ) → Does (Event.Peek k slot) self.old task.old self.new task.new }
+    {
+        task.peek(slot, &self.heads);
+    }
+
+    /// A task removes its slot's program.
+    pub fn remove(&mut self, task: &mut Task)
+        requires { AtWork self.old task.old }
+        ensures { (k : ℕ) → Does (Event.Remove k) self.old task.old self.new task.new }
+    {
+        task.remove(&mut self.shards[task.job.origin.slot.shard()]);
+    }
+
+    /// A task asks what its slot's program is.
+    pub fn describe(&mut self, task: &mut Task)
+        requires { AtWork self.old task.old }
+        ensures { (k : ℕ) → Does (Event.Receipt k) self.old task.old self.new task.new }
+    {
+        task.describe(&self.shards[task.job.origin.slot.shard()]);
     }
 
     /// A task takes its slot. Tells whether there was memory.
@@ -126,12 +157,12 @@ impl Server {
         task.refuse_install();
     }
 
-    /// A task publishes the new serial of its slot.
+    /// A task publishes the new head word of its slot.
     pub fn raise(&mut self, task: &mut Task)
         requires { AtWork self.old task.old }
         ensures { (k : ℕ) → Does (Event.Raise k) self.old task.old self.new task.new }
     {
-        task.raise();
+        task.raise(&mut self.heads);
     }
 
     /// A task's worker is lost.
@@ -177,6 +208,7 @@ impl Server {
         let Server {
             front: _,
             shards,
+            heads: _,
             frame: _,
         } = self;
         shards
