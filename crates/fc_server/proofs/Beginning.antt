@@ -6,6 +6,7 @@ use Rattle.std.proofs.Math.Seq.{get_or-append_seam}
 use Rattle.fc_registry.specs.Shards.{empty_shards, first_shards, no_shard, shard_at, slot_in_shards}
 use Rattle.fc_registry.specs.Slots.{Shard, slot_in, new_slot}
 use Rattle.fc_core.specs.History.{Begins, begun, seen}
+use Rattle.fc_core.specs.Heads.{no_words}
 use Rattle.fc_core.specs.Ids.{first_ids}
 use Rattle.fc_server.specs.Agreement.{ShardsAgree}
 use Rattle.fc_server.specs.Serving.{Serves}
@@ -47,14 +48,15 @@ shards_begin serial id = record {
   now = λ s lt. ap (λ (x : Shard). x.now) (empty_at serial 8 s lt);
 }
 
-pub begins : (serial id : ℕ) (s : ServerState) → s.front ≡ record { now = 0; opened = 0; held = []; ids = first_ids id } → s.shards ≡ first_shards serial → Serves (Begins serial id) s []
+pub begins : (serial id : ℕ) (s : ServerState) → s.front ≡ record { now = 0; opened = 0; held = []; ids = first_ids id } → s.shards ≡ first_shards serial → s.words ≡ no_words → Serves (Begins serial id) s []
 unfolding seen
-begins serial id s front shards = record {
+begins serial id s front shards words = record {
   legal = tt;
   means = tt;
   agrees = record {
     front = front;
     tasks = refl;
+    words = words;
     shards = subst (ShardsAgree (begun serial id)) (sym shards) (shards_begin serial id);
     sound = record { chain = λ n. tt; within = λ k. (omega arith, tt); stages = λ k. tt };
     safe = record { slots = λ n. tt };

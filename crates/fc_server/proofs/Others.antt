@@ -1,7 +1,7 @@
 -- Events that change no slot: those of jobs that never came, of what isn't served, deliveries, ticks and answers.
-use Rattle.std.proofs.Common.{◌≡◌, ℕ, ◌≤◌, ◌%◌, List, [], ◌++◌, length, map, set, Bool, true, false, Option, Some, None, refl, sym, ap, ◌∙◌, subst, max, if◌then◌else◌, Bor}
+use Rattle.std.proofs.Common.{◌≡◌, ℕ, ◌<◌, ◌≤◌, ◌%◌, arith, get_or, List, [], ◌++◌, length, map, set, Bool, true, false, Option, Some, None, refl, sym, ap, ◌∙◌, subst, max, if◌then◌else◌, Bor}
 use Rattle.std.specs.Prelude.{filter, is_some}
-use Rattle.std.proofs.lemmas.List.{append-nil, get_or_past, set-get_or, set_past}
+use Rattle.std.proofs.lemmas.List.{append-nil, get_or_default, get_or_past, set-get_or, set_past}
 use Rattle.coap_msg.specs.declared.types.Endpoint.{Endpoint}
 use Rattle.coap_msg.specs.declared.types.Emission.{Emission}
 use Rattle.coap_dedup.specs.Exchanges.{is_live as is_held}
@@ -10,23 +10,23 @@ use Rattle.fc_registry.specs.Shards.{no_shard, shard_at, slot_in_shards}
 use Rattle.fc_registry.specs.Changes.{after_changes}
 use Rattle.fc_registry.specs.Slots.{Shard, Slot, new_slot}
 use Rattle.fc_core.specs.declared.event.Event.{Event}
-use Rattle.fc_core.specs.declared.event.Event.TheVariants.{Deliver, Take, Commit, Install, Raise, Answer, Tick, Lose}
+use Rattle.fc_core.specs.declared.event.Event.TheVariants.{Deliver, Peek, Take, Commit, Install, Remove, Receipt, Raise, Answer, Tick, Lose}
 use Rattle.fc_core.specs.declared.stage.Stage.{Stage}
-use Rattle.fc_core.specs.declared.stage.Stage.TheVariants.{ToTake, ToCommit, ToInstall, ToRaise, ToAnswer, Gone}
+use Rattle.fc_core.specs.declared.stage.Stage.TheVariants.{ToMatch, ToTake, ToCommit, ToInstall, ToRemove, ToDescribe, ToList, ToRaise, ToAnswer, Gone}
 use Rattle.fc_core.specs.declared.stage.Task.{Task}
 use Rattle.fc_core.specs.Answering.{after_answered_by}
 use Rattle.fc_core.specs.Contents.{Content}
 use Rattle.fc_core.specs.Exchanges.{FrontState, advanced, opening_is_live}
-use Rattle.fc_core.specs.History.{Seen, and_then, answered_in, did, exchanges_after, front_at, front_in, ids_after, ids_answered, job, moment_after, no_task, received_at, shard_moment_after, stage, task_at, tasks_brought, tasks_moved, changes_after}
+use Rattle.fc_core.specs.History.{Seen, and_then, answered_in, did, exchanges_after, front_at, front_in, ids_after, ids_answered, job, moment_after, no_task, received_at, shard_moment_after, stage, task_at, tasks_brought, tasks_moved, changes_after, words_seen}
 use Rattle.fc_core.specs.Ids.{drawn_for}
 use Rattle.fc_core.specs.Legal.{AnswerEmits, Emits, IsAnswered, TakesMeaning}
 use Rattle.fc_core.specs.Receiving.{after_received, brought, drawn_by, id_in, keeping, kept_of, next_opening, opened_by, received, sent}
 use Rattle.fc_core.specs.Sound.{AllSafe}
-use Rattle.fc_core.specs.Stages.{Move, at_answer, content_at, task_moved, moves, names, new_task, row, scene_at}
+use Rattle.fc_core.specs.Stages.{Move, Scene, at_answer, at_peek, at_receipt, at_take, content_at, task_moved, moves, names, new_task, row, scene_at, words_after}
 use Rattle.fc_core.proofs.Keeping.{IsSafeMove, still_safe, still_sound}
 use Rattle.fc_core.proofs.Rejections.{same_slot}
 use Rattle.fc_server.specs.Agreement.{Agrees, Parts, ShardsAgree}
-use Rattle.fc_server.specs.States.{front_after, scene_in, shards_moved}
+use Rattle.fc_server.specs.States.{Does, ServerState, front_after, scene_in, shards_moved}
 use Rattle.fc_server.specs.Steps.{AnsweredTo, DeliveredTo, Moves, Steps, Ticked}
 use Rattle.fc_server.proofs.Fronts.{front_advances, front_keeps, front_of, front_opens}
 use Rattle.fc_server.proofs.Stepping.{Quiet, moves_step, shards_move}
@@ -37,28 +37,64 @@ use Rattle.fc_server.proofs.Stepping.{Quiet, moves_step, shards_move}
 pub unwritten : (stage : Stage) (n : ℕ) (shards : List Shard) → shards_moved (moves stage) n shards ≡ shards
 unwritten stage n shards = ap (λ (x : Shard). set shards (n % 8) x) (same_slot (shard_at shards (n % 8)) n) ∙ set-get_or shards (n % 8) no_shard
 
+-- an event that changes no slot and raises no head word
+pub does_quietly : (e : Event) (old new : ServerState) (task later : Task) (st : Stage) → row e (scene_in old.shards old.words task) ≡ moves st → later ≡ task_moved task (row e (scene_in old.shards old.words task)) → new ≡ old → Does e old task new later
+does_quietly e old new task later st quiet is same = subst (λ (s : ServerState). Does e old task s later) (sym same) (record {
+  front = refl;
+  task_is = is;
+  shards = sym (unwritten st task.job.origin.slot old.shards) ∙ ap (λ (m : Move). shards_moved m task.job.origin.slot old.shards) (sym quiet);
+  words = ap (λ (m : Move). words_after m task old.words) (sym quiet);
+  safe = subst (λ (m : Move). AllSafe m.changes) (sym quiet) tt;
+})
+
+-- the shard at a place that was read, where it owns the slot
+pub owner_read : (shards : List Shard) (n k : ℕ) (found : Shard) → length shards ≡ 8 → k < 8 → k ≡ n % 8 → found ≡ get_or shards k found → found ≡ shard_at shards (n % 8)
+owner_read shards n k found eight lt place is = is ∙ (get_or_default shards k found no_shard (omega (arith, eight, lt)) ∙ ap (shard_at shards) place)
+
+-- and is written as it was
+pub owner_same : (shards : List Shard) (k : ℕ) (found now : Shard) → now ≡ found → found ≡ get_or shards k found → set shards k now ≡ shards
+owner_same shards k found now same is = ap (λ (x : Shard). set shards k x) (same ∙ is) ∙ set-get_or shards k found
+
+pub take_quiet : (memory : Bool) (x : Scene) (st : Stage) → at_take memory x st ≡ moves (at_take memory x st).stage
+take_quiet memory x (ToTake count) = refl
+take_quiet memory x other = refl
+
+pub peek_quiet : (n : ℕ) (x : Scene) (st : Stage) → at_peek n x st ≡ moves (at_peek n x st).stage
+peek_quiet n x ToMatch = refl
+peek_quiet n x (ToList seen) = refl
+peek_quiet n x other = refl
+
+pub receipt_quiet : (x : Scene) (st : Stage) → at_receipt x st ≡ moves (at_receipt x st).stage
+receipt_quiet x ToDescribe = refl
+receipt_quiet x other = refl
+
 -- ---- jobs that never came
 
-gone_moves : (e : Event) (slot : Slot) → row e (scene_at no_task slot) ≡ moves Gone
-gone_moves (Take k memory) slot = refl
-gone_moves (Commit k now) slot = refl
-gone_moves (Install k memory) slot = refl
-gone_moves (Raise k) slot = refl
-gone_moves (Answer k now) slot = refl
-gone_moves (Lose k) slot = refl
-gone_moves other slot = refl
+gone_moves : (e : Event) (slot : Slot) (ws : List ℕ) → row e (scene_at no_task slot ws) ≡ moves Gone
+gone_moves (Peek k n) slot ws = refl
+gone_moves (Remove k) slot ws = refl
+gone_moves (Receipt k) slot ws = refl
+gone_moves (Take k memory) slot ws = refl
+gone_moves (Commit k now) slot ws = refl
+gone_moves (Install k memory) slot ws = refl
+gone_moves (Raise k) slot ws = refl
+gone_moves (Answer k now) slot ws = refl
+gone_moves (Lose k) slot ws = refl
+gone_moves other slot ws = refl
 
 past_moves : (e : Event) (k : ℕ) (w : Parts) → length w.tasks ≤ k → Moves e k w w
 past_moves e k w le =
     let none : no_task ≡ task_at w.tasks k = sym (get_or_past w.tasks k no_task le) in
     let slot = slot_in_shards w.shards 0 in
-    let gone = gone_moves e slot in
-    let P : Task → Type 0 = λ t. w.shards ≡ shards_moved (row e (scene_in w.shards t)) t.job.origin.slot w.shards in
-    let Q : Task → Type 0 = λ t. AllSafe (row e (scene_in w.shards t)).changes in
+    let gone = gone_moves e slot w.words in
+    let P : Task → Type 0 = λ t. w.shards ≡ shards_moved (row e (scene_in w.shards w.words t)) t.job.origin.slot w.shards in
+    let Q : Task → Type 0 = λ t. AllSafe (row e (scene_in w.shards w.words t)).changes in
+    let R : Task → Type 0 = λ t. w.words ≡ words_after (row e (scene_in w.shards w.words t)) t w.words in
     record {
       front = refl;
       tasks = sym (set_past w.tasks k _ le);
       shards = subst P none (sym (unwritten Gone 0 w.shards) ∙ ap (λ (m : Move). shards_moved m 0 w.shards) (sym gone));
+      words = subst R none (ap (λ (m : Move). words_after m no_task w.words) (sym gone));
       safe = subst Q none (subst (λ (m : Move). AllSafe m.changes) (sym gone) tt);
     }
 
@@ -70,6 +106,9 @@ past_step e k w q le = moves_step e k w w q (past_moves e k w le)
 -- an event that nothing has brought yet
 abbrev pub IsIdle : Event → Type 0
 IsIdle (Deliver now to bytes) = ⊥
+IsIdle (Peek k n) = ⊥
+IsIdle (Remove k) = ⊥
+IsIdle (Receipt k) = ⊥
 IsIdle (Take k memory) = ⊥
 IsIdle (Commit k now) = ⊥
 IsIdle (Install k memory) = ⊥
@@ -90,6 +129,9 @@ record Idles (e : Event) : Type 0 where
 
 idles : (e : Event) → IsIdle e → Idles e
 idles (Deliver now to bytes) is = absurd is
+idles (Peek k n) is = absurd is
+idles (Remove k) is = absurd is
+idles (Receipt k) is = absurd is
 idles (Take k memory) is = absurd is
 idles (Commit k now) is = absurd is
 idles (Install k memory) is = absurd is
@@ -100,12 +142,13 @@ idles (Lose k) is = absurd is
 idles other is = record { named = refl; moment = λ s. refl; exchanges = λ s. refl; ids = λ s. refl; brings = λ s. refl; emits = λ s. refl; means = λ s. tt }
 
 -- what is seen of an event that names no job
-unnamed_agrees : (e : Event) (emitted : Option Emission) (w : Parts) (s : Seen) (o : Option ℕ) → names e ≡ o → o ≡ None → Agrees s w → (front : FrontState) → front ≡ front_in (and_then (did e emitted) s) (moment_after e s) → (tasks : List Task) → tasks ≡ s.tasks ++ tasks_brought e s → Agrees (and_then (did e emitted) s) (record { front = front; shards = w.shards; tasks = tasks })
+unnamed_agrees : (e : Event) (emitted : Option Emission) (w : Parts) (s : Seen) (o : Option ℕ) → names e ≡ o → o ≡ None → Agrees s w → (front : FrontState) → front ≡ front_in (and_then (did e emitted) s) (moment_after e s) → (tasks : List Task) → tasks ≡ s.tasks ++ tasks_brought e s → Agrees (and_then (did e emitted) s) (record { front = front; shards = w.shards; words = w.words; tasks = tasks })
 unnamed_agrees e emitted w s o is none a front front_is tasks tasks_are =
     let named : None ≡ names e = sym (is ∙ none) in
     record {
       front = front_is;
       tasks = tasks_are ∙ ap (λ (p : Option ℕ). tasks_moved p e s ++ tasks_brought e s) named;
+      words = a.words ∙ ap (λ (p : Option ℕ). words_seen p e s) named;
       shards = record { are = a.shards.are; slot = λ n lt. a.shards.slot n lt ∙ ap (λ (p : Option ℕ). after_changes (new_slot s.first_serial) (changes_after p e s n)) named; now = λ i lt. a.shards.now i lt ∙ ap (λ (p : Option ℕ). shard_moment_after p e s i) named };
       sound = still_sound (did e emitted) s a.sound;
       safe = still_safe (did e emitted) s a.sound (subst (λ (p : Option ℕ). IsSafeMove p e s) named tt) a.safe;
@@ -131,7 +174,7 @@ tick_step now old new t s a =
     record {
       emits = refl;
       means = tt;
-      agrees = subst (λ (xs : List Shard). Agrees (and_then (did (Tick now) None) s) (record { front = new.front; shards = xs; tasks = new.tasks })) (sym t.shards) agrees;
+      agrees = subst (Agrees (and_then (did (Tick now) None) s)) (λ i. record { front = new.front; shards = sym t.shards i; words = sym t.words i; tasks = new.tasks }) agrees;
     }
 
 -- ---- a delivery
@@ -157,7 +200,7 @@ deliver_step now to b old new emitted t s a =
     record {
       emits = emits;
       means = tt;
-      agrees = subst (λ (xs : List Shard). Agrees (and_then (did (Deliver now to b) emitted) s) (record { front = new.front; shards = xs; tasks = new.tasks })) (sym t.shards)
+      agrees = subst (Agrees (and_then (did (Deliver now to b) emitted) s)) (λ i. record { front = new.front; shards = sym t.shards i; words = sym t.words i; tasks = new.tasks })
           (unnamed_agrees (Deliver now to b) emitted old s None refl refl a new.front front new.tasks tasks);
     }
 
@@ -184,16 +227,21 @@ answer_unmoved (ToAnswer content) n shards = unwritten Gone n shards
 answer_unmoved (ToTake count) n shards = unwritten (ToTake count) n shards
 answer_unmoved (ToCommit count t) n shards = unwritten (ToCommit count t) n shards
 answer_unmoved ToInstall n shards = unwritten ToInstall n shards
-answer_unmoved (ToRaise content) n shards = unwritten (ToRaise content) n shards
+answer_unmoved (ToRaise word content) n shards = unwritten (ToRaise word content) n shards
+answer_unmoved ToMatch n shards = unwritten ToMatch n shards
+answer_unmoved ToRemove n shards = unwritten ToRemove n shards
+answer_unmoved ToDescribe n shards = unwritten ToDescribe n shards
+answer_unmoved (ToList seen) n shards = unwritten (ToList seen) n shards
 answer_unmoved Gone n shards = unwritten Gone n shards
 
 answer_safe : (st : Stage) → AllSafe (at_answer st).changes
 answer_safe (ToAnswer content) = tt
-answer_safe (ToTake count) = tt
-answer_safe (ToCommit count t) = tt
-answer_safe ToInstall = tt
-answer_safe (ToRaise content) = tt
-answer_safe Gone = tt
+answer_safe other = tt
+
+-- an answer raises no head word
+answer_quiet : (st : Stage) (task : Task) (words : List ℕ) → words ≡ words_after (at_answer st) task words
+answer_quiet (ToAnswer content) task words = refl
+answer_quiet other task words = refl
 
 pub answer_step : (k now : ℕ) (old new : Parts) (emitted : Option Emission) → AnsweredTo k now old new emitted → Steps (Answer k now) old emitted new
 answer_step k now old new emitted t s a =
@@ -209,6 +257,7 @@ answer_step k now old new emitted t s a =
       agrees = record {
         front = t'.front ∙ (ap (λ (f : FrontState). front_after (content_at (stage s k)) (job s k) emitted f now) a.front ∙ front_answered s now (job s k) emitted (opening_is_live (max s.moment now) (job s k).origin.opening) (content_at (stage s k)) refl emits);
         tasks = t'.tasks ∙ sym (append-nil (set s.tasks k (task_moved (task_at s.tasks k) (at_answer (stage s k)))));
+        words = t.words ∙ (a.words ∙ answer_quiet (stage s k) (task_at s.tasks k) s.words);
         shards = subst (λ (xs : List Shard). ShardsAgree (and_then (did e emitted) s) xs) (answer_unmoved (stage s k) (job s k).origin.slot old.shards ∙ sym t.shards) shards;
         sound = still_sound (did e emitted) s a.sound;
         safe = still_safe (did e emitted) s a.sound (answer_safe (stage s k)) a.safe;
@@ -225,5 +274,6 @@ past_answer k now w le =
       front = subst P none refl;
       tasks = sym (set_past w.tasks k _ le);
       shards = refl;
+      words = refl;
       emits = subst Q none refl;
     }

@@ -6,7 +6,7 @@ use Rattle.coap_msg.specs.declared.types.Emission.{Emission}
 use Rattle.fc_registry.specs.declared.job.Job.{Job}
 use Rattle.fc_registry.specs.Slots.{Slot}
 use Rattle.fc_core.specs.declared.event.Event.{Event}
-use Rattle.fc_core.specs.declared.event.Event.TheVariants.{Deliver, Take, Commit, Install, Raise, Answer, Tick}
+use Rattle.fc_core.specs.declared.event.Event.TheVariants.{Deliver, Peek, Take, Commit, Install, Remove, Receipt, Raise, Answer, Tick}
 use Rattle.fc_core.specs.declared.front.Delivered.{Delivered}
 use Rattle.fc_core.specs.declared.front.Delivered.TheVariants.{Reply, Job as Brings}
 use Rattle.fc_core.specs.declared.stage.Task.{Task}
@@ -17,21 +17,21 @@ use Rattle.fc_core.specs.Legal.{AnswerEmits}
 use Rattle.fc_core.specs.Receiving as x
 use Rattle.fc_core.specs.Receiving.{Received, after_delivered, brought, delivered, handed_on, next_opening, received, reply_or_nothing, sent}
 use Rattle.fc_core.specs.Sound.{AllSafe}
-use Rattle.fc_core.specs.Stages.{at_answer, content_at, task_moved, new_task, row}
+use Rattle.fc_core.specs.Stages.{at_answer, content_at, task_moved, new_task, row, words_after}
 use Rattle.fc_server.specs.Agreement.{Agrees, Parts}
 use Rattle.fc_server.specs.Serving.{Delivers, Heard, Hears, IsReachable, Passes, Serves, next, with_tasks, worked}
 use Rattle.fc_server.specs.States.{Responds, AtWork, Does, ServerState, front_after, scene_in, shards_moved}
 use Rattle.fc_server.specs.Steps.{AnsweredTo, DeliveredTo, IsReached, Moves, Steps}
 use Rattle.fc_server.proofs.Others.{answer_step, deliver_step, tick_step}
-use Rattle.fc_server.proofs.Stepping.{commit_step, install_step, raise_step, take_step}
+use Rattle.fc_server.proofs.Stepping.{commit_step, install_step, peek_step, raise_step, receipt_step, remove_step, take_step}
 
 seam : (rest : List Task) (task : Task) → task_at (rest ++ task ∷ []) (length rest) ≡ task
 seam rest task = get_or-append_seam rest task [] no_task
 
 -- a task that a server may work on
-pub at_seen : (s : Seen) (p : Parts) (k : ℕ) (task : Task) → Agrees s p → task_at s.tasks k ≡ task → AtWork (record { front = p.front; shards = p.shards }) task
+pub at_seen : (s : Seen) (p : Parts) (k : ℕ) (task : Task) → Agrees s p → task_at s.tasks k ≡ task → AtWork (record { front = p.front; shards = p.shards; words = p.words }) task
 at_seen s p k task a is =
-    let P : Task → Type 0 = λ t. AtWork (record { front = p.front; shards = p.shards }) t in
+    let P : Task → Type 0 = λ t. AtWork (record { front = p.front; shards = p.shards; words = p.words }) t in
     let was = task_at s.tasks k in
     let low = (a.sound.within k).0 in
     subst P is (record {
@@ -42,7 +42,7 @@ at_seen s p k task a is =
     })
 
 -- and the one of any number, of a state that some history leaves
-pub reached_at_work : (p : Parts) (k : ℕ) → IsReached p → AtWork (record { front = p.front; shards = p.shards }) (task_at p.tasks k)
+pub reached_at_work : (p : Parts) (k : ℕ) → IsReached p → AtWork (record { front = p.front; shards = p.shards; words = p.words }) (task_at p.tasks k)
 reached_at_work p k r = at_seen r.seen p k (task_at p.tasks k) r.agrees (ap (λ (ts : List Task). task_at ts k) (sym r.agrees.tasks))
 
 pub at_work : {h : History} {s : ServerState} (rest : List Task) {task : Task} → Serves h s (rest ++ task ∷ []) → AtWork s task
@@ -60,9 +60,10 @@ moves_by e old rest task new later d =
     let at = sym (seam rest task) in
     record {
       front = d.front;
-      tasks = ap (λ (t : Task). rest ++ t ∷ []) d.task_is ∙ (sym (set-append_seam rest task [] _) ∙ ap (λ (t : Task). set (rest ++ task ∷ []) (length rest) (task_moved t (row e (scene_in old.shards t)))) at);
-      shards = subst (λ (t : Task). new.shards ≡ shards_moved (row e (scene_in old.shards t)) t.job.origin.slot old.shards) at d.shards;
-      safe = subst (λ (t : Task). AllSafe (row e (scene_in old.shards t)).changes) at d.safe;
+      tasks = ap (λ (t : Task). rest ++ t ∷ []) d.task_is ∙ (sym (set-append_seam rest task [] _) ∙ ap (λ (t : Task). set (rest ++ task ∷ []) (length rest) (task_moved t (row e (scene_in old.shards old.words t)))) at);
+      shards = subst (λ (t : Task). new.shards ≡ shards_moved (row e (scene_in old.shards old.words t)) t.job.origin.slot old.shards) at d.shards;
+      words = subst (λ (t : Task). new.words ≡ words_after (row e (scene_in old.shards old.words t)) t old.words) at d.words;
+      safe = subst (λ (t : Task). AllSafe (row e (scene_in old.shards old.words t)).changes) at d.safe;
     }
 
 module _ (rest : List Task) {h : History} {old : ServerState} {task : Task} {new : ServerState} {later : Task} (v : Serves h old (rest ++ task ∷ [])) where
@@ -71,6 +72,15 @@ module _ (rest : List Task) {h : History} {old : ServerState} {task : Task} {new
 
   pub took_on : (memory : Bool) → Does (Take (length rest) memory) old task new later → Serves (next h (Take (length rest) memory) None) new (rest ++ later ∷ [])
   took_on memory d = does_on (Take (length rest) memory) (take_step (length rest) memory) d
+
+  pub peeked_on : (n : ℕ) → Does (Peek (length rest) n) old task new later → Serves (next h (Peek (length rest) n) None) new (rest ++ later ∷ [])
+  peeked_on n d = does_on (Peek (length rest) n) (peek_step (length rest) n) d
+
+  pub removed_on : Does (Remove (length rest)) old task new later → Serves (next h (Remove (length rest)) None) new (rest ++ later ∷ [])
+  removed_on d = does_on (Remove (length rest)) (remove_step (length rest)) d
+
+  pub described_on : Does (Receipt (length rest)) old task new later → Serves (next h (Receipt (length rest)) None) new (rest ++ later ∷ [])
+  described_on d = does_on (Receipt (length rest)) (receipt_step (length rest)) d
 
   pub committed_on : (now : ℕ) → Does (Commit (length rest) now) old task new later → Serves (next h (Commit (length rest) now) None) new (rest ++ later ∷ [])
   committed_on now d = does_on (Commit (length rest) now) (commit_step (length rest) now) d
@@ -88,6 +98,7 @@ module _ (rest : List Task) {h : History} {old : ServerState} {task : Task} {new
         front = subst (λ (t : Task). new.front ≡ front_after (content_at t.stage) t.job out old.front now) at d.front;
         tasks = ap (λ (t : Task). rest ++ t ∷ []) d.task_is ∙ (sym (set-append_seam rest task [] _) ∙ ap (λ (t : Task). set (rest ++ task ∷ []) (length rest) (task_moved t (at_answer t.stage))) at);
         shards = d.shards;
+        words = d.words;
         emits = subst (λ (t : Task). AnswerEmits (content_at t.stage) t.job (advanced old.front now) out) at d.emits;
       } in
       goes_on h (Answer (length rest) now) old (rest ++ task ∷ []) out new (rest ++ later ∷ []) (answer_step (length rest) now (with_tasks old (rest ++ task ∷ [])) (with_tasks new (rest ++ later ∷ [])) out to) v
@@ -134,19 +145,20 @@ handed_jobs (x.Silenced m) f to = refl
 handed_jobs (x.Refused m answer) f to = jobs_or (sent (x.Refused m answer) f to)
 
 -- what a delivery leaves, by what the front handed on
-pub delivered_to : (now : ℕ) (to : Endpoint) (bytes : List ℕ) (old new : ServerState) (tasks : List Task) (d : Delivered) → delivered (advanced old.front now) to bytes ≡ d → new.front ≡ after_delivered (advanced old.front now) to bytes → new.shards ≡ old.shards → DeliveredTo now to bytes (with_tasks old tasks) (with_tasks new (tasks ++ map new_task (jobs_by d))) (sent_by d)
-delivered_to now to bytes old new tasks d is front shards =
+pub delivered_to : (now : ℕ) (to : Endpoint) (bytes : List ℕ) (old new : ServerState) (tasks : List Task) (d : Delivered) → delivered (advanced old.front now) to bytes ≡ d → new.front ≡ after_delivered (advanced old.front now) to bytes → new.shards ≡ old.shards → new.words ≡ old.words → DeliveredTo now to bytes (with_tasks old tasks) (with_tasks new (tasks ++ map new_task (jobs_by d))) (sent_by d)
+delivered_to now to bytes old new tasks d is front shards words =
     let f = advanced old.front now in
     record {
       front = front;
       tasks = ap (λ (js : List Job). tasks ++ map new_task js) (ap jobs_by (sym is) ∙ sym (handed_jobs (received f to bytes) f to));
       shards = shards;
+      words = words;
       emits = ap sent_by (sym is) ∙ sym (handed_sent (received f to bytes) f to);
     }
 
-pub delivered_on : (now : ℕ) (to : Endpoint) (b : Bor (List ℕ)) (old new : ServerState) (d : Delivered) → delivered (advanced old.front now) to b.now ≡ d → new.front ≡ after_delivered (advanced old.front now) to b.now → new.shards ≡ old.shards → (h : History) (tasks : List Task) → Serves h old tasks → Serves (next h (Deliver now to b) (sent_by d)) new (tasks ++ map new_task (jobs_by d))
-delivered_on now to b old new d is front shards h tasks v =
-    goes_on h (Deliver now to b) old tasks (sent_by d) new (tasks ++ map new_task (jobs_by d)) (deliver_step now to b (with_tasks old tasks) (with_tasks new (tasks ++ map new_task (jobs_by d))) (sent_by d) (delivered_to now to b.now old new tasks d is front shards)) v
+pub delivered_on : (now : ℕ) (to : Endpoint) (b : Bor (List ℕ)) (old new : ServerState) (d : Delivered) → delivered (advanced old.front now) to b.now ≡ d → new.front ≡ after_delivered (advanced old.front now) to b.now → new.shards ≡ old.shards → new.words ≡ old.words → (h : History) (tasks : List Task) → Serves h old tasks → Serves (next h (Deliver now to b) (sent_by d)) new (tasks ++ map new_task (jobs_by d))
+delivered_on now to b old new d is front shards words h tasks v =
+    goes_on h (Deliver now to b) old tasks (sent_by d) new (tasks ++ map new_task (jobs_by d)) (deliver_step now to b (with_tasks old tasks) (with_tasks new (tasks ++ map new_task (jobs_by d))) (sent_by d) (delivered_to now to b.now old new tasks d is front shards words)) v
 
 abbrev pub IsJobless : Delivered → Type 0
 IsJobless (Brings job) = ⊥
@@ -157,14 +169,14 @@ heard_jobless h k e now new out (Brings job) none w = absurd none
 heard_jobless h k e now new out other none w = w
 
 -- a delivery that brings no job
-pub heard_on : (now : ℕ) (to : Endpoint) (b : Bor (List ℕ)) (old new : ServerState) (d : Delivered) (out : Option Emission) → IsJobless d → out ≡ sent_by d → delivered (advanced old.front now) to b.now ≡ d → new.front ≡ after_delivered (advanced old.front now) to b.now → new.shards ≡ old.shards → Hears now (Deliver now to b) (delivered (advanced old.front now) to b.now) old new out
-heard_on now to b old new d out none emits is front shards h tasks v =
-    let serves = subst (λ (o : Option Emission). Serves (next h (Deliver now to b) o) new (tasks ++ map new_task (jobs_by d))) (sym emits) (delivered_on now to b old new d is front shards h tasks v) in
+pub heard_on : (now : ℕ) (to : Endpoint) (b : Bor (List ℕ)) (old new : ServerState) (d : Delivered) (out : Option Emission) → IsJobless d → out ≡ sent_by d → delivered (advanced old.front now) to b.now ≡ d → new.front ≡ after_delivered (advanced old.front now) to b.now → new.shards ≡ old.shards → new.words ≡ old.words → Hears now (Deliver now to b) (delivered (advanced old.front now) to b.now) old new out
+heard_on now to b old new d out none emits is front shards words h tasks v =
+    let serves = subst (λ (o : Option Emission). Serves (next h (Deliver now to b) o) new (tasks ++ map new_task (jobs_by d))) (sym emits) (delivered_on now to b old new d is front shards words h tasks v) in
     subst (λ (y : Delivered). Heard h (length tasks) (Deliver now to b) y now new out) (sym is) (heard_jobless h (length tasks) (Deliver now to b) now new out d none (record { tasks = tasks ++ map new_task (jobs_by d); serves = serves }))
 
 -- a server that heard a datagram is one that some history leaves
 heard_served : (h : History) (k : ℕ) (e : Event) (now : ℕ) (new : ServerState) (out : Option Emission) (d : Delivered) → Heard h k e d now new out → IsReachable new
-heard_served h k e now new out (Brings job) w = record { history = worked job.ask k w.memory now out (next h e None); tasks = w.tasks; serves = w.serves }
+heard_served h k e now new out (Brings job) w = record { history = worked job.ask job.origin.slot k w.memory now out (next h e None); tasks = w.tasks; serves = w.serves }
 heard_served h k e now new out other w = record { history = next h e out; tasks = w.tasks; serves = w.serves }
 
 pub still_served : (now : ℕ) (e : Event) (d : Delivered) (old new : ServerState) (out : Option Emission) → IsReachable old → Hears now e d old new out → IsReachable new
@@ -172,8 +184,8 @@ still_served now e d old new out s hears = heard_served s.history (length s.task
 
 -- ---- a tick
 
-pub ticked_on : (now : ℕ) (old new : ServerState) → new.front ≡ advanced old.front now → new.shards ≡ old.shards → Passes now old new
-ticked_on now old new front shards h tasks v = goes_on h (Tick now) old tasks None new tasks (tick_step now (with_tasks old tasks) (with_tasks new tasks) (record { front = front; tasks = refl; shards = shards })) v
+pub ticked_on : (now : ℕ) (old new : ServerState) → new.front ≡ advanced old.front now → new.shards ≡ old.shards → new.words ≡ old.words → Passes now old new
+ticked_on now old new front shards words h tasks v = goes_on h (Tick now) old tasks None new tasks (tick_step now (with_tasks old tasks) (with_tasks new tasks) (record { front = front; tasks = refl; shards = shards; words = words })) v
 
 pub passed_served : (now : ℕ) (old new : ServerState) → IsReachable old → Passes now old new → IsReachable new
 passed_served now old new s passes = record { history = next s.history (Tick now) None; tasks = s.tasks; serves = passes s.history s.tasks s.serves }

@@ -10,16 +10,16 @@ use Rattle.fc_registry.specs.Changes.{after_changes}
 use Rattle.fc_registry.specs.Shards.{shard_at, slot_in_shards}
 use Rattle.fc_registry.specs.Slots.{Shard, Slot, Present, new_slot}
 use Rattle.fc_core.specs.declared.event.Event.{Event}
-use Rattle.fc_core.specs.declared.event.Event.TheVariants.{Take, Commit, Install, Raise, Lose}
+use Rattle.fc_core.specs.declared.event.Event.TheVariants.{Peek, Take, Commit, Install, Remove, Receipt, Raise, Lose}
 use Rattle.fc_core.specs.declared.stage.Stage.{Stage}
-use Rattle.fc_core.specs.declared.stage.Stage.TheVariants.{ToTake, ToCommit, ToInstall, ToRaise, ToAnswer, Gone}
+use Rattle.fc_core.specs.declared.stage.Stage.TheVariants.{ToTake}
 use Rattle.fc_core.specs.declared.stage.Task.{Task}
 use Rattle.fc_core.specs.Fits.{FitsSlot}
-use Rattle.fc_core.specs.History.{Seen, and_then, changes_after, did, exchanges_after, front_in, ids_after, job, moment_after, scene, shard_moment_after, slot_at, stage, task_at, tasks_brought, tasks_moved}
+use Rattle.fc_core.specs.History.{Seen, and_then, changes_after, did, exchanges_after, front_in, ids_after, job, moment_after, scene, shard_moment_after, slot_at, stage, task_at, tasks_brought, tasks_moved, words_seen}
 use Rattle.fc_core.specs.Legal.{Emits, FindsMeaning, FoundMeans, TakesMeaning}
 use Rattle.fc_core.specs.Receiving.{AskWithin}
 use Rattle.fc_core.specs.Sound.{AllSafe, IsSafelySeen, IsSound}
-use Rattle.fc_core.specs.Stages.{Move, Scene, handed, task_moved, names, row, scene_at}
+use Rattle.fc_core.specs.Stages.{Move, Scene, handed, task_moved, names, row, scene_at, words_after}
 use Rattle.fc_core.proofs.Fitting.{after_changes-append, is_input}
 use Rattle.fc_core.proofs.Keeping.{IsSafeMove, still_safe, still_sound}
 use Rattle.fc_server.specs.Agreement.{Parts, ShardsAgree}
@@ -35,11 +35,7 @@ found_means j slot (Some p) within fits = record { run = fits.safe.runs.run _ (i
 
 finds_by : (x : Scene) (st : Stage) → AskWithin x.job.ask → FitsSlot x.slot.present → FindsMeaning x st
 finds_by x (ToTake n) within fits = found_means x.job x.slot x.slot.present within fits
-finds_by x (ToCommit n t) within fits = tt
-finds_by x ToInstall within fits = tt
-finds_by x (ToRaise content) within fits = tt
-finds_by x (ToAnswer content) within fits = tt
-finds_by x Gone within fits = tt
+finds_by x other within fits = tt
 
 pub all_mean : (s : Seen) → IsSound s → IsSafelySeen s → (k : ℕ) → FindsMeaning (scene s k) (stage s k)
 all_mean s a f k = finds_by (scene s k) (stage s k) (a.within k).1 (f.slots (job s k).origin.slot)
@@ -61,8 +57,8 @@ module _ (s : Seen) (e : Event) (k : ℕ) (named : names e ≡ Some k) (shards :
   n = (job s k).origin.slot
 
   -- what the server finds of the task is what is seen
-  pub scene_is : scene_in shards (task_at s.tasks k) ≡ scene s k
-  scene_is = ap (λ (slot : Slot). scene_at (task_at s.tasks k) slot) (a.slot (job s k).origin.slot low)
+  pub scene_is : (ws : List ℕ) → ws ≡ s.words → scene_in shards ws (task_at s.tasks k) ≡ scene s k
+  scene_is ws same = λ i. scene_at (task_at s.tasks k) (a.slot (job s k).origin.slot low i) (same i)
 
   abbrev m : Move
   m = row e (scene s k)
@@ -107,7 +103,7 @@ moves_step e k old new q t s a =
     let P : List Task → Type 0 = λ ts. Moves e k (record old { tasks = ts }) new in
     let t' : Moves e k (record old { tasks = s.tasks }) new = subst P a.tasks t in
     let low = (a.sound.within k).0 in
-    let is = scene_is s e k q.named old.shards a.shards low in
+    let is = scene_is s e k q.named old.shards a.shards low old.words a.words in
     let safe : AllSafe (row e (scene s k)).changes = subst (λ (x : Scene). AllSafe (row e x).changes) is t'.safe in
     record {
       emits = q.emits s;
@@ -115,6 +111,7 @@ moves_step e k old new q t s a =
       agrees = record {
         front = t.front ∙ (a.front ∙ front_same s e k q);
         tasks = t'.tasks ∙ (ap (λ (x : Scene). set s.tasks k (task_moved (task_at s.tasks k) (row e x))) is ∙ sym (tasks_named s e k (names e) q.named (q.brings s)));
+        words = t'.words ∙ ((λ i. words_after (row e (is i)) (task_at s.tasks k) (a.words i)) ∙ sym (ap (λ (o : Option ℕ). words_seen o e s) q.named));
         shards = subst (λ (xs : List Shard). ShardsAgree (and_then (did e None) s) xs) (sym (t'.shards ∙ ap (λ (x : Scene). shards_moved (row e x) (job s k).origin.slot old.shards) is)) (shards_move s e k q.named old.shards a.shards low None);
         sound = still_sound (did e None) s a.sound;
         safe = still_safe (did e None) s a.sound (safe_move s e k (names e) q.named safe) a.safe;
@@ -130,6 +127,15 @@ quiet_commit k now = record { named = refl; moment = λ s. refl; exchanges = λ 
 pub quiet_install : (k : ℕ) (memory : Bool) → Quiet (Install k memory) k
 quiet_install k memory = record { named = refl; moment = λ s. refl; exchanges = λ s. refl; ids = λ s. refl; brings = λ s. refl; emits = λ s. refl; means = λ s all. tt }
 
+pub quiet_peek : (k n : ℕ) → Quiet (Peek k n) k
+quiet_peek k n = record { named = refl; moment = λ s. refl; exchanges = λ s. refl; ids = λ s. refl; brings = λ s. refl; emits = λ s. refl; means = λ s all. tt }
+
+pub quiet_remove : (k : ℕ) → Quiet (Remove k) k
+quiet_remove k = record { named = refl; moment = λ s. refl; exchanges = λ s. refl; ids = λ s. refl; brings = λ s. refl; emits = λ s. refl; means = λ s all. tt }
+
+pub quiet_receipt : (k : ℕ) → Quiet (Receipt k) k
+quiet_receipt k = record { named = refl; moment = λ s. refl; exchanges = λ s. refl; ids = λ s. refl; brings = λ s. refl; emits = λ s. refl; means = λ s all. tt }
+
 pub quiet_raise : (k : ℕ) → Quiet (Raise k) k
 quiet_raise k = record { named = refl; moment = λ s. refl; exchanges = λ s. refl; ids = λ s. refl; brings = λ s. refl; emits = λ s. refl; means = λ s all. tt }
 
@@ -144,6 +150,15 @@ commit_step k now old new t = moves_step (Commit k now) k old new (quiet_commit 
 
 pub install_step : (k : ℕ) (memory : Bool) (old new : Parts) → Moves (Install k memory) k old new → Steps (Install k memory) old None new
 install_step k memory old new t = moves_step (Install k memory) k old new (quiet_install k memory) t
+
+pub peek_step : (k n : ℕ) (old new : Parts) → Moves (Peek k n) k old new → Steps (Peek k n) old None new
+peek_step k n old new t = moves_step (Peek k n) k old new (quiet_peek k n) t
+
+pub remove_step : (k : ℕ) (old new : Parts) → Moves (Remove k) k old new → Steps (Remove k) old None new
+remove_step k old new t = moves_step (Remove k) k old new (quiet_remove k) t
+
+pub receipt_step : (k : ℕ) (old new : Parts) → Moves (Receipt k) k old new → Steps (Receipt k) old None new
+receipt_step k old new t = moves_step (Receipt k) k old new (quiet_receipt k) t
 
 pub raise_step : (k : ℕ) (old new : Parts) → Moves (Raise k) k old new → Steps (Raise k) old None new
 raise_step k old new t = moves_step (Raise k) k old new (quiet_raise k) t

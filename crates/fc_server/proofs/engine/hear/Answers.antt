@@ -15,7 +15,7 @@ work_off-requires c =
     let job = c.hear.new.job in
     let is = sym e.delivered ∙ ap (λ (r : Hearing). heard r job c.hear.new.reply) c.in-Job.is in
     let event = Deliver c.args.now c.args.endpoint c.args.bytes in
-    let serves = delivered_on c.args.now c.args.endpoint c.args.bytes c.args.server.now c.hear.new.self (Brings job) is e.front e.shards c.requires.history c.requires.tasks c.requires.serves in
+    let serves = delivered_on c.args.now c.args.endpoint c.args.bytes c.args.server.now c.hear.new.self (Brings job) is e.front e.shards e.words c.requires.history c.requires.tasks c.requires.serves in
     record {
       history = next c.requires.history event None;
       rest = c.requires.tasks;
@@ -28,8 +28,8 @@ returns-in-Nothing c =
     let job = c.hear.new.job in
     let d = heard c.hear.result job c.hear.new.reply in
     ⊎_elim
-    (λ p. let is = ap (λ (r : Hearing). heard r job c.hear.new.reply) p in heard_on c.args.now c.args.endpoint c.args.bytes c.args.server.now c.hear.new.self d None (subst IsJobless (sym is) tt) (sym (ap sent_by is)) (sym e.delivered) e.front e.shards)
-    (λ q. let is = ap (λ (r : Hearing). heard r job c.hear.new.reply) q.2 in heard_on c.args.now c.args.endpoint c.args.bytes c.args.server.now c.hear.new.self d None (subst IsJobless (sym is) tt) (sym (ap sent_by is)) (sym e.delivered) e.front e.shards)
+    (λ p. let is = ap (λ (r : Hearing). heard r job c.hear.new.reply) p in heard_on c.args.now c.args.endpoint c.args.bytes c.args.server.now c.hear.new.self d None (subst IsJobless (sym is) tt) (sym (ap sent_by is)) (sym e.delivered) e.front e.shards e.words)
+    (λ q. let is = ap (λ (r : Hearing). heard r job c.hear.new.reply) q.2 in heard_on c.args.now c.args.endpoint c.args.bytes c.args.server.now c.hear.new.self d None (subst IsJobless (sym is) tt) (sym (ap sent_by is)) (sym e.delivered) e.front e.shards e.words)
     c.in-Nothing.is
 
 pub returns-in-Reply : goal.returns-in-Reply
@@ -37,7 +37,7 @@ returns-in-Reply c =
     let e = c.hear.ensures in
     let job = c.hear.new.job in
     let is = ap (λ (r : Hearing). heard r job c.hear.new.reply) c.in-Reply.is in
-    heard_on c.args.now c.args.endpoint c.args.bytes c.args.server.now c.hear.new.self (heard c.hear.result job c.hear.new.reply) _ (subst IsJobless (sym is) tt) (sym (ap sent_by is)) (sym e.delivered) e.front e.shards
+    heard_on c.args.now c.args.endpoint c.args.bytes c.args.server.now c.hear.new.self (heard c.hear.result job c.hear.new.reply) _ (subst IsJobless (sym is) tt) (sym (ap sent_by is)) (sym e.delivered) e.front e.shards e.words
 
 pub returns-in-Job : goal.returns-in-Job
 returns-in-Job c = λ h tasks v.
@@ -45,6 +45,6 @@ returns-in-Job c = λ h tasks v.
     let job = c.hear.new.job in
     let is = sym e.delivered ∙ ap (λ (r : Hearing). heard r job c.hear.new.reply) c.in-Job.is in
     let event = Deliver c.args.now c.args.endpoint c.args.bytes in
-    let serves = delivered_on c.args.now c.args.endpoint c.args.bytes c.args.server.now c.hear.new.self (Brings job) is e.front e.shards h tasks v in
+    let serves = delivered_on c.args.now c.args.endpoint c.args.bytes c.args.server.now c.hear.new.self (Brings job) is e.front e.shards e.words h tasks v in
     let worked = c.work_off.ensures (next h event None) tasks (subst (λ (t : Task). Serves (next h event None) c.hear.new.self (tasks ++ t ∷ [])) (sym c.begin.ensures) serves) in
-    subst (λ (y : Delivered). Heard h (length tasks) event y c.args.now c.work_off.new.server (emission_if c.work_off.result c.work_off.new.reply)) (sym is) (subst (λ (t : Task). Worked (next h event None) (length tasks) t.job.ask c.args.now c.work_off.new.server (emission_if c.work_off.result c.work_off.new.reply)) c.begin.ensures worked)
+    subst (λ (y : Delivered). Heard h (length tasks) event y c.args.now c.work_off.new.server (emission_if c.work_off.result c.work_off.new.reply)) (sym is) (subst (λ (t : Task). Worked (next h event None) (length tasks) t.job.ask t.job.origin.slot c.args.now c.work_off.new.server (emission_if c.work_off.result c.work_off.new.reply)) c.begin.ensures worked)

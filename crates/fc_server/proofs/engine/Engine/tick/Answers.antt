@@ -6,7 +6,7 @@ use Rattle.fc_server.proofs.engine.Engine.tick.Goals as goal
 
 -- what it does to its server is a tick
 passes : (c : goal.After-tick) → Passes c.args.now c.self.inside.server c.tick.new.self
-passes c = ticked_on c.args.now c.self.inside.server c.tick.new.self c.tick.ensures.front c.tick.ensures.shards
+passes c = ticked_on c.args.now c.self.inside.server c.tick.new.self c.tick.ensures.front c.tick.ensures.shards c.tick.ensures.words
 
 pub invariant_of-self : goal.invariant_of-self
 invariant_of-self c = passed_served c.args.now c.self.inside.server c.tick.new.self c.self.invariant (passes c)

@@ -1,0 +1,24 @@
+use Rattle.std.proofs.Common.{ℕ, suc, length, ◌+◌, ◌≤◌, ◌≡◌, ◌++◌, ◌∷◌, [], true, arith, subst, List}
+use Rattle.fc_core.specs.declared.stage.Task.{Task}
+use Rattle.fc_core.specs.History.{History}
+use Rattle.fc_server.specs.Serving.{Serves, looked}
+use Rattle.fc_server.proofs.Served.{at_work, peeked_on, answered_on}
+use Rattle.fc_server.proofs.engine.discover.Goals as goal
+
+pub peek-requires : goal.peek-requires
+peek-requires c = at_work c.requires.rest (c.loop-slot.invariant c.requires.history c.requires.rest c.requires.serves)
+
+pub loop-slot-preserved : goal.loop-slot-preserved
+loop-slot-preserved c = λ h rest v.
+    let next : suc c.loop-slot.slot ≡ c.loop-slot.slot + 1 = omega arith in
+    subst (λ (n : ℕ). Serves (looked (length rest) n h) c.peek.new.self (rest ++ c.peek.new.task ∷ [])) next
+    (peeked_on rest (c.loop-slot.invariant h rest v) c.loop-slot.slot (c.peek.ensures (length rest)))
+
+pub respond-requires : goal.respond-requires
+respond-requires c = at_work c.requires.rest (c.loop-slot.invariant c.requires.history c.requires.rest c.requires.serves)
+
+pub returns : goal.returns
+returns c = λ h rest v.
+    let all : c.loop-slot.slot ≡ 64 = omega (arith, c.loop-slot.auto.slot-end, c.loop-slot-test.false) in
+    let seen = subst (λ (n : ℕ). Serves (looked (length rest) n h) c.loop-slot.server (rest ++ c.loop-slot.task ∷ [])) all (c.loop-slot.invariant h rest v) in
+    record { memory = true; tasks = rest ++ c.respond.new.task ∷ []; serves = answered_on rest seen c.args.now _ c.respond.ensures }
