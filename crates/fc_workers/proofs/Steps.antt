@@ -1,6 +1,6 @@
 -- The steps of a job's work, and the list of its calls.
-use Rattle.std.proofs.Common.{◌≡◌, ℕ, ◌+◌, ◌<◌, ◌≤◌, Bool, true, false, if◌then◌else◌, refl, sym, ap, subst, ◌∙◌, arith, List, [], ◌∷◌, Option, Some, None}
-use Rattle.std.specs.Prelude.{nat_lt, ◌==◌, ◌%◌}
+use Rattle.std.proofs.Common.{◌≡◌, ℕ, ◌+◌, ◌<◌, ◌≤◌, Bool, true, false, if◌then◌else◌, refl, sym, ap, subst, ◌∙◌, arith, List, [], ◌∷◌, ◌++◌, Option, Some, None, length-append}
+use Rattle.std.specs.Prelude.{length, nat_lt, ◌==◌, ◌%◌}
 use borrow.Author.Tests.{ltb-true}
 use Rattle.fc_kinds.specs.Meaning.{Program}
 use Rattle.fc_verify.specs.Accepted.{Accepts}
@@ -10,7 +10,7 @@ use Rattle.fc_verify.specs.declared.refusal.Refusal.TheVariants.{Broken, NoMemor
 use Rattle.fc_machine.specs.Ran.{Ran, ran}
 use Rattle.fc_help.specs.Request.{Request}
 use Rattle.fc_registry.specs.declared.job.Ask.{Ask}
-use Rattle.fc_registry.specs.declared.job.Ask.TheVariants.{Run, Install}
+use Rattle.fc_registry.specs.declared.job.Ask.TheVariants.{Run, Install, Remove, Describe, Discover}
 use Rattle.fc_registry.specs.declared.job.Job.{Job}
 use Rattle.fc_registry.specs.declared.job.Origin.{Origin}
 use Rattle.fc_registry.specs.declared.receipt.Receipt.{Receipt}
@@ -19,19 +19,23 @@ use Rattle.fc_isa.specs.Rules.{number_of}
 use Rattle.fc_registry.specs.declared.shard.Taken.{Taken}
 use Rattle.fc_registry.specs.declared.shard.Made.{Made}
 use Rattle.fc_registry.specs.declared.shard.Made.TheVariants.{Raised, AtEnd}
+use Rattle.fc_registry.specs.declared.shard.Removal.{Removal}
+use Rattle.fc_registry.specs.declared.shard.Removal.TheVariants as removals
+use Rattle.arrayvec.specs.ArrayVec.{ArrayVec}
 use Rattle.fc_registry.specs.declared.commit.Committed.{Committed}
 use Rattle.fc_registry.specs.declared.commit.Committed.TheVariants.{Done, Overtaken, Ended, Stranger}
 use Rattle.fc_registry.specs.Slots.{Present, Ticket}
-use Rattle.fc_registry.specs.Calls.{run_of, taking}
+use Rattle.fc_registry.specs.Calls.{receipt_of, run_of, taking}
 use Rattle.fc_core.specs.declared.stage.Stage.{Stage}
-use Rattle.fc_core.specs.declared.stage.Stage.TheVariants.{ToTake, ToCommit, ToInstall, ToRaise, ToAnswer}
-use Rattle.fc_core.specs.Contents.{Content, IsOf, Unavailable}
+use Rattle.fc_core.specs.declared.stage.Stage.TheVariants.{ToMatch, ToTake, ToCommit, ToInstall, ToRemove, ToDescribe, ToList, ToRaise, ToAnswer}
+use Rattle.fc_core.specs.Contents.{Content, IsOf, Listed, Unavailable}
+use Rattle.fc_core.specs.Heads.{head_word, is_match}
 use Rattle.fc_core.specs.Ends.{refused, refused_by}
-use Rattle.fc_core.specs.Stages.{first_stage, first_by, image_of, receipt_of, run_content, took, after_commit, made, takings}
+use Rattle.fc_core.specs.Stages.{first_stage, first_by, image_of, listed, matched, matched_by, run_content, removed, told, took, after_commit, made, takings}
 use Rattle.fc_workers.specs.declared.share.Share.{Share}
-use Rattle.fc_workers.specs.Answers.{AreTallied, commit_changes, install_changes, saturated, IsSomeTaking, IsSomeCommit, IsSomeInstall}
+use Rattle.fc_workers.specs.Answers.{AreTallied, commit_changes, install_changes, removal_changes, saturated, IsSomeTaking, IsSomeCommit, IsSomeInstall, IsSomeReceipt, IsSomeRemoval}
 use Rattle.fc_workers.specs.Steps.{Follows, IsReady, IsStep, taken_at}
-use Rattle.fc_workers.specs.Work.{Call, Takes, Commits, Installs, Refuses, Raises, AreCalls, IsCallAt, IsWorkedOff, HasCounted, next_stage, stage_after, change_by, overtaking_by, refusal_by, taking_by, total}
+use Rattle.fc_workers.specs.Work.{Call, Takes, Commits, Installs, Refuses, Removes, Describes, Looks, Raises, AreCalls, IsCallAt, IsWorkedOff, HasCounted, next_stage, stage_after, change_by, overtaking_by, refusal_by, taking_by, total}
 
 -- the calls so far, and where they led the job
 pub record Walked {T : Type 0} (changes : T → ℕ → ℕ) (job : Job) (stage : Stage) (before now : Share T) : Type 0 where
@@ -71,12 +75,12 @@ retaken_follows : (job : Job) (n : ℕ) (t : Ticket) (b : Bool) → nat_lt n tak
 retaken_follows job n t true e le = record { ready = ltb-true n takings e; fewer = omega arith; few = omega arith }
 retaken_follows job n t false e le = record { ready = tt; fewer = omega arith; few = omega (arith, le) }
 
-done_follows : (job : Job) (n : ℕ) (t : Ticket) (b : Bool) → IsReady job (ToCommit n t) → Follows job (ToCommit n t) 0 (if b then ToRaise (run_content t) else ToAnswer (run_content t))
-done_follows job n t true r = record { ready = r.1; fewer = omega arith; few = omega (arith, r.0) }
-done_follows job n t false r = record { ready = r.1; fewer = omega arith; few = omega (arith, r.0) }
+done_follows : (job : Job) (n : ℕ) (t : Ticket) (b : Bool) (word : ℕ) → IsReady job (ToCommit n t) → Follows job (ToCommit n t) 0 (if b then ToRaise word (run_content t) else ToAnswer (run_content t))
+done_follows job n t true word r = record { ready = r.1; fewer = omega arith; few = omega (arith, r.0) }
+done_follows job n t false word r = record { ready = r.1; fewer = omega arith; few = omega (arith, r.0) }
 
 commit_follows : (job : Job) (n : ℕ) (t : Ticket) (c : Committed) → IsReady job (ToCommit n t) → Follows job (ToCommit n t) 0 (after_commit n t c)
-commit_follows job n t (Done m) r = done_follows job n t m.changed r
+commit_follows job n t (Done m) r = done_follows job n t m.changed (head_word m.serial true) r
 commit_follows job n t Overtaken r = retaken_follows job n t (nat_lt n takings) refl r.0
 commit_follows job n t Ended r = record { ready = tt; fewer = omega arith; few = omega (arith, r.0) }
 commit_follows job n t Stranger r = record { ready = tt; fewer = omega arith; few = omega (arith, r.0) }
@@ -84,6 +88,23 @@ commit_follows job n t Stranger r = record { ready = tt; fewer = omega arith; fe
 made_follows : (job : Job) (r : Receipt) (x : Made) → Follows job ToInstall 0 (made r x)
 made_follows job r (Raised serial created) = record { ready = tt; fewer = omega arith; few = omega arith }
 made_follows job r AtEnd = record { ready = tt; fewer = omega arith; few = omega arith }
+
+removed_follows : (job : Job) (x : Removal) → Follows job ToRemove 0 (removed x)
+removed_follows job (removals.Removed serial) = record { ready = tt; fewer = omega arith; few = omega arith }
+removed_follows job removals.Absent = record { ready = tt; fewer = omega arith; few = omega arith }
+removed_follows job removals.AtEnd = record { ready = tt; fewer = omega arith; few = omega arith }
+
+told_follows : (job : Job) (x : Option Receipt) → Follows job ToDescribe 0 (ToAnswer (told x))
+told_follows job None = record { ready = tt; fewer = omega arith; few = omega arith }
+told_follows job (Some receipt) = record { ready = tt; fewer = omega arith; few = omega arith }
+
+matched_follows : (job : Job) (b : Bool) (word : ℕ) → Follows job ToMatch 0 (matched_by b word)
+matched_follows job true word = record { ready = tt; fewer = omega arith; few = omega arith }
+matched_follows job false word = record { ready = omega arith; fewer = omega arith; few = omega arith }
+
+listed_follows : (job : Job) (seen : ArrayVec ℕ) (words : List ℕ) (b : Bool) → length words ≡ length seen.items + 1 → length seen.items < 64 → nat_lt (length words) 64 ≡ b → Follows job (ToList seen) 0 (if b then ToList (record { items = words }) else ToAnswer (Listed words))
+listed_follows job seen words true len lt e = record { ready = ltb-true (length words) 64 e; fewer = omega (arith, len, lt); few = omega arith }
+listed_follows job seen words false len lt e = record { ready = tt; fewer = omega (arith, lt); few = omega arith }
 
 rejected_follows : (job : Job) (f : Fault) (b : Bool) → Follows job ToInstall 0 (ToAnswer (refused_by b f))
 rejected_follows job f true = record { ready = tt; fewer = omega arith; few = omega arith }
@@ -119,13 +140,46 @@ module _ {T : Type 0} (changes : T → ℕ → ℕ) (job : Job) where
     };
   })
 
-  pub install_step : (program : Program) (x : Made) (p : Share T) (tallies : T) {next : Stage} → judged (image_of job.ask) ≡ Accepts program → IsSomeInstall program x → AreTallied (changes p.tallies) (changes tallies) job.origin.slot (install_changes x) → next ≡ made (receipt_of program) x → IsStep changes job ToInstall next p (record p { tallies = tallies })
+  pub install_step : (program : Program) (x : Made) (p : Share T) (tallies : T) {next : Stage} → judged (image_of job.ask) ≡ Accepts program → IsSomeInstall program x → AreTallied (changes p.tallies) (changes tallies) job.origin.slot (install_changes x) → next ≡ made (receipt_of program 0) x → IsStep changes job ToInstall next p (record p { tallies = tallies })
   install_step program x p tallies accepted is rises e = is_step ToInstall e refl (record {
     call = Installs program x;
     is = (accepted, is);
     next = refl;
-    follows = made_follows job (receipt_of program) x;
+    follows = made_follows job (receipt_of program 0) x;
     counted = record { tallies = one_tallied (changes p.tallies) (changes tallies) job.origin.slot (install_changes x) rises; refusals = omega arith; overtakings = omega arith; got = refl };
+  })
+
+  pub remove_step : (x : Removal) (p : Share T) (tallies : T) {next : Stage} → IsSomeRemoval x → AreTallied (changes p.tallies) (changes tallies) job.origin.slot (removal_changes x) → next ≡ removed x → IsStep changes job ToRemove next p (record p { tallies = tallies })
+  remove_step x p tallies is rises e = is_step ToRemove e refl (record {
+    call = Removes x;
+    is = is;
+    next = refl;
+    follows = removed_follows job x;
+    counted = record { tallies = one_tallied (changes p.tallies) (changes tallies) job.origin.slot (removal_changes x) rises; refusals = omega arith; overtakings = omega arith; got = refl };
+  })
+
+  -- calls that change nothing and count nothing
+  unchanged : (call : Call) (p : Share T) → change_by call ≡ 0 → refusal_by call ≡ 0 → overtaking_by call ≡ 0 → HasCounted changes job.origin.slot (call ∷ []) p p
+  unchanged call p none no_refusal no_overtaking = record {
+    tallies = subst (λ (n : ℕ). AreTallied (changes p.tallies) (changes p.tallies) job.origin.slot (0 + n)) (sym none) (same_tallies (changes p.tallies) job.origin.slot);
+    refusals = omega (arith, no_refusal);
+    overtakings = omega (arith, no_overtaking);
+    got = refl;
+  }
+
+  pub describe_step : (x : Option Receipt) (p : Share T) {next : Stage} → IsSomeReceipt x → next ≡ ToAnswer (told x) → IsStep changes job ToDescribe next p p
+  describe_step x p is e = is_step ToDescribe e refl (record { call = Describes x; is = is; next = refl; follows = told_follows job x; counted = unchanged (Describes x) p refl refl refl })
+
+  pub match_step : (word : ℕ) (p : Share T) {next : Stage} → next ≡ matched word job.etags.items → IsStep changes job ToMatch next p p
+  match_step word p e = is_step ToMatch e refl (record { call = Looks word; is = tt; next = refl; follows = matched_follows job (is_match word job.etags.items) word; counted = unchanged (Looks word) p refl refl refl })
+
+  pub list_step : (seen : ArrayVec ℕ) (word : ℕ) (p : Share T) {next : Stage} → length seen.items < 64 → next ≡ listed (seen.items ++ word ∷ []) → IsStep changes job (ToList seen) next p p
+  list_step seen word p lt e = is_step (ToList seen) e refl (record {
+    call = Looks word;
+    is = tt;
+    next = refl;
+    follows = listed_follows job seen (seen.items ++ word ∷ []) (nat_lt (length (seen.items ++ word ∷ [])) 64) (length-append seen.items (word ∷ [])) lt refl;
+    counted = unchanged (Looks word) p refl refl refl;
   })
 
   -- an image that breaks a rule
@@ -148,8 +202,8 @@ module _ {T : Type 0} (changes : T → ℕ → ℕ) (job : Job) where
     counted = record { tallies = same_tallies (changes p.tallies) job.origin.slot; refusals = omega arith; overtakings = omega arith; got = refl };
   })
 
-  pub raise_step : (content : Content) (p : Share T) → IsOf job content → IsStep changes job (ToRaise content) (ToAnswer content) p p
-  raise_step content p own = record {
+  pub raise_step : (word : ℕ) (content : Content) (p : Share T) → IsOf job content → IsStep changes job (ToRaise word content) (ToAnswer content) p p
+  raise_step word content p own = record {
     call = Raises;
     is = tt;
     next = refl;
@@ -163,9 +217,13 @@ is_run r t p request vars e by for on = e ∙ λ i. ran (by i) (for i) (on i)
 
 -- ---- the calls so far
 
-first_ready : (job : Job) (ask : Ask) → IsReady job (first_by ask)
-first_ready job (Run request) = omega arith
-first_ready job (Install image) = tt
+first_ready : (job : Job) (ask : Ask) (serials : List ℕ) → IsReady job (first_by ask serials)
+first_ready job (Run request) [] = omega arith
+first_ready job (Run request) (x ∷ xs) = tt
+first_ready job (Install image) serials = tt
+first_ready job Remove serials = tt
+first_ready job Describe serials = tt
+first_ready job Discover serials = omega arith
 
 no_calls : (job : Job) → AreCalls job []
 unfolding AreCalls
@@ -180,7 +238,7 @@ sets_out changes job p = record {
   calls = [];
   are = no_calls job;
   stands = at_first job;
-  ready = first_ready job job.ask;
+  ready = first_ready job job.ask job.etags.items;
   few = omega arith;
   counted = record { tallies = same_tallies (changes p.tallies) job.origin.slot; refusals = omega arith; overtakings = omega arith; got = refl };
 }
@@ -189,7 +247,7 @@ more_calls : (job : Job) (calls : List Call) (call : Call) → AreCalls job call
 unfolding AreCalls
 more_calls job calls call are is = (are, is)
 
-at_next : (job : Job) (calls : List Call) (call : Call) → next_stage (stage_after job calls) call ≡ stage_after job (call ∷ calls)
+at_next : (job : Job) (calls : List Call) (call : Call) → next_stage job (stage_after job calls) call ≡ stage_after job (call ∷ calls)
 unfolding stage_after
 at_next job calls call = refl
 
@@ -212,7 +270,7 @@ walks_on changes job {stage} {at} {next} {before} {now} {after} e w s =
     record {
       calls = s.call ∷ w.calls;
       are = more_calls job w.calls s.call w.are (subst (λ (x : Stage). IsCallAt job x s.call) here s.is);
-      stands = s.next ∙ (ap (λ (x : Stage). next_stage x s.call) here ∙ at_next job w.calls s.call);
+      stands = s.next ∙ (ap (λ (x : Stage). next_stage job x s.call) here ∙ at_next job w.calls s.call);
       ready = s.follows.ready;
       few = omega (arith, subst (λ (x : Stage). total taking_by w.calls ≤ taken_at x) e w.few, s.follows.few);
       counted = counts_on changes job.origin.slot w.calls s.call before now after w.counted s.counted;

@@ -1,6 +1,6 @@
 -- What a call answers at some slot, and what is tallied of it. Which slot it was is not said: between two calls of a job,
 -- others change the slots.
-use Rattle.std.specs.Prelude.{◌≡◌, ℕ, ◌+◌, ◌%◌, ◌<◌, ◌==◌, if◌then◌else◌, List, min}
+use Rattle.std.specs.Prelude.{◌≡◌, ℕ, ◌+◌, ◌%◌, ◌<◌, ◌==◌, if◌then◌else◌, List, Option, min}
 use Rattle.coap_msg.specs.declared.types.Endpoint.{Endpoint}
 use Rattle.fc_core.specs.declared.front.Delivered.{Delivered}
 use Rattle.fc_core.specs.Exchanges.{FrontState}
@@ -14,7 +14,10 @@ use Rattle.fc_registry.specs.declared.shard.Made.TheVariants.{Raised, AtEnd}
 use Rattle.fc_registry.specs.declared.commit.Committed.{Committed}
 use Rattle.fc_registry.specs.declared.commit.Committed.TheVariants.{Done}
 use Rattle.fc_registry.specs.Slots.{Slot, Ticket}
-use Rattle.fc_registry.specs.Calls.{IsTaking, IsCommit, install_in}
+use Rattle.fc_registry.specs.declared.receipt.Receipt.{Receipt}
+use Rattle.fc_registry.specs.declared.shard.Removal.{Removal}
+use Rattle.fc_registry.specs.declared.shard.Removal.TheVariants.{Removed}
+use Rattle.fc_registry.specs.Calls.{IsTaking, IsCommit, install_in, receipt_at, remove_from}
 
 -- a delivery at some front brings this
 pub record IsSomeDelivery (to : Endpoint) (bytes : List ℕ) (brings : Delivered) : Type 0 where
@@ -37,6 +40,16 @@ pub record IsSomeInstall (p : Program) (made : Made) : Type 0 where
   pub slot : Slot
   pub made_is : made ≡ (install_in slot p).answer
 
+-- a removal from some slot answers this
+pub record IsSomeRemoval (removal : Removal) : Type 0 where
+  pub slot : Slot
+  pub removal_is : removal ≡ (remove_from slot).answer
+
+-- some slot's program is this, or it has none
+pub record IsSomeReceipt (receipt : Option Receipt) : Type 0 where
+  pub slot : Slot
+  pub receipt_is : receipt ≡ receipt_at slot.present
+
 -- how many changes a commit's answer tells of
 abbrev pub commit_changes : Committed → ℕ
 commit_changes (Done m) = if m.changed then 1 else 0
@@ -46,6 +59,11 @@ commit_changes other = 0
 abbrev pub install_changes : Made → ℕ
 install_changes (Raised serial created) = 1
 install_changes AtEnd = 0
+
+-- how many a removal's answer tells of
+abbrev pub removal_changes : Removal → ℕ
+removal_changes (Removed serial) = 1
+removal_changes other = 0
 
 -- the tally of slot n's shard has risen by so many changes, and those of the other shards are as before
 abbrev pub AreTallied : (ℕ → ℕ) → (ℕ → ℕ) → ℕ → ℕ → Type 0

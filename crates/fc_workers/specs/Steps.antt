@@ -1,19 +1,24 @@
 -- One step of a job's work, as the worker's loop keeps it.
-use Rattle.std.specs.Prelude.{◌≡◌, ℕ, ◌+◌, ◌*◌, ◌-◌, ◌<◌, ◌≤◌, [], ◌∷◌}
+use Rattle.std.specs.Prelude.{◌≡◌, ℕ, ◌+◌, ◌*◌, ◌-◌, ◌<◌, ◌≤◌, [], ◌∷◌, length}
 use Rattle.fc_registry.specs.declared.job.Job.{Job}
 use Rattle.fc_core.specs.declared.stage.Stage.{Stage}
-use Rattle.fc_core.specs.declared.stage.Stage.TheVariants.{ToTake, ToCommit, ToInstall, ToRaise, ToAnswer, Gone}
+use Rattle.fc_core.specs.declared.stage.Stage.TheVariants.{ToMatch, ToTake, ToCommit, ToInstall, ToRemove, ToDescribe, ToList, ToRaise, ToAnswer, Gone}
 use Rattle.fc_core.specs.Contents.{IsOf}
 use Rattle.fc_core.specs.Stages.{takings}
 use Rattle.fc_workers.specs.declared.share.Share.{Share}
 use Rattle.fc_workers.specs.Work.{Call, next_stage, IsCallAt, taking_by, HasCounted}
 
--- a job that is to take may take once more; a ticket is its job's, and so is an answer
+-- a job that is to take may take once more; a ticket is its job's, and so is an answer; a job that lists head words has yet one
+-- to read
 abbrev pub IsReady : Job → Stage → Type 0
 IsReady job (ToTake n) = n < takings
 IsReady job (ToCommit n t) = (n ≤ takings) × (t.origin ≡ job.origin)
+IsReady job ToMatch = Unit {0}
 IsReady job ToInstall = Unit {0}
-IsReady job (ToRaise content) = IsOf job content
+IsReady job ToRemove = Unit {0}
+IsReady job ToDescribe = Unit {0}
+IsReady job (ToList seen) = length seen.items < 64
+IsReady job (ToRaise word content) = IsOf job content
 IsReady job (ToAnswer content) = IsOf job content
 IsReady job Gone = ⊥
 
@@ -21,12 +26,17 @@ IsReady job Gone = ⊥
 abbrev pub calls_left : Stage → ℕ
 calls_left (ToTake n) = 2 * (takings - n) + 2
 calls_left (ToCommit n t) = 2 * (takings - n) + 3
+calls_left ToMatch = 2 * takings + 3
 calls_left ToInstall = 2
-calls_left (ToRaise content) = 1
+calls_left ToRemove = 2
+calls_left ToDescribe = 1
+calls_left (ToList seen) = 64 - length seen.items
+calls_left (ToRaise word content) = 1
 calls_left other = 0
 
 -- how many takings there can have been
 abbrev pub taken_at : Stage → ℕ
+taken_at ToMatch = 0
 taken_at (ToTake n) = n
 taken_at (ToCommit n t) = n
 taken_at other = takings
@@ -41,6 +51,6 @@ pub record Follows (job : Job) (old : Stage) (takes : ℕ) (new : Stage) : Type 
 pub record IsStep {T : Type 0} (changes : T → ℕ → ℕ) (job : Job) (old new : Stage) (before after : Share T) : Type 0 where
   pub call : Call
   pub is : IsCallAt job old call
-  pub next : new ≡ next_stage old call
+  pub next : new ≡ next_stage job old call
   pub follows : Follows job old (taking_by call) new
   pub counted : HasCounted changes job.origin.slot (call ∷ []) before after

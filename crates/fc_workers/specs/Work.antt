@@ -1,6 +1,6 @@
 -- What is done with a job whose shard others change too: a list of calls, the newest first, each at the stage that needs it,
 -- and answered as its shard answers at some slot.
-use Rattle.std.specs.Prelude.{◌≡◌, ℕ, ◌+◌, ◌≤◌, List, [], ◌∷◌}
+use Rattle.std.specs.Prelude.{◌≡◌, ℕ, ◌+◌, ◌≤◌, List, [], ◌∷◌, ◌++◌, Option}
 use Rattle.fc_kinds.specs.Meaning.{Program}
 use Rattle.fc_verify.specs.Accepted.{Accepts}
 use Rattle.fc_verify.specs.Judged.{judged}
@@ -13,13 +13,15 @@ use Rattle.fc_registry.specs.declared.shard.Taken.TheVariants.{Refused}
 use Rattle.fc_registry.specs.declared.shard.Made.{Made}
 use Rattle.fc_registry.specs.declared.commit.Committed.{Committed}
 use Rattle.fc_registry.specs.declared.commit.Committed.TheVariants.{Overtaken}
-use Rattle.fc_registry.specs.Calls.{run_of}
+use Rattle.fc_registry.specs.declared.receipt.Receipt.{Receipt}
+use Rattle.fc_registry.specs.declared.shard.Removal.{Removal}
+use Rattle.fc_registry.specs.Calls.{receipt_of, run_of}
 use Rattle.fc_core.specs.declared.stage.Stage.{Stage}
-use Rattle.fc_core.specs.declared.stage.Stage.TheVariants.{ToTake, ToCommit, ToInstall, ToRaise, ToAnswer}
+use Rattle.fc_core.specs.declared.stage.Stage.TheVariants.{ToMatch, ToTake, ToCommit, ToInstall, ToRemove, ToDescribe, ToList, ToRaise, ToAnswer}
 use Rattle.fc_core.specs.Contents.{Content, IsOf}
 use Rattle.fc_core.specs.Ends.{refused}
-use Rattle.fc_core.specs.Stages.{first_stage, image_of, receipt_of, took, after_commit, made, takings}
-use Rattle.fc_workers.specs.Answers.{IsSomeTaking, IsSomeCommit, IsSomeInstall, AreTallied, HasRisen, commit_changes, install_changes}
+use Rattle.fc_core.specs.Stages.{first_stage, image_of, listed, matched, took, told, after_commit, made, removed, takings}
+use Rattle.fc_workers.specs.Answers.{IsSomeTaking, IsSomeCommit, IsSomeInstall, IsSomeReceipt, IsSomeRemoval, AreTallied, HasRisen, commit_changes, install_changes, removal_changes}
 use Rattle.fc_workers.specs.declared.share.Share.{Share}
 
 -- a call for a job, and what it answered
@@ -29,30 +31,43 @@ pub data Call : Type 0 where
   Installs : (program : Program) (made : Made) → Call
   -- no install: its image breaks a rule, or memory was refused
   Refuses : (refusal : Refusal) → Call
+  Removes : (removal : Removal) → Call
+  Describes : (receipt : Option Receipt) → Call
+  -- a look at a head word
+  Looks : (word : ℕ) → Call
+  -- its slot's head word is raised
   Raises : Call
 
 -- the stage that a call leaves a job at: the row of its answer
-abbrev pub next_stage : Stage → Call → Stage
-next_stage (ToTake n) (Takes taken) = took n taken
-next_stage (ToCommit n t) (Commits committed) = after_commit n t committed
-next_stage ToInstall (Installs p answer) = made (receipt_of p) answer
-next_stage ToInstall (Refuses refusal) = ToAnswer (refused refusal)
-next_stage (ToRaise content) Raises = ToAnswer content
-next_stage stage call = stage
+abbrev pub next_stage : Job → Stage → Call → Stage
+next_stage job ToMatch (Looks word) = matched word job.etags.items
+next_stage job (ToTake n) (Takes taken) = took n taken
+next_stage job (ToCommit n t) (Commits committed) = after_commit n t committed
+next_stage job ToInstall (Installs p answer) = made (receipt_of p 0) answer
+next_stage job ToInstall (Refuses refusal) = ToAnswer (refused refusal)
+next_stage job ToRemove (Removes removal) = removed removal
+next_stage job ToDescribe (Describes receipt) = ToAnswer (told receipt)
+next_stage job (ToList seen) (Looks word) = listed (seen.items ++ word ∷ [])
+next_stage job (ToRaise word content) Raises = ToAnswer content
+next_stage job stage call = stage
 
 -- the call is the one that the stage needs, and its answer is true of some slot
 abbrev pub IsCallAt : Job → Stage → Call → Type 0
+IsCallAt job ToMatch (Looks word) = Unit {0}
 IsCallAt job (ToTake n) (Takes taken) = IsSomeTaking job taken
 IsCallAt job (ToCommit n t) (Commits committed) = IsSomeCommit (run_of t) t committed
 IsCallAt job ToInstall (Installs p answer) = (judged (image_of job.ask) ≡ Accepts p) × IsSomeInstall p answer
 IsCallAt job ToInstall (Refuses refusal) = IsRefusal (image_of job.ask) refusal
-IsCallAt job (ToRaise content) Raises = Unit {0}
+IsCallAt job ToRemove (Removes removal) = IsSomeRemoval removal
+IsCallAt job ToDescribe (Describes receipt) = IsSomeReceipt receipt
+IsCallAt job (ToList seen) (Looks word) = Unit {0}
+IsCallAt job (ToRaise word content) Raises = Unit {0}
 IsCallAt job stage call = ⊥
 
 -- the stage that these calls leave a job at
 unfoldable pub stage_after : Job → List Call → Stage
 stage_after job [] = first_stage job
-stage_after job (call ∷ calls) = next_stage (stage_after job calls) call
+stage_after job (call ∷ calls) = next_stage job (stage_after job calls) call
 
 -- each is the call that the stage needs where the ones before it have led
 unfoldable pub AreCalls : Job → List Call → Type 0
@@ -69,6 +84,7 @@ taking_by other = 0
 abbrev pub change_by : Call → ℕ
 change_by (Commits committed) = commit_changes committed
 change_by (Installs p answer) = install_changes answer
+change_by (Removes removal) = removal_changes removal
 change_by other = 0
 
 -- refusals of memory

@@ -1,16 +1,16 @@
 //! What workers work at.
 ghost use Rattle.std.specs.Prelude.{◌≡◌, ℕ, ◌+◌, ◌<◌};
 ghost use Rattle.fc_core.specs.Contents.{IsOf};
-ghost use Rattle.fc_workers.specs.Answers.{AreTallied, IsSomeCommit, IsSomeDelivery, IsSomeInstall, IsSomeTaking, commit_changes, install_changes, saturated};
+ghost use Rattle.fc_workers.specs.Answers.{AreTallied, IsSomeCommit, IsSomeDelivery, IsSomeInstall, IsSomeReceipt, IsSomeRemoval, IsSomeTaking, commit_changes, install_changes, removal_changes, saturated};
 
 use coap_msg::{Emission, Endpoint};
 use fc_core::{Answer, Delivered};
 use fc_machine::Outcome;
-use fc_registry::{Committed, Job, Made, SlotNumber, Taken, Ticket};
+use fc_registry::{Committed, Job, Made, Receipt, Removal, SlotNumber, Taken, Ticket};
 use fc_verify::Verified;
 use std::sync::{Arc, Wait};
 
-/// The calls of the shards and the front, for any number of workers at a time: a server keeps them behind its locks, and
+/// The calls of the shards, the head words and the front, for any number of workers at a time: a server keeps them behind its locks, and
 /// each call may wait for one. A call answers what the shard answers at some slot, and nothing ties one call's slot to the
 /// next's: what others change in between is not said here.
 ///
@@ -64,8 +64,22 @@ pub trait Bench {
             slot (install_changes result) }
         ensures ended { ended tallies.new ≡ ended tallies.old };
 
-    /// Publishes a slot's new serial.
-    fn raise<R: Wait>(&self, rt: &R, slot: SlotNumber);
+    /// Removes the program of a slot, as [`Shard::remove`](fc_registry::Shard::remove) does.
+    fn remove<R: Wait>(&self, rt: &R, slot: SlotNumber, tallies: &mut Self::Tallies) -> Removal
+        ensures removal { IsSomeRemoval result }
+        ensures changes { AreTallied (changes tallies.old) (changes tallies.new)
+            slot (removal_changes result) }
+        ensures ended { ended tallies.new ≡ ended tallies.old };
+
+    /// What the program in a slot is, as [`Shard::receipt`](fc_registry::Shard::receipt) tells it.
+    fn receipt<R: Wait>(&self, rt: &R, slot: SlotNumber) -> Option<Receipt>
+        ensures { IsSomeReceipt result };
+
+    /// The head word of a slot, as [`Heads::peek`](fc_core::Heads::peek) tells it.
+    fn peek<R: Wait>(&self, rt: &R, slot: SlotNumber) -> u64;
+
+    /// Raises the head word of a slot, as [`Heads::raise`](fc_core::Heads::raise) does.
+    fn raise<R: Wait>(&self, rt: &R, slot: SlotNumber, word: u64);
 
     /// Answers a job, at a moment in milliseconds, as [`Front::answer`](fc_core::Front::answer) does, and ends it: what is
     /// to be sent, if anything.

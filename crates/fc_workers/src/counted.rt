@@ -2,13 +2,15 @@
 ghost use Rattle.std.specs.Prelude.{◌≡◌, ◌+◌, ◌<◌, if◌then◌else◌};
 ghost use Rattle.fc_registry.specs.Slots.{IsOwned, slot_in, with_slot, version_in, vars_in};
 ghost use Rattle.fc_registry.specs.Changes.{after_changes};
-ghost use Rattle.fc_registry.specs.Calls.{IsTaking, CommitsTo, install_in};
-ghost use Rattle.fc_workers.specs.Answers.{commit_changes, install_changes};
+ghost use Rattle.fc_registry.specs.Calls.{IsTaking, CommitsTo, install_in, receipt_at, remove_from};
+ghost use Rattle.fc_workers.specs.Answers.{commit_changes, install_changes, removal_changes};
 ghost use Rattle.fc_workers.specs.Counts.{HasEightSlots, serials, counts};
 
 use crate::tally::Tally;
 use fc_machine::Outcome;
-use fc_registry::{Committed, Job, Made, SHARDS, Shard, SlotNumber, Taken, Ticket};
+use fc_registry::{
+    Committed, Job, Made, Receipt, Removal, SHARDS, Shard, SlotNumber, Taken, Ticket,
+};
 use fc_verify::Verified;
 use std::marker::Model;
 use std::sync::Arc;
@@ -104,6 +106,31 @@ impl<L: Ledger> Counted<L> {
             tally.count(&mut self.book);
         }
         made
+    }
+
+    /// Removes the program of a slot, as [`Shard::remove`] does. The tally counts it where there was one, but at the slot's
+    /// last serial.
+    pub fn remove(&mut self, slot: SlotNumber, tally: &mut Tally<L>) -> Removal
+        requires { IsOwned self.old.shard slot }
+        ensures answer { result ≡ (remove_from (slot_in self.old.shard slot)).answer }
+        ensures slots { self.new ≡ record self.old {
+          shard = with_slot self.old.shard slot
+              (after_changes (slot_in self.old.shard slot) (remove_from (slot_in self.old.shard slot)).changes);
+        } }
+        ensures tally { tally.new ≡ counts tally.old (removal_changes result) }
+    {
+        let removal = self.shard.remove(slot);
+        if matches!(removal, Removal::Removed { .. }) {
+            tally.count(&mut self.book);
+        }
+        removal
+    }
+
+    /// What the program in a slot is, as [`Shard::receipt`] tells it.
+    pub fn receipt(&self, slot: SlotNumber) -> Option<Receipt>
+        ensures { result ≡ receipt_at (slot_in self.entry.now.shard slot).present }
+    {
+        self.shard.receipt(slot)
     }
 
     /// The serial of a slot of this shard, as [`Shard::serial`] tells it.

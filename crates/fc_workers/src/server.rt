@@ -15,7 +15,7 @@ ghost use Rattle.std.specs.Prelude.{◌≡◌, ◌+◌, ◌*◌, ◌<◌, ◌≤
 ghost use Rattle.fc_core.specs.Contents.{IsOf};
 ghost use Rattle.fc_registry.specs.Slots.{last_serial};
 ghost use Rattle.fc_workers.specs.Counts.{no_changes, serials, IsFresh};
-ghost use Rattle.fc_workers.specs.Answers.{AreTallied, IsSomeCommit, IsSomeInstall, IsSomeTaking, commit_changes, install_changes, saturated};
+ghost use Rattle.fc_workers.specs.Answers.{AreTallied, IsSomeCommit, IsSomeInstall, IsSomeReceipt, IsSomeRemoval, IsSomeTaking, commit_changes, install_changes, removal_changes, saturated};
 
 use crate::bench::Bench;
 use crate::blanks::Blanks;
@@ -24,9 +24,9 @@ use crate::reserve::Reserve;
 use crate::tallies::Tallies;
 use crate::tally::Tally;
 use coap_msg::{Emission, Endpoint};
-use fc_core::{Answer, Answered, Delivered, Front};
+use fc_core::{Answer, Answered, Delivered, Front, Heads};
 use fc_machine::Outcome;
-use fc_registry::{Committed, Job, Made, Shard, SlotNumber, Taken, Ticket};
+use fc_registry::{Committed, Job, Made, Receipt, Removal, Shard, SlotNumber, Taken, Ticket};
 use fc_verify::Verified;
 use std::alloc::{AllocError, Global};
 use std::sync::ledger::Ledger;
@@ -34,7 +34,7 @@ use std::sync::{Arc, Mutex, Wait};
 
 type EightShards = (Shard, Shard, Shard, Shard, Shard, Shard, Shard, Shard);
 
-/// The front, and the eight shards, each beside its book.
+/// The front, the head words, and the eight shards, each beside its book.
 #[derive(Drop)]
 struct State<
     L0: Ledger,
@@ -47,6 +47,7 @@ struct State<
     L7: Ledger,
 > {
     front: Front,
+    heads: Heads,
     shard0: Counted<L0>,
     shard1: Counted<L1>,
     shard2: Counted<L2>,
@@ -161,6 +162,43 @@ impl<
             _ => self.shard7.install(slot, program, &mut tallies.tally7),
         }
     }
+
+    fn remove(
+        &mut self,
+        slot: SlotNumber,
+        tallies: &mut Tallies<L0, L1, L2, L3, L4, L5, L6, L7>,
+    ) -> Removal
+        ensures removal { IsSomeRemoval result }
+        ensures changes { AreTallied (slice_index tallies.old.changes) (slice_index tallies.new.changes)
+            slot (removal_changes result) }
+        ensures ended { tallies.new.ended ≡ tallies.old.ended }
+    {
+        match shard_of(slot) {
+            0 => self.shard0.remove(slot, &mut tallies.tally0),
+            1 => self.shard1.remove(slot, &mut tallies.tally1),
+            2 => self.shard2.remove(slot, &mut tallies.tally2),
+            3 => self.shard3.remove(slot, &mut tallies.tally3),
+            4 => self.shard4.remove(slot, &mut tallies.tally4),
+            5 => self.shard5.remove(slot, &mut tallies.tally5),
+            6 => self.shard6.remove(slot, &mut tallies.tally6),
+            _ => self.shard7.remove(slot, &mut tallies.tally7),
+        }
+    }
+
+    fn receipt(&self, slot: SlotNumber) -> Option<Receipt>
+        ensures { IsSomeReceipt result }
+    {
+        match shard_of(slot) {
+            0 => self.shard0.receipt(slot),
+            1 => self.shard1.receipt(slot),
+            2 => self.shard2.receipt(slot),
+            3 => self.shard3.receipt(slot),
+            4 => self.shard4.receipt(slot),
+            5 => self.shard5.receipt(slot),
+            6 => self.shard6.receipt(slot),
+            _ => self.shard7.receipt(slot),
+        }
+    }
 }
 
 // The server of these shards, each beside its book.
@@ -196,6 +234,7 @@ fn server_of<
 {
     let state = State {
         front,
+        heads: Heads::new(),
         shard0,
         shard1,
         shard2,
@@ -478,9 +517,29 @@ impl<
         state.install(slot, program, tallies)
     }
 
-    fn raise<R: Wait>(&self, rt: &R, slot: SlotNumber) {
-        let _ = rt;
-        let _ = slot;
+    fn remove<R: Wait>(
+        &self,
+        rt: &R,
+        slot: SlotNumber,
+        tallies: &mut Tallies<L0, L1, L2, L3, L4, L5, L6, L7>,
+    ) -> Removal {
+        let mut state = self.state.lock(rt);
+        state.remove(slot, tallies)
+    }
+
+    fn receipt<R: Wait>(&self, rt: &R, slot: SlotNumber) -> Option<Receipt> {
+        let state = self.state.lock(rt);
+        state.receipt(slot)
+    }
+
+    fn peek<R: Wait>(&self, rt: &R, slot: SlotNumber) -> u64 {
+        let state = self.state.lock(rt);
+        state.heads.peek(slot)
+    }
+
+    fn raise<R: Wait>(&self, rt: &R, slot: SlotNumber, word: u64) {
+        let mut state = self.state.lock(rt);
+        state.heads.raise(slot, word);
     }
 
     fn answer<R: Wait>(

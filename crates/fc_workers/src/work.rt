@@ -1,19 +1,19 @@
 //! Jobs worked off over a bench.
-ghost use Rattle.std.specs.Prelude.{◌≡◌};
+ghost use Rattle.std.specs.Prelude.{◌≡◌, ◌<◌, ◌++◌, ◌∷◌, ℕ, [], length};
 ghost use Rattle.fc_verify.specs.Judged.{judged};
 ghost use Rattle.fc_verify.specs.Accepted.{Accepts, IsAccepted};
-ghost use Rattle.fc_core.specs.Stages.{image_of};
-ghost use Rattle.fc_core.specs.declared.stage.Stage.TheVariants.{ToTake, ToCommit, ToInstall};
+ghost use Rattle.fc_core.specs.Stages.{image_of, listed};
+ghost use Rattle.fc_core.specs.declared.stage.Stage.TheVariants.{ToTake, ToCommit, ToInstall, ToRemove};
 ghost use Rattle.fc_workers.specs.Work.{IsWorkedOff};
 ghost use Rattle.fc_workers.specs.Steps.{IsReady, IsStep};
 
 use crate::bench::Bench;
 use crate::share::Share;
 use crate::workshop::{Gate, Moments, Wire, Workshop};
-use fc_core::task::{image, receipt_of};
-use fc_core::{Answer, Stage};
+use fc_core::task::image;
+use fc_core::{Answer, Stage, Words};
 use fc_machine::{Frame, run};
-use fc_registry::{Job, Ticket};
+use fc_registry::{Job, Receipt, SlotNumber, Ticket};
 use fc_verify::{Refusal, Verified, verify};
 use std::sync::{Arc, Wait};
 
@@ -37,20 +37,42 @@ impl<'a, B: Bench, G: Gate, W: Wire, M: Moments> Workshop<'a, B, G, W, M> {
         let mut stage = Stage::first(job);
         'calls: loop {
             stage = match stage {
+                Stage::ToMatch => Stage::matched(job, self.bench.peek(rt, job.origin.slot)),
                 Stage::ToTake(count) => self.take(rt, job, count, share),
                 Stage::ToCommit(count, ticket) => {
                     self.gate.between(rt, number);
                     self.commit(rt, frame, job, count, ticket, share)
                 }
                 Stage::ToInstall => self.install(rt, job, share),
-                Stage::ToRaise(answer) => {
-                    self.bench.raise(rt, job.origin.slot);
+                Stage::ToRemove => self.remove(rt, job, share),
+                Stage::ToDescribe => Stage::told(self.bench.receipt(rt, job.origin.slot)),
+                Stage::ToList(seen) => self.look(rt, seen),
+                Stage::ToRaise(word, answer) => {
+                    self.bench.raise(rt, job.origin.slot, word);
                     Stage::ToAnswer(answer)
                 }
                 Stage::ToAnswer(answer) => return answer,
                 Stage::Gone => unreachable!(),
             };
         }
+    }
+
+    // Looks at the head word of the slot after those of these words.
+    fn look<R: Wait>(&self, rt: &R, seen: Words) -> Stage
+        requires { length seen.items < 64 }
+        ensures { (word : ℕ) × (result ≡ listed (seen.items ++ word ∷ [])) }
+    {
+        let slot = SlotNumber::new(seen.len() as u8);
+        Stage::listed(seen, self.bench.peek(rt, slot))
+    }
+
+    // Removes the program of the job's slot.
+    fn remove<R: Wait>(&self, rt: &R, job: &Job, share: &mut Share<B::Tallies>) -> Stage
+        ensures step { IsStep B.changes job.now ToRemove result share.old share.new }
+        ensures ended { B.ended share.new.tallies ≡ B.ended share.old.tallies }
+    {
+        let removal = self.bench.remove(rt, job.origin.slot, &mut share.tallies);
+        Stage::removed(removal)
     }
 
     // Takes what the job finds.
@@ -115,7 +137,7 @@ impl<'a, B: Bench, G: Gate, W: Wire, M: Moments> Workshop<'a, B, G, W, M> {
         ensures step { IsStep B.changes job.now ToInstall result share.old share.new }
         ensures ended { B.ended share.new.tallies ≡ B.ended share.old.tallies }
     {
-        let receipt = receipt_of(&program);
+        let receipt = Receipt::of(&program, 0);
         match Arc::new(self.alloc, program) {
             Ok(program) => {
                 let slot = job.origin.slot;

@@ -8,13 +8,13 @@ use Rattle.fc_core.specs.Exchanges.{advanced}
 use Rattle.fc_core.specs.History.{no_task, task_at}
 use Rattle.fc_core.specs.Legal.{AnswerEmits}
 use Rattle.fc_core.specs.Sound.{AllSafe}
-use Rattle.fc_core.specs.Stages.{at_answer, content_at, task_moved, row}
+use Rattle.fc_core.specs.Stages.{at_answer, content_at, task_moved, row, words_after}
 use Rattle.fc_server.specs.Agreement.{Parts}
 use Rattle.fc_server.specs.States.{Responds, Does, ServerState, front_after, scene_in, shards_moved}
 use Rattle.fc_server.specs.Steps.{AnsweredTo, Moves}
 
 abbrev pub state : ServerState → List Task → Parts
-state s tasks = record { front = s.front; shards = s.shards; tasks = tasks }
+state s tasks = record { front = s.front; shards = s.shards; words = s.words; tasks = tasks }
 
 -- the task at a place is the one of its number
 pub task_is : (tasks : List Task) (k : ℕ) (was : Task) → k < length tasks → was ≡ get_or tasks k was → was ≡ task_at tasks k
@@ -25,9 +25,10 @@ does_moves e k old new tasks was later lt is d =
     let at = task_is tasks k was lt is in
     record {
       front = d.front;
-      tasks = ap (λ (t : Task). set tasks k t) (d.task_is ∙ ap (λ (t : Task). task_moved t (row e (scene_in old.shards t))) at);
-      shards = subst (λ (t : Task). new.shards ≡ shards_moved (row e (scene_in old.shards t)) t.job.origin.slot old.shards) at d.shards;
-      safe = subst (λ (t : Task). AllSafe (row e (scene_in old.shards t)).changes) at d.safe;
+      tasks = ap (λ (t : Task). set tasks k t) (d.task_is ∙ ap (λ (t : Task). task_moved t (row e (scene_in old.shards old.words t))) at);
+      shards = subst (λ (t : Task). new.shards ≡ shards_moved (row e (scene_in old.shards old.words t)) t.job.origin.slot old.shards) at d.shards;
+      words = subst (λ (t : Task). new.words ≡ words_after (row e (scene_in old.shards old.words t)) t old.words) at d.words;
+      safe = subst (λ (t : Task). AllSafe (row e (scene_in old.shards old.words t)).changes) at d.safe;
     }
 
 pub answers_to : (k now : ℕ) (old new : ServerState) (tasks : List Task) (was later : Task) (out : Option Emission) → k < length tasks → was ≡ get_or tasks k was → Responds now old was new later out → AnsweredTo k now (state old tasks) (state new (set tasks k later)) out
@@ -37,5 +38,6 @@ answers_to k now old new tasks was later out lt is d =
       front = subst (λ (t : Task). new.front ≡ front_after (content_at t.stage) t.job out old.front now) at d.front;
       tasks = ap (λ (t : Task). set tasks k t) (d.task_is ∙ ap (λ (t : Task). task_moved t (at_answer t.stage)) at);
       shards = d.shards;
+      words = d.words;
       emits = subst (λ (t : Task). AnswerEmits (content_at t.stage) t.job (advanced old.front now) out) at d.emits;
     }

@@ -3,4 +3,4 @@ use Rattle.fc_server.specs.Agreement.{Parts}
 use Rattle.fc_world.specs.declared.state.State.{State}
 
 abbrev pub parts : State → Parts
-parts w = record { front = w.server.front; shards = w.server.shards; tasks = w.tasks.items }
+parts w = record { front = w.server.front; shards = w.server.shards; words = w.server.words; tasks = w.tasks.items }

@@ -88,6 +88,30 @@ impl State {
         }
     }
 
+    fn peek(&mut self, job: usize, slot: u8)
+        requires job { job < length self.old.tasks.items }
+        requires work { AtWork self.old.server (task_at self.old.tasks.items job) }
+        ensures { Moves (Event.Peek job slot) job (parts self.old) (parts self.new) }
+    {
+        self.server.peek(&mut self.tasks[job], slot);
+    }
+
+    fn remove(&mut self, job: usize)
+        requires job { job < length self.old.tasks.items }
+        requires work { AtWork self.old.server (task_at self.old.tasks.items job) }
+        ensures { Moves (Event.Remove job) job (parts self.old) (parts self.new) }
+    {
+        self.server.remove(&mut self.tasks[job]);
+    }
+
+    fn describe(&mut self, job: usize)
+        requires job { job < length self.old.tasks.items }
+        requires work { AtWork self.old.server (task_at self.old.tasks.items job) }
+        ensures { Moves (Event.Receipt job) job (parts self.old) (parts self.new) }
+    {
+        self.server.describe(&mut self.tasks[job]);
+    }
+
     fn raise(&mut self, job: usize)
         requires job { job < length self.old.tasks.items }
         requires work { AtWork self.old.server (task_at self.old.tasks.items job) }
@@ -165,6 +189,18 @@ impl State {
             }
             Event::Install { job: _, memory } => {
                 self.install(alloc, job, memory)?;
+                Ok(None)
+            }
+            Event::Peek { job: _, slot } => {
+                self.peek(job, slot);
+                Ok(None)
+            }
+            Event::Remove { job: _ } => {
+                self.remove(job);
+                Ok(None)
+            }
+            Event::Receipt { job: _ } => {
+                self.describe(job);
                 Ok(None)
             }
             Event::Raise { job: _ } => {

@@ -8,7 +8,7 @@ use Rattle.fc_workers.proofs.workshop.Workshop.install_program.Goals as goal
 
 pub returns-in-Ok-clause-step : goal.returns-in-Ok-clause-step
 returns-in-Ok-clause-step g c =
-    let next = c.made.ensures ∙ ap (λ (r : Receipt). made r c.install-made.result) c.receipt_of-receipt.ensures in
+    let next = c.made.ensures ∙ ap (λ (r : Receipt). made r c.install-made.result) c.of-receipt.ensures in
     let is = subst (λ (p : Program). IsSomeInstall p c.install-made.result) c.in-Ok.ensures.ok c.install-made.ensures.made in
     install_step g.B.Bench.changes c.args.job.now c.args.program c.install-made.result c.args.share.now c.install-made.new.tallies c.requires.judged is c.install-made.ensures.changes next
 

@@ -1,7 +1,7 @@
 use Rattle.std.proofs.Common.{None, refl}
-use Rattle.fc_core.specs.declared.event.Event.TheVariants.{Take, Commit, Install, Raise, Lose, Answer}
+use Rattle.fc_core.specs.declared.event.Event.TheVariants.{Peek, Take, Commit, Install, Remove, Receipt, Raise, Lose, Answer}
 use Rattle.fc_server.proofs.Others.{answer_step}
-use Rattle.fc_server.proofs.Stepping.{take_step, commit_step, install_step, raise_step, lose_step}
+use Rattle.fc_server.proofs.Stepping.{peek_step, take_step, commit_step, install_step, remove_step, receipt_step, raise_step, lose_step}
 use Rattle.fc_world.specs.Parts.{parts}
 use Rattle.fc_world.proofs.Dispatch.{retold}
 use Rattle.fc_world.proofs.state.State.work.Goals as goal
@@ -14,6 +14,15 @@ returns-in-Commit c = retold c.args.event.now (λ j. Commit j c.in-Commit.now) _
 
 pub returns-in_ok-install-in-Install : goal.returns-in_ok-install-in-Install
 returns-in_ok-install-in-Install c = retold c.args.event.now (λ j. Install j c.in-Install.memory) _ c.args.job (λ j. refl) c.in-Install.is c.requires.named (parts c.args.self.now) (parts c.install.new.self) None (install_step c.args.job c.in-Install.memory (parts c.args.self.now) (parts c.install.new.self) c.in_ok-install-in-Install.ensures)
+
+pub returns-in-Peek : goal.returns-in-Peek
+returns-in-Peek c = retold c.args.event.now (λ j. Peek j c.in-Peek.slot) _ c.args.job (λ j. refl) c.in-Peek.is c.requires.named (parts c.args.self.now) (parts c.peek.new.self) None (peek_step c.args.job c.in-Peek.slot (parts c.args.self.now) (parts c.peek.new.self) c.peek.ensures)
+
+pub returns-in-Remove : goal.returns-in-Remove
+returns-in-Remove c = retold c.args.event.now Remove _ c.args.job (λ j. refl) c.in-Remove.is c.requires.named (parts c.args.self.now) (parts c.remove.new.self) None (remove_step c.args.job (parts c.args.self.now) (parts c.remove.new.self) c.remove.ensures)
+
+pub returns-in-Receipt : goal.returns-in-Receipt
+returns-in-Receipt c = retold c.args.event.now Receipt _ c.args.job (λ j. refl) c.in-Receipt.is c.requires.named (parts c.args.self.now) (parts c.describe.new.self) None (receipt_step c.args.job (parts c.args.self.now) (parts c.describe.new.self) c.describe.ensures)
 
 pub returns-in-Raise : goal.returns-in-Raise
 returns-in-Raise c = retold c.args.event.now Raise _ c.args.job (λ j. refl) c.in-Raise.is c.requires.named (parts c.args.self.now) (parts c.raise.new.self) None (raise_step c.args.job (parts c.args.self.now) (parts c.raise.new.self) c.raise.ensures)
