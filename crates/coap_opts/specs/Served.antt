@@ -7,7 +7,7 @@ use Rattle.coap_opts.specs.declared.served.Row.{Row}
 use Rattle.coap_opts.specs.declared.request.Method.{Method}
 use Rattle.coap_opts.specs.declared.request.Method.TheVariants.{Get, Post, Put, Delete}
 use Rattle.coap_opts.specs.declared.request.Resource.{Resource}
-use Rattle.coap_opts.specs.declared.request.Resource.TheVariants.{Run, Program}
+use Rattle.coap_opts.specs.declared.request.Resource.TheVariants.{Run, Program, Core}
 
 -- an option that may occur once
 abbrev pub once : ℕ → ℕ → ℕ → Option Code → Row
@@ -31,11 +31,14 @@ rows =
     ∷ once option.PROXY_SCHEME 1 255 None
     ∷ []
 
--- a GET and a POST run a program, and a PUT installs one
+-- a GET and a POST run a program; a PUT installs one, a GET tells what it is, and a DELETE removes it; a GET lists what is there
 abbrev pub serves : Resource → Method → Bool
 serves (Run n) Get = true
 serves (Run n) Post = true
+serves (Program n) Get = true
 serves (Program n) Put = true
+serves (Program n) Delete = true
+serves Core Get = true
 serves _ _ = false
 
 -- some method is served there

@@ -96,7 +96,8 @@ pub(crate) fn serves(resource: Resource, method: Method) -> bool
 {
     match (resource, method) {
         (Resource::Run(_), Method::Get | Method::Post) => true,
-        (Resource::Program(_), Method::Put) => true,
+        (Resource::Program(_), Method::Get | Method::Put | Method::Delete) => true,
+        (Resource::Core, Method::Get) => true,
         _ => false,
     }
 }
