@@ -70,3 +70,179 @@ fn a_bad_line_is_told_by_its_number(rt: HostRuntime) {
         assert!(rt; is_told, "{line}");
     }
 }
+
+// A program that counts POSTs in eight bytes of variables, and gives a notice of each.
+const COUNT: &str =
+    "46434231080009000900000000000000b7010000000000008500000003000000\
+    0700000001000000bf02000000000000b7010000000000008500000004000000\
+    8500000007000000b7000000000000009500000000000000";
+
+// Two POSTs take the same version: the second is overtaken, and takes again.
+#[test]
+fn a_post_is_overtaken_by_another(rt: HostRuntime) {
+    let image = COUNT;
+    let list = format!(in rt.alloc();
+        "Deliver now=0 ep=1 data=4103200072b1700131ff{image}\n\
+         Install job=0 memory=1\n\
+         Raise job=0\n\
+         Answer job=0 now=0\n\
+         Deliver now=1 ep=1 data=4102200172b1720131\n\
+         Deliver now=1 ep=2 data=4102200272b1720131\n\
+         Take job=1 memory=1\n\
+         Take job=2 memory=1\n\
+         Commit job=1 now=2\n\
+         Commit job=2 now=3\n\
+         Take job=2 memory=1\n\
+         Commit job=2 now=4\n\
+         Raise job=1\n\
+         Answer job=1 now=5\n\
+         Raise job=2\n\
+         Answer job=2 now=5\n"
+    );
+    let printed = "none\n\
+         none\n\
+         none\n\
+         1 6141200072ff76657273696f6e3d3120636f73743d39206275646765743d3920766172733d38\n\
+         none\n\
+         none\n\
+         none\n\
+         none\n\
+         none\n\
+         none\n\
+         none\n\
+         none\n\
+         none\n\
+         1 6144200172\n\
+         none\n\
+         2 6144200272\n\
+         slot 1 serial 3 version 1 vars 0200000000000000\n";
+    assert!(rt; list.is_ok_and(|list| replays(rt.alloc(), &list, Status::Done, printed, "")));
+}
+
+// A POST that is overtaken for the eighth time is answered 5.03.
+#[test]
+fn the_eighth_overtaking_is_unavailable(rt: HostRuntime) {
+    let image = COUNT;
+    let list = format!(in rt.alloc();
+        "Deliver now=0 ep=1 data=4103200072b1700131ff{image}\n\
+         Install job=0 memory=1\n\
+         Raise job=0\n\
+         Answer job=0 now=0\n\
+         Deliver now=1 ep=1 data=4102200172b1720131\n\
+         Deliver now=1 ep=1 data=4103200272b1700131ff{image}\n\
+         Take job=1 memory=1\n\
+         Install job=2 memory=1\n\
+         Commit job=1 now=2\n\
+         Deliver now=1 ep=1 data=4103200372b1700131ff{image}\n\
+         Take job=1 memory=1\n\
+         Install job=3 memory=1\n\
+         Commit job=1 now=2\n\
+         Deliver now=1 ep=1 data=4103200472b1700131ff{image}\n\
+         Take job=1 memory=1\n\
+         Install job=4 memory=1\n\
+         Commit job=1 now=2\n\
+         Deliver now=1 ep=1 data=4103200572b1700131ff{image}\n\
+         Take job=1 memory=1\n\
+         Install job=5 memory=1\n\
+         Commit job=1 now=2\n\
+         Deliver now=1 ep=1 data=4103200672b1700131ff{image}\n\
+         Take job=1 memory=1\n\
+         Install job=6 memory=1\n\
+         Commit job=1 now=2\n\
+         Deliver now=1 ep=1 data=4103200772b1700131ff{image}\n\
+         Take job=1 memory=1\n\
+         Install job=7 memory=1\n\
+         Commit job=1 now=2\n\
+         Deliver now=1 ep=1 data=4103200872b1700131ff{image}\n\
+         Take job=1 memory=1\n\
+         Install job=8 memory=1\n\
+         Commit job=1 now=2\n\
+         Deliver now=1 ep=1 data=4103200972b1700131ff{image}\n\
+         Take job=1 memory=1\n\
+         Install job=9 memory=1\n\
+         Commit job=1 now=2\n\
+         Take job=1 memory=1\n\
+         Answer job=1 now=3\n"
+    );
+    let printed = "none\n\
+         none\n\
+         none\n\
+         1 6141200072ff76657273696f6e3d3120636f73743d39206275646765743d3920766172733d38\n\
+         none\n\
+         none\n\
+         none\n\
+         none\n\
+         none\n\
+         none\n\
+         none\n\
+         none\n\
+         none\n\
+         none\n\
+         none\n\
+         none\n\
+         none\n\
+         none\n\
+         none\n\
+         none\n\
+         none\n\
+         none\n\
+         none\n\
+         none\n\
+         none\n\
+         none\n\
+         none\n\
+         none\n\
+         none\n\
+         none\n\
+         none\n\
+         none\n\
+         none\n\
+         none\n\
+         none\n\
+         none\n\
+         none\n\
+         none\n\
+         1 61a3200172\n\
+         slot 1 serial 9 version 9 vars 0000000000000000\n";
+    assert!(rt; list.is_ok_and(|list| replays(rt.alloc(), &list, Status::Done, printed, "")));
+}
+
+// A version that was taken and then replaced isn't committed to.
+#[test]
+fn an_install_overtakes_a_post(rt: HostRuntime) {
+    let image = COUNT;
+    let list = format!(in rt.alloc();
+        "Deliver now=0 ep=1 data=4103200072b1700131ff{image}\n\
+         Install job=0 memory=1\n\
+         Deliver now=0 ep=1 data=4103200172b1700131ff{image}\n\
+         Install job=1 memory=1\n\
+         Deliver now=0 ep=1 data=4103200272b1700131ff{image}\n\
+         Install job=2 memory=1\n\
+         Deliver now=1 ep=1 data=4102200372b1720131\n\
+         Take job=3 memory=1\n\
+         Deliver now=1 ep=1 data=4103200472b1700131ff{image}\n\
+         Install job=4 memory=1\n\
+         Commit job=3 now=2\n\
+         Take job=3 memory=1\n\
+         Commit job=3 now=3\n\
+         Raise job=3\n\
+         Answer job=3 now=4\n"
+    );
+    let printed = "none\n\
+         none\n\
+         none\n\
+         none\n\
+         none\n\
+         none\n\
+         none\n\
+         none\n\
+         none\n\
+         none\n\
+         none\n\
+         none\n\
+         none\n\
+         none\n\
+         1 6144200372\n\
+         slot 1 serial 5 version 4 vars 0100000000000000\n";
+    assert!(rt; list.is_ok_and(|list| replays(rt.alloc(), &list, Status::Done, printed, "")));
+}

@@ -64,7 +64,7 @@ fn request_of(bytes: &[u8]) -> Option<Request<'_>> {
     }
 }
 
-static TYPE_CASES: [(&[u8], Outcome); 16] = [
+static TYPE_CASES: [(&[u8], Outcome); 17] = [
     // Empty messages.
     (b"\x40\x00\x00\x07", Outcome::Rejected),
     (b"\x50\x00\x00\x07", Outcome::Ignored),
@@ -80,9 +80,10 @@ static TYPE_CASES: [(&[u8], Outcome); 16] = [
     (b"\x50\x03\x00\x01\xb1\x70\x02\x36\x33", Outcome::Accepted),
     (b"\x40\x02\x00\x01\xb1\x72\x01\x30", Outcome::Accepted),
     (b"\x40\x02\x00\x01\xb1\x70\x01\x30", METHOD_NOT_ALLOWED),
-    (b"\x40\x04\x00\x01\xb1\x70\x01\x30", METHOD_NOT_ALLOWED),
+    (b"\x40\x04\x00\x01\xb1\x70\x01\x30", Outcome::Accepted),
+    (b"\x40\x04\x00\x01\xb1\x72\x01\x30", METHOD_NOT_ALLOWED),
     (b"\x40\x03\x00\x01\xb1\x72\x01\x30", METHOD_NOT_ALLOWED),
-    (b"\x40\x01\x00\x01\xb1\x70\x01\x30", METHOD_NOT_ALLOWED),
+    (b"\x40\x01\x00\x01\xb1\x70\x01\x30", Outcome::Accepted),
     (b"\x40\x05\x00\x0e\xb1\x70\x01\x30", METHOD_NOT_ALLOWED),
 ];
 
@@ -91,17 +92,21 @@ fn types_and_classes(rt: HostRuntime) {
     check_outcomes(&rt, &TYPE_CASES);
 }
 
-static PATH_CASES: [(&[u8], Outcome); 6] = [
+static PATH_CASES: [(&[u8], Outcome); 7] = [
     // `/r/00`, `/r/64`, `/r`, `/r/0/0`, `/x/0`.
     (b"\x40\x01\x00\x0f\xb1\x72\x02\x30\x30", NOT_FOUND),
     (b"\x40\x01\x00\x0f\xb1\x72\x02\x36\x34", NOT_FOUND),
     (b"\x40\x01\x00\x0f\xb1\x72", NOT_FOUND),
     (b"\x40\x01\x00\x0f\xb1\x72\x01\x30\x01\x30", NOT_FOUND),
     (b"\x40\x01\x00\x0f\xb1\x78\x01\x30", NOT_FOUND),
-    // `/.well-known/core`, at which no method is served.
+    // `/.well-known/core`, and a POST of it.
     (
         b"\x40\x01\x00\x0b\xbb\x2e\x77\x65\x6c\x6c\x2d\x6b\x6e\x6f\x77\x6e\x04\x63\x6f\x72\x65",
-        NOT_FOUND,
+        Outcome::Accepted,
+    ),
+    (
+        b"\x40\x02\x00\x0b\xbb\x2e\x77\x65\x6c\x6c\x2d\x6b\x6e\x6f\x77\x6e\x04\x63\x6f\x72\x65",
+        METHOD_NOT_ALLOWED,
     ),
 ];
 
