@@ -2,3 +2,5 @@ pub mod Places
 pub mod Cuts
 pub mod Uploads
 pub mod Views
+pub mod Transfers
+pub mod Pieces

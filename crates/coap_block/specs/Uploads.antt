@@ -10,9 +10,13 @@ use Rattle.coap_block.specs.Places.{Place, block_size}
 abbrev pub is_under_way : ℕ → Transfer → Bool
 is_under_way now t = within_window now t.at
 
+-- the key of a transfer: an endpoint and a slot
+abbrev pub same_key : Endpoint → ℕ → Endpoint → ℕ → Bool
+same_key from m to n = same_endpoint from to && (m == n)
+
 -- it is of this endpoint and slot
 abbrev pub is_transfer_of : Endpoint → ℕ → Transfer → Bool
-is_transfer_of to n t = same_endpoint t.endpoint to && (t.slot == n)
+is_transfer_of to n t = same_key t.endpoint t.slot to n
 
 -- those that aren't idle for a window
 abbrev pub live : ℕ → List Transfer → List Transfer

@@ -29,6 +29,7 @@
 #![tactic(auto)]
 
 pub mod cut;
+pub mod laws;
 pub mod transfer;
 pub mod uploads;
 
