@@ -7,7 +7,7 @@ use Rattle.std.proofs.Math.Nat.{zero-mul}
 use Rattle.coap_msg.specs.declared.types.Endpoint.{Endpoint}
 use Rattle.coap_block.specs.declared.transfer.Transfer.{Transfer}
 use Rattle.coap_block.specs.Places.{Place, block_size}
-use Rattle.coap_block.specs.Uploads.{Add, Continues, IsWhole, IsFull, IsIncomplete, IsBadLength, IsTooLarge, before_by, before_of, body_among, body_behind, body_with, checked_by, extended_by, has_length, is_full, is_transfer_of, others, unless_full, unless_more}
+use Rattle.coap_block.specs.Uploads.{Add, Continues, IsWhole, IsFull, IsIncomplete, IsBadLength, IsTooLarge, add_of, before_by, before_of, body_among, body_behind, body_with, checked_by, extended_by, has_length, is_full, is_transfer_of, live, others, unless_full, unless_more}
 use Rattle.coap_block.specs.Transfers.{Begins, Fits, HasLength}
 
 -- the bytes of a transfer that was found
@@ -150,3 +150,17 @@ never_behind false (Some before) b bytes e = never_checked (b.number * block_siz
 -- a body is never said to go on before it is seen whether more is to come
 pub never_continues : (held : List Transfer) (to : Endpoint) (n : ℕ) (b : Place) (bytes : List ℕ) → body_among held to n b bytes ≡ Continues → ⊥
 never_continues held to n b bytes e = never_behind (is_full b.number (length (others to n held))) (before_of b.number (find (is_transfer_of to n) held)) b bytes e
+
+-- ---- at most 4,112 bytes
+
+pub most_bytes : (held : List Transfer) (now : ℕ) (to : Endpoint) (n : ℕ) (block : Option Place) (bytes body : List ℕ) → add_of held now to n block bytes ≡ IsWhole body → length body ≤ 4112
+most_bytes held now to n None bytes body e =
+    let x = extends (nat_lt 4112 (length {A = ℕ} [] + length bytes)) bytes body e in
+    let le = ltb-false 4112 (length {A = ℕ} [] + length bytes) x.0 in
+    subst (λ (l : List ℕ). length l ≤ 4112) x.1 (omega (arith, le))
+most_bytes held now to n (Some b) bytes body e =
+    let w = whole_from b.more (body_among (live now held) to n b bytes) body e in
+    (fits_from (λ before. Unit {0}) (live now held) to n b bytes body (λ before is. tt) w.1).within
+
+pub bound_reached : (bytes : List ℕ) → length bytes ≤ 4112 → body_with [] bytes ≡ IsWhole bytes
+bound_reached bytes le = let w : nat_lt 4112 (length {A = ℕ} [] + length bytes) ≡ false = le-ltb 4112 (length {A = ℕ} [] + length bytes) (omega (arith, le)) in ap (λ (over : Bool). extended_by over bytes) w

@@ -1,11 +1,11 @@
 //! Laws of what the definitions say: each function is a law, and its contract says it.
-ghost use Rattle.std.specs.Prelude.{◌≡◌, ◌↔◌, ℕ, ◌*◌, ◌<◌, ◌≤◌, Bool, false, true, List, None, Some, find, length, take};
+ghost use Rattle.std.specs.Prelude.{◌≡◌, ◌↔◌, ℕ, ◌*◌, ◌<◌, ◌≤◌, Bool, false, true, List, None, Option, Some, find, length, take};
 ghost use Rattle.coap_opts.specs.declared.block.Block.{Block};
 ghost use Rattle.coap_opts.specs.Values.{block_value};
 ghost use Rattle.coap_msg.specs.declared.types.Endpoint.{Endpoint};
 ghost use Rattle.coap_block.specs.declared.transfer.Transfer.{Transfer};
 ghost use Rattle.coap_block.specs.Places.{Place, block_place, block_size, place_at};
-ghost use Rattle.coap_block.specs.Uploads.{Continues, IsWhole, after_block, block_added, is_transfer_of, live, same_key};
+ghost use Rattle.coap_block.specs.Uploads.{Continues, IsWhole, add_of, after_block, block_added, is_transfer_of, live, same_key};
 ghost use Rattle.coap_block.specs.Transfers.{Arrival, FitsBehind, IsUnderWay, RisesTo, bytes_held, transfers};
 ghost use Rattle.coap_block.specs.Cuts.{Part, cut_at};
 ghost use Rattle.coap_block.specs.Pieces.{IsBlockOf, joined_cuts};
@@ -27,6 +27,14 @@ pub fn blocks_that_fit_are_joined()
     ensures continues { (h : List Arrival) (a : Arrival) (b : Place) → RisesTo a.at h →
         ((block_added (transfers h) a.at a.endpoint a.slot b a.payload ≡ Continues)
         ↔ ((b.more ≡ true) × ((body : List ℕ) × FitsBehind h a b body))) }
+{}
+
+/// A body has at most 4,112 bytes; what came without a block is whole up to there.
+pub fn bodies_are_bounded()
+    ensures most { (held : List Transfer) (now : ℕ) (to : Endpoint) (n : ℕ) (block : Option Place) (bytes body : List ℕ) →
+        add_of held now to n block bytes ≡ IsWhole body → length body ≤ 4112 }
+    ensures without { (held : List Transfer) (now : ℕ) (to : Endpoint) (n : ℕ) (bytes : List ℕ) →
+        ((add_of held now to n None bytes ≡ IsWhole bytes) ↔ (length bytes ≤ 4112)) }
 {}
 
 /// A block leaves the transfers of other endpoints and slots as they are; only time ends them.
