@@ -1,13 +1,13 @@
 -- A block is whole, or goes on, where it fits behind the payloads before it.
-use Rattle.std.proofs.Common.{◌≡◌, ◌≢◌, ◌⊎◌, inl, inr, ⊎_elim, ℕ, ◌+◌, ◌*◌, ◌<◌, ◌≤◌, List, [], ◌∷◌, ◌++◌, length, Bool, true, false, cond, Option, Some, None, refl, sym, ap, ◌∙◌, subst, arith, length-append}
+use Rattle.std.proofs.Common.{◌≡◌, inl, inr, ℕ, ◌+◌, ◌*◌, ◌<◌, ◌≤◌, List, [], ◌++◌, length, Bool, true, false, Option, Some, None, refl, sym, ap, ◌∙◌, subst, arith, length-append}
 use Rattle.std.specs.Prelude.{find, not, nat_lt, ◌==◌, ◌&&◌}
 use Rattle.std.specs.Option.{option_map}
-use Rattle.std.proofs.lemmas.Bool.{cases_Bool, and_left, and_right, eqb-true, eqb-false, eq-eqb, ne_eqb, ltb-true, ltb-false, lt-ltb, le-ltb, not-false, not-true, not_from_true, not_from_false}
+use Rattle.std.proofs.lemmas.Bool.{and_left, and_right, eqb-true, eqb-false, eq-eqb, ne_eqb, ltb-true, ltb-false, lt-ltb, le-ltb, not-false, not-true, not_from_true, not_from_false}
 use Rattle.std.proofs.Math.Nat.{zero-mul}
 use Rattle.coap_msg.specs.declared.types.Endpoint.{Endpoint}
 use Rattle.coap_block.specs.declared.transfer.Transfer.{Transfer}
 use Rattle.coap_block.specs.Places.{Place, block_size}
-use Rattle.coap_block.specs.Uploads.{Add, Continues, IsWhole, IsFull, IsIncomplete, IsBadLength, IsTooLarge, add_of, before_by, before_of, body_among, body_behind, body_with, checked_by, extended_by, has_length, is_full, is_transfer_of, live, others, unless_full, unless_more}
+use Rattle.coap_block.specs.Uploads.{Add, Continues, IsWhole, add_of, before_by, before_of, body_among, body_behind, body_with, checked_by, extended_by, has_length, is_full, is_transfer_of, live, others, unless_full, unless_more}
 use Rattle.coap_block.specs.Transfers.{Begins, Fits, HasLength}
 
 -- the bytes of a transfer that was found

@@ -1,5 +1,5 @@
 -- What is found in a list that was filtered or appended to.
-use Rattle.std.proofs.Common.{◌≡◌, List, [], ◌∷◌, ◌++◌, Bool, true, false, cond, Option, Some, None, refl, sym, ap, ◌∙◌}
+use Rattle.std.proofs.Common.{◌≡◌, List, [], ◌∷◌, ◌++◌, Bool, true, false, cond, Some, None, refl, sym, ap, ◌∙◌}
 use Rattle.std.specs.Prelude.{filter, find, ◌&&◌}
 
 filtered_by : {X : Type 0} (p q : X → Bool) (x : X) (xs : List X) (b : Bool) → q x ≡ b → find p (filter q xs) ≡ find (λ y. q y && p y) xs → find p (filter q (x ∷ xs)) ≡ find (λ y. q y && p y) (x ∷ xs)

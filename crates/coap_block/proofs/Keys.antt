@@ -1,13 +1,13 @@
 -- What a block does to the transfer of its own endpoint and slot, and to those of others.
-use Rattle.std.proofs.Common.{◌≡◌, ℕ, ◌+◌, ◌<◌, ◌≤◌, List, [], ◌∷◌, ◌++◌, Bool, true, false, cond, Option, Some, None, refl, sym, ap, ◌∙◌, subst, arith}
-use Rattle.std.specs.Prelude.{filter, find, not, nat_eq, nat_lt, ◌==◌, ◌&&◌}
+use Rattle.std.proofs.Common.{◌≡◌, ℕ, ◌+◌, ◌≤◌, List, ◌++◌, Bool, true, false, None, refl, sym, ◌∙◌, arith}
+use Rattle.std.specs.Prelude.{find, not, nat_eq, ◌==◌, ◌&&◌}
 use Rattle.std.specs.Cmp.Lexicographic.{pointwise, bytes_decides}
-use Rattle.std.proofs.lemmas.Bool.{and_parts, and_from, and_left, and_right, eqb-true, eq-eqb, ltb-true, lt-ltb, false_from_ne_true}
+use Rattle.std.proofs.lemmas.Bool.{and_parts, and_right, eqb-true, eq-eqb, ltb-true, lt-ltb, false_from_ne_true}
 use Rattle.coap_msg.specs.declared.types.Endpoint.{Endpoint}
 use Rattle.coap_msg.specs.Endpoints.{same_endpoint}
 use Rattle.coap_block.specs.declared.transfer.Transfer.{Transfer}
 use Rattle.coap_block.specs.Places.{Place}
-use Rattle.coap_block.specs.Uploads.{Add, Continues, IsWhole, IsFull, IsIncomplete, IsBadLength, IsTooLarge, after_block, body_among, is_transfer_of, is_under_way, kept_of, live, others, same_key}
+use Rattle.coap_block.specs.Uploads.{Add, IsWhole, after_block, body_among, is_transfer_of, is_under_way, kept_of, live, others, same_key}
 use Rattle.coap_block.proofs.Finds.{find-filter, find_agree, find_before, find_behind, find_nothing}
 
 -- ---- keys

@@ -5,12 +5,12 @@ use Rattle.std.proofs.lemmas.Bool.{ltb-true, lt-ltb}
 use Rattle.coap_msg.specs.declared.types.Endpoint.{Endpoint}
 use Rattle.coap_block.specs.declared.transfer.Transfer.{Transfer}
 use Rattle.coap_block.specs.Places.{Place}
-use Rattle.coap_block.specs.Uploads.{Add, Continues, IsWhole, IsFull, IsIncomplete, IsBadLength, IsTooLarge, after_add, after_block, before_of, block_added, body_among, body_behind, is_full, is_transfer_of, is_under_way, kept_of, live, others, same_key, unless_more}
-use Rattle.coap_block.specs.Transfers.{Arrival, Continued, FitsBehind, IsUnderWay, RisesTo, StillUnderWay, block_if, bytes_held, others_at, transfers}
+use Rattle.coap_block.specs.Uploads.{Add, Continues, IsWhole, after_add, before_of, block_added, body_among, body_behind, is_full, is_transfer_of, is_under_way, kept_of, live, others, same_key, unless_more}
+use Rattle.coap_block.specs.Transfers.{Arrival, FitsBehind, IsUnderWay, RisesTo, StillUnderWay, block_if, bytes_held, transfers}
 use Rattle.coap_block.proofs.Finds.{find_agree}
 use Rattle.coap_block.proofs.Others.{filter_short}
 use Rattle.coap_block.proofs.Rooms.{has_room}
-use Rattle.coap_block.proofs.Keys.{after_other, after_own, is_found, key_itself, own_key}
+use Rattle.coap_block.proofs.Keys.{after_other, after_own, is_found, own_key}
 use Rattle.coap_block.proofs.Bodies.{fits_from, fits_to, found_bytes, goes_on_from, never_continues, some_inner, unfull, whole_from}
 
 -- ---- what is kept of a block

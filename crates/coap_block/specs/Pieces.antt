@@ -1,6 +1,6 @@
 -- The cuts of a body by one size (RFC 7959, 2.4).
 use Rattle.std.specs.Prelude.{◌≡◌, ℕ, zero, suc, ◌+◌, ◌*◌, ◌<◌, ◌≤◌, Bool, true, false, List, [], ◌++◌, length, Option, Some, None}
-use Rattle.coap_block.specs.Places.{Place, block_size}
+use Rattle.coap_block.specs.Places.{block_size}
 use Rattle.coap_block.specs.Cuts.{Part, cut_at}
 
 abbrev pub bytes_of : Option Part → List ℕ

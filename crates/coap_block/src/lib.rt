@@ -30,6 +30,8 @@
 
 pub mod cut;
 pub mod laws;
+#[cfg(test)]
+mod tests;
 pub mod transfer;
 pub mod uploads;
 
