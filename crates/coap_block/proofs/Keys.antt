@@ -7,7 +7,7 @@ use Rattle.coap_msg.specs.declared.types.Endpoint.{Endpoint}
 use Rattle.coap_msg.specs.Endpoints.{same_endpoint}
 use Rattle.coap_block.specs.declared.transfer.Transfer.{Transfer}
 use Rattle.coap_block.specs.Places.{Place}
-use Rattle.coap_block.specs.Uploads.{Add, IsWhole, after_block, body_among, is_transfer_of, is_under_way, kept_of, live, others, same_key}
+use Rattle.coap_block.specs.Uploads.{Add, IsWhole, after_block, body_among, is_transfer_of, is_under_way, kept_transfer, live, others, same_key}
 use Rattle.coap_block.proofs.Finds.{find-filter, find_agree, find_before, find_behind, find_nothing}
 
 -- ---- keys
@@ -59,22 +59,22 @@ gone_by a true l = and_right a false refl
 gone_by a false l = and_right a (l && false) (and_right l false refl)
 
 -- nothing of another key is kept
-kept_other : (now at : ℕ) (from to : Endpoint) (m n : ℕ) (more : Bool) (x : Add) → same_key from m to n ≡ false → find (is_found now to n) (kept_of more at from m x) ≡ None
-kept_other now at from to m n true (IsWhole body) e = find_nothing (λ (t : Transfer). is_under_way now t && same_key from m to n) (λ t. and_right (is_under_way now t) (same_key from m to n) e) (kept_of true at from m (IsWhole body))
+kept_other : (now at : ℕ) (from to : Endpoint) (m n : ℕ) (more : Bool) (x : Add) → same_key from m to n ≡ false → find (is_found now to n) (kept_transfer more at from m x) ≡ None
+kept_other now at from to m n true (IsWhole body) e = find_nothing (λ (t : Transfer). is_under_way now t && same_key from m to n) (λ t. and_right (is_under_way now t) (same_key from m to n) e) (kept_transfer true at from m (IsWhole body))
 kept_other now at from to m n more x e = refl
 
 -- a block leaves the transfer of another key, which time alone ends
 pub after_other : (held : List Transfer) (at now : ℕ) (from to : Endpoint) (m n : ℕ) (b : Place) (bytes : List ℕ) → at ≤ now → same_key from m to n ≡ false → find (is_transfer_of to n) (live now (after_block held at from m b bytes)) ≡ find (is_transfer_of to n) (live now held)
 after_other held at now from to m n b bytes le e =
-    let k = kept_of b.more at from m (body_among (live at held) from m b bytes) in
+    let k = kept_transfer b.more at from m (body_among (live at held) from m b bytes) in
     let stays = find_agree (λ t. is_under_way at t && (not (is_transfer_of from m t) && is_found now to n t)) (is_found now to n) (λ t. stays_by (is_under_way at t) (is_transfer_of from m t) (is_under_way now t) (is_transfer_of to n t) (still_live now at t le) (other_key from to m n e t)) held in
     find-filter (is_transfer_of to n) (is_under_way now) (others from m (live at held) ++ k)
     ∙ (find_before (is_found now to n) (others from m (live at held)) k (kept_other now at from to m n b.more (body_among (live at held) from m b bytes) e)
     ∙ (left_found now at from to m n held ∙ (stays ∙ sym (find-filter (is_transfer_of to n) (is_under_way now) held))))
 
 -- of its own key a block leaves what is kept of it
-pub after_own : (held : List Transfer) (at now : ℕ) (from to : Endpoint) (m n : ℕ) (b : Place) (bytes : List ℕ) → same_key from m to n ≡ true → find (is_transfer_of to n) (live now (after_block held at from m b bytes)) ≡ find (is_found now to n) (kept_of b.more at from m (body_among (live at held) from m b bytes))
+pub after_own : (held : List Transfer) (at now : ℕ) (from to : Endpoint) (m n : ℕ) (b : Place) (bytes : List ℕ) → same_key from m to n ≡ true → find (is_transfer_of to n) (live now (after_block held at from m b bytes)) ≡ find (is_found now to n) (kept_transfer b.more at from m (body_among (live at held) from m b bytes))
 after_own held at now from to m n b bytes e =
-    let k = kept_of b.more at from m (body_among (live at held) from m b bytes) in
+    let k = kept_transfer b.more at from m (body_among (live at held) from m b bytes) in
     let gone = find_nothing (λ t. is_under_way at t && (not (is_transfer_of from m t) && is_found now to n t)) (λ t. (λ i. is_under_way at t && (not (is_transfer_of from m t) && (is_under_way now t && sym (own_key from to m n e t) i))) ∙ gone_by (is_under_way at t) (is_transfer_of from m t) (is_under_way now t)) held in
     find-filter (is_transfer_of to n) (is_under_way now) (others from m (live at held) ++ k) ∙ find_behind (is_found now to n) (others from m (live at held)) k (left_found now at from to m n held ∙ gone)

@@ -5,8 +5,8 @@ use Rattle.std.proofs.lemmas.Bool.{ltb-true, lt-ltb}
 use Rattle.coap_msg.specs.declared.types.Endpoint.{Endpoint}
 use Rattle.coap_block.specs.declared.transfer.Transfer.{Transfer}
 use Rattle.coap_block.specs.Places.{Place}
-use Rattle.coap_block.specs.Uploads.{Add, Continues, IsWhole, after_add, before_of, block_added, body_among, body_behind, is_full, is_transfer_of, is_under_way, kept_of, live, others, same_key, unless_more}
-use Rattle.coap_block.specs.Transfers.{Arrival, FitsBehind, IsUnderWay, RisesTo, StillUnderWay, block_if, bytes_held, transfers}
+use Rattle.coap_block.specs.Uploads.{Add, Continues, IsWhole, after_add, before_of, block_added, body_among, body_behind, is_full, is_transfer_of, is_under_way, kept_transfer, live, others, same_key, unless_more}
+use Rattle.coap_block.specs.Transfers.{Addition, FitsBehind, IsUnderWay, RisesTo, StillUnderWay, block_if, bytes_held, transfers}
 use Rattle.coap_block.proofs.Finds.{find_agree}
 use Rattle.coap_block.proofs.Others.{filter_short}
 use Rattle.coap_block.proofs.Rooms.{has_room}
@@ -21,17 +21,17 @@ one_from true false t body e = absurd (cc)
 one_from false key t body e = absurd (cc)
 
 -- it is a whole body, with more to come
-kept_from : (now at : ℕ) (from to : Endpoint) (m n : ℕ) (body : List ℕ) (more : Bool) (x : Add) → found_bytes (find (is_found now to n) (kept_of more at from m x)) ≡ Some body → (now < at + 247000) × (more ≡ true) × (x ≡ IsWhole body)
+kept_from : (now at : ℕ) (from to : Endpoint) (m n : ℕ) (body : List ℕ) (more : Bool) (x : Add) → found_bytes (find (is_found now to n) (kept_transfer more at from m x)) ≡ Some body → (now < at + 247000) × (more ≡ true) × (x ≡ IsWhole body)
 kept_from now at from to m n body true (IsWhole w) e =
     let t : Transfer = record { endpoint = from; slot = m; at = at; body = record { items = w } } in
     let v = one_from (nat_lt now (at + 247000)) (same_key from m to n) t body e in
     (ltb-true now (at + 247000) v.0, refl, ap IsWhole v.1)
 kept_from now at from to m n body more x e = absurd (cc)
 
-kept_to : (now at : ℕ) (from to : Endpoint) (m n : ℕ) (body : List ℕ) → now < at + 247000 → same_key from m to n ≡ true → found_bytes (find (is_found now to n) (kept_of true at from m (IsWhole body))) ≡ Some body
+kept_to : (now at : ℕ) (from to : Endpoint) (m n : ℕ) (body : List ℕ) → now < at + 247000 → same_key from m to n ≡ true → found_bytes (find (is_found now to n) (kept_transfer true at from m (IsWhole body))) ≡ Some body
 kept_to now at from to m n body lt key = λ i. found_bytes (cond (lt-ltb now (at + 247000) lt i && key i) (Some (record { endpoint = from; slot = m; at = at; body = record { items = body } })) None)
 
--- ---- one arrival
+-- ---- one addition
 
 -- the transfer before a block, by either of two equal keys
 same_found : (from to : Endpoint) (m n : ℕ) → same_key from m to n ≡ true → (held : List Transfer) → found_bytes (find (is_transfer_of from m) held) ≡ found_bytes (find (is_transfer_of to n) held)
@@ -51,32 +51,32 @@ step_to held now at from to m n payload body Before Left le before left false (S
 step_to held now at from to m n payload body Before Left le before left true None key u = left body u
 step_to held now at from to m n payload body Before Left le before left true (Some b) key u =
     let w = fits_to Before (live at held) from m b payload body (λ v f. same_found from to m n key (live at held) ∙ before v f) u.fits in
-    ap found_bytes (after_own held at now from to m n b payload key) ∙ ((λ i. found_bytes (find (is_found now to n) (kept_of (u.more i) at from m (w i)))) ∙ kept_to now at from to m n body u.recent key)
+    ap found_bytes (after_own held at now from to m n b payload key) ∙ ((λ i. found_bytes (find (is_found now to n) (kept_transfer (u.more i) at from m (w i)))) ∙ kept_to now at from to m n body u.recent key)
 
--- ---- all that came
+-- ---- all additions
 
-rises_on : (before now : ℕ) (h : List Arrival) → before ≤ now → RisesTo before h → RisesTo now h
+rises_on : (before now : ℕ) (h : List Addition) → before ≤ now → RisesTo before h → RisesTo now h
 rises_on before now [] le r = tt
 rises_on before now (a ∷ h) le r = let le' = r.0 in (omega (arith, le, le'), r.1)
 
-pub held_from : (h : List Arrival) (now : ℕ) (to : Endpoint) (n : ℕ) (body : List ℕ) → RisesTo now h → bytes_held now to n (transfers h) ≡ Some body → IsUnderWay now to n h body
+pub held_from : (h : List Addition) (now : ℕ) (to : Endpoint) (n : ℕ) (body : List ℕ) → RisesTo now h → bytes_held now to n (transfers h) ≡ Some body → IsUnderWay now to n h body
 held_from [] now to n body r e = absurd (cc)
 held_from (a ∷ h) now to n body r e = step_from (transfers h) now a.at a.endpoint to a.slot n a.payload body (IsUnderWay a.at to n h) (IsUnderWay now to n h) r.0 (λ w. held_from h a.at to n w r.1) (λ w. held_from h now to n w (rises_on a.at now h r.0 r.1)) (same_key a.endpoint a.slot to n) a.block refl e
 
-pub held_to : (h : List Arrival) (now : ℕ) (to : Endpoint) (n : ℕ) (body : List ℕ) → RisesTo now h → IsUnderWay now to n h body → bytes_held now to n (transfers h) ≡ Some body
+pub held_to : (h : List Addition) (now : ℕ) (to : Endpoint) (n : ℕ) (body : List ℕ) → RisesTo now h → IsUnderWay now to n h body → bytes_held now to n (transfers h) ≡ Some body
 held_to [] now to n body r u = absurd u
 held_to (a ∷ h) now to n body r u = step_to (transfers h) now a.at a.endpoint to a.slot n a.payload body (IsUnderWay a.at to n h) (IsUnderWay now to n h) r.0 (λ w. held_to h a.at to n w r.1) (λ w. held_to h now to n w (rises_on a.at now h r.0 r.1)) (same_key a.endpoint a.slot to n) a.block refl u
 
 -- ---- the answer
 
-pub added_whole : (h : List Arrival) (a : Arrival) (b : Place) (body : List ℕ) → RisesTo a.at h → (block_added (transfers h) a.at a.endpoint a.slot b a.payload ≡ IsWhole body) ↔ ((b.more ≡ false) × FitsBehind h a b body)
+pub added_whole : (h : List Addition) (a : Addition) (b : Place) (body : List ℕ) → RisesTo a.at h → (block_added (transfers h) a.at a.endpoint a.slot b a.payload ≡ IsWhole body) ↔ ((b.more ≡ false) × FitsBehind h a b body)
 added_whole h a b body r = (
   λ e. let w = whole_from b.more (body_among (live a.at (transfers h)) a.endpoint a.slot b a.payload) body e in
       (w.0, fits_from (IsUnderWay a.at a.endpoint a.slot h) (live a.at (transfers h)) a.endpoint a.slot b a.payload body (λ v. held_from h a.at a.endpoint a.slot v r) w.1),
   λ w. let e = fits_to (IsUnderWay a.at a.endpoint a.slot h) (live a.at (transfers h)) a.endpoint a.slot b a.payload body (λ v. held_to h a.at a.endpoint a.slot v r) w.1 in λ i. unless_more (w.0 i) (e i),
 )
 
-pub added_continues : (h : List Arrival) (a : Arrival) (b : Place) → RisesTo a.at h → (block_added (transfers h) a.at a.endpoint a.slot b a.payload ≡ Continues) ↔ ((b.more ≡ true) × ((body : List ℕ) × FitsBehind h a b body))
+pub added_continues : (h : List Addition) (a : Addition) (b : Place) → RisesTo a.at h → (block_added (transfers h) a.at a.endpoint a.slot b a.payload ≡ Continues) ↔ ((b.more ≡ true) × ((body : List ℕ) × FitsBehind h a b body))
 added_continues h a b r = (
   λ e. let w = goes_on_from b.more (body_among (live a.at (transfers h)) a.endpoint a.slot b a.payload) (never_continues (live a.at (transfers h)) a.endpoint a.slot b a.payload) e in
       (w.0, (w.1.0, fits_from (IsUnderWay a.at a.endpoint a.slot h) (live a.at (transfers h)) a.endpoint a.slot b a.payload w.1.0 (λ v. held_from h a.at a.endpoint a.slot v r) w.1.1)),
@@ -85,9 +85,9 @@ added_continues h a b r = (
 
 -- ---- at most 16
 
-few_by : (rest : List Transfer) (at : ℕ) (from : Endpoint) (m : ℕ) (more : Bool) (x : Add) → length rest ≤ 16 → ((body : List ℕ) → x ≡ IsWhole body → length rest < 16) → length (rest ++ kept_of more at from m x) ≤ 16
-few_by rest at from m true (IsWhole w) le room = let lt = room w refl in omega (arith, lt, length-append rest (kept_of true at from m (IsWhole w)))
-few_by rest at from m more x le room = omega (arith, le, length-append rest (kept_of more at from m x))
+few_by : (rest : List Transfer) (at : ℕ) (from : Endpoint) (m : ℕ) (more : Bool) (x : Add) → length rest ≤ 16 → ((body : List ℕ) → x ≡ IsWhole body → length rest < 16) → length (rest ++ kept_transfer more at from m x) ≤ 16
+few_by rest at from m true (IsWhole w) le room = let lt = room w refl in omega (arith, lt, length-append rest (kept_transfer true at from m (IsWhole w)))
+few_by rest at from m more x le room = omega (arith, le, length-append rest (kept_transfer more at from m x))
 
 few_add : (held : List Transfer) (at : ℕ) (from : Endpoint) (m : ℕ) (block : Option Place) (bytes : List ℕ) → length held ≤ 16 → length (after_add held at from m block bytes) ≤ 16
 few_add held at from m None bytes le = le
@@ -98,6 +98,6 @@ few_add held at from m (Some b) bytes le =
     let w = unfull (is_full b.number (length (others from m (live at held)))) (body_behind (before_of b.number (find (is_transfer_of from m) (live at held))) b bytes) body e in
     has_room (live at held) from m b bytes body alive w.0 w.1)
 
-pub few_transfers : (h : List Arrival) → length (transfers h) ≤ 16
+pub few_transfers : (h : List Addition) → length (transfers h) ≤ 16
 few_transfers [] = omega arith
 few_transfers (a ∷ h) = few_add (transfers h) a.at a.endpoint a.slot a.block a.payload (few_transfers h)

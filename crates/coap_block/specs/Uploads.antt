@@ -87,9 +87,9 @@ unless_more true (IsWhole body) = Continues
 unless_more more other = other
 
 -- the transfer that is kept: one that fits, with more to come
-abbrev pub kept_of : Bool → ℕ → Endpoint → ℕ → Add → List Transfer
-kept_of true now to n (IsWhole body) = record { endpoint = to; slot = n; at = now; body = record { items = body } } ∷ []
-kept_of more now to n other = []
+abbrev pub kept_transfer : Bool → ℕ → Endpoint → ℕ → Add → List Transfer
+kept_transfer true now to n (IsWhole body) = record { endpoint = to; slot = n; at = now; body = record { items = body } } ∷ []
+kept_transfer more now to n other = []
 
 -- what becomes of a block, and of the transfers: those that are idle for a window are gone, and the block's own goes on with
 -- it, last in order, or is gone
@@ -97,7 +97,7 @@ abbrev pub block_added : List Transfer → ℕ → Endpoint → ℕ → Place �
 block_added held now to n b bytes = unless_more b.more (body_among (live now held) to n b bytes)
 
 abbrev pub after_block : List Transfer → ℕ → Endpoint → ℕ → Place → List ℕ → List Transfer
-after_block held now to n b bytes = others to n (live now held) ++ kept_of b.more now to n (body_among (live now held) to n b bytes)
+after_block held now to n b bytes = others to n (live now held) ++ kept_transfer b.more now to n (body_among (live now held) to n b bytes)
 
 -- without a block the payload is the whole body, and the transfers stay
 abbrev pub add_of : List Transfer → ℕ → Endpoint → ℕ → Option Place → List ℕ → Add

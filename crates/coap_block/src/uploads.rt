@@ -1,6 +1,6 @@
 //! The transfers that are under way.
 ghost use Rattle.std.specs.Prelude.{◌≡◌, ◌≤◌, ◌<◌, [], ◌∷◌, ◌++◌, find, length, None, IfOk, MatchOption, vec_capacity};
-ghost use Rattle.std.specs.Option.{option_map};
+ghost use Rattle.std.specs.Option.{option_copied, option_map};
 ghost use Rattle.coap_block.specs.Uploads.{add_of, after_add, after_block, before_of, block_added, body_behind, body_with, is_full, is_transfer_of, live, others};
 ghost use Rattle.coap_block.specs.Views.{add_seen};
 ghost use Rattle.coap_block.specs.Places.{block_place, block_places};
@@ -166,7 +166,7 @@ fn before(held: &[Transfer], endpoint: Endpoint, slot: u8, number: u32) -> Optio
 
 // The transfer of this endpoint and slot.
 fn find(held: &[Transfer], endpoint: Endpoint, slot: u8) -> Option<&Transfer>
-    ensures { MatchOption result (find (is_transfer_of endpoint slot) held.now ≡ None) (λ t. find (is_transfer_of endpoint slot) held.now ≡ Some t.now) }
+    ensures { option_copied result ≡ find (is_transfer_of endpoint slot) held.now }
 {
     for transfer in held {
         if is_transfer_of(endpoint, slot, transfer) {
