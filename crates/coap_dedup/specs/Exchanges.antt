@@ -1,8 +1,9 @@
 -- The exchanges that are held (after RFC 7252, 4.5; the one window for all requests is this project's own).
-use Rattle.std.specs.Prelude.{ℕ, ◌+◌, ◌==◌, ◌&&◌, nat_eq, Bool, true, false, nat_lt, List, [], ◌∷◌, ◌++◌, length, filter, find, Option, Some, None}
-use Rattle.std.specs.Cmp.Lexicographic.{pointwise}
+use Rattle.std.specs.Prelude.{ℕ, ◌+◌, ◌==◌, ◌&&◌, Bool, true, false, nat_lt, List, [], ◌∷◌, ◌++◌, length, filter, find, Option, Some, None}
 use Rattle.arrayvec.specs.ArrayVec.{ArrayVec}
 use Rattle.coap_msg.specs.declared.types.Endpoint.{Endpoint}
+use Rattle.coap_msg.specs.Endpoints.{same_endpoint}
+use Rattle.coap_msg.specs.Windows.{within_window}
 use Rattle.coap_dedup.specs.declared.exchanges.Closed.{Closed}
 use Rattle.coap_dedup.specs.declared.exchanges.Closed.TheVariants as answers
 
@@ -22,20 +23,9 @@ pub record Table : Type 0 where
   pub opened : ℕ
   pub held : List Exchange
 
--- how long an exchange is kept, in milliseconds
-abbrev pub window : ℕ
-window = 247000
-
--- that moment was less than a window before
-abbrev pub within_window : ℕ → ℕ → Bool
-within_window now at = nat_lt now (at + window)
-
 -- it was opened less than a window before
 abbrev pub is_live : ℕ → Exchange → Bool
 is_live now e = within_window now e.at
-
-abbrev pub same_endpoint : Endpoint → Endpoint → Bool
-same_endpoint a b = pointwise nat_eq a.ip b.ip && (a.port == b.port)
 
 -- it is of this endpoint and message id
 abbrev pub is_of : Endpoint → ℕ → Exchange → Bool

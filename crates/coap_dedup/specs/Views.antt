@@ -5,7 +5,9 @@ use Rattle.arrayvec.specs.ArrayVec.{ArrayVec}
 use Rattle.coap_msg.specs.declared.types.Endpoint.{Endpoint}
 use Rattle.coap_dedup.specs.declared.exchange.Kept.{Kept}
 use Rattle.coap_dedup.specs.declared.exchange.Opened.{Opened}
-use Rattle.coap_dedup.specs.Exchanges.{Exchange, same_endpoint, within_window}
+use Rattle.coap_msg.specs.Endpoints.{same_endpoint}
+use Rattle.coap_msg.specs.Windows.{within_window}
+use Rattle.coap_dedup.specs.Exchanges.{Exchange}
 
 abbrev pub no_answer : Kept
 no_answer = record { answered = false; bytes = record { items = [] } }

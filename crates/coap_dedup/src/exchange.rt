@@ -1,12 +1,9 @@
 //! One exchange.
 ghost use Rattle.std.specs.Prelude.{◌≡◌, ◌%◌, ◌<◌, length};
-ghost use Rattle.coap_dedup.specs.Exchanges.{within_window};
+ghost use Rattle.coap_msg.specs.Windows.{within_window};
 ghost use Rattle.coap_dedup.specs.Views.{answered_at, forgotten, is_from, kept_at};
 
-use coap_msg::{Datagram, Endpoint};
-
-/// How long an exchange is kept, in milliseconds.
-pub const WINDOW: u64 = 247_000;
+use coap_msg::{Datagram, Endpoint, WINDOW};
 
 /// How many exchanges are held at once.
 pub const EXCHANGES: usize = 1024;

@@ -4,3 +4,5 @@ pub mod Codes
 pub mod Writing
 pub mod Values
 pub mod Options
+pub mod Endpoints
+pub mod Windows

@@ -29,6 +29,6 @@ pub use code::Code;
 pub use message::Message;
 pub use options::Options;
 pub use parser::read;
-pub use types::{Bad, Datagram, Emission, Endpoint, MessageType, ShortValue, Token};
+pub use types::{Bad, Datagram, Emission, Endpoint, MessageType, ShortValue, Token, WINDOW};
 pub use values::Values;
 pub use writer::{Outgoing, write};

@@ -9,6 +9,9 @@ pub struct Endpoint {
     pub port: u16,
 }
 
+/// How long an exchange or a transfer is kept, in milliseconds: EXCHANGE_LIFETIME (RFC 7252, 4.8.2).
+pub const WINDOW: u64 = 247_000;
+
 /// The most bytes of a datagram.
 pub const DATAGRAM: usize = 1280;
 

@@ -14,7 +14,8 @@ use Rattle.coap_msg.specs.Reading.{reading_of}
 use Rattle.coap_msg.specs.Wire.{Message}
 use Rattle.coap_opts.specs.Verdict.{Verdict, IsAsked, IsRefused, IsSilent, IsReset, IsSignal, IsIgnored, verdict}
 use Rattle.coap_dedup.specs.Exchanges.{Exchange}
-use Rattle.coap_dedup.specs.Exchanges.{Look, IsNew, IsBusy, IsAgain, IsSilent as IsAnsweredNon, IsFull, answered_if, is_of, same_endpoint}
+use Rattle.coap_dedup.specs.Exchanges.{Look, IsNew, IsBusy, IsAgain, IsSilent as IsAnsweredNon, IsFull, answered_if, is_of}
+use Rattle.coap_msg.specs.Endpoints.{same_endpoint}
 use Rattle.fc_registry.specs.declared.job.Job.{Job}
 use Rattle.fc_registry.specs.declared.job.Opening.{Opening}
 use Rattle.fc_registry.specs.declared.job.Origin.{Origin}

@@ -1,7 +1,8 @@
 -- What a front holds.
 use Rattle.std.specs.Prelude.{ℕ, ◌+◌, Bool, nat_lt, List, filter, max}
 use Rattle.coap_dedup.specs.Exchanges.{Exchange}
-use Rattle.coap_dedup.specs.Exchanges.{Table, window, is_live as is_held}
+use Rattle.coap_msg.specs.Windows.{window}
+use Rattle.coap_dedup.specs.Exchanges.{Table, is_live as is_held}
 use Rattle.fc_registry.specs.declared.job.Opening.{Opening}
 use Rattle.fc_core.specs.Ids.{Ids}
 

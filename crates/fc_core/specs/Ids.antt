@@ -1,6 +1,6 @@
 -- The message ids of the server's own, drawn in order.
 use Rattle.std.specs.Prelude.{ℕ, ◌+◌, ◌%◌, Bool, true, false, nat_lt, List, replicate, slice_index_or, slice_set, Option, Some, None}
-use Rattle.coap_dedup.specs.Exchanges.{window}
+use Rattle.coap_msg.specs.Windows.{window}
 
 -- the id that is next, and when each was last drawn
 pub record Ids : Type 0 where

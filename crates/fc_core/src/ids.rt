@@ -2,7 +2,7 @@
 ghost use Rattle.std.specs.Prelude.{◌≡◌, ◌<◌, IfOk, length};
 ghost use Rattle.fc_core.specs.Ids.{first_ids, free_id, drawn, is_recent};
 
-use coap_dedup::exchange::WINDOW;
+use coap_msg::WINDOW;
 use std::alloc::{AllocError, Global};
 use std::marker::Model;
 

@@ -1,0 +1,43 @@
+-- The block of a body that a GET asks (RFC 7959, 2.4).
+use Rattle.std.specs.Prelude.{ℕ, ◌+◌, ◌*◌, ◌&&◌, Bool, true, false, nat_lt, not, List, length, take, drop, Option, Some, None, Result, Ok, Err}
+use Rattle.coap_block.specs.declared.cut.Cut.{Cut}
+use Rattle.coap_block.specs.declared.cut.PastEnd.{PastEnd}
+use Rattle.coap_block.specs.Places.{Place, block_places, block_size}
+
+-- a part of a body: its bytes, and its place where it isn't the whole
+pub record Part : Type 0 where
+  pub bytes : List ℕ
+  pub place : Option Place
+
+-- a block that isn't the first begins at or past the end
+abbrev pub is_past : List ℕ → ℕ → ℕ → Bool
+is_past bytes number szx = nat_lt 0 number && not (nat_lt (number * block_size szx) (length bytes))
+
+-- the block of this number and size; more follow where the body goes on behind it
+abbrev pub block_at : List ℕ → ℕ → ℕ → Part
+block_at bytes number szx = record {
+  bytes = take (block_size szx) (drop (number * block_size szx) bytes);
+  place = Some (record { number = number; more = nat_lt (number * block_size szx + block_size szx) (length bytes); szx = szx });
+}
+
+abbrev pub unless_past : Bool → Part → Option Part
+unless_past true part = None
+unless_past false part = Some part
+
+abbrev pub cut_at : List ℕ → ℕ → ℕ → Option Part
+cut_at bytes number szx = unless_past (is_past bytes number szx) (block_at bytes number szx)
+
+-- where no block is asked, up to 1,024 bytes go whole, and of more the first 1,024 (SZX 6)
+abbrev pub cut_unasked : Bool → List ℕ → Option Part
+cut_unasked true bytes = cut_at bytes 0 6
+cut_unasked false bytes = Some (record { bytes = bytes; place = None })
+
+-- the block that is asked, by its number and size alone; none where it begins at or past the end
+abbrev pub cut_of : List ℕ → Option Place → Option Part
+cut_of bytes None = cut_unasked (nat_lt 1024 (length bytes)) bytes
+cut_of bytes (Some place) = cut_at bytes place.number place.szx
+
+-- a cut, as it is seen
+abbrev pub cut_seen : Result Cut PastEnd → Option Part
+cut_seen (Ok cut) = Some (record { bytes = cut.bytes.now; place = block_places cut.block })
+cut_seen (Err past) = None

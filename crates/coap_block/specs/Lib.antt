@@ -1,0 +1,6 @@
+pub mod Places
+pub mod Cuts
+pub mod Uploads
+pub mod Views
+pub mod Transfers
+pub mod Pieces

@@ -1,0 +1,24 @@
+-- The cuts of a body by one size (RFC 7959, 2.4).
+use Rattle.std.specs.Prelude.{◌≡◌, ℕ, zero, suc, ◌+◌, ◌*◌, ◌<◌, ◌≤◌, Bool, true, false, List, [], ◌++◌, length, Option, Some, None}
+use Rattle.coap_block.specs.Places.{block_size}
+use Rattle.coap_block.specs.Cuts.{Part, cut_at}
+
+abbrev pub bytes_of : Option Part → List ℕ
+bytes_of None = []
+bytes_of (Some part) = part.bytes
+
+-- the first cuts, joined
+abbrev pub joined_cuts : List ℕ → ℕ → ℕ → List ℕ
+joined_cuts bytes szx zero = []
+joined_cuts bytes szx (suc k) = joined_cuts bytes szx k ++ bytes_of (cut_at bytes k szx)
+
+-- more follow a block of just the size, and the last has what is left
+abbrev pub EndsBy : Bool → ℕ → ℕ → ℕ → ℕ → Type 0
+EndsBy true size start bytes body = (bytes ≡ size) × (start + bytes < body)
+EndsBy false size start bytes body = (bytes ≤ size) × (start + bytes ≡ body)
+
+-- a cut is the block of this number and size
+pub record IsBlockOf (body : List ℕ) (k szx : ℕ) (part : Part) : Type 0 where
+  pub more : Bool
+  pub place : part.place ≡ Some (record { number = k; more = more; szx = szx })
+  pub ends : EndsBy more (block_size szx) (k * block_size szx) (length part.bytes) (length body)

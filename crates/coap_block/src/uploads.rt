@@ -1,0 +1,215 @@
+//! The transfers that are under way.
+ghost use Rattle.std.specs.Prelude.{◌≡◌, ◌≤◌, ◌<◌, [], ◌∷◌, ◌++◌, find, length, None, IfOk, MatchOption, vec_capacity};
+ghost use Rattle.std.specs.Option.{option_copied, option_map};
+ghost use Rattle.coap_block.specs.Uploads.{add_of, after_add, after_block, before_of, block_added, body_behind, body_with, is_full, is_transfer_of, live, others};
+ghost use Rattle.coap_block.specs.Views.{add_seen};
+ghost use Rattle.coap_block.specs.Places.{block_place, block_places};
+
+use crate::transfer::{BODY, Body, Transfer, is_transfer_of, is_under_way};
+use coap_msg::Endpoint;
+use coap_opts::Block;
+use std::alloc::{AllocError, Global};
+use std::marker::Model;
+
+/// How many transfers are under way at once.
+pub const TRANSFERS: usize = 16;
+
+/// What becomes of a block of a PUT (RFC 7959, 2.5 and 2.9).
+#[derive(Drop)]
+pub enum Added {
+    /// It fits, and more is to come: 2.31 (Continue).
+    Continue,
+    /// It fits and is the last, or came without Block1: the whole body.
+    Whole(Body),
+    /// It doesn't begin at the sum of the payloads before it: 4.08 (Request Entity Incomplete).
+    Incomplete,
+    /// Its payload hasn't just its block's size, where more is to come, or has more than that: 4.00 (Bad Request).
+    BadLength,
+    /// The body has more than 4,112 bytes: 4.13 (Request Entity Too Large).
+    TooLarge,
+    /// It begins a transfer where 16 others are under way: 5.03 (Service Unavailable).
+    Full,
+}
+
+/// The transfers that are under way, in the order of their latest blocks. Moments are in milliseconds.
+#[derive(Drop)]
+pub struct Uploads {
+    held: Vec<Transfer>,
+}
+
+impl Model for Uploads {
+    ghost use Rattle.std.specs.Prelude.{◌≤◌, List, length, vec_capacity};
+    ghost use Rattle.coap_block.specs.declared.transfer.Transfer.{Transfer};
+
+    ghost Value = { List Transfer };
+
+    ghost view = { λ x. x.held.items };
+
+    ghost invariant = { λ x. (length x.held.items ≤ 16) × (16 ≤ vec_capacity x.held) };
+}
+
+impl Uploads {
+    /// No transfer, and room for 16.
+    ///
+    /// # Errors
+    /// There was no memory for them.
+    pub fn new(alloc: Global) -> Result<Uploads, AllocError>
+        ensures { IfOk result (λ x. x ≡ []) }
+    {
+        Ok(Uploads {
+            held: Vec::with_capacity(alloc, TRANSFERS)?,
+        })
+    }
+
+    /// Joins the payload of a PUT to the transfer of its endpoint and slot, which is gone after its last block, after a block
+    /// that is refused, and once it is idle for 247,000 ms. Without a block the payload is the whole body, and the transfers
+    /// stay.
+    ///
+    /// The first of these that holds refuses a block: a start where 16 others are under way; a beginning that isn't the sum of
+    /// the payloads before it; a payload of a wrong length; a body above 4,112 bytes.
+    pub fn add(
+        &mut self,
+        now: u64,
+        endpoint: Endpoint,
+        slot: u8,
+        block1: Option<Block>,
+        payload: &[u8],
+    ) -> Added
+        ensures added { add_seen result ≡ add_of self.old now endpoint slot (block_places block1) payload.now }
+        ensures after { self.new ≡ after_add self.old now endpoint slot (block_places block1) payload.now }
+    {
+        match block1 {
+            None => body_with(Body::new(), payload),
+            Some(block) => self.add_block(now, endpoint, slot, block, payload),
+        }
+    }
+
+    // Joins a block.
+    fn add_block(
+        &mut self,
+        now: u64,
+        endpoint: Endpoint,
+        slot: u8,
+        block: Block,
+        payload: &[u8],
+    ) -> Added
+        ensures added { add_seen result ≡ block_added self.old now endpoint slot (block_place block) payload.now }
+        ensures after { self.new ≡ after_block self.old now endpoint slot (block_place block) payload.now }
+    {
+        expire(&mut self.held, now);
+        let before = before(&self.held, endpoint, slot, block.number);
+        remove(&mut self.held, endpoint, slot);
+        if is_full(block.number, self.held.len()) {
+            return Added::Full;
+        }
+        match body_behind(before, block, payload) {
+            Added::Whole(body) if block.more => {
+                let transfer = Transfer {
+                    endpoint,
+                    slot,
+                    at: now,
+                    body,
+                };
+                keep(&mut self.held, transfer);
+                Added::Continue
+            }
+            added => added,
+        }
+    }
+}
+
+// Removes what is idle for a window.
+fn expire(held: &mut Vec<Transfer>, now: u64)
+    ensures held { held.new.items ≡ live now held.old.items }
+    ensures room { vec_capacity held.new ≡ vec_capacity held.old }
+    ensures fewer { length held.new.items ≤ length held.old.items }
+{
+    held.retain(|transfer| is_under_way(now, transfer));
+}
+
+// Removes the transfer of this endpoint and slot.
+fn remove(held: &mut Vec<Transfer>, endpoint: Endpoint, slot: u8)
+    ensures held { held.new.items ≡ others endpoint slot held.old.items }
+    ensures room { vec_capacity held.new ≡ vec_capacity held.old }
+    ensures fewer { length held.new.items ≤ length held.old.items }
+{
+    held.retain(|transfer| !is_transfer_of(endpoint, slot, transfer));
+}
+
+// Keeps a transfer, last in order.
+fn keep(held: &mut Vec<Transfer>, transfer: Transfer)
+    requires few { length held.old.items < 16 }
+    requires room { 16 ≤ vec_capacity held.old }
+    ensures held { held.new.items ≡ held.old.items ++ transfer ∷ [] }
+    ensures room { vec_capacity held.new ≡ vec_capacity held.old }
+    ensures few { length held.new.items ≤ 16 }
+{
+    held.push_reserved(transfer);
+}
+
+// Whether a block of this number begins a transfer where so many others are under way, and has no room.
+fn is_full(number: u32, others: usize) -> bool
+    ensures { result ≡ is_full number others }
+{
+    number == 0 && others >= TRANSFERS
+}
+
+// The payloads before a block of this number, joined: none before number 0, else those of the transfer under way.
+fn before(held: &[Transfer], endpoint: Endpoint, slot: u8, number: u32) -> Option<Body>
+    ensures { option_map (λ b. b.items) result ≡ before_of number (find (is_transfer_of endpoint slot) held.now) }
+{
+    if number == 0 {
+        return Some(Body::new());
+    }
+    find(held, endpoint, slot).map(|transfer| copy(&transfer.body))
+}
+
+// The transfer of this endpoint and slot.
+fn find(held: &[Transfer], endpoint: Endpoint, slot: u8) -> Option<&Transfer>
+    ensures { option_copied result ≡ find (is_transfer_of endpoint slot) held.now }
+{
+    for transfer in held {
+        if is_transfer_of(endpoint, slot, transfer) {
+            return Some(transfer);
+        }
+    }
+    None
+}
+
+// Another copy of a body.
+fn copy(body: &Body) -> Body
+    ensures { result ≡ body.now }
+{
+    let mut copy = Body::new();
+    let _fits = copy.try_extend_from_slice(body.as_slice());
+    copy
+}
+
+// A block behind the payloads before it; one that fits is whole, also where more is to come.
+fn body_behind(before: Option<Body>, block: Block, payload: &[u8]) -> Added
+    ensures { add_seen result ≡ body_behind (option_map (λ b. b.items) before) (block_place block) payload.now }
+{
+    let Some(body) = before else {
+        return Added::Incomplete;
+    };
+    let size = block.size();
+    if block.number as usize * size != body.len() {
+        return Added::Incomplete;
+    }
+    if payload.len() > size || block.more && payload.len() != size {
+        return Added::BadLength;
+    }
+    body_with(body, payload)
+}
+
+// A body with more bytes behind it, where they fit.
+fn body_with(body: Body, payload: &[u8]) -> Added
+    ensures { add_seen result ≡ body_with body.items payload.now }
+{
+    let mut body = body;
+    if payload.len() > BODY - body.len() {
+        return Added::TooLarge;
+    }
+    let _fits = body.try_extend_from_slice(payload);
+    Added::Whole(body)
+}

@@ -1,0 +1,7 @@
+-- When two endpoints are the same (RFC 7252, 1.2).
+use Rattle.std.specs.Prelude.{◌==◌, ◌&&◌, nat_eq, Bool}
+use Rattle.std.specs.Cmp.Lexicographic.{pointwise}
+use Rattle.coap_msg.specs.declared.types.Endpoint.{Endpoint}
+
+abbrev pub same_endpoint : Endpoint → Endpoint → Bool
+same_endpoint a b = pointwise nat_eq a.ip b.ip && (a.port == b.port)
