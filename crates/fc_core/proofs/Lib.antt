@@ -20,3 +20,4 @@ pub mod Repeats
 pub mod DrawnIds
 pub mod Once
 pub mod FirstBlocks
+pub mod Published

@@ -16,5 +16,6 @@ pub mod Sound
 pub mod Legal
 pub mod Laws
 pub mod SlotLaws
+pub mod HeadLaws
 pub mod AnswerLaws
 pub mod ExchangeLaws

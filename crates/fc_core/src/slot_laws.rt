@@ -2,7 +2,8 @@
 ghost use Rattle.coap_msg.specs.declared.types.Emission.{Emission};
 ghost use Rattle.fc_core.specs.Contents.{Content};
 ghost use Rattle.fc_core.specs.History.{Entry, History, Then, Seen, seen, and_then, did, job, slot_at, stage};
-ghost use Rattle.fc_core.specs.Laws.{changes_by, slot_of, takings_of};
+ghost use Rattle.fc_core.specs.HeadLaws.{PublishesAt};
+ghost use Rattle.fc_core.specs.Laws.{HasCome, changes_by, slot_of, takings_of};
 ghost use Rattle.fc_core.specs.SlotLaws.{AllOfImages, ChangesBy, IsOfImage, IsToRaise, IsUnchanged, IsWritten};
 ghost use Rattle.fc_core.specs.Stages.{image_of, names};
 ghost use Rattle.fc_core.specs.declared.event.Event.TheVariants.{Commit, Install};
@@ -27,6 +28,13 @@ pub fn changes_are_published()
     ensures only { (r : Entry) (s : Seen) (k word : ℕ) (content : Content) → names r.event ≡ Some k
         → stage (and_then r s) k ≡ ToRaise word content → (stage s k ≡ ToRaise word content)
         ⊎ (length ((and_then r s).changes (slot_of s k)) ≡ length (s.changes (slot_of s k)) + 1) }
+{}
+
+/// A job that is to raise its slot's head word was so before the event, or is to raise it to that of the slot's state after
+/// the event: twice the serial, and one more where the slot has a program.
+pub fn raised_words_are_of_slots()
+    ensures { (h : History) (r : Entry) (k : ℕ) → HasCome (seen h) k
+        → PublishesAt (slot_at (seen (Then h r)) (slot_of (seen h) k)) (stage (seen h) k) (stage (seen (Then h r)) k) }
 {}
 
 /// A slot changes by an install, a removal or a commit alone: the install of its job's own accepted image, with memory for

@@ -1,0 +1,138 @@
+-- Head words: what is raised is the word of the slot's new state, and none is above its slot's.
+use Rattle.std.proofs.Common.{◌≡◌, ℕ, ◌+◌, ◌<◌, ◌≤◌, List, [], ◌∷◌, ◌++◌, Bool, true, false, Option, Some, None, length, map, get_or, set, refl, sym, ap, ◌∙◌, subst, ◌⊎◌, inl, inr, ⊎_elim, arith, max, if◌then◌else◌}
+use Rattle.std.specs.Prelude.{nat_lt, ◌==◌, is_some, replicate}
+use Rattle.std.proofs.lemmas.Bool.{cases_eq, cases_lt}
+use Rattle.std.proofs.lemmas.List.{get_or_past, get_or-replicate, get_or-set_same, get_or-set_other, length-set}
+use Rattle.fc_verify.specs.Accepted.{Judgement, Accepts, Breaks, Untypable}
+use Rattle.fc_verify.specs.Judged.{judged}
+use Rattle.fc_kinds.specs.Meaning.{Program}
+use Rattle.fc_registry.specs.declared.job.Ask.{Ask}
+use Rattle.fc_registry.specs.declared.job.Ask.TheVariants.{Run, Install as Installs, Remove as Removes, Describe, Discover}
+use Rattle.fc_registry.specs.declared.job.Job.{Job}
+use Rattle.fc_registry.specs.declared.receipt.Receipt.{Receipt as Facts}
+use Rattle.fc_registry.specs.declared.commit.CommitOutcome.{CommitOutcome}
+use Rattle.fc_registry.specs.declared.commit.CommitOutcome.TheVariants.{Writes, Keeps, Overtakes, Ends}
+use Rattle.fc_registry.specs.Slots.{Slot, Present, Ticket, last_serial, new_slot}
+use Rattle.fc_registry.specs.Changes.{Change, Installed, Committed, Removed, after_changes, changed, with_vars}
+use Rattle.fc_registry.specs.Calls.{clear_by, commit_of, outcome, put_by, receipt_at, receipt_of, taking}
+use Rattle.fc_core.specs.declared.event.Event.{Event}
+use Rattle.fc_core.specs.declared.event.Event.TheVariants.{Deliver, Peek, Take, Commit as Commits, Install, Remove, Receipt, Raise, Answer, Lose}
+use Rattle.fc_core.specs.declared.stage.Stage.{Stage}
+use Rattle.fc_core.specs.declared.stage.Stage.TheVariants.{ToMatch, ToTake, ToCommit, ToInstall, ToRemove, ToDescribe, ToList, ToRaise, ToAnswer, Gone}
+use Rattle.fc_core.specs.declared.stage.Task.{Task}
+use Rattle.arrayvec.specs.ArrayVec.{ArrayVec}
+use Rattle.fc_core.specs.Contents.{Content, Listed, Unavailable}
+use Rattle.fc_core.specs.Fits.{FitsStage}
+use Rattle.fc_core.specs.Heads.{head_word, is_match, no_words, published, raised, word_at}
+use Rattle.fc_core.specs.History.{Entry, History, Begins, Then, Seen, seen, and_then, changes_after, front_at, job, no_task, scene, slot_at, stage, task_at, tasks_brought, tasks_moved, words_seen}
+use Rattle.fc_core.specs.HeadLaws.{PublishesAt, slot_word}
+use Rattle.fc_core.specs.Laws.{HasCome, slot_of}
+use Rattle.fc_core.specs.Sound.{IsSound}
+use Rattle.fc_core.specs.Receiving.{Received, brought, next_opening, received}
+use Rattle.fc_core.specs.Stages.{Move, Scene, at_peek, committed, first_by, image_of, installed, made, matched_by, names, new_task, peeked_next, peeked_own, removed, row, task_moved, told, took, verified}
+use Rattle.fc_core.proofs.Commits.{writes_at}
+use Rattle.fc_core.proofs.Fitting.{after_changes-append, writes_found}
+use Rattle.fc_core.proofs.Keeping.{Grows, grows, slot_grows}
+use Rattle.fc_core.proofs.Lists.{Each, appended_all, written_all}
+use Rattle.fc_core.proofs.Others.{own_slot}
+use Rattle.fc_core.proofs.Steps.{Becomes, Moves, Stays, Comes, becomes}
+use Rattle.fc_core.proofs.Writing.{sound}
+
+-- ---- what is raised
+
+abbrev at : Job → Slot → List ℕ → Stage → Scene
+at job slot ws stage = record { job = job; slot = slot; words = ws; stage = stage }
+
+same_publishes : (slot : Slot) (s : Stage) → PublishesAt slot s s
+same_publishes slot (ToRaise word content) = inl refl
+same_publishes slot other = tt
+
+took_publishes : (after : Slot) (old : Stage) (memory : Bool) (job : Job) (serial n : ℕ) (p : Option Present) → PublishesAt after old (took n (taking memory job serial p))
+took_publishes after old memory job serial n None = tt
+took_publishes after old true job serial n (Some p) = tt
+took_publishes after old false job serial n (Some p) = tt
+
+retaken_publishes : (after : Slot) (old : Stage) (n : ℕ) (b : Bool) → PublishesAt after old (if b then ToTake n else ToAnswer Unavailable)
+retaken_publishes after old n true = tt
+retaken_publishes after old n false = tt
+
+committed_publishes : (job : Job) (slot : Slot) (n : ℕ) (t : Ticket) (now : ℕ) (o : CommitOutcome) → outcome t slot ≡ o → FitsStage job slot (ToCommit n t) → PublishesAt (after_changes slot (committed o n t now).changes) (ToCommit n t) (committed o n t now).stage
+committed_publishes job slot n t now Writes is f =
+    let same : slot.serial ≡ t.serial = writes_at t slot is in
+    let found : slot.present ≡ Some t.found = writes_found slot t f.1.given is in
+    inr (λ i. head_word (sym same i + 1) (is_some (with_vars (commit_of t).after (sym found i))))
+committed_publishes job slot n t now Keeps is f = tt
+committed_publishes job slot n t now Overtakes is f = retaken_publishes slot (ToCommit n t) n (nat_lt n 8)
+committed_publishes job slot n t now Ends is f = tt
+
+put_publishes : (slot : Slot) (p : Program) (b : Bool) → PublishesAt (after_changes slot (put_by b slot p).changes) ToInstall (made (receipt_of p 0) (put_by b slot p).answer)
+put_publishes slot p true = inr refl
+put_publishes slot p false = tt
+
+installed_publishes : (slot : Slot) (j : Judgement) → PublishesAt (after_changes slot (installed j slot).changes) ToInstall (installed j slot).stage
+installed_publishes slot (Accepts p) = put_publishes slot p (nat_lt slot.serial last_serial)
+installed_publishes slot (Breaks rule k) = tt
+installed_publishes slot Untypable = tt
+
+verified_publishes : (memory : Bool) (x : Scene) → PublishesAt (after_changes x.slot (verified memory x).changes) ToInstall (verified memory x).stage
+verified_publishes true x = installed_publishes x.slot (judged (image_of x.job.ask))
+verified_publishes false x = tt
+
+clear_publishes : (slot : Slot) (b : Bool) (p : Option Present) → PublishesAt (after_changes slot (clear_by b slot.serial p).changes) ToRemove (removed (clear_by b slot.serial p).answer)
+clear_publishes slot b None = tt
+clear_publishes slot true (Some p) = inr refl
+clear_publishes slot false (Some p) = tt
+
+matched_publishes : (slot : Slot) (old : Stage) (b : Bool) (word : ℕ) → PublishesAt slot old (matched_by b word)
+matched_publishes slot old true word = tt
+matched_publishes slot old false word = tt
+
+own_publishes : (slot : Slot) (old : Stage) (b : Bool) (word : ℕ) (serials : List ℕ) → PublishesAt slot old (peeked_own b word serials)
+own_publishes slot old true word serials = matched_publishes slot old (is_match word serials) word
+own_publishes slot old false word serials = tt
+
+listed_publishes : (slot : Slot) (old : Stage) (b : Bool) (words : List ℕ) → PublishesAt slot old (if b then ToList (record { items = words }) else ToAnswer (Listed words))
+listed_publishes slot old true words = tt
+listed_publishes slot old false words = tt
+
+next_publishes : (slot : Slot) (old : Stage) (b : Bool) (word : ℕ) (seen : ArrayVec ℕ) → PublishesAt slot old (peeked_next b word seen)
+next_publishes slot old true word seen = listed_publishes slot old (nat_lt (length (seen.items ++ word ∷ [])) 64) (seen.items ++ word ∷ [])
+next_publishes slot old false word seen = tt
+
+-- what a row leaves to raise is the word of the slot after its changes
+row_publishes : (e : Event) (job : Job) (slot : Slot) (ws : List ℕ) (s : Stage) → FitsStage job slot s → PublishesAt (after_changes slot (row e (at job slot ws s)).changes) s (row e (at job slot ws s)).stage
+row_publishes (Commits k now) job slot ws (ToCommit n t) f = committed_publishes job slot n t now (outcome t slot) refl f
+row_publishes (Commits k now) job slot ws other f = same_publishes slot other
+row_publishes (Install k memory) job slot ws ToInstall f = verified_publishes memory (at job slot ws ToInstall)
+row_publishes (Install k memory) job slot ws other f = same_publishes slot other
+row_publishes (Remove k) job slot ws ToRemove f = clear_publishes slot (nat_lt slot.serial last_serial) slot.present
+row_publishes (Remove k) job slot ws other f = same_publishes slot other
+row_publishes (Take k memory) job slot ws (ToTake n) f = took_publishes slot (ToTake n) memory job slot.serial n slot.present
+row_publishes (Take k memory) job slot ws other f = same_publishes slot other
+row_publishes (Receipt k) job slot ws ToDescribe f = tt
+row_publishes (Receipt k) job slot ws other f = same_publishes slot other
+row_publishes (Peek k n) job slot ws ToMatch f = own_publishes slot ToMatch (n == job.origin.slot) (word_at ws n) job.etags.items
+row_publishes (Peek k n) job slot ws (ToList seen) f = next_publishes slot (ToList seen) (n == length seen.items) (word_at ws n) seen
+row_publishes (Peek k n) job slot ws other f = same_publishes slot other
+row_publishes (Raise k) job slot ws (ToRaise word content) f = tt
+row_publishes (Raise k) job slot ws other f = same_publishes slot other
+row_publishes (Answer k now) job slot ws (ToAnswer content) f = tt
+row_publishes (Answer k now) job slot ws other f = same_publishes slot other
+row_publishes (Lose k) job slot ws s f = tt
+row_publishes other job slot ws s f = same_publishes slot s
+
+-- the slot of the job that an event names, after it
+own_after : (r : Entry) (s : Seen) (k : ℕ) → names r.event ≡ Some k → slot_at (and_then r s) (slot_of s k) ≡ after_changes (slot_at s (slot_of s k)) (row r.event (scene s k)).changes
+own_after r s k named = ap (after_changes (new_slot s.first_serial)) (own_slot r s k named) ∙ after_changes-append (new_slot s.first_serial) (row r.event (scene s k)).changes (s.changes (slot_of s k))
+
+publishes_by : (r : Entry) (s : Seen) (k : ℕ) (t : Task) → Becomes (names r.event) r.event s k t → IsSound s → HasCome s k → PublishesAt (slot_at (and_then r s) (slot_of s k)) (stage s k) t.stage
+publishes_by r s k t (Moves named is) a come =
+    subst (λ (x : Task). PublishesAt (slot_at (and_then r s) (slot_of s k)) (stage s k) x.stage) (sym is)
+    (subst (λ (x : Slot). PublishesAt x (stage s k) (row r.event (scene s k)).stage) (sym (own_after r s k named))
+    (row_publishes r.event (job s k) (slot_at s (slot_of s k)) s.words (stage s k) (a.stages k)))
+publishes_by r s k t (Stays other is) a come = subst (λ (x : Task). PublishesAt (slot_at (and_then r s) (slot_of s k)) (stage s k) x.stage) (sym is) (same_publishes (slot_at (and_then r s) (slot_of s k)) (stage s k))
+publishes_by r s k t (Comes new j is) a come = absurd (omega (arith, new, come))
+
+pub publishes : (h : History) (r : Entry) (k : ℕ) → HasCome (seen h) k → PublishesAt (slot_at (seen (Then h r)) (slot_of (seen h) k)) (stage (seen h) k) (stage (seen (Then h r)) k)
+unfolding seen
+publishes h r k come = publishes_by r (seen h) k (task_at (and_then r (seen h)).tasks k) (becomes r (seen h) k) (sound h) come
