@@ -8,7 +8,7 @@ use Rattle.std.proofs.Math.ListN.{drop_of_length-le}
 use Rattle.std.proofs.Math.Seq.{take-add, take-nil}
 use Rattle.coap_block.specs.Places.{block_size}
 use Rattle.coap_block.specs.Cuts.{Part, block_at, cut_at, is_past, unless_past}
-use Rattle.coap_block.specs.Pieces.{EndsBy, IsBlockOf, bytes_of, joined_cuts}
+use Rattle.coap_block.specs.Pieces.{EndsBy, IsBlockOf, part_bytes, joined_cuts}
 
 -- ---- joined
 
@@ -17,7 +17,7 @@ nothing_left body k szx e =
     let w = and_parts (nat_lt 0 k) (not (nat_lt (k * block_size szx) (length body))) e in
     drop_of_length-le body (ltb-false (k * block_size szx) (length body) (not-true (nat_lt (k * block_size szx) (length body)) w.1))
 
-cut_bytes : (body : List ℕ) (k szx : ℕ) (past : Bool) → is_past body k szx ≡ past → bytes_of (unless_past past (block_at body k szx)) ≡ take (block_size szx) (drop (k * block_size szx) body)
+cut_bytes : (body : List ℕ) (k szx : ℕ) (past : Bool) → is_past body k szx ≡ past → part_bytes (unless_past past (block_at body k szx)) ≡ take (block_size szx) (drop (k * block_size szx) body)
 cut_bytes body k szx true e = sym (ap (take (block_size szx)) (nothing_left body k szx e) ∙ take-nil (block_size szx))
 cut_bytes body k szx false e = refl
 

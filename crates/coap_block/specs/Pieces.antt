@@ -3,14 +3,14 @@ use Rattle.std.specs.Prelude.{◌≡◌, ℕ, zero, suc, ◌+◌, ◌*◌, ◌<�
 use Rattle.coap_block.specs.Places.{block_size}
 use Rattle.coap_block.specs.Cuts.{Part, cut_at}
 
-abbrev pub bytes_of : Option Part → List ℕ
-bytes_of None = []
-bytes_of (Some part) = part.bytes
+abbrev pub part_bytes : Option Part → List ℕ
+part_bytes None = []
+part_bytes (Some part) = part.bytes
 
 -- the first cuts, joined
 abbrev pub joined_cuts : List ℕ → ℕ → ℕ → List ℕ
 joined_cuts bytes szx zero = []
-joined_cuts bytes szx (suc k) = joined_cuts bytes szx k ++ bytes_of (cut_at bytes k szx)
+joined_cuts bytes szx (suc k) = joined_cuts bytes szx k ++ part_bytes (cut_at bytes k szx)
 
 -- more follow a block of just the size, and the last has what is left
 abbrev pub EndsBy : Bool → ℕ → ℕ → ℕ → ℕ → Type 0

@@ -8,22 +8,25 @@
 //! use coap_msg::Endpoint;
 //! use coap_opts::Block;
 //!
-//! /// The block of a slot's body that a GET asks, after a block of a PUT that may be its last.
-//! fn block_of_upload<'a>(
+//! /// The body of a PUT for slot 2, once its last block has come.
+//! fn upload(
 //!     uploads: &mut Uploads,
 //!     now: u64,
 //!     from: Endpoint,
-//!     slot: u8,
 //!     block1: Option<Block>,
 //!     payload: &[u8],
-//!     body: &'a mut Body,
-//!     block2: Option<Block>,
-//! ) -> Option<&'a [u8]> {
-//!     if let Added::Whole(whole) = uploads.add(now, from, slot, block1, payload) {
-//!         *body = whole;
+//! ) -> Option<Body> {
+//!     match uploads.add(now, from, 2, block1, payload) {
+//!         Added::Whole(body) => Some(body),
+//!         _ => None,
 //!     }
-//!     let cut = slice(body.as_slice(), block2).ok()?;
-//!     Some(cut.bytes)
+//! }
+//!
+//! /// The bytes that a GET of this body is answered, and whether more follow.
+//! fn answered(body: &[u8], block2: Option<Block>) -> Option<(&[u8], bool)> {
+//!     let cut = slice(body, block2).ok()?;
+//!     let more = cut.block.is_some_and(|block| block.more);
+//!     Some((cut.bytes, more))
 //! }
 //! ```
 #![tactic(auto)]
