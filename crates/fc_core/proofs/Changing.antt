@@ -20,7 +20,7 @@ use Rattle.arrayvec.specs.ArrayVec.{ArrayVec}
 use Rattle.fc_core.specs.Contents.{Content, Listed, Unavailable}
 use Rattle.fc_core.specs.Heads.{is_match, word_at}
 use Rattle.fc_core.specs.History.{Entry, History, Then, Seen, seen, and_then, job, scene, slot_at, stage}
-use Rattle.fc_core.specs.Laws.{HasCome, changes_by, is_named, is_job, is_stray, is_stray_at, needs_word, slot_named, slot_of, stage_named}
+use Rattle.fc_core.specs.Laws.{HasCome, changes_by, is_named, is_job, is_stray, is_stray_at, needs_word, own_of_named, slot_of, stage_named}
 use Rattle.fc_core.specs.SlotLaws.{IsToRaise}
 use Rattle.fc_core.specs.Stages.{Scene, at_peek, committed, first_by, image_of, installed, made, matched_by, names, peeked_next, peeked_own, removed, row, took, verified}
 use Rattle.fc_core.proofs.Along.{IsTold, along, gone_before}
@@ -244,7 +244,7 @@ came r s k named stray = ⊎_elim
     (cases_lt k (length s.tasks))
 
 stray_is : (r : Entry) (s : Seen) (k : ℕ) → names r.event ≡ Some k → is_stray s r.event ≡ is_stray_at r.event (slot_of s k) (stage s k)
-stray_is r s k named = ap (λ (o : Option ℕ). is_stray_at r.event (slot_named s o) (stage_named s o)) named
+stray_is r s k named = ap (λ (o : Option ℕ). is_stray_at r.event (own_of_named s o) (stage_named s o)) named
 
 -- what an event that isn't a stray adds to its job's slot
 adds : (r : Entry) (s : Seen) (k : ℕ) → names r.event ≡ Some k → is_stray_at r.event (slot_of s k) (stage s k) ≡ false → length ((and_then r s).changes (slot_of s k)) ≡ raises (stage (and_then r s) k) + length (s.changes (slot_of s k))

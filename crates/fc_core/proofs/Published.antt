@@ -23,7 +23,7 @@ use Rattle.fc_core.specs.declared.stage.Task.{Task}
 use Rattle.arrayvec.specs.ArrayVec.{ArrayVec}
 use Rattle.fc_core.specs.Contents.{Content, Listed, Unavailable}
 use Rattle.fc_core.specs.Fits.{FitsStage}
-use Rattle.fc_core.specs.Heads.{head_word, is_match, no_words, published, raised, word_at}
+use Rattle.fc_core.specs.Heads.{head_word, is_match, word_at}
 use Rattle.fc_core.specs.History.{Entry, History, Begins, Then, Seen, seen, and_then, changes_after, front_at, job, no_task, scene, slot_at, stage, task_at, tasks_brought, tasks_moved, words_seen}
 use Rattle.fc_core.specs.HeadLaws.{PublishesAt, slot_word}
 use Rattle.fc_core.specs.Laws.{HasCome, slot_of}

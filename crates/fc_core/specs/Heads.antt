@@ -22,13 +22,13 @@ abbrev pub word_at : List ℕ → ℕ → ℕ
 word_at words n = slice_index_or words n 0
 
 -- a word only rises
-abbrev pub raised : ℕ → ℕ → List ℕ → List ℕ
-raised n word words = slice_set words n (max (word_at words n) word)
+abbrev pub word_raised : ℕ → ℕ → List ℕ → List ℕ
+word_raised n word words = slice_set words n (max (word_at words n) word)
 
 -- the words after one of slot n was raised, if one was
 abbrev pub published : Option ℕ → ℕ → List ℕ → List ℕ
 published None n words = words
-published (Some word) n words = raised n word words
+published (Some word) n words = word_raised n word words
 
 -- a slot with a program has one of these serials
 abbrev pub is_match : ℕ → List ℕ → Bool

@@ -43,12 +43,12 @@ abbrev pub stage_named : Seen → Option ℕ → Stage
 stage_named s None = Gone
 stage_named s (Some k) = stage s k
 
-abbrev pub slot_named : Seen → Option ℕ → ℕ
-slot_named s None = 0
-slot_named s (Some k) = (job s k).origin.slot
+abbrev pub own_of_named : Seen → Option ℕ → ℕ
+own_of_named s None = 0
+own_of_named s (Some k) = (job s k).origin.slot
 
 abbrev pub is_stray : Seen → Event → Bool
-is_stray s e = is_stray_at e (slot_named s (names e)) (stage_named s (names e))
+is_stray s e = is_stray_at e (own_of_named s (names e)) (stage_named s (names e))
 
 -- ---- jobs
 

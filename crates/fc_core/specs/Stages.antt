@@ -1,5 +1,5 @@
 -- What each event does to the job that it names, and to that job's slot and shard: one row a clause.
-use Rattle.std.specs.Prelude.{ℕ, ◌+◌, ◌==◌, Bool, true, false, nat_lt, if◌then◌else◌, Option, Some, None, List, [], ◌∷◌, ◌++◌, length, max}
+use Rattle.std.specs.Prelude.{◌≡◌, ℕ, ◌+◌, ◌==◌, Bool, true, false, nat_lt, if◌then◌else◌, Option, Some, None, List, [], ◌∷◌, ◌++◌, length, max}
 use Rattle.arrayvec.specs.ArrayVec.{ArrayVec}
 use Rattle.fc_kinds.specs.Meaning.{Program}
 use Rattle.fc_verify.specs.Accepted.{Judgement, Accepts, Breaks, Untypable}
@@ -241,6 +241,17 @@ shard_moved m n shard = with_slot (record shard { now = handed m.hands shard.now
 -- a shard after a move of this task
 abbrev pub shard_after : Move → Task → Shard → Shard
 shard_after m task shard = shard_moved m task.job.origin.slot shard
+
+-- a row, by what it finds of a job and the stage of that job
+abbrev pub Row : Type 0
+Row = Scene → Stage → Move
+
+-- the task, and the shard of its slot, after a row: whatever the head words, which the rows of slots don't look at
+abbrev pub TaskMoves : Row → Shard → Task → Task → Type 0
+TaskMoves at shard old new = (words : List ℕ) → new ≡ task_moved old (at (scene_of shard words old) old.stage)
+
+abbrev pub ShardMoves : Row → Shard → Task → Shard → Type 0
+ShardMoves at old task new = (words : List ℕ) → new ≡ shard_after (at (scene_of old words task) task.stage) task old
 
 -- the head words after a move of this task
 abbrev pub words_after : Move → Task → List ℕ → List ℕ

@@ -63,7 +63,7 @@ impl Heads {
 
     /// Raises the word of a slot; a lower one leaves it.
     pub fn raise(&mut self, slot: SlotNumber, word: u64)
-        ensures { self.new ≡ spec.raised slot word self.old }
+        ensures { self.new ≡ spec.word_raised slot word self.old }
     {
         let place = usize::from(slot.number());
         self.words[place] = self.words[place].max(word);

@@ -10,7 +10,7 @@ ghost use Rattle.fc_core.specs.Heads.{word_at};
 ghost use Rattle.fc_core.specs.Sound.{AllSafe};
 ghost use Rattle.fc_registry.specs.Calls.{HasGiven, receipt_of};
 ghost use Rattle.fc_core.specs.Stages as rows;
-ghost use Rattle.fc_core.specs.Stages.{at_answer, at_commit, at_install, at_peek, at_raise, at_receipt, at_remove, at_take, commit_move, content_at, first_stage, image_of, installed, peeked_next, peeked_own, task_moved, new_task, scene_at, scene_of, shard_after, shard_moved, words_after};
+ghost use Rattle.fc_core.specs.Stages.{ShardMoves, TaskMoves, at_answer, at_commit, at_install, at_peek, at_raise, at_receipt, at_remove, at_take, commit_move, content_at, first_stage, image_of, installed, peeked_next, peeked_own, task_moved, new_task, scene_at, scene_of, shard_after, shard_moved, words_after};
 
 use crate::answer::{Answer, End, Words};
 use crate::front::blank_job;
@@ -199,7 +199,8 @@ impl Task {
     /// Looks at the head word of a slot.
     pub fn peek(&mut self, slot: u8, heads: &Heads)
         requires { HasNext self.old.stage }
-        ensures { (x : Slot) → self.new ≡ task_moved self.old (at_peek slot (scene_at self.old x heads.now) self.old.stage) }
+        ensures { (x : Slot) →
+            self.new ≡ task_moved self.old (at_peek slot (scene_at self.old x heads.now) self.old.stage) }
     {
         match self.leave() {
             Stage::ToMatch => self.stage = look_own(&self.job, slot, heads),
@@ -212,7 +213,7 @@ impl Task {
     pub fn take(&mut self, shard: &mut Shard) -> bool
         requires owned { IsOwned shard.old self.old.job.origin.slot }
         requires fits { FitsStage self.old.job (slot_in shard.old self.old.job.origin.slot) self.old.stage }
-        ensures task { (words : List ℕ) → self.new ≡ task_moved self.old (at_take result (scene_of shard.old words self.old) self.old.stage) }
+        ensures task { TaskMoves (at_take result) shard.old self.old self.new }
         ensures shard { shard.new ≡ shard.old }
     {
         let Stage::ToTake(count) = self.stage else {
@@ -238,7 +239,7 @@ impl Task {
     pub fn refuse_take(&mut self, shard: &mut Shard)
         requires owned { IsOwned shard.old self.old.job.origin.slot }
         requires fits { FitsStage self.old.job (slot_in shard.old self.old.job.origin.slot) self.old.stage }
-        ensures task { (words : List ℕ) → self.new ≡ task_moved self.old (at_take false (scene_of shard.old words self.old) self.old.stage) }
+        ensures task { TaskMoves (at_take false) shard.old self.old self.new }
         ensures shard { shard.new ≡ shard.old }
     {
         match self.leave() {
@@ -257,8 +258,8 @@ impl Task {
     pub fn commit(&mut self, frame: &mut Frame, shard: &mut Shard, now: u64)
         requires owned { IsOwned shard.old self.old.job.origin.slot }
         requires fits { FitsStage self.old.job (slot_in shard.old self.old.job.origin.slot) self.old.stage }
-        ensures task { (words : List ℕ) → self.new ≡ task_moved self.old (at_commit now (scene_of shard.old words self.old) self.old.stage) }
-        ensures shard { (words : List ℕ) → shard.new ≡ shard_after (at_commit now (scene_of shard.old words self.old) self.old.stage) self.old shard.old }
+        ensures task { TaskMoves (at_commit now) shard.old self.old self.new }
+        ensures shard { ShardMoves (at_commit now) shard.old self.old shard.new }
     {
         let Stage::ToCommit(count, ticket) = &self.stage else {
             return;
@@ -269,8 +270,8 @@ impl Task {
     /// Removes its slot's program at its shard.
     pub fn remove(&mut self, shard: &mut Shard)
         requires { IsOwned shard.old self.old.job.origin.slot }
-        ensures task { (words : List ℕ) → self.new ≡ task_moved self.old (at_remove (scene_of shard.old words self.old) self.old.stage) }
-        ensures shard { (words : List ℕ) → shard.new ≡ shard_after (at_remove (scene_of shard.old words self.old) self.old.stage) self.old shard.old }
+        ensures task { TaskMoves at_remove shard.old self.old self.new }
+        ensures shard { ShardMoves at_remove shard.old self.old shard.new }
     {
         match self.leave() {
             Stage::ToRemove => self.stage = Stage::removed(shard.remove(self.job.origin.slot)),
@@ -280,7 +281,7 @@ impl Task {
 
     /// Asks its shard what its slot's program is.
     pub fn describe(&mut self, shard: &Shard)
-        ensures { (words : List ℕ) → self.new ≡ task_moved self.old (at_receipt (scene_of shard.entry.now words self.old) self.old.stage) }
+        ensures { TaskMoves at_receipt shard.entry.now self.old self.new }
     {
         match self.leave() {
             Stage::ToDescribe => self.stage = Stage::told(shard.receipt(self.job.origin.slot)),
@@ -292,9 +293,10 @@ impl Task {
     /// slot changes, and it is answered 5.03.
     pub fn install(&mut self, alloc: Global, shard: &mut Shard) -> bool
         requires { IsOwned shard.old self.old.job.origin.slot }
-        ensures task { (words : List ℕ) → self.new ≡ task_moved self.old (at_install result (scene_of shard.old words self.old) self.old.stage) }
-        ensures shard { (words : List ℕ) → shard.new ≡ shard_after (at_install result (scene_of shard.old words self.old) self.old.stage) self.old shard.old }
-        ensures safe { (words : List ℕ) → AllSafe (at_install result (scene_of shard.old words self.old) self.old.stage).changes }
+        ensures task { TaskMoves (at_install result) shard.old self.old self.new }
+        ensures shard { ShardMoves (at_install result) shard.old self.old shard.new }
+        ensures safe { (words : List ℕ) →
+            AllSafe (at_install result (scene_of shard.old words self.old) self.old.stage).changes }
     {
         match self.leave() {
             Stage::ToInstall => {
@@ -319,7 +321,8 @@ impl Task {
 
     /// Installs without memory.
     pub fn refuse_install(&mut self)
-        ensures { (slot : Slot) (words : List ℕ) → self.new ≡ task_moved self.old (at_install false (scene_at self.old slot words) self.old.stage) }
+        ensures { (slot : Slot) (words : List ℕ) →
+            self.new ≡ task_moved self.old (at_install false (scene_at self.old slot words) self.old.stage) }
     {
         match self.leave() {
             Stage::ToInstall => self.stage = Stage::unavailable(),

@@ -29,9 +29,9 @@ abbrev pub next : History → Event → Option Emission → History
 next h event emitted = Then h (did event emitted)
 
 -- the job of this number looks at the head words of the slots below n
-abbrev pub looked : ℕ → ℕ → History → History
-looked k zero h = h
-looked k (suc n) h = next (looked k n h) (Peek k n) None
+abbrev pub peeked_below : ℕ → ℕ → History → History
+peeked_below k zero h = h
+peeked_below k (suc n) h = next (peeked_below k n h) (Peek k n) None
 
 -- the events of a job of this number, which is of this slot, that is worked off at once
 abbrev pub worked : Ask → ℕ → ℕ → Bool → ℕ → Option Emission → History → History
@@ -40,7 +40,7 @@ worked (Run request) slot k memory now out h =
 worked (Installs image) slot k memory now out h = next (next (next h (Install k memory) None) (Raise k) None) (Answer k now) out
 worked Removes slot k memory now out h = next (next (next h (Remove k) None) (Raise k) None) (Answer k now) out
 worked Describe slot k memory now out h = next (next h (Receipt k) None) (Answer k now) out
-worked Discover slot k memory now out h = next (looked k 64 h) (Answer k now) out
+worked Discover slot k memory now out h = next (peeked_below k 64 h) (Answer k now) out
 
 -- a job of this number was worked off
 pub record Worked (h : History) (k : ℕ) (ask : Ask) (slot now : ℕ) (new : ServerState) (out : Option Emission) : Type 0 where

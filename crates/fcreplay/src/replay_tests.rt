@@ -2,16 +2,28 @@
 use crate::replay::replay;
 use fc_service::Status;
 use std::alloc::Global;
+use std::io;
+use std::io::Write;
 use std::process::Abort;
 
 // Whether a replay ends in this status, and writes just this to its output and to where faults are told.
 fn replays(alloc: Global, list: &str, status: Status, printed: &str, told: &str) -> bool {
+    replays_bytes(
+        alloc,
+        list.as_bytes(),
+        status,
+        printed.as_bytes(),
+        told.as_bytes(),
+    )
+}
+
+fn replays_bytes(alloc: Global, list: &[u8], status: Status, printed: &[u8], told: &[u8]) -> bool {
     let mut out = Vec::new(alloc);
     let mut err = Vec::new(alloc);
-    let mut input = list.as_bytes();
+    let mut input = list;
     replay(alloc, &mut input, &mut out, &mut err) == status
-        && out.as_slice() == printed.as_bytes()
-        && err.as_slice() == told.as_bytes()
+        && out.as_slice() == printed
+        && err.as_slice() == told
 }
 
 fn check_replayed<R: Abort + AllocGlobal>(rt: &R, list: &str, printed: &str) {
@@ -119,92 +131,38 @@ fn a_post_is_overtaken_by_another(rt: HostRuntime) {
     assert!(rt; list.is_ok_and(|list| replays(rt.alloc(), &list, Status::Done, printed, "")));
 }
 
+// A POST takes eight times, and each time another image is installed before it commits.
+fn eight_overtakings(alloc: Global) -> io::Result<(Vec<u8>, Vec<u8>)> {
+    let mut list = Vec::new(alloc);
+    let mut printed = Vec::new(alloc);
+    let put = "72b1700131ff";
+    writeln!(list, "Deliver now=0 ep=1 data=41032000{put}{COUNT}")?;
+    writeln!(list, "Install job=0 memory=1")?;
+    writeln!(list, "Deliver now=1 ep=1 data=4102200172b1720131")?;
+    writeln!(printed, "none\nnone\nnone")?;
+    for job in 2..10u16 {
+        writeln!(list, "Deliver now=1 ep=1 data=4103{job:04x}{put}{COUNT}")?;
+        writeln!(list, "Take job=1 memory=1\nInstall job={job} memory=1")?;
+        writeln!(list, "Commit job=1 now=2")?;
+        writeln!(printed, "none\nnone\nnone\nnone")?;
+    }
+    writeln!(list, "Take job=1 memory=1\nAnswer job=1 now=3")?;
+    writeln!(printed, "none\n1 61a3200172")?;
+    writeln!(printed, "slot 1 serial 9 version 9 vars 0000000000000000")?;
+    Ok((list, printed))
+}
+
 // A POST that is overtaken for the eighth time is answered 5.03.
 #[test]
 fn the_eighth_overtaking_is_unavailable(rt: HostRuntime) {
-    let image = COUNT;
-    let list = format!(in rt.alloc();
-        "Deliver now=0 ep=1 data=4103200072b1700131ff{image}\n\
-         Install job=0 memory=1\n\
-         Raise job=0\n\
-         Answer job=0 now=0\n\
-         Deliver now=1 ep=1 data=4102200172b1720131\n\
-         Deliver now=1 ep=1 data=4103200272b1700131ff{image}\n\
-         Take job=1 memory=1\n\
-         Install job=2 memory=1\n\
-         Commit job=1 now=2\n\
-         Deliver now=1 ep=1 data=4103200372b1700131ff{image}\n\
-         Take job=1 memory=1\n\
-         Install job=3 memory=1\n\
-         Commit job=1 now=2\n\
-         Deliver now=1 ep=1 data=4103200472b1700131ff{image}\n\
-         Take job=1 memory=1\n\
-         Install job=4 memory=1\n\
-         Commit job=1 now=2\n\
-         Deliver now=1 ep=1 data=4103200572b1700131ff{image}\n\
-         Take job=1 memory=1\n\
-         Install job=5 memory=1\n\
-         Commit job=1 now=2\n\
-         Deliver now=1 ep=1 data=4103200672b1700131ff{image}\n\
-         Take job=1 memory=1\n\
-         Install job=6 memory=1\n\
-         Commit job=1 now=2\n\
-         Deliver now=1 ep=1 data=4103200772b1700131ff{image}\n\
-         Take job=1 memory=1\n\
-         Install job=7 memory=1\n\
-         Commit job=1 now=2\n\
-         Deliver now=1 ep=1 data=4103200872b1700131ff{image}\n\
-         Take job=1 memory=1\n\
-         Install job=8 memory=1\n\
-         Commit job=1 now=2\n\
-         Deliver now=1 ep=1 data=4103200972b1700131ff{image}\n\
-         Take job=1 memory=1\n\
-         Install job=9 memory=1\n\
-         Commit job=1 now=2\n\
-         Take job=1 memory=1\n\
-         Answer job=1 now=3\n"
-    );
-    let printed = "none\n\
-         none\n\
-         none\n\
-         1 6141200072ff76657273696f6e3d3120636f73743d39206275646765743d3920766172733d38\n\
-         none\n\
-         none\n\
-         none\n\
-         none\n\
-         none\n\
-         none\n\
-         none\n\
-         none\n\
-         none\n\
-         none\n\
-         none\n\
-         none\n\
-         none\n\
-         none\n\
-         none\n\
-         none\n\
-         none\n\
-         none\n\
-         none\n\
-         none\n\
-         none\n\
-         none\n\
-         none\n\
-         none\n\
-         none\n\
-         none\n\
-         none\n\
-         none\n\
-         none\n\
-         none\n\
-         none\n\
-         none\n\
-         none\n\
-         none\n\
-         1 61a3200172\n\
-         slot 1 serial 9 version 9 vars 0000000000000000\n";
-    assert!(rt; list.is_ok_and(|list| replays(rt.alloc(), &list, Status::Done, printed, "")));
+    let lists = eight_overtakings(rt.alloc());
+    assert!(rt; lists.is_ok_and(|(list, printed)| replays_bytes(
+        rt.alloc(),
+        &list,
+        Status::Done,
+        &printed,
+        b"",
+    )));
 }
 
 // A version that was taken and then replaced isn't committed to.

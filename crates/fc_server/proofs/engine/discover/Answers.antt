@@ -1,7 +1,7 @@
 use Rattle.std.proofs.Common.{ℕ, suc, length, ◌+◌, ◌≤◌, ◌≡◌, ◌++◌, ◌∷◌, [], true, arith, subst, List}
 use Rattle.fc_core.specs.declared.stage.Task.{Task}
 use Rattle.fc_core.specs.History.{History}
-use Rattle.fc_server.specs.Serving.{Serves, looked}
+use Rattle.fc_server.specs.Serving.{Serves, peeked_below}
 use Rattle.fc_server.proofs.Served.{at_work, peeked_on, answered_on}
 use Rattle.fc_server.proofs.engine.discover.Goals as goal
 
@@ -11,7 +11,7 @@ peek-requires c = at_work c.requires.rest (c.loop-slot.invariant c.requires.hist
 pub loop-slot-preserved : goal.loop-slot-preserved
 loop-slot-preserved c = λ h rest v.
     let next : suc c.loop-slot.slot ≡ c.loop-slot.slot + 1 = omega arith in
-    subst (λ (n : ℕ). Serves (looked (length rest) n h) c.peek.new.self (rest ++ c.peek.new.task ∷ [])) next
+    subst (λ (n : ℕ). Serves (peeked_below (length rest) n h) c.peek.new.self (rest ++ c.peek.new.task ∷ [])) next
     (peeked_on rest (c.loop-slot.invariant h rest v) c.loop-slot.slot (c.peek.ensures (length rest)))
 
 pub respond-requires : goal.respond-requires
@@ -20,5 +20,5 @@ respond-requires c = at_work c.requires.rest (c.loop-slot.invariant c.requires.h
 pub returns : goal.returns
 returns c = λ h rest v.
     let all : c.loop-slot.slot ≡ 64 = omega (arith, c.loop-slot.auto.slot-end, c.loop-slot-test.false) in
-    let seen = subst (λ (n : ℕ). Serves (looked (length rest) n h) c.loop-slot.server (rest ++ c.loop-slot.task ∷ [])) all (c.loop-slot.invariant h rest v) in
+    let seen = subst (λ (n : ℕ). Serves (peeked_below (length rest) n h) c.loop-slot.server (rest ++ c.loop-slot.task ∷ [])) all (c.loop-slot.invariant h rest v) in
     record { memory = true; tasks = rest ++ c.respond.new.task ∷ []; serves = answered_on rest seen c.args.now _ c.respond.ensures }

@@ -1,10 +1,10 @@
 use Rattle.std.proofs.Common.{List, length, ◌∷◌, ◌++◌, []}
 use Rattle.fc_core.specs.History.{History}
 use Rattle.fc_core.specs.declared.stage.Task.{Task}
-use Rattle.fc_server.specs.Serving.{Serves, looked}
+use Rattle.fc_server.specs.Serving.{Serves, peeked_below}
 use Rattle.fc_server.proofs.engine.discover.Given as goal
 
--- whatever the history, the job has looked at the slots below this one
+-- whatever the history, the job has peeked_below at the slots below this one
 abbrev pub invariant-loop-slot : goal.invariant-loop-slot
 invariant-loop-slot l = (h : History) (rest : List Task) → Serves h l.fn.server (rest ++ l.fn.task ∷ [])
-    → Serves (looked (length rest) l.slot h) l.server (rest ++ l.task ∷ [])
+    → Serves (peeked_below (length rest) l.slot h) l.server (rest ++ l.task ∷ [])
