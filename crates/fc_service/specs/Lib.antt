@@ -1,3 +1,4 @@
+pub mod Counting
 pub mod Ending
 pub mod Fields
 pub mod Lines
