@@ -19,6 +19,7 @@
 
 pub mod clock;
 pub mod command_line;
+pub mod fetch;
 pub mod hexadecimal;
 pub mod line;
 pub mod play;
