@@ -14,3 +14,6 @@ pub use part::Part;
 pub use path::{Path, PathError};
 pub use reply::Next;
 pub use udp::Server;
+
+#[cfg(test)]
+mod tests;
