@@ -1,4 +1,6 @@
+pub mod Counting
 pub mod Ending
+pub mod Fetching
 pub mod Fields
 pub mod Lines
 pub mod Playing

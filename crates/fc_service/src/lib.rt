@@ -17,10 +17,16 @@
 //! ```
 #![tactic(auto)]
 
+pub mod clock;
 pub mod command_line;
+pub mod fetch;
 pub mod hexadecimal;
 pub mod line;
 pub mod play;
+pub mod pool;
+pub mod replies;
+pub mod serve;
+pub mod socket;
 pub mod status;
 pub mod tools;
 pub mod workers;

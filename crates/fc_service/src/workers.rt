@@ -1,5 +1,5 @@
 //! Playing lines by workers: the job of a line is worked off by one of them, before the next line is read.
-ghost use Rattle.std.specs.Prelude.{◌≡◌, ◌+◌, ◌≤◌, Option, OnOk};
+ghost use Rattle.std.specs.Prelude.{◌≡◌, ◌≤◌, Option, OnOk};
 ghost use Rattle.std.specs.Io.KnownBytes.{Appends};
 ghost use Rattle.coap_msg.specs.declared.types.Emission.{Emission as Emitted};
 ghost use Rattle.fc_registry.specs.Slots.{last_serial};
@@ -7,18 +7,17 @@ ghost use Rattle.fc_service.specs.Playing.{output_of};
 
 use crate::line::{Line, LineError, parse};
 use crate::play::{Stop, endpoint, print};
+use crate::pool::{Begin, Feeder, Intake, Pool, run_pool};
 use crate::status::{Status, tell};
 use coap_msg::{Emission, Endpoint};
 use fc_core::Delivered;
 use fc_core::front::blank_emission;
 use fc_jobs::{Jobs, Sent};
-use fc_workers::{Bench, Blanks, Gate, Locked, Moments, Wire, Workshop, feed_workers, make_seats};
+use fc_workers::{Moments, Wire};
 use std::alloc::{AllocError, Global};
 use std::io;
 use std::io::{BufRead, Write};
-use std::marker::Brand;
 use std::sync::atomic::{AtomicU64, Ordering};
-use std::sync::ledger::Ledger;
 use std::sync::{Condvar, Mutex, Wait};
 use std::thread::Threads;
 
@@ -31,14 +30,14 @@ struct Work {
 
 // Where the player waits for the worker that has a line's job. The moment is that of the line.
 #[derive(Drop)]
-pub(crate) struct Board {
+struct Board {
     work: Mutex<Work>,
     done: Condvar,
     now: AtomicU64,
 }
 
 impl Board {
-    pub(crate) fn new() -> Board {
+    fn new() -> Board {
         let work = Work {
             busy: false,
             reply: None,
@@ -90,17 +89,6 @@ impl Moments for Board {
     }
 }
 
-// No job is held up.
-#[derive(Drop)]
-pub(crate) struct Open;
-
-impl Gate for Open {
-    fn between<R: Wait>(&self, rt: &R, number: u64) {
-        let _ = rt;
-        let _ = number;
-    }
-}
-
 fn copy(emission: &Emission) -> Emission {
     let mut copy = blank_emission();
     copy.to = emission.to;
@@ -118,17 +106,17 @@ fn print_sent<W: Write>(out: &mut W, emission: &Option<Emission>) -> io::Result<
     }
 }
 
-// What a line needs: the bench, the channel to the workers, and where they are waited for.
+// What a line needs: who takes it in, the channel to the workers, and where they are waited for.
 #[derive(Drop)]
-pub(crate) struct Desk<'a, B: Bench> {
-    pub(crate) bench: &'a B,
-    pub(crate) jobs: &'a Jobs,
-    pub(crate) board: &'a Board,
+struct Desk<'a, N: Intake> {
+    intake: &'a N,
+    jobs: &'a Jobs,
+    board: &'a Board,
 }
 
-impl<'a, B: Bench> Desk<'a, B> {
+impl<'a, N: Intake> Desk<'a, N> {
     // Carries out the lines, each in turn, and prints what each sends.
-    pub(crate) fn play<R: Wait, I: BufRead + Drop, W: Write>(
+    fn play<R: Wait, I: BufRead + Drop, W: Write>(
         &self,
         rt: &R,
         alloc: Global,
@@ -166,7 +154,7 @@ impl<'a, B: Bench> Desk<'a, B> {
     {
         match line {
             Line::Tick { now } => {
-                self.bench.tick(rt, *now);
+                self.intake.tick(rt, *now);
                 Ok(())
             }
             Line::Deliver { now, peer, bytes } => {
@@ -188,7 +176,7 @@ impl<'a, B: Bench> Desk<'a, B> {
         requires { sent.old.channel ≡ self.now.jobs.now }
         ensures { sent.new.channel ≡ sent.old.channel }
     {
-        match self.bench.deliver(rt, now, endpoint, bytes) {
+        match self.intake.deliver(rt, now, endpoint, bytes) {
             Delivered::Nothing | Delivered::Signal { .. } => Ok(None),
             Delivered::Reply(emission) => Ok(Some(emission)),
             Delivered::Job(job) => {
@@ -202,11 +190,36 @@ impl<'a, B: Bench> Desk<'a, B> {
     }
 }
 
-/// The serial that empty slots begin with, and the first message id of the server's own.
-#[derive(Clone, Copy, Debug)]
-pub struct Begin {
-    pub serial: u64,
-    pub id: u16,
+// The lines that a pool's workers play, and where what they send is printed.
+#[derive(Drop)]
+struct Player<'a, I: BufRead + Drop, W: Write> {
+    alloc: Global,
+    input: I,
+    out: &'a mut W,
+    board: &'a Board,
+}
+
+impl<'a, I: BufRead + Drop, W: Write> Feeder<Result<(), Stop>> for Player<'a, I, W> {
+    fn feed<N: Intake, R: Wait>(
+        self,
+        rt: &R,
+        intake: &N,
+        jobs: &Jobs,
+        sent: Sent,
+    ) -> Result<(), Stop> {
+        let Player {
+            alloc,
+            input,
+            out,
+            board,
+        } = self;
+        let desk = Desk {
+            intake,
+            jobs,
+            board,
+        };
+        desk.play(rt, alloc, sent, input, out)
+    }
 }
 
 /// Plays lines as [`play`](crate::play::play) does, and ends as it does, but a line's job is worked off by one of so many
@@ -222,91 +235,35 @@ pub fn play_by_workers<R: Threads + Wait + Sync, I: BufRead + Drop, W: Write, E:
 ) -> Status
     requires { begin.serial ≤ last_serial }
 {
-    let blanks = Blanks::new(u64::from(workers) + 1);
-    let played = play_named::<Brand, Brand, Brand, Brand, Brand, Brand, Brand, Brand, R, I, W>(
-        rt, alloc, input, out, workers, begin, blanks,
-    );
-    match played {
+    match play_in_pool(rt, alloc, input, out, workers, begin) {
         Ok(()) => Status::Done,
         Err(stop) => tell(err, &stop, stop.status()),
     }
 }
 
-// Plays lines, with books of these names.
-fn play_named<
-    L0: Ledger + Send + Sync,
-    L1: Ledger + Send + Sync,
-    L2: Ledger + Send + Sync,
-    L3: Ledger + Send + Sync,
-    L4: Ledger + Send + Sync,
-    L5: Ledger + Send + Sync,
-    L6: Ledger + Send + Sync,
-    L7: Ledger + Send + Sync,
-    R: Threads + Wait + Sync,
-    I: BufRead + Drop,
-    W: Write,
->(
+// Plays lines by the workers of a pool.
+fn play_in_pool<R: Threads + Wait + Sync, I: BufRead + Drop, W: Write>(
     rt: &R,
     alloc: Global,
     input: I,
     out: &mut W,
     workers: u8,
     begin: Begin,
-    blanks: Blanks,
 ) -> Result<(), Stop>
-    requires serial { begin.serial ≤ last_serial }
-    requires parts { blanks.parts ≡ workers + 1 }
-    requires book0 { (blanks.blank0.name ≡ L0.name) × (blanks.parts ≡ L0.parts) }
-    requires book1 { (blanks.blank1.name ≡ L1.name) × (blanks.parts ≡ L1.parts) }
-    requires book2 { (blanks.blank2.name ≡ L2.name) × (blanks.parts ≡ L2.parts) }
-    requires book3 { (blanks.blank3.name ≡ L3.name) × (blanks.parts ≡ L3.parts) }
-    requires book4 { (blanks.blank4.name ≡ L4.name) × (blanks.parts ≡ L4.parts) }
-    requires book5 { (blanks.blank5.name ≡ L5.name) × (blanks.parts ≡ L5.parts) }
-    requires book6 { (blanks.blank6.name ≡ L6.name) × (blanks.parts ≡ L6.parts) }
-    requires book7 { (blanks.blank7.name ≡ L7.name) × (blanks.parts ≡ L7.parts) }
+    requires { begin.serial ≤ last_serial }
 {
-    let (server, mut reserve) = Locked::<L0, L1, L2, L3, L4, L5, L6, L7>::new(
-        alloc,
-        begin.serial,
-        begin.id,
-        blanks,
-    )?;
-    let tallies = reserve.split_each(alloc, usize::from(workers))?;
-    play_at(rt, alloc, &server, tallies, input, out)
-}
-
-// Plays lines at a bench, with a worker for each of the tallies.
-fn play_at<B: Bench + Sync, R: Threads + Wait + Sync, I: BufRead + Drop, W: Write>(
-    rt: &R,
-    alloc: Global,
-    bench: &B,
-    tallies: Vec<B::Tallies>,
-    input: I,
-    out: &mut W,
-) -> Result<(), Stop> {
-    let (jobs, sent, seats) = make_seats(alloc, tallies)?;
     let board = Board::new();
-    let workshop = Workshop {
-        alloc,
-        bench,
-        gate: &Open,
+    let pool = Pool {
+        workers,
+        begin,
         wire: &board,
         moments: &board,
     };
-    let desk = Desk {
-        bench,
-        jobs: &jobs,
+    let player = Player {
+        alloc,
+        input,
+        out,
         board: &board,
     };
-    let (played, shares) = feed_workers(
-        rt,
-        &workshop,
-        &jobs,
-        seats,
-        move || -> Result<(), Stop>
-            requires { sent.channel ≡ desk.jobs.now }
-        { desk.play(rt, alloc, sent, input, out) },
-    );
-    let _shares = shares?;
-    played
+    run_pool(rt, alloc, &pool, player)?.given
 }

@@ -1,0 +1,109 @@
+-- A path is cut in one way, so what its cuts don't say it doesn't say.
+use Rattle.std.proofs.Common.{◌≡◌, ◌≢◌, ℕ, ◌<◌, ◌≤◌, List, [], ◌∷◌, ◌++◌, length, refl, sym, ◌∙◌, ap, subst, arith}
+use Rattle.std.proofs.lemmas.List.{append_assoc, append-nil, map_push}
+use Rattle.std.specs.List.{All}
+use Rattle.std.proofs.lemmas.List.Elements.{All-head, All-tail, All-nil, All-cons, All-append}
+use Rattle.std.specs.Prelude.{◌==◌, false}
+use Rattle.std.specs.Borrow.{Bor}
+use Rattle.coap_client.specs.Paths.{segments_in, slash, IsSegment, path_text, IsPath, IsNoPath, IsRest, IsFirstSegment, HasNoSlash}
+
+abbrev pub IsUnsplit : List ℕ → Type 0
+IsUnsplit s = All (λ b. b ≢ slash) s
+
+-- a path is these segments and others, which the rest writes
+pub record IsLeft (whole done : List (List ℕ)) (rest : List ℕ) : Type 0 where
+  pub left : List (List ℕ)
+  pub whole_is : whole ≡ done ++ left
+  pub rest_is : IsPath rest left
+
+-- the text begins with these segments, each behind a slash, and each path that it writes begins with them
+pub record IsCutTo (text : List ℕ) (done : List (List ℕ)) (rest : List ℕ) : Type 0 where
+  pub text_is : text ≡ path_text done ++ rest
+  pub are : All IsSegment done
+  pub only : (whole : List (List ℕ)) → IsPath text whole → IsLeft whole done rest
+
+pub uncut : (text : List ℕ) → IsCutTo text [] text
+uncut text = record { text_is = refl; are = All-nil IsSegment; only = λ whole p. record { left = whole; whole_is = refl; rest_is = p } }
+
+-- the same text, cut before its first slash
+pub record AreSame (a b a' b' : List ℕ) : Type 0 where
+  pub first : a' ≡ a
+  pub rest : b' ≡ b
+
+cut_once : (a b a' b' : List ℕ) → IsUnsplit a → IsUnsplit a' → IsRest b → IsRest b' → a ++ b ≡ a' ++ b' → AreSame a b a' b'
+cut_once [] b [] b' u u' r r' e = record { first = refl; rest = sym e }
+cut_once [] b (x ∷ a') b' u u' r r' e = absurd (All-head (λ y. y ≢ slash) x a' u' (subst IsRest e r))
+cut_once (x ∷ a) b [] b' u u' r r' e = absurd (All-head (λ y. y ≢ slash) x a u (subst IsRest (sym e) r'))
+cut_once (x ∷ a) b (y ∷ a') b' u u' r r' e =
+    let same = cut_once a b a' b' (All-tail (λ y. y ≢ slash) x a u) (All-tail (λ y. y ≢ slash) y a' u') r r' (cc e) in
+    let head : y ≡ x = cc e in
+    record { first = cc (head, same.first); rest = same.rest }
+
+path_is_rest : (segments : List (List ℕ)) → IsRest (path_text segments)
+path_is_rest [] = tt
+path_is_rest (s ∷ segments) = refl
+
+-- what a text behind a slash says, where it is cut before its next slash
+pub record IsBehind (segment next : List ℕ) (left : List (List ℕ)) : Type 0 where
+  pub others : List (List ℕ)
+  pub left_is : left ≡ segment ∷ others
+  pub own : IsSegment segment
+  pub next_is : IsPath next others
+
+behind : (after segment next : List ℕ) (left : List (List ℕ)) → IsFirstSegment after segment next → IsPath (slash ∷ after) left → IsBehind segment next left
+behind after segment next [] f p = let e : slash ∷ after ≡ [] = p.text_is in absurd (cc e)
+behind after segment next (s ∷ others) f p =
+    let own = All-head IsSegment s others p.are in
+    let same = cut_once segment next s (path_text others) f.unsplit own.unsplit f.rest_is (path_is_rest others) (cc (f.text_is, p.text_is)) in
+    record {
+      others = others;
+      left_is = cc same.first;
+      own = subst IsSegment same.first own;
+      next_is = record { text_is = sym same.rest; are = All-tail IsSegment s others p.are };
+    }
+
+text_of_one_more : (done : List (List ℕ)) (segment next : List ℕ) → path_text (done ++ segment ∷ []) ++ next ≡ path_text done ++ (slash ∷ (segment ++ next))
+text_of_one_more [] segment next = cc (append_assoc segment [] next)
+text_of_one_more (s ∷ done) segment next =
+    cc (append_assoc s (path_text (done ++ segment ∷ [])) next, append_assoc s (path_text done) (slash ∷ (segment ++ next)), text_of_one_more done segment next)
+
+-- one segment more
+pub cut_more : (text : List ℕ) (done : List (List ℕ)) (rest after segment next : List ℕ) (more : List (List ℕ)) → IsCutTo text done rest → rest ≡ slash ∷ after →
+    IsFirstSegment after segment next → IsSegment segment → more ≡ done ++ segment ∷ [] → IsCutTo text more next
+cut_more text done rest after segment next more c e f own m = subst (λ d. IsCutTo text d next) (sym m) (record {
+  text_is = c.text_is ∙ cc (text_of_one_more done segment next, f.text_is, e);
+  are = All-append IsSegment done (segment ∷ []) c.are (All-cons IsSegment segment [] own (All-nil IsSegment));
+  only = λ whole p.
+      let l = c.only whole p in
+      let b = behind after segment next l.left f (subst (λ r. IsPath r l.left) e l.rest_is) in
+      record { left = b.others; whole_is = l.whole_is ∙ cc (b.left_is, append_assoc done (segment ∷ []) b.others); rest_is = b.next_is };
+})
+
+-- a segment that is none, and no path
+pub no_segment : (text : List ℕ) (done : List (List ℕ)) (rest after segment next : List ℕ) → IsCutTo text done rest → rest ≡ slash ∷ after →
+    IsFirstSegment after segment next → (IsSegment segment → ⊥) → IsNoPath text
+no_segment text done rest after segment next c e f none = record {
+  none = λ whole p.
+      let l = c.only whole p in
+      none (behind after segment next l.left f (subst (λ r. IsPath r l.left) e l.rest_is)).own;
+}
+
+-- nothing is left
+pub whole_path : (text : List ℕ) (done : List (List ℕ)) (rest : List ℕ) → IsCutTo text done rest → rest ≡ [] → IsPath text done
+whole_path text done rest c e = record { text_is = c.text_is ∙ (ap (λ r. path_text done ++ r) e ∙ append-nil (path_text done)); are = c.are }
+
+no_slash : (rest : List ℕ) (left : List (List ℕ)) → (rest ≡ [] → ⊥) → HasNoSlash rest → IsPath rest left → ⊥
+no_slash rest [] some none p = some p.text_is
+no_slash rest (s ∷ left) some none p = none.none (s ++ path_text left) p.text_is
+
+-- what is left begins with no slash
+pub no_path : (text : List ℕ) (done : List (List ℕ)) (rest : List ℕ) → IsCutTo text done rest → (rest ≡ [] → ⊥) → HasNoSlash rest → IsNoPath text
+no_path text done rest c some none = record { none = λ whole p. let l = c.only whole p in no_slash rest l.left some none l.rest_is }
+
+pub not_nil : (xs : List ℕ) → false ≡ (length xs == 0) → xs ≡ [] → ⊥
+not_nil [] e n = cc e
+not_nil (x ∷ xs) e n = cc n
+
+-- a segment is pushed
+pub pushed : (old new : List (Bor (List ℕ))) (s : Bor (List ℕ)) → new ≡ old ++ s ∷ [] → segments_in new ≡ segments_in old ++ s.now ∷ []
+pushed old new s e = ap segments_in e ∙ map_push (λ x. x.now) old s

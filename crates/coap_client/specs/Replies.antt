@@ -1,0 +1,77 @@
+-- Which datagrams answer a request, and what an answer says of the next one.
+use Rattle.std.specs.Prelude.{◌≡◌, ℕ, ◌+◌, ◌*◌, ◌/◌, ◌%◌, ◌<◌, ◌≤◌, ◌==◌, ◌&&◌, ◌||◌, Bool, true, false, nat_lt, nat_le, not, if◌then◌else◌, List, [], ◌∷◌, length, Option, Some, None, Ok}
+use Rattle.coap_msg.specs.Wire.{Message}
+use Rattle.coap_msg.specs.Reading.{reading_of}
+use Rattle.coap_msg.specs.Values.{values_in}
+use Rattle.coap_msg.specs.declared.code.TheConstants.Code as registered
+use Rattle.coap_msg.specs.declared.types.MessageType.TheVariants.{Acknowledgement, Reset}
+use Rattle.coap_opts.specs.Values.{uint_value}
+use Rattle.coap_opts.specs.declared.number.TheConstants as option
+use Rattle.coap_client.specs.declared.part.Part.{Part}
+use Rattle.coap_client.specs.declared.part.Part.TheVariants.{Whole, Body, Answer}
+use Rattle.coap_client.specs.declared.reply.Next.{Next}
+use Rattle.coap_client.specs.declared.reply.Next.TheVariants.{Ask, Last, Refused, Misfit}
+use Rattle.coap_client.specs.Parts.{block_size, block_szx, has_more}
+
+-- a piggybacked response to the request of this id, which had no token (RFC 7252, 5.2.1)
+pub record IsReply (id : ℕ) (m : Message) : Type 0 where
+  pub kind : m.kind ≡ Acknowledgement
+  pub id_is : m.id ≡ id
+  pub token : m.token ≡ []
+  pub response : 64 ≤ m.code
+
+-- the request of this id is rejected (RFC 7252, 4.2)
+pub record IsReset (id : ℕ) (m : Message) : Type 0 where
+  pub kind : m.kind ≡ Reset
+  pub id_is : m.id ≡ id
+
+-- the class of success (RFC 7252, 5.9.1)
+abbrev pub is_success : ℕ → Bool
+is_success code = code / 32 == 2
+
+abbrev pub first_or_none : List (List ℕ) → Option (List ℕ)
+first_or_none [] = None
+first_or_none (v ∷ vs) = Some v
+
+-- the value of Block2 (RFC 7959, 2.1)
+abbrev pub block2_of : Message → Option (List ℕ)
+block2_of m = first_or_none (values_in option.BLOCK2 m.options)
+
+abbrev pub or_empty : Option (List ℕ) → List ℕ
+or_empty None = []
+or_empty (Some v) = v
+
+-- the ETag, or no byte
+abbrev pub etag_of : Message → List ℕ
+etag_of m = or_empty (first_or_none (values_in option.ETAG m.options))
+
+-- after a block of the answer that has others behind it
+abbrev pub next_block : ℕ → Next
+next_block n = if nat_lt (n + 1) 1048576 then Ask (Answer (n + 1)) else Misfit
+
+-- the answer to what asked for block n, of so many bytes: block n, of the size that was asked for where others are behind it
+abbrev pub by_more : Bool → Bool → ℕ → ℕ → Next
+by_more true sized n count = if sized && (count == block_size) then next_block n else Misfit
+by_more false sized n count = if sized || (n == 0) then Last else Misfit
+
+abbrev pub by_block : ℕ → ℕ → ℕ → Next
+by_block n count value = if value / 16 == n then by_more ((value / 8) % 2 == 1) (value % 8 == block_szx) n count else Misfit
+
+-- without Block2 an answer is whole
+abbrev pub by_option : ℕ → ℕ → Option (List ℕ) → Next
+by_option n count None = if n == 0 then Last else Misfit
+by_option n count (Some value) = if nat_le (length value) 3 then by_block n count (uint_value value) else Misfit
+
+abbrev pub answer_at : ℕ → Message → Next
+answer_at n m = by_option n (length m.payload) (block2_of m)
+
+-- a block of the body that has others behind it is answered 2.31, and each other code ends the fetch (RFC 7959, 2.9.1)
+abbrev pub by_part : ℕ → Part → Message → Next
+by_part count Whole m = answer_at 0 m
+by_part count (Answer n) m = answer_at n m
+by_part count (Body n) m =
+    if has_more count n then (if m.code == registered.CONTINUE.byte then Ask (Body (n + 1)) else Last) else answer_at 0 m
+
+-- what comes after the answer to a part, where the body has so many bytes
+abbrev pub next_of : ℕ → Part → Message → Next
+next_of count part m = if is_success m.code then by_part count part m else Refused

@@ -1,0 +1,33 @@
+-- Replies that are counted, and the text that tells them.
+use Rattle.std.specs.Prelude.{ℕ, ◌+◌, ◌++◌, Bool, true, false, Option, Some, None, List, sum_by, codes}
+use Rattle.std.specs.Fmt.{decimal}
+use Rattle.fc_workers.specs.Answers.{saturated}
+use Rattle.fc_workers.specs.declared.share.Share.{Share}
+use Rattle.fc_service.specs.declared.replies.Replies.{Replies}
+
+abbrev pub no_replies : Replies
+no_replies = record { sent = 0; failed = 0 }
+
+-- replies of both; each count stops at its greatest
+abbrev pub total : Replies → Replies → Replies
+total a b = record { sent = saturated (a.sent + b.sent); failed = saturated (a.failed + b.failed) }
+
+-- one reply more, where there was one: it went out, or it didn't
+abbrev pub counted : Option Bool → Replies → Replies
+counted None r = r
+counted (Some true) r = record r { sent = saturated (r.sent + 1) }
+counted (Some false) r = record r { failed = saturated (r.failed + 1) }
+
+abbrev pub sent_by : {T : Type 0} → Share T → ℕ
+sent_by share = share.sent
+
+abbrev pub failed_by : {T : Type 0} → Share T → ℕ
+failed_by share = share.failed
+
+-- what the workers of these shares have sent, and what they failed to send
+abbrev pub replies_of : {T : Type 0} → List (Share T) → Replies
+replies_of shares = record { sent = saturated (sum_by sent_by shares); failed = saturated (sum_by failed_by shares) }
+
+-- as in `sent 2 failed 0`
+abbrev pub replies_text : Replies → List ℕ
+replies_text r = codes "sent " ++ (decimal r.sent ++ (codes " failed " ++ decimal r.failed))

@@ -1,0 +1,71 @@
+//! Replies, counted: those that went out, and those that didn't.
+ghost use Rattle.std.specs.Prelude.{◌≡◌};
+ghost use Rattle.fc_service.specs.Counting.{counted, no_replies, replies_of, total};
+
+use fc_workers::Share;
+use std::fmt;
+
+/// How many replies went out, and how many didn't. Each count stops at 2^64 - 1.
+#[derive(Clone, Copy, Debug, PartialEq, Eq)]
+pub struct Replies {
+    pub sent: u64,
+    pub failed: u64,
+}
+
+impl Replies {
+    /// None yet.
+    pub fn none() -> Replies
+        ensures { result ≡ no_replies }
+    {
+        Replies { sent: 0, failed: 0 }
+    }
+
+    /// The replies of these workers.
+    pub fn of<T: Drop>(shares: &[Share<T>]) -> Replies
+        ensures { result ≡ replies_of shares.now }
+    {
+        let mut replies = Replies::none();
+        for share in shares {
+            replies = replies.plus(Replies {
+                sent: share.sent,
+                failed: share.failed,
+            });
+        }
+        replies
+    }
+
+    /// These replies, and others.
+    pub fn plus(self, others: Replies) -> Replies
+        ensures { result ≡ total self others }
+    {
+        Replies {
+            sent: self.sent.saturating_add(others.sent),
+            failed: self.failed.saturating_add(others.failed),
+        }
+    }
+
+    /// Counts a reply, where there was one: it went out, or it didn't.
+    pub fn count_if_any(&mut self, out: Option<bool>)
+        ensures { self.new ≡ counted out self.old }
+    {
+        match out {
+            Some(true) => self.sent = self.sent.saturating_add(1),
+            Some(false) => self.failed = self.failed.saturating_add(1),
+            None => {}
+        }
+    }
+}
+
+/// They are written as in `sent 2 failed 0`.
+impl fmt::Display for Replies {
+    ghost use Rattle.std.specs.Prelude.{Some};
+    ghost use Rattle.fc_service.specs.Counting.{replies_text};
+
+    ghost output = { λ r. Some (replies_text r) };
+
+    fn fmt<W: fmt::Write>(&self, f: &mut fmt::Formatter<W>) -> fmt::Result {
+        let sent = self.sent;
+        let failed = self.failed;
+        write!(f, "sent {sent} failed {failed}")
+    }
+}

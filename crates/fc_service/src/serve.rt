@@ -1,0 +1,176 @@
+//! A server on a socket: datagrams are received on one thread, and their jobs are worked off by others.
+ghost use Rattle.std.specs.Prelude.{◌≡◌, ◌⊎◌};
+ghost use Rattle.fc_service.specs.declared.status.Status.TheVariants.{Done, Failed};
+
+use crate::clock::{Elapsed, clock_id};
+use crate::pool::{Begin, Feeder, Intake, Pool, run_pool};
+use crate::replies::Replies;
+use crate::socket::{Replying, Sink, Source, open};
+use crate::status::{Status, tell};
+use coap_msg::Endpoint;
+use coap_msg::types::DATAGRAM;
+use fc_core::Delivered;
+use fc_jobs::{Jobs, Sent};
+use fc_workers::Moments;
+use log::{Log, info};
+use std::alloc::{AllocError, Global};
+use std::io;
+use std::io::Write;
+use std::net::Net;
+use std::sync::Wait;
+use std::thread::Threads;
+use std::time::Clock;
+use thiserror::Error;
+
+/// The serial that empty slots begin with.
+const FIRST_SERIAL: u64 = 0;
+
+/// One byte more than a datagram may have: a longer one is seen to be too long, and ignored.
+const BUFFER: usize = DATAGRAM + 1;
+
+/// By how many workers a server works jobs off, 1 to 16, and after how many datagrams it ends; 0 is never.
+#[derive(Clone, Copy, Debug)]
+pub struct Extent {
+    pub workers: u8,
+    pub limit: u32,
+}
+
+// Why a server doesn't start.
+#[derive(Debug, Drop, Error)]
+enum Stop {
+    #[error("UDP port {0}: {1}")]
+    Socket(u16, io::Error),
+    #[error("clock: {0}")]
+    Clock(io::Error),
+    #[error("{0}")]
+    Memory(#[from] AllocError),
+}
+
+/// Serves on UDP at 127.0.0.1 and this port, as [`serve_at`] does. It fails, and `err` is told why, where the socket can't be
+/// had as well.
+pub fn serve<R: Threads + Wait + Clock + Net + Sync, L: Log, E: Write>(
+    rt: &R,
+    alloc: Global,
+    log: &L,
+    err: &mut E,
+    port: u16,
+    extent: Extent,
+) -> Status
+    ensures { (result ≡ Done) ⊎ (result ≡ Failed) }
+{
+    match open(rt, port) {
+        Ok(socket) => serve_at(rt, alloc, log, err, &socket, &socket, extent),
+        Err(error) => tell(err, &Stop::Socket(port, error), Status::Failed),
+    }
+}
+
+/// Serves datagrams of a source, on a new server of empty slots, until so many were received: one that needs no job is answered
+/// at once, and the jobs of others are worked off by workers, each in a thread of its own. Where none comes in time, time
+/// passes. Then the workers work off the jobs that are left, and `log` is told how many replies went to the sink and how many
+/// couldn't be sent: a record `sent 2 failed 0` of level info.
+///
+/// It fails, and `err` is told why, where the clock couldn't be read or there was no memory at the start.
+pub fn serve_at<R: Threads + Wait + Clock + Sync, S: Source, K: Sink + Sync, L: Log, E: Write>(
+    rt: &R,
+    alloc: Global,
+    log: &L,
+    err: &mut E,
+    source: &S,
+    sink: &K,
+    extent: Extent,
+) -> Status
+    ensures { (result ≡ Done) ⊎ (result ≡ Failed) }
+{
+    match serve_to_end(rt, alloc, source, sink, extent) {
+        Ok(replies) => {
+            info!(log; "{replies}");
+            Status::Done
+        }
+        Err(stop) => tell(err, &stop, Status::Failed),
+    }
+}
+
+// Serves to the end: all replies.
+fn serve_to_end<R: Threads + Wait + Clock + Sync, S: Source, K: Sink + Sync>(
+    rt: &R,
+    alloc: Global,
+    source: &S,
+    sink: &K,
+    extent: Extent,
+) -> Result<Replies, Stop> {
+    let moments = Elapsed::start(rt).map_err(Stop::Clock)?;
+    let pool = Pool {
+        workers: extent.workers,
+        begin: Begin {
+            serial: FIRST_SERIAL,
+            id: clock_id(rt),
+        },
+        wire: &Replying { sink },
+        moments: &moments,
+    };
+    let receiver = Receiver {
+        source,
+        sink,
+        moments: &moments,
+        limit: extent.limit,
+    };
+    let fed = run_pool(rt, alloc, &pool, receiver)?;
+    Ok(fed.given.plus(fed.replies))
+}
+
+// Who receives datagrams, up to a limit, and sends what needs no job.
+#[derive(Drop)]
+struct Receiver<'a, S: Source, K: Sink, M: Moments> {
+    source: &'a S,
+    sink: &'a K,
+    moments: &'a M,
+    limit: u32,
+}
+
+impl<'a, S: Source, K: Sink, M: Moments> Feeder<Replies> for Receiver<'a, S, K, M> {
+    fn feed<N: Intake, R: Wait>(self, rt: &R, intake: &N, jobs: &Jobs, mut sent: Sent) -> Replies {
+        let mut buffer = [0; BUFFER];
+        let mut replies = Replies::none();
+        let mut received = 0u32;
+        for _ in rt.forever() {
+            if self.limit > 0 && received >= self.limit {
+                break;
+            }
+            match self.source.receive(&mut buffer) {
+                Some((count, from)) => {
+                    received = received.saturating_add(1);
+                    let bytes = &buffer[..count];
+                    let out = self.hear(rt, intake, jobs, &mut sent, from, bytes);
+                    replies.count_if_any(out);
+                }
+                None => intake.tick(rt, self.moments.now(rt)),
+            }
+        }
+        replies
+    }
+}
+
+impl<'a, S: Source, K: Sink, M: Moments> Receiver<'a, S, K, M> {
+    // Has a datagram taken in. Sends its reply, and tells whether that went out; or sends its job to the workers.
+    fn hear<N: Intake, R: Wait>(
+        &self,
+        rt: &R,
+        intake: &N,
+        jobs: &Jobs,
+        sent: &mut Sent,
+        from: Endpoint,
+        bytes: &[u8],
+    ) -> Option<bool>
+        requires { sent.old.channel ≡ jobs.now }
+        ensures { sent.new.channel ≡ sent.old.channel }
+    {
+        match intake.deliver(rt, self.moments.now(rt), from, bytes) {
+            Delivered::Reply(emission) => Some(self.sink.send(&emission)),
+            Delivered::Job(job) => {
+                let _back = jobs.send(rt, job, sent);
+                None
+            }
+            Delivered::Nothing | Delivered::Signal { .. } => None,
+        }
+    }
+}

@@ -1,0 +1,83 @@
+//! Where a server's datagrams come from and go: a socket, or what a test puts in its place.
+ghost use Rattle.std.specs.Prelude.{◌≤◌, IfSome, length};
+
+use coap_msg::{Emission, Endpoint};
+use fc_workers::Wire;
+use std::io;
+use std::net::{Ipv4Addr, Net, SocketAddr, SocketAddrV4, UdpSocket};
+use std::sync::Wait;
+use std::time::Duration;
+
+/// How long a server waits for a datagram, in milliseconds, before time passes without one.
+const RECEIVE_WAIT: u64 = 100;
+
+/// Where datagrams come from.
+pub trait Source {
+    /// Waits a while for a datagram: how many bytes at the start of the buffer it is, and who sent it. What doesn't fit the
+    /// buffer is lost. `None` where nothing came in time, or it couldn't be received.
+    fn receive(&self, buffer: &mut [u8]) -> Option<(usize, Endpoint)>
+        ensures { IfSome result (λ r. r.0 ≤ length buffer.new) };
+}
+
+/// Where datagrams go.
+pub trait Sink {
+    /// Sends a datagram. Tells whether it went out.
+    fn send(&self, emission: &Emission) -> bool;
+}
+
+impl Source for UdpSocket {
+    fn receive(&self, buffer: &mut [u8]) -> Option<(usize, Endpoint)> {
+        match self.recv_from(buffer) {
+            Ok((count, SocketAddr::V4(from))) => Some((count, endpoint_of(&from))),
+            Ok((_, SocketAddr::V6(_))) | Err(_) => None,
+        }
+    }
+}
+
+impl Sink for UdpSocket {
+    fn send(&self, emission: &Emission) -> bool {
+        let to = address_of(emission.to);
+        self.send_to(emission.bytes.as_slice(), to).is_ok()
+    }
+}
+
+/// A UDP socket of this host alone, 127.0.0.1, at a port, or at one that is free for port 0. A receive waits 100 ms.
+///
+/// # Errors
+/// The port is taken or may not be had, or there is no socket.
+pub fn open<R: Net>(rt: &R, port: u16) -> io::Result<UdpSocket> {
+    let socket = UdpSocket::bind(rt, SocketAddrV4::new(Ipv4Addr::LOCALHOST, port))?;
+    socket.set_read_timeout(Some(Duration::from_millis(RECEIVE_WAIT)))?;
+    Ok(socket)
+}
+
+fn endpoint_of(address: &SocketAddrV4) -> Endpoint {
+    Endpoint {
+        ip: address.ip().octets(),
+        port: address.port(),
+    }
+}
+
+fn address_of(endpoint: Endpoint) -> SocketAddrV4 {
+    let [a, b, c, d] = endpoint.ip;
+    SocketAddrV4::new(Ipv4Addr::new(a, b, c, d), endpoint.port)
+}
+
+// Where the workers' replies go. Nobody waits for a job.
+#[derive(Drop)]
+pub(crate) struct Replying<'a, K: Sink> {
+    pub(crate) sink: &'a K,
+}
+
+impl<'a, K: Sink> Wire for Replying<'a, K> {
+    fn send<R: Wait>(&self, rt: &R, number: u64, emission: &Emission) -> bool {
+        let _ = rt;
+        let _ = number;
+        self.sink.send(emission)
+    }
+
+    fn ended<R: Wait>(&self, rt: &R, number: u64) {
+        let _ = rt;
+        let _ = number;
+    }
+}
