@@ -15,16 +15,16 @@ use Rattle.coap_client.specs.declared.errand.Errand.{Errand}
 use Rattle.coap_client.specs.declared.part.Part.{Part}
 use Rattle.coap_client.specs.declared.part.Part.TheVariants.{Whole, Body, Answer}
 use Rattle.coap_client.specs.Paths.{IsSegment, segments_in}
-use Rattle.coap_client.specs.Parts.{answer_payload, code_of, most_at_once, part_options, part_payload, path_options, room_of}
+use Rattle.coap_client.specs.Parts.{answer_payload, method_code, most_at_once, part_options, part_payload, path_options, option_room}
 use Rattle.coap_client.specs.Requests.{IsPartOf}
 
 -- a path's options before others that take 13 bytes at most
 pub path_size : (before : ℕ) (segments : List (List ℕ)) (rest : List (ℕ × List ℕ)) → ((b : ℕ) → length (options_bytes b rest) ≤ 13) →
-    length (options_bytes before (path_options segments ++ rest)) ≤ sum_by room_of segments + 13
+    length (options_bytes before (path_options segments ++ rest)) ≤ sum_by option_room segments + 13
 path_size before [] rest h = h before
 path_size before (s ∷ segments) rest h =
     let value = extension (URI_PATH - before) ++ (extension (length s) ++ s) in
-    omega (arith, option_size (URI_PATH - before) s, path_size URI_PATH segments rest h, length-append value (options_bytes URI_PATH (path_options segments ++ rest)), sum_by-cons room_of s segments)
+    omega (arith, option_size (URI_PATH - before) s, path_size URI_PATH segments rest h, length-append value (options_bytes URI_PATH (path_options segments ++ rest)), sum_by-cons option_room s segments)
 
 pub path_are : (before : ℕ) (segments : List (List ℕ)) (rest : List (ℕ × List ℕ)) → before ≤ 11 → All IsSegment segments → ((b : ℕ) → b ≤ 11 → AreOptions b rest) →
     AreOptions before (path_options segments ++ rest)
@@ -51,7 +51,7 @@ part_are Whole count b at = tt
 part_are (Body n) count b at = one_are b 27 _ at (omega arith) (omega arith) (uint_short _)
 part_are (Answer n) count b at = one_are b 23 _ at (omega arith) (omega arith) (uint_short _)
 
-code_bounds : (method : Method) → (0 < code_of method) × (code_of method < 256)
+code_bounds : (method : Method) → (0 < method_code method) × (method_code method < 256)
 code_bounds Get = (omega arith, omega arith)
 code_bounds Post = (omega arith, omega arith)
 code_bounds Put = (omega arith, omega arith)
@@ -70,7 +70,7 @@ payload_size e (Body n) own = rw own.0 (omega (arith, length-take 1024 (drop (10
 payload_size e (Answer n) own = answer_size e.method e.payload.now
 
 -- the request of a part fits a datagram
-pub request_fits : (e : Errand) (part : Part) (id code : ℕ) (options : List (ℕ × List ℕ)) (payload : List ℕ) → id < 65536 → IsPartOf e part → code ≡ code_of e.method →
+pub request_fits : (e : Errand) (part : Part) (id code : ℕ) (options : List (ℕ × List ℕ)) (payload : List ℕ) → id < 65536 → IsPartOf e part → code ≡ method_code e.method →
     options ≡ path_options (segments_in e.path.segments.items) ++ part_options part (length e.payload.now) → payload ≡ part_payload e.method e.payload.now part →
     IsMessage (record { kind = Confirmable; code = code; id = id; token = []; options = options; payload = payload })
 request_fits e part id code options payload below own c o p =

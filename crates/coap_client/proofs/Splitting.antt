@@ -5,7 +5,7 @@ use Rattle.std.specs.List.{All}
 use Rattle.std.proofs.lemmas.List.Elements.{All-head, All-tail, All-nil, All-cons, All-append}
 use Rattle.std.specs.Prelude.{◌==◌, false}
 use Rattle.std.specs.Borrow.{Bor}
-use Rattle.coap_client.specs.Paths.{segments_in, slash, IsSegment, path_text, IsPath, IsNoPath, IsRest, IsFirstSegment, HasNoSlash}
+use Rattle.coap_client.specs.Paths.{segments_in, slash, IsSegment, path_text, IsSlashed, IsNoPath, IsRest, IsFirstSegment, HasNoSlash}
 
 abbrev pub IsUnsplit : List ℕ → Type 0
 IsUnsplit s = All (λ b. b ≢ slash) s
@@ -14,13 +14,13 @@ IsUnsplit s = All (λ b. b ≢ slash) s
 pub record IsLeft (whole done : List (List ℕ)) (rest : List ℕ) : Type 0 where
   pub left : List (List ℕ)
   pub whole_is : whole ≡ done ++ left
-  pub rest_is : IsPath rest left
+  pub rest_is : IsSlashed rest left
 
 -- the text begins with these segments, each behind a slash, and each path that it writes begins with them
 pub record IsCutTo (text : List ℕ) (done : List (List ℕ)) (rest : List ℕ) : Type 0 where
   pub text_is : text ≡ path_text done ++ rest
   pub are : All IsSegment done
-  pub only : (whole : List (List ℕ)) → IsPath text whole → IsLeft whole done rest
+  pub only : (whole : List (List ℕ)) → IsSlashed text whole → IsLeft whole done rest
 
 pub uncut : (text : List ℕ) → IsCutTo text [] text
 uncut text = record { text_is = refl; are = All-nil IsSegment; only = λ whole p. record { left = whole; whole_is = refl; rest_is = p } }
@@ -48,9 +48,9 @@ pub record IsBehind (segment next : List ℕ) (left : List (List ℕ)) : Type 0 
   pub others : List (List ℕ)
   pub left_is : left ≡ segment ∷ others
   pub own : IsSegment segment
-  pub next_is : IsPath next others
+  pub next_is : IsSlashed next others
 
-behind : (after segment next : List ℕ) (left : List (List ℕ)) → IsFirstSegment after segment next → IsPath (slash ∷ after) left → IsBehind segment next left
+behind : (after segment next : List ℕ) (left : List (List ℕ)) → IsFirstSegment after segment next → IsSlashed (slash ∷ after) left → IsBehind segment next left
 behind after segment next [] f p = let e : slash ∷ after ≡ [] = p.text_is in absurd (cc e)
 behind after segment next (s ∷ others) f p =
     let own = All-head IsSegment s others p.are in
@@ -75,7 +75,7 @@ cut_more text done rest after segment next more c e f own m = subst (λ d. IsCut
   are = All-append IsSegment done (segment ∷ []) c.are (All-cons IsSegment segment [] own (All-nil IsSegment));
   only = λ whole p.
       let l = c.only whole p in
-      let b = behind after segment next l.left f (subst (λ r. IsPath r l.left) e l.rest_is) in
+      let b = behind after segment next l.left f (subst (λ r. IsSlashed r l.left) e l.rest_is) in
       record { left = b.others; whole_is = l.whole_is ∙ cc (b.left_is, append_assoc done (segment ∷ []) b.others); rest_is = b.next_is };
 })
 
@@ -85,14 +85,14 @@ pub no_segment : (text : List ℕ) (done : List (List ℕ)) (rest after segment 
 no_segment text done rest after segment next c e f none = record {
   none = λ whole p.
       let l = c.only whole p in
-      none (behind after segment next l.left f (subst (λ r. IsPath r l.left) e l.rest_is)).own;
+      none (behind after segment next l.left f (subst (λ r. IsSlashed r l.left) e l.rest_is)).own;
 }
 
 -- nothing is left
-pub whole_path : (text : List ℕ) (done : List (List ℕ)) (rest : List ℕ) → IsCutTo text done rest → rest ≡ [] → IsPath text done
+pub whole_path : (text : List ℕ) (done : List (List ℕ)) (rest : List ℕ) → IsCutTo text done rest → rest ≡ [] → IsSlashed text done
 whole_path text done rest c e = record { text_is = c.text_is ∙ (ap (λ r. path_text done ++ r) e ∙ append-nil (path_text done)); are = c.are }
 
-no_slash : (rest : List ℕ) (left : List (List ℕ)) → (rest ≡ [] → ⊥) → HasNoSlash rest → IsPath rest left → ⊥
+no_slash : (rest : List ℕ) (left : List (List ℕ)) → (rest ≡ [] → ⊥) → HasNoSlash rest → IsSlashed rest left → ⊥
 no_slash rest [] some none p = some p.text_is
 no_slash rest (s ∷ left) some none p = none.none (s ++ path_text left) p.text_is
 

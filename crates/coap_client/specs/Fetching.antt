@@ -20,14 +20,14 @@ abbrev pub going_on : Part → List ℕ → List ℕ → Message → State
 going_on (Answer n) body etag m = Out (Answer n) (body ++ m.payload) (etag_of m)
 going_on other body etag m = Out other body etag
 
-abbrev pub moved : Next → List ℕ → List ℕ → Message → State
-moved (Ask part) body etag m = going_on part body etag m
-moved Last body etag m = Ended m.code (body ++ m.payload)
-moved Refused body etag m = Ended m.code m.payload
-moved Misfit body etag m = Lost
+abbrev pub moved_on : Next → List ℕ → List ℕ → Message → State
+moved_on (Ask part) body etag m = going_on part body etag m
+moved_on Last body etag m = Ended m.code (body ++ m.payload)
+moved_on Refused body etag m = Ended m.code m.payload
+moved_on Misfit body etag m = Lost
 
 abbrev pub after_reply : ℕ → Message → State → State
-after_reply count m (Out part body etag) = moved (next_of count part m) body etag m
+after_reply count m (Out part body etag) = moved_on (next_of count part m) body etag m
 after_reply count m other = other
 
 -- what these replies lead to, where the request's body has so many bytes
@@ -52,7 +52,7 @@ pub record IsFetched (e : Errand) (first code : ℕ) (body : List ℕ) : Type 0 
   pub ends : state_after e replies ≡ Ended code body
 
 -- a fetch under way: these replies have led to the request of this part
-pub record IsUnderWay (e : Errand) (first id : ℕ) (part : Part) (body etag : List ℕ) : Type 0 where
+pub record IsFetching (e : Errand) (first id : ℕ) (part : Part) (body etag : List ℕ) : Type 0 where
   pub replies : List Message
   pub are : AreReplies e first replies
   pub leads : state_after e replies ≡ Out part body etag

@@ -11,53 +11,53 @@ use Rattle.coap_client.specs.declared.part.Part.TheVariants.{Whole, Body, Answer
 use Rattle.arrayvec.specs.ArrayVec.{ArrayVec}
 
 -- the bytes of a block, and its size as options write it: its exponent less 4
-abbrev pub block_size : ℕ
-block_size = 1024
+abbrev pub fetched_size : ℕ
+fetched_size = 1024
 
 abbrev pub block_szx : ℕ
 block_szx = 6
 
 -- a method's code (RFC 7252, 12.1.1)
-abbrev pub code_of : Method → ℕ
-code_of Get = registered.GET.byte
-code_of Post = registered.POST.byte
-code_of Put = registered.PUT.byte
-code_of Delete = registered.DELETE.byte
+abbrev pub method_code : Method → ℕ
+method_code Get = registered.GET.byte
+method_code Post = registered.POST.byte
+method_code Put = registered.PUT.byte
+method_code Delete = registered.DELETE.byte
 
 -- how many bytes of a body go with one request: a PUT's go in blocks, others whole
 abbrev pub most_at_once : Method → ℕ → ℕ
-most_at_once Put count = min count block_size
+most_at_once Put count = min count fetched_size
 most_at_once other count = count
 
 -- the room of an option: five bytes go before its value at most
-abbrev pub room_of : List ℕ → ℕ
-room_of value = length value + 5
+abbrev pub option_room : List ℕ → ℕ
+option_room value = length value + 5
 
 -- each request fits a datagram of 1,280 bytes: of these, 18 are kept for the header, the marker and a block option
-pub record Fits (method : Method) (segments : List (List ℕ)) (payload : List ℕ) : Type 0 where
-  pub room : sum_by room_of segments + most_at_once method (length payload) ≤ 1262
+pub record FitsDatagrams (method : Method) (segments : List (List ℕ)) (payload : List ℕ) : Type 0 where
+  pub room : sum_by option_room segments + most_at_once method (length payload) ≤ 1262
   pub blocks : length payload ≤ 2 ^ 30
 
 -- the first request: a PUT's body of more than a block goes in blocks
 abbrev pub first_part : Method → ℕ → Part
-first_part Put count = if nat_lt block_size count then Body 0 else Whole
+first_part Put count = if nat_lt fetched_size count then Body 0 else Whole
 first_part other count = Whole
 
 -- whether block n of so many bytes has another one behind it
 abbrev pub has_more : ℕ → ℕ → Bool
-has_more count n = nat_lt (block_size * (n + 1)) count
+has_more count n = nat_lt (fetched_size * (n + 1)) count
 
 -- the value of a block option
-abbrev pub block_bytes : ℕ → Bool → List ℕ
-block_bytes n more = uint_bytes (16 * n + ((if more then 8 else 0) + block_szx))
+abbrev pub block_option : ℕ → Bool → List ℕ
+block_option n more = uint_bytes (16 * n + ((if more then 8 else 0) + block_szx))
 
 abbrev pub path_options : List (List ℕ) → List (ℕ × List ℕ)
 path_options segments = map (λ s. (option.URI_PATH, s)) segments
 
 abbrev pub part_options : Part → ℕ → List (ℕ × List ℕ)
 part_options Whole count = []
-part_options (Body n) count = (option.BLOCK1, block_bytes n (has_more count n)) ∷ []
-part_options (Answer n) count = (option.BLOCK2, block_bytes n false) ∷ []
+part_options (Body n) count = (option.BLOCK1, block_option n (has_more count n)) ∷ []
+part_options (Answer n) count = (option.BLOCK2, block_option n false) ∷ []
 
 -- an option as it is written
 abbrev pub option_in : Option (ℕ × ArrayVec ℕ) → List (ℕ × List ℕ)
@@ -71,5 +71,5 @@ answer_payload other payload = []
 
 abbrev pub part_payload : Method → List ℕ → Part → List ℕ
 part_payload method payload Whole = payload
-part_payload method payload (Body n) = take block_size (drop (block_size * n) payload)
+part_payload method payload (Body n) = take fetched_size (drop (fetched_size * n) payload)
 part_payload method payload (Answer n) = answer_payload method payload

@@ -18,13 +18,13 @@ path_text [] = []
 path_text (s ∷ segments) = slash ∷ (s ++ path_text segments)
 
 -- the text writes these segments
-pub record IsPath (text : List ℕ) (segments : List (List ℕ)) : Type 0 where
+pub record IsSlashed (text : List ℕ) (segments : List (List ℕ)) : Type 0 where
   pub text_is : text ≡ path_text segments
   pub are : All IsSegment segments
 
 -- the text writes no path
 pub record IsNoPath (text : List ℕ) : Type 0 where
-  pub none : (segments : List (List ℕ)) → IsPath text segments → ⊥
+  pub none : (segments : List (List ℕ)) → IsSlashed text segments → ⊥
 
 -- segments without where they lie
 abbrev pub segments_in : List (Bor (List ℕ)) → List (List ℕ)

@@ -11,7 +11,7 @@ use Rattle.coap_client.specs.declared.part.Part.{Part}
 use Rattle.coap_client.specs.declared.part.Part.TheVariants.{Whole, Body, Answer}
 use Rattle.coap_client.specs.declared.reply.Next.{Next}
 use Rattle.coap_client.specs.declared.reply.Next.TheVariants.{Ask, Last, Refused, Misfit}
-use Rattle.coap_client.specs.Parts.{block_size, block_szx, has_more}
+use Rattle.coap_client.specs.Parts.{fetched_size, block_szx, has_more}
 
 -- a piggybacked response to the request of this id, which had no token (RFC 7252, 5.2.1)
 pub record IsReply (id : ℕ) (m : Message) : Type 0 where
@@ -51,7 +51,7 @@ next_block n = if nat_lt (n + 1) 1048576 then Ask (Answer (n + 1)) else Misfit
 
 -- the answer to what asked for block n, of so many bytes: block n, of the size that was asked for where others are behind it
 abbrev pub by_more : Bool → Bool → ℕ → ℕ → Next
-by_more true sized n count = if sized && (count == block_size) then next_block n else Misfit
+by_more true sized n count = if sized && (count == fetched_size) then next_block n else Misfit
 by_more false sized n count = if sized || (n == 0) then Last else Misfit
 
 abbrev pub by_block : ℕ → ℕ → ℕ → Next
@@ -62,15 +62,15 @@ abbrev pub by_option : ℕ → ℕ → Option (List ℕ) → Next
 by_option n count None = if n == 0 then Last else Misfit
 by_option n count (Some value) = if nat_le (length value) 3 then by_block n count (uint_value value) else Misfit
 
-abbrev pub answer_at : ℕ → Message → Next
-answer_at n m = by_option n (length m.payload) (block2_of m)
+abbrev pub next_of_answer : ℕ → Message → Next
+next_of_answer n m = by_option n (length m.payload) (block2_of m)
 
 -- a block of the body that has others behind it is answered 2.31, and each other code ends the fetch (RFC 7959, 2.9.1)
 abbrev pub by_part : ℕ → Part → Message → Next
-by_part count Whole m = answer_at 0 m
-by_part count (Answer n) m = answer_at n m
+by_part count Whole m = next_of_answer 0 m
+by_part count (Answer n) m = next_of_answer n m
 by_part count (Body n) m =
-    if has_more count n then (if m.code == registered.CONTINUE.byte then Ask (Body (n + 1)) else Last) else answer_at 0 m
+    if has_more count n then (if m.code == registered.CONTINUE.byte then Ask (Body (n + 1)) else Last) else next_of_answer 0 m
 
 -- what comes after the answer to a part, where the body has so many bytes
 abbrev pub next_of : ℕ → Part → Message → Next

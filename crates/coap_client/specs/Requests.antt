@@ -7,19 +7,19 @@ use Rattle.coap_client.specs.declared.errand.Errand.{Errand}
 use Rattle.coap_client.specs.declared.part.Part.{Part}
 use Rattle.coap_client.specs.declared.part.Part.TheVariants.{Whole, Body, Answer}
 use Rattle.coap_client.specs.Paths.{segments_in}
-use Rattle.coap_client.specs.Parts.{block_size, code_of, most_at_once, part_options, part_payload, path_options}
+use Rattle.coap_client.specs.Parts.{fetched_size, method_code, most_at_once, part_options, part_payload, path_options}
 
 -- the part is one of the body's, and a block's number has 20 bits
 abbrev pub IsPartOf : Errand → Part → Type 0
 IsPartOf e Whole = most_at_once e.method (length e.payload.now) ≡ length e.payload.now
-IsPartOf e (Body n) = (e.method ≡ Put) × (block_size * n < length e.payload.now)
+IsPartOf e (Body n) = (e.method ≡ Put) × (fetched_size * n < length e.payload.now)
 IsPartOf e (Answer n) = n < 2 ^ 20
 
 -- the request of a part, with this message id and no token
-abbrev pub request_of : Errand → Part → ℕ → Message
-request_of e part id = record {
+abbrev pub part_request : Errand → Part → ℕ → Message
+part_request e part id = record {
   kind = Confirmable;
-  code = code_of e.method;
+  code = method_code e.method;
   id = id;
   token = [];
   options = path_options (segments_in e.path.segments.items) ++ part_options part (length e.payload.now);

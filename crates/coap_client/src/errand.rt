@@ -3,7 +3,7 @@ ghost use Rattle.std.specs.Prelude.{◌≡◌, ◌+◌, ◌*◌, ◌<◌, ◌≤
 ghost use Rattle.coap_msg.specs.Wire.{message_bytes};
 ghost use Rattle.coap_msg.specs.Writing.{options_in};
 ghost use Rattle.coap_client.specs.Paths.{segments_in};
-ghost use Rattle.coap_client.specs.Parts.{Fits, option_in, path_options, room_of};
+ghost use Rattle.coap_client.specs.Parts.{FitsDatagrams, option_in, path_options, option_room};
 ghost use Rattle.coap_client.specs.Parts as spec;
 
 use crate::part::Part;
@@ -34,18 +34,18 @@ pub struct Errand<'a> {
     pub method: Method,
     pub path: Path<'a>,
     pub payload: &'a [u8],
-    ghost fits: { Fits method (segments_in path.segments.items) payload.now },
+    ghost fits: { FitsDatagrams method (segments_in path.segments.items) payload.now },
 }
 
 impl<'a> Errand<'a> {
     ghost use Rattle.coap_client.specs.Parts.{first_part, part_options, part_payload};
-    ghost use Rattle.coap_client.specs.Requests.{IsPartOf, request_of};
+    ghost use Rattle.coap_client.specs.Requests.{IsPartOf, part_request};
 
     /// The errand of these, where its requests fit a datagram: the segments of the path, each with five bytes more, and what
     /// goes of the body at once have at most 1,262 bytes together. Of a PUT's body 1,024 bytes go at once.
     pub fn new(method: Method, path: Path<'a>, payload: &'a [u8]) -> Option<Errand<'a>>
         ensures errand { IfSome result (λ e. (e.method ≡ method) × (e.path ≡ path.entry) × (e.payload ≡ payload.entry)) }
-        ensures none { IsNone result ↔ (Fits method (segments_in path.entry.segments.items) payload.entry.now → ⊥) }
+        ensures none { IsNone result ↔ (FitsDatagrams method (segments_in path.entry.segments.items) payload.entry.now → ⊥) }
     {
         let room = path_room(&path).saturating_add(most_at_once(method, payload.len()));
         if room <= ROOM && payload.len() <= MOST {
@@ -83,13 +83,13 @@ impl<'a> Errand<'a> {
         datagram: &mut Datagram,
     ) -> Result<(), AllocError>
         requires { IsPartOf self.now part }
-        ensures { OnOk result (datagram.new.items ≡ message_bytes (request_of self.now part id)) }
+        ensures { OnOk result (datagram.new.items ≡ message_bytes (part_request self.now part id)) }
     {
         let block = self.block_of(part);
         let options = options_with(alloc, &self.path.segments, &block)?;
         let request = Outgoing {
             kind: MessageType::Confirmable,
-            code: code_of(self.method),
+            code: method_code(self.method),
             id,
             token: &[],
             options: &options,
@@ -145,8 +145,8 @@ fn block(number: u32, more: bool) -> Block
     }
 }
 
-fn code_of(method: Method) -> Code
-    ensures { result.byte ≡ spec.code_of method }
+fn method_code(method: Method) -> Code
+    ensures { result.byte ≡ spec.method_code method }
 {
     match method {
         Method::Get => Code::GET,
@@ -168,7 +168,7 @@ fn most_at_once(method: Method, count: usize) -> usize
 
 // What room the options of a path have, up to 2^64 - 1.
 fn path_room(path: &Path<'_>) -> usize
-    ensures { result ≡ min (sum_by room_of (segments_in path.entry.now.segments.items)) 18446744073709551615 }
+    ensures { result ≡ min (sum_by option_room (segments_in path.entry.now.segments.items)) 18446744073709551615 }
 {
     let mut room = 0usize;
     for segment in &path.segments {

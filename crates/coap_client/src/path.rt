@@ -1,7 +1,7 @@
 //! Paths of resources.
 ghost use Rattle.std.specs.Prelude.{◌≡◌, ◌∷◌, ◌<◌, ◌≤◌, ◌↔◌, IfOk, IsTrue, MatchOption, length};
 ghost use Rattle.std.specs.List.{All};
-ghost use Rattle.coap_client.specs.Paths.{HasNoSlash, IsFirstSegment, IsNoPath, IsPath, IsSegment, segments_in, slash};
+ghost use Rattle.coap_client.specs.Paths.{HasNoSlash, IsFirstSegment, IsNoPath, IsSlashed, IsSegment, segments_in, slash};
 ghost use Rattle.coap_client.specs.declared.path.PathError.TheVariants.{Bad};
 
 use std::alloc::{AllocError, Global};
@@ -45,7 +45,7 @@ impl<'a> Path<'a> {
     /// # Errors
     /// The text is no path, or there was no memory for its segments.
     pub fn parse(alloc: Global, text: &'a [u8]) -> Result<Path<'a>, PathError>
-        ensures path { IfOk result (λ p. IsPath text.entry.now (segments_in p.segments.items)) }
+        ensures path { IfOk result (λ p. IsSlashed text.entry.now (segments_in p.segments.items)) }
         ensures bad { result ≡ Err Bad → IsNoPath text.entry.now }
     {
         let mut segments = Vec::new(alloc);

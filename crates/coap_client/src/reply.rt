@@ -62,8 +62,8 @@ pub fn next_of(errand: &Errand<'_>, part: Part, message: &Message<'_>) -> Next
         return Next::Refused;
     }
     match part {
-        Part::Whole => answer_at(0, message),
-        Part::Answer(number) => answer_at(number, message),
+        Part::Whole => next_of_answer(0, message),
+        Part::Answer(number) => next_of_answer(number, message),
         Part::Body(number) if errand.payload.len() > BLOCK * (number as usize + 1) => {
             if message.code() == Code::CONTINUE {
                 Next::Ask(Part::Body(number + 1))
@@ -71,7 +71,7 @@ pub fn next_of(errand: &Errand<'_>, part: Part, message: &Message<'_>) -> Next
                 Next::Last
             }
         }
-        Part::Body(_) => answer_at(0, message),
+        Part::Body(_) => next_of_answer(0, message),
     }
 }
 
@@ -86,8 +86,8 @@ pub fn etag_of<'a>(message: &Message<'a>) -> &'a [u8]
 }
 
 // What comes after a success that answers what asked for this block.
-fn answer_at(number: u32, message: &Message<'_>) -> Next
-    ensures { result ≡ spec.answer_at number message.now }
+fn next_of_answer(number: u32, message: &Message<'_>) -> Next
+    ensures { result ≡ spec.next_of_answer number message.now }
 {
     match message.values(BLOCK2).next() {
         None if number == 0 => Next::Last,

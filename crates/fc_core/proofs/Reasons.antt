@@ -24,7 +24,7 @@ use Rattle.arrayvec.specs.ArrayVec.{ArrayVec}
 use Rattle.fc_core.specs.Contents.{Content, Missing, Unavailable, Made, Rejected, Untyped, Valid, Deleted, Described, Listed}
 use Rattle.fc_core.specs.Fits.{HasNext}
 use Rattle.fc_core.specs.Heads.{is_match, is_present, serial_in, word_at}
-use Rattle.fc_core.specs.AnswerLaws.{IsAmong, IsCause, NoTicket, NoMemory, NothingDescribed, NothingTaken, Overtaken, LastCommit, LastInstall, LastRemoval}
+use Rattle.fc_core.specs.AnswerLaws.{HasSerial, IsCause, NoTicket, NoMemory, NothingDescribed, NothingTaken, Overtaken, LastCommit, LastInstall, LastRemoval}
 use Rattle.fc_core.specs.History.{Entry, History, Then, Seen, seen, and_then, did, job, slot_at, stage, task_at}
 use Rattle.fc_core.specs.Laws.{answer_at, slot_of, takings_of}
 use Rattle.fc_core.specs.Stages.{Scene, committed, first_by, image_of, installed, made, matched_by, names, peeked_next, peeked_own, removed, run_content, row, told, took, verified}
@@ -124,11 +124,11 @@ module _ (k : ℕ) (job : Job) (slot : Slot) (ws : List ℕ) (taken : ℕ) where
   told_why (Some p) c is e = so (Receipt k) ToDescribe (Described (receipt_of p.program p.version)) c (record { found = p; event = refl; is = refl; present = is; receipt_is = refl }) e
 
   -- one of the serials passes the test of the word
-  among_by : (x serial : ℕ) (xs : List ℕ) (b : Bool) → (x == serial) ≡ b → (list_any (λ y. y == serial) xs ≡ true → IsAmong xs serial) → (b || list_any (λ y. y == serial) xs) ≡ true → IsAmong (x ∷ xs) serial
+  among_by : (x serial : ℕ) (xs : List ℕ) (b : Bool) → (x == serial) ≡ b → (list_any (λ y. y == serial) xs ≡ true → HasSerial xs serial) → (b || list_any (λ y. y == serial) xs) ≡ true → HasSerial (x ∷ xs) serial
   among_by x serial xs true is more e = record { before = []; after = xs; is = ap (λ (y : ℕ). y ∷ xs) (eqb-true x serial is) }
   among_by x serial xs false is more e = let w = more e in record { before = x ∷ w.before; after = w.after; is = ap (λ (l : List ℕ). x ∷ l) w.is }
 
-  among : (serials : List ℕ) (serial : ℕ) → list_any (λ x. x == serial) serials ≡ true → IsAmong serials serial
+  among : (serials : List ℕ) (serial : ℕ) → list_any (λ x. x == serial) serials ≡ true → HasSerial serials serial
   among [] serial e = absurd (cc)
   among (x ∷ xs) serial e = among_by x serial xs (x == serial) refl (among xs serial) e
 

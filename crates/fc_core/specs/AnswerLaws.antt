@@ -85,7 +85,7 @@ pub record IsDescribed (e : Event) (k : ℕ) (slot : Slot) (at : Stage) (receipt
   pub receipt_is : receipt ≡ receipt_of found.program found.version
 
 -- one of these serials is this
-pub record IsAmong (serials : List ℕ) (serial : ℕ) : Type 0 where
+pub record HasSerial (serials : List ℕ) (serial : ℕ) : Type 0 where
   pub before : List ℕ
   pub after : List ℕ
   pub is : serials ≡ before ++ serial ∷ after
@@ -95,7 +95,7 @@ pub record IsValid (e : Event) (k : ℕ) (j : Job) (words : List ℕ) (at : Stag
   pub event : e ≡ Peek k j.origin.slot
   pub is : at ≡ ToMatch
   pub word : word_at words j.origin.slot ≡ head_word serial true
-  pub asked : IsAmong j.etags.items serial
+  pub asked : HasSerial j.etags.items serial
 
 -- it reads the last of the 64 head words, which the job has read in the order of the slots
 pub record IsListed (e : Event) (k : ℕ) (words : List ℕ) (at : Stage) (list : List ℕ) : Type 0 where

@@ -9,8 +9,8 @@ abbrev pub no_replies : Replies
 no_replies = record { sent = 0; failed = 0 }
 
 -- replies of both; each count stops at its greatest
-abbrev pub total : Replies → Replies → Replies
-total a b = record { sent = saturated (a.sent + b.sent); failed = saturated (a.failed + b.failed) }
+abbrev pub both_replies : Replies → Replies → Replies
+both_replies a b = record { sent = saturated (a.sent + b.sent); failed = saturated (a.failed + b.failed) }
 
 -- one reply more, where there was one: it went out, or it didn't
 abbrev pub counted : Option Bool → Replies → Replies

@@ -6,13 +6,13 @@ use Rattle.fc_service.specs.declared.status.Status.{Status}
 use Rattle.fc_service.specs.declared.status.Status.TheVariants.{Done, Refused}
 
 -- a line
-abbrev pub line_of : List ℕ → List ℕ
-line_of text = text ++ (10 ∷ [])
+abbrev pub ended_line : List ℕ → List ℕ
+ended_line text = text ++ (10 ∷ [])
 
 -- the code, and the bytes in hex on a line of their own, where there are some
 abbrev pub answer_text : ℕ → List ℕ → List ℕ
-answer_text code [] = line_of (code_text code)
-answer_text code (b ∷ body) = line_of (code_text code) ++ line_of (encode_lower (b ∷ body))
+answer_text code [] = ended_line (code_text code)
+answer_text code (b ∷ body) = ended_line (code_text code) ++ ended_line (encode_lower (b ∷ body))
 
 -- a code of success (RFC 7252, 5.9.1) is what was wanted
 abbrev pub ending_of : ℕ → Status

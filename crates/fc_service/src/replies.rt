@@ -1,6 +1,6 @@
 //! Replies, counted: those that went out, and those that didn't.
 ghost use Rattle.std.specs.Prelude.{◌≡◌};
-ghost use Rattle.fc_service.specs.Counting.{counted, no_replies, replies_of, total};
+ghost use Rattle.fc_service.specs.Counting.{counted, no_replies, replies_of, both_replies};
 
 use fc_workers::Share;
 use std::fmt;
@@ -36,7 +36,7 @@ impl Replies {
 
     /// These replies, and others.
     pub fn plus(self, others: Replies) -> Replies
-        ensures { result ≡ total self others }
+        ensures { result ≡ both_replies self others }
     {
         Replies {
             sent: self.sent.saturating_add(others.sent),
