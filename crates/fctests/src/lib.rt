@@ -1,4 +1,4 @@
-//! The tests that cross crates: each line, list of events, text and image here says what the papers of the protocol and of the
+//! The tests that cross crates: each line, list of events, text and image here says what the RFCs of the protocol and of the
 //! instructions make of it, worked out by hand.
 #![tactic(auto)]
 
