@@ -27,6 +27,8 @@ mod reply_tests;
 #[cfg(test)]
 mod request_tests;
 #[cfg(test)]
+mod socket_tests;
+#[cfg(test)]
 mod tool_tests;
 #[cfg(test)]
 mod tooling;

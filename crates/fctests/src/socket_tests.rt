@@ -1,0 +1,214 @@
+// A server and its clients in one process, over sockets of this host: the expected bytes are worked out by hand.
+ghost use Rattle.std.specs.Prelude.{◌≤◌, IfSome, length};
+
+use coap_msg::{Emission, Endpoint};
+use coap_opts::Method;
+use fc_service::Status;
+use fc_service::fetch::fetch;
+use fc_service::serve::{Extent, serve_at};
+use fc_service::socket::{Sink, Source, open};
+use log::sink::Memory;
+use log::{LevelFilter, Logged};
+use std::alloc::Global;
+use std::net::{Net, UdpSocket};
+use std::process::Abort;
+use std::sync::Wait;
+use std::sync::atomic::{AtomicUsize, Ordering};
+use std::test::Fail;
+use std::thread;
+use std::thread::Threads;
+use std::time::Clock;
+
+// A program that counts POSTs in eight bytes of variables: nine slots, budget nine.
+static COUNT: [u8; 88] = [
+    0x46, 0x43, 0x42, 0x31, 0x08, 0x00, 0x09, 0x00, 0x09, 0x00, 0x00, 0x00, 0x00, 0x00, 0x00, 0x00,
+    0xb7, 0x01, 0x00, 0x00, 0x00, 0x00, 0x00, 0x00, 0x85, 0x00, 0x00, 0x00, 0x03, 0x00, 0x00, 0x00,
+    0x07, 0x00, 0x00, 0x00, 0x01, 0x00, 0x00, 0x00, 0xbf, 0x02, 0x00, 0x00, 0x00, 0x00, 0x00, 0x00,
+    0xb7, 0x01, 0x00, 0x00, 0x00, 0x00, 0x00, 0x00, 0x85, 0x00, 0x00, 0x00, 0x04, 0x00, 0x00, 0x00,
+    0x85, 0x00, 0x00, 0x00, 0x07, 0x00, 0x00, 0x00, 0xb7, 0x00, 0x00, 0x00, 0x00, 0x00, 0x00, 0x00,
+    0x95, 0x00, 0x00, 0x00, 0x00, 0x00, 0x00, 0x00,
+];
+
+// A request of this path is answered so, and the client ends with this status.
+fn check_asked<R: Abort + Net + Clock + AllocGlobal>(
+    rt: &R,
+    port: u16,
+    method: Method,
+    path: &str,
+    mut payload: &[u8],
+    status: Status,
+    printed: &str,
+) {
+    let alloc = rt.alloc();
+    let mut out = Vec::new(alloc);
+    let mut err = Vec::new(alloc);
+    let ended = fetch(
+        rt,
+        alloc,
+        &mut payload,
+        &mut out,
+        &mut err,
+        port,
+        method,
+        path,
+    );
+    assert!(rt;
+        ended == status && err.is_empty() && out.as_slice() == printed.as_bytes(),
+        "{path}"
+    );
+}
+
+// A counter is installed, asked to count, and asked.
+fn ask_counter<R: Abort + Net + Clock + AllocGlobal>(rt: &R, port: u16) {
+    // version=1 cost=9 budget=9 vars=8
+    let installed = "2.01\n76657273696f6e3d3120636f73743d39206275646765743d3920766172733d38\n";
+    check_asked(
+        rt,
+        port,
+        Method::Put,
+        "/p/1",
+        &COUNT,
+        Status::Done,
+        installed,
+    );
+    check_asked(rt, port, Method::Post, "/r/1", &[], Status::Done, "2.04\n");
+    check_asked(rt, port, Method::Get, "/r/1", &[], Status::Done, "2.05\n");
+    check_asked(
+        rt,
+        port,
+        Method::Get,
+        "/r/2",
+        &[],
+        Status::Refused,
+        "4.04\n",
+    );
+}
+
+// Serves a socket, up to four datagrams: how that ended, and what was logged.
+fn serve_logged<R: Threads + Wait + Clock + Sync>(
+    rt: &R,
+    alloc: Global,
+    socket: &UdpSocket,
+) -> (Status, Memory) {
+    let memory = Memory::new(alloc);
+    let log = Logged::new(rt, LevelFilter::Info, &memory);
+    let mut err = Vec::new(alloc);
+    let extent = Extent {
+        workers: 2,
+        limit: 4,
+    };
+    let status = serve_at(rt, alloc, &log, &mut err, socket, socket, extent);
+    (status, memory)
+}
+
+// Serves a port that is free to a client in the same process: four datagrams, each answered.
+fn serve_counter<R: Abort + AllocGlobal + Threads + Wait + Clock + Net + Sync>(
+    rt: &R,
+) -> Result<(), Fail> {
+    let alloc = rt.alloc();
+    let socket = open(rt, 0)?;
+    let port = socket.local_addr()?.port();
+    let ((status, memory), _) = thread::join(
+        rt,
+        || serve_logged(rt, alloc, &socket),
+        || ask_counter(rt, port),
+    );
+    assert!(rt; status == Status::Done);
+    check_logged(rt, memory, "sent 4 failed 0");
+    Ok(())
+}
+
+// One line was logged, with this message.
+fn check_logged<R: Abort>(rt: &R, memory: Memory, message: &str) {
+    let lines = memory.into_lines();
+    assert!(rt; lines.len() == 1, "one line");
+    for line in lines.as_slice() {
+        assert!(rt; line.as_str().ends_with(message), "{message}");
+    }
+}
+
+#[test]
+fn a_server_answers_clients(rt: HostRuntime) -> Result<(), Fail> {
+    serve_counter(&rt)
+}
+
+// A source that has a datagram at every second call, and nothing in time at the others: a path that is none, which needs no
+// job, and slot 0, which does and is empty. Then it has nothing.
+#[derive(Drop)]
+struct Script {
+    calls: AtomicUsize,
+}
+
+static NO_PATH: [u8; 6] = [0x40, 0x01, 0x00, 0x01, 0xb1, 0x78];
+
+static NO_PROGRAM: [u8; 8] = [0x40, 0x01, 0x00, 0x02, 0xb1, 0x72, 0x01, 0x30];
+
+// Where a peer's datagrams come from.
+const PEER: Endpoint = Endpoint {
+    ip: [127, 0, 0, 1],
+    port: 5683,
+};
+
+fn put_datagram(bytes: &[u8], buffer: &mut [u8]) -> Option<(usize, Endpoint)>
+    ensures { IfSome result (λ r. r.0 ≤ length buffer.new) }
+{
+    buffer.get_mut(..bytes.len())?.copy_from_slice(bytes);
+    Some((bytes.len(), PEER))
+}
+
+impl Source for Script {
+    fn receive(&self, buffer: &mut [u8]) -> Option<(usize, Endpoint)> {
+        match self.calls.fetch_add(1, Ordering::SeqCst) {
+            1 => put_datagram(&NO_PATH, buffer),
+            3 => put_datagram(&NO_PROGRAM, buffer),
+            _ => None,
+        }
+    }
+}
+
+// A sink that fails at every second datagram.
+#[derive(Drop)]
+struct Lossy {
+    sends: AtomicUsize,
+}
+
+impl Sink for Lossy {
+    fn send(&self, emission: &Emission) -> bool {
+        let _ = emission;
+        self.sends.fetch_add(1, Ordering::SeqCst) % 2 == 0
+    }
+}
+
+// Serves the script: a receive that brings nothing is no datagram, and a lost reply is counted.
+fn serve_script<R: Abort + AllocGlobal + Threads + Wait + Clock + Sync>(
+    rt: &R,
+    level: LevelFilter,
+) -> Memory {
+    let alloc = rt.alloc();
+    let memory = Memory::new(alloc);
+    let log = Logged::new(rt, level, &memory);
+    let mut err = Vec::new(alloc);
+    let script = Script {
+        calls: AtomicUsize::new(0),
+    };
+    let lossy = Lossy {
+        sends: AtomicUsize::new(0),
+    };
+    let extent = Extent {
+        workers: 1,
+        limit: 2,
+    };
+    let status = serve_at(rt, alloc, &log, &mut err, &script, &lossy, extent);
+    assert!(rt; status == Status::Done && err.is_empty());
+    assert!(rt;
+        script.calls.load(Ordering::SeqCst) == 4 && lossy.sends.load(Ordering::SeqCst) == 2
+    );
+    memory
+}
+
+#[test]
+fn silence_is_no_datagram_and_a_loss_is_counted(rt: HostRuntime) -> Result<(), Fail> {
+    check_logged(&rt, serve_script(&rt, LevelFilter::Info), "sent 1 failed 1");
+    assert!(rt; serve_script(&rt, LevelFilter::Off).into_lines().is_empty());
+    Ok(())
+}
