@@ -21,3 +21,4 @@ pub mod DrawnIds
 pub mod Once
 pub mod FirstBlocks
 pub mod Published
+pub mod Deletions

@@ -1,4 +1,4 @@
--- Head words: what is raised is the word of the slot's new state, and none is above its slot's.
+-- What a job is to raise is the head word of its slot's new state.
 use Rattle.std.proofs.Common.{◌≡◌, ℕ, ◌+◌, ◌<◌, ◌≤◌, List, [], ◌∷◌, ◌++◌, Bool, true, false, Option, Some, None, length, map, get_or, set, refl, sym, ap, ◌∙◌, subst, ◌⊎◌, inl, inr, ⊎_elim, arith, max, if◌then◌else◌}
 use Rattle.std.specs.Prelude.{nat_lt, ◌==◌, is_some, replicate}
 use Rattle.std.proofs.lemmas.Bool.{cases_eq, cases_lt}
@@ -122,7 +122,7 @@ row_publishes (Lose k) job slot ws s f = tt
 row_publishes other job slot ws s f = same_publishes slot s
 
 -- the slot of the job that an event names, after it
-own_after : (r : Entry) (s : Seen) (k : ℕ) → names r.event ≡ Some k → slot_at (and_then r s) (slot_of s k) ≡ after_changes (slot_at s (slot_of s k)) (row r.event (scene s k)).changes
+pub own_after : (r : Entry) (s : Seen) (k : ℕ) → names r.event ≡ Some k → slot_at (and_then r s) (slot_of s k) ≡ after_changes (slot_at s (slot_of s k)) (row r.event (scene s k)).changes
 own_after r s k named = ap (after_changes (new_slot s.first_serial)) (own_slot r s k named) ∙ after_changes-append (new_slot s.first_serial) (row r.event (scene s k)).changes (s.changes (slot_of s k))
 
 publishes_by : (r : Entry) (s : Seen) (k : ℕ) (t : Task) → Becomes (names r.event) r.event s k t → IsSound s → HasCome s k → PublishesAt (slot_at (and_then r s) (slot_of s k)) (stage s k) t.stage

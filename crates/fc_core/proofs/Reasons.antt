@@ -121,7 +121,7 @@ module _ (k : ℕ) (job : Job) (slot : Slot) (ws : List ℕ) (taken : ℕ) where
 
   told_why : (o : Option Present) (c : Content) → slot.present ≡ o → Answered (Receipt k) ToDescribe (ToAnswer (told (receipt_at o))) c
   told_why None c is e = so (Receipt k) ToDescribe Missing c (NothingDescribed refl refl is) e
-  told_why (Some p) c is e = so (Receipt k) ToDescribe (Described (receipt_of p.program p.version)) c (record { found = p; event = refl; is = refl; present = is; receipt_is = refl }) e
+  told_why (Some p) c is e = so (Receipt k) ToDescribe (Described (receipt_of p.program p.version)) c (record { found = p; event = refl; is = refl; present = is; version = refl; cost = refl; budget = refl; vars = refl }) e
 
   -- one of the serials passes the test of the word
   among_by : (x serial : ℕ) (xs : List ℕ) (b : Bool) → (x == serial) ≡ b → (list_any (λ y. y == serial) xs ≡ true → HasSerial xs serial) → (b || list_any (λ y. y == serial) xs) ≡ true → HasSerial (x ∷ xs) serial

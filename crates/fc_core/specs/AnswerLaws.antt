@@ -5,7 +5,7 @@ use Rattle.fc_verify.specs.Accepted.{Judgement, Accepts, Breaks, Untypable}
 use Rattle.fc_verify.specs.Judged.{judged}
 use Rattle.fc_registry.specs.declared.job.Job.{Job}
 use Rattle.fc_registry.specs.declared.receipt.Receipt.{Receipt as Facts}
-use Rattle.fc_registry.specs.Calls.{meaning_at, receipt_of, wants}
+use Rattle.fc_registry.specs.Calls.{meaning_at, wants}
 use Rattle.fc_registry.specs.Slots.{Slot, Present, Ticket}
 use Rattle.fc_core.specs.declared.event.Event.{Event}
 use Rattle.fc_core.specs.declared.event.Event.TheVariants.{Deliver, Peek, Take, Commit, Install, Remove, Receipt, Answer, Tick}
@@ -82,7 +82,10 @@ pub record IsDescribed (e : Event) (k : ℕ) (slot : Slot) (at : Stage) (receipt
   pub event : e ≡ Receipt k
   pub is : at ≡ ToDescribe
   pub present : slot.present ≡ Some found
-  pub receipt_is : receipt ≡ receipt_of found.program found.version
+  pub version : receipt.version ≡ found.version
+  pub cost : receipt.cost ≡ found.program.cost
+  pub budget : receipt.budget ≡ found.program.budget
+  pub vars : receipt.vars ≡ found.program.vars_size
 
 -- one of these serials is this
 pub record HasSerial (serials : List ℕ) (serial : ℕ) : Type 0 where

@@ -103,7 +103,7 @@ abbrev pub IsOfNewest : List Taking → RunAnswer → Type 0
 IsOfNewest [] run = ⊥
 IsOfNewest (t ∷ ts) run = (run.code ≡ (meaning_at t.ticket).code) × (run.block ≡ first_block (meaning_at t.ticket).reply) × (run.serial ≡ t.ticket.serial)
 
--- the answer that a job is about to give, once its slot's new serial is published
+-- the answer that a job is about to give, once its slot's new head word is published
 abbrev pub answer_at : Stage → Option Content
 answer_at (ToRaise word content) = Some content
 answer_at (ToAnswer content) = Some content

@@ -42,7 +42,7 @@ abbrev pub ran_response : ℕ → BodyBlock → ℕ → Response
 ran_response answer block serial =
     if answer == code 2 5 then content serial block else (if answer == code 2 4 then text answer block.bytes.items else bare answer)
 
--- the format of links (RFC 6690, 7.4)
+-- the Content-Format of links (RFC 7252, 12.3)
 abbrev pub link_format : List (ℕ × List ℕ)
 link_format = (option.CONTENT_FORMAT, 40 ∷ []) ∷ []
 

@@ -2,9 +2,9 @@
 ghost use Rattle.coap_msg.specs.declared.types.Emission.{Emission};
 ghost use Rattle.fc_core.specs.AnswerLaws.{Causes, greatest, moments_of, shard_moments_of};
 ghost use Rattle.fc_core.specs.Blocks.{first_block};
-ghost use Rattle.fc_core.specs.Contents.{Content, Missing};
+ghost use Rattle.fc_core.specs.Contents.{Content, Deleted, Missing};
 ghost use Rattle.fc_core.specs.History.{Entry, History, Then, Seen, seen, and_then, did, slot_at, stage};
-ghost use Rattle.fc_core.specs.Laws.{answer_at, slot_of};
+ghost use Rattle.fc_core.specs.Laws.{HasCome, answer_at, slot_of};
 ghost use Rattle.fc_core.specs.Replies.{bare, ran_response};
 ghost use Rattle.fc_core.specs.declared.block.BodyBlock.{BodyBlock};
 ghost use Rattle.fc_core.specs.declared.event.Event.TheVariants.{Take};
@@ -16,13 +16,22 @@ ghost use Rattle.std.specs.Prelude.{ℕ, ◌⊎◌, ◌++◌, ◌<◌, ◌≤◌
 
 /// A job that has an answer after an event had it before, or the event gives it for a reason. The answer is 5.03 (Service
 /// Unavailable) only where memory is refused, where the slot changes under the job's eighth ticket, or where the slot is
-/// at its last serial; 4.04 (Not Found) only where a taking finds the slot empty. A run's code and the first block of its
-/// reply are the answer only at the commit of the run, and where the run wants to write only if it may. The receipt of an
-/// install is its program's, its version is the slot's new serial, and it tells whether the slot was empty.
+/// at its last serial and is to change; 4.04 (Not Found) only where a taking or a receipt finds the slot empty; 2.03 (Valid)
+/// only where the slot's head word is that of a program at a serial that the request names; 2.02 (Deleted) only at a removal.
+/// A run's code and the first block of its reply are the answer only at the commit of the run, and where the run wants to
+/// write only if it may. The receipt of an install is its program's, its version is the slot's new serial, and it tells whether
+/// the slot was empty; that of a slot is its program's, with the serial of its install. A list of head words has 64.
 pub fn answers_have_causes()
     ensures { (h : History) (r : Entry) (k : ℕ) (c : Content)
         → answer_at (stage (seen (Then h r)) k) ≡ Some c
         → (answer_at (stage (seen h) k) ≡ Some c) ⊎ Causes h r k c }
+{}
+
+/// A slot is empty once its job's removal has made the answer 2.02 (Deleted).
+pub fn deleted_slots_are_empty()
+    ensures { (h : History) (r : Entry) (k : ℕ) → HasCome (seen h) k
+        → answer_at (stage (seen (Then h r)) k) ≡ Some Deleted
+        → (answer_at (stage (seen h) k) ≡ Some Deleted) ⊎ ((slot_at (seen (Then h r)) (slot_of (seen h) k)).present ≡ None) }
 {}
 
 /// A taking at its stage that finds the slot empty makes the answer 4.04 (Not Found), whether or not there is memory.

@@ -69,7 +69,7 @@ pub fn ended_jobs_stay_ended()
         → stage (seen (later h rs)) k ≡ Gone }
 {}
 
-/// Once its slot's new serial is published, a job stands at its answer, which is the one that it had.
+/// Once its slot's new head word is published, a job stands at its answer, which is the one that it had.
 pub fn raises_keep_the_answer()
     ensures { (s : Seen) (k word : ℕ) (o : Option Emission) (content : Content)
         → stage s k ≡ ToRaise word content → stage (and_then (did (Raise k) o) s) k ≡ ToAnswer content }

@@ -8,7 +8,7 @@
 //! use coap_msg::{Emission, Endpoint};
 //! use fc_core::{Answer, Answered, Delivered, End, Front};
 //!
-//! /// What is sent where no slot has a program: each job is answered 4.04.
+//! /// What is sent where each job is answered 4.04.
 //! fn reply(front: &mut Front, now: u64, from: Endpoint, bytes: &[u8]) -> Option<Emission> {
 //!     match front.deliver(now, from, bytes) {
 //!         Delivered::Reply(emission) => Some(emission),

@@ -124,7 +124,7 @@ fn valid(job: &Job, id: u16, serial: u64, bytes: &mut Datagram)
     reply(job, id, Code::VALID, options, &[], bytes);
 }
 
-// The format of links (RFC 6690, 7.4).
+// The Content-Format of links (RFC 7252, 12.3).
 const LINK_FORMAT: u16 = 40;
 
 // A 2.05 Content: the links of the slots that have a program, by their head words.

@@ -80,7 +80,7 @@ pub(crate) fn receipt_line(receipt: &Receipt) -> Text
     text
 }
 
-// The most bytes of the links: 64 times a comma, `</r/`, two digits and `>;obs`.
+// Room for the links: 64 times a comma, `</r/`, two digits and `>;obs` are 768 bytes.
 pub(crate) const LINKS: usize = 1024;
 
 // The links of the slots that have a program, each after a comma.

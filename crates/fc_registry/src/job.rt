@@ -12,7 +12,7 @@ pub struct Opening {
     pub at: u64,
 }
 
-/// Where a job comes from: its exchange, endpoint and message id, and the slot that its request names.
+/// Where a job comes from: its exchange, endpoint and message id, and the slot that its request names; one that names none has 0.
 #[derive(Clone, Copy, Debug, Default, PartialEq, Eq)]
 pub struct Origin {
     pub opening: Opening,

@@ -19,7 +19,7 @@ abbrev pub with_tasks : ServerState → List Task → Parts
 with_tasks s tasks = record { front = s.front; shards = s.shards; words = s.words; tasks = tasks }
 
 -- the server, with these jobs, is one that this history leaves: each event of it emitted what it may, each taking that found a
--- program has a meaning, and its front, its slots and its jobs are what is seen of it
+-- program has a meaning, and its front, its slots, their head words and its jobs are what is seen of it
 pub record Serves (h : History) (s : ServerState) (tasks : List Task) : Type 0 where
   pub legal : IsLegal h
   pub means : AllMean h

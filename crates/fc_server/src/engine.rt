@@ -18,7 +18,7 @@ use std::alloc::{AllocError, Global};
 use std::marker::Model;
 
 /// A server on one thread that some history leaves, whatever was called, and the place of the task that it works off. A clause
-/// sees what its front holds, and its shards.
+/// sees what its front holds, its shards, and their head words.
 #[derive(Drop)]
 pub struct Engine {
     server: Server,

@@ -51,7 +51,7 @@ next_stage job (ToList seen) (Looks word) = listed (seen.items ++ word ∷ [])
 next_stage job (ToRaise word content) Raises = ToAnswer content
 next_stage job stage call = stage
 
--- the call is the one that the stage needs, and its answer is true of some slot
+-- the call is the one that the stage needs, and its answer is true of some slot; what a look at a head word tells may be any
 abbrev pub IsCallAt : Job → Stage → Call → Type 0
 IsCallAt job ToMatch (Looks word) = Unit {0}
 IsCallAt job (ToTake n) (Takes taken) = IsSomeTaking job taken

@@ -1,6 +1,7 @@
 //! Workers: they get jobs, work them off over a bench, and send the replies.
 //!
-//! A job is worked off by calls, each at the stage that needs it: it takes, runs, commits and raises, or it installs. Many
+//! A job is worked off by calls, each at the stage that needs it: it takes, runs, commits and
+//! raises, or it installs, removes, describes, or looks at head words. Many
 //! workers do so at once, and between two calls of one the others change the slots. So a worker asks nothing of a shard: its
 //! [`Bench`] says of each call what the shard answers at some slot, and the next stage is told by that answer alone
 //! (`fc_core`'s `Stage`). `specs/Work.antt` says which calls a job's answer ends, and `specs/Shares.antt` what a worker's

@@ -334,7 +334,7 @@ fn shard_of(slot: SlotNumber) -> usize
     slot.shard()
 }
 
-/// A server whose front and shards are behind one lock. While a program runs or an image is verified nobody has it.
+/// A server whose front, head words and shards are behind one lock. While a program runs or an image is verified nobody has it.
 #[derive(Drop)]
 pub struct Locked<
     L0: Ledger,

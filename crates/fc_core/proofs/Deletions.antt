@@ -1,0 +1,117 @@
+-- A slot is empty once a removal is answered so.
+use Rattle.std.proofs.Common.{◌≡◌, ℕ, List, [], ◌∷◌, ◌++◌, Bool, true, false, Option, Some, None, length, refl, sym, ap, ◌∙◌, subst, ◌⊎◌, inl, inr, ⊎_elim, arith, if◌then◌else◌}
+use Rattle.std.specs.Prelude.{nat_lt, ◌==◌, is_none}
+use Rattle.arrayvec.specs.ArrayVec.{ArrayVec}
+use Rattle.fc_kinds.specs.Meaning.{Program}
+use Rattle.fc_verify.specs.Accepted.{Judgement, Accepts, Breaks, Untypable}
+use Rattle.fc_verify.specs.Judged.{judged}
+use Rattle.fc_registry.specs.declared.job.Job.{Job}
+use Rattle.fc_registry.specs.declared.commit.CommitOutcome.{CommitOutcome}
+use Rattle.fc_registry.specs.declared.commit.CommitOutcome.TheVariants.{Writes, Keeps, Overtakes, Ends}
+use Rattle.fc_registry.specs.Slots.{Slot, Present, Ticket, last_serial}
+use Rattle.fc_registry.specs.Changes.{after_changes}
+use Rattle.fc_registry.specs.Calls.{clear_by, outcome, put_by, receipt_at, receipt_of, taking}
+use Rattle.fc_core.specs.declared.event.Event.{Event}
+use Rattle.fc_core.specs.declared.event.Event.TheVariants.{Peek, Take, Commit, Install, Remove, Receipt, Raise, Answer, Lose}
+use Rattle.fc_core.specs.declared.stage.Stage.{Stage}
+use Rattle.fc_core.specs.declared.stage.Stage.TheVariants.{ToMatch, ToTake, ToCommit, ToInstall, ToRemove, ToDescribe, ToList, ToRaise, ToAnswer, Gone}
+use Rattle.fc_core.specs.declared.stage.Task.{Task}
+use Rattle.fc_core.specs.Contents.{Content, Deleted, Listed, Unavailable}
+use Rattle.fc_core.specs.Heads.{is_match, word_at}
+use Rattle.fc_core.specs.History.{Entry, History, Then, Seen, seen, and_then, job, scene, slot_at, stage, task_at}
+use Rattle.fc_core.specs.Laws.{HasCome, answer_at, slot_of}
+use Rattle.fc_core.specs.Stages.{Scene, committed, image_of, installed, made, matched_by, names, peeked_next, peeked_own, removed, row, told, took, verified}
+use Rattle.fc_core.proofs.Published.{own_after}
+use Rattle.fc_core.proofs.Steps.{Becomes, Moves, Stays, Comes, becomes}
+
+abbrev at : Job → Slot → List ℕ → Stage → Scene
+at job slot ws stage = record { job = job; slot = slot; words = ws; stage = stage }
+
+-- where the answer is so, the slot is empty
+abbrev IsEmptied : Slot → Stage → Type 0
+IsEmptied slot s = answer_at s ≡ Some Deleted → slot.present ≡ None
+
+took_empties : (slot : Slot) (memory : Bool) (job : Job) (serial n : ℕ) (p : Option Present) → IsEmptied slot (took n (taking memory job serial p))
+took_empties slot memory job serial n None e = absurd (cc e)
+took_empties slot true job serial n (Some p) e = absurd (cc e)
+took_empties slot false job serial n (Some p) e = absurd (cc e)
+
+retaken_empties : (slot : Slot) (n : ℕ) (b : Bool) → IsEmptied slot (if b then ToTake n else ToAnswer Unavailable)
+retaken_empties slot n true e = absurd (cc e)
+retaken_empties slot n false e = absurd (cc e)
+
+committed_empties : (slot : Slot) (n : ℕ) (t : Ticket) (now : ℕ) (o : CommitOutcome) → IsEmptied slot (committed o n t now).stage
+committed_empties slot n t now Writes e = absurd (cc e)
+committed_empties slot n t now Keeps e = absurd (cc e)
+committed_empties slot n t now Overtakes e = retaken_empties slot n (nat_lt n 8) e
+committed_empties slot n t now Ends e = absurd (cc e)
+
+put_empties : (after slot : Slot) (p : Program) (b : Bool) → IsEmptied after (made (receipt_of p 0) (put_by b slot p).answer)
+put_empties after slot p true e = absurd (cc e)
+put_empties after slot p false e = absurd (cc e)
+
+installed_empties : (after slot : Slot) (j : Judgement) → IsEmptied after (installed j slot).stage
+installed_empties after slot (Accepts p) e = put_empties after slot p (nat_lt slot.serial last_serial) e
+installed_empties after slot (Breaks rule k) e = absurd (cc e)
+installed_empties after slot Untypable e = absurd (cc e)
+
+verified_empties : (after : Slot) (memory : Bool) (x : Scene) → IsEmptied after (verified memory x).stage
+verified_empties after true x e = installed_empties after x.slot (judged (image_of x.job.ask)) e
+verified_empties after false x e = absurd (cc e)
+
+clear_empties : (slot : Slot) (b : Bool) (p : Option Present) → slot.present ≡ p → IsEmptied (after_changes slot (clear_by b slot.serial p).changes) (removed (clear_by b slot.serial p).answer)
+clear_empties slot b None is e = is
+clear_empties slot true (Some p) is e = refl
+clear_empties slot false (Some p) is e = absurd (cc e)
+
+told_empties : (slot : Slot) (p : Option Present) → IsEmptied slot (ToAnswer (told (receipt_at p)))
+told_empties slot None e = absurd (cc e)
+told_empties slot (Some p) e = absurd (cc e)
+
+matched_empties : (slot : Slot) (b : Bool) (word : ℕ) → IsEmptied slot (matched_by b word)
+matched_empties slot true word e = absurd (cc e)
+matched_empties slot false word e = absurd (cc e)
+
+own_empties : (slot : Slot) (b : Bool) (word : ℕ) (serials : List ℕ) → IsEmptied slot (peeked_own b word serials)
+own_empties slot true word serials e = matched_empties slot (is_match word serials) word e
+own_empties slot false word serials e = absurd (cc e)
+
+listed_empties : (slot : Slot) (b : Bool) (words : List ℕ) → IsEmptied slot (if b then ToList (record { items = words }) else ToAnswer (Listed words))
+listed_empties slot true words e = absurd (cc e)
+listed_empties slot false words e = absurd (cc e)
+
+next_empties : (slot : Slot) (b : Bool) (word : ℕ) (seen : ArrayVec ℕ) → IsEmptied slot (peeked_next b word seen)
+next_empties slot true word seen e = listed_empties slot (nat_lt (length (seen.items ++ word ∷ [])) 64) (seen.items ++ word ∷ []) e
+next_empties slot false word seen e = absurd (cc e)
+
+row_empties : (e : Event) (job : Job) (slot : Slot) (ws : List ℕ) (s : Stage) → answer_at (row e (at job slot ws s)).stage ≡ Some Deleted → (answer_at s ≡ Some Deleted) ⊎ ((after_changes slot (row e (at job slot ws s)).changes).present ≡ None)
+row_empties (Take k memory) job slot ws (ToTake n) e = inr (took_empties slot memory job slot.serial n slot.present e)
+row_empties (Take k memory) job slot ws other e = inl e
+row_empties (Commit k now) job slot ws (ToCommit n t) e = inr (committed_empties (after_changes slot (committed (outcome t slot) n t now).changes) n t now (outcome t slot) e)
+row_empties (Commit k now) job slot ws other e = inl e
+row_empties (Install k memory) job slot ws ToInstall e = inr (verified_empties (after_changes slot (verified memory (at job slot ws ToInstall)).changes) memory (at job slot ws ToInstall) e)
+row_empties (Install k memory) job slot ws other e = inl e
+row_empties (Remove k) job slot ws ToRemove e = inr (clear_empties slot (nat_lt slot.serial last_serial) slot.present refl e)
+row_empties (Remove k) job slot ws other e = inl e
+row_empties (Receipt k) job slot ws ToDescribe e = inr (told_empties slot slot.present e)
+row_empties (Receipt k) job slot ws other e = inl e
+row_empties (Peek k n) job slot ws ToMatch e = inr (own_empties slot (n == job.origin.slot) (word_at ws n) job.etags.items e)
+row_empties (Peek k n) job slot ws (ToList seen) e = inr (next_empties slot (n == length seen.items) (word_at ws n) seen e)
+row_empties (Peek k n) job slot ws other e = inl e
+row_empties (Raise k) job slot ws (ToRaise word content) e = inl e
+row_empties (Raise k) job slot ws other e = inl e
+row_empties (Answer k now) job slot ws (ToAnswer content) e = absurd (cc e)
+row_empties (Answer k now) job slot ws other e = inl e
+row_empties (Lose k) job slot ws s e = absurd (cc e)
+row_empties other job slot ws s e = inl e
+
+empties_by : (r : Entry) (s : Seen) (k : ℕ) (t : Task) → Becomes (names r.event) r.event s k t → HasCome s k → answer_at t.stage ≡ Some Deleted → (answer_at (stage s k) ≡ Some Deleted) ⊎ ((slot_at (and_then r s) (slot_of s k)).present ≡ None)
+empties_by r s k t (Moves named is) come e =
+    subst (λ (x : Slot). (answer_at (stage s k) ≡ Some Deleted) ⊎ (x.present ≡ None)) (sym (own_after r s k named))
+    (row_empties r.event (job s k) (slot_at s (slot_of s k)) s.words (stage s k) (ap (λ (x : Task). answer_at x.stage) (sym is) ∙ e))
+empties_by r s k t (Stays other is) come e = inl (ap (λ (x : Task). answer_at x.stage) (sym is) ∙ e)
+empties_by r s k t (Comes new j is) come e = absurd (omega (arith, new, come))
+
+pub deleted_is_empty : (h : History) (r : Entry) (k : ℕ) → HasCome (seen h) k → answer_at (stage (seen (Then h r)) k) ≡ Some Deleted → (answer_at (stage (seen h) k) ≡ Some Deleted) ⊎ ((slot_at (seen (Then h r)) (slot_of (seen h) k)).present ≡ None)
+unfolding seen
+deleted_is_empty h r k come e = empties_by r (seen h) k (task_at (and_then r (seen h)).tasks k) (becomes r (seen h) k) come e
