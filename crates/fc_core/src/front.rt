@@ -18,7 +18,9 @@ use crate::reply;
 use crate::reply::{refusal, reset};
 use arrayvec::ArrayVec;
 use coap_dedup::{Exchanges, Looked};
-use coap_msg::{Bad, Code, Datagram, Emission, Endpoint, Message, MessageType, Token, WINDOW, read};
+use coap_msg::{
+    Bad, Code, Datagram, Emission, Endpoint, Message, MessageType, Token, WINDOW, read,
+};
 use coap_opts::laws::requests_are_within;
 use coap_opts::request::ETAGS;
 use coap_opts::{Classified, Method, Request, Resource, classify};

@@ -16,12 +16,10 @@ use crate::answer::{Answer, End, Words};
 use crate::front::blank_job;
 use crate::heads::{Heads, WORDS, head_word, is_present, serial_in};
 use crate::stage::{Stage, Task};
+use arrayvec::ArrayVec;
 use fc_isa::Fault;
 use fc_machine::{Frame, Outcome, run};
-use arrayvec::ArrayVec;
-use fc_registry::{
-    Ask, Committed, Job, Made, Receipt, Removal, Shard, SlotNumber, Taken, Ticket,
-};
+use fc_registry::{Ask, Committed, Job, Made, Receipt, Removal, Shard, SlotNumber, Taken, Ticket};
 use fc_verify::{Refusal, Verified, verify};
 use std::alloc::{AllocError, Global};
 use std::mem;

@@ -84,8 +84,7 @@ fn a_bad_line_is_told_by_its_number(rt: HostRuntime) {
 }
 
 // A program that counts POSTs in eight bytes of variables, and gives a notice of each.
-const COUNT: &str =
-    "46434231080009000900000000000000b7010000000000008500000003000000\
+const COUNT: &str = "46434231080009000900000000000000b7010000000000008500000003000000\
     0700000001000000bf02000000000000b7010000000000008500000004000000\
     8500000007000000b7000000000000009500000000000000";
 
@@ -156,13 +155,15 @@ fn eight_overtakings(alloc: Global) -> io::Result<(Vec<u8>, Vec<u8>)> {
 #[test]
 fn the_eighth_overtaking_is_unavailable(rt: HostRuntime) {
     let lists = eight_overtakings(rt.alloc());
-    assert!(rt; lists.is_ok_and(|(list, printed)| replays_bytes(
-        rt.alloc(),
-        &list,
-        Status::Done,
-        &printed,
-        b"",
-    )));
+    assert!(rt;
+        lists.is_ok_and(|(list, printed)| replays_bytes(
+            rt.alloc(),
+            &list,
+            Status::Done,
+            &printed,
+            b"",
+        ))
+    );
 }
 
 // A version that was taken and then replaced isn't committed to.
