@@ -20,6 +20,7 @@ fn job(opened: u64) -> Job {
         },
         confirmable: true,
         token: Token::default(),
+        etags: Default::default(),
         ask: Ask::Run(Request::new(Method::Get, 0, None, &[], &[])),
     }
 }
