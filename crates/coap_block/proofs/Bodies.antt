@@ -6,7 +6,7 @@ use Rattle.std.proofs.lemmas.Bool.{and_left, and_right, eqb-true, eqb-false, eq-
 use Rattle.std.proofs.Math.Nat.{zero-mul}
 use Rattle.coap_msg.specs.declared.types.Endpoint.{Endpoint}
 use Rattle.coap_block.specs.declared.transfer.Transfer.{Transfer}
-use Rattle.coap_block.specs.Places.{Place, block_size}
+use Rattle.coap_opts.specs.Values.{Place, block_size}
 use Rattle.coap_block.specs.Uploads.{Add, Continues, IsWhole, add_of, before_by, before_of, body_among, body_behind, body_with, checked_by, extended_by, has_length, is_full, is_transfer_of, live, others, unless_full, unless_more}
 use Rattle.coap_block.specs.Transfers.{Begins, Fits, HasLength}
 

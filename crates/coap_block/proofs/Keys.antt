@@ -6,7 +6,7 @@ use Rattle.std.proofs.lemmas.Bool.{and_parts, and_right, eqb-true, eq-eqb, ltb-t
 use Rattle.coap_msg.specs.declared.types.Endpoint.{Endpoint}
 use Rattle.coap_msg.specs.Endpoints.{same_endpoint}
 use Rattle.coap_block.specs.declared.transfer.Transfer.{Transfer}
-use Rattle.coap_block.specs.Places.{Place}
+use Rattle.coap_opts.specs.Values.{Place}
 use Rattle.coap_block.specs.Uploads.{Add, IsWhole, after_block, body_among, is_transfer_of, is_under_way, kept_transfer, live, others, same_key}
 use Rattle.coap_block.proofs.Finds.{find-filter, find_agree, find_before, find_behind, find_nothing}
 

@@ -3,7 +3,7 @@ use Rattle.std.proofs.Common.{◌≡◌, ℕ, ◌<◌, ◌≤◌, List, length, 
 use Rattle.std.specs.Prelude.{find, not, nat_lt, ◌==◌, ◌&&◌}
 use borrow.Author.Tests.{ltb-true}
 use Rattle.coap_msg.specs.declared.types.Endpoint.{Endpoint}
-use Rattle.coap_block.specs.Places.{Place}
+use Rattle.coap_opts.specs.Values.{Place}
 use Rattle.coap_block.specs.declared.transfer.Transfer.{Transfer}
 use Rattle.coap_block.specs.Uploads.{IsWhole, is_transfer_of, others, is_full, before_by, before_of, body_behind}
 use Rattle.coap_block.proofs.Others.{others_fewer}

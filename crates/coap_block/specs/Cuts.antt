@@ -2,7 +2,7 @@
 use Rattle.std.specs.Prelude.{ℕ, ◌+◌, ◌*◌, ◌&&◌, Bool, true, false, nat_lt, not, List, length, take, drop, Option, Some, None, Result, Ok, Err}
 use Rattle.coap_block.specs.declared.cut.Cut.{Cut}
 use Rattle.coap_block.specs.declared.cut.PastEnd.{PastEnd}
-use Rattle.coap_block.specs.Places.{Place, block_places, block_size}
+use Rattle.coap_opts.specs.Values.{Place, block_size}
 
 -- a part of a body: its bytes, and its place where it isn't the whole
 pub record Part : Type 0 where
@@ -39,5 +39,5 @@ cut_of bytes (Some place) = cut_at bytes place.number place.szx
 
 -- a cut, as it is seen
 abbrev pub cut_seen : Result Cut PastEnd → Option Part
-cut_seen (Ok cut) = Some (record { bytes = cut.bytes.now; place = block_places cut.block })
+cut_seen (Ok cut) = Some (record { bytes = cut.bytes.now; place = cut.block })
 cut_seen (Err past) = None

@@ -1,4 +1,3 @@
-pub mod Places
 pub mod Cuts
 pub mod Uploads
 pub mod Views

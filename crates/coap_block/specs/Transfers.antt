@@ -4,7 +4,7 @@ use Rattle.std.specs.Option.{option_map}
 use Rattle.coap_msg.specs.declared.types.Endpoint.{Endpoint}
 use Rattle.coap_msg.specs.Windows.{window}
 use Rattle.coap_block.specs.declared.transfer.Transfer.{Transfer}
-use Rattle.coap_block.specs.Places.{Place, block_size}
+use Rattle.coap_opts.specs.Values.{Place, block_size}
 use Rattle.coap_block.specs.Uploads.{after_add, is_transfer_of, live, others, same_key}
 
 -- a payload that was added: at which moment, of which endpoint and slot, and as which block, if any
@@ -15,10 +15,13 @@ pub record Addition : Type 0 where
   pub block : Option Place
   pub payload : List ℕ
 
+abbrev pub after_addition : Addition → List Transfer → List Transfer
+after_addition a held = after_add held a.at a.endpoint a.slot a.block a.payload
+
 -- the transfers after additions, of which the latest stands first
 abbrev pub transfers : List Addition → List Transfer
 transfers [] = []
-transfers (a ∷ h) = after_add (transfers h) a.at a.endpoint a.slot a.block a.payload
+transfers (a ∷ h) = after_addition a (transfers h)
 
 -- the moments never fell, up to this one
 abbrev pub RisesTo : ℕ → List Addition → Type 0

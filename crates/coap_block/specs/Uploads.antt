@@ -4,7 +4,7 @@ use Rattle.coap_msg.specs.declared.types.Endpoint.{Endpoint}
 use Rattle.coap_msg.specs.Endpoints.{same_endpoint}
 use Rattle.coap_msg.specs.Windows.{within_window}
 use Rattle.coap_block.specs.declared.transfer.Transfer.{Transfer}
-use Rattle.coap_block.specs.Places.{Place, block_size}
+use Rattle.coap_opts.specs.Values.{Place, block_size}
 
 -- its latest block came less than a window before
 abbrev pub is_under_way : ℕ → Transfer → Bool

@@ -1,6 +1,5 @@
 //! The block of a body that a GET asks (RFC 7959, 2.4).
 ghost use Rattle.std.specs.Prelude.{◌≡◌, ◌<◌, ◌^◌};
-ghost use Rattle.coap_block.specs.Places.{block_places};
 ghost use Rattle.coap_block.specs.Cuts.{cut_at, cut_of, cut_seen};
 
 use coap_opts::Block;
@@ -30,10 +29,10 @@ pub struct PastEnd;
 /// # Errors
 /// The block isn't the first, and begins at or past the end.
 pub fn slice(bytes: &[u8], block2: Option<Block>) -> Result<Cut<'_>, PastEnd>
-    ensures { cut_seen result ≡ cut_of bytes.now (block_places block2) }
+    ensures { cut_seen result ≡ cut_of bytes.now block2 }
 {
     match block2 {
-        Some(block) => cut_at(bytes, block.number, block.szx),
+        Some(block) => cut_at(bytes, block.number(), block.szx()),
         None if bytes.len() <= WHOLE => Ok(Cut { bytes, block: None }),
         None => cut_at(bytes, 0, WHOLE_SZX),
     }
@@ -52,7 +51,7 @@ fn cut_at(bytes: &[u8], number: u32, szx: u8) -> Result<Cut<'_>, PastEnd>
     }
     let rest = &bytes[start..];
     let more = rest.len() > size;
-    let block = Block { number, more, szx };
+    let block = Block::new(number, more, szx);
     Ok(Cut {
         bytes: if more { &rest[..size] } else { rest },
         block: Some(block),

@@ -1,10 +1,9 @@
 //! Laws of what the definitions say: each function is a law, and its contract says it.
 ghost use Rattle.std.specs.Prelude.{◌≡◌, ◌↔◌, ℕ, ◌*◌, ◌<◌, ◌≤◌, false, true, List, None, Option, Some, find, length, take};
-ghost use Rattle.coap_opts.specs.declared.block.Block.{Block};
 ghost use Rattle.coap_opts.specs.Values.{block_value};
 ghost use Rattle.coap_msg.specs.declared.types.Endpoint.{Endpoint};
 ghost use Rattle.coap_block.specs.declared.transfer.Transfer.{Transfer};
-ghost use Rattle.coap_block.specs.Places.{Place, block_place, block_size, place_at, place_value};
+ghost use Rattle.coap_opts.specs.Values.{Place, block_size};
 ghost use Rattle.coap_block.specs.Uploads.{Continues, IsWhole, add_of, after_block, block_added, is_transfer_of, live, same_key};
 ghost use Rattle.coap_block.specs.Transfers.{Addition, FitsBehind, IsUnderWay, RisesTo, bytes_held, transfers};
 ghost use Rattle.coap_block.specs.Cuts.{Part, cut_at};
@@ -58,8 +57,3 @@ pub fn cuts_joined_are_the_body()
         ((cut_at body k szx ≡ None) ↔ ((0 < k) × (length body ≤ k * block_size szx))) }
 {}
 
-/// A block's value has one place, and the place that value.
-pub fn values_have_one_place()
-    ensures place { (b : Block) → place_at (block_value b) ≡ block_place b }
-    ensures value { (b : Block) → place_value (block_place b) ≡ block_value b }
-{}

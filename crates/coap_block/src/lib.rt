@@ -25,7 +25,7 @@
 //! /// The bytes that a GET of this body is answered, and whether more follow.
 //! fn answered(body: &[u8], block2: Option<Block>) -> Option<(&[u8], bool)> {
 //!     let cut = slice(body, block2).ok()?;
-//!     let more = cut.block.is_some_and(|block| block.more);
+//!     let more = cut.block.is_some_and(|block| block.more());
 //!     Some((cut.bytes, more))
 //! }
 //! ```

@@ -3,7 +3,6 @@ ghost use Rattle.std.specs.Prelude.{◌≡◌, ◌≤◌, ◌<◌, [], ◌∷◌
 ghost use Rattle.std.specs.Option.{option_copied, option_map};
 ghost use Rattle.coap_block.specs.Uploads.{add_of, after_add, after_block, before_of, block_added, body_behind, body_with, is_full, is_transfer_of, live, others};
 ghost use Rattle.coap_block.specs.Views.{add_seen};
-ghost use Rattle.coap_block.specs.Places.{block_place, block_places};
 
 use crate::transfer::{BODY, Body, Transfer, is_transfer_of, is_under_way};
 use coap_msg::Endpoint;
@@ -75,8 +74,8 @@ impl Uploads {
         block1: Option<Block>,
         payload: &[u8],
     ) -> Added
-        ensures added { add_seen result ≡ add_of self.old now endpoint slot (block_places block1) payload.now }
-        ensures after { self.new ≡ after_add self.old now endpoint slot (block_places block1) payload.now }
+        ensures added { add_seen result ≡ add_of self.old now endpoint slot block1 payload.now }
+        ensures after { self.new ≡ after_add self.old now endpoint slot block1 payload.now }
     {
         match block1 {
             None => body_with(Body::new(), payload),
@@ -93,17 +92,17 @@ impl Uploads {
         block: Block,
         payload: &[u8],
     ) -> Added
-        ensures added { add_seen result ≡ block_added self.old now endpoint slot (block_place block) payload.now }
-        ensures after { self.new ≡ after_block self.old now endpoint slot (block_place block) payload.now }
+        ensures added { add_seen result ≡ block_added self.old now endpoint slot block payload.now }
+        ensures after { self.new ≡ after_block self.old now endpoint slot block payload.now }
     {
         expire(&mut self.held, now);
-        let before = before(&self.held, endpoint, slot, block.number);
+        let before = before(&self.held, endpoint, slot, block.number());
         remove(&mut self.held, endpoint, slot);
-        if is_full(block.number, self.held.len()) {
+        if is_full(block.number(), self.held.len()) {
             return Added::Full;
         }
         match body_behind(before, block, payload) {
-            Added::Whole(body) if block.more => {
+            Added::Whole(body) if block.more() => {
                 let transfer = Transfer {
                     endpoint,
                     slot,
@@ -187,16 +186,16 @@ fn copy(body: &Body) -> Body
 
 // A block behind the payloads before it; one that fits is whole, also where more is to come.
 fn body_behind(before: Option<Body>, block: Block, payload: &[u8]) -> Added
-    ensures { add_seen result ≡ body_behind (option_map (λ b. b.items) before) (block_place block) payload.now }
+    ensures { add_seen result ≡ body_behind (option_map (λ b. b.items) before) block payload.now }
 {
     let Some(body) = before else {
         return Added::Incomplete;
     };
     let size = block.size();
-    if block.number as usize * size != body.len() {
+    if block.number() as usize * size != body.len() {
         return Added::Incomplete;
     }
-    if payload.len() > size || block.more && payload.len() != size {
+    if payload.len() > size || block.more() && payload.len() != size {
         return Added::BadLength;
     }
     body_with(body, payload)

@@ -138,11 +138,7 @@ fn block(number: u32, more: bool) -> Block
     requires { number < 1048576 }
     ensures { (result.number ≡ number) × (result.more ≡ more) × (result.szx ≡ 6) }
 {
-    Block {
-        number,
-        more,
-        szx: BLOCK_SZX,
-    }
+    Block::new(number, more, BLOCK_SZX)
 }
 
 fn method_code(method: Method) -> Code

@@ -102,11 +102,11 @@ fn next_of_answer(number: u32, message: &Message<'_>) -> Next
 fn after_block(number: u32, count: usize, block: Block) -> Next
     ensures { result ≡ spec.by_block number count (block_value block) }
 {
-    if block.number != number {
+    if block.number() != number {
         return Next::Misfit;
     }
-    let sized = block.szx == BLOCK_SZX;
-    if block.more {
+    let sized = block.szx() == BLOCK_SZX;
+    if block.more() {
         if sized && count == BLOCK && number + 1 < BLOCKS {
             Next::Ask(Part::Answer(number + 1))
         } else {

@@ -7,10 +7,10 @@ use Rattle.coap_opts.specs.declared.request.Resource.{Resource}
 use Rattle.coap_opts.specs.Path.{method_of}
 use Rattle.coap_opts.specs.Served.{serves, there}
 use Rattle.coap_opts.specs.Recognition.{has_unknown_critical}
-use Rattle.coap_opts.specs.Verdict.{IsKnown, IsServedAt, asked, has, resource, names_proxy, number_in, query, etags, observe_at, is_reserved, has_bad_value, refusal_code}
+use Rattle.coap_opts.specs.Verdict.{IsKnown, IsServedAt, asked, has, resource, names_proxy, number_in, block_in, query, etags, observe_at, is_reserved, has_bad_value, refusal_code}
 use Rattle.coap_opts.specs.Collected.{IsCollected, IsQueryBy, lent, resource_with}
 use Rattle.coap_opts.specs.declared.collector.Collected.{Collected}
-use Rattle.coap_opts.specs.Values.{uint_value}
+use Rattle.coap_opts.specs.Values.{Place, place_in}
 use Rattle.std.specs.Option.{option_map}
 
 pub proxy_fails : (m : Message) → names_proxy m ≡ true → refusal_code m ≡ Some 165
@@ -61,7 +61,7 @@ pub collected_served : (m : Message) (g : Collected) (method : Method) (at : Res
     serves at method ≡ true → IsServedAt m method at
 collected_served m g method at h k e r s = record { known = k; method_is = e; resource_is = ap there (sym h.path) ∙ r; served = s }
 
-pub collected_bad : (m : Message) (g : Collected) → IsCollected m g → (first second : Option ℕ) → first ≡ option_map uint_value (lent g.block1) → second ≡ option_map uint_value (lent g.block2) →
+pub collected_bad : (m : Message) (g : Collected) → IsCollected m g → (first second : Option Place) → first ≡ option_map place_in (lent g.block1) → second ≡ option_map place_in (lent g.block2) →
     has_bad_value m ≡ ((is_reserved first || is_reserved second) || g.query.is_long)
 collected_bad m g h first second a b = rw (a, b, h.block1, h.block2, long_by _ _ _ h.query) refl
 
@@ -74,7 +74,7 @@ query_by true items all h e = absurd (cc (sym (lt-ltb 64 (length all) h) ∙ e))
 query_by false items all h e = h.0
 
 pub collected_query : (m : Message) (g : Collected) → IsCollected m g → has_bad_value m ≡ false → g.query.items.items ≡ query m
-collected_query m g h e = query_by _ _ _ h.query (or_right (is_reserved (number_in 27 m) || is_reserved (number_in 23 m)) _ e)
+collected_query m g h e = query_by _ _ _ h.query (or_right (is_reserved (block_in 27 m) || is_reserved (block_in 23 m)) _ e)
 
 -- the request
 asked_is : (m : Message) (method : Method) (at : Resource) → IsServedAt m method at → asked m ≡ Some (record {
@@ -84,15 +84,15 @@ asked_is : (m : Message) (method : Method) (at : Resource) → IsServedAt m meth
   content_format = number_in 12 m;
   etags = etags m;
   observe = observe_at at (number_in 6 m);
-  block1 = number_in 27 m;
-  block2 = number_in 23 m;
+  block1 = block_in 27 m;
+  block2 = block_in 23 m;
   payload = m.payload;
 })
 unfolding asked
 asked_is m method at s = rw (s.method_is, s.resource_is) refl
 
-pub asked_with : (m : Message) (method : Method) (at : Resource) (whole : List ℕ) (format : Option ℕ) (tags : List ℕ) (watch first second : Option ℕ) (payload : List ℕ) →
-    IsServedAt m method at → whole ≡ query m → format ≡ number_in 12 m → tags ≡ etags m → watch ≡ observe_at at (number_in 6 m) → first ≡ number_in 27 m → second ≡ number_in 23 m → payload ≡ m.payload →
+pub asked_with : (m : Message) (method : Method) (at : Resource) (whole : List ℕ) (format : Option ℕ) (tags : List ℕ) (watch : Option ℕ) (first second : Option Place) (payload : List ℕ) →
+    IsServedAt m method at → whole ≡ query m → format ≡ number_in 12 m → tags ≡ etags m → watch ≡ observe_at at (number_in 6 m) → first ≡ block_in 27 m → second ≡ block_in 23 m → payload ≡ m.payload →
     asked m ≡ Some (record {
       method = method;
       resource = at;

@@ -1,5 +1,5 @@
 -- What a request that is carried out is within, and what a refusal is.
-use Rattle.std.proofs.Common.{◌≡◌, ◌≢◌, ℕ, ◌%◌, ◌<◌, ◌≤◌, ◌==◌, ◌&&◌, ◌||◌, List, [], ◌∷◌, not, Bool, true, false, if◌then◌else◌, nat_lt, nat_le, length, map, take, Option, Some, None, IfSome, refl, sym, ap, subst, ◌∙◌, arith}
+use Rattle.std.proofs.Common.{◌≡◌, ◌≢◌, ℕ, ◌<◌, ◌≤◌, ◌==◌, ◌&&◌, ◌||◌, List, [], ◌∷◌, not, Bool, true, false, if◌then◌else◌, nat_lt, nat_le, length, map, take, Option, Some, None, IfSome, refl, sym, ap, subst, ◌∙◌, arith}
 use Rattle.std.specs.List.{filter}
 use Rattle.std.specs.Option.{option_map}
 use Rattle.std.proofs.lemmas.List.{length-take}
@@ -15,8 +15,8 @@ use Rattle.coap_opts.specs.declared.request.Method.TheVariants.{Get, Put}
 use Rattle.coap_opts.specs.declared.request.Resource.{Resource}
 use Rattle.coap_opts.specs.declared.request.Resource.TheVariants.{Run, Program, Core}
 use Rattle.coap_opts.specs.Path.{method_of}
-use Rattle.coap_opts.specs.Values.{uint_value}
-use Rattle.coap_opts.specs.Verdict.{Asked, IsAsked, IsAskedWithin, IsBlockFor, IsErrorCode, IsRefused, IsSilent, IsReset, IsSignal, IsIgnored, Verdict, asked, accepted, resource, verdict, verdict_by, request_verdict, verdict_by_check, refusal_verdict, refusal_code, checks, first_failing, first_of, is_request, is_reserved, is_run, is_served, has_bad_value, query, values, number_in, etags, observe_at}
+use Rattle.coap_opts.specs.Values.{Place, place_in, uint_value}
+use Rattle.coap_opts.specs.Verdict.{Asked, IsAsked, IsAskedWithin, IsBlockFor, IsErrorCode, IsRefused, IsSilent, IsReset, IsSignal, IsIgnored, Verdict, asked, accepted, resource, verdict, verdict_by, request_verdict, verdict_by_check, refusal_verdict, refusal_code, checks, first_failing, first_of, is_request, is_reserved, is_run, is_served, has_bad_value, query, values, number_in, block_in, etags, observe_at}
 use Rattle.coap_opts.specs.Served.{is_there, there, serves}
 use Rattle.coap_opts.proofs.Known.{block1_in_put, block2_in_get, etag_in_get, observe_in_get}
 use Rattle.coap_opts.proofs.Paths.{path_only}
@@ -29,8 +29,8 @@ record IsMadeOf (m : Message) (r : Asked) : Type 0 where
   query_is : r.query ≡ query m
   etags_are : r.etags ≡ etags m
   observe_is : r.observe ≡ observe_at r.resource (number_in option.OBSERVE m)
-  block1_is : r.block1 ≡ number_in option.BLOCK1 m
-  block2_is : r.block2 ≡ number_in option.BLOCK2 m
+  block1_is : r.block1 ≡ block_in option.BLOCK1 m
+  block2_is : r.block2 ≡ block_in option.BLOCK2 m
   payload_is : r.payload ≡ m.payload
 
 abbrev fields : Message → Method → Resource → Asked
@@ -41,8 +41,8 @@ fields m method at = record {
   content_format = number_in option.CONTENT_FORMAT m;
   etags = etags m;
   observe = observe_at at (number_in option.OBSERVE m);
-  block1 = number_in option.BLOCK1 m;
-  block2 = number_in option.BLOCK2 m;
+  block1 = block_in option.BLOCK1 m;
+  block2 = block_in option.BLOCK2 m;
   payload = m.payload;
 }
 
@@ -118,12 +118,12 @@ served_by (Some at) (Some method) r q a e h =
     let equal : method ≡ q = cc in
     cc
 
-good_size : (value : ℕ) → is_reserved (Some value) ≡ false → value % 8 < 7
-good_size value h = let not_seven : value % 8 ≢ 7 = eqb-false (value % 8) 7 h in omega arith
+good_size : (b : Place) → b.szx < 8 → is_reserved (Some b) ≡ false → b.szx < 7
+good_size b lt h = let not_seven : b.szx ≢ 7 = eqb-false b.szx 7 h in omega arith
 
-block_by : (wanted method : Method) (value : Option (List ℕ)) → is_reserved (option_map uint_value value) ≡ false → ((v : List ℕ) → value ≡ Some v → method ≡ wanted) → IsBlockFor wanted method (option_map uint_value value)
+block_by : (wanted method : Method) (value : Option (List ℕ)) → is_reserved (option_map place_in value) ≡ false → ((v : List ℕ) → value ≡ Some v → method ≡ wanted) → IsBlockFor wanted method (option_map place_in value)
 block_by wanted method None g h = tt
-block_by wanted method (Some v) g h = (h v refl, good_size (uint_value v) g)
+block_by wanted method (Some v) g h = (h v refl, good_size (place_in v) (omega arith) g)
 
 or_false : (a b : Bool) → a || b ≡ false → (a ≡ false) × (b ≡ false)
 or_false true b h = absurd (cc h)

@@ -1,7 +1,7 @@
 -- What is served: a row for each option that is recognised, and one for each resource and each method there.
 use Rattle.std.specs.Prelude.{ℕ, ◌||◌, Bool, true, false, if◌then◌else◌, List, [], ◌∷◌, Option, Some, None}
 use Rattle.coap_msg.specs.declared.code.Code.{Code}
-use Rattle.coap_msg.specs.declared.code.TheConstants.Code.{GET}
+use Rattle.coap_msg.specs.declared.code.TheConstants.Code.{GET, PUT}
 use Rattle.coap_opts.specs.declared.number.TheConstants as option
 use Rattle.coap_opts.specs.declared.served.Row.{Row}
 use Rattle.coap_opts.specs.declared.request.Method.{Method}
@@ -27,6 +27,8 @@ rows =
     ∷ repeatable option.URI_PATH 0 255 None
     ∷ once option.CONTENT_FORMAT 0 2 None
     ∷ repeatable option.URI_QUERY 0 255 None
+    ∷ once option.BLOCK2 0 3 (Some GET)
+    ∷ once option.BLOCK1 0 3 (Some PUT)
     ∷ once option.PROXY_URI 1 1034 None
     ∷ once option.PROXY_SCHEME 1 255 None
     ∷ []

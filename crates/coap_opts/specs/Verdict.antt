@@ -1,5 +1,5 @@
 -- The class of a message: the first check that fails, or the request with its fields.
-use Rattle.std.specs.Prelude.{◌≡◌, ◌≢◌, ℕ, ◌%◌, ◌<◌, ◌==◌, ◌&&◌, ◌||◌, not, Bool, true, false, nat_lt, if◌then◌else◌, List, [], ◌∷◌, length, take, map, Option, Some, None, Result, Ok, Err, IfSome, codes, ◌≤◌}
+use Rattle.std.specs.Prelude.{◌≡◌, ◌≢◌, ℕ, ◌<◌, ◌==◌, ◌&&◌, ◌||◌, not, Bool, true, false, nat_lt, if◌then◌else◌, List, [], ◌∷◌, length, take, map, Option, Some, None, Result, Ok, Err, IfSome, codes, ◌≤◌}
 use Rattle.std.specs.List.{filter, join_by}
 use Rattle.std.specs.Option.{option_map}
 use Rattle.coap_msg.specs.declared.types.MessageType.{MessageType}
@@ -17,7 +17,7 @@ use Rattle.coap_opts.specs.declared.request.Resource.TheVariants.{Run}
 use Rattle.coap_opts.specs.declared.request.Request.{Request}
 use Rattle.coap_opts.specs.declared.request.Classified.{Classified}
 use Rattle.coap_opts.specs.declared.request.Classified.TheVariants as classified
-use Rattle.coap_opts.specs.Values.{uint_value, block_value}
+use Rattle.coap_opts.specs.Values.{Place, place_in, uint_value}
 use Rattle.coap_opts.specs.Recognition.{values_of, has_unknown_critical}
 use Rattle.coap_opts.specs.Path.{IsResource, method_of, resource_of}
 use Rattle.coap_opts.specs.Served.{serves, there}
@@ -42,6 +42,10 @@ has (Some x) = true
 abbrev pub number_in : ℕ → Message → Option ℕ
 number_in number m = option_map uint_value (first_of (values number m))
 
+-- the block that the option with this number names, where it is there
+abbrev pub block_in : ℕ → Message → Option Place
+block_in number m = option_map place_in (first_of (values number m))
+
 -- the values of Uri-Query, joined by `&`
 abbrev pub query : Message → List ℕ
 query m = join_by (λ v. v) (codes "&") (values option.URI_QUERY m)
@@ -59,7 +63,7 @@ abbrev pub observe_at : Resource → Option ℕ → Option ℕ
 observe_at (Run n) value = value
 observe_at _ value = None
 
--- a request that is carried out; a block by its option's value
+-- a request that is carried out
 pub record Asked : Type 0 where
   pub method : Method
   pub resource : Resource
@@ -67,8 +71,8 @@ pub record Asked : Type 0 where
   pub content_format : Option ℕ
   pub etags : List ℕ
   pub observe : Option ℕ
-  pub block1 : Option ℕ
-  pub block2 : Option ℕ
+  pub block1 : Option Place
+  pub block2 : Option Place
   pub payload : List ℕ
 
 -- the fields of a request whose method and resource there are
@@ -83,8 +87,8 @@ asked m =
       content_format = number_in option.CONTENT_FORMAT m;
       etags = etags m;
       observe = observe_at resource (number_in option.OBSERVE m);
-      block1 = number_in option.BLOCK1 m;
-      block2 = number_in option.BLOCK2 m;
+      block1 = block_in option.BLOCK1 m;
+      block2 = block_in option.BLOCK2 m;
       payload = m.payload;
     })
 
@@ -100,17 +104,17 @@ is_served (Some resource) (Some method) = serves resource method
 is_served _ _ = false
 
 -- size 7 is reserved (RFC 7959, 2.2)
-abbrev pub is_reserved : Option ℕ → Bool
+abbrev pub is_reserved : Option Place → Bool
 is_reserved None = false
-is_reserved (Some value) = value % 8 == 7
+is_reserved (Some block) = block.szx == 7
 
 -- a block of the reserved size, or a query that is too long
-abbrev pub is_bad : Option ℕ → Option ℕ → Bool → Bool
+abbrev pub is_bad : Option Place → Option Place → Bool → Bool
 is_bad block1 block2 is_long = (is_reserved block1 || is_reserved block2) || is_long
 
 -- the blocks, and a query of at most 64 bytes
 abbrev pub has_bad_value : Message → Bool
-has_bad_value m = is_bad (number_in option.BLOCK1 m) (number_in option.BLOCK2 m) (nat_lt 64 (length (query m)))
+has_bad_value m = is_bad (block_in option.BLOCK1 m) (block_in option.BLOCK2 m) (nat_lt 64 (length (query m)))
 
 -- the checks in their order: whether each fails, and the code that then answers
 abbrev pub checks : Message → List (Bool × ℕ)
@@ -201,8 +205,8 @@ asked_by r = record {
   content_format = r.content_format;
   etags = r.etags.items;
   observe = r.observe;
-  block1 = option_map block_value r.block1;
-  block2 = option_map block_value r.block2;
+  block1 = r.block1;
+  block2 = r.block2;
   payload = r.payload.now;
 }
 
@@ -227,8 +231,8 @@ is_run (Run n) = true
 is_run _ = false
 
 -- a block, where there is one, comes with this method, and its size isn't the reserved one
-abbrev pub IsBlockFor : Method → Method → Option ℕ → Type 0
-IsBlockFor wanted method block = IfSome block (λ value. (method ≡ wanted) × (value % 8 < 7))
+abbrev pub IsBlockFor : Method → Method → Option Place → Type 0
+IsBlockFor wanted method block = IfSome block (λ b. (method ≡ wanted) × (b.szx < 7))
 
 -- a request that is carried out: its method is served at its resource, one of the server's, its payload is the message's, and each field is within its limits
 pub record IsAskedWithin (m : Message) (r : Asked) : Type 0 where

@@ -2,28 +2,47 @@
 ghost use Rattle.std.specs.Prelude.{◌<◌, ◌^◌};
 
 use crate::uint::{UintBytes, decode_uint, encode_uint};
+use std::marker::Model;
 
-/// Which block of a body: its number, its size, and whether more follow.
+/// Which block of a body: its number, its size, and whether more follow. A clause sees these three.
 #[derive(Clone, Copy, Debug, PartialEq, Eq)]
 pub struct Block {
-    /// The block's number, from 0 on; it has 20 bits.
-    pub number: u32,
-    /// Whether more blocks follow.
-    pub more: bool,
-    /// The size's exponent less 4, 0 to 7; 7 is reserved.
-    pub szx: u8,
-    pub ghost number_fits: { number < 2 ^ 20 },
-    pub ghost szx_fits: { szx < 8 },
+    number: u32,
+    more: bool,
+    szx: u8,
+}
+
+impl Model for Block {
+    ghost use Rattle.std.specs.Prelude.{◌<◌, ◌^◌};
+    ghost use Rattle.coap_opts.specs.Values.{Place};
+
+    ghost Value = { Place };
+
+    ghost view = { λ b. record { number = b.number; more = b.more; szx = b.szx } };
+
+    ghost invariant = { λ b. (b.number < 2 ^ 20) × (b.szx < 8) };
+
+    ghost inverse = { λ p. record { number = p.number; more = p.more; szx = p.szx } };
 }
 
 impl Block {
-    ghost use Rattle.std.specs.Prelude.{◌≡◌, ◌≤◌, ◌+◌, ◌^◌, length};
-    ghost use Rattle.coap_opts.specs.Values.{block_value, uint_bytes, uint_value};
+    ghost use Rattle.std.specs.Prelude.{◌≡◌, ◌≤◌, length};
+    ghost use Rattle.coap_opts.specs.Values.{block_size, block_value, place_in, uint_bytes, uint_value};
+
+    /// The block of this number, of which more follow or don't, and whose size has this exponent less 4.
+    pub fn new(number: u32, more: bool, szx: u8) -> Block
+        requires number { number < 2 ^ 20 }
+        requires szx { szx < 8 }
+        ensures { result ≡ record { number = number; more = more; szx = szx } }
+    {
+        Block { number, more, szx }
+    }
 
     /// Decodes a value of at most 3 bytes. Leading zeros are legal.
     pub fn read(bytes: &[u8]) -> Block
         requires { length bytes.now ≤ 3 }
-        ensures { block_value result ≡ uint_value bytes.now }
+        ensures block { result ≡ place_in bytes.now }
+        ensures value { block_value result ≡ uint_value bytes.now }
     {
         let value = decode_uint(bytes) as u32;
         Block {
@@ -41,9 +60,32 @@ impl Block {
         encode_uint(u64::from(16 * self.number + more + u32::from(self.szx)))
     }
 
+    /// Its number, from 0 on; it has 20 bits.
+    pub fn number(self) -> u32
+        ensures number { result ≡ self.number }
+        ensures limit { result < 2 ^ 20 }
+    {
+        self.number
+    }
+
+    /// Whether more blocks follow.
+    pub fn more(self) -> bool
+        ensures { result ≡ self.more }
+    {
+        self.more
+    }
+
+    /// The exponent of its size less 4, 0 to 7; 7 is reserved.
+    pub fn szx(self) -> u8
+        ensures szx { result ≡ self.szx }
+        ensures limit { result < 8 }
+    {
+        self.szx
+    }
+
     /// How many bytes a block has: 16 to 1,024, and 2,048 where the size is the reserved one.
     pub fn size(self) -> usize
-        ensures { result ≡ 2 ^ (self.szx + 4) }
+        ensures { result ≡ block_size self.szx }
     {
         1 << (self.szx + 4)
     }

@@ -2,8 +2,6 @@
 ghost use Rattle.std.specs.Prelude.{◌≡◌, ◌||◌, None, Some};
 ghost use Rattle.coap_opts.specs.Verdict.{IsRequestOf, refusal_verdict, request_verdict, verdict_of, verdict};
 ghost use Rattle.coap_opts.specs.Verdict as spec;
-ghost use Rattle.std.specs.Option.{option_map};
-ghost use Rattle.coap_opts.specs.Values.{block_value};
 
 use crate::block::Block;
 use crate::collector::{JoinedQuery, collect};
@@ -77,9 +75,11 @@ fn request<'a>(message: &Message<'a>) -> Result<Request<'a>, Code>
     if !serves(resource, method) {
         return Err(Code::METHOD_NOT_ALLOWED);
     }
-    let block1 = fields::block_of(collected.block1);
-    let block2 = fields::block_of(collected.block2);
-    if is_bad(block1, block2, &collected.query) {
+    if is_bad(
+        fields::block_of(collected.block1),
+        fields::block_of(collected.block2),
+        &collected.query,
+    ) {
         return Err(Code::BAD_REQUEST);
     }
     let payload = message.payload();
@@ -93,16 +93,15 @@ fn request<'a>(message: &Message<'a>) -> Result<Request<'a>, Code>
         content_format: fields::format_of(collected.content_format),
         etags: collected.etags,
         observe: observe_at(resource, fields::observe_of(collected.observe)),
-        block1,
-        block2,
+        block1: fields::block_of(collected.block1),
+        block2: fields::block_of(collected.block2),
         payload,
     })
 }
 
 /// A block of the reserved size, or a query that is too long.
 fn is_bad(block1: Option<Block>, block2: Option<Block>, query: &JoinedQuery) -> bool
-    ensures { result ≡
-        spec.is_bad (option_map block_value block1) (option_map block_value block2) query.now.is_long }
+    ensures { result ≡ spec.is_bad block1 block2 query.now.is_long }
 {
     is_reserved(block1) || is_reserved(block2) || query.is_long
 }
@@ -119,7 +118,7 @@ fn observe_at(resource: Resource, observe: Option<u32>) -> Option<u32>
 
 /// Whether a block has the reserved size.
 fn is_reserved(block: Option<Block>) -> bool
-    ensures { result ≡ spec.is_reserved (option_map block_value block) }
+    ensures { result ≡ spec.is_reserved block }
 {
-    block.is_some_and(|block| block.szx == 7)
+    block.is_some_and(|block| block.szx() == 7)
 }

@@ -1,7 +1,7 @@
 //! The fields of a request, each decoded from the value of its option.
 ghost use Rattle.std.specs.Prelude.{◌≡◌, ◌≤◌, [], length};
 ghost use Rattle.std.specs.Option.{option_map};
-ghost use Rattle.coap_opts.specs.Values.{block_value, uint_value};
+ghost use Rattle.coap_opts.specs.Values.{place_in, uint_value};
 ghost use Rattle.coap_opts.specs.Collected.{IsShort, lent, resource_with};
 
 use crate::block::Block;
@@ -43,7 +43,7 @@ fn decode_u24(bytes: &[u8]) -> u32
 /// Decodes a Block1 or a Block2.
 pub(crate) fn block_of(value: Option<&[u8]>) -> Option<Block>
     requires { IsShort 3 value }
-    ensures { option_map block_value result ≡ option_map uint_value (lent value.entry) }
+    ensures { result ≡ option_map place_in (lent value.entry) }
 {
     Some(Block::read(value?))
 }

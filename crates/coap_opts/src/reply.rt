@@ -80,11 +80,21 @@ impl Reply<'_> {
         ensures bytes { datagram.new.items ≡ message_bytes (reply_message self.now) }
         ensures message { IsMessage (reply_message self.now) }
     {
+        fit_head(self.code, self.id);
         datagram.clear();
         write_head(self.kind, self.code, self.id, self.token, datagram);
         self.options.write(datagram);
         write_payload(self.payload, datagram);
     }
+}
+
+// What the types of a code and a message id say.
+fn fit_head(code: Code, id: u16)
+    ensures code { code.byte < 256 }
+    ensures id { id < 65536 }
+{
+    let _ = code;
+    let _ = id;
 }
 
 fn etag_bytes(version: Option<u64>) -> Option<UintBytes>

@@ -3,7 +3,7 @@ ghost use Rattle.std.specs.Prelude.{◌≡◌};
 ghost use Rattle.coap_opts.specs.Served as spec;
 
 use crate::number::{
-    CONTENT_FORMAT, ETAG, OBSERVE, PROXY_SCHEME, PROXY_URI, URI_HOST, URI_PATH, URI_PORT, URI_QUERY,
+    BLOCK1, BLOCK2, CONTENT_FORMAT, ETAG, OBSERVE, PROXY_SCHEME, PROXY_URI, URI_HOST, URI_PATH, URI_PORT, URI_QUERY,
 };
 use crate::request::{Method, Resource};
 use coap_msg::Code;
@@ -24,7 +24,7 @@ pub struct Row {
 }
 
 /// The options that are known, in the order of their numbers.
-pub const OPTIONS: [Row; 9] = [
+pub const OPTIONS: [Row; 11] = [
     Row {
         number: URI_HOST,
         least: 1,
@@ -73,6 +73,20 @@ pub const OPTIONS: [Row; 9] = [
         greatest: 255,
         repeatable: true,
         only: None,
+    },
+    Row {
+        number: BLOCK2,
+        least: 0,
+        greatest: 3,
+        repeatable: false,
+        only: Some(Code::GET),
+    },
+    Row {
+        number: BLOCK1,
+        least: 0,
+        greatest: 3,
+        repeatable: false,
+        only: Some(Code::PUT),
     },
     Row {
         number: PROXY_URI,

@@ -1,5 +1,5 @@
 -- The message ids that are drawn come in order, and none comes twice in a window.
-use Rattle.std.proofs.Common.{◌≡◌, ℕ, ◌+◌, ◌%◌, ◌<◌, ◌≤◌, List, [], ◌∷◌, length, get_or, set, Bool, true, false, Option, Some, None, refl, sym, ap, ◌∙◌, subst, ◌⊎◌, ⊎_elim, arith, max, if◌then◌else◌, length-set}
+use Rattle.std.proofs.Common.{◌≡◌, ℕ, ◌+◌, ◌%◌, ◌<◌, ◌≤◌, List, [], ◌∷◌, length, get_or, set, Bool, true, false, Option, Some, None, refl, sym, ap, ◌∙◌, subst, ⊎_elim, arith, max, if◌then◌else◌, length-set}
 use Rattle.std.specs.Prelude.{◌==◌, is_some}
 use borrow.Author.Tests.{ltb-false}
 use Rattle.std.proofs.lemmas.Bool.{cases_eq, eq-eqb, ne_eqb}
@@ -11,8 +11,8 @@ use Rattle.fc_core.specs.Contents.{Content}
 use Rattle.fc_core.specs.Exchanges.{opening_is_live}
 use Rattle.fc_core.specs.ExchangeLaws.{AllBefore, AreApart, AreInOrder, Draw, draws_by, draws_of, first_id}
 use Rattle.fc_core.specs.History.{History, Begins, Then, Seen, seen, and_then, ids_after, ids_answered, job, moment_after, received_at, stage}
-use Rattle.fc_core.specs.Ids.{Ids, drawn, drawn_by, drawn_for, is_recent, last_drawn, no_draws}
-use Rattle.fc_core.specs.Receiving.{Received, Full, Refused, is_confirmable}
+use Rattle.fc_core.specs.Ids.{Ids, drawn_by, drawn_for, is_recent, last_drawn, no_draws}
+use Rattle.fc_core.specs.Receiving.{Received, Full, Refused, Settled, is_confirmable}
 use Rattle.fc_core.specs.Receiving as receiving
 use Rattle.fc_core.specs.Stages.{content_at}
 
@@ -32,6 +32,7 @@ draw_for false old at = draw_if old at (is_recent at (last_drawn old)) refl
 draw_received : (x : Received) (old : Ids) (at : ℕ) → Draws old at (receiving.drawn_by x old at)
 draw_received (Full m) old at = draw_for (is_confirmable m.kind) old at
 draw_received (Refused m answer) old at = draw_for (is_confirmable m.kind) old at
+draw_received (Settled m asked response) old at = draw_for (is_confirmable m.kind) old at
 draw_received other old at = Same refl
 
 draw_answered : (c : Option Content) (live confirmable : Bool) (old : Ids) (m now : ℕ) → Draws old (if is_some c then max m now else m) (ids_answered c live confirmable old (max m now))

@@ -27,7 +27,8 @@ use Rattle.fc_core.specs.declared.stage.Task.{Task}
 use Rattle.fc_core.specs.Exchanges.{FrontState}
 use Rattle.fc_core.specs.Fits.{FitsSlot, FitsStage}
 use Rattle.fc_core.specs.History.{Entry, Seen, and_then, changes_after, front_at, job, no_task, scene, slot_at, stage, task_at, tasks_brought, tasks_moved}
-use Rattle.fc_core.specs.Receiving.{AskWithin, JobWithin, Received, Opened, ask_by, brought, job_of, look_in, looked, next_opening, received, received_as, received_read, slot_of_resource}
+use Rattle.fc_core.specs.Receiving.{AskWithin, JobWithin, Received, add_in, received_added, request_received, ask_by, brought, job_of, look_in, looked, next_opening, received, received_as, received_read, slot_of_resource}
+use Rattle.coap_block.specs.Uploads.{Add, Continues, IsWhole, IsIncomplete, IsBadLength, IsTooLarge, IsFull}
 use Rattle.fc_core.specs.Receiving as x
 use Rattle.fc_core.specs.Sound.{AllSafe, IsSafelySeen, IsSound}
 use Rattle.fc_core.specs.Stages.{task_moved, names, new_task, row}
@@ -36,29 +37,29 @@ use Rattle.fc_core.proofs.Fitting.{after_changes-append, first_fits, fits_change
 
 -- ---- what a delivery brings is within its limits
 
-ask_within : (r : Asked) (method : Method) (at : Resource) → length r.query ≤ 64 → length r.payload ≤ 1024 → AskWithin (ask_by method at r)
-ask_within r methods.Get (resources.Run n) q p = (q, p)
-ask_within r methods.Post (resources.Run n) q p = (q, p)
-ask_within r methods.Put (resources.Run n) q p = tt
-ask_within r methods.Delete (resources.Run n) q p = tt
-ask_within r methods.Get (resources.Program n) q p = tt
-ask_within r methods.Post (resources.Program n) q p = tt
-ask_within r methods.Put (resources.Program n) q p = tt
-ask_within r methods.Delete (resources.Program n) q p = tt
-ask_within r methods.Get resources.Core q p = tt
-ask_within r methods.Post resources.Core q p = tt
-ask_within r methods.Put resources.Core q p = tt
-ask_within r methods.Delete resources.Core q p = tt
+ask_within : (r : Asked) (method : Method) (at : Resource) (body : List ℕ) → length r.query ≤ 64 → length r.payload ≤ 1024 → AskWithin (ask_by method at r body)
+ask_within r methods.Get (resources.Run n) body q p = (q, p)
+ask_within r methods.Post (resources.Run n) body q p = (q, p)
+ask_within r methods.Put (resources.Run n) body q p = tt
+ask_within r methods.Delete (resources.Run n) body q p = tt
+ask_within r methods.Get (resources.Program n) body q p = tt
+ask_within r methods.Post (resources.Program n) body q p = tt
+ask_within r methods.Put (resources.Program n) body q p = tt
+ask_within r methods.Delete (resources.Program n) body q p = tt
+ask_within r methods.Get resources.Core body q p = tt
+ask_within r methods.Post resources.Core body q p = tt
+ask_within r methods.Put resources.Core body q p = tt
+ask_within r methods.Delete resources.Core body q p = tt
 
 slot_within : (at : Resource) → IsResource at → slot_of_resource at < 64
 slot_within (resources.Run n) is = is
 slot_within (resources.Program n) is = is
 slot_within resources.Core is = omega arith
 
-asked_job : (o : Opening) (to : Endpoint) (m : Message) (r : Asked) → IsAskedWithin m r → JobWithin (job_of o to m r)
-asked_job o to m r w =
+asked_job : (o : Opening) (to : Endpoint) (m : Message) (r : Asked) (body : List ℕ) → IsAskedWithin m r → JobWithin (job_of o to m r body)
+asked_job o to m r body w =
     let short : length r.payload ≤ 1024 = subst (λ (p : List ℕ). length p ≤ 1024) (sym w.payload_is) w.short in
-    (slot_within r.resource w.resource, ask_within r r.method r.resource w.query short)
+    (slot_within r.resource w.resource, ask_within r r.method r.resource body w.query short)
 
 abbrev AreWithin : Received → Opening → Endpoint → Type 0
 AreWithin x o to = Each JobWithin (brought x o to)
@@ -70,8 +71,16 @@ looked_within IsAnsweredNon m new o to w = tt
 looked_within (IsAgain bytes) m new o to w = tt
 looked_within IsFull m new o to w = tt
 
+added_within : (a : Add) (m : Message) (r : Asked) (o : Opening) (to : Endpoint) → IsAskedWithin m r → AreWithin (received_added a m r) o to
+added_within (IsWhole body) m r o to w = (asked_job o to m r body w, tt)
+added_within Continues m r o to w = tt
+added_within IsIncomplete m r o to w = tt
+added_within IsBadLength m r o to w = tt
+added_within IsTooLarge m r o to w = tt
+added_within IsFull m r o to w = tt
+
 verdict_within : (f : FrontState) (m : Message) (v : Verdict) (o : Opening) (to : Endpoint) → verdict m ≡ v → AreWithin (received_as f to m v) o to
-verdict_within f m (IsAsked r) o to e = looked_within (look_in f to m) m (Opened m r) o to (asked_job o to m r (asked_within m r e), tt)
+verdict_within f m (IsAsked r) o to e = looked_within (look_in f to m) m (request_received f to m r) o to (added_within (add_in f to r) m r o to (asked_within m r e))
 verdict_within f m (IsRefused answer) o to e = looked_within (look_in f to m) m (x.Refused m answer) o to tt
 verdict_within f m IsSilent o to e = looked_within (look_in f to m) m (x.Silenced m) o to tt
 verdict_within f m IsReset o to e = tt

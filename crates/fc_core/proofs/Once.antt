@@ -12,7 +12,7 @@ use Rattle.coap_msg.specs.declared.types.Emission.{Emission}
 use Rattle.coap_msg.specs.declared.types.Endpoint.{Endpoint}
 use Rattle.coap_msg.specs.Reading.{reading_of}
 use Rattle.coap_msg.specs.Wire.{Message}
-use Rattle.coap_opts.specs.Verdict.{Verdict, IsAsked, IsRefused, IsSilent, IsReset, IsSignal, IsIgnored, verdict}
+use Rattle.coap_opts.specs.Verdict.{Asked, Verdict, IsAsked, IsRefused, IsSilent, IsReset, IsSignal, IsIgnored, verdict}
 use Rattle.coap_dedup.specs.Exchanges.{Exchange}
 use Rattle.coap_dedup.specs.Exchanges.{Look, IsNew, IsBusy, IsAgain, IsSilent as IsAnsweredNon, IsFull, answered_if, is_of}
 use Rattle.coap_msg.specs.Endpoints.{same_endpoint}
@@ -25,7 +25,8 @@ use Rattle.fc_core.specs.declared.stage.Task.{Task}
 use Rattle.fc_core.specs.ExchangeLaws.{is_within, repeated}
 use Rattle.fc_core.specs.History.{Entry, History, Begins, Then, Seen, seen, and_then, answered_in, exchanges_after, front_at, job, no_task, received_at, stage, tasks_brought, tasks_moved}
 use Rattle.fc_core.specs.Laws.{HasCome}
-use Rattle.fc_core.specs.Receiving.{Received, Silenced, Refused, Opened, brought, kept_of, look_in, looked, next_opening, opened_by, received_as, received_read}
+use Rattle.coap_block.specs.Uploads.{Add, Continues, IsWhole, IsIncomplete, IsBadLength, IsTooLarge, IsFull}
+use Rattle.fc_core.specs.Receiving.{Received, Silenced, Refused, Opened, add_in, received_added, request_received, brought, kept_of, look_in, looked, next_opening, opened_by, received_as, received_read}
 use Rattle.fc_core.specs.Stages.{content_at, names, new_task}
 use Rattle.fc_core.proofs.Lists.{Each}
 use Rattle.fc_core.proofs.Others.{job_stays}
@@ -117,8 +118,16 @@ module _ (s : Seen) (now : ℕ) (to : Endpoint) where
   no_repeat : (m : Message) → look_in (front_at s now) to m ≡ IsNew → repeated s (max s.moment now) to m.id ≡ None
   no_repeat m is = (new_look (repeated s (max s.moment now) to m.id) (room_at s (max s.moment now)) (sym (look_is s now to m) ∙ is)).none
 
+  added_new : (a : Add) (m : Message) (r : Asked) → look_in (front_at s now) to m ≡ IsNew → AreNew (received_added a m r)
+  added_new (IsWhole body) m r is = (record { moment = max s.moment now; none = no_repeat m is; at_is = refl; opened = inl (refl, refl, refl) }, tt)
+  added_new Continues m r is = tt
+  added_new IsIncomplete m r is = tt
+  added_new IsBadLength m r is = tt
+  added_new IsTooLarge m r is = tt
+  added_new IsFull m r is = tt
+
   verdict_new : (m : Message) (v : Verdict) → AreNew (received_as (front_at s now) to m v)
-  verdict_new m (IsAsked asked) = looked_new m (Opened m asked) (look_in (front_at s now) to m) (λ is. (record { moment = max s.moment now; none = no_repeat m is; at_is = refl; opened = inl (refl, refl, refl) }, tt))
+  verdict_new m (IsAsked asked) = looked_new m (request_received (front_at s now) to m asked) (look_in (front_at s now) to m) (λ is. added_new (add_in (front_at s now) to asked) m asked is)
   verdict_new m (IsRefused answer) = looked_new m (Refused m answer) (look_in (front_at s now) to m) (λ is. tt)
   verdict_new m IsSilent = looked_new m (Silenced m) (look_in (front_at s now) to m) (λ is. tt)
   verdict_new m IsReset = tt
@@ -142,7 +151,7 @@ brought_new (Deliver now to bytes) emitted s = new_tasks s now to (received_at s
 brought_new other emitted s = tt
 
 one_job : (x : Received) (o : Opening) (to : Endpoint) → length (map new_task (brought x o to)) ≤ 1
-one_job (Opened m asked) o to = omega arith
+one_job (Opened m asked body) o to = omega arith
 one_job other o to = omega arith
 
 one_brought : (e : Event) (s : Seen) → length (tasks_brought e s) ≤ 1

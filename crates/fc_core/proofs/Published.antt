@@ -1,39 +1,31 @@
 -- What a job is to raise is the head word of its slot's new state.
-use Rattle.std.proofs.Common.{◌≡◌, ℕ, ◌+◌, ◌<◌, ◌≤◌, List, [], ◌∷◌, ◌++◌, Bool, true, false, Option, Some, None, length, map, get_or, set, refl, sym, ap, ◌∙◌, subst, ◌⊎◌, inl, inr, ⊎_elim, arith, max, if◌then◌else◌}
-use Rattle.std.specs.Prelude.{nat_lt, ◌==◌, is_some, replicate}
-use Rattle.std.proofs.lemmas.Bool.{cases_eq, cases_lt}
-use Rattle.std.proofs.lemmas.List.{get_or_past, get_or-replicate, get_or-set_same, get_or-set_other, length-set}
+use Rattle.std.proofs.Common.{◌≡◌, ℕ, ◌+◌, List, [], ◌∷◌, ◌++◌, Bool, true, false, Option, Some, None, length, refl, sym, ap, ◌∙◌, subst, inl, inr, arith, if◌then◌else◌}
+use Rattle.std.specs.Prelude.{nat_lt, ◌==◌, is_some}
 use Rattle.fc_verify.specs.Accepted.{Judgement, Accepts, Breaks, Untypable}
 use Rattle.fc_verify.specs.Judged.{judged}
 use Rattle.fc_kinds.specs.Meaning.{Program}
-use Rattle.fc_registry.specs.declared.job.Ask.{Ask}
-use Rattle.fc_registry.specs.declared.job.Ask.TheVariants.{Run, Install as Installs, Remove as Removes, Describe, Discover}
 use Rattle.fc_registry.specs.declared.job.Job.{Job}
-use Rattle.fc_registry.specs.declared.receipt.Receipt.{Receipt as Facts}
 use Rattle.fc_registry.specs.declared.commit.CommitOutcome.{CommitOutcome}
 use Rattle.fc_registry.specs.declared.commit.CommitOutcome.TheVariants.{Writes, Keeps, Overtakes, Ends}
 use Rattle.fc_registry.specs.Slots.{Slot, Present, Ticket, last_serial, new_slot}
-use Rattle.fc_registry.specs.Changes.{Change, Installed, Committed, Removed, after_changes, changed, with_vars}
-use Rattle.fc_registry.specs.Calls.{clear_by, commit_of, outcome, put_by, receipt_at, receipt_of, taking}
+use Rattle.fc_registry.specs.Changes.{after_changes, with_vars}
+use Rattle.fc_registry.specs.Calls.{clear_by, commit_of, outcome, put_by, receipt_of, taking}
 use Rattle.fc_core.specs.declared.event.Event.{Event}
-use Rattle.fc_core.specs.declared.event.Event.TheVariants.{Deliver, Peek, Take, Commit as Commits, Install, Remove, Receipt, Raise, Answer, Lose}
+use Rattle.fc_core.specs.declared.event.Event.TheVariants.{Peek, Take, Commit as Commits, Install, Remove, Receipt, Raise, Answer, Lose}
 use Rattle.fc_core.specs.declared.stage.Stage.{Stage}
-use Rattle.fc_core.specs.declared.stage.Stage.TheVariants.{ToMatch, ToTake, ToCommit, ToInstall, ToRemove, ToDescribe, ToList, ToRaise, ToAnswer, Gone}
+use Rattle.fc_core.specs.declared.stage.Stage.TheVariants.{ToMatch, ToTake, ToCommit, ToInstall, ToRemove, ToDescribe, ToList, ToRaise, ToAnswer}
 use Rattle.fc_core.specs.declared.stage.Task.{Task}
 use Rattle.arrayvec.specs.ArrayVec.{ArrayVec}
-use Rattle.fc_core.specs.Contents.{Content, Listed, Unavailable}
+use Rattle.fc_core.specs.Contents.{Listed, Unavailable}
 use Rattle.fc_core.specs.Fits.{FitsStage}
 use Rattle.fc_core.specs.Heads.{head_word, is_match, word_at}
-use Rattle.fc_core.specs.History.{Entry, History, Begins, Then, Seen, seen, and_then, changes_after, front_at, job, no_task, scene, slot_at, stage, task_at, tasks_brought, tasks_moved, words_seen}
-use Rattle.fc_core.specs.HeadLaws.{PublishesAt, slot_word}
+use Rattle.fc_core.specs.History.{Entry, History, Then, Seen, seen, and_then, job, scene, slot_at, stage, task_at}
+use Rattle.fc_core.specs.HeadLaws.{PublishesAt}
 use Rattle.fc_core.specs.Laws.{HasCome, slot_of}
 use Rattle.fc_core.specs.Sound.{IsSound}
-use Rattle.fc_core.specs.Receiving.{Received, brought, next_opening, received}
-use Rattle.fc_core.specs.Stages.{Move, Scene, at_peek, committed, first_by, image_of, installed, made, matched_by, names, new_task, peeked_next, peeked_own, removed, row, task_moved, told, took, verified}
+use Rattle.fc_core.specs.Stages.{Scene, committed, image_of, installed, made, matched_by, names, peeked_next, peeked_own, removed, row, took, verified}
 use Rattle.fc_core.proofs.Commits.{writes_at}
 use Rattle.fc_core.proofs.Fitting.{after_changes-append, writes_found}
-use Rattle.fc_core.proofs.Keeping.{Grows, grows, slot_grows}
-use Rattle.fc_core.proofs.Lists.{Each, appended_all, written_all}
 use Rattle.fc_core.proofs.Others.{own_slot}
 use Rattle.fc_core.proofs.Steps.{Becomes, Moves, Stays, Comes, becomes}
 use Rattle.fc_core.proofs.Writing.{sound}

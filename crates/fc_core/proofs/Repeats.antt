@@ -1,5 +1,5 @@
 -- Which deliveries open an exchange, and which are repeats.
-use Rattle.std.proofs.Common.{◌≡◌, ℕ, ◌+◌, List, [], ◌∷◌, ◌++◌, length, map, Bool, true, false, cond, Option, Some, None, Result, Ok, Err, refl, sym, ap, ◌∙◌, subst, max}
+use Rattle.std.proofs.Common.{◌≡◌, ℕ, List, [], ◌∷◌, ◌++◌, length, map, Bool, true, false, cond, Option, Some, None, Result, Ok, Err, refl, sym, ap, ◌∙◌, subst, max}
 use Rattle.std.specs.Prelude.{nat_lt, ◌==◌, ◌&&◌, filter, find, is_some, if◌then◌else◌}
 use borrow.Author.Tests.{ltb-true, lt-ltb}
 use Rattle.std.proofs.lemmas.Bool.{and_parts, and_from}
@@ -11,7 +11,7 @@ use Rattle.coap_msg.specs.declared.types.Emission.{Emission}
 use Rattle.coap_msg.specs.declared.types.Endpoint.{Endpoint}
 use Rattle.coap_msg.specs.Reading.{reading_of}
 use Rattle.coap_msg.specs.Wire.{Message}
-use Rattle.coap_opts.specs.Verdict.{Verdict, IsAsked, IsRefused, IsSilent, IsReset, IsSignal, IsIgnored, verdict}
+use Rattle.coap_opts.specs.Verdict.{Asked, Verdict, IsAsked, IsRefused, IsSilent, IsReset, IsSignal, IsIgnored, verdict}
 use Rattle.coap_dedup.specs.Exchanges.{Exchange}
 use Rattle.coap_dedup.specs.Exchanges.{Look, IsNew, IsBusy, IsAgain, IsSilent as IsAnsweredNon, IsFull, answered_if, has_room, is_of, look_by, repeated_by}
 use Rattle.fc_registry.specs.declared.job.Job.{Job}
@@ -19,11 +19,12 @@ use Rattle.fc_registry.specs.declared.job.Opening.{Opening}
 use Rattle.fc_core.specs.declared.event.Event.{Event}
 use Rattle.fc_core.specs.declared.event.Event.TheVariants.{Deliver, Answer}
 use Rattle.fc_core.specs.Exchanges.{FrontState}
-use Rattle.fc_core.specs.ExchangeLaws.{Arrival, ArrivesBy, IsArrival, IsAsking, IsOpening, IsRepeat, Opens, OpensOne, Repeats, again, arrival_of, arrivals, is_within, repeat_emits, repeated}
+use Rattle.fc_core.specs.ExchangeLaws.{Arrival, ArrivesBy, IsAsking, IsOpening, IsRepeat, Opens, OpensOne, Repeats, again, arrival_of, arrivals, is_within, repeat_emits, repeated}
 use Rattle.fc_core.specs.History.{Entry, Seen, and_then, answered_in, exchanges_after, exchanges_received, front_at, ids_after, job, received_at, stage, tasks_brought, tasks_moved}
 use Rattle.fc_core.specs.Ids.{Ids}
 use Rattle.fc_core.specs.Legal.{Emits}
-use Rattle.fc_core.specs.Receiving.{Received, is_confirmable, Repeated, Again, Silenced, Refused, Opened, brought, drawn_by, kept_of, look_in, looked, next_opening, opened_by, received, received_as, received_read, sent}
+use Rattle.coap_block.specs.Uploads.{Add, Continues, IsWhole, IsIncomplete, IsBadLength, IsTooLarge, IsFull}
+use Rattle.fc_core.specs.Receiving.{Received, add_in, is_confirmable, received_added, request_received, Repeated, Again, Silenced, Refused, brought, drawn_by, kept_of, look_in, looked, next_opening, opened_by, received, received_as, received_read, sent}
 use Rattle.fc_core.specs.Stages.{content_at, names, new_task}
 
 -- ---- what a request is to the exchanges
@@ -37,12 +38,12 @@ find-filter p q [] = refl
 find-filter p q (x ∷ xs) = found_if p q x (filter q xs) (find (λ y. q y && p y) xs) (q x) (find-filter p q xs)
 
 -- what a request is where it is new
-abbrev new_as : Verdict → Message → Received
-new_as (IsAsked asked) m = Opened m asked
-new_as (IsRefused answer) m = Refused m answer
-new_as other m = Silenced m
+abbrev new_as : FrontState → Endpoint → Verdict → Message → Received
+new_as f to (IsAsked asked) m = request_received f to m asked
+new_as f to (IsRefused answer) m = Refused m answer
+new_as f to other m = Silenced m
 
-asking_looked : (f : FrontState) (to : Endpoint) (m : Message) (v : Verdict) → IsAsking v → received_as f to m v ≡ looked (look_in f to m) m (new_as v m)
+asking_looked : (f : FrontState) (to : Endpoint) (m : Message) (v : Verdict) → IsAsking v → received_as f to m v ≡ looked (look_in f to m) m (new_as f to v m)
 asking_looked f to m (IsAsked asked) a = refl
 asking_looked f to m (IsRefused answer) a = refl
 asking_looked f to m IsSilent a = refl
@@ -60,11 +61,11 @@ room_at s at = has_room (length (filter (is_within at) s.exchanges)) (length s.e
 pub look_is : (s : Seen) (now : ℕ) (to : Endpoint) (m : Message) → look_in (front_at s now) to m ≡ look_by (repeated s (max s.moment now) to m.id) (room_at s (max s.moment now))
 look_is s now to m = ap (λ o. look_by o (room_at s (max s.moment now))) (find-filter (is_of to m.id) (is_within (max s.moment now)) s.exchanges)
 
-request_is : (s : Seen) (now : ℕ) (to : Endpoint) (bytes : List ℕ) (m : Message) (o : Option Exchange) → reading_of bytes ≡ Ok m → IsAsking (verdict m) → repeated s (max s.moment now) to m.id ≡ o → received_at s now to bytes ≡ looked (look_by o (room_at s (max s.moment now))) m (new_as (verdict m) m)
+request_is : (s : Seen) (now : ℕ) (to : Endpoint) (bytes : List ℕ) (m : Message) (o : Option Exchange) → reading_of bytes ≡ Ok m → IsAsking (verdict m) → repeated s (max s.moment now) to m.id ≡ o → received_at s now to bytes ≡ looked (look_by o (room_at s (max s.moment now))) m (new_as (front_at s now) to (verdict m) m)
 request_is s now to bytes m o read asks is =
     received_of (front_at s now) to bytes (Ok m) read
     ∙ (asking_looked (front_at s now) to m (verdict m) asks
-    ∙ ap (λ l. looked l m (new_as (verdict m) m)) (look_is s now to m ∙ ap (λ x. look_by x (room_at s (max s.moment now))) is))
+    ∙ ap (λ l. looked l m (new_as (front_at s now) to (verdict m) m)) (look_is s now to m ∙ ap (λ x. look_by x (room_at s (max s.moment now))) is))
 
 -- ---- repeats
 
@@ -98,7 +99,7 @@ repeat_sent false (Some bytes) f to = refl
 repeat_sent false None f to = refl
 
 repeat_is : (s : Seen) (now : ℕ) (to : Endpoint) (bytes : List ℕ) (e : Exchange) → IsRepeat s now to bytes e → received_at s now to bytes ≡ repeat_as e.confirmable e.answer
-repeat_is s now to bytes e w = request_is s now to bytes w.message (Some e) w.read w.asks w.is ∙ repeat_looked e.confirmable e.answer w.message (new_as (verdict w.message) w.message)
+repeat_is s now to bytes e w = request_is s now to bytes w.message (Some e) w.read w.asks w.is ∙ repeat_looked e.confirmable e.answer w.message (new_as (front_at s now) to (verdict w.message) w.message)
 
 idle : (s : Seen) (now : ℕ) (to : Endpoint) (bytes : List ℕ) (e : Exchange) → IsRepeat s now to bytes e → IsIdle (received_at s now to bytes)
 idle s now to bytes e w = subst IsIdle (sym (repeat_is s now to bytes e w)) (repeat_idle e.confirmable e.answer)
@@ -160,19 +161,28 @@ received_arrivals s now to x o = kept_arrivals (length s.exchanges) (kept_of x o
 abbrev arrival_by : Message → Opening → Endpoint → Arrival
 arrival_by m o to = record { endpoint = to; id = m.id; confirmable = is_confirmable m.kind; at = o.at }
 
-new_opens : (v : Verdict) (m : Message) (o : Opening) (to : Endpoint) → map arrival_of (opened_by (new_as v m) o to) ≡ arrival_by m o to ∷ []
-new_opens (IsAsked asked) m o to = refl
-new_opens (IsRefused answer) m o to = refl
-new_opens IsSilent m o to = refl
-new_opens IsReset m o to = refl
-new_opens (IsSignal reset) m o to = refl
-new_opens IsIgnored m o to = refl
+-- whatever becomes of its payload, a new request opens an exchange
+added_opens : (a : Add) (m : Message) (r : Asked) (o : Opening) (to : Endpoint) → map arrival_of (opened_by (received_added a m r) o to) ≡ arrival_by m o to ∷ []
+added_opens Continues m r o to = refl
+added_opens (IsWhole body) m r o to = refl
+added_opens IsIncomplete m r o to = refl
+added_opens IsBadLength m r o to = refl
+added_opens IsTooLarge m r o to = refl
+added_opens IsFull m r o to = refl
 
-opening_is : (s : Seen) (now : ℕ) (to : Endpoint) (bytes : List ℕ) (w : IsOpening s now to bytes) → received_at s now to bytes ≡ new_as (verdict w.message) w.message
+new_opens : (f : FrontState) (from : Endpoint) (v : Verdict) (m : Message) (o : Opening) (to : Endpoint) → map arrival_of (opened_by (new_as f from v m) o to) ≡ arrival_by m o to ∷ []
+new_opens f from (IsAsked asked) m o to = added_opens (add_in f from asked) m asked o to
+new_opens f from (IsRefused answer) m o to = refl
+new_opens f from IsSilent m o to = refl
+new_opens f from IsReset m o to = refl
+new_opens f from (IsSignal reset) m o to = refl
+new_opens f from IsIgnored m o to = refl
+
+opening_is : (s : Seen) (now : ℕ) (to : Endpoint) (bytes : List ℕ) (w : IsOpening s now to bytes) → received_at s now to bytes ≡ new_as (front_at s now) to (verdict w.message) w.message
 opening_is s now to bytes w =
     let at = max s.moment now in
     request_is s now to bytes w.message None w.read w.asks w.new
-    ∙ ap (λ b. looked (look_by None b) w.message (new_as (verdict w.message) w.message)) (and_from (nat_lt (length (filter (is_within at) s.exchanges)) 1024) (nat_lt (length s.exchanges) 18446744073709551615) (lt-ltb (length (filter (is_within at) s.exchanges)) 1024 w.room) (lt-ltb (length s.exchanges) 18446744073709551615 w.numbers))
+    ∙ ap (λ b. looked (look_by None b) w.message (new_as (front_at s now) to (verdict w.message) w.message)) (and_from (nat_lt (length (filter (is_within at) s.exchanges)) 1024) (nat_lt (length s.exchanges) 18446744073709551615) (lt-ltb (length (filter (is_within at) s.exchanges)) 1024 w.room) (lt-ltb (length s.exchanges) 18446744073709551615 w.numbers))
 
 opens_one : (s : Seen) (e : Event) (o : Option Emission) → Opens s e → (a : Arrival) × ArrivesBy s e a × (map arrival_of (exchanges_after e o s) ≡ arrivals s ++ a ∷ [])
 opens_one s (Deliver now to bytes) o w = (
@@ -180,7 +190,7 @@ opens_one s (Deliver now to bytes) o w = (
   record { message = w.message; read = w.read; arrival_is = refl },
   received_arrivals s now to (received_at s now to bytes.now) o
       ∙ (ap (λ x. arrivals s ++ map arrival_of (opened_by x (next_opening (front_at s now)) to)) (opening_is s now to bytes.now w)
-      ∙ ap (λ l. arrivals s ++ l) (new_opens (verdict w.message) w.message (next_opening (front_at s now)) to)),
+      ∙ ap (λ l. arrivals s ++ l) (new_opens (front_at s now) to (verdict w.message) w.message (next_opening (front_at s now)) to)),
 )
 opens_one s other o w = absurd w
 
@@ -219,7 +229,7 @@ opening_of s now to bytes m read asks is =
     record { message = m; read = read; asks = asks; new = new.none; room = ltb-true (length (filter (is_within at) s.exchanges)) 1024 parts.0; numbers = ltb-true (length s.exchanges) 18446744073709551615 parts.1 }
 
 asked_opens : (s : Seen) (now : ℕ) (to : Endpoint) (bytes : List ℕ) (m : Message) (v : Verdict) (o : Opening) → reading_of bytes ≡ Ok m → verdict m ≡ v → (IsOpening s now to bytes → ⊥) → length (opened_by (received_as (front_at s now) to m v) o to) ≡ 0
-asked_opens s now to bytes m (IsAsked asked) o read is not = looked_opens (look_in (front_at s now) to m) m (Opened m asked) o to (λ new. not (opening_of s now to bytes m read (subst IsAsking (sym is) tt) new))
+asked_opens s now to bytes m (IsAsked asked) o read is not = looked_opens (look_in (front_at s now) to m) m (request_received (front_at s now) to m asked) o to (λ new. not (opening_of s now to bytes m read (subst IsAsking (sym is) tt) new))
 asked_opens s now to bytes m (IsRefused answer) o read is not = looked_opens (look_in (front_at s now) to m) m (Refused m answer) o to (λ new. not (opening_of s now to bytes m read (subst IsAsking (sym is) tt) new))
 asked_opens s now to bytes m IsSilent o read is not = looked_opens (look_in (front_at s now) to m) m (Silenced m) o to (λ new. not (opening_of s now to bytes m read (subst IsAsking (sym is) tt) new))
 asked_opens s now to bytes m IsReset o read is not = refl

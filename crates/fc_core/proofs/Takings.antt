@@ -20,7 +20,7 @@ use Rattle.fc_core.specs.declared.event.Event.{Event}
 use Rattle.fc_core.specs.declared.event.Event.TheVariants.{Peek, Take, Commit, Install, Remove, Receipt, Raise, Answer, Lose}
 use Rattle.fc_core.specs.declared.stage.Stage.{Stage}
 use Rattle.fc_core.specs.declared.stage.Stage.TheVariants.{ToMatch, ToTake, ToCommit, ToInstall, ToRemove, ToDescribe, ToList, ToRaise, ToAnswer, Gone}
-use Rattle.fc_core.specs.Blocks.{first_block}
+use Rattle.fc_core.specs.Blocks.{cut_for}
 use Rattle.arrayvec.specs.ArrayVec.{ArrayVec}
 use Rattle.fc_core.specs.Contents.{Content, Listed, Ran, RunAnswer, run_answer, Unavailable}
 use Rattle.fc_core.specs.Heads.{is_match, word_at}
@@ -73,7 +73,7 @@ retaken_took n ts false e is le = (omega arith, tt)
 
 newest_says : (ts : List Taking) (t : Ticket) → IsNewest ts t → IsOfNewest ts (run_answer t (meaning_at t))
 newest_says [] t e = e
-newest_says (x ∷ xs) t e = (ap (λ (y : Ticket). (meaning_at y).code) (sym e), ap (λ (y : Ticket). first_block (meaning_at y).reply) (sym e), ap (λ (y : Ticket). y.serial) (sym e))
+newest_says (x ∷ xs) t e = (ap (λ (y : Ticket). (meaning_at y).code) (sym e), ap (λ (y : Ticket). cut_for y.block (meaning_at y).reply) (sym e), ap (λ (y : Ticket). y.serial) (sym e))
 
 committed_took : (n : ℕ) (ts : List Taking) (t : Ticket) (now : ℕ) (o : CommitOutcome) → length ts ≡ n → n ≤ 8 → IsNewest ts t → Took ts (committed o n t now).stage
 committed_took n ts t now Writes is le e = (omega arith, newest_says ts t e)

@@ -12,7 +12,7 @@ use Rattle.fc_core.specs.declared.event.Event.TheVariants.{Deliver, Peek, Take, 
 use Rattle.fc_core.specs.declared.stage.Stage.{Stage}
 use Rattle.arrayvec.specs.ArrayVec.{ArrayVec}
 use Rattle.fc_core.specs.declared.stage.Stage.TheVariants.{ToMatch, ToTake, ToCommit, ToInstall, ToRemove, ToDescribe, ToList, ToAnswer}
-use Rattle.fc_core.specs.Blocks.{first_block}
+use Rattle.fc_core.specs.Blocks.{cut_for}
 use Rattle.fc_core.specs.Contents.{Content, RunAnswer, Ran, Missing, Unavailable, Made, Rejected, Untyped, Valid, Deleted, Described, Listed}
 use Rattle.fc_core.specs.Heads.{head_word, word_at}
 use Rattle.fc_core.specs.History.{Entry, History, Begins, Then, Seen, seen, job, slot_at, stage}
@@ -66,7 +66,7 @@ pub record IsRan (e : Event) (k : ℕ) (slot : Slot) (at : Stage) (run : RunAnsw
   pub event : e ≡ Commit k now
   pub is : at ≡ ToCommit count ticket
   pub code : run.code ≡ (meaning_at ticket).code
-  pub block : run.block ≡ first_block (meaning_at ticket).reply
+  pub cut : run.cut ≡ cut_for ticket.block (meaning_at ticket).reply
   pub serial : run.serial ≡ ticket.serial
   pub writes : wants ticket ≡ true → (slot.serial ≡ ticket.serial) × (slot.serial < 9223372036854775807)
 

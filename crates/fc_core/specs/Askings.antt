@@ -6,17 +6,17 @@ use Rattle.coap_opts.specs.Verdict.{Asked, asked_by}
 use Rattle.fc_core.specs.declared.front.Asking.{Asking}
 use Rattle.fc_core.specs.declared.front.Asking.TheVariants.{Serve, Refuse, Hush}
 use Rattle.fc_core.specs.Exchanges.{FrontState}
-use Rattle.fc_core.specs.Receiving.{Received, Opened, Refused, Silenced, look_in, looked}
+use Rattle.fc_core.specs.Receiving.{Received, Refused, Silenced, look_in, looked, request_received}
 use Rattle.coap_msg.specs.declared.types.Endpoint.{Endpoint}
 
-abbrev pub new_request : Message → Asking → Received
-new_request m (Serve request) = Opened m (asked_by request)
-new_request m (Refuse answer) = Refused m answer.byte
-new_request m Hush = Silenced m
+abbrev pub new_request : FrontState → Endpoint → Message → Asking → Received
+new_request f to m (Serve request) = request_received f to m (asked_by request)
+new_request f to m (Refuse answer) = Refused m answer.byte
+new_request f to m Hush = Silenced m
 
 -- what a request is to a front that has advanced to the moment
 abbrev pub asked_in : FrontState → Endpoint → Message → Asking → Received
-asked_in f to m asking = looked (look_in f to m) m (new_request m asking)
+asked_in f to m asking = looked (look_in f to m) m (new_request f to m asking)
 
 -- a request that is carried out names a resource that there is, and is within the limits of its query and its payload
 pub record IsWithinLimits (asked : Asked) : Type 0 where

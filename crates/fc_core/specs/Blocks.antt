@@ -1,13 +1,39 @@
--- Blocks of bodies (RFC 7959, 2).
-use Rattle.std.specs.Prelude.{ℕ, Bool, true, false, List, [], ◌∷◌, length, nat_lt, take}
+-- Blocks of answers, and the options that name them (RFC 7959, 2).
+use Rattle.std.specs.Prelude.{◌≡◌, ℕ, List, [], ◌∷◌, Option, Some, None, min}
+use Rattle.std.specs.Option.{option_map}
 use Rattle.coap_opts.specs.declared.number.TheConstants as option
+use Rattle.coap_opts.specs.declared.reply.ReplyOptions.{ReplyOptions}
+use Rattle.coap_opts.specs.Values.{Place, block_bytes}
+use Rattle.coap_block.specs.Cuts.{Part, cut_of}
 use Rattle.fc_core.specs.declared.block.BodyBlock.{BodyBlock}
 
--- the first block of a body, which a request that names none is answered: its first 1,024 bytes, or all of fewer
-abbrev pub first_block : List ℕ → BodyBlock
-first_block body = record { bytes = record { items = take 1024 body }; more = nat_lt 1024 (length body) }
+-- no request that is carried out asks the reserved size, 7; it would count as the greatest
+abbrev pub asked_place : Place → Place
+asked_place p = record p { szx = min p.szx 6 }
 
--- the Block2 option of a first block that more follow: number 0, more, and 6 for 2^(6 + 4) bytes; a body in one block has none
-abbrev pub block2 : Bool → List (ℕ × List ℕ)
-block2 true = (option.BLOCK2, 14 ∷ []) ∷ []
-block2 false = []
+-- the block of an answer that is asked, if one is; none where it begins past the end
+abbrev pub cut_for : Option Place → List ℕ → Option Part
+cut_for asked body = cut_of body (option_map asked_place asked)
+
+-- a block as it is kept
+abbrev pub part_of : BodyBlock → Part
+part_of b = record { bytes = b.bytes.items; place = b.block }
+
+-- the bytes of a block, if there is one
+abbrev pub part_bytes : Option Part → List ℕ
+part_bytes None = []
+part_bytes (Some part) = part.bytes
+
+-- the options that name a block
+abbrev pub block2 : Option Place → List (ℕ × List ℕ)
+block2 None = []
+block2 (Some place) = (option.BLOCK2, block_bytes place) ∷ []
+
+abbrev pub block1 : Option Place → List (ℕ × List ℕ)
+block1 None = []
+block1 (Some place) = (option.BLOCK1, block_bytes place) ∷ []
+
+-- options that name no block yet
+pub record HasNoBlock (options : ReplyOptions) : Type 0 where
+  pub block2 : options.block2 ≡ None
+  pub block1 : options.block1 ≡ None

@@ -1,5 +1,5 @@
 -- What an answer says. What a refusal by typing names is left free.
-use Rattle.std.specs.Prelude.{◌≡◌, ◌≤◌, ℕ, Bool, true, List}
+use Rattle.std.specs.Prelude.{◌≡◌, ◌≤◌, ℕ, Bool, true, List, Option}
 use Rattle.fc_isa.specs.declared.rule.Rule.{Rule}
 use Rattle.fc_registry.specs.declared.receipt.Receipt.{Receipt}
 use Rattle.fc_registry.specs.declared.job.Job.{Job}
@@ -14,19 +14,20 @@ use Rattle.fc_registry.specs.Slots.{Ticket, Mark, last_serial}
 use Rattle.fc_registry.specs.Calls.{run_of}
 use Rattle.fc_machine.specs.Ran.{Ran as Run}
 use Rattle.fc_kinds.specs.Meaning.{Meaning}
-use Rattle.fc_core.specs.Blocks.{first_block}
-use Rattle.fc_core.specs.declared.block.BodyBlock.{BodyBlock}
+use Rattle.coap_block.specs.Cuts.{Part}
+use Rattle.fc_core.specs.Blocks.{cut_for}
 
--- the answer of a run: the job that it is of, its code, the block that is kept of its reply, and the serial that its taking found
+-- the answer of a run: the job that it is of, its code, the block that its request asks of the reply, if there is one, and the
+-- serial that its taking found
 pub record RunAnswer : Type 0 where
   pub by : Origin
   pub code : ℕ
-  pub block : BodyBlock
+  pub cut : Option Part
   pub serial : ℕ
 
--- that of a run of this meaning: its code, the first block of its reply, and the serial that its taking found
+-- that of a run of this meaning
 abbrev pub run_answer : Ticket → Meaning → RunAnswer
-run_answer t m = record { by = t.origin; code = m.code; block = first_block m.reply; serial = t.serial }
+run_answer t m = record { by = t.origin; code = m.code; cut = cut_for t.block m.reply; serial = t.serial }
 
 pub data Content : Type 0 where
   -- a program ran

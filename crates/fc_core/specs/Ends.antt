@@ -1,9 +1,11 @@
 -- What the calls' ends say.
-use Rattle.std.specs.Prelude.{◌≤◌, Bool, true, false, nat_lt, Option, Some, None}
+use Rattle.std.specs.Prelude.{◌≤◌, Bool, true, false, nat_lt, Some, None}
 use Rattle.fc_isa.specs.Rules.{number_of}
 use Rattle.fc_isa.specs.declared.rule.Fault.{Fault}
 use Rattle.fc_verify.specs.declared.refusal.Refusal.{Refusal}
 use Rattle.fc_verify.specs.declared.refusal.Refusal.TheVariants.{Broken, NoMemory}
+use Rattle.std.specs.Option.{option_map}
+use Rattle.fc_core.specs.Blocks.{part_of}
 use Rattle.fc_core.specs.declared.answer.End.{End}
 use Rattle.fc_core.specs.declared.answer.End.TheVariants.{Match, Missing, Unavailable, Made, Rejected, Removed, Told, Core}
 use Rattle.fc_core.specs.declared.answer.Said.{Said}
@@ -31,7 +33,7 @@ content_of (Told (Some receipt)) = Described receipt
 content_of (Core words) = Listed words.items
 
 abbrev pub said_of : Said → Content
-said_of (Ran by code block serial) = Runs (record { by = by; code = code.byte; block = block; serial = serial })
+said_of (Ran by code block serial) = Runs (record { by = by; code = code.byte; cut = option_map part_of block; serial = serial })
 said_of (Other end) = content_of end
 
 -- a run's code is that of a reply, of class 2 or above

@@ -1,21 +1,27 @@
 -- What a front holds.
-use Rattle.std.specs.Prelude.{ℕ, ◌+◌, Bool, nat_lt, List, filter, max}
+use Rattle.std.specs.Prelude.{ℕ, ◌+◌, Bool, nat_lt, List, [], filter, max}
 use Rattle.coap_dedup.specs.Exchanges.{Exchange}
 use Rattle.coap_msg.specs.Windows.{window}
 use Rattle.coap_dedup.specs.Exchanges.{Table, is_live as is_held}
+use Rattle.coap_block.specs.declared.transfer.Transfer.{Transfer}
 use Rattle.fc_registry.specs.declared.job.Opening.{Opening}
-use Rattle.fc_core.specs.Ids.{Ids}
+use Rattle.fc_core.specs.Ids.{Ids, first_ids}
 
 -- an exchange was opened less than a window before
 abbrev pub opening_is_live : ℕ → Opening → Bool
 opening_is_live now opening = nat_lt now (opening.at + window)
 
--- what a front holds: its moment, how many exchanges it opened, those that are live, and the message ids of its own
+-- what a front holds: its moment, how many exchanges it opened, those that are live, the transfers, and the message ids of its own
 pub record FrontState : Type 0 where
   pub now : ℕ
   pub opened : ℕ
   pub held : List Exchange
+  pub transfers : List Transfer
   pub ids : Ids
+
+-- a front with no exchange and no transfer, which will draw this message id first
+abbrev pub first_front : ℕ → FrontState
+first_front id = record { now = 0; opened = 0; held = []; transfers = []; ids = first_ids id }
 
 abbrev pub table_of : FrontState → Table
 table_of f = record { now = f.now; opened = f.opened; held = f.held }

@@ -1,5 +1,5 @@
 -- Head words: what is published of the slots, for whoever asks without taking.
-use Rattle.std.specs.Prelude.{ℕ, ◌+◌, ◌*◌, ◌/◌, ◌%◌, ◌==◌, ◌&&◌, Bool, true, false, List, [], ◌∷◌, Option, Some, None, max, replicate, slice_index_or, slice_set}
+use Rattle.std.specs.Prelude.{ℕ, ◌+◌, ◌*◌, ◌/◌, ◌%◌, ◌==◌, ◌&&◌, Bool, true, false, List, Option, Some, None, max, replicate, slice_index_or, slice_set}
 use Rattle.std.specs.List.{list_any}
 
 -- the head word of a slot: twice its serial, and one more where it has a program

@@ -5,6 +5,7 @@ use Rattle.coap_msg.specs.declared.types.Endpoint.{Endpoint}
 use Rattle.coap_msg.specs.declared.types.Emission.{Emission}
 use Rattle.coap_dedup.specs.Exchanges.{Exchange}
 use Rattle.coap_dedup.specs.Exchanges.{answered_if, is_live as is_held}
+use Rattle.coap_block.specs.Transfers.{Addition, transfers}
 use Rattle.fc_registry.specs.declared.job.Ask.TheVariants.{Install as Installs}
 use Rattle.fc_registry.specs.declared.job.Job.{Job}
 use Rattle.fc_registry.specs.Slots.{Slot, new_slot}
@@ -17,7 +18,7 @@ use Rattle.fc_core.specs.declared.stage.Task.{Task}
 use Rattle.fc_core.specs.Contents.{Content}
 use Rattle.fc_core.specs.Ids.{Ids, first_ids, drawn_for}
 use Rattle.fc_core.specs.Exchanges.{FrontState, opening_is_live}
-use Rattle.fc_core.specs.Receiving.{Received, received, opened_by, kept_of, drawn_by, brought, next_opening}
+use Rattle.fc_core.specs.Receiving.{Received, added_by, received, opened_by, kept_of, drawn_by, brought, next_opening}
 use Rattle.fc_core.specs.Heads.{no_words}
 use Rattle.fc_core.specs.Stages.{Scene, names, new_task, scene_at, row, content_at, task_moved, handed, words_after}
 
@@ -32,13 +33,14 @@ pub data History : Type 0 where
   Then : (before : History) (entry : Entry) → History
 
 -- all that can be asked of a history: the serial at which the slots began, the greatest moment handed to the front, the
--- exchanges that were opened, the message ids of the server's own, the jobs that came, each at its stage, the changes of each
--- slot, the newest first, the greatest moment handed to each shard, and the head words. Exchanges and jobs are listed oldest
--- first, since their places are their numbers.
+-- exchanges that were opened, the payloads that were added to transfers, the newest first, the message ids of the server's own,
+-- the jobs that came, each at its stage, the changes of each slot, the newest first, the greatest moment handed to each shard,
+-- and the head words. Exchanges and jobs are listed oldest first, since their places are their numbers.
 pub record Seen : Type 0 where
   pub first_serial : ℕ
   pub moment : ℕ
   pub exchanges : List Exchange
+  pub additions : List Addition
   pub ids : Ids
   pub tasks : List Task
   pub changes : ℕ → List Change
@@ -46,7 +48,7 @@ pub record Seen : Type 0 where
   pub words : List ℕ
 
 abbrev pub begun : ℕ → ℕ → Seen
-begun serial id = record { first_serial = serial; moment = 0; exchanges = []; ids = first_ids id; tasks = []; changes = λ n. []; shard_moment = λ k. 0; words = no_words }
+begun serial id = record { first_serial = serial; moment = 0; exchanges = []; additions = []; ids = first_ids id; tasks = []; changes = λ n. []; shard_moment = λ k. 0; words = no_words }
 
 -- ---- slots and jobs
 
@@ -61,6 +63,7 @@ no_task = record {
     confirmable = false;
     token = record { items = [] };
     etags = record { items = [] };
+    block = None;
     ask = Installs (record { items = [] });
   };
   stage = Gone;
@@ -83,7 +86,7 @@ scene s k = scene_at (task_at s.tasks k) (slot_at s (job s k).origin.slot) s.wor
 
 -- the front at a moment: it holds the exchanges that were opened less than a window before
 abbrev pub front_in : Seen → ℕ → FrontState
-front_in s at = record { now = at; opened = length s.exchanges; held = filter (is_held at) s.exchanges; ids = s.ids }
+front_in s at = record { now = at; opened = length s.exchanges; held = filter (is_held at) s.exchanges; transfers = transfers s.additions; ids = s.ids }
 
 -- the front that is handed a moment: it never goes back
 abbrev pub front_at : Seen → ℕ → FrontState
@@ -111,6 +114,11 @@ abbrev pub exchanges_after : Event → Option Emission → Seen → List Exchang
 exchanges_after (Deliver now to bytes) emitted s = exchanges_received (received_at s now to bytes.now) to emitted s now
 exchanges_after (Answer k now) emitted s = if is_some (content_at (stage s k)) then answered_in (job s k).origin.opening.number emitted s.exchanges else s.exchanges
 exchanges_after other emitted s = s.exchanges
+
+-- the payload that a delivery adds to the transfers
+abbrev pub added_in : Event → Seen → List Addition
+added_in (Deliver now to bytes) s = added_by (received_at s now to bytes.now) (max s.moment now) to
+added_in other s = []
 
 -- an answer in time to a request that isn't confirmable draws a message id
 abbrev pub ids_answered : Option Content → Bool → Bool → Ids → ℕ → Ids
@@ -152,6 +160,7 @@ and_then r s = record {
   first_serial = s.first_serial;
   moment = moment_after r.event s;
   exchanges = exchanges_after r.event r.emitted s;
+  additions = added_in r.event s ++ s.additions;
   ids = ids_after r.event s;
   tasks = tasks_moved (names r.event) r.event s ++ tasks_brought r.event s;
   changes = λ n. changes_after (names r.event) r.event s n;

@@ -8,7 +8,7 @@ use Rattle.fc_core.specs.declared.event.Event.{Event}
 use Rattle.fc_core.specs.declared.event.Event.TheVariants.{Deliver, Peek, Take, Commit, Install, Remove, Receipt, Raise, Answer, Tick, Lose}
 use Rattle.fc_core.specs.declared.stage.Stage.{Stage}
 use Rattle.fc_core.specs.declared.stage.Stage.TheVariants.{ToMatch, ToTake, ToCommit, ToInstall, ToRemove, ToDescribe, ToList, ToRaise, ToAnswer, Gone}
-use Rattle.fc_core.specs.Blocks.{first_block}
+use Rattle.fc_core.specs.Blocks.{cut_for}
 use Rattle.fc_core.specs.Contents.{Content, RunAnswer}
 use Rattle.fc_core.specs.Stages.{names}
 use Rattle.fc_core.specs.History.{Entry, History, Begins, Then, Seen, seen, job, slot_at, stage}
@@ -97,11 +97,11 @@ takings_of (Then h r) k =
     then gives r.event (stage (seen h) k) (job (seen h) k) (slot_at (seen h) (slot_of (seen h) k)) ((seen h).changes (slot_of (seen h) k)) ++ takings_of h k
     else takings_of h k
 
--- a run's answer is of the newest of these takings: the code that its program means, the first block of the reply that it means,
+-- a run's answer is of the newest of these takings: the code that its program means, the block of the reply that its request asks,
 -- and the serial that the taking found
 abbrev pub IsOfNewest : List Taking → RunAnswer → Type 0
 IsOfNewest [] run = ⊥
-IsOfNewest (t ∷ ts) run = (run.code ≡ (meaning_at t.ticket).code) × (run.block ≡ first_block (meaning_at t.ticket).reply) × (run.serial ≡ t.ticket.serial)
+IsOfNewest (t ∷ ts) run = (run.code ≡ (meaning_at t.ticket).code) × (run.cut ≡ cut_for t.ticket.block (meaning_at t.ticket).reply) × (run.serial ≡ t.ticket.serial)
 
 -- the answer that a job is about to give, once its slot's new head word is published
 abbrev pub answer_at : Stage → Option Content

@@ -16,6 +16,10 @@ use Rattle.coap_opts.specs.declared.request.Resource.TheVariants as resources
 use Rattle.coap_opts.specs.Verdict.{Asked, Verdict, IsAsked, IsRefused, IsSilent, IsReset, IsSignal, IsIgnored, verdict}
 use Rattle.coap_dedup.specs.Exchanges.{Exchange}
 use Rattle.coap_dedup.specs.Exchanges.{Look, IsNew, IsBusy, IsAgain, IsSilent as IsAnsweredNon, IsFull, look_at, answered}
+use Rattle.coap_opts.specs.Values.{Place}
+use Rattle.coap_block.specs.declared.transfer.Transfer.{Transfer}
+use Rattle.coap_block.specs.Uploads.{Add, Continues, IsWhole, IsIncomplete, IsBadLength, IsTooLarge, IsFull, add_of}
+use Rattle.coap_block.specs.Transfers.{Addition, after_addition}
 use Rattle.fc_help.specs.Request.{Request}
 use Rattle.fc_help.specs.declared.request.Method.{Method as Verb}
 use Rattle.fc_help.specs.declared.request.Method.TheVariants.{Get, Post}
@@ -27,7 +31,7 @@ use Rattle.fc_core.specs.declared.front.Delivered.{Delivered}
 use Rattle.fc_core.specs.declared.front.Delivered.TheVariants.{Nothing, Reply, Job as Brings, Signal}
 use Rattle.fc_core.specs.declared.front.Heard.{Heard}
 use Rattle.fc_core.specs.declared.front.Heard.TheVariants as hearing
-use Rattle.fc_core.specs.Replies.{Envelope, bare, reply_kind, sent_in, reset_of}
+use Rattle.fc_core.specs.Replies.{Envelope, Response, bare, reply_kind, sent_in, settled_by, reset_of}
 use Rattle.fc_core.specs.Ids.{Ids, free_id, reply_id, drawn_for}
 use Rattle.fc_core.specs.Exchanges.{FrontState, table_of}
 
@@ -45,10 +49,36 @@ pub data Received : Type 0 where
   Again : (bytes : List ℕ) → Received
   -- a new request, without room for its exchange
   Full : (m : Message) → Received
-  -- a new request that gets no answer, that is refused by a code, or that is carried out
+  -- a new request that gets no answer, or that is refused by a code
   Silenced : (m : Message) → Received
   Refused : (m : Message) (answer : ℕ) → Received
-  Opened : (m : Message) (asked : Asked) → Received
+  -- a block that is answered at once: it is refused, or more are to follow (RFC 7959, 2.9)
+  Settled : (m : Message) (asked : Asked) (response : Response) → Received
+  -- a new request that is carried out, with its whole body (RFC 7959, 2.5)
+  Opened : (m : Message) (asked : Asked) (body : List ℕ) → Received
+
+-- the slot of a resource
+abbrev pub slot_of_resource : Resource → ℕ
+slot_of_resource (resources.Run n) = n
+slot_of_resource (resources.Program n) = n
+slot_of_resource resources.Core = 0
+
+-- a request by what becomes of its payload: 2.31 Continue with its Block1, 4.08 Request Entity Incomplete, 4.00 Bad Request, 4.13
+-- Request Entity Too Large, 5.03 Service Unavailable
+abbrev pub received_added : Add → Message → Asked → Received
+received_added (IsWhole body) m r = Opened m r body
+received_added Continues m r = Settled m r (settled_by (code 2 31) r.block1)
+received_added IsIncomplete m r = Settled m r (bare (code 4 8))
+received_added IsBadLength m r = Settled m r (bare (code 4 0))
+received_added IsTooLarge m r = Settled m r (bare (code 4 13))
+received_added IsFull m r = Settled m r (bare (code 5 3))
+
+-- what becomes of the payload of a request; without Block1 it is the whole body
+abbrev pub add_in : FrontState → Endpoint → Asked → Add
+add_in f to r = add_of f.transfers f.now to (slot_of_resource r.resource) r.block1 r.payload
+
+abbrev pub request_received : FrontState → Endpoint → Message → Asked → Received
+request_received f to m r = received_added (add_in f to r) m r
 
 -- a request by what it is to the exchanges that are held; the last argument is what it is where it is new
 abbrev pub looked : Look → Message → Received → Received
@@ -62,7 +92,7 @@ abbrev pub look_in : FrontState → Endpoint → Message → Look
 look_in f to m = look_at (table_of f) to m.id
 
 abbrev pub received_as : FrontState → Endpoint → Message → Verdict → Received
-received_as f to m (IsAsked asked) = looked (look_in f to m) m (Opened m asked)
+received_as f to m (IsAsked asked) = looked (look_in f to m) m (request_received f to m asked)
 received_as f to m (IsRefused answer) = looked (look_in f to m) m (Refused m answer)
 received_as f to m IsSilent = looked (look_in f to m) m (Silenced m)
 received_as f to m IsReset = Rejected m.id
@@ -84,33 +114,33 @@ abbrev pub is_confirmable : MessageType → Bool
 is_confirmable Confirmable = true
 is_confirmable other = false
 
--- the slot of a resource
-abbrev pub slot_of_resource : Resource → ℕ
-slot_of_resource (resources.Run n) = n
-slot_of_resource (resources.Program n) = n
-slot_of_resource resources.Core = 0
-
 -- the request that slot N's program is to answer
 abbrev pub request_asked : Verb → Asked → Request
 request_asked method r = record { method = method; slot = slot_of_resource r.resource; content_format = r.content_format; query = r.query; payload = r.payload }
 
--- a GET or POST on /r/N asks slot N's program; on /p/N a PUT installs its payload, a DELETE removes slot N's program, and a GET
+-- a GET or POST on /r/N asks slot N's program; on /p/N a PUT installs its body, a DELETE removes slot N's program, and a GET
 -- tells what it is; a GET on /.well-known/core lists the slots that have one
-abbrev pub ask_by : Method → Resource → Asked → Ask
-ask_by methods.Get (resources.Run n) r = Run (request_asked Get r)
-ask_by methods.Post (resources.Run n) r = Run (request_asked Post r)
-ask_by methods.Delete (resources.Program n) r = Remove
-ask_by methods.Get (resources.Program n) r = Describe
-ask_by methods.Get resources.Core r = Discover
-ask_by method at r = Install (record { items = r.payload })
+abbrev pub ask_by : Method → Resource → Asked → List ℕ → Ask
+ask_by methods.Get (resources.Run n) r body = Run (request_asked Get r)
+ask_by methods.Post (resources.Run n) r body = Run (request_asked Post r)
+ask_by methods.Delete (resources.Program n) r body = Remove
+ask_by methods.Get (resources.Program n) r body = Describe
+ask_by methods.Get resources.Core r body = Discover
+ask_by method at r body = Install (record { items = body })
 
-abbrev pub job_of : Opening → Endpoint → Message → Asked → Job
-job_of opening to m r = record {
+-- the block that a request names: a PUT's Block1, or a GET's Block2
+abbrev pub named_block : Option Place → Option Place → Option Place
+named_block (Some sent) asked = Some sent
+named_block None asked = asked
+
+abbrev pub job_of : Opening → Endpoint → Message → Asked → List ℕ → Job
+job_of opening to m r body = record {
   origin = record { opening = opening; endpoint = to; id = m.id; slot = slot_of_resource r.resource };
   confirmable = is_confirmable m.kind;
   token = record { items = m.token };
   etags = record { items = r.etags };
-  ask = ask_by r.method r.resource r;
+  block = named_block r.block1 r.block2;
+  ask = ask_by r.method r.resource r body;
 }
 
 -- a job's slot is one of 64, and its request has at most 64 bytes of query and 1,024 of payload
@@ -127,22 +157,23 @@ JobWithin job = (job.origin.slot < 64) × AskWithin job.ask
 abbrev pub envelope_to : Endpoint → Message → ℕ → Envelope
 envelope_to to m id = record { to = to; kind = reply_kind (is_confirmable m.kind); id = id; token = m.token }
 
--- a reply by a code alone; nothing where it gets no message id
-abbrev pub told_by : Option ℕ → Endpoint → Message → ℕ → Option Emission
-told_by None to m answer = None
-told_by (Some id) to m answer = Some (sent_in (envelope_to to m id) (bare answer))
+-- a reply; nothing where it gets no message id
+abbrev pub told_by : Option ℕ → Endpoint → Message → Response → Option Emission
+told_by None to m response = None
+told_by (Some id) to m response = Some (sent_in (envelope_to to m id) response)
 
 abbrev pub id_in : FrontState → Bool → ℕ → Option ℕ
 id_in f confirmable id = reply_id confirmable id (free_id f.ids f.now)
 
-abbrev pub told : FrontState → Endpoint → Message → ℕ → Option Emission
-told f to m answer = told_by (id_in f (is_confirmable m.kind) m.id) to m answer
+abbrev pub told : FrontState → Endpoint → Message → Response → Option Emission
+told f to m response = told_by (id_in f (is_confirmable m.kind) m.id) to m response
 
 abbrev pub sent : Received → FrontState → Endpoint → Option Emission
 sent (Rejected id) f to = Some (reset_of to id)
 sent (Again bytes) f to = Some (record { to = to; bytes = record { items = bytes } })
-sent (Full m) f to = told f to m (code 5 3)
-sent (Refused m answer) f to = told f to m answer
+sent (Full m) f to = told f to m (bare (code 5 3))
+sent (Refused m answer) f to = told f to m (bare answer)
+sent (Settled m asked response) f to = told f to m response
 sent other f to = None
 
 -- ---- what it opens, draws and brings
@@ -153,27 +184,48 @@ next_opening f = record { number = f.opened; at = f.now }
 abbrev pub exchange_of : Opening → Endpoint → Message → Exchange
 exchange_of o to m = record { endpoint = to; id = m.id; confirmable = is_confirmable m.kind; number = o.number; at = o.at; answer = None }
 
+-- a front that opened an exchange for a request
+abbrev pub opening_for : FrontState → Endpoint → Message → FrontState
+opening_for f to m = record f { opened = f.opened + 1; held = f.held ++ (exchange_of (next_opening f) to m ∷ []) }
+
 -- the exchange that is opened
 abbrev pub opened_by : Received → Opening → Endpoint → List Exchange
-opened_by (Opened m asked) o to = exchange_of o to m ∷ []
+opened_by (Opened m asked body) o to = exchange_of o to m ∷ []
+opened_by (Settled m asked response) o to = exchange_of o to m ∷ []
 opened_by (Silenced m) o to = exchange_of o to m ∷ []
 opened_by (Refused m answer) o to = exchange_of o to m ∷ []
 opened_by other o to = []
 
--- what is kept as its answer, of what is sent: a refusal
+-- what is kept as its answer, of what is sent
 abbrev pub kept_of : Received → Option Emission → Option Emission
 kept_of (Refused m answer) emitted = emitted
+kept_of (Settled m asked response) emitted = emitted
 kept_of other emitted = None
 
--- a reply by a code to a request that isn't confirmable draws a message id
+-- a reply at once to a request that isn't confirmable draws a message id
 abbrev pub drawn_by : Received → Ids → ℕ → Ids
 drawn_by (Full m) ids at = drawn_for (is_confirmable m.kind) ids at
 drawn_by (Refused m answer) ids at = drawn_for (is_confirmable m.kind) ids at
+drawn_by (Settled m asked response) ids at = drawn_for (is_confirmable m.kind) ids at
 drawn_by other ids at = ids
 
 abbrev pub brought : Received → Opening → Endpoint → List Job
-brought (Opened m asked) o to = job_of o to m asked ∷ []
+brought (Opened m asked body) o to = job_of o to m asked body ∷ []
 brought other o to = []
+
+-- the payload that is added to the transfers
+abbrev pub addition_of : ℕ → Endpoint → Asked → Addition
+addition_of at to r = record { at = at; endpoint = to; slot = slot_of_resource r.resource; block = r.block1; payload = r.payload }
+
+abbrev pub added_by : Received → ℕ → Endpoint → List Addition
+added_by (Opened m asked body) at to = addition_of at to asked ∷ []
+added_by (Settled m asked response) at to = addition_of at to asked ∷ []
+added_by other at to = []
+
+-- the transfers after that
+abbrev pub after_added : List Addition → List Transfer → List Transfer
+after_added [] held = held
+after_added (a ∷ more) held = after_addition a (after_added more held)
 
 -- ---- a delivery
 
@@ -199,7 +251,7 @@ emission_if false emission = None
 
 -- what is handed on: a job, a signal for the observers, or what is sent at once
 abbrev pub handed_on : Received → FrontState → Endpoint → Delivered
-handed_on (Opened m asked) f to = Brings (job_of (next_opening f) to m asked)
+handed_on (Opened m asked body) f to = Brings (job_of (next_opening f) to m asked body)
 handed_on (Signals id reset) f to = Signal id reset
 handed_on other f to = reply_or_nothing (sent other f to)
 
@@ -216,7 +268,12 @@ keeping number (Some emission) f = record f { held = map (answered f.now number 
 abbrev pub after_received : Received → FrontState → Endpoint → FrontState
 after_received x f to =
     let new = opened_by x (next_opening f) to in
-    keeping f.opened (kept_of x (sent x f to)) (record f { opened = f.opened + length new; held = f.held ++ new; ids = drawn_by x f.ids f.now })
+    keeping f.opened (kept_of x (sent x f to)) (record f {
+      opened = f.opened + length new;
+      held = f.held ++ new;
+      transfers = after_added (added_by x f.now to) f.transfers;
+      ids = drawn_by x f.ids f.now;
+    })
 
 abbrev pub after_delivered : FrontState → Endpoint → List ℕ → FrontState
 after_delivered f to bytes = after_received (received f to bytes) f to

@@ -42,7 +42,7 @@ pub(crate) enum Said {
     Ran {
         by: Origin,
         code: Code,
-        block: BodyBlock,
+        block: Option<BodyBlock>,
         serial: u64,
     },
     Other(End),
@@ -68,7 +68,7 @@ impl Model for Answer {
 }
 
 impl Answer {
-    /// The answer of a run, with its outcome's code, the first block of its reply, and its ticket's serial. It spends the mark of
+    /// The answer of a run, with its outcome's code, the block of its reply that is asked, and its ticket's serial. It spends the mark of
     /// the run's commit.
     pub fn ran(outcome: &Outcome<'_>, ticket: &Ticket, mark: Mark) -> Answer
         requires { AreOne outcome.now ticket.now mark }
@@ -81,7 +81,7 @@ impl Answer {
                 code: Code {
                     byte: outcome.code(),
                 },
-                block: BodyBlock::first(outcome.reply()),
+                block: BodyBlock::cut(outcome.reply(), ticket.block()),
                 serial,
             },
         }

@@ -1,18 +1,18 @@
 //! What a history promises of answers and moments: each function is a law, and its contract says it.
 ghost use Rattle.coap_msg.specs.declared.types.Emission.{Emission};
 ghost use Rattle.fc_core.specs.AnswerLaws.{Causes, greatest, moments_of, shard_moments_of};
-ghost use Rattle.fc_core.specs.Blocks.{first_block};
+ghost use Rattle.coap_block.specs.Cuts.{Part};
+ghost use Rattle.fc_core.specs.Blocks.{cut_for};
 ghost use Rattle.fc_core.specs.Contents.{Content, Deleted, Missing};
 ghost use Rattle.fc_core.specs.History.{Entry, History, Then, Seen, seen, and_then, did, slot_at, stage};
 ghost use Rattle.fc_core.specs.Laws.{HasCome, answer_at, slot_of};
 ghost use Rattle.fc_core.specs.Replies.{bare, ran_response};
-ghost use Rattle.fc_core.specs.declared.block.BodyBlock.{BodyBlock};
 ghost use Rattle.fc_core.specs.declared.event.Event.TheVariants.{Take};
 ghost use Rattle.fc_core.specs.declared.stage.Stage.TheVariants.{ToAnswer, ToTake};
 ghost use Rattle.fc_help.specs.declared.request.Method.TheVariants.{Post};
 ghost use Rattle.fc_kinds.specs.Meaning.{Input, IsRun, Program, meant};
 ghost use Rattle.fc_registry.specs.Record.{code_class};
-ghost use Rattle.std.specs.Prelude.{ℕ, ◌⊎◌, ◌++◌, ◌<◌, ◌≤◌, Bool, List, None, Option, Some, drop, false, length, true, ◌≡◌};
+ghost use Rattle.std.specs.Prelude.{ℕ, ◌⊎◌, ◌++◌, ◌<◌, ◌≤◌, Bool, List, None, Option, Some, false, length, take, true, ◌≡◌};
 
 /// A job that has an answer after an event had it before, or the event gives it for a reason. The answer is 5.03 (Service
 /// Unavailable) only where memory is refused, where the slot changes under the job's eighth ticket, or where the slot is
@@ -48,21 +48,19 @@ pub fn moments_are_the_greatest()
     ensures shard { (h : History) (i : ℕ) → (seen h).shard_moment i ≡ greatest (shard_moments_of i h) }
 {}
 
-/// A body of at most 1,024 bytes is one block; the first block of a longer one is its first 1,024 bytes, and more follow.
-/// The reply to a POST is one block.
-pub fn first_blocks_begin_the_body()
-    ensures begins { (body : List ℕ) → (first_block body).bytes.items ++ drop 1024 body ≡ body }
-    ensures whole { (body : List ℕ) → length body ≤ 1024 → ((first_block body).more ≡ false)
-        × ((first_block body).bytes.items ≡ body) }
-    ensures longer { (body : List ℕ) → 1024 < length body → ((first_block body).more ≡ true)
-        × (length (first_block body).bytes.items ≡ 1024) }
+/// Where no block is asked, an answer of at most 1,024 bytes goes whole and without Block2, and of a longer one the first 1,024
+/// bytes go as block 0 of that size, with more to follow. So the reply to a POST goes whole.
+pub fn unasked_answers_are_cut_at_1024()
+    ensures whole { (body : List ℕ) → length body ≤ 1024
+        → cut_for None body ≡ Some (record { bytes = body; place = None }) }
+    ensures longer { (body : List ℕ) → 1024 < length body
+        → cut_for None body ≡ Some (record { bytes = take 1024 body; place = Some (record { number = 0; more = true; szx = 6 }) }) }
     ensures post { (p : Program) (input : Input) → IsRun p input → input.request.method ≡ Post
-        → ((first_block (meant p input).reply).more ≡ false)
-        × ((first_block (meant p input).reply).bytes.items ≡ (meant p input).reply) }
+        → cut_for None (meant p input).reply ≡ Some (record { bytes = (meant p input).reply; place = None }) }
 {}
 
 /// A run whose code isn't of class 2 is answered by its code alone, whatever its reply.
 pub fn errors_carry_no_block()
-    ensures { (answer : ℕ) (block : BodyBlock) (serial : ℕ) → (code_class answer ≡ 2 → ⊥)
-        → ran_response answer block serial ≡ bare answer }
+    ensures { (answer : ℕ) (cut : Option Part) (serial : ℕ) → (code_class answer ≡ 2 → ⊥)
+        → ran_response answer cut serial ≡ bare answer }
 {}

@@ -1,31 +1,34 @@
 //! The front: exchanges, and the way in and out.
-ghost use Rattle.std.specs.Prelude.{◌≡◌, ◌≤◌, [], false, IfOk, length};
+ghost use Rattle.std.specs.Prelude.{◌≡◌, ◌≤◌, [], false, IfOk, Some, length};
 ghost use Rattle.coap_opts.specs.Verdict.{asked_by, verdict};
 ghost use Rattle.coap_dedup.specs.Exchanges.{IsNew};
 ghost use Rattle.fc_core.specs.Answering.{AnswersIn, after_answered, emission_of, responded};
 ghost use Rattle.fc_core.specs.Askings.{IsAsking, IsWithinLimits, asked_in, new_request};
 ghost use Rattle.fc_core.specs.Contents.{IsOf};
 ghost use Rattle.fc_core.specs.Exchanges as spec;
-ghost use Rattle.fc_core.specs.Exchanges.{advanced, front_expired, handed};
-ghost use Rattle.fc_core.specs.Ids.{drawn_for, first_ids, free_id};
-ghost use Rattle.fc_core.specs.Receiving.{after_delivered, after_received, ask_by, emission_if, handed_on, heard, heard_if, id_in, is_confirmable, job_of, keeping, look_in, received_as, reply_or_nothing, request_asked, told};
+ghost use Rattle.fc_core.specs.Exchanges.{advanced, first_front, front_expired, handed};
+ghost use Rattle.fc_core.specs.Ids.{drawn_for, free_id};
+ghost use Rattle.coap_block.specs.Transfers.{after_addition};
+ghost use Rattle.coap_block.specs.Views.{add_seen};
+ghost use Rattle.fc_core.specs.Receiving.{add_in, addition_of, after_delivered, after_received, ask_by, emission_if, handed_on, heard, heard_if, id_in, is_confirmable, job_of, keeping, look_in, next_opening, opening_for, received_as, reply_or_nothing, request_asked, request_received, told};
 ghost use Rattle.fc_core.specs.Receiving as receiving;
-ghost use Rattle.fc_core.specs.Replies.{reset_of};
+ghost use Rattle.fc_core.specs.Replies.{reset_of, settled_by};
 
 use crate::answer::Answer;
 use crate::ids::MessageIds;
 use crate::reply;
-use crate::reply::{refusal, reset};
+use crate::reply::{reset, settled};
 use arrayvec::ArrayVec;
+use coap_block::{Added, Body, Uploads};
 use coap_dedup::{Exchanges, Looked};
 use coap_msg::{
     Bad, Code, Datagram, Emission, Endpoint, Message, MessageType, Token, WINDOW, read,
 };
 use coap_opts::laws::requests_are_within;
 use coap_opts::request::ETAGS;
-use coap_opts::{Classified, Method, Request, Resource, classify};
+use coap_opts::{Block, Classified, Method, Request, Resource, classify};
 use fc_help::Method as Verb;
-use fc_registry::{Ask, Image, Job, Opening, Origin, SlotNumber};
+use fc_registry::{Ask, Job, Opening, Origin, SlotNumber};
 use std::alloc::{AllocError, Global};
 use std::marker::Model;
 
@@ -77,11 +80,12 @@ pub enum Responded {
     NoId,
 }
 
-/// The exchanges that are less than a window old, the message ids of the server's own, and the greatest moment handed in.
+/// The exchanges that are less than a window old, the transfers that are under way, the message ids of the server's own, and the greatest moment handed in.
 #[derive(Drop)]
 pub struct Front {
     now: u64,
     exchanges: Exchanges,
+    uploads: Uploads,
     ids: MessageIds,
 }
 
@@ -91,7 +95,7 @@ impl Model for Front {
 
     ghost Value = { FrontState };
 
-    ghost view = { λ f. record { now = f.now; opened = f.exchanges.opened; held = f.exchanges.held; ids = f.ids } };
+    ghost view = { λ f. record { now = f.now; opened = f.exchanges.opened; held = f.exchanges.held; transfers = f.uploads; ids = f.ids } };
 
     ghost invariant = { λ f. f.exchanges.now ≤ f.now };
 }
@@ -111,13 +115,14 @@ impl Front {
     /// A front with no exchange. The first message id that it will draw is the argument.
     ///
     /// # Errors
-    /// There was no memory for its exchanges and message ids.
+    /// There was no memory for its exchanges, transfers and message ids.
     pub fn new(alloc: Global, first_id: u16) -> Result<Front, AllocError>
-        ensures { IfOk result (λ f. f ≡ record { now = 0; opened = 0; held = []; ids = first_ids first_id }) }
+        ensures { IfOk result (λ f. f ≡ first_front first_id) }
     {
         Ok(Front {
             now: 0,
             exchanges: Exchanges::new(alloc)?,
+            uploads: Uploads::new(alloc)?,
             ids: MessageIds::new(alloc, first_id)?,
         })
     }
@@ -320,7 +325,7 @@ impl Front {
                 Heard::Reply
             }
             Looked::Full => {
-                replied(self.refuse(endpoint, message, Code::SERVICE_UNAVAILABLE, reply))
+                replied(self.tell(endpoint, message, Code::SERVICE_UNAVAILABLE, None, reply))
             }
             Looked::Busy | Looked::Silent => Heard::Nothing,
         }
@@ -337,64 +342,125 @@ impl Front {
     ) -> Heard
         requires new { look_in self.old endpoint message.now ≡ IsNew }
         requires asking { IsAsking asking.now }
-        ensures delivered { heard result job.new reply.new ≡ handed_on (new_request message.now asking.entry.now) self.old endpoint }
-        ensures after { self.new ≡ after_received (new_request message.now asking.entry.now) self.old endpoint }
+        ensures delivered { heard result job.new reply.new ≡ handed_on (new_request self.old endpoint message.now asking.entry.now) self.old endpoint }
+        ensures after { self.new ≡ after_received (new_request self.old endpoint message.now asking.entry.now) self.old endpoint }
+    {
+        match asking {
+            Asking::Hush => {
+                self.open_exchange(endpoint, message);
+                Heard::Nothing
+            }
+            Asking::Refuse(code) => self.settle(endpoint, message, *code, None, reply),
+            Asking::Serve(request) => self.serve(endpoint, message, request, job, reply),
+        }
+    }
+
+    // Opens an exchange for a request, and tells its opening.
+    fn open_exchange(&mut self, endpoint: Endpoint, message: &Message<'_>) -> Opening
+        requires { look_in self.old endpoint message.now ≡ IsNew }
+        ensures opening { result ≡ next_opening self.old }
+        ensures after { self.new ≡ opening_for self.old endpoint message.now }
     {
         let confirmable = message.kind() == MessageType::Confirmable;
         let number = self
             .exchanges
             .open(self.now, endpoint, message.id(), confirmable);
-        match asking {
-            Asking::Hush => Heard::Nothing,
-            Asking::Refuse(code) => self.refuse_opened(number, endpoint, message, *code, reply),
-            Asking::Serve(request) => {
-                let opening = Opening {
-                    number,
-                    at: self.now,
-                };
-                write_job(job, opening, endpoint, message, request);
-                Heard::Job
-            }
+        Opening {
+            number,
+            at: self.now,
         }
     }
 
-    // Answers a request by a code. Tells whether there was a message id for it.
-    fn refuse(
+    // Carries a new request out, or answers the block that it sends at once: its payload is joined to its transfer.
+    fn serve(
+        &mut self,
+        endpoint: Endpoint,
+        message: &Message<'_>,
+        request: &Request<'_>,
+        job: &mut Job,
+        reply: &mut Emission,
+    ) -> Heard
+        requires new { look_in self.old endpoint message.now ≡ IsNew }
+        requires limits { IsWithinLimits (asked_by request.now) }
+        ensures delivered { heard result job.new reply.new ≡ handed_on (request_received self.old endpoint message.now (asked_by request.now)) self.old endpoint }
+        ensures after { self.new ≡ after_received (request_received self.old endpoint message.now (asked_by request.now)) self.old endpoint }
+    {
+        let Some(block) = request.block1 else {
+            let opening = self.open_exchange(endpoint, message);
+            write_job(job, opening, endpoint, message, request, request.payload);
+            return Heard::Job;
+        };
+        match self.add(endpoint, request, block) {
+            Added::Whole(body) => {
+                let opening = self.open_exchange(endpoint, message);
+                write_job(job, opening, endpoint, message, request, body.as_slice());
+                Heard::Job
+            }
+            Added::Continue => self.settle(endpoint, message, Code::CONTINUE, Some(block), reply),
+            Added::Incomplete => {
+                self.settle(endpoint, message, Code::REQUEST_ENTITY_INCOMPLETE, None, reply)
+            }
+            Added::BadLength => self.settle(endpoint, message, Code::BAD_REQUEST, None, reply),
+            Added::TooLarge => {
+                self.settle(endpoint, message, Code::REQUEST_ENTITY_TOO_LARGE, None, reply)
+            }
+            Added::Full => self.settle(endpoint, message, Code::SERVICE_UNAVAILABLE, None, reply),
+        }
+    }
+
+    // Joins a request's payload to its transfer.
+    fn add(&mut self, endpoint: Endpoint, request: &Request<'_>, block: Block) -> Added
+        requires { request.now.block1 ≡ Some block }
+        ensures added { add_seen result ≡ add_in self.old endpoint (asked_by request.now) }
+        ensures after { self.new ≡ record self.old {
+            transfers = after_addition (addition_of self.old.now endpoint (asked_by request.now)) self.old.transfers } }
+    {
+        let slot = slot_named(request.resource);
+        self.uploads
+            .add(self.now, endpoint, slot, Some(block), request.payload)
+    }
+
+    // Answers a request by a code, and by the block that it sent. Tells whether there was a message id for it.
+    fn tell(
         &mut self,
         endpoint: Endpoint,
         message: &Message<'_>,
         code: Code,
+        block1: Option<Block>,
         reply: &mut Emission,
     ) -> bool
         requires { 64 ≤ code.byte }
-        ensures emission { emission_if result reply.new ≡ told self.old endpoint message.now code.byte }
+        ensures emission { emission_if result reply.new ≡ told self.old endpoint message.now (settled_by code.byte block1) }
         ensures after { self.new ≡ record self.old { ids = drawn_for (is_confirmable message.now.kind) self.old.ids self.old.now } }
     {
         let confirmable = message.kind() == MessageType::Confirmable;
         let Some(id) = self.reply_id(confirmable, message.id()) else {
             return false;
         };
-        refusal(id, endpoint, message, code, reply);
+        settled(id, endpoint, message, code, block1, reply);
         true
     }
 
-    // Answers a request whose exchange was opened with this number.
-    fn refuse_opened(
+    // Opens an exchange for a request, and answers it at once.
+    fn settle(
         &mut self,
-        number: u64,
         endpoint: Endpoint,
         message: &Message<'_>,
         code: Code,
+        block1: Option<Block>,
         reply: &mut Emission,
     ) -> Heard
-        requires { 64 ≤ code.byte }
-        ensures heard { (job : Job) → heard result job reply.new ≡ reply_or_nothing (told self.old endpoint message.now code.byte) }
-        ensures after { self.new ≡ keeping number (told self.old endpoint message.now code.byte)
-            (record self.old { ids = drawn_for (is_confirmable message.now.kind) self.old.ids self.old.now }) }
+        requires new { look_in self.old endpoint message.now ≡ IsNew }
+        requires code { 64 ≤ code.byte }
+        ensures heard { (job : Job) → heard result job reply.new ≡ reply_or_nothing (told self.old endpoint message.now (settled_by code.byte block1)) }
+        ensures after { self.new ≡ keeping self.old.opened (told self.old endpoint message.now (settled_by code.byte block1))
+            (record (opening_for self.old endpoint message.now) { ids = drawn_for (is_confirmable message.now.kind) self.old.ids self.old.now }) }
     {
-        let sent = self.refuse(endpoint, message, code, reply);
+        let opening = self.open_exchange(endpoint, message);
+        let sent = self.tell(endpoint, message, code, block1, reply);
         if sent {
-            self.exchanges.close(self.now, number, &reply.bytes);
+            self.exchanges
+                .close(self.now, opening.number, &reply.bytes);
         }
         replied(sent)
     }
@@ -430,6 +496,7 @@ pub(crate) fn blank_job() -> Job {
         confirmable: false,
         token: ArrayVec::new(),
         etags: ArrayVec::new(),
+        block: None,
         ask: Ask::Run(fc_help::Request::new(Verb::Get, 0, None, &[], &[])),
     }
 }
@@ -441,9 +508,11 @@ fn write_job(
     endpoint: Endpoint,
     message: &Message<'_>,
     request: &Request<'_>,
+    body: &[u8],
 )
-    requires { IsWithinLimits (asked_by request.now) }
-    ensures { job.new ≡ job_of opening endpoint message.now (asked_by request.now) }
+    requires request { IsWithinLimits (asked_by request.now) }
+    requires body { length body.now ≤ 4112 }
+    ensures { job.new ≡ job_of opening endpoint message.now (asked_by request.now) body.now }
 {
     job.origin = Origin {
         opening,
@@ -454,7 +523,18 @@ fn write_job(
     job.confirmable = message.kind() == MessageType::Confirmable;
     write_token(&mut job.token, message);
     write_etags(&mut job.etags, request);
-    write_ask(&mut job.ask, request);
+    job.block = named_block(request);
+    write_ask(&mut job.ask, request, body);
+}
+
+// The block that a request names: a PUT's, or the one that a GET asks.
+fn named_block(request: &Request<'_>) -> Option<Block>
+    ensures { result ≡ receiving.named_block (asked_by request.now).block1 (asked_by request.now).block2 }
+{
+    match request.block1 {
+        Some(block) => Some(block),
+        None => request.block2,
+    }
 }
 
 fn write_token(token: &mut Token, message: &Message<'_>)
@@ -480,9 +560,10 @@ fn slot_named(resource: Resource) -> u8
     }
 }
 
-fn write_ask(ask: &mut Ask, request: &Request<'_>)
-    requires { IsWithinLimits (asked_by request.now) }
-    ensures { ask.new ≡ ask_by request.now.method request.now.resource (asked_by request.now) }
+fn write_ask(ask: &mut Ask, request: &Request<'_>, body: &[u8])
+    requires request { IsWithinLimits (asked_by request.now) }
+    requires body { length body.now ≤ 4112 }
+    ensures { ask.new ≡ ask_by request.now.method request.now.resource (asked_by request.now) body.now }
 {
     match (request.method, request.resource) {
         (Method::Get, Resource::Run(_)) => write_run(ask, Verb::Get, request),
@@ -490,7 +571,7 @@ fn write_ask(ask: &mut Ask, request: &Request<'_>)
         (Method::Delete, Resource::Program(_)) => *ask = Ask::Remove,
         (Method::Get, Resource::Program(_)) => *ask = Ask::Describe,
         (Method::Get, Resource::Core) => *ask = Ask::Discover,
-        _ => write_image(ask, request.payload),
+        _ => write_image(ask, body),
     }
 }
 
@@ -513,18 +594,18 @@ fn write_run_anew(ask: &mut Ask, method: Verb, request: &Request<'_>)
 }
 
 fn write_image(ask: &mut Ask, image: &[u8])
-    requires { length image.now ≤ 1024 }
+    requires { length image.now ≤ 4112 }
     ensures { ask.new ≡ Ask.Install (record { items = image.now }) }
 {
     *ask = Ask::Install(image_of(image));
 }
 
-fn image_of(payload: &[u8]) -> Image
-    requires { length payload.now ≤ 1024 }
-    ensures { result.items ≡ payload.now }
+fn image_of(bytes: &[u8]) -> Body
+    requires { length bytes.now ≤ 4112 }
+    ensures { result.items ≡ bytes.now }
 {
-    let mut image = Image::new();
-    let _fits = image.try_extend_from_slice(payload);
+    let mut image = Body::new();
+    let _fits = image.try_extend_from_slice(bytes);
     image
 }
 

@@ -1,23 +1,20 @@
 //! From answers to datagrams.
 ghost use Rattle.std.specs.Prelude.{◌≡◌, ◌≤◌, Some, drop, length};
 ghost use Rattle.std.specs.Option.{option_map};
-ghost use Rattle.coap_msg.specs.Writing.{optional};
 ghost use Rattle.coap_opts.specs.Replies.{reply_options};
-ghost use Rattle.coap_opts.specs.Values.{block_bytes};
-ghost use Rattle.coap_opts.specs.declared.number.TheConstants as option;
-ghost use Rattle.fc_core.specs.Blocks.{block2 as option_of};
+ghost use Rattle.fc_core.specs.Blocks.{HasNoBlock, part_bytes, part_of};
 ghost use Rattle.fc_core.specs.Contents.{Listed, Valid};
 ghost use Rattle.fc_core.specs.Ends.{content_of};
 ghost use Rattle.fc_core.specs.Receiving.{told_by};
 ghost use Rattle.fc_core.specs.Replies as spec;
-ghost use Rattle.fc_core.specs.Replies.{IsReplyTo, envelope_of, link_format, reset_of, sent_in, to_job};
+ghost use Rattle.fc_core.specs.Replies.{IsReplyTo, envelope_of, link_format, made_response, reset_of, sent_in, settled_by, to_job};
 
 use crate::answer::{Answer, End, Said};
 use crate::block::BodyBlock;
 use crate::text::{fault_line, link_lines, receipt_line};
 use coap_msg::{Code, Datagram, Emission, Endpoint, Message, MessageType, Outgoing, write};
 use coap_opts::{Block, Reply, ReplyOptions};
-use fc_registry::Job;
+use fc_registry::{Job, Receipt};
 use fc_verify::Refusal;
 
 // Writes the datagram of this message id that answers a job, over another.
@@ -35,51 +32,69 @@ pub(crate) fn answer(job: &Job, id: u16, answer: &Answer, bytes: &mut Datagram)
     }
 }
 
-// That of a run: a success alone carries the block that is kept of its reply.
-fn ran(job: &Job, id: u16, code: Code, block: &BodyBlock, serial: u64, bytes: &mut Datagram)
+// That of a run: a success alone carries what is kept of its reply.
+fn ran(
+    job: &Job,
+    id: u16,
+    code: Code,
+    block: &Option<BodyBlock>,
+    serial: u64,
+    bytes: &mut Datagram,
+)
     requires { 64 ≤ code.byte }
-    ensures { to_job job.now bytes.new ≡ sent_in (envelope_of job.now id) (spec.ran_response code.byte block.now serial) }
+    ensures { to_job job.now bytes.new ≡ sent_in (envelope_of job.now id)
+        (spec.ran_response code.byte (option_map part_of block.now) serial) }
 {
     match code {
-        Code::CONTENT => content(job, id, serial, block, bytes),
-        Code::CHANGED => text(job, id, code, block.bytes.as_slice(), bytes),
+        Code::CONTENT => content(job, id, etag_options(serial), block, bytes),
+        Code::CHANGED => text(job, id, code, block_bytes(block), bytes),
         _ => text(job, id, code, &[], bytes),
     }
 }
 
-// A 2.05 Content: the serial that was found, as its ETag, and the block with its Block2 option.
-fn content(job: &Job, id: u16, serial: u64, block: &BodyBlock, bytes: &mut Datagram)
-    ensures { to_job job.now bytes.new ≡ sent_in (envelope_of job.now id) (spec.content serial block.now) }
+// The serial that was found, as an ETag.
+fn etag_options(serial: u64) -> ReplyOptions
+    ensures options { reply_options result ≡ spec.etag serial }
+    ensures blocks { HasNoBlock result }
 {
-    let options = ReplyOptions {
+    ReplyOptions {
         etag: Some(serial),
-        block2: block2(block.more),
         ..ReplyOptions::default()
-    };
-    reply(
-        job,
-        id,
-        Code::CONTENT,
-        options,
-        block.bytes.as_slice(),
-        bytes,
-    );
+    }
 }
 
-#[tactic(auto, unfolding(coap_opts::specs::Values::uint_bytes))]
-// The Block2 option of a first block, where more follow it.
-fn block2(more: bool) -> Option<Block>
-    ensures { optional option.BLOCK2 (option_map block_bytes result) ≡ option_of more }
+// The bytes of a block, if there is one.
+fn block_bytes(block: &Option<BodyBlock>) -> &[u8]
+    ensures bytes { result.now ≡ part_bytes (option_map part_of block.entry.now) }
+    ensures short { length result.now ≤ 1024 }
 {
-    if more {
-        Some(Block {
-            number: 0,
-            more: true,
-            szx: 6,
-        })
-    } else {
-        None
+    match block {
+        Some(block) => block.bytes.as_slice(),
+        None => &[],
     }
+}
+
+// A 2.05 Content: the options, and the block that is asked with its Block2 option; 4.00 where there is no such block.
+fn content(
+    job: &Job,
+    id: u16,
+    options: ReplyOptions,
+    block: &Option<BodyBlock>,
+    bytes: &mut Datagram,
+)
+    requires { HasNoBlock options }
+    ensures { to_job job.now bytes.new ≡ sent_in (envelope_of job.now id)
+        (spec.content (reply_options options) (option_map part_of block.now)) }
+{
+    let Some(block) = block else {
+        return text(job, id, Code::BAD_REQUEST, &[], bytes);
+    };
+    let options = ReplyOptions {
+        block2: block.block,
+        ..options
+    };
+    let payload = block.bytes.as_slice();
+    reply(job, id, Code::CONTENT, options, payload, bytes);
 }
 
 // That of a job that ran no program.
@@ -92,14 +107,8 @@ fn ended(job: &Job, id: u16, end: &End, bytes: &mut Datagram)
         End::Unavailable | End::Rejected(Refusal::NoMemory) => {
             text(job, id, Code::SERVICE_UNAVAILABLE, &[], bytes);
         }
-        End::Made(receipt, true) => {
-            let line = receipt_line(receipt);
-            text(job, id, Code::CREATED, line.as_slice(), bytes);
-        }
-        End::Made(receipt, false) => {
-            let line = receipt_line(receipt);
-            text(job, id, Code::CHANGED, line.as_slice(), bytes);
-        }
+        End::Made(receipt, true) => made(job, id, Code::CREATED, receipt, bytes),
+        End::Made(receipt, false) => made(job, id, Code::CHANGED, receipt, bytes),
         End::Rejected(Refusal::Broken(fault)) => {
             let line = fault_line(fault);
             text(job, id, Code::BAD_REQUEST, line.as_slice(), bytes);
@@ -107,7 +116,8 @@ fn ended(job: &Job, id: u16, end: &End, bytes: &mut Datagram)
         End::Removed => text(job, id, Code::DELETED, &[], bytes),
         End::Told(Some(receipt)) => {
             let line = receipt_line(receipt);
-            text(job, id, Code::CONTENT, line.as_slice(), bytes);
+            let block = BodyBlock::cut(line.as_slice(), job.block);
+            content(job, id, ReplyOptions::default(), &block, bytes);
         }
         End::Core(words) => links(job, id, words.as_slice(), bytes),
     }
@@ -133,13 +143,27 @@ fn links(job: &Job, id: u16, words: &[u64], bytes: &mut Datagram)
     ensures { IsReplyTo job.now id (Listed words.now) (to_job job.now bytes.new) }
 {
     let lines = link_lines(words);
-    let list = after_first(lines.as_slice());
-    reply(job, id, Code::CONTENT, link_options(), list, bytes);
+    let block = BodyBlock::cut(after_first(lines.as_slice()), job.block);
+    content(job, id, link_options(), &block, bytes);
+}
+
+// That of an install: the receipt, and the last block of the image.
+fn made(job: &Job, id: u16, code: Code, receipt: &Receipt, bytes: &mut Datagram)
+    requires { 64 ≤ code.byte }
+    ensures { to_job job.now bytes.new ≡ sent_in (envelope_of job.now id) (made_response code.byte job.now receipt.now) }
+{
+    let line = receipt_line(receipt);
+    let options = ReplyOptions {
+        block1: job.block,
+        ..ReplyOptions::default()
+    };
+    reply(job, id, code, options, line.as_slice(), bytes);
 }
 
 #[tactic(auto, unfolding(coap_opts::specs::Values::uint_bytes))]
 fn link_options() -> ReplyOptions
-    ensures { reply_options result ≡ link_format }
+    ensures options { reply_options result ≡ link_format }
+    ensures blocks { HasNoBlock result }
 {
     ReplyOptions {
         content_format: Some(LINK_FORMAT),
@@ -193,23 +217,27 @@ fn reply(
 }
 
 #[tactic(auto, unfolding(crate::specs::Replies::sent_in))]
-// Writes the datagram of this message id that answers a request by a code alone.
-pub(crate) fn refusal(
+// Writes the datagram of this message id that answers a request at once, by a code and the block that it sent.
+pub(crate) fn settled(
     id: u16,
     to: Endpoint,
     message: &Message<'_>,
     code: Code,
+    block1: Option<Block>,
     emission: &mut Emission,
 )
     requires { 64 ≤ code.byte }
-    ensures { Some emission.new ≡ told_by (Some id) to message.now code.byte }
+    ensures { Some emission.new ≡ told_by (Some id) to message.now (settled_by code.byte block1) }
 {
     let reply = Reply {
         kind: reply_kind(message.kind() == MessageType::Confirmable),
         code,
         id,
         token: message.token(),
-        options: ReplyOptions::default(),
+        options: ReplyOptions {
+            block1,
+            ..ReplyOptions::default()
+        },
         payload: &[],
     };
     emission.to = to;

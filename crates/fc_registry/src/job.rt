@@ -1,7 +1,9 @@
 //! Jobs: what a request brings.
 use crate::slot_number::SlotNumber;
 use arrayvec::ArrayVec;
+use coap_block::Body;
 use coap_msg::{Endpoint, Token};
+use coap_opts::Block;
 use coap_opts::request::ETAGS;
 use fc_help::Request;
 
@@ -21,19 +23,13 @@ pub struct Origin {
     pub slot: SlotNumber,
 }
 
-/// The most bytes of an image: the header, and 512 slots of eight bytes.
-pub const IMAGE: usize = 4112;
-
-/// The bytes of an image.
-pub type Image = ArrayVec<u8, IMAGE>;
-
 /// What a job is to do.
 #[derive(Drop)]
 pub enum Ask {
     /// Answer a request by the slot's program.
     Run(Request),
     /// Install the program of an image in the slot.
-    Install(Image),
+    Install(Body),
     /// Remove the slot's program.
     Remove,
     /// Tell what the slot's program is.
@@ -51,5 +47,7 @@ pub struct Job {
     pub token: Token,
     /// The serials that a GET names as ETags: its client has the answers of these (RFC 7252, 5.10.6.2).
     pub etags: ArrayVec<u64, ETAGS>,
+    /// The block that its request names (RFC 7959): the last of a PUT's body, or the one that a GET asks.
+    pub block: Option<Block>,
     pub ask: Ask,
 }

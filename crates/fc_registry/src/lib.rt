@@ -35,7 +35,7 @@ pub mod slot_number;
 pub mod ticket;
 
 pub use commit::{CommitOutcome, Committed};
-pub use job::{Ask, Image, Job, Opening, Origin};
+pub use job::{Ask, Job, Opening, Origin};
 pub use receipt::Receipt;
 pub use ring::Entry;
 pub use shard::{LAST_SERIAL, Made, Removal, Shard, Taken};

@@ -256,6 +256,7 @@ fn find(job: &Job, slot: &SlotState) -> Taken
         Ok(program) => Taken::Given(Ticket {
             origin: job.origin,
             request: request_of(&job.ask),
+            block: job.block,
             serial: slot.serial,
             program,
             version: body.version,

@@ -2,6 +2,7 @@
 ghost use Rattle.std.specs.Prelude.{◌≡◌, length};
 
 use crate::job::Origin;
+use coap_opts::Block;
 use fc_help::{Request, Vars};
 use fc_verify::Verified;
 use std::marker::Model;
@@ -13,6 +14,7 @@ use std::sync::Arc;
 pub struct Ticket {
     pub(crate) origin: Origin,
     pub(crate) request: Request,
+    pub(crate) block: Option<Block>,
     pub(crate) serial: u64,
     pub(crate) program: Arc<Verified>,
     pub(crate) version: u64,
@@ -29,6 +31,7 @@ impl Model for Ticket {
     ghost view = { λ t. record {
       origin = t.origin;
       request = t.request;
+      block = t.block;
       serial = t.serial;
       found = record { program = t.program.value; version = t.version; vars = t.vars };
     } };
@@ -49,6 +52,13 @@ impl Ticket {
         ensures { result.now ≡ self.now.request }
     {
         &self.request
+    }
+
+    /// The block of the reply that the job's request asks.
+    pub fn block(&self) -> Option<Block>
+        ensures { result ≡ self.now.block }
+    {
+        self.block
     }
 
     /// The slot's serial when it was taken.

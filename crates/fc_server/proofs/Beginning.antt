@@ -7,7 +7,7 @@ use Rattle.fc_registry.specs.Shards.{empty_shards, first_shards, no_shard, shard
 use Rattle.fc_registry.specs.Slots.{Shard, slot_in, new_slot}
 use Rattle.fc_core.specs.History.{Begins, begun, seen}
 use Rattle.fc_core.specs.Heads.{no_words}
-use Rattle.fc_core.specs.Ids.{first_ids}
+use Rattle.fc_core.specs.Exchanges.{first_front}
 use Rattle.fc_server.specs.Agreement.{ShardsAgree}
 use Rattle.fc_server.specs.Serving.{Serves}
 use Rattle.fc_server.specs.States.{ServerState}
@@ -48,7 +48,7 @@ shards_begin serial id = record {
   now = λ s lt. ap (λ (x : Shard). x.now) (empty_at serial 8 s lt);
 }
 
-pub begins : (serial id : ℕ) (s : ServerState) → s.front ≡ record { now = 0; opened = 0; held = []; ids = first_ids id } → s.shards ≡ first_shards serial → s.words ≡ no_words → Serves (Begins serial id) s []
+pub begins : (serial id : ℕ) (s : ServerState) → s.front ≡ first_front id → s.shards ≡ first_shards serial → s.words ≡ no_words → Serves (Begins serial id) s []
 unfolding seen
 begins serial id s front shards words = record {
   legal = tt;

@@ -13,7 +13,9 @@ use Rattle.coap_dedup.specs.Exchanges.{is_live as is_held, answered, answered_if
 use Rattle.fc_core.specs.Exchanges.{FrontState, advanced}
 use Rattle.fc_core.specs.History.{Seen, answered_in, front_at, front_in}
 use Rattle.fc_core.specs.Ids.{Ids}
-use Rattle.fc_core.specs.Receiving.{Received, exchange_of, keeping, next_opening, opened_by}
+use Rattle.coap_block.specs.declared.transfer.Transfer.{Transfer}
+use Rattle.coap_block.specs.Transfers.{Addition, after_addition, transfers}
+use Rattle.fc_core.specs.Receiving.{Received, after_added, exchange_of, keeping, next_opening, opened_by}
 use Rattle.fc_core.specs.Receiving as x
 
 -- ---- a moment passes
@@ -47,8 +49,9 @@ new_live : (at : ℕ) (e : Exchange) → e.at ≡ at → filter (is_held at) (e 
 new_live at e is = ap (λ (b : Bool). cond b (e ∷ []) []) (let le = is in lt-ltb at (e.at + 247000) (omega (arith, le)))
 
 pub opened_live : (s : Seen) (at : ℕ) (r : Received) (to : Endpoint) → filter (is_held at) (opened_by r (next_opening (front_in s at)) to) ≡ opened_by r (next_opening (front_in s at)) to
-opened_live s at (x.Opened m asked) to = new_live at (exchange_of (next_opening (front_in s at)) to m) refl
+opened_live s at (x.Opened m asked body) to = new_live at (exchange_of (next_opening (front_in s at)) to m) refl
 opened_live s at (x.Silenced m) to = new_live at (exchange_of (next_opening (front_in s at)) to m) refl
+opened_live s at (x.Settled m asked response) to = new_live at (exchange_of (next_opening (front_in s at)) to m) refl
 opened_live s at (x.Refused m answer) to = new_live at (exchange_of (next_opening (front_in s at)) to m) refl
 opened_live s at x.Ignored to = refl
 opened_live s at (x.Rejected id) to = refl
@@ -70,23 +73,29 @@ kept_all : (at n : ℕ) (bytes : ArrayVec ℕ) (es : List Exchange) → map (ans
 kept_all at n bytes [] = refl
 kept_all at n bytes (e ∷ es) = kept_one at n bytes e (filter (is_held at) es) (map (λ e. answered_if (e.number == n) bytes e) es) (e.number == n) (is_held at e) refl refl (kept_all at n bytes es)
 
--- a front of these exchanges
-abbrev pub front_of : ℕ → List Exchange → Ids → FrontState
-front_of at es ids = record { now = at; opened = length es; held = filter (is_held at) es; ids = ids }
+-- a front of these exchanges, transfers and message ids
+abbrev pub front_of : ℕ → List Exchange → List Transfer → Ids → FrontState
+front_of at es ts ids = record { now = at; opened = length es; held = filter (is_held at) es; transfers = ts; ids = ids }
 
-pub front_keeps : (at n : ℕ) (em : Option Emission) (es : List Exchange) (ids : Ids) → keeping n em (front_of at es ids) ≡ front_of at (answered_in n em es) ids
-front_keeps at n None es ids = refl
-front_keeps at n (Some em) es ids = λ i. record { now = at; opened = sym (length-map es (λ e. answered_if (e.number == n) em.bytes e)) i; held = kept_all at n em.bytes es i; ids = ids }
+pub front_keeps : (at n : ℕ) (em : Option Emission) (es : List Exchange) (ts : List Transfer) (ids : Ids) → keeping n em (front_of at es ts ids) ≡ front_of at (answered_in n em es) ts ids
+front_keeps at n None es ts ids = refl
+front_keeps at n (Some em) es ts ids = λ i. record { now = at; opened = sym (length-map es (λ e. answered_if (e.number == n) em.bytes e)) i; held = kept_all at n em.bytes es i; transfers = ts; ids = ids }
+
+-- the transfers after what is added
+pub transfers_added : (new before : List Addition) → transfers (new ++ before) ≡ after_added new (transfers before)
+transfers_added [] before = refl
+transfers_added (a ∷ more) before = ap (after_addition a) (transfers_added more before)
 
 -- a front that opens what is live
-pub front_opens : (s : Seen) (at : ℕ) (r : Received) (to : Endpoint) (ids : Ids) →
-    record (front_in s at) { opened = length s.exchanges + length (opened_by r (next_opening (front_in s at)) to); held = filter (is_held at) s.exchanges ++ opened_by r (next_opening (front_in s at)) to; ids = ids }
-    ≡ front_of at (s.exchanges ++ opened_by r (next_opening (front_in s at)) to) ids
-front_opens s at r to ids =
+pub front_opens : (s : Seen) (at : ℕ) (r : Received) (to : Endpoint) (ts : List Transfer) (ids : Ids) →
+    record (front_in s at) { opened = length s.exchanges + length (opened_by r (next_opening (front_in s at)) to); held = filter (is_held at) s.exchanges ++ opened_by r (next_opening (front_in s at)) to; transfers = ts; ids = ids }
+    ≡ front_of at (s.exchanges ++ opened_by r (next_opening (front_in s at)) to) ts ids
+front_opens s at r to ts ids =
     let new = opened_by r (next_opening (front_in s at)) to in
     λ i. record {
       now = at;
       opened = sym (length-append s.exchanges new) i;
       held = (ap (λ (l : List Exchange). filter (is_held at) s.exchanges ++ l) (sym (opened_live s at r to)) ∙ sym (filter-append (is_held at) s.exchanges new)) i;
+      transfers = ts;
       ids = ids;
     }

@@ -17,10 +17,10 @@ use Rattle.fc_core.specs.declared.stage.Task.{Task}
 use Rattle.fc_core.specs.Answering.{after_answered_by}
 use Rattle.fc_core.specs.Contents.{Content}
 use Rattle.fc_core.specs.Exchanges.{FrontState, advanced, opening_is_live}
-use Rattle.fc_core.specs.History.{Seen, and_then, answered_in, did, exchanges_after, front_at, front_in, ids_after, ids_answered, job, moment_after, no_task, received_at, shard_moment_after, stage, task_at, tasks_brought, tasks_moved, changes_after, words_seen}
+use Rattle.fc_core.specs.History.{Seen, added_in, and_then, answered_in, did, exchanges_after, front_at, front_in, ids_after, ids_answered, job, moment_after, no_task, received_at, shard_moment_after, stage, task_at, tasks_brought, tasks_moved, changes_after, words_seen}
 use Rattle.fc_core.specs.Ids.{drawn_for}
 use Rattle.fc_core.specs.Legal.{AnswerEmits, Emits, IsAnswered, TakesMeaning}
-use Rattle.fc_core.specs.Receiving.{after_received, brought, drawn_by, id_in, keeping, kept_of, next_opening, opened_by, received, sent}
+use Rattle.fc_core.specs.Receiving.{added_by, after_added, after_received, brought, drawn_by, id_in, keeping, kept_of, next_opening, opened_by, received, sent}
 use Rattle.fc_core.specs.Sound.{AllSafe}
 use Rattle.fc_core.specs.Stages.{Move, Scene, at_answer, at_peek, at_receipt, at_take, content_at, task_moved, moves, names, new_task, row, scene_at, words_after}
 use Rattle.fc_core.proofs.Keeping.{IsSafeMove, still_safe, still_sound}
@@ -28,7 +28,8 @@ use Rattle.fc_core.proofs.Rejections.{same_slot}
 use Rattle.fc_server.specs.Agreement.{Agrees, Parts, ShardsAgree}
 use Rattle.fc_server.specs.States.{Does, ServerState, front_after, scene_in, shards_moved}
 use Rattle.fc_server.specs.Steps.{AnsweredTo, DeliveredTo, Moves, Steps, Ticked}
-use Rattle.fc_server.proofs.Fronts.{front_advances, front_keeps, front_of, front_opens}
+use Rattle.fc_server.proofs.Fronts.{front_advances, front_keeps, front_of, front_opens, transfers_added}
+use Rattle.coap_block.specs.Transfers.{transfers}
 use Rattle.fc_server.proofs.Stepping.{Quiet, moves_step, shards_move}
 
 -- ---- a move that changes no slot
@@ -122,6 +123,7 @@ record Idles (e : Event) : Type 0 where
   named : names e ≡ None
   moment : (s : Seen) → moment_after e s ≡ s.moment
   exchanges : (s : Seen) → exchanges_after e None s ≡ s.exchanges
+  additions : (s : Seen) → added_in e s ≡ []
   ids : (s : Seen) → ids_after e s ≡ s.ids
   brings : (s : Seen) → tasks_brought e s ≡ []
   emits : (s : Seen) → Emits s e None
@@ -139,7 +141,7 @@ idles (Raise k) is = absurd is
 idles (Answer k now) is = absurd is
 idles (Tick now) is = absurd is
 idles (Lose k) is = absurd is
-idles other is = record { named = refl; moment = λ s. refl; exchanges = λ s. refl; ids = λ s. refl; brings = λ s. refl; emits = λ s. refl; means = λ s. tt }
+idles other is = record { named = refl; moment = λ s. refl; exchanges = λ s. refl; additions = λ s. refl; ids = λ s. refl; brings = λ s. refl; emits = λ s. refl; means = λ s. tt }
 
 -- what is seen of an event that names no job
 unnamed_agrees : (e : Event) (emitted : Option Emission) (w : Parts) (s : Seen) (o : Option ℕ) → names e ≡ o → o ≡ None → Agrees s w → (front : FrontState) → front ≡ front_in (and_then (did e emitted) s) (moment_after e s) → (tasks : List Task) → tasks ≡ s.tasks ++ tasks_brought e s → Agrees (and_then (did e emitted) s) (record { front = front; shards = w.shards; words = w.words; tasks = tasks })
@@ -161,7 +163,7 @@ idle_step e w is s a =
       emits = q.emits s;
       means = q.means s;
       agrees = unnamed_agrees e None w s (names e) refl q.named a w.front
-          (a.front ∙ λ i. record { now = sym (q.moment s) i; opened = length (sym (q.exchanges s) i); held = filter (is_held (sym (q.moment s) i)) (sym (q.exchanges s) i); ids = sym (q.ids s) i })
+          (a.front ∙ λ i. record { now = sym (q.moment s) i; opened = length (sym (q.exchanges s) i); held = filter (is_held (sym (q.moment s) i)) (sym (q.exchanges s) i); transfers = transfers (sym (q.additions s) i ++ s.additions); ids = sym (q.ids s) i })
           w.tasks (a.tasks ∙ (sym (append-nil s.tasks) ∙ ap (λ (ts : List Task). s.tasks ++ ts) (sym (q.brings s))));
     }
 
@@ -187,9 +189,11 @@ front_delivered s now to b emitted e =
     let n = length s.exchanges in
     let ids = drawn_by x s.ids at in
     let all = s.exchanges ++ opened_by x (next_opening (front_at s now)) to in
-    ap (keeping n (kept_of x (sent x (front_at s now) to))) (front_opens s at x to ids)
-    ∙ (front_keeps at n (kept_of x (sent x (front_at s now) to)) all ids
-    ∙ ap (λ (em : Option Emission). front_of at (answered_in n (kept_of x em) all) ids) (sym e))
+    let new = added_by x at to in
+    let ts = after_added new (transfers s.additions) in
+    ap (keeping n (kept_of x (sent x (front_at s now) to))) (front_opens s at x to ts ids)
+    ∙ (front_keeps at n (kept_of x (sent x (front_at s now) to)) all ts ids
+    ∙ λ i. front_of at (answered_in n (kept_of x (sym e i)) all) (sym (transfers_added new s.additions) i) ids)
 
 pub deliver_step : (now : ℕ) (to : Endpoint) (b : Bor (List ℕ)) (old new : Parts) (emitted : Option Emission) → DeliveredTo now to b.now old new emitted → Steps (Deliver now to b) old emitted new
 deliver_step now to b old new emitted t s a =
@@ -209,18 +213,18 @@ deliver_step now to b old new emitted t s a =
 -- the front after it, by the content of the answer, if there is one
 front_answered : (s : Seen) (now : ℕ) (j : Job) (emitted : Option Emission) (live : Bool) (c : Option Content) → opening_is_live (max s.moment now) j.origin.opening ≡ live → AnswerEmits c j (front_at s now) emitted →
     front_after c j emitted (front_in s s.moment) now
-    ≡ front_of (if is_some c then max s.moment now else s.moment) (if is_some c then answered_in j.origin.opening.number emitted s.exchanges else s.exchanges) (ids_answered c live j.confirmable s.ids (max s.moment now))
+    ≡ front_of (if is_some c then max s.moment now else s.moment) (if is_some c then answered_in j.origin.opening.number emitted s.exchanges else s.exchanges) (transfers s.additions) (ids_answered c live j.confirmable s.ids (max s.moment now))
 front_answered s now j emitted live None is emits = refl
 front_answered s now j emitted true (Some content) is emits =
     let at = max s.moment now in
     (λ i. after_answered_by (opening_is_live (front_advances s now i).now j.origin.opening) j emitted (front_advances s now i))
     ∙ (ap (λ (b : Bool). after_answered_by b j emitted (front_at s now)) is
-    ∙ front_keeps at j.origin.opening.number emitted s.exchanges (drawn_for j.confirmable s.ids at))
+    ∙ front_keeps at j.origin.opening.number emitted s.exchanges (transfers s.additions) (drawn_for j.confirmable s.ids at))
 front_answered s now j emitted false (Some content) is emits =
     let late : emitted ≡ None = subst (λ (b : Bool). IsAnswered b (id_in (front_at s now) j.confirmable j.origin.id) j content emitted) is emits in
     (λ i. after_answered_by (opening_is_live (front_advances s now i).now j.origin.opening) j emitted (front_advances s now i))
     ∙ (ap (λ (b : Bool). after_answered_by b j emitted (front_at s now)) is
-    ∙ ap (λ (em : Option Emission). front_of (max s.moment now) (answered_in j.origin.opening.number em s.exchanges) s.ids) (sym late))
+    ∙ ap (λ (em : Option Emission). front_of (max s.moment now) (answered_in j.origin.opening.number em s.exchanges) (transfers s.additions) s.ids) (sym late))
 
 answer_unmoved : (st : Stage) (n : ℕ) (shards : List Shard) → shards_moved (at_answer st) n shards ≡ shards
 answer_unmoved (ToAnswer content) n shards = unwritten Gone n shards

@@ -123,7 +123,7 @@ jobs_or None = refl
 jobs_or (Some em) = refl
 
 handed_sent : (r : Received) (f : FrontState) (to : Endpoint) → sent r f to ≡ sent_by (handed_on r f to)
-handed_sent (x.Opened m asked) f to = refl
+handed_sent (x.Opened m asked body) f to = refl
 handed_sent (x.Signals id reset) f to = refl
 handed_sent x.Ignored f to = refl
 handed_sent (x.Rejected id) f to = refl
@@ -131,10 +131,11 @@ handed_sent x.Repeated f to = refl
 handed_sent (x.Again bytes) f to = refl
 handed_sent (x.Full m) f to = sent_or (sent (x.Full m) f to)
 handed_sent (x.Silenced m) f to = refl
+handed_sent (x.Settled m asked response) f to = sent_or (sent (x.Settled m asked response) f to)
 handed_sent (x.Refused m answer) f to = sent_or (sent (x.Refused m answer) f to)
 
 handed_jobs : (r : Received) (f : FrontState) (to : Endpoint) → brought r (next_opening f) to ≡ jobs_by (handed_on r f to)
-handed_jobs (x.Opened m asked) f to = refl
+handed_jobs (x.Opened m asked body) f to = refl
 handed_jobs (x.Signals id reset) f to = refl
 handed_jobs x.Ignored f to = refl
 handed_jobs (x.Rejected id) f to = refl
@@ -142,6 +143,7 @@ handed_jobs x.Repeated f to = refl
 handed_jobs (x.Again bytes) f to = refl
 handed_jobs (x.Full m) f to = jobs_or (sent (x.Full m) f to)
 handed_jobs (x.Silenced m) f to = refl
+handed_jobs (x.Settled m asked response) f to = jobs_or (sent (x.Settled m asked response) f to)
 handed_jobs (x.Refused m answer) f to = jobs_or (sent (x.Refused m answer) f to)
 
 -- what a delivery leaves, by what the front handed on

@@ -15,9 +15,10 @@ use Rattle.fc_core.specs.declared.stage.Stage.{Stage}
 use Rattle.fc_core.specs.declared.stage.Stage.TheVariants.{ToTake}
 use Rattle.fc_core.specs.declared.stage.Task.{Task}
 use Rattle.fc_core.specs.Fits.{FitsSlot}
-use Rattle.fc_core.specs.History.{Seen, and_then, changes_after, did, exchanges_after, front_in, ids_after, job, moment_after, scene, shard_moment_after, slot_at, stage, task_at, tasks_brought, tasks_moved, words_seen}
+use Rattle.fc_core.specs.History.{Seen, added_in, and_then, changes_after, did, exchanges_after, front_in, ids_after, job, moment_after, scene, shard_moment_after, slot_at, stage, task_at, tasks_brought, tasks_moved, words_seen}
 use Rattle.fc_core.specs.Legal.{Emits, FindsMeaning, FoundMeans, TakesMeaning}
 use Rattle.fc_core.specs.Receiving.{AskWithin}
+use Rattle.coap_block.specs.Transfers.{transfers}
 use Rattle.fc_core.specs.Sound.{AllSafe, IsSafelySeen, IsSound}
 use Rattle.fc_core.specs.Stages.{Move, Scene, handed, task_moved, names, row, scene_at, words_after}
 use Rattle.fc_core.proofs.Fitting.{after_changes-append, is_input}
@@ -47,6 +48,7 @@ pub record Quiet (e : Event) (k : ℕ) : Type 0 where
   pub named : names e ≡ Some k
   pub moment : (s : Seen) → moment_after e s ≡ s.moment
   pub exchanges : (s : Seen) → exchanges_after e None s ≡ s.exchanges
+  pub additions : (s : Seen) → added_in e s ≡ []
   pub ids : (s : Seen) → ids_after e s ≡ s.ids
   pub brings : (s : Seen) → tasks_brought e s ≡ []
   pub emits : (s : Seen) → Emits s e None
@@ -90,7 +92,7 @@ module _ (s : Seen) (e : Event) (k : ℕ) (named : names e ≡ Some k) (shards :
 
 -- the front of a quiet event
 front_same : (s : Seen) (e : Event) (k : ℕ) → Quiet e k → front_in s s.moment ≡ front_in (and_then (did e None) s) (moment_after e s)
-front_same s e k q = λ i. record { now = sym (q.moment s) i; opened = length (sym (q.exchanges s) i); held = filter (is_held (sym (q.moment s) i)) (sym (q.exchanges s) i); ids = sym (q.ids s) i }
+front_same s e k q = λ i. record { now = sym (q.moment s) i; opened = length (sym (q.exchanges s) i); held = filter (is_held (sym (q.moment s) i)) (sym (q.exchanges s) i); transfers = transfers (sym (q.additions s) i ++ s.additions); ids = sym (q.ids s) i }
 
 safe_move : (s : Seen) (e : Event) (k : ℕ) (o : Option ℕ) → o ≡ Some k → AllSafe (row e (scene s k)).changes → IsSafeMove o e s
 safe_move s e k o is safe = subst (λ (p : Option ℕ). IsSafeMove p e s) (sym is) safe
@@ -119,28 +121,28 @@ moves_step e k old new q t s a =
     }
 
 pub quiet_take : (k : ℕ) (memory : Bool) → Quiet (Take k memory) k
-quiet_take k memory = record { named = refl; moment = λ s. refl; exchanges = λ s. refl; ids = λ s. refl; brings = λ s. refl; emits = λ s. refl; means = λ s all. all k }
+quiet_take k memory = record { named = refl; moment = λ s. refl; exchanges = λ s. refl; additions = λ s. refl; ids = λ s. refl; brings = λ s. refl; emits = λ s. refl; means = λ s all. all k }
 
 pub quiet_commit : (k now : ℕ) → Quiet (Commit k now) k
-quiet_commit k now = record { named = refl; moment = λ s. refl; exchanges = λ s. refl; ids = λ s. refl; brings = λ s. refl; emits = λ s. refl; means = λ s all. tt }
+quiet_commit k now = record { named = refl; moment = λ s. refl; exchanges = λ s. refl; additions = λ s. refl; ids = λ s. refl; brings = λ s. refl; emits = λ s. refl; means = λ s all. tt }
 
 pub quiet_install : (k : ℕ) (memory : Bool) → Quiet (Install k memory) k
-quiet_install k memory = record { named = refl; moment = λ s. refl; exchanges = λ s. refl; ids = λ s. refl; brings = λ s. refl; emits = λ s. refl; means = λ s all. tt }
+quiet_install k memory = record { named = refl; moment = λ s. refl; exchanges = λ s. refl; additions = λ s. refl; ids = λ s. refl; brings = λ s. refl; emits = λ s. refl; means = λ s all. tt }
 
 pub quiet_peek : (k n : ℕ) → Quiet (Peek k n) k
-quiet_peek k n = record { named = refl; moment = λ s. refl; exchanges = λ s. refl; ids = λ s. refl; brings = λ s. refl; emits = λ s. refl; means = λ s all. tt }
+quiet_peek k n = record { named = refl; moment = λ s. refl; exchanges = λ s. refl; additions = λ s. refl; ids = λ s. refl; brings = λ s. refl; emits = λ s. refl; means = λ s all. tt }
 
 pub quiet_remove : (k : ℕ) → Quiet (Remove k) k
-quiet_remove k = record { named = refl; moment = λ s. refl; exchanges = λ s. refl; ids = λ s. refl; brings = λ s. refl; emits = λ s. refl; means = λ s all. tt }
+quiet_remove k = record { named = refl; moment = λ s. refl; exchanges = λ s. refl; additions = λ s. refl; ids = λ s. refl; brings = λ s. refl; emits = λ s. refl; means = λ s all. tt }
 
 pub quiet_receipt : (k : ℕ) → Quiet (Receipt k) k
-quiet_receipt k = record { named = refl; moment = λ s. refl; exchanges = λ s. refl; ids = λ s. refl; brings = λ s. refl; emits = λ s. refl; means = λ s all. tt }
+quiet_receipt k = record { named = refl; moment = λ s. refl; exchanges = λ s. refl; additions = λ s. refl; ids = λ s. refl; brings = λ s. refl; emits = λ s. refl; means = λ s all. tt }
 
 pub quiet_raise : (k : ℕ) → Quiet (Raise k) k
-quiet_raise k = record { named = refl; moment = λ s. refl; exchanges = λ s. refl; ids = λ s. refl; brings = λ s. refl; emits = λ s. refl; means = λ s all. tt }
+quiet_raise k = record { named = refl; moment = λ s. refl; exchanges = λ s. refl; additions = λ s. refl; ids = λ s. refl; brings = λ s. refl; emits = λ s. refl; means = λ s all. tt }
 
 pub quiet_lose : (k : ℕ) → Quiet (Lose k) k
-quiet_lose k = record { named = refl; moment = λ s. refl; exchanges = λ s. refl; ids = λ s. refl; brings = λ s. refl; emits = λ s. refl; means = λ s all. tt }
+quiet_lose k = record { named = refl; moment = λ s. refl; exchanges = λ s. refl; additions = λ s. refl; ids = λ s. refl; brings = λ s. refl; emits = λ s. refl; means = λ s all. tt }
 
 pub take_step : (k : ℕ) (memory : Bool) (old new : Parts) → Moves (Take k memory) k old new → Steps (Take k memory) old None new
 take_step k memory old new t = moves_step (Take k memory) k old new (quiet_take k memory) t

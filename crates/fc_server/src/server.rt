@@ -3,9 +3,8 @@ ghost use Rattle.std.specs.Prelude.{◌≡◌, ℕ, ◌≤◌, [], false, IfOk};
 ghost use Rattle.fc_registry.specs.Shards.{first_shards};
 ghost use Rattle.fc_registry.specs.Slots.{last_serial};
 ghost use Rattle.fc_core.specs.declared.event.Event.{Event};
-ghost use Rattle.fc_core.specs.Exchanges.{advanced};
+ghost use Rattle.fc_core.specs.Exchanges.{advanced, first_front};
 ghost use Rattle.fc_core.specs.Heads.{no_words};
-ghost use Rattle.fc_core.specs.Ids.{first_ids};
 ghost use Rattle.fc_core.specs.Receiving.{after_delivered, delivered, emission_if, heard};
 ghost use Rattle.fc_server.specs.States.{Responds, AtWork, Does};
 
@@ -43,7 +42,7 @@ impl Server {
     /// There was no memory for it.
     pub fn new(alloc: Global, first_serial: u64, first_id: u16) -> Result<Server, AllocError>
         requires { first_serial ≤ last_serial }
-        ensures front { IfOk result (λ s. s.front ≡ record { now = 0; opened = 0; held = []; ids = first_ids first_id }) }
+        ensures front { IfOk result (λ s. s.front ≡ first_front first_id) }
         ensures shards { IfOk result (λ s. s.shards ≡ first_shards first_serial) }
         ensures words { IfOk result (λ s. s.words ≡ no_words) }
     {

@@ -1,5 +1,4 @@
 use Rattle.std.proofs.Common.{rules, ◌≡◌, ◌≤◌, length, false}
-use Rattle.coap_block.specs.Places.{block_place}
 use Rattle.std.specs.Prelude.{find}
 use Rattle.coap_block.specs.Uploads.{is_transfer_of, others, is_full, before_of, body_behind, IsWhole}
 use Rattle.coap_block.proofs.Rooms.{has_room}
@@ -11,6 +10,6 @@ keep-requires-clause-few c =
     let held = c.expire.new.held.items in
     let le : length held ≤ 16 = search rules in
     let room : is_full c.args.block.number (length (others c.args.endpoint c.args.slot held)) ≡ false = search rules in
-    let whole : body_behind (before_of c.args.block.number (find (is_transfer_of c.args.endpoint c.args.slot) held)) (block_place c.args.block) c.args.payload.now ≡ IsWhole c.in-Whole.body.items = search rules in
-    let lt = has_room held c.args.endpoint c.args.slot (block_place c.args.block) c.args.payload.now c.in-Whole.body.items le room whole in
+    let whole : body_behind (before_of c.args.block.number (find (is_transfer_of c.args.endpoint c.args.slot) held)) c.args.block c.args.payload.now ≡ IsWhole c.in-Whole.body.items = search rules in
+    let lt = has_room held c.args.endpoint c.args.slot c.args.block c.args.payload.now c.in-Whole.body.items le room whole in
     search rules

@@ -8,4 +8,4 @@ overflow_cast-value c = let three : c.decode_uint-value.result < 256 ^ 3 = below
 pub invariant_of-result : goal.invariant_of-result
 invariant_of-result c =
     let three : c.decode_uint-value.result < 256 ^ 3 = below_power _ 3 _ c.decode_uint-value.ensures.below c.requires in
-    record { number_fits = omega arith; szx_fits = omega arith }
+    (omega arith, omega arith)

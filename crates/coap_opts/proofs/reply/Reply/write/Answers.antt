@@ -8,4 +8,4 @@ pub returns-clause-message : goal.returns-clause-message
 returns-clause-message c =
     let options = reply_options c.args.self.now.options in
     let short : length (options_bytes 0 options) ≤ 65 = omega (arith, ap length c.write.ensures.bytes, length-append c.write_head.new.datagram.items (options_bytes 0 options), c.write.ensures.room) in
-    message_fits _ c.requires.code (omega arith) (omega arith) c.requires.token c.write.ensures.options (omega (arith, short, c.requires.token, c.requires.payload))
+    message_fits _ c.requires.code c.fit_head.ensures.code c.fit_head.ensures.id c.requires.token c.write.ensures.options (omega (arith, short, c.requires.token, c.requires.payload))

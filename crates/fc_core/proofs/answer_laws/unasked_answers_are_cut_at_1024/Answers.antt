@@ -1,8 +1,5 @@
-use Rattle.fc_core.proofs.FirstBlocks.{begins, longer, post, whole}
-use Rattle.fc_core.proofs.answer_laws.first_blocks_begin_the_body.Goals as goal
-
-pub returns-clause-begins : goal.returns-clause-begins
-returns-clause-begins c = begins
+use Rattle.fc_core.proofs.FirstBlocks.{longer, post, whole}
+use Rattle.fc_core.proofs.answer_laws.unasked_answers_are_cut_at_1024.Goals as goal
 
 pub returns-clause-whole : goal.returns-clause-whole
 returns-clause-whole c = whole

@@ -1,0 +1,8 @@
+use Rattle.std.proofs.Common.{ap, sym, ◌∙◌}
+use Rattle.coap_block.specs.Cuts.{cut_seen, cut_of}
+use Rattle.fc_core.proofs.Within1024.{cut_within}
+use Rattle.fc_core.proofs.block.BodyBlock.cut.Goals as goal
+
+-- src/block.rt:32:29
+pub kept-requires : goal.kept-requires
+kept-requires c = cut_within c.args.asked c.args.body.now _ (ap (cut_of c.args.body.now) (sym c.asked_block.ensures) ∙ (sym c.slice.ensures ∙ ap cut_seen c.in-Ok.is))
