@@ -7,8 +7,8 @@ use Rattle.std.proofs.Math.Nat.{zero-mul, suc-mul}
 use Rattle.std.proofs.Math.ListN.{drop_of_length-le}
 use Rattle.std.proofs.Math.Seq.{take-add, take-nil}
 use Rattle.coap_opts.specs.Values.{block_size}
-use Rattle.coap_block.specs.Cuts.{Part, block_at, cut_at, is_past, unless_past}
-use Rattle.coap_block.specs.Pieces.{EndsBy, IsBlockOf, part_bytes, joined_cuts}
+use Rattle.coap_block.specs.Cuts.{Part, block_at, cut_at, is_past, unless_past, part_bytes}
+use Rattle.coap_block.specs.Pieces.{EndsBy, IsBlockOf, joined_cuts}
 
 -- ---- joined
 

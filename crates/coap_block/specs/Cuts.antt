@@ -1,5 +1,5 @@
 -- The block of a body that a GET asks (RFC 7959, 2.4).
-use Rattle.std.specs.Prelude.{ℕ, ◌+◌, ◌*◌, ◌&&◌, Bool, true, false, nat_lt, not, List, length, take, drop, Option, Some, None, Result, Ok, Err}
+use Rattle.std.specs.Prelude.{ℕ, ◌+◌, ◌*◌, ◌&&◌, Bool, true, false, nat_lt, not, List, [], length, take, drop, Option, Some, None, Result, Ok, Err}
 use Rattle.coap_block.specs.declared.cut.Cut.{Cut}
 use Rattle.coap_block.specs.declared.cut.PastEnd.{PastEnd}
 use Rattle.coap_opts.specs.Values.{Place, block_size}
@@ -8,6 +8,11 @@ use Rattle.coap_opts.specs.Values.{Place, block_size}
 pub record Part : Type 0 where
   pub bytes : List ℕ
   pub place : Option Place
+
+-- the bytes of a part, if there is one
+abbrev pub part_bytes : Option Part → List ℕ
+part_bytes None = []
+part_bytes (Some part) = part.bytes
 
 -- a block that isn't the first begins at or past the end
 abbrev pub is_past : List ℕ → ℕ → ℕ → Bool

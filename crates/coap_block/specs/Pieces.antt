@@ -1,11 +1,7 @@
 -- The cuts of a body by one size (RFC 7959, 2.4).
 use Rattle.std.specs.Prelude.{◌≡◌, ℕ, zero, suc, ◌+◌, ◌*◌, ◌<◌, ◌≤◌, Bool, true, false, List, [], ◌++◌, length, Option, Some, None}
 use Rattle.coap_opts.specs.Values.{block_size}
-use Rattle.coap_block.specs.Cuts.{Part, cut_at}
-
-abbrev pub part_bytes : Option Part → List ℕ
-part_bytes None = []
-part_bytes (Some part) = part.bytes
+use Rattle.coap_block.specs.Cuts.{Part, cut_at, part_bytes}
 
 -- the first cuts, joined
 abbrev pub joined_cuts : List ℕ → ℕ → ℕ → List ℕ

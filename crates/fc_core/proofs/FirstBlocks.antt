@@ -7,8 +7,8 @@ use Rattle.fc_help.specs.declared.request.Method.{Method}
 use Rattle.fc_help.specs.declared.request.Method.TheVariants.{Post}
 use Rattle.fc_kinds.specs.Meaning.{Input, IsRun, Program, meant}
 use Rattle.fc_registry.specs.Record.{code_class}
-use Rattle.coap_block.specs.Cuts.{Part, cut_unasked}
-use Rattle.fc_core.specs.Blocks.{cut_for, part_bytes}
+use Rattle.coap_block.specs.Cuts.{Part, cut_unasked, part_bytes}
+use Rattle.fc_core.specs.Blocks.{cut_for}
 use Rattle.fc_core.specs.Replies.{bare, content, etag, ran_response, text}
 
 pub whole : (body : List ℕ) → length body ≤ 1024 → cut_for None body ≡ Some (record { bytes = body; place = None })

@@ -19,11 +19,6 @@ cut_for asked body = cut_of body (option_map asked_place asked)
 abbrev pub part_of : BodyBlock → Part
 part_of b = record { bytes = b.bytes.items; place = b.block }
 
--- the bytes of a block, if there is one
-abbrev pub part_bytes : Option Part → List ℕ
-part_bytes None = []
-part_bytes (Some part) = part.bytes
-
 -- the options that name a block
 abbrev pub block2 : Option Place → List (ℕ × List ℕ)
 block2 None = []

@@ -264,7 +264,11 @@ abbrev pub keeping : ℕ → Option Emission → FrontState → FrontState
 keeping number None f = f
 keeping number (Some emission) f = record f { held = map (answered f.now number emission.bytes) f.held }
 
--- and what it holds then
+-- a front that opened an exchange for a request, and answered it at once
+abbrev pub settled_front : FrontState → Endpoint → Message → Response → FrontState
+settled_front f to m response = keeping f.opened (told f to m response) (record (opening_for f to m) { ids = drawn_for (is_confirmable m.kind) f.ids f.now })
+
+-- what a front holds after a datagram
 abbrev pub after_received : Received → FrontState → Endpoint → FrontState
 after_received x f to =
     let new = opened_by x (next_opening f) to in

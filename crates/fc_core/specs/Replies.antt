@@ -14,8 +14,8 @@ use Rattle.fc_registry.specs.Receipts.{receipt_text}
 use Rattle.fc_registry.specs.declared.job.Job.{Job}
 use Rattle.fc_registry.specs.declared.receipt.Receipt.{Receipt}
 use Rattle.coap_opts.specs.Values.{Place}
-use Rattle.coap_block.specs.Cuts.{Part}
-use Rattle.fc_core.specs.Blocks.{block1, block2, cut_for, part_bytes}
+use Rattle.coap_block.specs.Cuts.{Part, part_bytes}
+use Rattle.fc_core.specs.Blocks.{block1, block2, cut_for}
 use Rattle.fc_core.specs.Contents.{Content, Ran, Missing, Unavailable, Made, Rejected, Untyped, Valid, Deleted, Described, Listed}
 use Rattle.fc_core.specs.Links.{links_text}
 

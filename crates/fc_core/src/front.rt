@@ -10,7 +10,7 @@ ghost use Rattle.fc_core.specs.Exchanges.{advanced, first_front, front_expired, 
 ghost use Rattle.fc_core.specs.Ids.{drawn_for, free_id};
 ghost use Rattle.coap_block.specs.Transfers.{after_addition};
 ghost use Rattle.coap_block.specs.Views.{add_seen};
-ghost use Rattle.fc_core.specs.Receiving.{add_in, addition_of, after_delivered, after_received, ask_by, emission_if, handed_on, heard, heard_if, id_in, is_confirmable, job_of, keeping, look_in, next_opening, opening_for, received_as, reply_or_nothing, request_asked, request_received, told};
+ghost use Rattle.fc_core.specs.Receiving.{add_in, addition_of, after_delivered, after_received, ask_by, emission_if, handed_on, heard, heard_if, id_in, is_confirmable, job_of, look_in, next_opening, opening_for, received_as, reply_or_nothing, request_asked, request_received, settled_front, told};
 ghost use Rattle.fc_core.specs.Receiving as receiving;
 ghost use Rattle.fc_core.specs.Replies.{reset_of, settled_by};
 
@@ -342,8 +342,10 @@ impl Front {
     ) -> Heard
         requires new { look_in self.old endpoint message.now ≡ IsNew }
         requires asking { IsAsking asking.now }
-        ensures delivered { heard result job.new reply.new ≡ handed_on (new_request self.old endpoint message.now asking.entry.now) self.old endpoint }
-        ensures after { self.new ≡ after_received (new_request self.old endpoint message.now asking.entry.now) self.old endpoint }
+        ensures delivered { let x = new_request self.old endpoint message.now asking.entry.now in
+            heard result job.new reply.new ≡ handed_on x self.old endpoint }
+        ensures after { let x = new_request self.old endpoint message.now asking.entry.now in
+            self.new ≡ after_received x self.old endpoint }
     {
         match asking {
             Asking::Hush => {
@@ -382,8 +384,10 @@ impl Front {
     ) -> Heard
         requires new { look_in self.old endpoint message.now ≡ IsNew }
         requires limits { IsWithinLimits (asked_by request.now) }
-        ensures delivered { heard result job.new reply.new ≡ handed_on (request_received self.old endpoint message.now (asked_by request.now)) self.old endpoint }
-        ensures after { self.new ≡ after_received (request_received self.old endpoint message.now (asked_by request.now)) self.old endpoint }
+        ensures delivered { let x = request_received self.old endpoint message.now (asked_by request.now) in
+            heard result job.new reply.new ≡ handed_on x self.old endpoint }
+        ensures after { let x = request_received self.old endpoint message.now (asked_by request.now) in
+            self.new ≡ after_received x self.old endpoint }
     {
         let Some(block) = request.block1 else {
             let opening = self.open_exchange(endpoint, message);
@@ -430,8 +434,10 @@ impl Front {
         reply: &mut Emission,
     ) -> bool
         requires { 64 ≤ code.byte }
-        ensures emission { emission_if result reply.new ≡ told self.old endpoint message.now (settled_by code.byte block1) }
-        ensures after { self.new ≡ record self.old { ids = drawn_for (is_confirmable message.now.kind) self.old.ids self.old.now } }
+        ensures emission { let response = settled_by code.byte block1 in
+            emission_if result reply.new ≡ told self.old endpoint message.now response }
+        ensures after { self.new ≡ record self.old {
+            ids = drawn_for (is_confirmable message.now.kind) self.old.ids self.old.now } }
     {
         let confirmable = message.kind() == MessageType::Confirmable;
         let Some(id) = self.reply_id(confirmable, message.id()) else {
@@ -452,9 +458,9 @@ impl Front {
     ) -> Heard
         requires new { look_in self.old endpoint message.now ≡ IsNew }
         requires code { 64 ≤ code.byte }
-        ensures heard { (job : Job) → heard result job reply.new ≡ reply_or_nothing (told self.old endpoint message.now (settled_by code.byte block1)) }
-        ensures after { self.new ≡ keeping self.old.opened (told self.old endpoint message.now (settled_by code.byte block1))
-            (record (opening_for self.old endpoint message.now) { ids = drawn_for (is_confirmable message.now.kind) self.old.ids self.old.now }) }
+        ensures heard { let response = settled_by code.byte block1 in
+            (job : Job) → heard result job reply.new ≡ reply_or_nothing (told self.old endpoint message.now response) }
+        ensures after { self.new ≡ settled_front self.old endpoint message.now (settled_by code.byte block1) }
     {
         let opening = self.open_exchange(endpoint, message);
         let sent = self.tell(endpoint, message, code, block1, reply);

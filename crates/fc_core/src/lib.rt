@@ -25,6 +25,7 @@
 pub mod answer;
 pub mod answer_laws;
 pub mod block;
+pub mod body_laws;
 pub mod event;
 pub mod exchange_laws;
 pub mod front;

@@ -2,7 +2,8 @@
 ghost use Rattle.std.specs.Prelude.{◌≡◌, ◌≤◌, Some, drop, length};
 ghost use Rattle.std.specs.Option.{option_map};
 ghost use Rattle.coap_opts.specs.Replies.{reply_options};
-ghost use Rattle.fc_core.specs.Blocks.{HasNoBlock, part_bytes, part_of};
+ghost use Rattle.coap_block.specs.Cuts.{part_bytes};
+ghost use Rattle.fc_core.specs.Blocks.{HasNoBlock, part_of};
 ghost use Rattle.fc_core.specs.Contents.{Listed, Valid};
 ghost use Rattle.fc_core.specs.Ends.{content_of};
 ghost use Rattle.fc_core.specs.Receiving.{told_by};
