@@ -23,3 +23,4 @@ pub mod FirstBlocks
 pub mod Within1024
 pub mod Published
 pub mod Deletions
+pub mod Bodies

@@ -20,11 +20,12 @@ use Rattle.fc_core.specs.declared.event.Event.{Event}
 use Rattle.fc_core.specs.declared.event.Event.TheVariants.{Deliver, Answer}
 use Rattle.fc_core.specs.Exchanges.{FrontState}
 use Rattle.fc_core.specs.ExchangeLaws.{Arrival, ArrivesBy, IsAsking, IsOpening, IsRepeat, Opens, OpensOne, Repeats, again, arrival_of, arrivals, is_within, repeat_emits, repeated}
-use Rattle.fc_core.specs.History.{Entry, Seen, and_then, answered_in, exchanges_after, exchanges_received, front_at, ids_after, job, received_at, stage, tasks_brought, tasks_moved}
+use Rattle.fc_core.specs.History.{Entry, Seen, added_in, and_then, answered_in, exchanges_after, exchanges_received, front_at, ids_after, job, received_at, stage, tasks_brought, tasks_moved}
 use Rattle.fc_core.specs.Ids.{Ids}
 use Rattle.fc_core.specs.Legal.{Emits}
+use Rattle.coap_block.specs.Transfers.{Addition}
 use Rattle.coap_block.specs.Uploads.{Add, Continues, IsWhole, IsIncomplete, IsBadLength, IsTooLarge, IsFull}
-use Rattle.fc_core.specs.Receiving.{Received, add_in, is_confirmable, received_added, request_received, Repeated, Again, Silenced, Refused, brought, drawn_by, kept_of, look_in, looked, next_opening, opened_by, received, received_as, received_read, sent}
+use Rattle.fc_core.specs.Receiving.{Received, add_in, added_by, is_confirmable, received_added, request_received, Repeated, Again, Silenced, Refused, brought, drawn_by, kept_of, look_in, looked, next_opening, opened_by, received, received_as, received_read, sent}
 use Rattle.fc_core.specs.Stages.{content_at, names, new_task}
 
 -- ---- what a request is to the exchanges
@@ -38,7 +39,7 @@ find-filter p q [] = refl
 find-filter p q (x ∷ xs) = found_if p q x (filter q xs) (find (λ y. q y && p y) xs) (q x) (find-filter p q xs)
 
 -- what a request is where it is new
-abbrev new_as : FrontState → Endpoint → Verdict → Message → Received
+abbrev pub new_as : FrontState → Endpoint → Verdict → Message → Received
 new_as f to (IsAsked asked) m = request_received f to m asked
 new_as f to (IsRefused answer) m = Refused m answer
 new_as f to other m = Silenced m
@@ -80,17 +81,18 @@ repeat_looked false None m new = refl
 repeat_looked true (Some bytes) m new = refl
 repeat_looked false (Some bytes) m new = refl
 
--- a datagram that opens, keeps, draws and brings nothing
+-- a datagram that opens, keeps, draws, brings and adds nothing
 record IsIdle (x : Received) : Type 0 where
   opens : (o : Opening) (to : Endpoint) → opened_by x o to ≡ []
   keeps : (emitted : Option Emission) → kept_of x emitted ≡ None
   draws : (ids : Ids) (at : ℕ) → drawn_by x ids at ≡ ids
   brings : (o : Opening) (to : Endpoint) → brought x o to ≡ []
+  adds : (at : ℕ) (to : Endpoint) → added_by x at to ≡ []
 
 repeat_idle : (c : Bool) (a : Option (ArrayVec ℕ)) → IsIdle (repeat_as c a)
-repeat_idle true (Some bytes) = record { opens = λ o to. refl; keeps = λ emitted. refl; draws = λ ids at. refl; brings = λ o to. refl }
-repeat_idle true None = record { opens = λ o to. refl; keeps = λ emitted. refl; draws = λ ids at. refl; brings = λ o to. refl }
-repeat_idle false a = record { opens = λ o to. refl; keeps = λ emitted. refl; draws = λ ids at. refl; brings = λ o to. refl }
+repeat_idle true (Some bytes) = record { opens = λ o to. refl; keeps = λ emitted. refl; draws = λ ids at. refl; brings = λ o to. refl; adds = λ at to. refl }
+repeat_idle true None = record { opens = λ o to. refl; keeps = λ emitted. refl; draws = λ ids at. refl; brings = λ o to. refl; adds = λ at to. refl }
+repeat_idle false a = record { opens = λ o to. refl; keeps = λ emitted. refl; draws = λ ids at. refl; brings = λ o to. refl; adds = λ at to. refl }
 
 repeat_sent : (c : Bool) (a : Option (ArrayVec ℕ)) (f : FrontState) (to : Endpoint) → sent (repeat_as c a) f to ≡ again to c a
 repeat_sent true (Some bytes) f to = refl
@@ -123,6 +125,10 @@ draws_nothing : (s : Seen) (e : Event) (x : Exchange) → Repeats s e x → ids_
 draws_nothing s (Deliver now to bytes) x w = (idle s now to bytes.now x w).draws s.ids (max s.moment now)
 draws_nothing s other x w = absurd w
 
+adds_nothing : (s : Seen) (e : Event) (x : Exchange) → Repeats s e x → added_in e s ++ s.additions ≡ s.additions
+adds_nothing s (Deliver now to bytes) x w = ap (λ (l : List Addition). l ++ s.additions) ((idle s now to bytes.now x w).adds (max s.moment now) to)
+adds_nothing s other x w = absurd w
+
 emits_again : (s : Seen) (e : Event) (x : Exchange) (o : Option Emission) → Repeats s e x → Emits s e o → o ≡ repeat_emits e x
 emits_again s (Deliver now to bytes) x o w legal = legal ∙ (ap (λ (y : Received). sent y (front_at s now) to) (repeat_is s now to bytes.now x w) ∙ repeat_sent x.confirmable x.answer (front_at s now) to)
 emits_again s other x o w legal = absurd w
@@ -135,6 +141,9 @@ repeats_bring_nothing r s e w = brings_nothing s r.event e w
 
 pub repeats_draw_nothing : (r : Entry) (s : Seen) (e : Exchange) → Repeats s r.event e → (and_then r s).ids ≡ s.ids
 repeats_draw_nothing r s e w = draws_nothing s r.event e w
+
+pub repeats_add_nothing : (r : Entry) (s : Seen) (e : Exchange) → Repeats s r.event e → (and_then r s).additions ≡ s.additions
+repeats_add_nothing r s e w = adds_nothing s r.event e w
 
 pub repeats_emit_again : (r : Entry) (s : Seen) (e : Exchange) → Repeats s r.event e → Emits s r.event r.emitted → r.emitted ≡ repeat_emits r.event e
 repeats_emit_again r s e w legal = emits_again s r.event e r.emitted w legal
@@ -178,7 +187,7 @@ new_opens f from IsReset m o to = refl
 new_opens f from (IsSignal reset) m o to = refl
 new_opens f from IsIgnored m o to = refl
 
-opening_is : (s : Seen) (now : ℕ) (to : Endpoint) (bytes : List ℕ) (w : IsOpening s now to bytes) → received_at s now to bytes ≡ new_as (front_at s now) to (verdict w.message) w.message
+pub opening_is : (s : Seen) (now : ℕ) (to : Endpoint) (bytes : List ℕ) (w : IsOpening s now to bytes) → received_at s now to bytes ≡ new_as (front_at s now) to (verdict w.message) w.message
 opening_is s now to bytes w =
     let at = max s.moment now in
     request_is s now to bytes w.message None w.read w.asks w.new
@@ -221,7 +230,7 @@ looked_opens IsAnsweredNon m new o to ne = refl
 looked_opens (IsAgain bytes) m new o to ne = refl
 looked_opens IsFull m new o to ne = refl
 
-opening_of : (s : Seen) (now : ℕ) (to : Endpoint) (bytes : List ℕ) (m : Message) → reading_of bytes ≡ Ok m → IsAsking (verdict m) → look_in (front_at s now) to m ≡ IsNew → IsOpening s now to bytes
+pub opening_of : (s : Seen) (now : ℕ) (to : Endpoint) (bytes : List ℕ) (m : Message) → reading_of bytes ≡ Ok m → IsAsking (verdict m) → look_in (front_at s now) to m ≡ IsNew → IsOpening s now to bytes
 opening_of s now to bytes m read asks is =
     let at = max s.moment now in
     let new = new_look (repeated s at to m.id) (room_at s at) (sym (look_is s now to m) ∙ is) in

@@ -1,22 +1,27 @@
-//! What a history promises of bodies that come in blocks: each function is a law, and its contract says it.
+//! What a history promises of bodies that come and go in blocks: each function is a law, and its contract says it.
+ghost use Rattle.coap_block.specs.Cuts.{cut_at};
 ghost use Rattle.coap_block.specs.Transfers.{FitsBehind, RisesTo, transfers};
 ghost use Rattle.coap_msg.specs.Codes.{code};
 ghost use Rattle.coap_msg.specs.Wire.{Message};
 ghost use Rattle.coap_msg.specs.declared.types.Endpoint.{Endpoint};
 ghost use Rattle.coap_opts.specs.Values.{Place};
 ghost use Rattle.coap_opts.specs.Verdict.{Asked};
-ghost use Rattle.fc_core.specs.BodyLaws.{addition_at, asked_at};
-ghost use Rattle.fc_core.specs.History.{History, seen};
+ghost use Rattle.fc_core.specs.Blocks.{cut_for};
+ghost use Rattle.fc_core.specs.BodyLaws.{Asks, BringsInstall, FitsBy, PutsBlock, addition_at, addition_by, asked_at, continue_by};
+ghost use Rattle.fc_core.specs.History.{Entry, History, Seen, and_then, seen};
+ghost use Rattle.fc_core.specs.Legal.{Emits};
 ghost use Rattle.fc_core.specs.Receiving.{Opened, Settled};
 ghost use Rattle.fc_core.specs.Replies.{settled_by};
-ghost use Rattle.std.specs.Prelude.{ℕ, ◌≡◌, ◌↔◌, ◌≤◌, List, Some, false, length, true};
+ghost use Rattle.std.specs.Prelude.{ℕ, ◌≡◌, ◌↔◌, ◌++◌, ◌<◌, ◌≤◌, List, Some, false, length, true};
 
-use coap_block::laws::{blocks_that_fit_are_joined, bodies_are_bounded, transfers_are_payloads_joined};
+use coap_block::laws::{
+    blocks_that_fit_are_joined, bodies_are_bounded, transfers_are_payloads_joined,
+};
 
 /// Blocks are joined (RFC 7959, 2.5). A new request with a block is carried out exactly where the block is the last and fits
 /// behind those that its endpoint sent for its slot: the body is their payloads since block number 0, joined, and its own. It is
 /// answered 2.31 (Continue) with its Block1 exactly where it fits so and more are to come. A body has at most 4,112 bytes, and
-/// at most 16 transfers are held.
+/// at most 16 transfers are held. The moments of what is added never fall.
 pub fn blocks_are_joined()
     ensures whole { (h : History) (now : ℕ) (to : Endpoint) (m : Message) (r : Asked) (b : Place)
         (body : List ℕ) → r.block1 ≡ Some b →
@@ -36,3 +41,35 @@ pub fn blocks_are_joined()
     bodies_are_bounded();
     transfers_are_payloads_joined();
 }
+
+/// Each request that is no repeat, that passes the checks of its options, and for whose exchange there is room, adds its
+/// payload, with its block if it has one; nothing else adds any. So a repeat isn't taken twice, and a request that is refused
+/// before its payload is looked at leaves the transfers.
+pub fn new_requests_add_their_payloads()
+    ensures adds { (e : Entry) (s : Seen) (m : Message) (r : Asked) → Asks s e.event m r
+        → (and_then e s).additions ≡ addition_by s e.event r ++ s.additions }
+    ensures others { (e : Entry) (s : Seen) → ((m : Message) (r : Asked) → Asks s e.event m r → ⊥)
+        → (and_then e s).additions ≡ s.additions }
+{}
+
+/// A PUT of slot N whose block is the last and fits brings a job that installs the whole body in slot N. One whose block fits with
+/// more to come brings none, and is answered 2.31 (Continue) with its Block1.
+pub fn blocks_that_fit_are_answered()
+    ensures installs { (e : Entry) (h : History) (m : Message) (r : Asked) (n : ℕ) (b : Place) (body : List ℕ) →
+        Asks (seen h) e.event m r → PutsBlock r n b → b.more ≡ false → FitsBy (seen h) e.event r b body
+        → BringsInstall e (seen h) n body }
+    ensures continues { (e : Entry) (h : History) (m : Message) (r : Asked) (n : ℕ) (b : Place) (body : List ℕ) →
+        Asks (seen h) e.event m r → PutsBlock r n b → b.more ≡ true → FitsBy (seen h) e.event r b body
+        → Emits (seen h) e.event e.emitted → e.emitted ≡ continue_by (seen h) e.event m b }
+    ensures waits { (e : Entry) (h : History) (m : Message) (r : Asked) (n : ℕ) (b : Place) (body : List ℕ) →
+        Asks (seen h) e.event m r → PutsBlock r n b → b.more ≡ true → FitsBy (seen h) e.event r b body
+        → (and_then e (seen h)).tasks ≡ (seen h).tasks }
+{
+    blocks_that_fit_are_joined();
+}
+
+/// A GET that names a block is answered by the block of that number and size, whatever it says of more.
+pub fn asked_blocks_are_cut()
+    ensures { (body : List ℕ) (p : Place) → p.szx < 7
+        → cut_for (Some p) body ≡ cut_at body p.number p.szx }
+{}

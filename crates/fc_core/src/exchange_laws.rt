@@ -7,13 +7,15 @@ ghost use Rattle.fc_core.specs.Legal.{Emits};
 ghost use Rattle.std.specs.Prelude.{ℕ, ◌+◌, ◌<◌, ◌≤◌, ◌≡◌};
 
 /// A repeat, which is a request of an endpoint and message id of which an exchange was opened less than 247,000 ms before,
-/// opens no exchange, brings no job and draws no message id. It emits the bytes that are kept of that exchange, where its
+/// opens no exchange, brings no job, adds no payload to a transfer and draws no message id. It emits the bytes that are kept of that exchange, where its
 /// request was confirmable and was answered, and else nothing.
 pub fn repeats_do_nothing()
     ensures exchanges { (r : Entry) (s : Seen) (e : Exchange) → Repeats s r.event e
         → (and_then r s).exchanges ≡ s.exchanges }
     ensures tasks { (r : Entry) (s : Seen) (e : Exchange) → Repeats s r.event e
         → (and_then r s).tasks ≡ s.tasks }
+    ensures additions { (r : Entry) (s : Seen) (e : Exchange) → Repeats s r.event e
+        → (and_then r s).additions ≡ s.additions }
     ensures ids { (r : Entry) (s : Seen) (e : Exchange) → Repeats s r.event e → (and_then r s).ids ≡ s.ids }
     ensures emitted { (r : Entry) (s : Seen) (e : Exchange) → Repeats s r.event e → Emits s r.event r.emitted
         → r.emitted ≡ repeat_emits r.event e }

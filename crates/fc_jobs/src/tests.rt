@@ -21,6 +21,7 @@ fn job(opened: u64) -> Job {
         confirmable: true,
         token: Token::default(),
         etags: Default::default(),
+        block: None,
         ask: Ask::Run(Request::new(Method::Get, 0, None, &[], &[])),
     }
 }

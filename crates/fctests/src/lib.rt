@@ -5,6 +5,8 @@
 #[cfg(test)]
 mod asm_tests;
 #[cfg(test)]
+mod block_tests;
+#[cfg(test)]
 mod call_tests;
 #[cfg(test)]
 mod event_tests;

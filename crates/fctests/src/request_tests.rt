@@ -156,15 +156,36 @@ fn critical_options(rt: HostRuntime) {
     check_outcomes(&rt, &CRITICAL_CASES);
 }
 
-static BLOCK_CASES: [(&[u8], Outcome); 4] = [
-    // Block2 in a GET, also on an unknown path and of the reserved size, and Block1 in a PUT.
-    (b"\x40\x01\x00\x01\xb1\x72\x01\x30\xc1\x16", BAD_OPTION),
-    (b"\x40\x01\x00\x01\xb1\x78\xc1\x06", BAD_OPTION),
-    (b"\x40\x01\x00\x01\xb1\x72\x01\x30\xc1\x07", BAD_OPTION),
+static BLOCK_CASES: [(&[u8], Outcome); 13] = [
+    // Block2 in a GET, on an unknown path, of the reserved size, of 4 bytes, and twice.
+    (b"\x40\x01\x00\x01\xb1\x72\x01\x30\xc1\x16", Outcome::Accepted),
+    (b"\x40\x01\x00\x01\xb1\x78\xc1\x06", NOT_FOUND),
+    (b"\x40\x01\x00\x01\xb1\x72\x01\x30\xc1\x07", BAD_REQUEST),
     (
-        b"\x40\x03\x40\x00\xb1\x70\x01\x32\xd1\x03\x0a\xff\x00",
+        b"\x40\x01\x00\x01\xb1\x72\x01\x30\xc4\x00\x00\x00\x06",
         BAD_OPTION,
     ),
+    (
+        b"\x40\x01\x00\x01\xb1\x72\x01\x30\xc1\x16\x01\x16",
+        BAD_OPTION,
+    ),
+    // Block1 in a PUT, and of the reserved size.
+    (
+        b"\x40\x03\x40\x00\xb1\x70\x01\x32\xd1\x03\x0a\xff\x00",
+        Outcome::Accepted,
+    ),
+    (
+        b"\x40\x03\x40\x00\xb1\x70\x01\x32\xd1\x03\x0f\xff\x00",
+        BAD_REQUEST,
+    ),
+    // Block2 elsewhere, also on an unknown path, and to one who asked without confirmation.
+    (b"\x40\x02\x00\x01\xb1\x78\xc1\x06", BAD_OPTION),
+    (b"\x40\x03\x00\x01\xb1\x70\x01\x32\xc1\x06", BAD_OPTION),
+    (b"\x50\x04\x00\x01\xb1\x70\x01\x32\xc1\x06", Outcome::Silent),
+    // Block1 elsewhere, also in a code that isn't served.
+    (b"\x40\x01\x00\x01\xb1\x70\x01\x32\xd1\x03\x0a", BAD_OPTION),
+    (b"\x40\x02\x00\x01\xb1\x72\x01\x32\xd1\x03\x0a", BAD_OPTION),
+    (b"\x40\x05\x00\x01\xb1\x70\x01\x32\xd1\x03\x0a", BAD_OPTION),
 ];
 
 #[test]
@@ -172,12 +193,26 @@ fn blocks(rt: HostRuntime) {
     check_outcomes(&rt, &BLOCK_CASES);
 }
 
+// A block is the one of this number and size, of which more follow or don't.
+fn is_block(block: Block, number: u32, more: bool, szx: u8) -> bool {
+    block.number() == number && block.more() == more && block.szx() == szx
+}
+
+#[test]
+fn requests_name_blocks(rt: HostRuntime) {
+    let asked = request_of(b"\x40\x01\x00\x01\xb1\x72\x01\x30\xc1\x16").and_then(|it| it.block2);
+    assert!(rt; asked.is_some_and(|block| is_block(block, 1, false, 6)));
+    let sent =
+        request_of(b"\x40\x03\x40\x00\xb1\x70\x01\x32\xd1\x03\x0a\xff\x00").and_then(|it| it.block1);
+    assert!(rt; sent.is_some_and(|block| is_block(block, 0, true, 2)));
+}
+
 #[test]
 fn values_of_blocks(rt: HostRuntime) {
     // The least value is no byte; leading zeros are read and not written.
     assert!(rt; Block::read(&[]).value().is_empty());
     let second = Block::read(&[0x00, 0x00, 0x16]);
-    assert!(rt; second.number == 1 && !second.more && second.size() == 1024);
+    assert!(rt; is_block(second, 1, false, 6) && second.size() == 1024);
     assert!(rt; second.value().as_slice() == [0x16].as_slice());
 }
 

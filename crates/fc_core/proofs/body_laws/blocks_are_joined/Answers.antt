@@ -1,30 +1,21 @@
-use Rattle.std.proofs.Common.{◌≡◌, ap, sym, ◌∙◌, max, ℕ, List, Option, Some}
-use Rattle.coap_msg.specs.declared.types.Endpoint.{Endpoint}
-use Rattle.coap_msg.specs.Wire.{Message}
-use Rattle.coap_opts.specs.Values.{Place}
-use Rattle.coap_opts.specs.Verdict.{Asked}
-use Rattle.coap_block.specs.Uploads.{Add, add_of, block_added}
+use Rattle.std.proofs.Common.{sym, ◌∙◌, max}
 use Rattle.coap_block.specs.Transfers.{transfers}
 use Rattle.fc_core.specs.BodyLaws.{addition_at}
-use Rattle.fc_core.specs.History.{History, Seen, seen}
+use Rattle.fc_core.specs.History.{seen}
 use Rattle.fc_core.specs.Receiving.{slot_of_resource}
-use Rattle.fc_core.proofs.Bodies.{goes_on, is_continued, is_opened, is_whole, rises, rises_at}
+use Rattle.fc_core.proofs.Bodies.{added_block, goes_on, is_continued, is_opened, is_whole, rises, rises_at}
 use Rattle.fc_core.proofs.body_laws.blocks_are_joined.Goals as goal
-
--- what becomes of the block of a new request
-added : (s : Seen) (now : ℕ) (to : Endpoint) (r : Asked) (b : Place) → r.block1 ≡ Some b → add_of (transfers s.additions) (max s.moment now) to (slot_of_resource r.resource) r.block1 r.payload ≡ block_added (transfers s.additions) (max s.moment now) to (slot_of_resource r.resource) b r.payload
-added s now to r b is = ap (λ (block : Option Place). add_of (transfers s.additions) (max s.moment now) to (slot_of_resource r.resource) block r.payload) is
 
 pub returns-clause-whole : goal.returns-clause-whole
 returns-clause-whole c h now to m r b body is =
     let law = c.blocks_that_fit_are_joined.ensures.whole (seen h).additions (addition_at (seen h) now to r) b body (rises_at h now) in
-    let same = added (seen h) now to r b is in
+    let same = added_block (seen h) now to r b is in
     (λ e. law.0 (sym same ∙ is_whole _ m r body e), λ w. is_opened _ m r body (same ∙ law.1 w))
 
 pub returns-clause-continues : goal.returns-clause-continues
 returns-clause-continues c h now to m r b is =
     let law = c.blocks_that_fit_are_joined.ensures.continues (seen h).additions (addition_at (seen h) now to r) b (rises_at h now) in
-    let same = added (seen h) now to r b is in
+    let same = added_block (seen h) now to r b is in
     (λ e. law.0 (sym same ∙ goes_on _ m r b e), λ w. is_continued _ m r b is (same ∙ law.1 w))
 
 pub returns-clause-most : goal.returns-clause-most
