@@ -31,11 +31,11 @@ extends false sum body e = (refl, cc)
 
 -- ---- lengths
 
-long_from : (more : Bool) (size bytes : ℕ) → has_length more size bytes ≡ true → HasLength more size bytes
+pub long_from : (more : Bool) (size bytes : ℕ) → has_length more size bytes ≡ true → HasLength more size bytes
 long_from true size bytes e = eqb-true bytes size e
 long_from false size bytes e = ltb-false size bytes (not-true (nat_lt size bytes) e)
 
-long_to : (more : Bool) (size bytes : ℕ) → HasLength more size bytes → has_length more size bytes ≡ true
+pub long_to : (more : Bool) (size bytes : ℕ) → HasLength more size bytes → has_length more size bytes ≡ true
 long_to true size bytes h = eq-eqb bytes size h
 long_to false size bytes h = not_from_false (nat_lt size bytes) (le-ltb size bytes h)
 
@@ -101,12 +101,12 @@ fits_from U held to n b bytes body under e =
 -- ---- back
 
 -- what a beginning says of the checks
-record BeginsBy (rest : ℕ) (b : Place) (u : Option Transfer) (before : List ℕ) : Type 0 where
-  room : is_full b.number rest ≡ false
-  is : before_of b.number u ≡ Some before
-  starts : (b.number * block_size b.szx == length before) ≡ true
+pub record BeginsBy (rest : ℕ) (b : Place) (u : Option Transfer) (before : List ℕ) : Type 0 where
+  pub room : is_full b.number rest ≡ false
+  pub is : before_of b.number u ≡ Some before
+  pub starts : (b.number * block_size b.szx == length before) ≡ true
 
-begins_to : (U : List ℕ → Type 0) (rest : ℕ) (b : Place) (u : Option Transfer) (before : List ℕ) → ((w : List ℕ) → U w → found_bytes u ≡ Some w) → Begins U rest b before → BeginsBy rest b u before
+pub begins_to : (U : List ℕ → Type 0) (rest : ℕ) (b : Place) (u : Option Transfer) (before : List ℕ) → ((w : List ℕ) → U w → found_bytes u ≡ Some w) → Begins U rest b before → BeginsBy rest b u before
 begins_to U rest b u before under (inl w) =
     let z = eq-eqb b.number 0 w.0 in
     let r : not (nat_lt rest 16) ≡ false = not_from_true (nat_lt rest 16) (lt-ltb rest 16 w.1) in

@@ -5,3 +5,5 @@ pub mod Keys
 pub mod Bodies
 pub mod UnderWay
 pub mod Joins
+pub mod Refusals
+pub mod Single

@@ -1,5 +1,5 @@
 -- The cuts of a body by one size (RFC 7959, 2.4).
-use Rattle.std.specs.Prelude.{◌≡◌, ℕ, zero, suc, ◌+◌, ◌*◌, ◌<◌, ◌≤◌, Bool, true, false, List, [], ◌++◌, length, Option, Some, None}
+use Rattle.std.specs.Prelude.{◌≡◌, ℕ, zero, suc, ◌+◌, ◌*◌, ◌<◌, ◌≤◌, Bool, true, false, List, [], ◌++◌, length, Some}
 use Rattle.coap_opts.specs.Values.{block_size}
 use Rattle.coap_block.specs.Cuts.{Part, cut_at, part_bytes}
 

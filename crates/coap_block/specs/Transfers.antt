@@ -79,3 +79,7 @@ IsUnderWay now to n (a ∷ h) body = StillUnderWay now a.at a.payload (others_at
 -- a block fits behind what came before it, and makes this body
 abbrev pub FitsBehind : List Addition → Addition → Place → List ℕ → Type 0
 FitsBehind h a b body = Fits (IsUnderWay a.at a.endpoint a.slot h) (others_at a h) b a.payload body
+
+-- a block begins where those before it end
+abbrev pub BeginsBehind : List Addition → Addition → Place → List ℕ → Type 0
+BeginsBehind h a b before = Begins (IsUnderWay a.at a.endpoint a.slot h) (others_at a h) b before

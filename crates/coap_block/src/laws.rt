@@ -1,11 +1,11 @@
 //! Laws of what the definitions say: each function is a law, and its contract says it.
-ghost use Rattle.std.specs.Prelude.{◌≡◌, ◌↔◌, ℕ, ◌*◌, ◌<◌, ◌≤◌, false, true, List, None, Option, Some, find, length, take};
+ghost use Rattle.std.specs.Prelude.{◌≡◌, ◌≢◌, ◌↔◌, ℕ, ◌+◌, ◌*◌, ◌<◌, ◌≤◌, false, true, List, None, Option, Some, filter, find, length, take};
 ghost use Rattle.coap_opts.specs.Values.{block_value};
 ghost use Rattle.coap_msg.specs.declared.types.Endpoint.{Endpoint};
 ghost use Rattle.coap_block.specs.declared.transfer.Transfer.{Transfer};
 ghost use Rattle.coap_opts.specs.Values.{Place, block_size};
-ghost use Rattle.coap_block.specs.Uploads.{Continues, IsWhole, add_of, after_block, block_added, is_transfer_of, live, same_key};
-ghost use Rattle.coap_block.specs.Transfers.{Addition, FitsBehind, IsUnderWay, RisesTo, bytes_held, transfers};
+ghost use Rattle.coap_block.specs.Uploads.{Continues, IsBadLength, IsFull, IsIncomplete, IsTooLarge, IsWhole, add_of, after_block, block_added, is_transfer_of, live, same_key};
+ghost use Rattle.coap_block.specs.Transfers.{Addition, BeginsBehind, FitsBehind, HasLength, IsUnderWay, RisesTo, bytes_held, others_at, transfers};
 ghost use Rattle.coap_block.specs.Cuts.{Part, cut_at};
 ghost use Rattle.coap_block.specs.Pieces.{IsBlockOf, joined_cuts};
 
@@ -27,6 +27,28 @@ pub fn blocks_that_fit_are_joined()
     ensures continues { (h : List Addition) (a : Addition) (b : Place) → RisesTo a.at h →
         ((block_added (transfers h) a.at a.endpoint a.slot b a.payload ≡ Continues)
         ↔ ((b.more ≡ true) × ((body : List ℕ) × FitsBehind h a b body))) }
+{}
+
+/// Each refusal has its cause, and they come in this order: a start where 16 others are under way; a block that doesn't begin where
+/// those before it end; a payload that hasn't the length of its block; a sum above 4,112 bytes.
+pub fn refusals_have_causes()
+    ensures full { (h : List Addition) (a : Addition) (b : Place) → b.number ≡ 0 → 16 ≤ others_at a h →
+        block_added (transfers h) a.at a.endpoint a.slot b a.payload ≡ IsFull }
+    ensures incomplete { (h : List Addition) (a : Addition) (b : Place) → RisesTo a.at h → b.number ≢ 0 →
+        ((before : List ℕ) → BeginsBehind h a b before → ⊥) →
+        block_added (transfers h) a.at a.endpoint a.slot b a.payload ≡ IsIncomplete }
+    ensures length { (h : List Addition) (a : Addition) (b : Place) (before : List ℕ) → RisesTo a.at h →
+        BeginsBehind h a b before → (HasLength b.more (block_size b.szx) (length a.payload) → ⊥) →
+        block_added (transfers h) a.at a.endpoint a.slot b a.payload ≡ IsBadLength }
+    ensures sum { (h : List Addition) (a : Addition) (b : Place) (before : List ℕ) → RisesTo a.at h →
+        BeginsBehind h a b before → HasLength b.more (block_size b.szx) (length a.payload) →
+        4112 < length before + length a.payload →
+        block_added (transfers h) a.at a.endpoint a.slot b a.payload ≡ IsTooLarge }
+{}
+
+/// Of an endpoint and slot at most one transfer is held.
+pub fn transfers_have_one_key()
+    ensures { (h : List Addition) (to : Endpoint) (n : ℕ) → length (filter (is_transfer_of to n) (transfers h)) ≤ 1 }
 {}
 
 /// A body has at most 4,112 bytes; without a block a payload is whole up to there.
@@ -56,4 +78,3 @@ pub fn cuts_joined_are_the_body()
     ensures none { (body : List ℕ) (szx k : ℕ) →
         ((cut_at body k szx ≡ None) ↔ ((0 < k) × (length body ≤ k * block_size szx))) }
 {}
-

@@ -57,7 +57,7 @@ pub record IsRefused (e : Event) (k : ℕ) (j : Job) (at : Stage) (judgement : J
   pub is : at ≡ ToInstall
   pub judged_as : judged (image_of j.ask) ≡ judgement
 
--- it commits a run, whose code, first block of the reply and ticket's serial the answer has: a run that wants to write is
+-- it commits a run, whose code, block of the reply and ticket's serial the answer has: a run that wants to write is
 -- answered so only where the slot is still at its ticket's serial, below the last one
 pub record IsRan (e : Event) (k : ℕ) (slot : Slot) (at : Stage) (run : RunAnswer) : Type 0 where
   pub now : ℕ

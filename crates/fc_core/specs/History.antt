@@ -33,7 +33,7 @@ pub data History : Type 0 where
   Then : (before : History) (entry : Entry) → History
 
 -- all that can be asked of a history: the serial at which the slots began, the greatest moment handed to the front, the
--- exchanges that were opened, the payloads that were added to transfers, the newest first, the message ids of the server's own,
+-- exchanges that were opened, the payloads of new requests, the newest first, the message ids of the server's own,
 -- the jobs that came, each at its stage, the changes of each slot, the newest first, the greatest moment handed to each shard,
 -- and the head words. Exchanges and jobs are listed oldest first, since their places are their numbers.
 pub record Seen : Type 0 where
@@ -115,7 +115,7 @@ exchanges_after (Deliver now to bytes) emitted s = exchanges_received (received_
 exchanges_after (Answer k now) emitted s = if is_some (content_at (stage s k)) then answered_in (job s k).origin.opening.number emitted s.exchanges else s.exchanges
 exchanges_after other emitted s = s.exchanges
 
--- the payload that a delivery adds to the transfers
+-- the payload of a new request, which begins or goes on with a transfer where it has a block
 abbrev pub added_in : Event → Seen → List Addition
 added_in (Deliver now to bytes) s = added_by (received_at s now to bytes.now) (max s.moment now) to
 added_in other s = []

@@ -213,7 +213,7 @@ abbrev pub brought : Received → Opening → Endpoint → List Job
 brought (Opened m asked body) o to = job_of o to m asked body ∷ []
 brought other o to = []
 
--- the payload that is added to the transfers
+-- the payload of a request, with its block if it has one
 abbrev pub addition_of : ℕ → Endpoint → Asked → Addition
 addition_of at to r = record { at = at; endpoint = to; slot = slot_of_resource r.resource; block = r.block1; payload = r.payload }
 

@@ -18,7 +18,7 @@ ghost use Rattle.std.specs.Prelude.{ℕ, ◌⊎◌, ◌++◌, ◌<◌, ◌≤◌
 /// Unavailable) only where memory is refused, where the slot changes under the job's eighth ticket, or where the slot is
 /// at its last serial and is to change; 4.04 (Not Found) only where a taking or a receipt finds the slot empty; 2.03 (Valid)
 /// only where the slot's head word is that of a program at a serial that the request names; 2.02 (Deleted) only at a removal.
-/// A run's code and the first block of its reply are the answer only at the commit of the run, and where the run wants to
+/// A run's code and the block of its reply that is asked are the answer only at the commit of the run, and where the run wants to
 /// write only if it may. The receipt of an install is its program's, its version is the slot's new serial, and it tells whether
 /// the slot was empty; that of a slot is its program's, with the serial of its install. A list of head words has 64.
 pub fn answers_have_causes()

@@ -46,7 +46,7 @@ pub fn takings_are_few()
 {}
 
 /// The answer of a run is of the last ticket that its job took: its code is what the ticket's program means for the
-/// request and the variables that were found, its block is the first of the reply that it means, and its serial is the
+/// request and the variables that were found, its block is the one that was asked of the reply that it means, and its serial is the
 /// one that was found.
 pub fn answers_are_of_the_last_taking()
     ensures { (h : History) (k : ℕ) (run : RunAnswer) → answer_at (stage (seen h) k) ≡ Some (Ran run)
