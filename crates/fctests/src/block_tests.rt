@@ -238,3 +238,71 @@ fn sixteen_transfers_are_held(rt: HostRuntime) -> Result<(), Fail> {
     )?;
     check_text(&rt, &sent, &told)
 }
+
+// A refused image is told its rule alone, and a change has the block that was sent. 2.03 has no block; of a list, no block begins past
+// the end. A value with a zero in front is answered without it.
+#[test]
+fn answers_have_the_blocks_that_they_should(rt: HostRuntime) -> Result<(), Fail> {
+    static SENT: [Piece; 3] = [
+        (
+            "0 1 40030001b1700130d10301ff46434231000002000100000000000000b7000000450000009500000000000000\n\
+             0 1 40030002b1700130d10301ff46434231000002000200000000000000b7000000450000009500000000000000\n\
+             0 1 40030003b1700130d10301ff46434231000002000200000000000000b7000000450000009500000000000000\n\
+             0 1 4001000448000000000000000271720130c106\n\
+             0 1 40010005bb2e77656c6c2d6b6e6f776e04636f7265c116\n\
+             0 1 40030006b1700131d203000aff",
+            1,
+        ),
+        ("00", 64),
+        ("\n", 1),
+    ];
+    static TOLD: [Piece; 1] = [(
+        "1 60800001ff56313620736c6f742030\n\
+         1 60410002d10e01ff76657273696f6e3d3120636f73743d32206275646765743d3220766172733d30\n\
+         1 60440003d10e01ff76657273696f6e3d3220636f73743d32206275646765743d3220766172733d30\n\
+         1 60430004480000000000000002\n\
+         1 60800005\n\
+         1 605f0006d10e0a\n",
+        1,
+    )];
+    check_pieces(&rt, &SENT, &TOLD)
+}
+
+// A copy of a block is answered again, and not taken twice. A request that is refused before its payload is looked at leaves the
+// transfer, and so does a PUT without a block. A block out of its place is told so, whatever its length.
+#[test]
+fn a_transfer_stays_under_way(rt: HostRuntime) -> Result<(), Fail> {
+    static SENT: [Piece; 15] = [
+        ("0 1 40030001b1700132d1030aff", 1),
+        ("00", 64),
+        ("\n0 1 50030002b1700132d1031aff", 1),
+        ("00", 64),
+        ("\n0 1 40030001b1700132d1030aff", 1),
+        ("00", 64),
+        ("\n0 1 40030003b1700132d1032fff", 1),
+        ("00", 64),
+        ("\n0 1 40030004b1700132d1032eff", 1),
+        ("00", 1025),
+        // one byte is no image
+        (
+            "\n0 1 40030005b1700132ff00\n0 1 40030006b1700132d1032aff",
+            1,
+        ),
+        ("00", 64),
+        ("\n0 1 40030007b1700132d1034aff", 1),
+        ("00", 63),
+        ("\n", 1),
+    ];
+    static TOLD: [Piece; 1] = [(
+        "1 605f0001d10e0a\n\
+         1 505f0000d10e1a\n\
+         1 605f0001d10e0a\n\
+         1 60800003\n\
+         1 608d0004\n\
+         1 60800005ff56303120736c6f742030\n\
+         1 605f0006d10e2a\n\
+         1 60880007\n",
+        1,
+    )];
+    check_pieces(&rt, &SENT, &TOLD)
+}
