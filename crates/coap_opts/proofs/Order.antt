@@ -1,11 +1,11 @@
 -- The first check that fails, by the checks before it.
-use Rattle.std.proofs.Common.{◌≡◌, ℕ, ◌||◌, Bool, true, false, nat_lt, length, List, [], Option, Some, None, refl, sym, ap, ◌∙◌}
+use Rattle.std.proofs.Common.{◌≡◌, ℕ, ◌||◌, Bool, true, false, nat_lt, length, List, [], Option, Some, None, refl, sym, ◌∙◌}
 use Rattle.std.proofs.lemmas.Bool.{lt-ltb, le-ltb}
 use Rattle.coap_msg.specs.Wire.{Message}
 use Rattle.coap_opts.specs.declared.request.Method.{Method}
 use Rattle.coap_opts.specs.declared.request.Resource.{Resource}
 use Rattle.coap_opts.specs.Path.{method_of}
-use Rattle.coap_opts.specs.Served.{serves, there}
+use Rattle.coap_opts.specs.Served.{serves}
 use Rattle.coap_opts.specs.Recognition.{has_unknown_critical}
 use Rattle.coap_opts.specs.Verdict.{IsKnown, IsServedAt, asked, has, resource, names_proxy, number_in, block_in, query, etags, observe_at, is_reserved, has_bad_value, refusal_code}
 use Rattle.coap_opts.specs.Collected.{IsCollected, IsQueryBy, lent, resource_with}
@@ -57,9 +57,9 @@ long_by : (b : Bool) (items all : List ℕ) → IsQueryBy b items all → nat_lt
 long_by true items all h = lt-ltb 64 (length all) h
 long_by false items all h = rw (sym h.0) (le-ltb 64 (length items) h.1)
 
-pub collected_served : (m : Message) (g : Collected) (method : Method) (at : Resource) → IsCollected m g → IsKnown m → method_of m.code ≡ Some method → there (resource_with g.path []) ≡ Some at →
+pub collected_served : (m : Message) (g : Collected) (method : Method) (at : Resource) → IsCollected m g → IsKnown m → method_of m.code ≡ Some method → resource_with g.path [] ≡ Some at →
     serves at method ≡ true → IsServedAt m method at
-collected_served m g method at h k e r s = record { known = k; method_is = e; resource_is = ap there (sym h.path) ∙ r; served = s }
+collected_served m g method at h k e r s = record { known = k; method_is = e; resource_is = sym h.path ∙ r; served = s }
 
 pub collected_bad : (m : Message) (g : Collected) → IsCollected m g → (first second : Option Place) → first ≡ option_map place_in (lent g.block1) → second ≡ option_map place_in (lent g.block2) →
     has_bad_value m ≡ ((is_reserved first || is_reserved second) || g.query.is_long)

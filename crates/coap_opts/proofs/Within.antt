@@ -17,7 +17,7 @@ use Rattle.coap_opts.specs.declared.request.Resource.TheVariants.{Run, Program, 
 use Rattle.coap_opts.specs.Path.{method_of}
 use Rattle.coap_opts.specs.Values.{Place, place_in, uint_value}
 use Rattle.coap_opts.specs.Verdict.{Asked, IsAsked, IsAskedWithin, IsBlockFor, IsErrorCode, IsRefused, IsSilent, IsReset, IsSignal, IsIgnored, Verdict, asked, accepted, resource, verdict, verdict_by, request_verdict, verdict_by_check, refusal_verdict, refusal_code, checks, first_failing, first_of, is_request, is_reserved, is_run, is_served, has_bad_value, query, values, number_in, block_in, etags, observe_at}
-use Rattle.coap_opts.specs.Served.{is_there, there, serves}
+use Rattle.coap_opts.specs.Served.{serves}
 use Rattle.coap_opts.proofs.Known.{block1_in_put, block2_in_get, etag_in_get, observe_in_get}
 use Rattle.coap_opts.proofs.Paths.{path_only}
 
@@ -99,14 +99,6 @@ passed m h =
 
 -- ---- the fields
 
-there_by : (b : Bool) (at r : Resource) → (if b then Some at else None) ≡ Some r → Some at ≡ Some r
-there_by true at r e = e
-there_by false at r e = absurd (cc e)
-
-there_is : (at : Option Resource) (r : Resource) → there at ≡ Some r → at ≡ Some r
-there_is None r e = e
-there_is (Some at) r e = there_by (is_there at) at r e
-
 method_is : (m : Message) (method found : Method) (wanted : ℕ) → method_of m.code ≡ Some method → m.code ≡ wanted → method_of wanted ≡ Some found → method ≡ found
 method_is m method found wanted e c f = let same : Some method ≡ Some found = sym e ∙ (ap method_of c ∙ f) in cc same
 
@@ -150,7 +142,7 @@ fields_within m r made p =
     let in_put : m.code ≡ PUT.byte → r.method ≡ Put = λ c. method_is m r.method Put PUT.byte made.method_is c refl in
     record {
       method = made.method_is;
-      resource = (path_only (values option.URI_PATH m) r.resource (there_is _ _ made.resource_is)).1;
+      resource = (path_only (values option.URI_PATH m) r.resource made.resource_is).1;
       served = served_by _ _ r.resource r.method made.resource_is made.method_is p.served;
       query = rw made.query_is (ltb-false 64 (length (query m)) good.1);
       etags = rw made.etags_are (at_most 4 _);

@@ -1,5 +1,5 @@
 -- What is served: a row for each option that is recognised, and one for each resource and each method there.
-use Rattle.std.specs.Prelude.{ℕ, ◌||◌, Bool, true, false, if◌then◌else◌, List, [], ◌∷◌, Option, Some, None}
+use Rattle.std.specs.Prelude.{ℕ, Bool, true, false, List, [], ◌∷◌, Option, Some, None}
 use Rattle.coap_msg.specs.declared.code.Code.{Code}
 use Rattle.coap_msg.specs.declared.code.TheConstants.Code.{GET, PUT}
 use Rattle.coap_opts.specs.declared.number.TheConstants as option
@@ -42,12 +42,3 @@ serves (Program n) Put = true
 serves (Program n) Delete = true
 serves Core Get = true
 serves _ _ = false
-
--- some method is served there
-abbrev pub is_there : Resource → Bool
-is_there at = (serves at Get || serves at Post) || (serves at Put || serves at Delete)
-
--- a resource at which no method is served isn't there
-abbrev pub there : Option Resource → Option Resource
-there None = None
-there (Some at) = if is_there at then Some at else None

@@ -20,7 +20,7 @@ use Rattle.coap_opts.specs.declared.request.Classified.TheVariants as classified
 use Rattle.coap_opts.specs.Values.{Place, place_in, uint_value}
 use Rattle.coap_opts.specs.Recognition.{values_of, has_unknown_critical}
 use Rattle.coap_opts.specs.Path.{IsResource, method_of, resource_of}
-use Rattle.coap_opts.specs.Served.{serves, there}
+use Rattle.coap_opts.specs.Served.{serves}
 
 -- ---- the fields of a request
 
@@ -54,9 +54,9 @@ query m = join_by (λ v. v) (codes "&") (values option.URI_QUERY m)
 abbrev pub etags : Message → List ℕ
 etags m = take 4 (map uint_value (filter (λ v. length v == 8) (values option.ETAG m)))
 
--- what the segments of Uri-Path name, where something is served there
+-- what the segments of Uri-Path name
 abbrev pub resource : Message → Option Resource
-resource m = there (resource_of (values option.URI_PATH m))
+resource m = resource_of (values option.URI_PATH m)
 
 -- Observe is for the resources that a program answers
 abbrev pub observe_at : Resource → Option ℕ → Option ℕ

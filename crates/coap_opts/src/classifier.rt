@@ -8,7 +8,7 @@ use crate::collector::{JoinedQuery, collect};
 use crate::fields;
 use crate::path::method_of;
 use crate::request::{Classified, PAYLOAD, Request, Resource};
-use crate::served::{serves, there};
+use crate::served::serves;
 use coap_msg::{Code, Message, MessageType};
 
 /// Classifies a message: a request with its fields, the code of the first check that fails, or what else is done about it.
@@ -69,7 +69,7 @@ fn request<'a>(message: &Message<'a>) -> Result<Request<'a>, Code>
     let Some(method) = method_of(message.code()) else {
         return Err(Code::METHOD_NOT_ALLOWED);
     };
-    let Some(resource) = there(fields::resource_of(collected.path)) else {
+    let Some(resource) = fields::resource_of(collected.path) else {
         return Err(Code::NOT_FOUND);
     };
     if !serves(resource, method) {

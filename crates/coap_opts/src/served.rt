@@ -115,23 +115,3 @@ pub(crate) fn serves(resource: Resource, method: Method) -> bool
         _ => false,
     }
 }
-
-/// Whether some method is served there.
-fn is_there(resource: Resource) -> bool
-    ensures { result ≡ spec.is_there resource }
-{
-    serves(resource, Method::Get)
-        || serves(resource, Method::Post)
-        || serves(resource, Method::Put)
-        || serves(resource, Method::Delete)
-}
-
-/// The resource, where there is one: at least one method is served there.
-pub(crate) fn there(resource: Option<Resource>) -> Option<Resource>
-    ensures { result ≡ spec.there resource }
-{
-    match resource {
-        Some(at) if is_there(at) => Some(at),
-        _ => None,
-    }
-}

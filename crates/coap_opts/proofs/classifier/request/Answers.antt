@@ -2,7 +2,6 @@ use Rattle.std.proofs.Common.{◌∙◌, length, sym, ap, arith}
 use Rattle.std.proofs.lemmas.Bool.{lt-ltb, le-ltb}
 use Rattle.std.specs.Option.{option_map}
 use Rattle.coap_opts.specs.Path.{method_of}
-use Rattle.coap_opts.specs.Served.{there}
 use Rattle.coap_opts.specs.Values.{place_in, uint_value}
 use Rattle.coap_opts.specs.Verdict as spec
 use Rattle.coap_opts.proofs.Order.{proxy_fails, unknown_fails, method_fails, path_fails, service_fails, value_fails, payload_fails, none_fails, collected_proxy, collected_bad, collected_query, collected_served, known_by, asked_with}
@@ -20,44 +19,44 @@ returns-in_default c =
     let known = known_by c.args.message.now _ c.collect-collected.ensures.parts (sym c.names_proxy.ensures ∙ c.if-names_proxy.false) (sym c.collect-collected.ensures.unknown ∙ c.if-collected.false) in
     method_fails c.args.message.now known (ap method_of (sym c.code.ensures) ∙ (sym c.method_of.ensures ∙ c.in_default.is))
 
-pub returns-in_default-there : goal.returns-in_default-there
-returns-in_default-there c =
+pub returns-in_default-resource_of : goal.returns-in_default-resource_of
+returns-in_default-resource_of c =
     let known = known_by c.args.message.now _ c.collect-collected.ensures.parts (sym c.names_proxy.ensures ∙ c.if-names_proxy.false) (sym c.collect-collected.ensures.unknown ∙ c.if-collected.false) in
     path_fails c.args.message.now c.in-Some.method known (ap method_of (sym c.code.ensures) ∙ (sym c.method_of.ensures ∙ c.in-Some.is))
-    (ap there (sym c.collect-collected.ensures.parts.path) ∙ (sym (c.there.ensures ∙ ap there c.resource_of.ensures) ∙ c.in_default-there.is))
+    (sym c.collect-collected.ensures.parts.path ∙ (sym c.resource_of.ensures ∙ c.in_default-resource_of.is))
 
 pub returns-then-not-serves : goal.returns-then-not-serves
 returns-then-not-serves c =
     let known = known_by c.args.message.now _ c.collect-collected.ensures.parts (sym c.names_proxy.ensures ∙ c.if-names_proxy.false) (sym c.collect-collected.ensures.unknown ∙ c.if-collected.false) in
-    service_fails c.args.message.now c.in-Some.method c.in-Some-there.resource known (ap method_of (sym c.code.ensures) ∙ (sym c.method_of.ensures ∙ c.in-Some.is))
-    (ap there (sym c.collect-collected.ensures.parts.path) ∙ (sym (c.there.ensures ∙ ap there c.resource_of.ensures) ∙ c.in-Some-there.is)) (sym c.if-not-serves.ensures)
+    service_fails c.args.message.now c.in-Some.method c.in-Some-resource_of.resource known (ap method_of (sym c.code.ensures) ∙ (sym c.method_of.ensures ∙ c.in-Some.is))
+    (sym c.collect-collected.ensures.parts.path ∙ (sym c.resource_of.ensures ∙ c.in-Some-resource_of.is)) (sym c.if-not-serves.ensures)
 
 pub returns-then-is_bad : goal.returns-then-is_bad
 returns-then-is_bad c =
     let known = known_by c.args.message.now _ c.collect-collected.ensures.parts (sym c.names_proxy.ensures ∙ c.if-names_proxy.false) (sym c.collect-collected.ensures.unknown ∙ c.if-collected.false) in
-    let served = collected_served c.args.message.now _ c.in-Some.method c.in-Some-there.resource c.collect-collected.ensures.parts known (ap method_of (sym c.code.ensures) ∙ (sym c.method_of.ensures ∙ c.in-Some.is))
-    (sym (c.there.ensures ∙ ap there c.resource_of.ensures) ∙ c.in-Some-there.is) (sym c.if-not-serves.ensures) in
-    value_fails c.args.message.now c.in-Some.method c.in-Some-there.resource served
+    let served = collected_served c.args.message.now _ c.in-Some.method c.in-Some-resource_of.resource c.collect-collected.ensures.parts known (ap method_of (sym c.code.ensures) ∙ (sym c.method_of.ensures ∙ c.in-Some.is))
+    (sym c.resource_of.ensures ∙ c.in-Some-resource_of.is) (sym c.if-not-serves.ensures) in
+    value_fails c.args.message.now c.in-Some.method c.in-Some-resource_of.resource served
     (collected_bad _ _ c.collect-collected.ensures.parts _ _ c.block_of.ensures c.block_of-2.ensures ∙ (sym c.is_bad.ensures ∙ c.if-is_bad.true))
 
 pub returns-then-payload-gt-PAYLOAD : goal.returns-then-payload-gt-PAYLOAD
 returns-then-payload-gt-PAYLOAD c =
     let known = known_by c.args.message.now _ c.collect-collected.ensures.parts (sym c.names_proxy.ensures ∙ c.if-names_proxy.false) (sym c.collect-collected.ensures.unknown ∙ c.if-collected.false) in
-    let served = collected_served c.args.message.now _ c.in-Some.method c.in-Some-there.resource c.collect-collected.ensures.parts known (ap method_of (sym c.code.ensures) ∙ (sym c.method_of.ensures ∙ c.in-Some.is))
-    (sym (c.there.ensures ∙ ap there c.resource_of.ensures) ∙ c.in-Some-there.is) (sym c.if-not-serves.ensures) in
+    let served = collected_served c.args.message.now _ c.in-Some.method c.in-Some-resource_of.resource c.collect-collected.ensures.parts known (ap method_of (sym c.code.ensures) ∙ (sym c.method_of.ensures ∙ c.in-Some.is))
+    (sym c.resource_of.ensures ∙ c.in-Some-resource_of.is) (sym c.if-not-serves.ensures) in
     let good = collected_bad _ _ c.collect-collected.ensures.parts _ _ c.block_of.ensures c.block_of-2.ensures ∙ (sym c.is_bad.ensures ∙ c.if-is_bad.false) in
-    payload_fails c.args.message.now c.in-Some.method c.in-Some-there.resource served good (lt-ltb 1024 (length c.args.message.now.payload) (omega (arith, ap length c.payload-payload.ensures)))
+    payload_fails c.args.message.now c.in-Some.method c.in-Some-resource_of.resource served good (lt-ltb 1024 (length c.args.message.now.payload) (omega (arith, ap length c.payload-payload.ensures)))
 
 pub returns : goal.returns
 returns c =
     let known = known_by c.args.message.now _ c.collect-collected.ensures.parts (sym c.names_proxy.ensures ∙ c.if-names_proxy.false) (sym c.collect-collected.ensures.unknown ∙ c.if-collected.false) in
-    let served = collected_served c.args.message.now _ c.in-Some.method c.in-Some-there.resource c.collect-collected.ensures.parts known (ap method_of (sym c.code.ensures) ∙ (sym c.method_of.ensures ∙ c.in-Some.is))
-    (sym (c.there.ensures ∙ ap there c.resource_of.ensures) ∙ c.in-Some-there.is) (sym c.if-not-serves.ensures) in
+    let served = collected_served c.args.message.now _ c.in-Some.method c.in-Some-resource_of.resource c.collect-collected.ensures.parts known (ap method_of (sym c.code.ensures) ∙ (sym c.method_of.ensures ∙ c.in-Some.is))
+    (sym c.resource_of.ensures ∙ c.in-Some-resource_of.is) (sym c.if-not-serves.ensures) in
     let good = collected_bad _ _ c.collect-collected.ensures.parts _ _ c.block_of.ensures c.block_of-2.ensures ∙ (sym c.is_bad.ensures ∙ c.if-is_bad.false) in (
-      none_fails c.args.message.now c.in-Some.method c.in-Some-there.resource served good (le-ltb 1024 (length c.args.message.now.payload) (omega (arith, ap length c.payload-payload.ensures))),
-      asked_with c.args.message.now c.in-Some.method c.in-Some-there.resource _ _ _ _ _ _ _ served (collected_query _ _ c.collect-collected.ensures.parts good)
+      none_fails c.args.message.now c.in-Some.method c.in-Some-resource_of.resource served good (le-ltb 1024 (length c.args.message.now.payload) (omega (arith, ap length c.payload-payload.ensures))),
+      asked_with c.args.message.now c.in-Some.method c.in-Some-resource_of.resource _ _ _ _ _ _ _ served (collected_query _ _ c.collect-collected.ensures.parts good)
           (c.format_of.ensures ∙ ap (option_map uint_value) c.collect-collected.ensures.parts.content_format) c.collect-collected.ensures.parts.etags
-          (c.observe_at.ensures ∙ ap (spec.observe_at c.in-Some-there.resource) (c.observe_of.ensures ∙ ap (option_map uint_value) c.collect-collected.ensures.parts.observe))
+          (c.observe_at.ensures ∙ ap (spec.observe_at c.in-Some-resource_of.resource) (c.observe_of.ensures ∙ ap (option_map uint_value) c.collect-collected.ensures.parts.observe))
           (c.block_of-3.ensures ∙ ap (option_map place_in) c.collect-collected.ensures.parts.block1) (c.block_of-4.ensures ∙ ap (option_map place_in) c.collect-collected.ensures.parts.block2)
           c.payload-payload.ensures,
     )
