@@ -1,5 +1,10 @@
-//! A server on a socket: datagrams are received on one thread, and their jobs are worked off by others.
-ghost use Rattle.std.specs.Prelude.{◌≡◌, ◌⊎◌};
+//! A server on a socket: datagrams are received on one thread, and their jobs are worked off by others, or by the same.
+ghost use Rattle.std.specs.Prelude.{◌≡◌, ◌≤◌, ◌⊎◌, is_some};
+ghost use Rattle.fc_core.specs.declared.event.Event.{Event};
+ghost use Rattle.fc_core.specs.Exchanges.{advanced};
+ghost use Rattle.fc_core.specs.Receiving.{delivered, emission_if};
+ghost use Rattle.fc_registry.specs.Slots.{last_serial};
+ghost use Rattle.fc_server.specs.Serving.{Hears};
 ghost use Rattle.fc_service.specs.declared.status.Status.TheVariants.{Done, Failed};
 
 use crate::clock::{Elapsed, clock_id};
@@ -7,10 +12,12 @@ use crate::pool::{Begin, Feeder, Intake, Pool, run_pool};
 use crate::replies::Replies;
 use crate::socket::{Replying, Sink, Source, open};
 use crate::status::{Status, tell};
-use coap_msg::Endpoint;
 use coap_msg::types::DATAGRAM;
+use coap_msg::{Emission, Endpoint};
 use fc_core::Delivered;
+use fc_core::front::blank_emission;
 use fc_jobs::{Jobs, Sent};
+use fc_server::Engine;
 use fc_workers::Moments;
 use log::{Log, info};
 use std::alloc::{AllocError, Global};
@@ -65,9 +72,9 @@ pub fn serve<R: Threads + Wait + Clock + Net + Sync, L: Log, E: Write>(
 }
 
 /// Serves datagrams of a source, on a new server of empty slots, until so many were received: one that needs no job is answered
-/// at once, and the jobs of others are worked off by workers, each in a thread of its own. Where none comes in time, time
-/// passes. Then the workers work off the jobs that are left, and `log` is told how many replies went to the sink and how many
-/// couldn't be sent: a record `sent 2 failed 0` of level info.
+/// at once, and the jobs of others are worked off by workers, each in a thread of its own. One worker is this thread: it works each
+/// datagram off before it receives the next. Where none comes in time, time passes. Then the workers work off the jobs that are
+/// left, and `log` is told how many replies went to the sink and how many couldn't be sent: a record `sent 2 failed 0` of level info.
 ///
 /// It fails, and `err` is told why, where the clock couldn't be read or there was no memory at the start.
 pub fn serve_at<R: Threads + Wait + Clock + Sync, S: Source, K: Sink + Sync, L: Log, E: Write>(
@@ -99,14 +106,9 @@ fn serve_to_end<R: Threads + Wait + Clock + Sync, S: Source, K: Sink + Sync>(
     extent: Extent,
 ) -> Result<Replies, Stop> {
     let moments = Elapsed::start(rt).map_err(Stop::Clock)?;
-    let pool = Pool {
-        workers: extent.workers,
-        begin: Begin {
-            serial: FIRST_SERIAL,
-            id: clock_id(rt),
-        },
-        wire: &Replying { sink },
-        moments: &moments,
+    let begin = Begin {
+        serial: FIRST_SERIAL,
+        id: clock_id(rt),
     };
     let receiver = Receiver {
         source,
@@ -114,11 +116,20 @@ fn serve_to_end<R: Threads + Wait + Clock + Sync, S: Source, K: Sink + Sync>(
         moments: &moments,
         limit: extent.limit,
     };
+    if extent.workers == 1 {
+        return Ok(receiver.serve_alone(rt, alloc, begin)?);
+    }
+    let pool = Pool {
+        workers: extent.workers,
+        begin,
+        wire: &Replying { sink },
+        moments: &moments,
+    };
     let fed = run_pool(rt, alloc, &pool, receiver)?;
     Ok(fed.given.plus(fed.replies))
 }
 
-// Who receives datagrams, up to a limit, and sends what needs no job.
+// Who receives datagrams, up to a limit, and sends what needs no job; or works all of them off.
 #[derive(Drop)]
 struct Receiver<'a, S: Source, K: Sink, M: Moments> {
     source: &'a S,
@@ -172,5 +183,60 @@ impl<'a, S: Source, K: Sink, M: Moments> Receiver<'a, S, K, M> {
             }
             Delivered::Nothing | Delivered::Signal { .. } => None,
         }
+    }
+}
+
+impl<'a, S: Source, K: Sink, M: Moments> Receiver<'a, S, K, M> {
+    // Works each datagram off on this thread, before the next is received: the replies.
+    fn serve_alone<R: Wait>(
+        self,
+        rt: &R,
+        alloc: Global,
+        begin: Begin,
+    ) -> Result<Replies, AllocError>
+        requires { begin.serial ≤ last_serial }
+    {
+        let mut engine = Engine::new(alloc, begin.serial, begin.id)?;
+        let mut reply = blank_emission();
+        let mut buffer = [0; BUFFER];
+        let mut replies = Replies::none();
+        let mut received = 0u32;
+        for _ in rt.forever() {
+            if self.limit > 0 && received >= self.limit {
+                break;
+            }
+            let heard = self.source.receive(&mut buffer);
+            let now = self.moments.now(rt);
+            match heard {
+                Some((count, from)) => {
+                    received = received.saturating_add(1);
+                    let bytes = &buffer[..count];
+                    let out = answer(&mut engine, alloc, now, from, bytes, &mut reply, self.sink);
+                    replies.count_if_any(out);
+                }
+                None => engine.tick(now),
+            }
+        }
+        Ok(replies)
+    }
+}
+
+// Works a datagram off, and sends the reply that it is answered by: whether that went out.
+fn answer<K: Sink>(
+    engine: &mut Engine,
+    alloc: Global,
+    now: u64,
+    from: Endpoint,
+    bytes: &[u8],
+    reply: &mut Emission,
+    sink: &K,
+) -> Option<bool>
+    ensures { Hears now (Event.Deliver now from bytes.entry) (delivered (advanced engine.old.front now) from bytes.now)
+        engine.old engine.new (emission_if (is_some result) reply.new) }
+{
+    if engine.hear(alloc, now, from, bytes, reply) {
+        Some(sink.send(reply))
+    } else {
+        None
     }
 }

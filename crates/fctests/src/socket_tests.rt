@@ -84,19 +84,17 @@ fn ask_counter<R: Abort + Net + Clock + AllocGlobal>(rt: &R, port: u16) {
     );
 }
 
-// Serves a socket, up to four datagrams: how that ended, and what was logged.
+// Serves a socket by so many workers, up to four datagrams: how that ended, and what was logged.
 fn serve_logged<R: Threads + Wait + Clock + Sync>(
     rt: &R,
     alloc: Global,
     socket: &UdpSocket,
+    workers: u8,
 ) -> (Status, Memory) {
     let memory = Memory::new(alloc);
     let log = Logged::new(rt, LevelFilter::Info, &memory);
     let mut err = Vec::new(alloc);
-    let extent = Extent {
-        workers: 2,
-        limit: 4,
-    };
+    let extent = Extent { workers, limit: 4 };
     let status = serve_at(rt, alloc, &log, &mut err, socket, socket, extent);
     (status, memory)
 }
@@ -104,13 +102,14 @@ fn serve_logged<R: Threads + Wait + Clock + Sync>(
 // Serves a port that is free to a client in the same process: four datagrams, each answered.
 fn serve_counter<R: Abort + AllocGlobal + Threads + Wait + Clock + Net + Sync>(
     rt: &R,
+    workers: u8,
 ) -> Result<(), Fail> {
     let alloc = rt.alloc();
     let socket = open(rt, 0)?;
     let port = socket.local_addr()?.port();
     let ((status, memory), _) = thread::join(
         rt,
-        || serve_logged(rt, alloc, &socket),
+        || serve_logged(rt, alloc, &socket, workers),
         || ask_counter(rt, port),
     );
     assert!(rt; status == Status::Done);
@@ -129,7 +128,8 @@ fn check_logged<R: Abort>(rt: &R, memory: Memory, message: &str) {
 
 #[test]
 fn a_server_answers_clients(rt: HostRuntime) -> Result<(), Fail> {
-    serve_counter(&rt)
+    serve_counter(&rt, 1)?;
+    serve_counter(&rt, 2)
 }
 
 // A source that has a datagram at every second call, and nothing in time at the others: a path that is none, which needs no
@@ -183,6 +183,7 @@ impl Sink for Lossy {
 fn serve_script<R: Abort + AllocGlobal + Threads + Wait + Clock + Sync>(
     rt: &R,
     level: LevelFilter,
+    workers: u8,
 ) -> Memory {
     let alloc = rt.alloc();
     let memory = Memory::new(alloc);
@@ -194,10 +195,7 @@ fn serve_script<R: Abort + AllocGlobal + Threads + Wait + Clock + Sync>(
     let lossy = Lossy {
         sends: AtomicUsize::new(0),
     };
-    let extent = Extent {
-        workers: 1,
-        limit: 2,
-    };
+    let extent = Extent { workers, limit: 2 };
     let status = serve_at(rt, alloc, &log, &mut err, &script, &lossy, extent);
     assert!(rt; status == Status::Done && err.is_empty());
     assert!(rt;
@@ -208,7 +206,16 @@ fn serve_script<R: Abort + AllocGlobal + Threads + Wait + Clock + Sync>(
 
 #[test]
 fn silence_is_no_datagram_and_a_loss_is_counted(rt: HostRuntime) -> Result<(), Fail> {
-    check_logged(&rt, serve_script(&rt, LevelFilter::Info), "sent 1 failed 1");
-    assert!(rt; serve_script(&rt, LevelFilter::Off).into_lines().is_empty());
+    check_logged(
+        &rt,
+        serve_script(&rt, LevelFilter::Info, 1),
+        "sent 1 failed 1",
+    );
+    check_logged(
+        &rt,
+        serve_script(&rt, LevelFilter::Info, 2),
+        "sent 1 failed 1",
+    );
+    assert!(rt; serve_script(&rt, LevelFilter::Off, 1).into_lines().is_empty());
     Ok(())
 }
