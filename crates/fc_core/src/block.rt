@@ -50,9 +50,5 @@ fn asked_block(asked: Option<Block>) -> Option<Block>
     ensures { result ≡ option_map asked_place asked }
 {
     let block = asked?;
-    Some(Block::new(
-        block.number(),
-        block.more(),
-        block.szx().min(GREATEST),
-    ))
+    Some(Block::new(block.number(), block.more(), block.szx().min(GREATEST)))
 }

@@ -402,11 +402,23 @@ impl Front {
             }
             Added::Continue => self.settle(endpoint, message, Code::CONTINUE, Some(block), reply),
             Added::Incomplete => {
-                self.settle(endpoint, message, Code::REQUEST_ENTITY_INCOMPLETE, None, reply)
+                self.settle(
+                    endpoint,
+                    message,
+                    Code::REQUEST_ENTITY_INCOMPLETE,
+                    None,
+                    reply,
+                )
             }
             Added::BadLength => self.settle(endpoint, message, Code::BAD_REQUEST, None, reply),
             Added::TooLarge => {
-                self.settle(endpoint, message, Code::REQUEST_ENTITY_TOO_LARGE, None, reply)
+                self.settle(
+                    endpoint,
+                    message,
+                    Code::REQUEST_ENTITY_TOO_LARGE,
+                    None,
+                    reply,
+                )
             }
             Added::Full => self.settle(endpoint, message, Code::SERVICE_UNAVAILABLE, None, reply),
         }
@@ -417,7 +429,8 @@ impl Front {
         requires { request.now.block1 ≡ Some block }
         ensures added { add_seen result ≡ add_in self.old endpoint (asked_by request.now) }
         ensures after { self.new ≡ record self.old {
-            transfers = after_addition (addition_of self.old.now endpoint (asked_by request.now)) self.old.transfers } }
+          transfers = after_addition (addition_of self.old.now endpoint (asked_by request.now)) self.old.transfers;
+        } }
     {
         let slot = slot_named(request.resource);
         self.uploads
@@ -437,7 +450,8 @@ impl Front {
         ensures emission { let response = settled_by code.byte block1 in
             emission_if result reply.new ≡ told self.old endpoint message.now response }
         ensures after { self.new ≡ record self.old {
-            ids = drawn_for (is_confirmable message.now.kind) self.old.ids self.old.now } }
+          ids = drawn_for (is_confirmable message.now.kind) self.old.ids self.old.now;
+        } }
     {
         let confirmable = message.kind() == MessageType::Confirmable;
         let Some(id) = self.reply_id(confirmable, message.id()) else {
@@ -465,8 +479,7 @@ impl Front {
         let opening = self.open_exchange(endpoint, message);
         let sent = self.tell(endpoint, message, code, block1, reply);
         if sent {
-            self.exchanges
-                .close(self.now, opening.number, &reply.bytes);
+            self.exchanges.close(self.now, opening.number, &reply.bytes);
         }
         replied(sent)
     }

@@ -34,14 +34,7 @@ pub(crate) fn answer(job: &Job, id: u16, answer: &Answer, bytes: &mut Datagram)
 }
 
 // That of a run: a success alone carries what is kept of its reply.
-fn ran(
-    job: &Job,
-    id: u16,
-    code: Code,
-    block: &Option<BodyBlock>,
-    serial: u64,
-    bytes: &mut Datagram,
-)
+fn ran(job: &Job, id: u16, code: Code, block: &Option<BodyBlock>, serial: u64, bytes: &mut Datagram)
     requires { 64 ≤ code.byte }
     ensures { to_job job.now bytes.new ≡ sent_in (envelope_of job.now id)
         (spec.ran_response code.byte (option_map part_of block.now) serial) }

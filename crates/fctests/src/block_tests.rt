@@ -221,7 +221,9 @@ fn sixteen_transfers_are_held(rt: HostRuntime) -> Result<(), Fail> {
     let mut sent = Vec::new(alloc);
     let mut told = Vec::new(alloc);
     for peer in 1..17u8 {
-        let line = format!(in alloc; "0 {peer} 40030001b1700130d10308ff00112233445566778899aabbccddeeff\n")?;
+        let line = format!(in alloc;
+            "0 {peer} 40030001b1700130d10308ff00112233445566778899aabbccddeeff\n"
+        )?;
         sent.extend_from_slice(line.as_bytes())?;
         let reply = format!(in alloc; "{peer} 605f0001d10e08\n")?;
         told.extend_from_slice(reply.as_bytes())?;

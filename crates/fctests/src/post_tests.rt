@@ -8,7 +8,11 @@ use std::sync::Wait;
 use std::thread::Threads;
 
 // Lines are printed so, from the first serial 0: on one thread, and by so many workers.
-pub(crate) fn check_played<R: Abort + AllocGlobal + Threads + Wait + Sync>(rt: &R, input: &str, want: &str) {
+pub(crate) fn check_played<R: Abort + AllocGlobal + Threads + Wait + Sync>(
+    rt: &R,
+    input: &str,
+    want: &str,
+) {
     let alloc = rt.alloc();
     let mut out = Vec::new(alloc);
     let mut err = Vec::new(alloc);

@@ -158,7 +158,10 @@ fn critical_options(rt: HostRuntime) {
 
 static BLOCK_CASES: [(&[u8], Outcome); 13] = [
     // Block2 in a GET, on an unknown path, of the reserved size, of 4 bytes, and twice.
-    (b"\x40\x01\x00\x01\xb1\x72\x01\x30\xc1\x16", Outcome::Accepted),
+    (
+        b"\x40\x01\x00\x01\xb1\x72\x01\x30\xc1\x16",
+        Outcome::Accepted,
+    ),
     (b"\x40\x01\x00\x01\xb1\x78\xc1\x06", NOT_FOUND),
     (b"\x40\x01\x00\x01\xb1\x72\x01\x30\xc1\x07", BAD_REQUEST),
     (
@@ -202,8 +205,9 @@ fn is_block(block: Block, number: u32, more: bool, szx: u8) -> bool {
 fn requests_name_blocks(rt: HostRuntime) {
     let asked = request_of(b"\x40\x01\x00\x01\xb1\x72\x01\x30\xc1\x16").and_then(|it| it.block2);
     assert!(rt; asked.is_some_and(|block| is_block(block, 1, false, 6)));
-    let sent =
-        request_of(b"\x40\x03\x40\x00\xb1\x70\x01\x32\xd1\x03\x0a\xff\x00").and_then(|it| it.block1);
+    let sent = request_of(b"\x40\x03\x40\x00\xb1\x70\x01\x32\xd1\x03\x0a\xff\x00").and_then(
+        |it| it.block1,
+    );
     assert!(rt; sent.is_some_and(|block| is_block(block, 0, true, 2)));
 }
 

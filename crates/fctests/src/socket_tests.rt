@@ -216,6 +216,10 @@ fn silence_is_no_datagram_and_a_loss_is_counted(rt: HostRuntime) -> Result<(), F
         serve_script(&rt, LevelFilter::Info, 2),
         "sent 1 failed 1",
     );
-    assert!(rt; serve_script(&rt, LevelFilter::Off, 1).into_lines().is_empty());
+    assert!(rt;
+        serve_script(&rt, LevelFilter::Off, 1)
+            .into_lines()
+            .is_empty()
+    );
     Ok(())
 }
