@@ -1,0 +1,10 @@
+pub mod Lists
+pub mod Places
+pub mod Keeping
+pub mod Counting
+pub mod Resending
+pub mod Resets
+pub mod Hearing
+pub mod Serials
+pub mod Due
+pub mod Turns

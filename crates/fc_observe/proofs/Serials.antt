@@ -1,0 +1,140 @@
+-- The last serials that observers were sent, and the noticed serials for which their turns were given.
+use Rattle.std.proofs.Common.{◌≡◌, ℕ, ◌+◌, ◌<◌, ◌≤◌, List, [], ◌∷◌, Bool, true, false, cond, refl, sym, ap, subst, inl, inr, arith}
+use Rattle.std.specs.Prelude.{max, nat_lt, ◌==◌, ◌&&◌, ◌⊎◌}
+use Rattle.std.specs.List.{All, Any}
+use Rattle.std.proofs.lemmas.Bool.{and_parts, eqb-true, eq-eqb, false_from_ne_true, ltb-true}
+use Rattle.std.proofs.lemmas.List.Elements.{All-nil, All-weaker}
+use Rattle.arrayvec.specs.ArrayVec.{ArrayVec}
+use Rattle.fc_observe.specs.declared.entry.Entry.{Entry}
+use Rattle.fc_observe.specs.declared.entry.Phase.{Phase}
+use Rattle.fc_observe.specs.declared.entry.Phase.TheVariants.{TurnOut, Outstanding}
+use Rattle.fc_observe.specs.declared.entry.Turn.{Turn}
+use Rattle.fc_observe.specs.Calls.{ComesFrom, IsRegisteredBy, ObserverCall, Register, NextDue, Notify, GiveUp, Acknowledge, Tick, changed_by, may_change, observers, observers_after}
+use Rattle.fc_observe.specs.Entries.{acknowledged_phase, is_due, is_free, is_out_in, must_confirm, notified_by, retransmitted_phase}
+use Rattle.fc_observe.specs.Laws.{HandsInUpTo, KeepsSerial, noticed_for}
+use Rattle.fc_observe.specs.Observers.{ObserverList, at_moment, gives_turn, is_out, turn_given_by}
+use Rattle.fc_observe.specs.Views.{interest_of}
+use Rattle.fc_observe.proofs.Keeping.{IfRegisters, all_after, come_from}
+
+-- of a turn that was given: it was counted, and its observer was last sent less than the noticed serial
+abbrev pub IsGivenFor : ℕ → ℕ → ℕ → ℕ → Type 0
+IsGivenFor turns noticed n serial = (n < turns) × (serial < noticed)
+
+abbrev pub OutBelow : ℕ → List ObserverCall → Entry → Type 0
+OutBelow slot h o = (n at : ℕ) → o.phase ≡ TurnOut n at → IsGivenFor (observers slot h).turns (noticed_for n slot h) n o.serial
+
+-- an older turn, where another may be given
+older_by : (t : ObserverList) (noticed n old serial : ℕ) (b : Bool) → n < t.turns → serial < old → IsGivenFor (turn_given_by b noticed t).turns (cond (b && (t.turns == n)) noticed old) n serial
+older_by t noticed n old serial true lt below =
+    let other : (t.turns == n) ≡ false = false_from_ne_true (t.turns == n) (λ e. let same = eqb-true t.turns n e in absurd (omega (arith, same, lt))) in
+    (omega (arith, lt), subst (λ (b : Bool). serial < cond b noticed old) (sym other) below)
+older_by t noticed n old serial false lt below = (lt, below)
+
+stays_below : (slot : ℕ) (h : List ObserverCall) (c : ObserverCall) (o : Entry) → OutBelow slot h o → OutBelow slot (c ∷ h) o
+stays_below slot h (NextDue now noticed) o below = λ n at out.
+    let w = below n at out in
+    older_by (at_moment now (observers slot h)) noticed n (noticed_for n slot h) o.serial (gives_turn noticed (at_moment now (observers slot h))) w.0 w.1
+stays_below slot h other o below = below
+
+-- the new turn
+newest : (t : ObserverList) (noticed old serial : ℕ) (b : Bool) → b ≡ true → serial < noticed → IsGivenFor (turn_given_by b noticed t).turns (cond (b && (t.turns == t.turns)) noticed old) t.turns serial
+newest t noticed old serial true e below =
+    let same : (t.turns == t.turns) ≡ true = eq-eqb t.turns t.turns refl in
+    (omega arith, subst (λ (b : Bool). serial < cond b noticed old) (sym same) below)
+newest t noticed old serial false e below = absurd (cc e)
+
+-- other phases
+acknowledged_out : (n at : ℕ) (p : Phase) → acknowledged_phase p ≡ TurnOut n at → p ≡ TurnOut n at
+acknowledged_out n at (Outstanding sent_at timeout k bytes) out = absurd (cc out)
+acknowledged_out n at other out = out
+
+resent_out : (now n at : ℕ) (p : Phase) → retransmitted_phase now p ≡ TurnOut n at → p ≡ TurnOut n at
+resent_out now n at (Outstanding sent_at timeout k bytes) out = absurd (cc out)
+resent_out now n at other out = out
+
+notified_out : (now id serial random n at : ℕ) (bytes : ArrayVec ℕ) (o : Entry) (b : Bool) → (notified_by b now id serial random bytes o).phase ≡ TurnOut n at → ⊥
+notified_out now id serial random n at bytes o true out = cc out
+notified_out now id serial random n at bytes o false out = cc out
+
+changed_below : (slot : ℕ) (h : List ObserverCall) (c : ObserverCall) (o : Entry) → OutBelow slot h o → may_change c (observers slot h) o ≡ true → OutBelow slot (c ∷ h) (changed_by c (observers slot h) o)
+changed_below slot h (NextDue now noticed) o below may = λ n at out.
+    let t = at_moment now (observers slot h) in
+    let w = and_parts (gives_turn noticed t) (is_due t.moment noticed o) may in
+    let due = and_parts (nat_lt o.serial noticed) (is_free t.moment o.phase) w.1 in
+    let lt = ltb-true o.serial noticed due.0 in
+    let number : t.turns ≡ n = cc out in
+    subst (λ (k : ℕ). IsGivenFor (turn_given_by (gives_turn noticed t) noticed t).turns (cond (gives_turn noticed t && (t.turns == k)) noticed (noticed_for k slot h)) k o.serial) number
+    (newest t noticed (noticed_for t.turns slot h) o.serial (gives_turn noticed t) w.0 lt)
+changed_below slot h (Notify now turn id serial random bytes) o below may = λ n at out. absurd (notified_out (max (observers slot h).moment now) id serial random n at bytes o (must_confirm (max (observers slot h).moment now) o) out)
+changed_below slot h (GiveUp turn now) o below may = λ n at out. absurd (cc out)
+changed_below slot h (Acknowledge to id) o below may = λ n at out. below n at (acknowledged_out n at o.phase out)
+changed_below slot h (Tick now) o below may = λ n at out. below n at (resent_out (max (observers slot h).moment now) n at o.phase out)
+changed_below slot h other o below may = absurd (cc may)
+
+new_below : (slot : ℕ) (h : List ObserverCall) (c : ObserverCall) → IfRegisters (OutBelow slot (c ∷ h)) c (observers slot h)
+new_below slot h (Register now to token request szx serial) = λ n at out. absurd (cc out)
+new_below slot h other = tt
+
+pub all_below : (slot : ℕ) (h : List ObserverCall) → All (OutBelow slot h) (observers slot h).held
+all_below slot [] = All-nil (OutBelow slot [])
+all_below slot (c ∷ h) = all_after (OutBelow slot h) (OutBelow slot (c ∷ h)) c (observers slot h) (stays_below slot h c) (changed_below slot h c) (new_below slot h c) (all_below slot h)
+
+out_phase_by : (m k own at : ℕ) (b : Bool) → (own == k) ≡ b → (b && nat_lt m (at + 247000)) ≡ true → own ≡ k
+out_phase_by m k own at true e out = eqb-true own k e
+out_phase_by m k own at false e out = absurd (cc out)
+
+-- a turn that is out has its number
+out_phase : (m k : ℕ) (p : Phase) → is_out_in m k p ≡ true → (at : ℕ) × (p ≡ TurnOut k at)
+out_phase m k (TurnOut own at) out = (at, ap (λ (n : ℕ). TurnOut n at) (out_phase_by m k own at (own == k) refl out))
+out_phase m k other out = absurd (cc out)
+
+pub sent_above : (slot now : ℕ) (turn : Turn) (serial : ℕ) (h : List ObserverCall) → noticed_for turn.number slot h ≤ serial → All (λ (o : Entry). is_out turn (at_moment now (observers slot h)) o ≡ true → o.serial < serial) (observers slot h).held
+sent_above slot now turn serial h le =
+    let t = at_moment now (observers slot h) in
+    All-weaker (OutBelow slot h) (λ (o : Entry). is_out turn t o ≡ true → o.serial < serial)
+    (λ o below out.
+    let w = and_parts (turn.slot == t.slot) (is_out_in t.moment turn.number o.phase) out in
+    let p = out_phase t.moment turn.number o.phase w.1 in
+    let lt = (below turn.number p.0 p.1).1 in
+    omega (arith, lt, le))
+    (observers slot h).held (all_below slot h)
+
+-- ---- what a call leaves of the last sent serial
+
+notified_keeps : (now id serial random : ℕ) (bytes : ArrayVec ℕ) (o : Entry) (b : Bool) → (interest_of (notified_by b now id serial random bytes o) ≡ interest_of o) × ((notified_by b now id serial random bytes o).serial ≡ serial)
+notified_keeps now id serial random bytes o true = (refl, refl)
+notified_keeps now id serial random bytes o false = (refl, refl)
+
+changed_keeps : (c : ObserverCall) (t : ObserverList) (o : Entry) → may_change c t o ≡ true → KeepsSerial c t (changed_by c t o) o
+changed_keeps (Notify now turn id serial random bytes) t o may =
+    let w = notified_keeps (max t.moment now) id serial random bytes o (must_confirm (max t.moment now) o) in
+    (w.0, inr (may, w.1))
+changed_keeps other t o may = (refl, inl refl)
+
+keeps_by : (c : ObserverCall) (t : ObserverList) (o before : Entry) → (o ≡ before) ⊎ ((may_change c t before ≡ true) × (o ≡ changed_by c t before)) → KeepsSerial c t o before
+keeps_by c t o before (inl same) = (ap interest_of same, inl (ap (λ (x : Entry). x.serial) same))
+keeps_by c t o before (inr w) = subst (λ (x : Entry). KeepsSerial c t x before) (sym w.1) (changed_keeps c t before w.0)
+
+keeps : (c : ObserverCall) (t : ObserverList) (o : Entry) → ComesFrom c t o → IsRegisteredBy c t o ⊎ Any (KeepsSerial c t o) t.held
+keeps c t o (inl new) = inl new
+keeps c t o (inr w) = inr (w.0, w.1, w.2, w.3, keeps_by c t o w.1 w.4)
+
+pub serials_kept : (c : ObserverCall) (t : ObserverList) → All (λ (o : Entry). IsRegisteredBy c t o ⊎ Any (KeepsSerial c t o) t.held) (observers_after c t).held
+serials_kept c t = All-weaker (ComesFrom c t) (λ (o : Entry). IsRegisteredBy c t o ⊎ Any (KeepsSerial c t o) t.held) (keeps c t) (observers_after c t).held (come_from c t)
+
+-- ---- serials stay below a bound
+
+registered_below : (n : ℕ) (c : ObserverCall) (t : ObserverList) → HandsInUpTo n c → IfRegisters (λ (o : Entry). o.serial ≤ n) c t
+registered_below n (Register now to token request szx serial) t le = le
+registered_below n other t le = tt
+
+notified_serial : (n now id serial random : ℕ) (bytes : ArrayVec ℕ) (o : Entry) (b : Bool) → serial ≤ n → (notified_by b now id serial random bytes o).serial ≤ n
+notified_serial n now id serial random bytes o true le = le
+notified_serial n now id serial random bytes o false le = le
+
+changed_serial : (n : ℕ) (c : ObserverCall) (t : ObserverList) (o : Entry) → HandsInUpTo n c → o.serial ≤ n → (changed_by c t o).serial ≤ n
+changed_serial n (Notify now turn id serial random bytes) t o le below = notified_serial n (max t.moment now) id serial random bytes o (must_confirm (max t.moment now) o) le
+changed_serial n other t o le below = below
+
+pub serials_below : (n : ℕ) (c : ObserverCall) (t : ObserverList) → HandsInUpTo n c → All (λ (o : Entry). o.serial ≤ n) t.held → All (λ (o : Entry). o.serial ≤ n) (observers_after c t).held
+serials_below n c t le all = all_after (λ (o : Entry). o.serial ≤ n) (λ (o : Entry). o.serial ≤ n) c t (λ o below. below) (λ o below may. changed_serial n c t o le below) (registered_below n c t le) all

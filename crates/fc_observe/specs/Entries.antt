@@ -1,0 +1,152 @@
+-- An entry in the list of observers of a slot (RFC 7641, 4.1), and the transmission of its notifications.
+use Rattle.std.specs.Prelude.{ℕ, ◌+◌, ◌*◌, ◌%◌, ◌^◌, ◌==◌, ◌&&◌, nat_eq, nat_lt, nat_le, min, Bool, true, false, if◌then◌else◌, List, [], ◌∷◌, Option, Some, None}
+use Rattle.std.specs.Cmp.Lexicographic.{pointwise}
+use Rattle.arrayvec.specs.ArrayVec.{ArrayVec}
+use Rattle.coap_msg.specs.declared.types.Emission.{Emission}
+use Rattle.coap_msg.specs.declared.types.Endpoint.{Endpoint}
+use Rattle.coap_msg.specs.Endpoints.{same_endpoint}
+use Rattle.coap_msg.specs.Windows.{window, within_window}
+use Rattle.fc_help.specs.Request.{Request}
+use Rattle.fc_observe.specs.declared.entry.Entry.{Entry}
+use Rattle.fc_observe.specs.declared.entry.Phase.{Phase}
+use Rattle.fc_observe.specs.declared.entry.Phase.TheVariants.{Idle, GivenUp, TurnOut, Outstanding}
+use Rattle.fc_observe.specs.declared.entry.Turn.{Turn}
+
+-- it is of this endpoint and token, by which an entry is known
+abbrev pub is_entry_of : Endpoint → List ℕ → Entry → Bool
+is_entry_of to token o = same_endpoint o.endpoint to && pointwise nat_eq o.token.items token
+
+-- a message id that was sent
+abbrev pub is_id : ℕ → Option ℕ → Bool
+is_id id None = false
+is_id id (Some own) = own == id
+
+-- its last notification went to this endpoint, with this message id
+abbrev pub has_last_id : Endpoint → ℕ → Entry → Bool
+has_last_id to id o = same_endpoint o.endpoint to && is_id id o.id
+
+-- f where the test passes; else it stays
+abbrev pub changed_if : Bool → (Entry → Entry) → Entry → Entry
+changed_if true f o = f o
+changed_if false f o = o
+
+-- ---- turns
+
+-- a turn is out for less than a window
+abbrev pub is_out_in : ℕ → ℕ → Phase → Bool
+is_out_in now number (TurnOut own at) = (own == number) && within_window now at
+is_out_in now number other = false
+
+-- it has this turn of the slot, and the turn is out
+abbrev pub has_turn : ℕ → ℕ → Turn → Entry → Bool
+has_turn slot now turn o = (turn.slot == slot) && is_out_in now turn.number o.phase
+
+-- nothing is under way, and its last turn was given up earlier; one that is out for a window is given up at its end
+abbrev pub is_free : ℕ → Phase → Bool
+is_free now Idle = true
+is_free now (GivenUp at) = nat_lt at now
+is_free now (TurnOut number at) = nat_lt (at + window) now
+is_free now (Outstanding sent_at timeout retransmissions bytes) = false
+
+-- a change is noticed that it wasn't notified of, and nothing is under way
+abbrev pub is_due : ℕ → ℕ → Entry → Bool
+is_due now noticed o = nat_lt o.serial noticed && is_free now o.phase
+
+-- the turn of this number is out from now on
+abbrev pub with_turn : ℕ → ℕ → Entry → Entry
+with_turn number now o = record o { phase = TurnOut number now }
+
+-- the turn is given up
+abbrev pub given_up : ℕ → Entry → Entry
+given_up now o = record o { phase = GivenUp now }
+
+-- ---- notifications
+
+-- 24 hours, in milliseconds
+abbrev pub confirmable_interval : ℕ
+confirmable_interval = 86400000
+
+-- its next notification is confirmable
+abbrev pub must_confirm : ℕ → Entry → Bool
+must_confirm now o = nat_le (o.confirmed + confirmable_interval) now
+
+-- how long the first transmission is waited for, in milliseconds (RFC 7252, 4.2)
+abbrev pub first_timeout : ℕ → ℕ
+first_timeout random = 2000 + random % 1001
+
+-- the entry after a notification of this message id, serial and bytes, which is confirmable or not
+abbrev pub notified_by : Bool → ℕ → ℕ → ℕ → ℕ → ArrayVec ℕ → Entry → Entry
+notified_by true now id serial random bytes o =
+    record o { serial = serial; id = Some id; confirmed = now; phase = Outstanding now (first_timeout random) 0 bytes }
+notified_by false now id serial random bytes o = record o { serial = serial; id = Some id; phase = Idle }
+
+-- confirmable where 24 hours passed since the last confirmable one (RFC 7641, 4.5)
+abbrev pub notified : ℕ → ℕ → ℕ → ℕ → ArrayVec ℕ → Entry → Entry
+notified now id serial random bytes o = notified_by (must_confirm now o) now id serial random bytes o
+
+-- an acknowledgement ends the wait, and nothing else
+abbrev pub acknowledged_phase : Phase → Phase
+acknowledged_phase (Outstanding sent_at timeout retransmissions bytes) = Idle
+acknowledged_phase other = other
+
+-- the entry after it
+abbrev pub acknowledged : Entry → Entry
+acknowledged o = record o { phase = acknowledged_phase o.phase }
+
+-- ---- retransmission (RFC 7252, 4.2)
+
+-- the timeout is doubled by each retransmission, four times at most
+abbrev pub backoff : ℕ → ℕ → ℕ
+backoff timeout retransmissions = timeout * 2 ^ min retransmissions 4
+
+-- a phase whose timeout is over
+abbrev pub is_late_in : ℕ → Phase → Bool
+is_late_in now (Outstanding sent_at timeout retransmissions bytes) = nat_le (sent_at + backoff timeout retransmissions) now
+is_late_in now other = false
+
+-- its notification is outstanding, and its timeout is over
+abbrev pub is_late : ℕ → Entry → Bool
+is_late now o = is_late_in now o.phase
+
+-- the same bytes again, where they were retransmitted less than four times
+abbrev pub retransmission_in : Endpoint → Phase → Option Emission
+retransmission_in to (Outstanding sent_at timeout retransmissions bytes) =
+    if nat_lt retransmissions 4 then Some (record { to = to; bytes = bytes }) else None
+retransmission_in to other = None
+
+-- what an entry is sent again
+abbrev pub retransmission : Entry → Option Emission
+retransmission o = retransmission_in o.endpoint o.phase
+
+-- the timeout runs anew
+abbrev pub retransmitted_phase : ℕ → Phase → Phase
+retransmitted_phase now (Outstanding sent_at timeout retransmissions bytes) = Outstanding now timeout (retransmissions + 1) bytes
+retransmitted_phase now other = other
+
+-- the entry after its retransmission
+abbrev pub retransmitted : ℕ → Entry → Entry
+retransmitted now o = record o { phase = retransmitted_phase now o.phase }
+
+-- a late entry after its timeout: its notification is sent again, or the entry is removed
+abbrev pub timed_out_by : Option Emission → ℕ → Entry → List Entry
+timed_out_by None now o = []
+timed_out_by (Some emission) now o = retransmitted now o ∷ []
+
+-- by its own retransmission
+abbrev pub timed_out : ℕ → Entry → List Entry
+timed_out now o = timed_out_by (retransmission o) now o
+
+-- ---- registration
+
+-- an entry at its registration, which counts as confirmed; no notification was sent yet
+abbrev pub new_entry : ℕ → Endpoint → ArrayVec ℕ → Request → Option ℕ → ℕ → Entry
+new_entry now to token request szx serial = record {
+  endpoint = to;
+  token = token;
+  request = request;
+  szx = szx;
+  serial = serial;
+  id = None;
+  confirmed = now;
+  phase = Idle;
+}

@@ -1,0 +1,77 @@
+-- What the calls on the observers of a slot keep.
+use Rattle.std.specs.Prelude.{◌≡◌, ℕ, ◌+◌, ◌<◌, ◌≤◌, ◌==◌, ◌&&◌, ◌⊎◌, Bool, true, false, if◌then◌else◌, List, [], ◌∷◌}
+use Rattle.arrayvec.specs.ArrayVec.{ArrayVec}
+use Rattle.coap_msg.specs.Windows.{window}
+use Rattle.coap_msg.specs.declared.types.Endpoint.{Endpoint}
+use Rattle.fc_observe.specs.Calls.{ObserverCall, NextDue, Notify, Register, is_registration_of, observers}
+use Rattle.fc_observe.specs.Entries.{retransmitted}
+use Rattle.fc_observe.specs.Observers.{ObserverList, at_moment, gives_turn, is_out}
+use Rattle.fc_observe.specs.Views.{interest_of}
+use Rattle.fc_observe.specs.declared.entry.Entry.{Entry}
+use Rattle.fc_observe.specs.declared.entry.Phase.{Phase}
+use Rattle.fc_observe.specs.declared.entry.Phase.TheVariants.{GivenUp, TurnOut, Outstanding}
+
+-- none of the calls registers this endpoint and token
+abbrev pub RegistersNone : Endpoint → List ℕ → List ObserverCall → Type 0
+RegistersNone to token [] = Unit {0}
+RegistersNone to token (c ∷ h) = (is_registration_of to token c ≡ false) × RegistersNone to token h
+
+-- the noticed serial for which the turn of this number was given
+abbrev pub noticed_for : ℕ → ℕ → List ObserverCall → ℕ
+noticed_for number slot [] = 0
+noticed_for number slot (NextDue now noticed ∷ h) =
+    if gives_turn noticed (at_moment now (observers slot h)) && ((observers slot h).turns == number) then noticed else noticed_for number slot h
+noticed_for number slot (other ∷ h) = noticed_for number slot h
+
+-- a confirmable notification of these bytes was sent at this moment, and its first transmission is waited for so long
+abbrev pub IsSentAt : ℕ → ℕ → ArrayVec ℕ → Entry → Type 0
+IsSentAt sent_at timeout bytes o = o.phase ≡ Outstanding sent_at timeout 0 bytes
+
+-- it was sent again at these moments, of which the latest stands first
+abbrev pub resent_at : List ℕ → Entry → Entry
+resent_at [] o = o
+resent_at (now ∷ before) o = retransmitted now (resent_at before o)
+
+-- ---- what an observer was last sent
+
+-- the call is a notification of the entry's turn, at this serial
+abbrev pub IsNotified : ObserverCall → ObserverList → Entry → ℕ → Type 0
+IsNotified (Notify now turn id sent random bytes) t o serial = (is_out turn (at_moment now t) o ≡ true) × (serial ≡ sent)
+IsNotified other t o serial = ⊥
+
+-- an entry after a call is of the same observer, and was last sent what it was before, or what the call notifies it of
+abbrev pub KeepsSerial : ObserverCall → ObserverList → Entry → Entry → Type 0
+KeepsSerial c t o before = (interest_of o ≡ interest_of before) × ((o.serial ≡ before.serial) ⊎ IsNotified c t before o.serial)
+
+-- the serial that a registration or a notification hands in is at most this
+abbrev pub HandsInUpTo : ℕ → ObserverCall → Type 0
+HandsInUpTo n (Register now to token request szx serial) = serial ≤ n
+HandsInUpTo n (Notify now turn id serial random bytes) = serial ≤ n
+HandsInUpTo n other = Unit {0}
+
+-- ---- who is due
+
+-- a confirmable notification waits for its acknowledgement
+abbrev pub IsOutstanding : Phase → Type 0
+IsOutstanding (Outstanding sent_at timeout retransmissions bytes) = Unit {0}
+IsOutstanding other = ⊥
+
+-- a turn was given less than a window before, and neither ended nor given up since
+abbrev pub IsTurnOut : ℕ → Phase → Type 0
+IsTurnOut now (TurnOut number at) = now < at + window
+IsTurnOut now other = ⊥
+
+-- the last turn was given up no earlier than at this moment, at the latest at its window's end
+abbrev pub IsGivenUpNow : ℕ → Phase → Type 0
+IsGivenUpNow now (GivenUp at) = now ≤ at
+IsGivenUpNow now (TurnOut number at) = now ≡ at + window
+IsGivenUpNow now other = ⊥
+
+-- its turn has this number, out or lapsed
+abbrev pub has_number_in : ℕ → Phase → Bool
+has_number_in number (TurnOut own at) = own == number
+has_number_in number other = false
+
+-- an entry whose turn has it
+abbrev pub has_number : ℕ → Entry → Bool
+has_number number o = has_number_in number o.phase

@@ -1,0 +1,158 @@
+-- The list of observers of a slot (RFC 7641, 4.1), and what each call does to it.
+use Rattle.std.specs.Prelude.{ℕ, ◌+◌, ◌&&◌, nat_lt, max, Bool, true, false, not, if◌then◌else◌, List, [], ◌∷◌, ◌++◌, length, map, filter, find, Option, Some, None}
+use Rattle.std.specs.List.{list_any}
+use Rattle.arrayvec.specs.ArrayVec.{ArrayVec}
+use Rattle.coap_msg.specs.declared.types.Emission.{Emission}
+use Rattle.coap_msg.specs.declared.types.Endpoint.{Endpoint}
+use Rattle.fc_help.specs.Request.{Request}
+use Rattle.fc_observe.specs.declared.entry.Entry.{Entry}
+use Rattle.fc_observe.specs.declared.entry.Turn.{Turn}
+use Rattle.fc_observe.specs.declared.observers.Registered.{Registered}
+use Rattle.fc_observe.specs.declared.observers.Registered.TheVariants.{Entered, Replaced, Full}
+use Rattle.fc_observe.specs.declared.observers.Ticked.{Ticked}
+use Rattle.fc_observe.specs.declared.observers.Ticked.TheVariants.{Resend, Removed, Quiet}
+use Rattle.fc_observe.specs.Entries.{acknowledged, changed_if, given_up, has_last_id, has_turn, is_due, is_entry_of, is_late, must_confirm, new_entry, notified, retransmission, timed_out, with_turn}
+
+-- the slot, the greatest moment handed in, how many turns were given, and the entries, in order of registration
+pub record ObserverList : Type 0 where
+  pub slot : ℕ
+  pub moment : ℕ
+  pub turns : ℕ
+  pub held : List Entry
+
+-- a new list
+abbrev pub no_observers : ℕ → ObserverList
+no_observers slot = record { slot = slot; moment = 0; turns = 0; held = [] }
+
+-- the clock is advanced, never backwards
+abbrev pub at_moment : ℕ → ObserverList → ObserverList
+at_moment now t = record t { moment = max t.moment now }
+
+-- the list with these entries
+abbrev pub with_held : List Entry → ObserverList → ObserverList
+with_held held t = record t { held = held }
+
+-- ---- lists of entries
+
+-- those that don't pass
+abbrev pub without_those : (Entry → Bool) → List Entry → List Entry
+without_those p held = filter (λ o. not (p o)) held
+
+-- the first that passes gives way to these; the others stay
+abbrev pub at_first : (Entry → Bool) → (Entry → List Entry) → List Entry → List Entry
+at_first p g [] = []
+at_first p g (o ∷ os) = if p o then g o ++ os else o ∷ at_first p g os
+
+-- f at each that passes; the others stay
+abbrev pub at_each : (Entry → Bool) → (Entry → Entry) → List Entry → List Entry
+at_each p f held = map (λ o. changed_if (p o) f o) held
+
+-- ---- registration
+
+-- the entry of the same endpoint and token is replaced; else there is room for 32
+abbrev pub registration_by : Bool → ℕ → Registered
+registration_by true count = Replaced
+registration_by false count = if nat_lt count 32 then Entered else Full
+
+-- what becomes of a registration
+abbrev pub registration : Endpoint → List ℕ → ObserverList → Registered
+registration to token t = registration_by (list_any (is_entry_of to token) t.held) (length t.held)
+
+-- the new entry is the last
+abbrev pub entered_by : Registered → Endpoint → List ℕ → Entry → List Entry → List Entry
+entered_by Full to token o held = held
+entered_by Entered to token o held = without_those (is_entry_of to token) held ++ o ∷ []
+entered_by Replaced to token o held = without_those (is_entry_of to token) held ++ o ∷ []
+
+-- the list after a registration
+abbrev pub registered : Endpoint → ArrayVec ℕ → Request → Option ℕ → ℕ → ObserverList → ObserverList
+registered to token request szx serial t = with_held (entered_by (registration to token.items t) to token.items (new_entry t.moment to token request szx serial) t.held) t
+
+-- after a cancellation (RFC 7641, 3.6)
+abbrev pub cancelled : Endpoint → List ℕ → ObserverList → ObserverList
+cancelled to token t = with_held (without_those (is_entry_of to token) t.held) t
+
+-- ---- turns
+
+-- an observer is due, and the count of turns isn't at its end
+abbrev pub gives_turn : ℕ → ObserverList → Bool
+gives_turn noticed t = nat_lt t.turns 18446744073709551615 && list_any (is_due t.moment noticed) t.held
+
+-- the next turn, numbered by how many were given
+abbrev pub next_turn_by : Bool → ObserverList → Option Turn
+next_turn_by true t = Some (record { slot = t.slot; number = t.turns })
+next_turn_by false t = None
+
+-- the turn that is given where this serial is noticed
+abbrev pub next_turn : ℕ → ObserverList → Option Turn
+next_turn noticed t = next_turn_by (gives_turn noticed t) t
+
+-- the first that is due gets the turn
+abbrev pub turn_given_by : Bool → ℕ → ObserverList → ObserverList
+turn_given_by true noticed t = record t { turns = t.turns + 1; held = at_first (is_due t.moment noticed) (λ o. with_turn t.turns t.moment o ∷ []) t.held }
+turn_given_by false noticed t = t
+
+-- the list after it
+abbrev pub turn_given : ℕ → ObserverList → ObserverList
+turn_given noticed t = turn_given_by (gives_turn noticed t) noticed t
+
+-- this turn is the entry's, and is out
+abbrev pub is_out : Turn → ObserverList → Entry → Bool
+is_out turn t o = has_turn t.slot t.moment turn o
+
+-- the entry whose turn is out
+abbrev pub entry_out : Turn → ObserverList → Option Entry
+entry_out turn t = find (is_out turn t) t.held
+
+-- whether the notification of a turn is confirmable; not where the turn is not out
+abbrev pub must_confirm_by : Option Entry → ℕ → Bool
+must_confirm_by None now = false
+must_confirm_by (Some o) now = must_confirm now o
+
+-- by the entry that has it
+abbrev pub must_confirm_turn : Turn → ObserverList → Bool
+must_confirm_turn turn t = must_confirm_by (entry_out turn t) t.moment
+
+-- the turn ends by this notification
+abbrev pub turn_notified : Turn → ℕ → ℕ → ℕ → ArrayVec ℕ → ObserverList → ObserverList
+turn_notified turn id serial random bytes t = with_held (at_first (is_out turn t) (λ o. notified t.moment id serial random bytes o ∷ []) t.held) t
+
+-- the turn ends by the removal of its entry
+abbrev pub turn_ended : Turn → ObserverList → ObserverList
+turn_ended turn t = with_held (at_first (is_out turn t) (λ o. []) t.held) t
+
+-- the turn is given up
+abbrev pub turn_given_up : Turn → ObserverList → ObserverList
+turn_given_up turn t = with_held (at_first (is_out turn t) (λ o. given_up t.moment o ∷ []) t.held) t
+
+-- ---- signals and time
+
+-- a Reset removes each entry whose last notification it answers
+abbrev pub after_reset : Endpoint → ℕ → ObserverList → ObserverList
+after_reset to id t = with_held (without_those (has_last_id to id) t.held) t
+
+-- an Acknowledgement ends the wait of each entry whose last notification it answers
+abbrev pub after_ack : Endpoint → ℕ → ObserverList → ObserverList
+after_ack to id t = with_held (at_each (has_last_id to id) acknowledged t.held) t
+
+-- the first whose notification is late
+abbrev pub late_entry : ObserverList → Option Entry
+late_entry t = find (is_late t.moment) t.held
+
+-- what a tick does: it sends a notification again, removes its entry, or does nothing
+abbrev pub ticked_by : Option Emission → Ticked
+ticked_by None = Removed
+ticked_by (Some emission) = Resend emission
+
+-- to the late entry, if there is one
+abbrev pub ticked_at : Option Entry → Ticked
+ticked_at None = Quiet
+ticked_at (Some o) = ticked_by (retransmission o)
+
+-- at the moment of the list
+abbrev pub ticked : ObserverList → Ticked
+ticked t = ticked_at (late_entry t)
+
+-- the list after a tick
+abbrev pub after_tick : ObserverList → ObserverList
+after_tick t = with_held (at_first (is_late t.moment) (timed_out t.moment) t.held) t

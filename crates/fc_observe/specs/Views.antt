@@ -1,0 +1,22 @@
+-- What an observer is lent as.
+use Rattle.std.specs.Prelude.{ℕ, Option}
+use Rattle.arrayvec.specs.ArrayVec.{ArrayVec}
+use Rattle.coap_msg.specs.declared.types.Endpoint.{Endpoint}
+use Rattle.fc_help.specs.Request.{Request}
+use Rattle.fc_observe.specs.declared.entry.Entry.{Entry}
+use Rattle.fc_observe.specs.declared.entry.Observer.{Observer}
+
+-- whose it is, and the GET that each notification answers, with its block size
+pub record Interest : Type 0 where
+  pub endpoint : Endpoint
+  pub token : ArrayVec ℕ
+  pub request : Request
+  pub szx : Option ℕ
+
+-- what is lent
+abbrev pub interest : Observer → Interest
+interest o = record { endpoint = o.endpoint; token = o.token.now; request = o.request.now; szx = o.szx }
+
+-- what an entry says of it
+abbrev pub interest_of : Entry → Interest
+interest_of o = record { endpoint = o.endpoint; token = o.token; request = o.request; szx = o.szx }

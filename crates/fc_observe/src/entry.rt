@@ -1,0 +1,279 @@
+//! An entry in the list of observers.
+ghost use Rattle.std.specs.Prelude.{◌≡◌, is_some};
+ghost use Rattle.fc_observe.specs.Entries.{acknowledged, backoff, changed_if, first_timeout, given_up, has_last_id, has_turn, is_due, is_entry_of, is_free, is_late, must_confirm, notified, retransmission, retransmitted, with_turn};
+ghost use Rattle.fc_observe.specs.Views.{interest, interest_of};
+
+use coap_msg::{Datagram, Emission, Endpoint, Token, WINDOW};
+use fc_help::Request;
+
+/// After how long without a confirmable notification the next one is confirmable, in milliseconds: 24 hours (RFC 7641, 4.5).
+pub const CONFIRMABLE_INTERVAL: u64 = 86_400_000;
+
+/// The least time that the first transmission is waited for, in milliseconds: ACK_TIMEOUT (RFC 7252, 4.8).
+pub const ACK_TIMEOUT: u16 = 2000;
+
+/// How many times there are to wait for the first transmission, each a millisecond longer: up to ACK_TIMEOUT *
+/// ACK_RANDOM_FACTOR (RFC 7252, 4.8).
+pub const ACK_TIMEOUTS: u16 = 1001;
+
+/// How often a confirmable notification is sent again at most: MAX_RETRANSMIT (RFC 7252, 4.8).
+pub const MAX_RETRANSMIT: u8 = 4;
+
+/// A turn of an observer to be notified: its slot, and its number among the turns of that slot, from 0.
+#[derive(Clone, Copy, Debug, Default, PartialEq, Eq)]
+pub struct Turn {
+    /// The slot.
+    pub slot: u8,
+    /// Its number among the turns of the slot.
+    pub number: u64,
+}
+
+/// What is under way with an observer. Moments and timeouts are in milliseconds.
+#[derive(Drop)]
+pub enum Phase {
+    /// Nothing.
+    Idle,
+    /// Nothing, since its turn was given up at this moment.
+    GivenUp(u64),
+    /// A turn of this number is out since a moment. At a window's end it is given up.
+    TurnOut {
+        /// The turn's number.
+        number: u64,
+        /// When it was given.
+        at: u64,
+    },
+    /// A confirmable notification waits for its acknowledgement (RFC 7252, 4.2).
+    Outstanding {
+        /// When it was last sent.
+        sent_at: u64,
+        /// How long its first transmission is waited for; each retransmission doubles that.
+        timeout: u16,
+        /// How often it was sent again.
+        retransmissions: u8,
+        /// Its bytes.
+        bytes: Datagram,
+    },
+}
+
+/// An entry in the list of observers (RFC 7641, 4.1).
+#[derive(Drop)]
+pub struct Entry {
+    /// The observer's endpoint.
+    pub endpoint: Endpoint,
+    /// The token of its request, which each notification carries.
+    pub token: Token,
+    /// Its request, which each notification answers anew.
+    pub request: Request,
+    /// The size exponent of its Block2 option, if it had one (RFC 7959, 2.6).
+    pub szx: Option<u8>,
+    /// The serial that it was last sent, in the reply to its registration or in a notification.
+    pub serial: u64,
+    /// The message id of its last notification.
+    pub id: Option<u16>,
+    /// When it was registered or last sent a confirmable notification, in milliseconds.
+    pub confirmed: u64,
+    /// What is under way with it.
+    pub phase: Phase,
+}
+
+/// An observer, as its entry lends it: what its notification needs.
+#[derive(Drop)]
+pub struct Observer<'a> {
+    /// Its endpoint.
+    pub endpoint: Endpoint,
+    /// The token of its request.
+    pub token: &'a Token,
+    /// Its request.
+    pub request: &'a Request,
+    /// The size exponent of its Block2 option, if it had one.
+    pub szx: Option<u8>,
+}
+
+impl Entry {
+    // The observer.
+    pub(crate) fn observer(&self) -> Observer<'_>
+        ensures { interest result ≡ interest_of self.now }
+    {
+        Observer {
+            endpoint: self.endpoint,
+            token: &self.token,
+            request: &self.request,
+            szx: self.szx,
+        }
+    }
+}
+
+// Whether it is of this endpoint and token.
+pub(crate) fn is_entry_of(endpoint: Endpoint, token: &Token, entry: &Entry) -> bool
+    ensures { result ≡ is_entry_of endpoint token.now.items entry.now }
+{
+    entry.endpoint == endpoint && entry.token.as_slice() == token.as_slice()
+}
+
+// Whether its last notification went to this endpoint, with this message id.
+pub(crate) fn has_last_id(endpoint: Endpoint, id: u16, entry: &Entry) -> bool
+    ensures { result ≡ has_last_id endpoint id entry.now }
+{
+    entry.endpoint == endpoint && entry.id == Some(id)
+}
+
+// Whether it has this turn of the slot, and the turn is out.
+pub(crate) fn has_turn(slot: u8, now: u64, turn: Turn, entry: &Entry) -> bool
+    ensures { result ≡ has_turn slot now turn entry.now }
+{
+    match &entry.phase {
+        Phase::TurnOut { number, at } => {
+            turn.slot == slot && *number == turn.number && (now < *at || now - *at < WINDOW)
+        }
+        _ => false,
+    }
+}
+
+// Whether nothing is under way, and its last turn was given up earlier.
+fn is_free(now: u64, phase: &Phase) -> bool
+    ensures { result ≡ is_free now phase.now }
+{
+    match phase {
+        Phase::Idle => true,
+        Phase::GivenUp(at) => *at < now,
+        Phase::TurnOut { at, .. } => *at < now && now - *at > WINDOW,
+        Phase::Outstanding { .. } => false,
+    }
+}
+
+// Whether it is to be notified of a change that is noticed.
+pub(crate) fn is_due(now: u64, noticed: u64, entry: &Entry) -> bool
+    ensures { result ≡ is_due now noticed entry.now }
+{
+    entry.serial < noticed && is_free(now, &entry.phase)
+}
+
+// Whether its next notification is confirmable.
+pub(crate) fn must_confirm(now: u64, entry: &Entry) -> bool
+    ensures { result ≡ must_confirm now entry.now }
+{
+    entry.confirmed <= now && now - entry.confirmed >= CONFIRMABLE_INTERVAL
+}
+
+// How long a transmission is waited for, after so many retransmissions.
+fn backoff(timeout: u16, retransmissions: u8) -> u64
+    ensures { result ≡ backoff timeout retransmissions }
+{
+    (timeout as u64) << retransmissions.min(MAX_RETRANSMIT)
+}
+
+// Whether its notification is outstanding, and its timeout is over.
+pub(crate) fn is_late(now: u64, entry: &Entry) -> bool
+    ensures { result ≡ is_late now entry.now }
+{
+    match &entry.phase {
+        Phase::Outstanding {
+            sent_at,
+            timeout,
+            retransmissions,
+            ..
+        } => *sent_at <= now && now - *sent_at >= backoff(*timeout, *retransmissions),
+        _ => false,
+    }
+}
+
+// Another copy of a datagram.
+fn copy(bytes: &Datagram) -> Datagram
+    ensures { result ≡ bytes.now }
+{
+    let mut copy = Datagram::new();
+    let _fits = copy.try_extend_from_slice(bytes.as_slice());
+    copy
+}
+
+// Another copy of a token.
+pub(crate) fn copy_token(token: &Token) -> Token
+    ensures { result ≡ token.now }
+{
+    let mut copy = Token::new();
+    let _fits = copy.try_extend_from_slice(token.as_slice());
+    copy
+}
+
+// Takes a turn.
+pub(crate) fn take_turn(number: u64, now: u64, entry: &mut Entry)
+    ensures { entry.new ≡ with_turn number now entry.old }
+{
+    entry.phase = Phase::TurnOut { number, at: now };
+}
+
+// Gives its turn up.
+pub(crate) fn give_up(now: u64, entry: &mut Entry)
+    ensures { entry.new ≡ given_up now entry.old }
+{
+    entry.phase = Phase::GivenUp(now);
+}
+
+// Notes that it was sent a notification.
+pub(crate) fn notify(
+    now: u64,
+    id: u16,
+    serial: u64,
+    random: u16,
+    bytes: &Datagram,
+    entry: &mut Entry,
+)
+    ensures { entry.new ≡ notified now id serial random bytes.now entry.old }
+{
+    let confirmable = must_confirm(now, entry);
+    entry.serial = serial;
+    entry.id = Some(id);
+    if confirmable {
+        entry.confirmed = now;
+        entry.phase = Phase::Outstanding {
+            sent_at: now,
+            timeout: first_timeout(random),
+            retransmissions: 0,
+            bytes: copy(bytes),
+        };
+    } else {
+        entry.phase = Phase::Idle;
+    }
+}
+
+// How long the first transmission is waited for.
+fn first_timeout(random: u16) -> u16
+    ensures { result ≡ first_timeout random }
+{
+    ACK_TIMEOUT + random % ACK_TIMEOUTS
+}
+
+// Ends its wait for an acknowledgement, where this message is its last notification.
+pub(crate) fn acknowledge(endpoint: Endpoint, id: u16, entry: &mut Entry)
+    ensures { entry.new ≡ changed_if (has_last_id endpoint id entry.old) acknowledged entry.old }
+{
+    if has_last_id(endpoint, id, entry)
+        && let Phase::Outstanding { .. } = entry.phase
+    {
+        entry.phase = Phase::Idle;
+    }
+}
+
+// Sends its outstanding notification again, where it wasn't sent again four times.
+pub(crate) fn retransmit(now: u64, entry: &mut Entry) -> Option<Emission>
+    ensures sent { result ≡ retransmission entry.old }
+    ensures after { entry.new
+        ≡ changed_if (is_some (retransmission entry.old)) (retransmitted now) entry.old }
+{
+    match &mut entry.phase {
+        Phase::Outstanding {
+            sent_at,
+            timeout: _,
+            retransmissions,
+            bytes,
+        } if *retransmissions < MAX_RETRANSMIT => {
+            *sent_at = now;
+            *retransmissions += 1;
+            Some(Emission {
+                to: entry.endpoint,
+                bytes: copy(bytes),
+            })
+        }
+        _ => None,
+    }
+}

@@ -1,0 +1,126 @@
+//! What the calls on the observers of a slot promise together: each function is a law, and its contract says it.
+ghost use Rattle.std.specs.Prelude.{◌≡◌, ◌↔◌, ℕ, ◌+◌, ◌*◌, ◌%◌, ◌<◌, ◌≤◌, ◌⊎◌, nat_lt, nat_le, false, true, [], ◌∷◌, List, None, Option, Some, count_by, length};
+ghost use Rattle.std.specs.List.{All, Any, Contains, list_any};
+ghost use Rattle.arrayvec.specs.ArrayVec.{ArrayVec};
+ghost use Rattle.coap_msg.specs.declared.types.Emission.{Emission};
+ghost use Rattle.coap_msg.specs.declared.types.Endpoint.{Endpoint};
+ghost use Rattle.fc_observe.specs.Calls.{ComesFrom, IsRegisteredBy, ObserverCall, Notify, End, GiveUp, after_calls, observers, observers_after};
+ghost use Rattle.fc_observe.specs.Entries.{given_up, is_due, is_entry_of, is_late, must_confirm, notified, retransmission, timed_out};
+ghost use Rattle.fc_observe.specs.Laws.{HandsInUpTo, IsGivenUpNow, IsOutstanding, IsSentAt, IsTurnOut, KeepsSerial, RegistersNone, has_number, noticed_for, resent_at};
+ghost use Rattle.fc_observe.specs.Observers.{ObserverList, after_ack, after_reset, at_moment, entry_out, is_out, ticked};
+ghost use Rattle.fc_observe.specs.declared.entry.Entry.{Entry};
+ghost use Rattle.fc_observe.specs.declared.entry.Phase.TheVariants.{Outstanding, TurnOut};
+ghost use Rattle.fc_observe.specs.declared.entry.Turn.{Turn};
+ghost use Rattle.fc_observe.specs.declared.observers.Ticked.TheVariants.{Resend};
+
+/// A slot has at most 32 observers, and at most one entry of an endpoint and token.
+pub fn entries_are_few()
+    ensures most { (slot : ℕ) (h : List ObserverCall) → length (observers slot h).held ≤ 32 }
+    ensures key { (slot : ℕ) (h : List ObserverCall) (to : Endpoint) (token : List ℕ) →
+        count_by (is_entry_of to token) (observers slot h).held ≤ 1 }
+{}
+
+/// An observer is due exactly where it was last sent less than the noticed serial, none of its confirmable notifications is
+/// outstanding, none of its turns is out, and none was given up at this moment.
+pub fn observers_are_due()
+    ensures { (now noticed : ℕ) (o : Entry) → ((is_due now noticed o ≡ true)
+        ↔ ((o.serial < noticed) × (IsOutstanding o.phase → ⊥) × (IsTurnOut now o.phase → ⊥)
+        × (IsGivenUpNow now o.phase → ⊥))) }
+{}
+
+/// A turn is one observer's, and once its notification is sent, it is ended or given up, it is no longer out.
+pub fn turns_end_once()
+    ensures one { (slot number : ℕ) (h : List ObserverCall) →
+        count_by (has_number number) (observers slot h).held ≤ 1 }
+    ensures notified { (slot now id serial random : ℕ) (turn : Turn) (bytes : ArrayVec ℕ)
+        (h : List ObserverCall) →
+        entry_out turn (observers slot (Notify now turn id serial random bytes ∷ h)) ≡ None }
+    ensures ended { (slot : ℕ) (turn : Turn) (h : List ObserverCall) →
+        entry_out turn (observers slot (End turn ∷ h)) ≡ None }
+    ensures given_up { (slot now : ℕ) (turn : Turn) (h : List ObserverCall) →
+        entry_out turn (observers slot (GiveUp turn now ∷ h)) ≡ None }
+{}
+
+/// Each entry after a call was there before it, as it is or changed as the call says, or is registered by it.
+pub fn entries_come_from_entries()
+    ensures { (c : ObserverCall) (t : ObserverList) →
+        All (ComesFrom c t) (observers_after c t).held }
+{}
+
+/// A late confirmable notification is sent again, the same bytes to the same endpoint: t, then 2t, 4t and 8t milliseconds after it
+/// was last sent, t being 2,000 to 3,000; and 16t after the fourth time its observer is removed.
+pub fn notifications_are_retransmitted()
+    ensures sent { (now id serial random : ℕ) (bytes : ArrayVec ℕ) (o : Entry) →
+        must_confirm now o ≡ true →
+        IsSentAt now (2000 + random % 1001) bytes (notified now id serial random bytes o) }
+    ensures first { (later s t : ℕ) (bytes : ArrayVec ℕ) (o : Entry) → IsSentAt s t bytes o →
+        is_late later o ≡ nat_le (s + t) later }
+    ensures second { (later s t a : ℕ) (bytes : ArrayVec ℕ) (o : Entry) → IsSentAt s t bytes o →
+        is_late later (resent_at (a ∷ []) o) ≡ nat_le (a + 2 * t) later }
+    ensures third { (later s t a b : ℕ) (bytes : ArrayVec ℕ) (o : Entry) → IsSentAt s t bytes o →
+        is_late later (resent_at (b ∷ a ∷ []) o) ≡ nat_le (b + 4 * t) later }
+    ensures fourth { (later s t a b c : ℕ) (bytes : ArrayVec ℕ) (o : Entry) → IsSentAt s t bytes o →
+        is_late later (resent_at (c ∷ b ∷ a ∷ []) o) ≡ nat_le (c + 8 * t) later }
+    ensures last { (later s t a b c d : ℕ) (bytes : ArrayVec ℕ) (o : Entry) → IsSentAt s t bytes o →
+        is_late later (resent_at (d ∷ c ∷ b ∷ a ∷ []) o) ≡ nat_le (d + 16 * t) later }
+    ensures same { (s t : ℕ) (bytes : ArrayVec ℕ) (o : Entry) (at : List ℕ) → IsSentAt s t bytes o →
+        length at < 4 →
+        retransmission (resent_at at o) ≡ Some (record { to = o.endpoint; bytes = bytes }) }
+    ensures removed { (later s t : ℕ) (bytes : ArrayVec ℕ) (o : Entry) (at : List ℕ) →
+        IsSentAt s t bytes o → length at ≡ 4 → timed_out later (resent_at at o) ≡ [] }
+{}
+
+/// An observer whose turn was given up at a moment isn't due at that moment; at a later one it is, where its serial is below the
+/// noticed one. A turn that is out for 247,000 ms is given up at that millisecond.
+pub fn given_up_turns_wait()
+    ensures same { (now noticed : ℕ) (o : Entry) → is_due now noticed (given_up now o) ≡ false }
+    ensures later { (now later noticed : ℕ) (o : Entry) → now < later →
+        is_due later noticed (given_up now o) ≡ nat_lt o.serial noticed }
+    ensures out { (now number at noticed : ℕ) (o : Entry) → o.phase ≡ TurnOut number at →
+        now ≤ at + 247000 → is_due now noticed o ≡ false }
+    ensures lapsed { (now number at noticed : ℕ) (o : Entry) → o.phase ≡ TurnOut number at →
+        at + 247000 < now → is_due now noticed o ≡ nat_lt o.serial noticed }
+{}
+
+/// A Reset message removes just the entries whose last notification went to its endpoint with its message id.
+pub fn resets_remove_their_own()
+    ensures { (to : Endpoint) (id : ℕ) (t : ObserverList) (o : Entry) →
+        (Contains (after_reset to id t).held o
+        ↔ (Contains t.held o × ((o.endpoint ≡ to) × (o.id ≡ Some id) → ⊥))) }
+{}
+
+/// An observer that was removed hears nothing more: no entry of its endpoint and token is held before it registers again, and a
+/// turn that is no longer out stays so. Only entries that are held have turns out, and are sent notifications again.
+pub fn removed_observers_hear_nothing()
+    ensures gone { (to : Endpoint) (token : List ℕ) (h : List ObserverCall) (t : ObserverList) →
+        RegistersNone to token h → list_any (is_entry_of to token) t.held ≡ false →
+        list_any (is_entry_of to token) (after_calls h t).held ≡ false }
+    ensures over { (turn : Turn) (h : List ObserverCall) (t : ObserverList) →
+        turn.number < t.turns → entry_out turn t ≡ None →
+        entry_out turn (after_calls h t) ≡ None }
+    ensures out { (turn : Turn) (t : ObserverList) (o : Entry) → entry_out turn t ≡ Some o →
+        Contains t.held o }
+    ensures resent { (t : ObserverList) (e : Emission) → ticked t ≡ Resend e →
+        Any (λ (o : Entry). retransmission o ≡ Some e) t.held }
+{}
+
+/// The serials that are sent to one observer rise: where the serial of a notification is at least the noticed serial for which its
+/// turn was given, it is above the last serial that the turn's observer was sent; and an entry keeps its observer and its last sent
+/// serial through each other call.
+pub fn serials_rise()
+    ensures kept { (c : ObserverCall) (t : ObserverList) →
+        All (λ (o : Entry). IsRegisteredBy c t o ⊎ Any (KeepsSerial c t o) t.held)
+        (observers_after c t).held }
+    ensures above { (slot now : ℕ) (turn : Turn) (serial : ℕ) (h : List ObserverCall) →
+        noticed_for turn.number slot h ≤ serial →
+        All (λ (o : Entry). is_out turn (at_moment now (observers slot h)) o ≡ true →
+        o.serial < serial) (observers slot h).held }
+{}
+
+/// No observer was sent a serial above those that are handed in: where none was sent more than n, none was after a call that hands
+/// in no serial above n.
+pub fn serials_stay_below()
+    ensures { (n : ℕ) (c : ObserverCall) (t : ObserverList) → HandsInUpTo n c →
+        All (λ (o : Entry). o.serial ≤ n) t.held →
+        All (λ (o : Entry). o.serial ≤ n) (observers_after c t).held }
+{}

@@ -1,0 +1,360 @@
+//! The list of observers of a slot.
+ghost use Rattle.std.specs.Prelude.{◌≡◌, ◌<◌, ◌≤◌, [], ◌∷◌, find, length, true, is_some, IfOk, IfSome, vec_capacity};
+ghost use Rattle.std.specs.List.{list_any, position_from};
+ghost use Rattle.std.specs.Option.{option_map};
+ghost use Rattle.fc_observe.specs.Entries.{acknowledged, has_last_id, has_turn, is_due, is_entry_of, is_late};
+ghost use Rattle.fc_observe.specs.Observers.{after_ack, after_reset, after_tick, at_each, at_moment, cancelled, entry_out, late_entry, must_confirm_turn, next_turn, no_observers, registered, registration, ticked, turn_ended, turn_given, turn_given_up, turn_notified, without_those};
+ghost use Rattle.fc_observe.specs.Views.{interest, interest_of};
+
+use crate::entry::{
+    Entry, Observer, Phase, Turn, acknowledge, copy_token, give_up, has_last_id, has_turn, is_due,
+    is_entry_of, is_late, must_confirm, notify, retransmit, take_turn,
+};
+use coap_msg::{Datagram, Emission, Endpoint, Token};
+use fc_help::Request;
+use std::alloc::{AllocError, Global};
+use std::marker::Model;
+
+/// How many observers a slot has at most.
+pub const OBSERVERS: usize = 32;
+
+/// What becomes of a registration.
+#[derive(Clone, Copy, Debug, PartialEq, Eq)]
+pub enum Registered {
+    /// It is a new entry.
+    Entered,
+    /// It is an entry in place of that of the same endpoint and token (RFC 7641, 4.1).
+    Replaced,
+    /// There are 32 others. No entry changed.
+    Full,
+}
+
+/// What a tick did.
+#[derive(Drop)]
+pub enum Ticked {
+    /// A confirmable notification is to be sent again.
+    Resend(Emission),
+    /// An observer that acknowledged no transmission was removed.
+    Removed,
+    /// No notification was late.
+    Quiet,
+}
+
+/// The list of observers of a slot, in order of registration. Moments are in milliseconds, and never go back: an earlier one
+/// counts as the greatest handed in so far.
+#[derive(Drop)]
+pub struct Observers {
+    slot: u8,
+    moment: u64,
+    turns: u64,
+    held: Vec<Entry>,
+}
+
+impl Model for Observers {
+    ghost use Rattle.std.specs.Prelude.{◌≤◌, length, vec_capacity};
+    ghost use Rattle.fc_observe.specs.Observers.{ObserverList};
+
+    ghost Value = { ObserverList };
+
+    ghost view = { λ x. record {
+      slot = x.slot;
+      moment = x.moment;
+      turns = x.turns;
+      held = x.held.items;
+    } };
+
+    ghost invariant = { λ x. (length x.held.items ≤ 32) × (32 ≤ vec_capacity x.held) };
+}
+
+impl Observers {
+    /// No observer of the slot, and room for 32.
+    ///
+    /// # Errors
+    /// There was no memory for them.
+    pub fn new(alloc: Global, slot: u8) -> Result<Observers, AllocError>
+        ensures { IfOk result (λ x. x ≡ no_observers slot) }
+    {
+        Ok(Observers {
+            slot,
+            moment: 0,
+            turns: 0,
+            held: Vec::with_capacity(alloc, OBSERVERS)?,
+        })
+    }
+
+    /// Advances the clock, never backwards.
+    pub fn advance(&mut self, now: u64)
+        ensures { self.new ≡ at_moment now self.old }
+    {
+        self.moment = self.moment.max(now);
+    }
+
+    /// Registers an observer, whose request found this serial (RFC 7641, 4.1). Its entry is the last.
+    pub fn register(
+        &mut self,
+        now: u64,
+        endpoint: Endpoint,
+        token: &Token,
+        request: &Request,
+        szx: Option<u8>,
+        serial: u64,
+    ) -> Registered
+        ensures answer { result ≡ registration endpoint token.now.items self.old }
+        ensures after { self.new
+            ≡ registered endpoint token.now request.now szx serial (at_moment now self.old) }
+    {
+        self.advance(now);
+        let known = is_known(&self.held, endpoint, token);
+        if !known && self.held.len() >= OBSERVERS {
+            return Registered::Full;
+        }
+        remove_of(&mut self.held, endpoint, token);
+        self.held.push_reserved(Entry {
+            endpoint,
+            token: copy_token(token),
+            request: request.copy(),
+            szx,
+            serial,
+            id: None,
+            confirmed: self.moment,
+            phase: Phase::Idle,
+        });
+        if known {
+            Registered::Replaced
+        } else {
+            Registered::Entered
+        }
+    }
+
+    /// Removes the entry of this endpoint and token: its client is no longer interested (RFC 7641, 3.6).
+    pub fn cancel(&mut self, endpoint: Endpoint, token: &Token)
+        ensures { self.new ≡ cancelled endpoint token.now.items self.old }
+    {
+        remove_of(&mut self.held, endpoint, token);
+    }
+
+    /// Gives a turn to the first observer that is due, where this is the slot's noticed serial: it was last sent a lower one, none
+    /// of its confirmable notifications is outstanding, none of its turns is out, and none was given up at this moment.
+    pub fn next_due(&mut self, now: u64, noticed: u64) -> Option<Turn>
+        ensures turn { result ≡ next_turn noticed (at_moment now self.old) }
+        ensures after { self.new ≡ turn_given noticed (at_moment now self.old) }
+    {
+        self.advance(now);
+        if self.turns == u64::MAX {
+            return None;
+        }
+        let place = first_due(&self.held, self.moment, noticed)?;
+        let number = self.turns;
+        take_turn(number, self.moment, &mut self.held[place]);
+        self.turns += 1;
+        Some(Turn {
+            slot: self.slot,
+            number,
+        })
+    }
+
+    /// Whether `next_due` would give a turn.
+    pub fn is_due(&self, now: u64, noticed: u64) -> bool
+        ensures { result ≡ is_some (next_turn noticed (at_moment now self.now)) }
+    {
+        self.turns != u64::MAX && first_due(&self.held, self.moment.max(now), noticed).is_some()
+    }
+
+    /// The observer whose turn this is, unless the turn isn't out: it was ended, given up, or its entry is gone or replaced.
+    pub fn out(&self, turn: Turn) -> Option<Observer<'_>>
+        ensures { option_map interest result ≡ option_map interest_of (entry_out turn self.now) }
+    {
+        observer_out(&self.held, self.slot, self.moment, turn)
+    }
+
+    /// Whether the notification of this turn is to be confirmable: 86,400,000 ms or more passed since the registration or the
+    /// last confirmable one (RFC 7641, 4.5). Not where the turn isn't out.
+    pub fn confirmable(&mut self, now: u64, turn: Turn) -> bool
+        ensures answer { result ≡ must_confirm_turn turn (at_moment now self.old) }
+        ensures after { self.new ≡ at_moment now self.old }
+    {
+        self.advance(now);
+        match first_out(&self.held, self.slot, self.moment, turn) {
+            Some(place) => must_confirm(self.moment, &self.held[place]),
+            None => false,
+        }
+    }
+
+    /// Ends a turn that is out by a notification of this message id, serial and bytes. A confirmable one is outstanding from now
+    /// on; the random word says how long its first transmission is waited for, 2,000 to 3,000 ms.
+    pub fn sent(
+        &mut self,
+        now: u64,
+        turn: Turn,
+        id: u16,
+        serial: u64,
+        random: u16,
+        bytes: &Datagram,
+    )
+        ensures { self.new
+            ≡ turn_notified turn id serial random bytes.now (at_moment now self.old) }
+    {
+        self.advance(now);
+        if let Some(place) = first_out(&self.held, self.slot, self.moment, turn) {
+            notify(
+                self.moment,
+                id,
+                serial,
+                random,
+                bytes,
+                &mut self.held[place],
+            );
+        }
+    }
+
+    /// Removes the observer whose turn is out, as after a notification that isn't a success (RFC 7641, 4.2).
+    pub fn end(&mut self, turn: Turn)
+        ensures { self.new ≡ turn_ended turn self.old }
+    {
+        if let Some(place) = first_out(&self.held, self.slot, self.moment, turn) {
+            let _removed = self.held.remove(place);
+        }
+    }
+
+    /// Gives up a turn that is out. Its observer is due again at a later moment.
+    pub fn give_up(&mut self, turn: Turn, now: u64)
+        ensures { self.new ≡ turn_given_up turn (at_moment now self.old) }
+    {
+        self.advance(now);
+        if let Some(place) = first_out(&self.held, self.slot, self.moment, turn) {
+            give_up(self.moment, &mut self.held[place]);
+        }
+    }
+
+    /// A Reset message came: removes each entry whose last notification went to this endpoint with this message id
+    /// (RFC 7641, 3.6).
+    pub fn reset(&mut self, endpoint: Endpoint, id: u16)
+        ensures { self.new ≡ after_reset endpoint id self.old }
+    {
+        remove_reset(&mut self.held, endpoint, id);
+    }
+
+    /// An Acknowledgement came: what went to this endpoint with this message id, and was the last of an entry, is no longer
+    /// outstanding (RFC 7252, 4.2).
+    pub fn acked(&mut self, endpoint: Endpoint, id: u16)
+        ensures { self.new ≡ after_ack endpoint id self.old }
+    {
+        acknowledge_each(&mut self.held, endpoint, id);
+    }
+
+    /// Sends the first outstanding notification whose timeout is over again, or removes its observer where it was sent again four
+    /// times (RFC 7252, 4.2; RFC 7641, 4.5).
+    pub fn tick(&mut self, now: u64) -> Ticked
+        ensures answer { result ≡ ticked (at_moment now self.old) }
+        ensures after { self.new ≡ after_tick (at_moment now self.old) }
+    {
+        self.advance(now);
+        let Some(place) = first_late(&self.held, self.moment) else {
+            return Ticked::Quiet;
+        };
+        match retransmit(self.moment, &mut self.held[place]) {
+            Some(emission) => Ticked::Resend(emission),
+            None => {
+                let _removed = self.held.remove(place);
+                Ticked::Removed
+            }
+        }
+    }
+
+    /// Whether `tick` would do something.
+    pub fn is_late(&self, now: u64) -> bool
+        ensures { result ≡ is_some (late_entry (at_moment now self.now)) }
+    {
+        first_late(&self.held, self.moment.max(now)).is_some()
+    }
+}
+
+// The first observer that is due.
+fn first_due(held: &[Entry], now: u64, noticed: u64) -> Option<usize>
+    ensures place { result ≡ position_from (is_due now noticed) 0 held.now }
+    ensures within { IfSome result (λ i. i < length held.now) }
+{
+    for (place, entry) in held.iter().enumerate() {
+        if is_due(now, noticed, entry) {
+            return Some(place);
+        }
+    }
+    None
+}
+
+// The first entry whose turn this is, where it is out.
+fn first_out(held: &[Entry], slot: u8, now: u64, turn: Turn) -> Option<usize>
+    ensures place { result ≡ position_from (has_turn slot now turn) 0 held.now }
+    ensures within { IfSome result (λ i. i < length held.now) }
+{
+    for (place, entry) in held.iter().enumerate() {
+        if has_turn(slot, now, turn, entry) {
+            return Some(place);
+        }
+    }
+    None
+}
+
+// The observer whose turn this is, where it is out.
+fn observer_out(held: &[Entry], slot: u8, now: u64, turn: Turn) -> Option<Observer<'_>>
+    ensures { option_map interest result
+        ≡ option_map interest_of (find (has_turn slot now turn) held.now) }
+{
+    let place = first_out(held, slot, now, turn)?;
+    Some(held[place].observer())
+}
+
+// The first entry whose notification is late.
+fn first_late(held: &[Entry], now: u64) -> Option<usize>
+    ensures place { result ≡ position_from (is_late now) 0 held.now }
+    ensures within { IfSome result (λ i. i < length held.now) }
+{
+    for (place, entry) in held.iter().enumerate() {
+        if is_late(now, entry) {
+            return Some(place);
+        }
+    }
+    None
+}
+
+// Whether there is an entry of this endpoint and token.
+fn is_known(held: &[Entry], endpoint: Endpoint, token: &Token) -> bool
+    ensures { result ≡ list_any (is_entry_of endpoint token.now.items) held.now }
+{
+    for entry in held {
+        if is_entry_of(endpoint, token, entry) {
+            return true;
+        }
+    }
+    false
+}
+
+// Removes the entry of this endpoint and token.
+fn remove_of(held: &mut Vec<Entry>, endpoint: Endpoint, token: &Token)
+    ensures held { held.new.items
+        ≡ without_those (is_entry_of endpoint token.now.items) held.old.items }
+    ensures room { vec_capacity held.new ≡ vec_capacity held.old }
+    ensures fewer { length held.new.items ≤ length held.old.items }
+    ensures less { list_any (is_entry_of endpoint token.now.items) held.old.items ≡ true
+        → length held.new.items < length held.old.items }
+{
+    held.retain(|entry| !is_entry_of(endpoint, token, entry));
+}
+
+// Removes each entry whose last notification went to this endpoint with this message id.
+fn remove_reset(held: &mut Vec<Entry>, endpoint: Endpoint, id: u16)
+    ensures held { held.new.items ≡ without_those (has_last_id endpoint id) held.old.items }
+    ensures room { vec_capacity held.new ≡ vec_capacity held.old }
+    ensures fewer { length held.new.items ≤ length held.old.items }
+{
+    held.retain(|entry| !has_last_id(endpoint, id, entry));
+}
+
+// Ends the wait of each entry whose last notification went to this endpoint with this message id.
+fn acknowledge_each(held: &mut [Entry], endpoint: Endpoint, id: u16)
+    ensures { held.new ≡ at_each (has_last_id endpoint id) acknowledged held.old }
+{
+    for entry in held.iter_mut() {
+        acknowledge(endpoint, id, entry);
+    }
+}
