@@ -9,7 +9,7 @@ use fc_service::serve::{Extent, serve_at};
 use fc_service::socket::{Sink, Source, open};
 use log::sink::Memory;
 use log::{LevelFilter, Logged};
-use std::alloc::Global;
+use std::alloc::{AllocError, Global};
 use std::net::{Net, UdpSocket};
 use std::process::Abort;
 use std::sync::Wait;
@@ -84,17 +84,16 @@ fn ask_counter<R: Abort + Net + Clock + AllocGlobal>(rt: &R, port: u16) {
     );
 }
 
-// Serves a socket by so many workers, up to four datagrams: how that ended, and what was logged.
+// Serves a socket, by so many workers and up to so many datagrams: how that ended, and what was logged.
 fn serve_logged<R: Threads + Wait + Clock + Sync>(
     rt: &R,
     alloc: Global,
     socket: &UdpSocket,
-    workers: u8,
+    extent: Extent,
 ) -> (Status, Memory) {
     let memory = Memory::new(alloc);
     let log = Logged::new(rt, LevelFilter::Info, &memory);
     let mut err = Vec::new(alloc);
-    let extent = Extent { workers, limit: 4 };
     let status = serve_at(rt, alloc, &log, &mut err, socket, socket, extent);
     (status, memory)
 }
@@ -107,9 +106,10 @@ fn serve_counter<R: Abort + AllocGlobal + Threads + Wait + Clock + Net + Sync>(
     let alloc = rt.alloc();
     let socket = open(rt, 0)?;
     let port = socket.local_addr()?.port();
+    let extent = Extent { workers, limit: 4 };
     let ((status, memory), _) = thread::join(
         rt,
-        || serve_logged(rt, alloc, &socket, workers),
+        || serve_logged(rt, alloc, &socket, extent),
         || ask_counter(rt, port),
     );
     assert!(rt; status == Status::Done);
@@ -130,6 +130,69 @@ fn check_logged<R: Abort>(rt: &R, memory: Memory, message: &str) {
 fn a_server_answers_clients(rt: HostRuntime) -> Result<(), Fail> {
     serve_counter(&rt, 1)?;
     serve_counter(&rt, 2)
+}
+
+// An image of 512 slots, 4,112 bytes: `mov64 r0, 0`, 511 times, and `exit`, with a budget of as many steps.
+fn largest_image(alloc: Global) -> Result<Vec<u8>, AllocError> {
+    let mut image = Vec::new(alloc);
+    image.extend_from_slice(b"FCB1\x00\x00\x00\x02\x00\x02\x00\x00\x00\x00\x00\x00")?;
+    for _ in 0..511 {
+        image.extend_from_slice(b"\xb7\x00\x00\x00\x00\x00\x00\x00")?;
+    }
+    image.extend_from_slice(b"\x95\x00\x00\x00\x00\x00\x00\x00")?;
+    Ok(image)
+}
+
+// A program that replies the first 1,100 bytes of its request.
+static LONG: &[u8] =
+    b"FCB1\x00\x00\x04\x00\x04\x00\x00\x00\x00\x00\x00\x00\xb7\x02\x00\x00\x4c\x04\x00\x00\x85\x00\x00\x00\x05\x00\x00\x00\xb7\x00\x00\x00\x00\x00\x00\x00\x95\x00\x00\x00\x00\x00\x00\x00";
+
+// What is printed of its answer to a GET: the method 1, the slot 2, and zeros.
+fn long_answer(alloc: Global) -> Result<String, AllocError> {
+    let mut text = format!(in alloc; "2.05\n0102")?;
+    for _ in 2..1100 {
+        text.push_str("00")?;
+    }
+    text.push_str("\n")?;
+    Ok(text)
+}
+
+// The largest image goes up in five blocks, and an answer of 1,100 bytes comes in two.
+fn ask_by_blocks<R: Abort + Net + Clock + AllocGlobal>(
+    rt: &R,
+    port: u16,
+) -> Result<(), AllocError> {
+    let image = largest_image(rt.alloc())?;
+    let answer = long_answer(rt.alloc())?;
+    // version=1 cost=512 budget=512 vars=0
+    let largest =
+        "2.01\n76657273696f6e3d3120636f73743d353132206275646765743d35313220766172733d30\n";
+    check_asked(rt, port, Method::Put, "/p/0", &image, Status::Done, largest);
+    // version=1 cost=4 budget=4 vars=0
+    let installed = "2.01\n76657273696f6e3d3120636f73743d34206275646765743d3420766172733d30\n";
+    check_asked(rt, port, Method::Put, "/p/2", LONG, Status::Done, installed);
+    check_asked(rt, port, Method::Get, "/r/2", &[], Status::Done, &answer);
+    Ok(())
+}
+
+#[test]
+fn bodies_go_and_come_by_blocks(rt: HostRuntime) -> Result<(), Fail> {
+    let alloc = rt.alloc();
+    let socket = open(&rt, 0)?;
+    let port = socket.local_addr()?.port();
+    let extent = Extent {
+        workers: 2,
+        limit: 8,
+    };
+    let ((status, memory), asked) = thread::join(
+        &rt,
+        || serve_logged(&rt, alloc, &socket, extent),
+        || ask_by_blocks(&rt, port),
+    );
+    asked?;
+    assert!(rt; status == Status::Done);
+    check_logged(&rt, memory, "sent 8 failed 0");
+    Ok(())
 }
 
 // A source that has a datagram at every second call, and nothing in time at the others: a path that is none, which needs no
