@@ -20,13 +20,13 @@ use Rattle.fc_registry.specs.declared.job.Ask.TheVariants.{Install as Installs}
 use Rattle.fc_registry.specs.declared.job.Opening.{Opening}
 use Rattle.fc_core.specs.declared.event.Event.{Event}
 use Rattle.fc_core.specs.declared.event.Event.TheVariants.{Deliver, Answer, Tick}
-use Rattle.fc_core.specs.Blocks.{cut_for}
+use Rattle.coap_reply.specs.Blocks.{cut_for}
 use Rattle.fc_core.specs.BodyLaws.{Asks, BringsInstall, FitsBy, IsAskedAnew, PutsBlock, addition_at, addition_by, asked_at, continue_by}
 use Rattle.fc_core.specs.ExchangeLaws.{IsAsking}
 use Rattle.fc_core.specs.History.{Entry, History, Begins, Then, Seen, added_in, and_then, did, front_at, moment_after, received_at, seen, stage}
 use Rattle.fc_core.specs.Legal.{Emits}
 use Rattle.fc_core.specs.Receiving.{Received, Silenced, Refused, Settled, Opened, add_in, added_by, addition_of, ask_by, brought, job_of, look_in, looked, next_opening, received_added, received_as, received_read, request_received, sent, slot_of_resource}
-use Rattle.fc_core.specs.Replies.{settled_by}
+use Rattle.coap_reply.specs.Responses.{settled_by}
 use Rattle.fc_core.specs.Stages.{content_at, new_task}
 use Rattle.fc_core.proofs.Repeats.{new_as, opening_is, opening_of, received_of}
 

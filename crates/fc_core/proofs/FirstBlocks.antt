@@ -1,5 +1,5 @@
 -- What goes of an answer where no block is asked, and what an error carries of it.
-use Rattle.std.proofs.Common.{◌≡◌, ℕ, ◌<◌, ◌≤◌, List, length, take, Bool, true, false, Option, Some, None, refl, ap, ◌∙◌, subst, if◌then◌else◌}
+use Rattle.std.proofs.Common.{◌≡◌, ℕ, ◌<◌, ◌≤◌, List, ◌++◌, length, take, Bool, true, false, Option, Some, None, refl, ap, ◌∙◌, subst, if◌then◌else◌}
 use Rattle.std.specs.Prelude.{◌==◌}
 use Rattle.std.proofs.lemmas.Bool.{eqb-true, le-ltb, lt-ltb}
 use Rattle.fc_help.specs.Helpers.{room_of}
@@ -8,8 +8,8 @@ use Rattle.fc_help.specs.declared.request.Method.TheVariants.{Post}
 use Rattle.fc_kinds.specs.Meaning.{Input, IsRun, Program, meant}
 use Rattle.fc_registry.specs.Record.{code_class}
 use Rattle.coap_block.specs.Cuts.{Part, cut_unasked, part_bytes}
-use Rattle.fc_core.specs.Blocks.{cut_for}
-use Rattle.fc_core.specs.Replies.{bare, content, etag, ran_response, text}
+use Rattle.coap_reply.specs.Blocks.{cut_for}
+use Rattle.coap_reply.specs.Responses.{Response, bare, content, etag, observe_option, ran_response, text}
 
 pub whole : (body : List ℕ) → length body ≤ 1024 → cut_for None body ≡ Some (record { bytes = body; place = None })
 whole body le = ap (λ (b : Bool). cut_unasked b body) (le-ltb 1024 (length body) le)
@@ -21,10 +21,10 @@ pub post : (p : Program) (input : Input) → IsRun p input → input.request.met
 post p input r is = whole (meant p input).reply (subst (λ (m : Method). length (meant p input).reply ≤ room_of m) is r.reply)
 
 -- a code that isn't of class 2 is neither 2.05 nor 2.04
-by_tests : (answer : ℕ) (cut : Option Part) (serial : ℕ) (tested changed : Bool) → (answer == 69) ≡ tested → (answer == 68) ≡ changed → (code_class answer ≡ 2 → ⊥) → (if tested then content (etag serial) cut else (if changed then text answer (part_bytes cut) else bare answer)) ≡ bare answer
-by_tests answer cut serial true changed is other differs = absurd (differs (ap code_class (eqb-true answer 69 is)))
-by_tests answer cut serial false true other is differs = absurd (differs (ap code_class (eqb-true answer 68 is)))
-by_tests answer cut serial false false other others differs = refl
+by_tests : (answer : ℕ) (found : Response) (cut : Option Part) (tested changed : Bool) → (answer == 69) ≡ tested → (answer == 68) ≡ changed → (code_class answer ≡ 2 → ⊥) → (if tested then found else (if changed then text answer (part_bytes cut) else bare answer)) ≡ bare answer
+by_tests answer found cut true changed is other differs = absurd (differs (ap code_class (eqb-true answer 69 is)))
+by_tests answer found cut false true other is differs = absurd (differs (ap code_class (eqb-true answer 68 is)))
+by_tests answer found cut false false other others differs = refl
 
-pub errors_are_bare : (answer : ℕ) (cut : Option Part) (serial : ℕ) → (code_class answer ≡ 2 → ⊥) → ran_response answer cut serial ≡ bare answer
-errors_are_bare answer cut serial differs = by_tests answer cut serial (answer == 69) (answer == 68) refl refl differs
+pub errors_are_bare : (answer : ℕ) (cut : Option Part) (serial : ℕ) (observed : Bool) → (code_class answer ≡ 2 → ⊥) → ran_response answer cut serial observed ≡ bare answer
+errors_are_bare answer cut serial observed differs = by_tests answer (content (etag serial ++ observe_option observed serial) cut) cut (answer == 69) (answer == 68) refl refl differs

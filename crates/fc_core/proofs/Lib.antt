@@ -20,7 +20,6 @@ pub mod Repeats
 pub mod DrawnIds
 pub mod Once
 pub mod FirstBlocks
-pub mod Within1024
 pub mod Published
 pub mod Deletions
 pub mod Bodies

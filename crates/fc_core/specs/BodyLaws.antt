@@ -17,7 +17,7 @@ use Rattle.fc_core.specs.declared.event.Event.TheVariants.{Deliver}
 use Rattle.fc_core.specs.ExchangeLaws.{IsOpening}
 use Rattle.fc_core.specs.History.{Entry, Seen, and_then, front_at}
 use Rattle.fc_core.specs.Receiving.{Received, addition_of, request_received, told}
-use Rattle.fc_core.specs.Replies.{settled_by}
+use Rattle.coap_reply.specs.Responses.{settled_by}
 use Rattle.fc_core.specs.Stages.{new_task}
 
 -- what a new request is to a server that is handed a moment

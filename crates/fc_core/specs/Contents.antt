@@ -15,7 +15,7 @@ use Rattle.fc_registry.specs.Calls.{run_of}
 use Rattle.fc_machine.specs.Ran.{Ran as Run}
 use Rattle.fc_kinds.specs.Meaning.{Meaning}
 use Rattle.coap_block.specs.Cuts.{Part}
-use Rattle.fc_core.specs.Blocks.{cut_for}
+use Rattle.coap_reply.specs.Blocks.{cut_for}
 
 -- the answer of a run: the job that it is of, its code, the block that its request asks of the reply, if there is one, and the
 -- serial that its taking found

@@ -1,5 +1,4 @@
 pub mod Ids
-pub mod Blocks
 pub mod BodyLaws
 pub mod Contents
 pub mod Heads

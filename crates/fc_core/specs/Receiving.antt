@@ -31,7 +31,7 @@ use Rattle.fc_core.specs.declared.front.Delivered.{Delivered}
 use Rattle.fc_core.specs.declared.front.Delivered.TheVariants.{Nothing, Reply, Job as Brings, Signal}
 use Rattle.fc_core.specs.declared.front.Heard.{Heard}
 use Rattle.fc_core.specs.declared.front.Heard.TheVariants as hearing
-use Rattle.fc_core.specs.Replies.{Envelope, Response, bare, reply_kind, sent_in, settled_by, reset_of}
+use Rattle.coap_reply.specs.Responses.{Envelope, Response, bare, reply_kind, sent_in, settled_by, reset_of}
 use Rattle.fc_core.specs.Ids.{Ids, free_id, reply_id, drawn_for}
 use Rattle.fc_core.specs.Exchanges.{FrontState, table_of}
 

@@ -4,10 +4,10 @@ ghost use Rattle.fc_machine.specs.Ran.{meaning_of};
 ghost use Rattle.fc_core.specs.Contents.{Ran, AreOne, run_answer};
 ghost use Rattle.fc_core.specs.Ends.{IsTold, content_of, said_of};
 
-use crate::block::BodyBlock;
 use crate::heads::WORDS;
 use arrayvec::ArrayVec;
 use coap_msg::Code;
+use coap_reply::BodyBlock;
 use fc_machine::Outcome;
 use fc_registry::{Mark, Origin, Receipt, Ticket};
 use fc_verify::Refusal;

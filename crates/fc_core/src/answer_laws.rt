@@ -2,11 +2,11 @@
 ghost use Rattle.coap_msg.specs.declared.types.Emission.{Emission};
 ghost use Rattle.fc_core.specs.AnswerLaws.{Causes, greatest, moments_of, shard_moments_of};
 ghost use Rattle.coap_block.specs.Cuts.{Part};
-ghost use Rattle.fc_core.specs.Blocks.{cut_for};
+ghost use Rattle.coap_reply.specs.Blocks.{cut_for};
 ghost use Rattle.fc_core.specs.Contents.{Content, Deleted, Missing};
 ghost use Rattle.fc_core.specs.History.{Entry, History, Then, Seen, seen, and_then, did, slot_at, stage};
 ghost use Rattle.fc_core.specs.Laws.{HasCome, answer_at, slot_of};
-ghost use Rattle.fc_core.specs.Replies.{bare, ran_response};
+ghost use Rattle.coap_reply.specs.Responses.{bare, ran_response};
 ghost use Rattle.fc_core.specs.declared.event.Event.TheVariants.{Take};
 ghost use Rattle.fc_core.specs.declared.stage.Stage.TheVariants.{ToAnswer, ToTake};
 ghost use Rattle.fc_help.specs.declared.request.Method.TheVariants.{Post};
@@ -59,8 +59,9 @@ pub fn unasked_answers_are_cut_at_1024()
         → cut_for None (meant p input).reply ≡ Some (record { bytes = (meant p input).reply; place = None }) }
 {}
 
-/// A run whose code isn't of class 2 is answered by its code alone, whatever its reply.
+/// A run whose code isn't of class 2 is answered by its code alone, whatever its reply, and whether or not the slot is observed.
 pub fn errors_carry_no_block()
-    ensures { (answer : ℕ) (cut : Option Part) (serial : ℕ) → (code_class answer ≡ 2 → ⊥)
-        → ran_response answer cut serial ≡ bare answer }
+    ensures { (answer : ℕ) (cut : Option Part) (serial : ℕ) (observed : Bool)
+        → (code_class answer ≡ 2 → ⊥)
+        → ran_response answer cut serial observed ≡ bare answer }
 {}

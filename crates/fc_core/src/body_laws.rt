@@ -6,12 +6,12 @@ ghost use Rattle.coap_msg.specs.Wire.{Message};
 ghost use Rattle.coap_msg.specs.declared.types.Endpoint.{Endpoint};
 ghost use Rattle.coap_opts.specs.Values.{Place};
 ghost use Rattle.coap_opts.specs.Verdict.{Asked};
-ghost use Rattle.fc_core.specs.Blocks.{cut_for};
+ghost use Rattle.coap_reply.specs.Blocks.{cut_for};
 ghost use Rattle.fc_core.specs.BodyLaws.{Asks, BringsInstall, FitsBy, PutsBlock, addition_at, addition_by, asked_at, continue_by};
 ghost use Rattle.fc_core.specs.History.{Entry, History, Seen, and_then, seen};
 ghost use Rattle.fc_core.specs.Legal.{Emits};
 ghost use Rattle.fc_core.specs.Receiving.{Opened, Settled};
-ghost use Rattle.fc_core.specs.Replies.{settled_by};
+ghost use Rattle.coap_reply.specs.Responses.{settled_by};
 ghost use Rattle.std.specs.Prelude.{ℕ, ◌≡◌, ◌↔◌, ◌++◌, ◌<◌, ◌≤◌, List, Some, false, length, true};
 
 use coap_block::laws::{

@@ -12,12 +12,12 @@ ghost use Rattle.coap_block.specs.Transfers.{after_addition};
 ghost use Rattle.coap_block.specs.Views.{add_seen};
 ghost use Rattle.fc_core.specs.Receiving.{add_in, addition_of, after_delivered, after_received, ask_by, emission_if, handed_on, heard, heard_if, id_in, is_confirmable, job_of, look_in, next_opening, opening_for, received_as, reply_or_nothing, request_asked, request_received, settled_front, told};
 ghost use Rattle.fc_core.specs.Receiving as receiving;
-ghost use Rattle.fc_core.specs.Replies.{reset_of, settled_by};
+ghost use Rattle.coap_reply.specs.Responses.{reset_of, settled_by};
 
 use crate::answer::Answer;
 use crate::ids::MessageIds;
 use crate::reply;
-use crate::reply::{reset, settled};
+use crate::reply::settled;
 use arrayvec::ArrayVec;
 use coap_block::{Added, Body, Uploads};
 use coap_dedup::{Exchanges, Looked};
@@ -27,6 +27,7 @@ use coap_msg::{
 use coap_opts::laws::requests_are_within;
 use coap_opts::request::ETAGS;
 use coap_opts::{Block, Classified, Method, Request, Resource, classify};
+use coap_reply::reset;
 use fc_help::Method as Verb;
 use fc_registry::{Ask, Job, Opening, Origin, SlotNumber};
 use std::alloc::{AllocError, Global};

@@ -24,7 +24,6 @@
 
 pub mod answer;
 pub mod answer_laws;
-pub mod block;
 pub mod body_laws;
 pub mod event;
 pub mod exchange_laws;
@@ -39,7 +38,6 @@ pub mod task;
 mod text;
 
 pub use answer::{Answer, End, Words};
-pub use block::BodyBlock;
 pub use event::Event;
 pub use front::{Answered, Delivered, Front, Heard, Responded};
 pub use heads::{Heads, head_word};

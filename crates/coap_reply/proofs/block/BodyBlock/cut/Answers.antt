@@ -1,7 +1,7 @@
 use Rattle.std.proofs.Common.{ap, sym, ◌∙◌}
 use Rattle.coap_block.specs.Cuts.{cut_seen, cut_of}
-use Rattle.fc_core.proofs.Within1024.{cut_within}
-use Rattle.fc_core.proofs.block.BodyBlock.cut.Goals as goal
+use Rattle.coap_reply.proofs.Within1024.{cut_within}
+use Rattle.coap_reply.proofs.block.BodyBlock.cut.Goals as goal
 
 -- src/block.rt:32:29
 pub kept-requires : goal.kept-requires

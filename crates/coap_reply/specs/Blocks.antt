@@ -5,7 +5,7 @@ use Rattle.coap_opts.specs.declared.number.TheConstants as option
 use Rattle.coap_opts.specs.declared.reply.ReplyOptions.{ReplyOptions}
 use Rattle.coap_opts.specs.Values.{Place, block_bytes}
 use Rattle.coap_block.specs.Cuts.{Part, cut_of}
-use Rattle.fc_core.specs.declared.block.BodyBlock.{BodyBlock}
+use Rattle.coap_reply.specs.declared.block.BodyBlock.{BodyBlock}
 
 -- no request that is carried out asks the reserved size, 7; it would count as the greatest
 abbrev pub asked_place : Place → Place

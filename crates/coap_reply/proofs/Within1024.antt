@@ -8,7 +8,7 @@ use Rattle.std.proofs.lemmas.Bool.{ltb-false}
 use Rattle.std.proofs.lemmas.List.{length-take}
 use Rattle.coap_opts.specs.Values.{Place, block_size}
 use Rattle.coap_block.specs.Cuts.{Part, block_at, cut_at, cut_of, cut_unasked, is_past, unless_past}
-use Rattle.fc_core.specs.Blocks.{asked_place}
+use Rattle.coap_reply.specs.Blocks.{asked_place}
 
 sized : (n : ℕ) (bytes : List ℕ) → n ≤ 1024 → length (take n bytes) ≤ 1024
 sized n bytes le = let long : length (take n bytes) ≡ min n (length bytes) = length-take n bytes in let most : min n (length bytes) ≤ n = min-le_left n (length bytes) in omega arith

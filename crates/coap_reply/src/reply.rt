@@ -1,0 +1,178 @@
+//! From answers to datagrams.
+ghost use Rattle.std.specs.Prelude.{◌≡◌, ◌≤◌, ◌++◌, length};
+ghost use Rattle.std.specs.Option.{option_map};
+ghost use Rattle.coap_opts.specs.Replies.{reply_options};
+ghost use Rattle.coap_block.specs.Cuts.{part_bytes};
+ghost use Rattle.coap_reply.specs.Blocks.{HasNoBlock, part_of};
+ghost use Rattle.coap_reply.specs.Responses as spec;
+ghost use Rattle.coap_reply.specs.Responses.{etag, observe_option, ran_response, reset_of, sent_in, to_peer};
+
+use crate::block::BodyBlock;
+use coap_msg::{Code, Datagram, Emission, Endpoint, MessageType, Outgoing, write};
+use coap_opts::request::PAYLOAD;
+use coap_opts::{Reply, ReplyOptions};
+use std::marker::Model;
+
+/// Whom a reply is for (RFC 7252, 5.2 and 5.3).
+#[derive(Drop)]
+pub struct Envelope<'a> {
+    /// The endpoint of the request.
+    pub to: Endpoint,
+    /// The type of the message.
+    pub kind: MessageType,
+    /// The message id.
+    pub id: u16,
+    /// The token of the request, 0 to 8 bytes.
+    pub token: &'a [u8],
+}
+
+impl<'a> Model for Envelope<'a> {
+    ghost use Rattle.std.specs.Prelude.{◌≤◌, length};
+    ghost use Rattle.coap_reply.specs.Responses.{Envelope as Stated};
+
+    ghost Value = { Stated };
+
+    ghost view = { λ e. record { to = e.to; kind = e.kind; id = e.id; token = e.token.now } };
+
+    ghost invariant = { λ e. length e.token.now ≤ 8 };
+}
+
+/// The type of a reply: a confirmable request is answered in its acknowledgement (RFC 7252, 5.2.1), another by a non-confirmable
+/// message (RFC 7252, 5.2.3).
+pub fn reply_kind(confirmable: bool) -> MessageType
+    ensures { result ≡ spec.reply_kind confirmable }
+{
+    if confirmable {
+        MessageType::Acknowledgement
+    } else {
+        MessageType::NonConfirmable
+    }
+}
+
+/// Writes a response of this code, these options and this payload, in place of what the datagram held (RFC 7252, 5.2).
+#[tactic(auto, unfolding(crate::specs::Responses::sent_in))]
+pub fn respond(
+    envelope: &Envelope<'_>,
+    code: Code,
+    options: ReplyOptions,
+    payload: &[u8],
+    bytes: &mut Datagram,
+)
+    requires code { 64 ≤ code.byte }
+    requires payload { length payload.now ≤ PAYLOAD }
+    ensures { to_peer envelope.now bytes.new ≡ sent_in envelope.now
+        (record { code = code.byte; options = reply_options options; payload = payload.now }) }
+{
+    let reply = Reply {
+        kind: envelope.kind,
+        code,
+        id: envelope.id,
+        token: envelope.token,
+        options,
+        payload,
+    };
+    reply.write(bytes);
+}
+
+/// Writes a response of a code and a payload, without options, in place of what the datagram held.
+pub fn text(envelope: &Envelope<'_>, code: Code, payload: &[u8], bytes: &mut Datagram)
+    requires code { 64 ≤ code.byte }
+    requires payload { length payload.now ≤ PAYLOAD }
+    ensures { to_peer envelope.now bytes.new ≡ sent_in envelope.now
+        (spec.text code.byte payload.now) }
+{
+    respond(envelope, code, ReplyOptions::default(), payload, bytes);
+}
+
+/// Writes a 2.05 Content in place of what the datagram held: these options, which name no block yet, and the block that is asked
+/// with its Block2 option (RFC 7959, 2.4); 4.00 where there is no such block.
+pub fn content(
+    envelope: &Envelope<'_>,
+    options: ReplyOptions,
+    block: &Option<BodyBlock>,
+    bytes: &mut Datagram,
+)
+    requires { HasNoBlock options }
+    ensures { to_peer envelope.now bytes.new ≡ sent_in envelope.now
+        (spec.content (reply_options options) (option_map part_of block.now)) }
+{
+    let Some(block) = block else {
+        return text(envelope, Code::BAD_REQUEST, &[], bytes);
+    };
+    let options = ReplyOptions {
+        block2: block.block,
+        ..options
+    };
+    let payload = block.bytes.as_slice();
+    respond(envelope, Code::CONTENT, options, payload, bytes);
+}
+
+/// Writes what a run is answered, by its code, the block of its reply that is asked and the serial that it found, in place of what
+/// the datagram held. A 2.05 Content has the serial as its ETag (RFC 7252, 5.10.6), and where the client observes the slot its
+/// lowest 24 bits as the sequence number (RFC 7641, 4.4); a 2.04 Changed carries the bytes alone, and an error carries nothing.
+pub fn ran(
+    envelope: &Envelope<'_>,
+    code: Code,
+    block: &Option<BodyBlock>,
+    serial: u64,
+    observed: bool,
+    bytes: &mut Datagram,
+)
+    requires { 64 ≤ code.byte }
+    ensures { to_peer envelope.now bytes.new ≡ sent_in envelope.now
+        (ran_response code.byte (option_map part_of block.now) serial observed) }
+{
+    match code {
+        Code::CONTENT => content(envelope, version(serial, observed), block, bytes),
+        Code::CHANGED => text(envelope, code, block_bytes(block), bytes),
+        _ => text(envelope, code, &[], bytes),
+    }
+}
+
+/// Writes the Reset message with this id over another emission (RFC 7252, 4.2).
+#[tactic(auto, unfolding(crate::specs::Responses::sent_in))]
+pub fn reset(to: Endpoint, id: u16, emission: &mut Emission)
+    ensures { emission.new ≡ reset_of to id }
+{
+    let message = Outgoing {
+        kind: MessageType::Reset,
+        code: Code::EMPTY,
+        id,
+        token: &[],
+        options: &[],
+        payload: &[],
+    };
+    emission.to = to;
+    write(&message, &mut emission.bytes);
+}
+
+// How many sequence numbers there are (RFC 7641, 4.4).
+const SEQUENCE_NUMBERS: u64 = 0x0100_0000;
+
+// The serial that was found as an ETag, and as a sequence number where the client observes the slot.
+fn version(serial: u64, observed: bool) -> ReplyOptions
+    ensures options { reply_options result ≡ etag serial ++ observe_option observed serial }
+    ensures blocks { HasNoBlock result }
+{
+    let observe = if observed {
+        Some((serial % SEQUENCE_NUMBERS) as u32)
+    } else {
+        None
+    };
+    ReplyOptions {
+        etag: Some(serial),
+        observe,
+        ..ReplyOptions::default()
+    }
+}
+
+// The bytes of a block, if there is one.
+fn block_bytes(block: &Option<BodyBlock>) -> &[u8]
+    ensures bytes { result.now ≡ part_bytes (option_map part_of block.entry.now) }
+    ensures short { length result.now ≤ 1024 }
+{
+    match block {
+        Some(block) => block.bytes.as_slice(),
+        None => &[],
+    }
+}
