@@ -22,6 +22,8 @@
 
 pub mod block;
 pub mod reply;
+#[cfg(test)]
+mod tests;
 
 pub use block::{BLOCK, BodyBlock};
 pub use reply::{Envelope, content, ran, reply_kind, reset, respond, text};
