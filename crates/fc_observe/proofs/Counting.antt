@@ -12,8 +12,8 @@ use Rattle.coap_msg.specs.declared.types.Endpoint.{Endpoint}
 use Rattle.fc_observe.specs.declared.entry.Entry.{Entry}
 use Rattle.fc_observe.specs.declared.observers.Registered.{Registered}
 use Rattle.fc_observe.specs.declared.observers.Registered.TheVariants.{Entered, Replaced, Full}
-use Rattle.fc_observe.specs.Calls.{ObserverCall, Advance, Register, Cancel, NextDue, Notify, End, GiveUp, Reset, Acknowledge, Tick, changed_by, observers, observers_after}
-use Rattle.fc_observe.specs.Entries.{acknowledged, changed_if, given_up, has_last_id, is_due, is_entry_of, is_late, must_confirm, new_entry, notified, notified_by, retransmission, retransmitted, timed_out, timed_out_by, with_turn}
+use Rattle.fc_observe.specs.Calls.{ObserverCall, Advance, Register, Cancel, NextDue, Miss, Notify, End, GiveUp, Reset, Acknowledge, Tick, changed_by, observers, observers_after}
+use Rattle.fc_observe.specs.Entries.{acknowledged, changed_if, given_up, has_last_id, is_due, is_entry_of, is_late, missed, must_confirm, new_entry, notified, notified_by, retransmission, retransmitted, timed_out, timed_out_by, with_turn}
 use Rattle.fc_observe.specs.Observers.{ObserverList, at_each, at_first, at_moment, entered_by, gives_turn, is_out, registration, registration_by, turn_given_by, without_those}
 use Rattle.fc_observe.proofs.Lists.{fewer_without, no_more}
 
@@ -68,6 +68,7 @@ sum_after m (Advance now) t n here new le = le
 sum_after m (Register now to token request szx serial) t n here new le = new
 sum_after m (Cancel to token) t n here new le = let less = sum_left m (is_entry_of to token) t.held in omega (arith, less, le)
 sum_after m (NextDue now noticed) t n here new le = let less = given_sum m (at_moment now t) noticed (gives_turn noticed (at_moment now t)) here in omega (arith, less, le)
+sum_after m (Miss turn) t n here new le = let less = sum_first m (is_out turn t) (λ o. missed o ∷ []) (λ o. let l = here o in omega (arith, l)) t.held in omega (arith, less, le)
 sum_after m (Notify now turn id serial random bytes) t n here new le = let less = sum_first m (is_out turn (at_moment now t)) (λ o. notified (max t.moment now) id serial random bytes o ∷ []) (λ o. let l = here o in omega (arith, l)) t.held in omega (arith, less, le)
 sum_after m (End turn) t n here new le = let less = sum_first m (is_out turn t) (λ o. []) (λ o. omega arith) t.held in omega (arith, less, le)
 sum_after m (GiveUp turn now) t n here new le = let less = sum_first m (is_out turn (at_moment now t)) (λ o. given_up (max t.moment now) o ∷ []) (λ o. let l = here o in omega (arith, l)) t.held in omega (arith, less, le)

@@ -11,13 +11,13 @@ use Rattle.fc_observe.specs.Laws.{IsGivenUpNow, IsOutstanding, IsTurnOut}
 free_to : (now : ℕ) (p : Phase) → is_free now p ≡ true → (IsOutstanding p → ⊥) × (IsTurnOut now p → ⊥) × (IsGivenUpNow now p → ⊥)
 free_to now Idle e = (λ x. x, λ x. x, λ x. x)
 free_to now (GivenUp at) e = let lt = ltb-true at now e in (λ x. x, λ x. x, λ le. absurd (omega (arith, lt, le)))
-free_to now (TurnOut number at) e = let lt = ltb-true (at + 247000) now e in (λ x. x, λ out. absurd (omega (arith, lt, out)), λ same. absurd (omega (arith, lt, same)))
+free_to now (TurnOut number at missing) e = let lt = ltb-true (at + 247000) now e in (λ x. x, λ out. absurd (omega (arith, lt, out)), λ same. absurd (omega (arith, lt, same)))
 free_to now (Outstanding sent_at timeout n bytes) e = absurd (cc e)
 
 free_from : (now : ℕ) (p : Phase) → (IsOutstanding p → ⊥) → (IsTurnOut now p → ⊥) → (IsGivenUpNow now p → ⊥) → is_free now p ≡ true
 free_from now Idle quiet back later = refl
 free_from now (GivenUp at) quiet back later = let f : now ≤ at → ⊥ = later in lt-ltb at now (omega (arith, f))
-free_from now (TurnOut number at) quiet back later =
+free_from now (TurnOut number at missing) quiet back later =
     let f : now < at + 247000 → ⊥ = back in
     let g : now ≡ at + 247000 → ⊥ = later in
     lt-ltb (at + 247000) now (omega (arith, f, g))

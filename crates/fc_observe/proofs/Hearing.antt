@@ -12,8 +12,8 @@ use Rattle.fc_observe.specs.declared.entry.Phase.{Phase}
 use Rattle.fc_observe.specs.declared.entry.Phase.TheVariants.{TurnOut, Outstanding}
 use Rattle.fc_observe.specs.declared.entry.Turn.{Turn}
 use Rattle.fc_observe.specs.declared.observers.Ticked.TheVariants.{Resend}
-use Rattle.fc_observe.specs.Calls.{ObserverCall, Advance, Register, NextDue, Notify, GiveUp, Acknowledge, Tick, after_calls, changed_by, is_registration_of, observers_after}
-use Rattle.fc_observe.specs.Entries.{acknowledged_phase, has_turn, is_entry_of, is_late, is_out_in, must_confirm, notified_by, retransmission, retransmitted_phase}
+use Rattle.fc_observe.specs.Calls.{ObserverCall, Advance, Register, NextDue, Miss, Notify, GiveUp, Acknowledge, Tick, after_calls, changed_by, is_registration_of, observers_after}
+use Rattle.fc_observe.specs.Entries.{acknowledged_phase, has_turn, is_entry_of, is_late, is_out_in, missed_phase, must_confirm, notified_by, retransmission, retransmitted_phase}
 use Rattle.fc_observe.specs.Laws.{RegistersNone}
 use Rattle.fc_observe.specs.Observers.{ObserverList, at_moment, entry_out, gives_turn, is_out, late_entry, ticked, ticked_at, ticked_by, turn_given_by}
 use Rattle.fc_observe.proofs.Counting.{kept_key}
@@ -116,7 +116,7 @@ lapsed_if true m later x le over = lapsed m later x le over
 lapsed_if false m later x le over = refl
 
 stays_over : (m later k : ℕ) (p : Phase) → m ≤ later → is_out_in m k p ≡ false → is_out_in later k p ≡ false
-stays_over m later k (TurnOut own at) le over = lapsed_if (own == k) m later (at + 247000) le over
+stays_over m later k (TurnOut own at missing) le over = lapsed_if (own == k) m later (at + 247000) le over
 stays_over m later k other le over = refl
 
 over_if : (b : Bool) (x y : Bool) → (x ≡ false → y ≡ false) → (b && x) ≡ false → (b && y) ≡ false
@@ -124,6 +124,10 @@ over_if true x y f over = f over
 over_if false x y f over = refl
 
 -- a phase without a turn of this number
+missed_over : (m k : ℕ) (p : Phase) → is_out_in m k p ≡ false → is_out_in m k (missed_phase p) ≡ false
+missed_over m k (TurnOut own at missing) over = over
+missed_over m k other over = over
+
 acknowledged_over : (m k : ℕ) (p : Phase) → is_out_in m k p ≡ false → is_out_in m k (acknowledged_phase p) ≡ false
 acknowledged_over m k (Outstanding sent_at timeout n bytes) over = refl
 acknowledged_over m k other over = over
@@ -136,13 +140,14 @@ notified_over : (m k now id serial random : ℕ) (bytes : ArrayVec ℕ) (o : Ent
 notified_over m k now id serial random bytes o true = refl
 notified_over m k now id serial random bytes o false = refl
 
-another : (turns k m : ℕ) → k < turns → is_out_in m k (TurnOut turns m) ≡ false
+another : (turns k m : ℕ) → k < turns → is_out_in m k (TurnOut turns m false) ≡ false
 another turns k m lt =
     let other : (turns == k) ≡ false = false_from_ne_true (turns == k) (λ e. let same = eqb-true turns k e in absurd (omega (arith, same, lt))) in
     ap (λ (b : Bool). b && nat_lt m (m + 247000)) other
 
 changed_over : (c : ObserverCall) (t : ObserverList) (k : ℕ) (o : Entry) → k < t.turns → is_out_in t.moment k o.phase ≡ false → is_out_in (moment_after c t) k (changed_by c t o).phase ≡ false
 changed_over (NextDue now noticed) t k o lt over = another t.turns k (max t.moment now) lt
+changed_over (Miss turn) t k o lt over = missed_over t.moment k o.phase over
 changed_over (Notify now turn id serial random bytes) t k o lt over = notified_over (max t.moment now) k (max t.moment now) id serial random bytes o (must_confirm (max t.moment now) o)
 changed_over (GiveUp turn now) t k o lt over = refl
 changed_over (Acknowledge to id) t k o lt over = acknowledged_over t.moment k o.phase over

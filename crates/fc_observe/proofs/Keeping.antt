@@ -8,8 +8,8 @@ use Rattle.coap_msg.specs.declared.types.Endpoint.{Endpoint}
 use Rattle.fc_observe.specs.declared.entry.Entry.{Entry}
 use Rattle.fc_observe.specs.declared.observers.Registered.{Registered}
 use Rattle.fc_observe.specs.declared.observers.Registered.TheVariants.{Entered, Replaced, Full}
-use Rattle.fc_observe.specs.Calls.{ObserverCall, Advance, Register, Cancel, NextDue, Notify, End, GiveUp, Reset, Acknowledge, Tick, ComesFrom, changed_by, may_change, observers_after}
-use Rattle.fc_observe.specs.Entries.{acknowledged, changed_if, given_up, has_last_id, is_due, is_entry_of, is_late, new_entry, notified, retransmission, retransmitted, timed_out, timed_out_by, with_turn}
+use Rattle.fc_observe.specs.Calls.{ObserverCall, Advance, Register, Cancel, NextDue, Miss, Notify, End, GiveUp, Reset, Acknowledge, Tick, ComesFrom, changed_by, may_change, observers_after}
+use Rattle.fc_observe.specs.Entries.{acknowledged, changed_if, given_up, has_last_id, is_due, is_entry_of, is_late, missed, new_entry, notified, retransmission, retransmitted, timed_out, timed_out_by, with_turn}
 use Rattle.fc_observe.specs.Observers.{ObserverList, at_each, at_first, at_moment, entered_by, gives_turn, is_out, registration, turn_given_by, without_those}
 
 -- ---- lists
@@ -60,6 +60,7 @@ all_after P Q (Advance now) t same made new all = All-weaker P Q same t.held all
 all_after P Q (Register now to token request szx serial) t same made new all = entered_all P Q (registration to token.items (at_moment now t)) to token.items (new_entry (max t.moment now) to token request szx serial) same new t.held all
 all_after P Q (Cancel to token) t same made new all = all_without P Q (is_entry_of to token) same t.held all
 all_after P Q (NextDue now noticed) t same made new all = given_all P Q (at_moment now t) noticed (gives_turn noticed (at_moment now t)) refl same made all
+all_after P Q (Miss turn) t same made new all = all_first P Q (is_out turn t) (λ o. missed o ∷ []) same (λ o here out. one Q (missed o) (made o here out)) t.held all
 all_after P Q (Notify now turn id serial random bytes) t same made new all = all_first P Q (is_out turn (at_moment now t)) (λ o. notified (max t.moment now) id serial random bytes o ∷ []) same (λ o here out. one Q (notified (max t.moment now) id serial random bytes o) (made o here out)) t.held all
 all_after P Q (End turn) t same made new all = all_first P Q (is_out turn t) (λ o. []) same (λ o here out. All-nil Q) t.held all
 all_after P Q (GiveUp turn now) t same made new all = all_first P Q (is_out turn (at_moment now t)) (λ o. given_up (max t.moment now) o ∷ []) same (λ o here out. one Q (given_up (max t.moment now) o) (made o here out)) t.held all

@@ -8,3 +8,4 @@ pub mod Hearing
 pub mod Serials
 pub mod Due
 pub mod Turns
+pub mod Missing

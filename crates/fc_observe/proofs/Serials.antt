@@ -9,8 +9,8 @@ use Rattle.fc_observe.specs.declared.entry.Entry.{Entry}
 use Rattle.fc_observe.specs.declared.entry.Phase.{Phase}
 use Rattle.fc_observe.specs.declared.entry.Phase.TheVariants.{TurnOut, Outstanding}
 use Rattle.fc_observe.specs.declared.entry.Turn.{Turn}
-use Rattle.fc_observe.specs.Calls.{ComesFrom, IsRegisteredBy, ObserverCall, Register, NextDue, Notify, GiveUp, Acknowledge, Tick, changed_by, may_change, observers, observers_after}
-use Rattle.fc_observe.specs.Entries.{acknowledged_phase, is_due, is_free, is_out_in, must_confirm, notified_by, retransmitted_phase}
+use Rattle.fc_observe.specs.Calls.{ComesFrom, IsRegisteredBy, ObserverCall, Register, NextDue, Miss, Notify, GiveUp, Acknowledge, Tick, changed_by, may_change, observers, observers_after}
+use Rattle.fc_observe.specs.Entries.{acknowledged_phase, is_due, is_free, is_out_in, missed_phase, must_confirm, notified_by, retransmitted_phase}
 use Rattle.fc_observe.specs.Laws.{HandsInUpTo, KeepsSerial, noticed_for}
 use Rattle.fc_observe.specs.Observers.{ObserverList, at_moment, gives_turn, is_out, turn_given_by}
 use Rattle.fc_observe.specs.Views.{interest_of}
@@ -21,7 +21,7 @@ abbrev pub IsGivenFor : ℕ → ℕ → ℕ → ℕ → Type 0
 IsGivenFor turns noticed n serial = (n < turns) × (serial < noticed)
 
 abbrev pub OutBelow : ℕ → List ObserverCall → Entry → Type 0
-OutBelow slot h o = (n at : ℕ) → o.phase ≡ TurnOut n at → IsGivenFor (observers slot h).turns (noticed_for n slot h) n o.serial
+OutBelow slot h o = (n at : ℕ) (missing : Bool) → o.phase ≡ TurnOut n at missing → IsGivenFor (observers slot h).turns (noticed_for n slot h) n o.serial
 
 -- an older turn, where another may be given
 older_by : (t : ObserverList) (noticed n old serial : ℕ) (b : Bool) → n < t.turns → serial < old → IsGivenFor (turn_given_by b noticed t).turns (cond (b && (t.turns == n)) noticed old) n serial
@@ -31,8 +31,8 @@ older_by t noticed n old serial true lt below =
 older_by t noticed n old serial false lt below = (lt, below)
 
 stays_below : (slot : ℕ) (h : List ObserverCall) (c : ObserverCall) (o : Entry) → OutBelow slot h o → OutBelow slot (c ∷ h) o
-stays_below slot h (NextDue now noticed) o below = λ n at out.
-    let w = below n at out in
+stays_below slot h (NextDue now noticed) o below = λ n at missing out.
+    let w = below n at missing out in
     older_by (at_moment now (observers slot h)) noticed n (noticed_for n slot h) o.serial (gives_turn noticed (at_moment now (observers slot h))) w.0 w.1
 stays_below slot h other o below = below
 
@@ -44,20 +44,24 @@ newest t noticed old serial true e below =
 newest t noticed old serial false e below = absurd (cc e)
 
 -- other phases
-acknowledged_out : (n at : ℕ) (p : Phase) → acknowledged_phase p ≡ TurnOut n at → p ≡ TurnOut n at
-acknowledged_out n at (Outstanding sent_at timeout k bytes) out = absurd (cc out)
-acknowledged_out n at other out = out
+missed_out : (n at : ℕ) (missing : Bool) (p : Phase) → missed_phase p ≡ TurnOut n at missing → (before : Bool) × (p ≡ TurnOut n at before)
+missed_out n at missing (TurnOut own given before) out = let number : own ≡ n = cc out in let since : given ≡ at = cc out in (before, λ i. TurnOut (number i) (since i) before)
+missed_out n at missing other out = (missing, out)
 
-resent_out : (now n at : ℕ) (p : Phase) → retransmitted_phase now p ≡ TurnOut n at → p ≡ TurnOut n at
-resent_out now n at (Outstanding sent_at timeout k bytes) out = absurd (cc out)
-resent_out now n at other out = out
+acknowledged_out : (n at : ℕ) (missing : Bool) (p : Phase) → acknowledged_phase p ≡ TurnOut n at missing → p ≡ TurnOut n at missing
+acknowledged_out n at missing (Outstanding sent_at timeout k bytes) out = absurd (cc out)
+acknowledged_out n at missing other out = out
 
-notified_out : (now id serial random n at : ℕ) (bytes : ArrayVec ℕ) (o : Entry) (b : Bool) → (notified_by b now id serial random bytes o).phase ≡ TurnOut n at → ⊥
-notified_out now id serial random n at bytes o true out = cc out
-notified_out now id serial random n at bytes o false out = cc out
+resent_out : (now n at : ℕ) (missing : Bool) (p : Phase) → retransmitted_phase now p ≡ TurnOut n at missing → p ≡ TurnOut n at missing
+resent_out now n at missing (Outstanding sent_at timeout k bytes) out = absurd (cc out)
+resent_out now n at missing other out = out
+
+notified_out : (now id serial random n at : ℕ) (missing : Bool) (bytes : ArrayVec ℕ) (o : Entry) (b : Bool) → (notified_by b now id serial random bytes o).phase ≡ TurnOut n at missing → ⊥
+notified_out now id serial random n at missing bytes o true out = cc out
+notified_out now id serial random n at missing bytes o false out = cc out
 
 changed_below : (slot : ℕ) (h : List ObserverCall) (c : ObserverCall) (o : Entry) → OutBelow slot h o → may_change c (observers slot h) o ≡ true → OutBelow slot (c ∷ h) (changed_by c (observers slot h) o)
-changed_below slot h (NextDue now noticed) o below may = λ n at out.
+changed_below slot h (NextDue now noticed) o below may = λ n at missing out.
     let t = at_moment now (observers slot h) in
     let w = and_parts (gives_turn noticed t) (is_due t.moment noticed o) may in
     let due = and_parts (nat_lt o.serial noticed) (is_free t.moment o.phase) w.1 in
@@ -65,14 +69,15 @@ changed_below slot h (NextDue now noticed) o below may = λ n at out.
     let number : t.turns ≡ n = cc out in
     subst (λ (k : ℕ). IsGivenFor (turn_given_by (gives_turn noticed t) noticed t).turns (cond (gives_turn noticed t && (t.turns == k)) noticed (noticed_for k slot h)) k o.serial) number
     (newest t noticed (noticed_for t.turns slot h) o.serial (gives_turn noticed t) w.0 lt)
-changed_below slot h (Notify now turn id serial random bytes) o below may = λ n at out. absurd (notified_out (max (observers slot h).moment now) id serial random n at bytes o (must_confirm (max (observers slot h).moment now) o) out)
-changed_below slot h (GiveUp turn now) o below may = λ n at out. absurd (cc out)
-changed_below slot h (Acknowledge to id) o below may = λ n at out. below n at (acknowledged_out n at o.phase out)
-changed_below slot h (Tick now) o below may = λ n at out. below n at (resent_out (max (observers slot h).moment now) n at o.phase out)
+changed_below slot h (Miss turn) o below may = λ n at missing out. let w = missed_out n at missing o.phase out in below n at w.0 w.1
+changed_below slot h (Notify now turn id serial random bytes) o below may = λ n at missing out. absurd (notified_out (max (observers slot h).moment now) id serial random n at missing bytes o (must_confirm (max (observers slot h).moment now) o) out)
+changed_below slot h (GiveUp turn now) o below may = λ n at missing out. absurd (cc out)
+changed_below slot h (Acknowledge to id) o below may = λ n at missing out. below n at missing (acknowledged_out n at missing o.phase out)
+changed_below slot h (Tick now) o below may = λ n at missing out. below n at missing (resent_out (max (observers slot h).moment now) n at missing o.phase out)
 changed_below slot h other o below may = absurd (cc may)
 
 new_below : (slot : ℕ) (h : List ObserverCall) (c : ObserverCall) → IfRegisters (OutBelow slot (c ∷ h)) c (observers slot h)
-new_below slot h (Register now to token request szx serial) = λ n at out. absurd (cc out)
+new_below slot h (Register now to token request szx serial) = λ n at missing out. absurd (cc out)
 new_below slot h other = tt
 
 pub all_below : (slot : ℕ) (h : List ObserverCall) → All (OutBelow slot h) (observers slot h).held
@@ -84,8 +89,8 @@ out_phase_by m k own at true e out = eqb-true own k e
 out_phase_by m k own at false e out = absurd (cc out)
 
 -- a turn that is out has its number
-out_phase : (m k : ℕ) (p : Phase) → is_out_in m k p ≡ true → (at : ℕ) × (p ≡ TurnOut k at)
-out_phase m k (TurnOut own at) out = (at, ap (λ (n : ℕ). TurnOut n at) (out_phase_by m k own at (own == k) refl out))
+pub out_phase : (m k : ℕ) (p : Phase) → is_out_in m k p ≡ true → (at : ℕ) × (missing : Bool) × (p ≡ TurnOut k at missing)
+out_phase m k (TurnOut own at missing) out = (at, missing, ap (λ (n : ℕ). TurnOut n at missing) (out_phase_by m k own at (own == k) refl out))
 out_phase m k other out = absurd (cc out)
 
 pub sent_above : (slot now : ℕ) (turn : Turn) (serial : ℕ) (h : List ObserverCall) → noticed_for turn.number slot h ≤ serial → All (λ (o : Entry). is_out turn (at_moment now (observers slot h)) o ≡ true → o.serial < serial) (observers slot h).held
@@ -95,7 +100,7 @@ sent_above slot now turn serial h le =
     (λ o below out.
     let w = and_parts (turn.slot == t.slot) (is_out_in t.moment turn.number o.phase) out in
     let p = out_phase t.moment turn.number o.phase w.1 in
-    let lt = (below turn.number p.0 p.1).1 in
+    let lt = (below turn.number p.0 p.1 p.2).1 in
     omega (arith, lt, le))
     (observers slot h).held (all_below slot h)
 

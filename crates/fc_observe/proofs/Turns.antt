@@ -13,8 +13,8 @@ use Rattle.fc_observe.specs.declared.entry.Phase.TheVariants.{TurnOut, Outstandi
 use Rattle.fc_observe.specs.declared.entry.Turn.{Turn}
 use Rattle.fc_observe.specs.declared.observers.Registered.{Registered}
 use Rattle.fc_observe.specs.declared.observers.Registered.TheVariants.{Entered, Replaced, Full}
-use Rattle.fc_observe.specs.Calls.{ObserverCall, Register, NextDue, Notify, End, GiveUp, Acknowledge, Tick, changed_by, observers}
-use Rattle.fc_observe.specs.Entries.{acknowledged_phase, given_up, has_turn, is_due, is_entry_of, is_out_in, must_confirm, new_entry, notified, notified_by, retransmitted_phase, with_turn}
+use Rattle.fc_observe.specs.Calls.{ObserverCall, Register, NextDue, Miss, Notify, End, GiveUp, Acknowledge, Tick, changed_by, observers}
+use Rattle.fc_observe.specs.Entries.{acknowledged_phase, given_up, has_turn, is_due, is_entry_of, is_out_in, missed_phase, must_confirm, new_entry, notified, notified_by, retransmitted_phase, with_turn}
 use Rattle.fc_observe.specs.Laws.{has_number, has_number_in}
 use Rattle.fc_observe.specs.Observers.{ObserverList, at_first, at_moment, entered_by, entry_out, gives_turn, is_out, registration, turn_given_by, without_those}
 use Rattle.fc_observe.proofs.Counting.{IfAdds, sum_after, sum_first, sum_left, unit}
@@ -29,6 +29,10 @@ turns_of n o = unit (has_number n o)
 notified_number : (n now id serial random : ℕ) (bytes : ArrayVec ℕ) (o : Entry) (b : Bool) → turns_of n (notified_by b now id serial random bytes o) ≤ turns_of n o
 notified_number n now id serial random bytes o true = omega arith
 notified_number n now id serial random bytes o false = omega arith
+
+missed_number : (n : ℕ) (p : Phase) → unit (has_number_in n (missed_phase p)) ≤ unit (has_number_in n p)
+missed_number n (TurnOut own at missing) = omega arith
+missed_number n other = omega arith
 
 acknowledged_number : (n : ℕ) (p : Phase) → unit (has_number_in n (acknowledged_phase p)) ≤ unit (has_number_in n p)
 acknowledged_number n (Outstanding sent_at timeout k bytes) = omega arith
@@ -45,6 +49,7 @@ IfGivesNone n c t = (o : Entry) → turns_of n (changed_by c t o) ≤ turns_of n
 
 no_more_turns : (n : ℕ) (c : ObserverCall) (t : ObserverList) → IfGivesNone n c t
 no_more_turns n (NextDue now noticed) t = tt
+no_more_turns n (Miss turn) t = λ o. missed_number n o.phase
 no_more_turns n (Notify now turn id serial random bytes) t = λ o. notified_number n (max t.moment now) id serial random bytes o (must_confirm (max t.moment now) o)
 no_more_turns n (GiveUp turn now) t = λ o. omega arith
 no_more_turns n (Acknowledge to id) t = λ o. acknowledged_number n o.phase
@@ -93,9 +98,9 @@ given_number n t noticed true false e none le =
     let after = sum_first (turns_of n) (is_due t.moment noticed) (λ o. with_turn t.turns t.moment o ∷ []) (λ o. omega (arith, other)) t.held in
     omega (arith, after, le)
 
-number_below : (n turns : ℕ) (p : Phase) → ((k at : ℕ) → p ≡ TurnOut k at → k < turns) → turns ≡ n → unit (has_number_in n p) ≡ 0
-number_below n turns (TurnOut own at) below same =
-    let lt = below own at refl in
+number_below : (n turns : ℕ) (p : Phase) → ((k at : ℕ) (missing : Bool) → p ≡ TurnOut k at missing → k < turns) → turns ≡ n → unit (has_number_in n p) ≡ 0
+number_below n turns (TurnOut own at missing) below same =
+    let lt = below own at missing refl in
     ap unit (false_from_ne_true (own == n) (λ e. let is = eqb-true own n e in absurd (omega (arith, is, lt, same))))
 number_below n turns other below same = refl
 
@@ -103,7 +108,7 @@ one_after : (n slot : ℕ) (h : List ObserverCall) (c : ObserverCall) → count_
 one_after n slot h (NextDue now noticed) le =
     let t = at_moment now (observers slot h) in
     given_number n t noticed (gives_turn noticed t) (t.turns == n) refl
-    (λ e. zero_sum (turns_of n) t.held (λ k d lt. number_below n t.turns _ (λ m at out. (all_below slot h k d lt m at out).0) (eqb-true t.turns n e))) le
+    (λ e. zero_sum (turns_of n) t.held (λ k d lt. number_below n t.turns _ (λ m at missing out. (all_below slot h k d lt m at missing out).0) (eqb-true t.turns n e))) le
 one_after n slot h other le = sum_after (turns_of n) other (observers slot h) 1 (no_more_turns n other (observers slot h)) (turns_added n other (observers slot h) le) le
 
 pub one_turn : (slot number : ℕ) (h : List ObserverCall) → count_by (has_number number) (observers slot h).held ≤ 1
@@ -141,7 +146,7 @@ unfound p (o ∷ os) none = unfound_by p o os (p o) refl (unfound p os) none
 -- a turn that is out has its number
 out_numbered : (m k : ℕ) (p : Phase) (b : Bool) → unit (b && is_out_in m k p) ≤ unit (has_number_in k p)
 out_numbered m k p false = omega arith
-out_numbered m k (TurnOut own at) true = both (own == k)
+out_numbered m k (TurnOut own at missing) true = both (own == k)
   where
     both : (b : Bool) → unit (b && nat_lt m (at + 247000)) ≤ unit b
     both true = unit_least (nat_lt m (at + 247000))

@@ -8,8 +8,8 @@ use Rattle.coap_msg.specs.Endpoints.{same_endpoint}
 use Rattle.fc_help.specs.Request.{Request}
 use Rattle.fc_observe.specs.declared.entry.Entry.{Entry}
 use Rattle.fc_observe.specs.declared.entry.Turn.{Turn}
-use Rattle.fc_observe.specs.Entries.{acknowledged, given_up, has_last_id, is_due, is_late, new_entry, notified, retransmitted, with_turn}
-use Rattle.fc_observe.specs.Observers.{ObserverList, after_ack, after_reset, after_tick, at_moment, cancelled, gives_turn, is_out, no_observers, registered, turn_ended, turn_given, turn_given_up, turn_notified}
+use Rattle.fc_observe.specs.Entries.{acknowledged, given_up, has_last_id, is_due, is_late, missed, new_entry, notified, retransmitted, with_turn}
+use Rattle.fc_observe.specs.Observers.{ObserverList, after_ack, after_reset, after_tick, at_moment, cancelled, gives_turn, is_out, no_observers, registered, turn_ended, turn_given, turn_given_up, turn_missed, turn_notified}
 
 -- a call that may change the list, with what it is handed
 pub data ObserverCall : Type 0 where
@@ -17,6 +17,7 @@ pub data ObserverCall : Type 0 where
   Register : (now : ℕ) (to : Endpoint) (token : ArrayVec ℕ) (request : Request) (szx : Option ℕ) (serial : ℕ) → ObserverCall
   Cancel : (to : Endpoint) (token : List ℕ) → ObserverCall
   NextDue : (now noticed : ℕ) → ObserverCall
+  Miss : (turn : Turn) → ObserverCall
   Notify : (now : ℕ) (turn : Turn) (id serial random : ℕ) (bytes : ArrayVec ℕ) → ObserverCall
   End : (turn : Turn) → ObserverCall
   GiveUp : (turn : Turn) (now : ℕ) → ObserverCall
@@ -30,6 +31,7 @@ observers_after (Advance now) t = at_moment now t
 observers_after (Register now to token request szx serial) t = registered to token request szx serial (at_moment now t)
 observers_after (Cancel to token) t = cancelled to token t
 observers_after (NextDue now noticed) t = turn_given noticed (at_moment now t)
+observers_after (Miss turn) t = turn_missed turn t
 observers_after (Notify now turn id serial random bytes) t = turn_notified turn id serial random bytes (at_moment now t)
 observers_after (End turn) t = turn_ended turn t
 observers_after (GiveUp turn now) t = turn_given_up turn (at_moment now t)
@@ -51,6 +53,7 @@ observers slot h = after_calls h (no_observers slot)
 -- the entries that a call changes, if it isn't their removal
 abbrev pub may_change : ObserverCall → ObserverList → Entry → Bool
 may_change (NextDue now noticed) t o = gives_turn noticed (at_moment now t) && is_due (max t.moment now) noticed o
+may_change (Miss turn) t o = is_out turn t o
 may_change (Notify now turn id serial random bytes) t o = is_out turn (at_moment now t) o
 may_change (GiveUp turn now) t o = is_out turn (at_moment now t) o
 may_change (Acknowledge to id) t o = has_last_id to id o
@@ -60,6 +63,7 @@ may_change other t o = false
 -- and what they are after it
 abbrev pub changed_by : ObserverCall → ObserverList → Entry → Entry
 changed_by (NextDue now noticed) t o = with_turn t.turns (max t.moment now) o
+changed_by (Miss turn) t o = missed o
 changed_by (Notify now turn id serial random bytes) t o = notified (max t.moment now) id serial random bytes o
 changed_by (GiveUp turn now) t o = given_up (max t.moment now) o
 changed_by (Acknowledge to id) t o = acknowledged o

@@ -34,27 +34,45 @@ changed_if false f o = o
 
 -- a turn is out for less than a window
 abbrev pub is_out_in : ℕ → ℕ → Phase → Bool
-is_out_in now number (TurnOut own at) = (own == number) && within_window now at
+is_out_in now number (TurnOut own at missing) = (own == number) && within_window now at
 is_out_in now number other = false
 
 -- it has this turn of the slot, and the turn is out
 abbrev pub has_turn : ℕ → ℕ → Turn → Entry → Bool
 has_turn slot now turn o = (turn.slot == slot) && is_out_in now turn.number o.phase
 
+-- the taking of a turn, out or lapsed, found the slot empty
+abbrev pub has_missed_in : Phase → Bool
+has_missed_in (TurnOut number at missing) = missing
+has_missed_in other = false
+
+-- that of the entry's turn
+abbrev pub has_missed : Entry → Bool
+has_missed o = has_missed_in o.phase
+
 -- nothing is under way, and its last turn was given up earlier; one that is out for a window is given up at its end
 abbrev pub is_free : ℕ → Phase → Bool
 is_free now Idle = true
 is_free now (GivenUp at) = nat_lt at now
-is_free now (TurnOut number at) = nat_lt (at + window) now
+is_free now (TurnOut number at missing) = nat_lt (at + window) now
 is_free now (Outstanding sent_at timeout retransmissions bytes) = false
 
 -- a change is noticed that it wasn't notified of, and nothing is under way
 abbrev pub is_due : ℕ → ℕ → Entry → Bool
 is_due now noticed o = nat_lt o.serial noticed && is_free now o.phase
 
--- the turn of this number is out from now on
+-- the turn of this number is out from now on; its taking is to come
 abbrev pub with_turn : ℕ → ℕ → Entry → Entry
-with_turn number now o = record o { phase = TurnOut number now }
+with_turn number now o = record o { phase = TurnOut number now false }
+
+-- a turn whose taking found the slot empty is missing; other phases stay
+abbrev pub missed_phase : Phase → Phase
+missed_phase (TurnOut number at missing) = TurnOut number at true
+missed_phase other = other
+
+-- the entry after it
+abbrev pub missed : Entry → Entry
+missed o = record o { phase = missed_phase o.phase }
 
 -- the turn is given up
 abbrev pub given_up : ℕ → Entry → Entry

@@ -58,18 +58,18 @@ IsOutstanding other = ⊥
 
 -- a turn was given less than a window before, and neither ended nor given up since
 abbrev pub IsTurnOut : ℕ → Phase → Type 0
-IsTurnOut now (TurnOut number at) = now < at + window
+IsTurnOut now (TurnOut number at missing) = now < at + window
 IsTurnOut now other = ⊥
 
 -- the last turn was given up no earlier than at this moment, at the latest at its window's end
 abbrev pub IsGivenUpNow : ℕ → Phase → Type 0
 IsGivenUpNow now (GivenUp at) = now ≤ at
-IsGivenUpNow now (TurnOut number at) = now ≡ at + window
+IsGivenUpNow now (TurnOut number at missing) = now ≡ at + window
 IsGivenUpNow now other = ⊥
 
 -- its turn has this number, out or lapsed
 abbrev pub has_number_in : ℕ → Phase → Bool
-has_number_in number (TurnOut own at) = own == number
+has_number_in number (TurnOut own at missing) = own == number
 has_number_in number other = false
 
 -- an entry whose turn has it

@@ -11,7 +11,7 @@ use Rattle.fc_observe.specs.declared.observers.Registered.{Registered}
 use Rattle.fc_observe.specs.declared.observers.Registered.TheVariants.{Entered, Replaced, Full}
 use Rattle.fc_observe.specs.declared.observers.Ticked.{Ticked}
 use Rattle.fc_observe.specs.declared.observers.Ticked.TheVariants.{Resend, Removed, Quiet}
-use Rattle.fc_observe.specs.Entries.{acknowledged, changed_if, given_up, has_last_id, has_turn, is_due, is_entry_of, is_late, must_confirm, new_entry, notified, retransmission, timed_out, with_turn}
+use Rattle.fc_observe.specs.Entries.{acknowledged, changed_if, given_up, has_last_id, has_missed, has_turn, is_due, is_entry_of, is_late, missed, must_confirm, new_entry, notified, retransmission, timed_out, with_turn}
 
 -- the slot, the greatest moment handed in, how many turns were given, and the entries, in order of registration
 pub record ObserverList : Type 0 where
@@ -103,6 +103,19 @@ is_out turn t o = has_turn t.slot t.moment turn o
 -- the entry whose turn is out
 abbrev pub entry_out : Turn → ObserverList → Option Entry
 entry_out turn t = find (is_out turn t) t.held
+
+-- the taking of the turn found the slot empty
+abbrev pub turn_missed : Turn → ObserverList → ObserverList
+turn_missed turn t = with_held (at_first (is_out turn t) (λ o. missed o ∷ []) t.held) t
+
+-- whether the taking of a turn found the slot empty; not where the turn is not out
+abbrev pub is_missing_by : Option Entry → Bool
+is_missing_by None = false
+is_missing_by (Some o) = has_missed o
+
+-- by the entry that has it
+abbrev pub is_missing : Turn → ObserverList → Bool
+is_missing turn t = is_missing_by (entry_out turn t)
 
 -- whether the notification of a turn is confirmable; not where the turn is not out
 abbrev pub must_confirm_by : Option Entry → ℕ → Bool

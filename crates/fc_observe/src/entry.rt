@@ -1,6 +1,6 @@
 //! An entry in the list of observers.
 ghost use Rattle.std.specs.Prelude.{◌≡◌, is_some};
-ghost use Rattle.fc_observe.specs.Entries.{acknowledged, backoff, changed_if, first_timeout, given_up, has_last_id, has_turn, is_due, is_entry_of, is_free, is_late, must_confirm, notified, retransmission, retransmitted, with_turn};
+ghost use Rattle.fc_observe.specs.Entries.{acknowledged, backoff, changed_if, first_timeout, given_up, has_last_id, has_missed, has_turn, is_due, is_entry_of, is_free, is_late, missed, must_confirm, notified, retransmission, retransmitted, with_turn};
 ghost use Rattle.fc_observe.specs.Views.{interest, interest_of};
 
 use coap_msg::{Datagram, Emission, Endpoint, Token, WINDOW};
@@ -41,6 +41,8 @@ pub enum Phase {
         number: u64,
         /// When it was given.
         at: u64,
+        /// Whether its taking found the slot empty.
+        missing: bool,
     },
     /// A confirmable notification waits for its acknowledgement (RFC 7252, 4.2).
     Outstanding {
@@ -122,9 +124,19 @@ pub(crate) fn has_turn(slot: u8, now: u64, turn: Turn, entry: &Entry) -> bool
     ensures { result ≡ has_turn slot now turn entry.now }
 {
     match &entry.phase {
-        Phase::TurnOut { number, at } => {
+        Phase::TurnOut { number, at, .. } => {
             turn.slot == slot && *number == turn.number && (now < *at || now - *at < WINDOW)
         }
+        _ => false,
+    }
+}
+
+// Whether the taking of its turn, out or lapsed, found the slot empty.
+pub(crate) fn has_missed(entry: &Entry) -> bool
+    ensures { result ≡ has_missed entry.now }
+{
+    match &entry.phase {
+        Phase::TurnOut { missing, .. } => *missing,
         _ => false,
     }
 }
@@ -199,7 +211,20 @@ pub(crate) fn copy_token(token: &Token) -> Token
 pub(crate) fn take_turn(number: u64, now: u64, entry: &mut Entry)
     ensures { entry.new ≡ with_turn number now entry.old }
 {
-    entry.phase = Phase::TurnOut { number, at: now };
+    entry.phase = Phase::TurnOut {
+        number,
+        at: now,
+        missing: false,
+    };
+}
+
+// Notes that the taking of its turn found the slot empty.
+pub(crate) fn miss(entry: &mut Entry)
+    ensures { entry.new ≡ missed entry.old }
+{
+    if let Phase::TurnOut { missing, .. } = &mut entry.phase {
+        *missing = true;
+    }
 }
 
 // Gives its turn up.

@@ -1,13 +1,13 @@
 //! What the calls on the observers of a slot promise together: each function is a law, and its contract says it.
-ghost use Rattle.std.specs.Prelude.{◌≡◌, ◌↔◌, ℕ, ◌+◌, ◌*◌, ◌%◌, ◌<◌, ◌≤◌, ◌⊎◌, nat_lt, nat_le, false, true, [], ◌∷◌, List, None, Option, Some, count_by, length};
+ghost use Rattle.std.specs.Prelude.{◌≡◌, ◌↔◌, ℕ, ◌+◌, ◌*◌, ◌%◌, ◌<◌, ◌≤◌, ◌⊎◌, nat_lt, nat_le, Bool, false, true, [], ◌∷◌, List, None, Option, Some, count_by, is_some, length};
 ghost use Rattle.std.specs.List.{All, Any, Contains, list_any};
 ghost use Rattle.arrayvec.specs.ArrayVec.{ArrayVec};
 ghost use Rattle.coap_msg.specs.declared.types.Emission.{Emission};
 ghost use Rattle.coap_msg.specs.declared.types.Endpoint.{Endpoint};
-ghost use Rattle.fc_observe.specs.Calls.{ComesFrom, IsRegisteredBy, ObserverCall, Notify, End, GiveUp, after_calls, observers, observers_after};
+ghost use Rattle.fc_observe.specs.Calls.{ComesFrom, IsRegisteredBy, ObserverCall, NextDue, Notify, Miss, End, GiveUp, after_calls, observers, observers_after};
 ghost use Rattle.fc_observe.specs.Entries.{given_up, is_due, is_entry_of, is_late, must_confirm, notified, retransmission, timed_out};
 ghost use Rattle.fc_observe.specs.Laws.{HandsInUpTo, IsGivenUpNow, IsOutstanding, IsSentAt, IsTurnOut, KeepsSerial, RegistersNone, has_number, noticed_for, resent_at};
-ghost use Rattle.fc_observe.specs.Observers.{ObserverList, after_ack, after_reset, at_moment, entry_out, is_out, ticked};
+ghost use Rattle.fc_observe.specs.Observers.{ObserverList, after_ack, after_reset, at_moment, entry_out, is_missing, is_out, next_turn, ticked};
 ghost use Rattle.fc_observe.specs.declared.entry.Entry.{Entry};
 ghost use Rattle.fc_observe.specs.declared.entry.Phase.TheVariants.{Outstanding, TurnOut};
 ghost use Rattle.fc_observe.specs.declared.entry.Turn.{Turn};
@@ -39,6 +39,15 @@ pub fn turns_end_once()
         entry_out turn (observers slot (End turn ∷ h)) ≡ None }
     ensures given_up { (slot now : ℕ) (turn : Turn) (h : List ObserverCall) →
         entry_out turn (observers slot (GiveUp turn now ∷ h)) ≡ None }
+{}
+
+/// Once the taking of a turn that is out found the slot empty, the turn is missing; a new turn isn't.
+pub fn turns_keep_what_they_missed()
+    ensures missed { (turn : Turn) (t : ObserverList) → is_some (entry_out turn t) ≡ true →
+        is_missing turn (observers_after (Miss turn) t) ≡ true }
+    ensures new { (slot now noticed : ℕ) (turn : Turn) (h : List ObserverCall) →
+        next_turn noticed (at_moment now (observers slot h)) ≡ Some turn →
+        is_missing turn (observers slot (NextDue now noticed ∷ h)) ≡ false }
 {}
 
 /// Each entry after a call was there before it, as it is or changed as the call says, or is registered by it.
@@ -76,10 +85,11 @@ pub fn given_up_turns_wait()
     ensures same { (now noticed : ℕ) (o : Entry) → is_due now noticed (given_up now o) ≡ false }
     ensures later { (now later noticed : ℕ) (o : Entry) → now < later →
         is_due later noticed (given_up now o) ≡ nat_lt o.serial noticed }
-    ensures out { (now number at noticed : ℕ) (o : Entry) → o.phase ≡ TurnOut number at →
-        now ≤ at + 247000 → is_due now noticed o ≡ false }
-    ensures lapsed { (now number at noticed : ℕ) (o : Entry) → o.phase ≡ TurnOut number at →
-        at + 247000 < now → is_due now noticed o ≡ nat_lt o.serial noticed }
+    ensures out { (now number at noticed : ℕ) (missing : Bool) (o : Entry) →
+        o.phase ≡ TurnOut number at missing → now ≤ at + 247000 → is_due now noticed o ≡ false }
+    ensures lapsed { (now number at noticed : ℕ) (missing : Bool) (o : Entry) →
+        o.phase ≡ TurnOut number at missing → at + 247000 < now →
+        is_due now noticed o ≡ nat_lt o.serial noticed }
 {}
 
 /// A Reset message removes just the entries whose last notification went to its endpoint with its message id.

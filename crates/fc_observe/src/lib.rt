@@ -1,9 +1,10 @@
 //! Observers of one slot (RFC 7641): who is to be notified of its changes, and which notifications wait for an acknowledgement.
 //!
 //! [`Observers`] is the list of observers, in order of registration. A change of the slot makes observers due; each gets a turn by
-//! [`Observers::next_due`], in which its request is answered anew. The turn ends by its notification ([`Observers::sent`]), by the
-//! removal of its observer ([`Observers::end`]), or by being given up. A confirmable notification is sent again by
-//! [`Observers::tick`] until it is acknowledged.
+//! [`Observers::next_due`], in which its request is answered anew. The turn keeps whether its taking, which looks into the slot,
+//! found the slot empty ([`Observers::miss`]). It ends by its notification ([`Observers::sent`]), by the removal of its observer
+//! ([`Observers::end`]), or by being given up. A confirmable notification is sent again by [`Observers::tick`] until it is
+//! acknowledged.
 //!
 //! A clause sees the list as `specs/Observers`' record: the slot, the greatest moment handed in, how many turns were given, and the
 //! entries. Every moment is handed in, in milliseconds, and so is every random word; only `new` takes memory.

@@ -3,12 +3,12 @@ ghost use Rattle.std.specs.Prelude.{◌≡◌, ◌<◌, ◌≤◌, [], ◌∷◌
 ghost use Rattle.std.specs.List.{list_any, position_from};
 ghost use Rattle.std.specs.Option.{option_map};
 ghost use Rattle.fc_observe.specs.Entries.{acknowledged, has_last_id, has_turn, is_due, is_entry_of, is_late};
-ghost use Rattle.fc_observe.specs.Observers.{after_ack, after_reset, after_tick, at_each, at_moment, cancelled, entry_out, late_entry, must_confirm_turn, next_turn, no_observers, registered, registration, ticked, turn_ended, turn_given, turn_given_up, turn_notified, without_those};
+ghost use Rattle.fc_observe.specs.Observers.{after_ack, after_reset, after_tick, at_each, at_moment, cancelled, entry_out, is_missing, late_entry, must_confirm_turn, next_turn, no_observers, registered, registration, ticked, turn_ended, turn_given, turn_given_up, turn_missed, turn_notified, without_those};
 ghost use Rattle.fc_observe.specs.Views.{interest, interest_of};
 
 use crate::entry::{
-    Entry, Observer, Phase, Turn, acknowledge, copy_token, give_up, has_last_id, has_turn, is_due,
-    is_entry_of, is_late, must_confirm, notify, retransmit, take_turn,
+    Entry, Observer, Phase, Turn, acknowledge, copy_token, give_up, has_last_id, has_missed,
+    has_turn, is_due, is_entry_of, is_late, miss, must_confirm, notify, retransmit, take_turn,
 };
 use coap_msg::{Datagram, Emission, Endpoint, Token};
 use fc_help::Request;
@@ -167,17 +167,50 @@ impl Observers {
         observer_out(&self.held, self.slot, self.moment, turn)
     }
 
+    /// Whether this turn is out, so that `out` lends its observer.
+    pub fn is_out(&self, turn: Turn) -> bool
+        ensures { result ≡ is_some (entry_out turn self.now) }
+    {
+        first_out(&self.held, self.slot, self.moment, turn).is_some()
+    }
+
+    /// Notes that the taking of a turn that is out found the slot empty.
+    pub fn miss(&mut self, turn: Turn)
+        ensures { self.new ≡ turn_missed turn self.old }
+    {
+        if let Some(place) = first_out(&self.held, self.slot, self.moment, turn) {
+            miss(&mut self.held[place]);
+        }
+    }
+
+    /// Whether the taking of this turn found the slot empty. Not where the turn isn't out.
+    pub fn is_missing(&self, turn: Turn) -> bool
+        ensures { result ≡ is_missing turn self.now }
+    {
+        match first_out(&self.held, self.slot, self.moment, turn) {
+            Some(place) => has_missed(&self.held[place]),
+            None => false,
+        }
+    }
+
     /// Whether the notification of this turn is to be confirmable: 86,400,000 ms or more passed since the registration or the
     /// last confirmable one (RFC 7641, 4.5). Not where the turn isn't out.
+    pub fn must_confirm(&self, turn: Turn) -> bool
+        ensures { result ≡ must_confirm_turn turn self.now }
+    {
+        match first_out(&self.held, self.slot, self.moment, turn) {
+            Some(place) => must_confirm(self.moment, &self.held[place]),
+            None => false,
+        }
+    }
+
+    /// That at a moment.
     pub fn confirmable(&mut self, now: u64, turn: Turn) -> bool
         ensures answer { result ≡ must_confirm_turn turn (at_moment now self.old) }
         ensures after { self.new ≡ at_moment now self.old }
     {
         self.advance(now);
-        match first_out(&self.held, self.slot, self.moment, turn) {
-            Some(place) => must_confirm(self.moment, &self.held[place]),
-            None => false,
-        }
+        self.must_confirm(turn)
     }
 
     /// Ends a turn that is out by a notification of this message id, serial and bytes. A confirmable one is outstanding from now

@@ -173,3 +173,20 @@ fn turns_are_given_up(rt: HostRuntime) -> Result<(), Fail> {
     assert!(rt; observers.out(third).is_none() && !observers.is_due(300_000, 10));
     Ok(())
 }
+
+#[test]
+fn turns_keep_that_the_slot_was_empty(rt: HostRuntime) -> Result<(), Fail> {
+    let mut observers = Observers::new(rt.alloc(), 1)?;
+    register(&mut observers, 0, 1, 0x6f, 7);
+    register(&mut observers, 0, 2, 0x6f, 7);
+    let first = observers.next_due(1, 8).ok_or("due")?;
+    let second = observers.next_due(1, 8).ok_or("due too")?;
+    assert!(rt; observers.is_out(second) && !observers.is_missing(second));
+    observers.miss(second);
+    observers.advance(247_000);
+    assert!(rt; observers.is_missing(second) && !observers.is_missing(first));
+    // It is given up.
+    observers.advance(247_001);
+    assert!(rt; !observers.is_missing(second) && !observers.is_out(second));
+    Ok(())
+}
