@@ -1,13 +1,14 @@
 -- A read of one slot's state and a write to it, as a shard is seen.
 use Rattle.std.proofs.Common.{◌≡◌, ℕ, ◌<◌, List, length, map, set, get_or, sym, ap, ◌∙◌, arith}
 use Rattle.std.proofs.lemmas.List.{map-set, get_or-map}
+use Rattle.fc_observe.specs.Observers.{ObserverList}
 use Rattle.fc_registry.specs.declared.shard.SlotState.{SlotState}
 use Rattle.fc_registry.specs.Slots.{Slot, Shard, new_slot}
 use Rattle.fc_registry.specs.Views.{as_seen}
 
 -- the fields of a shard, as it is seen
-abbrev pub seen : ℕ → ℕ → List SlotState → Shard
-seen index now items = record { index = index; now = now; slots = map as_seen items }
+abbrev pub seen : ℕ → ℕ → List SlotState → List ObserverList → Shard
+seen index now items watches = record { index = index; now = now; slots = map as_seen items; watches = watches }
 
 -- the slot at a place, and the shard with another there at a moment
 abbrev pub slot_in_place : Shard → ℕ → Slot
@@ -16,7 +17,7 @@ slot_in_place shard k = get_or shard.slots k (new_slot 0)
 abbrev pub written : Shard → ℕ → ℕ → Slot → Shard
 written shard now k v = record shard { now = now; slots = set shard.slots k v }
 
-module _ (index now : ℕ) (items : List SlotState) (shard : Shard) (view_is : seen index now items ≡ shard) (eight : length items ≡ 8) where
+module _ (index now : ℕ) (items : List SlotState) (watches : List ObserverList) (shard : Shard) (view_is : seen index now items watches ≡ shard) (eight : length items ≡ 8) where
   slots_are : map as_seen items ≡ shard.slots
   slots_are = ap (λ (s : Shard). s.slots) view_is
 
@@ -27,10 +28,10 @@ module _ (index now : ℕ) (items : List SlotState) (shard : Shard) (view_is : s
       ap as_seen is ∙ (sym (get_or-map as_seen items k s (new_slot 0) short) ∙ ap (λ (xs : List Slot). get_or xs k (new_slot 0)) slots_are)
 
   -- a write at a place is a write of what is seen there
-  pub slot_write : (k early late : ℕ) (t : SlotState) (v : Slot) → early ≡ late → as_seen t ≡ v → seen index early (set items k t) ≡ record shard { now = late; slots = set shard.slots k v }
+  pub slot_write : (k early late : ℕ) (t : SlotState) (v : Slot) → early ≡ late → as_seen t ≡ v → seen index early (set items k t) watches ≡ record shard { now = late; slots = set shard.slots k v }
   slot_write k early late t v passes is =
       let slots : map as_seen (set items k t) ≡ set shard.slots k v = map-set as_seen items k t ∙ (λ i. set (slots_are i) k (is i)) in
-      λ i. record { index = (view_is i).index; now = passes i; slots = slots i }
+      λ i. record { index = (view_is i).index; now = passes i; slots = slots i; watches = (view_is i).watches }
 
   pub now_is : now ≡ shard.now
   now_is = ap (λ (s : Shard). s.now) view_is

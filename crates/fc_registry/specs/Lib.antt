@@ -1,5 +1,6 @@
 pub mod Receipts
 pub mod Slots
+pub mod Watches
 pub mod Shards
 pub mod Changes
 pub mod Record

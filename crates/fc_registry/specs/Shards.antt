@@ -1,9 +1,10 @@
 -- Eight shards as sixty-four slots.
 use Rattle.std.specs.Prelude.{◌≡◌, ◌<◌, length, ℕ, zero, suc, ◌%◌, List, [], ◌∷◌, ◌++◌, replicate, slice_index_or, slice_set}
 use Rattle.fc_registry.specs.Slots.{Slot, Shard, slot_in, new_slot}
+use Rattle.fc_registry.specs.Watches.{new_watches}
 
 abbrev pub no_shard : Shard
-no_shard = record { index = 0; now = 0; slots = [] }
+no_shard = record { index = 0; now = 0; slots = []; watches = [] }
 
 abbrev pub shard_at : List Shard → ℕ → Shard
 shard_at shards s = slice_index_or shards s no_shard
@@ -25,7 +26,7 @@ with_owner shards n shard = slice_set shards (n % 8) shard
 -- shards of empty slots at this serial, of the indices below n
 abbrev pub empty_shards : ℕ → ℕ → List Shard
 empty_shards serial zero = []
-empty_shards serial (suc n) = empty_shards serial n ++ (record { index = n; now = 0; slots = replicate 8 (new_slot serial) } ∷ [])
+empty_shards serial (suc n) = empty_shards serial n ++ (record { index = n; now = 0; slots = replicate 8 (new_slot serial); watches = new_watches n 8 } ∷ [])
 
 -- the shards of a new server, every slot at this serial
 abbrev pub first_shards : ℕ → List Shard

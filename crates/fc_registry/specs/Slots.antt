@@ -3,6 +3,7 @@ use Rattle.std.specs.Prelude.{◌≡◌, ℕ, ◌/◌, ◌%◌, ◌<◌, Bool, L
 use Rattle.coap_opts.specs.Values.{Place}
 use Rattle.fc_help.specs.Request.{Request}
 use Rattle.fc_kinds.specs.Meaning.{Program}
+use Rattle.fc_observe.specs.Observers.{ObserverList}
 use Rattle.fc_registry.specs.declared.job.Origin.{Origin}
 use Rattle.fc_registry.specs.declared.ring.Entry.{Entry}
 
@@ -37,11 +38,12 @@ last_serial = 9223372036854775807
 abbrev pub new_slot : ℕ → Slot
 new_slot serial = record { serial = serial; noticed = serial; present = None; ring = [] }
 
--- a shard: the greatest moment handed to it, and its slots, of which the place n / 8 is that of slot n
+-- a shard: the greatest moment handed to it, and its slots and their observers, of which the place n / 8 is that of slot n
 pub record Shard : Type 0 where
   pub index : ℕ
   pub now : ℕ
   pub slots : List Slot
+  pub watches : List ObserverList
 
 -- the shard of index n mod 8 owns slot n, of 64 slots
 pub record IsOwned (shard : Shard) (n : ℕ) : Type 0 where

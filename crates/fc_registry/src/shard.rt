@@ -6,6 +6,7 @@ ghost use Rattle.fc_registry.specs.Changes.{after_changes};
 ghost use Rattle.fc_registry.specs.Calls.{IsTaking, CommitsTo, IsCommit, ComesTo, IsOwn, IsCurrent, commits, is_post, mark_of, install_in, receipt_at, remove_from, request_of, wants_by};
 ghost use Rattle.fc_registry.specs.Views.{as_seen, present_of};
 ghost use Rattle.fc_registry.specs.Record.{IsRing};
+ghost use Rattle.fc_registry.specs.Watches.{new_watches};
 
 use crate::body::Body;
 use crate::commit::{CommitOutcome, Committed};
@@ -16,6 +17,7 @@ use crate::slot_number::{SHARDS, SlotNumber};
 use crate::ticket::{Mark, Ticket};
 use fc_help::{Method, Request, Vars};
 use fc_machine::Outcome;
+use fc_observe::Observers;
 use fc_verify::Verified;
 use std::alloc::{AllocError, Global};
 use std::marker::Model;
@@ -32,12 +34,13 @@ struct SlotState {
     ring: Ring,
 }
 
-/// The slots of one shard: those whose remainder by 8 is the shard's index.
+/// The slots of one shard: those whose remainder by 8 is the shard's index. Each has its observers.
 #[derive(Drop)]
 pub struct Shard {
     index: u8,
     now: u64,
     slots: Vec<SlotState>,
+    watches: Vec<Observers>,
 }
 
 impl Model for Shard {
@@ -50,9 +53,9 @@ impl Model for Shard {
     ghost use Rattle.fc_registry.specs.Views.{as_seen};
     ghost use Rattle.fc_registry.specs.Record.{IsRing};
 
-    ghost view = { λ s. record { index = s.index; now = s.now; slots = map as_seen s.slots.items } };
+    ghost view = { λ s. record { index = s.index; now = s.now; slots = map as_seen s.slots.items; watches = s.watches.items } };
 
-    ghost invariant = { λ s. (length s.slots.items ≡ 8) × All (λ x. IsRing (as_seen x)) s.slots.items };
+    ghost invariant = { λ s. (length s.slots.items ≡ 8) × All (λ x. IsRing (as_seen x)) s.slots.items × (length s.watches.items ≡ 8) };
 }
 
 /// What a taking found.
@@ -94,7 +97,7 @@ impl Shard {
     pub fn new(alloc: Global, index: u8, first_serial: u64) -> Result<Shard, AllocError>
         requires index { index < 8 }
         requires serial { first_serial ≤ last_serial }
-        ensures { IfOk result (λ s. s ≡ record { index = index; now = 0; slots = replicate 8 (new_slot first_serial) }) }
+        ensures { IfOk result (λ s. s ≡ record { index = index; now = 0; slots = replicate 8 (new_slot first_serial); watches = new_watches index 8 }) }
     {
         let mut slots = Vec::with_capacity(alloc, usize::from(SHARDS))?;
         for _slot in 0..SHARDS {
@@ -104,6 +107,7 @@ impl Shard {
             index,
             now: 0,
             slots,
+            watches: make_watches(alloc, index)?,
         })
     }
 
@@ -201,6 +205,18 @@ impl Shard {
     {
         let _ = &self.index;
     }
+}
+
+// No observers, of each of the shard's slots.
+fn make_watches(alloc: Global, index: u8) -> Result<Vec<Observers>, AllocError>
+    requires { index < 8 }
+    ensures { IfOk result (λ w. w.items ≡ new_watches index 8) }
+{
+    let mut watches = Vec::with_capacity(alloc, usize::from(SHARDS))?;
+    for place in 0..SHARDS {
+        watches.push(Observers::new(alloc, 8 * place + index)?)?;
+    }
+    Ok(watches)
 }
 
 // A slot that nothing was installed in.

@@ -5,6 +5,7 @@ use Rattle.std.proofs.lemmas.List.{get_or-replicate, get_or_append_left}
 use Rattle.std.proofs.Math.Seq.{get_or-append_seam}
 use Rattle.fc_registry.specs.Shards.{empty_shards, first_shards, no_shard, shard_at, slot_in_shards}
 use Rattle.fc_registry.specs.Slots.{Shard, slot_in, new_slot}
+use Rattle.fc_registry.specs.Watches.{new_watches}
 use Rattle.fc_core.specs.History.{Begins, begun, seen}
 use Rattle.fc_core.specs.Heads.{no_words}
 use Rattle.fc_core.specs.Exchanges.{first_front}
@@ -14,7 +15,7 @@ use Rattle.fc_server.specs.States.{ServerState}
 
 -- an empty shard
 abbrev empty : ℕ → ℕ → Shard
-empty serial s = record { index = s; now = 0; slots = replicate 8 (new_slot serial) }
+empty serial s = record { index = s; now = 0; slots = replicate 8 (new_slot serial); watches = new_watches s 8 }
 
 length-empty_shards : (serial n : ℕ) → length (empty_shards serial n) ≡ n
 length-empty_shards serial zero = refl

@@ -14,18 +14,19 @@ returns c =
     let k = c.place.result in
     let place : k ≡ t.origin.slot / 8 = c.place.ensures.place ∙ ap (λ (o : Origin). o.slot / 8) c.origin.ensures in
     let lt : k < 8 = c.place.ensures.limit in
-    let found = slot_read in_.index in_.now in_.slots.items c.args.self.now c.self.view_is c.self.invariant.0 k c.index_mut-slot.result.now lt c.index_mut-slot.ensures.value
+    let found = slot_read in_.index in_.now in_.slots.items in_.watches.items c.args.self.now c.self.view_is c.self.invariant.0 k c.index_mut-slot.result.now lt c.index_mut-slot.ensures.value
     ∙ ap (λ (j : ℕ). slot_in_place c.args.self.now j) place in
     record {
       after = as_seen c.committed.new.slot;
       commit = subst (λ (s : Slot). IsCommit c.args.outcome.now t s c.committed.result (as_seen c.committed.new.slot)) found c.committed.ensures;
-      shard = slot_write in_.index in_.now in_.slots.items c.args.self.now c.self.view_is c.self.invariant.0 k c.max-self-inside.result (max c.args.self.now.now c.args.now) c.committed.new.slot (as_seen c.committed.new.slot)
-          (c.max-self-inside.ensures ∙ ap (λ (m : ℕ). max m c.args.now) (now_is in_.index in_.now in_.slots.items c.args.self.now c.self.view_is c.self.invariant.0))
+      shard = slot_write in_.index in_.now in_.slots.items in_.watches.items c.args.self.now c.self.view_is c.self.invariant.0 k c.max-self-inside.result (max c.args.self.now.now c.args.now) c.committed.new.slot (as_seen c.committed.new.slot)
+          (c.max-self-inside.ensures ∙ ap (λ (m : ℕ). max m c.args.now) (now_is in_.index in_.now in_.slots.items in_.watches.items c.args.self.now c.self.view_is c.self.invariant.0))
           refl
           ∙ ap (λ (j : ℕ). written c.args.self.now (max c.args.self.now.now c.args.now) j (as_seen c.committed.new.slot)) place;
     }
 
 pub invariant_of-self : goal.invariant_of-self
 invariant_of-self c =
-    written_rings c.self.inside.slots.items c.place.result c.index_mut-slot.result.now c.committed.new.slot c.self.invariant c.place.ensures.limit c.index_mut-slot.ensures.value
-    (ring_kept c.args.outcome.now c.args.ticket.now (as_seen c.index_mut-slot.result.now) c.committed.result (as_seen c.committed.new.slot) c.committed.ensures)
+    let rings = written_rings c.self.inside.slots.items c.place.result c.index_mut-slot.result.now c.committed.new.slot (c.self.invariant.0, c.self.invariant.1) c.place.ensures.limit c.index_mut-slot.ensures.value
+    (ring_kept c.args.outcome.now c.args.ticket.now (as_seen c.index_mut-slot.result.now) c.committed.result (as_seen c.committed.new.slot) c.committed.ensures) in
+    (rings.0, rings.1, c.self.invariant.2)

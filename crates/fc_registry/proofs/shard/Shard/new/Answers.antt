@@ -16,4 +16,5 @@ invariant_of-result c =
     let eight : c.loop-slot._slot ≡ 8 = omega (arith, c.loop-slot.auto._slot-end, c.loop-slot-test.false) in (
       sym (length-map items as_seen) ∙ (ap length c.loop-slot.invariant ∙ (length-replicate c.loop-slot._slot (new_slot c.args.first_serial) ∙ eight)),
       all_new items c.loop-slot._slot c.args.first_serial c.loop-slot.invariant,
+      ap length c.in_ok-make_watches.ensures,
     )

@@ -11,7 +11,7 @@ use Rattle.fc_registry.proofs.shard.Shard.remove.Goals as goal
 -- the slot that was found is the one that is seen
 found : (c : goal.After-self-1) → as_seen c.index_mut-state.result.now ≡ slot_in c.args.self.now c.args.slot
 found c =
-    slot_read c.self.inside.index c.self.inside.now c.self.inside.slots.items c.args.self.now c.self.view_is c.self.invariant.0 c.place.result c.index_mut-state.result.now c.place.ensures.limit c.index_mut-state.ensures.value
+    slot_read c.self.inside.index c.self.inside.now c.self.inside.slots.items c.self.inside.watches.items c.args.self.now c.self.view_is c.self.invariant.0 c.place.result c.index_mut-state.result.now c.place.ensures.limit c.index_mut-state.ensures.value
     ∙ ap (λ (j : ℕ). slot_in_place c.args.self.now j) c.place.ensures.place
 
 pub returns-clause-answer : goal.returns-clause-answer
@@ -20,13 +20,14 @@ returns-clause-answer c = c.clear.ensures.answer ∙ ap (λ (s : Slot). (remove_
 pub returns-clause-slots : goal.returns-clause-slots
 returns-clause-slots c =
     let in_ = c.self.inside in
-    slot_write in_.index in_.now in_.slots.items c.args.self.now c.self.view_is c.self.invariant.0 c.place.result in_.now c.args.self.now.now c.clear.new.slot _
-    (now_is in_.index in_.now in_.slots.items c.args.self.now c.self.view_is c.self.invariant.0)
+    slot_write in_.index in_.now in_.slots.items in_.watches.items c.args.self.now c.self.view_is c.self.invariant.0 c.place.result in_.now c.args.self.now.now c.clear.new.slot _
+    (now_is in_.index in_.now in_.slots.items in_.watches.items c.args.self.now c.self.view_is c.self.invariant.0)
     (c.clear.ensures.slot ∙ ap (λ (s : Slot). after_changes s (remove_from s).changes) (found c))
     ∙ ap (λ (j : ℕ). written c.args.self.now c.args.self.now.now j (after_changes (slot_in c.args.self.now c.args.slot) (remove_from (slot_in c.args.self.now c.args.slot)).changes)) c.place.ensures.place
 
 pub invariant_of-self : goal.invariant_of-self
 invariant_of-self c =
     let was = c.index_mut-state.result.now in
-    written_rings c.self.inside.slots.items c.place.result was c.clear.new.slot c.self.invariant c.place.ensures.limit c.index_mut-state.ensures.value
-    (λ old. subst IsRing (sym c.clear.ensures.slot) (ring_clear (as_seen was) old))
+    let rings = written_rings c.self.inside.slots.items c.place.result was c.clear.new.slot (c.self.invariant.0, c.self.invariant.1) c.place.ensures.limit c.index_mut-state.ensures.value
+    (λ old. subst IsRing (sym c.clear.ensures.slot) (ring_clear (as_seen was) old)) in
+    (rings.0, rings.1, c.self.invariant.2)
