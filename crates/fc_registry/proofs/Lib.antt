@@ -1,5 +1,6 @@
 pub mod Writes
 pub mod Installs
 pub mod Rings
+pub mod Places
 pub mod Outcomes
 pub mod Noticed

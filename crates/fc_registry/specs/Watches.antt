@@ -1,8 +1,89 @@
--- The observers of a shard's slots.
-use Rattle.std.specs.Prelude.{ℕ, zero, suc, ◌+◌, ◌*◌, List, [], ◌∷◌, ◌++◌}
-use Rattle.fc_observe.specs.Observers.{ObserverList, no_observers}
+-- The observers of a shard's slots, and the calls on them.
+use Rattle.std.specs.Prelude.{ℕ, zero, suc, ◌+◌, ◌*◌, ◌/◌, Bool, true, false, if◌then◌else◌, Option, Some, None, is_some, List, [], ◌∷◌, ◌++◌, map, max, slice_index_or, slice_set}
+use Rattle.coap_msg.specs.declared.types.Endpoint.{Endpoint}
+use Rattle.fc_observe.specs.declared.entry.Turn.{Turn}
+use Rattle.fc_observe.specs.declared.observers.Ticked.{Ticked}
+use Rattle.fc_observe.specs.declared.observers.Ticked.TheVariants.{Quiet}
+use Rattle.fc_observe.specs.Calls.{ObserverCall, Acknowledge, GiveUp, NextDue, Reset, Tick, observers_after}
+use Rattle.fc_observe.specs.Observers.{ObserverList, at_moment, late_entry, next_turn, no_observers, ticked}
+use Rattle.fc_registry.specs.Slots.{Shard, new_slot}
 
 -- those of the slots at the first places of a new shard: place k is that of slot 8 k + index
 abbrev pub new_watches : ℕ → ℕ → List ObserverList
 new_watches index zero = []
 new_watches index (suc k) = new_watches index k ++ no_observers (8 * k + index) ∷ []
+
+-- a shard that was handed a moment: it never goes back
+abbrev pub handed : Shard → ℕ → Shard
+handed shard now = record shard { now = max shard.now now }
+
+-- the observers of the slot at a place, and the slot's noticed serial
+abbrev pub watch_at : Shard → ℕ → ObserverList
+watch_at shard k = slice_index_or shard.watches k (no_observers 0)
+
+abbrev pub noticed_at : Shard → ℕ → ℕ
+noticed_at shard k = (slice_index_or shard.slots k (new_slot 0)).noticed
+
+-- the shard after a call on the observers at a place, and on no others
+abbrev pub watch_called : ObserverCall → ℕ → Shard → Shard
+watch_called c k shard = record shard { watches = slice_set shard.watches k (observers_after c (watch_at shard k)) }
+
+-- the first of so many places, from k on, that passes
+abbrev pub place_from : (ℕ → Bool) → ℕ → ℕ → Option ℕ
+place_from p zero k = None
+place_from p (suc n) k = if p k then Some k else place_from p n (k + 1)
+
+-- ---- time
+
+-- a notification at a place is late
+abbrev pub is_late_at : Shard → ℕ → Bool
+is_late_at shard k = is_some (late_entry (at_moment shard.now (watch_at shard k)))
+
+-- the first such place
+abbrev pub late_place : Shard → Option ℕ
+late_place shard = place_from (is_late_at shard) 8 0
+
+-- what a tick does at a place
+abbrev pub ticked_in : Option ℕ → Shard → Ticked
+ticked_in None shard = Quiet
+ticked_in (Some k) shard = ticked (at_moment shard.now (watch_at shard k))
+
+-- the shard after it
+abbrev pub after_tick : Option ℕ → Shard → Shard
+after_tick None shard = shard
+after_tick (Some k) shard = watch_called (Tick shard.now) k shard
+
+-- ---- turns
+
+-- an observer at a place is due
+abbrev pub is_due_at : Shard → ℕ → Bool
+is_due_at shard k = is_some (next_turn (noticed_at shard k) (at_moment shard.now (watch_at shard k)))
+
+-- the first such place
+abbrev pub due_place : Shard → Option ℕ
+due_place shard = place_from (is_due_at shard) 8 0
+
+-- the turn that is given at a place
+abbrev pub turn_in : Option ℕ → Shard → Option Turn
+turn_in None shard = None
+turn_in (Some k) shard = next_turn (noticed_at shard k) (at_moment shard.now (watch_at shard k))
+
+-- the shard after it
+abbrev pub after_due : Option ℕ → Shard → Shard
+after_due None shard = shard
+after_due (Some k) shard = watch_called (NextDue shard.now (noticed_at shard k)) k shard
+
+-- the shard after a turn was given up
+abbrev pub after_given_up : Turn → Shard → Shard
+after_given_up turn shard = watch_called (GiveUp turn shard.now) (turn.slot / 8) shard
+
+-- ---- signals
+
+-- a Reset message or an Acknowledgement, as a call on the observers of a slot
+abbrev pub signal_call : Bool → Endpoint → ℕ → ObserverCall
+signal_call true to id = Reset to id
+signal_call false to id = Acknowledge to id
+
+-- it is for the observers of every slot
+abbrev pub signalled : ObserverCall → Shard → Shard
+signalled c shard = record shard { watches = map (observers_after c) shard.watches }

@@ -1,12 +1,13 @@
 //! Shards of slots.
-ghost use Rattle.std.specs.Prelude.{◌≡◌, ℕ, ◌+◌, ◌<◌, ◌≤◌, ◌↔◌, [], true, length, replicate, IfOk, IsTrue};
+ghost use Rattle.std.specs.Prelude.{◌≡◌, ℕ, ◌+◌, ◌<◌, ◌≤◌, ◌↔◌, [], true, length, map, replicate, IfOk, IfSome, IsTrue};
 ghost use Rattle.fc_machine.specs.Ran.{meaning_of};
 ghost use Rattle.fc_registry.specs.Slots.{IsOwned, slot_in, with_slot, new_slot, last_serial, version_in, vars_in};
 ghost use Rattle.fc_registry.specs.Changes.{after_changes};
 ghost use Rattle.fc_registry.specs.Calls.{IsTaking, CommitsTo, IsCommit, ComesTo, IsOwn, IsCurrent, commits, is_post, mark_of, install_in, receipt_at, remove_from, request_of, wants_by};
 ghost use Rattle.fc_registry.specs.Views.{as_seen, present_of};
 ghost use Rattle.fc_registry.specs.Record.{IsRing};
-ghost use Rattle.fc_registry.specs.Watches.{new_watches};
+ghost use Rattle.fc_observe.specs.Calls.{observers_after};
+ghost use Rattle.fc_registry.specs.Watches.{after_due, after_given_up, after_tick, due_place, handed, is_due_at, late_place, new_watches, noticed_at, signal_call, signalled, ticked_in, turn_in};
 
 use crate::body::Body;
 use crate::commit::{CommitOutcome, Committed};
@@ -15,9 +16,10 @@ use crate::receipt::Receipt;
 use crate::ring::{Entry, Ring};
 use crate::slot_number::{SHARDS, SlotNumber};
 use crate::ticket::{Mark, Ticket};
+use coap_msg::Endpoint;
 use fc_help::{Method, Request, Vars};
 use fc_machine::Outcome;
-use fc_observe::Observers;
+use fc_observe::{Observers, Ticked, Turn};
 use fc_verify::Verified;
 use std::alloc::{AllocError, Global};
 use std::marker::Model;
@@ -25,6 +27,9 @@ use std::sync::Arc;
 
 /// The greatest serial.
 pub const LAST_SERIAL: u64 = 9_223_372_036_854_775_807;
+
+// How many slots a shard has.
+const PLACES: usize = 8;
 
 #[derive(Drop)]
 struct SlotState {
@@ -196,6 +201,89 @@ impl Shard {
     {
         let state = &self.slots[slot.place()];
         vars_of(state)
+    }
+
+    /// Gives a turn to the first observer that is due at a moment in milliseconds, by slot and then by registration.
+    pub fn next_due(&mut self, now: u64) -> Option<Turn>
+        ensures turn { result ≡ turn_in (due_place (handed self.old now)) (handed self.old now) }
+        ensures after { self.new ≡ after_due (due_place (handed self.old now)) (handed self.old now) }
+    {
+        self.now = self.now.max(now);
+        let place = self.due_place()?;
+        let noticed = self.noticed_at(place);
+        self.watches[place].next_due(self.now, noticed)
+    }
+
+    /// Gives up a turn, at a moment in milliseconds. Its observer is due again at a later one.
+    pub fn give_up(&mut self, turn: Turn, now: u64)
+        requires { IsOwned self.old turn.slot }
+        ensures { self.new ≡ after_given_up turn (handed self.old now) }
+    {
+        self.now = self.now.max(now);
+        self.watches[usize::from(turn.slot / SHARDS)].give_up(turn, self.now);
+    }
+
+    /// Hands an Acknowledgement or a Reset message to the observers of every slot.
+    pub fn signal(&mut self, endpoint: Endpoint, id: u16, reset: bool)
+        ensures { self.new ≡ signalled (signal_call reset endpoint id) self.old }
+    {
+        signal_all(&mut self.watches, endpoint, id, reset);
+    }
+
+    /// Sends the first notification that is late at a moment in milliseconds again, or removes its observer: by slot, and then
+    /// by registration.
+    pub fn tick(&mut self, now: u64) -> Ticked
+        ensures answer { result ≡ ticked_in (late_place (handed self.old now)) (handed self.old now) }
+        ensures after { self.new ≡ after_tick (late_place (handed self.old now)) (handed self.old now) }
+    {
+        self.now = self.now.max(now);
+        match self.late_place() {
+            None => Ticked::Quiet,
+            Some(place) => self.watches[place].tick(self.now),
+        }
+    }
+
+    // The noticed serial of the slot at a place.
+    fn noticed_at(&self, place: usize) -> u64
+        requires { place < 8 }
+        ensures { result ≡ noticed_at self.entry.now place }
+    {
+        let state = &self.slots[place];
+        noticed_of(state)
+    }
+
+    // Whether an observer at a place is due.
+    fn is_due_at(&self, place: usize) -> bool
+        requires { place < 8 }
+        ensures { result ≡ is_due_at self.entry.now place }
+    {
+        self.watches[place].is_due(self.now, self.noticed_at(place))
+    }
+
+    // The first place with an observer that is due.
+    fn due_place(&self) -> Option<usize>
+        ensures place { result ≡ due_place self.entry.now }
+        ensures within { IfSome result (λ k. k < 8) }
+    {
+        for place in 0..PLACES {
+            if self.is_due_at(place) {
+                return Some(place);
+            }
+        }
+        None
+    }
+
+    // The first place with a notification that is late.
+    fn late_place(&self) -> Option<usize>
+        ensures place { result ≡ late_place self.entry.now }
+        ensures within { IfSome result (λ k. k < 8) }
+    {
+        for place in 0..PLACES {
+            if self.watches[place].is_late(self.now) {
+                return Some(place);
+            }
+        }
+        None
     }
 
     /// The ring of each slot is a chain: whatever was called, in whatever order, its entries are the commits of the present
@@ -460,5 +548,24 @@ fn mark(ticket: &Ticket, serial: u64, changed: bool) -> Mark
         found: ticket.serial,
         serial,
         changed,
+    }
+}
+
+// Hands a signal to the observers of each slot.
+fn signal_all(watches: &mut [Observers], endpoint: Endpoint, id: u16, reset: bool)
+    ensures { watches.new ≡ map (observers_after (signal_call reset endpoint id)) watches.old }
+{
+    for watch in watches.iter_mut() {
+        signal_one(watch, endpoint, id, reset);
+    }
+}
+
+fn signal_one(watch: &mut Observers, endpoint: Endpoint, id: u16, reset: bool)
+    ensures { watch.new ≡ observers_after (signal_call reset endpoint id) watch.old }
+{
+    if reset {
+        watch.reset(endpoint, id);
+    } else {
+        watch.acked(endpoint, id);
     }
 }
