@@ -6,6 +6,7 @@ pub mod Lists
 pub mod Fitting
 pub mod Keeping
 pub mod Strays
+pub mod OnShards
 pub mod Others
 pub mod Steps
 pub mod Along

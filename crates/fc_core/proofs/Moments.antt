@@ -12,8 +12,8 @@ use Rattle.fc_core.specs.declared.event.Event.{Event}
 use Rattle.fc_core.specs.declared.event.Event.TheVariants.{Deliver, Peek, Take, Commit, Install, Remove, Receipt, Raise, Answer, Tick}
 use Rattle.fc_core.specs.declared.stage.Stage.{Stage}
 use Rattle.fc_core.specs.declared.stage.Stage.TheVariants.{ToMatch, ToTake, ToCommit, ToInstall, ToRemove, ToDescribe, ToList, ToRaise, ToAnswer}
-use Rattle.fc_core.specs.AnswerLaws.{answer_moment, commit_moment, greatest, is_of_shard, moments_in, moments_of, shard_moments_of}
-use Rattle.fc_core.specs.History.{History, Begins, Then, Seen, seen, job, moment_after, scene, shard_moment_after, slot_at, stage}
+use Rattle.fc_core.specs.AnswerLaws.{answer_moment, commit_moment, greatest, is_of_shard, moment_handed, moments_in, moments_of, shard_moments_of}
+use Rattle.fc_core.specs.History.{History, Begins, Then, Seen, seen, job, moment_after, scene, shard_hands, shard_moment_after, slot_at, stage}
 use Rattle.fc_core.specs.Laws.{slot_of, stage_named}
 use Rattle.fc_core.specs.Stages.{Scene, content_at, committed, handed, image_of, installed, names, row, verified}
 
@@ -78,7 +78,12 @@ shard_handed : (s : Seen) (e : Event) (o : Option ℕ) (i : ℕ) (ms : List ℕ)
 shard_handed s e None i ms is = is
 shard_handed s e (Some k) i ms is = shard_if s e k i (slot_of s k % 8 == i) ms is
 
+-- the moment of an event of the shard itself
+handed_more : (o : Option ℕ) (m : ℕ) (ms : List ℕ) → m ≡ greatest ms → handed o m ≡ greatest (moment_handed o ++ ms)
+handed_more None m ms is = is
+handed_more (Some now) m ms is = ap (λ (x : ℕ). max x now) is
+
 pub shard_moment_is_greatest : (h : History) (i : ℕ) → (seen h).shard_moment i ≡ greatest (shard_moments_of i h)
 unfolding seen
 shard_moment_is_greatest (Begins serial id) i = refl
-shard_moment_is_greatest (Then h r) i = shard_handed (seen h) r.event (names r.event) i (shard_moments_of i h) (shard_moment_is_greatest h i)
+shard_moment_is_greatest (Then h r) i = handed_more (shard_hands r.event i) _ _ (shard_handed (seen h) r.event (names r.event) i (shard_moments_of i h) (shard_moment_is_greatest h i))

@@ -3,17 +3,18 @@ use Rattle.std.proofs.Common.{◌≡◌, ℕ, [], ◌++◌, set, Bool, true, fal
 use Rattle.std.specs.Prelude.{◌==◌, ◌%◌, length, not, List}
 use Rattle.std.proofs.lemmas.List.{append-nil, set-get_or}
 use Rattle.coap_msg.specs.declared.types.Emission.{Emission}
+use Rattle.fc_observe.specs.Calls.{ObserverCall}
 use Rattle.fc_registry.specs.declared.job.Job.{Job}
 use Rattle.fc_registry.specs.Slots.{Slot}
 use Rattle.fc_core.specs.declared.event.Event.{Event}
-use Rattle.fc_core.specs.declared.event.Event.TheVariants.{Deliver, Peek, Take, Commit, Install, Remove, Receipt, Raise, Answer, Tick, Lose}
+use Rattle.fc_core.specs.declared.event.Event.TheVariants.{Deliver, Peek, Take, Commit, Install, Remove, Receipt, Raise, Answer, Signal, Tick, ShardTick, Lose}
 use Rattle.fc_core.specs.declared.stage.Stage.{Stage}
 use Rattle.fc_core.specs.declared.stage.Stage.TheVariants.{ToMatch, ToTake, ToCommit, ToInstall, ToRemove, ToDescribe, ToList, ToRaise, ToAnswer, Gone}
 use Rattle.fc_core.specs.Contents.{Content}
 use Rattle.fc_core.specs.Stages.{Move, Scene, content_at, handed, task_moved, moves, names, peeked_next, peeked_own, row, words_after}
 use Rattle.fc_core.specs.Heads.{word_at}
 use Rattle.arrayvec.specs.ArrayVec.{ArrayVec}
-use Rattle.fc_core.specs.History.{Entry, Seen, added_in, and_then, changes_after, did, exchanges_after, ids_after, job, moment_after, no_task, scene, shard_moment_after, stage, task_at, tasks_brought, tasks_moved, words_seen}
+use Rattle.fc_core.specs.History.{Entry, Seen, added_in, and_then, calls_in, changes_after, did, exchanges_after, ids_after, job, moment_after, no_task, scene, shard_hands, shard_moment_after, stage, task_at, tasks_brought, tasks_moved, words_seen}
 use Rattle.coap_block.specs.Transfers.{Addition}
 use Rattle.fc_core.specs.Laws.{is_stray, is_stray_at}
 use Rattle.fc_core.specs.Legal.{Emits, AnswerEmits}
@@ -70,41 +71,45 @@ module _ (s : Seen) (e : Event) (k : ℕ) (still : row e (scene s k) ≡ moves (
   words_still : words_seen (Some k) e s ≡ s.words
   words_still = ap (λ (m : Move). words_after m (task_at s.tasks k) s.words) still
 
-all_same : (a b : Seen) → a.first_serial ≡ b.first_serial → a.moment ≡ b.moment → a.exchanges ≡ b.exchanges → a.additions ≡ b.additions → a.ids ≡ b.ids → a.tasks ≡ b.tasks → ((n : ℕ) → a.changes n ≡ b.changes n) → ((n : ℕ) → a.shard_moment n ≡ b.shard_moment n) → a.words ≡ b.words → a ≡ b
-all_same a b f m x p d t c h w = λ i. record { first_serial = f i; moment = m i; exchanges = x i; additions = p i; ids = d i; tasks = t i; changes = λ n. c n i; shard_moment = λ n. h n i; words = w i }
+all_same : (a b : Seen) → a.first_serial ≡ b.first_serial → a.moment ≡ b.moment → a.exchanges ≡ b.exchanges → a.additions ≡ b.additions → a.ids ≡ b.ids → a.tasks ≡ b.tasks → ((n : ℕ) → a.changes n ≡ b.changes n) → ((n : ℕ) → a.shard_moment n ≡ b.shard_moment n) → ((n : ℕ) → a.calls n ≡ b.calls n) → a.words ≡ b.words → a ≡ b
+all_same a b f m x p d t c h v w = λ i. record { first_serial = f i; moment = m i; exchanges = x i; additions = p i; ids = d i; tasks = t i; changes = λ n. c n i; shard_moment = λ n. h n i; calls = λ n. v n i; words = w i }
 
 -- an event of a job that changes nothing of the front
-named_still : (s : Seen) (e : Event) (o : Option Emission) (k : ℕ) → names e ≡ Some k → is_stray_at e (job s k).origin.slot (stage s k) ≡ true → moment_after e s ≡ s.moment → exchanges_after e o s ≡ s.exchanges → added_in e s ≡ [] → ids_after e s ≡ s.ids → tasks_brought e s ≡ [] → and_then (did e o) s ≡ s
-named_still s e o k is stray m x p d b =
+named_still : (s : Seen) (e : Event) (o : Option Emission) (k : ℕ) → names e ≡ Some k → is_stray_at e (job s k).origin.slot (stage s k) ≡ true → moment_after e s ≡ s.moment → exchanges_after e o s ≡ s.exchanges → added_in e s ≡ [] → ids_after e s ≡ s.ids → tasks_brought e s ≡ [] → ((i : ℕ) → shard_hands e i ≡ None) → ((n : ℕ) → calls_in e s n ≡ []) → and_then (did e o) s ≡ s
+named_still s e o k is stray m x p d b g q =
     let still : row e (scene s k) ≡ moves (stage s k) = row_still e (job s k) (scene s k).slot s.words (stage s k) stray in
     all_same (and_then (did e o) s) s refl m x (ap (λ (l : List Addition). l ++ s.additions) p) d
     ((λ i. tasks_moved (is i) e s ++ b i) ∙ (append-nil (tasks_moved (Some k) e s) ∙ tasks_still s e k still))
     (λ n. (λ i. changes_after (is i) e s n) ∙ changes_still s e k still n)
-    (λ n. (λ i. shard_moment_after (is i) e s n) ∙ shard_still s e k still n)
+    (λ n. (λ i. handed (g n i) (shard_moment_after (is i) e s n)) ∙ shard_still s e k still n)
+    (λ n. ap (λ (l : List ObserverCall). l ++ s.calls n) (q n))
     ((λ i. words_seen (is i) e s) ∙ words_still s e k still)
 
-unnamed_still : (s : Seen) (e : Event) (o : Option Emission) → names e ≡ None → moment_after e s ≡ s.moment → exchanges_after e o s ≡ s.exchanges → added_in e s ≡ [] → ids_after e s ≡ s.ids → tasks_brought e s ≡ [] → and_then (did e o) s ≡ s
-unnamed_still s e o is m x p d b = all_same (and_then (did e o) s) s refl m x (ap (λ (l : List Addition). l ++ s.additions) p) d
+unnamed_still : (s : Seen) (e : Event) (o : Option Emission) → names e ≡ None → moment_after e s ≡ s.moment → exchanges_after e o s ≡ s.exchanges → added_in e s ≡ [] → ids_after e s ≡ s.ids → tasks_brought e s ≡ [] → ((i : ℕ) → shard_hands e i ≡ None) → ((n : ℕ) → calls_in e s n ≡ []) → and_then (did e o) s ≡ s
+unnamed_still s e o is m x p d b g q = all_same (and_then (did e o) s) s refl m x (ap (λ (l : List Addition). l ++ s.additions) p) d
     ((λ i. tasks_moved (is i) e s ++ b i) ∙ append-nil s.tasks)
     (λ n. λ i. changes_after (is i) e s n)
-    (λ n. λ i. shard_moment_after (is i) e s n)
+    (λ n. λ i. handed (g n i) (shard_moment_after (is i) e s n))
+    (λ n. ap (λ (l : List ObserverCall). l ++ s.calls n) (q n))
     (λ i. words_seen (is i) e s)
 
 stray_still : (e : Event) (o : Option Emission) (s : Seen) → is_stray s e ≡ true → and_then (did e o) s ≡ s
 stray_still (Deliver now to bytes) o s e = absurd (cc)
 stray_still (Tick now) o s e = absurd (cc)
-stray_still (Peek k n) o s e = named_still s (Peek k n) o k refl e refl refl refl refl refl
-stray_still (Remove k) o s e = named_still s (Remove k) o k refl e refl refl refl refl refl
-stray_still (Receipt k) o s e = named_still s (Receipt k) o k refl e refl refl refl refl refl
-stray_still (Take k memory) o s e = named_still s (Take k memory) o k refl e refl refl refl refl refl
-stray_still (Commit k now) o s e = named_still s (Commit k now) o k refl e refl refl refl refl refl
-stray_still (Install k memory) o s e = named_still s (Install k memory) o k refl e refl refl refl refl refl
-stray_still (Raise k) o s e = named_still s (Raise k) o k refl e refl refl refl refl refl
-stray_still (Lose k) o s e = named_still s (Lose k) o k refl e refl refl refl refl refl
+stray_still (Signal shard to id reset) o s e = absurd (cc)
+stray_still (ShardTick shard now) o s e = absurd (cc)
+stray_still (Peek k n) o s e = named_still s (Peek k n) o k refl e refl refl refl refl refl (λ i. refl) (λ n. refl)
+stray_still (Remove k) o s e = named_still s (Remove k) o k refl e refl refl refl refl refl (λ i. refl) (λ n. refl)
+stray_still (Receipt k) o s e = named_still s (Receipt k) o k refl e refl refl refl refl refl (λ i. refl) (λ n. refl)
+stray_still (Take k memory) o s e = named_still s (Take k memory) o k refl e refl refl refl refl refl (λ i. refl) (λ n. refl)
+stray_still (Commit k now) o s e = named_still s (Commit k now) o k refl e refl refl refl refl refl (λ i. refl) (λ n. refl)
+stray_still (Install k memory) o s e = named_still s (Install k memory) o k refl e refl refl refl refl refl (λ i. refl) (λ n. refl)
+stray_still (Raise k) o s e = named_still s (Raise k) o k refl e refl refl refl refl refl (λ i. refl) (λ n. refl)
+stray_still (Lose k) o s e = named_still s (Lose k) o k refl e refl refl refl refl refl (λ i. refl) (λ n. refl)
 stray_still (Answer k now) o s e =
     let none : content_at (stage s k) ≡ None = none_answered k now (job s k).origin.slot (stage s k) e in
-    named_still s (Answer k now) o k refl e (rw none) (rw none) refl (rw none) refl
-stray_still other o s e = unnamed_still s other o refl refl refl refl refl refl
+    named_still s (Answer k now) o k refl e (rw none) (rw none) refl (rw none) refl (λ i. refl) (λ n. refl)
+stray_still other o s e = unnamed_still s other o refl refl refl refl refl refl (λ i. refl) (λ n. refl)
 
 pub strays_stay : (r : Entry) (s : Seen) → is_stray s r.event ≡ true → and_then r s ≡ s
 strays_stay r s e = stray_still r.event r.emitted s e
@@ -115,6 +120,7 @@ none_emits (Some content) j f o e w = absurd (cc)
 
 stray_emits : (s : Seen) (e : Event) (o : Option Emission) → is_stray s e ≡ true → Emits s e o → o ≡ None
 stray_emits s (Deliver now to bytes) o e w = absurd (cc)
+stray_emits s (ShardTick shard now) o e w = absurd (cc)
 stray_emits s (Answer k now) o e w = none_emits (content_at (stage s k)) _ _ o (none_answered k now (job s k).origin.slot (stage s k) e) w
 stray_emits s other o e w = w
 

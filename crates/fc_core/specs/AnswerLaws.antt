@@ -15,7 +15,7 @@ use Rattle.fc_core.specs.declared.stage.Stage.TheVariants.{ToMatch, ToTake, ToCo
 use Rattle.coap_reply.specs.Blocks.{cut_for}
 use Rattle.fc_core.specs.Contents.{Content, RunAnswer, Ran, Missing, Unavailable, Made, Rejected, Untyped, Valid, Deleted, Described, Listed}
 use Rattle.fc_core.specs.Heads.{head_word, word_at}
-use Rattle.fc_core.specs.History.{Entry, History, Begins, Then, Seen, seen, job, slot_at, stage}
+use Rattle.fc_core.specs.History.{Entry, History, Begins, Then, Seen, seen, job, shard_hands, slot_at, stage}
 use Rattle.fc_core.specs.Laws.{slot_of, stage_named, takings_of}
 use Rattle.fc_core.specs.Stages.{image_of, names}
 
@@ -158,10 +158,16 @@ abbrev pub is_of_shard : ℕ → Seen → Option ℕ → Bool
 is_of_shard i s None = false
 is_of_shard i s (Some k) = slot_of s k % 8 == i
 
--- the moments that were handed to a shard, the newest first
+-- the moment that was handed, if one was
+abbrev pub moment_handed : Option ℕ → List ℕ
+moment_handed None = []
+moment_handed (Some now) = now ∷ []
+
+-- the moments that were handed to a shard, the newest first: by its own events, and by the commits of its slots' jobs
 abbrev pub shard_moments_of : ℕ → History → List ℕ
 shard_moments_of i (Begins serial id) = []
 shard_moments_of i (Then h r) =
-    if is_of_shard i (seen h) (names r.event)
+    moment_handed (shard_hands r.event i)
+    ++ (if is_of_shard i (seen h) (names r.event)
     then commit_moment r.event (stage_named (seen h) (names r.event)) ++ shard_moments_of i h
-    else shard_moments_of i h
+    else shard_moments_of i h)

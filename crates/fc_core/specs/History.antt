@@ -1,17 +1,20 @@
 -- The history of a server, and what is seen of it. A history is its beginning and the events since, each with what it emitted.
 -- All that can be asked of it is one fold over its entries.
-use Rattle.std.specs.Prelude.{ℕ, ◌%◌, ◌==◌, Bool, true, false, if◌then◌else◌, Option, Some, None, is_some, List, [], ◌∷◌, ◌++◌, length, map, filter, max, slice_index_or, slice_set}
+use Rattle.std.specs.Prelude.{ℕ, ◌+◌, ◌*◌, ◌%◌, ◌==◌, nat_lt, Bool, true, false, if◌then◌else◌, Option, Some, None, is_some, List, [], ◌∷◌, ◌++◌, length, map, filter, max, slice_index_or, slice_set}
 use Rattle.coap_msg.specs.declared.types.Endpoint.{Endpoint}
 use Rattle.coap_msg.specs.declared.types.Emission.{Emission}
 use Rattle.coap_dedup.specs.Exchanges.{Exchange}
 use Rattle.coap_dedup.specs.Exchanges.{answered_if, is_live as is_held}
 use Rattle.coap_block.specs.Transfers.{Addition, transfers}
+use Rattle.fc_observe.specs.Calls.{ObserverCall, Tick as TickObservers, observers}
+use Rattle.fc_observe.specs.Observers.{ObserverList, at_moment, late_entry}
 use Rattle.fc_registry.specs.declared.job.Ask.TheVariants.{Install as Installs}
 use Rattle.fc_registry.specs.declared.job.Job.{Job}
 use Rattle.fc_registry.specs.Slots.{Slot, new_slot}
 use Rattle.fc_registry.specs.Changes.{Change, after_changes}
+use Rattle.fc_registry.specs.Watches.{place_from, signal_call}
 use Rattle.fc_core.specs.declared.event.Event.{Event}
-use Rattle.fc_core.specs.declared.event.Event.TheVariants.{Deliver, Answer, Tick}
+use Rattle.fc_core.specs.declared.event.Event.TheVariants.{Deliver, Answer, Signal, Tick, ShardTick}
 use Rattle.fc_core.specs.declared.stage.Stage.{Stage}
 use Rattle.fc_core.specs.declared.stage.Stage.TheVariants.{Gone}
 use Rattle.fc_core.specs.declared.stage.Task.{Task}
@@ -35,7 +38,7 @@ pub data History : Type 0 where
 -- all that can be asked of a history: the serial at which the slots began, the greatest moment handed to the front, the
 -- exchanges that were opened, the payloads of new requests, the newest first, the message ids of the server's own,
 -- the jobs that came, each at its stage, the changes of each slot, the newest first, the greatest moment handed to each shard,
--- and the head words. Exchanges and jobs are listed oldest first, since their places are their numbers.
+-- the calls on the observers of each slot, the newest first, and the head words. Exchanges and jobs are listed oldest first, since their places are their numbers.
 pub record Seen : Type 0 where
   pub first_serial : ℕ
   pub moment : ℕ
@@ -45,10 +48,11 @@ pub record Seen : Type 0 where
   pub tasks : List Task
   pub changes : ℕ → List Change
   pub shard_moment : ℕ → ℕ
+  pub calls : ℕ → List ObserverCall
   pub words : List ℕ
 
 abbrev pub begun : ℕ → ℕ → Seen
-begun serial id = record { first_serial = serial; moment = 0; exchanges = []; additions = []; ids = first_ids id; tasks = []; changes = λ n. []; shard_moment = λ k. 0; words = no_words }
+begun serial id = record { first_serial = serial; moment = 0; exchanges = []; additions = []; ids = first_ids id; tasks = []; changes = λ n. []; shard_moment = λ k. 0; calls = λ n. []; words = no_words }
 
 -- ---- slots and jobs
 
@@ -148,10 +152,42 @@ abbrev pub shard_moment_after : Option ℕ → Event → Seen → ℕ → ℕ
 shard_moment_after None e s i = s.shard_moment i
 shard_moment_after (Some k) e s i = if (job s k).origin.slot % 8 == i then handed (row e (scene s k)).hands (s.shard_moment i) else s.shard_moment i
 
+-- the moment that an event of a shard hands to it
+abbrev pub shard_hands : Event → ℕ → Option ℕ
+shard_hands (ShardTick shard now) i = if shard == i then Some now else None
+shard_hands other i = None
+
 -- the greatest word raised for each slot
 abbrev pub words_seen : Option ℕ → Event → Seen → List ℕ
 words_seen None e s = s.words
 words_seen (Some k) e s = words_after (row e (scene s k)) (task_at s.tasks k) s.words
+
+-- ---- the observers of the slots
+
+abbrev pub watch : Seen → ℕ → ObserverList
+watch s n = observers n (s.calls n)
+
+-- the slot at a place of shard i, 8 k + i, has a notification that is late at a moment
+abbrev pub is_late_at : Seen → ℕ → ℕ → ℕ → Bool
+is_late_at s i at k = is_some (late_entry (at_moment at (watch s (8 * k + i))))
+
+-- the first such place; a shard above 7 has none
+unfoldable pub late_in : Seen → ℕ → ℕ → Option ℕ
+late_in s i at = if nat_lt i 8 then place_from (is_late_at s i at) 8 0 else None
+
+-- the place, if there is one, is that of slot n
+abbrev pub is_place_of : Option ℕ → ℕ → ℕ → Bool
+is_place_of None i n = false
+is_place_of (Some k) i n = (8 * k + i) == n
+
+-- what an event calls on the observers of slot n: a signal is for all of its shard, a tick for the first with a late notification
+abbrev pub calls_in : Event → Seen → ℕ → List ObserverCall
+calls_in (Signal shard to id reset) s n = if (n % 8) == shard then signal_call reset to id ∷ [] else []
+calls_in (ShardTick shard now) s n =
+    if is_place_of (late_in s shard (max (s.shard_moment shard) now)) shard n
+    then TickObservers (max (s.shard_moment shard) now) ∷ []
+    else []
+calls_in other s n = []
 
 -- ---- the fold
 
@@ -164,7 +200,8 @@ and_then r s = record {
   ids = ids_after r.event s;
   tasks = tasks_moved (names r.event) r.event s ++ tasks_brought r.event s;
   changes = λ n. changes_after (names r.event) r.event s n;
-  shard_moment = λ i. shard_moment_after (names r.event) r.event s i;
+  shard_moment = λ i. handed (shard_hands r.event i) (shard_moment_after (names r.event) r.event s i);
+  calls = λ n. calls_in r.event s n ++ s.calls n;
   words = words_seen (names r.event) r.event s;
 }
 

@@ -5,7 +5,7 @@ use Rattle.fc_registry.specs.Slots.{Slot, Present, Ticket}
 use Rattle.fc_registry.specs.Changes.{Change}
 use Rattle.fc_registry.specs.Calls.{meaning_at, ticket_of, wants}
 use Rattle.fc_core.specs.declared.event.Event.{Event}
-use Rattle.fc_core.specs.declared.event.Event.TheVariants.{Deliver, Peek, Take, Commit, Install, Remove, Receipt, Raise, Answer, Tick, Lose}
+use Rattle.fc_core.specs.declared.event.Event.TheVariants.{Deliver, Peek, Take, Commit, Install, Remove, Receipt, Raise, Answer, Signal, Tick, ShardTick, Lose}
 use Rattle.fc_core.specs.declared.stage.Stage.{Stage}
 use Rattle.fc_core.specs.declared.stage.Stage.TheVariants.{ToMatch, ToTake, ToCommit, ToInstall, ToRemove, ToDescribe, ToList, ToRaise, ToAnswer, Gone}
 use Rattle.coap_reply.specs.Blocks.{cut_for}
@@ -36,6 +36,8 @@ is_stray_at (Lose k) own Gone = true
 is_stray_at (Lose k) own other = false
 is_stray_at (Deliver now to bytes) own at = false
 is_stray_at (Tick now) own at = false
+is_stray_at (Signal shard to id reset) own at = false
+is_stray_at (ShardTick shard now) own at = false
 is_stray_at other own at = true
 
 -- the stage of the job that is named, if one is, and its slot

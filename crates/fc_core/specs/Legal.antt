@@ -1,13 +1,16 @@
 -- What each event may emit: exactly this, and nothing else. And what a taking finds has a meaning.
-use Rattle.std.specs.Prelude.{◌≡◌, ℕ, ◌≤◌, Bool, true, false, Option, Some, None}
+use Rattle.std.specs.Prelude.{◌≡◌, ℕ, ◌+◌, ◌*◌, ◌≤◌, Bool, true, false, Option, Some, None, max}
 use Rattle.coap_msg.specs.declared.types.Emission.{Emission}
 use Rattle.fc_image.specs.Paths.{IsLongest}
 use Rattle.fc_kinds.specs.Meaning.{IsRun}
+use Rattle.fc_observe.specs.declared.observers.Ticked.{Ticked}
+use Rattle.fc_observe.specs.declared.observers.Ticked.TheVariants.{Resend}
+use Rattle.fc_observe.specs.Observers.{at_moment, ticked}
 use Rattle.fc_registry.specs.declared.job.Job.{Job}
 use Rattle.fc_registry.specs.Slots.{Present, Ticket}
 use Rattle.fc_registry.specs.Calls.{ticket_of, input_of}
 use Rattle.fc_core.specs.declared.event.Event.{Event}
-use Rattle.fc_core.specs.declared.event.Event.TheVariants.{Deliver, Take, Answer}
+use Rattle.fc_core.specs.declared.event.Event.TheVariants.{Deliver, Take, Answer, ShardTick}
 use Rattle.fc_core.specs.declared.stage.Stage.{Stage}
 use Rattle.fc_core.specs.declared.stage.Stage.TheVariants.{ToTake}
 use Rattle.fc_core.specs.Contents.{Content}
@@ -15,7 +18,7 @@ use Rattle.fc_core.specs.Replies.{IsReplyTo}
 use Rattle.fc_core.specs.Exchanges.{FrontState, opening_is_live}
 use Rattle.fc_core.specs.Receiving.{sent, id_in}
 use Rattle.fc_core.specs.Stages.{Scene, content_at}
-use Rattle.fc_core.specs.History.{History, Begins, Then, Seen, seen, front_at, received_at, job, stage, scene}
+use Rattle.fc_core.specs.History.{History, Begins, Then, Seen, seen, front_at, received_at, job, late_in, stage, scene, watch}
 
 -- a job's answer goes out while its exchange is live and a message id is free, and not after
 abbrev pub IsAnswered : Bool → Option ℕ → Job → Content → Option Emission → Type 0
@@ -28,10 +31,21 @@ abbrev pub AnswerEmits : Option Content → Job → FrontState → Option Emissi
 AnswerEmits None j f emitted = emitted ≡ None
 AnswerEmits (Some content) j f emitted = IsAnswered (opening_is_live f.now j.origin.opening) (id_in f j.confirmable j.origin.id) j content emitted
 
+-- what a tick sends again
+abbrev pub resent : Ticked → Option Emission
+resent (Resend emission) = Some emission
+resent other = None
+
+-- at a place of shard i, at a moment
+abbrev pub resent_at : Option ℕ → Seen → ℕ → ℕ → Option Emission
+resent_at None s i at = None
+resent_at (Some k) s i at = resent (ticked (at_moment at (watch s (8 * k + i))))
+
 -- what an event may emit
 abbrev pub Emits : Seen → Event → Option Emission → Type 0
 Emits s (Deliver now to bytes) emitted = emitted ≡ sent (received_at s now to bytes.now) (front_at s now) to
 Emits s (Answer k now) emitted = AnswerEmits (content_at (stage s k)) (job s k) (front_at s now) emitted
+Emits s (ShardTick i now) emitted = emitted ≡ resent_at (late_in s i (max (s.shard_moment i) now)) s i (max (s.shard_moment i) now)
 Emits s other emitted = emitted ≡ None
 
 -- each event emitted what it may

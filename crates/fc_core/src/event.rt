@@ -4,8 +4,8 @@ use coap_msg::Endpoint;
 /// What happens to a server. Jobs are numbered from 0 in the order in which they come, and shards from 0 to 7; moments
 /// are in milliseconds.
 ///
-/// An event whose job isn't at the stage that the event needs changes nothing. `Due`, `Fresh`, `Note`, `GiveUp`, `Signal` and
-/// `ShardTick` belong to what isn't served yet: they change nothing either.
+/// An event whose job isn't at the stage that the event needs changes nothing, nor does one whose shard is above 7. `Due`, `Fresh`,
+/// `Note` and `GiveUp` belong to what isn't served yet: they change nothing either.
 #[derive(Clone, Copy, Debug)]
 pub enum Event<'a> {
     /// A datagram comes.

@@ -9,11 +9,12 @@ no_shard = record { index = 0; now = 0; slots = []; watches = [] }
 abbrev pub shard_at : List Shard → ℕ → Shard
 shard_at shards s = slice_index_or shards s no_shard
 
--- eight shards, each of its index and with eight slots
+-- eight shards, each of its index and with eight slots and their observers
 pub record AreShards (shards : List Shard) : Type 0 where
   pub count : length shards ≡ 8
   pub index : (s : ℕ) → s < 8 → (shard_at shards s).index ≡ s
   pub size : (s : ℕ) → s < 8 → length (shard_at shards s).slots ≡ 8
+  pub watched : (s : ℕ) → s < 8 → length (shard_at shards s).watches ≡ 8
 
 -- shard n mod 8 owns slot n
 abbrev pub slot_in_shards : List Shard → ℕ → Slot

@@ -1,11 +1,12 @@
 -- The beginning: nothing has happened, and every slot is empty.
-use Rattle.std.proofs.Common.{◌≡◌, ℕ, zero, suc, ◌<◌, ◌≤◌, ◌/◌, ◌%◌, [], ◌∷◌, ◌++◌, length, replicate, refl, sym, ap, ◌∙◌, subst, arith, ⊎_elim, length-append}
+use Rattle.std.proofs.Common.{◌≡◌, ℕ, zero, suc, ◌+◌, ◌*◌, ◌<◌, ◌≤◌, ◌/◌, ◌%◌, [], ◌∷◌, ◌++◌, length, get_or, replicate, refl, sym, ap, ◌∙◌, subst, arith, ⊎_elim, length-append}
 use Rattle.std.proofs.lemmas.Bool.{cases_lt}
 use Rattle.std.proofs.lemmas.List.{get_or-replicate, get_or_append_left}
 use Rattle.std.proofs.Math.Seq.{get_or-append_seam}
 use Rattle.fc_registry.specs.Shards.{empty_shards, first_shards, no_shard, shard_at, slot_in_shards}
 use Rattle.fc_registry.specs.Slots.{Shard, slot_in, new_slot}
-use Rattle.fc_registry.specs.Watches.{new_watches}
+use Rattle.fc_registry.specs.Watches.{new_watches, watch_at}
+use Rattle.fc_observe.specs.Observers.{no_observers}
 use Rattle.fc_core.specs.History.{Begins, begun, seen}
 use Rattle.fc_core.specs.Heads.{no_words}
 use Rattle.fc_core.specs.Exchanges.{first_front}
@@ -38,15 +39,33 @@ empty_slots serial n lt =
     let low : n / 8 < 8 = omega arith in
     ap (λ (x : Shard). slot_in x n) (empty_at serial 8 (n % 8) (omega arith)) ∙ get_or-replicate 8 (n / 8) (new_slot serial) (new_slot 0) low
 
+length-new_watches : (i n : ℕ) → length (new_watches i n) ≡ n
+length-new_watches i zero = refl
+length-new_watches i (suc n) = let e = length-new_watches i n in length-append (new_watches i n) (no_observers (8 * n + i) ∷ []) ∙ omega (arith, e)
+
+-- and has no observers
+new_watch : (i n k : ℕ) → k < n → get_or (new_watches i n) k (no_observers 0) ≡ no_observers (8 * k + i)
+new_watch i zero k lt = absurd (omega arith)
+new_watch i (suc n) k lt =
+    let len = length-new_watches i n in
+    ⊎_elim
+    (λ (low : k < n). get_or_append_left (new_watches i n) (no_observers (8 * n + i) ∷ []) (no_observers 0) k (omega (arith, len)) ∙ new_watch i n k low)
+    (λ (high : n ≤ k).
+    let e : k ≡ length (new_watches i n) = omega (arith, len) in
+    ap (λ (j : ℕ). get_or (new_watches i n ++ no_observers (8 * n + i) ∷ []) j (no_observers 0)) e ∙ (get_or-append_seam (new_watches i n) (no_observers (8 * n + i)) [] (no_observers 0) ∙ ap (λ (j : ℕ). no_observers (8 * j + i)) (sym (e ∙ len))))
+    (cases_lt k n)
+
 shards_begin : (serial id : ℕ) → ShardsAgree (begun serial id) (first_shards serial)
 shards_begin serial id = record {
   are = record {
     count = length-empty_shards serial 8;
     index = λ s lt. ap (λ (x : Shard). x.index) (empty_at serial 8 s lt);
     size = λ s lt. ap (λ (x : Shard). length x.slots) (empty_at serial 8 s lt);
+    watched = λ s lt. ap (λ (x : Shard). length x.watches) (empty_at serial 8 s lt) ∙ length-new_watches s 8;
   };
   slot = empty_slots serial;
   now = λ s lt. ap (λ (x : Shard). x.now) (empty_at serial 8 s lt);
+  watch = λ i k low lt. ap (λ (x : Shard). watch_at x k) (empty_at serial 8 i low) ∙ new_watch i 8 k lt;
 }
 
 pub begins : (serial id : ℕ) (s : ServerState) → s.front ≡ first_front id → s.shards ≡ first_shards serial → s.words ≡ no_words → Serves (Begins serial id) s []

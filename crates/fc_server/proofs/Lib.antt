@@ -2,5 +2,6 @@ pub mod Fronts
 pub mod Places
 pub mod Stepping
 pub mod Others
+pub mod ShardEvents
 pub mod Beginning
 pub mod Served

@@ -1,28 +1,29 @@
 -- Events that change no slot: those of jobs that never came, of what isn't served, deliveries, ticks and answers.
-use Rattle.std.proofs.Common.{◌≡◌, ℕ, ◌<◌, ◌≤◌, ◌%◌, arith, get_or, List, [], ◌++◌, length, map, set, Bool, true, false, Option, Some, None, refl, sym, ap, ◌∙◌, subst, max, if◌then◌else◌, Bor}
+use Rattle.std.proofs.Common.{◌≡◌, ℕ, ◌+◌, ◌*◌, ◌<◌, ◌≤◌, ◌%◌, arith, get_or, List, [], ◌++◌, length, map, set, Bool, true, false, Option, Some, None, refl, sym, ap, ◌∙◌, subst, max, if◌then◌else◌, Bor}
 use Rattle.std.specs.Prelude.{filter, is_some}
 use Rattle.std.proofs.lemmas.List.{append-nil, get_or_default, get_or_past, set-get_or, set_past}
 use Rattle.coap_msg.specs.declared.types.Endpoint.{Endpoint}
 use Rattle.coap_msg.specs.declared.types.Emission.{Emission}
 use Rattle.coap_dedup.specs.Exchanges.{is_live as is_held}
+use Rattle.fc_observe.specs.Calls.{ObserverCall, observers}
 use Rattle.fc_registry.specs.declared.job.Job.{Job}
 use Rattle.fc_registry.specs.Shards.{no_shard, shard_at, slot_in_shards}
 use Rattle.fc_registry.specs.Changes.{after_changes}
 use Rattle.fc_registry.specs.Slots.{Shard, Slot, new_slot}
 use Rattle.fc_core.specs.declared.event.Event.{Event}
-use Rattle.fc_core.specs.declared.event.Event.TheVariants.{Deliver, Peek, Take, Commit, Install, Remove, Receipt, Raise, Answer, Tick, Lose}
+use Rattle.fc_core.specs.declared.event.Event.TheVariants.{Deliver, Peek, Take, Commit, Install, Remove, Receipt, Raise, Answer, Signal, Tick, ShardTick, Lose}
 use Rattle.fc_core.specs.declared.stage.Stage.{Stage}
 use Rattle.fc_core.specs.declared.stage.Stage.TheVariants.{ToMatch, ToTake, ToCommit, ToInstall, ToRemove, ToDescribe, ToList, ToRaise, ToAnswer, Gone}
 use Rattle.fc_core.specs.declared.stage.Task.{Task}
 use Rattle.fc_core.specs.Answering.{after_answered_by}
 use Rattle.fc_core.specs.Contents.{Content}
 use Rattle.fc_core.specs.Exchanges.{FrontState, advanced, opening_is_live}
-use Rattle.fc_core.specs.History.{Seen, added_in, and_then, answered_in, did, exchanges_after, front_at, front_in, ids_after, ids_answered, job, moment_after, no_task, received_at, shard_moment_after, stage, task_at, tasks_brought, tasks_moved, changes_after, words_seen}
+use Rattle.fc_core.specs.History.{Seen, added_in, and_then, answered_in, calls_in, did, exchanges_after, front_at, front_in, ids_after, ids_answered, job, moment_after, no_task, received_at, shard_hands, shard_moment_after, stage, task_at, tasks_brought, tasks_moved, changes_after, words_seen}
 use Rattle.fc_core.specs.Ids.{drawn_for}
 use Rattle.fc_core.specs.Legal.{AnswerEmits, Emits, IsAnswered, TakesMeaning}
 use Rattle.fc_core.specs.Receiving.{added_by, after_added, after_received, brought, drawn_by, id_in, keeping, kept_of, next_opening, opened_by, received, sent}
 use Rattle.fc_core.specs.Sound.{AllSafe}
-use Rattle.fc_core.specs.Stages.{Move, Scene, at_answer, at_peek, at_receipt, at_take, content_at, task_moved, moves, names, new_task, row, scene_at, words_after}
+use Rattle.fc_core.specs.Stages.{Move, Scene, at_answer, at_peek, at_receipt, at_take, content_at, handed, task_moved, moves, names, new_task, row, scene_at, words_after}
 use Rattle.fc_core.proofs.Keeping.{IsSafeMove, still_safe, still_sound}
 use Rattle.fc_core.proofs.Rejections.{same_slot}
 use Rattle.fc_server.specs.Agreement.{Agrees, Parts, ShardsAgree}
@@ -116,6 +117,8 @@ IsIdle (Install k memory) = ⊥
 IsIdle (Raise k) = ⊥
 IsIdle (Answer k now) = ⊥
 IsIdle (Tick now) = ⊥
+IsIdle (Signal shard to id reset) = ⊥
+IsIdle (ShardTick shard now) = ⊥
 IsIdle (Lose k) = ⊥
 IsIdle other = Unit {0}
 
@@ -128,6 +131,8 @@ record Idles (e : Event) : Type 0 where
   brings : (s : Seen) → tasks_brought e s ≡ []
   emits : (s : Seen) → Emits s e None
   means : (s : Seen) → TakesMeaning s e
+  hands : (i : ℕ) → shard_hands e i ≡ None
+  calls : (s : Seen) (n : ℕ) → calls_in e s n ≡ []
 
 idles : (e : Event) → IsIdle e → Idles e
 idles (Deliver now to bytes) is = absurd is
@@ -140,18 +145,31 @@ idles (Install k memory) is = absurd is
 idles (Raise k) is = absurd is
 idles (Answer k now) is = absurd is
 idles (Tick now) is = absurd is
+idles (Signal shard to id reset) is = absurd is
+idles (ShardTick shard now) is = absurd is
 idles (Lose k) is = absurd is
-idles other is = record { named = refl; moment = λ s. refl; exchanges = λ s. refl; additions = λ s. refl; ids = λ s. refl; brings = λ s. refl; emits = λ s. refl; means = λ s. tt }
+idles other is = record { named = refl; moment = λ s. refl; exchanges = λ s. refl; additions = λ s. refl; ids = λ s. refl; brings = λ s. refl; emits = λ s. refl; means = λ s. tt; hands = λ i. refl; calls = λ s n. refl }
+
+-- an event that is of no job and no shard leaves the shards as they were
+pub shards_stay : (e : Event) (emitted : Option Emission) (s : Seen) (shards : List Shard) (o : Option ℕ) → names e ≡ o → o ≡ None → ((i : ℕ) → i < 8 → shard_hands e i ≡ None) → ((n : ℕ) → calls_in e s n ≡ []) → ShardsAgree s shards → ShardsAgree (and_then (did e emitted) s) shards
+shards_stay e emitted s shards o is none hands calls a =
+    let named : None ≡ names e = sym (is ∙ none) in
+    record {
+      are = a.are;
+      slot = λ n lt. a.slot n lt ∙ ap (λ (p : Option ℕ). after_changes (new_slot s.first_serial) (changes_after p e s n)) named;
+      now = λ i lt. a.now i lt ∙ (ap (λ (p : Option ℕ). shard_moment_after p e s i) named ∙ ap (λ (p : Option ℕ). handed p (shard_moment_after (names e) e s i)) (sym (hands i lt)));
+      watch = λ i k low lt. a.watch i k low lt ∙ ap (λ (cs : List ObserverCall). observers (8 * k + i) (cs ++ s.calls (8 * k + i))) (sym (calls (8 * k + i)));
+    }
 
 -- what is seen of an event that names no job
-unnamed_agrees : (e : Event) (emitted : Option Emission) (w : Parts) (s : Seen) (o : Option ℕ) → names e ≡ o → o ≡ None → Agrees s w → (front : FrontState) → front ≡ front_in (and_then (did e emitted) s) (moment_after e s) → (tasks : List Task) → tasks ≡ s.tasks ++ tasks_brought e s → Agrees (and_then (did e emitted) s) (record { front = front; shards = w.shards; words = w.words; tasks = tasks })
-unnamed_agrees e emitted w s o is none a front front_is tasks tasks_are =
+pub unnamed_agrees : (e : Event) (emitted : Option Emission) (w : Parts) (s : Seen) (o : Option ℕ) → names e ≡ o → o ≡ None → Agrees s w → (front : FrontState) → front ≡ front_in (and_then (did e emitted) s) (moment_after e s) → (tasks : List Task) → tasks ≡ s.tasks ++ tasks_brought e s → (shards : List Shard) → ShardsAgree (and_then (did e emitted) s) shards → Agrees (and_then (did e emitted) s) (record { front = front; shards = shards; words = w.words; tasks = tasks })
+unnamed_agrees e emitted w s o is none a front front_is tasks tasks_are shards shards_are =
     let named : None ≡ names e = sym (is ∙ none) in
     record {
       front = front_is;
       tasks = tasks_are ∙ ap (λ (p : Option ℕ). tasks_moved p e s ++ tasks_brought e s) named;
       words = a.words ∙ ap (λ (p : Option ℕ). words_seen p e s) named;
-      shards = record { are = a.shards.are; slot = λ n lt. a.shards.slot n lt ∙ ap (λ (p : Option ℕ). after_changes (new_slot s.first_serial) (changes_after p e s n)) named; now = λ i lt. a.shards.now i lt ∙ ap (λ (p : Option ℕ). shard_moment_after p e s i) named };
+      shards = shards_are;
       sound = still_sound (did e emitted) s a.sound;
       safe = still_safe (did e emitted) s a.sound (subst (λ (p : Option ℕ). IsSafeMove p e s) named tt) a.safe;
     }
@@ -164,7 +182,8 @@ idle_step e w is s a =
       means = q.means s;
       agrees = unnamed_agrees e None w s (names e) refl q.named a w.front
           (a.front ∙ λ i. record { now = sym (q.moment s) i; opened = length (sym (q.exchanges s) i); held = filter (is_held (sym (q.moment s) i)) (sym (q.exchanges s) i); transfers = transfers (sym (q.additions s) i ++ s.additions); ids = sym (q.ids s) i })
-          w.tasks (a.tasks ∙ (sym (append-nil s.tasks) ∙ ap (λ (ts : List Task). s.tasks ++ ts) (sym (q.brings s))));
+          w.tasks (a.tasks ∙ (sym (append-nil s.tasks) ∙ ap (λ (ts : List Task). s.tasks ++ ts) (sym (q.brings s))))
+          w.shards (shards_stay e None s w.shards (names e) refl q.named (λ i lt. q.hands i) (q.calls s) a.shards);
     }
 
 -- ---- a tick
@@ -172,7 +191,7 @@ idle_step e w is s a =
 pub tick_step : (now : ℕ) (old new : Parts) → Ticked now old new → Steps (Tick now) old None new
 tick_step now old new t s a =
     let front : new.front ≡ front_at s now = t.front ∙ (ap (λ (f : FrontState). advanced f now) a.front ∙ front_advances s now) in
-    let agrees = unnamed_agrees (Tick now) None old s None refl refl a new.front front new.tasks (t.tasks ∙ (a.tasks ∙ sym (append-nil s.tasks))) in
+    let agrees = unnamed_agrees (Tick now) None old s None refl refl a new.front front new.tasks (t.tasks ∙ (a.tasks ∙ sym (append-nil s.tasks))) old.shards (shards_stay (Tick now) None s old.shards None refl refl (λ i lt. refl) (λ n. refl) a.shards) in
     record {
       emits = refl;
       means = tt;
@@ -205,7 +224,7 @@ deliver_step now to b old new emitted t s a =
       emits = emits;
       means = tt;
       agrees = subst (Agrees (and_then (did (Deliver now to b) emitted) s)) (λ i. record { front = new.front; shards = sym t.shards i; words = sym t.words i; tasks = new.tasks })
-          (unnamed_agrees (Deliver now to b) emitted old s None refl refl a new.front front new.tasks tasks);
+          (unnamed_agrees (Deliver now to b) emitted old s None refl refl a new.front front new.tasks tasks old.shards (shards_stay (Deliver now to b) emitted s old.shards None refl refl (λ i lt. refl) (λ n. refl) a.shards));
     }
 
 -- ---- an answer

@@ -1,10 +1,12 @@
 -- A move of a job of one slot, as sixty-four slots are seen.
-use Rattle.std.proofs.Common.{◌≡◌, ℕ, ◌<◌, ◌/◌, ◌%◌, List, length, sym, ap, ◌∙◌, subst, ⊎_elim, arith, length-set}
+use Rattle.std.proofs.Common.{◌≡◌, ℕ, ◌<◌, ◌/◌, ◌%◌, List, length, get_or, sym, ap, ◌∙◌, subst, ⊎_elim, arith, length-set}
 use Rattle.std.proofs.lemmas.Bool.{cases_eq}
 use Rattle.std.proofs.lemmas.List.{get_or-set_same, get_or-set_other}
+use Rattle.fc_observe.specs.Observers.{ObserverList, no_observers}
 use Rattle.fc_registry.specs.Changes.{after_changes}
 use Rattle.fc_registry.specs.Shards.{AreShards, no_shard, shard_at, slot_in_shards}
 use Rattle.fc_registry.specs.Slots.{Shard, slot_in, new_slot}
+use Rattle.fc_registry.specs.Watches.{watch_at}
 use Rattle.fc_core.specs.Stages.{Move, handed, shard_moved}
 use Rattle.fc_server.specs.States.{shards_moved}
 
@@ -24,6 +26,16 @@ module _ (shards : List Shard) (are : AreShards shards) (n : ℕ) (lt : n < 64) 
   room : n / 8 < length (shard_at shards (n % 8)).slots
   room = let size = are.size (n % 8) (omega arith) in omega (arith, size)
 
+  -- the observers are as they were
+  watches_stay : (i : ℕ) → (shard_at written i).watches ≡ (shard_at shards i).watches
+  watches_stay i = ⊎_elim
+      (λ (e : i ≡ n % 8). subst (λ (j : ℕ). (shard_at written j).watches ≡ (shard_at shards j).watches) (sym e) (ap (λ (x : Shard). x.watches) at_place))
+      (λ (ne : i ≡ n % 8 → ⊥). ap (λ (x : Shard). x.watches) (elsewhere i ne))
+      (cases_eq i (n % 8))
+
+  pub watch_stays : (i k : ℕ) → watch_at (shard_at written i) k ≡ watch_at (shard_at shards i) k
+  watch_stays i k = ap (λ (ws : List ObserverList). get_or ws k (no_observers 0)) (watches_stay i)
+
   pub are_written : AreShards written
   are_written = record {
     count = length-set shards (n % 8) (shard_moved m n (shard_at shards (n % 8))) ∙ are.count;
@@ -35,6 +47,7 @@ module _ (shards : List Shard) (are : AreShards shards) (n : ℕ) (lt : n < 64) 
         (λ (e : i ≡ n % 8). subst (λ (j : ℕ). length (shard_at written j).slots ≡ 8) (sym e) (ap (λ (x : Shard). length x.slots) at_place ∙ (length-set (shard_at shards (n % 8)).slots (n / 8) _ ∙ are.size (n % 8) (omega arith))))
         (λ (ne : i ≡ n % 8 → ⊥). ap (λ (x : Shard). length x.slots) (elsewhere i ne) ∙ are.size i low)
         (cases_eq i (n % 8));
+    watched = λ i low. ap length (watches_stay i) ∙ are.watched i low;
   }
 
   -- the slot that was written

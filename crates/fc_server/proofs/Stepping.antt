@@ -1,11 +1,12 @@
 -- Each event keeps the agreement.
-use Rattle.std.proofs.Common.{◌≡◌, ℕ, ◌<◌, ◌%◌, List, [], ◌++◌, length, set, Bool, true, false, Option, Some, None, refl, sym, ap, ◌∙◌, subst, ⊎_elim, if◌then◌else◌}
+use Rattle.std.proofs.Common.{◌≡◌, ℕ, ◌+◌, ◌*◌, ◌<◌, ◌%◌, List, [], ◌++◌, length, set, Bool, true, false, Option, Some, None, refl, sym, ap, ◌∙◌, subst, ⊎_elim, if◌then◌else◌}
 use Rattle.std.specs.Prelude.{filter, ◌==◌}
 use Rattle.std.proofs.lemmas.Bool.{cases_eq, eq-eqb, ne_eqb}
 use Rattle.std.proofs.lemmas.List.{append-nil}
 use Rattle.coap_msg.specs.declared.types.Emission.{Emission}
 use Rattle.coap_dedup.specs.Exchanges.{is_live as is_held}
 use Rattle.fc_registry.specs.declared.job.Job.{Job}
+use Rattle.fc_observe.specs.Calls.{ObserverCall, observers}
 use Rattle.fc_registry.specs.Changes.{after_changes}
 use Rattle.fc_registry.specs.Shards.{shard_at, slot_in_shards}
 use Rattle.fc_registry.specs.Slots.{Shard, Slot, Present, new_slot}
@@ -23,10 +24,11 @@ use Rattle.fc_core.specs.Sound.{AllSafe, IsSafelySeen, IsSound}
 use Rattle.fc_core.specs.Stages.{Move, Scene, handed, task_moved, names, row, scene_at, words_after}
 use Rattle.fc_core.proofs.Fitting.{after_changes-append, is_input}
 use Rattle.fc_core.proofs.Keeping.{IsSafeMove, still_safe, still_sound}
+use Rattle.fc_core.proofs.OnShards.{named_calls, named_hands}
 use Rattle.fc_server.specs.Agreement.{Parts, ShardsAgree}
 use Rattle.fc_server.specs.States.{scene_in, shards_moved}
 use Rattle.fc_server.specs.Steps.{Moves, Steps}
-use Rattle.fc_server.proofs.Places.{are_written, now_here, now_there, slot_here, slot_there}
+use Rattle.fc_server.proofs.Places.{are_written, now_here, now_there, slot_here, slot_there, watch_stays}
 
 -- ---- what a taking finds has a meaning
 
@@ -83,11 +85,12 @@ module _ (s : Seen) (e : Event) (k : ℕ) (named : names e ≡ Some k) (shards :
         (slot_here shards a.are n low m ∙ (ap (λ (x : Slot). after_changes x m.changes) (a.slot n low) ∙ slot_place)))
         (λ (ne : i ≡ n → ⊥). slot_there shards a.are n low m i ne ∙ (a.slot i lt ∙ ap (after_changes (new_slot s.first_serial)) (sym (changes_if i false (ne_eqb n i (λ q. ne (sym q)))))))
         (cases_eq i n);
-    now = λ i lt. ⊎_elim
+    now = λ i lt. let old : (shard_at (shards_moved m n shards) i).now ≡ shard_moment_after (names e) e s i = ⊎_elim
         (λ (q : i ≡ n % 8). subst (λ (j : ℕ). (shard_at (shards_moved m n shards) j).now ≡ shard_moment_after (names e) e s j) (sym q)
         (now_here shards a.are n low m ∙ (ap (handed m.hands) (a.now (n % 8) (subst (λ (j : ℕ). j < 8) q lt)) ∙ sym (moment_if (n % 8) true (eq-eqb (n % 8) (n % 8) refl)))))
         (λ (ne : i ≡ n % 8 → ⊥). now_there shards a.are n low m i ne ∙ (a.now i lt ∙ sym (moment_if i false (ne_eqb (n % 8) i (λ q. ne (sym q))))))
-        (cases_eq i (n % 8));
+        (cases_eq i (n % 8)) in old ∙ ap (λ (o : Option ℕ). handed o (shard_moment_after (names e) e s i)) (sym (named_hands e k named i));
+    watch = λ i p il pl. watch_stays shards a.are n low m i p ∙ (a.watch i p il pl ∙ ap (λ (cs : List ObserverCall). observers (8 * p + i) (cs ++ s.calls (8 * p + i))) (sym (named_calls e s k named (8 * p + i))));
   }
 
 -- the front of a quiet event

@@ -1,11 +1,12 @@
 -- How what a server holds, and its jobs, follow from what is seen of the history. A public clause cites this where it speaks of
 -- whatever history a server stands in: `Serving.Serves`.
-use Rattle.std.specs.Prelude.{◌≡◌, ℕ, ◌<◌, List}
+use Rattle.std.specs.Prelude.{◌≡◌, ℕ, ◌+◌, ◌*◌, ◌<◌, List}
 use Rattle.fc_registry.specs.Shards.{AreShards, shard_at, slot_in_shards}
 use Rattle.fc_registry.specs.Slots.{Shard}
+use Rattle.fc_registry.specs.Watches.{watch_at}
 use Rattle.fc_core.specs.declared.stage.Task.{Task}
 use Rattle.fc_core.specs.Exchanges.{FrontState}
-use Rattle.fc_core.specs.History.{Seen, front_in, slot_at}
+use Rattle.fc_core.specs.History.{Seen, front_in, slot_at, watch}
 use Rattle.fc_core.specs.Sound.{IsSafelySeen, IsSound}
 
 -- a state by its parts: the front, the shards, the head words, and the jobs that came, each at its stage
@@ -15,11 +16,12 @@ pub record Parts : Type 0 where
   pub words : List ℕ
   pub tasks : List Task
 
--- each slot, and each shard's moment, is what is seen
+-- each slot, each shard's moment, and the observers at each place are what is seen: place k of shard i is that of slot 8 k + i
 pub record ShardsAgree (s : Seen) (shards : List Shard) : Type 0 where
   pub are : AreShards shards
   pub slot : (n : ℕ) → n < 64 → slot_in_shards shards n ≡ slot_at s n
   pub now : (i : ℕ) → i < 8 → (shard_at shards i).now ≡ s.shard_moment i
+  pub watch : (i k : ℕ) → i < 8 → k < 8 → watch_at (shard_at shards i) k ≡ watch s (8 * k + i)
 
 -- the front holds the exchanges that are live, each with its answer; each head word is the greatest raised; each job is at its
 -- stage

@@ -1,11 +1,14 @@
 -- What an event does to a server and its jobs, and that it is what the history says.
-use Rattle.std.specs.Prelude.{◌≡◌, ℕ, List, ◌++◌, map, Option, slice_set}
+use Rattle.std.specs.Prelude.{◌≡◌, ℕ, Bool, true, false, nat_lt, List, ◌++◌, map, Option, Some, None, slice_set}
 use Rattle.coap_msg.specs.declared.types.Endpoint.{Endpoint}
 use Rattle.coap_msg.specs.declared.types.Emission.{Emission}
+use Rattle.fc_registry.specs.Shards.{shard_at}
+use Rattle.fc_registry.specs.Slots.{Shard}
+use Rattle.fc_registry.specs.Watches.{after_tick, handed as shard_handed, late_place, signal_call, signalled, ticked_in}
 use Rattle.fc_core.specs.declared.event.Event.{Event}
 use Rattle.fc_core.specs.Exchanges.{advanced}
 use Rattle.fc_core.specs.History.{Seen, and_then, did, task_at}
-use Rattle.fc_core.specs.Legal.{AnswerEmits, Emits, TakesMeaning}
+use Rattle.fc_core.specs.Legal.{AnswerEmits, Emits, TakesMeaning, resent}
 use Rattle.fc_core.specs.Receiving.{after_received, brought, next_opening, received, sent}
 use Rattle.fc_core.specs.Sound.{AllSafe}
 use Rattle.fc_core.specs.Stages.{at_answer, content_at, task_moved, new_task, row, words_after}
@@ -40,6 +43,33 @@ pub record Ticked (now : ℕ) (old new : Parts) : Type 0 where
   pub tasks : new.tasks ≡ old.tasks
   pub shards : new.shards ≡ old.shards
   pub words : new.words ≡ old.words
+
+-- the shards after a change of one of them; a shard above 7 there is not
+abbrev pub shard_changed : Bool → ℕ → (Shard → Shard) → List Shard → List Shard
+shard_changed true i f shards = slice_set shards i (f (shard_at shards i))
+shard_changed false i f shards = shards
+
+-- an event of a shard
+pub record OnShard (i : ℕ) (f : Shard → Shard) (old new : Parts) : Type 0 where
+  pub front : new.front ≡ old.front
+  pub tasks : new.tasks ≡ old.tasks
+  pub shards : new.shards ≡ shard_changed (nat_lt i 8) i f old.shards
+  pub words : new.words ≡ old.words
+
+-- a shard after a tick, and what it sends again
+abbrev pub shard_ticked : ℕ → Shard → Shard
+shard_ticked now shard = after_tick (late_place (shard_handed shard now)) (shard_handed shard now)
+
+abbrev pub shard_resent : ℕ → Shard → Option Emission
+shard_resent now shard = resent (ticked_in (late_place (shard_handed shard now)) (shard_handed shard now))
+
+abbrev pub resent_if : Bool → Option Emission → Option Emission
+resent_if true emitted = emitted
+resent_if false emitted = None
+
+pub record ShardTicked (i now : ℕ) (old new : Parts) (emitted : Option Emission) : Type 0 where
+  pub on : OnShard i (shard_ticked now) old new
+  pub emits : emitted ≡ resent_if (nat_lt i 8) (shard_resent now (shard_at old.shards i))
 
 -- a step: whatever is seen of the history that the state agrees with, what is emitted is what may be, what is taken means
 -- something, and the new state agrees with what is seen after this event

@@ -1,17 +1,20 @@
 //! The front, the shards and the machine, and one call an event.
-ghost use Rattle.std.specs.Prelude.{◌≡◌, ℕ, ◌≤◌, [], false, IfOk};
-ghost use Rattle.fc_registry.specs.Shards.{first_shards};
+ghost use Rattle.std.specs.Prelude.{◌≡◌, ℕ, ◌<◌, ◌≤◌, [], false, length, slice_set, IfOk};
+ghost use Rattle.fc_registry.specs.Shards.{first_shards, shard_at};
 ghost use Rattle.fc_registry.specs.Slots.{last_serial};
+ghost use Rattle.fc_registry.specs.Watches.{signal_call, signalled};
 ghost use Rattle.fc_core.specs.declared.event.Event.{Event};
 ghost use Rattle.fc_core.specs.Exchanges.{advanced, first_front};
 ghost use Rattle.fc_core.specs.Heads.{no_words};
 ghost use Rattle.fc_core.specs.Receiving.{after_delivered, delivered, emission_if, heard};
 ghost use Rattle.fc_server.specs.States.{Responds, AtWork, Does};
+ghost use Rattle.fc_server.specs.Steps.{shard_resent, shard_ticked};
 
 use coap_msg::{Emission, Endpoint};
 use fc_core::front::blank_emission;
 use fc_core::{Delivered, Front, Heads, Heard, Responded, Task};
 use fc_machine::Frame;
+use fc_observe::Ticked;
 use fc_registry::{Job, Shard, make_shards};
 use std::alloc::{AllocError, Global};
 use std::marker::Model;
@@ -88,6 +91,30 @@ impl Server {
         ensures words { self.new.words ≡ self.old.words }
     {
         self.front.tick(now);
+    }
+
+    /// Hands an Acknowledgement or a Reset message to the observers of a shard's slots.
+    pub fn signal(&mut self, shard: u8, endpoint: Endpoint, id: u16, reset: bool)
+        requires { shard < length self.old.shards }
+        ensures front { self.new.front ≡ self.old.front }
+        ensures shards { self.new.shards ≡ slice_set self.old.shards shard (signalled (signal_call reset endpoint id) (shard_at self.old.shards shard)) }
+        ensures words { self.new.words ≡ self.old.words }
+    {
+        self.shards[usize::from(shard)].signal(endpoint, id, reset);
+    }
+
+    /// Advances a shard to a moment in milliseconds: what it sends again, if anything.
+    pub fn tick_shard(&mut self, shard: u8, now: u64) -> Option<Emission>
+        requires { shard < length self.old.shards }
+        ensures sent { result ≡ shard_resent now (shard_at self.old.shards shard) }
+        ensures front { self.new.front ≡ self.old.front }
+        ensures shards { self.new.shards ≡ slice_set self.old.shards shard (shard_ticked now (shard_at self.old.shards shard)) }
+        ensures words { self.new.words ≡ self.old.words }
+    {
+        match self.shards[usize::from(shard)].tick(now) {
+            Ticked::Resend(emission) => Some(emission),
+            Ticked::Removed | Ticked::Quiet => None,
+        }
     }
 
     /// A task looks at the head word of a slot.

@@ -1,15 +1,17 @@
 //! The state of a world, and what each event does to it.
 ghost use Rattle.std.specs.Prelude.{◌≡◌, ◌<◌, [], None, Some, length, IfOk, OnOk};
+ghost use Rattle.fc_registry.specs.Watches.{signal_call, signalled};
 ghost use Rattle.fc_core.specs.declared.event.Event.{Event};
 ghost use Rattle.fc_core.specs.History.{Begins, task_at};
 ghost use Rattle.fc_core.specs.Stages.{names};
 ghost use Rattle.fc_server.specs.Serving.{Serves};
 ghost use Rattle.fc_server.specs.States.{AtWork};
-ghost use Rattle.fc_server.specs.Steps.{AnsweredTo, DeliveredTo, IsReached, Moves, Steps, Ticked};
+ghost use Rattle.fc_server.specs.Steps.{AnsweredTo, DeliveredTo, IsReached, Moves, OnShard, ShardTicked, Steps, Ticked};
 ghost use Rattle.fc_world.specs.Parts.{parts};
 
 use coap_msg::{Emission, Endpoint};
 use fc_core::{Delivered, Event, Task};
+use fc_registry::SHARDS;
 use fc_server::Server;
 use std::alloc::{AllocError, Global};
 
@@ -44,6 +46,26 @@ impl State {
         ensures { Ticked now (parts self.old) (parts self.new) }
     {
         self.server.tick(now);
+    }
+
+    fn signal(&mut self, shard: u8, endpoint: Endpoint, id: u16, reset: bool)
+        requires { length self.old.server.shards ≡ 8 }
+        ensures { OnShard shard (signalled (signal_call reset endpoint id)) (parts self.old) (parts self.new) }
+    {
+        if shard < SHARDS {
+            self.server.signal(shard, endpoint, id, reset);
+        }
+    }
+
+    fn tick_shard(&mut self, shard: u8, now: u64) -> Option<Emission>
+        requires { length self.old.server.shards ≡ 8 }
+        ensures { ShardTicked shard now (parts self.old) (parts self.new) result }
+    {
+        if shard < SHARDS {
+            self.server.tick_shard(shard, now)
+        } else {
+            None
+        }
     }
 
     fn take(&mut self, job: usize, memory: bool) -> Result<(), AllocError>
@@ -235,6 +257,16 @@ impl State {
                 self.tick(now);
                 Ok(None)
             }
+            Event::Signal {
+                shard,
+                endpoint,
+                mid,
+                reset,
+            } => {
+                self.signal(shard, endpoint, mid, reset);
+                Ok(None)
+            }
+            Event::ShardTick { shard, now } => Ok(self.tick_shard(shard, now)),
             _ => Ok(None),
         }
     }

@@ -1,0 +1,240 @@
+-- Events of a shard: a signal, and a tick.
+use Rattle.std.proofs.Common.{◌≡◌, ℕ, zero, suc, ◌+◌, ◌*◌, ◌<◌, ◌≤◌, ◌/◌, ◌%◌, arith, get_or, List, [], ◌∷◌, ◌++◌, length, map, set, Bool, true, false, Option, Some, None, refl, sym, ap, ◌∙◌, subst, max, if◌then◌else◌, ⊎_elim}
+use Rattle.std.specs.Prelude.{is_some, nat_lt, ◌==◌}
+use Rattle.std.proofs.lemmas.Bool.{cases_eq, cases_lt, eq-eqb, le-ltb, lt-ltb, ne_eqb}
+use Rattle.std.proofs.lemmas.List.{append-nil, get_or-map, get_or-set_other, get_or-set_same, length-map, length-set}
+use Rattle.coap_msg.specs.declared.types.Endpoint.{Endpoint}
+use Rattle.coap_msg.specs.declared.types.Emission.{Emission}
+use Rattle.fc_observe.specs.Calls.{ObserverCall, Tick as TickObservers, observers, observers_after}
+use Rattle.fc_observe.specs.Observers.{ObserverList, at_moment, late_entry, no_observers, ticked}
+use Rattle.fc_registry.specs.Changes.{after_changes}
+use Rattle.fc_registry.specs.Shards.{AreShards, no_shard, shard_at, slot_in_shards}
+use Rattle.fc_registry.specs.Slots.{Shard, Slot, new_slot}
+use Rattle.fc_registry.specs.Watches.{after_tick, handed as shard_handed, is_late_at as is_late_here, late_place, place_from, signal_call, signalled, ticked_in, watch_at, watch_called}
+use Rattle.fc_core.specs.declared.event.Event.{Event}
+use Rattle.fc_core.specs.declared.event.Event.TheVariants.{Signal, ShardTick}
+use Rattle.fc_core.specs.History.{Seen, and_then, calls_in, changes_after, did, is_late_at, is_place_of, late_in, shard_hands, shard_moment_after, watch}
+use Rattle.fc_core.specs.Legal.{resent, resent_at}
+use Rattle.fc_core.specs.Stages.{handed, names}
+use Rattle.fc_server.specs.Agreement.{Agrees, Parts, ShardsAgree}
+use Rattle.fc_server.specs.Steps.{OnShard, ShardTicked, Steps, resent_if, shard_changed, shard_resent, shard_ticked}
+use Rattle.fc_server.proofs.Others.{shards_stay, unnamed_agrees}
+
+-- ---- a shard in place of another, whose slots it keeps
+
+module _ (shards : List Shard) (are : AreShards shards) (i : ℕ) (low : i < 8) (x : Shard) where
+  abbrev put : List Shard
+  put = set shards i x
+
+  at_place : shard_at put i ≡ x
+  at_place = let count = are.count in get_or-set_same shards i x no_shard (omega (arith, count, low))
+
+  elsewhere : (j : ℕ) → (j ≡ i → ⊥) → shard_at put j ≡ shard_at shards j
+  elsewhere j ne = get_or-set_other shards i j x no_shard ne
+
+  -- a part that it keeps
+  kept : {A : Type 0} (f : Shard → A) → f x ≡ f (shard_at shards i) → (j : ℕ) → f (shard_at put j) ≡ f (shard_at shards j)
+  kept f same j = ⊎_elim
+      (λ (e : j ≡ i). subst (λ (m : ℕ). f (shard_at put m) ≡ f (shard_at shards m)) (sym e) (ap f at_place ∙ same))
+      (λ (ne : j ≡ i → ⊥). ap f (elsewhere j ne))
+      (cases_eq j i)
+
+  are_put : x.index ≡ (shard_at shards i).index → x.slots ≡ (shard_at shards i).slots → length x.watches ≡ 8 → AreShards put
+  are_put index slots eight = record {
+    count = length-set shards i x ∙ are.count;
+    index = λ j lt. kept (λ (y : Shard). y.index) index j ∙ are.index j lt;
+    size = λ j lt. kept (λ (y : Shard). length y.slots) (ap length slots) j ∙ are.size j lt;
+    watched = λ j lt. kept (λ (y : Shard). length y.watches) (eight ∙ sym (are.watched i low)) j ∙ are.watched j lt;
+  }
+
+  -- the agreement, where the rest is what is seen of the event
+  pub put_agrees : (s : Seen) (e : Event) (emitted : Option Emission) (o : Option ℕ) → names e ≡ o → o ≡ None → ShardsAgree s shards → x.index ≡ (shard_at shards i).index → x.slots ≡ (shard_at shards i).slots → length x.watches ≡ 8 →
+      x.now ≡ handed (shard_hands e i) (s.shard_moment i) → ((j : ℕ) → (j ≡ i → ⊥) → shard_hands e j ≡ None) →
+      ((k : ℕ) → k < 8 → watch_at x k ≡ observers (8 * k + i) (calls_in e s (8 * k + i) ++ s.calls (8 * k + i))) → ((j k : ℕ) → j < 8 → k < 8 → (j ≡ i → ⊥) → calls_in e s (8 * k + j) ≡ []) →
+      ShardsAgree (and_then (did e emitted) s) put
+  put_agrees s e emitted o is none a index slots eight now others here there =
+      let named : None ≡ names e = sym (is ∙ none) in
+      record {
+        are = are_put index slots eight;
+        slot = λ n lt. kept (λ (y : Shard). get_or y.slots (n / 8) (new_slot 0)) (ap (λ (ss : List Slot). get_or ss (n / 8) (new_slot 0)) slots) (n % 8) ∙ (a.slot n lt ∙ ap (λ (p : Option ℕ). after_changes (new_slot s.first_serial) (changes_after p e s n)) named);
+        now = λ j lt.
+            let same : shard_moment_after (names e) e s j ≡ s.shard_moment j = ap (λ (p : Option ℕ). shard_moment_after p e s j) (sym named) in
+            ⊎_elim
+            (λ (q : j ≡ i). subst (λ (m : ℕ). (shard_at put m).now ≡ handed (shard_hands e m) (s.shard_moment m)) (sym q) (ap (λ (y : Shard). y.now) at_place ∙ now))
+            (λ (ne : j ≡ i → ⊥). ap (λ (y : Shard). y.now) (elsewhere j ne) ∙ (a.now j lt ∙ ap (λ (p : Option ℕ). handed p (s.shard_moment j)) (sym (others j ne))))
+            (cases_eq j i)
+            ∙ ap (handed (shard_hands e j)) (sym same);
+        watch = λ j k jl kl. ⊎_elim
+            (λ (q : j ≡ i). subst (λ (m : ℕ). watch_at (shard_at put m) k ≡ observers (8 * k + m) (calls_in e s (8 * k + m) ++ s.calls (8 * k + m))) (sym q) (ap (λ (y : Shard). watch_at y k) at_place ∙ here k kl))
+            (λ (ne : j ≡ i → ⊥). ap (λ (y : Shard). watch_at y k) (elsewhere j ne) ∙ (a.watch j k jl kl ∙ ap (λ (cs : List ObserverCall). observers (8 * k + j) (cs ++ s.calls (8 * k + j))) (sym (there j k jl kl ne))))
+            (cases_eq j i);
+      }
+
+-- ---- a signal
+
+-- a signal is for the slots of its shard
+for_shard : (i n : ℕ) (c : ObserverCall) (b : Bool) → ((n % 8) == i) ≡ b → (if (n % 8) == i then c ∷ [] else []) ≡ (if b then c ∷ [] else [])
+for_shard i n c b is = ap (λ (d : Bool). if d then c ∷ [] else []) is
+
+-- a signal at a place
+signalled_here : (c : ObserverCall) (x : Shard) (n k : ℕ) (h : List ObserverCall) → length x.watches ≡ 8 → k < 8 → watch_at x k ≡ observers n h → watch_at (signalled c x) k ≡ observers n (c ∷ h)
+signalled_here c x n k h eight lt is = get_or-map (observers_after c) x.watches k (no_observers 0) (no_observers 0) (omega (arith, eight, lt)) ∙ ap (observers_after c) is
+
+signal_agrees : (s : Seen) (i : ℕ) (to : Endpoint) (id : ℕ) (reset : Bool) (shards : List Shard) → ShardsAgree s shards → ShardsAgree (and_then (did (Signal i to id reset) None) s) (shard_changed (nat_lt i 8) i (signalled (signal_call reset to id)) shards)
+signal_agrees s i to id reset shards a =
+    let c = signal_call reset to id in
+    let e = Signal i to id reset in
+    let x = signalled c (shard_at shards i) in
+    ⊎_elim
+    (λ (low : i < 8). subst (λ (b : Bool). ShardsAgree (and_then (did e None) s) (shard_changed b i (signalled c) shards)) (sym (lt-ltb i 8 low))
+    (put_agrees shards a.are i low x s e None None refl refl a refl refl (length-map (shard_at shards i).watches (observers_after c) ∙ a.are.watched i low)
+    (a.now i low) (λ j ne. refl)
+    (λ k lt. signalled_here c (shard_at shards i) (8 * k + i) k (s.calls (8 * k + i)) (a.are.watched i low) lt (a.watch i k low lt) ∙ ap (λ (cs : List ObserverCall). observers (8 * k + i) (cs ++ s.calls (8 * k + i))) (sym (for_shard i (8 * k + i) c true (eq-eqb ((8 * k + i) % 8) i (omega (arith, low))))))
+    (λ j k jl kl ne. for_shard i (8 * k + j) c false (ne_eqb ((8 * k + j) % 8) i (λ q. ne (omega (arith, q, jl)))))))
+    (λ (high : 8 ≤ i). subst (λ (b : Bool). ShardsAgree (and_then (did e None) s) (shard_changed b i (signalled c) shards)) (sym (le-ltb i 8 high))
+    (shards_stay e None s shards None refl refl (λ j lt. refl) (λ n. for_shard i n c false (ne_eqb (n % 8) i (λ q. absurd (omega (arith, q, high))))) a))
+    (cases_lt i 8)
+
+pub signal_step : (i : ℕ) (to : Endpoint) (id : ℕ) (reset : Bool) (old new : Parts) → OnShard i (signalled (signal_call reset to id)) old new → Steps (Signal i to id reset) old None new
+signal_step i to id reset old new t s a =
+    let e = Signal i to id reset in
+    let shards = subst (ShardsAgree (and_then (did e None) s)) (sym t.shards) (signal_agrees s i to id reset old.shards a.shards) in
+    record {
+      emits = refl;
+      means = tt;
+      agrees = subst (Agrees (and_then (did e None) s)) (λ j. record { front = sym t.front j; shards = new.shards; words = sym t.words j; tasks = sym t.tasks j })
+          (unnamed_agrees e None old s None refl refl a old.front a.front old.tasks (a.tasks ∙ sym (append-nil s.tasks)) new.shards shards);
+    }
+
+-- ---- a tick
+
+-- two searches that agree
+place_same : (p q : ℕ → Bool) (n k : ℕ) → ((j : ℕ) → j < k + n → p j ≡ q j) → place_from p n k ≡ place_from q n k
+place_same p q zero k same = refl
+place_same p q (suc n) k same = λ i. if same k (omega arith) i then Some k else place_same p q n (k + 1) (λ j lt. same j (omega (arith, lt))) i
+
+-- what is found is within
+below_by : (p : ℕ → Bool) (n k j : ℕ) (b : Bool) → (place_from p n (k + 1) ≡ Some j → j < (k + 1) + n) → (if b then Some k else place_from p n (k + 1)) ≡ Some j → j < k + suc n
+below_by p n k j true later e = let is : k ≡ j = cc in omega (arith, is)
+below_by p n k j false later e = omega (arith, later e)
+
+place_below : (p : ℕ → Bool) (n k j : ℕ) → place_from p n k ≡ Some j → j < k + n
+place_below p zero k j e = absurd (cc)
+place_below p (suc n) k j e = below_by p n k j (p k) (place_below p n (k + 1) j) e
+
+module _ (s : Seen) (i now : ℕ) (low : i < 8) (shards : List Shard) (a : ShardsAgree s shards) where
+  abbrev at : ℕ
+  at = max (s.shard_moment i) now
+
+  abbrev here : Shard
+  here = shard_handed (shard_at shards i) now
+
+  at_is : here.now ≡ at
+  at_is = ap (λ (m : ℕ). max m now) (a.now i low)
+
+  -- what is late at the shard is late by what is seen
+  late_is : late_place here ≡ late_in s i at
+  unfolding late_in
+  late_is = place_same (is_late_here here) (is_late_at s i at) 8 0 (λ k lt. λ j. is_some (late_entry (at_moment (at_is j) (a.watch i k low lt j)))) ∙ ap (λ (b : Bool). if b then place_from (is_late_at s i at) 8 0 else None) (sym (lt-ltb i 8 low))
+
+  late_below : (k : ℕ) → late_place here ≡ Some k → k < 8
+  late_below k e = place_below (is_late_here here) 8 0 k e
+
+  -- what is sent again
+  resent_is : (p : Option ℕ) → ((k : ℕ) → p ≡ Some k → k < 8) → resent (ticked_in p here) ≡ resent_at p s i at
+  resent_is None below = refl
+  resent_is (Some k) below = λ j. resent (ticked (at_moment (at_is j) (a.watch i k low (below k refl) j)))
+
+  -- the calls of a tick at a place
+  abbrev tick_calls : Bool → List ObserverCall
+  tick_calls b = if b then TickObservers at ∷ [] else []
+
+  -- the observers at a place after it
+  ticked_here : (p : Option ℕ) (k : ℕ) → k < 8 → watch_at (after_tick p here) k ≡ observers (8 * k + i) (tick_calls (is_place_of p i (8 * k + i)) ++ s.calls (8 * k + i))
+  ticked_here None k lt = a.watch i k low lt
+  ticked_here (Some j) k lt =
+      let eight = a.are.watched i low in
+      ⊎_elim
+      (λ (q : k ≡ j).
+      let found : watch_at (after_tick (Some j) here) k ≡ observers_after (TickObservers here.now) (watch_at here k) = subst (λ (m : ℕ). watch_at (watch_called (TickObservers here.now) m here) k ≡ observers_after (TickObservers here.now) (watch_at here k)) q (get_or-set_same here.watches k (observers_after (TickObservers here.now) (watch_at here k)) (no_observers 0) (omega (arith, eight, lt))) in
+      found ∙ ((λ m. observers_after (TickObservers (at_is m)) (a.watch i k low lt m)) ∙ ap (λ (b : Bool). observers (8 * k + i) (tick_calls b ++ s.calls (8 * k + i))) (sym (eq-eqb (8 * j + i) (8 * k + i) (omega (arith, q))))))
+      (λ (ne : k ≡ j → ⊥).
+      get_or-set_other here.watches j k (observers_after (TickObservers here.now) (watch_at here j)) (no_observers 0) ne ∙ (a.watch i k low lt ∙ ap (λ (b : Bool). observers (8 * k + i) (tick_calls b ++ s.calls (8 * k + i))) (sym (ne_eqb (8 * j + i) (8 * k + i) (λ q. ne (omega (arith, q)))))))
+      (cases_eq k j)
+
+  -- it is of no slot of another shard
+  elsewhere_none : (p : Option ℕ) (j k : ℕ) → j < 8 → (j ≡ i → ⊥) → tick_calls (is_place_of p i (8 * k + j)) ≡ []
+  elsewhere_none None j k jl ne = refl
+  elsewhere_none (Some m) j k jl ne = ap tick_calls (ne_eqb (8 * m + i) (8 * k + j) (λ q. ne (omega (arith, q, jl, low))))
+
+  after_index : (p : Option ℕ) → (after_tick p here).index ≡ here.index
+  after_index None = refl
+  after_index (Some k) = refl
+
+  after_slots : (p : Option ℕ) → (after_tick p here).slots ≡ here.slots
+  after_slots None = refl
+  after_slots (Some k) = refl
+
+  after_now : (p : Option ℕ) → (after_tick p here).now ≡ here.now
+  after_now None = refl
+  after_now (Some k) = refl
+
+  after_length : (p : Option ℕ) → length (after_tick p here).watches ≡ 8
+  after_length None = a.are.watched i low
+  after_length (Some k) = length-set here.watches k (observers_after (TickObservers here.now) (watch_at here k)) ∙ a.are.watched i low
+
+  hands_here : shard_hands (ShardTick i now) i ≡ Some now
+  hands_here = ap (λ (b : Bool). if b then Some now else None) (eq-eqb i i refl)
+
+  hands_there : (j : ℕ) → (j ≡ i → ⊥) → shard_hands (ShardTick i now) j ≡ None
+  hands_there j ne = ap (λ (b : Bool). if b then Some now else None) (ne_eqb i j (λ q. ne (sym q)))
+
+  tick_agrees : (p : Option ℕ) (emitted : Option Emission) → p ≡ late_in s i at → ShardsAgree (and_then (did (ShardTick i now) emitted) s) (set shards i (after_tick p here))
+  tick_agrees p emitted is = put_agrees shards a.are i low (after_tick p here) s (ShardTick i now) emitted None refl refl a (after_index p) (after_slots p) (after_length p)
+      (after_now p ∙ (at_is ∙ ap (λ (o : Option ℕ). handed o (s.shard_moment i)) (sym hands_here)))
+      hands_there
+      (λ k lt. ticked_here p k lt ∙ ap (λ (q : Option ℕ). observers (8 * k + i) (tick_calls (is_place_of q i (8 * k + i)) ++ s.calls (8 * k + i))) is)
+      (λ j k jl kl ne. ap (λ (q : Option ℕ). tick_calls (is_place_of q i (8 * k + j))) (sym is) ∙ elsewhere_none p j k jl ne)
+
+-- a shard above 7 has nothing that is late
+none_late : (s : Seen) (i at : ℕ) → 8 ≤ i → late_in s i at ≡ None
+unfolding late_in
+none_late s i at high = ap (λ (b : Bool). if b then place_from (is_late_at s i at) 8 0 else None) (le-ltb i 8 high)
+
+-- what a tick does to the shards, and sends
+record TicksAt (s : Seen) (i now : ℕ) (emitted : Option Emission) (shards : List Shard) (b : Bool) : Type 0 where
+  emits : emitted ≡ resent_at (late_in s i (max (s.shard_moment i) now)) s i (max (s.shard_moment i) now)
+  agrees : ShardsAgree (and_then (did (ShardTick i now) emitted) s) (shard_changed b i (shard_ticked now) shards)
+
+ticks_at : (s : Seen) (i now : ℕ) (emitted : Option Emission) (shards : List Shard) → ShardsAgree s shards → emitted ≡ resent_if (nat_lt i 8) (shard_resent now (shard_at shards i)) → TicksAt s i now emitted shards (nat_lt i 8)
+ticks_at s i now emitted shards a sent = ⊎_elim
+    (λ (low : i < 8).
+    let yes = lt-ltb i 8 low in
+    let place = late_is s i now low shards a in
+    subst (TicksAt s i now emitted shards) (sym yes) (record {
+      emits = sent ∙ (ap (λ (b : Bool). resent_if b (shard_resent now (shard_at shards i))) yes ∙ (resent_is s i now low shards a (late_place (shard_handed (shard_at shards i) now)) (late_below s i now low shards a) ∙ ap (λ (p : Option ℕ). resent_at p s i (max (s.shard_moment i) now)) place));
+      agrees = tick_agrees s i now low shards a (late_place (shard_handed (shard_at shards i) now)) emitted place;
+    }))
+    (λ (high : 8 ≤ i).
+    let no = le-ltb i 8 high in
+    let none = none_late s i (max (s.shard_moment i) now) high in
+    subst (TicksAt s i now emitted shards) (sym no) (record {
+      emits = sent ∙ (ap (λ (b : Bool). resent_if b (shard_resent now (shard_at shards i))) no ∙ ap (λ (p : Option ℕ). resent_at p s i (max (s.shard_moment i) now)) (sym none));
+      agrees = shards_stay (ShardTick i now) emitted s shards None refl refl
+          (λ j lt. ap (λ (b : Bool). if b then Some now else None) (ne_eqb i j (λ q. absurd (omega (arith, q, lt, high)))))
+          (λ n. ap (λ (p : Option ℕ). if is_place_of p i n then TickObservers (max (s.shard_moment i) now) ∷ [] else []) none)
+          a;
+    }))
+    (cases_lt i 8)
+
+pub shard_tick_step : (i now : ℕ) (old new : Parts) (emitted : Option Emission) → ShardTicked i now old new emitted → Steps (ShardTick i now) old emitted new
+shard_tick_step i now old new emitted t s a =
+    let e = ShardTick i now in
+    let w = ticks_at s i now emitted old.shards a.shards t.emits in
+    let shards = subst (ShardsAgree (and_then (did e emitted) s)) (sym t.on.shards) w.agrees in
+    record {
+      emits = w.emits;
+      means = tt;
+      agrees = subst (Agrees (and_then (did e emitted) s)) (λ j. record { front = sym t.on.front j; shards = new.shards; words = sym t.on.words j; tasks = sym t.on.tasks j })
+          (unnamed_agrees e emitted old s None refl refl a old.front a.front old.tasks (a.tasks ∙ sym (append-nil s.tasks)) new.shards shards);
+    }
