@@ -7,6 +7,7 @@ pub mod Fitting
 pub mod Keeping
 pub mod Strays
 pub mod OnShards
+pub mod Watches
 pub mod Others
 pub mod Steps
 pub mod Along

@@ -31,6 +31,7 @@ pub mod front;
 pub mod heads;
 mod ids;
 pub mod laws;
+pub mod observe_laws;
 mod reply;
 pub mod slot_laws;
 pub mod stage;

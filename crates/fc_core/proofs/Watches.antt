@@ -1,0 +1,42 @@
+-- What signals and ticks call on the observers of a slot.
+use Rattle.std.proofs.Common.{◌≡◌, ℕ, ◌+◌, ◌*◌, ◌%◌, List, [], ◌∷◌, ◌++◌, Bool, true, false, Option, Some, None, max, refl, ap, ◌∙◌, sym, if◌then◌else◌}
+use Rattle.std.specs.Prelude.{◌==◌}
+use Rattle.std.proofs.lemmas.Bool.{eq-eqb, ne_eqb}
+use Rattle.coap_msg.specs.declared.types.Emission.{Emission}
+use Rattle.coap_msg.specs.declared.types.Endpoint.{Endpoint}
+use Rattle.fc_observe.specs.Calls.{ObserverCall, Tick as TickObservers, observers, observers_after}
+use Rattle.fc_observe.specs.Observers.{after_ack, after_reset, after_tick, at_moment}
+use Rattle.fc_registry.specs.Watches.{signal_call}
+use Rattle.fc_core.specs.declared.event.Event.TheVariants.{Signal, ShardTick}
+use Rattle.fc_core.specs.History.{Seen, and_then, did, is_place_of, late_in, watch}
+
+-- a call on the observers, or none
+called : (s : Seen) (n : ℕ) (c : ObserverCall) (b d : Bool) → b ≡ d → observers n ((if b then c ∷ [] else []) ++ s.calls n) ≡ observers n ((if d then c ∷ [] else []) ++ s.calls n)
+called s n c b d is = ap (λ (x : Bool). observers n ((if x then c ∷ [] else []) ++ s.calls n)) is
+
+pub reset_here : (s : Seen) (i n id : ℕ) (to : Endpoint) (o : Option Emission) → n % 8 ≡ i → watch (and_then (did (Signal i to id true) o) s) n ≡ after_reset to id (watch s n)
+reset_here s i n id to o is = called s n (signal_call true to id) ((n % 8) == i) true (eq-eqb (n % 8) i is)
+
+pub acknowledged_here : (s : Seen) (i n id : ℕ) (to : Endpoint) (o : Option Emission) → n % 8 ≡ i → watch (and_then (did (Signal i to id false) o) s) n ≡ after_ack to id (watch s n)
+acknowledged_here s i n id to o is = called s n (signal_call false to id) ((n % 8) == i) true (eq-eqb (n % 8) i is)
+
+pub signalled_elsewhere : (s : Seen) (i n id : ℕ) (to : Endpoint) (o : Option Emission) (reset : Bool) → (n % 8 ≡ i → ⊥) → watch (and_then (did (Signal i to id reset) o) s) n ≡ watch s n
+signalled_elsewhere s i n id to o reset ne = called s n (signal_call reset to id) ((n % 8) == i) false (ne_eqb (n % 8) i ne)
+
+-- by the place that is late
+ticked_by : (s : Seen) (i n now : ℕ) (o p : Option ℕ) → o ≡ p → observers n ((if is_place_of o i n then TickObservers now ∷ [] else []) ++ s.calls n) ≡ observers n ((if is_place_of p i n then TickObservers now ∷ [] else []) ++ s.calls n)
+ticked_by s i n now o p is = ap (λ (x : Option ℕ). observers n ((if is_place_of x i n then TickObservers now ∷ [] else []) ++ s.calls n)) is
+
+pub ticked_first : (s : Seen) (i k now : ℕ) (o : Option Emission) → late_in s i (max (s.shard_moment i) now) ≡ Some k → watch (and_then (did (ShardTick i now) o) s) (8 * k + i) ≡ after_tick (at_moment (max (s.shard_moment i) now) (watch s (8 * k + i)))
+ticked_first s i k now o is =
+    let n = 8 * k + i in
+    let at = max (s.shard_moment i) now in
+    ticked_by s i n at (late_in s i at) (Some k) is ∙ called s n (TickObservers at) (n == n) true (eq-eqb n n refl)
+
+pub ticked_others : (s : Seen) (i k n now : ℕ) (o : Option Emission) → late_in s i (max (s.shard_moment i) now) ≡ Some k → (n ≡ 8 * k + i → ⊥) → watch (and_then (did (ShardTick i now) o) s) n ≡ watch s n
+ticked_others s i k n now o is ne =
+    let at = max (s.shard_moment i) now in
+    ticked_by s i n at (late_in s i at) (Some k) is ∙ called s n (TickObservers at) ((8 * k + i) == n) false (ne_eqb (8 * k + i) n (λ q. ne (sym q)))
+
+pub ticked_none : (s : Seen) (i n now : ℕ) (o : Option Emission) → late_in s i (max (s.shard_moment i) now) ≡ None → watch (and_then (did (ShardTick i now) o) s) n ≡ watch s n
+ticked_none s i n now o is = ticked_by s i n (max (s.shard_moment i) now) (late_in s i (max (s.shard_moment i) now)) None is
