@@ -68,6 +68,7 @@ no_task = record {
     token = record { items = [] };
     etags = record { items = [] };
     block = None;
+    observe = None;
     ask = Installs (record { items = [] });
   };
   stage = Gone;

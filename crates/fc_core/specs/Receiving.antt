@@ -140,6 +140,7 @@ job_of opening to m r body = record {
   token = record { items = m.token };
   etags = record { items = r.etags };
   block = named_block r.block1 r.block2;
+  observe = r.observe;
   ask = ask_by r.method r.resource r body;
 }
 

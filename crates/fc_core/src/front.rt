@@ -517,6 +517,7 @@ pub(crate) fn blank_job() -> Job {
         token: ArrayVec::new(),
         etags: ArrayVec::new(),
         block: None,
+        observe: None,
         ask: Ask::Run(fc_help::Request::new(Verb::Get, 0, None, &[], &[])),
     }
 }
@@ -544,6 +545,7 @@ fn write_job(
     write_token(&mut job.token, message);
     write_etags(&mut job.etags, request);
     job.block = named_block(request);
+    job.observe = request.observe;
     write_ask(&mut job.ask, request, body);
 }
 

@@ -22,6 +22,7 @@ fn job(opened: u64) -> Job {
         token: Token::default(),
         etags: Default::default(),
         block: None,
+        observe: None,
         ask: Ask::Run(Request::new(Method::Get, 0, None, &[], &[])),
     }
 }

@@ -32,7 +32,7 @@ request_of other = no_request
 
 -- a ticket of what a slot holds at a serial
 abbrev pub ticket_of : Job → ℕ → Present → Ticket
-ticket_of job serial found = record { origin = job.origin; request = request_of job.ask; block = job.block; serial = serial; found = found }
+ticket_of job serial found = record { origin = job.origin; token = job.token; request = request_of job.ask; block = job.block; observe = job.observe; serial = serial; found = found }
 
 -- a taking gives a ticket of what the slot holds, where there is memory for it; an empty slot asks for none
 abbrev pub taking : Bool → Job → ℕ → Option Present → Taken

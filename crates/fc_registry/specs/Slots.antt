@@ -1,5 +1,6 @@
 -- Slots and shards, and the tickets by which jobs speak of them.
 use Rattle.std.specs.Prelude.{◌≡◌, ℕ, ◌/◌, ◌%◌, ◌<◌, Bool, List, [], Option, Some, None, slice_index_or, slice_set}
+use Rattle.arrayvec.specs.ArrayVec.{ArrayVec}
 use Rattle.coap_opts.specs.Values.{Place}
 use Rattle.fc_help.specs.Request.{Request}
 use Rattle.fc_kinds.specs.Meaning.{Program}
@@ -57,12 +58,14 @@ slot_in shard n = slice_index_or shard.slots (n / 8) (new_slot 0)
 abbrev pub with_slot : Shard → ℕ → Slot → Shard
 with_slot shard n slot = record shard { slots = slice_set shard.slots (n / 8) slot }
 
--- what a taking found: the serial of the slot, and its program with version and variables; and what its request asks, and by
--- which block of the reply
+-- what a taking found: the serial of the slot, and its program with version and variables; and its request with its token, the
+-- block of the reply that it asks, and the value of its Observe option
 pub record Ticket : Type 0 where
   pub origin : Origin
+  pub token : ArrayVec ℕ
   pub request : Request
   pub block : Option Place
+  pub observe : Option ℕ
   pub serial : ℕ
   pub found : Present
 

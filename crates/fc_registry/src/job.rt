@@ -49,5 +49,7 @@ pub struct Job {
     pub etags: ArrayVec<u64, ETAGS>,
     /// The block that its request names (RFC 7959): the last of a PUT's body, or the one that a GET asks.
     pub block: Option<Block>,
+    /// The value of Observe in a GET of a slot: 0 registers its client as an observer, 1 cancels (RFC 7641, 2).
+    pub observe: Option<u32>,
     pub ask: Ask,
 }

@@ -16,7 +16,7 @@ use crate::receipt::Receipt;
 use crate::ring::{Entry, Ring};
 use crate::slot_number::{SHARDS, SlotNumber};
 use crate::ticket::{Mark, Ticket};
-use coap_msg::Endpoint;
+use coap_msg::{Endpoint, Token};
 use fc_help::{Method, Request, Vars};
 use fc_machine::Outcome;
 use fc_observe::{Observers, Ticked, Turn};
@@ -359,8 +359,10 @@ fn find(job: &Job, slot: &SlotState) -> Taken
     match Arc::try_clone(&body.program) {
         Ok(program) => Taken::Given(Ticket {
             origin: job.origin,
+            token: copy_token(&job.token),
             request: request_of(&job.ask),
             block: job.block,
+            observe: job.observe,
             serial: slot.serial,
             program,
             version: body.version,
@@ -368,6 +370,15 @@ fn find(job: &Job, slot: &SlotState) -> Taken
         }),
         Err(_) => Taken::Refused,
     }
+}
+
+// Another copy of a token.
+fn copy_token(token: &Token) -> Token
+    ensures { result ≡ token.now }
+{
+    let mut copy = Token::new();
+    let _fits = copy.try_extend_from_slice(token.as_slice());
+    copy
 }
 
 // The request that a job asks a program to answer.

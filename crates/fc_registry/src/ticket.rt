@@ -2,6 +2,7 @@
 ghost use Rattle.std.specs.Prelude.{◌≡◌, length};
 
 use crate::job::Origin;
+use coap_msg::Token;
 use coap_opts::Block;
 use fc_help::{Request, Vars};
 use fc_verify::Verified;
@@ -13,8 +14,10 @@ use std::sync::Arc;
 #[derive(Drop)]
 pub struct Ticket {
     pub(crate) origin: Origin,
+    pub(crate) token: Token,
     pub(crate) request: Request,
     pub(crate) block: Option<Block>,
+    pub(crate) observe: Option<u32>,
     pub(crate) serial: u64,
     pub(crate) program: Arc<Verified>,
     pub(crate) version: u64,
@@ -30,8 +33,10 @@ impl Model for Ticket {
 
     ghost view = { λ t. record {
       origin = t.origin;
+      token = t.token;
       request = t.request;
       block = t.block;
+      observe = t.observe;
       serial = t.serial;
       found = record { program = t.program.value; version = t.version; vars = t.vars };
     } };
@@ -59,6 +64,20 @@ impl Ticket {
         ensures { result ≡ self.now.block }
     {
         self.block
+    }
+
+    /// The token of the job's request.
+    pub fn token(&self) -> &Token
+        ensures { result.now ≡ self.now.token }
+    {
+        &self.token
+    }
+
+    /// The value of its Observe option, if it had one.
+    pub fn observe(&self) -> Option<u32>
+        ensures { result ≡ self.now.observe }
+    {
+        self.observe
     }
 
     /// The slot's serial when it was taken.
