@@ -66,7 +66,7 @@ writes_at t slot e = eqb-true slot.serial t.serial (writes_same (wants t) (slot.
 
 -- where the shard's answer leaves the job is the row's stage, and what it changed is the row's change
 pub stage_of_row : (o : CommitOutcome) (n : ℕ) (t : Ticket) (now serial : ℕ) → (o ≡ Writes → serial ≡ t.serial) → after_commit n t (commits o t serial).answer ≡ (committed o n t now).stage
-stage_of_row Writes n t now serial is = ap (λ (k : ℕ). ToRaise (head_word (k + 1) true) (run_content t)) (is refl)
+stage_of_row Writes n t now serial is = ap (λ (k : ℕ). ToRaise (head_word (k + 1) true) (run_content t false)) (is refl)
 stage_of_row Keeps n t now serial is = refl
 stage_of_row Overtakes n t now serial is = refl
 stage_of_row Ends n t now serial is = refl

@@ -86,8 +86,8 @@ module _ (k : ℕ) (job : Job) (slot : Slot) (ws : List ℕ) (taken : ℕ) where
   outcome_writes true true true e = (refl, refl)
 
   -- a run's answer, where a run that wants to write may
-  ran_why : (now n : ℕ) (t : Ticket) (c : Content) → (wants t ≡ true → (slot.serial ≡ t.serial) × (slot.serial < last_serial)) → Answered (Commit k now) (ToCommit n t) (ToAnswer (run_content t)) c
-  ran_why now n t c writes e = so (Commit k now) (ToCommit n t) (run_content t) c (record { now = now; count = n; ticket = t; event = refl; is = refl; code = refl; cut = refl; serial = refl; writes = writes }) e
+  ran_why : (now n : ℕ) (t : Ticket) (c : Content) → (wants t ≡ true → (slot.serial ≡ t.serial) × (slot.serial < last_serial)) → Answered (Commit k now) (ToCommit n t) (ToAnswer (run_content t false)) c
+  ran_why now n t c writes e = so (Commit k now) (ToCommit n t) (run_content t false) c (record { now = now; count = n; ticket = t; event = refl; is = refl; code = refl; cut = refl; serial = refl; writes = writes }) e
 
   committed_why : (now n : ℕ) (t : Ticket) (o : CommitOutcome) (c : Content) → taken ≡ n → n ≤ 8 → outcome t slot ≡ o → Answered (Commit k now) (ToCommit n t) (committed o n t now).stage c
   committed_why now n t Writes c is le comes e =

@@ -71,13 +71,13 @@ retaken_took : (n : ℕ) (ts : List Taking) (b : Bool) → nat_lt n 8 ≡ b → 
 retaken_took n ts true e is le = (is, ltb-true n 8 e)
 retaken_took n ts false e is le = (omega arith, tt)
 
-newest_says : (ts : List Taking) (t : Ticket) → IsNewest ts t → IsOfNewest ts (run_answer t (meaning_at t))
-newest_says [] t e = e
-newest_says (x ∷ xs) t e = (ap (λ (y : Ticket). (meaning_at y).code) (sym e), ap (λ (y : Ticket). cut_for y.block (meaning_at y).reply) (sym e), ap (λ (y : Ticket). y.serial) (sym e))
+newest_says : (ts : List Taking) (t : Ticket) (observed : Bool) → IsNewest ts t → IsOfNewest ts (run_answer t (meaning_at t) observed)
+newest_says [] t observed e = e
+newest_says (x ∷ xs) t observed e = (ap (λ (y : Ticket). (meaning_at y).code) (sym e), ap (λ (y : Ticket). cut_for y.block (meaning_at y).reply) (sym e), ap (λ (y : Ticket). y.serial) (sym e))
 
 committed_took : (n : ℕ) (ts : List Taking) (t : Ticket) (now : ℕ) (o : CommitOutcome) → length ts ≡ n → n ≤ 8 → IsNewest ts t → Took ts (committed o n t now).stage
-committed_took n ts t now Writes is le e = (omega arith, newest_says ts t e)
-committed_took n ts t now Keeps is le e = (omega arith, newest_says ts t e)
+committed_took n ts t now Writes is le e = (omega arith, newest_says ts t false e)
+committed_took n ts t now Keeps is le e = (omega arith, newest_says ts t false e)
 committed_took n ts t now Overtakes is le e = retaken_took n ts (nat_lt n 8) refl is le
 committed_took n ts t now Ends is le e = (omega arith, tt)
 

@@ -18,16 +18,17 @@ use Rattle.coap_block.specs.Cuts.{Part}
 use Rattle.coap_reply.specs.Blocks.{cut_for}
 
 -- the answer of a run: the job that it is of, its code, the block that its request asks of the reply, if there is one, and the
--- serial that its taking found
+-- serial that its taking found, and whether the client observes the slot from now on
 pub record RunAnswer : Type 0 where
   pub by : Origin
   pub code : ℕ
   pub cut : Option Part
   pub serial : ℕ
+  pub observed : Bool
 
 -- that of a run of this meaning
-abbrev pub run_answer : Ticket → Meaning → RunAnswer
-run_answer t m = record { by = t.origin; code = m.code; cut = cut_for t.block m.reply; serial = t.serial }
+abbrev pub run_answer : Ticket → Meaning → Bool → RunAnswer
+run_answer t m observed = record { by = t.origin; code = m.code; cut = cut_for t.block m.reply; serial = t.serial; observed = observed }
 
 pub data Content : Type 0 where
   -- a program ran

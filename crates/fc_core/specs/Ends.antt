@@ -33,10 +33,10 @@ content_of (Told (Some receipt)) = Described receipt
 content_of (Core words) = Listed words.items
 
 abbrev pub said_of : Said → Content
-said_of (Ran by code block serial) = Runs (record { by = by; code = code.byte; cut = option_map part_of block; serial = serial })
+said_of (Ran by code block serial observed) = Runs (record { by = by; code = code.byte; cut = option_map part_of block; serial = serial; observed = observed })
 said_of (Other end) = content_of end
 
 -- a run's code is that of a reply, of class 2 or above
 abbrev pub IsTold : Said → Type 0
-IsTold (Ran by code block serial) = 64 ≤ code.byte
+IsTold (Ran by code block serial observed) = 64 ≤ code.byte
 IsTold (Other end) = Unit {0}

@@ -22,9 +22,9 @@ abbrev pub link_format : List (ℕ × List ℕ)
 link_format = (option.CONTENT_FORMAT, 40 ∷ []) ∷ []
 
 -- what a job's response is, by its answer: 2.01 Created, 2.02 Deleted, 2.03 Valid, 2.04 Changed, 2.05 Content, 4.00 Bad Request,
--- 4.04 Not Found, 5.03 Service Unavailable. Nothing is observed yet. A refusal by typing names any rule from 20 to 27, and any slot
+-- 4.04 Not Found, 5.03 Service Unavailable. A refusal by typing names any rule from 20 to 27, and any slot
 abbrev pub Says : Job → Content → Response → Type 0
-Says j (Ran run) r = r ≡ ran_response run.code run.cut run.serial false
+Says j (Ran run) r = r ≡ ran_response run.code run.cut run.serial run.observed
 Says j Missing r = r ≡ bare (code 4 4)
 Says j Unavailable r = r ≡ bare (code 5 3)
 Says j (Made receipt true) r = r ≡ made_response (code 2 1) j receipt

@@ -67,16 +67,16 @@ took count (Given t) = ToCommit (count + 1) t
 took count Missing = ToAnswer Misses
 took count Refused = ToAnswer Unavailable
 
--- the answer of a ticket's run
-abbrev pub run_content : Ticket → Content
-run_content t = Ran (run_answer t (meaning_at t))
+-- the answer of a ticket's run, whose client observes the slot from now on or doesn't
+abbrev pub run_content : Ticket → Bool → Content
+run_content t observed = Ran (run_answer t (meaning_at t) observed)
 
 -- a run that was overtaken is taken again, eight times at most
 abbrev pub retaken : ℕ → Stage
 retaken count = if nat_lt count takings then ToTake count else ToAnswer Unavailable
 
 abbrev pub after_commit : ℕ → Ticket → Committed → Stage
-after_commit count t (Done m) = if m.changed then ToRaise (head_word m.serial true) (run_content t) else ToAnswer (run_content t)
+after_commit count t (Done m) = if m.changed then ToRaise (head_word m.serial true) (run_content t m.observed) else ToAnswer (run_content t m.observed)
 after_commit count t Overtaken = retaken count
 after_commit count t Ended = ToAnswer Unavailable
 after_commit count t Stranger = ToAnswer Unavailable
@@ -134,8 +134,8 @@ abbrev pub taken : Bool → ℕ → Scene → Move
 taken memory count s = moves (took count (taking memory s.job s.slot.serial s.slot.present))
 
 abbrev pub committed : CommitOutcome → ℕ → Ticket → ℕ → Move
-committed Writes count t now = record (moves_by (ToRaise (head_word (t.serial + 1) true) (run_content t)) (Wrote (commit_of t) ∷ [])) { hands = Some now }
-committed Keeps count t now = record (moves (ToAnswer (run_content t))) { hands = Some now }
+committed Writes count t now = record (moves_by (ToRaise (head_word (t.serial + 1) true) (run_content t false)) (Wrote (commit_of t) ∷ [])) { hands = Some now }
+committed Keeps count t now = record (moves (ToAnswer (run_content t false))) { hands = Some now }
 committed Overtakes count t now = record (moves (retaken count)) { hands = Some now }
 committed Ends count t now = record (moves (ToAnswer Unavailable)) { hands = Some now }
 

@@ -44,6 +44,7 @@ pub(crate) enum Said {
         code: Code,
         block: Option<BodyBlock>,
         serial: u64,
+        observed: bool,
     },
     Other(End),
 }
@@ -72,8 +73,9 @@ impl Answer {
     /// the run's commit.
     pub fn ran(outcome: &Outcome<'_>, ticket: &Ticket, mark: Mark) -> Answer
         requires { AreOne outcome.now ticket.now mark }
-        ensures { result ≡ Ran (run_answer ticket.now (meaning_of outcome.now)) }
+        ensures { result ≡ Ran (run_answer ticket.now (meaning_of outcome.now) mark.observed) }
     {
+        let observed = mark.observed();
         let serial = mark.spend();
         Answer {
             said: Said::Ran {
@@ -83,6 +85,7 @@ impl Answer {
                 },
                 block: BodyBlock::cut(outcome.reply(), ticket.block()),
                 serial,
+                observed,
             },
         }
     }

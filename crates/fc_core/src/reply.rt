@@ -27,8 +27,16 @@ pub(crate) fn answer(job: &Job, id: u16, answer: &Answer, bytes: &mut Datagram)
             code,
             block,
             serial,
+            observed,
             ..
-        } => ran(&envelope_of(job, id), *code, block, *serial, false, bytes),
+        } => ran(
+            &envelope_of(job, id),
+            *code,
+            block,
+            *serial,
+            *observed,
+            bytes,
+        ),
         Said::Other(end) => ended(job, id, end, bytes),
     }
 }

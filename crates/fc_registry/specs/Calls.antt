@@ -131,9 +131,9 @@ pub record HasGiven (slot : Slot) (t : Ticket) : Type 0 where
   pub serial : t.serial ≤ slot.serial
   pub present : t.serial ≡ slot.serial → slot.present ≡ Some t.found
 
--- the mark is of the ticket's job, at a slot of this serial
+-- the mark is of the ticket's job, at a slot of this serial; nobody is registered yet
 abbrev pub mark_of : Ticket → ℕ → Bool → Mark
-mark_of t serial changed = record { origin = t.origin; found = t.serial; serial = serial; changed = changed }
+mark_of t serial changed = record { origin = t.origin; found = t.serial; serial = serial; changed = changed; observed = false }
 
 -- a commit that writes leaves just the variables that the run means, and gives its notice
 abbrev pub commit_of : Ticket → Commit

@@ -69,9 +69,11 @@ pub record Ticket : Type 0 where
   pub serial : ℕ
   pub found : Present
 
--- what a commit leaves, for the answer to spend: the serial found, the serial at the commit, and whether the slot changed
+-- what a commit leaves, for the answer to spend: the serial found, the serial at the commit, whether the slot changed, and whether
+-- the client of its request observes it from now on
 pub record Mark : Type 0 where
   pub origin : Origin
   pub found : ℕ
   pub serial : ℕ
   pub changed : Bool
+  pub observed : Bool

@@ -559,6 +559,7 @@ fn mark(ticket: &Ticket, serial: u64, changed: bool) -> Mark
         found: ticket.serial,
         serial,
         changed,
+        observed: false,
     }
 }
 

@@ -111,6 +111,7 @@ pub struct Mark {
     pub(crate) found: u64,
     pub(crate) serial: u64,
     pub(crate) changed: bool,
+    pub(crate) observed: bool,
 }
 
 impl Model for Mark {
@@ -118,7 +119,7 @@ impl Model for Mark {
 
     ghost Value = { Seal };
 
-    ghost view = { λ m. record { origin = m.origin; found = m.found; serial = m.serial; changed = m.changed } };
+    ghost view = { λ m. record { origin = m.origin; found = m.found; serial = m.serial; changed = m.changed; observed = m.observed } };
 }
 
 impl Mark {
@@ -150,6 +151,13 @@ impl Mark {
         self.changed
     }
 
+    /// Whether the client of the job's request observes the slot from now on.
+    pub fn observed(&self) -> bool
+        ensures { result ≡ self.now.observed }
+    {
+        self.observed
+    }
+
     /// Spends it: the serial that the job's taking found.
     pub fn spend(self) -> u64
         ensures { result ≡ self.found }
@@ -159,6 +167,7 @@ impl Mark {
             found,
             serial: _,
             changed: _,
+            observed: _,
         } = self;
         found
     }

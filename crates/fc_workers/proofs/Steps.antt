@@ -75,12 +75,12 @@ retaken_follows : (job : Job) (n : ℕ) (t : Ticket) (b : Bool) → nat_lt n tak
 retaken_follows job n t true e le = record { ready = ltb-true n takings e; fewer = omega arith; few = omega arith }
 retaken_follows job n t false e le = record { ready = tt; fewer = omega arith; few = omega (arith, le) }
 
-done_follows : (job : Job) (n : ℕ) (t : Ticket) (b : Bool) (word : ℕ) → IsReady job (ToCommit n t) → Follows job (ToCommit n t) 0 (if b then ToRaise word (run_content t) else ToAnswer (run_content t))
-done_follows job n t true word r = record { ready = r.1; fewer = omega arith; few = omega (arith, r.0) }
-done_follows job n t false word r = record { ready = r.1; fewer = omega arith; few = omega (arith, r.0) }
+done_follows : (job : Job) (n : ℕ) (t : Ticket) (b observed : Bool) (word : ℕ) → IsReady job (ToCommit n t) → Follows job (ToCommit n t) 0 (if b then ToRaise word (run_content t observed) else ToAnswer (run_content t observed))
+done_follows job n t true observed word r = record { ready = r.1; fewer = omega arith; few = omega (arith, r.0) }
+done_follows job n t false observed word r = record { ready = r.1; fewer = omega arith; few = omega (arith, r.0) }
 
 commit_follows : (job : Job) (n : ℕ) (t : Ticket) (c : Committed) → IsReady job (ToCommit n t) → Follows job (ToCommit n t) 0 (after_commit n t c)
-commit_follows job n t (Done m) r = done_follows job n t m.changed (head_word m.serial true) r
+commit_follows job n t (Done m) r = done_follows job n t m.changed m.observed (head_word m.serial true) r
 commit_follows job n t Overtaken r = retaken_follows job n t (nat_lt n takings) refl r.0
 commit_follows job n t Ended r = record { ready = tt; fewer = omega arith; few = omega (arith, r.0) }
 commit_follows job n t Stranger r = record { ready = tt; fewer = omega arith; few = omega (arith, r.0) }
