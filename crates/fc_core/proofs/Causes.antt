@@ -59,21 +59,13 @@ clear_makes k job slot false (Some p) e is = None_made refl
 row_makes : (e : Event) (job : Job) (slot : Slot) (ws : List ℕ) (s : Stage) → Makes e job slot s (row e (at job slot ws s)).changes
 row_makes (Peek k n) job slot ws ToMatch = None_made refl
 row_makes (Peek k n) job slot ws (ToList seen) = None_made refl
-row_makes (Peek k n) job slot ws other = None_made refl
 row_makes (Remove k) job slot ws ToRemove = clear_makes k job slot (nat_lt slot.serial last_serial) slot.present refl refl
-row_makes (Remove k) job slot ws other = None_made refl
 row_makes (Receipt k) job slot ws ToDescribe = None_made refl
-row_makes (Receipt k) job slot ws other = None_made refl
 row_makes (Take k memory) job slot ws (ToTake n) = None_made refl
-row_makes (Take k memory) job slot ws other = None_made refl
 row_makes (Commit k now) job slot ws (ToCommit n t) = committed_makes k now n t job slot (outcome t slot)
-row_makes (Commit k now) job slot ws other = None_made refl
 row_makes (Install k memory) job slot ws ToInstall = verified_makes k memory job slot ws
-row_makes (Install k memory) job slot ws other = None_made refl
 row_makes (Raise k) job slot ws (ToRaise word content) = None_made refl
-row_makes (Raise k) job slot ws other = None_made refl
 row_makes (Answer k now) job slot ws (ToAnswer content) = None_made refl
-row_makes (Answer k now) job slot ws other = None_made refl
 row_makes other job slot ws s = None_made refl
 
 own_does : (r : Entry) (s : Seen) (k : ℕ) (cs : List Change) → names r.event ≡ Some k → (and_then r s).changes (slot_of s k) ≡ cs ++ s.changes (slot_of s k) → Makes r.event (job s k) (slot_at s (slot_of s k)) (stage s k) cs → ChangesBy r s (slot_of s k)

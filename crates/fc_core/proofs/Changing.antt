@@ -104,19 +104,12 @@ needs_none own n other e = refl
 row_raises : (e : Event) (k : ℕ) (job : Job) (slot : Slot) (ws : List ℕ) (s : Stage) → names e ≡ Some k → is_stray_at e job.origin.slot s ≡ false → length (row e (at job slot ws s)).changes ≡ raises (row e (at job slot ws s)).stage
 row_raises (Peek j n) k job slot ws s named e = peek_makes n (at job slot ws s) s ∙ peek_raises n (at job slot ws s) s (needs_none job.origin.slot n s e)
 row_raises (Remove j) k job slot ws ToRemove named e = clear_raises (nat_lt slot.serial last_serial) slot.serial slot.present
-row_raises (Remove j) k job slot ws other named e = absurd (cc)
 row_raises (Receipt j) k job slot ws ToDescribe named e = refl
-row_raises (Receipt j) k job slot ws other named e = absurd (cc)
 row_raises (Take j memory) k job slot ws (ToTake n) named e = taking_raises memory job slot n slot.present
-row_raises (Take j memory) k job slot ws other named e = absurd (cc)
 row_raises (Commit j now) k job slot ws (ToCommit n t) named e = committed_raises n t now (outcome t slot)
-row_raises (Commit j now) k job slot ws other named e = absurd (cc)
 row_raises (Install j memory) k job slot ws ToInstall named e = verified_raises memory (at job slot ws ToInstall)
-row_raises (Install j memory) k job slot ws other named e = absurd (cc)
 row_raises (Raise j) k job slot ws (ToRaise word content) named e = refl
-row_raises (Raise j) k job slot ws other named e = absurd (cc)
 row_raises (Answer j now) k job slot ws (ToAnswer content) named e = refl
-row_raises (Answer j now) k job slot ws other named e = absurd (cc)
 row_raises (Lose j) k job slot ws s named e = refl
 row_raises other k job slot ws s named e = absurd (cc)
 
@@ -162,21 +155,13 @@ no_change s n f = subst (λ (m : ℕ). FitsChanges m s) (let is : n ≡ n + 0 = 
 row_changes : (e : Event) (job : Job) (slot : Slot) (ws : List ℕ) (s : Stage) (n : ℕ) → FitsChanges n s → FitsChanges (n + length (row e (at job slot ws s)).changes) (row e (at job slot ws s)).stage
 row_changes (Peek k i) job slot ws ToMatch n f = first_change (row (Peek k i) (at job slot ws ToMatch)).stage n 0 f (peek_raises i (at job slot ws ToMatch) ToMatch refl)
 row_changes (Peek k i) job slot ws (ToList seen) n f = first_change (row (Peek k i) (at job slot ws (ToList seen))).stage n 0 f (peek_raises i (at job slot ws (ToList seen)) (ToList seen) refl)
-row_changes (Peek k i) job slot ws other n f = no_change other n f
 row_changes (Remove k) job slot ws ToRemove n f = first_change (row (Remove k) (at job slot ws ToRemove)).stage n (length (row (Remove k) (at job slot ws ToRemove)).changes) f (row_raises (Remove k) k job slot ws ToRemove refl refl)
-row_changes (Remove k) job slot ws other n f = no_change other n f
 row_changes (Receipt k) job slot ws ToDescribe n f = omega (arith, f)
-row_changes (Receipt k) job slot ws other n f = no_change other n f
 row_changes (Take k memory) job slot ws (ToTake c) n f = first_change (row (Take k memory) (at job slot ws (ToTake c))).stage n 0 f (row_raises (Take k memory) k job slot ws (ToTake c) refl refl)
-row_changes (Take k memory) job slot ws other n f = no_change other n f
 row_changes (Commit k now) job slot ws (ToCommit c t) n f = first_change (row (Commit k now) (at job slot ws (ToCommit c t))).stage n (length (row (Commit k now) (at job slot ws (ToCommit c t))).changes) f (row_raises (Commit k now) k job slot ws (ToCommit c t) refl refl)
-row_changes (Commit k now) job slot ws other n f = no_change other n f
 row_changes (Install k memory) job slot ws ToInstall n f = first_change (row (Install k memory) (at job slot ws ToInstall)).stage n (length (row (Install k memory) (at job slot ws ToInstall)).changes) f (row_raises (Install k memory) k job slot ws ToInstall refl refl)
-row_changes (Install k memory) job slot ws other n f = no_change other n f
 row_changes (Raise k) job slot ws (ToRaise word content) n f = omega (arith, f)
-row_changes (Raise k) job slot ws other n f = no_change other n f
 row_changes (Answer k now) job slot ws (ToAnswer content) n f = omega (arith, f)
-row_changes (Answer k now) job slot ws other n f = no_change other n f
 row_changes (Lose k) job slot ws s n f = omega (arith, one_change s n f)
 row_changes other job slot ws s n f = no_change s n f
 

@@ -86,22 +86,14 @@ next_empties slot false word seen e = absurd (cc e)
 
 row_empties : (e : Event) (job : Job) (slot : Slot) (ws : List ℕ) (s : Stage) → answer_at (row e (at job slot ws s)).stage ≡ Some Deleted → (answer_at s ≡ Some Deleted) ⊎ ((after_changes slot (row e (at job slot ws s)).changes).present ≡ None)
 row_empties (Take k memory) job slot ws (ToTake n) e = inr (took_empties slot memory job slot.serial n slot.present e)
-row_empties (Take k memory) job slot ws other e = inl e
 row_empties (Commit k now) job slot ws (ToCommit n t) e = inr (committed_empties (after_changes slot (committed (outcome t slot) n t now).changes) n t now (outcome t slot) e)
-row_empties (Commit k now) job slot ws other e = inl e
 row_empties (Install k memory) job slot ws ToInstall e = inr (verified_empties (after_changes slot (verified memory (at job slot ws ToInstall)).changes) memory (at job slot ws ToInstall) e)
-row_empties (Install k memory) job slot ws other e = inl e
 row_empties (Remove k) job slot ws ToRemove e = inr (clear_empties slot (nat_lt slot.serial last_serial) slot.present refl e)
-row_empties (Remove k) job slot ws other e = inl e
 row_empties (Receipt k) job slot ws ToDescribe e = inr (told_empties slot slot.present e)
-row_empties (Receipt k) job slot ws other e = inl e
 row_empties (Peek k n) job slot ws ToMatch e = inr (own_empties slot (n == job.origin.slot) (word_at ws n) job.etags.items e)
 row_empties (Peek k n) job slot ws (ToList seen) e = inr (next_empties slot (n == length seen.items) (word_at ws n) seen e)
-row_empties (Peek k n) job slot ws other e = inl e
 row_empties (Raise k) job slot ws (ToRaise word content) e = inl e
-row_empties (Raise k) job slot ws other e = inl e
 row_empties (Answer k now) job slot ws (ToAnswer content) e = absurd (cc e)
-row_empties (Answer k now) job slot ws other e = inl e
 row_empties (Lose k) job slot ws s e = absurd (cc e)
 row_empties other job slot ws s e = inl e
 

@@ -46,22 +46,14 @@ never_yet other n is = is
 
 row_answers : (e : Event) (job : Job) (slot : Slot) (ws : List ℕ) (s : Stage) (n : ℕ) → FitsAnswers n s → FitsAnswers (if is_answered e s then n + 1 else n) (row e (at job slot ws s)).stage
 row_answers (Take k memory) job slot ws (ToTake count) n f = never_yet (row (Take k memory) (at job slot ws (ToTake count))).stage n f
-row_answers (Take k memory) job slot ws other n f = f
 row_answers (Commit k now) job slot ws (ToCommit count t) n f = never_yet (row (Commit k now) (at job slot ws (ToCommit count t))).stage n f
-row_answers (Commit k now) job slot ws other n f = f
 row_answers (Install k memory) job slot ws ToInstall n f = never_yet (row (Install k memory) (at job slot ws ToInstall)).stage n f
-row_answers (Install k memory) job slot ws other n f = f
 row_answers (Raise k) job slot ws (ToRaise word content) n f = f
 row_answers (Peek k i) job slot ws ToMatch n f = never_yet (row (Peek k i) (at job slot ws ToMatch)).stage n f
 row_answers (Peek k i) job slot ws (ToList seen) n f = never_yet (row (Peek k i) (at job slot ws (ToList seen))).stage n f
-row_answers (Peek k i) job slot ws other n f = f
 row_answers (Remove k) job slot ws ToRemove n f = never_yet (row (Remove k) (at job slot ws ToRemove)).stage n f
-row_answers (Remove k) job slot ws other n f = f
 row_answers (Receipt k) job slot ws ToDescribe n f = f
-row_answers (Receipt k) job slot ws other n f = f
-row_answers (Raise k) job slot ws other n f = f
 row_answers (Answer k now) job slot ws (ToAnswer content) n f = omega (arith, f)
-row_answers (Answer k now) job slot ws other n f = f
 row_answers (Lose k) job slot ws s n f = at_most_once s n f
 row_answers other job slot ws s n f = f
 
@@ -145,28 +137,19 @@ IsSettled other = ⊥
 
 row_settled : (e : Event) (job : Job) (slot : Slot) (ws : List ℕ) (s : Stage) → IsSettled s → IsSettled (row e (at job slot ws s)).stage
 row_settled (Take k memory) job slot ws (ToTake count) f = absurd f
-row_settled (Take k memory) job slot ws other f = f
 row_settled (Commit k now) job slot ws (ToCommit count t) f = absurd f
-row_settled (Commit k now) job slot ws other f = f
 row_settled (Install k memory) job slot ws ToInstall f = absurd f
-row_settled (Install k memory) job slot ws other f = f
 row_settled (Raise k) job slot ws (ToRaise word content) f = tt
 row_settled (Peek k i) job slot ws ToMatch f = absurd f
 row_settled (Peek k i) job slot ws (ToList seen) f = absurd f
-row_settled (Peek k i) job slot ws other f = f
 row_settled (Remove k) job slot ws ToRemove f = absurd f
-row_settled (Remove k) job slot ws other f = f
 row_settled (Receipt k) job slot ws ToDescribe f = absurd f
-row_settled (Receipt k) job slot ws other f = f
-row_settled (Raise k) job slot ws other f = f
 row_settled (Answer k now) job slot ws (ToAnswer content) f = tt
-row_settled (Answer k now) job slot ws other f = f
 row_settled (Lose k) job slot ws s f = tt
 row_settled other job slot ws s f = f
 
 settled_given : (e : Event) (job : Job) (slot : Slot) (cs : List Change) (s : Stage) → IsSettled s → gives e s job slot cs ≡ []
 settled_given (Take k true) job slot cs (ToTake count) f = absurd f
-settled_given (Take k true) job slot cs other f = refl
 settled_given (Take k false) job slot cs s f = refl
 settled_given other job slot cs s f = refl
 

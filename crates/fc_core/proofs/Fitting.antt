@@ -143,22 +143,14 @@ next_fits job slot false word seen lt = lt
 pub row_fits : (e : Event) (job : Job) (slot : Slot) (ws : List ℕ) (s : Stage) → FitsStage job slot s → FitsStage job slot (row e (at job slot ws s)).stage
 row_fits (Peek k n) job slot ws ToMatch f = own_fits job slot (n == job.origin.slot) (word_at ws n) job.etags.items
 row_fits (Peek k n) job slot ws (ToList seen) f = next_fits job slot (n == length seen.items) (word_at ws n) seen f
-row_fits (Peek k n) job slot ws other f = f
 row_fits (Remove k) job slot ws ToRemove f = clear_fits job slot (nat_lt slot.serial last_serial) slot.serial slot.present
-row_fits (Remove k) job slot ws other f = f
 row_fits (Receipt k) job slot ws ToDescribe f = told_fits job slot (receipt_at slot.present)
-row_fits (Receipt k) job slot ws other f = f
 row_fits (Lose k) job slot ws s f = tt
 row_fits (Take k memory) job slot ws (ToTake n) f = took_fits memory job slot n slot.present refl f
-row_fits (Take k memory) job slot ws other f = f
 row_fits (Commits k now) job slot ws (ToCommit n t) f = committed_fits job slot n t (outcome t slot) now f.1.origin
-row_fits (Commits k now) job slot ws other f = f
 row_fits (Install k memory) job slot ws ToInstall f = verified_fits memory (at job slot ws ToInstall)
-row_fits (Install k memory) job slot ws other f = f
 row_fits (Raise k) job slot ws (ToRaise word content) f = f
-row_fits (Raise k) job slot ws other f = f
 row_fits (Answer k now) job slot ws (ToAnswer content) f = tt
-row_fits (Answer k now) job slot ws other f = f
 row_fits other job slot ws s f = f
 
 -- ---- the chain
@@ -221,21 +213,13 @@ clear_chain first cs false serial (Some p) chain = chain
 pub row_chain : (e : Event) (job : Job) (first : Slot) (cs : List Change) (ws : List ℕ) (s : Stage) → FitsStage job (after_changes first cs) s → IsChain first cs → IsChain first ((row e (at job (after_changes first cs) ws s)).changes ++ cs)
 row_chain (Peek k n) job first cs ws ToMatch f chain = chain
 row_chain (Peek k n) job first cs ws (ToList seen) f chain = chain
-row_chain (Peek k n) job first cs ws other f chain = chain
 row_chain (Remove k) job first cs ws ToRemove f chain = clear_chain first cs (nat_lt (after_changes first cs).serial last_serial) (after_changes first cs).serial (after_changes first cs).present chain
-row_chain (Remove k) job first cs ws other f chain = chain
 row_chain (Receipt k) job first cs ws ToDescribe f chain = chain
-row_chain (Receipt k) job first cs ws other f chain = chain
 row_chain (Commits k now) job first cs ws (ToCommit n t) f chain = commit_chain first cs n t now (outcome t (after_changes first cs)) refl f.1.given chain
-row_chain (Commits k now) job first cs ws other f chain = chain
 row_chain (Install k memory) job first cs ws ToInstall f chain = verified_chain memory first cs (at job (after_changes first cs) ws ToInstall) chain
-row_chain (Install k memory) job first cs ws other f chain = chain
 row_chain (Take k memory) job first cs ws (ToTake n) f chain = chain
-row_chain (Take k memory) job first cs ws other f chain = chain
 row_chain (Raise k) job first cs ws (ToRaise word content) f chain = chain
-row_chain (Raise k) job first cs ws other f chain = chain
 row_chain (Answer k now) job first cs ws (ToAnswer content) f chain = chain
-row_chain (Answer k now) job first cs ws other f chain = chain
 row_chain other job first cs ws s f chain = chain
 
 -- ---- safe programs
@@ -282,19 +266,11 @@ clear_safe slot false serial (Some p) fits = fits
 pub row_safe : (e : Event) (job : Job) (slot : Slot) (ws : List ℕ) (s : Stage) → AskWithin job.ask → FitsStage job slot s → AllSafe (row e (at job slot ws s)).changes → FitsSlot slot.present → FitsSlot (after_changes slot (row e (at job slot ws s)).changes).present
 row_safe (Peek k n) job slot ws ToMatch within f safe fits = fits
 row_safe (Peek k n) job slot ws (ToList seen) within f safe fits = fits
-row_safe (Peek k n) job slot ws other within f safe fits = fits
 row_safe (Remove k) job slot ws ToRemove within f safe fits = clear_safe slot (nat_lt slot.serial last_serial) slot.serial slot.present fits
-row_safe (Remove k) job slot ws other within f safe fits = fits
 row_safe (Receipt k) job slot ws ToDescribe within f safe fits = fits
-row_safe (Receipt k) job slot ws other within f safe fits = fits
 row_safe (Commits k now) job slot ws (ToCommit n t) within f safe fits = commit_safe job slot n t now (outcome t slot) refl within f.1 fits
-row_safe (Commits k now) job slot ws other within f safe fits = fits
 row_safe (Install k memory) job slot ws ToInstall within f safe fits = verified_safe memory (at job slot ws ToInstall) safe fits
-row_safe (Install k memory) job slot ws other within f safe fits = fits
 row_safe (Take k memory) job slot ws (ToTake n) within f safe fits = fits
-row_safe (Take k memory) job slot ws other within f safe fits = fits
 row_safe (Raise k) job slot ws (ToRaise word content) within f safe fits = fits
-row_safe (Raise k) job slot ws other within f safe fits = fits
 row_safe (Answer k now) job slot ws (ToAnswer content) within f safe fits = fits
-row_safe (Answer k now) job slot ws other within f safe fits = fits
 row_safe other job slot ws s within f safe fits = fits

@@ -52,22 +52,14 @@ verified_hands false s = refl
 
 row_handed : (e : Event) (job : Job) (slot : Slot) (ws : List ℕ) (st : Stage) (m : ℕ) (ms : List ℕ) → m ≡ greatest ms → handed (row e (at job slot ws st)).hands m ≡ greatest (commit_moment e st ++ ms)
 row_handed (Commit k now) job slot ws (ToCommit n t) m ms is = ap (λ (o : Option ℕ). handed o m) (committed_hands n t now (outcome t slot)) ∙ ap (λ (x : ℕ). max x now) is
-row_handed (Commit k now) job slot ws other m ms is = is
 row_handed (Install k memory) job slot ws ToInstall m ms is = ap (λ (o : Option ℕ). handed o m) (verified_hands memory (at job slot ws ToInstall)) ∙ is
-row_handed (Install k memory) job slot ws other m ms is = is
 row_handed (Take k memory) job slot ws (ToTake n) m ms is = is
-row_handed (Take k memory) job slot ws other m ms is = is
 row_handed (Raise k) job slot ws (ToRaise word content) m ms is = is
-row_handed (Raise k) job slot ws other m ms is = is
 row_handed (Answer k now) job slot ws (ToAnswer content) m ms is = is
-row_handed (Answer k now) job slot ws other m ms is = is
 row_handed (Peek k n) job slot ws ToMatch m ms is = is
 row_handed (Peek k n) job slot ws (ToList seen) m ms is = is
-row_handed (Peek k n) job slot ws other m ms is = is
 row_handed (Remove k) job slot ws ToRemove m ms is = is
-row_handed (Remove k) job slot ws other m ms is = is
 row_handed (Receipt k) job slot ws ToDescribe m ms is = is
-row_handed (Receipt k) job slot ws other m ms is = is
 row_handed other job slot ws st m ms is = is
 
 shard_if : (s : Seen) (e : Event) (k i : ℕ) (b : Bool) (ms : List ℕ) → s.shard_moment i ≡ greatest ms → (if b then handed (row e (scene s k)).hands (s.shard_moment i) else s.shard_moment i) ≡ greatest (if b then commit_moment e (stage s k) ++ ms else ms)

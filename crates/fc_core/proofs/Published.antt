@@ -94,22 +94,14 @@ next_publishes slot old false word seen = tt
 -- what a row leaves to raise is the word of the slot after its changes
 row_publishes : (e : Event) (job : Job) (slot : Slot) (ws : List ℕ) (s : Stage) → FitsStage job slot s → PublishesAt (after_changes slot (row e (at job slot ws s)).changes) s (row e (at job slot ws s)).stage
 row_publishes (Commits k now) job slot ws (ToCommit n t) f = committed_publishes job slot n t now (outcome t slot) refl f
-row_publishes (Commits k now) job slot ws other f = same_publishes slot other
 row_publishes (Install k memory) job slot ws ToInstall f = verified_publishes memory (at job slot ws ToInstall)
-row_publishes (Install k memory) job slot ws other f = same_publishes slot other
 row_publishes (Remove k) job slot ws ToRemove f = clear_publishes slot (nat_lt slot.serial last_serial) slot.present
-row_publishes (Remove k) job slot ws other f = same_publishes slot other
 row_publishes (Take k memory) job slot ws (ToTake n) f = took_publishes slot (ToTake n) memory job slot.serial n slot.present
-row_publishes (Take k memory) job slot ws other f = same_publishes slot other
 row_publishes (Receipt k) job slot ws ToDescribe f = tt
-row_publishes (Receipt k) job slot ws other f = same_publishes slot other
 row_publishes (Peek k n) job slot ws ToMatch f = own_publishes slot ToMatch (n == job.origin.slot) (word_at ws n) job.etags.items
 row_publishes (Peek k n) job slot ws (ToList seen) f = next_publishes slot (ToList seen) (n == length seen.items) (word_at ws n) seen
-row_publishes (Peek k n) job slot ws other f = same_publishes slot other
 row_publishes (Raise k) job slot ws (ToRaise word content) f = tt
-row_publishes (Raise k) job slot ws other f = same_publishes slot other
 row_publishes (Answer k now) job slot ws (ToAnswer content) f = tt
-row_publishes (Answer k now) job slot ws other f = same_publishes slot other
 row_publishes (Lose k) job slot ws s f = tt
 row_publishes other job slot ws s f = same_publishes slot s
 

@@ -125,22 +125,15 @@ next_took false word seen ts le = le
 row_took : (e : Event) (job : Job) (slot : Slot) (cs : List Change) (ws : List ℕ) (s : Stage) (ts : List Taking) → Took ts s → Took (gives e s job slot cs ++ ts) (row e (at job slot ws s)).stage
 row_took (Peek k n) job slot cs ws ToMatch ts f = own_took (n == job.origin.slot) (word_at ws n) job.etags.items ts f
 row_took (Peek k n) job slot cs ws (ToList seen) ts f = next_took (n == length seen.items) (word_at ws n) seen ts f
-row_took (Peek k n) job slot cs ws other ts f = f
 row_took (Remove k) job slot cs ws ToRemove ts f = clear_took (nat_lt slot.serial last_serial) slot.serial slot.present ts f
-row_took (Remove k) job slot cs ws other ts f = f
 row_took (Receipt k) job slot cs ws ToDescribe ts f = told_took (receipt_at slot.present) ts f
-row_took (Receipt k) job slot cs ws other ts f = f
 row_took (Take k memory) job slot cs ws (ToTake n) ts f = taking_took memory k job slot cs n ts slot.present refl f.0 f.1
 row_took (Take k true) job slot cs ws other ts f = f
 row_took (Take k false) job slot cs ws other ts f = f
 row_took (Commit k now) job slot cs ws (ToCommit n t) ts f = committed_took n ts t now (outcome t slot) f.0 f.1 f.2
-row_took (Commit k now) job slot cs ws other ts f = f
 row_took (Install k memory) job slot cs ws ToInstall ts f = verified_took memory (at job slot ws ToInstall) ts f
-row_took (Install k memory) job slot cs ws other ts f = f
 row_took (Raise k) job slot cs ws (ToRaise word content) ts f = f
-row_took (Raise k) job slot cs ws other ts f = f
 row_took (Answer k now) job slot cs ws (ToAnswer content) ts f = f.0
-row_took (Answer k now) job slot cs ws other ts f = f
 row_took (Lose k) job slot cs ws s ts f = at_most_eight s ts f
 row_took other job slot cs ws s ts f = f
 
