@@ -1,37 +1,40 @@
 -- The tables of function starts and of frames, filled from the last slot back.
-use Rattle.std.proofs.Common.{◌≡◌, ℕ, zero, suc, ◌+◌, ◌<◌, ◌≤◌, ◌==◌, ◌||◌, Bool, true, false, if◌then◌else◌, max, min, set, List, [], ◌∷◌, length, drop, Some, get_or, inl, inr, refl, sym, ap, ◌∙◌, subst, arith}
-use Rattle.std.specs.Prelude.{slice_get}
-use Rattle.std.proofs.lemmas.Bool.{cases_lt, cases_eq}
+use Rattle.std.proofs.Common.{◌≡◌, ℕ, zero, suc, ◌+◌, ◌<◌, ◌≤◌, ◌==◌, ◌||◌, Bool, true, false, if◌then◌else◌, max, min, set, List, [], ◌∷◌, length, drop, Some, get_or, inl, inr, refl, sym, ap, ◌∙◌, subst, add-zero, arith}
+use Rattle.std.specs.Prelude.{slice_get, nat_lt}
+use Rattle.std.proofs.lemmas.Bool.{cases_lt}
+use Rattle.std.proofs.lemmas.Bool.Decides.{nat_tests}
 use Rattle.std.proofs.lemmas.List.{get_or-drop}
 use Rattle.fc_isa.specs.declared.insn.Insn.{Insn}
 use Rattle.fc_isa.specs.declared.insn.Insn.TheVariants.{Alu, Neg, SignExtend, End, LoadWide, WideSecond, Load, StoreImm, Store, JumpAlways, JumpAlwaysLong, JumpIf, CallHelper, CallLocal, Exit}
 use Rattle.fc_image.specs.Functions.{calls, is_called, is_start, starts_within, frames_called, depth_and, depths}
+use Rattle.fc_image.specs.Tables.{starts_below}
 use Rattle.fc_image.proofs.CostTable.{AreCapped, at_capped, drop_at, first_of, one_more, past_end, rest_capped}
 
 -- ---- starts between two slots
 
-pub some_start : (code : List Insn) (slot at n : ℕ) → slot < at → at ≤ slot + n → is_start code at ≡ true → starts_within code slot n ≡ true
-some_start code slot at zero lt le s = absurd (omega arith)
-some_start code slot at (suc n) lt le s =
-    elim (cases_eq at (slot + suc n)) [
-      | inl same ↦ or_right (starts_within code slot n) (is_start code (slot + suc n)) (subst (λ k. is_start code k ≡ true) same s)
-      | inr other ↦ or_left (starts_within code slot n) (is_start code (slot + suc n)) (some_start code slot at n lt (omega (arith, other)) s)
-    ]
+starts_grow : (code : List Insn) (slot n : ℕ) → starts_below code slot ≤ starts_below code (slot + n)
+starts_grow code slot zero = rw add-zero (omega arith)
+starts_grow code slot (suc n) =
+    let rest = starts_grow code slot n in
+    let e : slot + suc n ≡ suc (slot + n) = omega arith in
+    rw e (omega (arith, rest))
+
+-- a start is between two slots exactly where more functions start up to the later one
+pub within_counted : (code : List Insn) (slot n : ℕ) → starts_within code slot n ≡ nat_lt (starts_below code (slot + 1)) (starts_below code (slot + n + 1))
+within_counted code slot zero = rw add-zero (grind (arith, nat_tests))
+within_counted code slot (suc n) =
+    let rest = within_counted code slot n in
+    let grows = starts_grow code (slot + 1) n in
+    let before : slot + n + 1 ≡ slot + suc n = omega arith in
+    let further : slot + 1 + n ≡ slot + suc n = omega arith in
+    let least : starts_below code (slot + 1) ≤ starts_below code (slot + suc n) = subst (λ k. starts_below code (slot + 1) ≤ starts_below code k) further grows in
+    let here : starts_within code slot n ≡ nat_lt (starts_below code (slot + 1)) (starts_below code (slot + suc n)) = rest ∙ ap (λ k. nat_lt (starts_below code (slot + 1)) (starts_below code k)) before in
+    let next : slot + suc n + 1 ≡ suc (slot + suc n) = omega arith in
+    rw (here, next) (one_more_start (starts_below code (slot + 1)) (starts_below code (slot + suc n)) (is_start code (slot + suc n)) least)
   where
-    or_right : (a b : Bool) → b ≡ true → (a || b) ≡ true
-    or_right true b e = refl
-    or_right false b e = e
-
-    or_left : (a b : Bool) → a ≡ true → (a || b) ≡ true
-    or_left true b e = refl
-    or_left false b e = absurd (cc e)
-
-pub no_start : (code : List Insn) (slot n : ℕ) → ((k : ℕ) → slot < k → k ≤ slot + n → is_start code k ≡ false) → starts_within code slot n ≡ false
-no_start code slot zero h = refl
-no_start code slot (suc n) h =
-    let a = no_start code slot n (λ k lt le. h k lt (omega arith)) in
-    let b = h (slot + suc n) (omega arith) (omega arith) in
-    rw (a, b) refl
+    one_more_start : (a b : ℕ) (start : Bool) → a ≤ b → (nat_lt a b || start) ≡ nat_lt a (b + (if start then 1 else 0))
+    one_more_start a b true le = grind (arith, nat_tests)
+    one_more_start a b false le = grind (arith, nat_tests)
 
 -- ---- the calls of one instruction more
 

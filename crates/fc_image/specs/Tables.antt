@@ -1,11 +1,20 @@
 -- The tables that a program's control flow is judged by.
-use Rattle.std.specs.Prelude.{◌≡◌, ℕ, ◌+◌, ◌<◌, ◌||◌, Bool, false, if◌then◌else◌, min, max, List, drop, slice_index, slice_index_or}
+use Rattle.std.specs.Prelude.{◌≡◌, ℕ, zero, suc, ◌+◌, ◌<◌, ◌||◌, Bool, false, if◌then◌else◌, min, max, List, drop, slice_index, slice_index_or}
 use Rattle.fc_isa.specs.declared.insn.Insn.{Insn}
 use Rattle.fc_image.specs.Functions.{calls, frames_called, is_start}
 
 -- a flag for each of 512 slots: a function starts there
 pub record AreStarts (code : List Insn) (flags : List Bool) : Type 0 where
   pub each : (place : ℕ) → place < 512 → slice_index_or flags place false ≡ is_start code place
+
+-- how many functions start below a slot
+abbrev pub starts_below : List Insn → ℕ → ℕ
+starts_below code zero = 0
+starts_below code (suc slot) = starts_below code slot + (if is_start code slot then 1 else 0)
+
+-- a number for each of 512 slots: how many functions start up to it
+pub record AreCounts (code : List Insn) (counts : List ℕ) : Type 0 where
+  pub each : (slot : ℕ) → slot < 512 → slice_index counts slot ≡ starts_below code (slot + 1)
 
 -- the flags with that of the function which an instruction calls
 abbrev pub IsMarked : ℕ → Insn → List Bool → List Bool → Type 0

@@ -160,7 +160,7 @@ fn crosses_to(code: &[Insn], tables: &Tables, slot: usize, place: Option<usize>)
     match place {
         Some(place) => place < code.len()
             && slot <= place
-            && crosses(code, &tables.starts, slot, place),
+            && crosses(code, &tables.counts, slot, place),
         None => false,
     }
 }

@@ -2,7 +2,7 @@
 ghost use Rattle.std.specs.Prelude.{Bool, List, None, Some, drop, false, if◌then◌else◌, length, max, min, slice_index, slice_index_or, true, ℕ, ◌+◌, ◌-◌, ◌<◌, ◌||◌, ◌≡◌, ◌≤◌};
 ghost use Rattle.fc_image.specs.Functions.{calls, frames, frames_called, is_called, is_open_end, is_start, may_end, slots_taken, starts_within};
 ghost use Rattle.fc_image.specs.Paths.{at_offset};
-ghost use Rattle.fc_image.specs.Tables.{AreStarts, IsMarked, frames_from};
+ghost use Rattle.fc_image.specs.Tables.{AreCounts, AreStarts, IsMarked, frames_from};
 
 use crate::flow::{call_offset, target};
 use crate::table::SLOTS;
@@ -39,19 +39,30 @@ fn mark(starts: &mut [bool; SLOTS], slot: usize, insn: &Insn)
     }
 }
 
+/// How many functions start up to each slot.
+pub(crate) fn starts_counted(code: &[Insn], starts: &[bool; SLOTS]) -> [u16; SLOTS]
+    requires { AreStarts code.now starts.now }
+    ensures { AreCounts code.now result }
+{
+    let mut counts = [0; SLOTS];
+    let mut count = 0;
+    for slot in 0..SLOTS {
+        if starts[slot] {
+            count += 1;
+        }
+        counts[slot] = count;
+    }
+    counts
+}
+
 /// Whether a function starts after a slot, up to another.
-pub(crate) fn crosses(code: &[Insn], starts: &[bool; SLOTS], slot: usize, place: usize) -> bool
-    requires starts { AreStarts code.now starts.now }
+pub(crate) fn crosses(code: &[Insn], counts: &[u16; SLOTS], slot: usize, place: usize) -> bool
+    requires counts { AreCounts code.now counts.now }
     requires later { slot ≤ place }
     requires within { place < 512 }
     ensures { result ≡ starts_within code.now slot (place - slot) }
 {
-    for at in slot + 1..place + 1 {
-        if starts[at] {
-            return true;
-        }
-    }
-    false
+    counts[slot] < counts[place]
 }
 
 /// Whether an instruction is the last of its function, and no exit.

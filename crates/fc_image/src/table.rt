@@ -3,7 +3,7 @@ ghost use Rattle.std.specs.Prelude.{length, ◌≡◌, ◌≤◌};
 ghost use Rattle.fc_image.specs.Judged.{AreTables};
 
 use crate::cost::longest_cost;
-use crate::functions::{deepest, starts};
+use crate::functions::{deepest, starts, starts_counted};
 use fc_isa::Insn;
 
 /// The most slots of a program.
@@ -14,6 +14,8 @@ pub(crate) const SLOTS: usize = 512;
 pub(crate) struct Tables {
     /// Which slots start a function.
     pub(crate) starts: [bool; SLOTS],
+    /// How many functions start up to each slot.
+    pub(crate) counts: [u16; SLOTS],
     /// The most stack frames that calls nest, up to 5.
     pub(crate) frames: u8,
     /// The steps of the longest path, up to 65,537.
@@ -27,9 +29,11 @@ impl Tables {
         ensures { AreTables code.now result }
     {
         let starts = starts(code);
+        let counts = starts_counted(code, &starts);
         let frames = deepest(code, &starts);
         Tables {
             starts,
+            counts,
             frames,
             cost: longest_cost(code),
         }
