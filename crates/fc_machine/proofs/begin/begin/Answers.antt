@@ -1,4 +1,4 @@
-use Rattle.std.proofs.Common.{◌≡◌, ◌≤◌, ℕ, refl, sym, ap, ◌∙◌, rules, arith, length}
+use Rattle.std.proofs.Common.{◌≡◌, refl, ap, ◌∙◌, rules, arith, length}
 use Rattle.fc_help.specs.Helpers.{room_of}
 use Rattle.fc_kinds.specs.Execution.{start}
 use Rattle.fc_machine.specs.Array.{StandBeside}
