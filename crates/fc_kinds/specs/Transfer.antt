@@ -191,6 +191,13 @@ enter kinds =
     ∷ raised (kind_at kinds 5)
     ∷ Unset ∷ Unset ∷ Unset ∷ Unset ∷ Stack 0 (pos 256) (pos 256) ∷ []
 
+-- it loads or stores
+abbrev pub is_access : Insn → Bool
+is_access (Load loaded dst base offset) = true
+is_access (StoreImm size base offset imm) = true
+is_access (Store size base offset src) = true
+is_access other = false
+
 -- the kinds after an instruction, or nothing where its demands aren't met; a program's variables have this size
 unfoldable pub transfer : ℕ → Insn → List Kind → Option (List Kind)
 transfer vars (Alu op width dst operand) kinds =

@@ -1,8 +1,9 @@
 //! The transfer function of the verifier: the kinds after an instruction.
-ghost use Rattle.std.specs.Prelude.{IfErr, IfOk, None, Some, ◌≡◌, ◌≤◌};
+ghost use Rattle.std.specs.Prelude.{IfErr, IfOk, None, Some, true, ◌≡◌, ◌≤◌};
 ghost use Rattle.fc_isa.specs.Rules.{number_of};
 ghost use Rattle.fc_kinds.specs.Lattice.{AreKinds};
-ghost use Rattle.fc_kinds.specs.Transfer.{alu_kind, operand_kind, returned, transfer};
+ghost use Rattle.fc_kinds.specs.Transfer.{alu_kind, is_access, operand_kind, returned, transfer};
+ghost use Rattle.fc_kinds.specs.declared.kind.Kind.TheVariants.{Num};
 
 use crate::arithmetic::{alu_after, ordered_interval};
 use crate::calls::{call_helper, returned};
@@ -50,14 +51,40 @@ pub fn after(insn: Insn, regs: &Regs, vars_size: u16) -> Result<Regs, Rule>
             let s = number(regs[dst.index()])?;
             Ok(put(regs, dst, num(ordered_interval(order, width, s))))
         }
-        Insn::LoadWide { dst, value } => Ok(put(
-            regs,
-            dst,
-            Kind::Num {
-                lo: value,
-                hi: value,
-            },
-        )),
+        Insn::LoadWide { dst, value } => Ok(put(regs, dst, one_number(value))),
+        Insn::Load { .. } | Insn::StoreImm { .. } | Insn::Store { .. } => {
+            after_access(insn, regs, vars_size)
+        }
+        Insn::JumpAlways { .. } | Insn::JumpAlwaysLong { .. } => Ok(*regs),
+        Insn::JumpIf(jump) => jump_if(&jump, regs),
+        Insn::CallLocal { .. } => Ok(returned(regs)),
+        Insn::Exit if is_number(regs[0]) => Ok(*regs),
+        Insn::Exit => Err(Rule::ExitValue),
+        Insn::CallHelper { number } => call_helper(number, regs, vars_size),
+        Insn::WideSecond => Err(Rule::HelperArgument),
+    }
+}
+
+/// The kind of a register that holds this number.
+fn one_number(value: u64) -> Kind
+    ensures { result ≡ Num value value }
+{
+    Kind::Num {
+        lo: value,
+        hi: value,
+    }
+}
+
+/// The kinds after a load or a store.
+#[tactic(auto, unfolding(crate::specs::Transfer::transfer))]
+fn after_access(insn: Insn, regs: &Regs, vars_size: u16) -> Result<Regs, Rule>
+    requires kinds { AreKinds regs.now }
+    requires access { is_access insn ≡ true }
+    ensures after { IfOk result (λ ks. transfer vars_size insn regs.now ≡ Some ks) }
+    ensures refused { IfErr result (λ rule. transfer vars_size insn regs.now ≡ None) }
+    ensures rule { IfErr result (λ rule. (20 ≤ number_of rule) × (number_of rule ≤ 27)) }
+{
+    match insn {
         Insn::Load {
             loaded,
             dst,
@@ -76,13 +103,7 @@ pub fn after(insn: Insn, regs: &Regs, vars_size: u16) -> Result<Regs, Rule>
             offset,
             src,
         } => store(size, base, offset, src, regs, vars_size),
-        Insn::JumpAlways { .. } | Insn::JumpAlwaysLong { .. } => Ok(*regs),
-        Insn::JumpIf(jump) => jump_if(&jump, regs),
-        Insn::CallLocal { .. } => Ok(returned(regs)),
-        Insn::Exit if is_number(regs[0]) => Ok(*regs),
-        Insn::Exit => Err(Rule::ExitValue),
-        Insn::CallHelper { number } => call_helper(number, regs, vars_size),
-        Insn::WideSecond => Err(Rule::HelperArgument),
+        _ => unreachable!(),
     }
 }
 
