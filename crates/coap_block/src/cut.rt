@@ -20,7 +20,7 @@ pub struct Cut<'a> {
 }
 
 /// The block that was asked isn't the first, and begins at or past the end of the body.
-#[derive(Clone, Copy, Debug, PartialEq, Eq)]
+#[derive(Clone, Copy, PartialEq, Eq)]
 pub struct PastEnd;
 
 /// Cuts the block that is asked out of a body; whether more were asked to follow is ignored. Where no block is asked, a body of

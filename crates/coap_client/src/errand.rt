@@ -29,7 +29,7 @@ const OPTION_HEAD: usize = 5;
 const MOST: usize = 1 << 30;
 
 /// What is asked: a method of a resource, and the request's body. Each request that asks it fits a datagram.
-#[derive(Debug, Drop)]
+#[derive(Drop)]
 pub struct Errand<'a> {
     pub method: Method,
     pub path: Path<'a>,

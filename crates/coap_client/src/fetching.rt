@@ -61,7 +61,7 @@ pub enum Fault {
 }
 
 /// What a fetch brought.
-#[derive(Debug, Drop)]
+#[derive(Drop)]
 pub struct Fetched {
     /// The code of the last answer.
     pub code: Code,
@@ -106,7 +106,7 @@ pub fn fetch<P: Peer>(
 }
 
 // A fetch under way: the request that is out, and what is there of the answer, with its ETag.
-#[derive(Debug, Drop)]
+#[derive(Drop)]
 struct Course {
     id: u16,
     part: Part,
@@ -166,7 +166,7 @@ impl Course {
 }
 
 // What a datagram from the server is to the request that is out.
-#[derive(Clone, Copy, Debug, PartialEq, Eq)]
+#[derive(Clone, Copy, PartialEq, Eq)]
 enum Heard {
     Reply,
     Reset,

@@ -1,7 +1,7 @@
 //! The parts of a fetch.
 
 /// What one request of a fetch carries or asks for.
-#[derive(Clone, Copy, Debug, PartialEq, Eq)]
+#[derive(Clone, Copy, PartialEq, Eq)]
 pub enum Part {
     /// The whole body.
     Whole,

@@ -11,7 +11,7 @@ use thiserror::Error;
 const SEGMENT: usize = 255;
 
 /// The segments of a path, each of which goes as a Uri-Path.
-#[derive(Debug, Drop)]
+#[derive(Drop)]
 pub struct Path<'a> {
     pub segments: Vec<&'a [u8]>,
     ghost are: { (All IsSegment (segments_in segments.items)) },

@@ -24,7 +24,7 @@ const BLOCKS: u32 = 1 << 20;
 const BLOCK_VALUE: usize = 3;
 
 /// What comes after the answer to a part.
-#[derive(Clone, Copy, Debug, PartialEq, Eq)]
+#[derive(Clone, Copy, PartialEq, Eq)]
 pub enum Next {
     /// This part. An answer to a block of the body brings nothing, one to another part brings a block of the answer.
     Ask(Part),

@@ -9,7 +9,7 @@ use coap_msg::{Datagram, Endpoint, WINDOW};
 pub const EXCHANGES: usize = 1024;
 
 /// A request that was opened: whose it is, its message id, whether it is confirmable, its number and moment.
-#[derive(Clone, Copy, Debug)]
+#[derive(Clone, Copy)]
 pub(crate) struct Opened {
     pub(crate) endpoint: Endpoint,
     pub(crate) id: u16,

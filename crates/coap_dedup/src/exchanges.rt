@@ -28,7 +28,7 @@ pub enum Looked {
 }
 
 /// What becomes of an answer.
-#[derive(Clone, Copy, Debug, PartialEq, Eq)]
+#[derive(Clone, Copy, PartialEq, Eq)]
 pub enum Closed {
     /// It is kept for the repeats of its request.
     Closed,

@@ -10,7 +10,7 @@ use crate::values::Values;
 use std::marker::Model;
 
 /// A message; token, options and payload are lent from the datagram (RFC 7252, 3).
-#[derive(Debug, Drop)]
+#[derive(Drop)]
 pub struct Message<'a> {
     kind: MessageType,
     code: Code,

@@ -8,7 +8,7 @@ use crate::wire::{EXT8_BIAS, EXT16_BIAS, NIBBLE_EXT8, NIBBLE_EXT16, PAYLOAD_MARK
 use std::marker::Model;
 
 /// The options of a message that are still to come, each with its number and its value, in order. A clause sees that list.
-#[derive(Debug, Drop)]
+#[derive(Drop)]
 pub struct Options<'a> {
     before: u16,
     bytes: &'a [u8],

@@ -3,7 +3,7 @@ use arrayvec::ArrayVec;
 use thiserror::Error;
 
 /// A UDP endpoint: an IPv4 address and a port.
-#[derive(Clone, Copy, Debug, Default, PartialEq, Eq)]
+#[derive(Clone, Copy, Default, PartialEq, Eq)]
 pub struct Endpoint {
     pub ip: [u8; 4],
     pub port: u16,
@@ -41,7 +41,7 @@ pub struct Emission {
 }
 
 /// The type of a message (RFC 7252, 3 and 4).
-#[derive(Clone, Copy, Debug, PartialEq, Eq)]
+#[derive(Clone, Copy, PartialEq, Eq)]
 pub enum MessageType {
     /// It is to be acknowledged.
     Confirmable,

@@ -7,7 +7,7 @@ use crate::options::Options;
 use std::marker::Model;
 
 /// The values of a message's options of one number that are still to come, in order. A clause sees that list.
-#[derive(Debug, Drop)]
+#[derive(Drop)]
 pub struct Values<'a> {
     number: u16,
     options: Options<'a>,

@@ -13,7 +13,7 @@ use crate::wire::{
 use arrayvec::ArrayVec;
 
 /// A message that is to be sent.
-#[derive(Clone, Copy, Debug)]
+#[derive(Clone, Copy)]
 pub struct Outgoing<'a> {
     /// The type.
     pub kind: MessageType,

@@ -5,7 +5,7 @@ use crate::uint::{UintBytes, decode_uint, encode_uint};
 use std::marker::Model;
 
 /// Which block of a body: its number, its size, and whether more follow. A clause sees these three.
-#[derive(Clone, Copy, Debug, PartialEq, Eq)]
+#[derive(Clone, Copy, PartialEq, Eq)]
 pub struct Block {
     number: u32,
     more: bool,

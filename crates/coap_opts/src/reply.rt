@@ -16,7 +16,7 @@ use coap_msg::writer::{write_head, write_optional, write_payload};
 use coap_msg::{Code, Datagram, MessageType};
 
 /// The options of a reply, each where it has a value.
-#[derive(Clone, Copy, Debug, Default)]
+#[derive(Clone, Copy, Default)]
 pub struct ReplyOptions {
     /// The version of what is sent, as an ETag of eight bytes.
     pub etag: Option<u64>,
@@ -53,7 +53,7 @@ impl ReplyOptions {
 }
 
 /// A reply: a message whose options are any set of those that the server sends (RFC 7252, 5.2).
-#[derive(Clone, Copy, Debug)]
+#[derive(Clone, Copy)]
 pub struct Reply<'a> {
     /// The type.
     pub kind: MessageType,

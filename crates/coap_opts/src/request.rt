@@ -4,7 +4,7 @@ use arrayvec::ArrayVec;
 use coap_msg::Code;
 
 /// The methods (RFC 7252, 5.8).
-#[derive(Clone, Copy, Debug, PartialEq, Eq)]
+#[derive(Clone, Copy, PartialEq, Eq)]
 pub enum Method {
     Get,
     Post,
@@ -13,7 +13,7 @@ pub enum Method {
 }
 
 /// What a path names.
-#[derive(Clone, Copy, Debug, PartialEq, Eq)]
+#[derive(Clone, Copy, PartialEq, Eq)]
 pub enum Resource {
     /// `/r/N`, whose answer slot N's program gives; N is 0 to 63.
     Run(u8),
@@ -36,7 +36,7 @@ pub const ETAGS: usize = 4;
 pub const PAYLOAD: usize = 1024;
 
 /// A request that the server carries out. The payload is lent from the datagram.
-#[derive(Debug, Drop)]
+#[derive(Drop)]
 pub struct Request<'a> {
     pub method: Method,
     pub resource: Resource,
@@ -57,7 +57,7 @@ pub struct Request<'a> {
 }
 
 /// The class of a message: a request, or what else is done about it.
-#[derive(Debug, Drop)]
+#[derive(Drop)]
 pub enum Classified<'a> {
     /// A request that is carried out.
     Request(Request<'a>),

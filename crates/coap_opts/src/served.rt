@@ -10,7 +10,7 @@ use crate::request::{Method, Resource};
 use coap_msg::Code;
 
 /// What is known of an option.
-#[derive(Clone, Copy, Debug)]
+#[derive(Clone, Copy)]
 pub struct Row {
     /// Its number; odd numbers are critical (RFC 7252, 5.4.6).
     pub number: u16,

@@ -6,7 +6,7 @@ use coap_msg::Endpoint;
 ///
 /// An event whose job isn't at the stage that the event needs changes nothing, nor does one whose shard is above 7. `Due`, `Fresh`,
 /// `Note` and `GiveUp` belong to what isn't served yet: they change nothing either.
-#[derive(Clone, Copy, Debug)]
+#[derive(Clone, Copy)]
 pub enum Event<'a> {
     /// A datagram comes.
     Deliver {

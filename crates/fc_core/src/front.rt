@@ -47,7 +47,7 @@ pub enum Delivered {
 }
 
 /// What a delivery comes to, where job and reply are written over others of the caller's.
-#[derive(Clone, Copy, Debug, PartialEq, Eq)]
+#[derive(Clone, Copy, PartialEq, Eq)]
 pub enum Heard {
     /// Nothing: the datagram is ignored.
     Nothing,
@@ -71,7 +71,7 @@ pub enum Answered {
 }
 
 /// What becomes of an answer, where what is sent is written over another emission.
-#[derive(Clone, Copy, Debug, PartialEq, Eq)]
+#[derive(Clone, Copy, PartialEq, Eq)]
 pub enum Responded {
     /// It is sent, and was written.
     Sent,

@@ -33,7 +33,7 @@ pub fn is_present(word: u64) -> bool
 }
 
 /// The greatest head word raised for each of the 64 slots, and 0 for one for which none was. A clause sees the words.
-#[derive(Debug, Drop)]
+#[derive(Drop)]
 pub struct Heads {
     words: [u64; WORDS],
 }

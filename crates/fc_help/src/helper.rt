@@ -5,7 +5,7 @@ ghost use Rattle.fc_help.specs.Helpers.{helper_number, helper_of, room_of, signa
 use crate::request::Method;
 
 /// A function of the host that a program may call.
-#[derive(Clone, Copy, Debug, PartialEq, Eq)]
+#[derive(Clone, Copy, PartialEq, Eq)]
 pub enum Helper {
     /// `payload_len()`: the payload's length.
     PayloadLen,
@@ -24,7 +24,7 @@ pub enum Helper {
 }
 
 /// What a helper takes: R1, or R1 and R2.
-#[derive(Clone, Copy, Debug, PartialEq, Eq)]
+#[derive(Clone, Copy, PartialEq, Eq)]
 pub enum Arguments {
     /// Nothing.
     NoArgument,
@@ -37,7 +37,7 @@ pub enum Arguments {
 }
 
 /// What a helper takes, and the greatest number that it answers; the least is 0.
-#[derive(Clone, Copy, Debug, PartialEq, Eq)]
+#[derive(Clone, Copy, PartialEq, Eq)]
 pub struct Signature {
     pub arguments: Arguments,
     pub most: u64,

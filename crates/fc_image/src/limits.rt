@@ -6,7 +6,7 @@ use fc_isa::{Fault, Rule};
 use std::marker::Model;
 
 /// What an image's header says of its program. A clause sees the three numbers, which are within their limits.
-#[derive(Clone, Copy, Debug, PartialEq, Eq)]
+#[derive(Clone, Copy, PartialEq, Eq)]
 pub struct Head {
     vars_size: u16,
     count: u16,

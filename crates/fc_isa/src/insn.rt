@@ -4,7 +4,7 @@ ghost use Rattle.std.specs.Prelude.{◌≡◌, ◌<◌, ℕ};
 use std::marker::Model;
 
 /// A register, R0 to R10. A clause sees its number.
-#[derive(Clone, Copy, Debug, PartialEq, Eq)]
+#[derive(Clone, Copy, PartialEq, Eq)]
 pub struct Reg {
     number: u8,
 }
@@ -49,7 +49,7 @@ impl Reg {
 }
 
 /// A register that a program may write, R0 to R9. A clause sees its number.
-#[derive(Clone, Copy, Debug, PartialEq, Eq)]
+#[derive(Clone, Copy, PartialEq, Eq)]
 pub struct Target {
     number: u8,
 }
@@ -101,7 +101,7 @@ pub enum Width {
 }
 
 /// The second operand: an immediate, or a register.
-#[derive(Clone, Copy, Debug, PartialEq, Eq)]
+#[derive(Clone, Copy, PartialEq, Eq)]
 pub enum Operand {
     Imm(i32),
     Reg(Reg),
@@ -151,7 +151,7 @@ pub enum SwapWidth {
 }
 
 /// How many bytes a store writes: 1, 2, 4 or 8.
-#[derive(Clone, Copy, Debug, PartialEq, Eq)]
+#[derive(Clone, Copy, PartialEq, Eq)]
 pub enum Size {
     Byte,
     HalfWord,
@@ -160,7 +160,7 @@ pub enum Size {
 }
 
 /// How many bytes a load reads, and whether their sign is extended.
-#[derive(Clone, Copy, Debug, PartialEq, Eq)]
+#[derive(Clone, Copy, PartialEq, Eq)]
 pub enum LoadType {
     Unsigned(Size),
     SignedByte,
@@ -196,7 +196,7 @@ pub enum Relation {
 }
 
 /// A conditional jump: the offset counts slots from the one after it.
-#[derive(Clone, Copy, Debug, PartialEq, Eq)]
+#[derive(Clone, Copy, PartialEq, Eq)]
 pub struct Jump {
     pub width: Width,
     pub relation: Relation,
@@ -206,7 +206,7 @@ pub struct Jump {
 }
 
 /// What a slot of a program holds: an instruction, or the second half of the wide load before it.
-#[derive(Clone, Copy, Debug, PartialEq, Eq)]
+#[derive(Clone, Copy, PartialEq, Eq)]
 pub enum Insn {
     /// `add64 dst, operand` and its like.
     Alu {

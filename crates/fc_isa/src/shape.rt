@@ -44,7 +44,7 @@ const MEMSX: u8 = 4;
 static FORMS: [Shape; 256] = SHAPES;
 
 /// Where the second operand comes from (RFC 9669, 4): K is the immediate, X the source register.
-#[derive(Clone, Copy, Debug, PartialEq, Eq)]
+#[derive(Clone, Copy, PartialEq, Eq)]
 pub enum Source {
     K,
     X,
@@ -53,7 +53,7 @@ pub enum Source {
 /// An opcode's form. What the opcode leaves open stands in the other fields of the slot: the signed division is a division
 /// with offset 1, `movsx` a move of a register with another offset than 0, and a call's source tells a helper from a
 /// function of the program.
-#[derive(Clone, Copy, Debug, PartialEq, Eq)]
+#[derive(Clone, Copy, PartialEq, Eq)]
 pub enum Shape {
     /// No instruction has this opcode.
     Unknown,
@@ -90,7 +90,7 @@ pub enum Shape {
 }
 
 /// Which fields a slot uses: the destination, the source, the offset, the immediate. The others are zero.
-#[derive(Clone, Copy, Debug, PartialEq, Eq)]
+#[derive(Clone, Copy, PartialEq, Eq)]
 pub struct Uses {
     pub dst: bool,
     pub src: bool,

@@ -6,7 +6,7 @@ ghost use Rattle.fc_alu.specs.Words.{bits_of};
 use fc_isa::{AluOp, Relation, SignExtension, Width};
 
 /// The numbers from `lo` to `hi`.
-#[derive(Clone, Copy, Debug, PartialEq, Eq)]
+#[derive(Clone, Copy, PartialEq, Eq)]
 pub struct Interval {
     pub lo: u64,
     pub hi: u64,

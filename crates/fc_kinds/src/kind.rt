@@ -1,7 +1,7 @@
 //! Kinds of register values.
 
 /// What is known of a register's value.
-#[derive(Clone, Copy, Debug, PartialEq, Eq)]
+#[derive(Clone, Copy, PartialEq, Eq)]
 pub enum Kind {
     /// Nothing: it can't be read.
     Unset,

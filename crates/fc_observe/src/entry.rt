@@ -20,7 +20,7 @@ pub const ACK_TIMEOUTS: u16 = 1001;
 pub const MAX_RETRANSMIT: u8 = 4;
 
 /// A turn of an observer to be notified: its slot, and its number among the turns of that slot, from 0.
-#[derive(Clone, Copy, Debug, Default, PartialEq, Eq)]
+#[derive(Clone, Copy, Default, PartialEq, Eq)]
 pub struct Turn {
     /// The slot.
     pub slot: u8,

@@ -19,7 +19,7 @@ use std::marker::Model;
 pub const OBSERVERS: usize = 32;
 
 /// What becomes of a registration.
-#[derive(Clone, Copy, Debug, PartialEq, Eq)]
+#[derive(Clone, Copy, PartialEq, Eq)]
 pub enum Registered {
     /// It is a new entry.
     Entered,

@@ -2,7 +2,7 @@
 use crate::ticket::Mark;
 
 /// What a commit of a ticket's run comes to, at its slot.
-#[derive(Clone, Copy, Debug, PartialEq, Eq)]
+#[derive(Clone, Copy, PartialEq, Eq)]
 pub enum CommitOutcome {
     /// It writes: the run answered a POST with a code of class 2, and nothing has changed since the ticket was taken.
     Writes,

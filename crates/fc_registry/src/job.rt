@@ -8,14 +8,14 @@ use coap_opts::request::ETAGS;
 use fc_help::Request;
 
 /// An opened exchange: its number, counted from 0, and the moment at which it was opened, in milliseconds.
-#[derive(Clone, Copy, Debug, Default, PartialEq, Eq)]
+#[derive(Clone, Copy, Default, PartialEq, Eq)]
 pub struct Opening {
     pub number: u64,
     pub at: u64,
 }
 
 /// Where a job comes from: its exchange, endpoint and message id, and the slot that its request names; one that names none has 0.
-#[derive(Clone, Copy, Debug, Default, PartialEq, Eq)]
+#[derive(Clone, Copy, Default, PartialEq, Eq)]
 pub struct Origin {
     pub opening: Opening,
     pub endpoint: Endpoint,

@@ -6,7 +6,7 @@ use fc_verify::Verified;
 
 /// What is told of an installed program: the serial of its install, its cost and budget in steps, and the size of its
 /// variables in bytes.
-#[derive(Clone, Copy, Debug, PartialEq, Eq)]
+#[derive(Clone, Copy, PartialEq, Eq)]
 pub struct Receipt {
     pub version: u64,
     pub cost: u32,

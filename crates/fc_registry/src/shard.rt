@@ -75,7 +75,7 @@ pub enum Taken {
 }
 
 /// What an install answers.
-#[derive(Clone, Copy, Debug, PartialEq, Eq)]
+#[derive(Clone, Copy, PartialEq, Eq)]
 pub enum Made {
     /// The slot's new serial, and whether it was empty before.
     Raised { serial: u64, created: bool },
@@ -84,7 +84,7 @@ pub enum Made {
 }
 
 /// What a removal answers.
-#[derive(Clone, Copy, Debug, PartialEq, Eq)]
+#[derive(Clone, Copy, PartialEq, Eq)]
 pub enum Removal {
     /// The program is gone; the slot's new serial.
     Removed { serial: u64 },

@@ -10,7 +10,7 @@ pub const SLOTS: u8 = 64;
 pub const SHARDS: u8 = 8;
 
 /// The number of a slot: 0 to 63. A clause sees the number itself.
-#[derive(Clone, Copy, Debug, Default, PartialEq, Eq)]
+#[derive(Clone, Copy, Default, PartialEq, Eq)]
 pub struct SlotNumber {
     number: u8,
 }
