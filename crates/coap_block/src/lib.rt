@@ -33,8 +33,6 @@
 
 pub mod cut;
 pub mod laws;
-#[cfg(test)]
-mod tests;
 pub mod transfer;
 pub mod uploads;
 

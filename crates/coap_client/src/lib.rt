@@ -14,6 +14,3 @@ pub use part::Part;
 pub use path::{Path, PathError};
 pub use reply::Next;
 pub use udp::Server;
-
-#[cfg(test)]
-mod tests;

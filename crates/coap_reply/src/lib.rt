@@ -22,8 +22,6 @@
 
 pub mod block;
 pub mod reply;
-#[cfg(test)]
-mod tests;
 
 pub use block::{BLOCK, BodyBlock};
 pub use reply::{Envelope, content, ran, reply_kind, reset, respond, text};

@@ -19,8 +19,6 @@ pub mod comparison;
 pub mod instruction;
 pub mod operation;
 pub mod sign_extension;
-#[cfg(test)]
-mod tests;
 
 pub use byte_order::reorder;
 pub use comparison::{compare, truth};

@@ -30,6 +30,3 @@ pub mod protocol;
 
 pub use ends::{Got, Jobs, Sent};
 pub use protocol::Numbered;
-
-#[cfg(test)]
-mod tests;

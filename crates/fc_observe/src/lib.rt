@@ -54,8 +54,6 @@
 pub mod entry;
 pub mod laws;
 pub mod observers;
-#[cfg(test)]
-mod tests;
 
 pub use entry::{Entry, Observer, Phase, Turn};
 pub use observers::{Observers, Registered, Ticked};

@@ -1,27 +1,17 @@
 -- What is done with a line, and what is printed.
-use Rattle.std.specs.Prelude.{◌≡◌, ℕ, List, [], ◌∷◌, ◌++◌, Option, Some, None, slice_index}
+use Rattle.std.specs.Prelude.{◌≡◌, ℕ, List, [], Option, Some, None}
 use Rattle.std.specs.Borrow.{Bor}
-use Rattle.std.specs.Fmt.{decimal}
-use Rattle.hex.specs.Hex.{encode_lower}
-use Rattle.coap_msg.specs.declared.types.Endpoint.{Endpoint}
 use Rattle.coap_msg.specs.declared.types.Emission.{Emission}
 use Rattle.fc_core.specs.declared.event.Event.TheVariants.{Deliver as Delivers}
 use Rattle.fc_core.specs.Exchanges.{advanced}
 use Rattle.fc_core.specs.Receiving.{delivered}
 use Rattle.fc_server.specs.Serving.{Hears, Passes}
 use Rattle.fc_server.specs.States.{ServerState}
-use Rattle.fc_service.specs.declared.line.Line.{Line}
-use Rattle.fc_service.specs.declared.line.Line.TheVariants.{Deliver, Tick}
-use Rattle.fc_service.specs.Fields.{space}
+use Rattle.fc_lines.specs.declared.line.Line.{Line}
+use Rattle.fc_lines.specs.declared.line.Line.TheVariants.{Deliver, Tick}
+use Rattle.fc_lines.specs.Emissions.{endpoint_of, printed}
 
--- a peer is 127.0.0.peer, at CoAP's port
-abbrev pub endpoint_of : ℕ → Endpoint
-endpoint_of peer = record { ip = 127 ∷ 0 ∷ 0 ∷ peer ∷ []; port = 5683 }
-
--- an emission is printed as `peer hex` and a line feed
-abbrev pub printed : Emission → List ℕ
-printed e = decimal (slice_index e.to.ip 3) ++ (space ∷ (encode_lower e.bytes.items ++ (10 ∷ [])))
-
+-- what is printed of what is sent
 abbrev pub output_of : Option Emission → List ℕ
 output_of None = []
 output_of (Some emission) = printed emission

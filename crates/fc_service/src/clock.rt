@@ -1,8 +1,8 @@
-//! The clocks: moments since a start, and a message id to begin with.
+//! The monotonic clock: moments since a start.
 use fc_workers::Moments;
 use std::io;
 use std::sync::Wait;
-use std::time::{Clock, Instant, SystemTime};
+use std::time::{Clock, Instant};
 
 // Milliseconds since a start, by the monotonic clock. It is 0 where the clock can't be read.
 #[derive(Drop)]
@@ -26,16 +26,5 @@ impl<'a, C: Clock> Moments for Elapsed<'a, C> {
             Ok(elapsed) => u64::try_from(elapsed.as_millis()).unwrap_or(u64::MAX),
             Err(_) => 0,
         }
-    }
-}
-
-/// The lowest 16 bits of the clock's milliseconds: a message id to begin with. It is 0 where the clock can't be read.
-pub fn clock_id<R: Clock>(rt: &R) -> u16 {
-    let Ok(now) = SystemTime::now(rt) else {
-        return 0;
-    };
-    match now.duration_since(SystemTime::UNIX_EPOCH) {
-        Ok(since) => (since.as_millis() % 65_536) as u16,
-        Err(_) => 0,
     }
 }

@@ -1,7 +1,7 @@
-//! The service: what a server does with each datagram, from end to end.
+//! What the server's program does: its command line, lines that are played, and a socket that is served.
 //!
 //! ```rust
-//! use fc_service::Status;
+//! use fc_cli::Status;
 //! use fc_service::play::play;
 //! use std::alloc::Global;
 //!
@@ -18,18 +18,10 @@
 #![tactic(auto)]
 
 pub mod clock;
-pub mod command_line;
-pub mod fetch;
-pub mod hexadecimal;
-pub mod line;
+pub mod command;
 pub mod play;
 pub mod pool;
 pub mod replies;
 pub mod serve;
 pub mod socket;
-pub mod status;
-pub mod tools;
 pub mod workers;
-
-pub use line::Line;
-pub use status::Status;

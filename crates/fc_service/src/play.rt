@@ -4,43 +4,18 @@ ghost use Rattle.std.specs.Io.KnownBytes.{Appends};
 ghost use Rattle.coap_msg.specs.declared.types.Emission.{Emission as Sent};
 ghost use Rattle.fc_registry.specs.Slots.{last_serial};
 ghost use Rattle.fc_core.specs.Receiving.{emission_if};
-ghost use Rattle.fc_service.specs.Playing.{endpoint_of, printed, output_of, IsCarriedOut};
+ghost use Rattle.fc_service.specs.Playing.{output_of, IsCarriedOut};
 
-use crate::hexadecimal;
-use crate::line::{Line, LineError, parse};
-use crate::status::{Status, tell};
-use coap_msg::{Emission, Endpoint};
+use coap_msg::Emission;
+use fc_cli::status::{Status, tell};
+use fc_cli::stop::Stop;
 use fc_core::front::blank_emission;
+use fc_lines::emission::{endpoint, print};
+use fc_lines::line::{Line, LineError, parse};
 use fc_server::Engine;
 use std::alloc::{AllocError, Global};
 use std::io;
 use std::io::{BufRead, Write};
-use thiserror::Error;
-
-/// The port of CoAP (RFC 7252, 6.1).
-const PORT: u16 = 5683;
-
-// Why a play stops before the end of its input.
-#[derive(Debug, Drop, Error)]
-pub(crate) enum Stop {
-    #[error("line {0}: bad")]
-    BadLine(u64),
-    #[error("standard input: {0}")]
-    Input(io::Error),
-    #[error("standard output: {0}")]
-    Output(io::Error),
-    #[error("{0}")]
-    Memory(#[from] AllocError),
-}
-
-impl Stop {
-    pub(crate) fn status(&self) -> Status {
-        match self {
-            Stop::BadLine(_) => Status::Bad,
-            Stop::Input(_) | Stop::Output(_) | Stop::Memory(_) => Status::Failed,
-        }
-    }
-}
 
 /// Reads lines, carries out each in turn on an engine of its own, and prints what each sends before it reads the next.
 /// It ends `Done` at the end of the input; `Bad` where a line is bad, which `err` is told by its number from 1; and
@@ -120,33 +95,9 @@ fn carry_out<W: Write>(
     }
 }
 
-/// The endpoint of a peer.
-pub fn endpoint(peer: u8) -> Endpoint
-    ensures { result ≡ endpoint_of peer }
-{
-    Endpoint {
-        ip: [127, 0, 0, peer],
-        port: PORT,
-    }
-}
-
 // Prints an emission, where it is sent.
 fn print_if<W: Write>(out: &mut W, sent: bool, emission: &Emission) -> io::Result<()>
     ensures { OnOk result (Appends (W.contents out.old) (W.contents out.new) (output_of (emission_if sent emission.now))) }
 {
     if sent { print(out, emission) } else { Ok(()) }
-}
-
-/// Prints an emission as `peer hex`, and has it written out.
-///
-/// # Errors
-/// The writer failed.
-pub fn print<W: Write>(out: &mut W, emission: &Emission) -> io::Result<()>
-    ensures { OnOk result (Appends (W.contents out.old) (W.contents out.new) (printed emission.now)) }
-{
-    let peer = emission.to.ip[3];
-    write!(out, "{peer} ")?;
-    hexadecimal::write(out, emission.bytes.as_slice())?;
-    out.write_all(b"\n")?;
-    out.flush()
 }

@@ -15,7 +15,7 @@ use std::sync::ledger::Ledger;
 use std::thread::Threads;
 
 /// The serial that empty slots begin with, and the first message id of the server's own.
-#[derive(Clone, Copy, Debug)]
+#[derive(Clone, Copy)]
 pub struct Begin {
     pub serial: u64,
     pub id: u16,

@@ -6,7 +6,7 @@ use fc_workers::Share;
 use std::fmt;
 
 /// How many replies went out, and how many didn't. Each count stops at 2^64 - 1.
-#[derive(Clone, Copy, Debug, PartialEq, Eq)]
+#[derive(Clone, Copy, PartialEq, Eq)]
 pub struct Replies {
     pub sent: u64,
     pub failed: u64,

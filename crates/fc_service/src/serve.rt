@@ -5,15 +5,16 @@ ghost use Rattle.fc_core.specs.Exchanges.{advanced};
 ghost use Rattle.fc_core.specs.Receiving.{delivered, emission_if};
 ghost use Rattle.fc_registry.specs.Slots.{last_serial};
 ghost use Rattle.fc_server.specs.Serving.{Hears};
-ghost use Rattle.fc_service.specs.declared.status.Status.TheVariants.{Done, Failed};
+ghost use Rattle.fc_cli.specs.declared.status.Status.TheVariants.{Done, Failed};
 
-use crate::clock::{Elapsed, clock_id};
+use crate::clock::Elapsed;
 use crate::pool::{Begin, Feeder, Intake, Pool, run_pool};
 use crate::replies::Replies;
 use crate::socket::{Replying, Sink, Source, open};
-use crate::status::{Status, tell};
 use coap_msg::types::DATAGRAM;
 use coap_msg::{Emission, Endpoint};
+use fc_cli::clock::clock_id;
+use fc_cli::status::{Status, tell};
 use fc_core::Delivered;
 use fc_core::front::blank_emission;
 use fc_jobs::{Jobs, Sent};
@@ -36,7 +37,7 @@ const FIRST_SERIAL: u64 = 0;
 const BUFFER: usize = DATAGRAM + 1;
 
 /// By how many workers a server works jobs off, 1 to 16, and after how many datagrams it ends; 0 is never.
-#[derive(Clone, Copy, Debug)]
+#[derive(Clone, Copy)]
 pub struct Extent {
     pub workers: u8,
     pub limit: u32,

@@ -5,14 +5,15 @@ ghost use Rattle.coap_msg.specs.declared.types.Emission.{Emission as Emitted};
 ghost use Rattle.fc_registry.specs.Slots.{last_serial};
 ghost use Rattle.fc_service.specs.Playing.{output_of};
 
-use crate::line::{Line, LineError, parse};
-use crate::play::{Stop, endpoint, print};
 use crate::pool::{Begin, Feeder, Intake, Pool, run_pool};
-use crate::status::{Status, tell};
 use coap_msg::{Emission, Endpoint};
+use fc_cli::status::{Status, tell};
+use fc_cli::stop::Stop;
 use fc_core::Delivered;
 use fc_core::front::blank_emission;
 use fc_jobs::{Jobs, Sent};
+use fc_lines::emission::{endpoint, print};
+use fc_lines::line::{Line, LineError, parse};
 use fc_workers::{Moments, Wire};
 use std::alloc::{AllocError, Global};
 use std::io;

@@ -2,9 +2,9 @@
 #![tactic(auto)]
 
 use clap::{Arg, ArgMatches, Command, value_parser};
-use fc_service::Status;
-use fc_service::command_line::{VERSION, exit_code, explain, words};
-use fc_service::tools::{check, image, list};
+use fc_cli::Status;
+use fc_cli::command_line::{VERSION, exit_code, parse, words};
+use fc_tools::tools::{check, image, list};
 use std::alloc::{AllocError, Global};
 use std::io;
 use std::io::{BufReader, BufWriter, Read, Write};
@@ -79,9 +79,9 @@ fn obey<R: Runtime + AllocGlobal, E: Write>(
     words: Vec<String>,
 ) -> anyhow::Result<Status> {
     let alloc = rt.alloc();
-    let matches = match command(alloc)?.try_get_matches_from(words.as_slice()) {
+    let matches = match parse(rt, command(alloc)?, &words)? {
         Ok(matches) => matches,
-        Err(error) => return explain(rt, &error),
+        Err(status) => return Ok(status),
     };
     let mut input = BufReader::new(alloc, rt.reader())?;
     let mut out = BufWriter::new(alloc, io::writer(rt))?;

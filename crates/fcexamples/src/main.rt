@@ -2,10 +2,10 @@
 #![tactic(auto)]
 
 use clap::{Arg, Command, Error};
-use fc_service::Status;
-use fc_service::command_line::{VERSION, exit_code, explain, words};
+use fc_cli::Status;
+use fc_cli::command_line::{VERSION, exit_code, parse, words};
 use fc_service::play::play;
-use fc_service::tools::{check, image_of};
+use fc_tools::tools::{check, image_of};
 use std::alloc::Global;
 use std::io::{BufWriter, Write};
 use std::process::ExitCode;
@@ -67,9 +67,9 @@ fn run<E: Write>(rt: &HostRuntime, err: &mut E) -> anyhow::Result<Status> {
 
 // Shows the programs of the folder that the command line names.
 fn obey<E: Write>(rt: &HostRuntime, err: &mut E, words: Vec<String>) -> anyhow::Result<Status> {
-    let matches = match command(rt.alloc())?.try_get_matches_from(words.as_slice()) {
+    let matches = match parse(rt, command(rt.alloc())?, &words)? {
         Ok(matches) => matches,
-        Err(error) => return explain(rt, &error),
+        Err(status) => return Ok(status),
     };
     show_all(rt, err, matches.get_str("folder").unwrap_or("."))
 }

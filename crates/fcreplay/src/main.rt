@@ -1,16 +1,10 @@
 //! The replayer's program: it carries out a list of events, and prints what each emits and what the slots are at the end.
 #![tactic(auto)]
 
-mod listed;
-mod printing;
-mod replay;
-#[cfg(test)]
-mod replay_tests;
-mod stop;
-
 use clap::{Command, Error};
-use fc_service::Status;
-use fc_service::command_line::{VERSION, exit_code, explain, words};
+use fc_cli::Status;
+use fc_cli::command_line::{VERSION, exit_code, parse, words};
+use fc_replay::replay::replay;
 use std::alloc::Global;
 use std::io;
 use std::io::{BufReader, BufWriter, Write};
@@ -53,12 +47,12 @@ fn obey<R: Runtime + AllocGlobal, E: Write>(
     words: Vec<String>,
 ) -> anyhow::Result<Status> {
     let alloc = rt.alloc();
-    if let Err(error) = command(alloc).try_get_matches_from(words.as_slice()) {
-        return explain(rt, &error);
+    if let Err(status) = parse(rt, command(alloc), &words)? {
+        return Ok(status);
     }
     let mut input = BufReader::new(alloc, rt.reader())?;
     let mut out = BufWriter::new(alloc, io::writer(rt))?;
-    Ok(replay::replay(alloc, &mut input, &mut out, err))
+    Ok(replay(alloc, &mut input, &mut out, err))
 }
 
 fn main(rt: HostRuntime) -> ExitCode {

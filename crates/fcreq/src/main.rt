@@ -3,9 +3,9 @@
 
 use clap::{Arg, ArgMatches, Command, Error, value_parser};
 use coap_opts::Method;
-use fc_service::Status;
-use fc_service::command_line::{VERSION, exit_code, explain, words};
-use fc_service::fetch::fetch;
+use fc_cli::Status;
+use fc_cli::command_line::{VERSION, exit_code, parse, words};
+use fc_fetch::fetch;
 use std::alloc::Global;
 use std::io;
 use std::io::{BufWriter, Write};
@@ -78,9 +78,9 @@ fn obey<R: Runtime + AllocGlobal + Net, E: Write>(
     err: &mut E,
     words: Vec<String>,
 ) -> anyhow::Result<Status> {
-    let matches = match command(rt.alloc())?.try_get_matches_from(words.as_slice()) {
+    let matches = match parse(rt, command(rt.alloc())?, &words)? {
         Ok(matches) => matches,
-        Err(error) => return explain(rt, &error),
+        Err(status) => return Ok(status),
     };
     ask(rt, err, &matches)
 }

@@ -45,11 +45,6 @@ static NESTED: [Judged; 5] = [
     ),
 ];
 
-#[test]
-fn calls_nest_four_frames(rt: HostRuntime) -> Result<(), Fail> {
-    check_all(&rt, 0, &NESTED)
-}
-
 // A call costs a step and its function's steps, each time.
 static COSTS: [Judged; 5] = [
     (
@@ -73,11 +68,6 @@ static COSTS: [Judged; 5] = [
     (b"call 8\nmov64 r0, 0\nexit", 3, "V17 slot 0\n"),
 ];
 
-#[test]
-fn each_call_costs_its_function(rt: HostRuntime) -> Result<(), Fail> {
-    check_all(&rt, 0, &COSTS)
-}
-
 // Where calls lead, and where functions end.
 static TEXTS: [Judged; 8] = [
     // out of the program, and into a wide load
@@ -98,11 +88,6 @@ static TEXTS: [Judged; 8] = [
     // the last instruction of a function is an exit
     (b"callf 1\nexit\nmov64 r0, 0", 9, "V13 slot 2\n"),
 ];
-
-#[test]
-fn calls_lead_to_later_functions(rt: HostRuntime) -> Result<(), Fail> {
-    check_all(&rt, 0, &TEXTS)
-}
 
 // What registers hold after a call, and at the start of a function.
 static REGISTERS: [Judged; 10] = [
@@ -150,11 +135,6 @@ static REGISTERS: [Judged; 10] = [
     ),
 ];
 
-#[test]
-fn calls_keep_half_of_the_registers(rt: HostRuntime) -> Result<(), Fail> {
-    check_all(&rt, 0, &REGISTERS)
-}
-
 // Pointers into stack frames that are handed to functions.
 static FRAMES: [Judged; 7] = [
     // the caller's frame, and the end of the function's own
@@ -198,11 +178,6 @@ static FRAMES: [Judged; 7] = [
     ),
 ];
 
-#[test]
-fn functions_reach_the_frames_above(rt: HostRuntime) -> Result<(), Fail> {
-    check_all(&rt, 0, &FRAMES)
-}
-
 // What helpers take: helpers 2, 3 and 6 a number, helper 4 two.
 static NUMBERS: [Judged; 10] = [
     (b"call 1\ncall 7\nexit", 3, "accepted cost 3 budget 3\n"),
@@ -226,11 +201,6 @@ static NUMBERS: [Judged; 10] = [
     (b"call 1\nmov64 r1, 0\ncall 4\nexit", 9, "V20 slot 2\n"),
     (b"call 1\nmov64 r1, r10\ncall 5\nexit", 9, "V20 slot 2\n"),
 ];
-
-#[test]
-fn helpers_take_numbers(rt: HostRuntime) -> Result<(), Fail> {
-    check_all(&rt, 0, &NUMBERS)
-}
 
 // Helper 5 takes a pointer and a number of bytes that lie in its region: the frame, and the request.
 static BYTES: [Judged; 12] = [
@@ -288,11 +258,6 @@ static BYTES: [Judged; 12] = [
     ),
 ];
 
-#[test]
-fn a_reply_is_put_from_a_region(rt: HostRuntime) -> Result<(), Fail> {
-    check_all(&rt, 0, &BYTES)
-}
-
 // The variables' eight bytes are put whole, and no byte more.
 static VARIABLES: [Judged; 2] = [
     (
@@ -306,11 +271,6 @@ static VARIABLES: [Judged; 2] = [
         "V27 slot 2\n",
     ),
 ];
-
-#[test]
-fn the_variables_are_put_whole(rt: HostRuntime) -> Result<(), Fail> {
-    check_all(&rt, 8, &VARIABLES)
-}
 
 // What a helper may answer, shown by a load at R0 from a place in the frame.
 static ANSWERS: [Judged; 10] = [
@@ -369,7 +329,15 @@ static ANSWERS: [Judged; 10] = [
 ];
 
 #[test]
-fn answers_of_helpers_have_limits(rt: HostRuntime) -> Result<(), Fail> {
+fn programs_with_calls_are_judged(rt: HostRuntime) -> Result<(), Fail> {
+    check_all(&rt, 0, &NESTED)?;
+    check_all(&rt, 0, &COSTS)?;
+    check_all(&rt, 0, &TEXTS)?;
+    check_all(&rt, 0, &REGISTERS)?;
+    check_all(&rt, 0, &FRAMES)?;
+    check_all(&rt, 0, &NUMBERS)?;
+    check_all(&rt, 0, &BYTES)?;
+    check_all(&rt, 8, &VARIABLES)?;
     check_all(&rt, 0, &ANSWERS)
 }
 

@@ -1,7 +1,9 @@
-//! The tests that cross crates: each line, list of events, text and image here says what the RFCs of the protocol and of the
-//! instructions make of it, worked out by hand.
+//! The tests that cross crates, and those of crates that would be proved twice for theirs: what each line, list of events, text,
+//! image, datagram and number here is to give follows from the RFCs of the protocol and of the instructions, worked out by hand.
 #![tactic(auto)]
 
+#[cfg(test)]
+mod alu_tests;
 #[cfg(test)]
 mod asm_tests;
 #[cfg(test)]
@@ -9,28 +11,46 @@ mod block_tests;
 #[cfg(test)]
 mod call_tests;
 #[cfg(test)]
+mod client_tests;
+#[cfg(test)]
+mod command_tests;
+#[cfg(test)]
 mod event_tests;
 #[cfg(test)]
 mod faulty;
 #[cfg(test)]
+mod feeder;
+#[cfg(test)]
 mod isa_tests;
+#[cfg(test)]
+mod job_tests;
 #[cfg(test)]
 mod machine_tests;
 #[cfg(test)]
 mod message_tests;
 #[cfg(test)]
+mod observer_tests;
+#[cfg(test)]
 mod opcode_tests;
+#[cfg(test)]
+mod overtaking_tests;
 #[cfg(test)]
 mod play_tests;
 #[cfg(test)]
 mod post_tests;
 #[cfg(test)]
+mod replay_tests;
+#[cfg(test)]
 mod reply_tests;
 #[cfg(test)]
 mod request_tests;
+#[cfg(test)]
+mod response_tests;
 #[cfg(test)]
 mod socket_tests;
 #[cfg(test)]
 mod tool_tests;
 #[cfg(test)]
 mod tooling;
+#[cfg(test)]
+mod transfer_tests;

@@ -1,8 +1,8 @@
 // Runs of a POST: what they give follows from the tables of instructions, helpers and the request, worked out by hand.
 use crate::tooling::assembled;
+use fc_cli::Status;
 use fc_help::{Method, Request, Vars};
 use fc_machine::{Frame, run};
-use fc_service::Status;
 use fc_verify::verify;
 use std::process::Abort;
 use std::test::Fail;

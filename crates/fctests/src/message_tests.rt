@@ -38,11 +38,6 @@ static HEADER_CASES: [(&[u8], Option<Bad>); 10] = [
     (b"\x60\x00\x00\x07\xff\x01", Some(Bad::Ignore)),
 ];
 
-#[test]
-fn headers(rt: HostRuntime) {
-    check_refusals(&rt, &HEADER_CASES);
-}
-
 static OPTION_CASES: [(&[u8], Option<Bad>); 10] = [
     // A marker with nothing behind it.
     (b"\x40\x01\x00\x0a\xff", Some(Bad::Reset(10))),
@@ -61,7 +56,8 @@ static OPTION_CASES: [(&[u8], Option<Bad>); 10] = [
 ];
 
 #[test]
-fn options_and_payloads(rt: HostRuntime) {
+fn format_errors(rt: HostRuntime) {
+    check_refusals(&rt, &HEADER_CASES);
     check_refusals(&rt, &OPTION_CASES);
 }
 

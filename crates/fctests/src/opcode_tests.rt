@@ -189,36 +189,12 @@ fn check_rows<R: Abort + AllocGlobal>(rt: &R, rows: &[(&[u8], &str)]) -> Result<
 }
 
 #[test]
-fn arithmetic_of_32_bits_is_listed(rt: HostRuntime) -> Result<(), Fail> {
-    check_rows(&rt, ARITHMETIC_OF_32_BITS.as_slice())
-}
-
-#[test]
-fn arithmetic_of_64_bits_is_listed(rt: HostRuntime) -> Result<(), Fail> {
-    check_rows(&rt, ARITHMETIC_OF_64_BITS.as_slice())
-}
-
-#[test]
-fn jumps_by_whole_registers_are_listed(rt: HostRuntime) -> Result<(), Fail> {
-    check_rows(&rt, JUMPS_BY_WHOLE_REGISTERS.as_slice())
-}
-
-#[test]
-fn jumps_by_low_halves_are_listed(rt: HostRuntime) -> Result<(), Fail> {
-    check_rows(&rt, JUMPS_BY_LOW_HALVES.as_slice())
-}
-
-#[test]
-fn loads_and_stores_are_listed(rt: HostRuntime) -> Result<(), Fail> {
-    check_rows(&rt, MEMORY.as_slice())
-}
-
-#[test]
-fn other_opcodes_are_listed(rt: HostRuntime) -> Result<(), Fail> {
-    check_rows(&rt, OTHERS.as_slice())
-}
-
-#[test]
-fn forms_of_an_opcode_are_told_apart(rt: HostRuntime) -> Result<(), Fail> {
-    check_rows(&rt, FORMS.as_slice())
+fn opcodes_are_listed(rt: HostRuntime) -> Result<(), Fail> {
+    check_rows(&rt, &ARITHMETIC_OF_32_BITS)?;
+    check_rows(&rt, &ARITHMETIC_OF_64_BITS)?;
+    check_rows(&rt, &JUMPS_BY_WHOLE_REGISTERS)?;
+    check_rows(&rt, &JUMPS_BY_LOW_HALVES)?;
+    check_rows(&rt, &MEMORY)?;
+    check_rows(&rt, &OTHERS)?;
+    check_rows(&rt, &FORMS)
 }

@@ -1,8 +1,8 @@
 // Lines that are played, and what is printed: the expected bytes are those of the protocol, worked out by hand.
 use crate::faulty::{Full, Unflushed};
 use clap::Error;
-use fc_service::Status;
-use fc_service::command_line::explain;
+use fc_cli::Status;
+use fc_cli::command_line::explain;
 use fc_service::play::play;
 use std::alloc::{AllocError, Global};
 use std::io;
@@ -40,94 +40,6 @@ fn check_printed<R: Abort + AllocGlobal>(rt: &R, input: &str, want: &str) {
     );
 }
 
-// The program of each install answers 2.05 in two steps, with a budget of two; the second install's budget is one.
-#[test]
-fn install_is_run_and_kept(rt: HostRuntime) {
-    check_printed(
-        &rt,
-        "0 1 4103123370b1700130ff46434231000002000200000000000000b7000000450000009500000000000000\n\
-         1 1 4101123471b1720130\n\
-         2 1 4103123570b1700130ff46434231000002000100000000000000b7000000450000009500000000000000\n\
-         3 1 4101123671b1720130\n",
-        "1 6141123370ff76657273696f6e3d3120636f73743d32206275646765743d3220766172733d30\n\
-         1 6145123471480000000000000001\n\
-         1 6180123570ff56313620736c6f742030\n\
-         1 6145123671480000000000000001\n",
-    );
-}
-
-// A program that answers 4.03 unless the payload begins with `k`: byte 80 of the request is the first of the payload, or 0.
-#[test]
-fn a_program_reads_the_payload(rt: HostRuntime) {
-    check_printed(
-        &rt,
-        "0 1 40030030b1700130ff464342310000070007000000000000007114500000000000720affff6b00000071a5ffff00000000b7000000000000001d54010000000000b7000000830000009500000000000000\n\
-         1 1 40010031b1720130\n\
-         2 1 40010032b1720130ff6b\n",
-        "1 60410030ff76657273696f6e3d3120636f73743d37206275646765743d3720766172733d30\n\
-         1 60830031\n\
-         1 60450032480000000000000001\n",
-    );
-}
-
-// Slot 5 replies the first 83 bytes of a GET with Content-Format 0x0102, the queries `a` and `b=c`, and three bytes of
-// payload: the method, the slot, the payload's length, the format, that it is said, the query's length, eight zeros, the query
-// in 64 bytes, and the payload.
-#[test]
-fn a_program_reads_its_request(rt: HostRuntime) {
-    check_printed(
-        &rt,
-        "0 1 40030001b1700135ff46434231000004000400000000000000b7020000530000008500000005000000b7000000000000009500000000000000\n\
-         1 1 40010002b1720135120102316103623d63ff0a0b0c\n",
-        "1 60410001ff76657273696f6e3d3120636f73743d34206275646765743d3420766172733d30\n\
-         1 60450002480000000000000001ff010503000201010500000000000000006126623d6300000000000000000000000000000000000000000000000000000000000000000000000000000000000000000000000000000000000000000000000a0b0c\n",
-    );
-}
-
-#[test]
-fn refused_image_is_told_its_rule(rt: HostRuntime) {
-    // Fifteen bytes: V01 slot 0.
-    check_printed(
-        &rt,
-        "0 1 4103123370b1700130ff464342310000000001000000000000",
-        "1 6180123370ff56303120736c6f742030\n",
-    );
-    // No slot: V02 slot 0.
-    check_printed(
-        &rt,
-        "0 1 4103123370b1700130ff46434231000000000100000000000000",
-        "1 6180123370ff56303220736c6f742030\n",
-    );
-    // An exit with R0 unset: V25 slot 0.
-    check_printed(
-        &rt,
-        "0 1 4103123370b1700130ff464342310000010001000000000000009500000000000000",
-        "1 6180123370ff56323520736c6f742030\n",
-    );
-    // No exit: V13 slot 0.
-    check_printed(
-        &rt,
-        "0 1 4103123370b1700130ff46434231000001000100000000000000b700000000000000",
-        "1 6180123370ff56313320736c6f742030\n",
-    );
-}
-
-#[test]
-fn empty_slot_is_not_found(rt: HostRuntime) {
-    check_printed(&rt, "0 7 4101123471b1720130", "7 6184123471\n");
-}
-
-#[test]
-fn second_install_is_a_change(rt: HostRuntime) {
-    check_printed(
-        &rt,
-        "0 1 4103123370b1700130ff46434231000002000200000000000000b7000000450000009500000000000000\n\
-         0 1 4103123570b1700130ff46434231000002000200000000000000b7000000450000009500000000000000",
-        "1 6141123370ff76657273696f6e3d3120636f73743d32206275646765743d3220766172733d30\n\
-         1 6144123570ff76657273696f6e3d3220636f73743d32206275646765743d3220766172733d30\n",
-    );
-}
-
 #[test]
 fn last_serial_is_not_passed(rt: HostRuntime) {
     let input =
@@ -144,6 +56,115 @@ fn last_serial_is_not_passed(rt: HostRuntime) {
             ""
         )
     );
+}
+
+// Lines, and what is printed.
+static PRINTED: [(&str, &str); 22] = [
+    // The program of each install answers 2.05 in two steps, with a budget of two; the second install's budget is one.
+    (
+        "0 1 4103123370b1700130ff46434231000002000200000000000000b7000000450000009500000000000000\n\
+         1 1 4101123471b1720130\n\
+         2 1 4103123570b1700130ff46434231000002000100000000000000b7000000450000009500000000000000\n\
+         3 1 4101123671b1720130\n",
+        "1 6141123370ff76657273696f6e3d3120636f73743d32206275646765743d3220766172733d30\n\
+         1 6145123471480000000000000001\n\
+         1 6180123570ff56313620736c6f742030\n\
+         1 6145123671480000000000000001\n",
+    ),
+    // A program that answers 4.03 unless the payload begins with `k`: byte 80 of the request is the first of the payload, or 0.
+    (
+        "0 1 40030030b1700130ff464342310000070007000000000000007114500000000000720affff6b00000071a5ffff00000000b7000000000000001d54010000000000b7000000830000009500000000000000\n\
+         1 1 40010031b1720130\n\
+         2 1 40010032b1720130ff6b\n",
+        "1 60410030ff76657273696f6e3d3120636f73743d37206275646765743d3720766172733d30\n\
+         1 60830031\n\
+         1 60450032480000000000000001\n",
+    ),
+    // Slot 5 replies the first 83 bytes of a GET with Content-Format 0x0102, the queries `a` and `b=c`, and three bytes of
+    // payload: the method, the slot, the payload's length, the format, that it is said, the query's length, eight zeros, the query
+    // in 64 bytes, and the payload.
+    (
+        "0 1 40030001b1700135ff46434231000004000400000000000000b7020000530000008500000005000000b7000000000000009500000000000000\n\
+         1 1 40010002b1720135120102316103623d63ff0a0b0c\n",
+        "1 60410001ff76657273696f6e3d3120636f73743d34206275646765743d3420766172733d30\n\
+         1 60450002480000000000000001ff010503000201010500000000000000006126623d6300000000000000000000000000000000000000000000000000000000000000000000000000000000000000000000000000000000000000000000000a0b0c\n",
+    ),
+    // Fifteen bytes: V01 slot 0.
+    (
+        "0 1 4103123370b1700130ff464342310000000001000000000000",
+        "1 6180123370ff56303120736c6f742030\n",
+    ),
+    // No slot: V02 slot 0.
+    (
+        "0 1 4103123370b1700130ff46434231000000000100000000000000",
+        "1 6180123370ff56303220736c6f742030\n",
+    ),
+    // An exit with R0 unset: V25 slot 0.
+    (
+        "0 1 4103123370b1700130ff464342310000010001000000000000009500000000000000",
+        "1 6180123370ff56323520736c6f742030\n",
+    ),
+    // No exit: V13 slot 0.
+    (
+        "0 1 4103123370b1700130ff46434231000001000100000000000000b700000000000000",
+        "1 6180123370ff56313320736c6f742030\n",
+    ),
+    // Empty slot is not found.
+    ("0 7 4101123471b1720130", "7 6184123471\n"),
+    // Second install is a change.
+    (
+        "0 1 4103123370b1700130ff46434231000002000200000000000000b7000000450000009500000000000000\n\
+         0 1 4103123570b1700130ff46434231000002000200000000000000b7000000450000009500000000000000",
+        "1 6141123370ff76657273696f6e3d3120636f73743d32206275646765743d3220766172733d30\n\
+         1 6144123570ff76657273696f6e3d3220636f73743d32206275646765743d3220766172733d30\n",
+    ),
+    // An empty confirmable message.
+    ("0 1 40000007", "1 70000007\n"),
+    // A token length of nine, confirmable or not.
+    ("0 1 49010008", "1 70000008\n"),
+    ("0 1 59010008", ""),
+    // A payload marker with nothing behind it.
+    ("0 1 4001000aff", "1 7000000a\n"),
+    // Another version, an empty datagram, and time that passes, to the greatest moment.
+    ("0 1 8101000c", ""),
+    ("0 1 ", ""),
+    ("18446744073709551615 - -", ""),
+    // Accept isn't recognised, and it is critical.
+    ("0 1 40010009b172013060", "1 60820009\n"),
+    ("0 1 50010009b172013060", ""),
+    // A GET of an empty slot, an install, and the GET's copies 246,999 ms and 247,000 ms behind it: the first gets the same
+    // bytes again, and the second is carried out.
+    (
+        "0 1 4101123471b1720130\n\
+         1 1 4103123370b1700130ff46434231000002000200000000000000b7000000450000009500000000000000\n\
+         246999 1 4101123471b1720130\n\
+         247000 1 4101123471b1720130\n",
+        "1 6184123471\n\
+         1 6141123370ff76657273696f6e3d3120636f73743d32206275646765743d3220766172733d30\n\
+         1 6184123471\n\
+         1 6145123471480000000000000001\n",
+    ),
+    // Another endpoint's request of the same id isn't a copy, and a copy of what isn't confirmable gets nothing.
+    (
+        "0 1 5101123471b1720130\n\
+         0 1 5101123471b1720130\n\
+         0 2 5101123471b1720130\n\
+         246999 1 5101123471b1720130\n\
+         247000 1 5101123471b1720130\n",
+        "1 5184000071\n\
+         2 5184000171\n\
+         1 5184000271\n",
+    ),
+    // Good lines have several forms.
+    ("0 007 4101123471B1720130", "7 6184123471\n"),
+    ("00 255 4101ABcd71b1720130", "255 6184abcd71\n"),
+];
+
+#[test]
+fn lines_are_played(rt: HostRuntime) {
+    for (input, want) in PRINTED.iter().copied() {
+        check_printed(&rt, input, want);
+    }
 }
 
 // Slots 0, 7, 8 and 63, of two shards: programs that answer 2.05, 4.00, 4.03 and 4.04 are installed and asked.
@@ -173,28 +194,6 @@ fn slots_are_told_apart(rt: HostRuntime) {
     check_printed(&rt, FOUR_SLOTS, FOUR_ANSWERS);
 }
 
-#[test]
-fn format_errors_and_pings_are_reset(rt: HostRuntime) {
-    // An empty confirmable message.
-    check_printed(&rt, "0 1 40000007", "1 70000007\n");
-    // A token length of nine, confirmable or not.
-    check_printed(&rt, "0 1 49010008", "1 70000008\n");
-    check_printed(&rt, "0 1 59010008", "");
-    // A payload marker with nothing behind it.
-    check_printed(&rt, "0 1 4001000aff", "1 7000000a\n");
-    // Another version, an empty datagram, and time that passes, to the greatest moment.
-    check_printed(&rt, "0 1 8101000c", "");
-    check_printed(&rt, "0 1 ", "");
-    check_printed(&rt, "18446744073709551615 - -", "");
-}
-
-// Accept isn't recognised, and it is critical.
-#[test]
-fn bad_options_are_told_to_confirmable_requests(rt: HostRuntime) {
-    check_printed(&rt, "0 1 40010009b172013060", "1 60820009\n");
-    check_printed(&rt, "0 1 50010009b172013060", "");
-}
-
 // The program that answers 2.05 is installed in slot 0, and then a datagram comes.
 fn check_answered<R: Abort + AllocGlobal>(rt: &R, datagram: &[u8], answer: &str) {
     let install =
@@ -221,39 +220,6 @@ fn requests_are_answered_by_their_options(rt: HostRuntime) {
     );
     // What isn't confirmable is answered under an id of the server's own.
     check_answered(&rt, b"50010011b1720130", "\n1 50450000480000000000000001\n");
-}
-
-// A GET of an empty slot, an install, and the GET's copies 246,999 ms and 247,000 ms behind it: the first gets the same
-// bytes again, and the second is carried out.
-#[test]
-fn a_copy_gets_the_same_bytes_for_247_seconds(rt: HostRuntime) {
-    check_printed(
-        &rt,
-        "0 1 4101123471b1720130\n\
-         1 1 4103123370b1700130ff46434231000002000200000000000000b7000000450000009500000000000000\n\
-         246999 1 4101123471b1720130\n\
-         247000 1 4101123471b1720130\n",
-        "1 6184123471\n\
-         1 6141123370ff76657273696f6e3d3120636f73743d32206275646765743d3220766172733d30\n\
-         1 6184123471\n\
-         1 6145123471480000000000000001\n",
-    );
-}
-
-// Another endpoint's request of the same id isn't a copy, and a copy of what isn't confirmable gets nothing.
-#[test]
-fn copies_are_told_by_endpoint_and_id(rt: HostRuntime) {
-    check_printed(
-        &rt,
-        "0 1 5101123471b1720130\n\
-         0 1 5101123471b1720130\n\
-         0 2 5101123471b1720130\n\
-         246999 1 5101123471b1720130\n\
-         247000 1 5101123471b1720130\n",
-        "1 5184000071\n\
-         2 5184000171\n\
-         1 5184000271\n",
-    );
 }
 
 // A GET of an empty slot for each of the message ids 0 to 1,023, all within a window; and the answers, 4.04.
@@ -289,12 +255,6 @@ fn a_datagram_of_1281_bytes_is_ignored(rt: HostRuntime) {
     let digits = [b'0'; 2562];
     let input = b"0 1 ".as_slice().chain(digits.as_slice());
     assert!(rt; plays(rt.alloc(), input, 0, Status::Done, "", ""));
-}
-
-#[test]
-fn good_lines_have_several_forms(rt: HostRuntime) {
-    check_printed(&rt, "0 007 4101123471B1720130", "7 6184123471\n");
-    check_printed(&rt, "00 255 4101ABcd71b1720130", "255 6184abcd71\n");
 }
 
 static BAD_LINES: [&str; 24] = [

@@ -1,5 +1,5 @@
 // POSTs of a counter: the expected bytes, serials and variables are worked out by hand.
-use fc_service::Status;
+use fc_cli::Status;
 use fc_service::play::play;
 use fc_service::pool::Begin;
 use fc_service::workers::play_by_workers;
@@ -44,12 +44,24 @@ fn check_played_by<R: Abort + AllocGlobal + Threads + Wait + Sync>(
     );
 }
 
-// A counter of eight bytes: it adds one to its first word, and gives a notice. A POST keeps that, a GET doesn't, and a copy of
-// the POST is carried out again only 247,000 ms after it came.
+// A bad line stops the workers, after the lines before it were carried out.
 #[test]
-fn a_post_is_kept_once_and_a_get_keeps_nothing(rt: HostRuntime) {
-    check_played(
-        &rt,
+fn a_bad_line_stops_the_workers(rt: HostRuntime) {
+    let alloc = rt.alloc();
+    let mut out = Vec::new(alloc);
+    let mut err = Vec::new(alloc);
+    let begin = Begin { serial: 0, id: 0 };
+    let input = b"0 1 40000007\n\n0 1 40000008\n".as_slice();
+    let status = play_by_workers(&rt, alloc, input, &mut out, &mut err, 2, begin);
+    assert!(rt; status == Status::Bad && out.as_slice() == b"1 70000007\n".as_slice());
+    assert!(rt; err.as_slice() == b"line 2: bad\n".as_slice());
+}
+
+// Lines, and what is printed.
+static PLAYED: [(&str, &str); 6] = [
+    // A counter of eight bytes: it adds one to its first word, and gives a notice. A POST keeps that, a GET doesn't, and a copy of
+    // the POST is carried out again only 247,000 ms after it came.
+    (
         "0 1 410320ff72b1700131ff4643423108000900090000000000000\
          0b7010000000000008500000003000000070000000100000\
          0bf02000000000000b7010000000000008500000004000000\
@@ -67,14 +79,9 @@ fn a_post_is_kept_once_and_a_get_keeps_nothing(rt: HostRuntime) {
          1 6145200272480000000000000002\n\
          1 6144200072\n\
          1 6145200372480000000000000003\n",
-    );
-}
-
-// R0 is 132, for 4.04, and then 68, for a POST's 2.04: only that POST raises the serial, which the next version tells.
-#[test]
-fn a_post_of_class_4_writes_nothing(rt: HostRuntime) {
-    check_played(
-        &rt,
+    ),
+    // R0 is 132, for 4.04, and then 68, for a POST's 2.04: only that POST raises the serial, which the next version tells.
+    (
         "0 1 40030001b1700130ff46434231000002000200000000000000b7000000840000009500000000000000\n\
          0 1 40020002b1720130\n\
          0 1 40030003b1700130ff46434231000002000200000000000000b7000000440000009500000000000000\n\
@@ -87,41 +94,18 @@ fn a_post_of_class_4_writes_nothing(rt: HostRuntime) {
          1 60440004\n\
          1 60a00005\n\
          1 60440006ff76657273696f6e3d3420636f73743d32206275646765743d3220766172733d30\n",
-    );
-}
-
-// The reply of a POST goes out whole, with no option.
-#[test]
-fn a_post_replies_its_bytes(rt: HostRuntime) {
-    check_played(
-        &rt,
+    ),
+    // The reply of a POST goes out whole, with no option.
+    (
         "0 1 40030001b1700130ff46434231000004000400000000000000b701000041000000\
          8500000006000000b7000000000000009500000000000000\n\
          0 1 40020002b1720130\n",
         "1 60410001ff76657273696f6e3d3120636f73743d34206275646765743d3420766172733d30\n\
          1 60440002ff41\n",
-    );
-}
-
-// A bad line stops the workers, after the lines before it were carried out.
-#[test]
-fn a_bad_line_stops_the_workers(rt: HostRuntime) {
-    let alloc = rt.alloc();
-    let mut out = Vec::new(alloc);
-    let mut err = Vec::new(alloc);
-    let begin = Begin { serial: 0, id: 0 };
-    let input = b"0 1 40000007\n\n0 1 40000008\n".as_slice();
-    let status = play_by_workers(&rt, alloc, input, &mut out, &mut err, 2, begin);
-    assert!(rt; status == Status::Bad && out.as_slice() == b"1 70000007\n".as_slice());
-    assert!(rt; err.as_slice() == b"line 2: bad\n".as_slice());
-}
-
-// A program that counts POSTs: its receipt keeps the serial of its install, a client that has the answer of the slot's serial is
-// told so, and once it is removed there is neither answer nor receipt.
-#[test]
-fn a_program_is_described_and_removed(rt: HostRuntime) {
-    check_played(
-        &rt,
+    ),
+    // A program that counts POSTs: its receipt keeps the serial of its install, a client that has the answer of the slot's serial is
+    // told so, and once it is removed there is neither answer nor receipt.
+    (
         "0 1 4103200072b1700131ff46434231080009000900000000000000b70100000000000085000000030000000700000001000000bf02000000000000b70100000000000085000000040000008500000007000000b7000000000000009500000000000000\n\
          0 1 4101200172b1700131\n\
          0 1 4102200272b1720131\n\
@@ -146,14 +130,9 @@ fn a_program_is_described_and_removed(rt: HostRuntime) {
          1 6184200972\n\
          1 6142200a72\n\
          1 6141200b72ff76657273696f6e3d3420636f73743d39206275646765743d3920766172733d38\n",
-    );
-}
-
-// A removal of nothing keeps the serial.
-#[test]
-fn an_empty_slot_is_removed(rt: HostRuntime) {
-    check_played(
-        &rt,
+    ),
+    // A removal of nothing keeps the serial.
+    (
         "0 1 4104300072b1700130\n\
          0 1 4103300172b1700130ff46434231000002000200000000000000b7000000450000009500000000000000\n\
          0 1 4104300272b1700130\n\
@@ -162,14 +141,9 @@ fn an_empty_slot_is_removed(rt: HostRuntime) {
          1 6141300172ff76657273696f6e3d3120636f73743d32206275646765743d3220766172733d30\n\
          1 6142300272\n\
          1 6141300372ff76657273696f6e3d3320636f73743d32206275646765743d3220766172733d30\n",
-    );
-}
-
-// The slots that have a program, first none.
-#[test]
-fn present_slots_are_listed(rt: HostRuntime) {
-    check_played(
-        &rt,
+    ),
+    // The slots that have a program, first none.
+    (
         "0 1 4001000abb2e77656c6c2d6b6e6f776e04636f7265\n\
          0 1 4103400072b1700131ff46434231000002000200000000000000b7000000450000009500000000000000\n\
          0 1 4103400172b1700130ff46434231000002000200000000000000b7000000450000009500000000000000\n\
@@ -184,5 +158,12 @@ fn present_slots_are_listed(rt: HostRuntime) {
          1 6141400272ff76657273696f6e3d3120636f73743d32206275646765743d3220766172733d30\n\
          1 6142400372\n\
          1 6045000cc128ff3c2f722f313e3b6f62732c3c2f722f36333e3b6f6273\n",
-    );
+    ),
+];
+
+#[test]
+fn lines_are_played(rt: HostRuntime) {
+    for (input, want) in PLAYED.iter().copied() {
+        check_played(&rt, input, want);
+    }
 }

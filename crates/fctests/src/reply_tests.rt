@@ -1,7 +1,7 @@
 // Programs with calls that are installed and asked: the expected replies follow from the tables of instructions, helpers and
 // options, worked out by hand.
 use crate::tooling::assembled;
-use fc_service::Status;
+use fc_cli::Status;
 use fc_service::play::play;
 use std::alloc::Global;
 use std::process::Abort;

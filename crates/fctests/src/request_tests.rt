@@ -87,11 +87,6 @@ static TYPE_CASES: [(&[u8], Outcome); 17] = [
     (b"\x40\x05\x00\x0e\xb1\x70\x01\x30", METHOD_NOT_ALLOWED),
 ];
 
-#[test]
-fn types_and_classes(rt: HostRuntime) {
-    check_outcomes(&rt, &TYPE_CASES);
-}
-
 static PATH_CASES: [(&[u8], Outcome); 7] = [
     // `/r/00`, `/r/64`, `/r`, `/r/0/0`, `/x/0`.
     (b"\x40\x01\x00\x0f\xb1\x72\x02\x30\x30", NOT_FOUND),
@@ -109,11 +104,6 @@ static PATH_CASES: [(&[u8], Outcome); 7] = [
         METHOD_NOT_ALLOWED,
     ),
 ];
-
-#[test]
-fn paths(rt: HostRuntime) {
-    check_outcomes(&rt, &PATH_CASES);
-}
 
 static CRITICAL_CASES: [(&[u8], Outcome); 13] = [
     // If-Match, and Accept behind the path.
@@ -151,11 +141,6 @@ static CRITICAL_CASES: [(&[u8], Outcome); 13] = [
     ),
 ];
 
-#[test]
-fn critical_options(rt: HostRuntime) {
-    check_outcomes(&rt, &CRITICAL_CASES);
-}
-
 static BLOCK_CASES: [(&[u8], Outcome); 13] = [
     // Block2 in a GET, on an unknown path, of the reserved size, of 4 bytes, and twice.
     (
@@ -192,7 +177,10 @@ static BLOCK_CASES: [(&[u8], Outcome); 13] = [
 ];
 
 #[test]
-fn blocks(rt: HostRuntime) {
+fn datagrams_are_classified(rt: HostRuntime) {
+    check_outcomes(&rt, &TYPE_CASES);
+    check_outcomes(&rt, &PATH_CASES);
+    check_outcomes(&rt, &CRITICAL_CASES);
     check_outcomes(&rt, &BLOCK_CASES);
 }
 

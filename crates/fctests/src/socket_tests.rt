@@ -3,8 +3,8 @@ ghost use Rattle.std.specs.Prelude.{◌≤◌, IfSome, length};
 
 use coap_msg::{Emission, Endpoint};
 use coap_opts::Method;
-use fc_service::Status;
-use fc_service::fetch::fetch;
+use fc_cli::Status;
+use fc_fetch::fetch;
 use fc_service::serve::{Extent, serve_at};
 use fc_service::socket::{Sink, Source, open};
 use log::sink::Memory;

@@ -1,8 +1,8 @@
 // Texts and images through the tools, with what is written and told: the expected values are the format's rules.
 use crate::faulty::{Full, Unflushed};
 use crate::tooling::{Done, assembled, check_program, checked, listed, with_memory};
-use fc_service::Status;
-use fc_service::tools::{check, image, list};
+use fc_cli::Status;
+use fc_tools::tools::{check, image, list};
 use std::alloc::Global;
 use std::io;
 use std::io::{ErrorKind, Read};

@@ -1,6 +1,6 @@
 // The tools on bytes.
-use fc_service::Status;
-use fc_service::tools::{check, image, list};
+use fc_cli::Status;
+use fc_tools::tools::{check, image, list};
 use std::alloc::{AllocError, Global};
 use std::process::Abort;
 use std::test::Fail;

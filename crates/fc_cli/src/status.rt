@@ -1,0 +1,46 @@
+//! How the programs end.
+ghost use Rattle.fc_cli.specs.Ending.{IsEnding};
+
+use std::fmt::Display;
+use std::io::Write;
+use std::process::ExitCode;
+
+/// How a program ends.
+#[derive(Clone, Copy, Debug, PartialEq, Eq)]
+pub enum Status {
+    /// The work is done: exit status 0.
+    Done,
+    /// A text or an image is refused: exit status 1.
+    Refused,
+    /// A line or the command line is bad: exit status 2.
+    Bad,
+    /// Reading or writing failed, or memory was refused: exit status 3.
+    Failed,
+}
+
+impl From<Status> for ExitCode {
+    ghost use Rattle.std.specs.Prelude.{◌≡◌};
+    ghost use Rattle.std.specs.Process.{exit_status};
+    ghost use Rattle.fc_cli.specs.Ending.{status_number};
+
+    ghost from_gives = { λ status code. exit_status code ≡ status_number status };
+
+    fn from(status: Status) -> ExitCode {
+        ExitCode::from(match status {
+            Status::Done => 0u8,
+            Status::Refused => 1,
+            Status::Bad => 2,
+            Status::Failed => 3,
+        })
+    }
+}
+
+/// Tells `err`, in a line, why a program ends so. What can't be told is a failure of its own.
+pub fn tell<E: Write, D: Display>(err: &mut E, why: &D, status: Status) -> Status
+    ensures { IsEnding status result }
+{
+    match writeln!(err, "{why}") {
+        Ok(()) => status,
+        Err(_) => Status::Failed,
+    }
+}

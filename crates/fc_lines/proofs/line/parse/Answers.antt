@@ -1,0 +1,15 @@
+use Rattle.std.proofs.Common.{rules}
+use Rattle.fc_lines.proofs.Reading.{no_fields, no_moment, no_peer, no_bytes}
+use Rattle.fc_lines.proofs.line.parse.Goals as goal
+
+pub returns-in_default-clause-bad : goal.returns-in_default-clause-bad
+returns-in_default-clause-bad c = λ e. no_fields _ c.in_default.ensures
+
+pub returns-in_default-number-clause-bad : goal.returns-in_default-number-clause-bad
+returns-in_default-number-clause-bad c = λ e. no_moment _ _ _ _ c.in-Some.ensures c.in_default-number.ensures
+
+pub returns-in_default-byte-clause-bad : goal.returns-in_default-byte-clause-bad
+returns-in_default-byte-clause-bad c = λ e. no_peer _ _ _ _ c.in-Some.ensures (λ both. cc (c.if-are_dashes.ensures.1 both)) c.in_default-byte.ensures
+
+pub returns-in_err-bytes-clause-bad : goal.returns-in_err-bytes-clause-bad
+returns-in_err-bytes-clause-bad c = λ e. no_bytes _ _ _ _ c.in-Some.ensures (λ both. cc (c.if-are_dashes.ensures.1 both)) (c.in_err-bytes.ensures.bad (search rules))

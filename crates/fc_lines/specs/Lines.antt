@@ -1,0 +1,34 @@
+-- What a line says.
+use Rattle.std.specs.Prelude.{◌≡◌, ℕ, ◌<◌, ◌^◌, List, Ok}
+use Rattle.hex.specs.Hex.{decode_of}
+use Rattle.fc_lines.specs.Fields.{dash, spaced, IsNumber}
+use Rattle.fc_lines.specs.declared.line.Line.{Line}
+use Rattle.fc_lines.specs.declared.line.Line.TheVariants.{Deliver, Tick}
+
+-- `now peer hex`: a datagram, by hex digits of either case
+pub record IsDelivery (text : List ℕ) (now peer : ℕ) (bytes : List ℕ) : Type 0 where
+  pub first : List ℕ
+  pub second : List ℕ
+  pub third : List ℕ
+  pub text_is : text ≡ spaced first second third
+  pub now_is : IsNumber first now
+  pub now_fits : now < 2 ^ 64
+  pub peer_is : IsNumber second peer
+  pub peer_fits : peer < 256
+  pub bytes_are : decode_of third ≡ Ok bytes
+
+-- `now - -`: time passes
+pub record IsTick (text : List ℕ) (now : ℕ) : Type 0 where
+  pub first : List ℕ
+  pub text_is : text ≡ spaced first dash dash
+  pub now_is : IsNumber first now
+  pub now_fits : now < 2 ^ 64
+
+-- a line, without its line feed, says this
+abbrev pub IsLine : List ℕ → Line → Type 0
+IsLine text (Deliver now peer bytes) = IsDelivery text now peer bytes.items
+IsLine text (Tick now) = IsTick text now
+
+-- a line says nothing
+pub record IsNoLine (text : List ℕ) : Type 0 where
+  pub none : (line : Line) → IsLine text line → ⊥

@@ -1,0 +1,36 @@
+//! Peers by a number, and emissions as `peer hex`.
+ghost use Rattle.std.specs.Prelude.{◌≡◌, OnOk};
+ghost use Rattle.std.specs.Io.KnownBytes.{Appends};
+ghost use Rattle.fc_lines.specs.Emissions.{endpoint_of, printed};
+
+use crate::hexadecimal;
+use coap_msg::{Emission, Endpoint};
+use std::io;
+use std::io::Write;
+
+/// The port of CoAP (RFC 7252, 6.1).
+const PORT: u16 = 5683;
+
+/// The endpoint of a peer: 127.0.0.peer, at the port of CoAP.
+pub fn endpoint(peer: u8) -> Endpoint
+    ensures { result ≡ endpoint_of peer }
+{
+    Endpoint {
+        ip: [127, 0, 0, peer],
+        port: PORT,
+    }
+}
+
+/// Prints an emission as `peer hex`, and has it written out.
+///
+/// # Errors
+/// The writer failed.
+pub fn print<W: Write>(out: &mut W, emission: &Emission) -> io::Result<()>
+    ensures { OnOk result (Appends (W.contents out.old) (W.contents out.new) (printed emission.now)) }
+{
+    let peer = emission.to.ip[3];
+    write!(out, "{peer} ")?;
+    hexadecimal::write(out, emission.bytes.as_slice())?;
+    out.write_all(b"\n")?;
+    out.flush()
+}

@@ -1,0 +1,43 @@
+//! Bytes by hex digits, in and out.
+ghost use Rattle.std.specs.Prelude.{◌≡◌, ◌≤◌, ℕ, List, length, IfOk, OnOk};
+ghost use Rattle.std.specs.Io.KnownBytes.{Appends};
+ghost use Rattle.hex.specs.Hex.{decode_of, encode_lower};
+ghost use Rattle.fc_lines.specs.declared.line.LineError.TheVariants.{Bad};
+
+use crate::line::LineError;
+use hex::FromHexError;
+use std::alloc::Global;
+use std::io;
+use std::io::Write;
+
+/// The bytes that hex digits of either case spell, two a byte.
+///
+/// # Errors
+/// They are no such digits, or there was no memory for the bytes.
+pub fn decode(alloc: Global, digits: &[u8]) -> Result<Vec<u8>, LineError>
+    ensures bytes { IfOk result (λ bytes. decode_of digits.now ≡ Ok bytes.items) }
+    ensures bad { result ≡ Err Bad → (bytes : List ℕ) → decode_of digits.now ≡ Ok bytes → ⊥ }
+{
+    match hex::decode(alloc, digits) {
+        Ok(bytes) => Ok(bytes),
+        Err(FromHexError::OutOfMemory) => Err(LineError::NoMemory),
+        Err(_) => Err(LineError::Bad),
+    }
+}
+
+/// The most digits of a datagram.
+const DIGITS: usize = 2560;
+
+/// Writes a datagram, at most 1,280 bytes, by hex digits in lower case, two a byte.
+///
+/// # Errors
+/// The writer failed.
+pub fn write<W: Write>(out: &mut W, bytes: &[u8]) -> io::Result<()>
+    requires { length bytes.now ≤ 1280 }
+    ensures { OnOk result (Appends (W.contents out.old) (W.contents out.new) (encode_lower bytes.now)) }
+{
+    let mut digits = [0; DIGITS];
+    let digits = &mut digits[..2 * bytes.len()];
+    let _fits = hex::encode_to_slice(bytes, digits);
+    out.write_all(digits)
+}

@@ -1,0 +1,8 @@
+//! Text that the programs read and print: lines, numbers, hex digits, and emissions as `peer hex`.
+#![tactic(auto)]
+
+pub mod emission;
+pub mod hexadecimal;
+pub mod line;
+
+pub use line::{Line, LineError};

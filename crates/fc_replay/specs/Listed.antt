@@ -1,0 +1,104 @@
+-- Events as lines of text.
+use Rattle.std.specs.Prelude.{◌≡◌, ◌==◌, ℕ, ◌<◌, ◌^◌, List, ◌∷◌, ◌++◌, Bool, true, false, length, map, Option, Ok, codes}
+use Rattle.std.specs.Borrow.{Bor}
+use Rattle.std.specs.List.{Contains, slice_split}
+use Rattle.hex.specs.Hex.{decode_of}
+use Rattle.fc_core.specs.declared.event.Event.{Event}
+use Rattle.fc_core.specs.declared.event.Event.TheVariants.{Deliver, Peek, Take, Commit, Install, Remove, Receipt, Raise, Answer, Due, Fresh, Note, GiveUp, Signal, Tick, ShardTick, Lose}
+use Rattle.coap_msg.specs.declared.types.Endpoint.{Endpoint}
+use Rattle.fc_lines.specs.Fields.{space, IsNumber}
+use Rattle.fc_lines.specs.Emissions.{endpoint_of}
+
+abbrev pub Bytes : Type 0
+Bytes = List ℕ
+
+abbrev pub equals : ℕ
+equals = 61
+
+-- single spaces part the words of a line
+abbrev pub line_words : Bytes → List Bytes
+line_words line = slice_split (λ b. b == space) line
+
+-- words by their bytes
+abbrev pub texts : List (Bor (List ℕ)) → List Bytes
+texts words = map (λ word. word.now) words
+
+-- one of the parts is `key=value`
+abbrev pub HasPart : List Bytes → Bytes → Bytes → Type 0
+HasPart parts key value = Contains parts (key ++ (equals ∷ value))
+
+-- a part is a number below a limit, in decimal digits
+pub record HasNumber (parts : List Bytes) (key : Bytes) (limit n : ℕ) : Type 0 where
+  pub value : Bytes
+  pub part : HasPart parts key value
+  pub digits : IsNumber value n
+  pub below : n < limit
+
+-- a part is 0 or 1
+abbrev pub digit_of : Bool → Bytes
+digit_of false = codes "0"
+digit_of true = codes "1"
+
+abbrev pub HasFlag : List Bytes → Bytes → Bool → Type 0
+HasFlag parts key flag = HasPart parts key (digit_of flag)
+
+abbrev pub HasJob : List Bytes → ℕ → Type 0
+HasJob parts job = HasNumber parts (codes "job") (2 ^ 64) job
+
+abbrev pub HasMoment : List Bytes → ℕ → Type 0
+HasMoment parts now = HasNumber parts (codes "now") (2 ^ 64) now
+
+abbrev pub HasShard : List Bytes → ℕ → Type 0
+HasShard parts shard = HasNumber parts (codes "shard") 256 shard
+
+-- a peer's endpoint is told by the last number of its address
+pub record HasEndpoint (parts : List Bytes) (endpoint : Endpoint) : Type 0 where
+  pub peer : ℕ
+  pub number : HasNumber parts (codes "ep") 256 peer
+  pub endpoint_is : endpoint ≡ endpoint_of peer
+
+-- one of the words is `data=hex`, and the digits are those of the bytes
+pub record HasData (words : List Bytes) (bytes : List ℕ) : Type 0 where
+  pub digits : Bytes
+  pub part : HasPart words (codes "data") digits
+  pub bytes_are : decode_of digits ≡ Ok bytes
+
+-- a name with so many parts
+abbrev pub IsForm : Bytes → List Bytes → Bytes → ℕ → Type 0
+IsForm name parts wanted count = (name ≡ wanted) × (length parts ≡ count)
+
+-- a name and its parts, in any order, say an event
+abbrev pub IsEventOf : Bytes → List Bytes → Event → Type 0
+IsEventOf name parts (Deliver now endpoint sent) =
+    IsForm name parts (codes "Deliver") 3 × HasMoment parts now × HasEndpoint parts endpoint × HasData (name ∷ parts) sent.now
+IsEventOf name parts (Peek job slot) = IsForm name parts (codes "Peek") 2 × HasJob parts job × HasNumber parts (codes "slot") 256 slot
+IsEventOf name parts (Take job memory) = IsForm name parts (codes "Take") 2 × HasJob parts job × HasFlag parts (codes "memory") memory
+IsEventOf name parts (Commit job now) = IsForm name parts (codes "Commit") 2 × HasJob parts job × HasMoment parts now
+IsEventOf name parts (Install job memory) = IsForm name parts (codes "Install") 2 × HasJob parts job × HasFlag parts (codes "memory") memory
+IsEventOf name parts (Remove job) = IsForm name parts (codes "Remove") 1 × HasJob parts job
+IsEventOf name parts (Receipt job) = IsForm name parts (codes "Receipt") 1 × HasJob parts job
+IsEventOf name parts (Raise job) = IsForm name parts (codes "Raise") 1 × HasJob parts job
+IsEventOf name parts (Answer job now) = IsForm name parts (codes "Answer") 2 × HasJob parts job × HasMoment parts now
+IsEventOf name parts (Due shard now) = IsForm name parts (codes "Due") 2 × HasShard parts shard × HasMoment parts now
+IsEventOf name parts (Fresh job now) = IsForm name parts (codes "Fresh") 2 × HasJob parts job × HasMoment parts now
+IsEventOf name parts (Note job now random) =
+    IsForm name parts (codes "Note") 3 × HasJob parts job × HasMoment parts now × HasNumber parts (codes "random") 65536 random
+IsEventOf name parts (GiveUp job now) = IsForm name parts (codes "GiveUp") 2 × HasJob parts job × HasMoment parts now
+IsEventOf name parts (Signal shard endpoint mid reset) =
+    IsForm name parts (codes "Signal") 4 × HasShard parts shard × HasEndpoint parts endpoint
+    × HasNumber parts (codes "mid") 65536 mid × HasFlag parts (codes "reset") reset
+IsEventOf name parts (Tick now) = IsForm name parts (codes "Tick") 1 × HasMoment parts now
+IsEventOf name parts (ShardTick shard now) = IsForm name parts (codes "ShardTick") 2 × HasShard parts shard × HasMoment parts now
+IsEventOf name parts (Lose job) = IsForm name parts (codes "Lose") 1 × HasJob parts job
+
+-- the words say it: the first is the name
+pub record AreOfEvent (words : List Bytes) (event : Event) : Type 0 where
+  pub name : Bytes
+  pub parts : List Bytes
+  pub words_are : words ≡ name ∷ parts
+  pub says : IsEventOf name parts event
+
+-- a line by its words, with the datagram that they have
+pub record Line : Type 0 where
+  pub words : List Bytes
+  pub datagram : Option (List ℕ)

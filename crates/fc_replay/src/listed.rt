@@ -1,0 +1,268 @@
+//! Events as lines of text: a name, and its parts as `name=value`, in any order.
+ghost use Rattle.std.specs.Prelude.{◌≡◌, ◌++◌, ◌∷◌, ◌^◌, length, codes, IfOk, IfSome};
+ghost use Rattle.fc_replay.specs.Listed.{HasData, HasEndpoint, HasFlag, HasNumber, HasPart, AreOfEvent, IsEventOf, equals, line_words, texts};
+
+use coap_msg::Endpoint;
+use fc_lines::emission::endpoint;
+use fc_lines::hexadecimal::decode;
+use fc_lines::line::{LineError, byte, number};
+use fc_world::Event;
+use std::alloc::Global;
+use std::marker::Model;
+
+/// A line's words, and its datagram where one of its parts is `data=hex`.
+#[derive(Drop)]
+pub struct ListedEvent<'a> {
+    words: Vec<&'a str>,
+    datagram: Option<Vec<u8>>,
+}
+
+impl<'a> Model for ListedEvent<'a> {
+    ghost use Rattle.std.specs.Prelude.{IfSome};
+    ghost use Rattle.std.specs.Option.{option_map};
+    ghost use Rattle.fc_replay.specs.Listed.{Line, HasData, texts};
+
+    ghost Value = { Line };
+
+    ghost view = { λ l. record { words = texts l.words.items; datagram = option_map (λ v. v.items) l.datagram } };
+
+    ghost invariant = { λ l. IfSome l.datagram (λ v. HasData (texts l.words.items) v.items) };
+}
+
+impl<'a> ListedEvent<'a> {
+    /// Reads a line: single spaces part its words.
+    ///
+    /// # Errors
+    /// The line says no event, or its data are no hex digits, or there was no memory.
+    pub fn read(alloc: Global, line: &'a [u8]) -> Result<ListedEvent<'a>, LineError>
+        ensures { IfOk result (λ l. l.words ≡ line_words line.now) }
+    {
+        let words = words(alloc, line)?;
+        let datagram = datagram(alloc, &words)?;
+        let listed = ListedEvent { words, datagram };
+        if listed.event().is_none() {
+            return Err(LineError::Bad);
+        }
+        Ok(listed)
+    }
+
+    /// The event that the line says, where it says one.
+    pub fn event(&self) -> Option<Event<'_>>
+        ensures { IfSome result (AreOfEvent self.now.words) }
+    {
+        let [name, parts @ ..] = self.words.as_slice() else {
+            return None;
+        };
+        match parts.len() {
+            1 => with_one(name, parts),
+            2 => with_two(name, parts),
+            3 => with_three(name, parts, &self.datagram),
+            4 => with_four(name, parts),
+            _ => None,
+        }
+    }
+}
+
+// The words of a line, which single spaces part.
+fn words(alloc: Global, line: &[u8]) -> Result<Vec<&str>, LineError>
+    ensures { IfOk result (λ v. texts v.items ≡ line_words line.now) }
+{
+    let Ok(text) = str::from_utf8(line) else {
+        return Err(LineError::Bad);
+    };
+    match text.split(' ').collect(alloc) {
+        Ok(words) => Ok(words),
+        Err(_) => Err(LineError::NoMemory),
+    }
+}
+
+// The datagram of a line's words; none where none of them is `data=hex`.
+fn datagram(alloc: Global, words: &[&str]) -> Result<Option<Vec<u8>>, LineError>
+    ensures { IfOk result (λ found. IfSome found (λ v. HasData (texts words.now) v.items)) }
+{
+    match value(words, "data") {
+        None => Ok(None),
+        Some(digits) => Ok(Some(decode(alloc, digits.as_bytes())?)),
+    }
+}
+
+// The value of the part of this name.
+fn value<'a>(parts: &[&'a str], key: &str) -> Option<&'a str>
+    ensures { IfSome result (λ value. HasPart (texts parts.now) key.now value.now) }
+{
+    for part in parts.iter().copied() {
+        if let Some(value) = value_of(part, key) {
+            return Some(value);
+        }
+    }
+    None
+}
+
+// What stands behind `key=`.
+fn value_of<'a>(part: &'a str, key: &str) -> Option<&'a str>
+    ensures { IfSome result (λ value. part.now ≡ key.now ++ (equals ∷ value.now)) }
+{
+    part.strip_prefix(key)?.strip_prefix("=")
+}
+
+fn long(parts: &[&str], key: &str) -> Option<u64>
+    ensures { IfSome result (HasNumber (texts parts.now) key.now (2 ^ 64)) }
+{
+    number(value(parts, key)?.as_bytes())
+}
+
+fn index(parts: &[&str], key: &str) -> Option<usize>
+    ensures { IfSome result (HasNumber (texts parts.now) key.now (2 ^ 64)) }
+{
+    usize::try_from(long(parts, key)?).ok()
+}
+
+fn short(parts: &[&str], key: &str) -> Option<u16>
+    ensures { IfSome result (HasNumber (texts parts.now) key.now 65536) }
+{
+    u16::try_from(long(parts, key)?).ok()
+}
+
+fn octet(parts: &[&str], key: &str) -> Option<u8>
+    ensures { IfSome result (HasNumber (texts parts.now) key.now 256) }
+{
+    byte(value(parts, key)?.as_bytes())
+}
+
+fn flag(parts: &[&str], key: &str) -> Option<bool>
+    ensures { IfSome result (HasFlag (texts parts.now) key.now) }
+{
+    match value(parts, key)? {
+        "0" => Some(false),
+        "1" => Some(true),
+        _ => None,
+    }
+}
+
+fn peer(parts: &[&str]) -> Option<Endpoint>
+    ensures { IfSome result (HasEndpoint (texts parts.now)) }
+{
+    Some(endpoint(octet(parts, "ep")?))
+}
+
+// The events of one part.
+fn with_one<'a>(name: &str, parts: &[&str]) -> Option<Event<'a>>
+    requires { length parts.now ≡ 1 }
+    ensures { IfSome result (IsEventOf name.now (texts parts.now)) }
+{
+    match name {
+        "Remove" => Some(Event::Remove {
+            job: index(parts, "job")?,
+        }),
+        "Receipt" => Some(Event::Receipt {
+            job: index(parts, "job")?,
+        }),
+        "Raise" => Some(Event::Raise {
+            job: index(parts, "job")?,
+        }),
+        "Tick" => Some(Event::Tick {
+            now: long(parts, "now")?,
+        }),
+        "Lose" => Some(Event::Lose {
+            job: index(parts, "job")?,
+        }),
+        _ => None,
+    }
+}
+
+// The events of two parts.
+fn with_two<'a>(name: &str, parts: &[&str]) -> Option<Event<'a>>
+    requires { length parts.now ≡ 2 }
+    ensures { IfSome result (IsEventOf name.now (texts parts.now)) }
+{
+    match name {
+        "Due" => Some(Event::Due {
+            shard: octet(parts, "shard")?,
+            now: long(parts, "now")?,
+        }),
+        "ShardTick" => Some(Event::ShardTick {
+            shard: octet(parts, "shard")?,
+            now: long(parts, "now")?,
+        }),
+        _ => of_job(name, parts, index(parts, "job")?),
+    }
+}
+
+// The events of a job and one part more.
+fn of_job<'a>(name: &str, parts: &[&str], job: usize) -> Option<Event<'a>>
+    requires count { length parts.now ≡ 2 }
+    requires job { HasNumber (texts parts.now) (codes "job") (2 ^ 64) job }
+    ensures { IfSome result (IsEventOf name.now (texts parts.now)) }
+{
+    match name {
+        "Peek" => Some(Event::Peek {
+            job,
+            slot: octet(parts, "slot")?,
+        }),
+        "Take" => Some(Event::Take {
+            job,
+            memory: flag(parts, "memory")?,
+        }),
+        "Commit" => Some(Event::Commit {
+            job,
+            now: long(parts, "now")?,
+        }),
+        "Install" => Some(Event::Install {
+            job,
+            memory: flag(parts, "memory")?,
+        }),
+        "Answer" => Some(Event::Answer {
+            job,
+            now: long(parts, "now")?,
+        }),
+        "Fresh" => Some(Event::Fresh {
+            job,
+            now: long(parts, "now")?,
+        }),
+        "GiveUp" => Some(Event::GiveUp {
+            job,
+            now: long(parts, "now")?,
+        }),
+        _ => None,
+    }
+}
+
+// The events of three parts.
+fn with_three<'a>(name: &str, parts: &[&str], datagram: &'a Option<Vec<u8>>) -> Option<Event<'a>>
+    requires count { length parts.now ≡ 3 }
+    requires datagram { IfSome datagram.now (λ v. HasData (name.now ∷ texts parts.now) v.items) }
+    ensures { IfSome result (IsEventOf name.now (texts parts.now)) }
+{
+    match name {
+        "Deliver" => match datagram {
+            Some(bytes) => Some(Event::Deliver {
+                now: long(parts, "now")?,
+                endpoint: peer(parts)?,
+                bytes,
+            }),
+            None => None,
+        },
+        "Note" => Some(Event::Note {
+            job: index(parts, "job")?,
+            now: long(parts, "now")?,
+            random: short(parts, "random")?,
+        }),
+        _ => None,
+    }
+}
+
+// The events of four parts.
+fn with_four<'a>(name: &str, parts: &[&str]) -> Option<Event<'a>>
+    requires { length parts.now ≡ 4 }
+    ensures { IfSome result (IsEventOf name.now (texts parts.now)) }
+{
+    match name {
+        "Signal" => Some(Event::Signal {
+            shard: octet(parts, "shard")?,
+            endpoint: peer(parts)?,
+            mid: short(parts, "mid")?,
+            reset: flag(parts, "reset")?,
+        }),
+        _ => None,
+    }
+}

@@ -1,0 +1,95 @@
+//! What a replay prints.
+ghost use Rattle.std.specs.Prelude.{OnOk};
+ghost use Rattle.fc_registry.specs.Slots.{slot_in};
+ghost use Rattle.std.specs.Io.KnownBytes.{Appends};
+ghost use Rattle.fc_replay.specs.Printed.{IsSlotLine, emitted_line, slot_text, version_text, vars_text};
+
+use coap_msg::Emission;
+use fc_cli::stop::Stop;
+use fc_lines::emission::print;
+use fc_registry::{Shard, SlotNumber};
+use std::alloc::Global;
+use std::io;
+use std::io::Write;
+
+/// What is told of a slot: its serial, its program's version, where it has one, and its variables.
+#[derive(Clone, Copy)]
+pub struct SlotLine<'a> {
+    /// How often it was changed.
+    pub serial: u64,
+    /// The serial of its program's install, where it has a program.
+    pub version: Option<u64>,
+    /// The variables of its program.
+    pub vars: &'a [u8],
+}
+
+/// What is told of a slot of this shard.
+pub fn slot_line(shard: &Shard, slot: SlotNumber) -> SlotLine<'_>
+    ensures { IsSlotLine (slot_in shard.entry.now slot) result }
+{
+    SlotLine {
+        serial: shard.serial(slot),
+        version: shard.version(slot),
+        vars: shard.vars(slot),
+    }
+}
+
+/// Prints `none`, or an emission as `peer hex`.
+///
+/// # Errors
+/// The writer failed.
+pub fn print_emitted<W: Write>(out: &mut W, emitted: &Option<Emission>) -> io::Result<()>
+    ensures { OnOk result (Appends (W.contents out.old) (W.contents out.new) (emitted_line emitted.now)) }
+{
+    match emitted {
+        None => out.write_all(b"none\n"),
+        Some(emission) => print(out, emission),
+    }
+}
+
+/// Prints a line for a slot that was changed; nothing for one whose serial is 0.
+///
+/// # Errors
+/// The writer failed, or there was no memory for the variables' digits.
+pub fn print_slot<W: Write>(
+    alloc: Global,
+    out: &mut W,
+    number: u8,
+    slot: SlotLine<'_>,
+) -> Result<(), Stop>
+    ensures { OnOk result (Appends (W.contents out.old) (W.contents out.new) (slot_text number slot.entry)) }
+{
+    if slot.serial == 0 {
+        return Ok(());
+    }
+    let serial = slot.serial;
+    write!(out, "slot {number} serial {serial} version ")?;
+    print_version(out, slot.version)?;
+    out.write_all(b" vars ")?;
+    print_vars(alloc, out, slot.vars)?;
+    out.write_all(b"\n")?;
+    Ok(())
+}
+
+// Prints a version, or a dash where there is no program.
+fn print_version<W: Write>(out: &mut W, version: Option<u64>) -> io::Result<()>
+    ensures { OnOk result (Appends (W.contents out.old) (W.contents out.new) (version_text version)) }
+{
+    match version {
+        None => out.write_all(b"-"),
+        Some(version) => write!(out, "{version}"),
+    }
+}
+
+// Prints variables by hex digits, or a dash where there are none.
+fn print_vars<W: Write>(alloc: Global, out: &mut W, vars: &[u8]) -> Result<(), Stop>
+    ensures { OnOk result (Appends (W.contents out.old) (W.contents out.new) (vars_text vars.now)) }
+{
+    if vars.is_empty() {
+        out.write_all(b"-")?;
+    } else {
+        let digits = hex::encode(alloc, vars)?;
+        out.write_all(digits.as_bytes())?;
+    }
+    Ok(())
+}

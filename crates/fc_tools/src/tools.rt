@@ -1,0 +1,215 @@
+//! Assembling, listing and checking images: the bodies of `fcasm`.
+ghost use Rattle.std.specs.Prelude.{IfOk, string_bytes};
+ghost use Rattle.fc_tools.specs.Tools.{IsImageOf, IsListingOf};
+
+use fc_asm::{AsmError, Mistake, assemble, disassemble};
+use fc_cli::status::{Status, tell};
+use fc_image::{HEADER_SIZE, Head, head};
+use fc_isa::{DecodeError, Fault, decode, encode};
+use fc_verify::{Refusal, verify};
+use std::alloc::{AllocError, Global};
+use std::io;
+use std::io::{Read, Write};
+use thiserror::Error;
+
+/// The most bytes of an image whose length fits its count: a header, and 65,535 slots of eight bytes.
+const LONGEST_IMAGE: u64 = 16 + 8 * 65_535;
+
+/// Why a tool has no result.
+#[derive(Debug, Drop, Error)]
+pub enum ToolError {
+    /// The text has a mistake.
+    #[error("{0}")]
+    Text(AsmError),
+    /// The image, or a number of its header, breaks a rule.
+    #[error("{0}")]
+    Image(Fault),
+    /// Reading failed.
+    #[error("standard input: {0}")]
+    Input(io::Error),
+    /// Writing failed.
+    #[error("standard output: {0}")]
+    Output(io::Error),
+    /// There was no memory.
+    #[error("{0}")]
+    Memory(#[from] AllocError),
+}
+
+impl ToolError {
+    fn status(&self) -> Status {
+        match self {
+            ToolError::Text(_) | ToolError::Image(_) => Status::Refused,
+            ToolError::Input(_) | ToolError::Output(_) | ToolError::Memory(_) => Status::Failed,
+        }
+    }
+}
+
+impl From<AsmError> for ToolError {
+    fn from(error: AsmError) -> Self {
+        match error {
+            AsmError::NoMemory => ToolError::Memory(AllocError),
+            _ => ToolError::Text(error),
+        }
+    }
+}
+
+impl From<DecodeError> for ToolError {
+    fn from(error: DecodeError) -> Self {
+        match error {
+            DecodeError::Fault(fault) => ToolError::Image(fault),
+            DecodeError::NoMemory => ToolError::Memory(AllocError),
+        }
+    }
+}
+
+impl From<Fault> for ToolError {
+    fn from(fault: Fault) -> Self {
+        ToolError::Image(fault)
+    }
+}
+
+/// Reads a text, assembles it, and writes the image with this size of the variables, in bytes, and this budget of steps.
+/// It ends `Done` where the image is written; `Refused` where the text has a mistake, or else a number of the header is
+/// out of its limits; `Failed` where reading or writing failed, or there was no memory. `err` is told why.
+pub fn image<R: Read, W: Write, E: Write>(
+    alloc: Global,
+    input: &mut R,
+    out: &mut W,
+    err: &mut E,
+    vars_size: u16,
+    budget: u32,
+) -> Status {
+    match write_image(alloc, input, out, vars_size, budget) {
+        Ok(()) => Status::Done,
+        Err(error) => tell(err, &error, error.status()),
+    }
+}
+
+/// Reads an image and writes its listing. It ends `Done` where the listing is written; `Refused` where the header or a
+/// slot breaks a rule; `Failed` where reading or writing failed, or there was no memory. `err` is told why.
+pub fn list<R: Read, W: Write, E: Write>(
+    alloc: Global,
+    input: &mut R,
+    out: &mut W,
+    err: &mut E,
+) -> Status {
+    match write_listing(alloc, input, out) {
+        Ok(()) => Status::Done,
+        Err(error) => tell(err, &error, error.status()),
+    }
+}
+
+/// Reads an image, and says on `out` whether it is accepted: with its cost and budget, or the first rule that it breaks.
+/// It ends `Done` where it is accepted, `Refused` where it is not, and `Failed` where reading or writing failed, or there
+/// was no memory, which `err` is told.
+pub fn check<R: Read, W: Write, E: Write>(
+    alloc: Global,
+    input: &mut R,
+    out: &mut W,
+    err: &mut E,
+) -> Status {
+    match write_verdict(alloc, input, out) {
+        Ok(status) => status,
+        Err(error) => tell(err, &error, error.status()),
+    }
+}
+
+// Reads an image; of one that is too long to have its length fit its count, as much as shows that.
+fn read_image<R: Read>(alloc: Global, input: &mut R) -> Result<Vec<u8>, ToolError> {
+    let mut image = Vec::new(alloc);
+    let mut input = input.by_ref().take(LONGEST_IMAGE + 1);
+    input.read_to_end(&mut image).map_err(ToolError::Input)?;
+    Ok(image)
+}
+
+// Writes all of these bytes, and has them written out.
+fn write_whole<W: Write>(out: &mut W, bytes: &[u8]) -> Result<(), ToolError> {
+    out.write_all(bytes).map_err(ToolError::Output)?;
+    out.flush().map_err(ToolError::Output)
+}
+
+fn write_image<R: Read, W: Write>(
+    alloc: Global,
+    input: &mut R,
+    out: &mut W,
+    vars_size: u16,
+    budget: u32,
+) -> Result<(), ToolError> {
+    let mut text = Vec::new(alloc);
+    input.read_to_end(&mut text).map_err(ToolError::Input)?;
+    let image = image_of(alloc, &text, vars_size, budget)?;
+    write_whole(out, &image)
+}
+
+fn write_listing<R: Read, W: Write>(
+    alloc: Global,
+    input: &mut R,
+    out: &mut W,
+) -> Result<(), ToolError> {
+    let image = read_image(alloc, input)?;
+    let listing = listing_of(alloc, &image)?;
+    write_whole(out, listing.as_bytes())
+}
+
+fn write_verdict<R: Read, W: Write>(
+    alloc: Global,
+    input: &mut R,
+    out: &mut W,
+) -> Result<Status, ToolError> {
+    let image = read_image(alloc, input)?;
+    let status = match verify(alloc, &image) {
+        Ok(program) => {
+            let (cost, budget) = (program.cost(), program.budget());
+            writeln!(out, "accepted cost {cost} budget {budget}").map_err(ToolError::Output)?;
+            Status::Done
+        }
+        Err(Refusal::Broken(fault)) => {
+            writeln!(out, "{fault}").map_err(ToolError::Output)?;
+            Status::Refused
+        }
+        Err(Refusal::NoMemory) => return Err(ToolError::Memory(AllocError)),
+    };
+    out.flush().map_err(ToolError::Output)?;
+    Ok(status)
+}
+
+/// The image of a text's program. A text that isn't UTF-8 has an unknown word in its first line.
+///
+/// # Errors
+/// The first line of the text that has a mistake, with the first of these that it has: an unknown first word (A1), a bad
+/// operand (A2), a value out of range (A3). In a text without one, the first rule of the header that a number breaks. Or
+/// memory was refused, where that comes first.
+pub fn image_of(
+    alloc: Global,
+    text: &[u8],
+    vars_size: u16,
+    budget: u32,
+) -> Result<Vec<u8>, ToolError>
+    ensures { IfOk result (λ v. IsImageOf text.now vars_size budget v.items) }
+{
+    let Ok(text) = str::from_utf8(text) else {
+        return Err(ToolError::Text(AsmError::Faulty {
+            mistake: Mistake::UnknownWord,
+            line: 1,
+        }));
+    };
+    let program = assemble(alloc, text)?;
+    let head = Head::new(vars_size, program.len(), budget)?;
+    let slots = encode(alloc, &program)?;
+    let mut image = Vec::with_capacity(alloc, HEADER_SIZE)?;
+    image.extend_from_slice(&head.bytes())?;
+    image.extend_from_slice(&slots)?;
+    Ok(image)
+}
+
+/// The listing of an image's program.
+///
+/// # Errors
+/// The first rule of the header or of a slot that the image breaks, with its slot; or memory was refused.
+pub fn listing_of(alloc: Global, image: &[u8]) -> Result<String, ToolError>
+    ensures { IfOk result (λ s. IsListingOf image.now (string_bytes s)) }
+{
+    let _head = head(image)?;
+    let program = decode(alloc, &image[HEADER_SIZE..])?;
+    Ok(disassemble(alloc, &program)?)
+}

@@ -1,0 +1,83 @@
+// The feeder of a pool of workers: it has datagrams taken in, and sends the jobs that they bring.
+ghost use Rattle.std.specs.Prelude.{◌≡◌};
+
+use coap_msg::Endpoint;
+use fc_core::Delivered;
+use fc_jobs::{Jobs, Sent};
+use fc_registry::SlotNumber;
+use fc_workers::Bench;
+use std::alloc::{AllocError, Global};
+use std::sync::Wait;
+
+/// What all datagrams come from.
+const PEER: Endpoint = Endpoint {
+    ip: [127, 0, 0, 1],
+    port: 5683,
+};
+
+/// What a datagram asks.
+#[derive(Clone, Copy)]
+pub(crate) enum Request<'a> {
+    /// `PUT /p/SLOT` of an image.
+    Put(&'a [u8]),
+    /// `POST /r/SLOT`.
+    Post,
+}
+
+/// The datagram of a confirmable request, with this message id.
+pub(crate) fn datagram(
+    alloc: Global,
+    request: Request<'_>,
+    id: u16,
+    slot: SlotNumber,
+) -> Result<Vec<u8>, AllocError> {
+    let mut bytes = Vec::new(alloc);
+    let (code, path) = match request {
+        Request::Put(_) => (3, b'p'),
+        Request::Post => (2, b'r'),
+    };
+    let id = id.to_be_bytes();
+    let tens = b'0' + slot.number() / 10;
+    let ones = b'0' + slot.number() % 10;
+    bytes.extend_from_slice(&[0x40, code, id[0], id[1], 0xb1, path])?;
+    if tens == b'0' {
+        bytes.extend_from_slice(&[0x01, ones])?;
+    } else {
+        bytes.extend_from_slice(&[0x02, tens, ones])?;
+    }
+    if let Request::Put(image) = request {
+        bytes.push(0xff)?;
+        bytes.extend_from_slice(image)?;
+    }
+    Ok(bytes)
+}
+
+/// Where a feeder has its datagrams taken in, and sends the jobs.
+#[derive(Drop)]
+pub(crate) struct Feeder<'a, B: Bench> {
+    pub(crate) alloc: Global,
+    pub(crate) bench: &'a B,
+    pub(crate) jobs: &'a Jobs,
+}
+
+impl<'a, B: Bench> Feeder<'a, B> {
+    /// Has a request's datagram taken in, at a moment in milliseconds, and sends the job that it brings. Whether there was one.
+    pub(crate) fn ask<R: Wait>(
+        &self,
+        rt: &R,
+        sent: &mut Sent,
+        now: u64,
+        request: Request<'_>,
+        id: u16,
+        slot: SlotNumber,
+    ) -> Result<bool, AllocError>
+        requires { sent.old.channel ≡ self.now.jobs.now }
+        ensures { sent.new.channel ≡ sent.old.channel }
+    {
+        let bytes = datagram(self.alloc, request, id, slot)?;
+        match self.bench.deliver(rt, now, PEER, &bytes) {
+            Delivered::Job(job) => Ok(self.jobs.send(rt, job, sent).is_none()),
+            Delivered::Reply(_) | Delivered::Nothing | Delivered::Signal { .. } => Ok(false),
+        }
+    }
+}

@@ -1,0 +1,502 @@
+// Jobs that overtake one another: in which order they are answered, and what the workers count.
+ghost use Rattle.std.specs.Prelude.{◌≡◌, ◌+◌, ◌<◌};
+
+use crate::feeder::{Feeder, Request};
+use arrayvec::ArrayVec;
+use coap_msg::Emission;
+use fc_jobs::Sent;
+use fc_registry::SlotNumber;
+use fc_verify::{Verified, verify};
+use fc_workers::{
+    Bench, Blanks, Gate, Locked, Moments, Share, Wire, Workshop, feed_workers, make_seats,
+};
+use std::alloc::{AllocError, Global};
+use std::marker::Brand;
+use std::sync::ledger::Ledger;
+use std::sync::{Arc, Mutex, Wait};
+use std::test::Fail;
+use std::thread;
+use std::thread::Threads;
+use std::time::{Clock, Duration};
+
+// A counter: each request adds 1 to the first word of its eight bytes of variables.
+const COUNTER: &[u8] =
+    b"FCB1\x08\x00\x09\x00\x09\x00\x00\x00\x00\x00\x00\x00\xb7\x01\x00\x00\x00\x00\x00\x00\x85\x00\x00\x00\x03\x00\x00\x00\x07\x00\x00\x00\x01\x00\x00\x00\xbf\x02\x00\x00\x00\x00\x00\x00\xb7\x01\x00\x00\x00\x00\x00\x00\x85\x00\x00\x00\x04\x00\x00\x00\x85\x00\x00\x00\x07\x00\x00\x00\xb7\x00\x00\x00\x00\x00\x00\x00\x95\x00\x00\x00\x00\x00\x00\x00";
+
+// The codes of the replies (RFC 7252, 12.1.2).
+const CREATED: u8 = 0x41;
+
+const CHANGED: u8 = 0x44;
+
+const UNAVAILABLE: u8 = 0xa3;
+
+// What was done with a server, and the tallies of its workers.
+#[derive(Drop)]
+struct Held<X: Drop, T: Drop> {
+    given: X,
+    tallies: Vec<T>,
+}
+
+// How many times a thread looks, once a millisecond, for what another one is to do.
+const TURNS: u32 = 10_000;
+
+// A reply that went out: the number of its job, and its code.
+#[derive(Clone, Copy, Debug, Default, PartialEq, Eq)]
+struct Reply {
+    job: u64,
+    code: u8,
+}
+
+// The replies in the order in which they went out, and whether a thread looked for one in vain.
+#[derive(Drop)]
+struct Replies {
+    all: Mutex<ArrayVec<Reply, 128>>,
+    missed: Mutex<bool>,
+}
+
+impl Replies {
+    fn new() -> Replies {
+        Replies {
+            all: Mutex::new(ArrayVec::new()),
+            missed: Mutex::new(false),
+        }
+    }
+
+    fn has<R: Wait>(&self, rt: &R, job: u64) -> bool {
+        let all = self.all.lock(rt);
+        all.iter().any(|it| it.job == job)
+    }
+
+    // Waits for the reply of a job, but no longer than so many turns.
+    fn wait_for<R: Wait, C: Clock>(&self, rt: &R, clock: &C, job: u64) {
+        for _turn in 0..TURNS {
+            if self.has(rt, job) {
+                return;
+            }
+            thread::sleep(clock, Duration::from_millis(1));
+        }
+        *self.missed.lock(rt) = true;
+    }
+
+    // What the workers did, with the replies where all that were looked for came.
+    fn seen<T: Drop>(
+        self,
+        alloc: Global,
+        shares: Vec<Share<T>>,
+    ) -> Result<Held<Seen, T>, AllocError> {
+        let mut overtakings = 0u64;
+        let mut tallies = Vec::new(alloc);
+        for share in shares {
+            overtakings = overtakings.saturating_add(share.overtakings);
+            tallies.push(share.tallies)?;
+        }
+        let missed = self.missed.into_inner();
+        let replies = if missed {
+            None
+        } else {
+            Some(self.all.into_inner())
+        };
+        let given = Seen {
+            replies,
+            overtakings,
+        };
+        Ok(Held { given, tallies })
+    }
+}
+
+impl Wire for Replies {
+    fn send<R: Wait>(&self, rt: &R, number: u64, emission: &Emission) -> bool {
+        let Some(&code) = emission.bytes.as_slice().get(1) else {
+            return false;
+        };
+        let mut all = self.all.lock(rt);
+        all.try_push(Reply { job: number, code }).is_ok()
+    }
+
+    fn ended<R: Wait>(&self, rt: &R, number: u64) {
+        let _ = rt;
+        let _ = number;
+    }
+}
+
+impl Moments for Replies {
+    fn now<R: Wait>(&self, rt: &R) -> u64 {
+        let _ = rt;
+        0
+    }
+}
+
+// What the workers' shares count.
+#[derive(Drop)]
+struct Seen {
+    replies: Option<ArrayVec<Reply, 128>>,
+    overtakings: u64,
+}
+
+// Holds job 1 until job 2's reply went out.
+#[derive(Drop)]
+struct Holding<'c, 'r, C: Clock> {
+    clock: &'c C,
+    replies: &'r Replies,
+}
+
+impl<'c, 'r, C: Clock> Gate for Holding<'c, 'r, C> {
+    fn between<R: Wait>(&self, rt: &R, number: u64) {
+        if number == 1 {
+            self.replies.wait_for(rt, self.clock, 2);
+        }
+    }
+}
+
+// An install, and then two POSTs for two workers. The first one is held.
+#[derive(Drop)]
+struct TwoAtOnce;
+
+impl TwoAtOnce {
+    fn hold<B: Bench + Sync, R: Threads + Wait + Clock + Sync>(
+        &self,
+        rt: &R,
+        alloc: Global,
+        bench: &B,
+        tallies: Vec<B::Tallies>,
+    ) -> anyhow::Result<Held<Seen, B::Tallies>> {
+        let replies = Replies::new();
+        let shares = self.hold_at(rt, alloc, bench, tallies, &replies)?;
+        Ok(replies.seen(alloc, shares)?)
+    }
+
+    // Works the jobs off, with the gate: the shares.
+
+    fn hold_at<B: Bench + Sync, R: Threads + Wait + Clock + Sync>(
+        &self,
+        rt: &R,
+        alloc: Global,
+        bench: &B,
+        tallies: Vec<B::Tallies>,
+        replies: &Replies,
+    ) -> anyhow::Result<Vec<Share<B::Tallies>>> {
+        let (jobs, sent, seats) = make_seats(alloc, tallies)?;
+        let gate = Holding { clock: rt, replies };
+        let workshop = Workshop {
+            alloc,
+            bench,
+            gate: &gate,
+            wire: replies,
+            moments: replies,
+        };
+        let feeder = Feeder {
+            alloc,
+            bench,
+            jobs: &jobs,
+        };
+        let (fed, shares) = feed_workers(
+            rt,
+            &workshop,
+            &jobs,
+            seats,
+            || -> Result<(), AllocError>
+                requires { sent.channel ≡ feeder.jobs.now }
+            { feed_two(rt, &feeder, replies, sent) },
+        );
+        fed?;
+        Ok(shares?)
+    }
+}
+
+// Has the counter installed, and sends two POSTs.
+fn feed_two<B: Bench, R: Wait + Clock>(
+    rt: &R,
+    feeder: &Feeder<'_, B>,
+    replies: &Replies,
+    mut sent: Sent,
+) -> Result<(), AllocError>
+    requires { sent.channel ≡ feeder.now.jobs.now }
+{
+    let slot = SlotNumber::new(0);
+    feeder.ask(rt, &mut sent, 0, Request::Put(COUNTER), 0, slot)?;
+    replies.wait_for(rt, rt, 0);
+    feeder.ask(rt, &mut sent, 0, Request::Post, 1, slot)?;
+    feeder.ask(rt, &mut sent, 0, Request::Post, 2, slot)?;
+    Ok(())
+}
+
+// The job that the worker is at, and how often its run was asked about.
+#[derive(Drop)]
+struct Turn<T: Drop> {
+    tallies: T,
+    job: u64,
+    runs: u64,
+}
+
+// Installs the counter in slot 0 before the commits of the first runs of some jobs, with tallies of its own.
+#[derive(Drop)]
+struct Changing<'a, B: Bench> {
+    bench: &'a B,
+    counter: Arc<Verified>,
+    every: u64,
+    held: u64,
+    turn: Mutex<Turn<B::Tallies>>,
+    ghost some: { 0 < every },
+}
+
+impl<'a, B: Bench> Gate for Changing<'a, B> {
+    fn between<R: Wait>(&self, rt: &R, number: u64) {
+        let mut turn = self.turn.lock(rt);
+        if turn.job != number {
+            turn.job = number;
+            turn.runs = 0;
+        }
+        turn.runs = turn.runs.saturating_add(1);
+        if number % self.every != 0 || turn.runs > self.held {
+            return;
+        }
+        if let Ok(counter) = Arc::try_clone(&self.counter) {
+            let _made = self
+                .bench
+                .install(rt, SlotNumber::new(0), counter, &mut turn.tallies);
+        }
+    }
+}
+
+// So many POSTs for one worker, to a slot that has the counter. Of each job whose number is a multiple of `every` so many runs
+// are overtaken.
+#[derive(Drop)]
+struct Overtaken {
+    posts: u16,
+    every: u64,
+    runs: u64,
+    ghost some: { 0 < every },
+}
+
+impl Overtaken {
+    fn hold<B: Bench + Sync, R: Threads + Wait + Clock + Sync>(
+        &self,
+        rt: &R,
+        alloc: Global,
+        bench: &B,
+        mut tallies: Vec<B::Tallies>,
+    ) -> anyhow::Result<Held<Seen, B::Tallies>> {
+        let Some(mut others) = tallies.pop() else {
+            return Err(anyhow::anyhow!("no tallies"));
+        };
+        let counter = Arc::new(alloc, verify(alloc, COUNTER)?)?;
+        let installed = Arc::try_clone(&counter)?;
+        let _made = bench.install(rt, SlotNumber::new(0), installed, &mut others);
+        let gate = Changing {
+            bench,
+            counter,
+            every: self.every,
+            held: self.runs,
+            turn: Mutex::new(Turn {
+                tallies: others,
+                job: u64::MAX,
+                runs: 0,
+            }),
+        };
+        let replies = Replies::new();
+        let shares = post_at(rt, alloc, bench, tallies, &gate, &replies, self.posts)?;
+        let mut held = replies.seen(alloc, shares)?;
+        let Changing { turn, .. } = gate;
+        held.tallies.push(turn.into_inner().tallies)?;
+        Ok(held)
+    }
+}
+
+// Has so many POSTs worked off through this gate: the shares.
+fn post_at<B: Bench + Sync, G: Gate + Sync, R: Threads + Wait + Clock + Sync>(
+    rt: &R,
+    alloc: Global,
+    bench: &B,
+    tallies: Vec<B::Tallies>,
+    gate: &G,
+    replies: &Replies,
+    posts: u16,
+) -> anyhow::Result<Vec<Share<B::Tallies>>> {
+    let (jobs, sent, seats) = make_seats(alloc, tallies)?;
+    let workshop = Workshop {
+        alloc,
+        bench,
+        gate,
+        wire: replies,
+        moments: replies,
+    };
+    let feeder = Feeder {
+        alloc,
+        bench,
+        jobs: &jobs,
+    };
+    let (fed, shares) = feed_workers(
+        rt,
+        &workshop,
+        &jobs,
+        seats,
+        || -> Result<(), AllocError>
+            requires { sent.channel ≡ feeder.jobs.now }
+        { feed_posts(rt, &feeder, sent, posts) },
+    );
+    fed?;
+    Ok(shares?)
+}
+
+// Sends so many POSTs to slot 0.
+fn feed_posts<B: Bench, R: Wait>(
+    rt: &R,
+    feeder: &Feeder<'_, B>,
+    mut sent: Sent,
+    posts: u16,
+) -> Result<(), AllocError>
+    requires { sent.channel ≡ feeder.now.jobs.now }
+{
+    for id in 0..posts {
+        feeder.ask(rt, &mut sent, 0, Request::Post, id, SlotNumber::new(0))?;
+    }
+    Ok(())
+}
+
+// What is tried with a new server.
+#[derive(Drop)]
+enum Trial {
+    TwoAtOnce(TwoAtOnce),
+    Overtaken(Overtaken),
+}
+
+impl Trial {
+    fn hold<B: Bench + Sync, R: Threads + Wait + Clock + Sync>(
+        &self,
+        rt: &R,
+        alloc: Global,
+        bench: &B,
+        tallies: Vec<B::Tallies>,
+    ) -> anyhow::Result<Held<Seen, B::Tallies>> {
+        match self {
+            Trial::TwoAtOnce(two) => two.hold(rt, alloc, bench, tallies),
+            Trial::Overtaken(overtaken) => overtaken.hold(rt, alloc, bench, tallies),
+        }
+    }
+}
+
+// Holds a trial with a new server of empty slots and so many tallies: how many changes of shard 0 each of them counted.
+fn hold<R: Threads + Wait + Clock + Sync>(
+    rt: &R,
+    alloc: Global,
+    tallies: u8,
+    trial: &Trial,
+) -> anyhow::Result<Held<Seen, u64>> {
+    let blanks = Blanks::new(u64::from(tallies) + 1);
+    hold_named::<Brand, Brand, Brand, Brand, Brand, Brand, Brand, Brand, R>(
+        rt, alloc, tallies, trial, blanks,
+    )
+}
+
+// Holds it with a server whose books have these names.
+fn hold_named<
+    L0: Ledger + Send + Sync,
+    L1: Ledger + Send + Sync,
+    L2: Ledger + Send + Sync,
+    L3: Ledger + Send + Sync,
+    L4: Ledger + Send + Sync,
+    L5: Ledger + Send + Sync,
+    L6: Ledger + Send + Sync,
+    L7: Ledger + Send + Sync,
+    R: Threads + Wait + Clock + Sync,
+>(
+    rt: &R,
+    alloc: Global,
+    tallies: u8,
+    trial: &Trial,
+    blanks: Blanks,
+) -> anyhow::Result<Held<Seen, u64>>
+    requires parts { blanks.parts ≡ tallies + 1 }
+    requires book0 { (blanks.blank0.name ≡ L0.name) × (blanks.parts ≡ L0.parts) }
+    requires book1 { (blanks.blank1.name ≡ L1.name) × (blanks.parts ≡ L1.parts) }
+    requires book2 { (blanks.blank2.name ≡ L2.name) × (blanks.parts ≡ L2.parts) }
+    requires book3 { (blanks.blank3.name ≡ L3.name) × (blanks.parts ≡ L3.parts) }
+    requires book4 { (blanks.blank4.name ≡ L4.name) × (blanks.parts ≡ L4.parts) }
+    requires book5 { (blanks.blank5.name ≡ L5.name) × (blanks.parts ≡ L5.parts) }
+    requires book6 { (blanks.blank6.name ≡ L6.name) × (blanks.parts ≡ L6.parts) }
+    requires book7 { (blanks.blank7.name ≡ L7.name) × (blanks.parts ≡ L7.parts) }
+{
+    let (server, mut reserve) = Locked::<L0, L1, L2, L3, L4, L5, L6, L7>::new(alloc, 0, 0, blanks)?;
+    let tallies = reserve.split_each(alloc, usize::from(tallies))?;
+    let held = trial.hold(rt, alloc, &server, tallies)?;
+    let mut changes = Vec::new(alloc);
+    for tally in &held.tallies {
+        changes.push(tally.shown(0))?;
+    }
+    Ok(Held {
+        given: held.given,
+        tallies: changes,
+    })
+}
+
+#[test]
+fn two_workers_run_at_once(rt: HostRuntime) -> Result<(), Fail> {
+    let Held { given, tallies } = hold(&rt, rt.alloc(), 2, &Trial::TwoAtOnce(TwoAtOnce))?;
+    let Seen {
+        replies,
+        overtakings,
+    } = given;
+    let Some(replies) = replies else {
+        panic!(rt; "a reply was missed")
+    };
+    let order = [(0, CREATED), (2, CHANGED), (1, CHANGED)];
+    let wanted = order.map(|it| Reply {
+        job: it.0,
+        code: it.1,
+    });
+    assert!(rt; replies.as_slice() == wanted.as_slice());
+    assert_eq!(rt; overtakings, 1);
+    let mut changes = 0u64;
+    for tally in &tallies {
+        changes = changes.saturating_add(*tally);
+    }
+    assert_eq!(rt; changes, 3);
+    Ok(())
+}
+
+#[test]
+fn overtaken_runs_are_run_again(rt: HostRuntime) -> Result<(), Fail> {
+    let overtaken = Overtaken {
+        posts: 100,
+        every: 15,
+        runs: 1,
+    };
+    let Held { given, tallies } = hold(&rt, rt.alloc(), 2, &Trial::Overtaken(overtaken))?;
+    let Seen {
+        replies,
+        overtakings,
+    } = given;
+    let Some(replies) = replies else {
+        panic!(rt; "a reply was missed")
+    };
+    assert_eq!(rt; replies.len(), 100);
+    assert!(rt; replies.iter().all(|it| it.code == CHANGED));
+    assert_eq!(rt; overtakings, 7);
+    assert!(rt; tallies.as_slice() == [100, 8].as_slice());
+    Ok(())
+}
+
+#[test]
+fn eight_overtakings_end_a_job(rt: HostRuntime) -> Result<(), Fail> {
+    let overtaken = Overtaken {
+        posts: 1,
+        every: 1,
+        runs: 8,
+    };
+    let Held { given, tallies } = hold(&rt, rt.alloc(), 2, &Trial::Overtaken(overtaken))?;
+    let Seen {
+        replies,
+        overtakings,
+    } = given;
+    let Some(replies) = replies else {
+        panic!(rt; "a reply was missed")
+    };
+    let wanted = [Reply {
+        job: 0,
+        code: UNAVAILABLE,
+    }];
+    assert!(rt; replies.as_slice() == wanted.as_slice());
+    assert_eq!(rt; overtakings, 8);
+    assert!(rt; tallies.as_slice() == [0, 9].as_slice());
+    Ok(())
+}

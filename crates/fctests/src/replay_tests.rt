@@ -1,0 +1,207 @@
+// Lists that are replayed: what a bad line is, and what is printed and told.
+use fc_cli::Status;
+use fc_replay::replay::replay;
+use std::alloc::Global;
+use std::io;
+use std::io::Write;
+use std::process::Abort;
+
+// Whether a replay ends in this status, and writes just this to its output and to where faults are told.
+fn replays(alloc: Global, list: &str, status: Status, printed: &str, told: &str) -> bool {
+    replays_bytes(
+        alloc,
+        list.as_bytes(),
+        status,
+        printed.as_bytes(),
+        told.as_bytes(),
+    )
+}
+
+fn replays_bytes(alloc: Global, list: &[u8], status: Status, printed: &[u8], told: &[u8]) -> bool {
+    let mut out = Vec::new(alloc);
+    let mut err = Vec::new(alloc);
+    let mut input = list;
+    replay(alloc, &mut input, &mut out, &mut err) == status
+        && out.as_slice() == printed
+        && err.as_slice() == told
+}
+
+fn check_replayed<R: Abort + AllocGlobal>(rt: &R, list: &str, printed: &str) {
+    assert!(rt;
+        replays(rt.alloc(), list, Status::Done, printed, ""),
+        "{list}"
+    );
+}
+
+// Parts come in any order, and what isn't served emits nothing.
+#[test]
+fn events_have_their_parts_in_any_order(rt: HostRuntime) {
+    check_replayed(&rt, "", "");
+    check_replayed(&rt, "Deliver data=40000007 now=0 ep=9", "9 70000007\n");
+    check_replayed(
+        &rt,
+        "Deliver ep=1 data= now=0\n\
+         Peek job=4 slot=9\nRemove job=2\nReceipt job=3\nRaise job=0\nLose job=3\n\
+         Note random=65535 job=5 now=1\nDue shard=2 now=1\nFresh job=5 now=1\nGiveUp job=1 now=1\n\
+         Signal reset=1 mid=10563 ep=2 shard=4\nShardTick shard=7 now=9\nTick now=18446744073709551615\n",
+        "none\nnone\nnone\nnone\nnone\nnone\nnone\nnone\nnone\nnone\nnone\nnone\nnone\n",
+    );
+}
+
+static BAD_LINES: [&str; 16] = [
+    "",
+    "Tick",
+    "tick now=1",
+    "Tick now=",
+    "Tick now=1 ",
+    "Tick  now=1",
+    "Tick now=1 now=1",
+    "Tick now=18446744073709551616",
+    "Take job=0 memory=2",
+    "Take job=0",
+    "Take job=0 job=1",
+    "Commit job=+1 now=1",
+    "Note job=1 now=0 random=65536",
+    "Deliver now=0 ep=256 data=",
+    "Deliver now=0 ep=1 data=0",
+    "Deliver now=0 ep=1",
+];
+
+// The bad line stands behind one that would be answered, and before another bad one: nothing is carried out.
+#[test]
+fn a_bad_line_is_told_by_its_number(rt: HostRuntime) {
+    for line in BAD_LINES.iter().copied() {
+        let list = format!(in rt.alloc(); "Deliver now=0 ep=1 data=40000007\n{line}\nTick\n");
+        let is_told = list.is_ok_and(|list| replays(
+            rt.alloc(),
+            &list,
+            Status::Bad,
+            "",
+            "line 2: bad\n",
+        ));
+        assert!(rt; is_told, "{line}");
+    }
+}
+
+// A program that counts POSTs in eight bytes of variables, and gives a notice of each.
+const COUNT: &str = "46434231080009000900000000000000b7010000000000008500000003000000\
+    0700000001000000bf02000000000000b7010000000000008500000004000000\
+    8500000007000000b7000000000000009500000000000000";
+
+// Two POSTs take the same version: the second is overtaken, and takes again.
+#[test]
+fn a_post_is_overtaken_by_another(rt: HostRuntime) {
+    let image = COUNT;
+    let list = format!(in rt.alloc();
+        "Deliver now=0 ep=1 data=4103200072b1700131ff{image}\n\
+         Install job=0 memory=1\n\
+         Raise job=0\n\
+         Answer job=0 now=0\n\
+         Deliver now=1 ep=1 data=4102200172b1720131\n\
+         Deliver now=1 ep=2 data=4102200272b1720131\n\
+         Take job=1 memory=1\n\
+         Take job=2 memory=1\n\
+         Commit job=1 now=2\n\
+         Commit job=2 now=3\n\
+         Take job=2 memory=1\n\
+         Commit job=2 now=4\n\
+         Raise job=1\n\
+         Answer job=1 now=5\n\
+         Raise job=2\n\
+         Answer job=2 now=5\n"
+    );
+    let printed = "none\n\
+         none\n\
+         none\n\
+         1 6141200072ff76657273696f6e3d3120636f73743d39206275646765743d3920766172733d38\n\
+         none\n\
+         none\n\
+         none\n\
+         none\n\
+         none\n\
+         none\n\
+         none\n\
+         none\n\
+         none\n\
+         1 6144200172\n\
+         none\n\
+         2 6144200272\n\
+         slot 1 serial 3 version 1 vars 0200000000000000\n";
+    assert!(rt; list.is_ok_and(|list| replays(rt.alloc(), &list, Status::Done, printed, "")));
+}
+
+// A POST takes eight times, and each time another image is installed before it commits.
+fn eight_overtakings(alloc: Global) -> io::Result<(Vec<u8>, Vec<u8>)> {
+    let mut list = Vec::new(alloc);
+    let mut printed = Vec::new(alloc);
+    let put = "72b1700131ff";
+    writeln!(list, "Deliver now=0 ep=1 data=41032000{put}{COUNT}")?;
+    writeln!(list, "Install job=0 memory=1")?;
+    writeln!(list, "Deliver now=1 ep=1 data=4102200172b1720131")?;
+    writeln!(printed, "none\nnone\nnone")?;
+    for job in 2..10u16 {
+        writeln!(list, "Deliver now=1 ep=1 data=4103{job:04x}{put}{COUNT}")?;
+        writeln!(list, "Take job=1 memory=1\nInstall job={job} memory=1")?;
+        writeln!(list, "Commit job=1 now=2")?;
+        writeln!(printed, "none\nnone\nnone\nnone")?;
+    }
+    writeln!(list, "Take job=1 memory=1\nAnswer job=1 now=3")?;
+    writeln!(printed, "none\n1 61a3200172")?;
+    writeln!(printed, "slot 1 serial 9 version 9 vars 0000000000000000")?;
+    Ok((list, printed))
+}
+
+// A POST that is overtaken for the eighth time is answered 5.03.
+#[test]
+fn the_eighth_overtaking_is_unavailable(rt: HostRuntime) {
+    let lists = eight_overtakings(rt.alloc());
+    assert!(rt;
+        lists.is_ok_and(|(list, printed)| replays_bytes(
+            rt.alloc(),
+            &list,
+            Status::Done,
+            &printed,
+            b"",
+        ))
+    );
+}
+
+// A version that was taken and then replaced isn't committed to.
+#[test]
+fn an_install_overtakes_a_post(rt: HostRuntime) {
+    let image = COUNT;
+    let list = format!(in rt.alloc();
+        "Deliver now=0 ep=1 data=4103200072b1700131ff{image}\n\
+         Install job=0 memory=1\n\
+         Deliver now=0 ep=1 data=4103200172b1700131ff{image}\n\
+         Install job=1 memory=1\n\
+         Deliver now=0 ep=1 data=4103200272b1700131ff{image}\n\
+         Install job=2 memory=1\n\
+         Deliver now=1 ep=1 data=4102200372b1720131\n\
+         Take job=3 memory=1\n\
+         Deliver now=1 ep=1 data=4103200472b1700131ff{image}\n\
+         Install job=4 memory=1\n\
+         Commit job=3 now=2\n\
+         Take job=3 memory=1\n\
+         Commit job=3 now=3\n\
+         Raise job=3\n\
+         Answer job=3 now=4\n"
+    );
+    let printed = "none\n\
+         none\n\
+         none\n\
+         none\n\
+         none\n\
+         none\n\
+         none\n\
+         none\n\
+         none\n\
+         none\n\
+         none\n\
+         none\n\
+         none\n\
+         none\n\
+         1 6144200372\n\
+         slot 1 serial 5 version 4 vars 0100000000000000\n";
+    assert!(rt; list.is_ok_and(|list| replays(rt.alloc(), &list, Status::Done, printed, "")));
+}
