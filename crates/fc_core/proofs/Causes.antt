@@ -16,14 +16,14 @@ use Rattle.fc_core.specs.declared.event.Event.{Event}
 use Rattle.fc_core.specs.declared.event.Event.TheVariants.{Peek, Take, Commit, Install, Remove, Receipt, Raise, Answer}
 use Rattle.fc_core.specs.declared.stage.Stage.{Stage}
 use Rattle.fc_core.specs.declared.stage.Stage.TheVariants.{ToMatch, ToTake, ToCommit, ToInstall, ToRemove, ToDescribe, ToList, ToRaise, ToAnswer}
-use Rattle.fc_core.specs.History.{Entry, History, Begins, Then, Seen, seen, and_then, job, scene, slot_at, stage}
+use Rattle.fc_core.specs.History.{around, Entry, History, Begins, Then, Seen, seen, and_then, job, scene, slot_at, stage}
 use Rattle.fc_core.specs.Laws.{slot_of}
 use Rattle.fc_core.specs.SlotLaws.{AllOfImages, ChangesBy, IsInstall, IsOfImage, IsRemoving, IsWriting, Clears, Installs, Nothing, Writes}
-use Rattle.fc_core.specs.Stages.{Scene, committed, image_of, installed, names, row, verified}
+use Rattle.fc_core.specs.Stages.{Around, Scene, committed, image_of, installed, names, row, verified}
 use Rattle.fc_core.proofs.Others.{no_slot, other_slot, own_slot}
 
-abbrev at : Job → Slot → List ℕ → Stage → Scene
-at job slot ws stage = record { job = job; slot = slot; words = ws; stage = stage }
+abbrev at : Job → Slot → Around → Stage → Scene
+at job slot ws stage = record { job = job; slot = slot; around = ws; stage = stage }
 
 -- what a row changes
 data Makes (e : Event) (job : Job) (slot : Slot) (s : Stage) (cs : List Change) : Type 0 where
@@ -47,7 +47,7 @@ installed_makes k job slot (Accepts p) is = put_makes k p job slot (nat_lt slot.
 installed_makes k job slot (Breaks rule i) is = None_made refl
 installed_makes k job slot Untypable is = None_made refl
 
-verified_makes : (k : ℕ) (memory : Bool) (job : Job) (slot : Slot) (ws : List ℕ) → Makes (Install k memory) job slot ToInstall (verified memory (at job slot ws ToInstall)).changes
+verified_makes : (k : ℕ) (memory : Bool) (job : Job) (slot : Slot) (ws : Around) → Makes (Install k memory) job slot ToInstall (verified memory (at job slot ws ToInstall)).changes
 verified_makes k true job slot ws = installed_makes k job slot (judged (image_of job.ask)) refl
 verified_makes k false job slot ws = None_made refl
 
@@ -56,7 +56,7 @@ clear_makes k job slot b None e is = None_made refl
 clear_makes k job slot true (Some p) e is = Takes_out k p refl refl is (ltb-true slot.serial last_serial e) refl
 clear_makes k job slot false (Some p) e is = None_made refl
 
-row_makes : (e : Event) (job : Job) (slot : Slot) (ws : List ℕ) (s : Stage) → Makes e job slot s (row e (at job slot ws s)).changes
+row_makes : (e : Event) (job : Job) (slot : Slot) (ws : Around) (s : Stage) → Makes e job slot s (row e (at job slot ws s)).changes
 row_makes (Peek k n) job slot ws ToMatch = None_made refl
 row_makes (Peek k n) job slot ws (ToList seen) = None_made refl
 row_makes (Remove k) job slot ws ToRemove = clear_makes k job slot (nat_lt slot.serial last_serial) slot.present refl refl
@@ -83,7 +83,7 @@ own_does r s k cs named grown (Leaves j now n t event stands is) =
 does_by : (r : Entry) (s : Seen) (n : ℕ) (o : Option ℕ) → names r.event ≡ o → ChangesBy r s n
 does_by r s n None named = Nothing (no_slot r s n named)
 does_by r s n (Some k) named = ⊎_elim
-    (λ (is : n ≡ slot_of s k). subst (ChangesBy r s) (sym is) (own_does r s k (row r.event (scene s k)).changes named (own_slot r s k named) (row_makes r.event (job s k) (slot_at s (slot_of s k)) s.words (stage s k))))
+    (λ (is : n ≡ slot_of s k). subst (ChangesBy r s) (sym is) (own_does r s k (row r.event (scene s k)).changes named (own_slot r s k named) (row_makes r.event (job s k) (slot_at s (slot_of s k)) (around s (slot_of s k)) (stage s k))))
     (λ (ne : n ≡ slot_of s k → ⊥). Nothing (other_slot r s k n named ne))
     (cases_eq n (slot_of s k))
 

@@ -19,16 +19,16 @@ use Rattle.fc_core.specs.declared.stage.Stage.TheVariants.{ToMatch, ToTake, ToCo
 use Rattle.arrayvec.specs.ArrayVec.{ArrayVec}
 use Rattle.fc_core.specs.Contents.{Content, Listed, Unavailable}
 use Rattle.fc_core.specs.Heads.{is_match, word_at}
-use Rattle.fc_core.specs.History.{Entry, History, Then, Seen, seen, and_then, job, scene, slot_at, stage}
+use Rattle.fc_core.specs.History.{around, Entry, History, Then, Seen, seen, and_then, job, scene, slot_at, stage}
 use Rattle.fc_core.specs.Laws.{HasCome, changes_by, is_named, is_job, is_stray, is_stray_at, needs_word, own_of_named, slot_of, stage_named}
 use Rattle.fc_core.specs.SlotLaws.{IsToRaise}
-use Rattle.fc_core.specs.Stages.{Scene, at_peek, committed, first_by, image_of, installed, made, matched_by, names, peeked_next, peeked_own, removed, row, took, verified}
+use Rattle.fc_core.specs.Stages.{Around, Scene, at_peek, committed, first_by, image_of, installed, made, matched_by, names, peeked_next, peeked_own, removed, row, took, verified}
 use Rattle.fc_core.proofs.Along.{IsTold, along, gone_before}
 use Rattle.fc_core.proofs.Others.{named_stage, own_slot}
 use Rattle.fc_core.proofs.Strays.{strays_stay}
 
-abbrev at : Job → Slot → List ℕ → Stage → Scene
-at job slot ws stage = record { job = job; slot = slot; words = ws; stage = stage }
+abbrev at : Job → Slot → Around → Stage → Scene
+at job slot ws stage = record { job = job; slot = slot; around = ws; stage = stage }
 
 -- how many changes a job publishes at this stage
 abbrev raises : Stage → ℕ
@@ -85,8 +85,8 @@ next_raises true word seen = listed_raises (nat_lt (length (seen.items ++ word �
 next_raises false word seen = refl
 
 peek_raises : (n : ℕ) (x : Scene) (s : Stage) → (raises s ≡ 0) → 0 ≡ raises (at_peek n x s).stage
-peek_raises n x ToMatch e = own_raises (n == x.job.origin.slot) (word_at x.words n) x.job.etags.items
-peek_raises n x (ToList seen) e = next_raises (n == length seen.items) (word_at x.words n) seen
+peek_raises n x ToMatch e = own_raises (n == x.job.origin.slot) (word_at x.around.words n) x.job.etags.items
+peek_raises n x (ToList seen) e = next_raises (n == length seen.items) (word_at x.around.words n) seen
 peek_raises n x other e = sym e
 
 -- what a look changes and leaves to publish: nothing
@@ -101,7 +101,7 @@ needs_none own n (ToRaise word content) e = absurd (cc)
 needs_none own n other e = refl
 
 -- an event that isn't a stray makes as many changes as it leaves to publish
-row_raises : (e : Event) (k : ℕ) (job : Job) (slot : Slot) (ws : List ℕ) (s : Stage) → names e ≡ Some k → is_stray_at e job.origin.slot s ≡ false → length (row e (at job slot ws s)).changes ≡ raises (row e (at job slot ws s)).stage
+row_raises : (e : Event) (k : ℕ) (job : Job) (slot : Slot) (ws : Around) (s : Stage) → names e ≡ Some k → is_stray_at e job.origin.slot s ≡ false → length (row e (at job slot ws s)).changes ≡ raises (row e (at job slot ws s)).stage
 row_raises (Peek j n) k job slot ws s named e = peek_makes n (at job slot ws s) s ∙ peek_raises n (at job slot ws s) s (needs_none job.origin.slot n s e)
 row_raises (Remove j) k job slot ws ToRemove named e = clear_raises (nat_lt slot.serial last_serial) slot.serial slot.present
 row_raises (Receipt j) k job slot ws ToDescribe named e = refl
@@ -152,7 +152,7 @@ first_change Gone n m is more = omega arith
 no_change : (s : Stage) (n : ℕ) → FitsChanges n s → FitsChanges (n + 0) s
 no_change s n f = subst (λ (m : ℕ). FitsChanges m s) (let is : n ≡ n + 0 = omega arith in is) f
 
-row_changes : (e : Event) (job : Job) (slot : Slot) (ws : List ℕ) (s : Stage) (n : ℕ) → FitsChanges n s → FitsChanges (n + length (row e (at job slot ws s)).changes) (row e (at job slot ws s)).stage
+row_changes : (e : Event) (job : Job) (slot : Slot) (ws : Around) (s : Stage) (n : ℕ) → FitsChanges n s → FitsChanges (n + length (row e (at job slot ws s)).changes) (row e (at job slot ws s)).stage
 row_changes (Peek k i) job slot ws ToMatch n f = first_change (row (Peek k i) (at job slot ws ToMatch)).stage n 0 f (peek_raises i (at job slot ws ToMatch) ToMatch refl)
 row_changes (Peek k i) job slot ws (ToList seen) n f = first_change (row (Peek k i) (at job slot ws (ToList seen))).stage n 0 f (peek_raises i (at job slot ws (ToList seen)) (ToList seen) refl)
 row_changes (Remove k) job slot ws ToRemove n f = first_change (row (Remove k) (at job slot ws ToRemove)).stage n (length (row (Remove k) (at job slot ws ToRemove)).changes) f (row_raises (Remove k) k job slot ws ToRemove refl refl)
@@ -165,7 +165,7 @@ row_changes (Answer k now) job slot ws (ToAnswer content) n f = omega (arith, f)
 row_changes (Lose k) job slot ws s n f = omega (arith, one_change s n f)
 row_changes other job slot ws s n f = no_change s n f
 
-gone_changes : (e : Event) (job : Job) (slot : Slot) (ws : List ℕ) (n : ℕ) → n + length (row e (at job slot ws Gone)).changes ≡ n
+gone_changes : (e : Event) (job : Job) (slot : Slot) (ws : Around) (n : ℕ) → n + length (row e (at job slot ws Gone)).changes ≡ n
 gone_changes (Take k memory) job slot ws n = omega arith
 gone_changes other job slot ws n = omega arith
 
@@ -199,10 +199,10 @@ changes_told : IsTold changes_by more_changes FitsChanges 0
 changes_told = record {
   begins = λ serial id k. refl;
   then_is = counted;
-  still = λ e s k n is. ap (λ (x : Stage). n + length (row e (at (job s k) (slot_at s (slot_of s k)) s.words x)).changes) is ∙ gone_changes e (job s k) (slot_at s (slot_of s k)) s.words n;
+  still = λ e s k n is. ap (λ (x : Stage). n + length (row e (at (job s k) (slot_at s (slot_of s k)) (around s (slot_of s k)) x)).changes) is ∙ gone_changes e (job s k) (slot_at s (slot_of s k)) (around s (slot_of s k)) n;
   gone = omega arith;
   first = first_none;
-  keeps = λ e s k n f. row_changes e (job s k) (slot_at s (slot_of s k)) s.words (stage s k) n f;
+  keeps = λ e s k n f. row_changes e (job s k) (slot_at s (slot_of s k)) (around s (slot_of s k)) (stage s k) n f;
 }
 
 pub changed_once : (h : History) (k : ℕ) → changes_by h k ≤ 1
@@ -235,7 +235,7 @@ stray_is r s k named = ap (λ (o : Option ℕ). is_stray_at r.event (own_of_name
 adds : (r : Entry) (s : Seen) (k : ℕ) → names r.event ≡ Some k → is_stray_at r.event (slot_of s k) (stage s k) ≡ false → length ((and_then r s).changes (slot_of s k)) ≡ raises (stage (and_then r s) k) + length (s.changes (slot_of s k))
 adds r s k named stray =
     own_length r s k named ∙ ap (λ (n : ℕ). n + length (s.changes (slot_of s k)))
-    (row_raises r.event k (job s k) (slot_at s (slot_of s k)) s.words (stage s k) named stray ∙ ap raises (sym (named_stage r s k (came r s k named stray) named)))
+    (row_raises r.event k (job s k) (slot_at s (slot_of s k)) (around s (slot_of s k)) (stage s k) named stray ∙ ap raises (sym (named_stage r s k (came r s k named stray) named)))
 
 to_raise : (s : Stage) (n m : ℕ) → m ≡ raises s + n → n < m → IsToRaise s
 to_raise (ToRaise word content) n m is lt = tt

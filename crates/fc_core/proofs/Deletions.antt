@@ -18,14 +18,14 @@ use Rattle.fc_core.specs.declared.stage.Stage.TheVariants.{ToMatch, ToTake, ToCo
 use Rattle.fc_core.specs.declared.stage.Task.{Task}
 use Rattle.fc_core.specs.Contents.{Deleted, Listed, Unavailable}
 use Rattle.fc_core.specs.Heads.{is_match, word_at}
-use Rattle.fc_core.specs.History.{Entry, History, Then, Seen, seen, and_then, job, slot_at, stage, task_at}
+use Rattle.fc_core.specs.History.{around, Entry, History, Then, Seen, seen, and_then, job, slot_at, stage, task_at}
 use Rattle.fc_core.specs.Laws.{HasCome, answer_at, slot_of}
-use Rattle.fc_core.specs.Stages.{Scene, committed, image_of, installed, made, matched_by, names, peeked_next, peeked_own, removed, row, told, took, verified}
+use Rattle.fc_core.specs.Stages.{Around, Scene, committed, image_of, installed, made, matched_by, names, peeked_next, peeked_own, removed, row, told, took, verified}
 use Rattle.fc_core.proofs.Published.{own_after}
 use Rattle.fc_core.proofs.Steps.{Becomes, Moves, Stays, Comes, becomes}
 
-abbrev at : Job → Slot → List ℕ → Stage → Scene
-at job slot ws stage = record { job = job; slot = slot; words = ws; stage = stage }
+abbrev at : Job → Slot → Around → Stage → Scene
+at job slot ws stage = record { job = job; slot = slot; around = ws; stage = stage }
 
 -- where the answer is so, the slot is empty
 abbrev IsEmptied : Slot → Stage → Type 0
@@ -84,14 +84,14 @@ next_empties : (slot : Slot) (b : Bool) (word : ℕ) (seen : ArrayVec ℕ) → I
 next_empties slot true word seen e = listed_empties slot (nat_lt (length (seen.items ++ word ∷ [])) 64) (seen.items ++ word ∷ []) e
 next_empties slot false word seen e = absurd (cc e)
 
-row_empties : (e : Event) (job : Job) (slot : Slot) (ws : List ℕ) (s : Stage) → answer_at (row e (at job slot ws s)).stage ≡ Some Deleted → (answer_at s ≡ Some Deleted) ⊎ ((after_changes slot (row e (at job slot ws s)).changes).present ≡ None)
+row_empties : (e : Event) (job : Job) (slot : Slot) (ws : Around) (s : Stage) → answer_at (row e (at job slot ws s)).stage ≡ Some Deleted → (answer_at s ≡ Some Deleted) ⊎ ((after_changes slot (row e (at job slot ws s)).changes).present ≡ None)
 row_empties (Take k memory) job slot ws (ToTake n) e = inr (took_empties slot memory job slot.serial n slot.present e)
 row_empties (Commit k now) job slot ws (ToCommit n t) e = inr (committed_empties (after_changes slot (committed (outcome t slot) n t now).changes) n t now (outcome t slot) e)
 row_empties (Install k memory) job slot ws ToInstall e = inr (verified_empties (after_changes slot (verified memory (at job slot ws ToInstall)).changes) memory (at job slot ws ToInstall) e)
 row_empties (Remove k) job slot ws ToRemove e = inr (clear_empties slot (nat_lt slot.serial last_serial) slot.present refl e)
 row_empties (Receipt k) job slot ws ToDescribe e = inr (told_empties slot slot.present e)
-row_empties (Peek k n) job slot ws ToMatch e = inr (own_empties slot (n == job.origin.slot) (word_at ws n) job.etags.items e)
-row_empties (Peek k n) job slot ws (ToList seen) e = inr (next_empties slot (n == length seen.items) (word_at ws n) seen e)
+row_empties (Peek k n) job slot ws ToMatch e = inr (own_empties slot (n == job.origin.slot) (word_at ws.words n) job.etags.items e)
+row_empties (Peek k n) job slot ws (ToList seen) e = inr (next_empties slot (n == length seen.items) (word_at ws.words n) seen e)
 row_empties (Raise k) job slot ws (ToRaise word content) e = inl e
 row_empties (Answer k now) job slot ws (ToAnswer content) e = absurd (cc e)
 row_empties (Lose k) job slot ws s e = absurd (cc e)
@@ -100,7 +100,7 @@ row_empties other job slot ws s e = inl e
 empties_by : (r : Entry) (s : Seen) (k : ℕ) (t : Task) → Becomes (names r.event) r.event s k t → HasCome s k → answer_at t.stage ≡ Some Deleted → (answer_at (stage s k) ≡ Some Deleted) ⊎ ((slot_at (and_then r s) (slot_of s k)).present ≡ None)
 empties_by r s k t (Moves named is) come e =
     subst (λ (x : Slot). (answer_at (stage s k) ≡ Some Deleted) ⊎ (x.present ≡ None)) (sym (own_after r s k named))
-    (row_empties r.event (job s k) (slot_at s (slot_of s k)) s.words (stage s k) (ap (λ (x : Task). answer_at x.stage) (sym is) ∙ e))
+    (row_empties r.event (job s k) (slot_at s (slot_of s k)) (around s (slot_of s k)) (stage s k) (ap (λ (x : Task). answer_at x.stage) (sym is) ∙ e))
 empties_by r s k t (Stays other is) come e = inl (ap (λ (x : Task). answer_at x.stage) (sym is) ∙ e)
 empties_by r s k t (Comes new j is) come e = absurd (omega (arith, new, come))
 

@@ -11,15 +11,15 @@ use Rattle.fc_core.specs.declared.event.Event.TheVariants.{Peek, Take, Commit, I
 use Rattle.fc_core.specs.declared.stage.Stage.{Stage}
 use Rattle.fc_core.specs.declared.stage.Stage.TheVariants.{ToMatch, ToTake, ToCommit, ToInstall, ToRemove, ToDescribe, ToList, ToRaise, ToAnswer, Gone}
 use Rattle.fc_core.specs.Contents.{Content, Unavailable}
-use Rattle.fc_core.specs.History.{Entry, History, Then, Seen, seen, and_then, did, job, slot_at, stage, task_at}
+use Rattle.fc_core.specs.History.{around, Entry, History, Then, Seen, seen, and_then, did, job, slot_at, stage, task_at}
 use Rattle.fc_core.specs.Laws.{HasCome, Taking, answers_of, gives, is_answered, is_named, later, slot_of, takings_of}
-use Rattle.fc_core.specs.Stages.{Scene, first_by, row, took}
+use Rattle.fc_core.specs.Stages.{Around, Scene, first_by, row, took}
 use Rattle.fc_core.proofs.Along.{IsTold, along}
 use Rattle.fc_core.proofs.Others.{is_here, kept_by, kept_later, named_stage, still_here}
 use Rattle.fc_core.proofs.Steps.{becomes, gone_stays}
 
-abbrev at : Job → Slot → List ℕ → Stage → Scene
-at job slot ws stage = record { job = job; slot = slot; words = ws; stage = stage }
+abbrev at : Job → Slot → Around → Stage → Scene
+at job slot ws stage = record { job = job; slot = slot; around = ws; stage = stage }
 
 -- ---- answered at most once
 
@@ -44,7 +44,7 @@ never_yet : (s : Stage) (n : ℕ) → n ≡ 0 → FitsAnswers n s
 never_yet Gone n is = omega arith
 never_yet other n is = is
 
-row_answers : (e : Event) (job : Job) (slot : Slot) (ws : List ℕ) (s : Stage) (n : ℕ) → FitsAnswers n s → FitsAnswers (if is_answered e s then n + 1 else n) (row e (at job slot ws s)).stage
+row_answers : (e : Event) (job : Job) (slot : Slot) (ws : Around) (s : Stage) (n : ℕ) → FitsAnswers n s → FitsAnswers (if is_answered e s then n + 1 else n) (row e (at job slot ws s)).stage
 row_answers (Take k memory) job slot ws (ToTake count) n f = never_yet (row (Take k memory) (at job slot ws (ToTake count))).stage n f
 row_answers (Commit k now) job slot ws (ToCommit count t) n f = never_yet (row (Commit k now) (at job slot ws (ToCommit count t))).stage n f
 row_answers (Install k memory) job slot ws ToInstall n f = never_yet (row (Install k memory) (at job slot ws ToInstall)).stage n f
@@ -74,7 +74,7 @@ answers_told = record {
   still = λ e s k n is. ap (λ (b : Bool). if b then n + 1 else n) (ap (is_answered e) is ∙ gone_answered e);
   gone = omega arith;
   first = first_answers;
-  keeps = λ e s k n f. row_answers e (job s k) (slot_at s (slot_of s k)) s.words (stage s k) n f;
+  keeps = λ e s k n f. row_answers e (job s k) (slot_at s (slot_of s k)) (around s (slot_of s k)) (stage s k) n f;
 }
 
 answers_fit : (h : History) (k : ℕ) → FitsAnswers (answers_of h k) (stage (seen h) k)
@@ -100,7 +100,7 @@ answered_gone h k le = answered_by (stage (seen h) k) (answers_of h k) (answers_
 
 -- ---- ends
 
-row_gone : (e : Event) (job : Job) (slot : Slot) (ws : List ℕ) (s : Stage) → s ≡ Gone → (row e (at job slot ws s)).stage ≡ Gone
+row_gone : (e : Event) (job : Job) (slot : Slot) (ws : Around) (s : Stage) → s ≡ Gone → (row e (at job slot ws s)).stage ≡ Gone
 row_gone e job slot ws s is = ap (λ (x : Stage). (row e (at job slot ws x)).stage) is ∙ gone_stays e job slot ws
 
 pub gone_later : (h : History) (rs : List Entry) (k : ℕ) → HasCome (seen h) k → stage (seen h) k ≡ Gone → stage (seen (later h rs)) k ≡ Gone
@@ -111,22 +111,22 @@ lost_gone s k o come = named_stage (did (Lose k) o) s k come refl
 
 pub answer_gone : (s : Seen) (k now : ℕ) (o : Option Emission) (content : Content) → stage s k ≡ ToAnswer content → stage (and_then (did (Answer k now) o) s) k ≡ Gone
 answer_gone s k now o content is = named_stage (did (Answer k now) o) s k (is_here s k (ToAnswer content) is (λ e. absurd (cc e))) refl
-    ∙ ap (λ (x : Stage). (row (Answer k now) (at (job s k) (slot_at s (slot_of s k)) s.words x)).stage) is
+    ∙ ap (λ (x : Stage). (row (Answer k now) (at (job s k) (slot_at s (slot_of s k)) (around s (slot_of s k)) x)).stage) is
 
 pub raise_keeps : (s : Seen) (k word : ℕ) (o : Option Emission) (content : Content) → stage s k ≡ ToRaise word content → stage (and_then (did (Raise k) o) s) k ≡ ToAnswer content
 raise_keeps s k word o content is = named_stage (did (Raise k) o) s k (is_here s k (ToRaise word content) is (λ e. absurd (cc e))) refl
-    ∙ ap (λ (x : Stage). (row (Raise k) (at (job s k) (slot_at s (slot_of s k)) s.words x)).stage) is
+    ∙ ap (λ (x : Stage). (row (Raise k) (at (job s k) (slot_at s (slot_of s k)) (around s (slot_of s k)) x)).stage) is
 
 -- ---- memory
 
 pub take_refused : (s : Seen) (k count : ℕ) (o : Option Emission) (p : Present) → stage s k ≡ ToTake count → (slot_at s (slot_of s k)).present ≡ Some p → stage (and_then (did (Take k false) o) s) k ≡ ToAnswer Unavailable
 take_refused s k count o p is holds = named_stage (did (Take k false) o) s k (is_here s k (ToTake count) is (λ e. absurd (cc e))) refl
-    ∙ (ap (λ (x : Stage). (row (Take k false) (at (job s k) (slot_at s (slot_of s k)) s.words x)).stage) is
+    ∙ (ap (λ (x : Stage). (row (Take k false) (at (job s k) (slot_at s (slot_of s k)) (around s (slot_of s k)) x)).stage) is
     ∙ ap (λ (x : Option Present). took count (taking false (job s k) (slot_at s (slot_of s k)).serial x)) holds)
 
 pub install_refused : (s : Seen) (k : ℕ) (o : Option Emission) → stage s k ≡ ToInstall → stage (and_then (did (Install k false) o) s) k ≡ ToAnswer Unavailable
 install_refused s k o is = named_stage (did (Install k false) o) s k (is_here s k ToInstall is (λ e. absurd (cc e))) refl
-    ∙ ap (λ (x : Stage). (row (Install k false) (at (job s k) (slot_at s (slot_of s k)) s.words x)).stage) is
+    ∙ ap (λ (x : Stage). (row (Install k false) (at (job s k) (slot_at s (slot_of s k)) (around s (slot_of s k)) x)).stage) is
 
 -- a job that takes no more
 abbrev IsSettled : Stage → Type 0
@@ -135,7 +135,7 @@ IsSettled (ToAnswer content) = Unit {0}
 IsSettled Gone = Unit {0}
 IsSettled other = ⊥
 
-row_settled : (e : Event) (job : Job) (slot : Slot) (ws : List ℕ) (s : Stage) → IsSettled s → IsSettled (row e (at job slot ws s)).stage
+row_settled : (e : Event) (job : Job) (slot : Slot) (ws : Around) (s : Stage) → IsSettled s → IsSettled (row e (at job slot ws s)).stage
 row_settled (Take k memory) job slot ws (ToTake count) f = absurd f
 row_settled (Commit k now) job slot ws (ToCommit count t) f = absurd f
 row_settled (Install k memory) job slot ws ToInstall f = absurd f

@@ -31,7 +31,7 @@ use Rattle.fc_core.specs.Heads.{is_match, word_at}
 use Rattle.fc_core.specs.Fits.{FitsPresent, FitsSlot, FitsStage, HasNext, IsTicketOf}
 use Rattle.fc_core.specs.Receiving.{AskWithin}
 use Rattle.fc_core.specs.Sound.{AllSafe}
-use Rattle.fc_core.specs.Stages.{Scene, committed, first_by, image_of, installed, made, matched_by, peeked_next, peeked_own, removed, row, told, took, verified}
+use Rattle.fc_core.specs.Stages.{Around, Scene, committed, first_by, image_of, installed, made, matched_by, peeked_next, peeked_own, removed, row, told, took, verified}
 
 -- ---- slots
 
@@ -111,8 +111,8 @@ verified_fits : (memory : Bool) (s : Scene) → FitsStage s.job s.slot (verified
 verified_fits true s = installed_fits s.job s.slot (judged (image_of s.job.ask))
 verified_fits false s = tt
 
-abbrev at : Job → Slot → List ℕ → Stage → Scene
-at job slot ws stage = record { job = job; slot = slot; words = ws; stage = stage }
+abbrev at : Job → Slot → Around → Stage → Scene
+at job slot ws stage = record { job = job; slot = slot; around = ws; stage = stage }
 
 clear_fits : (job : Job) (slot : Slot) (below : Bool) (serial : ℕ) (p : Option Present) → FitsStage job slot (removed (clear_by below serial p).answer)
 clear_fits job slot below serial None = tt
@@ -140,9 +140,9 @@ next_fits job slot true word seen lt = listed_fits job slot (nat_lt (length (see
 next_fits job slot false word seen lt = lt
 
 -- a job that an event moved fits its slot as it was
-pub row_fits : (e : Event) (job : Job) (slot : Slot) (ws : List ℕ) (s : Stage) → FitsStage job slot s → FitsStage job slot (row e (at job slot ws s)).stage
-row_fits (Peek k n) job slot ws ToMatch f = own_fits job slot (n == job.origin.slot) (word_at ws n) job.etags.items
-row_fits (Peek k n) job slot ws (ToList seen) f = next_fits job slot (n == length seen.items) (word_at ws n) seen f
+pub row_fits : (e : Event) (job : Job) (slot : Slot) (ws : Around) (s : Stage) → FitsStage job slot s → FitsStage job slot (row e (at job slot ws s)).stage
+row_fits (Peek k n) job slot ws ToMatch f = own_fits job slot (n == job.origin.slot) (word_at ws.words n) job.etags.items
+row_fits (Peek k n) job slot ws (ToList seen) f = next_fits job slot (n == length seen.items) (word_at ws.words n) seen f
 row_fits (Remove k) job slot ws ToRemove f = clear_fits job slot (nat_lt slot.serial last_serial) slot.serial slot.present
 row_fits (Receipt k) job slot ws ToDescribe f = told_fits job slot (receipt_at slot.present)
 row_fits (Lose k) job slot ws s f = tt
@@ -210,7 +210,7 @@ clear_chain first cs below serial None chain = chain
 clear_chain first cs true serial (Some p) chain = chain
 clear_chain first cs false serial (Some p) chain = chain
 
-pub row_chain : (e : Event) (job : Job) (first : Slot) (cs : List Change) (ws : List ℕ) (s : Stage) → FitsStage job (after_changes first cs) s → IsChain first cs → IsChain first ((row e (at job (after_changes first cs) ws s)).changes ++ cs)
+pub row_chain : (e : Event) (job : Job) (first : Slot) (cs : List Change) (ws : Around) (s : Stage) → FitsStage job (after_changes first cs) s → IsChain first cs → IsChain first ((row e (at job (after_changes first cs) ws s)).changes ++ cs)
 row_chain (Peek k n) job first cs ws ToMatch f chain = chain
 row_chain (Peek k n) job first cs ws (ToList seen) f chain = chain
 row_chain (Remove k) job first cs ws ToRemove f chain = clear_chain first cs (nat_lt (after_changes first cs).serial last_serial) (after_changes first cs).serial (after_changes first cs).present chain
@@ -263,7 +263,7 @@ clear_safe slot below serial None fits = fits
 clear_safe slot true serial (Some p) fits = tt
 clear_safe slot false serial (Some p) fits = fits
 
-pub row_safe : (e : Event) (job : Job) (slot : Slot) (ws : List ℕ) (s : Stage) → AskWithin job.ask → FitsStage job slot s → AllSafe (row e (at job slot ws s)).changes → FitsSlot slot.present → FitsSlot (after_changes slot (row e (at job slot ws s)).changes).present
+pub row_safe : (e : Event) (job : Job) (slot : Slot) (ws : Around) (s : Stage) → AskWithin job.ask → FitsStage job slot s → AllSafe (row e (at job slot ws s)).changes → FitsSlot slot.present → FitsSlot (after_changes slot (row e (at job slot ws s)).changes).present
 row_safe (Peek k n) job slot ws ToMatch within f safe fits = fits
 row_safe (Peek k n) job slot ws (ToList seen) within f safe fits = fits
 row_safe (Remove k) job slot ws ToRemove within f safe fits = clear_safe slot (nat_lt slot.serial last_serial) slot.serial slot.present fits

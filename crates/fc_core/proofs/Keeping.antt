@@ -26,7 +26,7 @@ use Rattle.fc_core.specs.declared.stage.Stage.{Stage}
 use Rattle.fc_core.specs.declared.stage.Task.{Task}
 use Rattle.fc_core.specs.Exchanges.{FrontState}
 use Rattle.fc_core.specs.Fits.{FitsSlot, FitsStage}
-use Rattle.fc_core.specs.History.{Entry, Seen, and_then, changes_after, front_at, job, no_task, scene, slot_at, stage, task_at, tasks_brought, tasks_moved}
+use Rattle.fc_core.specs.History.{around, Entry, Seen, and_then, changes_after, front_at, job, no_task, scene, slot_at, stage, task_at, tasks_brought, tasks_moved}
 use Rattle.fc_core.specs.Receiving.{AskWithin, JobWithin, Received, add_in, received_added, request_received, ask_by, brought, job_of, look_in, looked, next_opening, received, received_as, received_read, slot_of_resource}
 use Rattle.coap_block.specs.Uploads.{Add, Continues, IsWhole, IsIncomplete, IsBadLength, IsTooLarge, IsFull}
 use Rattle.fc_core.specs.Receiving as x
@@ -129,7 +129,7 @@ chain_if : (s : Seen) (e : Event) (k n : ℕ) (b : Bool) → ((job s k).origin.s
 chain_if s e k n true is a =
     let slot_is = eqb-true (job s k).origin.slot n is in
     subst (λ (m : ℕ). IsChain (new_slot s.first_serial) ((row e (scene s k)).changes ++ s.changes m)) slot_is
-    (row_chain e (job s k) (new_slot s.first_serial) (s.changes (job s k).origin.slot) s.words (stage s k) (a.stages k) (a.chain (job s k).origin.slot))
+    (row_chain e (job s k) (new_slot s.first_serial) (s.changes (job s k).origin.slot) (around s (job s k).origin.slot) (stage s k) (a.stages k) (a.chain (job s k).origin.slot))
 chain_if s e k n false is a = a.chain n
 
 chain_after : (s : Seen) (e : Event) (o : Option ℕ) (n : ℕ) → IsSound s → IsChain (new_slot s.first_serial) (changes_after o e s n)
@@ -146,7 +146,7 @@ moved_fit : (s : Seen) (e : Event) (o : Option ℕ) → IsSound s → (p : Optio
 moved_fit s e o a None k = old_fit s e o a k
 moved_fit s e o a (Some j) k =
     let new = task_moved (task_at s.tasks j) (row e (scene s j)) in
-    written_all (FitsAfter o e s) s.tasks j new no_task (old_fit s e o a) (a.within j, later_fits s e o (job s j) new.stage (row_fits e (job s j) (slot_at s (job s j).origin.slot) s.words (stage s j) (a.stages j))) k
+    written_all (FitsAfter o e s) s.tasks j new no_task (old_fit s e o a) (a.within j, later_fits s e o (job s j) new.stage (row_fits e (job s j) (slot_at s (job s j).origin.slot) (around s (job s j).origin.slot) (stage s j) (a.stages j))) k
 
 new_fit : (s : Seen) (e : Event) (o : Option ℕ) (jobs : List Job) → Each JobWithin jobs → Each (FitsAfter o e s) (map new_task jobs)
 new_fit s e o [] w = tt
@@ -174,7 +174,7 @@ safe_if s e k n true is a made f =
     let m = (job s k).origin.slot in
     subst (λ (i : ℕ). FitsSlot (after_changes (new_slot s.first_serial) ((row e (scene s k)).changes ++ s.changes i)).present) slot_is
     (subst (λ (x : Slot). FitsSlot x.present) (sym (after_changes-append (new_slot s.first_serial) (row e (scene s k)).changes (s.changes m)))
-    (row_safe e (job s k) (slot_at s m) s.words (stage s k) (a.within k).1 (a.stages k) made (f.slots m)))
+    (row_safe e (job s k) (slot_at s m) (around s (job s k).origin.slot) (stage s k) (a.within k).1 (a.stages k) made (f.slots m)))
 safe_if s e k n false is a made f = f.slots n
 
 -- what the event that names a job installs is safe

@@ -13,9 +13,9 @@ use Rattle.fc_core.specs.declared.event.Event.TheVariants.{Deliver, Peek, Take, 
 use Rattle.fc_core.specs.declared.stage.Stage.{Stage}
 use Rattle.fc_core.specs.declared.stage.Stage.TheVariants.{ToMatch, ToTake, ToCommit, ToInstall, ToRemove, ToDescribe, ToList, ToRaise, ToAnswer}
 use Rattle.fc_core.specs.AnswerLaws.{answer_moment, commit_moment, greatest, is_of_shard, moment_handed, moments_in, moments_of, shard_moments_of}
-use Rattle.fc_core.specs.History.{History, Begins, Then, Seen, seen, job, moment_after, scene, shard_hands, shard_moment_after, slot_at, stage}
+use Rattle.fc_core.specs.History.{around, History, Begins, Then, Seen, seen, job, moment_after, scene, shard_hands, shard_moment_after, slot_at, stage}
 use Rattle.fc_core.specs.Laws.{slot_of, stage_named}
-use Rattle.fc_core.specs.Stages.{Scene, content_at, committed, handed, image_of, installed, names, row, verified}
+use Rattle.fc_core.specs.Stages.{Around, Scene, content_at, committed, handed, image_of, installed, names, row, verified}
 
 answer_handed : (st : Stage) (m now : ℕ) (ms : List ℕ) → m ≡ greatest ms → (if is_some (content_at st) then max m now else m) ≡ greatest (answer_moment st now ++ ms)
 answer_handed (ToAnswer content) m now ms is = ap (λ (x : ℕ). max x now) is
@@ -32,8 +32,8 @@ unfolding seen
 moment_is_greatest (Begins serial id) = refl
 moment_is_greatest (Then h r) = front_handed r.event (seen h) (moments_of h) (moment_is_greatest h)
 
-abbrev at : Job → Slot → List ℕ → Stage → Scene
-at job slot ws stage = record { job = job; slot = slot; words = ws; stage = stage }
+abbrev at : Job → Slot → Around → Stage → Scene
+at job slot ws stage = record { job = job; slot = slot; around = ws; stage = stage }
 
 committed_hands : (n : ℕ) (t : Ticket) (now : ℕ) (o : CommitOutcome) → (committed o n t now).hands ≡ Some now
 committed_hands n t now Writes = refl
@@ -50,7 +50,7 @@ verified_hands : (memory : Bool) (s : Scene) → (verified memory s).hands ≡ N
 verified_hands true s = installed_hands (judged (image_of s.job.ask)) s.slot
 verified_hands false s = refl
 
-row_handed : (e : Event) (job : Job) (slot : Slot) (ws : List ℕ) (st : Stage) (m : ℕ) (ms : List ℕ) → m ≡ greatest ms → handed (row e (at job slot ws st)).hands m ≡ greatest (commit_moment e st ++ ms)
+row_handed : (e : Event) (job : Job) (slot : Slot) (ws : Around) (st : Stage) (m : ℕ) (ms : List ℕ) → m ≡ greatest ms → handed (row e (at job slot ws st)).hands m ≡ greatest (commit_moment e st ++ ms)
 row_handed (Commit k now) job slot ws (ToCommit n t) m ms is = ap (λ (o : Option ℕ). handed o m) (committed_hands n t now (outcome t slot)) ∙ ap (λ (x : ℕ). max x now) is
 row_handed (Install k memory) job slot ws ToInstall m ms is = ap (λ (o : Option ℕ). handed o m) (verified_hands memory (at job slot ws ToInstall)) ∙ is
 row_handed (Take k memory) job slot ws (ToTake n) m ms is = is
@@ -63,7 +63,7 @@ row_handed (Receipt k) job slot ws ToDescribe m ms is = is
 row_handed other job slot ws st m ms is = is
 
 shard_if : (s : Seen) (e : Event) (k i : ℕ) (b : Bool) (ms : List ℕ) → s.shard_moment i ≡ greatest ms → (if b then handed (row e (scene s k)).hands (s.shard_moment i) else s.shard_moment i) ≡ greatest (if b then commit_moment e (stage s k) ++ ms else ms)
-shard_if s e k i true ms is = row_handed e (job s k) (slot_at s (slot_of s k)) s.words (stage s k) (s.shard_moment i) ms is
+shard_if s e k i true ms is = row_handed e (job s k) (slot_at s (slot_of s k)) (around s (slot_of s k)) (stage s k) (s.shard_moment i) ms is
 shard_if s e k i false ms is = is
 
 shard_handed : (s : Seen) (e : Event) (o : Option ℕ) (i : ℕ) (ms : List ℕ) → s.shard_moment i ≡ greatest ms → shard_moment_after o e s i ≡ greatest (if is_of_shard i s o then commit_moment e (stage_named s o) ++ ms else ms)

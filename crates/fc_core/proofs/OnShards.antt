@@ -1,5 +1,5 @@
 -- An event that names a job is of no shard.
-use Rattle.std.proofs.Common.{◌≡◌, ℕ, [], Some, None, refl}
+use Rattle.std.proofs.Common.{◌≡◌, ℕ, [], Option, Some, None, refl}
 use Rattle.fc_core.specs.declared.event.Event.{Event}
 use Rattle.fc_core.specs.declared.event.Event.TheVariants.{Signal, ShardTick}
 use Rattle.fc_core.specs.History.{Seen, calls_in, shard_hands}

@@ -10,7 +10,7 @@ use Rattle.fc_core.specs.declared.stage.Stage.TheVariants.{Gone}
 use Rattle.fc_core.specs.declared.stage.Task.{Task}
 use Rattle.fc_core.specs.History.{Entry, History, Then, Seen, seen, and_then, changes_after, job, no_task, scene, stage, task_at}
 use Rattle.fc_core.specs.Laws.{HasCome, later, slot_of}
-use Rattle.fc_core.specs.Stages.{names, row}
+use Rattle.fc_core.specs.Stages.{Around, names, row}
 use Rattle.fc_core.proofs.Steps.{Becomes, Moves, Stays, Comes, becomes, tasks_grow}
 
 unnamed_by : (r : Entry) (s : Seen) (k : ℕ) (t : Task) → Becomes (names r.event) r.event s k t → HasCome s k → (names r.event ≡ Some k → ⊥) → t.stage ≡ stage s k
@@ -58,13 +58,13 @@ pub still_here : (r : Entry) (s : Seen) (k : ℕ) → HasCome s k → HasCome (a
 still_here r s k come = omega (arith, tasks_grow r s, come)
 
 -- what is so of the stage of a job that came, and that each row keeps, is so after an event
-pub kept_by : (Q : Stage → Type 0) → ((e : Event) (j : Job) (slot : Slot) (ws : List ℕ) (at : Stage) → Q at → Q (row e (record { job = j; slot = slot; words = ws; stage = at })).stage) → (r : Entry) (s : Seen) (k : ℕ) (t : Task) → Becomes (names r.event) r.event s k t → HasCome s k → Q (stage s k) → Q t.stage
-kept_by Q keeps r s k t (Moves named is) come q = subst (λ (x : Task). Q x.stage) (sym is) (keeps r.event (job s k) (scene s k).slot s.words (stage s k) q)
+pub kept_by : (Q : Stage → Type 0) → ((e : Event) (j : Job) (slot : Slot) (ws : Around) (at : Stage) → Q at → Q (row e (record { job = j; slot = slot; around = ws; stage = at })).stage) → (r : Entry) (s : Seen) (k : ℕ) (t : Task) → Becomes (names r.event) r.event s k t → HasCome s k → Q (stage s k) → Q t.stage
+kept_by Q keeps r s k t (Moves named is) come q = subst (λ (x : Task). Q x.stage) (sym is) (keeps r.event (job s k) (scene s k).slot (scene s k).around (stage s k) q)
 kept_by Q keeps r s k t (Stays other is) come q = subst (λ (x : Task). Q x.stage) (sym is) q
 kept_by Q keeps r s k t (Comes new j is) come q = absurd (omega (arith, new, come))
 
 -- and after what follows
-pub kept_later : (Q : Stage → Type 0) → ((e : Event) (j : Job) (slot : Slot) (ws : List ℕ) (at : Stage) → Q at → Q (row e (record { job = j; slot = slot; words = ws; stage = at })).stage) → (rs : List Entry) (h : History) (k : ℕ) → HasCome (seen h) k → Q (stage (seen h) k) → Q (stage (seen (later h rs)) k)
+pub kept_later : (Q : Stage → Type 0) → ((e : Event) (j : Job) (slot : Slot) (ws : Around) (at : Stage) → Q at → Q (row e (record { job = j; slot = slot; around = ws; stage = at })).stage) → (rs : List Entry) (h : History) (k : ℕ) → HasCome (seen h) k → Q (stage (seen h) k) → Q (stage (seen (later h rs)) k)
 unfolding seen
 kept_later Q keeps [] h k come q = q
 kept_later Q keeps (r ∷ rs) h k come q = kept_later Q keeps rs (Then h r) k (still_here r (seen h) k come) (kept_by Q keeps r (seen h) k (task_at (and_then r (seen h)).tasks k) (becomes r (seen h) k) come q)

@@ -19,11 +19,11 @@ use Rattle.arrayvec.specs.ArrayVec.{ArrayVec}
 use Rattle.fc_core.specs.Contents.{Listed, Unavailable}
 use Rattle.fc_core.specs.Fits.{FitsStage}
 use Rattle.fc_core.specs.Heads.{head_word, is_match, word_at}
-use Rattle.fc_core.specs.History.{Entry, History, Then, Seen, seen, and_then, job, scene, slot_at, stage, task_at}
+use Rattle.fc_core.specs.History.{around, Entry, History, Then, Seen, seen, and_then, job, scene, slot_at, stage, task_at}
 use Rattle.fc_core.specs.HeadLaws.{PublishesAt}
 use Rattle.fc_core.specs.Laws.{HasCome, slot_of}
 use Rattle.fc_core.specs.Sound.{IsSound}
-use Rattle.fc_core.specs.Stages.{Scene, committed, image_of, installed, made, matched_by, names, peeked_next, peeked_own, removed, row, took, verified}
+use Rattle.fc_core.specs.Stages.{Around, Scene, committed, image_of, installed, made, matched_by, names, peeked_next, peeked_own, removed, row, took, verified}
 use Rattle.fc_core.proofs.Commits.{writes_at}
 use Rattle.fc_core.proofs.Fitting.{after_changes-append, writes_found}
 use Rattle.fc_core.proofs.Others.{own_slot}
@@ -32,8 +32,8 @@ use Rattle.fc_core.proofs.Writing.{sound}
 
 -- ---- what is raised
 
-abbrev at : Job → Slot → List ℕ → Stage → Scene
-at job slot ws stage = record { job = job; slot = slot; words = ws; stage = stage }
+abbrev at : Job → Slot → Around → Stage → Scene
+at job slot ws stage = record { job = job; slot = slot; around = ws; stage = stage }
 
 same_publishes : (slot : Slot) (s : Stage) → PublishesAt slot s s
 same_publishes slot (ToRaise word content) = inl refl
@@ -92,14 +92,14 @@ next_publishes slot old true word seen = listed_publishes slot old (nat_lt (leng
 next_publishes slot old false word seen = tt
 
 -- what a row leaves to raise is the word of the slot after its changes
-row_publishes : (e : Event) (job : Job) (slot : Slot) (ws : List ℕ) (s : Stage) → FitsStage job slot s → PublishesAt (after_changes slot (row e (at job slot ws s)).changes) s (row e (at job slot ws s)).stage
+row_publishes : (e : Event) (job : Job) (slot : Slot) (ws : Around) (s : Stage) → FitsStage job slot s → PublishesAt (after_changes slot (row e (at job slot ws s)).changes) s (row e (at job slot ws s)).stage
 row_publishes (Commits k now) job slot ws (ToCommit n t) f = committed_publishes job slot n t now (outcome t slot) refl f
 row_publishes (Install k memory) job slot ws ToInstall f = verified_publishes memory (at job slot ws ToInstall)
 row_publishes (Remove k) job slot ws ToRemove f = clear_publishes slot (nat_lt slot.serial last_serial) slot.present
 row_publishes (Take k memory) job slot ws (ToTake n) f = took_publishes slot (ToTake n) memory job slot.serial n slot.present
 row_publishes (Receipt k) job slot ws ToDescribe f = tt
-row_publishes (Peek k n) job slot ws ToMatch f = own_publishes slot ToMatch (n == job.origin.slot) (word_at ws n) job.etags.items
-row_publishes (Peek k n) job slot ws (ToList seen) f = next_publishes slot (ToList seen) (n == length seen.items) (word_at ws n) seen
+row_publishes (Peek k n) job slot ws ToMatch f = own_publishes slot ToMatch (n == job.origin.slot) (word_at ws.words n) job.etags.items
+row_publishes (Peek k n) job slot ws (ToList seen) f = next_publishes slot (ToList seen) (n == length seen.items) (word_at ws.words n) seen
 row_publishes (Raise k) job slot ws (ToRaise word content) f = tt
 row_publishes (Answer k now) job slot ws (ToAnswer content) f = tt
 row_publishes (Lose k) job slot ws s f = tt
@@ -113,7 +113,7 @@ publishes_by : (r : Entry) (s : Seen) (k : ℕ) (t : Task) → Becomes (names r.
 publishes_by r s k t (Moves named is) a come =
     subst (λ (x : Task). PublishesAt (slot_at (and_then r s) (slot_of s k)) (stage s k) x.stage) (sym is)
     (subst (λ (x : Slot). PublishesAt x (stage s k) (row r.event (scene s k)).stage) (sym (own_after r s k named))
-    (row_publishes r.event (job s k) (slot_at s (slot_of s k)) s.words (stage s k) (a.stages k)))
+    (row_publishes r.event (job s k) (slot_at s (slot_of s k)) (around s (slot_of s k)) (stage s k) (a.stages k)))
 publishes_by r s k t (Stays other is) a come = subst (λ (x : Task). PublishesAt (slot_at (and_then r s) (slot_of s k)) (stage s k) x.stage) (sym is) (same_publishes (slot_at (and_then r s) (slot_of s k)) (stage s k))
 publishes_by r s k t (Comes new j is) a come = absurd (omega (arith, new, come))
 

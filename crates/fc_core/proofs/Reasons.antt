@@ -25,22 +25,22 @@ use Rattle.fc_core.specs.Contents.{Content, Missing, Unavailable, Made, Rejected
 use Rattle.fc_core.specs.Fits.{HasNext}
 use Rattle.fc_core.specs.Heads.{is_match, is_present, serial_in, word_at}
 use Rattle.fc_core.specs.AnswerLaws.{HasSerial, IsCause, NoTicket, NoMemory, NothingDescribed, NothingTaken, Overtaken, LastCommit, LastInstall, LastRemoval}
-use Rattle.fc_core.specs.History.{Entry, History, Then, Seen, seen, and_then, did, job, slot_at, stage, task_at}
+use Rattle.fc_core.specs.History.{around, Entry, History, Then, Seen, seen, and_then, did, job, slot_at, stage, task_at}
 use Rattle.fc_core.specs.Laws.{answer_at, slot_of, takings_of}
-use Rattle.fc_core.specs.Stages.{Scene, committed, first_by, image_of, installed, made, matched_by, names, peeked_next, peeked_own, removed, run_content, row, told, took, verified}
+use Rattle.fc_core.specs.Stages.{Around, Scene, committed, first_by, image_of, installed, made, matched_by, names, peeked_next, peeked_own, removed, run_content, row, told, took, verified}
 use Rattle.fc_core.proofs.Others.{is_here, named_stage}
 use Rattle.fc_core.proofs.Steps.{Becomes, Moves, Stays, Comes, becomes}
 use Rattle.fc_core.proofs.Fitting.{fits_next}
 use Rattle.fc_core.proofs.Takings.{Took, known}
 use Rattle.fc_core.proofs.Writing.{sound}
 
-abbrev at : Job → Slot → List ℕ → Stage → Scene
-at job slot ws stage = record { job = job; slot = slot; words = ws; stage = stage }
+abbrev at : Job → Slot → Around → Stage → Scene
+at job slot ws stage = record { job = job; slot = slot; around = ws; stage = stage }
 
-module _ (k : ℕ) (job : Job) (slot : Slot) (ws : List ℕ) (taken : ℕ) where
+module _ (k : ℕ) (job : Job) (slot : Slot) (ws : Around) (taken : ℕ) where
   -- it answers this for a reason
   abbrev Why : Event → Stage → Content → Type 0
-  Why e s c = IsCause e k job slot ws s taken c
+  Why e s c = IsCause e k job slot ws.words s taken c
 
   abbrev Answered : Event → Stage → Stage → Content → Type 0
   Answered e s new c = answer_at new ≡ Some c → Why e s c
@@ -136,32 +136,32 @@ module _ (k : ℕ) (job : Job) (slot : Slot) (ws : List ℕ) (taken : ℕ) where
   both true b e = (refl, e)
   both false b e = absurd (cc)
 
-  matched_why : (word : ℕ) (b : Bool) (c : Content) → word ≡ word_at ws job.origin.slot → is_match word job.etags.items ≡ b → Answered (Peek k job.origin.slot) ToMatch (matched_by b word) c
+  matched_why : (word : ℕ) (b : Bool) (c : Content) → word ≡ word_at ws.words job.origin.slot → is_match word job.etags.items ≡ b → Answered (Peek k job.origin.slot) ToMatch (matched_by b word) c
   matched_why word true c is e f =
       let tests = both (is_present word) (list_any (λ x. x == serial_in word) job.etags.items) e in
       let odd = eqb-true (word % 2) 1 tests.0 in
       so (Peek k job.origin.slot) ToMatch (Valid (serial_in word)) c (record { event = refl; is = refl; word = sym is ∙ omega (arith, odd); asked = among job.etags.items (serial_in word) tests.1 }) f
   matched_why word false c is e f = absurd (cc f)
 
-  own_why : (n : ℕ) (b : Bool) (c : Content) → (n == job.origin.slot) ≡ b → Answered (Peek k n) ToMatch (peeked_own b (word_at ws n) job.etags.items) c
+  own_why : (n : ℕ) (b : Bool) (c : Content) → (n == job.origin.slot) ≡ b → Answered (Peek k n) ToMatch (peeked_own b (word_at ws.words n) job.etags.items) c
   own_why n true c is e =
       let same = eqb-true n job.origin.slot is in
-      subst (λ (i : ℕ). Answered (Peek k i) ToMatch (peeked_own true (word_at ws i) job.etags.items) c) (sym same)
-      (matched_why (word_at ws job.origin.slot) (is_match (word_at ws job.origin.slot) job.etags.items) c refl refl) e
+      subst (λ (i : ℕ). Answered (Peek k i) ToMatch (peeked_own true (word_at ws.words i) job.etags.items) c) (sym same)
+      (matched_why (word_at ws.words job.origin.slot) (is_match (word_at ws.words job.origin.slot) job.etags.items) c refl refl) e
   own_why n false c is e = absurd (cc e)
 
-  listed_why : (seen : ArrayVec ℕ) (n : ℕ) (b : Bool) (c : Content) → n ≡ length seen.items → length seen.items < 64 → nat_lt (length (seen.items ++ word_at ws n ∷ [])) 64 ≡ b → Answered (Peek k n) (ToList seen) (if b then ToList (record { items = seen.items ++ word_at ws n ∷ [] }) else ToAnswer (Listed (seen.items ++ word_at ws n ∷ []))) c
+  listed_why : (seen : ArrayVec ℕ) (n : ℕ) (b : Bool) (c : Content) → n ≡ length seen.items → length seen.items < 64 → nat_lt (length (seen.items ++ word_at ws.words n ∷ [])) 64 ≡ b → Answered (Peek k n) (ToList seen) (if b then ToList (record { items = seen.items ++ word_at ws.words n ∷ [] }) else ToAnswer (Listed (seen.items ++ word_at ws.words n ∷ []))) c
   listed_why seen n true c is below lt e = absurd (cc e)
   listed_why seen n false c is below lt e =
-      let len : length (seen.items ++ word_at ws n ∷ []) ≡ length seen.items + 1 = length-append seen.items (word_at ws n ∷ []) in
-      let past : 64 ≤ length (seen.items ++ word_at ws n ∷ []) = ltb-false (length (seen.items ++ word_at ws n ∷ [])) 64 lt in
+      let len : length (seen.items ++ word_at ws.words n ∷ []) ≡ length seen.items + 1 = length-append seen.items (word_at ws.words n ∷ []) in
+      let past : 64 ≤ length (seen.items ++ word_at ws.words n ∷ []) = ltb-false (length (seen.items ++ word_at ws.words n ∷ [])) 64 lt in
       let last : n ≡ 63 = omega (arith, is, below, len, past) in
-      let count : length (seen.items ++ word_at ws n ∷ []) ≡ 64 = omega (arith, below, len, past) in
-      so (Peek k n) (ToList seen) (Listed (seen.items ++ word_at ws n ∷ [])) c
-      (record { seen = seen; event = ap (Peek k) last; is = refl; list_is = ap (λ (i : ℕ). seen.items ++ word_at ws i ∷ []) last; count = count }) e
+      let count : length (seen.items ++ word_at ws.words n ∷ []) ≡ 64 = omega (arith, below, len, past) in
+      so (Peek k n) (ToList seen) (Listed (seen.items ++ word_at ws.words n ∷ [])) c
+      (record { seen = seen; event = ap (Peek k) last; is = refl; list_is = ap (λ (i : ℕ). seen.items ++ word_at ws.words i ∷ []) last; count = count }) e
 
-  next_why : (seen : ArrayVec ℕ) (n : ℕ) (b : Bool) (c : Content) → (n == length seen.items) ≡ b → length seen.items < 64 → Answered (Peek k n) (ToList seen) (peeked_next b (word_at ws n) seen) c
-  next_why seen n true c is below e = listed_why seen n (nat_lt (length (seen.items ++ word_at ws n ∷ [])) 64) c (eqb-true n (length seen.items) is) below refl e
+  next_why : (seen : ArrayVec ℕ) (n : ℕ) (b : Bool) (c : Content) → (n == length seen.items) ≡ b → length seen.items < 64 → Answered (Peek k n) (ToList seen) (peeked_next b (word_at ws.words n) seen) c
+  next_why seen n true c is below e = listed_why seen n (nat_lt (length (seen.items ++ word_at ws.words n ∷ [])) 64) c (eqb-true n (length seen.items) is) below refl e
   next_why seen n false c is below e = absurd (cc e)
 
 -- how many tickets a job took that is to commit; a job that lists head words has yet one to read
@@ -170,19 +170,19 @@ IsCount (ToCommit n t) taken = (taken ≡ n) × (n ≤ 8)
 IsCount (ToList seen) taken = length seen.items < 64
 IsCount other taken = Unit {0}
 
-row_why : (e : Event) (k : ℕ) (job : Job) (slot : Slot) (ws : List ℕ) (s : Stage) (taken : ℕ) (c : Content) → names e ≡ Some k → IsCount s taken → answer_at (row e (at job slot ws s)).stage ≡ Some c → (answer_at s ≡ Some c) ⊎ IsCause e k job slot ws s taken c
-row_why (Peek j n) k job slot ws ToMatch taken c named f e = let same : j ≡ k = cc named in inr (subst (λ (i : ℕ). IsCause (Peek i n) k job slot ws ToMatch taken c) (sym same) (own_why k job slot ws taken n (n == job.origin.slot) c refl e))
-row_why (Peek j n) k job slot ws (ToList seen) taken c named f e = let same : j ≡ k = cc named in inr (subst (λ (i : ℕ). IsCause (Peek i n) k job slot ws (ToList seen) taken c) (sym same) (next_why k job slot ws taken seen n (n == length seen.items) c refl f e))
+row_why : (e : Event) (k : ℕ) (job : Job) (slot : Slot) (ws : Around) (s : Stage) (taken : ℕ) (c : Content) → names e ≡ Some k → IsCount s taken → answer_at (row e (at job slot ws s)).stage ≡ Some c → (answer_at s ≡ Some c) ⊎ IsCause e k job slot ws.words s taken c
+row_why (Peek j n) k job slot ws ToMatch taken c named f e = let same : j ≡ k = cc named in inr (subst (λ (i : ℕ). IsCause (Peek i n) k job slot ws.words ToMatch taken c) (sym same) (own_why k job slot ws taken n (n == job.origin.slot) c refl e))
+row_why (Peek j n) k job slot ws (ToList seen) taken c named f e = let same : j ≡ k = cc named in inr (subst (λ (i : ℕ). IsCause (Peek i n) k job slot ws.words (ToList seen) taken c) (sym same) (next_why k job slot ws taken seen n (n == length seen.items) c refl f e))
 row_why (Peek j n) k job slot ws other taken c named f e = inl e
-row_why (Remove j) k job slot ws ToRemove taken c named f e = let same : j ≡ k = cc named in inr (subst (λ (i : ℕ). IsCause (Remove i) k job slot ws ToRemove taken c) (sym same) (clear_why k job slot ws taken (nat_lt slot.serial last_serial) slot.present c refl refl e))
+row_why (Remove j) k job slot ws ToRemove taken c named f e = let same : j ≡ k = cc named in inr (subst (λ (i : ℕ). IsCause (Remove i) k job slot ws.words ToRemove taken c) (sym same) (clear_why k job slot ws taken (nat_lt slot.serial last_serial) slot.present c refl refl e))
 row_why (Remove j) k job slot ws other taken c named f e = inl e
-row_why (Receipt j) k job slot ws ToDescribe taken c named f e = let same : j ≡ k = cc named in inr (subst (λ (i : ℕ). IsCause (Receipt i) k job slot ws ToDescribe taken c) (sym same) (told_why k job slot ws taken slot.present c refl e))
+row_why (Receipt j) k job slot ws ToDescribe taken c named f e = let same : j ≡ k = cc named in inr (subst (λ (i : ℕ). IsCause (Receipt i) k job slot ws.words ToDescribe taken c) (sym same) (told_why k job slot ws taken slot.present c refl e))
 row_why (Receipt j) k job slot ws other taken c named f e = inl e
-row_why (Take j memory) k job slot ws (ToTake n) taken c named f e = let same : j ≡ k = cc named in inr (subst (λ (i : ℕ). IsCause (Take i memory) k job slot ws (ToTake n) taken c) (sym same) (taking_why k job slot ws taken memory n slot.present c refl e))
+row_why (Take j memory) k job slot ws (ToTake n) taken c named f e = let same : j ≡ k = cc named in inr (subst (λ (i : ℕ). IsCause (Take i memory) k job slot ws.words (ToTake n) taken c) (sym same) (taking_why k job slot ws taken memory n slot.present c refl e))
 row_why (Take j memory) k job slot ws other taken c named f e = inl e
-row_why (Commit j now) k job slot ws (ToCommit n t) taken c named f e = let same : j ≡ k = cc named in inr (subst (λ (i : ℕ). IsCause (Commit i now) k job slot ws (ToCommit n t) taken c) (sym same) (committed_why k job slot ws taken now n t (outcome t slot) c f.0 f.1 refl e))
+row_why (Commit j now) k job slot ws (ToCommit n t) taken c named f e = let same : j ≡ k = cc named in inr (subst (λ (i : ℕ). IsCause (Commit i now) k job slot ws.words (ToCommit n t) taken c) (sym same) (committed_why k job slot ws taken now n t (outcome t slot) c f.0 f.1 refl e))
 row_why (Commit j now) k job slot ws other taken c named f e = inl e
-row_why (Install j memory) k job slot ws ToInstall taken c named f e = let same : j ≡ k = cc named in inr (subst (λ (i : ℕ). IsCause (Install i memory) k job slot ws ToInstall taken c) (sym same) (verified_why k job slot ws taken memory c e))
+row_why (Install j memory) k job slot ws ToInstall taken c named f e = let same : j ≡ k = cc named in inr (subst (λ (i : ℕ). IsCause (Install i memory) k job slot ws.words ToInstall taken c) (sym same) (verified_why k job slot ws taken memory c e))
 row_why (Install j memory) k job slot ws other taken c named f e = inl e
 row_why (Raise j) k job slot ws (ToRaise word content) taken c named f e = inl e
 row_why (Raise j) k job slot ws other taken c named f e = inl e
@@ -205,7 +205,7 @@ none_first Describe serials c e = absurd (cc e)
 none_first Discover serials c e = absurd (cc e)
 
 why_by : (h : History) (r : Entry) (k : ℕ) (c : Content) (t : Task) → Becomes (names r.event) r.event (seen h) k t → answer_at t.stage ≡ Some c → (answer_at (stage (seen h) k) ≡ Some c) ⊎ IsCause r.event k (job (seen h) k) (slot_at (seen h) (slot_of (seen h) k)) (seen h).words (stage (seen h) k) (length (takings_of h k)) c
-why_by h r k c t (Moves named is) e = row_why r.event k (job (seen h) k) (slot_at (seen h) (slot_of (seen h) k)) (seen h).words (stage (seen h) k) (length (takings_of h k)) c named (count_is (stage (seen h) k) h k (known h k) (fits_next (job (seen h) k) (slot_at (seen h) (slot_of (seen h) k)) (stage (seen h) k) ((sound h).stages k))) (ap (λ (x : Task). answer_at x.stage) (sym is) ∙ e)
+why_by h r k c t (Moves named is) e = row_why r.event k (job (seen h) k) (slot_at (seen h) (slot_of (seen h) k)) (around (seen h) (slot_of (seen h) k)) (stage (seen h) k) (length (takings_of h k)) c named (count_is (stage (seen h) k) h k (known h k) (fits_next (job (seen h) k) (slot_at (seen h) (slot_of (seen h) k)) (stage (seen h) k) ((sound h).stages k))) (ap (λ (x : Task). answer_at x.stage) (sym is) ∙ e)
 why_by h r k c t (Stays other is) e = inl (ap (λ (x : Task). answer_at x.stage) (sym is) ∙ e)
 why_by h r k c t (Comes new j is) e = absurd (none_first j.ask j.etags.items c (ap (λ (x : Task). answer_at x.stage) (sym is) ∙ e))
 
@@ -216,5 +216,5 @@ answers_have_causes h r k c e = why_by h r k c (task_at (and_then r (seen h)).ta
 -- a taking that finds no program answers so
 pub empty_misses : (s : Seen) (k count : ℕ) (memory : Bool) (o : Option Emission) → stage s k ≡ ToTake count → (slot_at s (slot_of s k)).present ≡ None → stage (and_then (did (Take k memory) o) s) k ≡ ToAnswer Missing
 empty_misses s k count memory o is empty = named_stage (did (Take k memory) o) s k (is_here s k (ToTake count) is (λ e. absurd (cc e))) refl
-    ∙ (ap (λ (x : Stage). (row (Take k memory) (at (job s k) (slot_at s (slot_of s k)) s.words x)).stage) is
+    ∙ (ap (λ (x : Stage). (row (Take k memory) (at (job s k) (slot_at s (slot_of s k)) (around s (slot_of s k)) x)).stage) is
     ∙ ap (λ (x : Option Present). took count (taking memory (job s k) (slot_at s (slot_of s k)).serial x)) empty)

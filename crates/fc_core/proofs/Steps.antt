@@ -9,9 +9,9 @@ use Rattle.fc_core.specs.declared.event.Event.{Event}
 use Rattle.fc_core.specs.declared.event.Event.TheVariants.{Deliver, Lose}
 use Rattle.fc_core.specs.declared.stage.Stage.TheVariants.{Gone}
 use Rattle.fc_core.specs.declared.stage.Task.{Task}
-use Rattle.fc_core.specs.History.{Entry, Seen, and_then, front_at, no_task, received_at, scene, slot_at, task_at, tasks_brought, tasks_moved}
+use Rattle.fc_core.specs.History.{around, Entry, Seen, and_then, front_at, no_task, received_at, scene, slot_at, task_at, tasks_brought, tasks_moved}
 use Rattle.fc_core.specs.Receiving.{brought, next_opening}
-use Rattle.fc_core.specs.Stages.{task_moved, names, new_task, row, scene_at}
+use Rattle.fc_core.specs.Stages.{Around, task_moved, names, new_task, row, scene_at}
 
 -- the task of a number after an event: the event moves it, it is as before, or it is new
 pub data Becomes (o : Option ℕ) (e : Event) (s : Seen) (k : ℕ) (t : Task) : Type 0 where
@@ -20,12 +20,12 @@ pub data Becomes (o : Option ℕ) (e : Event) (s : Seen) (k : ℕ) (t : Task) : 
   Comes : (new : length s.tasks ≤ k) (job : Job) (is : t ≡ new_task job) → Becomes o e s k t
 
 -- a job that is gone stays gone, whatever names it
-pub gone_stays : (e : Event) (job : Job) (slot : Slot) (ws : List ℕ) → (row e (record { job = job; slot = slot; words = ws; stage = Gone })).stage ≡ Gone
+pub gone_stays : (e : Event) (job : Job) (slot : Slot) (ws : Around) → (row e (record { job = job; slot = slot; around = ws; stage = Gone })).stage ≡ Gone
 gone_stays (Lose k) job slot ws = refl
 gone_stays other job slot ws = refl
 
 moved_gone : (e : Event) (s : Seen) (k : ℕ) → task_at s.tasks k ≡ no_task → task_moved (task_at s.tasks k) (row e (scene s k)) ≡ no_task
-moved_gone e s k is = ap (λ (t : Task). task_moved t (row e (scene_at t (slot_at s t.job.origin.slot) s.words))) is ∙ ap (λ x. record { job = no_task.job; stage = x }) (gone_stays e no_task.job (slot_at s no_task.job.origin.slot) s.words)
+moved_gone e s k is = ap (λ (t : Task). task_moved t (row e (scene_at t (slot_at s t.job.origin.slot) (around s t.job.origin.slot)))) is ∙ ap (λ x. record { job = no_task.job; stage = x }) (gone_stays e no_task.job (slot_at s no_task.job.origin.slot) (around s no_task.job.origin.slot))
 
 module _ (e : Event) (s : Seen) where
   written : (j k : ℕ) → k < length s.tasks → Becomes (Some j) e s k (task_at (tasks_moved (Some j) e s) k)

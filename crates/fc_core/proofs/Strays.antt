@@ -11,7 +11,7 @@ use Rattle.fc_core.specs.declared.event.Event.TheVariants.{Deliver, Peek, Take, 
 use Rattle.fc_core.specs.declared.stage.Stage.{Stage}
 use Rattle.fc_core.specs.declared.stage.Stage.TheVariants.{ToMatch, ToTake, ToCommit, ToInstall, ToRemove, ToDescribe, ToList, ToRaise, ToAnswer, Gone}
 use Rattle.fc_core.specs.Contents.{Content}
-use Rattle.fc_core.specs.Stages.{Move, Scene, content_at, handed, task_moved, moves, names, peeked_next, peeked_own, row, words_after}
+use Rattle.fc_core.specs.Stages.{Around, Move, Scene, content_at, handed, task_moved, moves, names, peeked_next, peeked_own, row, words_after}
 use Rattle.fc_core.specs.Heads.{word_at}
 use Rattle.arrayvec.specs.ArrayVec.{ArrayVec}
 use Rattle.fc_core.specs.History.{Entry, Seen, added_in, and_then, calls_in, changes_after, did, exchanges_after, ids_after, job, moment_after, no_task, scene, shard_hands, shard_moment_after, stage, task_at, tasks_brought, tasks_moved, words_seen}
@@ -20,19 +20,19 @@ use Rattle.fc_core.specs.Laws.{is_stray, is_stray_at}
 use Rattle.fc_core.specs.Legal.{Emits, AnswerEmits}
 use Rattle.fc_core.specs.Exchanges.{FrontState}
 
-abbrev at : Job → Slot → List ℕ → Stage → Scene
-at job slot ws stage = record { job = job; slot = slot; words = ws; stage = stage }
+abbrev at : Job → Slot → Around → Stage → Scene
+at job slot ws stage = record { job = job; slot = slot; around = ws; stage = stage }
 
 -- a look at another slot's head word than the one that is needed
-peek_still : (n : ℕ) (x : Scene) (b : Bool) → not b ≡ true → moves (peeked_own b (word_at x.words n) x.job.etags.items) ≡ moves ToMatch
+peek_still : (n : ℕ) (x : Scene) (b : Bool) → not b ≡ true → moves (peeked_own b (word_at x.around.words n) x.job.etags.items) ≡ moves ToMatch
 peek_still n x true e = absurd (cc)
 peek_still n x false e = refl
 
-next_still : (n : ℕ) (x : Scene) (seen : ArrayVec ℕ) (b : Bool) → not b ≡ true → moves (peeked_next b (word_at x.words n) seen) ≡ moves (ToList seen)
+next_still : (n : ℕ) (x : Scene) (seen : ArrayVec ℕ) (b : Bool) → not b ≡ true → moves (peeked_next b (word_at x.around.words n) seen) ≡ moves (ToList seen)
 next_still n x seen true e = absurd (cc)
 next_still n x seen false e = refl
 
-row_still : (e : Event) (job : Job) (slot : Slot) (ws : List ℕ) (s : Stage) → is_stray_at e job.origin.slot s ≡ true → row e (at job slot ws s) ≡ moves s
+row_still : (e : Event) (job : Job) (slot : Slot) (ws : Around) (s : Stage) → is_stray_at e job.origin.slot s ≡ true → row e (at job slot ws s) ≡ moves s
 row_still (Peek k n) job slot ws ToMatch e = peek_still n (at job slot ws ToMatch) (n == job.origin.slot) e
 row_still (Peek k n) job slot ws (ToList seen) e = next_still n (at job slot ws (ToList seen)) seen (n == length seen.items) e
 row_still (Remove k) job slot ws ToRemove e = absurd (cc)
@@ -77,7 +77,7 @@ all_same a b f m x p d t c h v w = λ i. record { first_serial = f i; moment = m
 -- an event of a job that changes nothing of the front
 named_still : (s : Seen) (e : Event) (o : Option Emission) (k : ℕ) → names e ≡ Some k → is_stray_at e (job s k).origin.slot (stage s k) ≡ true → moment_after e s ≡ s.moment → exchanges_after e o s ≡ s.exchanges → added_in e s ≡ [] → ids_after e s ≡ s.ids → tasks_brought e s ≡ [] → ((i : ℕ) → shard_hands e i ≡ None) → ((n : ℕ) → calls_in e s n ≡ []) → and_then (did e o) s ≡ s
 named_still s e o k is stray m x p d b g q =
-    let still : row e (scene s k) ≡ moves (stage s k) = row_still e (job s k) (scene s k).slot s.words (stage s k) stray in
+    let still : row e (scene s k) ≡ moves (stage s k) = row_still e (job s k) (scene s k).slot (scene s k).around (stage s k) stray in
     all_same (and_then (did e o) s) s refl m x (ap (λ (l : List Addition). l ++ s.additions) p) d
     ((λ i. tasks_moved (is i) e s ++ b i) ∙ (append-nil (tasks_moved (Some k) e s) ∙ tasks_still s e k still))
     (λ n. (λ i. changes_after (is i) e s n) ∙ changes_still s e k still n)

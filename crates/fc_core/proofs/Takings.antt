@@ -24,9 +24,9 @@ use Rattle.coap_reply.specs.Blocks.{cut_for}
 use Rattle.arrayvec.specs.ArrayVec.{ArrayVec}
 use Rattle.fc_core.specs.Contents.{Content, Listed, Ran, RunAnswer, run_answer, Unavailable}
 use Rattle.fc_core.specs.Heads.{is_match, word_at}
-use Rattle.fc_core.specs.History.{Entry, History, Then, Seen, seen, and_then, did, job, slot_at, stage}
+use Rattle.fc_core.specs.History.{around, Entry, History, Then, Seen, seen, and_then, did, job, slot_at, stage}
 use Rattle.fc_core.specs.Laws.{IsOfNewest, IsOvertaken, Taking, TakesAgain, answer_at, gives, slot_of, takings_of}
-use Rattle.fc_core.specs.Stages.{Scene, committed, first_by, image_of, installed, made, matched_by, peeked_next, peeked_own, removed, retaken, row, told, took, verified}
+use Rattle.fc_core.specs.Stages.{Around, Scene, committed, first_by, image_of, installed, made, matched_by, peeked_next, peeked_own, removed, retaken, row, told, took, verified}
 use Rattle.fc_core.proofs.Along.{IsTold, along}
 use Rattle.fc_core.proofs.Others.{is_here, named_stage}
 
@@ -90,8 +90,8 @@ installed_took (Accepts p) slot ts le = made_took (nat_lt slot.serial last_seria
 installed_took (Breaks rule k) slot ts le = (le, tt)
 installed_took Untypable slot ts le = (le, tt)
 
-abbrev at : Job → Slot → List ℕ → Stage → Scene
-at job slot ws stage = record { job = job; slot = slot; words = ws; stage = stage }
+abbrev at : Job → Slot → Around → Stage → Scene
+at job slot ws stage = record { job = job; slot = slot; around = ws; stage = stage }
 
 verified_took : (memory : Bool) (s : Scene) (ts : List Taking) → length ts ≤ 8 → Took ts (verified memory s).stage
 verified_took true s ts le = installed_took (judged (image_of s.job.ask)) s.slot ts le
@@ -122,9 +122,9 @@ next_took : (b : Bool) (word : ℕ) (seen : ArrayVec ℕ) (ts : List Taking) →
 next_took true word seen ts le = listed_took (nat_lt (length (seen.items ++ word ∷ [])) 64) (seen.items ++ word ∷ []) ts le
 next_took false word seen ts le = le
 
-row_took : (e : Event) (job : Job) (slot : Slot) (cs : List Change) (ws : List ℕ) (s : Stage) (ts : List Taking) → Took ts s → Took (gives e s job slot cs ++ ts) (row e (at job slot ws s)).stage
-row_took (Peek k n) job slot cs ws ToMatch ts f = own_took (n == job.origin.slot) (word_at ws n) job.etags.items ts f
-row_took (Peek k n) job slot cs ws (ToList seen) ts f = next_took (n == length seen.items) (word_at ws n) seen ts f
+row_took : (e : Event) (job : Job) (slot : Slot) (cs : List Change) (ws : Around) (s : Stage) (ts : List Taking) → Took ts s → Took (gives e s job slot cs ++ ts) (row e (at job slot ws s)).stage
+row_took (Peek k n) job slot cs ws ToMatch ts f = own_took (n == job.origin.slot) (word_at ws.words n) job.etags.items ts f
+row_took (Peek k n) job slot cs ws (ToList seen) ts f = next_took (n == length seen.items) (word_at ws.words n) seen ts f
 row_took (Remove k) job slot cs ws ToRemove ts f = clear_took (nat_lt slot.serial last_serial) slot.serial slot.present ts f
 row_took (Receipt k) job slot cs ws ToDescribe ts f = told_took (receipt_at slot.present) ts f
 row_took (Take k memory) job slot cs ws (ToTake n) ts f = taking_took memory k job slot cs n ts slot.present refl f.0 f.1
@@ -161,7 +161,7 @@ is_told = record {
   still = λ e s k ts is. ap (λ (x : Stage). gives e x (job s k) (slot_at s (slot_of s k)) (s.changes (slot_of s k)) ++ ts) is ∙ ap (λ (l : List Taking). l ++ ts) (gone_given e (job s k) (slot_at s (slot_of s k)) (s.changes (slot_of s k)));
   gone = omega arith;
   first = first_took;
-  keeps = λ e s k ts f. row_took e (job s k) (slot_at s (slot_of s k)) (s.changes (slot_of s k)) s.words (stage s k) ts f;
+  keeps = λ e s k ts f. row_took e (job s k) (slot_at s (slot_of s k)) (s.changes (slot_of s k)) (around s (slot_of s k)) (stage s k) ts f;
 }
 
 pub known : (h : History) (k : ℕ) → Took (takings_of h k) (stage (seen h) k)
@@ -197,7 +197,7 @@ committing k now o = did (Commit k now) o
 overtaken_stage : (s : Seen) (k now : ℕ) (o : Option Emission) (w : IsOvertaken s k) → stage (and_then (committing k now o) s) k ≡ retaken w.count
 overtaken_stage s k now o w =
     named_stage (committing k now o) s k (is_here s k (ToCommit w.count w.ticket) w.at (λ gone. absurd (cc gone))) refl
-    ∙ (ap (λ (x : Stage). (row (Commit k now) (at (job s k) (slot_at s (slot_of s k)) s.words x)).stage) w.at
+    ∙ (ap (λ (x : Stage). (row (Commit k now) (at (job s k) (slot_at s (slot_of s k)) (around s (slot_of s k)) x)).stage) w.at
     ∙ ap (λ (x : CommitOutcome). (committed x w.count w.ticket now).stage) (overtaken_outcome w.ticket (slot_at s (slot_of s k)) w.wants w.other))
 
 taken_so_far : (h : History) (k : ℕ) (w : IsOvertaken (seen h) k) → length (takings_of h k) ≡ w.count

@@ -1,10 +1,10 @@
 -- What signals and ticks call on the observers of a slot.
-use Rattle.std.proofs.Common.{◌≡◌, ℕ, ◌+◌, ◌*◌, ◌%◌, [], ◌∷◌, ◌++◌, Bool, true, false, Option, Some, None, max, refl, ap, ◌∙◌, sym, if◌then◌else◌}
+use Rattle.std.proofs.Common.{◌≡◌, ℕ, ◌+◌, ◌*◌, ◌%◌, List, [], ◌∷◌, ◌++◌, Bool, true, false, Option, Some, None, max, refl, ap, ◌∙◌, sym, if◌then◌else◌}
 use Rattle.std.specs.Prelude.{◌==◌}
 use Rattle.std.proofs.lemmas.Bool.{eq-eqb, ne_eqb}
 use Rattle.coap_msg.specs.declared.types.Emission.{Emission}
 use Rattle.coap_msg.specs.declared.types.Endpoint.{Endpoint}
-use Rattle.fc_observe.specs.Calls.{ObserverCall, Tick as TickObservers, observers}
+use Rattle.fc_observe.specs.Calls.{ObserverCall, Tick as TickObservers, observers, observers_after}
 use Rattle.fc_observe.specs.Observers.{after_ack, after_reset, after_tick, at_moment}
 use Rattle.fc_registry.specs.Watches.{signal_call}
 use Rattle.fc_core.specs.declared.event.Event.TheVariants.{Signal, ShardTick}

@@ -19,11 +19,11 @@ use Rattle.fc_core.specs.declared.event.Event.{Event}
 use Rattle.fc_core.specs.declared.event.Event.TheVariants.{Take, Commit}
 use Rattle.fc_core.specs.declared.stage.Stage.{Stage}
 use Rattle.fc_core.specs.declared.stage.Stage.TheVariants.{ToTake, ToCommit}
-use Rattle.fc_core.specs.History.{Entry, History, Begins, Then, Seen, seen, and_then, begun, did, job, slot_at, stage}
+use Rattle.fc_core.specs.History.{around, Entry, History, Begins, Then, Seen, seen, and_then, begun, did, job, slot_at, stage}
 use Rattle.fc_core.specs.Laws.{HasCome, Taking, finds, gives_at, is_named, slot_of, takings_of}
 use Rattle.fc_core.specs.SlotLaws.{IsUnchanged, IsWritten}
 use Rattle.fc_core.specs.Sound.{IsSound}
-use Rattle.fc_core.specs.Stages.{Scene, committed, names, row}
+use Rattle.fc_core.specs.Stages.{Around, Scene, committed, names, row}
 use Rattle.fc_core.proofs.Along.{none_after}
 use Rattle.fc_core.proofs.Keeping.{grows, still_sound}
 use Rattle.fc_core.proofs.Lists.{Each}
@@ -119,12 +119,12 @@ unchanged h k n t is same = unchanged_by (seen h) k n t (takings_of h k) (took_a
 pub same_serial : (h : History) (k n : ℕ) (t : Ticket) → stage (seen h) k ≡ ToCommit n t → IsUnchanged (takings_of h k) ((seen h).changes (slot_of (seen h) k)) → (slot_at (seen h) (slot_of (seen h) k)).serial ≡ t.serial
 same_serial h k n t is same = serial_by (seen h) k n t (takings_of h k) (took_at h k n t is) (all_since h k) same
 
-abbrev at : Job → Slot → List ℕ → Stage → Scene
-at job slot ws stage = record { job = job; slot = slot; words = ws; stage = stage }
+abbrev at : Job → Slot → Around → Stage → Scene
+at job slot ws stage = record { job = job; slot = slot; around = ws; stage = stage }
 
 commit_changes : (s : Seen) (k now n : ℕ) (o : Option Emission) (t : Ticket) (x : CommitOutcome) → stage s k ≡ ToCommit n t → outcome t (slot_at s (slot_of s k)) ≡ x → (and_then (did (Commit k now) o) s).changes (slot_of s k) ≡ (committed x n t now).changes ++ s.changes (slot_of s k)
 commit_changes s k now n o t x is comes = own_slot (did (Commit k now) o) s k refl
-    ∙ (ap (λ (st : Stage). (row (Commit k now) (at (job s k) (slot_at s (slot_of s k)) s.words st)).changes ++ s.changes (slot_of s k)) is
+    ∙ (ap (λ (st : Stage). (row (Commit k now) (at (job s k) (slot_at s (slot_of s k)) (around s (slot_of s k)) st)).changes ++ s.changes (slot_of s k)) is
     ∙ ap (λ (y : CommitOutcome). (committed y n t now).changes ++ s.changes (slot_of s k)) comes)
 
 post_wants : (m : Method) (b : Bool) → m ≡ Post → b ≡ true → (is_post m && b) ≡ true
@@ -165,13 +165,13 @@ kept_if : (s : Seen) (e : Event) (k n : ℕ) (b : Bool) (at : Scene) → (row e 
 kept_if s e k n true at is = ap (λ (cs : List Change). cs ++ s.changes n) is
 kept_if s e k n false at is = refl
 
-row_keeps : (job : Job) (slot : Slot) (ws : List ℕ) (k now count : ℕ) (t : Ticket) (st : Stage) → st ≡ ToCommit count t → outcome t slot ≡ Keeps → (row (Commit k now) (at job slot ws st)).changes ≡ []
+row_keeps : (job : Job) (slot : Slot) (ws : Around) (k now count : ℕ) (t : Ticket) (st : Stage) → st ≡ ToCommit count t → outcome t slot ≡ Keeps → (row (Commit k now) (at job slot ws st)).changes ≡ []
 row_keeps job slot ws k now count t st is keeps = ap (λ (x : Stage). (row (Commit k now) (at job slot ws x)).changes) is ∙ ap (λ (o : CommitOutcome). (committed o count t now).changes) keeps
 
 unwanted_at : (s : Seen) (k now count n : ℕ) (o : Option Emission) (t : Ticket) → stage s k ≡ ToCommit count t → wants t ≡ false → (and_then (did (Commit k now) o) s).changes n ≡ s.changes n
 unwanted_at s k now count n o t is w =
     let slot = slot_at s (slot_of s k) in
-    kept_if s (Commit k now) k n (slot_of s k == n) (at (job s k) slot s.words (stage s k)) (row_keeps (job s k) slot s.words k now count t (stage s k) is (keeps_unwanted t slot (wants t) refl w))
+    kept_if s (Commit k now) k n (slot_of s k == n) (at (job s k) slot (around s (slot_of s k)) (stage s k)) (row_keeps (job s k) slot (around s (slot_of s k)) k now count t (stage s k) is (keeps_unwanted t slot (wants t) refl w))
 
 pub unwanted_changes_nothing : (r : Entry) (s : Seen) (k now count n : ℕ) (t : Ticket) → r.event ≡ Commit k now → stage s k ≡ ToCommit count t → (t.request.method ≡ Get) ⊎ (code_class (meaning_at t).code ≡ 2 → ⊥) → (and_then r s).changes n ≡ s.changes n
 unwanted_changes_nothing r s k now count n t is st e =

@@ -23,7 +23,7 @@ use Rattle.fc_core.specs.Ids.{Ids, first_ids, drawn_for}
 use Rattle.fc_core.specs.Exchanges.{FrontState, opening_is_live}
 use Rattle.fc_core.specs.Receiving.{Received, added_by, received, opened_by, kept_of, drawn_by, brought, next_opening}
 use Rattle.fc_core.specs.Heads.{no_words}
-use Rattle.fc_core.specs.Stages.{Scene, names, new_task, scene_at, row, content_at, task_moved, handed, words_after}
+use Rattle.fc_core.specs.Stages.{Around, Scene, names, new_task, scene_at, row, content_at, task_moved, handed, words_after}
 
 -- an event, and what it emitted
 pub record Entry : Type 0 where
@@ -83,9 +83,17 @@ job s k = (task_at s.tasks k).job
 abbrev pub stage : Seen → ℕ → Stage
 stage s k = (task_at s.tasks k).stage
 
+-- the observers of slot n
+abbrev pub watch : Seen → ℕ → ObserverList
+watch s n = observers n (s.calls n)
+
+-- what there is around slot n
+abbrev pub around : Seen → ℕ → Around
+around s n = record { words = s.words; moment = s.shard_moment (n % 8); watch = watch s n }
+
 -- what an event that names a job finds of it
 abbrev pub scene : Seen → ℕ → Scene
-scene s k = scene_at (task_at s.tasks k) (slot_at s (job s k).origin.slot) s.words
+scene s k = scene_at (task_at s.tasks k) (slot_at s (job s k).origin.slot) (around s (job s k).origin.slot)
 
 -- ---- the front
 
@@ -163,10 +171,7 @@ abbrev pub words_seen : Option ℕ → Event → Seen → List ℕ
 words_seen None e s = s.words
 words_seen (Some k) e s = words_after (row e (scene s k)) (task_at s.tasks k) s.words
 
--- ---- the observers of the slots
-
-abbrev pub watch : Seen → ℕ → ObserverList
-watch s n = observers n (s.calls n)
+-- ---- calls on the observers
 
 -- the slot at a place of shard i, 8 k + i, has a notification that is late at a moment
 abbrev pub is_late_at : Seen → ℕ → ℕ → ℕ → Bool

@@ -1,8 +1,9 @@
 -- What each event does to the job that it names, and to that job's slot and shard: one row a clause.
-use Rattle.std.specs.Prelude.{◌≡◌, ℕ, ◌+◌, ◌==◌, Bool, true, false, nat_lt, if◌then◌else◌, Option, Some, None, List, [], ◌∷◌, ◌++◌, length, max}
+use Rattle.std.specs.Prelude.{◌≡◌, ℕ, ◌+◌, ◌/◌, ◌==◌, Bool, true, false, nat_lt, if◌then◌else◌, Option, Some, None, List, [], ◌∷◌, ◌++◌, length, max}
 use Rattle.arrayvec.specs.ArrayVec.{ArrayVec}
 use Rattle.fc_verify.specs.Accepted.{Judgement, Accepts, Breaks, Untypable}
 use Rattle.fc_verify.specs.Judged.{judged}
+use Rattle.fc_observe.specs.Observers.{ObserverList}
 use Rattle.fc_registry.specs.declared.job.Ask.{Ask}
 use Rattle.fc_registry.specs.declared.job.Ask.TheVariants.{Run, Install as Installs, Remove as Removes, Describe, Discover}
 use Rattle.fc_registry.specs.declared.job.Job.{Job}
@@ -17,6 +18,7 @@ use Rattle.fc_registry.specs.declared.commit.Committed.{Committed}
 use Rattle.fc_registry.specs.declared.commit.Committed.TheVariants.{Done, Overtaken, Ended, Stranger}
 use Rattle.fc_registry.specs.Slots.{Slot, Shard, Ticket, slot_in, with_slot}
 use Rattle.fc_registry.specs.Changes.{Change, Committed as Wrote, after_changes}
+use Rattle.fc_registry.specs.Watches.{watch_at}
 use Rattle.fc_registry.specs.declared.commit.CommitOutcome.{CommitOutcome}
 use Rattle.fc_registry.specs.declared.commit.CommitOutcome.TheVariants.{Writes, Keeps, Overtakes, Ends}
 use Rattle.fc_registry.specs.Calls.{taking, install_in, remove_from, receipt_at, receipt_of, outcome, commit_of, meaning_at}
@@ -108,11 +110,17 @@ listed words = if nat_lt (length words) 64 then ToList (record { items = words }
 
 -- ---- the rows
 
--- what an event finds of the job that it names, and of the head words of all slots
+-- what there is around a job's slot: the head words of all slots, and its shard's moment and its observers
+pub record Around : Type 0 where
+  pub words : List ℕ
+  pub moment : ℕ
+  pub watch : ObserverList
+
+-- what an event finds of the job that it names
 pub record Scene : Type 0 where
   pub job : Job
   pub slot : Slot
-  pub words : List ℕ
+  pub around : Around
   pub stage : Stage
 
 -- where it leaves the job, the changes of the job's slot, the newest first, the moment that it hands to the slot's shard, and
@@ -164,8 +172,8 @@ peeked_next false word seen = ToList seen
 
 -- the rows of the table; an event at another stage than it needs does nothing
 abbrev pub at_peek : ℕ → Scene → Stage → Move
-at_peek n s ToMatch = moves (peeked_own (n == s.job.origin.slot) (word_at s.words n) s.job.etags.items)
-at_peek n s (ToList seen) = moves (peeked_next (n == length seen.items) (word_at s.words n) seen)
+at_peek n s ToMatch = moves (peeked_own (n == s.job.origin.slot) (word_at s.around.words n) s.job.etags.items)
+at_peek n s (ToList seen) = moves (peeked_next (n == length seen.items) (word_at s.around.words n) seen)
 at_peek n s other = moves other
 
 abbrev pub at_take : Bool → Scene → Stage → Move
@@ -215,12 +223,16 @@ content_at other = None
 
 -- ---- on a task and its shard
 
-abbrev pub scene_at : Task → Slot → List ℕ → Scene
-scene_at task slot words = record { job = task.job; slot = slot; words = words; stage = task.stage }
+abbrev pub scene_at : Task → Slot → Around → Scene
+scene_at task slot around = record { job = task.job; slot = slot; around = around; stage = task.stage }
+
+-- what there is around slot n at a shard
+abbrev pub around_of : Shard → List ℕ → ℕ → Around
+around_of shard words n = record { words = words; moment = shard.now; watch = watch_at shard (n / 8) }
 
 -- what an event on a task finds at a shard
 abbrev pub scene_of : Shard → List ℕ → Task → Scene
-scene_of shard words task = scene_at task (slot_in shard task.job.origin.slot) words
+scene_of shard words task = scene_at task (slot_in shard task.job.origin.slot) (around_of shard words task.job.origin.slot)
 
 -- the move of a commit of this ticket at a shard
 abbrev pub commit_move : Shard → ℕ → Ticket → ℕ → Move

@@ -2,7 +2,7 @@
 ghost use Rattle.std.specs.Prelude.{◌≡◌, ℕ, ◌<◌, ◌∷◌, ◌++◌, ◌==◌, [], List, length, false, IfOk, OnOk, IsErr};
 ghost use Rattle.fc_verify.specs.Accepted.{Accepts};
 ghost use Rattle.fc_verify.specs.Judged.{judged};
-ghost use Rattle.fc_registry.specs.Slots.{Slot, IsOwned, slot_in};
+ghost use Rattle.fc_registry.specs.Slots.{IsOwned, slot_in};
 ghost use Rattle.fc_core.specs.Contents.{AreDone, IsMadeBelow, IsRemovedBelow, Missing as Misses, Unavailable};
 ghost use Rattle.fc_core.specs.Ends.{refused};
 ghost use Rattle.fc_core.specs.Fits.{FitsStage, HasNext};
@@ -10,7 +10,7 @@ ghost use Rattle.fc_core.specs.Heads.{word_at};
 ghost use Rattle.fc_core.specs.Sound.{AllSafe};
 ghost use Rattle.fc_registry.specs.Calls.{HasGiven, receipt_of};
 ghost use Rattle.fc_core.specs.Stages as rows;
-ghost use Rattle.fc_core.specs.Stages.{ShardMoves, TaskMoves, at_answer, at_commit, at_install, at_peek, at_raise, at_receipt, at_remove, at_take, commit_move, content_at, first_stage, image_of, installed, peeked_next, peeked_own, task_moved, new_task, scene_at, scene_of, shard_after, shard_moved, words_after};
+ghost use Rattle.fc_core.specs.Stages.{ShardMoves, TaskMoves, at_answer, at_commit, at_install, at_peek, at_raise, at_receipt, at_remove, at_take, commit_move, content_at, first_stage, image_of, installed, peeked_next, peeked_own, task_moved, new_task, scene_of, shard_after, shard_moved, words_after};
 
 use crate::answer::{Answer, End, Words};
 use crate::front::blank_job;
@@ -197,8 +197,8 @@ impl Task {
     /// Looks at the head word of a slot.
     pub fn peek(&mut self, slot: u8, heads: &Heads)
         requires { HasNext self.old.stage }
-        ensures { (x : Slot) →
-            self.new ≡ task_moved self.old (at_peek slot (scene_at self.old x heads.now) self.old.stage) }
+        ensures { (shard : Shard) →
+            self.new ≡ task_moved self.old (at_peek slot (scene_of shard heads.now self.old) self.old.stage) }
     {
         match self.leave() {
             Stage::ToMatch => self.stage = look_own(&self.job, slot, heads),
@@ -319,8 +319,8 @@ impl Task {
 
     /// Installs without memory.
     pub fn refuse_install(&mut self)
-        ensures { (slot : Slot) (words : List ℕ) →
-            self.new ≡ task_moved self.old (at_install false (scene_at self.old slot words) self.old.stage) }
+        ensures { (shard : Shard) (words : List ℕ) →
+            self.new ≡ task_moved self.old (at_install false (scene_of shard words self.old) self.old.stage) }
     {
         match self.leave() {
             Stage::ToInstall => self.stage = Stage::unavailable(),

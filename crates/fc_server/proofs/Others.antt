@@ -23,7 +23,7 @@ use Rattle.fc_core.specs.Ids.{drawn_for}
 use Rattle.fc_core.specs.Legal.{AnswerEmits, Emits, IsAnswered, TakesMeaning}
 use Rattle.fc_core.specs.Receiving.{added_by, after_added, after_received, brought, drawn_by, id_in, keeping, kept_of, next_opening, opened_by, received, sent}
 use Rattle.fc_core.specs.Sound.{AllSafe}
-use Rattle.fc_core.specs.Stages.{Move, Scene, at_answer, at_peek, at_receipt, at_take, content_at, handed, task_moved, moves, names, new_task, row, scene_at, words_after}
+use Rattle.fc_core.specs.Stages.{around_of, Around, Move, Scene, at_answer, at_peek, at_receipt, at_take, content_at, handed, task_moved, moves, names, new_task, row, scene_at, words_after}
 use Rattle.fc_core.proofs.Keeping.{IsSafeMove, still_safe, still_sound}
 use Rattle.fc_core.proofs.Rejections.{same_slot}
 use Rattle.fc_server.specs.Agreement.{Agrees, Parts, ShardsAgree}
@@ -72,7 +72,7 @@ receipt_quiet x other = refl
 
 -- ---- jobs that never came
 
-gone_moves : (e : Event) (slot : Slot) (ws : List ℕ) → row e (scene_at no_task slot ws) ≡ moves Gone
+gone_moves : (e : Event) (slot : Slot) (ws : Around) → row e (scene_at no_task slot ws) ≡ moves Gone
 gone_moves (Peek k n) slot ws = refl
 gone_moves (Remove k) slot ws = refl
 gone_moves (Receipt k) slot ws = refl
@@ -88,7 +88,7 @@ past_moves : (e : Event) (k : ℕ) (w : Parts) → length w.tasks ≤ k → Move
 past_moves e k w le =
     let none : no_task ≡ task_at w.tasks k = sym (get_or_past w.tasks k no_task le) in
     let slot = slot_in_shards w.shards 0 in
-    let gone = gone_moves e slot w.words in
+    let gone = gone_moves e slot (around_of (shard_at w.shards 0) w.words 0) in
     let P : Task → Type 0 = λ t. w.shards ≡ shards_moved (row e (scene_in w.shards w.words t)) t.job.origin.slot w.shards in
     let Q : Task → Type 0 = λ t. AllSafe (row e (scene_in w.shards w.words t)).changes in
     let R : Task → Type 0 = λ t. w.words ≡ words_after (row e (scene_in w.shards w.words t)) t w.words in

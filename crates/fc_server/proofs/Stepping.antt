@@ -1,5 +1,5 @@
 -- Each event keeps the agreement.
-use Rattle.std.proofs.Common.{◌≡◌, ℕ, ◌+◌, ◌*◌, ◌<◌, ◌%◌, List, [], ◌++◌, length, set, Bool, true, false, Option, Some, None, refl, sym, ap, ◌∙◌, subst, ⊎_elim, if◌then◌else◌}
+use Rattle.std.proofs.Common.{◌≡◌, ℕ, ◌+◌, ◌*◌, ◌/◌, ◌<◌, ◌%◌, arith, List, [], ◌++◌, length, set, Bool, true, false, Option, Some, None, refl, sym, ap, ◌∙◌, subst, ⊎_elim, if◌then◌else◌}
 use Rattle.std.specs.Prelude.{filter, ◌==◌}
 use Rattle.std.proofs.lemmas.Bool.{cases_eq, eq-eqb, ne_eqb}
 use Rattle.std.proofs.lemmas.List.{append-nil}
@@ -10,13 +10,14 @@ use Rattle.fc_observe.specs.Calls.{ObserverCall, observers}
 use Rattle.fc_registry.specs.Changes.{after_changes}
 use Rattle.fc_registry.specs.Shards.{shard_at, slot_in_shards}
 use Rattle.fc_registry.specs.Slots.{Shard, Slot, Present, new_slot}
+use Rattle.fc_registry.specs.Watches.{watch_at}
 use Rattle.fc_core.specs.declared.event.Event.{Event}
 use Rattle.fc_core.specs.declared.event.Event.TheVariants.{Peek, Take, Commit, Install, Remove, Receipt, Raise, Lose}
 use Rattle.fc_core.specs.declared.stage.Stage.{Stage}
 use Rattle.fc_core.specs.declared.stage.Stage.TheVariants.{ToTake}
 use Rattle.fc_core.specs.declared.stage.Task.{Task}
 use Rattle.fc_core.specs.Fits.{FitsSlot}
-use Rattle.fc_core.specs.History.{Seen, added_in, and_then, changes_after, did, exchanges_after, front_in, ids_after, job, moment_after, scene, shard_moment_after, slot_at, stage, task_at, tasks_brought, tasks_moved, words_seen}
+use Rattle.fc_core.specs.History.{Seen, added_in, and_then, changes_after, did, exchanges_after, front_in, ids_after, job, moment_after, scene, shard_moment_after, slot_at, stage, task_at, tasks_brought, tasks_moved, watch, words_seen}
 use Rattle.fc_core.specs.Legal.{Emits, FindsMeaning, FoundMeans, TakesMeaning}
 use Rattle.fc_core.specs.Receiving.{AskWithin}
 use Rattle.coap_block.specs.Transfers.{transfers}
@@ -62,7 +63,12 @@ module _ (s : Seen) (e : Event) (k : ℕ) (named : names e ≡ Some k) (shards :
 
   -- what the server finds of the task is what is seen
   pub scene_is : (ws : List ℕ) → ws ≡ s.words → scene_in shards ws (task_at s.tasks k) ≡ scene s k
-  scene_is ws same = λ i. scene_at (task_at s.tasks k) (a.slot (job s k).origin.slot low i) (same i)
+  scene_is ws same =
+      let shard : n % 8 < 8 = omega arith in
+      let place : n / 8 < 8 = omega (arith, low) in
+      let number : 8 * (n / 8) + n % 8 ≡ n = omega arith in
+      let watch_is : watch_at (shard_at shards (n % 8)) (n / 8) ≡ watch s n = a.watch (n % 8) (n / 8) shard place ∙ ap (watch s) number in
+      λ i. scene_at (task_at s.tasks k) (a.slot n low i) (record { words = same i; moment = a.now (n % 8) shard i; watch = watch_is i })
 
   abbrev m : Move
   m = row e (scene s k)

@@ -12,7 +12,7 @@ use Rattle.fc_core.specs.Exchanges.{FrontState, advanced}
 use Rattle.fc_core.specs.Fits.{FitsStage}
 use Rattle.fc_core.specs.Legal.{AnswerEmits}
 use Rattle.fc_core.specs.Sound.{AllSafe}
-use Rattle.fc_core.specs.Stages.{Move, Scene, at_answer, content_at, task_moved, row, scene_at, shard_moved, words_after}
+use Rattle.fc_core.specs.Stages.{Move, Scene, at_answer, content_at, task_moved, row, scene_of, shard_moved, words_after}
 
 -- its front, its shards, and the head words of their slots
 pub record ServerState : Type 0 where
@@ -22,7 +22,7 @@ pub record ServerState : Type 0 where
 
 -- what an event finds of a task
 abbrev pub scene_in : List Shard → List ℕ → Task → Scene
-scene_in shards words task = scene_at task (slot_in_shards shards task.job.origin.slot) words
+scene_in shards words task = scene_of (shard_at shards (task.job.origin.slot % 8)) words task
 
 -- the shards after a move of a job of slot n
 abbrev pub shards_moved : Move → ℕ → List Shard → List Shard
