@@ -32,11 +32,11 @@ data Makes (e : Event) (job : Job) (slot : Slot) (s : Stage) (cs : List Change) 
   Takes_out : (k : ℕ) (p : Present) (event : e ≡ Remove k) (at : s ≡ ToRemove) (found : slot.present ≡ Some p) (below : slot.serial < 9223372036854775807) (is : cs ≡ Removed ∷ []) → Makes e job slot s cs
   Leaves : (k now n : ℕ) (t : Ticket) (event : e ≡ Commit k now) (at : s ≡ ToCommit n t) (is : cs ≡ Committed (commit_of t) ∷ []) → Makes e job slot s cs
 
-committed_makes : (k now n : ℕ) (t : Ticket) (job : Job) (slot : Slot) (o : CommitOutcome) → Makes (Commit k now) job slot (ToCommit n t) (committed o n t now).changes
-committed_makes k now n t job slot outcomes.Writes = Leaves k now n t refl refl refl
-committed_makes k now n t job slot outcomes.Keeps = None_made refl
-committed_makes k now n t job slot outcomes.Overtakes = None_made refl
-committed_makes k now n t job slot outcomes.Ends = None_made refl
+committed_makes : (k now n : ℕ) (t : Ticket) (job : Job) (slot : Slot) (ws : Around) (o : CommitOutcome) → Makes (Commit k now) job slot (ToCommit n t) (committed o n t now ws).changes
+committed_makes k now n t job slot ws outcomes.Writes = Leaves k now n t refl refl refl
+committed_makes k now n t job slot ws outcomes.Keeps = None_made refl
+committed_makes k now n t job slot ws outcomes.Overtakes = None_made refl
+committed_makes k now n t job slot ws outcomes.Ends = None_made refl
 
 put_makes : (k : ℕ) (p : Program) (job : Job) (slot : Slot) (b : Bool) → judged (image_of job.ask) ≡ Accepts p → nat_lt slot.serial last_serial ≡ b → Makes (Install k true) job slot ToInstall (put_by b slot p).changes
 put_makes k p job slot true is e = Puts k p refl refl is (ltb-true slot.serial last_serial e) refl
@@ -62,7 +62,7 @@ row_makes (Peek k n) job slot ws (ToList seen) = None_made refl
 row_makes (Remove k) job slot ws ToRemove = clear_makes k job slot (nat_lt slot.serial last_serial) slot.present refl refl
 row_makes (Receipt k) job slot ws ToDescribe = None_made refl
 row_makes (Take k memory) job slot ws (ToTake n) = None_made refl
-row_makes (Commit k now) job slot ws (ToCommit n t) = committed_makes k now n t job slot (outcome t slot)
+row_makes (Commit k now) job slot ws (ToCommit n t) = committed_makes k now n t job slot ws (outcome t slot)
 row_makes (Install k memory) job slot ws ToInstall = verified_makes k memory job slot ws
 row_makes (Raise k) job slot ws (ToRaise word content) = None_made refl
 row_makes (Answer k now) job slot ws (ToAnswer content) = None_made refl

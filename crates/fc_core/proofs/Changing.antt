@@ -44,11 +44,11 @@ retaken_raises : (n : ℕ) (b : Bool) → 0 ≡ raises (if b then ToTake n else 
 retaken_raises n true = refl
 retaken_raises n false = refl
 
-committed_raises : (n : ℕ) (t : Ticket) (now : ℕ) (o : CommitOutcome) → length (committed o n t now).changes ≡ raises (committed o n t now).stage
-committed_raises n t now Writes = refl
-committed_raises n t now Keeps = refl
-committed_raises n t now Overtakes = retaken_raises n (nat_lt n 8)
-committed_raises n t now Ends = refl
+committed_raises : (n : ℕ) (t : Ticket) (now : ℕ) (ws : Around) (o : CommitOutcome) → length (committed o n t now ws).changes ≡ raises (committed o n t now ws).stage
+committed_raises n t now ws Writes = refl
+committed_raises n t now ws Keeps = refl
+committed_raises n t now ws Overtakes = retaken_raises n (nat_lt n 8)
+committed_raises n t now ws Ends = refl
 
 put_raises : (b : Bool) (slot : Slot) (p : Program) → length (put_by b slot p).changes ≡ raises (made (receipt_of p 0) (put_by b slot p).answer)
 put_raises true slot p = refl
@@ -106,7 +106,7 @@ row_raises (Peek j n) k job slot ws s named e = peek_makes n (at job slot ws s) 
 row_raises (Remove j) k job slot ws ToRemove named e = clear_raises (nat_lt slot.serial last_serial) slot.serial slot.present
 row_raises (Receipt j) k job slot ws ToDescribe named e = refl
 row_raises (Take j memory) k job slot ws (ToTake n) named e = taking_raises memory job slot n slot.present
-row_raises (Commit j now) k job slot ws (ToCommit n t) named e = committed_raises n t now (outcome t slot)
+row_raises (Commit j now) k job slot ws (ToCommit n t) named e = committed_raises n t now ws (outcome t slot)
 row_raises (Install j memory) k job slot ws ToInstall named e = verified_raises memory (at job slot ws ToInstall)
 row_raises (Raise j) k job slot ws (ToRaise word content) named e = refl
 row_raises (Answer j now) k job slot ws (ToAnswer content) named e = refl

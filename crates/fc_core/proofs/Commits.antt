@@ -1,59 +1,57 @@
 -- A commit that a shard carries out is the row of its table.
-use Rattle.std.proofs.Common.{◌≡◌, ℕ, ◌+◌, Bool, true, false, refl, sym, ap, ◌∙◌, subst, max, arith}
+use Rattle.std.proofs.Common.{◌≡◌, ℕ, ◌+◌, ◌/◌, List, Bool, true, false, refl, sym, ap, ◌∙◌, subst, max, arith}
 use Rattle.std.specs.Prelude.{nat_lt, ◌==◌}
 use Rattle.std.proofs.lemmas.Bool.{eqb-true}
 use Rattle.fc_machine.specs.Ran.{Ran}
+use Rattle.fc_observe.specs.Observers.{ObserverList}
 use Rattle.fc_registry.specs.declared.commit.CommitOutcome.{CommitOutcome}
 use Rattle.fc_registry.specs.declared.commit.CommitOutcome.TheVariants.{Writes, Keeps, Overtakes, Ends}
 use Rattle.fc_registry.specs.declared.commit.Committed.{Committed}
 use Rattle.fc_registry.specs.declared.commit.Committed.TheVariants.{Done, Overtaken, Ended, Stranger}
 use Rattle.fc_registry.specs.Slots.{Shard, Slot, Ticket, last_serial, slot_in, with_slot}
 use Rattle.fc_registry.specs.Changes.{after_changes}
-use Rattle.fc_registry.specs.Calls.{ComesTo, IsCommit, IsOwnCommit, IsOwn, HasGiven, outcome, outcome_by, commits, run_of, wants}
-use Rattle.fc_registry.proofs.Outcomes.{by_serials}
+use Rattle.fc_registry.specs.Calls.{ComesTo, IsCommit, IsOwnCommit, IsOwn, HasGiven, outcome, outcome_by, commit_calls, commits, wants}
+use Rattle.fc_registry.specs.Watches.{watch_at, with_calls}
+use Rattle.fc_registry.proofs.Outcomes.{by_serials, own_run}
 use Rattle.fc_core.specs.Contents.{AreDone}
 use Rattle.fc_core.specs.declared.stage.Stage.TheVariants.{ToRaise}
 use Rattle.fc_core.specs.Heads.{head_word}
-use Rattle.fc_core.specs.Stages.{after_commit, committed, run_content, shard_moved}
-
--- an outcome of the ticket's program, request and variables is the ticket's run
-own_run : (ran : Ran) (t : Ticket) (slot : Slot) → IsOwn ran t slot → ran ≡ run_of t
-own_run ran t slot own = λ i. record { program = own.program i; input = record { request = own.request i; vars = own.vars i } }
+use Rattle.fc_core.specs.Stages.{Around, after_commit, around_of, committed, run_content, shard_moved}
 
 -- the mark of a commit that is done is of the outcome and the ticket
-done_by : (ran : Ran) (t : Ticket) (slot : Slot) (o : CommitOutcome) → IsOwn ran t slot → ComesTo t slot o → AreDone ran t (commits o t slot.serial).answer
-done_by ran t slot Writes own is = (record { run = own_run ran t slot own; origin = refl; serial = refl }, λ e. let below = is.2 in omega (arith, below))
-done_by ran t slot Keeps own is = (record { run = own_run ran t slot own; origin = refl; serial = refl }, λ e. absurd (cc e))
-done_by ran t slot Overtakes own is = tt
-done_by ran t slot Ends own is = tt
+done_by : (ran : Ran) (t : Ticket) (slot : Slot) (v : ObserverList) (o : CommitOutcome) → IsOwn ran t slot → ComesTo t slot o → AreDone ran t (commits o t slot.serial v).answer
+done_by ran t slot v Writes own is = (record { run = own_run ran t slot own; origin = refl; serial = refl }, λ e. let below = is.2 in omega (arith, below))
+done_by ran t slot v Keeps own is = (record { run = own_run ran t slot own; origin = refl; serial = refl }, λ e. absurd (cc e))
+done_by ran t slot v Overtakes own is = tt
+done_by ran t slot v Ends own is = tt
 
-own_done : (ran : Ran) (t : Ticket) (slot : Slot) (c : Committed) (after : Slot) → IsOwnCommit ran t slot c after → AreDone ran t c
-own_done ran t slot c after w = subst (AreDone ran t) (sym w.1.answer) (done_by ran t slot w.1.comes_to w.0 w.1.is)
+own_done : (ran : Ran) (t : Ticket) (slot : Slot) (v : ObserverList) (c : Committed) (after : Slot) → IsOwnCommit ran t slot v c after → AreDone ran t c
+own_done ran t slot v c after w = subst (AreDone ran t) (sym w.1.answer) (done_by ran t slot v w.1.comes_to w.0 w.1.is)
 
-pub commit_done : (ran : Ran) (t : Ticket) (slot : Slot) (c : Committed) (after : Slot) → IsCommit ran t slot c after → AreDone ran t c
-commit_done ran t slot Stranger after w = tt
-commit_done ran t slot (Done m) after w = own_done ran t slot (Done m) after w
-commit_done ran t slot Overtaken after w = tt
-commit_done ran t slot Ended after w = tt
+pub commit_done : (ran : Ran) (t : Ticket) (slot : Slot) (v : ObserverList) (c : Committed) (after : Slot) → IsCommit ran t slot v c after → AreDone ran t c
+commit_done ran t slot v Stranger after w = tt
+commit_done ran t slot v (Done m) after w = own_done ran t slot v (Done m) after w
+commit_done ran t slot v Overtaken after w = tt
+commit_done ran t slot v Ended after w = tt
 
--- what is committed to the slot that gave the ticket
-pub record IsRow (t : Ticket) (slot : Slot) (c : Committed) (after : Slot) : Type 0 where
-  pub answer : c ≡ (commits (outcome t slot) t slot.serial).answer
-  pub after_is : after ≡ after_changes slot (commits (outcome t slot) t slot.serial).changes
+-- what is committed to the slot that gave the ticket, which has these observers
+pub record IsRow (t : Ticket) (slot : Slot) (v : ObserverList) (c : Committed) (after : Slot) : Type 0 where
+  pub answer : c ≡ (commits (outcome t slot) t slot.serial v).answer
+  pub after_is : after ≡ after_changes slot (commits (outcome t slot) t slot.serial v).changes
 
-own_row : (ran : Ran) (t : Ticket) (slot : Slot) (c : Committed) (after : Slot) → HasGiven slot t → IsOwnCommit ran t slot c after → IsRow t slot c after
-own_row ran t slot c after given w =
+own_row : (ran : Ran) (t : Ticket) (slot : Slot) (v : ObserverList) (c : Committed) (after : Slot) → HasGiven slot t → IsOwnCommit ran t slot v c after → IsRow t slot v c after
+own_row ran t slot v c after given w =
     let is = by_serials t slot w.1.comes_to given w.1.is in
     record {
-      answer = w.1.answer ∙ ap (λ (o : CommitOutcome). (commits o t slot.serial).answer) is;
-      after_is = w.1.after_is ∙ ap (λ (o : CommitOutcome). after_changes slot (commits o t slot.serial).changes) is;
+      answer = w.1.answer ∙ ap (λ (o : CommitOutcome). (commits o t slot.serial v).answer) is;
+      after_is = w.1.after_is ∙ ap (λ (o : CommitOutcome). after_changes slot (commits o t slot.serial v).changes) is;
     }
 
-pub commit_row : (ran : Ran) (t : Ticket) (slot : Slot) (c : Committed) (after : Slot) → ran.program ≡ t.found.program → ran.input.request ≡ t.request → ran.input.vars ≡ t.found.vars → HasGiven slot t → IsCommit ran t slot c after → IsRow t slot c after
-commit_row ran t slot Stranger after p r v given w = absurd (w.stranger (record { program = p; request = r; vars = v; serial = given.serial }))
-commit_row ran t slot (Done m) after p r v given w = own_row ran t slot (Done m) after given w
-commit_row ran t slot Overtaken after p r v given w = own_row ran t slot Overtaken after given w
-commit_row ran t slot Ended after p r v given w = own_row ran t slot Ended after given w
+pub commit_row : (ran : Ran) (t : Ticket) (slot : Slot) (v : ObserverList) (c : Committed) (after : Slot) → ran.program ≡ t.found.program → ran.input.request ≡ t.request → ran.input.vars ≡ t.found.vars → HasGiven slot t → IsCommit ran t slot v c after → IsRow t slot v c after
+commit_row ran t slot v Stranger after p r vars given w = absurd (w.stranger (record { program = p; request = r; vars = vars; serial = given.serial }))
+commit_row ran t slot v (Done m) after p r vars given w = own_row ran t slot v (Done m) after given w
+commit_row ran t slot v Overtaken after p r vars given w = own_row ran t slot v Overtaken after given w
+commit_row ran t slot v Ended after p r vars given w = own_row ran t slot v Ended after given w
 
 -- a commit that writes is at the ticket's serial
 writes_same : (w same below : Bool) → outcome_by w same below ≡ Writes → same ≡ true
@@ -65,14 +63,18 @@ pub writes_at : (t : Ticket) (slot : Slot) → outcome t slot ≡ Writes → slo
 writes_at t slot e = eqb-true slot.serial t.serial (writes_same (wants t) (slot.serial == t.serial) (nat_lt slot.serial last_serial) e)
 
 -- where the shard's answer leaves the job is the row's stage, and what it changed is the row's change
-pub stage_of_row : (o : CommitOutcome) (n : ℕ) (t : Ticket) (now serial : ℕ) → (o ≡ Writes → serial ≡ t.serial) → after_commit n t (commits o t serial).answer ≡ (committed o n t now).stage
-stage_of_row Writes n t now serial is = ap (λ (k : ℕ). ToRaise (head_word (k + 1) true) (run_content t false)) (is refl)
-stage_of_row Keeps n t now serial is = refl
-stage_of_row Overtakes n t now serial is = refl
-stage_of_row Ends n t now serial is = refl
+pub stage_of_row : (o : CommitOutcome) (n : ℕ) (t : Ticket) (now serial : ℕ) (ws : Around) → (o ≡ Writes → serial ≡ t.serial) → after_commit n t (commits o t serial ws.watch).answer ≡ (committed o n t now ws).stage
+stage_of_row Writes n t now serial ws is = ap (λ (k : ℕ). ToRaise (head_word (k + 1) true) (run_content t false)) (is refl)
+stage_of_row Keeps n t now serial ws is = refl
+stage_of_row Overtakes n t now serial ws is = refl
+stage_of_row Ends n t now serial ws is = refl
 
-pub shard_of_row : (o : CommitOutcome) (n : ℕ) (t : Ticket) (now : ℕ) (shard : Shard) → with_slot (record shard { now = max shard.now now }) t.origin.slot (after_changes (slot_in shard t.origin.slot) (commits o t (slot_in shard t.origin.slot).serial).changes) ≡ shard_moved (committed o n t now) t.origin.slot shard
-shard_of_row Writes n t now shard = refl
-shard_of_row Keeps n t now shard = refl
-shard_of_row Overtakes n t now shard = refl
-shard_of_row Ends n t now shard = refl
+-- a shard after a commit that is done at a slot, which left this there
+abbrev pub left_by : Ticket → ℕ → Shard → Committed → Slot → Shard
+left_by t now shard c after = with_calls (commit_calls c (max shard.now now) t) t.origin.slot (with_slot (record shard { now = max shard.now now }) t.origin.slot after)
+
+pub shard_of_row : (o : CommitOutcome) (n : ℕ) (t : Ticket) (now : ℕ) (shard : Shard) (words : List ℕ) → (let called = commits o t (slot_in shard t.origin.slot).serial (watch_at shard (t.origin.slot / 8)) in left_by t now shard called.answer (after_changes (slot_in shard t.origin.slot) called.changes)) ≡ shard_moved (committed o n t now (around_of shard words t.origin.slot)) t.origin.slot shard
+shard_of_row Writes n t now shard words = refl
+shard_of_row Keeps n t now shard words = refl
+shard_of_row Overtakes n t now shard words = refl
+shard_of_row Ends n t now shard words = refl

@@ -40,11 +40,11 @@ retaken_empties : (slot : Slot) (n : ℕ) (b : Bool) → IsEmptied slot (if b th
 retaken_empties slot n true e = absurd (cc e)
 retaken_empties slot n false e = absurd (cc e)
 
-committed_empties : (slot : Slot) (n : ℕ) (t : Ticket) (now : ℕ) (o : CommitOutcome) → IsEmptied slot (committed o n t now).stage
-committed_empties slot n t now Writes e = absurd (cc e)
-committed_empties slot n t now Keeps e = absurd (cc e)
-committed_empties slot n t now Overtakes e = retaken_empties slot n (nat_lt n 8) e
-committed_empties slot n t now Ends e = absurd (cc e)
+committed_empties : (slot : Slot) (n : ℕ) (t : Ticket) (now : ℕ) (ws : Around) (o : CommitOutcome) → IsEmptied slot (committed o n t now ws).stage
+committed_empties slot n t now ws Writes e = absurd (cc e)
+committed_empties slot n t now ws Keeps e = absurd (cc e)
+committed_empties slot n t now ws Overtakes e = retaken_empties slot n (nat_lt n 8) e
+committed_empties slot n t now ws Ends e = absurd (cc e)
 
 put_empties : (after slot : Slot) (p : Program) (b : Bool) → IsEmptied after (made (receipt_of p 0) (put_by b slot p).answer)
 put_empties after slot p true e = absurd (cc e)
@@ -86,7 +86,7 @@ next_empties slot false word seen e = absurd (cc e)
 
 row_empties : (e : Event) (job : Job) (slot : Slot) (ws : Around) (s : Stage) → answer_at (row e (at job slot ws s)).stage ≡ Some Deleted → (answer_at s ≡ Some Deleted) ⊎ ((after_changes slot (row e (at job slot ws s)).changes).present ≡ None)
 row_empties (Take k memory) job slot ws (ToTake n) e = inr (took_empties slot memory job slot.serial n slot.present e)
-row_empties (Commit k now) job slot ws (ToCommit n t) e = inr (committed_empties (after_changes slot (committed (outcome t slot) n t now).changes) n t now (outcome t slot) e)
+row_empties (Commit k now) job slot ws (ToCommit n t) e = inr (committed_empties (after_changes slot (committed (outcome t slot) n t now ws).changes) n t now ws (outcome t slot) e)
 row_empties (Install k memory) job slot ws ToInstall e = inr (verified_empties (after_changes slot (verified memory (at job slot ws ToInstall)).changes) memory (at job slot ws ToInstall) e)
 row_empties (Remove k) job slot ws ToRemove e = inr (clear_empties slot (nat_lt slot.serial last_serial) slot.present refl e)
 row_empties (Receipt k) job slot ws ToDescribe e = inr (told_empties slot slot.present e)

@@ -92,11 +92,11 @@ retaken_fits : (job : Job) (slot : Slot) (n : ℕ) (b : Bool) → nat_lt n 8 ≡
 retaken_fits job slot n true e = ltb-true n 8 e
 retaken_fits job slot n false e = tt
 
-committed_fits : (job : Job) (slot : Slot) (n : ℕ) (t : Ticket) (o : CommitOutcome) (now : ℕ) → t.origin ≡ job.origin → FitsStage job slot (committed o n t now).stage
-committed_fits job slot n t Writes now own = own
-committed_fits job slot n t Keeps now own = own
-committed_fits job slot n t Overtakes now own = retaken_fits job slot n (nat_lt n 8) refl
-committed_fits job slot n t Ends now own = tt
+committed_fits : (job : Job) (slot : Slot) (n : ℕ) (t : Ticket) (o : CommitOutcome) (now : ℕ) (ws : Around) → t.origin ≡ job.origin → FitsStage job slot (committed o n t now ws).stage
+committed_fits job slot n t Writes now ws own = own
+committed_fits job slot n t Keeps now ws own = own
+committed_fits job slot n t Overtakes now ws own = retaken_fits job slot n (nat_lt n 8) refl
+committed_fits job slot n t Ends now ws own = tt
 
 made_fits : (job : Job) (slot : Slot) (b : Bool) (p : Program) → FitsStage job slot (made (receipt_of p 0) (put_by b slot p).answer)
 made_fits job slot true p = tt
@@ -147,7 +147,7 @@ row_fits (Remove k) job slot ws ToRemove f = clear_fits job slot (nat_lt slot.se
 row_fits (Receipt k) job slot ws ToDescribe f = told_fits job slot (receipt_at slot.present)
 row_fits (Lose k) job slot ws s f = tt
 row_fits (Take k memory) job slot ws (ToTake n) f = took_fits memory job slot n slot.present refl f
-row_fits (Commits k now) job slot ws (ToCommit n t) f = committed_fits job slot n t (outcome t slot) now f.1.origin
+row_fits (Commits k now) job slot ws (ToCommit n t) f = committed_fits job slot n t (outcome t slot) now ws f.1.origin
 row_fits (Install k memory) job slot ws ToInstall f = verified_fits memory (at job slot ws ToInstall)
 row_fits (Raise k) job slot ws (ToRaise word content) f = f
 row_fits (Answer k now) job slot ws (ToAnswer content) f = tt
@@ -186,11 +186,11 @@ writes_link slot t g e =
       class = eqb-true (code_class (meaning_at t).code) 2 post.1;
     }
 
-commit_chain : (first : Slot) (cs : List Change) (n : ℕ) (t : Ticket) (now : ℕ) (o : CommitOutcome) → outcome t (after_changes first cs) ≡ o → HasGiven (after_changes first cs) t → IsChain first cs → IsChain first ((committed o n t now).changes ++ cs)
-commit_chain first cs n t now Writes e g chain = (writes_link (after_changes first cs) t g e, chain)
-commit_chain first cs n t now Keeps e g chain = chain
-commit_chain first cs n t now Overtakes e g chain = chain
-commit_chain first cs n t now Ends e g chain = chain
+commit_chain : (first : Slot) (cs : List Change) (n : ℕ) (t : Ticket) (now : ℕ) (ws : Around) (o : CommitOutcome) → outcome t (after_changes first cs) ≡ o → HasGiven (after_changes first cs) t → IsChain first cs → IsChain first ((committed o n t now ws).changes ++ cs)
+commit_chain first cs n t now ws Writes e g chain = (writes_link (after_changes first cs) t g e, chain)
+commit_chain first cs n t now ws Keeps e g chain = chain
+commit_chain first cs n t now ws Overtakes e g chain = chain
+commit_chain first cs n t now ws Ends e g chain = chain
 
 put_chain : (first : Slot) (cs : List Change) (b : Bool) (slot : Slot) (p : Program) → IsChain first cs → IsChain first ((put_by b slot p).changes ++ cs)
 put_chain first cs true slot p chain = chain
@@ -215,7 +215,7 @@ row_chain (Peek k n) job first cs ws ToMatch f chain = chain
 row_chain (Peek k n) job first cs ws (ToList seen) f chain = chain
 row_chain (Remove k) job first cs ws ToRemove f chain = clear_chain first cs (nat_lt (after_changes first cs).serial last_serial) (after_changes first cs).serial (after_changes first cs).present chain
 row_chain (Receipt k) job first cs ws ToDescribe f chain = chain
-row_chain (Commits k now) job first cs ws (ToCommit n t) f chain = commit_chain first cs n t now (outcome t (after_changes first cs)) refl f.1.given chain
+row_chain (Commits k now) job first cs ws (ToCommit n t) f chain = commit_chain first cs n t now ws (outcome t (after_changes first cs)) refl f.1.given chain
 row_chain (Install k memory) job first cs ws ToInstall f chain = verified_chain memory first cs (at job (after_changes first cs) ws ToInstall) chain
 row_chain (Take k memory) job first cs ws (ToTake n) f chain = chain
 row_chain (Raise k) job first cs ws (ToRaise word content) f chain = chain
@@ -239,11 +239,11 @@ written_fits job slot t within own e fits =
     let here : FitsPresent (record t.found { vars = (meaning_at t).vars }) = record { safe = found.safe; vars = runs.vars } in
     subst (λ (p : Option Present). FitsSlot (with_vars (meaning_at t).vars p)) (sym e) here
 
-commit_safe : (job : Job) (slot : Slot) (n : ℕ) (t : Ticket) (now : ℕ) (o : CommitOutcome) → outcome t slot ≡ o → AskWithin job.ask → IsTicketOf job slot t → FitsSlot slot.present → FitsSlot (after_changes slot (committed o n t now).changes).present
-commit_safe job slot n t now Writes e within own fits = written_fits job slot t within own (writes_found slot t own.given e) fits
-commit_safe job slot n t now Keeps e within own fits = fits
-commit_safe job slot n t now Overtakes e within own fits = fits
-commit_safe job slot n t now Ends e within own fits = fits
+commit_safe : (job : Job) (slot : Slot) (n : ℕ) (t : Ticket) (now : ℕ) (ws : Around) (o : CommitOutcome) → outcome t slot ≡ o → AskWithin job.ask → IsTicketOf job slot t → FitsSlot slot.present → FitsSlot (after_changes slot (committed o n t now ws).changes).present
+commit_safe job slot n t now ws Writes e within own fits = written_fits job slot t within own (writes_found slot t own.given e) fits
+commit_safe job slot n t now ws Keeps e within own fits = fits
+commit_safe job slot n t now ws Overtakes e within own fits = fits
+commit_safe job slot n t now ws Ends e within own fits = fits
 
 put_safe : (slot : Slot) (b : Bool) (p : Program) → AllSafe (put_by b slot p).changes → FitsSlot slot.present → FitsSlot (after_changes slot (put_by b slot p).changes).present
 put_safe slot true p safe fits = record { safe = safe.0; vars = length-replicate p.vars_size 0 }
@@ -268,7 +268,7 @@ row_safe (Peek k n) job slot ws ToMatch within f safe fits = fits
 row_safe (Peek k n) job slot ws (ToList seen) within f safe fits = fits
 row_safe (Remove k) job slot ws ToRemove within f safe fits = clear_safe slot (nat_lt slot.serial last_serial) slot.serial slot.present fits
 row_safe (Receipt k) job slot ws ToDescribe within f safe fits = fits
-row_safe (Commits k now) job slot ws (ToCommit n t) within f safe fits = commit_safe job slot n t now (outcome t slot) refl within f.1 fits
+row_safe (Commits k now) job slot ws (ToCommit n t) within f safe fits = commit_safe job slot n t now ws (outcome t slot) refl within f.1 fits
 row_safe (Install k memory) job slot ws ToInstall within f safe fits = verified_safe memory (at job slot ws ToInstall) safe fits
 row_safe (Take k memory) job slot ws (ToTake n) within f safe fits = fits
 row_safe (Raise k) job slot ws (ToRaise word content) within f safe fits = fits

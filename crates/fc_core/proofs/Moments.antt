@@ -35,11 +35,11 @@ moment_is_greatest (Then h r) = front_handed r.event (seen h) (moments_of h) (mo
 abbrev at : Job → Slot → Around → Stage → Scene
 at job slot ws stage = record { job = job; slot = slot; around = ws; stage = stage }
 
-committed_hands : (n : ℕ) (t : Ticket) (now : ℕ) (o : CommitOutcome) → (committed o n t now).hands ≡ Some now
-committed_hands n t now Writes = refl
-committed_hands n t now Keeps = refl
-committed_hands n t now Overtakes = refl
-committed_hands n t now Ends = refl
+committed_hands : (n : ℕ) (t : Ticket) (now : ℕ) (ws : Around) (o : CommitOutcome) → (committed o n t now ws).hands ≡ Some now
+committed_hands n t now ws Writes = refl
+committed_hands n t now ws Keeps = refl
+committed_hands n t now ws Overtakes = refl
+committed_hands n t now ws Ends = refl
 
 installed_hands : (j : Judgement) (slot : Slot) → (installed j slot).hands ≡ None
 installed_hands (Accepts p) slot = refl
@@ -51,7 +51,7 @@ verified_hands true s = installed_hands (judged (image_of s.job.ask)) s.slot
 verified_hands false s = refl
 
 row_handed : (e : Event) (job : Job) (slot : Slot) (ws : Around) (st : Stage) (m : ℕ) (ms : List ℕ) → m ≡ greatest ms → handed (row e (at job slot ws st)).hands m ≡ greatest (commit_moment e st ++ ms)
-row_handed (Commit k now) job slot ws (ToCommit n t) m ms is = ap (λ (o : Option ℕ). handed o m) (committed_hands n t now (outcome t slot)) ∙ ap (λ (x : ℕ). max x now) is
+row_handed (Commit k now) job slot ws (ToCommit n t) m ms is = ap (λ (o : Option ℕ). handed o m) (committed_hands n t now ws (outcome t slot)) ∙ ap (λ (x : ℕ). max x now) is
 row_handed (Install k memory) job slot ws ToInstall m ms is = ap (λ (o : Option ℕ). handed o m) (verified_hands memory (at job slot ws ToInstall)) ∙ is
 row_handed (Take k memory) job slot ws (ToTake n) m ms is = is
 row_handed (Raise k) job slot ws (ToRaise word content) m ms is = is

@@ -48,14 +48,14 @@ retaken_publishes : (after : Slot) (old : Stage) (n : ℕ) (b : Bool) → Publis
 retaken_publishes after old n true = tt
 retaken_publishes after old n false = tt
 
-committed_publishes : (job : Job) (slot : Slot) (n : ℕ) (t : Ticket) (now : ℕ) (o : CommitOutcome) → outcome t slot ≡ o → FitsStage job slot (ToCommit n t) → PublishesAt (after_changes slot (committed o n t now).changes) (ToCommit n t) (committed o n t now).stage
-committed_publishes job slot n t now Writes is f =
+committed_publishes : (job : Job) (slot : Slot) (n : ℕ) (t : Ticket) (now : ℕ) (ws : Around) (o : CommitOutcome) → outcome t slot ≡ o → FitsStage job slot (ToCommit n t) → PublishesAt (after_changes slot (committed o n t now ws).changes) (ToCommit n t) (committed o n t now ws).stage
+committed_publishes job slot n t now ws Writes is f =
     let same : slot.serial ≡ t.serial = writes_at t slot is in
     let found : slot.present ≡ Some t.found = writes_found slot t f.1.given is in
     inr (λ i. head_word (sym same i + 1) (is_some (with_vars (commit_of t).after (sym found i))))
-committed_publishes job slot n t now Keeps is f = tt
-committed_publishes job slot n t now Overtakes is f = retaken_publishes slot (ToCommit n t) n (nat_lt n 8)
-committed_publishes job slot n t now Ends is f = tt
+committed_publishes job slot n t now ws Keeps is f = tt
+committed_publishes job slot n t now ws Overtakes is f = retaken_publishes slot (ToCommit n t) n (nat_lt n 8)
+committed_publishes job slot n t now ws Ends is f = tt
 
 put_publishes : (slot : Slot) (p : Program) (b : Bool) → PublishesAt (after_changes slot (put_by b slot p).changes) ToInstall (made (receipt_of p 0) (put_by b slot p).answer)
 put_publishes slot p true = inr refl
@@ -93,7 +93,7 @@ next_publishes slot old false word seen = tt
 
 -- what a row leaves to raise is the word of the slot after its changes
 row_publishes : (e : Event) (job : Job) (slot : Slot) (ws : Around) (s : Stage) → FitsStage job slot s → PublishesAt (after_changes slot (row e (at job slot ws s)).changes) s (row e (at job slot ws s)).stage
-row_publishes (Commits k now) job slot ws (ToCommit n t) f = committed_publishes job slot n t now (outcome t slot) refl f
+row_publishes (Commits k now) job slot ws (ToCommit n t) f = committed_publishes job slot n t now ws (outcome t slot) refl f
 row_publishes (Install k memory) job slot ws ToInstall f = verified_publishes memory (at job slot ws ToInstall)
 row_publishes (Remove k) job slot ws ToRemove f = clear_publishes slot (nat_lt slot.serial last_serial) slot.present
 row_publishes (Take k memory) job slot ws (ToTake n) f = took_publishes slot (ToTake n) memory job slot.serial n slot.present

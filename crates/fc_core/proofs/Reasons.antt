@@ -14,7 +14,7 @@ use Rattle.fc_registry.specs.declared.job.Job.{Job}
 use Rattle.fc_registry.specs.declared.commit.CommitOutcome.{CommitOutcome}
 use Rattle.fc_registry.specs.declared.commit.CommitOutcome.TheVariants.{Writes, Keeps, Overtakes, Ends}
 use Rattle.fc_registry.specs.Slots.{Slot, Present, Ticket, last_serial}
-use Rattle.fc_registry.specs.Calls.{clear_by, outcome, outcome_by, put_by, receipt_at, receipt_of, taking, wants}
+use Rattle.fc_registry.specs.Calls.{is_observed, clear_by, outcome, outcome_by, put_by, receipt_at, receipt_of, taking, wants}
 use Rattle.fc_core.specs.declared.event.Event.{Event}
 use Rattle.fc_core.specs.declared.event.Event.TheVariants.{Peek, Take, Commit, Install, Remove, Receipt, Raise, Answer, Lose}
 use Rattle.fc_core.specs.declared.stage.Stage.{Stage}
@@ -86,16 +86,16 @@ module _ (k : ℕ) (job : Job) (slot : Slot) (ws : Around) (taken : ℕ) where
   outcome_writes true true true e = (refl, refl)
 
   -- a run's answer, where a run that wants to write may
-  ran_why : (now n : ℕ) (t : Ticket) (c : Content) → (wants t ≡ true → (slot.serial ≡ t.serial) × (slot.serial < last_serial)) → Answered (Commit k now) (ToCommit n t) (ToAnswer (run_content t false)) c
-  ran_why now n t c writes e = so (Commit k now) (ToCommit n t) (run_content t false) c (record { now = now; count = n; ticket = t; event = refl; is = refl; code = refl; cut = refl; serial = refl; writes = writes }) e
+  ran_why : (now n : ℕ) (t : Ticket) (observed : Bool) (c : Content) → (wants t ≡ true → (slot.serial ≡ t.serial) × (slot.serial < last_serial)) → Answered (Commit k now) (ToCommit n t) (ToAnswer (run_content t observed)) c
+  ran_why now n t observed c writes e = so (Commit k now) (ToCommit n t) (run_content t observed) c (record { now = now; count = n; ticket = t; event = refl; is = refl; code = refl; cut = refl; serial = refl; writes = writes }) e
 
-  committed_why : (now n : ℕ) (t : Ticket) (o : CommitOutcome) (c : Content) → taken ≡ n → n ≤ 8 → outcome t slot ≡ o → Answered (Commit k now) (ToCommit n t) (committed o n t now).stage c
+  committed_why : (now n : ℕ) (t : Ticket) (o : CommitOutcome) (c : Content) → taken ≡ n → n ≤ 8 → outcome t slot ≡ o → Answered (Commit k now) (ToCommit n t) (committed o n t now ws).stage c
   committed_why now n t Writes c is le comes e =
       let tests = outcome_writes (wants t) (slot.serial == t.serial) (nat_lt slot.serial last_serial) comes in
-      ran_why now n t c (λ w. (eqb-true slot.serial t.serial tests.0, ltb-true slot.serial last_serial tests.1)) e
+      ran_why now n t false c (λ w. (eqb-true slot.serial t.serial tests.0, ltb-true slot.serial last_serial tests.1)) e
   committed_why now n t Keeps c is le comes e =
       let keeps = outcome_keeps (wants t) (slot.serial == t.serial) (nat_lt slot.serial last_serial) comes in
-      ran_why now n t c (λ w. absurd (cc (keeps, w))) e
+      ran_why now n t (is_observed t ws.watch) c (λ w. absurd (cc (keeps, w))) e
   committed_why now n t Overtakes c is le comes e = retaken_why now n t (nat_lt n 8) c refl is le comes e
   committed_why now n t Ends c is le comes e =
       let tests = outcome_ends (wants t) (slot.serial == t.serial) (nat_lt slot.serial last_serial) comes in

@@ -3,7 +3,6 @@ use Rattle.std.proofs.Common.{◌≡◌, ℕ, [], ◌++◌, set, Bool, true, fal
 use Rattle.std.specs.Prelude.{◌==◌, ◌%◌, length, not, List}
 use Rattle.std.proofs.lemmas.List.{append-nil, set-get_or}
 use Rattle.coap_msg.specs.declared.types.Emission.{Emission}
-use Rattle.fc_observe.specs.Calls.{ObserverCall}
 use Rattle.fc_registry.specs.declared.job.Job.{Job}
 use Rattle.fc_registry.specs.Slots.{Slot}
 use Rattle.fc_core.specs.declared.event.Event.{Event}
@@ -14,7 +13,7 @@ use Rattle.fc_core.specs.Contents.{Content}
 use Rattle.fc_core.specs.Stages.{Around, Move, Scene, content_at, handed, task_moved, moves, names, peeked_next, peeked_own, row, words_after}
 use Rattle.fc_core.specs.Heads.{word_at}
 use Rattle.arrayvec.specs.ArrayVec.{ArrayVec}
-use Rattle.fc_core.specs.History.{Entry, Seen, added_in, and_then, calls_in, changes_after, did, exchanges_after, ids_after, job, moment_after, no_task, scene, shard_hands, shard_moment_after, stage, task_at, tasks_brought, tasks_moved, words_seen}
+use Rattle.fc_core.specs.History.{Entry, Seen, added_in, and_then, calls_in, calls_named, changes_after, did, exchanges_after, ids_after, job, moment_after, no_task, scene, shard_hands, shard_moment_after, stage, task_at, tasks_brought, tasks_moved, words_seen}
 use Rattle.coap_block.specs.Transfers.{Addition}
 use Rattle.fc_core.specs.Laws.{is_stray, is_stray_at}
 use Rattle.fc_core.specs.Legal.{Emits, AnswerEmits}
@@ -61,6 +60,13 @@ module _ (s : Seen) (e : Event) (k : ℕ) (still : row e (scene s k) ≡ moves (
   changes_still : (n : ℕ) → changes_after (Some k) e s n ≡ s.changes n
   changes_still n = changes_if n ((job s k).origin.slot == n)
 
+  calls_if : (n : ℕ) (b : Bool) → (if b then (row e (scene s k)).calls else []) ++ s.calls n ≡ s.calls n
+  calls_if n true = ap (λ (m : Move). m.calls ++ s.calls n) still
+  calls_if n false = refl
+
+  calls_still : (n : ℕ) → calls_named (Some k) e s n ++ s.calls n ≡ s.calls n
+  calls_still n = calls_if n ((job s k).origin.slot == n)
+
   shard_if : (i : ℕ) (b : Bool) → (if b then handed (row e (scene s k)).hands (s.shard_moment i) else s.shard_moment i) ≡ s.shard_moment i
   shard_if i true = ap (λ (m : Move). handed m.hands (s.shard_moment i)) still
   shard_if i false = refl
@@ -82,7 +88,7 @@ named_still s e o k is stray m x p d b g q =
     ((λ i. tasks_moved (is i) e s ++ b i) ∙ (append-nil (tasks_moved (Some k) e s) ∙ tasks_still s e k still))
     (λ n. (λ i. changes_after (is i) e s n) ∙ changes_still s e k still n)
     (λ n. (λ i. handed (g n i) (shard_moment_after (is i) e s n)) ∙ shard_still s e k still n)
-    (λ n. ap (λ (l : List ObserverCall). l ++ s.calls n) (q n))
+    (λ n. (λ i. calls_named (is i) e s n ++ (q n i ++ s.calls n)) ∙ calls_still s e k still n)
     ((λ i. words_seen (is i) e s) ∙ words_still s e k still)
 
 unnamed_still : (s : Seen) (e : Event) (o : Option Emission) → names e ≡ None → moment_after e s ≡ s.moment → exchanges_after e o s ≡ s.exchanges → added_in e s ≡ [] → ids_after e s ≡ s.ids → tasks_brought e s ≡ [] → ((i : ℕ) → shard_hands e i ≡ None) → ((n : ℕ) → calls_in e s n ≡ []) → and_then (did e o) s ≡ s
@@ -90,7 +96,7 @@ unnamed_still s e o is m x p d b g q = all_same (and_then (did e o) s) s refl m 
     ((λ i. tasks_moved (is i) e s ++ b i) ∙ append-nil s.tasks)
     (λ n. λ i. changes_after (is i) e s n)
     (λ n. λ i. handed (g n i) (shard_moment_after (is i) e s n))
-    (λ n. ap (λ (l : List ObserverCall). l ++ s.calls n) (q n))
+    (λ n. λ i. calls_named (is i) e s n ++ (q n i ++ s.calls n))
     (λ i. words_seen (is i) e s)
 
 stray_still : (e : Event) (o : Option Emission) (s : Seen) → is_stray s e ≡ true → and_then (did e o) s ≡ s

@@ -15,7 +15,7 @@ use Rattle.fc_registry.specs.declared.commit.CommitOutcome.TheVariants.{Writes, 
 use Rattle.fc_registry.specs.Slots.{Slot, Present, Ticket, last_serial}
 use Rattle.fc_registry.specs.Changes.{Change}
 use Rattle.fc_registry.specs.declared.receipt.Receipt.{Receipt as Facts}
-use Rattle.fc_registry.specs.Calls.{clear_by, meaning_at, outcome, outcome_by, put_by, receipt_at, receipt_of, taking, wants}
+use Rattle.fc_registry.specs.Calls.{is_observed, clear_by, meaning_at, outcome, outcome_by, put_by, receipt_at, receipt_of, taking, wants}
 use Rattle.fc_core.specs.declared.event.Event.{Event}
 use Rattle.fc_core.specs.declared.event.Event.TheVariants.{Peek, Take, Commit, Install, Remove, Receipt, Raise, Answer, Lose}
 use Rattle.fc_core.specs.declared.stage.Stage.{Stage}
@@ -75,11 +75,11 @@ newest_says : (ts : List Taking) (t : Ticket) (observed : Bool) → IsNewest ts 
 newest_says [] t observed e = e
 newest_says (x ∷ xs) t observed e = (ap (λ (y : Ticket). (meaning_at y).code) (sym e), ap (λ (y : Ticket). cut_for y.block (meaning_at y).reply) (sym e), ap (λ (y : Ticket). y.serial) (sym e))
 
-committed_took : (n : ℕ) (ts : List Taking) (t : Ticket) (now : ℕ) (o : CommitOutcome) → length ts ≡ n → n ≤ 8 → IsNewest ts t → Took ts (committed o n t now).stage
-committed_took n ts t now Writes is le e = (omega arith, newest_says ts t false e)
-committed_took n ts t now Keeps is le e = (omega arith, newest_says ts t false e)
-committed_took n ts t now Overtakes is le e = retaken_took n ts (nat_lt n 8) refl is le
-committed_took n ts t now Ends is le e = (omega arith, tt)
+committed_took : (n : ℕ) (ts : List Taking) (t : Ticket) (now : ℕ) (ws : Around) (o : CommitOutcome) → length ts ≡ n → n ≤ 8 → IsNewest ts t → Took ts (committed o n t now ws).stage
+committed_took n ts t now ws Writes is le e = (omega arith, newest_says ts t false e)
+committed_took n ts t now ws Keeps is le e = (omega arith, newest_says ts t (is_observed t ws.watch) e)
+committed_took n ts t now ws Overtakes is le e = retaken_took n ts (nat_lt n 8) refl is le
+committed_took n ts t now ws Ends is le e = (omega arith, tt)
 
 made_took : (b : Bool) (p : Program) (slot : Slot) (ts : List Taking) → length ts ≤ 8 → Took ts (made (receipt_of p 0) (put_by b slot p).answer)
 made_took true p slot ts le = (le, tt)
@@ -130,7 +130,7 @@ row_took (Receipt k) job slot cs ws ToDescribe ts f = told_took (receipt_at slot
 row_took (Take k memory) job slot cs ws (ToTake n) ts f = taking_took memory k job slot cs n ts slot.present refl f.0 f.1
 row_took (Take k true) job slot cs ws other ts f = f
 row_took (Take k false) job slot cs ws other ts f = f
-row_took (Commit k now) job slot cs ws (ToCommit n t) ts f = committed_took n ts t now (outcome t slot) f.0 f.1 f.2
+row_took (Commit k now) job slot cs ws (ToCommit n t) ts f = committed_took n ts t now ws (outcome t slot) f.0 f.1 f.2
 row_took (Install k memory) job slot cs ws ToInstall ts f = verified_took memory (at job slot ws ToInstall) ts f
 row_took (Raise k) job slot cs ws (ToRaise word content) ts f = f
 row_took (Answer k now) job slot cs ws (ToAnswer content) ts f = f.0
@@ -198,7 +198,7 @@ overtaken_stage : (s : Seen) (k now : ℕ) (o : Option Emission) (w : IsOvertake
 overtaken_stage s k now o w =
     named_stage (committing k now o) s k (is_here s k (ToCommit w.count w.ticket) w.at (λ gone. absurd (cc gone))) refl
     ∙ (ap (λ (x : Stage). (row (Commit k now) (at (job s k) (slot_at s (slot_of s k)) (around s (slot_of s k)) x)).stage) w.at
-    ∙ ap (λ (x : CommitOutcome). (committed x w.count w.ticket now).stage) (overtaken_outcome w.ticket (slot_at s (slot_of s k)) w.wants w.other))
+    ∙ ap (λ (x : CommitOutcome). (committed x w.count w.ticket now (around s (slot_of s k))).stage) (overtaken_outcome w.ticket (slot_at s (slot_of s k)) w.wants w.other))
 
 taken_so_far : (h : History) (k : ℕ) (w : IsOvertaken (seen h) k) → length (takings_of h k) ≡ w.count
 taken_so_far h k w = (subst (Took (takings_of h k)) w.at (known h k)).0

@@ -4,11 +4,16 @@ use Rattle.std.specs.Prelude.{◌==◌}
 use Rattle.std.proofs.lemmas.Bool.{eq-eqb, ne_eqb}
 use Rattle.coap_msg.specs.declared.types.Emission.{Emission}
 use Rattle.coap_msg.specs.declared.types.Endpoint.{Endpoint}
-use Rattle.fc_observe.specs.Calls.{ObserverCall, Tick as TickObservers, observers, observers_after}
+use Rattle.fc_observe.specs.Calls.{ObserverCall, Tick as TickObservers, after_calls, observers, observers_after}
 use Rattle.fc_observe.specs.Observers.{after_ack, after_reset, after_tick, at_moment}
 use Rattle.fc_registry.specs.Watches.{signal_call}
 use Rattle.fc_core.specs.declared.event.Event.TheVariants.{Signal, ShardTick}
 use Rattle.fc_core.specs.History.{Seen, and_then, did, is_place_of, late_in, watch}
+
+-- the observers after more calls
+pub after_append : (n : ℕ) (cs ds : List ObserverCall) → observers n (cs ++ ds) ≡ after_calls cs (observers n ds)
+after_append n [] ds = refl
+after_append n (c ∷ cs) ds = ap (observers_after c) (after_append n cs ds)
 
 -- a call on the observers, or none
 called : (s : Seen) (n : ℕ) (c : ObserverCall) (b d : Bool) → b ≡ d → observers n ((if b then c ∷ [] else []) ++ s.calls n) ≡ observers n ((if d then c ∷ [] else []) ++ s.calls n)

@@ -186,7 +186,7 @@ abbrev pub is_place_of : Option ℕ → ℕ → ℕ → Bool
 is_place_of None i n = false
 is_place_of (Some k) i n = (8 * k + i) == n
 
--- what an event calls on the observers of slot n: a signal is for all of its shard, a tick for the first with a late notification
+-- what an event of a shard calls on the observers of slot n: a signal is for all of its shard, a tick for the first with a late notification
 abbrev pub calls_in : Event → Seen → ℕ → List ObserverCall
 calls_in (Signal shard to id reset) s n = if (n % 8) == shard then signal_call reset to id ∷ [] else []
 calls_in (ShardTick shard now) s n =
@@ -194,6 +194,11 @@ calls_in (ShardTick shard now) s n =
     then TickObservers (max (s.shard_moment shard) now) ∷ []
     else []
 calls_in other s n = []
+
+-- what an event calls on the observers of the slot of the job that it names
+abbrev pub calls_named : Option ℕ → Event → Seen → ℕ → List ObserverCall
+calls_named None e s n = []
+calls_named (Some k) e s n = if (job s k).origin.slot == n then (row e (scene s k)).calls else []
 
 -- ---- the fold
 
@@ -207,7 +212,7 @@ and_then r s = record {
   tasks = tasks_moved (names r.event) r.event s ++ tasks_brought r.event s;
   changes = λ n. changes_after (names r.event) r.event s n;
   shard_moment = λ i. handed (shard_hands r.event i) (shard_moment_after (names r.event) r.event s i);
-  calls = λ n. calls_in r.event s n ++ s.calls n;
+  calls = λ n. calls_named (names r.event) r.event s n ++ (calls_in r.event s n ++ s.calls n);
   words = words_seen (names r.event) r.event s;
 }
 

@@ -1,5 +1,5 @@
 -- What a datagram is to a front: it is classified once, and what it opens, brings, draws and sends follow from that.
-use Rattle.std.specs.Prelude.{ℕ, ◌+◌, ◌<◌, ◌≤◌, Bool, true, false, List, [], ◌∷◌, ◌++◌, length, map, Option, Some, None, Result, Ok, Err}
+use Rattle.std.specs.Prelude.{ℕ, ◌+◌, ◌<◌, ◌≤◌, ◌||◌, Bool, true, false, List, [], ◌∷◌, ◌++◌, length, map, Option, Some, None, Result, Ok, Err}
 use Rattle.coap_msg.specs.declared.types.Bad.{Bad}
 use Rattle.coap_msg.specs.declared.types.Bad.TheVariants as bad
 use Rattle.coap_msg.specs.declared.types.Endpoint.{Endpoint}
@@ -27,6 +27,8 @@ use Rattle.fc_registry.specs.declared.job.Opening.{Opening}
 use Rattle.fc_registry.specs.declared.job.Ask.{Ask}
 use Rattle.fc_registry.specs.declared.job.Ask.TheVariants.{Run, Install, Remove, Describe, Discover}
 use Rattle.fc_registry.specs.declared.job.Job.{Job}
+use Rattle.fc_registry.specs.declared.observe.TheConstants as observe
+use Rattle.fc_registry.specs.Calls.{has_observe}
 use Rattle.fc_core.specs.declared.front.Delivered.{Delivered}
 use Rattle.fc_core.specs.declared.front.Delivered.TheVariants.{Nothing, Reply, Job as Brings, Signal}
 use Rattle.fc_core.specs.declared.front.Heard.{Heard}
@@ -133,12 +135,21 @@ abbrev pub named_block : Option Place → Option Place → Option Place
 named_block (Some sent) asked = Some sent
 named_block None asked = asked
 
+-- a request that registers or cancels (RFC 7641, 2)
+abbrev pub observes : Option ℕ → Bool
+observes option = has_observe observe.REGISTER option || has_observe observe.CANCEL option
+
+-- it is answered by a run, whatever its client has
+abbrev pub etags_by : Bool → List ℕ → List ℕ
+etags_by true etags = []
+etags_by false etags = etags
+
 abbrev pub job_of : Opening → Endpoint → Message → Asked → List ℕ → Job
 job_of opening to m r body = record {
   origin = record { opening = opening; endpoint = to; id = m.id; slot = slot_of_resource r.resource };
   confirmable = is_confirmable m.kind;
   token = record { items = m.token };
-  etags = record { items = r.etags };
+  etags = record { items = etags_by (observes r.observe) r.etags };
   block = named_block r.block1 r.block2;
   observe = r.observe;
   ask = ask_by r.method r.resource r body;

@@ -3,6 +3,7 @@ use Rattle.std.specs.Prelude.{◌≡◌, ℕ, ◌+◌, ◌/◌, ◌==◌, Bool, 
 use Rattle.arrayvec.specs.ArrayVec.{ArrayVec}
 use Rattle.fc_verify.specs.Accepted.{Judgement, Accepts, Breaks, Untypable}
 use Rattle.fc_verify.specs.Judged.{judged}
+use Rattle.fc_observe.specs.Calls.{ObserverCall}
 use Rattle.fc_observe.specs.Observers.{ObserverList}
 use Rattle.fc_registry.specs.declared.job.Ask.{Ask}
 use Rattle.fc_registry.specs.declared.job.Ask.TheVariants.{Run, Install as Installs, Remove as Removes, Describe, Discover}
@@ -18,10 +19,10 @@ use Rattle.fc_registry.specs.declared.commit.Committed.{Committed}
 use Rattle.fc_registry.specs.declared.commit.Committed.TheVariants.{Done, Overtaken, Ended, Stranger}
 use Rattle.fc_registry.specs.Slots.{Slot, Shard, Ticket, slot_in, with_slot}
 use Rattle.fc_registry.specs.Changes.{Change, Committed as Wrote, after_changes}
-use Rattle.fc_registry.specs.Watches.{watch_at}
+use Rattle.fc_registry.specs.Watches.{watch_at, with_calls}
 use Rattle.fc_registry.specs.declared.commit.CommitOutcome.{CommitOutcome}
 use Rattle.fc_registry.specs.declared.commit.CommitOutcome.TheVariants.{Writes, Keeps, Overtakes, Ends}
-use Rattle.fc_registry.specs.Calls.{taking, install_in, remove_from, receipt_at, receipt_of, outcome, commit_of, meaning_at}
+use Rattle.fc_registry.specs.Calls.{taking, install_in, remove_from, receipt_at, receipt_of, outcome, commit_of, is_observed, meaning_at, observe_calls}
 use Rattle.fc_core.specs.Contents.{Content, Ran, run_answer, Missing as Misses, Unavailable, Made as Makes, Rejected, Untyped, Valid, Deleted, Described, Listed}
 use Rattle.fc_core.specs.Heads.{head_word, is_match, published, serial_in, word_at}
 use Rattle.fc_core.specs.declared.event.Event.{Event}
@@ -123,29 +124,31 @@ pub record Scene : Type 0 where
   pub around : Around
   pub stage : Stage
 
--- where it leaves the job, the changes of the job's slot, the newest first, the moment that it hands to the slot's shard, and
--- the head word that it raises the slot's to
+-- where it leaves the job, the changes of the job's slot and the calls on the slot's observers, the newest first, the moment
+-- that it hands to the slot's shard, and the head word that it raises the slot's to
 pub record Move : Type 0 where
   pub stage : Stage
   pub changes : List Change
+  pub calls : List ObserverCall
   pub hands : Option ℕ
   pub raises : Option ℕ
 
 abbrev pub moves : Stage → Move
-moves stage = record { stage = stage; changes = []; hands = None; raises = None }
+moves stage = record { stage = stage; changes = []; calls = []; hands = None; raises = None }
 
 -- of a call on the job's slot
 abbrev pub moves_by : Stage → List Change → Move
-moves_by stage changes = record { stage = stage; changes = changes; hands = None; raises = None }
+moves_by stage changes = record { stage = stage; changes = changes; calls = []; hands = None; raises = None }
 
 abbrev pub taken : Bool → ℕ → Scene → Move
 taken memory count s = moves (took count (taking memory s.job s.slot.serial s.slot.present))
 
-abbrev pub committed : CommitOutcome → ℕ → Ticket → ℕ → Move
-committed Writes count t now = record (moves_by (ToRaise (head_word (t.serial + 1) true) (run_content t false)) (Wrote (commit_of t) ∷ [])) { hands = Some now }
-committed Keeps count t now = record (moves (ToAnswer (run_content t false))) { hands = Some now }
-committed Overtakes count t now = record (moves (retaken count)) { hands = Some now }
-committed Ends count t now = record (moves (ToAnswer Unavailable)) { hands = Some now }
+-- a run that has nothing to write registers or removes its client as an observer, where its request asks for that
+abbrev pub committed : CommitOutcome → ℕ → Ticket → ℕ → Around → Move
+committed Writes count t now around = record (moves_by (ToRaise (head_word (t.serial + 1) true) (run_content t false)) (Wrote (commit_of t) ∷ [])) { hands = Some now }
+committed Keeps count t now around = record (moves (ToAnswer (run_content t (is_observed t around.watch)))) { calls = observe_calls (max around.moment now) t; hands = Some now }
+committed Overtakes count t now around = record (moves (retaken count)) { hands = Some now }
+committed Ends count t now around = record (moves (ToAnswer Unavailable)) { hands = Some now }
 
 abbrev pub installed : Judgement → Slot → Move
 installed (Accepts p) slot = moves_by (made (receipt_of p 0) (install_in slot p).answer) (install_in slot p).changes
@@ -181,7 +184,7 @@ at_take memory s (ToTake count) = taken memory count s
 at_take memory s other = moves other
 
 abbrev pub at_commit : ℕ → Scene → Stage → Move
-at_commit now s (ToCommit count t) = committed (outcome t s.slot) count t now
+at_commit now s (ToCommit count t) = committed (outcome t s.slot) count t now s.around
 at_commit now s other = moves other
 
 abbrev pub at_install : Bool → Scene → Stage → Move
@@ -235,8 +238,8 @@ abbrev pub scene_of : Shard → List ℕ → Task → Scene
 scene_of shard words task = scene_at task (slot_in shard task.job.origin.slot) (around_of shard words task.job.origin.slot)
 
 -- the move of a commit of this ticket at a shard
-abbrev pub commit_move : Shard → ℕ → Ticket → ℕ → Move
-commit_move shard count t now = committed (outcome t (slot_in shard t.origin.slot)) count t now
+abbrev pub commit_move : Shard → List ℕ → ℕ → Ticket → ℕ → Move
+commit_move shard words count t now = committed (outcome t (slot_in shard t.origin.slot)) count t now (around_of shard words t.origin.slot)
 
 abbrev pub task_moved : Task → Move → Task
 task_moved task m = record { job = task.job; stage = m.stage }
@@ -247,7 +250,7 @@ handed (Some now) before = max before now
 
 -- the shard after a move of a job of slot n
 abbrev pub shard_moved : Move → ℕ → Shard → Shard
-shard_moved m n shard = with_slot (record shard { now = handed m.hands shard.now }) n (after_changes (slot_in shard n) m.changes)
+shard_moved m n shard = with_calls m.calls n (with_slot (record shard { now = handed m.hands shard.now }) n (after_changes (slot_in shard n) m.changes))
 
 -- a shard after a move of this task
 abbrev pub shard_after : Move → Task → Shard → Shard

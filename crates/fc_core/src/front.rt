@@ -10,7 +10,7 @@ ghost use Rattle.fc_core.specs.Exchanges.{advanced, first_front, front_expired, 
 ghost use Rattle.fc_core.specs.Ids.{drawn_for, free_id};
 ghost use Rattle.coap_block.specs.Transfers.{after_addition};
 ghost use Rattle.coap_block.specs.Views.{add_seen};
-ghost use Rattle.fc_core.specs.Receiving.{add_in, addition_of, after_delivered, after_received, ask_by, emission_if, handed_on, heard, heard_if, id_in, is_confirmable, job_of, look_in, next_opening, opening_for, received_as, reply_or_nothing, request_asked, request_received, settled_front, told};
+ghost use Rattle.fc_core.specs.Receiving.{add_in, addition_of, after_delivered, after_received, ask_by, emission_if, etags_by, handed_on, heard, heard_if, id_in, is_confirmable, job_of, look_in, next_opening, observes, opening_for, received_as, reply_or_nothing, request_asked, request_received, settled_front, told};
 ghost use Rattle.fc_core.specs.Receiving as receiving;
 ghost use Rattle.coap_reply.specs.Responses.{reset_of, settled_by};
 
@@ -29,7 +29,7 @@ use coap_opts::request::ETAGS;
 use coap_opts::{Block, Classified, Method, Request, Resource, classify};
 use coap_reply::reset;
 use fc_help::Method as Verb;
-use fc_registry::{Ask, Job, Opening, Origin, SlotNumber};
+use fc_registry::{Ask, CANCEL, Job, Opening, Origin, REGISTER, SlotNumber, has_observe};
 use std::alloc::{AllocError, Global};
 use std::marker::Model;
 
@@ -566,11 +566,20 @@ fn write_token(token: &mut Token, message: &Message<'_>)
     let _fits = token.try_extend_from_slice(message.token());
 }
 
+// A request that registers or cancels needs its run.
 fn write_etags(etags: &mut ArrayVec<u64, ETAGS>, request: &Request<'_>)
-    ensures { etags.new.items ≡ request.now.etags.items }
+    ensures { etags.new.items ≡ etags_by (observes request.now.observe) request.now.etags.items }
 {
     etags.clear();
-    let _fits = etags.try_extend_from_slice(request.etags.as_slice());
+    if !observes(request.observe) {
+        let _fits = etags.try_extend_from_slice(request.etags.as_slice());
+    }
+}
+
+fn observes(option: Option<u32>) -> bool
+    ensures { result ≡ observes option }
+{
+    has_observe(REGISTER, option) || has_observe(CANCEL, option)
 }
 
 fn slot_named(resource: Resource) -> u8

@@ -414,8 +414,9 @@ fn run_and_commit(
 ) -> Stage
     requires owned { IsOwned shard.old ticket.now.origin.slot }
     requires given { HasGiven (slot_in shard.old ticket.now.origin.slot) ticket.now }
-    ensures stage { result ≡ (commit_move shard.old count ticket.now now).stage }
-    ensures shard { shard.new ≡ shard_moved (commit_move shard.old count ticket.now now) ticket.now.origin.slot shard.old }
+    ensures stage { (words : List ℕ) → result ≡ (commit_move shard.old words count ticket.now now).stage }
+    ensures shard { (words : List ℕ) →
+        shard.new ≡ shard_moved (commit_move shard.old words count ticket.now now) ticket.now.origin.slot shard.old }
 {
     let outcome = run(frame, ticket.program(), ticket.request(), ticket.vars());
     let committed = shard.commit(now, &outcome, ticket);

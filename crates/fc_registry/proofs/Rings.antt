@@ -1,5 +1,5 @@
 -- The ring of a slot after a change.
-use Rattle.std.proofs.Common.{◌≡◌, ℕ, ◌+◌, ◌-◌, ◌<◌, ◌≤◌, List, [], ◌∷◌, ◌++◌, length, map, set, get_or, drop, replicate, Bool, true, false, if◌then◌else◌, Option, Some, None, refl, sym, ap, ◌∙◌, subst, arith, ⊎_elim, length-append}
+use Rattle.std.proofs.Common.{◌≡◌, ℕ, ◌+◌, ◌-◌, ◌<◌, ◌≤◌, List, [], ◌∷◌, ◌++◌, length, map, set, get_or, drop, replicate, Bool, true, false, Option, Some, None, refl, sym, ap, ◌∙◌, subst, arith, ⊎_elim, length-append}
 use Rattle.std.specs.Prelude.{nat_lt, ◌==◌, ◌&&◌}
 use Rattle.std.specs.List.{All}
 use Rattle.std.proofs.lemmas.Bool.{cases_lt, cases_eq, eqb-true}
@@ -7,6 +7,7 @@ use Rattle.std.proofs.lemmas.List.{get_or-set_same, get_or-set_other, get_or-map
 use Rattle.circular_buffer.specs.Buffer.{keep_last}
 use Rattle.fc_kinds.specs.Meaning.{Program, input_with, meant}
 use Rattle.fc_machine.specs.Ran.{Ran}
+use Rattle.fc_observe.specs.Observers.{ObserverList}
 use Rattle.fc_registry.specs.declared.shard.SlotState.{SlotState}
 use Rattle.fc_registry.specs.declared.commit.Committed.{Committed as Answer}
 use Rattle.fc_registry.specs.declared.commit.Committed.TheVariants.{Done, Overtaken, Ended, Stranger}
@@ -131,20 +132,20 @@ commit_link slot t w current =
     wants_post Post b e = (refl, e)
 
 -- what a commit leaves is a ring again
-ring_by : (t : Ticket) (slot : Slot) (o : CommitOutcome) → ComesTo t slot o → IsRing slot → IsRing (after_changes slot (commits o t slot.serial).changes)
-ring_by t slot Writes w h = ring_committed slot (commit_of t) (commit_link slot t w.0 w.1) h
-ring_by t slot Keeps w h = h
-ring_by t slot Overtakes w h = h
-ring_by t slot Ends w h = h
+ring_by : (t : Ticket) (slot : Slot) (v : ObserverList) (o : CommitOutcome) → ComesTo t slot o → IsRing slot → IsRing (after_changes slot (commits o t slot.serial v).changes)
+ring_by t slot v Writes w h = ring_committed slot (commit_of t) (commit_link slot t w.0 w.1) h
+ring_by t slot v Keeps w h = h
+ring_by t slot v Overtakes w h = h
+ring_by t slot v Ends w h = h
 
-own_kept : (ran : Ran) (t : Ticket) (slot : Slot) (c : Answer) (after : Slot) → IsOwnCommit ran t slot c after → IsRing slot → IsRing after
-own_kept ran t slot c after w h = subst IsRing (sym w.1.after_is) (ring_by t slot w.1.comes_to w.1.is h)
+own_kept : (ran : Ran) (t : Ticket) (slot : Slot) (v : ObserverList) (c : Answer) (after : Slot) → IsOwnCommit ran t slot v c after → IsRing slot → IsRing after
+own_kept ran t slot v c after w h = subst IsRing (sym w.1.after_is) (ring_by t slot v w.1.comes_to w.1.is h)
 
-pub ring_kept : (ran : Ran) (t : Ticket) (slot : Slot) (c : Answer) (after : Slot) → IsCommit ran t slot c after → IsRing slot → IsRing after
-ring_kept ran t slot Stranger after w h = subst IsRing (sym w.after_is) h
-ring_kept ran t slot (Done m) after w h = own_kept ran t slot (Done m) after w h
-ring_kept ran t slot Overtaken after w h = own_kept ran t slot Overtaken after w h
-ring_kept ran t slot Ended after w h = own_kept ran t slot Ended after w h
+pub ring_kept : (ran : Ran) (t : Ticket) (slot : Slot) (v : ObserverList) (c : Answer) (after : Slot) → IsCommit ran t slot v c after → IsRing slot → IsRing after
+ring_kept ran t slot v Stranger after w h = subst IsRing (sym w.after_is) h
+ring_kept ran t slot v (Done m) after w h = own_kept ran t slot v (Done m) after w h
+ring_kept ran t slot v Overtaken after w h = own_kept ran t slot v Overtaken after w h
+ring_kept ran t slot v Ended after w h = own_kept ran t slot v Ended after w h
 
 put_ring_by : (slot : Slot) (p : Program) (b : Bool) → IsRing slot → IsRing (after_changes slot (put_by b slot p).changes)
 put_ring_by slot p true h = ring_installed slot p

@@ -1,10 +1,12 @@
 -- A read of one slot's state and a write to it, as a shard is seen.
-use Rattle.std.proofs.Common.{◌≡◌, ℕ, ◌<◌, List, length, map, set, get_or, sym, ap, ◌∙◌, arith}
-use Rattle.std.proofs.lemmas.List.{map-set, get_or-map}
-use Rattle.fc_observe.specs.Observers.{ObserverList}
+use Rattle.std.proofs.Common.{◌≡◌, ℕ, ◌<◌, List, [], ◌∷◌, length, refl, map, set, get_or, sym, ap, ◌∙◌, arith}
+use Rattle.std.proofs.lemmas.List.{map-set, get_or-map, set-get_or}
+use Rattle.fc_observe.specs.Calls.{ObserverCall, after_calls}
+use Rattle.fc_observe.specs.Observers.{ObserverList, no_observers}
 use Rattle.fc_registry.specs.declared.shard.SlotState.{SlotState}
 use Rattle.fc_registry.specs.Slots.{Slot, Shard, new_slot}
 use Rattle.fc_registry.specs.Views.{as_seen}
+use Rattle.fc_registry.specs.Watches.{watches_called}
 
 -- the fields of a shard, as it is seen
 abbrev pub seen : ℕ → ℕ → List SlotState → List ObserverList → Shard
@@ -16,6 +18,11 @@ slot_in_place shard k = get_or shard.slots k (new_slot 0)
 
 abbrev pub written : Shard → ℕ → ℕ → Slot → Shard
 written shard now k v = record shard { now = now; slots = set shard.slots k v }
+
+-- a write of the observers at a place after calls, which may be none
+pub watches_written : (cs : List ObserverCall) (k : ℕ) (watches : List ObserverList) → set watches k (after_calls cs (get_or watches k (no_observers 0))) ≡ watches_called cs k watches
+watches_written [] k watches = set-get_or watches k (no_observers 0)
+watches_written (c ∷ cs) k watches = refl
 
 module _ (index now : ℕ) (items : List SlotState) (watches : List ObserverList) (shard : Shard) (view_is : seen index now items watches ≡ shard) (eight : length items ≡ 8) where
   slots_are : map as_seen items ≡ shard.slots
@@ -32,6 +39,13 @@ module _ (index now : ℕ) (items : List SlotState) (watches : List ObserverList
   slot_write k early late t v passes is =
       let slots : map as_seen (set items k t) ≡ set shard.slots k v = map-set as_seen items k t ∙ (λ i. set (slots_are i) k (is i)) in
       λ i. record { index = (view_is i).index; now = passes i; slots = slots i; watches = (view_is i).watches }
+
+  -- the same, and the observers at the place after calls on them
+  pub slot_and_watch_write : (k early late : ℕ) (t : SlotState) (v : Slot) (cs : List ObserverCall) (old new : ObserverList) → early ≡ late → as_seen t ≡ v → old ≡ get_or watches k (no_observers 0) → new ≡ after_calls cs old → seen index early (set items k t) (set watches k new) ≡ record shard { now = late; slots = set shard.slots k v; watches = watches_called cs k shard.watches }
+  slot_and_watch_write k early late t v cs old new passes is was calls =
+      let slots : map as_seen (set items k t) ≡ set shard.slots k v = map-set as_seen items k t ∙ (λ i. set (slots_are i) k (is i)) in
+      let called : set watches k new ≡ watches_called cs k shard.watches = ap (set watches k) (calls ∙ ap (after_calls cs) was) ∙ (watches_written cs k watches ∙ ap (λ (s : Shard). watches_called cs k s.watches) view_is) in
+      λ i. record { index = (view_is i).index; now = passes i; slots = slots i; watches = called i }
 
   pub now_is : now ≡ shard.now
   now_is = ap (λ (s : Shard). s.now) view_is

@@ -1,10 +1,17 @@
 -- What the calls of a shard answer, and what they change. Each call is decided by one function of the slot that it finds.
-use Rattle.std.specs.Prelude.{◌≡◌, ℕ, ◌+◌, ◌==◌, ◌&&◌, ◌<◌, ◌≤◌, Bool, true, false, nat_lt, List, [], ◌∷◌, Option, Some, None, is_none, max}
+use Rattle.std.specs.Prelude.{◌≡◌, ℕ, ◌+◌, ◌/◌, ◌==◌, ◌&&◌, ◌<◌, ◌≤◌, Bool, true, false, if◌then◌else◌, nat_lt, List, [], ◌∷◌, Option, Some, None, is_none, max}
+use Rattle.coap_msg.specs.Codes.{code}
+use Rattle.coap_opts.specs.Values.{Place}
 use Rattle.fc_help.specs.Request.{Request, no_request}
 use Rattle.fc_help.specs.declared.request.Method.{Method}
 use Rattle.fc_help.specs.declared.request.Method.TheVariants.{Get, Post}
 use Rattle.fc_kinds.specs.Meaning.{Program, Input, input_with, Meaning}
 use Rattle.fc_machine.specs.Ran.{Ran, meaning_of}
+use Rattle.fc_observe.specs.declared.observers.Registered.{Registered}
+use Rattle.fc_observe.specs.declared.observers.Registered.TheVariants.{Full}
+use Rattle.fc_observe.specs.Calls.{ObserverCall, Cancel, Register}
+use Rattle.fc_observe.specs.Observers.{ObserverList, registration}
+use Rattle.fc_registry.specs.declared.observe.TheConstants as observe
 use Rattle.fc_registry.specs.declared.job.Ask.{Ask}
 use Rattle.fc_registry.specs.declared.job.Ask.TheVariants.{Run}
 use Rattle.fc_registry.specs.declared.job.Job.{Job}
@@ -22,6 +29,7 @@ use Rattle.fc_registry.specs.declared.commit.Committed.TheVariants.{Done, Overta
 use Rattle.fc_registry.specs.Slots.{Slot, Shard, Present, Ticket, Mark, slot_in, with_slot, last_serial}
 use Rattle.fc_registry.specs.Changes.{Change, Installed, Committed as Wrote, Removed, Commit, after_changes}
 use Rattle.fc_registry.specs.Record.{code_class}
+use Rattle.fc_registry.specs.Watches.{watch_at, with_calls}
 
 -- ---- take
 
@@ -80,7 +88,7 @@ abbrev pub receipt_at : Option Present → Option Receipt
 receipt_at None = None
 receipt_at (Some p) = Some (receipt_of p.program p.version)
 
--- ---- commit
+-- ---- what a ticket's run means
 
 abbrev pub is_post : Method → Bool
 is_post Get = false
@@ -103,6 +111,51 @@ wants t = wants_by (run_of t)
 -- what the ticket's program means for its request and the variables that were found
 abbrev pub meaning_at : Ticket → Meaning
 meaning_at t = meaning_of (run_of t)
+
+-- ---- observe
+
+-- the option has this value
+abbrev pub has_observe : ℕ → Option ℕ → Bool
+has_observe value None = false
+has_observe value (Some own) = own == value
+
+-- the block that is asked is the first
+abbrev pub is_first_block : Option Place → Bool
+is_first_block None = true
+is_first_block (Some block) = block.number == 0
+
+-- the size of the block that is asked, as an exponent
+abbrev pub szx_of : Option Place → Option ℕ
+szx_of None = None
+szx_of (Some block) = Some block.szx
+
+-- the client is to be an observer: Observe 0, the first block, and a 2.05 Content (RFC 7641, 4.1)
+abbrev pub is_registration : Ticket → Bool
+is_registration t = has_observe observe.REGISTER t.observe && (is_first_block t.block && ((meaning_at t).code == code 2 5))
+
+-- it is to be one no longer: Observe 1, whatever the code (RFC 7641, 3.6)
+abbrev pub is_cancellation : Ticket → Bool
+is_cancellation t = has_observe observe.CANCEL t.observe
+
+abbrev pub observe_calls_by : Bool → Bool → ℕ → Ticket → List ObserverCall
+observe_calls_by true cancel now t = Register now t.origin.endpoint t.token t.request (szx_of t.block) t.serial ∷ []
+observe_calls_by false true now t = Cancel t.origin.endpoint t.token.items ∷ []
+observe_calls_by false false now t = []
+
+-- what a run that has nothing to write calls on the observers of its slot, at a moment
+abbrev pub observe_calls : ℕ → Ticket → List ObserverCall
+observe_calls now t = observe_calls_by (is_registration t) (is_cancellation t) now t
+
+-- the registration is made
+abbrev pub is_entered : Registered → Bool
+is_entered Full = false
+is_entered other = true
+
+-- the client observes the slot from now on, which has these observers
+abbrev pub is_observed : Ticket → ObserverList → Bool
+is_observed t w = is_registration t && is_entered (registration t.origin.endpoint t.token.items w)
+
+-- ---- commit
 
 -- nothing has changed since the ticket was taken
 pub record IsCurrent (t : Ticket) (slot : Slot) : Type 0 where
@@ -131,20 +184,25 @@ pub record HasGiven (slot : Slot) (t : Ticket) : Type 0 where
   pub serial : t.serial ≤ slot.serial
   pub present : t.serial ≡ slot.serial → slot.present ≡ Some t.found
 
--- the mark is of the ticket's job, at a slot of this serial; nobody is registered yet
-abbrev pub mark_of : Ticket → ℕ → Bool → Mark
-mark_of t serial changed = record { origin = t.origin; found = t.serial; serial = serial; changed = changed; observed = false }
+-- the mark is of the ticket's job, at a slot of this serial
+abbrev pub mark_of : Ticket → ℕ → Bool → Bool → Mark
+mark_of t serial changed observed = record { origin = t.origin; found = t.serial; serial = serial; changed = changed; observed = observed }
 
 -- a commit that writes leaves just the variables that the run means, and gives its notice
 abbrev pub commit_of : Ticket → Commit
 commit_of t = record { request = t.request; before = t.found.vars; after = (meaning_at t).vars; notice = (meaning_at t).notice }
 
--- the commit at a slot of this serial
-abbrev pub commits : CommitOutcome → Ticket → ℕ → Called Committed
-commits Writes t serial = record { answer = Done (mark_of t (serial + 1) true); changes = Wrote (commit_of t) ∷ [] }
-commits Keeps t serial = record { answer = Done (mark_of t serial false); changes = [] }
-commits Overtakes t serial = record { answer = Overtaken; changes = [] }
-commits Ends t serial = record { answer = Ended; changes = [] }
+-- the commit at a slot of this serial and with these observers
+abbrev pub commits : CommitOutcome → Ticket → ℕ → ObserverList → Called Committed
+commits Writes t serial w = record { answer = Done (mark_of t (serial + 1) true false); changes = Wrote (commit_of t) ∷ [] }
+commits Keeps t serial w = record { answer = Done (mark_of t serial false (is_observed t w)); changes = [] }
+commits Overtakes t serial w = record { answer = Overtaken; changes = [] }
+commits Ends t serial w = record { answer = Ended; changes = [] }
+
+-- what it calls on them at a moment: one that is done and changed nothing registers or removes a GET's client
+abbrev pub commit_calls : Committed → ℕ → Ticket → List ObserverCall
+commit_calls (Done m) now t = if m.changed then [] else observe_calls now t
+commit_calls other now t = []
 
 -- the outcome is of the ticket's program, request and variables, and the ticket's serial isn't above the slot's
 pub record IsOwn (ran : Ran) (t : Ticket) (slot : Slot) : Type 0 where
@@ -154,27 +212,27 @@ pub record IsOwn (ran : Ran) (t : Ticket) (slot : Slot) : Type 0 where
   pub serial : t.serial ≤ slot.serial
 
 -- the commit of an outcome that is the ticket's
-pub record IsCommitOf (t : Ticket) (slot : Slot) (c : Committed) (after : Slot) : Type 0 where
+pub record IsCommitOf (t : Ticket) (slot : Slot) (w : ObserverList) (c : Committed) (after : Slot) : Type 0 where
   pub comes_to : CommitOutcome
   pub is : ComesTo t slot comes_to
-  pub answer : c ≡ (commits comes_to t slot.serial).answer
-  pub after_is : after ≡ after_changes slot (commits comes_to t slot.serial).changes
+  pub answer : c ≡ (commits comes_to t slot.serial w).answer
+  pub after_is : after ≡ after_changes slot (commits comes_to t slot.serial w).changes
 
 -- an outcome that isn't the ticket's changes nothing
 pub record IsStranger (ran : Ran) (t : Ticket) (slot : Slot) (after : Slot) : Type 0 where
   pub stranger : IsOwn ran t slot → ⊥
   pub after_is : after ≡ slot
 
-abbrev pub IsOwnCommit : Ran → Ticket → Slot → Committed → Slot → Type 0
-IsOwnCommit ran t slot c after = IsOwn ran t slot × IsCommitOf t slot c after
+abbrev pub IsOwnCommit : Ran → Ticket → Slot → ObserverList → Committed → Slot → Type 0
+IsOwnCommit ran t slot w c after = IsOwn ran t slot × IsCommitOf t slot w c after
 
--- what a commit answers at a slot, and what it leaves there
-abbrev pub IsCommit : Ran → Ticket → Slot → Committed → Slot → Type 0
-IsCommit ran t slot Stranger after = IsStranger ran t slot after
-IsCommit ran t slot c after = IsOwnCommit ran t slot c after
+-- what a commit answers at a slot with these observers, and what it leaves there
+abbrev pub IsCommit : Ran → Ticket → Slot → ObserverList → Committed → Slot → Type 0
+IsCommit ran t slot w Stranger after = IsStranger ran t slot after
+IsCommit ran t slot w c after = IsOwnCommit ran t slot w c after
 
--- a commit at a moment, to the ticket's slot alone
+-- a commit at a moment, to the ticket's slot and its observers alone
 pub record CommitsTo (ran : Ran) (t : Ticket) (old : Shard) (now : ℕ) (c : Committed) (new : Shard) : Type 0 where
   pub after : Slot
-  pub commit : IsCommit ran t (slot_in old t.origin.slot) c after
-  pub shard : new ≡ with_slot (record old { now = max old.now now }) t.origin.slot after
+  pub commit : IsCommit ran t (slot_in old t.origin.slot) (watch_at old (t.origin.slot / 8)) c after
+  pub shard : new ≡ with_calls (commit_calls c (max old.now now) t) t.origin.slot (with_slot (record old { now = max old.now now }) t.origin.slot after)

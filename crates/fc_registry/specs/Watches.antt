@@ -4,7 +4,7 @@ use Rattle.coap_msg.specs.declared.types.Endpoint.{Endpoint}
 use Rattle.fc_observe.specs.declared.entry.Turn.{Turn}
 use Rattle.fc_observe.specs.declared.observers.Ticked.{Ticked}
 use Rattle.fc_observe.specs.declared.observers.Ticked.TheVariants.{Quiet}
-use Rattle.fc_observe.specs.Calls.{ObserverCall, Acknowledge, GiveUp, NextDue, Reset, Tick, observers_after}
+use Rattle.fc_observe.specs.Calls.{ObserverCall, Acknowledge, GiveUp, NextDue, Reset, Tick, after_calls, observers_after}
 use Rattle.fc_observe.specs.Observers.{ObserverList, at_moment, late_entry, next_turn, no_observers, ticked}
 use Rattle.fc_registry.specs.Slots.{Shard, new_slot}
 
@@ -27,6 +27,15 @@ noticed_at shard k = (slice_index_or shard.slots k (new_slot 0)).noticed
 -- the shard after a call on the observers at a place, and on no others
 abbrev pub watch_called : ObserverCall → ℕ → Shard → Shard
 watch_called c k shard = record shard { watches = slice_set shard.watches k (observers_after c (watch_at shard k)) }
+
+-- the observers at each place after these calls on those at one, of which the latest stands first
+abbrev pub watches_called : List ObserverCall → ℕ → List ObserverList → List ObserverList
+watches_called [] k watches = watches
+watches_called (c ∷ cs) k watches = slice_set watches k (after_calls (c ∷ cs) (slice_index_or watches k (no_observers 0)))
+
+-- the shard after these calls on the observers of slot n, and on no others
+abbrev pub with_calls : List ObserverCall → ℕ → Shard → Shard
+with_calls cs n shard = record shard { watches = watches_called cs (n / 8) shard.watches }
 
 -- the first of so many places, from k on, that passes
 abbrev pub place_from : (ℕ → Bool) → ℕ → ℕ → Option ℕ

@@ -27,6 +27,7 @@ mod body;
 pub mod commit;
 pub mod job;
 pub mod laws;
+pub mod observe;
 pub mod receipt;
 pub mod ring;
 pub mod shard;
@@ -36,6 +37,7 @@ pub mod ticket;
 
 pub use commit::{CommitOutcome, Committed};
 pub use job::{Ask, Job, Opening, Origin};
+pub use observe::{CANCEL, REGISTER, has_observe};
 pub use receipt::Receipt;
 pub use ring::Entry;
 pub use shard::{LAST_SERIAL, Made, Removal, Shard, Taken};

@@ -1,17 +1,18 @@
 //! Shards of slots.
-ghost use Rattle.std.specs.Prelude.{◌≡◌, ℕ, ◌+◌, ◌<◌, ◌≤◌, ◌↔◌, [], true, length, map, replicate, IfOk, IfSome, IsTrue};
+ghost use Rattle.std.specs.Prelude.{◌≡◌, ℕ, ◌+◌, ◌<◌, ◌≤◌, ◌↔◌, [], ◌∷◌, true, false, length, map, replicate, IfOk, IfSome, IsTrue};
 ghost use Rattle.fc_machine.specs.Ran.{meaning_of};
 ghost use Rattle.fc_registry.specs.Slots.{IsOwned, slot_in, with_slot, new_slot, last_serial, version_in, vars_in};
-ghost use Rattle.fc_registry.specs.Changes.{after_changes};
-ghost use Rattle.fc_registry.specs.Calls.{IsTaking, CommitsTo, IsCommit, ComesTo, IsOwn, IsCurrent, commits, is_post, mark_of, install_in, receipt_at, remove_from, request_of, wants_by};
+ghost use Rattle.fc_registry.specs.Changes.{Committed as Wrote, after_changes};
+ghost use Rattle.fc_registry.specs.Calls.{IsTaking, CommitsTo, IsCommit, ComesTo, IsOwn, IsCurrent, commit_calls, commit_of, is_observed, is_post, observe_calls, mark_of, install_in, receipt_at, remove_from, request_of, run_of, wants_by};
 ghost use Rattle.fc_registry.specs.Views.{as_seen, present_of};
 ghost use Rattle.fc_registry.specs.Record.{IsRing};
-ghost use Rattle.fc_observe.specs.Calls.{observers_after};
+ghost use Rattle.fc_observe.specs.Calls.{after_calls, observers_after};
 ghost use Rattle.fc_registry.specs.Watches.{after_due, after_given_up, after_tick, due_place, handed, is_due_at, late_place, new_watches, noticed_at, signal_call, signalled, ticked_in, turn_in};
 
 use crate::body::Body;
 use crate::commit::{CommitOutcome, Committed};
 use crate::job::{Ask, Job};
+use crate::observe::observe;
 use crate::receipt::Receipt;
 use crate::ring::{Entry, Ring};
 use crate::slot_number::{SHARDS, SlotNumber};
@@ -130,13 +131,17 @@ impl Shard {
     /// nothing has changed since the ticket was taken, and the slot's serials aren't at their end. `Overtaken`, `Ended`
     /// and `Stranger` leave the slot as it was. The shard advances to the moment, whatever it answers. What a GET's run wrote
     /// to its variables is dropped, and so is its notice; that of a commit that writes makes the new serial the noticed one.
+    /// A GET with Observe 0 that is answered 2.05 from its first block on registers its client as an observer, where there is
+    /// room; Observe 1 removes the entry, whatever the code.
     pub fn commit(&mut self, now: u64, outcome: &Outcome<'_>, ticket: &Ticket) -> Committed
         requires { IsOwned self.old ticket.now.origin.slot }
         ensures { CommitsTo outcome.now ticket.now self.old now result self.new }
     {
         self.now = self.now.max(now);
-        let slot = &mut self.slots[ticket.origin().slot.place()];
-        committed(slot, outcome, ticket)
+        let place = ticket.origin().slot.place();
+        let slot = &mut self.slots[place];
+        let watch = &mut self.watches[place];
+        committed(slot, watch, self.now, outcome, ticket)
     }
 
     /// Installs a program, with variables of zeros. At the last serial it changes nothing, and answers `AtEnd`.
@@ -449,7 +454,8 @@ fn receipt_in(slot: &SlotState) -> Option<Receipt>
 
 // Whether the outcome is of the ticket's program, request and variables, and the ticket's serial isn't above the slot's.
 fn is_own(outcome: &Outcome<'_>, ticket: &Ticket, slot: &SlotState) -> bool
-    ensures { IsTrue result ↔ IsOwn outcome.now ticket.now (as_seen slot.now) }
+    ensures own { IsTrue result ↔ IsOwn outcome.now ticket.now (as_seen slot.now) }
+    ensures run { IsTrue result → outcome.now ≡ run_of ticket.now }
 {
     outcome.program().is(ticket.program())
         && outcome.request().is(ticket.request())
@@ -501,19 +507,42 @@ fn outcome_of(outcome: &Outcome<'_>, ticket: &Ticket, slot: &SlotState) -> Commi
     }
 }
 
-// Commits to a slot.
-fn committed(slot: &mut SlotState, outcome: &Outcome<'_>, ticket: &Ticket) -> Committed
-    ensures { IsCommit outcome.now ticket.now (as_seen slot.old) result (as_seen slot.new) }
+// Commits to a slot and its observers, at the shard's moment.
+fn committed(
+    slot: &mut SlotState,
+    watch: &mut Observers,
+    now: u64,
+    outcome: &Outcome<'_>,
+    ticket: &Ticket,
+) -> Committed
+    ensures commit { IsCommit outcome.now ticket.now (as_seen slot.old) watch.old result (as_seen slot.new) }
+    ensures watch { watch.new ≡ after_calls (commit_calls result now ticket.now) watch.old }
 {
     if !is_own(outcome, ticket, slot) {
         return Committed::Stranger;
     }
     match outcome_of(outcome, ticket, slot) {
         CommitOutcome::Writes => Committed::Done(write(slot, outcome, ticket)),
-        CommitOutcome::Keeps => Committed::Done(mark(ticket, slot.serial, false)),
+        CommitOutcome::Keeps => Committed::Done(keep(slot, watch, now, outcome, ticket)),
         CommitOutcome::Overtakes => Committed::Overtaken,
         CommitOutcome::Ends => Committed::Ended,
     }
+}
+
+// Leaves a slot as it is, and registers or removes the client of its run.
+fn keep(
+    slot: &SlotState,
+    watch: &mut Observers,
+    now: u64,
+    outcome: &Outcome<'_>,
+    ticket: &Ticket,
+) -> Mark
+    requires { outcome.now ≡ run_of ticket.now }
+    ensures mark { result ≡ mark_of ticket.now (as_seen slot.now).serial false (is_observed ticket.now watch.old) }
+    ensures watch { watch.new ≡ after_calls (observe_calls now ticket.now) watch.old }
+{
+    let observed = observe(watch, now, outcome, ticket);
+    mark(ticket, slot.serial, false, observed)
 }
 
 // Writes what a run left to its slot, and remembers the commit.
@@ -521,9 +550,8 @@ fn write(slot: &mut SlotState, outcome: &Outcome<'_>, ticket: &Ticket) -> Mark
     requires own { IsOwn outcome.now ticket.now (as_seen slot.old) }
     requires current { IsCurrent ticket.now (as_seen slot.old) }
     requires below { (as_seen slot.old).serial < last_serial }
-    ensures mark { result ≡ mark_of ticket.now ((as_seen slot.old).serial + 1) true }
-    ensures slot { as_seen slot.new ≡ after_changes (as_seen slot.old)
-        ((commits CommitOutcome.Writes ticket.now (as_seen slot.old).serial).changes) }
+    ensures mark { result ≡ mark_of ticket.now ((as_seen slot.old).serial + 1) true false }
+    ensures slot { as_seen slot.new ≡ after_changes (as_seen slot.old) (Wrote (commit_of ticket.now) ∷ []) }
 {
     slot.serial += 1;
     if outcome.notice() {
@@ -538,7 +566,7 @@ fn write(slot: &mut SlotState, outcome: &Outcome<'_>, ticket: &Ticket) -> Mark
         before: outcome.found().copy(),
         after: vars_after(outcome),
     });
-    mark(ticket, slot.serial, true)
+    mark(ticket, slot.serial, true, false)
 }
 
 // The variables that a run left.
@@ -551,15 +579,15 @@ fn vars_after(outcome: &Outcome<'_>) -> Vars
     Vars::of(outcome.after())
 }
 
-fn mark(ticket: &Ticket, serial: u64, changed: bool) -> Mark
-    ensures { result ≡ mark_of ticket.now serial changed }
+fn mark(ticket: &Ticket, serial: u64, changed: bool, observed: bool) -> Mark
+    ensures { result ≡ mark_of ticket.now serial changed observed }
 {
     Mark {
         origin: ticket.origin,
         found: ticket.serial,
         serial,
         changed,
-        observed: false,
+        observed,
     }
 }
 

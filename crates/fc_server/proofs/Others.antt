@@ -5,7 +5,7 @@ use Rattle.std.proofs.lemmas.List.{append-nil, get_or_default, get_or_past, set-
 use Rattle.coap_msg.specs.declared.types.Endpoint.{Endpoint}
 use Rattle.coap_msg.specs.declared.types.Emission.{Emission}
 use Rattle.coap_dedup.specs.Exchanges.{is_live as is_held}
-use Rattle.fc_observe.specs.Calls.{ObserverCall, observers}
+use Rattle.fc_observe.specs.Calls.{observers}
 use Rattle.fc_registry.specs.declared.job.Job.{Job}
 use Rattle.fc_registry.specs.Shards.{no_shard, shard_at, slot_in_shards}
 use Rattle.fc_registry.specs.Changes.{after_changes}
@@ -18,7 +18,7 @@ use Rattle.fc_core.specs.declared.stage.Task.{Task}
 use Rattle.fc_core.specs.Answering.{after_answered_by}
 use Rattle.fc_core.specs.Contents.{Content}
 use Rattle.fc_core.specs.Exchanges.{FrontState, advanced, opening_is_live}
-use Rattle.fc_core.specs.History.{Seen, added_in, and_then, answered_in, calls_in, did, exchanges_after, front_at, front_in, ids_after, ids_answered, job, moment_after, no_task, received_at, shard_hands, shard_moment_after, stage, task_at, tasks_brought, tasks_moved, changes_after, words_seen}
+use Rattle.fc_core.specs.History.{Seen, added_in, and_then, answered_in, calls_in, calls_named, did, exchanges_after, front_at, front_in, ids_after, ids_answered, job, moment_after, no_task, received_at, shard_hands, shard_moment_after, stage, task_at, tasks_brought, tasks_moved, changes_after, words_seen}
 use Rattle.fc_core.specs.Ids.{drawn_for}
 use Rattle.fc_core.specs.Legal.{AnswerEmits, Emits, IsAnswered, TakesMeaning}
 use Rattle.fc_core.specs.Receiving.{added_by, after_added, after_received, brought, drawn_by, id_in, keeping, kept_of, next_opening, opened_by, received, sent}
@@ -158,7 +158,7 @@ shards_stay e emitted s shards o is none hands calls a =
       are = a.are;
       slot = λ n lt. a.slot n lt ∙ ap (λ (p : Option ℕ). after_changes (new_slot s.first_serial) (changes_after p e s n)) named;
       now = λ i lt. a.now i lt ∙ (ap (λ (p : Option ℕ). shard_moment_after p e s i) named ∙ ap (λ (p : Option ℕ). handed p (shard_moment_after (names e) e s i)) (sym (hands i lt)));
-      watch = λ i k low lt. a.watch i k low lt ∙ ap (λ (cs : List ObserverCall). observers (8 * k + i) (cs ++ s.calls (8 * k + i))) (sym (calls (8 * k + i)));
+      watch = λ i k low lt. let n = 8 * k + i in a.watch i k low lt ∙ (λ j. observers n (calls_named (named j) e s n ++ (sym (calls n) j ++ s.calls n)));
     }
 
 -- what is seen of an event that names no job

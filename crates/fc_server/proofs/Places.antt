@@ -1,12 +1,14 @@
 -- A move of a job of one slot, as sixty-four slots are seen.
-use Rattle.std.proofs.Common.{◌≡◌, ℕ, ◌<◌, ◌/◌, ◌%◌, List, length, get_or, sym, ap, ◌∙◌, subst, ⊎_elim, arith, length-set}
+use Rattle.std.proofs.Common.{◌≡◌, ℕ, ◌+◌, ◌*◌, ◌<◌, ◌/◌, ◌%◌, List, length, get_or, set, sym, ap, ◌∙◌, subst, ⊎_elim, arith, length-set}
 use Rattle.std.proofs.lemmas.Bool.{cases_eq}
 use Rattle.std.proofs.lemmas.List.{get_or-set_same, get_or-set_other}
+use Rattle.fc_observe.specs.Calls.{after_calls}
 use Rattle.fc_observe.specs.Observers.{ObserverList, no_observers}
 use Rattle.fc_registry.specs.Changes.{after_changes}
 use Rattle.fc_registry.specs.Shards.{AreShards, no_shard, shard_at, slot_in_shards}
 use Rattle.fc_registry.specs.Slots.{Shard, slot_in, new_slot}
 use Rattle.fc_registry.specs.Watches.{watch_at}
+use Rattle.fc_registry.proofs.Writes.{watches_written}
 use Rattle.fc_core.specs.Stages.{Move, handed, shard_moved}
 use Rattle.fc_server.specs.States.{shards_moved}
 
@@ -26,15 +28,28 @@ module _ (shards : List Shard) (are : AreShards shards) (n : ℕ) (lt : n < 64) 
   room : n / 8 < length (shard_at shards (n % 8)).slots
   room = let size = are.size (n % 8) (omega arith) in omega (arith, size)
 
-  -- the observers are as they were
-  watches_stay : (i : ℕ) → (shard_at written i).watches ≡ (shard_at shards i).watches
-  watches_stay i = ⊎_elim
-      (λ (e : i ≡ n % 8). subst (λ (j : ℕ). (shard_at written j).watches ≡ (shard_at shards j).watches) (sym e) (ap (λ (x : Shard). x.watches) at_place))
-      (λ (ne : i ≡ n % 8 → ⊥). ap (λ (x : Shard). x.watches) (elsewhere i ne))
-      (cases_eq i (n % 8))
+  -- the observers of the slot after the calls
+  abbrev called : ObserverList
+  called = after_calls m.calls (watch_at (shard_at shards (n % 8)) (n / 8))
 
-  pub watch_stays : (i k : ℕ) → watch_at (shard_at written i) k ≡ watch_at (shard_at shards i) k
-  watch_stays i k = ap (λ (ws : List ObserverList). get_or ws k (no_observers 0)) (watches_stay i)
+  watches_here : (shard_at written (n % 8)).watches ≡ set (shard_at shards (n % 8)).watches (n / 8) called
+  watches_here = ap (λ (x : Shard). x.watches) at_place ∙ sym (watches_written m.calls (n / 8) (shard_at shards (n % 8)).watches)
+
+  held : n / 8 < length (shard_at shards (n % 8)).watches
+  held = let watched = are.watched (n % 8) (omega arith) in omega (arith, watched, lt)
+
+  pub watch_here : watch_at (shard_at written (n % 8)) (n / 8) ≡ after_calls m.calls (watch_at (shard_at shards (n % 8)) (n / 8))
+  watch_here = ap (λ (ws : List ObserverList). get_or ws (n / 8) (no_observers 0)) watches_here ∙ get_or-set_same (shard_at shards (n % 8)).watches (n / 8) called (no_observers 0) held
+
+  -- those of the other slots are as they were
+  pub watch_there : (i k : ℕ) → i < 8 → (8 * k + i ≡ n → ⊥) → watch_at (shard_at written i) k ≡ watch_at (shard_at shards i) k
+  watch_there i k low ne = ⊎_elim
+      (λ (e : i ≡ n % 8).
+      let apart : k ≡ n / 8 → ⊥ = λ q. ne (omega (arith, e, q)) in
+      subst (λ (j : ℕ). watch_at (shard_at written j) k ≡ watch_at (shard_at shards j) k) (sym e)
+      (ap (λ (ws : List ObserverList). get_or ws k (no_observers 0)) watches_here ∙ get_or-set_other (shard_at shards (n % 8)).watches (n / 8) k called (no_observers 0) apart))
+      (λ (other : i ≡ n % 8 → ⊥). ap (λ (x : Shard). watch_at x k) (elsewhere i other))
+      (cases_eq i (n % 8))
 
   pub are_written : AreShards written
   are_written = record {
@@ -47,7 +62,10 @@ module _ (shards : List Shard) (are : AreShards shards) (n : ℕ) (lt : n < 64) 
         (λ (e : i ≡ n % 8). subst (λ (j : ℕ). length (shard_at written j).slots ≡ 8) (sym e) (ap (λ (x : Shard). length x.slots) at_place ∙ (length-set (shard_at shards (n % 8)).slots (n / 8) _ ∙ are.size (n % 8) (omega arith))))
         (λ (ne : i ≡ n % 8 → ⊥). ap (λ (x : Shard). length x.slots) (elsewhere i ne) ∙ are.size i low)
         (cases_eq i (n % 8));
-    watched = λ i low. ap length (watches_stay i) ∙ are.watched i low;
+    watched = λ i low. ⊎_elim
+        (λ (e : i ≡ n % 8). subst (λ (j : ℕ). length (shard_at written j).watches ≡ 8) (sym e) (ap length watches_here ∙ (length-set (shard_at shards (n % 8)).watches (n / 8) called ∙ are.watched (n % 8) (omega arith))))
+        (λ (ne : i ≡ n % 8 → ⊥). ap (λ (x : Shard). length x.watches) (elsewhere i ne) ∙ are.watched i low)
+        (cases_eq i (n % 8));
   }
 
   -- the slot that was written

@@ -1,19 +1,19 @@
 -- Events of a shard: a signal, and a tick.
-use Rattle.std.proofs.Common.{◌≡◌, ℕ, zero, suc, ◌+◌, ◌*◌, ◌<◌, ◌≤◌, ◌/◌, ◌%◌, arith, get_or, List, [], ◌∷◌, ◌++◌, length, map, set, Bool, true, false, Option, Some, None, refl, sym, ap, ◌∙◌, subst, max, if◌then◌else◌, ⊎_elim}
+use Rattle.std.proofs.Common.{◌≡◌, ℕ, zero, suc, ◌+◌, ◌*◌, ◌<◌, ◌≤◌, ◌/◌, ◌%◌, arith, get_or, List, [], ◌∷◌, ◌++◌, length, set, Bool, true, false, Option, Some, None, refl, sym, ap, ◌∙◌, subst, max, if◌then◌else◌, ⊎_elim}
 use Rattle.std.specs.Prelude.{is_some, nat_lt, ◌==◌}
 use Rattle.std.proofs.lemmas.Bool.{cases_eq, cases_lt, eq-eqb, le-ltb, lt-ltb, ne_eqb}
 use Rattle.std.proofs.lemmas.List.{append-nil, get_or-map, get_or-set_other, get_or-set_same, length-map, length-set}
 use Rattle.coap_msg.specs.declared.types.Endpoint.{Endpoint}
 use Rattle.coap_msg.specs.declared.types.Emission.{Emission}
 use Rattle.fc_observe.specs.Calls.{ObserverCall, Tick as TickObservers, observers, observers_after}
-use Rattle.fc_observe.specs.Observers.{ObserverList, at_moment, late_entry, no_observers, ticked}
+use Rattle.fc_observe.specs.Observers.{at_moment, late_entry, no_observers, ticked}
 use Rattle.fc_registry.specs.Changes.{after_changes}
-use Rattle.fc_registry.specs.Shards.{AreShards, no_shard, shard_at, slot_in_shards}
+use Rattle.fc_registry.specs.Shards.{AreShards, no_shard, shard_at}
 use Rattle.fc_registry.specs.Slots.{Shard, Slot, new_slot}
 use Rattle.fc_registry.specs.Watches.{after_tick, handed as shard_handed, is_late_at as is_late_here, late_place, place_from, signal_call, signalled, ticked_in, watch_at, watch_called}
 use Rattle.fc_core.specs.declared.event.Event.{Event}
 use Rattle.fc_core.specs.declared.event.Event.TheVariants.{Signal, ShardTick}
-use Rattle.fc_core.specs.History.{Seen, and_then, calls_in, changes_after, did, is_late_at, is_place_of, late_in, shard_hands, shard_moment_after, watch}
+use Rattle.fc_core.specs.History.{Seen, and_then, calls_in, calls_named, changes_after, did, is_late_at, is_place_of, late_in, shard_hands, shard_moment_after}
 use Rattle.fc_core.specs.Legal.{resent, resent_at}
 use Rattle.fc_core.specs.Stages.{handed, names}
 use Rattle.fc_server.specs.Agreement.{Agrees, Parts, ShardsAgree}
@@ -64,10 +64,10 @@ module _ (shards : List Shard) (are : AreShards shards) (i : ℕ) (low : i < 8) 
             (λ (ne : j ≡ i → ⊥). ap (λ (y : Shard). y.now) (elsewhere j ne) ∙ (a.now j lt ∙ ap (λ (p : Option ℕ). handed p (s.shard_moment j)) (sym (others j ne))))
             (cases_eq j i)
             ∙ ap (handed (shard_hands e j)) (sym same);
-        watch = λ j k jl kl. ⊎_elim
+        watch = λ j k jl kl. let alone : watch_at (shard_at put j) k ≡ observers (8 * k + j) (calls_in e s (8 * k + j) ++ s.calls (8 * k + j)) = ⊎_elim
             (λ (q : j ≡ i). subst (λ (m : ℕ). watch_at (shard_at put m) k ≡ observers (8 * k + m) (calls_in e s (8 * k + m) ++ s.calls (8 * k + m))) (sym q) (ap (λ (y : Shard). watch_at y k) at_place ∙ here k kl))
             (λ (ne : j ≡ i → ⊥). ap (λ (y : Shard). watch_at y k) (elsewhere j ne) ∙ (a.watch j k jl kl ∙ ap (λ (cs : List ObserverCall). observers (8 * k + j) (cs ++ s.calls (8 * k + j))) (sym (there j k jl kl ne))))
-            (cases_eq j i);
+            (cases_eq j i) in alone ∙ ap (λ (p : Option ℕ). observers (8 * k + j) (calls_named p e s (8 * k + j) ++ (calls_in e s (8 * k + j) ++ s.calls (8 * k + j)))) named;
       }
 
 -- ---- a signal

@@ -1,12 +1,12 @@
 -- Each event keeps the agreement.
-use Rattle.std.proofs.Common.{◌≡◌, ℕ, ◌+◌, ◌*◌, ◌/◌, ◌<◌, ◌%◌, arith, List, [], ◌++◌, length, set, Bool, true, false, Option, Some, None, refl, sym, ap, ◌∙◌, subst, ⊎_elim, if◌then◌else◌}
+use Rattle.std.proofs.Common.{◌≡◌, ℕ, ◌+◌, ◌*◌, ◌/◌, ◌<◌, ◌%◌, arith, List, [], ◌∷◌, ◌++◌, length, set, Bool, true, false, Option, Some, None, refl, sym, ap, ◌∙◌, subst, ⊎_elim, if◌then◌else◌}
 use Rattle.std.specs.Prelude.{filter, ◌==◌}
 use Rattle.std.proofs.lemmas.Bool.{cases_eq, eq-eqb, ne_eqb}
 use Rattle.std.proofs.lemmas.List.{append-nil}
 use Rattle.coap_msg.specs.declared.types.Emission.{Emission}
 use Rattle.coap_dedup.specs.Exchanges.{is_live as is_held}
 use Rattle.fc_registry.specs.declared.job.Job.{Job}
-use Rattle.fc_observe.specs.Calls.{ObserverCall, observers}
+use Rattle.fc_observe.specs.Calls.{ObserverCall, after_calls, observers}
 use Rattle.fc_registry.specs.Changes.{after_changes}
 use Rattle.fc_registry.specs.Shards.{shard_at, slot_in_shards}
 use Rattle.fc_registry.specs.Slots.{Shard, Slot, Present, new_slot}
@@ -17,7 +17,7 @@ use Rattle.fc_core.specs.declared.stage.Stage.{Stage}
 use Rattle.fc_core.specs.declared.stage.Stage.TheVariants.{ToTake}
 use Rattle.fc_core.specs.declared.stage.Task.{Task}
 use Rattle.fc_core.specs.Fits.{FitsSlot}
-use Rattle.fc_core.specs.History.{Seen, added_in, and_then, changes_after, did, exchanges_after, front_in, ids_after, job, moment_after, scene, shard_moment_after, slot_at, stage, task_at, tasks_brought, tasks_moved, watch, words_seen}
+use Rattle.fc_core.specs.History.{Seen, added_in, and_then, calls_named, changes_after, did, exchanges_after, front_in, ids_after, job, moment_after, scene, shard_moment_after, slot_at, stage, task_at, tasks_brought, tasks_moved, watch, words_seen}
 use Rattle.fc_core.specs.Legal.{Emits, FindsMeaning, FoundMeans, TakesMeaning}
 use Rattle.fc_core.specs.Receiving.{AskWithin}
 use Rattle.coap_block.specs.Transfers.{transfers}
@@ -26,10 +26,11 @@ use Rattle.fc_core.specs.Stages.{Move, Scene, handed, task_moved, names, row, sc
 use Rattle.fc_core.proofs.Fitting.{after_changes-append, is_input}
 use Rattle.fc_core.proofs.Keeping.{IsSafeMove, still_safe, still_sound}
 use Rattle.fc_core.proofs.OnShards.{named_calls, named_hands}
+use Rattle.fc_core.proofs.Watches.{after_append}
 use Rattle.fc_server.specs.Agreement.{Parts, ShardsAgree}
 use Rattle.fc_server.specs.States.{scene_in, shards_moved}
 use Rattle.fc_server.specs.Steps.{Moves, Steps}
-use Rattle.fc_server.proofs.Places.{are_written, now_here, now_there, slot_here, slot_there, watch_stays}
+use Rattle.fc_server.proofs.Places.{are_written, now_here, now_there, slot_here, slot_there, watch_here, watch_there}
 
 -- ---- what a taking finds has a meaning
 
@@ -61,14 +62,15 @@ module _ (s : Seen) (e : Event) (k : ℕ) (named : names e ≡ Some k) (shards :
   abbrev n : ℕ
   n = (job s k).origin.slot
 
+  -- the observers of the task's slot are those that are seen
+  watch_is : watch_at (shard_at shards (n % 8)) (n / 8) ≡ watch s n
+  watch_is =
+      let number : 8 * (n / 8) + n % 8 ≡ n = omega arith in
+      a.watch (n % 8) (n / 8) (omega arith) (omega (arith, low)) ∙ ap (watch s) number
+
   -- what the server finds of the task is what is seen
   pub scene_is : (ws : List ℕ) → ws ≡ s.words → scene_in shards ws (task_at s.tasks k) ≡ scene s k
-  scene_is ws same =
-      let shard : n % 8 < 8 = omega arith in
-      let place : n / 8 < 8 = omega (arith, low) in
-      let number : 8 * (n / 8) + n % 8 ≡ n = omega arith in
-      let watch_is : watch_at (shard_at shards (n % 8)) (n / 8) ≡ watch s n = a.watch (n % 8) (n / 8) shard place ∙ ap (watch s) number in
-      λ i. scene_at (task_at s.tasks k) (a.slot n low i) (record { words = same i; moment = a.now (n % 8) shard i; watch = watch_is i })
+  scene_is ws same = λ i. scene_at (task_at s.tasks k) (a.slot n low i) (record { words = same i; moment = a.now (n % 8) (omega arith) i; watch = watch_is i })
 
   abbrev m : Move
   m = row e (scene s k)
@@ -81,6 +83,24 @@ module _ (s : Seen) (e : Event) (k : ℕ) (named : names e ≡ Some k) (shards :
 
   moment_if : (i : ℕ) (b : Bool) → ((job s k).origin.slot % 8 == i) ≡ b → shard_moment_after (names e) e s i ≡ (if b then handed (row e (scene s k)).hands (s.shard_moment i) else s.shard_moment i)
   moment_if i b is = ap (λ (o : Option ℕ). shard_moment_after o e s i) named ∙ ap (λ (c : Bool). if c then handed (row e (scene s k)).hands (s.shard_moment i) else s.shard_moment i) is
+
+  calls_if : (i : ℕ) (b : Bool) → ((job s k).origin.slot == i) ≡ b → calls_named (names e) e s i ≡ (if b then (row e (scene s k)).calls else [])
+  calls_if i b is = ap (λ (o : Option ℕ). calls_named o e s i) named ∙ ap (λ (c : Bool). if c then (row e (scene s k)).calls else []) is
+
+  -- the observers of the job's slot, and of another
+  watch_own : (i p : ℕ) → i < 8 → 8 * p + i ≡ n → watch_at (shard_at (shards_moved m n shards) i) p ≡ observers (8 * p + i) (calls_named (names e) e s (8 * p + i) ++ s.calls (8 * p + i))
+  watch_own i p il q =
+      let shard : i ≡ n % 8 = omega (arith, il, q) in
+      let place : p ≡ n / 8 = omega (arith, il, q) in
+      let here : watch_at (shard_at (shards_moved m n shards) i) p ≡ observers n (calls_named (names e) e s n ++ s.calls n) =
+      (λ j. watch_at (shard_at (shards_moved m n shards) (shard j)) (place j))
+      ∙ (watch_here shards a.are n low m
+      ∙ (ap (after_calls m.calls) (watch_is)
+      ∙ (sym (after_append n m.calls (s.calls n)) ∙ ap (λ (cs : List ObserverCall). observers n (cs ++ s.calls n)) (sym (calls_if n true (eq-eqb n n refl)))))) in
+      subst (λ (j : ℕ). watch_at (shard_at (shards_moved m n shards) i) p ≡ observers j (calls_named (names e) e s j ++ s.calls j)) (sym q) here
+
+  watch_other : (i p : ℕ) → i < 8 → p < 8 → (8 * p + i ≡ n → ⊥) → watch_at (shard_at (shards_moved m n shards) i) p ≡ observers (8 * p + i) (calls_named (names e) e s (8 * p + i) ++ s.calls (8 * p + i))
+  watch_other i p il pl ne = watch_there shards a.are n low m i p il ne ∙ (a.watch i p il pl ∙ ap (λ (cs : List ObserverCall). observers (8 * p + i) (cs ++ s.calls (8 * p + i))) (sym (calls_if (8 * p + i) false (ne_eqb n (8 * p + i) (λ q. ne (sym q))))))
 
   -- the shards after it
   pub shards_move : (emitted : Option Emission) → ShardsAgree (and_then (did e emitted) s) (shards_moved (row e (scene s k)) (job s k).origin.slot shards)
@@ -96,7 +116,8 @@ module _ (s : Seen) (e : Event) (k : ℕ) (named : names e ≡ Some k) (shards :
         (now_here shards a.are n low m ∙ (ap (handed m.hands) (a.now (n % 8) (subst (λ (j : ℕ). j < 8) q lt)) ∙ sym (moment_if (n % 8) true (eq-eqb (n % 8) (n % 8) refl)))))
         (λ (ne : i ≡ n % 8 → ⊥). now_there shards a.are n low m i ne ∙ (a.now i lt ∙ sym (moment_if i false (ne_eqb (n % 8) i (λ q. ne (sym q))))))
         (cases_eq i (n % 8)) in old ∙ ap (λ (o : Option ℕ). handed o (shard_moment_after (names e) e s i)) (sym (named_hands e k named i));
-    watch = λ i p il pl. watch_stays shards a.are n low m i p ∙ (a.watch i p il pl ∙ ap (λ (cs : List ObserverCall). observers (8 * p + i) (cs ++ s.calls (8 * p + i))) (sym (named_calls e s k named (8 * p + i))));
+    watch = λ i p il pl. let own : watch_at (shard_at (shards_moved m n shards) i) p ≡ observers (8 * p + i) (calls_named (names e) e s (8 * p + i) ++ s.calls (8 * p + i)) = ⊎_elim (watch_own i p il) (watch_other i p il pl) (cases_eq (8 * p + i) n) in
+        own ∙ ap (λ (cs : List ObserverCall). observers (8 * p + i) (calls_named (names e) e s (8 * p + i) ++ (cs ++ s.calls (8 * p + i)))) (sym (named_calls e s k named (8 * p + i)));
   }
 
 -- the front of a quiet event

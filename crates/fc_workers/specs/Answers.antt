@@ -7,6 +7,7 @@ use Rattle.fc_core.specs.Exchanges.{FrontState}
 use Rattle.fc_core.specs.Receiving.{delivered}
 use Rattle.fc_kinds.specs.Meaning.{Program}
 use Rattle.fc_machine.specs.Ran.{Ran}
+use Rattle.fc_observe.specs.Observers.{ObserverList}
 use Rattle.fc_registry.specs.declared.job.Job.{Job}
 use Rattle.fc_registry.specs.declared.shard.Taken.{Taken}
 use Rattle.fc_registry.specs.declared.shard.Made.{Made}
@@ -29,11 +30,12 @@ pub record IsSomeTaking (job : Job) (taken : Taken) : Type 0 where
   pub slot : Slot
   pub taking : IsTaking job slot taken
 
--- a commit of a run, by the ticket, at some slot answers this
+-- a commit of a run, by the ticket, at some slot with some observers answers this
 pub record IsSomeCommit (ran : Ran) (t : Ticket) (committed : Committed) : Type 0 where
   pub slot : Slot
+  pub watch : ObserverList
   pub after : Slot
-  pub commit : IsCommit ran t slot committed after
+  pub commit : IsCommit ran t slot watch committed after
 
 -- an install of the program at some slot answers this
 pub record IsSomeInstall (p : Program) (made : Made) : Type 0 where

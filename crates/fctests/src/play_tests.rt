@@ -59,7 +59,7 @@ fn last_serial_is_not_passed(rt: HostRuntime) {
 }
 
 // Lines, and what is printed.
-static PRINTED: [(&str, &str); 22] = [
+static PRINTED: [(&str, &str); 23] = [
     // The program of each install answers 2.05 in two steps, with a budget of two; the second install's budget is one.
     (
         "0 1 4103123370b1700130ff46434231000002000200000000000000b7000000450000009500000000000000\n\
@@ -70,6 +70,24 @@ static PRINTED: [(&str, &str); 22] = [
          1 6145123471480000000000000001\n\
          1 6180123570ff56313620736c6f742030\n\
          1 6145123671480000000000000001\n",
+    ),
+    // A GET with Observe 0 is answered with the serial as its sequence number; one with Observe 1, or another value, isn't. An ETag
+    // that has the answer of this serial spares a run only without Observe.
+    (
+        "0 1 4103123370b1700130ff46434231000002000200000000000000b7000000450000009500000000000000\n\
+         1 1 41011234716051720130\n\
+         2 1 4101123571610151720130\n\
+         3 1 4101123671610251720130\n\
+         4 1 41011237714800000000000000012051720130\n\
+         5 1 4101123871480000000000000001210151720130\n\
+         6 1 410112397148000000000000000171720130\n",
+        "1 6141123370ff76657273696f6e3d3120636f73743d32206275646765743d3220766172733d30\n\
+         1 61451234714800000000000000012101\n\
+         1 6145123571480000000000000001\n\
+         1 6145123671480000000000000001\n\
+         1 61451237714800000000000000012101\n\
+         1 6145123871480000000000000001\n\
+         1 6143123971480000000000000001\n",
     ),
     // A program that answers 4.03 unless the payload begins with `k`: byte 80 of the request is the first of the payload, or 0.
     (

@@ -1,0 +1,103 @@
+//! Registration of a GET's client as an observer, and its end (RFC 7641).
+ghost use Rattle.std.specs.Prelude.{◌≡◌, false};
+ghost use Rattle.fc_observe.specs.Calls.{Register, after_calls, observers_after};
+ghost use Rattle.fc_observe.specs.Observers.{registration};
+ghost use Rattle.fc_registry.specs.Calls.{has_observe, is_entered, is_first_block, is_observed, observe_calls, is_registration, run_of, szx_of};
+
+use crate::ticket::Ticket;
+use coap_msg::Code;
+use coap_opts::Block;
+use fc_machine::Outcome;
+use fc_observe::{Observers, Registered};
+
+/// The value of Observe that registers (RFC 7641, 2).
+pub const REGISTER: u32 = 0;
+
+/// The value that cancels.
+pub const CANCEL: u32 = 1;
+
+/// Whether an Observe option has a value.
+pub fn has_observe(value: u32, observe: Option<u32>) -> bool
+    ensures { result ≡ has_observe value observe }
+{
+    match observe {
+        Some(own) => own == value,
+        None => false,
+    }
+}
+
+// Registers the client of a run that has nothing to write, or removes its entry, where its request asks for that. Tells whether
+// it observes the slot from now on.
+pub(crate) fn observe(
+    watch: &mut Observers,
+    now: u64,
+    outcome: &Outcome<'_>,
+    ticket: &Ticket,
+) -> bool
+    requires { outcome.now ≡ run_of ticket.now }
+    ensures observed { result ≡ is_observed ticket.now watch.old }
+    ensures watch { watch.new ≡ after_calls (observe_calls now ticket.now) watch.old }
+{
+    if is_registration(outcome, ticket) {
+        return register(watch, now, ticket);
+    }
+    if has_observe(CANCEL, ticket.observe()) {
+        watch.cancel(ticket.origin().endpoint, ticket.token());
+    }
+    false
+}
+
+// Whether the client is to be an observer.
+fn is_registration(outcome: &Outcome<'_>, ticket: &Ticket) -> bool
+    requires { outcome.now ≡ run_of ticket.now }
+    ensures { result ≡ is_registration ticket.now }
+{
+    has_observe(REGISTER, ticket.observe())
+        && is_first_block(ticket.block())
+        && outcome.code() == Code::CONTENT.byte
+}
+
+// Tells whether there was room.
+fn register(watch: &mut Observers, now: u64, ticket: &Ticket) -> bool
+    ensures room { result ≡ is_entered (registration ticket.now.origin.endpoint ticket.now.token.items watch.old) }
+    ensures watch { watch.new ≡ observers_after
+        (Register now ticket.now.origin.endpoint ticket.now.token ticket.now.request (szx_of ticket.now.block) ticket.now.serial)
+        watch.old }
+{
+    let registered = watch.register(
+        now,
+        ticket.origin().endpoint,
+        ticket.token(),
+        ticket.request(),
+        szx_of(ticket.block()),
+        ticket.serial(),
+    );
+    is_entered(registered)
+}
+
+fn is_entered(registered: Registered) -> bool
+    ensures { result ≡ is_entered registered }
+{
+    match registered {
+        Registered::Entered | Registered::Replaced => true,
+        Registered::Full => false,
+    }
+}
+
+fn is_first_block(block: Option<Block>) -> bool
+    ensures { result ≡ is_first_block block }
+{
+    match block {
+        None => true,
+        Some(block) => block.number() == 0,
+    }
+}
+
+fn szx_of(block: Option<Block>) -> Option<u8>
+    ensures { result ≡ szx_of block }
+{
+    match block {
+        None => None,
+        Some(block) => Some(block.szx()),
+    }
+}
