@@ -21,6 +21,8 @@ pub mod Moments
 pub mod Repeats
 pub mod DrawnIds
 pub mod Once
+pub mod Observing
+pub mod Comers
 pub mod FirstBlocks
 pub mod Published
 pub mod Deletions

@@ -181,11 +181,11 @@ opened_for (Then h r) k come = opened_after r (seen h) k come (opened_for h k)
 
 -- ---- at most once in a window
 
-same_bytes : (xs : List ℕ) → pointwise nat_eq xs xs ≡ true
+pub same_bytes : (xs : List ℕ) → pointwise nat_eq xs xs ≡ true
 same_bytes [] = refl
 same_bytes (x ∷ xs) = and_from (nat_eq x x) (pointwise nat_eq xs xs) (eq-eqb x x refl) (same_bytes xs)
 
-equal_endpoints : (a b : Endpoint) → a ≡ b → same_endpoint a b ≡ true
+pub equal_endpoints : (a b : Endpoint) → a ≡ b → same_endpoint a b ≡ true
 equal_endpoints a b is = subst (λ (x : Endpoint). same_endpoint a x ≡ true) is (and_from (pointwise nat_eq a.ip a.ip) (a.port == a.port) (same_bytes a.ip) (eq-eqb a.port a.port refl))
 
 second_false : (a b : Bool) → (a && b) ≡ false → b ≡ true → a ≡ false

@@ -151,13 +151,13 @@ error_wants : (m : Method) (a b : ℕ) → (a ≡ b → ⊥) → (is_post m && (
 error_wants Get a b not = refl
 error_wants Post a b not = ne_eqb a b not
 
-unwanted : (t : Ticket) → (t.request.method ≡ Get) ⊎ (code_class (meaning_at t).code ≡ 2 → ⊥) → wants t ≡ false
+pub unwanted : (t : Ticket) → (t.request.method ≡ Get) ⊎ (code_class (meaning_at t).code ≡ 2 → ⊥) → wants t ≡ false
 unwanted t e = ⊎_elim
     (λ (g : t.request.method ≡ Get). get_wants t.request.method (code_class (meaning_at t).code == 2) g)
     (λ (not : code_class (meaning_at t).code ≡ 2 → ⊥). error_wants t.request.method (code_class (meaning_at t).code) 2 not)
     e
 
-keeps_unwanted : (t : Ticket) (slot : Slot) (w : Bool) → wants t ≡ w → w ≡ false → outcome t slot ≡ Keeps
+pub keeps_unwanted : (t : Ticket) (slot : Slot) (w : Bool) → wants t ≡ w → w ≡ false → outcome t slot ≡ Keeps
 keeps_unwanted t slot w is e = ap (λ (b : Bool). outcome_by b (slot.serial == t.serial) (nat_lt slot.serial last_serial)) (is ∙ e)
 
 -- a slot whose job, or another's, commits what isn't wanted

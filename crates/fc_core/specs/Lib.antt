@@ -16,6 +16,7 @@ pub mod Sound
 pub mod Legal
 pub mod Laws
 pub mod SlotLaws
+pub mod ObserveLaws
 pub mod HeadLaws
 pub mod AnswerLaws
 pub mod ExchangeLaws

@@ -1,10 +1,48 @@
 //! What a history promises of the observers of slots: each function is a law, and its contract says it.
-ghost use Rattle.std.specs.Prelude.{◌≡◌, ℕ, ◌+◌, ◌*◌, ◌%◌, Bool, Option, None, Some, max, true, false};
+ghost use Rattle.std.specs.Prelude.{◌≡◌, ℕ, ◌+◌, ◌*◌, ◌%◌, ◌⊎◌, Bool, List, Option, None, Some, max, true, false};
 ghost use Rattle.coap_msg.specs.declared.types.Emission.{Emission};
 ghost use Rattle.coap_msg.specs.declared.types.Endpoint.{Endpoint};
-ghost use Rattle.fc_observe.specs.Observers.{after_ack, after_reset, after_tick, at_moment};
-ghost use Rattle.fc_core.specs.declared.event.Event.TheVariants.{Signal, ShardTick};
-ghost use Rattle.fc_core.specs.History.{Seen, and_then, did, late_in, watch};
+ghost use Rattle.fc_help.specs.declared.request.Method.TheVariants.{Get};
+ghost use Rattle.fc_observe.specs.Observers.{after_ack, after_reset, after_tick, at_moment, cancelled, registered};
+ghost use Rattle.fc_registry.specs.Calls.{szx_of};
+ghost use Rattle.fc_registry.specs.Slots.{Ticket};
+ghost use Rattle.fc_core.specs.declared.event.Event.TheVariants.{Commit, Signal, ShardTick};
+ghost use Rattle.fc_core.specs.declared.stage.Stage.TheVariants.{ToAnswer, ToCommit};
+ghost use Rattle.fc_core.specs.History.{Entry, History, Seen, seen, and_then, did, late_in, stage, watch};
+ghost use Rattle.fc_core.specs.Laws.{later, slot_of};
+ghost use Rattle.fc_core.specs.ObserveLaws.{AsksToObserve, NoneRegisters, Registers, is_among, is_held};
+ghost use Rattle.fc_core.specs.Stages.{run_content};
+
+/// The commit of a GET with Observe 0 whose run means a 2.05 Content, and that asks no block or the first, registers its client at
+/// the moment of its shard; its answer says that the client observes exactly where it is among the observers then. That of a GET
+/// with Observe 1 removes the client, whatever the code. Any other commit leaves the observers of its slot, and each commit those
+/// of the other slots.
+pub fn commits_register_and_cancel()
+    ensures registered { (s : Seen) (k now n : ℕ) (t : Ticket) (o : Option Emission) → stage s k ≡ ToCommit n t
+        → t.request.method ≡ Get → AsksToObserve t → watch (and_then (did (Commit k now) o) s) (slot_of s k)
+        ≡ registered t.origin.endpoint t.token t.request (szx_of t.block) t.serial
+        (at_moment (max (s.shard_moment (slot_of s k % 8)) now) (watch s (slot_of s k))) }
+    ensures told { (s : Seen) (k now n : ℕ) (t : Ticket) (o : Option Emission) → stage s k ≡ ToCommit n t
+        → t.request.method ≡ Get → AsksToObserve t → stage (and_then (did (Commit k now) o) s) k
+        ≡ ToAnswer (run_content t (is_among t (watch (and_then (did (Commit k now) o) s) (slot_of s k)))) }
+    ensures cancelled { (s : Seen) (k now n : ℕ) (t : Ticket) (o : Option Emission) → stage s k ≡ ToCommit n t
+        → t.request.method ≡ Get → t.observe ≡ Some 1 → watch (and_then (did (Commit k now) o) s) (slot_of s k)
+        ≡ cancelled t.origin.endpoint t.token.items (watch s (slot_of s k)) }
+    ensures others { (s : Seen) (k now n : ℕ) (t : Ticket) (o : Option Emission) → stage s k ≡ ToCommit n t
+        → (AsksToObserve t → ⊥) → (t.observe ≡ Some 1 → ⊥)
+        → watch (and_then (did (Commit k now) o) s) (slot_of s k) ≡ watch s (slot_of s k) }
+    ensures elsewhere { (s : Seen) (k now m : ℕ) (o : Option Emission) → (m ≡ slot_of s k → ⊥)
+        → watch (and_then (did (Commit k now) o) s) m ≡ watch s m }
+{}
+
+/// A client comes among the observers of a slot only by the commit of its own GET there, with Observe 0. So one that was removed,
+/// however that was, isn't among them until it registers anew.
+pub fn observers_come_by_their_commits()
+    ensures comes { (r : Entry) (s : Seen) (n : ℕ) (to : Endpoint) (token : List ℕ) → is_held to token (watch (and_then r s) n) ≡ true
+        → (is_held to token (watch s n) ≡ true) ⊎ Registers r s n to token }
+    ensures away { (rs : List Entry) (h : History) (n : ℕ) (to : Endpoint) (token : List ℕ) → NoneRegisters h rs n to token
+        → is_held to token (watch (seen h) n) ≡ false → is_held to token (watch (seen (later h rs)) n) ≡ false }
+{}
 
 /// A signal is for the observers of its shard's slots alone: a Reset message removes just the entries whose last notification it
 /// answers, in each of these slots, and an Acknowledgement ends their wait.

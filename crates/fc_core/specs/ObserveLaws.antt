@@ -1,0 +1,51 @@
+-- What the laws of registration speak of.
+use Rattle.std.specs.Prelude.{◌≡◌, ℕ, ◌&&◌, nat_eq, Bool, true, List, [], ◌∷◌, Option, Some, None}
+use Rattle.std.specs.Cmp.Lexicographic.{pointwise}
+use Rattle.std.specs.List.{list_any}
+use Rattle.coap_msg.specs.declared.types.Endpoint.{Endpoint}
+use Rattle.coap_msg.specs.Endpoints.{same_endpoint}
+use Rattle.coap_opts.specs.Values.{Place}
+use Rattle.fc_observe.specs.Entries.{is_entry_of}
+use Rattle.fc_observe.specs.Observers.{ObserverList}
+use Rattle.fc_registry.specs.Calls.{meaning_at}
+use Rattle.fc_registry.specs.Slots.{Ticket}
+use Rattle.fc_core.specs.declared.event.Event.TheVariants.{Commit}
+use Rattle.fc_core.specs.declared.stage.Stage.TheVariants.{ToCommit}
+use Rattle.fc_core.specs.History.{Entry, History, Then, Seen, seen, stage}
+use Rattle.fc_core.specs.Laws.{slot_of}
+
+-- no block is asked, or the first
+abbrev pub IsFirst : Option Place → Type 0
+IsFirst None = Unit {0}
+IsFirst (Some block) = block.number ≡ 0
+
+-- the request has Observe 0 and asks the first block, and its run means a 2.05 Content
+pub record AsksToObserve (t : Ticket) : Type 0 where
+  pub observe : t.observe ≡ Some 0
+  pub first : IsFirst t.block
+  pub content : (meaning_at t).code ≡ 69
+
+-- the client of this endpoint and token is in a list of observers
+abbrev pub is_held : Endpoint → List ℕ → ObserverList → Bool
+is_held to token w = list_any (is_entry_of to token) w.held
+
+-- that of the ticket's request is
+abbrev pub is_among : Ticket → ObserverList → Bool
+is_among t w = is_held t.origin.endpoint t.token.items w
+
+-- the event is the commit of this client's GET, by its job at its stage and at its job's slot
+pub record Registers (r : Entry) (s : Seen) (n : ℕ) (to : Endpoint) (token : List ℕ) : Type 0 where
+  pub number : ℕ
+  pub now : ℕ
+  pub count : ℕ
+  pub ticket : Ticket
+  pub event : r.event ≡ Commit number now
+  pub at : stage s number ≡ ToCommit count ticket
+  pub slot : slot_of s number ≡ n
+  pub asks : AsksToObserve ticket
+  pub client : (same_endpoint ticket.origin.endpoint to && pointwise nat_eq ticket.token.items token) ≡ true
+
+-- none of the entries after a history does
+abbrev pub NoneRegisters : History → List Entry → ℕ → Endpoint → List ℕ → Type 0
+NoneRegisters h [] n to token = Unit {0}
+NoneRegisters h (r ∷ rs) n to token = (Registers r (seen h) n to token → ⊥) × NoneRegisters (Then h r) rs n to token
