@@ -113,45 +113,78 @@ abbrev pub answered_in : ℕ → Option Emission → List Exchange → List Exch
 answered_in number None exchanges = exchanges
 answered_in number (Some emission) exchanges = map (λ e. answered_if (e.number == number) emission.bytes e) exchanges
 
-abbrev pub moment_after : Event → Seen → ℕ
-moment_after (Deliver now to bytes) s = max s.moment now
-moment_after (Answer k now) s = if is_some (content_at (stage s k)) then max s.moment now else s.moment
-moment_after (Tick now) s = max s.moment now
-moment_after other s = s.moment
+-- what an event does at the front: it receives a datagram there, answers a job, lets time pass, or does nothing there
+pub data AtFront : Type 0 where
+  Receives : (now : ℕ) (to : Endpoint) (bytes : List ℕ) → AtFront
+  Answers : (job now : ℕ) → AtFront
+  Passes : (now : ℕ) → AtFront
+  Rests : AtFront
+
+abbrev pub at_front : Event → AtFront
+at_front (Deliver now to bytes) = Receives now to bytes.now
+at_front (Answer k now) = Answers k now
+at_front (Tick now) = Passes now
+at_front other = Rests
+
+abbrev pub moment_by : AtFront → Seen → ℕ
+moment_by (Receives now to bytes) s = max s.moment now
+moment_by (Answers k now) s = if is_some (content_at (stage s k)) then max s.moment now else s.moment
+moment_by (Passes now) s = max s.moment now
+moment_by Rests s = s.moment
 
 -- an exchange is opened by a delivery, which answers a refusal at once, or is answered at its job's stage
 abbrev pub exchanges_received : Received → Endpoint → Option Emission → Seen → ℕ → List Exchange
 exchanges_received x to emitted s now = answered_in (length s.exchanges) (kept_of x emitted) (s.exchanges ++ opened_by x (next_opening (front_at s now)) to)
 
-abbrev pub exchanges_after : Event → Option Emission → Seen → List Exchange
-exchanges_after (Deliver now to bytes) emitted s = exchanges_received (received_at s now to bytes.now) to emitted s now
-exchanges_after (Answer k now) emitted s = if is_some (content_at (stage s k)) then answered_in (job s k).origin.opening.number emitted s.exchanges else s.exchanges
-exchanges_after other emitted s = s.exchanges
+abbrev pub exchanges_by : AtFront → Option Emission → Seen → List Exchange
+exchanges_by (Receives now to bytes) emitted s = exchanges_received (received_at s now to bytes) to emitted s now
+exchanges_by (Answers k now) emitted s = if is_some (content_at (stage s k)) then answered_in (job s k).origin.opening.number emitted s.exchanges else s.exchanges
+exchanges_by (Passes now) emitted s = s.exchanges
+exchanges_by Rests emitted s = s.exchanges
 
 -- the payload of a new request, which begins or goes on with a transfer where it has a block
-abbrev pub added_in : Event → Seen → List Addition
-added_in (Deliver now to bytes) s = added_by (received_at s now to bytes.now) (max s.moment now) to
-added_in other s = []
+abbrev pub additions_by : AtFront → Seen → List Addition
+additions_by (Receives now to bytes) s = added_by (received_at s now to bytes) (max s.moment now) to
+additions_by other s = []
 
 -- an answer in time to a request that isn't confirmable draws a message id
 abbrev pub ids_answered : Option Content → Bool → Bool → Ids → ℕ → Ids
 ids_answered (Some content) true confirmable ids at = drawn_for confirmable ids at
 ids_answered content live confirmable ids at = ids
 
+abbrev pub ids_by : AtFront → Seen → Ids
+ids_by (Receives now to bytes) s = drawn_by (received_at s now to bytes) s.ids (max s.moment now)
+ids_by (Answers k now) s = ids_answered (content_at (stage s k)) (opening_is_live (max s.moment now) (job s k).origin.opening) (job s k).confirmable s.ids (max s.moment now)
+ids_by (Passes now) s = s.ids
+ids_by Rests s = s.ids
+
+-- the jobs that the front hands out
+abbrev pub tasks_by : AtFront → Seen → List Task
+tasks_by (Receives now to bytes) s = map new_task (brought (received_at s now to bytes) (next_opening (front_at s now)) to)
+tasks_by other s = []
+
+-- the same, of an event
+
+abbrev pub moment_after : Event → Seen → ℕ
+moment_after e s = moment_by (at_front e) s
+
+abbrev pub exchanges_after : Event → Option Emission → Seen → List Exchange
+exchanges_after e emitted s = exchanges_by (at_front e) emitted s
+
+abbrev pub added_in : Event → Seen → List Addition
+added_in e s = additions_by (at_front e) s
+
 abbrev pub ids_after : Event → Seen → Ids
-ids_after (Deliver now to bytes) s = drawn_by (received_at s now to bytes.now) s.ids (max s.moment now)
-ids_after (Answer k now) s = ids_answered (content_at (stage s k)) (opening_is_live (max s.moment now) (job s k).origin.opening) (job s k).confirmable s.ids (max s.moment now)
-ids_after other s = s.ids
+ids_after e s = ids_by (at_front e) s
+
+abbrev pub tasks_brought : Event → Seen → List Task
+tasks_brought e s = tasks_by (at_front e) s
 
 -- ---- the jobs and their slots
 
 abbrev pub tasks_moved : Option ℕ → Event → Seen → List Task
 tasks_moved None e s = s.tasks
 tasks_moved (Some k) e s = slice_set s.tasks k (task_moved (task_at s.tasks k) (row e (scene s k)))
-
-abbrev pub tasks_brought : Event → Seen → List Task
-tasks_brought (Deliver now to bytes) s = map new_task (brought (received_at s now to bytes.now) (next_opening (front_at s now)) to)
-tasks_brought other s = []
 
 abbrev pub changes_after : Option ℕ → Event → Seen → ℕ → List Change
 changes_after None e s n = s.changes n
@@ -161,10 +194,25 @@ abbrev pub shard_moment_after : Option ℕ → Event → Seen → ℕ → ℕ
 shard_moment_after None e s i = s.shard_moment i
 shard_moment_after (Some k) e s i = if (job s k).origin.slot % 8 == i then handed (row e (scene s k)).hands (s.shard_moment i) else s.shard_moment i
 
--- the moment that an event of a shard hands to it
+-- what an event does at a shard of its own, rather than at that of a job's slot: it carries a signal to the observers of its slots,
+-- lets time pass there, or does nothing there
+pub data AtShard : Type 0 where
+  Signals : (shard : ℕ) (to : Endpoint) (id : ℕ) (reset : Bool) → AtShard
+  Ticks : (shard now : ℕ) → AtShard
+  Calm : AtShard
+
+abbrev pub at_shard : Event → AtShard
+at_shard (Signal shard to id reset) = Signals shard to id reset
+at_shard (ShardTick shard now) = Ticks shard now
+at_shard other = Calm
+
+-- the moment that it hands to a shard
+abbrev pub hands_by : AtShard → ℕ → Option ℕ
+hands_by (Ticks shard now) i = if shard == i then Some now else None
+hands_by other i = None
+
 abbrev pub shard_hands : Event → ℕ → Option ℕ
-shard_hands (ShardTick shard now) i = if shard == i then Some now else None
-shard_hands other i = None
+shard_hands e i = hands_by (at_shard e) i
 
 -- the greatest word raised for each slot
 abbrev pub words_seen : Option ℕ → Event → Seen → List ℕ
@@ -186,14 +234,17 @@ abbrev pub is_place_of : Option ℕ → ℕ → ℕ → Bool
 is_place_of None i n = false
 is_place_of (Some k) i n = (8 * k + i) == n
 
--- what an event of a shard calls on the observers of slot n: a signal is for all of its shard, a tick for the first with a late notification
-abbrev pub calls_in : Event → Seen → ℕ → List ObserverCall
-calls_in (Signal shard to id reset) s n = if (n % 8) == shard then signal_call reset to id ∷ [] else []
-calls_in (ShardTick shard now) s n =
+-- what it calls on the observers of slot n: a signal is for all of its shard, a tick for the first with a late notification
+abbrev pub calls_by : AtShard → Seen → ℕ → List ObserverCall
+calls_by (Signals shard to id reset) s n = if (n % 8) == shard then signal_call reset to id ∷ [] else []
+calls_by (Ticks shard now) s n =
     if is_place_of (late_in s shard (max (s.shard_moment shard) now)) shard n
     then TickObservers (max (s.shard_moment shard) now) ∷ []
     else []
-calls_in other s n = []
+calls_by Calm s n = []
+
+abbrev pub calls_in : Event → Seen → ℕ → List ObserverCall
+calls_in e s n = calls_by (at_shard e) s n
 
 -- what an event calls on the observers of the slot of the job that it names
 abbrev pub calls_named : Option ℕ → Event → Seen → ℕ → List ObserverCall

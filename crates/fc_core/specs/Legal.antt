@@ -10,7 +10,7 @@ use Rattle.fc_registry.specs.declared.job.Job.{Job}
 use Rattle.fc_registry.specs.Slots.{Present, Ticket}
 use Rattle.fc_registry.specs.Calls.{ticket_of, input_of}
 use Rattle.fc_core.specs.declared.event.Event.{Event}
-use Rattle.fc_core.specs.declared.event.Event.TheVariants.{Deliver, Take, Answer, ShardTick}
+use Rattle.fc_core.specs.declared.event.Event.TheVariants.{Take}
 use Rattle.fc_core.specs.declared.stage.Stage.{Stage}
 use Rattle.fc_core.specs.declared.stage.Stage.TheVariants.{ToTake}
 use Rattle.fc_core.specs.Contents.{Content}
@@ -18,7 +18,7 @@ use Rattle.fc_core.specs.Replies.{IsReplyTo}
 use Rattle.fc_core.specs.Exchanges.{FrontState, opening_is_live}
 use Rattle.fc_core.specs.Receiving.{sent, id_in}
 use Rattle.fc_core.specs.Stages.{Scene, content_at}
-use Rattle.fc_core.specs.History.{History, Begins, Then, Seen, seen, front_at, received_at, job, late_in, stage, scene, watch}
+use Rattle.fc_core.specs.History.{AtFront, Receives, Answers, Passes, Rests, AtShard, Ticks, History, Begins, Then, Seen, seen, at_front, at_shard, front_at, received_at, job, late_in, stage, scene, watch}
 
 -- a job's answer goes out while its exchange is live and a message id is free, and not after
 abbrev pub IsAnswered : Bool → Option ℕ → Job → Content → Option Emission → Type 0
@@ -41,12 +41,20 @@ abbrev pub resent_at : Option ℕ → Seen → ℕ → ℕ → Option Emission
 resent_at None s i at = None
 resent_at (Some k) s i at = resent (ticked (at_moment at (watch s (8 * k + i))))
 
--- what an event may emit
+-- what an event sends again at a shard of its own
+abbrev pub resent_in : AtShard → Seen → Option Emission
+resent_in (Ticks i now) s = resent_at (late_in s i (max (s.shard_moment i) now)) s i (max (s.shard_moment i) now)
+resent_in other s = None
+
+-- what an event may emit, by what it does at the front, and else at its shard
+abbrev pub EmitsBy : AtFront → AtShard → Seen → Option Emission → Type 0
+EmitsBy (Receives now to bytes) x s emitted = emitted ≡ sent (received_at s now to bytes) (front_at s now) to
+EmitsBy (Answers k now) x s emitted = AnswerEmits (content_at (stage s k)) (job s k) (front_at s now) emitted
+EmitsBy (Passes now) x s emitted = emitted ≡ None
+EmitsBy Rests x s emitted = emitted ≡ resent_in x s
+
 abbrev pub Emits : Seen → Event → Option Emission → Type 0
-Emits s (Deliver now to bytes) emitted = emitted ≡ sent (received_at s now to bytes.now) (front_at s now) to
-Emits s (Answer k now) emitted = AnswerEmits (content_at (stage s k)) (job s k) (front_at s now) emitted
-Emits s (ShardTick i now) emitted = emitted ≡ resent_at (late_in s i (max (s.shard_moment i) now)) s i (max (s.shard_moment i) now)
-Emits s other emitted = emitted ≡ None
+Emits s e emitted = EmitsBy (at_front e) (at_shard e) s emitted
 
 -- each event emitted what it may
 abbrev pub IsLegal : History → Type 0

@@ -1,5 +1,5 @@
 -- What a server on one thread does with a job is a list of events.
-use Rattle.std.proofs.Common.{◌≡◌, ℕ, List, [], ◌∷◌, ◌++◌, length, map, set, Bool, Option, Some, None, refl, sym, ap, ◌∙◌, subst, Bor}
+use Rattle.std.proofs.Common.{◌≡◌, ℕ, List, [], ◌∷◌, ◌++◌, length, map, Bool, Option, Some, None, refl, sym, ap, ◌∙◌, subst, Bor}
 use Rattle.std.proofs.Math.Seq.{get_or-append_seam, set-append_seam}
 use Rattle.coap_msg.specs.declared.types.Endpoint.{Endpoint}
 use Rattle.coap_msg.specs.declared.types.Emission.{Emission}
@@ -13,17 +13,15 @@ use Rattle.fc_core.specs.declared.stage.Task.{Task}
 use Rattle.fc_core.specs.Exchanges.{FrontState, advanced}
 use Rattle.fc_core.specs.Fits.{FitsStage}
 use Rattle.fc_core.specs.History.{History, Seen, seen, task_at, no_task}
-use Rattle.fc_core.specs.Legal.{AnswerEmits}
 use Rattle.fc_core.specs.Receiving as x
 use Rattle.fc_core.specs.Receiving.{Received, after_delivered, brought, delivered, handed_on, next_opening, received, reply_or_nothing, sent}
-use Rattle.fc_core.specs.Sound.{AllSafe}
-use Rattle.fc_core.specs.Stages.{at_answer, content_at, task_moved, new_task, row, words_after}
+use Rattle.fc_core.specs.Stages.{new_task}
 use Rattle.fc_server.specs.Agreement.{Agrees, Parts}
 use Rattle.fc_server.specs.Serving.{Delivers, Heard, Hears, IsReachable, Passes, Serves, next, with_tasks, worked}
-use Rattle.fc_server.specs.States.{Responds, AtWork, Does, ServerState, front_after, scene_in, shards_moved}
-use Rattle.fc_server.specs.Steps.{AnsweredTo, DeliveredTo, IsReached, Moves, Steps}
-use Rattle.fc_server.proofs.Others.{answer_step, deliver_step, tick_step}
-use Rattle.fc_server.proofs.Stepping.{commit_step, install_step, peek_step, raise_step, receipt_step, remove_step, take_step}
+use Rattle.fc_server.specs.States.{Responds, AtWork, Does, ServerState}
+use Rattle.fc_server.specs.Steps.{DeliveredTo, Done, IsOfJob, IsReached}
+use Rattle.fc_server.proofs.Others.{delivered_done, does_done, responds_done, ticked_done}
+use Rattle.fc_server.proofs.Stepping.{goes_on}
 
 seam : (rest : List Task) (task : Task) → task_at (rest ++ task ∷ []) (length rest) ≡ task
 seam rest task = get_or-append_seam rest task [] no_task
@@ -49,59 +47,41 @@ pub at_work : {h : History} {s : ServerState} (rest : List Task) {task : Task} �
 at_work {h} {s} rest {task} v = at_seen (seen h) (with_tasks s (rest ++ task ∷ [])) (length rest) task v.agrees (ap (λ (ts : List Task). task_at ts (length rest)) (sym v.agrees.tasks) ∙ seam rest task)
 
 -- one event more
-goes_on : (h : History) (e : Event) (old : ServerState) (tasks : List Task) (out : Option Emission) (new : ServerState) (later : List Task) → Steps e (with_tasks old tasks) out (with_tasks new later) → Serves h old tasks → Serves (next h e out) new later
+serves_on : (h : History) (e : Event) (old : ServerState) (tasks : List Task) (out : Option Emission) (new : ServerState) (later : List Task) → Done e (with_tasks old tasks) out (with_tasks new later) → Serves h old tasks → Serves (next h e out) new later
 unfolding seen
-goes_on h e old tasks out new later steps v =
-    let s = steps (seen h) v.agrees in
+serves_on h e old tasks out new later done v =
+    let s = goes_on e (with_tasks old tasks) (with_tasks new later) out done (seen h) v.agrees in
     record { legal = (s.emits, v.legal); means = (s.means, v.means); agrees = s.agrees }
 
-moves_by : (e : Event) (old : ServerState) (rest : List Task) (task : Task) (new : ServerState) (later : Task) → Does e old task new later → Moves e (length rest) (with_tasks old (rest ++ task ∷ [])) (with_tasks new (rest ++ later ∷ []))
-moves_by e old rest task new later d =
-    let at = sym (seam rest task) in
-    record {
-      front = d.front;
-      tasks = ap (λ (t : Task). rest ++ t ∷ []) d.task_is ∙ (sym (set-append_seam rest task [] _) ∙ ap (λ (t : Task). set (rest ++ task ∷ []) (length rest) (task_moved t (row e (scene_in old.shards old.words t)))) at);
-      shards = subst (λ (t : Task). new.shards ≡ shards_moved (row e (scene_in old.shards old.words t)) t.job.origin.slot old.shards) at d.shards;
-      words = subst (λ (t : Task). new.words ≡ words_after (row e (scene_in old.shards old.words t)) t old.words) at d.words;
-      safe = subst (λ (t : Task). AllSafe (row e (scene_in old.shards old.words t)).changes) at d.safe;
-    }
-
 module _ (rest : List Task) {h : History} {old : ServerState} {task : Task} {new : ServerState} {later : Task} (v : Serves h old (rest ++ task ∷ [])) where
-  does_on : (e : Event) → ((p q : Parts) → Moves e (length rest) p q → Steps e p None q) → Does e old task new later → Serves (next h e None) new (rest ++ later ∷ [])
-  does_on e step d = goes_on h e old (rest ++ task ∷ []) None new (rest ++ later ∷ []) (step (with_tasks old (rest ++ task ∷ [])) (with_tasks new (rest ++ later ∷ [])) (moves_by e old rest task new later d)) v
+  does_on : (e : Event) → IsOfJob e (length rest) → Does e old task new later → Serves (next h e None) new (rest ++ later ∷ [])
+  does_on e is d = serves_on h e old (rest ++ task ∷ []) None new (rest ++ later ∷ [])
+      (does_done e (length rest) is old new (rest ++ task ∷ []) (rest ++ later ∷ []) task later (sym (seam rest task)) (sym (set-append_seam rest task [] later)) d) v
 
   pub took_on : (memory : Bool) → Does (Take (length rest) memory) old task new later → Serves (next h (Take (length rest) memory) None) new (rest ++ later ∷ [])
-  took_on memory d = does_on (Take (length rest) memory) (take_step (length rest) memory) d
+  took_on memory d = does_on (Take (length rest) memory) (refl, refl, refl) d
 
   pub peeked_on : (n : ℕ) → Does (Peek (length rest) n) old task new later → Serves (next h (Peek (length rest) n) None) new (rest ++ later ∷ [])
-  peeked_on n d = does_on (Peek (length rest) n) (peek_step (length rest) n) d
+  peeked_on n d = does_on (Peek (length rest) n) (refl, refl, refl) d
 
   pub removed_on : Does (Remove (length rest)) old task new later → Serves (next h (Remove (length rest)) None) new (rest ++ later ∷ [])
-  removed_on d = does_on (Remove (length rest)) (remove_step (length rest)) d
+  removed_on d = does_on (Remove (length rest)) (refl, refl, refl) d
 
   pub described_on : Does (Receipt (length rest)) old task new later → Serves (next h (Receipt (length rest)) None) new (rest ++ later ∷ [])
-  described_on d = does_on (Receipt (length rest)) (receipt_step (length rest)) d
+  described_on d = does_on (Receipt (length rest)) (refl, refl, refl) d
 
   pub committed_on : (now : ℕ) → Does (Commit (length rest) now) old task new later → Serves (next h (Commit (length rest) now) None) new (rest ++ later ∷ [])
-  committed_on now d = does_on (Commit (length rest) now) (commit_step (length rest) now) d
+  committed_on now d = does_on (Commit (length rest) now) (refl, refl, refl) d
 
   pub installed_on : (memory : Bool) → Does (Install (length rest) memory) old task new later → Serves (next h (Install (length rest) memory) None) new (rest ++ later ∷ [])
-  installed_on memory d = does_on (Install (length rest) memory) (install_step (length rest) memory) d
+  installed_on memory d = does_on (Install (length rest) memory) (refl, refl, refl) d
 
   pub raised_on : Does (Raise (length rest)) old task new later → Serves (next h (Raise (length rest)) None) new (rest ++ later ∷ [])
-  raised_on d = does_on (Raise (length rest)) (raise_step (length rest)) d
+  raised_on d = does_on (Raise (length rest)) (refl, refl, refl) d
 
   pub answered_on : (now : ℕ) (out : Option Emission) → Responds now old task new later out → Serves (next h (Answer (length rest) now) out) new (rest ++ later ∷ [])
-  answered_on now out d =
-      let at = sym (seam rest task) in
-      let to : AnsweredTo (length rest) now (with_tasks old (rest ++ task ∷ [])) (with_tasks new (rest ++ later ∷ [])) out = record {
-        front = subst (λ (t : Task). new.front ≡ front_after (content_at t.stage) t.job out old.front now) at d.front;
-        tasks = ap (λ (t : Task). rest ++ t ∷ []) d.task_is ∙ (sym (set-append_seam rest task [] _) ∙ ap (λ (t : Task). set (rest ++ task ∷ []) (length rest) (task_moved t (at_answer t.stage))) at);
-        shards = d.shards;
-        words = d.words;
-        emits = subst (λ (t : Task). AnswerEmits (content_at t.stage) t.job (advanced old.front now) out) at d.emits;
-      } in
-      goes_on h (Answer (length rest) now) old (rest ++ task ∷ []) out new (rest ++ later ∷ []) (answer_step (length rest) now (with_tasks old (rest ++ task ∷ [])) (with_tasks new (rest ++ later ∷ [])) out to) v
+  answered_on now out d = serves_on h (Answer (length rest) now) old (rest ++ task ∷ []) out new (rest ++ later ∷ [])
+      (responds_done (length rest) now old new (rest ++ task ∷ []) (rest ++ later ∷ []) task later out (sym (seam rest task)) (sym (set-append_seam rest task [] later)) d) v
 
 -- ---- a delivery
 
@@ -160,7 +140,7 @@ delivered_to now to bytes old new tasks d is front shards words =
 
 pub delivered_on : (now : ℕ) (to : Endpoint) (b : Bor (List ℕ)) (old new : ServerState) (d : Delivered) → delivered (advanced old.front now) to b.now ≡ d → new.front ≡ after_delivered (advanced old.front now) to b.now → new.shards ≡ old.shards → new.words ≡ old.words → (h : History) (tasks : List Task) → Serves h old tasks → Serves (next h (Deliver now to b) (sent_by d)) new (tasks ++ map new_task (jobs_by d))
 delivered_on now to b old new d is front shards words h tasks v =
-    goes_on h (Deliver now to b) old tasks (sent_by d) new (tasks ++ map new_task (jobs_by d)) (deliver_step now to b (with_tasks old tasks) (with_tasks new (tasks ++ map new_task (jobs_by d))) (sent_by d) (delivered_to now to b.now old new tasks d is front shards words)) v
+    serves_on h (Deliver now to b) old tasks (sent_by d) new (tasks ++ map new_task (jobs_by d)) (delivered_done now to b (with_tasks old tasks) (with_tasks new (tasks ++ map new_task (jobs_by d))) (sent_by d) (delivered_to now to b.now old new tasks d is front shards words)) v
 
 abbrev pub IsJobless : Delivered → Type 0
 IsJobless (Brings job) = ⊥
@@ -187,7 +167,7 @@ still_served now e d old new out s hears = heard_served s.history (length s.task
 -- ---- a tick
 
 pub ticked_on : (now : ℕ) (old new : ServerState) → new.front ≡ advanced old.front now → new.shards ≡ old.shards → new.words ≡ old.words → Passes now old new
-ticked_on now old new front shards words h tasks v = goes_on h (Tick now) old tasks None new tasks (tick_step now (with_tasks old tasks) (with_tasks new tasks) (record { front = front; tasks = refl; shards = shards; words = words })) v
+ticked_on now old new front shards words h tasks v = serves_on h (Tick now) old tasks None new tasks (ticked_done now old new tasks front shards words) v
 
 pub passed_served : (now : ℕ) (old new : ServerState) → IsReachable old → Passes now old new → IsReachable new
 passed_served now old new s passes = record { history = next s.history (Tick now) None; tasks = s.tasks; serves = passes s.history s.tasks s.serves }

@@ -1,24 +1,32 @@
--- Events of a shard: a signal, and a tick.
+-- What an event does at a shard of its own, a signal or a tick, is what is seen of it.
 use Rattle.std.proofs.Common.{◌≡◌, ℕ, zero, suc, ◌+◌, ◌*◌, ◌<◌, ◌≤◌, ◌/◌, ◌%◌, arith, get_or, List, [], ◌∷◌, ◌++◌, length, set, Bool, true, false, Option, Some, None, refl, sym, ap, ◌∙◌, subst, max, if◌then◌else◌, ⊎_elim}
 use Rattle.std.specs.Prelude.{is_some, nat_lt, ◌==◌}
 use Rattle.std.proofs.lemmas.Bool.{cases_eq, cases_lt, eq-eqb, le-ltb, lt-ltb, ne_eqb}
-use Rattle.std.proofs.lemmas.List.{append-nil, get_or-map, get_or-set_other, get_or-set_same, length-map, length-set}
+use Rattle.std.proofs.lemmas.List.{get_or-map, get_or-set_other, get_or-set_same, length-map, length-set}
 use Rattle.coap_msg.specs.declared.types.Endpoint.{Endpoint}
-use Rattle.coap_msg.specs.declared.types.Emission.{Emission}
 use Rattle.fc_observe.specs.Calls.{ObserverCall, Tick as TickObservers, observers, observers_after}
 use Rattle.fc_observe.specs.Observers.{at_moment, late_entry, no_observers, ticked}
-use Rattle.fc_registry.specs.Changes.{after_changes}
 use Rattle.fc_registry.specs.Shards.{AreShards, no_shard, shard_at}
 use Rattle.fc_registry.specs.Slots.{Shard, Slot, new_slot}
 use Rattle.fc_registry.specs.Watches.{after_tick, handed as shard_handed, is_late_at as is_late_here, late_place, place_from, signal_call, signalled, ticked_in, watch_at, watch_called}
-use Rattle.fc_core.specs.declared.event.Event.{Event}
-use Rattle.fc_core.specs.declared.event.Event.TheVariants.{Signal, ShardTick}
-use Rattle.fc_core.specs.History.{Seen, and_then, calls_in, calls_named, changes_after, did, is_late_at, is_place_of, late_in, shard_hands, shard_moment_after}
-use Rattle.fc_core.specs.Legal.{resent, resent_at}
-use Rattle.fc_core.specs.Stages.{handed, names}
-use Rattle.fc_server.specs.Agreement.{Agrees, Parts, ShardsAgree}
-use Rattle.fc_server.specs.Steps.{OnShard, ShardTicked, Steps, resent_if, shard_changed, shard_resent, shard_ticked}
-use Rattle.fc_server.proofs.Others.{shards_stay, unnamed_agrees}
+use Rattle.fc_core.specs.History.{AtShard, Signals, Ticks, Calm, Seen, calls_by, hands_by, is_late_at, is_place_of, late_in}
+use Rattle.fc_core.specs.Legal.{resent, resent_at, resent_in}
+use Rattle.fc_core.specs.Stages.{handed}
+use Rattle.fc_server.specs.Agreement.{ShardsAgree}
+use Rattle.fc_server.specs.Steps.{resent_by, resent_if, shard_by, shard_changed, shard_resent, shard_ticked}
+
+-- what is seen of the shards after it
+abbrev pub shard_seen : AtShard → Seen → Seen
+shard_seen y s = record s { shard_moment = λ i. handed (hands_by y i) (s.shard_moment i); calls = λ n. calls_by y s n ++ s.calls n }
+
+-- where it hands no shard a moment, and calls nothing, they stay as they were
+rest_agrees : (y : AtShard) (s : Seen) (shards : List Shard) → ((i : ℕ) → i < 8 → hands_by y i ≡ None) → ((n : ℕ) → calls_by y s n ≡ []) → ShardsAgree s shards → ShardsAgree (shard_seen y s) shards
+rest_agrees y s shards hands calls a = record {
+  are = a.are;
+  slot = a.slot;
+  now = λ i lt. a.now i lt ∙ ap (λ (p : Option ℕ). handed p (s.shard_moment i)) (sym (hands i lt));
+  watch = λ i k low lt. let n = 8 * k + i in a.watch i k low lt ∙ ap (λ (cs : List ObserverCall). observers n (cs ++ s.calls n)) (sym (calls n));
+}
 
 -- ---- a shard in place of another, whose slots it keeps
 
@@ -48,27 +56,22 @@ module _ (shards : List Shard) (are : AreShards shards) (i : ℕ) (low : i < 8) 
   }
 
   -- the agreement, where the rest is what is seen of the event
-  pub put_agrees : (s : Seen) (e : Event) (emitted : Option Emission) (o : Option ℕ) → names e ≡ o → o ≡ None → ShardsAgree s shards → x.index ≡ (shard_at shards i).index → x.slots ≡ (shard_at shards i).slots → length x.watches ≡ 8 →
-      x.now ≡ handed (shard_hands e i) (s.shard_moment i) → ((j : ℕ) → (j ≡ i → ⊥) → shard_hands e j ≡ None) →
-      ((k : ℕ) → k < 8 → watch_at x k ≡ observers (8 * k + i) (calls_in e s (8 * k + i) ++ s.calls (8 * k + i))) → ((j k : ℕ) → j < 8 → k < 8 → (j ≡ i → ⊥) → calls_in e s (8 * k + j) ≡ []) →
-      ShardsAgree (and_then (did e emitted) s) put
-  put_agrees s e emitted o is none a index slots eight now others here there =
-      let named : None ≡ names e = sym (is ∙ none) in
-      record {
-        are = are_put index slots eight;
-        slot = λ n lt. kept (λ (y : Shard). get_or y.slots (n / 8) (new_slot 0)) (ap (λ (ss : List Slot). get_or ss (n / 8) (new_slot 0)) slots) (n % 8) ∙ (a.slot n lt ∙ ap (λ (p : Option ℕ). after_changes (new_slot s.first_serial) (changes_after p e s n)) named);
-        now = λ j lt.
-            let same : shard_moment_after (names e) e s j ≡ s.shard_moment j = ap (λ (p : Option ℕ). shard_moment_after p e s j) (sym named) in
-            ⊎_elim
-            (λ (q : j ≡ i). subst (λ (m : ℕ). (shard_at put m).now ≡ handed (shard_hands e m) (s.shard_moment m)) (sym q) (ap (λ (y : Shard). y.now) at_place ∙ now))
-            (λ (ne : j ≡ i → ⊥). ap (λ (y : Shard). y.now) (elsewhere j ne) ∙ (a.now j lt ∙ ap (λ (p : Option ℕ). handed p (s.shard_moment j)) (sym (others j ne))))
-            (cases_eq j i)
-            ∙ ap (handed (shard_hands e j)) (sym same);
-        watch = λ j k jl kl. let alone : watch_at (shard_at put j) k ≡ observers (8 * k + j) (calls_in e s (8 * k + j) ++ s.calls (8 * k + j)) = ⊎_elim
-            (λ (q : j ≡ i). subst (λ (m : ℕ). watch_at (shard_at put m) k ≡ observers (8 * k + m) (calls_in e s (8 * k + m) ++ s.calls (8 * k + m))) (sym q) (ap (λ (y : Shard). watch_at y k) at_place ∙ here k kl))
-            (λ (ne : j ≡ i → ⊥). ap (λ (y : Shard). watch_at y k) (elsewhere j ne) ∙ (a.watch j k jl kl ∙ ap (λ (cs : List ObserverCall). observers (8 * k + j) (cs ++ s.calls (8 * k + j))) (sym (there j k jl kl ne))))
-            (cases_eq j i) in alone ∙ ap (λ (p : Option ℕ). observers (8 * k + j) (calls_named p e s (8 * k + j) ++ (calls_in e s (8 * k + j) ++ s.calls (8 * k + j)))) named;
-      }
+  put_agrees : (s : Seen) (y : AtShard) → ShardsAgree s shards → x.index ≡ (shard_at shards i).index → x.slots ≡ (shard_at shards i).slots → length x.watches ≡ 8 →
+      x.now ≡ handed (hands_by y i) (s.shard_moment i) → ((j : ℕ) → (j ≡ i → ⊥) → hands_by y j ≡ None) →
+      ((k : ℕ) → k < 8 → watch_at x k ≡ observers (8 * k + i) (calls_by y s (8 * k + i) ++ s.calls (8 * k + i))) → ((j k : ℕ) → j < 8 → k < 8 → (j ≡ i → ⊥) → calls_by y s (8 * k + j) ≡ []) →
+      ShardsAgree (shard_seen y s) put
+  put_agrees s y a index slots eight now others here there = record {
+    are = are_put index slots eight;
+    slot = λ n lt. kept (λ (y : Shard). get_or y.slots (n / 8) (new_slot 0)) (ap (λ (ss : List Slot). get_or ss (n / 8) (new_slot 0)) slots) (n % 8) ∙ a.slot n lt;
+    now = λ j lt. ⊎_elim
+        (λ (q : j ≡ i). subst (λ (m : ℕ). (shard_at put m).now ≡ handed (hands_by y m) (s.shard_moment m)) (sym q) (ap (λ (z : Shard). z.now) at_place ∙ now))
+        (λ (ne : j ≡ i → ⊥). ap (λ (z : Shard). z.now) (elsewhere j ne) ∙ (a.now j lt ∙ ap (λ (p : Option ℕ). handed p (s.shard_moment j)) (sym (others j ne))))
+        (cases_eq j i);
+    watch = λ j k jl kl. ⊎_elim
+        (λ (q : j ≡ i). subst (λ (m : ℕ). watch_at (shard_at put m) k ≡ observers (8 * k + m) (calls_by y s (8 * k + m) ++ s.calls (8 * k + m))) (sym q) (ap (λ (z : Shard). watch_at z k) at_place ∙ here k kl))
+        (λ (ne : j ≡ i → ⊥). ap (λ (z : Shard). watch_at z k) (elsewhere j ne) ∙ (a.watch j k jl kl ∙ ap (λ (cs : List ObserverCall). observers (8 * k + j) (cs ++ s.calls (8 * k + j))) (sym (there j k jl kl ne))))
+        (cases_eq j i);
+  }
 
 -- ---- a signal
 
@@ -80,31 +83,20 @@ for_shard i n c b is = ap (λ (d : Bool). if d then c ∷ [] else []) is
 signalled_here : (c : ObserverCall) (x : Shard) (n k : ℕ) (h : List ObserverCall) → length x.watches ≡ 8 → k < 8 → watch_at x k ≡ observers n h → watch_at (signalled c x) k ≡ observers n (c ∷ h)
 signalled_here c x n k h eight lt is = get_or-map (observers_after c) x.watches k (no_observers 0) (no_observers 0) (omega (arith, eight, lt)) ∙ ap (observers_after c) is
 
-signal_agrees : (s : Seen) (i : ℕ) (to : Endpoint) (id : ℕ) (reset : Bool) (shards : List Shard) → ShardsAgree s shards → ShardsAgree (and_then (did (Signal i to id reset) None) s) (shard_changed (nat_lt i 8) i (signalled (signal_call reset to id)) shards)
+signal_agrees : (s : Seen) (i : ℕ) (to : Endpoint) (id : ℕ) (reset : Bool) (shards : List Shard) → ShardsAgree s shards → ShardsAgree (shard_seen (Signals i to id reset) s) (shard_changed (nat_lt i 8) i (signalled (signal_call reset to id)) shards)
 signal_agrees s i to id reset shards a =
     let c = signal_call reset to id in
-    let e = Signal i to id reset in
+    let y = Signals i to id reset in
     let x = signalled c (shard_at shards i) in
     ⊎_elim
-    (λ (low : i < 8). subst (λ (b : Bool). ShardsAgree (and_then (did e None) s) (shard_changed b i (signalled c) shards)) (sym (lt-ltb i 8 low))
-    (put_agrees shards a.are i low x s e None None refl refl a refl refl (length-map (shard_at shards i).watches (observers_after c) ∙ a.are.watched i low)
+    (λ (low : i < 8). subst (λ (b : Bool). ShardsAgree (shard_seen y s) (shard_changed b i (signalled c) shards)) (sym (lt-ltb i 8 low))
+    (put_agrees shards a.are i low x s y a refl refl (length-map (shard_at shards i).watches (observers_after c) ∙ a.are.watched i low)
     (a.now i low) (λ j ne. refl)
     (λ k lt. signalled_here c (shard_at shards i) (8 * k + i) k (s.calls (8 * k + i)) (a.are.watched i low) lt (a.watch i k low lt) ∙ ap (λ (cs : List ObserverCall). observers (8 * k + i) (cs ++ s.calls (8 * k + i))) (sym (for_shard i (8 * k + i) c true (eq-eqb ((8 * k + i) % 8) i (omega (arith, low))))))
     (λ j k jl kl ne. for_shard i (8 * k + j) c false (ne_eqb ((8 * k + j) % 8) i (λ q. ne (omega (arith, q, jl)))))))
-    (λ (high : 8 ≤ i). subst (λ (b : Bool). ShardsAgree (and_then (did e None) s) (shard_changed b i (signalled c) shards)) (sym (le-ltb i 8 high))
-    (shards_stay e None s shards None refl refl (λ j lt. refl) (λ n. for_shard i n c false (ne_eqb (n % 8) i (λ q. absurd (omega (arith, q, high))))) a))
+    (λ (high : 8 ≤ i). subst (λ (b : Bool). ShardsAgree (shard_seen y s) (shard_changed b i (signalled c) shards)) (sym (le-ltb i 8 high))
+    (rest_agrees y s shards (λ j lt. refl) (λ n. for_shard i n c false (ne_eqb (n % 8) i (λ q. absurd (omega (arith, q, high))))) a))
     (cases_lt i 8)
-
-pub signal_step : (i : ℕ) (to : Endpoint) (id : ℕ) (reset : Bool) (old new : Parts) → OnShard i (signalled (signal_call reset to id)) old new → Steps (Signal i to id reset) old None new
-signal_step i to id reset old new t s a =
-    let e = Signal i to id reset in
-    let shards = subst (ShardsAgree (and_then (did e None) s)) (sym t.shards) (signal_agrees s i to id reset old.shards a.shards) in
-    record {
-      emits = refl;
-      means = tt;
-      agrees = subst (Agrees (and_then (did e None) s)) (λ j. record { front = sym t.front j; shards = new.shards; words = sym t.words j; tasks = sym t.tasks j })
-          (unnamed_agrees e None old s None refl refl a old.front a.front old.tasks (a.tasks ∙ sym (append-nil s.tasks)) new.shards shards);
-    }
 
 -- ---- a tick
 
@@ -183,14 +175,14 @@ module _ (s : Seen) (i now : ℕ) (low : i < 8) (shards : List Shard) (a : Shard
   after_length None = a.are.watched i low
   after_length (Some k) = length-set here.watches k (observers_after (TickObservers here.now) (watch_at here k)) ∙ a.are.watched i low
 
-  hands_here : shard_hands (ShardTick i now) i ≡ Some now
+  hands_here : hands_by (Ticks i now) i ≡ Some now
   hands_here = ap (λ (b : Bool). if b then Some now else None) (eq-eqb i i refl)
 
-  hands_there : (j : ℕ) → (j ≡ i → ⊥) → shard_hands (ShardTick i now) j ≡ None
+  hands_there : (j : ℕ) → (j ≡ i → ⊥) → hands_by (Ticks i now) j ≡ None
   hands_there j ne = ap (λ (b : Bool). if b then Some now else None) (ne_eqb i j (λ q. ne (sym q)))
 
-  tick_agrees : (p : Option ℕ) (emitted : Option Emission) → p ≡ late_in s i at → ShardsAgree (and_then (did (ShardTick i now) emitted) s) (set shards i (after_tick p here))
-  tick_agrees p emitted is = put_agrees shards a.are i low (after_tick p here) s (ShardTick i now) emitted None refl refl a (after_index p) (after_slots p) (after_length p)
+  tick_agrees : (p : Option ℕ) → p ≡ late_in s i at → ShardsAgree (shard_seen (Ticks i now) s) (set shards i (after_tick p here))
+  tick_agrees p is = put_agrees shards a.are i low (after_tick p here) s (Ticks i now) a (after_index p) (after_slots p) (after_length p)
       (after_now p ∙ (at_is ∙ ap (λ (o : Option ℕ). handed o (s.shard_moment i)) (sym hands_here)))
       hands_there
       (λ k lt. ticked_here p k lt ∙ ap (λ (q : Option ℕ). observers (8 * k + i) (tick_calls (is_place_of q i (8 * k + i)) ++ s.calls (8 * k + i))) is)
@@ -202,39 +194,37 @@ unfolding late_in
 none_late s i at high = ap (λ (b : Bool). if b then place_from (is_late_at s i at) 8 0 else None) (le-ltb i 8 high)
 
 -- what a tick does to the shards, and sends
-record TicksAt (s : Seen) (i now : ℕ) (emitted : Option Emission) (shards : List Shard) (b : Bool) : Type 0 where
-  emits : emitted ≡ resent_at (late_in s i (max (s.shard_moment i) now)) s i (max (s.shard_moment i) now)
-  agrees : ShardsAgree (and_then (did (ShardTick i now) emitted) s) (shard_changed b i (shard_ticked now) shards)
+record TicksAt (s : Seen) (i now : ℕ) (shards : List Shard) (b : Bool) : Type 0 where
+  sends : resent_if b (shard_resent now (shard_at shards i)) ≡ resent_at (late_in s i (max (s.shard_moment i) now)) s i (max (s.shard_moment i) now)
+  agrees : ShardsAgree (shard_seen (Ticks i now) s) (shard_changed b i (shard_ticked now) shards)
 
-ticks_at : (s : Seen) (i now : ℕ) (emitted : Option Emission) (shards : List Shard) → ShardsAgree s shards → emitted ≡ resent_if (nat_lt i 8) (shard_resent now (shard_at shards i)) → TicksAt s i now emitted shards (nat_lt i 8)
-ticks_at s i now emitted shards a sent = ⊎_elim
+ticks_at : (s : Seen) (i now : ℕ) (shards : List Shard) → ShardsAgree s shards → TicksAt s i now shards (nat_lt i 8)
+ticks_at s i now shards a = ⊎_elim
     (λ (low : i < 8).
-    let yes = lt-ltb i 8 low in
     let place = late_is s i now low shards a in
-    subst (TicksAt s i now emitted shards) (sym yes) (record {
-      emits = sent ∙ (ap (λ (b : Bool). resent_if b (shard_resent now (shard_at shards i))) yes ∙ (resent_is s i now low shards a (late_place (shard_handed (shard_at shards i) now)) (late_below s i now low shards a) ∙ ap (λ (p : Option ℕ). resent_at p s i (max (s.shard_moment i) now)) place));
-      agrees = tick_agrees s i now low shards a (late_place (shard_handed (shard_at shards i) now)) emitted place;
+    subst (TicksAt s i now shards) (sym (lt-ltb i 8 low)) (record {
+      sends = resent_is s i now low shards a (late_place (shard_handed (shard_at shards i) now)) (late_below s i now low shards a) ∙ ap (λ (p : Option ℕ). resent_at p s i (max (s.shard_moment i) now)) place;
+      agrees = tick_agrees s i now low shards a (late_place (shard_handed (shard_at shards i) now)) place;
     }))
     (λ (high : 8 ≤ i).
-    let no = le-ltb i 8 high in
     let none = none_late s i (max (s.shard_moment i) now) high in
-    subst (TicksAt s i now emitted shards) (sym no) (record {
-      emits = sent ∙ (ap (λ (b : Bool). resent_if b (shard_resent now (shard_at shards i))) no ∙ ap (λ (p : Option ℕ). resent_at p s i (max (s.shard_moment i) now)) (sym none));
-      agrees = shards_stay (ShardTick i now) emitted s shards None refl refl
+    subst (TicksAt s i now shards) (sym (le-ltb i 8 high)) (record {
+      sends = ap (λ (p : Option ℕ). resent_at p s i (max (s.shard_moment i) now)) (sym none);
+      agrees = rest_agrees (Ticks i now) s shards
           (λ j lt. ap (λ (b : Bool). if b then Some now else None) (ne_eqb i j (λ q. absurd (omega (arith, q, lt, high)))))
           (λ n. ap (λ (p : Option ℕ). if is_place_of p i n then TickObservers (max (s.shard_moment i) now) ∷ [] else []) none)
           a;
     }))
     (cases_lt i 8)
 
-pub shard_tick_step : (i now : ℕ) (old new : Parts) (emitted : Option Emission) → ShardTicked i now old new emitted → Steps (ShardTick i now) old emitted new
-shard_tick_step i now old new emitted t s a =
-    let e = ShardTick i now in
-    let w = ticks_at s i now emitted old.shards a.shards t.emits in
-    let shards = subst (ShardsAgree (and_then (did e emitted) s)) (sym t.on.shards) w.agrees in
-    record {
-      emits = w.emits;
-      means = tt;
-      agrees = subst (Agrees (and_then (did e emitted) s)) (λ j. record { front = sym t.on.front j; shards = new.shards; words = sym t.on.words j; tasks = sym t.on.tasks j })
-          (unnamed_agrees e emitted old s None refl refl a old.front a.front old.tasks (a.tasks ∙ sym (append-nil s.tasks)) new.shards shards);
-    }
+-- ---- any
+
+pub shard_agrees : (y : AtShard) (s : Seen) (shards : List Shard) → ShardsAgree s shards → ShardsAgree (shard_seen y s) (shard_by y shards)
+shard_agrees (Signals i to id reset) s shards a = signal_agrees s i to id reset shards a
+shard_agrees (Ticks i now) s shards a = (ticks_at s i now shards a).agrees
+shard_agrees Calm s shards a = rest_agrees Calm s shards (λ i lt. refl) (λ n. refl) a
+
+pub shard_sends : (y : AtShard) (s : Seen) (shards : List Shard) → ShardsAgree s shards → resent_by y shards ≡ resent_in y s
+shard_sends (Signals i to id reset) s shards a = refl
+shard_sends (Ticks i now) s shards a = (ticks_at s i now shards a).sends
+shard_sends Calm s shards a = refl

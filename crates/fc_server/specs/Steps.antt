@@ -1,60 +1,59 @@
 -- What an event does to a server and its jobs, and that it is what the history says.
-use Rattle.std.specs.Prelude.{◌≡◌, ℕ, Bool, true, false, nat_lt, List, ◌++◌, map, Option, Some, None, slice_set}
+use Rattle.std.specs.Prelude.{◌≡◌, ℕ, Bool, true, false, nat_lt, List, [], ◌++◌, map, Option, Some, None, slice_set}
 use Rattle.coap_msg.specs.declared.types.Endpoint.{Endpoint}
 use Rattle.coap_msg.specs.declared.types.Emission.{Emission}
 use Rattle.fc_registry.specs.Shards.{shard_at}
 use Rattle.fc_registry.specs.Slots.{Shard}
 use Rattle.fc_registry.specs.Watches.{after_tick, handed as shard_handed, late_place, signal_call, signalled, ticked_in}
 use Rattle.fc_core.specs.declared.event.Event.{Event}
-use Rattle.fc_core.specs.Exchanges.{advanced}
-use Rattle.fc_core.specs.History.{Seen, and_then, did, task_at}
+use Rattle.fc_core.specs.declared.stage.Task.{Task}
+use Rattle.fc_core.specs.Exchanges.{FrontState, advanced}
+use Rattle.fc_core.specs.History.{AtFront, Receives, Answers, Passes, Rests, AtShard, Signals, Ticks, Calm, Seen, and_then, at_front, at_shard, did, task_at}
 use Rattle.fc_core.specs.Legal.{AnswerEmits, Emits, TakesMeaning, resent}
 use Rattle.fc_core.specs.Receiving.{after_received, brought, next_opening, received, sent}
 use Rattle.fc_core.specs.Sound.{AllSafe}
-use Rattle.fc_core.specs.Stages.{at_answer, content_at, task_moved, new_task, row, words_after}
+use Rattle.fc_core.specs.Stages.{Move, content_at, names, new_task, row, task_moved, words_after}
 use Rattle.fc_server.specs.Agreement.{Agrees, Parts}
 use Rattle.fc_server.specs.States.{front_after, scene_in, shards_moved}
 
--- an event on the job of this number
-pub record Moves (e : Event) (k : ℕ) (old new : Parts) : Type 0 where
-  pub front : new.front ≡ old.front
-  pub tasks : new.tasks ≡ slice_set old.tasks k (task_moved (task_at old.tasks k) (row e (scene_in old.shards old.words (task_at old.tasks k))))
-  pub shards : new.shards ≡ shards_moved (row e (scene_in old.shards old.words (task_at old.tasks k))) (task_at old.tasks k).job.origin.slot old.shards
-  pub words : new.words ≡ words_after (row e (scene_in old.shards old.words (task_at old.tasks k))) (task_at old.tasks k) old.words
-  pub safe : AllSafe (row e (scene_in old.shards old.words (task_at old.tasks k))).changes
+-- ---- by what an event does at the front
 
--- a delivery, of a front that has advanced to its moment: the jobs that it brings, and what it sends
-pub record DeliveredTo (now : ℕ) (to : Endpoint) (bytes : List ℕ) (old new : Parts) (emitted : Option Emission) : Type 0 where
-  pub front : let f = advanced old.front now in new.front ≡ after_received (received f to bytes) f to
-  pub tasks : let f = advanced old.front now in new.tasks ≡ old.tasks ++ map new_task (brought (received f to bytes) (next_opening f) to)
-  pub shards : new.shards ≡ old.shards
-  pub words : new.words ≡ old.words
-  pub emits : let f = advanced old.front now in emitted ≡ sent (received f to bytes) f to
+abbrev pub front_by : AtFront → Parts → Option Emission → FrontState
+front_by (Receives now to bytes) p emitted = after_received (received (advanced p.front now) to bytes) (advanced p.front now) to
+front_by (Answers k now) p emitted = front_after (content_at (task_at p.tasks k).stage) (task_at p.tasks k).job emitted p.front now
+front_by (Passes now) p emitted = advanced p.front now
+front_by Rests p emitted = p.front
 
-pub record AnsweredTo (k now : ℕ) (old new : Parts) (emitted : Option Emission) : Type 0 where
-  pub front : new.front ≡ front_after (content_at (task_at old.tasks k).stage) (task_at old.tasks k).job emitted old.front now
-  pub tasks : new.tasks ≡ slice_set old.tasks k (task_moved (task_at old.tasks k) (at_answer (task_at old.tasks k).stage))
-  pub shards : new.shards ≡ old.shards
-  pub words : new.words ≡ old.words
-  pub emits : AnswerEmits (content_at (task_at old.tasks k).stage) (task_at old.tasks k).job (advanced old.front now) emitted
+abbrev pub brought_by : AtFront → Parts → List Task
+brought_by (Receives now to bytes) p = map new_task (brought (received (advanced p.front now) to bytes) (next_opening (advanced p.front now)) to)
+brought_by other p = []
 
-pub record Ticked (now : ℕ) (old new : Parts) : Type 0 where
-  pub front : new.front ≡ advanced old.front now
-  pub tasks : new.tasks ≡ old.tasks
-  pub shards : new.shards ≡ old.shards
-  pub words : new.words ≡ old.words
+-- ---- by the job that it names
 
--- the shards after a change of one of them; a shard above 7 there is not
+abbrev pub move_in : Event → Parts → ℕ → Move
+move_in e p k = row e (scene_in p.shards p.words (task_at p.tasks k))
+
+abbrev pub tasks_in : Option ℕ → Event → Parts → List Task
+tasks_in None e p = p.tasks
+tasks_in (Some k) e p = slice_set p.tasks k (task_moved (task_at p.tasks k) (move_in e p k))
+
+abbrev pub shards_in : Option ℕ → Event → Parts → List Shard
+shards_in None e p = p.shards
+shards_in (Some k) e p = shards_moved (move_in e p k) (task_at p.tasks k).job.origin.slot p.shards
+
+abbrev pub words_in : Option ℕ → Event → Parts → List ℕ
+words_in None e p = p.words
+words_in (Some k) e p = words_after (move_in e p k) (task_at p.tasks k) p.words
+
+abbrev pub IsSafeIn : Option ℕ → Event → Parts → Type 0
+IsSafeIn None e p = Unit {0}
+IsSafeIn (Some k) e p = AllSafe (move_in e p k).changes
+
+-- ---- by what it does at a shard of its own; a shard above 7 there is not
+
 abbrev pub shard_changed : Bool → ℕ → (Shard → Shard) → List Shard → List Shard
 shard_changed true i f shards = slice_set shards i (f (shard_at shards i))
 shard_changed false i f shards = shards
-
--- an event of a shard
-pub record OnShard (i : ℕ) (f : Shard → Shard) (old new : Parts) : Type 0 where
-  pub front : new.front ≡ old.front
-  pub tasks : new.tasks ≡ old.tasks
-  pub shards : new.shards ≡ shard_changed (nat_lt i 8) i f old.shards
-  pub words : new.words ≡ old.words
 
 -- a shard after a tick, and what it sends again
 abbrev pub shard_ticked : ℕ → Shard → Shard
@@ -67,9 +66,45 @@ abbrev pub resent_if : Bool → Option Emission → Option Emission
 resent_if true emitted = emitted
 resent_if false emitted = None
 
-pub record ShardTicked (i now : ℕ) (old new : Parts) (emitted : Option Emission) : Type 0 where
-  pub on : OnShard i (shard_ticked now) old new
-  pub emits : emitted ≡ resent_if (nat_lt i 8) (shard_resent now (shard_at old.shards i))
+abbrev pub shard_by : AtShard → List Shard → List Shard
+shard_by (Signals i to id reset) shards = shard_changed (nat_lt i 8) i (signalled (signal_call reset to id)) shards
+shard_by (Ticks i now) shards = shard_changed (nat_lt i 8) i (shard_ticked now) shards
+shard_by Calm shards = shards
+
+abbrev pub resent_by : AtShard → List Shard → Option Emission
+resent_by (Ticks i now) shards = resent_if (nat_lt i 8) (shard_resent now (shard_at shards i))
+resent_by other shards = None
+
+-- ---- what it sends
+
+abbrev pub EmitsAt : AtFront → AtShard → Parts → Option Emission → Type 0
+EmitsAt (Receives now to bytes) x p emitted = emitted ≡ sent (received (advanced p.front now) to bytes) (advanced p.front now) to
+EmitsAt (Answers k now) x p emitted = AnswerEmits (content_at (task_at p.tasks k).stage) (task_at p.tasks k).job (advanced p.front now) emitted
+EmitsAt (Passes now) x p emitted = emitted ≡ None
+EmitsAt Rests x p emitted = emitted ≡ resent_by x p.shards
+
+-- ---- an event
+
+-- what an event does: to the front, to the jobs, to the shards, to the head words; and what it sends
+pub record Done (e : Event) (old : Parts) (emitted : Option Emission) (new : Parts) : Type 0 where
+  pub front : new.front ≡ front_by (at_front e) old emitted
+  pub tasks : new.tasks ≡ tasks_in (names e) e old ++ brought_by (at_front e) old
+  pub shards : new.shards ≡ shard_by (at_shard e) (shards_in (names e) e old)
+  pub words : new.words ≡ words_in (names e) e old
+  pub emits : EmitsAt (at_front e) (at_shard e) old emitted
+  pub safe : IsSafeIn (names e) e old
+
+-- an event of this job, and of nothing else
+abbrev pub IsOfJob : Event → ℕ → Type 0
+IsOfJob e k = (at_front e ≡ Rests) × (at_shard e ≡ Calm) × (names e ≡ Some k)
+
+-- a delivery, of a front that has advanced to its moment: the jobs that it brings, and what it sends
+pub record DeliveredTo (now : ℕ) (to : Endpoint) (bytes : List ℕ) (old new : Parts) (emitted : Option Emission) : Type 0 where
+  pub front : let f = advanced old.front now in new.front ≡ after_received (received f to bytes) f to
+  pub tasks : let f = advanced old.front now in new.tasks ≡ old.tasks ++ map new_task (brought (received f to bytes) (next_opening f) to)
+  pub shards : new.shards ≡ old.shards
+  pub words : new.words ≡ old.words
+  pub emits : let f = advanced old.front now in emitted ≡ sent (received f to bytes) f to
 
 -- a step: whatever is seen of the history that the state agrees with, what is emitted is what may be, what is taken means
 -- something, and the new state agrees with what is seen after this event

@@ -1,12 +1,11 @@
 //! The state of a world, and what each event does to it.
 ghost use Rattle.std.specs.Prelude.{◌≡◌, ◌<◌, [], None, Some, length, IfOk, OnOk};
-ghost use Rattle.fc_registry.specs.Watches.{signal_call, signalled};
 ghost use Rattle.fc_core.specs.declared.event.Event.{Event};
 ghost use Rattle.fc_core.specs.History.{Begins, task_at};
 ghost use Rattle.fc_core.specs.Stages.{names};
 ghost use Rattle.fc_server.specs.Serving.{Serves};
 ghost use Rattle.fc_server.specs.States.{AtWork};
-ghost use Rattle.fc_server.specs.Steps.{AnsweredTo, DeliveredTo, IsReached, Moves, OnShard, ShardTicked, Steps, Ticked};
+ghost use Rattle.fc_server.specs.Steps.{DeliveredTo, Done, IsReached, Steps};
 ghost use Rattle.fc_world.specs.Parts.{parts};
 
 use coap_msg::{Emission, Endpoint};
@@ -43,14 +42,14 @@ impl State {
     }
 
     fn tick(&mut self, now: u64)
-        ensures { Ticked now (parts self.old) (parts self.new) }
+        ensures { Done (Event.Tick now) (parts self.old) None (parts self.new) }
     {
         self.server.tick(now);
     }
 
     fn signal(&mut self, shard: u8, endpoint: Endpoint, id: u16, reset: bool)
         requires { length self.old.server.shards ≡ 8 }
-        ensures { OnShard shard (signalled (signal_call reset endpoint id)) (parts self.old) (parts self.new) }
+        ensures { Done (Event.Signal shard endpoint id reset) (parts self.old) None (parts self.new) }
     {
         if shard < SHARDS {
             self.server.signal(shard, endpoint, id, reset);
@@ -59,7 +58,7 @@ impl State {
 
     fn tick_shard(&mut self, shard: u8, now: u64) -> Option<Emission>
         requires { length self.old.server.shards ≡ 8 }
-        ensures { ShardTicked shard now (parts self.old) (parts self.new) result }
+        ensures { Done (Event.ShardTick shard now) (parts self.old) result (parts self.new) }
     {
         if shard < SHARDS {
             self.server.tick_shard(shard, now)
@@ -71,7 +70,7 @@ impl State {
     fn take(&mut self, job: usize, memory: bool) -> Result<(), AllocError>
         requires job { job < length self.old.tasks.items }
         requires work { AtWork self.old.server (task_at self.old.tasks.items job) }
-        ensures { OnOk result (Moves (Event.Take job memory) job (parts self.old) (parts self.new)) }
+        ensures { OnOk result (Done (Event.Take job memory) (parts self.old) None (parts self.new)) }
     {
         let task = &mut self.tasks[job];
         if !memory {
@@ -88,7 +87,7 @@ impl State {
     fn commit(&mut self, job: usize, now: u64)
         requires job { job < length self.old.tasks.items }
         requires work { AtWork self.old.server (task_at self.old.tasks.items job) }
-        ensures { Moves (Event.Commit job now) job (parts self.old) (parts self.new) }
+        ensures { Done (Event.Commit job now) (parts self.old) None (parts self.new) }
     {
         self.server.commit(now, &mut self.tasks[job]);
     }
@@ -96,7 +95,7 @@ impl State {
     fn install(&mut self, alloc: Global, job: usize, memory: bool) -> Result<(), AllocError>
         requires job { job < length self.old.tasks.items }
         requires work { AtWork self.old.server (task_at self.old.tasks.items job) }
-        ensures { OnOk result (Moves (Event.Install job memory) job (parts self.old) (parts self.new)) }
+        ensures { OnOk result (Done (Event.Install job memory) (parts self.old) None (parts self.new)) }
     {
         let task = &mut self.tasks[job];
         if !memory {
@@ -113,7 +112,7 @@ impl State {
     fn peek(&mut self, job: usize, slot: u8)
         requires job { job < length self.old.tasks.items }
         requires work { AtWork self.old.server (task_at self.old.tasks.items job) }
-        ensures { Moves (Event.Peek job slot) job (parts self.old) (parts self.new) }
+        ensures { Done (Event.Peek job slot) (parts self.old) None (parts self.new) }
     {
         self.server.peek(&mut self.tasks[job], slot);
     }
@@ -121,7 +120,7 @@ impl State {
     fn remove(&mut self, job: usize)
         requires job { job < length self.old.tasks.items }
         requires work { AtWork self.old.server (task_at self.old.tasks.items job) }
-        ensures { Moves (Event.Remove job) job (parts self.old) (parts self.new) }
+        ensures { Done (Event.Remove job) (parts self.old) None (parts self.new) }
     {
         self.server.remove(&mut self.tasks[job]);
     }
@@ -129,7 +128,7 @@ impl State {
     fn describe(&mut self, job: usize)
         requires job { job < length self.old.tasks.items }
         requires work { AtWork self.old.server (task_at self.old.tasks.items job) }
-        ensures { Moves (Event.Receipt job) job (parts self.old) (parts self.new) }
+        ensures { Done (Event.Receipt job) (parts self.old) None (parts self.new) }
     {
         self.server.describe(&mut self.tasks[job]);
     }
@@ -137,7 +136,7 @@ impl State {
     fn raise(&mut self, job: usize)
         requires job { job < length self.old.tasks.items }
         requires work { AtWork self.old.server (task_at self.old.tasks.items job) }
-        ensures { Moves (Event.Raise job) job (parts self.old) (parts self.new) }
+        ensures { Done (Event.Raise job) (parts self.old) None (parts self.new) }
     {
         self.server.raise(&mut self.tasks[job]);
     }
@@ -145,7 +144,7 @@ impl State {
     fn lose(&mut self, job: usize)
         requires job { job < length self.old.tasks.items }
         requires work { AtWork self.old.server (task_at self.old.tasks.items job) }
-        ensures { Moves (Event.Lose job) job (parts self.old) (parts self.new) }
+        ensures { Done (Event.Lose job) (parts self.old) None (parts self.new) }
     {
         self.server.lose(&mut self.tasks[job]);
     }
@@ -153,7 +152,7 @@ impl State {
     fn answer(&mut self, job: usize, now: u64) -> Option<Emission>
         requires job { job < length self.old.tasks.items }
         requires work { AtWork self.old.server (task_at self.old.tasks.items job) }
-        ensures { AnsweredTo job now (parts self.old) (parts self.new) result }
+        ensures { Done (Event.Answer job now) (parts self.old) result (parts self.new) }
     {
         self.server.answer(now, &mut self.tasks[job])
     }

@@ -1,6 +1,4 @@
-use Rattle.std.proofs.Common.{ℕ, suc, length, ◌+◌, ◌≤◌, ◌≡◌, ◌++◌, ◌∷◌, [], true, arith, subst, List}
-use Rattle.fc_core.specs.declared.stage.Task.{Task}
-use Rattle.fc_core.specs.History.{History}
+use Rattle.std.proofs.Common.{ℕ, suc, length, ◌+◌, ◌≡◌, ◌++◌, ◌∷◌, [], true, arith, subst}
 use Rattle.fc_server.specs.Serving.{Serves, peeked_below}
 use Rattle.fc_server.proofs.Served.{at_work, peeked_on, answered_on}
 use Rattle.fc_server.proofs.engine.discover.Goals as goal

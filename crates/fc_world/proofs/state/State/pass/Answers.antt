@@ -1,19 +1,19 @@
 use Rattle.std.proofs.Common.{None, sym, subst}
 use Rattle.fc_core.specs.declared.event.Event.{Event}
 use Rattle.fc_server.specs.Steps.{Steps}
-use Rattle.fc_server.proofs.Others.{deliver_step, tick_step}
-use Rattle.fc_server.proofs.ShardEvents.{shard_tick_step, signal_step}
+use Rattle.fc_server.proofs.Others.{delivered_done}
+use Rattle.fc_server.proofs.Stepping.{goes_on}
 use Rattle.fc_world.specs.Parts.{parts}
 use Rattle.fc_world.proofs.state.State.pass.Goals as goal
 
 pub returns-in_ok-emitted-in-Deliver : goal.returns-in_ok-emitted-in-Deliver
-returns-in_ok-emitted-in-Deliver c = subst (λ (e : Event). Steps e (parts c.args.self.now) c.in_ok-emitted-in-Deliver.emitted (parts c.deliver.new.self)) (sym c.in-Deliver.is) (deliver_step _ _ _ (parts c.args.self.now) (parts c.deliver.new.self) _ c.in_ok-emitted-in-Deliver.ensures)
+returns-in_ok-emitted-in-Deliver c = subst (λ (e : Event). Steps e (parts c.args.self.now) c.in_ok-emitted-in-Deliver.emitted (parts c.deliver.new.self)) (sym c.in-Deliver.is) (goes_on _ (parts c.args.self.now) (parts c.deliver.new.self) _ (delivered_done _ _ _ (parts c.args.self.now) (parts c.deliver.new.self) _ c.in_ok-emitted-in-Deliver.ensures))
 
 pub returns-in-Tick : goal.returns-in-Tick
-returns-in-Tick c = subst (λ (e : Event). Steps e (parts c.args.self.now) None (parts c.tick.new.self)) (sym c.in-Tick.is) (tick_step _ (parts c.args.self.now) (parts c.tick.new.self) c.tick.ensures)
+returns-in-Tick c = subst (λ (e : Event). Steps e (parts c.args.self.now) None (parts c.tick.new.self)) (sym c.in-Tick.is) (goes_on _ (parts c.args.self.now) (parts c.tick.new.self) None c.tick.ensures)
 
 pub returns-in-Signal : goal.returns-in-Signal
-returns-in-Signal c = subst (λ (e : Event). Steps e (parts c.args.self.now) None (parts c.signal.new.self)) (sym c.in-Signal.is) (signal_step _ _ _ _ (parts c.args.self.now) (parts c.signal.new.self) c.signal.ensures)
+returns-in-Signal c = subst (λ (e : Event). Steps e (parts c.args.self.now) None (parts c.signal.new.self)) (sym c.in-Signal.is) (goes_on _ (parts c.args.self.now) (parts c.signal.new.self) None c.signal.ensures)
 
 pub returns-in-ShardTick : goal.returns-in-ShardTick
-returns-in-ShardTick c = subst (λ (e : Event). Steps e (parts c.args.self.now) c.tick_shard.result (parts c.tick_shard.new.self)) (sym c.in-ShardTick.is) (shard_tick_step _ _ (parts c.args.self.now) (parts c.tick_shard.new.self) c.tick_shard.result c.tick_shard.ensures)
+returns-in-ShardTick c = subst (λ (e : Event). Steps e (parts c.args.self.now) c.tick_shard.result (parts c.tick_shard.new.self)) (sym c.in-ShardTick.is) (goes_on _ (parts c.args.self.now) (parts c.tick_shard.new.self) c.tick_shard.result c.tick_shard.ensures)

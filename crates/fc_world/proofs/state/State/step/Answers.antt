@@ -1,7 +1,8 @@
-use Rattle.std.proofs.Common.{sym, arith}
+use Rattle.std.proofs.Common.{None, sym, arith}
+use Rattle.fc_server.proofs.Others.{past_done}
+use Rattle.fc_server.proofs.Stepping.{goes_on}
 use Rattle.fc_world.specs.Parts.{parts}
-use Rattle.fc_world.proofs.Dispatch.{past_any}
 use Rattle.fc_world.proofs.state.State.step.Goals as goal
 
 pub returns-then-job-len : goal.returns-then-job-len
-returns-then-job-len c = past_any c.args.event.now _ (parts c.args.self.now) (sym c.in-Some.ensures) (omega arith)
+returns-then-job-len c = goes_on c.args.event.now (parts c.args.self.now) (parts c.args.self.now) None (past_done c.args.event.now _ c.args.self.now.server c.args.self.now.tasks.items (sym c.in-Some.ensures) (omega arith))
