@@ -13,9 +13,9 @@ use Rattle.fc_registry.specs.Slots.{Slot, Present, Ticket, last_serial, new_slot
 use Rattle.fc_registry.specs.Changes.{Change, Installed, Committed, Removed, after_changes, with_vars}
 use Rattle.fc_registry.specs.Calls.{clear_by, commit_of, outcome, put_by}
 use Rattle.fc_core.specs.declared.event.Event.{Event}
-use Rattle.fc_core.specs.declared.event.Event.TheVariants.{Peek, Take, Commit, Install, Remove, Receipt, Raise, Answer}
+use Rattle.fc_core.specs.declared.event.Event.TheVariants.{Peek, Take, Commit, Install, Remove, Receipt, Raise, Answer, GiveUp}
 use Rattle.fc_core.specs.declared.stage.Stage.{Stage}
-use Rattle.fc_core.specs.declared.stage.Stage.TheVariants.{ToMatch, ToTake, ToCommit, ToInstall, ToRemove, ToDescribe, ToList, ToRaise, ToAnswer}
+use Rattle.fc_core.specs.declared.stage.Stage.TheVariants.{ToMatch, ToTake, ToCommit, ToInstall, ToRemove, ToDescribe, ToList, ToRaise, ToAnswer, ToTell}
 use Rattle.fc_core.specs.History.{around, Entry, History, Begins, Then, Seen, seen, and_then, job, scene, slot_at, stage}
 use Rattle.fc_core.specs.Laws.{slot_of}
 use Rattle.fc_core.specs.SlotLaws.{AllOfImages, ChangesBy, IsInstall, IsOfImage, IsRemoving, IsWriting, Clears, Installs, Nothing, Writes}
@@ -66,6 +66,7 @@ row_makes (Commit k now) job slot ws (ToCommit n t) = committed_makes k now n t 
 row_makes (Install k memory) job slot ws ToInstall = verified_makes k memory job slot ws
 row_makes (Raise k) job slot ws (ToRaise word content) = None_made refl
 row_makes (Answer k now) job slot ws (ToAnswer content) = None_made refl
+row_makes (GiveUp k now) job slot ws (ToTell turn needs) = None_made refl
 row_makes other job slot ws s = None_made refl
 
 own_does : (r : Entry) (s : Seen) (k : ℕ) (cs : List Change) → names r.event ≡ Some k → (and_then r s).changes (slot_of s k) ≡ cs ++ s.changes (slot_of s k) → Makes r.event (job s k) (slot_at s (slot_of s k)) (stage s k) cs → ChangesBy r s (slot_of s k)

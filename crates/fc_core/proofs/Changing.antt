@@ -13,9 +13,9 @@ use Rattle.fc_registry.specs.declared.commit.CommitOutcome.TheVariants.{Writes, 
 use Rattle.fc_registry.specs.Slots.{Slot, Present, Ticket, last_serial}
 use Rattle.fc_registry.specs.Calls.{clear_by, outcome, put_by, receipt_of, taking}
 use Rattle.fc_core.specs.declared.event.Event.{Event}
-use Rattle.fc_core.specs.declared.event.Event.TheVariants.{Peek, Take, Commit, Install, Remove, Receipt, Raise, Answer, Lose}
+use Rattle.fc_core.specs.declared.event.Event.TheVariants.{Peek, Take, Commit, Install, Remove, Receipt, Raise, Answer, Lose, GiveUp}
 use Rattle.fc_core.specs.declared.stage.Stage.{Stage}
-use Rattle.fc_core.specs.declared.stage.Stage.TheVariants.{ToMatch, ToTake, ToCommit, ToInstall, ToRemove, ToDescribe, ToList, ToRaise, ToAnswer, Gone}
+use Rattle.fc_core.specs.declared.stage.Stage.TheVariants.{ToMatch, ToTake, ToCommit, ToInstall, ToRemove, ToDescribe, ToList, ToRaise, ToAnswer, Gone, ToTell}
 use Rattle.arrayvec.specs.ArrayVec.{ArrayVec}
 use Rattle.fc_core.specs.Contents.{Content, Listed, Unavailable}
 use Rattle.fc_core.specs.Heads.{is_match, word_at}
@@ -110,6 +110,7 @@ row_raises (Commit j now) k job slot ws (ToCommit n t) named e = committed_raise
 row_raises (Install j memory) k job slot ws ToInstall named e = verified_raises memory (at job slot ws ToInstall)
 row_raises (Raise j) k job slot ws (ToRaise word content) named e = refl
 row_raises (Answer j now) k job slot ws (ToAnswer content) named e = refl
+row_raises (GiveUp j now) k job slot ws (ToTell turn needs) named e = refl
 row_raises (Lose j) k job slot ws s named e = refl
 row_raises other k job slot ws s named e = absurd (cc)
 
@@ -135,6 +136,7 @@ one_change ToMatch n f = omega (arith, f)
 one_change (ToList seen) n f = omega (arith, f)
 one_change ToDescribe n f = f
 one_change (ToAnswer content) n f = f
+one_change (ToTell turn needs) n f = f
 one_change Gone n f = f
 
 first_change : (s : Stage) (n m : ℕ) → n ≡ 0 → m ≡ raises s → FitsChanges (n + m) s
@@ -147,6 +149,7 @@ first_change ToRemove n m is more = omega arith
 first_change ToDescribe n m is more = omega arith
 first_change (ToList seen) n m is more = omega arith
 first_change (ToAnswer content) n m is more = omega arith
+first_change (ToTell turn needs) n m is more = omega arith
 first_change Gone n m is more = omega arith
 
 no_change : (s : Stage) (n : ℕ) → FitsChanges n s → FitsChanges (n + 0) s
@@ -162,6 +165,7 @@ row_changes (Commit k now) job slot ws (ToCommit c t) n f = first_change (row (C
 row_changes (Install k memory) job slot ws ToInstall n f = first_change (row (Install k memory) (at job slot ws ToInstall)).stage n (length (row (Install k memory) (at job slot ws ToInstall)).changes) f (row_raises (Install k memory) k job slot ws ToInstall refl refl)
 row_changes (Raise k) job slot ws (ToRaise word content) n f = omega (arith, f)
 row_changes (Answer k now) job slot ws (ToAnswer content) n f = omega (arith, f)
+row_changes (GiveUp k now) job slot ws (ToTell turn needs) n f = omega (arith, f)
 row_changes (Lose k) job slot ws s n f = omega (arith, one_change s n f)
 row_changes other job slot ws s n f = no_change s n f
 
@@ -202,6 +206,7 @@ changes_told = record {
   still = λ e s k n is. ap (λ (x : Stage). n + length (row e (at (job s k) (slot_at s (slot_of s k)) (around s (slot_of s k)) x)).changes) is ∙ gone_changes e (job s k) (slot_at s (slot_of s k)) (around s (slot_of s k)) n;
   gone = omega arith;
   first = first_none;
+  turns = λ turn. omega arith;
   keeps = λ e s k n f. row_changes e (job s k) (slot_at s (slot_of s k)) (around s (slot_of s k)) (stage s k) n f;
 }
 
@@ -219,6 +224,7 @@ named_stray (Commit j now) own k e = refl
 named_stray (Install j memory) own k e = refl
 named_stray (Raise j) own k e = refl
 named_stray (Answer j now) own k e = refl
+named_stray (GiveUp j now) own k e = refl
 named_stray (Lose j) own k e = refl
 named_stray other own k e = absurd (cc)
 
@@ -247,6 +253,7 @@ to_raise (ToTake count) n m is lt = absurd (omega arith)
 to_raise (ToCommit count t) n m is lt = absurd (omega arith)
 to_raise ToInstall n m is lt = absurd (omega arith)
 to_raise (ToAnswer content) n m is lt = absurd (omega arith)
+to_raise (ToTell turn needs) n m is lt = absurd (omega arith)
 to_raise Gone n m is lt = absurd (omega arith)
 
 pub changes_are_published : (r : Entry) (s : Seen) (k : ℕ) → names r.event ≡ Some k → length (s.changes (slot_of s k)) < length ((and_then r s).changes (slot_of s k)) → IsToRaise (stage (and_then r s) k)

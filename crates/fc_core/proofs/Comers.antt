@@ -5,72 +5,21 @@ use Rattle.std.specs.Cmp.Lexicographic.{pointwise}
 use Rattle.std.proofs.lemmas.Bool.{cases_Bool, eqb-true}
 use Rattle.coap_msg.specs.declared.types.Endpoint.{Endpoint}
 use Rattle.coap_msg.specs.Endpoints.{same_endpoint}
-use Rattle.fc_observe.specs.Calls.{ObserverCall, Tick as TickObservers, after_calls, is_registration_of}
+use Rattle.fc_observe.specs.Calls.{ObserverCall, NextDue, Tick as TickObservers, after_calls, is_registration_of}
 use Rattle.fc_observe.specs.Laws.{RegistersNone}
 use Rattle.fc_observe.proofs.Hearing.{stays_gone}
-use Rattle.fc_registry.specs.declared.commit.CommitOutcome.{CommitOutcome}
-use Rattle.fc_registry.specs.declared.commit.CommitOutcome.TheVariants.{Writes, Keeps, Overtakes, Ends}
-use Rattle.fc_registry.specs.declared.job.Job.{Job}
-use Rattle.fc_registry.specs.Calls.{is_cancellation, observe_calls, observe_calls_by, outcome, is_registration}
-use Rattle.fc_registry.specs.Slots.{Slot, Ticket}
+use Rattle.fc_registry.specs.Calls.{is_cancellation, observe_calls, observe_calls_by, is_registration}
+use Rattle.fc_registry.specs.Slots.{Ticket}
 use Rattle.fc_registry.specs.Watches.{signal_call}
-use Rattle.fc_verify.specs.Accepted.{Judgement, Accepts, Breaks, Untypable}
-use Rattle.fc_verify.specs.Judged.{judged}
 use Rattle.fc_core.specs.declared.event.Event.{Event}
-use Rattle.fc_core.specs.declared.event.Event.TheVariants.{Peek, Take, Commit, Install, Remove, Receipt, Raise, Answer, Signal, ShardTick}
-use Rattle.fc_core.specs.declared.stage.Stage.{Stage}
-use Rattle.fc_core.specs.declared.stage.Stage.TheVariants.{ToMatch, ToTake, ToCommit, ToInstall, ToRemove, ToDescribe, ToList, ToRaise, ToAnswer}
-use Rattle.fc_core.specs.History.{Entry, History, Then, Seen, seen, and_then, around, calls_in, calls_named, is_place_of, job, late_in, scene, slot_at, stage, watch}
+use Rattle.fc_core.specs.declared.event.Event.TheVariants.{Commit, Signal, ShardTick, Due}
+use Rattle.fc_core.specs.History.{Entry, History, Then, Seen, seen, and_then, around, calls_in, calls_named, due_in, is_place_of, job, late_in, scene, slot_at, stage, watch}
 use Rattle.fc_core.specs.Laws.{later, slot_of}
 use Rattle.fc_core.specs.ObserveLaws.{NoneRegisters, Registers, is_held}
-use Rattle.fc_core.specs.Stages.{Around, Scene, committed, image_of, installed, names, row, verified}
+use Rattle.fc_core.specs.Stages.{names, row}
+use Rattle.fc_core.proofs.Calling.{CallsBy, NoCall, OfCommit, OfGiveUp, row_calls}
 use Rattle.fc_core.proofs.Observing.{asked}
 use Rattle.fc_core.proofs.Watches.{after_append}
-
--- ---- the calls of an event of a job
-
--- none, or those of a commit that has nothing to write
-data CallsBy (e : Event) (at : Stage) (cs : List ObserverCall) : Type 0 where
-  NoCall : (is : cs ≡ []) → CallsBy e at cs
-  OfCommit : (k now n moment : ℕ) (t : Ticket) (event : e ≡ Commit k now) (stands : at ≡ ToCommit n t) (is : cs ≡ observe_calls moment t) → CallsBy e at cs
-
-abbrev at : Job → Slot → Around → Stage → Scene
-at job slot ws stage = record { job = job; slot = slot; around = ws; stage = stage }
-
-committed_calls : (k now n : ℕ) (t : Ticket) (ws : Around) (o : CommitOutcome) → CallsBy (Commit k now) (ToCommit n t) (committed o n t now ws).calls
-committed_calls k now n t ws Keeps = OfCommit k now n (max ws.moment now) t refl refl refl
-committed_calls k now n t ws Writes = NoCall refl
-committed_calls k now n t ws Overtakes = NoCall refl
-committed_calls k now n t ws Ends = NoCall refl
-
-installed_calls : (j : Judgement) (slot : Slot) → (installed j slot).calls ≡ []
-installed_calls (Accepts p) slot = refl
-installed_calls (Breaks rule k) slot = refl
-installed_calls Untypable slot = refl
-
-verified_calls : (memory : Bool) (x : Scene) → (verified memory x).calls ≡ []
-verified_calls true x = installed_calls (judged (image_of x.job.ask)) x.slot
-verified_calls false x = refl
-
-row_calls : (e : Event) (job : Job) (slot : Slot) (ws : Around) (s : Stage) → CallsBy e s (row e (at job slot ws s)).calls
-row_calls (Peek k n) job slot ws ToMatch = NoCall refl
-row_calls (Peek k n) job slot ws (ToList seen) = NoCall refl
-row_calls (Peek k n) job slot ws other = NoCall refl
-row_calls (Remove k) job slot ws ToRemove = NoCall refl
-row_calls (Remove k) job slot ws other = NoCall refl
-row_calls (Receipt k) job slot ws ToDescribe = NoCall refl
-row_calls (Receipt k) job slot ws other = NoCall refl
-row_calls (Take k memory) job slot ws (ToTake n) = NoCall refl
-row_calls (Take k memory) job slot ws other = NoCall refl
-row_calls (Commit k now) job slot ws (ToCommit n t) = committed_calls k now n t ws (outcome t slot)
-row_calls (Commit k now) job slot ws other = NoCall refl
-row_calls (Install k memory) job slot ws ToInstall = NoCall (verified_calls memory (at job slot ws ToInstall))
-row_calls (Install k memory) job slot ws other = NoCall refl
-row_calls (Raise k) job slot ws (ToRaise word content) = NoCall refl
-row_calls (Raise k) job slot ws other = NoCall refl
-row_calls (Answer k now) job slot ws (ToAnswer content) = NoCall refl
-row_calls (Answer k now) job slot ws other = NoCall refl
-row_calls other job slot ws s = NoCall refl
 
 -- ---- the calls of an event of a shard
 
@@ -83,6 +32,9 @@ none_if true c to token is = (is, tt)
 none_if false c to token is = tt
 
 none_in : (e : Event) (s : Seen) (n : ℕ) (to : Endpoint) (token : List ℕ) → RegistersNone to token (calls_in e s n)
+none_in (Due shard now) s n to token =
+    let at = max (s.shard_moment shard) now in
+    none_if (is_place_of (due_in s shard at) shard n) (NextDue at (slot_at s n).noticed) to token refl
 none_in (Signal shard from id reset) s n to token = none_if ((n % 8) == shard) (signal_call reset from id) to token (signal_registers reset from to id token)
 none_in (ShardTick shard now) s n to token =
     let at = max (s.shard_moment shard) now in
@@ -109,6 +61,7 @@ module _ (r : Entry) (s : Seen) (n : ℕ) (to : Endpoint) (token : List ℕ) whe
   -- the calls of the event that names this job
   by_row : (k : ℕ) (cs : List ObserverCall) → names r.event ≡ Some k → slot_of s k ≡ n → CallsBy r.event (stage s k) cs → RegistersNone to token cs ⊎ Registers r s n to token
   by_row k cs named slot (NoCall is) = inl (subst (RegistersNone to token) (sym is) tt)
+  by_row k cs named slot (OfGiveUp turn moment is) = inl (subst (RegistersNone to token) (sym is) (refl, tt))
   by_row k cs named slot (OfCommit j now count moment t event stands is) =
       let same : k ≡ j = cc (sym named ∙ ap names event) in
       ⊎_elim

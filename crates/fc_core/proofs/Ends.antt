@@ -7,9 +7,9 @@ use Rattle.fc_registry.specs.Slots.{Slot, Present}
 use Rattle.fc_registry.specs.Changes.{Change}
 use Rattle.fc_registry.specs.Calls.{taking}
 use Rattle.fc_core.specs.declared.event.Event.{Event}
-use Rattle.fc_core.specs.declared.event.Event.TheVariants.{Peek, Take, Commit, Install, Remove, Receipt, Raise, Answer, Lose}
+use Rattle.fc_core.specs.declared.event.Event.TheVariants.{Peek, Take, Commit, Install, Remove, Receipt, Raise, Answer, Lose, GiveUp}
 use Rattle.fc_core.specs.declared.stage.Stage.{Stage}
-use Rattle.fc_core.specs.declared.stage.Stage.TheVariants.{ToMatch, ToTake, ToCommit, ToInstall, ToRemove, ToDescribe, ToList, ToRaise, ToAnswer, Gone}
+use Rattle.fc_core.specs.declared.stage.Stage.TheVariants.{ToMatch, ToTake, ToCommit, ToInstall, ToRemove, ToDescribe, ToList, ToRaise, ToAnswer, Gone, ToTell}
 use Rattle.fc_core.specs.Contents.{Content, Unavailable}
 use Rattle.fc_core.specs.History.{around, Entry, History, Then, Seen, seen, and_then, did, job, slot_at, stage, task_at}
 use Rattle.fc_core.specs.Laws.{HasCome, Taking, answers_of, gives, is_answered, is_named, later, slot_of, takings_of}
@@ -39,6 +39,7 @@ at_most_once ToRemove n f = omega (arith, f)
 at_most_once ToDescribe n f = omega (arith, f)
 at_most_once (ToList seen) n f = omega (arith, f)
 at_most_once (ToAnswer content) n f = omega (arith, f)
+at_most_once (ToTell turn needs) n f = omega (arith, f)
 
 never_yet : (s : Stage) (n : ℕ) → n ≡ 0 → FitsAnswers n s
 never_yet Gone n is = omega arith
@@ -54,6 +55,7 @@ row_answers (Peek k i) job slot ws (ToList seen) n f = never_yet (row (Peek k i)
 row_answers (Remove k) job slot ws ToRemove n f = never_yet (row (Remove k) (at job slot ws ToRemove)).stage n f
 row_answers (Receipt k) job slot ws ToDescribe n f = f
 row_answers (Answer k now) job slot ws (ToAnswer content) n f = omega (arith, f)
+row_answers (GiveUp k now) job slot ws (ToTell turn needs) n f = at_most_once (ToTell turn needs) n f
 row_answers (Lose k) job slot ws s n f = at_most_once s n f
 row_answers other job slot ws s n f = f
 
@@ -74,6 +76,7 @@ answers_told = record {
   still = λ e s k n is. ap (λ (b : Bool). if b then n + 1 else n) (ap (is_answered e) is ∙ gone_answered e);
   gone = omega arith;
   first = first_answers;
+  turns = λ turn. refl;
   keeps = λ e s k n f. row_answers e (job s k) (slot_at s (slot_of s k)) (around s (slot_of s k)) (stage s k) n f;
 }
 
@@ -94,6 +97,7 @@ answered_by ToRemove n f le = absurd (omega (arith, f))
 answered_by ToDescribe n f le = absurd (omega (arith, f))
 answered_by (ToList seen) n f le = absurd (omega (arith, f))
 answered_by (ToAnswer content) n f le = absurd (omega (arith, f))
+answered_by (ToTell turn needs) n f le = absurd (omega (arith, f))
 
 pub answered_gone : (h : History) (k : ℕ) → 1 ≤ answers_of h k → stage (seen h) k ≡ Gone
 answered_gone h k le = answered_by (stage (seen h) k) (answers_of h k) (answers_fit h k) le
@@ -145,6 +149,7 @@ row_settled (Peek k i) job slot ws (ToList seen) f = absurd f
 row_settled (Remove k) job slot ws ToRemove f = absurd f
 row_settled (Receipt k) job slot ws ToDescribe f = absurd f
 row_settled (Answer k now) job slot ws (ToAnswer content) f = tt
+row_settled (GiveUp k now) job slot ws (ToTell turn needs) f = tt
 row_settled (Lose k) job slot ws s f = tt
 row_settled other job slot ws s f = f
 

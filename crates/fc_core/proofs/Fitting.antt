@@ -22,16 +22,16 @@ use Rattle.fc_registry.specs.Record.{IsChain, IsLink, code_class}
 use Rattle.fc_registry.specs.declared.receipt.Receipt.{Receipt as Facts}
 use Rattle.fc_registry.specs.Calls.{HasGiven, clear_by, commit_of, input_of, is_post, meaning_at, outcome, outcome_by, put_by, receipt_at, receipt_of, request_of, taking, wants}
 use Rattle.fc_core.specs.declared.event.Event.{Event}
-use Rattle.fc_core.specs.declared.event.Event.TheVariants.{Peek, Take, Commit as Commits, Install, Remove, Receipt, Raise, Answer, Lose}
+use Rattle.fc_core.specs.declared.event.Event.TheVariants.{Peek, Take, Commit as Commits, Install, Remove, Receipt, Raise, Answer, Lose, GiveUp}
 use Rattle.fc_core.specs.declared.stage.Stage.{Stage}
-use Rattle.fc_core.specs.declared.stage.Stage.TheVariants.{ToMatch, ToTake, ToCommit, ToInstall, ToRemove, ToDescribe, ToList, ToRaise, ToAnswer, Gone}
+use Rattle.fc_core.specs.declared.stage.Stage.TheVariants.{ToMatch, ToTake, ToCommit, ToInstall, ToRemove, ToDescribe, ToList, ToRaise, ToAnswer, Gone, ToTell}
 use Rattle.arrayvec.specs.ArrayVec.{ArrayVec}
 use Rattle.fc_core.specs.Contents.{Listed, Unavailable}
 use Rattle.fc_core.specs.Heads.{is_match, word_at}
 use Rattle.fc_core.specs.Fits.{FitsPresent, FitsSlot, FitsStage, HasNext, IsTicketOf}
 use Rattle.fc_core.specs.Receiving.{AskWithin}
 use Rattle.fc_core.specs.Sound.{AllSafe}
-use Rattle.fc_core.specs.Stages.{Around, Scene, committed, first_by, image_of, installed, made, matched_by, peeked_next, peeked_own, removed, row, told, took, verified}
+use Rattle.fc_core.specs.Stages.{Around, Scene, committed, first_by, first_or_turn, first_stage, image_of, installed, made, matched_by, peeked_next, peeked_own, removed, row, told, took, verified}
 
 -- ---- slots
 
@@ -68,6 +68,7 @@ fits_changed job slot ToDescribe cs f = tt
 fits_changed job slot (ToList seen) cs f = f
 fits_changed job slot (ToRaise word content) cs f = f
 fits_changed job slot (ToAnswer content) cs f = f
+fits_changed job slot (ToTell turn needs) cs f = f
 fits_changed job slot Gone cs f = tt
 
 -- a job that lists head words has yet one to read
@@ -75,13 +76,20 @@ pub fits_next : (job : Job) (slot : Slot) (s : Stage) → FitsStage job slot s �
 fits_next job slot (ToList seen) f = f
 fits_next job slot other f = tt
 
-pub first_fits : (job : Job) (slot : Slot) (ask : Ask) (serials : List ℕ) → FitsStage job slot (first_by ask serials)
-first_fits job slot (Run request) [] = omega arith
-first_fits job slot (Run request) (x ∷ xs) = tt
-first_fits job slot (Installs image) serials = tt
-first_fits job slot Removes serials = tt
-first_fits job slot Describe serials = tt
-first_fits job slot Discover serials = omega arith
+first_ask_fits : (job : Job) (slot : Slot) (ask : Ask) (serials : List ℕ) → FitsStage job slot (first_by ask serials)
+first_ask_fits job slot (Run request) [] = omega arith
+first_ask_fits job slot (Run request) (x ∷ xs) = tt
+first_ask_fits job slot (Installs image) serials = tt
+first_ask_fits job slot Removes serials = tt
+first_ask_fits job slot Describe serials = tt
+first_ask_fits job slot Discover serials = omega arith
+
+first_turn_fits : (job : Job) (slot : Slot) (turn : Option ℕ) → FitsStage job slot (first_or_turn turn job)
+first_turn_fits job slot None = first_ask_fits job slot job.ask job.etags.items
+first_turn_fits job slot (Some number) = refl
+
+pub first_fits : (job : Job) (slot : Slot) → FitsStage job slot (first_stage job)
+first_fits job slot = first_turn_fits job slot job.turn
 
 took_fits : (memory : Bool) (job : Job) (slot : Slot) (n : ℕ) (p : Option Present) → slot.present ≡ p → n < 8 → FitsStage job slot (took n (taking memory job slot.serial p))
 took_fits memory job slot n None e lt = tt
@@ -151,6 +159,7 @@ row_fits (Commits k now) job slot ws (ToCommit n t) f = committed_fits job slot 
 row_fits (Install k memory) job slot ws ToInstall f = verified_fits memory (at job slot ws ToInstall)
 row_fits (Raise k) job slot ws (ToRaise word content) f = f
 row_fits (Answer k now) job slot ws (ToAnswer content) f = tt
+row_fits (GiveUp k now) job slot ws (ToTell turn needs) f = tt
 row_fits other job slot ws s f = f
 
 -- ---- the chain
@@ -220,6 +229,7 @@ row_chain (Install k memory) job first cs ws ToInstall f chain = verified_chain 
 row_chain (Take k memory) job first cs ws (ToTake n) f chain = chain
 row_chain (Raise k) job first cs ws (ToRaise word content) f chain = chain
 row_chain (Answer k now) job first cs ws (ToAnswer content) f chain = chain
+row_chain (GiveUp k now) job first cs ws (ToTell turn needs) f chain = chain
 row_chain other job first cs ws s f chain = chain
 
 -- ---- safe programs
@@ -273,4 +283,5 @@ row_safe (Install k memory) job slot ws ToInstall within f safe fits = verified_
 row_safe (Take k memory) job slot ws (ToTake n) within f safe fits = fits
 row_safe (Raise k) job slot ws (ToRaise word content) within f safe fits = fits
 row_safe (Answer k now) job slot ws (ToAnswer content) within f safe fits = fits
+row_safe (GiveUp k now) job slot ws (ToTell turn needs) within f safe fits = fits
 row_safe other job slot ws s within f safe fits = fits

@@ -1,7 +1,8 @@
 -- Whatever the event, what is seen of a history stays sound.
-use Rattle.std.proofs.Common.{◌≡◌, ℕ, ◌<◌, ◌≤◌, List, [], ◌∷◌, ◌++◌, Bool, true, false, Option, Some, None, Result, Ok, Err, length, map, refl, sym, ap, ◌∙◌, subst, arith, if◌then◌else◌}
+use Rattle.std.proofs.Common.{◌≡◌, ℕ, ◌<◌, ◌≤◌, List, [], ◌∷◌, ◌++◌, Bool, true, false, Option, Some, None, Result, Ok, Err, length, map, refl, sym, ap, ◌∙◌, subst, arith, max, if◌then◌else◌}
 use Rattle.std.specs.Prelude.{◌==◌}
 use Rattle.std.proofs.lemmas.Bool.{eqb-true}
+use Rattle.std.proofs.lemmas.List.{append-nil}
 use Rattle.coap_msg.specs.declared.types.Bad.{Bad}
 use Rattle.coap_msg.specs.declared.types.Bad.TheVariants as bad
 use Rattle.coap_msg.specs.declared.types.Endpoint.{Endpoint}
@@ -21,17 +22,18 @@ use Rattle.fc_registry.specs.Slots.{Slot, new_slot}
 use Rattle.fc_registry.specs.Changes.{Change, after_changes}
 use Rattle.fc_registry.specs.Record.{IsChain}
 use Rattle.fc_core.specs.declared.event.Event.{Event}
-use Rattle.fc_core.specs.declared.event.Event.TheVariants.{Deliver}
+use Rattle.fc_core.specs.declared.event.Event.TheVariants.{Deliver, Due}
 use Rattle.fc_core.specs.declared.stage.Stage.{Stage}
 use Rattle.fc_core.specs.declared.stage.Task.{Task}
 use Rattle.fc_core.specs.Exchanges.{FrontState}
 use Rattle.fc_core.specs.Fits.{FitsSlot, FitsStage}
-use Rattle.fc_core.specs.History.{around, Entry, Seen, and_then, changes_after, front_at, job, no_task, scene, slot_at, stage, task_at, tasks_brought, tasks_moved}
+use Rattle.fc_core.specs.History.{AsksTurn, around, Entry, Seen, and_then, changes_after, front_at, job, no_task, scene, slot_at, stage, task_at, tasks_brought, tasks_moved, turns_by}
 use Rattle.fc_core.specs.Receiving.{AskWithin, JobWithin, Received, add_in, received_added, request_received, ask_by, brought, job_of, look_in, looked, next_opening, received, received_as, received_read, slot_of_resource}
 use Rattle.coap_block.specs.Uploads.{Add, Continues, IsWhole, IsIncomplete, IsBadLength, IsTooLarge, IsFull}
 use Rattle.fc_core.specs.Receiving as x
 use Rattle.fc_core.specs.Sound.{AllSafe, IsSafelySeen, IsSound}
 use Rattle.fc_core.specs.Stages.{task_moved, names, new_task, row}
+use Rattle.fc_core.proofs.Calling.{turns_within, watched_after}
 use Rattle.fc_core.proofs.Lists.{Each, appended_all, written_all}
 use Rattle.fc_core.proofs.Fitting.{after_changes-append, first_fits, fits_changed, row_chain, row_fits, row_safe}
 
@@ -150,20 +152,22 @@ moved_fit s e o a (Some j) k =
 
 new_fit : (s : Seen) (e : Event) (o : Option ℕ) (jobs : List Job) → Each JobWithin jobs → Each (FitsAfter o e s) (map new_task jobs)
 new_fit s e o [] w = tt
-new_fit s e o (j ∷ js) w = ((w.0, first_fits j (slot_after o e s j.origin.slot) j.ask j.etags.items), new_fit s e o js w.1)
+new_fit s e o (j ∷ js) w = ((w.0, first_fits j (slot_after o e s j.origin.slot)), new_fit s e o js w.1)
 
-brought_fit : (s : Seen) (o : Option ℕ) (e d : Event) → Each (FitsAfter o e s) (tasks_brought d s)
-brought_fit s o e (Deliver now to b) = new_fit s e o _ (received_within _ to b.now (next_opening (front_at s now)))
-brought_fit s o e other = tt
+brought_fit : (s : Seen) (o : Option ℕ) (e d : Event) → IsSound s → Each (FitsAfter o e s) (tasks_brought d s)
+brought_fit s o e (Deliver now to b) a = new_fit s e o _ (received_within _ to b.now (next_opening (front_at s now)))
+brought_fit s o e (Due shard now) a = subst (Each (FitsAfter o e s)) (sym (append-nil (turns_by (AsksTurn shard now) s))) (new_fit s e o _ (turns_within s shard (max (s.shard_moment shard) now) a))
+brought_fit s o e other a = tt
 
 all_fit : (s : Seen) (e : Event) (o : Option ℕ) → IsSound s → (k : ℕ) → FitsAfter o e s (task_at (tasks_moved o e s ++ tasks_brought e s) k)
-all_fit s e o a k = appended_all (FitsAfter o e s) (tasks_moved o e s) (tasks_brought e s) no_task (moved_fit s e o a o) (brought_fit s o e e) k
+all_fit s e o a k = appended_all (FitsAfter o e s) (tasks_moved o e s) (tasks_brought e s) no_task (moved_fit s e o a o) (brought_fit s o e e a) k
 
 pub still_sound : (r : Entry) (s : Seen) → IsSound s → IsSound (and_then r s)
 still_sound r s a = record {
   chain = λ n. chain_after s r.event (names r.event) n a;
   within = λ k. (all_fit s r.event (names r.event) a k).0;
   stages = λ k. (all_fit s r.event (names r.event) a k).1;
+  watched = watched_after s a r.event;
 }
 
 -- ---- safe programs

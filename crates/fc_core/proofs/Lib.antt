@@ -4,6 +4,8 @@ pub mod Rejections
 pub mod Commits
 pub mod Lists
 pub mod Fitting
+pub mod Places
+pub mod Calling
 pub mod Keeping
 pub mod Strays
 pub mod OnShards
@@ -23,6 +25,7 @@ pub mod DrawnIds
 pub mod Once
 pub mod Observing
 pub mod Comers
+pub mod Turning
 pub mod FirstBlocks
 pub mod Published
 pub mod Deletions

@@ -1,5 +1,5 @@
 -- The moments of the front and of the shards.
-use Rattle.std.proofs.Common.{◌≡◌, ℕ, List, ◌++◌, Bool, true, false, Option, Some, None, refl, ap, ◌∙◌, max, if◌then◌else◌}
+use Rattle.std.proofs.Common.{◌≡◌, ℕ, List, ◌++◌, Bool, true, false, Option, Some, None, refl, ap, ◌∙◌, max, if◌then◌else◌, [], ◌∷◌}
 use Rattle.std.specs.Prelude.{is_some, ◌%◌, ◌==◌}
 use Rattle.fc_verify.specs.Accepted.{Judgement, Accepts, Breaks, Untypable}
 use Rattle.fc_verify.specs.Judged.{judged}
@@ -9,10 +9,10 @@ use Rattle.fc_registry.specs.declared.commit.CommitOutcome.TheVariants.{Writes, 
 use Rattle.fc_registry.specs.Slots.{Slot, Ticket}
 use Rattle.fc_registry.specs.Calls.{outcome}
 use Rattle.fc_core.specs.declared.event.Event.{Event}
-use Rattle.fc_core.specs.declared.event.Event.TheVariants.{Deliver, Peek, Take, Commit, Install, Remove, Receipt, Raise, Answer, Tick}
+use Rattle.fc_core.specs.declared.event.Event.TheVariants.{Deliver, Peek, Take, Commit, Install, Remove, Receipt, Raise, Answer, Tick, GiveUp, Due, ShardTick}
 use Rattle.fc_core.specs.declared.stage.Stage.{Stage}
-use Rattle.fc_core.specs.declared.stage.Stage.TheVariants.{ToMatch, ToTake, ToCommit, ToInstall, ToRemove, ToDescribe, ToList, ToRaise, ToAnswer}
-use Rattle.fc_core.specs.AnswerLaws.{answer_moment, commit_moment, greatest, is_of_shard, moment_handed, moments_in, moments_of, shard_moments_of}
+use Rattle.fc_core.specs.declared.stage.Stage.TheVariants.{ToMatch, ToTake, ToCommit, ToInstall, ToRemove, ToDescribe, ToList, ToRaise, ToAnswer, ToTell}
+use Rattle.fc_core.specs.AnswerLaws.{answer_moment, row_moment, greatest, is_of_shard, own_moment, moments_in, moments_of, shard_moments_of}
 use Rattle.fc_core.specs.History.{around, History, Begins, Then, Seen, seen, job, moment_after, scene, shard_hands, shard_moment_after, slot_at, stage}
 use Rattle.fc_core.specs.Laws.{slot_of, stage_named}
 use Rattle.fc_core.specs.Stages.{Around, Scene, content_at, committed, handed, image_of, installed, names, row, verified}
@@ -50,32 +50,38 @@ verified_hands : (memory : Bool) (s : Scene) → (verified memory s).hands ≡ N
 verified_hands true s = installed_hands (judged (image_of s.job.ask)) s.slot
 verified_hands false s = refl
 
-row_handed : (e : Event) (job : Job) (slot : Slot) (ws : Around) (st : Stage) (m : ℕ) (ms : List ℕ) → m ≡ greatest ms → handed (row e (at job slot ws st)).hands m ≡ greatest (commit_moment e st ++ ms)
+row_handed : (e : Event) (job : Job) (slot : Slot) (ws : Around) (st : Stage) (m : ℕ) (ms : List ℕ) → m ≡ greatest ms → handed (row e (at job slot ws st)).hands m ≡ greatest (row_moment e st ++ ms)
 row_handed (Commit k now) job slot ws (ToCommit n t) m ms is = ap (λ (o : Option ℕ). handed o m) (committed_hands n t now ws (outcome t slot)) ∙ ap (λ (x : ℕ). max x now) is
 row_handed (Install k memory) job slot ws ToInstall m ms is = ap (λ (o : Option ℕ). handed o m) (verified_hands memory (at job slot ws ToInstall)) ∙ is
 row_handed (Take k memory) job slot ws (ToTake n) m ms is = is
 row_handed (Raise k) job slot ws (ToRaise word content) m ms is = is
 row_handed (Answer k now) job slot ws (ToAnswer content) m ms is = is
+row_handed (GiveUp k now) job slot ws (ToTell turn needs) m ms is = ap (λ (x : ℕ). max x now) is
 row_handed (Peek k n) job slot ws ToMatch m ms is = is
 row_handed (Peek k n) job slot ws (ToList seen) m ms is = is
 row_handed (Remove k) job slot ws ToRemove m ms is = is
 row_handed (Receipt k) job slot ws ToDescribe m ms is = is
 row_handed other job slot ws st m ms is = is
 
-shard_if : (s : Seen) (e : Event) (k i : ℕ) (b : Bool) (ms : List ℕ) → s.shard_moment i ≡ greatest ms → (if b then handed (row e (scene s k)).hands (s.shard_moment i) else s.shard_moment i) ≡ greatest (if b then commit_moment e (stage s k) ++ ms else ms)
+shard_if : (s : Seen) (e : Event) (k i : ℕ) (b : Bool) (ms : List ℕ) → s.shard_moment i ≡ greatest ms → (if b then handed (row e (scene s k)).hands (s.shard_moment i) else s.shard_moment i) ≡ greatest (if b then row_moment e (stage s k) ++ ms else ms)
 shard_if s e k i true ms is = row_handed e (job s k) (slot_at s (slot_of s k)) (around s (slot_of s k)) (stage s k) (s.shard_moment i) ms is
 shard_if s e k i false ms is = is
 
-shard_handed : (s : Seen) (e : Event) (o : Option ℕ) (i : ℕ) (ms : List ℕ) → s.shard_moment i ≡ greatest ms → shard_moment_after o e s i ≡ greatest (if is_of_shard i s o then commit_moment e (stage_named s o) ++ ms else ms)
+shard_handed : (s : Seen) (e : Event) (o : Option ℕ) (i : ℕ) (ms : List ℕ) → s.shard_moment i ≡ greatest ms → shard_moment_after o e s i ≡ greatest (if is_of_shard i s o then row_moment e (stage_named s o) ++ ms else ms)
 shard_handed s e None i ms is = is
 shard_handed s e (Some k) i ms is = shard_if s e k i (slot_of s k % 8 == i) ms is
 
 -- the moment of an event of the shard itself
-handed_more : (o : Option ℕ) (m : ℕ) (ms : List ℕ) → m ≡ greatest ms → handed o m ≡ greatest (moment_handed o ++ ms)
-handed_more None m ms is = is
-handed_more (Some now) m ms is = ap (λ (x : ℕ). max x now) is
+handed_if : (b : Bool) (now m : ℕ) (ms : List ℕ) → m ≡ greatest ms → handed (if b then Some now else None) m ≡ greatest ((if b then now ∷ [] else []) ++ ms)
+handed_if true now m ms is = ap (λ (x : ℕ). max x now) is
+handed_if false now m ms is = is
+
+handed_more : (e : Event) (i m : ℕ) (ms : List ℕ) → m ≡ greatest ms → handed (shard_hands e i) m ≡ greatest (own_moment e i ++ ms)
+handed_more (Due shard now) i m ms is = handed_if (shard == i) now m ms is
+handed_more (ShardTick shard now) i m ms is = handed_if (shard == i) now m ms is
+handed_more other i m ms is = is
 
 pub shard_moment_is_greatest : (h : History) (i : ℕ) → (seen h).shard_moment i ≡ greatest (shard_moments_of i h)
 unfolding seen
 shard_moment_is_greatest (Begins serial id) i = refl
-shard_moment_is_greatest (Then h r) i = handed_more (shard_hands r.event i) _ _ (shard_handed (seen h) r.event (names r.event) i (shard_moments_of i h) (shard_moment_is_greatest h i))
+shard_moment_is_greatest (Then h r) i = handed_more r.event i _ _ (shard_handed (seen h) r.event (names r.event) i (shard_moments_of i h) (shard_moment_is_greatest h i))

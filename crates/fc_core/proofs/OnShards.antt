@@ -1,11 +1,12 @@
 -- An event that names a job is of no shard of its own.
 use Rattle.std.proofs.Common.{◌≡◌, ℕ, Some, refl}
 use Rattle.fc_core.specs.declared.event.Event.{Event}
-use Rattle.fc_core.specs.declared.event.Event.TheVariants.{Signal, ShardTick}
+use Rattle.fc_core.specs.declared.event.Event.TheVariants.{Signal, ShardTick, Due}
 use Rattle.fc_core.specs.History.{Calm, at_shard}
 use Rattle.fc_core.specs.Stages.{names}
 
 pub named_calm : (e : Event) (k : ℕ) → names e ≡ Some k → at_shard e ≡ Calm
 named_calm (Signal shard to id reset) k named = absurd (cc)
+named_calm (Due shard now) k named = absurd (cc)
 named_calm (ShardTick shard now) k named = absurd (cc)
 named_calm other k named = refl

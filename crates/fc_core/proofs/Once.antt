@@ -1,6 +1,7 @@
 -- Jobs of one endpoint and message id come at least a window apart.
-use Rattle.std.proofs.Common.{◌≡◌, ℕ, zero, suc, ◌+◌, ◌-◌, ◌<◌, ◌≤◌, List, [], ◌∷◌, ◌++◌, length, map, Bool, true, false, cond, Option, Some, None, Result, Ok, Err, refl, sym, ap, ◌∙◌, subst, ◌⊎◌, inl, inr, ⊎_elim, arith, max, get_or, length-append}
+use Rattle.std.proofs.Common.{◌≡◌, ℕ, zero, suc, ◌+◌, ◌*◌, ◌-◌, ◌<◌, ◌≤◌, List, [], ◌∷◌, ◌++◌, length, map, Bool, true, false, cond, Option, Some, None, Result, Ok, Err, refl, sym, ap, ◌∙◌, subst, ◌⊎◌, inl, inr, ⊎_elim, arith, max, get_or, length-append}
 use Rattle.std.specs.Prelude.{nat_eq, ◌==◌, ◌&&◌, find, is_some, if◌then◌else◌}
+use Rattle.std.specs.Option.{option_map, option_to_list}
 use Rattle.std.specs.Cmp.Lexicographic.{pointwise}
 use borrow.Author.Tests.{ltb-false}
 use Rattle.std.proofs.lemmas.Bool.{cases_lt, eq-eqb, and_from}
@@ -16,14 +17,19 @@ use Rattle.coap_opts.specs.Verdict.{Asked, Verdict, IsAsked, IsRefused, IsSilent
 use Rattle.coap_dedup.specs.Exchanges.{Exchange}
 use Rattle.coap_dedup.specs.Exchanges.{Look, IsNew, IsBusy, IsAgain, IsSilent as IsAnsweredNon, IsFull, answered_if, is_of}
 use Rattle.coap_msg.specs.Endpoints.{same_endpoint}
+use Rattle.fc_observe.specs.declared.entry.Turn.{Turn}
+use Rattle.fc_observe.specs.Calls.{NextDue, observers_after}
+use Rattle.fc_observe.specs.Observers.{ObserverList, at_moment, entry_out, next_turn}
+use Rattle.fc_observe.specs.Views.{Interest, interest_of}
+use Rattle.fc_registry.specs.Turns.{job_of_turn, turn_job}
 use Rattle.fc_registry.specs.declared.job.Job.{Job}
 use Rattle.fc_registry.specs.declared.job.Opening.{Opening}
 use Rattle.fc_registry.specs.declared.job.Origin.{Origin}
 use Rattle.fc_core.specs.declared.event.Event.{Event}
-use Rattle.fc_core.specs.declared.event.Event.TheVariants.{Deliver, Answer}
+use Rattle.fc_core.specs.declared.event.Event.TheVariants.{Deliver, Due, Answer}
 use Rattle.fc_core.specs.declared.stage.Task.{Task}
 use Rattle.fc_core.specs.ExchangeLaws.{is_within, repeated}
-use Rattle.fc_core.specs.History.{Entry, History, Begins, Then, Seen, seen, and_then, answered_in, exchanges_after, front_at, job, no_task, received_at, stage, tasks_brought, tasks_moved}
+use Rattle.fc_core.specs.History.{Entry, History, Begins, Then, Seen, seen, and_then, answered_in, due_in, exchanges_after, front_at, job, no_task, received_at, slot_at, stage, tasks_brought, tasks_moved, turn_at, watch}
 use Rattle.fc_core.specs.Laws.{HasCome}
 use Rattle.coap_block.specs.Uploads.{Add, Continues, IsWhole, IsIncomplete, IsBadLength, IsTooLarge, IsFull}
 use Rattle.fc_core.specs.Receiving.{Received, Silenced, Refused, Opened, add_in, received_added, request_received, brought, kept_of, look_in, looked, next_opening, opened_by, received_as, received_read}
@@ -146,9 +152,38 @@ module _ (s : Seen) (now : ℕ) (to : Endpoint) where
   new_tasks x emitted [] w = tt
   new_tasks x emitted (j ∷ js) w = (record { moment = w.0.moment; none = w.0.none; at_is = w.0.at_is; opened = kept_in j.origin (length s.exchanges) (kept_of x emitted) (s.exchanges ++ opened_by x opening to) (any_right (IsOf j.origin) s.exchanges (opened_by x opening to) w.0.opened) }, new_tasks x emitted js w.1)
 
-brought_new : (e : Event) (emitted : Option Emission) (s : Seen) → Each (λ t. IsNewJob s (exchanges_after e emitted s) t.job) (tasks_brought e s)
-brought_new (Deliver now to bytes) emitted s = new_tasks s now to (received_at s now to bytes.now) emitted (brought (received_at s now to bytes.now) (next_opening (front_at s now)) to) (new_in s now to bytes.now)
+-- a turn is no request
+turn_isnt : (s : Seen) (es : List Exchange) (n number : ℕ) (o : Option Interest) → Each (λ t. t.job.turn ≡ None → IsNewJob s es t.job) (map new_task (option_to_list (option_map (turn_job n number) o)) ++ [])
+turn_isnt s es n number None = tt
+turn_isnt s es n number (Some o) = (λ is. absurd (cc is), tt)
+
+turns_arent : (s : Seen) (es : List Exchange) (n : ℕ) (turn : Option Turn) (w : ObserverList) → Each (λ t. t.job.turn ≡ None → IsNewJob s es t.job) (map new_task (option_to_list (job_of_turn n turn w)) ++ [])
+turns_arent s es n None w = tt
+turns_arent s es n (Some turn) w = turn_isnt s es n turn.number (option_map interest_of (entry_out turn w))
+
+due_isnt : (s : Seen) (es : List Exchange) (i at : ℕ) (p : Option ℕ) → Each (λ t. t.job.turn ≡ None → IsNewJob s es t.job) (map new_task (option_to_list (turn_at p s i at)) ++ [])
+due_isnt s es i at None = tt
+due_isnt s es i at (Some k) =
+    let n = 8 * k + i in
+    turns_arent s es n (next_turn (slot_at s n).noticed (at_moment at (watch s n))) (observers_after (NextDue at (slot_at s n).noticed) (watch s n))
+
+each_weaker : {X : Type 0} (P Q : X → Type 0) (xs : List X) → ((x : X) → P x → Q x) → Each P xs → Each Q xs
+each_weaker P Q [] f w = tt
+each_weaker P Q (x ∷ xs) f w = (f x w.0, each_weaker P Q xs f w.1)
+
+brought_new : (e : Event) (emitted : Option Emission) (s : Seen) → Each (λ t. t.job.turn ≡ None → IsNewJob s (exchanges_after e emitted s) t.job) (tasks_brought e s)
+brought_new (Deliver now to bytes) emitted s =
+    let es = exchanges_after (Deliver now to bytes) emitted s in
+    each_weaker (λ t. IsNewJob s es t.job) (λ t. t.job.turn ≡ None → IsNewJob s es t.job) (tasks_brought (Deliver now to bytes) s) (λ t w is. w)
+    (new_tasks s now to (received_at s now to bytes.now) emitted (brought (received_at s now to bytes.now) (next_opening (front_at s now)) to) (new_in s now to bytes.now))
+brought_new (Due shard now) emitted s =
+    let at = max (s.shard_moment shard) now in
+    due_isnt s (exchanges_after (Due shard now) emitted s) shard at (due_in s shard at)
 brought_new other emitted s = tt
+
+one_turn : (o : Option Job) → length (map new_task (option_to_list o) ++ []) ≤ 1
+one_turn None = omega arith
+one_turn (Some job) = omega arith
 
 one_job : (x : Received) (o : Opening) (to : Endpoint) → length (map new_task (brought x o to)) ≤ 1
 one_job (Opened m asked body) o to = omega arith
@@ -156,28 +191,29 @@ one_job other o to = omega arith
 
 one_brought : (e : Event) (s : Seen) → length (tasks_brought e s) ≤ 1
 one_brought (Deliver now to bytes) s = one_job (received_at s now to bytes.now) (next_opening (front_at s now)) to
+one_brought (Due shard now) s = let at = max (s.shard_moment shard) now in one_turn (turn_at (due_in s shard at) s shard at)
 one_brought other s = omega arith
 
 length_after : (r : Entry) (s : Seen) → length (and_then r s).tasks ≡ length s.tasks + length (tasks_brought r.event s)
 length_after r s = length-append (tasks_moved (names r.event) r.event s) (tasks_brought r.event s) ∙ ap (λ (n : ℕ). n + length (tasks_brought r.event s)) (moved_length r.event s (names r.event))
 
-new_job : (r : Entry) (s : Seen) (k : ℕ) → length s.tasks ≤ k → HasCome (and_then r s) k → IsNewJob s (and_then r s).exchanges (job (and_then r s) k)
+new_job : (r : Entry) (s : Seen) (k : ℕ) → length s.tasks ≤ k → HasCome (and_then r s) k → (job (and_then r s) k).turn ≡ None → IsNewJob s (and_then r s).exchanges (job (and_then r s) k)
 new_job r s k le come =
     let before : length (tasks_moved (names r.event) r.event s) ≡ length s.tasks = moved_length r.event s (names r.event) in
-    subst (λ (t : Task). IsNewJob s (and_then r s).exchanges t.job) (sym (get_or-append_right (tasks_moved (names r.event) r.event s) (tasks_brought r.event s) k no_task (omega arith)))
-    (each_at (λ t. IsNewJob s (and_then r s).exchanges t.job) (tasks_brought r.event s) (k - length (tasks_moved (names r.event) r.event s)) no_task (brought_new r.event r.emitted s) (omega (arith, length_after r s, before, come)))
+    subst (λ (t : Task). t.job.turn ≡ None → IsNewJob s (and_then r s).exchanges t.job) (sym (get_or-append_right (tasks_moved (names r.event) r.event s) (tasks_brought r.event s) k no_task (omega arith)))
+    (each_at (λ t. t.job.turn ≡ None → IsNewJob s (and_then r s).exchanges t.job) (tasks_brought r.event s) (k - length (tasks_moved (names r.event) r.event s)) no_task (brought_new r.event r.emitted s) (omega (arith, length_after r s, before, come)))
 
-opened_after : (r : Entry) (s : Seen) (k : ℕ) → HasCome (and_then r s) k → (HasCome s k → Any (IsOf (job s k).origin) s.exchanges) → Any (IsOf (job (and_then r s) k).origin) (and_then r s).exchanges
-opened_after r s k come w = ⊎_elim
-    (λ (lt : k < length s.tasks). subst (λ (j : Job). Any (IsOf j.origin) (and_then r s).exchanges) (sym (job_stays r s k lt)) (still_open (job s k).origin r.event r.emitted s (w lt)))
-    (λ (le : length s.tasks ≤ k). (new_job r s k le come).opened)
+opened_after : (r : Entry) (s : Seen) (k : ℕ) → HasCome (and_then r s) k → (job (and_then r s) k).turn ≡ None → (HasCome s k → (job s k).turn ≡ None → Any (IsOf (job s k).origin) s.exchanges) → Any (IsOf (job (and_then r s) k).origin) (and_then r s).exchanges
+opened_after r s k come asks w = ⊎_elim
+    (λ (lt : k < length s.tasks). subst (λ (j : Job). Any (IsOf j.origin) (and_then r s).exchanges) (sym (job_stays r s k lt)) (still_open (job s k).origin r.event r.emitted s (w lt (subst (λ (j : Job). j.turn ≡ None) (job_stays r s k lt) asks))))
+    (λ (le : length s.tasks ≤ k). (new_job r s k le come asks).opened)
     (cases_lt k (length s.tasks))
 
--- each job has its exchange
-opened_for : (h : History) (k : ℕ) → HasCome (seen h) k → Any (IsOf (job (seen h) k).origin) (seen h).exchanges
+-- the job of each request has its exchange
+opened_for : (h : History) (k : ℕ) → HasCome (seen h) k → (job (seen h) k).turn ≡ None → Any (IsOf (job (seen h) k).origin) (seen h).exchanges
 unfolding seen
-opened_for (Begins serial id) k come = absurd (omega arith)
-opened_for (Then h r) k come = opened_after r (seen h) k come (opened_for h k)
+opened_for (Begins serial id) k come asks = absurd (omega arith)
+opened_for (Then h r) k come asks = opened_after r (seen h) k come asks (opened_for h k)
 
 -- ---- at most once in a window
 
@@ -201,12 +237,12 @@ past_window s at o p none a to id =
     let old : e.at + 247000 ≤ at = ltb-false at (e.at + 247000) (second_false (is_within at e) (is_of p.endpoint p.id e) found.2 passes) in
     subst (λ (n : ℕ). n + 247000 ≤ at) found.1.2 old
 
--- two jobs of one endpoint and message id are a window apart
+-- two jobs of requests with one endpoint and message id are a window apart
 abbrev AreApart : Seen → ℕ → ℕ → Type 0
-AreApart s j k = (job s j).origin.endpoint ≡ (job s k).origin.endpoint → (job s j).origin.id ≡ (job s k).origin.id → (job s j).origin.opening.at + 247000 ≤ (job s k).origin.opening.at
+AreApart s j k = (job s j).turn ≡ None → (job s k).turn ≡ None → (job s j).origin.endpoint ≡ (job s k).origin.endpoint → (job s j).origin.id ≡ (job s k).origin.id → (job s j).origin.opening.at + 247000 ≤ (job s k).origin.opening.at
 
 abbrev ApartJobs : Job → Job → Type 0
-ApartJobs a b = a.origin.endpoint ≡ b.origin.endpoint → a.origin.id ≡ b.origin.id → a.origin.opening.at + 247000 ≤ b.origin.opening.at
+ApartJobs a b = a.turn ≡ None → b.turn ≡ None → a.origin.endpoint ≡ b.origin.endpoint → a.origin.id ≡ b.origin.id → a.origin.opening.at + 247000 ≤ b.origin.opening.at
 
 apart_after : (h : History) (r : Entry) (j k : ℕ) → j < k → HasCome (and_then r (seen h)) k → (HasCome (seen h) k → AreApart (seen h) j k) → AreApart (and_then r (seen h)) j k
 apart_after h r j k lt come w =
@@ -217,12 +253,11 @@ apart_after h r j k lt come w =
     (subst (λ (b : Job). ApartJobs (job s j) b) (sym (job_stays r s k old)) (w old)))
     (λ (le : length s.tasks ≤ k).
     let here : j < length s.tasks = omega (arith, length_after r s, one_brought r.event s, come) in
-    let new = new_job r s k le come in
     subst (λ (a : Job). ApartJobs a (job (and_then r s) k)) (sym (job_stays r s j here))
-    (λ to id. subst (λ (n : ℕ). (job s j).origin.opening.at + 247000 ≤ n) (sym new.at_is) (past_window s new.moment (job s j).origin (job (and_then r s) k).origin new.none (opened_for h j here) to id)))
+    (λ first second to id. let new = new_job r s k le come second in subst (λ (n : ℕ). (job s j).origin.opening.at + 247000 ≤ n) (sym new.at_is) (past_window s new.moment (job s j).origin (job (and_then r s) k).origin new.none (opened_for h j here first) to id)))
     (cases_lt k (length s.tasks))
 
-pub jobs_apart : (h : History) (j k : ℕ) → j < k → HasCome (seen h) k → (job (seen h) j).origin.endpoint ≡ (job (seen h) k).origin.endpoint → (job (seen h) j).origin.id ≡ (job (seen h) k).origin.id → (job (seen h) j).origin.opening.at + 247000 ≤ (job (seen h) k).origin.opening.at
+pub jobs_apart : (h : History) (j k : ℕ) → j < k → HasCome (seen h) k → (job (seen h) j).turn ≡ None → (job (seen h) k).turn ≡ None → (job (seen h) j).origin.endpoint ≡ (job (seen h) k).origin.endpoint → (job (seen h) j).origin.id ≡ (job (seen h) k).origin.id → (job (seen h) j).origin.opening.at + 247000 ≤ (job (seen h) k).origin.opening.at
 unfolding seen
 jobs_apart (Begins serial id) j k lt come = absurd (omega arith)
 jobs_apart (Then h r) j k lt come = apart_after h r j k lt come (jobs_apart h j k lt)

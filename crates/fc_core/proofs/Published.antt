@@ -11,9 +11,9 @@ use Rattle.fc_registry.specs.Slots.{Slot, Present, Ticket, last_serial, new_slot
 use Rattle.fc_registry.specs.Changes.{after_changes, with_vars}
 use Rattle.fc_registry.specs.Calls.{clear_by, commit_of, outcome, put_by, receipt_of, taking}
 use Rattle.fc_core.specs.declared.event.Event.{Event}
-use Rattle.fc_core.specs.declared.event.Event.TheVariants.{Peek, Take, Commit as Commits, Install, Remove, Receipt, Raise, Answer, Lose}
+use Rattle.fc_core.specs.declared.event.Event.TheVariants.{Peek, Take, Commit as Commits, Install, Remove, Receipt, Raise, Answer, Lose, GiveUp}
 use Rattle.fc_core.specs.declared.stage.Stage.{Stage}
-use Rattle.fc_core.specs.declared.stage.Stage.TheVariants.{ToMatch, ToTake, ToCommit, ToInstall, ToRemove, ToDescribe, ToList, ToRaise, ToAnswer}
+use Rattle.fc_core.specs.declared.stage.Stage.TheVariants.{ToMatch, ToTake, ToCommit, ToInstall, ToRemove, ToDescribe, ToList, ToRaise, ToAnswer, ToTell}
 use Rattle.fc_core.specs.declared.stage.Task.{Task}
 use Rattle.arrayvec.specs.ArrayVec.{ArrayVec}
 use Rattle.fc_core.specs.Contents.{Listed, Unavailable}
@@ -102,6 +102,7 @@ row_publishes (Peek k n) job slot ws ToMatch f = own_publishes slot ToMatch (n =
 row_publishes (Peek k n) job slot ws (ToList seen) f = next_publishes slot (ToList seen) (n == length seen.items) (word_at ws.words n) seen
 row_publishes (Raise k) job slot ws (ToRaise word content) f = tt
 row_publishes (Answer k now) job slot ws (ToAnswer content) f = tt
+row_publishes (GiveUp k now) job slot ws (ToTell turn needs) f = tt
 row_publishes (Lose k) job slot ws s f = tt
 row_publishes other job slot ws s f = same_publishes slot s
 

@@ -16,9 +16,9 @@ use Rattle.fc_registry.specs.declared.commit.CommitOutcome.TheVariants.{Writes, 
 use Rattle.fc_registry.specs.Slots.{Slot, Present, Ticket, last_serial}
 use Rattle.fc_registry.specs.Calls.{is_observed, clear_by, outcome, outcome_by, put_by, receipt_at, receipt_of, taking, wants}
 use Rattle.fc_core.specs.declared.event.Event.{Event}
-use Rattle.fc_core.specs.declared.event.Event.TheVariants.{Peek, Take, Commit, Install, Remove, Receipt, Raise, Answer, Lose}
+use Rattle.fc_core.specs.declared.event.Event.TheVariants.{Peek, Take, Commit, Install, Remove, Receipt, Raise, Answer, Lose, GiveUp}
 use Rattle.fc_core.specs.declared.stage.Stage.{Stage}
-use Rattle.fc_core.specs.declared.stage.Stage.TheVariants.{ToMatch, ToTake, ToCommit, ToInstall, ToRemove, ToDescribe, ToList, ToRaise, ToAnswer}
+use Rattle.fc_core.specs.declared.stage.Stage.TheVariants.{ToMatch, ToTake, ToCommit, ToInstall, ToRemove, ToDescribe, ToList, ToRaise, ToAnswer, ToTell}
 use Rattle.fc_core.specs.declared.stage.Task.{Task}
 use Rattle.arrayvec.specs.ArrayVec.{ArrayVec}
 use Rattle.fc_core.specs.Contents.{Content, Missing, Unavailable, Made, Rejected, Untyped, Valid, Deleted, Described, Listed}
@@ -27,7 +27,7 @@ use Rattle.fc_core.specs.Heads.{is_match, is_present, serial_in, word_at}
 use Rattle.fc_core.specs.AnswerLaws.{HasSerial, IsCause, NoTicket, NoMemory, NothingDescribed, NothingTaken, Overtaken, LastCommit, LastInstall, LastRemoval}
 use Rattle.fc_core.specs.History.{around, Entry, History, Then, Seen, seen, and_then, did, job, slot_at, stage, task_at}
 use Rattle.fc_core.specs.Laws.{answer_at, slot_of, takings_of}
-use Rattle.fc_core.specs.Stages.{Around, Scene, committed, first_by, image_of, installed, made, matched_by, names, peeked_next, peeked_own, removed, run_content, row, told, took, verified}
+use Rattle.fc_core.specs.Stages.{Around, Scene, committed, first_by, first_or_turn, image_of, installed, made, matched_by, names, peeked_next, peeked_own, removed, run_content, row, told, took, verified}
 use Rattle.fc_core.proofs.Others.{is_here, named_stage}
 use Rattle.fc_core.proofs.Steps.{Becomes, Moves, Stays, Comes, becomes}
 use Rattle.fc_core.proofs.Fitting.{fits_next}
@@ -188,6 +188,8 @@ row_why (Raise j) k job slot ws (ToRaise word content) taken c named f e = inl e
 row_why (Raise j) k job slot ws other taken c named f e = inl e
 row_why (Answer j now) k job slot ws (ToAnswer content) taken c named f e = absurd (cc e)
 row_why (Answer j now) k job slot ws other taken c named f e = inl e
+row_why (GiveUp j now) k job slot ws (ToTell turn needs) taken c named f e = absurd (cc e)
+row_why (GiveUp j now) k job slot ws other taken c named f e = inl e
 row_why (Lose j) k job slot ws s taken c named f e = absurd (cc e)
 row_why other k job slot ws s taken c named f e = absurd (cc named)
 
@@ -204,10 +206,14 @@ none_first Removes serials c e = absurd (cc e)
 none_first Describe serials c e = absurd (cc e)
 none_first Discover serials c e = absurd (cc e)
 
+none_of_turn : (j : Job) (o : Option ℕ) (c : Content) → answer_at (first_or_turn o j) ≡ Some c → ⊥
+none_of_turn j None c e = none_first j.ask j.etags.items c e
+none_of_turn j (Some number) c e = absurd (cc e)
+
 why_by : (h : History) (r : Entry) (k : ℕ) (c : Content) (t : Task) → Becomes (names r.event) r.event (seen h) k t → answer_at t.stage ≡ Some c → (answer_at (stage (seen h) k) ≡ Some c) ⊎ IsCause r.event k (job (seen h) k) (slot_at (seen h) (slot_of (seen h) k)) (seen h).words (stage (seen h) k) (length (takings_of h k)) c
 why_by h r k c t (Moves named is) e = row_why r.event k (job (seen h) k) (slot_at (seen h) (slot_of (seen h) k)) (around (seen h) (slot_of (seen h) k)) (stage (seen h) k) (length (takings_of h k)) c named (count_is (stage (seen h) k) h k (known h k) (fits_next (job (seen h) k) (slot_at (seen h) (slot_of (seen h) k)) (stage (seen h) k) ((sound h).stages k))) (ap (λ (x : Task). answer_at x.stage) (sym is) ∙ e)
 why_by h r k c t (Stays other is) e = inl (ap (λ (x : Task). answer_at x.stage) (sym is) ∙ e)
-why_by h r k c t (Comes new j is) e = absurd (none_first j.ask j.etags.items c (ap (λ (x : Task). answer_at x.stage) (sym is) ∙ e))
+why_by h r k c t (Comes new j is) e = absurd (none_of_turn j j.turn c (ap (λ (x : Task). answer_at x.stage) (sym is) ∙ e))
 
 pub answers_have_causes : (h : History) (r : Entry) (k : ℕ) (c : Content) → answer_at (stage (seen (Then h r)) k) ≡ Some c → (answer_at (stage (seen h) k) ≡ Some c) ⊎ IsCause r.event k (job (seen h) k) (slot_at (seen h) (slot_of (seen h) k)) (seen h).words (stage (seen h) k) (length (takings_of h k)) c
 unfolding seen

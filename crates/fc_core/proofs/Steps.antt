@@ -1,15 +1,16 @@
 -- What one event makes of each job.
-use Rattle.std.proofs.Common.{◌≡◌, ℕ, zero, suc, ◌<◌, ◌≤◌, ◌-◌, List, [], ◌∷◌, ◌++◌, length, map, Option, Some, None, refl, sym, ap, ◌∙◌, subst, ⊎_elim, arith, length-append, length-set}
+use Rattle.std.proofs.Common.{◌≡◌, ℕ, zero, suc, ◌<◌, ◌≤◌, ◌-◌, List, [], ◌∷◌, ◌++◌, length, map, Option, Some, None, refl, sym, ap, ◌∙◌, subst, ⊎_elim, arith, max, length-append, length-set}
 use Rattle.std.proofs.lemmas.Bool.{cases_eq, cases_lt}
-use Rattle.std.proofs.lemmas.List.{get_or_past, get_or_append_left, get_or-set_same, get_or-set_other}
+use Rattle.std.specs.Option.{option_to_list}
+use Rattle.std.proofs.lemmas.List.{append-nil, get_or_past, get_or_append_left, get_or-set_same, get_or-set_other}
 use Rattle.std.proofs.Math.Seq.{get_or-append_right}
 use Rattle.fc_registry.specs.declared.job.Job.{Job}
 use Rattle.fc_registry.specs.Slots.{Slot}
 use Rattle.fc_core.specs.declared.event.Event.{Event}
-use Rattle.fc_core.specs.declared.event.Event.TheVariants.{Deliver, Lose}
+use Rattle.fc_core.specs.declared.event.Event.TheVariants.{Deliver, Due, Lose}
 use Rattle.fc_core.specs.declared.stage.Stage.TheVariants.{Gone}
 use Rattle.fc_core.specs.declared.stage.Task.{Task}
-use Rattle.fc_core.specs.History.{around, Entry, Seen, and_then, front_at, no_task, received_at, scene, slot_at, task_at, tasks_brought, tasks_moved}
+use Rattle.fc_core.specs.History.{AsksTurn, around, due_in, Entry, Seen, and_then, front_at, no_task, received_at, scene, slot_at, task_at, tasks_brought, tasks_moved, turn_at, turns_by}
 use Rattle.fc_core.specs.Receiving.{brought, next_opening}
 use Rattle.fc_core.specs.Stages.{Around, task_moved, names, new_task, row, scene_at}
 
@@ -57,6 +58,9 @@ module _ (e : Event) (s : Seen) where
 
   brings : (d : Event) (o : Option ℕ) (k i : ℕ) → length s.tasks ≤ k → Becomes o e s k (task_at (tasks_brought d s) i)
   brings (Deliver now to b) o k i le = new (brought (received_at s now to b.now) (next_opening (front_at s now)) to) o k i le
+  brings (Due shard now) o k i le =
+      let at = max (s.shard_moment shard) now in
+      subst (λ (ts : List Task). Becomes o e s k (task_at ts i)) (sym (append-nil (turns_by (AsksTurn shard now) s))) (new (option_to_list (turn_at (due_in s shard at) s shard at)) o k i le)
   brings other o k i le = past o k no_task le refl
 
   becomes_by : (o : Option ℕ) (k : ℕ) → Becomes o e s k (task_at (tasks_moved o e s ++ tasks_brought e s) k)

@@ -6,9 +6,9 @@ use Rattle.coap_msg.specs.declared.types.Emission.{Emission}
 use Rattle.fc_registry.specs.declared.job.Job.{Job}
 use Rattle.fc_registry.specs.Slots.{Slot}
 use Rattle.fc_core.specs.declared.event.Event.{Event}
-use Rattle.fc_core.specs.declared.event.Event.TheVariants.{Deliver, Peek, Take, Commit, Install, Remove, Receipt, Raise, Answer, Signal, Tick, ShardTick, Lose}
+use Rattle.fc_core.specs.declared.event.Event.TheVariants.{Deliver, Peek, Take, Commit, Install, Remove, Receipt, Raise, Answer, Signal, Tick, ShardTick, Lose, GiveUp, Due}
 use Rattle.fc_core.specs.declared.stage.Stage.{Stage}
-use Rattle.fc_core.specs.declared.stage.Stage.TheVariants.{ToMatch, ToTake, ToCommit, ToInstall, ToRemove, ToDescribe, ToList, ToRaise, ToAnswer, Gone}
+use Rattle.fc_core.specs.declared.stage.Stage.TheVariants.{ToMatch, ToTake, ToCommit, ToInstall, ToRemove, ToDescribe, ToList, ToRaise, ToAnswer, Gone, ToTell}
 use Rattle.fc_core.specs.Contents.{Content}
 use Rattle.fc_core.specs.Stages.{Around, Move, Scene, content_at, handed, task_moved, moves, names, peeked_next, peeked_own, row, words_after}
 use Rattle.fc_core.specs.Heads.{word_at}
@@ -41,6 +41,7 @@ row_still (Commit k now) job slot ws (ToCommit n t) e = absurd (cc)
 row_still (Install k memory) job slot ws ToInstall e = absurd (cc)
 row_still (Raise k) job slot ws (ToRaise word content) e = absurd (cc)
 row_still (Answer k now) job slot ws (ToAnswer content) e = absurd (cc)
+row_still (GiveUp k now) job slot ws (ToTell turn needs) e = absurd (cc)
 row_still (Lose k) job slot ws Gone e = refl
 row_still (Lose k) job slot ws other e = absurd (cc)
 row_still other job slot ws s e = refl
@@ -103,6 +104,7 @@ stray_still : (e : Event) (o : Option Emission) (s : Seen) → is_stray s e ≡ 
 stray_still (Deliver now to bytes) o s e = absurd (cc)
 stray_still (Tick now) o s e = absurd (cc)
 stray_still (Signal shard to id reset) o s e = absurd (cc)
+stray_still (Due shard now) o s e = absurd (cc)
 stray_still (ShardTick shard now) o s e = absurd (cc)
 stray_still (Peek k n) o s e = named_still s (Peek k n) o k refl e refl refl refl refl refl (λ i. refl) (λ n. refl)
 stray_still (Remove k) o s e = named_still s (Remove k) o k refl e refl refl refl refl refl (λ i. refl) (λ n. refl)
@@ -111,6 +113,7 @@ stray_still (Take k memory) o s e = named_still s (Take k memory) o k refl e ref
 stray_still (Commit k now) o s e = named_still s (Commit k now) o k refl e refl refl refl refl refl (λ i. refl) (λ n. refl)
 stray_still (Install k memory) o s e = named_still s (Install k memory) o k refl e refl refl refl refl refl (λ i. refl) (λ n. refl)
 stray_still (Raise k) o s e = named_still s (Raise k) o k refl e refl refl refl refl refl (λ i. refl) (λ n. refl)
+stray_still (GiveUp k now) o s e = named_still s (GiveUp k now) o k refl e refl refl refl refl refl (λ i. refl) (λ n. refl)
 stray_still (Lose k) o s e = named_still s (Lose k) o k refl e refl refl refl refl refl (λ i. refl) (λ n. refl)
 stray_still (Answer k now) o s e =
     let none : content_at (stage s k) ≡ None = none_answered k now (job s k).origin.slot (stage s k) e in

@@ -17,9 +17,9 @@ use Rattle.fc_registry.specs.Changes.{Change}
 use Rattle.fc_registry.specs.declared.receipt.Receipt.{Receipt as Facts}
 use Rattle.fc_registry.specs.Calls.{is_observed, clear_by, meaning_at, outcome, outcome_by, put_by, receipt_at, receipt_of, taking, wants}
 use Rattle.fc_core.specs.declared.event.Event.{Event}
-use Rattle.fc_core.specs.declared.event.Event.TheVariants.{Peek, Take, Commit, Install, Remove, Receipt, Raise, Answer, Lose}
+use Rattle.fc_core.specs.declared.event.Event.TheVariants.{Peek, Take, Commit, Install, Remove, Receipt, Raise, Answer, Lose, GiveUp}
 use Rattle.fc_core.specs.declared.stage.Stage.{Stage}
-use Rattle.fc_core.specs.declared.stage.Stage.TheVariants.{ToMatch, ToTake, ToCommit, ToInstall, ToRemove, ToDescribe, ToList, ToRaise, ToAnswer, Gone}
+use Rattle.fc_core.specs.declared.stage.Stage.TheVariants.{ToMatch, ToTake, ToCommit, ToInstall, ToRemove, ToDescribe, ToList, ToRaise, ToAnswer, Gone, ToTell}
 use Rattle.coap_reply.specs.Blocks.{cut_for}
 use Rattle.arrayvec.specs.ArrayVec.{ArrayVec}
 use Rattle.fc_core.specs.Contents.{Content, Listed, Ran, RunAnswer, run_answer, Unavailable}
@@ -59,6 +59,7 @@ at_most_eight ToDescribe ts f = f
 at_most_eight (ToList seen) ts f = f
 at_most_eight (ToRaise word content) ts f = f.0
 at_most_eight (ToAnswer content) ts f = f.0
+at_most_eight (ToTell turn needs) ts f = f
 at_most_eight Gone ts f = f
 
 taking_took : (memory : Bool) (k : ℕ) (job : Job) (slot : Slot) (cs : List Change) (n : ℕ) (ts : List Taking) (p : Option Present) → slot.present ≡ p → length ts ≡ n → n < 8 → Took (gives (Take k memory) (ToTake n) job (record slot { present = p }) cs ++ ts) (took n (taking memory job slot.serial p))
@@ -134,6 +135,7 @@ row_took (Commit k now) job slot cs ws (ToCommit n t) ts f = committed_took n ts
 row_took (Install k memory) job slot cs ws ToInstall ts f = verified_took memory (at job slot ws ToInstall) ts f
 row_took (Raise k) job slot cs ws (ToRaise word content) ts f = f
 row_took (Answer k now) job slot cs ws (ToAnswer content) ts f = f.0
+row_took (GiveUp k now) job slot cs ws (ToTell turn needs) ts f = f
 row_took (Lose k) job slot cs ws s ts f = at_most_eight s ts f
 row_took other job slot cs ws s ts f = f
 
@@ -161,6 +163,7 @@ is_told = record {
   still = λ e s k ts is. ap (λ (x : Stage). gives e x (job s k) (slot_at s (slot_of s k)) (s.changes (slot_of s k)) ++ ts) is ∙ ap (λ (l : List Taking). l ++ ts) (gone_given e (job s k) (slot_at s (slot_of s k)) (s.changes (slot_of s k)));
   gone = omega arith;
   first = first_took;
+  turns = λ turn. omega arith;
   keeps = λ e s k ts f. row_took e (job s k) (slot_at s (slot_of s k)) (s.changes (slot_of s k)) (around s (slot_of s k)) (stage s k) ts f;
 }
 
@@ -179,6 +182,7 @@ said ts ToMatch run f e = absurd (cc e)
 said ts ToRemove run f e = absurd (cc e)
 said ts ToDescribe run f e = absurd (cc e)
 said ts (ToList seen) run f e = absurd (cc e)
+said ts (ToTell turn needs) run f e = absurd (cc e)
 said ts (ToRaise word content) run f e = let is : content ≡ Ran run = cc e in subst (Says ts) is f.1
 said ts (ToAnswer content) run f e = let is : content ≡ Ran run = cc e in subst (Says ts) is f.1
 

@@ -16,7 +16,7 @@ after_append n [] ds = refl
 after_append n (c ∷ cs) ds = ap (observers_after c) (after_append n cs ds)
 
 -- a call on the observers, or none
-called : (s : Seen) (n : ℕ) (c : ObserverCall) (b d : Bool) → b ≡ d → observers n ((if b then c ∷ [] else []) ++ s.calls n) ≡ observers n ((if d then c ∷ [] else []) ++ s.calls n)
+pub called : (s : Seen) (n : ℕ) (c : ObserverCall) (b d : Bool) → b ≡ d → observers n ((if b then c ∷ [] else []) ++ s.calls n) ≡ observers n ((if d then c ∷ [] else []) ++ s.calls n)
 called s n c b d is = ap (λ (x : Bool). observers n ((if x then c ∷ [] else []) ++ s.calls n)) is
 
 pub reset_here : (s : Seen) (i n id : ℕ) (to : Endpoint) (o : Option Emission) → n % 8 ≡ i → watch (and_then (did (Signal i to id true) o) s) n ≡ after_reset to id (watch s n)

@@ -3,6 +3,7 @@ use Rattle.std.proofs.Common.{◌≡◌, ℕ, ◌+◌, ◌<◌, ◌≤◌, ◌�
 use Rattle.std.specs.Prelude.{nat_lt, ◌==◌, ◌&&◌}
 use borrow.Author.Tests.{ltb-true, lt-ltb}
 use Rattle.std.proofs.lemmas.Bool.{cases_lt, eqb-true, eq-eqb, ne_eqb}
+use Rattle.std.proofs.lemmas.List.Elements.{All-nil}
 use Rattle.std.proofs.lemmas.List.{nil_from_length}
 use Rattle.coap_msg.specs.declared.types.Emission.{Emission}
 use Rattle.fc_help.specs.declared.request.Method.{Method}
@@ -25,6 +26,7 @@ use Rattle.fc_core.specs.SlotLaws.{IsUnchanged, IsWritten}
 use Rattle.fc_core.specs.Sound.{IsSound}
 use Rattle.fc_core.specs.Stages.{Around, Scene, committed, names, row}
 use Rattle.fc_core.proofs.Along.{none_after}
+use Rattle.fc_core.proofs.Calling.{EntryWithin}
 use Rattle.fc_core.proofs.Keeping.{grows, still_sound}
 use Rattle.fc_core.proofs.Lists.{Each}
 use Rattle.fc_core.proofs.Others.{job_stays, own_slot}
@@ -33,7 +35,7 @@ use Rattle.fc_core.proofs.Takings.{Took, is_told, known, more}
 -- ---- the chain
 
 begun_sound : (serial id : ℕ) → IsSound (begun serial id)
-begun_sound serial id = record { chain = λ n. tt; within = λ k. (omega arith, tt); stages = λ k. tt }
+begun_sound serial id = record { chain = λ n. tt; within = λ k. (omega arith, tt); stages = λ k. tt; watched = λ n. All-nil EntryWithin }
 
 pub sound : (h : History) → IsSound (seen h)
 unfolding seen

@@ -8,14 +8,14 @@ use Rattle.fc_registry.specs.declared.receipt.Receipt.{Receipt as Facts}
 use Rattle.fc_registry.specs.Calls.{meaning_at, wants}
 use Rattle.fc_registry.specs.Slots.{Slot, Present, Ticket}
 use Rattle.fc_core.specs.declared.event.Event.{Event}
-use Rattle.fc_core.specs.declared.event.Event.TheVariants.{Deliver, Peek, Take, Commit, Install, Remove, Receipt, Answer, Tick}
+use Rattle.fc_core.specs.declared.event.Event.TheVariants.{Deliver, Peek, Take, Commit, Install, Remove, Receipt, Answer, Due, GiveUp, Tick, ShardTick}
 use Rattle.fc_core.specs.declared.stage.Stage.{Stage}
 use Rattle.arrayvec.specs.ArrayVec.{ArrayVec}
-use Rattle.fc_core.specs.declared.stage.Stage.TheVariants.{ToMatch, ToTake, ToCommit, ToInstall, ToRemove, ToDescribe, ToList, ToAnswer}
+use Rattle.fc_core.specs.declared.stage.Stage.TheVariants.{ToMatch, ToTake, ToCommit, ToInstall, ToRemove, ToDescribe, ToList, ToAnswer, ToTell}
 use Rattle.coap_reply.specs.Blocks.{cut_for}
 use Rattle.fc_core.specs.Contents.{Content, RunAnswer, Ran, Missing, Unavailable, Made, Rejected, Untyped, Valid, Deleted, Described, Listed}
 use Rattle.fc_core.specs.Heads.{head_word, word_at}
-use Rattle.fc_core.specs.History.{Entry, History, Begins, Then, Seen, seen, job, shard_hands, slot_at, stage}
+use Rattle.fc_core.specs.History.{Entry, History, Begins, Then, Seen, seen, job, slot_at, stage}
 use Rattle.fc_core.specs.Laws.{slot_of, stage_named, takings_of}
 use Rattle.fc_core.specs.Stages.{image_of, names}
 
@@ -148,26 +148,29 @@ abbrev pub moments_of : History → List ℕ
 moments_of (Begins serial id) = []
 moments_of (Then h r) = moments_in r.event (seen h) ++ moments_of h
 
--- the moment of a commit at its stage
-abbrev pub commit_moment : Event → Stage → List ℕ
-commit_moment (Commit k now) (ToCommit count t) = now ∷ []
-commit_moment other at = []
+-- the moment of a commit at its stage, or of giving up a turn
+abbrev pub row_moment : Event → Stage → List ℕ
+row_moment (Commit k now) (ToCommit count t) = now ∷ []
+row_moment (GiveUp k now) (ToTell turn needs) = now ∷ []
+row_moment other at = []
 
 -- the job that is named, if one is, is of a slot of this shard
 abbrev pub is_of_shard : ℕ → Seen → Option ℕ → Bool
 is_of_shard i s None = false
 is_of_shard i s (Some k) = slot_of s k % 8 == i
 
--- the moment that was handed, if one was
-abbrev pub moment_handed : Option ℕ → List ℕ
-moment_handed None = []
-moment_handed (Some now) = now ∷ []
+-- the moment of an event of this shard itself
+abbrev pub own_moment : Event → ℕ → List ℕ
+own_moment (Due shard now) i = if shard == i then now ∷ [] else []
+own_moment (ShardTick shard now) i = if shard == i then now ∷ [] else []
+own_moment other i = []
 
--- the moments that were handed to a shard, the newest first: by its own events, and by the commits of its slots' jobs
+-- the moments that were handed to a shard, the newest first: by its own events, and by the commits of its slots' jobs and by those that
+-- gave up their turn
 abbrev pub shard_moments_of : ℕ → History → List ℕ
 shard_moments_of i (Begins serial id) = []
 shard_moments_of i (Then h r) =
-    moment_handed (shard_hands r.event i)
+    own_moment r.event i
     ++ (if is_of_shard i (seen h) (names r.event)
-    then commit_moment r.event (stage_named (seen h) (names r.event)) ++ shard_moments_of i h
+    then row_moment r.event (stage_named (seen h) (names r.event)) ++ shard_moments_of i h
     else shard_moments_of i h)

@@ -6,7 +6,7 @@ use Rattle.fc_registry.specs.declared.job.Job.{Job}
 use Rattle.fc_registry.specs.Slots.{Slot, Present, Ticket}
 use Rattle.fc_registry.specs.Calls.{HasGiven, request_of}
 use Rattle.fc_core.specs.declared.stage.Stage.{Stage}
-use Rattle.fc_core.specs.declared.stage.Stage.TheVariants.{ToTake, ToCommit, ToList, ToRaise, ToAnswer}
+use Rattle.fc_core.specs.declared.stage.Stage.TheVariants.{ToTake, ToCommit, ToList, ToRaise, ToAnswer, ToTell}
 use Rattle.fc_core.specs.Contents.{IsOf}
 use Rattle.fc_core.specs.Stages.{takings}
 
@@ -21,13 +21,14 @@ abbrev pub HasNext : Stage → Type 0
 HasNext (ToList seen) = length seen.items < 64
 HasNext other = Unit {0}
 
--- a job that is to take may take once more; a ticket is its job's, and so is an answer
+-- a job that is to take may take once more; a ticket is its job's, and so is an answer; a turn is of its job's slot
 abbrev pub FitsStage : Job → Slot → Stage → Type 0
 FitsStage job slot (ToTake count) = count < takings
 FitsStage job slot (ToCommit count t) = (count ≤ takings) × IsTicketOf job slot t
 FitsStage job slot (ToList seen) = HasNext (ToList seen)
 FitsStage job slot (ToRaise word content) = IsOf job content
 FitsStage job slot (ToAnswer content) = IsOf job content
+FitsStage job slot (ToTell turn needs) = turn.slot ≡ job.origin.slot
 FitsStage job slot other = Unit {0}
 
 -- a program whose every run has a meaning, and whose cost is that of its longest path

@@ -1,20 +1,22 @@
 -- The history of a server, and what is seen of it. A history is its beginning and the events since, each with what it emitted.
 -- All that can be asked of it is one fold over its entries.
 use Rattle.std.specs.Prelude.{ℕ, ◌+◌, ◌*◌, ◌%◌, ◌==◌, nat_lt, Bool, true, false, if◌then◌else◌, Option, Some, None, is_some, List, [], ◌∷◌, ◌++◌, length, map, filter, max, slice_index_or, slice_set}
+use Rattle.std.specs.Option.{option_to_list}
 use Rattle.coap_msg.specs.declared.types.Endpoint.{Endpoint}
 use Rattle.coap_msg.specs.declared.types.Emission.{Emission}
 use Rattle.coap_dedup.specs.Exchanges.{Exchange}
 use Rattle.coap_dedup.specs.Exchanges.{answered_if, is_live as is_held}
 use Rattle.coap_block.specs.Transfers.{Addition, transfers}
-use Rattle.fc_observe.specs.Calls.{ObserverCall, Tick as TickObservers, observers}
-use Rattle.fc_observe.specs.Observers.{ObserverList, at_moment, late_entry}
+use Rattle.fc_observe.specs.Calls.{ObserverCall, NextDue, Tick as TickObservers, observers}
+use Rattle.fc_observe.specs.Observers.{ObserverList, at_moment, late_entry, next_turn}
 use Rattle.fc_registry.specs.declared.job.Ask.TheVariants.{Install as Installs}
 use Rattle.fc_registry.specs.declared.job.Job.{Job}
 use Rattle.fc_registry.specs.Slots.{Slot, new_slot}
 use Rattle.fc_registry.specs.Changes.{Change, after_changes}
+use Rattle.fc_registry.specs.Turns.{turn_given_to}
 use Rattle.fc_registry.specs.Watches.{place_from, signal_call}
 use Rattle.fc_core.specs.declared.event.Event.{Event}
-use Rattle.fc_core.specs.declared.event.Event.TheVariants.{Deliver, Answer, Signal, Tick, ShardTick}
+use Rattle.fc_core.specs.declared.event.Event.TheVariants.{Deliver, Answer, Due, Signal, Tick, ShardTick}
 use Rattle.fc_core.specs.declared.stage.Stage.{Stage}
 use Rattle.fc_core.specs.declared.stage.Stage.TheVariants.{Gone}
 use Rattle.fc_core.specs.declared.stage.Task.{Task}
@@ -64,6 +66,7 @@ abbrev pub no_task : Task
 no_task = record {
   job = record {
     origin = record { opening = record { number = 0; at = 0 }; endpoint = record { ip = []; port = 0 }; id = 0; slot = 0 };
+    turn = None;
     confirmable = false;
     token = record { items = [] };
     etags = record { items = [] };
@@ -177,9 +180,6 @@ added_in e s = additions_by (at_front e) s
 abbrev pub ids_after : Event → Seen → Ids
 ids_after e s = ids_by (at_front e) s
 
-abbrev pub tasks_brought : Event → Seen → List Task
-tasks_brought e s = tasks_by (at_front e) s
-
 -- ---- the jobs and their slots
 
 abbrev pub tasks_moved : Option ℕ → Event → Seen → List Task
@@ -194,20 +194,23 @@ abbrev pub shard_moment_after : Option ℕ → Event → Seen → ℕ → ℕ
 shard_moment_after None e s i = s.shard_moment i
 shard_moment_after (Some k) e s i = if (job s k).origin.slot % 8 == i then handed (row e (scene s k)).hands (s.shard_moment i) else s.shard_moment i
 
--- what an event does at a shard of its own, rather than at that of a job's slot: it carries a signal to the observers of its slots,
--- lets time pass there, or does nothing there
+-- what an event does at a shard of its own, rather than at that of a job's slot: it asks for the turn of an observer of its slots,
+-- carries a signal to them all, lets time pass there, or does nothing there
 pub data AtShard : Type 0 where
+  AsksTurn : (shard now : ℕ) → AtShard
   Signals : (shard : ℕ) (to : Endpoint) (id : ℕ) (reset : Bool) → AtShard
   Ticks : (shard now : ℕ) → AtShard
   Calm : AtShard
 
 abbrev pub at_shard : Event → AtShard
+at_shard (Due shard now) = AsksTurn shard now
 at_shard (Signal shard to id reset) = Signals shard to id reset
 at_shard (ShardTick shard now) = Ticks shard now
 at_shard other = Calm
 
 -- the moment that it hands to a shard
 abbrev pub hands_by : AtShard → ℕ → Option ℕ
+hands_by (AsksTurn shard now) i = if shard == i then Some now else None
 hands_by (Ticks shard now) i = if shard == i then Some now else None
 hands_by other i = None
 
@@ -229,13 +232,26 @@ is_late_at s i at k = is_some (late_entry (at_moment at (watch s (8 * k + i))))
 unfoldable pub late_in : Seen → ℕ → ℕ → Option ℕ
 late_in s i at = if nat_lt i 8 then place_from (is_late_at s i at) 8 0 else None
 
+-- the slot at a place of shard i has an observer that is due at a moment
+abbrev pub is_due_at : Seen → ℕ → ℕ → ℕ → Bool
+is_due_at s i at k = is_some (next_turn (slot_at s (8 * k + i)).noticed (at_moment at (watch s (8 * k + i))))
+
+-- the first such place
+unfoldable pub due_in : Seen → ℕ → ℕ → Option ℕ
+due_in s i at = if nat_lt i 8 then place_from (is_due_at s i at) 8 0 else None
+
 -- the place, if there is one, is that of slot n
 abbrev pub is_place_of : Option ℕ → ℕ → ℕ → Bool
 is_place_of None i n = false
 is_place_of (Some k) i n = (8 * k + i) == n
 
--- what it calls on the observers of slot n: a signal is for all of its shard, a tick for the first with a late notification
+-- what it calls on the observers of slot n: a turn is the first observer's that is due, a signal is for all of its shard, a tick for
+-- the first with a late notification
 abbrev pub calls_by : AtShard → Seen → ℕ → List ObserverCall
+calls_by (AsksTurn shard now) s n =
+    if is_place_of (due_in s shard (max (s.shard_moment shard) now)) shard n
+    then NextDue (max (s.shard_moment shard) now) (slot_at s n).noticed ∷ []
+    else []
 calls_by (Signals shard to id reset) s n = if (n % 8) == shard then signal_call reset to id ∷ [] else []
 calls_by (Ticks shard now) s n =
     if is_place_of (late_in s shard (max (s.shard_moment shard) now)) shard n
@@ -245,6 +261,20 @@ calls_by Calm s n = []
 
 abbrev pub calls_in : Event → Seen → ℕ → List ObserverCall
 calls_in e s n = calls_by (at_shard e) s n
+
+-- the job of the turn that is given at a place of shard i, if there is one
+abbrev pub turn_at : Option ℕ → Seen → ℕ → ℕ → Option Job
+turn_at None s i at = None
+turn_at (Some k) s i at = turn_given_to (8 * k + i) at (slot_at s (8 * k + i)).noticed (watch s (8 * k + i))
+
+-- the jobs that it brings
+abbrev pub turns_by : AtShard → Seen → List Task
+turns_by (AsksTurn shard now) s = map new_task (option_to_list (turn_at (due_in s shard (max (s.shard_moment shard) now)) s shard (max (s.shard_moment shard) now)))
+turns_by other s = []
+
+-- the jobs that an event brings: a turn, or a request
+abbrev pub tasks_brought : Event → Seen → List Task
+tasks_brought e s = turns_by (at_shard e) s ++ tasks_by (at_front e) s
 
 -- what an event calls on the observers of the slot of the job that it names
 abbrev pub calls_named : Option ℕ → Event → Seen → ℕ → List ObserverCall

@@ -1,17 +1,21 @@
 -- What the laws of registration speak of.
-use Rattle.std.specs.Prelude.{◌≡◌, ℕ, ◌&&◌, nat_eq, Bool, true, List, [], ◌∷◌, Option, Some, None}
+use Rattle.std.specs.Prelude.{◌≡◌, ℕ, ◌&&◌, ◌++◌, find, max, nat_eq, Bool, true, List, [], ◌∷◌, Option, Some, None}
 use Rattle.std.specs.Cmp.Lexicographic.{pointwise}
 use Rattle.std.specs.List.{list_any}
 use Rattle.coap_msg.specs.declared.types.Endpoint.{Endpoint}
 use Rattle.coap_msg.specs.Endpoints.{same_endpoint}
 use Rattle.coap_opts.specs.Values.{Place}
-use Rattle.fc_observe.specs.Entries.{is_entry_of}
+use Rattle.fc_observe.specs.declared.entry.Entry.{Entry as ObserverEntry}
+use Rattle.fc_observe.specs.Entries.{is_due, is_entry_of}
 use Rattle.fc_observe.specs.Observers.{ObserverList}
+use Rattle.fc_observe.specs.Views.{interest_of}
 use Rattle.fc_registry.specs.Calls.{meaning_at}
 use Rattle.fc_registry.specs.Slots.{Ticket}
+use Rattle.fc_registry.specs.Turns.{turn_job}
 use Rattle.fc_core.specs.declared.event.Event.TheVariants.{Commit}
-use Rattle.fc_core.specs.declared.stage.Stage.TheVariants.{ToCommit}
-use Rattle.fc_core.specs.History.{Entry, History, Then, Seen, seen, stage}
+use Rattle.fc_core.specs.declared.stage.Stage.TheVariants.{ToCommit, ToTell}
+use Rattle.fc_core.specs.declared.stage.TurnStage.TheVariants as turns
+use Rattle.fc_core.specs.History.{Entry, History, Then, Seen, seen, slot_at, stage, watch}
 use Rattle.fc_core.specs.Laws.{slot_of}
 
 -- no block is asked, or the first
@@ -49,3 +53,12 @@ pub record Registers (r : Entry) (s : Seen) (n : ℕ) (to : Endpoint) (token : L
 abbrev pub NoneRegisters : History → List Entry → ℕ → Endpoint → List ℕ → Type 0
 NoneRegisters h [] n to token = Unit {0}
 NoneRegisters h (r ∷ rs) n to token = (Registers r (seen h) n to token → ⊥) × NoneRegisters (Then h r) rs n to token
+
+-- a turn of slot n is brought at a moment: the job, at its first stage, of the first of its observers that is due then
+pub record BringsTurn (s : Seen) (n at : ℕ) (after : Seen) : Type 0 where
+  pub entry : ObserverEntry
+  pub first : find (is_due (max (watch s n).moment at) (slot_at s n).noticed) (watch s n).held ≡ Some entry
+  pub comes : after.tasks ≡ s.tasks ++ record {
+    job = turn_job n (watch s n).turns (interest_of entry);
+    stage = ToTell (record { slot = n; number = (watch s n).turns }) turns.ToTake;
+  } ∷ []

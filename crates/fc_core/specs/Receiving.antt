@@ -147,6 +147,7 @@ etags_by false etags = etags
 abbrev pub job_of : Opening → Endpoint → Message → Asked → List ℕ → Job
 job_of opening to m r body = record {
   origin = record { opening = opening; endpoint = to; id = m.id; slot = slot_of_resource r.resource };
+  turn = None;
   confirmable = is_confirmable m.kind;
   token = record { items = m.token };
   etags = record { items = etags_by (observes r.observe) r.etags };
@@ -155,9 +156,13 @@ job_of opening to m r body = record {
   ask = ask_by r.method r.resource r body;
 }
 
--- a job's slot is one of 64, and its request has at most 64 bytes of query and 1,024 of payload
+-- a request has at most 64 bytes of query and 1,024 of payload
+abbrev pub RequestWithin : Request → Type 0
+RequestWithin request = (length request.query ≤ 64) × (length request.payload ≤ 1024)
+
+-- a job's slot is one of 64, and its request is within these limits
 abbrev pub AskWithin : Ask → Type 0
-AskWithin (Run request) = (length request.query ≤ 64) × (length request.payload ≤ 1024)
+AskWithin (Run request) = RequestWithin request
 AskWithin other = Unit {0}
 
 abbrev pub JobWithin : Job → Type 0

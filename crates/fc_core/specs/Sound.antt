@@ -1,17 +1,19 @@
 -- What is true of all that is seen of a history, whatever the events.
 use Rattle.std.specs.Prelude.{ℕ, List, [], ◌∷◌}
+use Rattle.std.specs.List.{All}
 use Rattle.fc_registry.specs.Changes.{Change, Installed, Committed, Removed}
 use Rattle.fc_registry.specs.Record.{IsChain}
 use Rattle.fc_registry.specs.Slots.{new_slot}
 use Rattle.fc_core.specs.Fits.{FitsSlot, FitsStage, IsSafe}
-use Rattle.fc_core.specs.History.{Seen, job, slot_at, stage}
-use Rattle.fc_core.specs.Receiving.{JobWithin}
+use Rattle.fc_core.specs.History.{Seen, job, slot_at, stage, watch}
+use Rattle.fc_core.specs.Receiving.{JobWithin, RequestWithin}
 
--- the commits of each slot are a chain, and each job is within its limits and fits its slot
+-- the commits of each slot are a chain, each job is within its limits and fits its slot, and so are the observers' requests
 pub record IsSound (s : Seen) : Type 0 where
   pub chain : (n : ℕ) → IsChain (new_slot s.first_serial) (s.changes n)
   pub within : (k : ℕ) → JobWithin (job s k)
   pub stages : (k : ℕ) → FitsStage (job s k) (slot_at s (job s k).origin.slot) (stage s k)
+  pub watched : (n : ℕ) → All (λ o. RequestWithin o.request) (watch s n).held
 
 -- each program in a slot may be run
 pub record IsSafelySeen (s : Seen) : Type 0 where

@@ -3,7 +3,8 @@ use Rattle.std.specs.Prelude.{◌≡◌, ℕ, ◌+◌, ◌/◌, ◌==◌, Bool, 
 use Rattle.arrayvec.specs.ArrayVec.{ArrayVec}
 use Rattle.fc_verify.specs.Accepted.{Judgement, Accepts, Breaks, Untypable}
 use Rattle.fc_verify.specs.Judged.{judged}
-use Rattle.fc_observe.specs.Calls.{ObserverCall}
+use Rattle.fc_observe.specs.declared.entry.Turn.{Turn}
+use Rattle.fc_observe.specs.Calls.{ObserverCall, GiveUp as GiveUpTurn}
 use Rattle.fc_observe.specs.Observers.{ObserverList}
 use Rattle.fc_registry.specs.declared.job.Ask.{Ask}
 use Rattle.fc_registry.specs.declared.job.Ask.TheVariants.{Run, Install as Installs, Remove as Removes, Describe, Discover}
@@ -26,9 +27,10 @@ use Rattle.fc_registry.specs.Calls.{taking, install_in, remove_from, receipt_at,
 use Rattle.fc_core.specs.Contents.{Content, Ran, run_answer, Missing as Misses, Unavailable, Made as Makes, Rejected, Untyped, Valid, Deleted, Described, Listed}
 use Rattle.fc_core.specs.Heads.{head_word, is_match, published, serial_in, word_at}
 use Rattle.fc_core.specs.declared.event.Event.{Event}
-use Rattle.fc_core.specs.declared.event.Event.TheVariants.{Peek, Take, Commit, Install, Remove, Receipt, Raise, Answer, Lose}
+use Rattle.fc_core.specs.declared.event.Event.TheVariants.{Peek, Take, Commit, Install, Remove, Receipt, Raise, Answer, GiveUp, Lose}
 use Rattle.fc_core.specs.declared.stage.Stage.{Stage}
-use Rattle.fc_core.specs.declared.stage.Stage.TheVariants.{ToMatch, ToTake, ToCommit, ToInstall, ToRemove, ToDescribe, ToList, ToRaise, ToAnswer, Gone}
+use Rattle.fc_core.specs.declared.stage.Stage.TheVariants.{ToMatch, ToTake, ToCommit, ToInstall, ToRemove, ToDescribe, ToList, ToRaise, ToAnswer, ToTell, Gone}
+use Rattle.fc_core.specs.declared.stage.TurnStage.TheVariants as turns
 use Rattle.fc_core.specs.declared.stage.Task.{Task}
 
 -- the job that an event names
@@ -41,6 +43,7 @@ names (Remove job) = Some job
 names (Receipt job) = Some job
 names (Raise job) = Some job
 names (Answer job now) = Some job
+names (GiveUp job now) = Some job
 names (Lose job) = Some job
 names other = None
 
@@ -57,8 +60,21 @@ first_by Removes serials = ToRemove
 first_by Describe serials = ToDescribe
 first_by Discover serials = ToList (record { items = [] })
 
+-- the turn of this number of the observers of a job's slot
+abbrev pub turn_of : Job → ℕ → Turn
+turn_of job number = record { slot = job.origin.slot; number = number }
+
+-- what a request's job needs first
+abbrev pub asked_stage : Job → Stage
+asked_stage job = first_by job.ask job.etags.items
+
+-- a turn needs a taking, whatever its request asks
+abbrev pub first_or_turn : Option ℕ → Job → Stage
+first_or_turn None job = asked_stage job
+first_or_turn (Some number) job = ToTell (turn_of job number) turns.ToTake
+
 abbrev pub first_stage : Job → Stage
-first_stage job = first_by job.ask job.etags.items
+first_stage job = first_or_turn job.turn job
 
 abbrev pub new_task : Job → Task
 new_task job = record { job = job; stage = first_stage job }
@@ -207,6 +223,11 @@ abbrev pub at_answer : Stage → Move
 at_answer (ToAnswer content) = moves Gone
 at_answer other = moves other
 
+-- the turn of an observer is given up, at whatever it needs
+abbrev pub at_give_up : ℕ → Scene → Stage → Move
+at_give_up now s (ToTell turn needs) = record (moves Gone) { calls = GiveUpTurn turn (max s.around.moment now) ∷ []; hands = Some now }
+at_give_up now s other = moves other
+
 abbrev pub row : Event → Scene → Move
 row (Peek job n) s = at_peek n s s.stage
 row (Take job memory) s = at_take memory s s.stage
@@ -216,6 +237,7 @@ row (Remove job) s = at_remove s s.stage
 row (Receipt job) s = at_receipt s s.stage
 row (Raise job) s = at_raise s.stage
 row (Answer job now) s = at_answer s.stage
+row (GiveUp job now) s = at_give_up now s s.stage
 row (Lose job) s = moves Gone
 row other s = moves s.stage
 

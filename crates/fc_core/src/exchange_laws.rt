@@ -4,7 +4,7 @@ ghost use Rattle.fc_core.specs.ExchangeLaws.{AreApart, AreInOrder, Opens, OpensO
 ghost use Rattle.fc_core.specs.History.{Entry, History, Seen, seen, and_then, job};
 ghost use Rattle.fc_core.specs.Laws.{HasCome};
 ghost use Rattle.fc_core.specs.Legal.{Emits};
-ghost use Rattle.std.specs.Prelude.{ℕ, ◌+◌, ◌<◌, ◌≤◌, ◌≡◌};
+ghost use Rattle.std.specs.Prelude.{ℕ, ◌+◌, ◌<◌, ◌≤◌, ◌≡◌, None};
 
 /// A repeat, which is a request of an endpoint and message id of which an exchange was opened less than 247,000 ms before,
 /// opens no exchange, brings no job, adds no payload to a transfer and draws no message id. It emits the bytes that are kept of that exchange, where its
@@ -30,10 +30,11 @@ pub fn new_requests_open_exchanges()
         → arrivals (and_then r s) ≡ arrivals s }
 {}
 
-/// A request is carried out at most once in its window: two jobs of one endpoint and message id came at least 247,000 ms
-/// apart.
+/// A request is carried out at most once in its window: two jobs of requests with one endpoint and message id came at least 247,000 ms
+/// apart. A turn of an observer is no request.
 pub fn requests_are_carried_out_once()
     ensures { (h : History) (j k : ℕ) → j < k → HasCome (seen h) k
+        → (job (seen h) j).turn ≡ None → (job (seen h) k).turn ≡ None
         → (job (seen h) j).origin.endpoint ≡ (job (seen h) k).origin.endpoint
         → (job (seen h) j).origin.id ≡ (job (seen h) k).origin.id
         → (job (seen h) j).origin.opening.at + 247000 ≤ (job (seen h) k).origin.opening.at }

@@ -513,6 +513,7 @@ pub fn blank_emission() -> Emission
 pub(crate) fn blank_job() -> Job {
     Job {
         origin: Origin::default(),
+        turn: None,
         confirmable: false,
         token: ArrayVec::new(),
         etags: ArrayVec::new(),
@@ -541,6 +542,7 @@ fn write_job(
         id: message.id(),
         slot: SlotNumber::new(slot_named(request.resource)),
     };
+    job.turn = None;
     job.confirmable = message.kind() == MessageType::Confirmable;
     write_token(&mut job.token, message);
     write_etags(&mut job.etags, request);

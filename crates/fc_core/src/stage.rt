@@ -1,5 +1,6 @@
 //! Where jobs stand.
 use crate::answer::{Answer, Words};
+use fc_observe::Turn;
 use fc_registry::{Job, Ticket};
 
 /// Where a job stands: what it needs next.
@@ -23,8 +24,17 @@ pub enum Stage {
     ToRaise(u64, Answer),
     /// This answer.
     ToAnswer(Answer),
-    /// Nothing: it was answered or lost, or it never came.
+    /// The notification of the observer that has this turn, for which it needs this next.
+    ToTell(Turn, TurnStage),
+    /// Nothing: it was answered, given up or lost, or it never came.
     Gone,
+}
+
+/// What a turn needs next.
+#[derive(Drop)]
+pub enum TurnStage {
+    /// A taking.
+    ToTake,
 }
 
 /// A job, and where it stands.

@@ -10,15 +10,16 @@ ghost use Rattle.fc_core.specs.Heads.{word_at};
 ghost use Rattle.fc_core.specs.Sound.{AllSafe};
 ghost use Rattle.fc_registry.specs.Calls.{HasGiven, receipt_of};
 ghost use Rattle.fc_core.specs.Stages as rows;
-ghost use Rattle.fc_core.specs.Stages.{ShardMoves, TaskMoves, at_answer, at_commit, at_install, at_peek, at_raise, at_receipt, at_remove, at_take, commit_move, content_at, first_stage, image_of, installed, peeked_next, peeked_own, task_moved, new_task, scene_of, shard_after, shard_moved, words_after};
+ghost use Rattle.fc_core.specs.Stages.{ShardMoves, TaskMoves, at_answer, at_commit, at_give_up, at_install, at_peek, at_raise, at_receipt, at_remove, at_take, asked_stage, commit_move, content_at, first_stage, image_of, installed, peeked_next, peeked_own, task_moved, new_task, scene_of, shard_after, shard_moved, words_after};
 
 use crate::answer::{Answer, End, Words};
 use crate::front::blank_job;
 use crate::heads::{Heads, WORDS, head_word, is_present, serial_in};
-use crate::stage::{Stage, Task};
+use crate::stage::{Stage, Task, TurnStage};
 use arrayvec::ArrayVec;
 use fc_isa::Fault;
 use fc_machine::{Frame, Outcome, run};
+use fc_observe::Turn;
 use fc_registry::{Ask, Committed, Job, Made, Receipt, Removal, Shard, SlotNumber, Taken, Ticket};
 use fc_verify::{Refusal, Verified, verify};
 use std::alloc::{AllocError, Global};
@@ -33,6 +34,19 @@ impl Stage {
     /// What a job needs first.
     pub fn first(job: &Job) -> Stage
         ensures { result ≡ first_stage job.now }
+    {
+        match job.turn {
+            Some(number) => {
+                let slot = job.origin.slot.number();
+                Stage::ToTell(Turn { slot, number }, TurnStage::ToTake)
+            }
+            None => Stage::asked(job),
+        }
+    }
+
+    /// What a request's job needs first.
+    pub fn asked(job: &Job) -> Stage
+        ensures { result ≡ asked_stage job.now }
     {
         match &job.ask {
             Ask::Run(_) if job.etags.is_empty() => Stage::ToTake(0),
@@ -353,6 +367,19 @@ impl Task {
                 self.stage = other;
                 None
             }
+        }
+    }
+
+    /// Gives up its turn at its shard, at a moment in milliseconds, and so ends it.
+    pub fn give_up(&mut self, shard: &mut Shard, now: u64)
+        requires owned { IsOwned shard.old self.old.job.origin.slot }
+        requires fits { FitsStage self.old.job (slot_in shard.old self.old.job.origin.slot) self.old.stage }
+        ensures task { TaskMoves (at_give_up now) shard.old self.old self.new }
+        ensures shard { ShardMoves (at_give_up now) shard.old self.old shard.new }
+    {
+        match self.leave() {
+            Stage::ToTell(turn, _) => shard.give_up(turn, now),
+            other => self.stage = other,
         }
     }
 

@@ -1,5 +1,5 @@
 -- The noticed serial is that of the newest change that observers are told of.
-use Rattle.std.proofs.Common.{◌≡◌, ℕ, ◌+◌, ◌≤◌, Bool, true, false, if◌then◌else◌, List, [], ◌∷◌, length, refl, sym, ◌∙◌, arith}
+use Rattle.std.proofs.Common.{◌≡◌, ℕ, ◌+◌, ◌≤◌, Bool, true, false, if◌then◌else◌, List, [], ◌∷◌, length, refl, arith}
 use Rattle.fc_registry.specs.Slots.{new_slot}
 use Rattle.fc_registry.specs.Changes.{Change, Installed, Committed, Removed, after_changes}
 use Rattle.fc_registry.specs.Laws.{noticed_serial}

@@ -1,6 +1,7 @@
 pub mod Receipts
 pub mod Slots
 pub mod Watches
+pub mod Turns
 pub mod Shards
 pub mod Changes
 pub mod Record

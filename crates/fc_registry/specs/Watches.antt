@@ -72,12 +72,7 @@ is_due_at shard k = is_some (next_turn (noticed_at shard k) (at_moment shard.now
 abbrev pub due_place : Shard → Option ℕ
 due_place shard = place_from (is_due_at shard) 8 0
 
--- the turn that is given at a place
-abbrev pub turn_in : Option ℕ → Shard → Option Turn
-turn_in None shard = None
-turn_in (Some k) shard = next_turn (noticed_at shard k) (at_moment shard.now (watch_at shard k))
-
--- the shard after it
+-- the shard after a turn was given there
 abbrev pub after_due : Option ℕ → Shard → Shard
 after_due None shard = shard
 after_due (Some k) shard = watch_called (NextDue shard.now (noticed_at shard k)) k shard

@@ -38,10 +38,13 @@ pub enum Ask {
     Discover,
 }
 
-/// A job: a request that was opened and is to be answered.
+/// A job: a request that was opened and is to be answered, or the turn of an observer, whose request is answered anew. A turn has no
+/// exchange: its origin names its observer's endpoint and its slot.
 #[derive(Drop)]
 pub struct Job {
     pub origin: Origin,
+    /// The number of the turn, among those of its slot's observers; none of a request.
+    pub turn: Option<u64>,
     /// Whether its request is confirmable.
     pub confirmable: bool,
     pub token: Token,

@@ -34,6 +34,7 @@ pub mod shard;
 pub mod shards;
 pub mod slot_number;
 pub mod ticket;
+mod turn;
 
 pub use commit::{CommitOutcome, Committed};
 pub use job::{Ask, Job, Opening, Origin};

@@ -7,7 +7,8 @@ ghost use Rattle.fc_registry.specs.Calls.{IsTaking, CommitsTo, IsCommit, ComesTo
 ghost use Rattle.fc_registry.specs.Views.{as_seen, present_of};
 ghost use Rattle.fc_registry.specs.Record.{IsRing};
 ghost use Rattle.fc_observe.specs.Calls.{after_calls, observers_after};
-ghost use Rattle.fc_registry.specs.Watches.{after_due, after_given_up, after_tick, due_place, handed, is_due_at, late_place, new_watches, noticed_at, signal_call, signalled, ticked_in, turn_in};
+ghost use Rattle.fc_registry.specs.Turns.{due_job};
+ghost use Rattle.fc_registry.specs.Watches.{after_due, after_given_up, after_tick, due_place, handed, is_due_at, late_place, new_watches, noticed_at, signal_call, signalled, ticked_in};
 
 use crate::body::Body;
 use crate::commit::{CommitOutcome, Committed};
@@ -17,6 +18,7 @@ use crate::receipt::Receipt;
 use crate::ring::{Entry, Ring};
 use crate::slot_number::{SHARDS, SlotNumber};
 use crate::ticket::{Mark, Ticket};
+use crate::turn::next_turn;
 use coap_msg::{Endpoint, Token};
 use fc_help::{Method, Request, Vars};
 use fc_machine::Outcome;
@@ -50,7 +52,7 @@ pub struct Shard {
 }
 
 impl Model for Shard {
-    ghost use Rattle.std.specs.Prelude.{◌≡◌, length, map};
+    ghost use Rattle.std.specs.Prelude.{◌≡◌, ◌<◌, length, map};
     ghost use Rattle.std.specs.List.{All};
     ghost use Rattle.fc_registry.specs.Slots.{Shard as Seen};
 
@@ -61,7 +63,7 @@ impl Model for Shard {
 
     ghost view = { λ s. record { index = s.index; now = s.now; slots = map as_seen s.slots.items; watches = s.watches.items } };
 
-    ghost invariant = { λ s. (length s.slots.items ≡ 8) × All (λ x. IsRing (as_seen x)) s.slots.items × (length s.watches.items ≡ 8) };
+    ghost invariant = { λ s. (length s.slots.items ≡ 8) × All (λ x. IsRing (as_seen x)) s.slots.items × (length s.watches.items ≡ 8) × (s.index < 8) };
 }
 
 /// What a taking found.
@@ -208,15 +210,18 @@ impl Shard {
         vars_of(state)
     }
 
-    /// Gives a turn to the first observer that is due at a moment in milliseconds, by slot and then by registration.
-    pub fn next_due(&mut self, now: u64) -> Option<Turn>
-        ensures turn { result ≡ turn_in (due_place (handed self.old now)) (handed self.old now) }
+    /// Gives a turn to the first observer that is due at a moment in milliseconds, by slot and then by registration: a job that
+    /// answers its request anew, from the first block on.
+    pub fn next_due(&mut self, now: u64) -> Option<Job>
+        ensures job { result ≡ due_job (due_place (handed self.old now)) (handed self.old now) }
         ensures after { self.new ≡ after_due (due_place (handed self.old now)) (handed self.old now) }
     {
         self.now = self.now.max(now);
         let place = self.due_place()?;
         let noticed = self.noticed_at(place);
-        self.watches[place].next_due(self.now, noticed)
+        let slot = SlotNumber::new(SHARDS * place as u8 + self.index);
+        let watch = &mut self.watches[place];
+        next_turn(watch, self.now, noticed, slot)
     }
 
     /// Gives up a turn, at a moment in milliseconds. Its observer is due again at a later one.
@@ -378,7 +383,7 @@ fn find(job: &Job, slot: &SlotState) -> Taken
 }
 
 // Another copy of a token.
-fn copy_token(token: &Token) -> Token
+pub(crate) fn copy_token(token: &Token) -> Token
     ensures { result ≡ token.now }
 {
     let mut copy = Token::new();

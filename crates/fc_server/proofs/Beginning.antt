@@ -2,6 +2,7 @@
 use Rattle.std.proofs.Common.{◌≡◌, ℕ, zero, suc, ◌+◌, ◌*◌, ◌<◌, ◌≤◌, ◌/◌, ◌%◌, [], ◌∷◌, ◌++◌, length, get_or, replicate, refl, sym, ap, ◌∙◌, subst, arith, ⊎_elim, length-append}
 use Rattle.std.proofs.lemmas.Bool.{cases_lt}
 use Rattle.std.proofs.lemmas.List.{get_or-replicate, get_or_append_left}
+use Rattle.std.proofs.lemmas.List.Elements.{All-nil}
 use Rattle.std.proofs.Math.Seq.{get_or-append_seam}
 use Rattle.fc_registry.specs.Shards.{empty_shards, first_shards, no_shard, shard_at, slot_in_shards}
 use Rattle.fc_registry.specs.Slots.{Shard, slot_in, new_slot}
@@ -10,6 +11,7 @@ use Rattle.fc_observe.specs.Observers.{no_observers}
 use Rattle.fc_core.specs.History.{Begins, begun, seen}
 use Rattle.fc_core.specs.Heads.{no_words}
 use Rattle.fc_core.specs.Exchanges.{first_front}
+use Rattle.fc_core.proofs.Calling.{EntryWithin}
 use Rattle.fc_server.specs.Agreement.{ShardsAgree}
 use Rattle.fc_server.specs.Serving.{Serves}
 use Rattle.fc_server.specs.States.{ServerState}
@@ -78,7 +80,7 @@ begins serial id s front shards words = record {
     tasks = refl;
     words = words;
     shards = subst (ShardsAgree (begun serial id)) (sym shards) (shards_begin serial id);
-    sound = record { chain = λ n. tt; within = λ k. (omega arith, tt); stages = λ k. tt };
+    sound = record { chain = λ n. tt; within = λ k. (omega arith, tt); stages = λ k. tt; watched = λ n. All-nil EntryWithin };
     safe = record { slots = λ n. tt };
   };
 }

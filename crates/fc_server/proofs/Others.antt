@@ -6,7 +6,7 @@ use Rattle.coap_msg.specs.declared.types.Emission.{Emission}
 use Rattle.fc_registry.specs.Shards.{no_shard, shard_at, slot_in_shards}
 use Rattle.fc_registry.specs.Slots.{Shard, Slot}
 use Rattle.fc_core.specs.declared.event.Event.{Event}
-use Rattle.fc_core.specs.declared.event.Event.TheVariants.{Deliver, Answer, Signal, Tick, ShardTick, Lose}
+use Rattle.fc_core.specs.declared.event.Event.TheVariants.{Deliver, Answer, Due, Signal, Tick, ShardTick, Lose}
 use Rattle.fc_core.specs.declared.stage.Stage.{Stage}
 use Rattle.fc_core.specs.declared.stage.Stage.TheVariants.{ToMatch, ToTake, ToDescribe, ToList, ToAnswer, Gone}
 use Rattle.fc_core.specs.declared.stage.Task.{Task}
@@ -19,7 +19,7 @@ use Rattle.fc_core.proofs.Rejections.{same_slot}
 use Rattle.fc_server.specs.Agreement.{Parts}
 use Rattle.fc_server.specs.Serving.{with_tasks}
 use Rattle.fc_server.specs.States.{Does, Responds, ServerState, front_after, scene_in, shards_moved}
-use Rattle.fc_server.specs.Steps.{DeliveredTo, Done, EmitsAt, IsOfJob, IsSafeIn, brought_by, front_by, resent_by, shard_by, shards_in, tasks_in, words_in}
+use Rattle.fc_server.specs.Steps.{DeliveredTo, Done, EmitsAt, IsOfJob, IsSafeIn, brought_by, front_by, resent_by, shard_by, shards_in, tasks_in, turns_at, words_in}
 
 -- ---- a move that changes no slot
 
@@ -72,7 +72,7 @@ does_done e k (rests, calm, named) old new tasks later was now at is d =
       front = d.front ∙ ap (λ (x : AtFront). front_by x p None) (sym rests);
       tasks = is
           ∙ (ap (λ (t : Task). set tasks k t) (d.task_is ∙ ap (λ (t : Task). task_moved t (row e (scene_in old.shards old.words t))) at)
-          ∙ (sym (append-nil (tasks_in (Some k) e p)) ∙ λ i. tasks_in (sym named i) e p ++ brought_by (sym rests i) p));
+          ∙ (sym (append-nil (tasks_in (Some k) e p)) ∙ λ i. tasks_in (sym named i) e p ++ (turns_at (sym calm i) p.shards ++ brought_by (sym rests i) p)));
       shards = subst (λ (t : Task). new.shards ≡ shards_moved (row e (scene_in old.shards old.words t)) t.job.origin.slot old.shards) at d.shards ∙ λ i. shard_by (sym calm i) (shards_in (sym named i) e p);
       words = subst (λ (t : Task). new.words ≡ words_after (row e (scene_in old.shards old.words t)) t old.words) at d.words ∙ ap (λ (o : Option ℕ). words_in o e p) (sym named);
       emits = subst (λ (x : AtFront). EmitsAt x (at_shard e) p None) (sym rests) (ap (λ (y : AtShard). resent_by y p.shards) (sym calm));
@@ -101,12 +101,12 @@ pub ticked_done : (now : ℕ) (old new : ServerState) (tasks : List Task) → ne
 ticked_done now old new tasks front shards words = record { front = front; tasks = sym (append-nil tasks); shards = shards; words = words; emits = refl; safe = tt }
 
 -- an event that names no job and does nothing at the front does what it does at its own shard
-pub shard_done : (e : Event) (old new : ServerState) (tasks : List Task) (out : Option Emission) → names e ≡ None → at_front e ≡ Rests → new.front ≡ old.front → new.words ≡ old.words → new.shards ≡ shard_by (at_shard e) old.shards → out ≡ resent_by (at_shard e) old.shards → Done e (with_tasks old tasks) out (with_tasks new tasks)
+pub shard_done : (e : Event) (old new : ServerState) (tasks : List Task) (out : Option Emission) → names e ≡ None → at_front e ≡ Rests → new.front ≡ old.front → new.words ≡ old.words → new.shards ≡ shard_by (at_shard e) old.shards → out ≡ resent_by (at_shard e) old.shards → Done e (with_tasks old tasks) out (with_tasks new (tasks ++ turns_at (at_shard e) old.shards))
 shard_done e old new tasks out none rests front words shards sends =
     let w : Parts = with_tasks old tasks in
     record {
       front = front ∙ ap (λ (x : AtFront). front_by x w out) (sym rests);
-      tasks = sym (append-nil tasks) ∙ λ i. tasks_in (sym none i) e w ++ brought_by (sym rests i) w;
+      tasks = λ i. tasks_in (sym none i) e w ++ (sym (append-nil (turns_at (at_shard e) old.shards)) ∙ ap (λ (x : AtFront). turns_at (at_shard e) old.shards ++ brought_by x w) (sym rests)) i;
       shards = shards ∙ ap (λ (o : Option ℕ). shard_by (at_shard e) (shards_in o e w)) (sym none);
       words = words ∙ ap (λ (o : Option ℕ). words_in o e w) (sym none);
       emits = subst (λ (x : AtFront). EmitsAt x (at_shard e) w out) (sym rests) sends;
@@ -132,6 +132,7 @@ past_done (Answer j now) k w tasks named le =
     responds_done j now w w tasks tasks no_task no_task None (sym (get_or_past tasks j no_task past)) (sym (set_past tasks j no_task past)) (record { front = refl; task_is = refl; shards = refl; words = refl; emits = refl })
 past_done (Deliver now to b) k w tasks named le = absurd (let n = named in cc)
 past_done (Tick now) k w tasks named le = absurd (let n = named in cc)
+past_done (Due shard now) k w tasks named le = absurd (let n = named in cc)
 past_done (Signal shard to id reset) k w tasks named le = absurd (let n = named in cc)
 past_done (ShardTick shard now) k w tasks named le = absurd (let n = named in cc)
 past_done other k w tasks named le = does_done other k (refl, refl, named) w w tasks tasks no_task no_task (sym (get_or_past tasks k no_task le)) (sym (set_past tasks k no_task le)) (past_does other w)

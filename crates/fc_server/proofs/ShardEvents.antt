@@ -1,19 +1,23 @@
--- What an event does at a shard of its own, a signal or a tick, is what is seen of it.
-use Rattle.std.proofs.Common.{◌≡◌, ℕ, zero, suc, ◌+◌, ◌*◌, ◌<◌, ◌≤◌, ◌/◌, ◌%◌, arith, get_or, List, [], ◌∷◌, ◌++◌, length, set, Bool, true, false, Option, Some, None, refl, sym, ap, ◌∙◌, subst, max, if◌then◌else◌, ⊎_elim}
+-- What an event does at a shard of its own is what is seen of it.
+use Rattle.std.proofs.Common.{◌≡◌, ℕ, zero, suc, ◌+◌, ◌*◌, ◌<◌, ◌≤◌, ◌/◌, ◌%◌, arith, get_or, List, [], ◌∷◌, ◌++◌, length, map, set, Bool, true, false, Option, Some, None, refl, sym, ap, ◌∙◌, subst, max, if◌then◌else◌, ⊎_elim}
 use Rattle.std.specs.Prelude.{is_some, nat_lt, ◌==◌}
+use Rattle.std.specs.Option.{option_to_list}
 use Rattle.std.proofs.lemmas.Bool.{cases_eq, cases_lt, eq-eqb, le-ltb, lt-ltb, ne_eqb}
 use Rattle.std.proofs.lemmas.List.{get_or-map, get_or-set_other, get_or-set_same, length-map, length-set}
 use Rattle.coap_msg.specs.declared.types.Endpoint.{Endpoint}
-use Rattle.fc_observe.specs.Calls.{ObserverCall, Tick as TickObservers, observers, observers_after}
-use Rattle.fc_observe.specs.Observers.{at_moment, late_entry, no_observers, ticked}
+use Rattle.fc_observe.specs.Calls.{ObserverCall, NextDue, Tick as TickObservers, observers, observers_after}
+use Rattle.fc_observe.specs.Observers.{at_moment, late_entry, next_turn, no_observers, ticked}
 use Rattle.fc_registry.specs.Shards.{AreShards, no_shard, shard_at}
 use Rattle.fc_registry.specs.Slots.{Shard, Slot, new_slot}
-use Rattle.fc_registry.specs.Watches.{after_tick, handed as shard_handed, is_late_at as is_late_here, late_place, place_from, signal_call, signalled, ticked_in, watch_at, watch_called}
-use Rattle.fc_core.specs.History.{AtShard, Signals, Ticks, Calm, Seen, calls_by, hands_by, is_late_at, is_place_of, late_in}
+use Rattle.fc_registry.specs.declared.job.Job.{Job}
+use Rattle.fc_registry.specs.Turns.{due_job, turn_given_to}
+use Rattle.fc_registry.specs.Watches.{after_due, after_tick, due_place, handed as shard_handed, is_due_at as is_due_here, is_late_at as is_late_here, late_place, noticed_at, place_from, signal_call, signalled, ticked_in, watch_at, watch_called}
+use Rattle.fc_core.specs.History.{AtShard, AsksTurn, Signals, Ticks, Calm, Seen, calls_by, due_in, hands_by, is_due_at, is_late_at, is_place_of, late_in, slot_at, turn_at, turns_by}
 use Rattle.fc_core.specs.Legal.{resent, resent_at, resent_in}
-use Rattle.fc_core.specs.Stages.{handed}
+use Rattle.fc_core.specs.Stages.{handed, new_task}
+use Rattle.fc_core.proofs.Places.{place_below}
 use Rattle.fc_server.specs.Agreement.{ShardsAgree}
-use Rattle.fc_server.specs.Steps.{resent_by, resent_if, shard_by, shard_changed, shard_resent, shard_ticked}
+use Rattle.fc_server.specs.Steps.{resent_by, resent_if, shard_asked, shard_by, shard_changed, shard_resent, shard_ticked, shard_turn, turn_if, turns_at}
 
 -- what is seen of the shards after it
 abbrev pub shard_seen : AtShard → Seen → Seen
@@ -104,15 +108,6 @@ signal_agrees s i to id reset shards a =
 place_same : (p q : ℕ → Bool) (n k : ℕ) → ((j : ℕ) → j < k + n → p j ≡ q j) → place_from p n k ≡ place_from q n k
 place_same p q zero k same = refl
 place_same p q (suc n) k same = λ i. if same k (omega arith) i then Some k else place_same p q n (k + 1) (λ j lt. same j (omega (arith, lt))) i
-
--- what is found is within
-below_by : (p : ℕ → Bool) (n k j : ℕ) (b : Bool) → (place_from p n (k + 1) ≡ Some j → j < (k + 1) + n) → (if b then Some k else place_from p n (k + 1)) ≡ Some j → j < k + suc n
-below_by p n k j true later e = let is : k ≡ j = cc in omega (arith, is)
-below_by p n k j false later e = omega (arith, later e)
-
-place_below : (p : ℕ → Bool) (n k j : ℕ) → place_from p n k ≡ Some j → j < k + n
-place_below p zero k j e = absurd (cc)
-place_below p (suc n) k j e = below_by p n k j (p k) (place_below p n (k + 1) j) e
 
 module _ (s : Seen) (i now : ℕ) (low : i < 8) (shards : List Shard) (a : ShardsAgree s shards) where
   abbrev at : ℕ
@@ -217,14 +212,128 @@ ticks_at s i now shards a = ⊎_elim
     }))
     (cases_lt i 8)
 
+-- ---- a turn
+
+module _ (s : Seen) (i now : ℕ) (low : i < 8) (shards : List Shard) (a : ShardsAgree s shards) where
+  abbrev then_at : ℕ
+  then_at = max (s.shard_moment i) now
+
+  abbrev asked : Shard
+  asked = shard_handed (shard_at shards i) now
+
+  then_is : asked.now ≡ then_at
+  then_is = ap (λ (m : ℕ). max m now) (a.now i low)
+
+  -- what is noticed at a place is what is seen
+  noticed_is : (k : ℕ) → k < 8 → noticed_at asked k ≡ (slot_at s (8 * k + i)).noticed
+  noticed_is k lt =
+      let shard : (8 * k + i) % 8 ≡ i = omega (arith, low) in
+      let place : (8 * k + i) / 8 ≡ k = omega (arith, low) in
+      (λ j. (get_or (shard_at shards (sym shard j)).slots (sym place j) (new_slot 0)).noticed) ∙ ap (λ (x : Slot). x.noticed) (a.slot (8 * k + i) (omega (arith, low, lt)))
+
+  -- who is due at the shard is due by what is seen
+  due_is : due_place asked ≡ due_in s i then_at
+  unfolding due_in
+  due_is = place_same (is_due_here asked) (is_due_at s i then_at) 8 0 (λ k lt. λ j. is_some (next_turn (noticed_is k lt j) (at_moment (then_is j) (a.watch i k low lt j)))) ∙ ap (λ (b : Bool). if b then place_from (is_due_at s i then_at) 8 0 else None) (sym (lt-ltb i 8 low))
+
+  due_below : (k : ℕ) → due_place asked ≡ Some k → k < 8
+  due_below k e = place_below (is_due_here asked) 8 0 k e
+
+  index_is : asked.index ≡ i
+  index_is = a.are.index i low
+
+  -- the job that comes
+  job_is : (p : Option ℕ) → ((k : ℕ) → p ≡ Some k → k < 8) → due_job p asked ≡ turn_at p s i then_at
+  job_is None below = refl
+  job_is (Some k) below = λ j. turn_given_to (8 * k + index_is j) (then_is j) (noticed_is k (below k refl) j) (a.watch i k low (below k refl) j)
+
+  -- the calls of a turn at a place
+  abbrev turn_calls : Bool → ℕ → List ObserverCall
+  turn_calls b n = if b then NextDue then_at (slot_at s n).noticed ∷ [] else []
+
+  -- the observers at a place after it
+  given_here : (p : Option ℕ) (k : ℕ) → k < 8 → watch_at (after_due p asked) k ≡ observers (8 * k + i) (turn_calls (is_place_of p i (8 * k + i)) (8 * k + i) ++ s.calls (8 * k + i))
+  given_here None k lt = a.watch i k low lt
+  given_here (Some j) k lt =
+      let eight = a.are.watched i low in
+      ⊎_elim
+      (λ (q : k ≡ j).
+      let found : watch_at (after_due (Some j) asked) k ≡ observers_after (NextDue asked.now (noticed_at asked k)) (watch_at asked k) = subst (λ (m : ℕ). watch_at (watch_called (NextDue asked.now (noticed_at asked m)) m asked) k ≡ observers_after (NextDue asked.now (noticed_at asked k)) (watch_at asked k)) q (get_or-set_same asked.watches k (observers_after (NextDue asked.now (noticed_at asked k)) (watch_at asked k)) (no_observers 0) (omega (arith, eight, lt))) in
+      found ∙ ((λ m. observers_after (NextDue (then_is m) (noticed_is k lt m)) (a.watch i k low lt m)) ∙ ap (λ (b : Bool). observers (8 * k + i) (turn_calls b (8 * k + i) ++ s.calls (8 * k + i))) (sym (eq-eqb (8 * j + i) (8 * k + i) (omega (arith, q))))))
+      (λ (ne : k ≡ j → ⊥).
+      get_or-set_other asked.watches j k (observers_after (NextDue asked.now (noticed_at asked j)) (watch_at asked j)) (no_observers 0) ne ∙ (a.watch i k low lt ∙ ap (λ (b : Bool). observers (8 * k + i) (turn_calls b (8 * k + i) ++ s.calls (8 * k + i))) (sym (ne_eqb (8 * j + i) (8 * k + i) (λ q. ne (omega (arith, q)))))))
+      (cases_eq k j)
+
+  none_elsewhere : (p : Option ℕ) (j k : ℕ) → j < 8 → (j ≡ i → ⊥) → turn_calls (is_place_of p i (8 * k + j)) (8 * k + j) ≡ []
+  none_elsewhere None j k jl ne = refl
+  none_elsewhere (Some m) j k jl ne = ap (λ (b : Bool). turn_calls b (8 * k + j)) (ne_eqb (8 * m + i) (8 * k + j) (λ q. ne (omega (arith, q, jl, low))))
+
+  due_index : (p : Option ℕ) → (after_due p asked).index ≡ asked.index
+  due_index None = refl
+  due_index (Some k) = refl
+
+  due_slots : (p : Option ℕ) → (after_due p asked).slots ≡ asked.slots
+  due_slots None = refl
+  due_slots (Some k) = refl
+
+  due_now : (p : Option ℕ) → (after_due p asked).now ≡ asked.now
+  due_now None = refl
+  due_now (Some k) = refl
+
+  due_length : (p : Option ℕ) → length (after_due p asked).watches ≡ 8
+  due_length None = a.are.watched i low
+  due_length (Some k) = length-set asked.watches k (observers_after (NextDue asked.now (noticed_at asked k)) (watch_at asked k)) ∙ a.are.watched i low
+
+  turn_agrees : (p : Option ℕ) → p ≡ due_in s i then_at → ShardsAgree (shard_seen (AsksTurn i now) s) (set shards i (after_due p asked))
+  turn_agrees p is = put_agrees shards a.are i low (after_due p asked) s (AsksTurn i now) a (due_index p) (due_slots p) (due_length p)
+      (due_now p ∙ (then_is ∙ ap (λ (o : Option ℕ). handed o (s.shard_moment i)) (sym (hands_here s i now low shards a))))
+      (hands_there s i now low shards a)
+      (λ k lt. given_here p k lt ∙ ap (λ (q : Option ℕ). observers (8 * k + i) (turn_calls (is_place_of q i (8 * k + i)) (8 * k + i) ++ s.calls (8 * k + i))) is)
+      (λ j k jl kl ne. ap (λ (q : Option ℕ). turn_calls (is_place_of q i (8 * k + j)) (8 * k + j)) (sym is) ∙ none_elsewhere p j k jl ne)
+
+-- a shard above 7 has nobody that is due
+none_due : (s : Seen) (i at : ℕ) → 8 ≤ i → due_in s i at ≡ None
+unfolding due_in
+none_due s i at high = ap (λ (b : Bool). if b then place_from (is_due_at s i at) 8 0 else None) (le-ltb i 8 high)
+
+-- what asking for a turn does to the shards, and brings
+record TurnAt (s : Seen) (i now : ℕ) (shards : List Shard) (b : Bool) : Type 0 where
+  brings : turn_if b (shard_turn now (shard_at shards i)) ≡ turn_at (due_in s i (max (s.shard_moment i) now)) s i (max (s.shard_moment i) now)
+  agrees : ShardsAgree (shard_seen (AsksTurn i now) s) (shard_changed b i (shard_asked now) shards)
+
+asks_at : (s : Seen) (i now : ℕ) (shards : List Shard) → ShardsAgree s shards → TurnAt s i now shards (nat_lt i 8)
+asks_at s i now shards a = ⊎_elim
+    (λ (low : i < 8).
+    let place = due_is s i now low shards a in
+    subst (TurnAt s i now shards) (sym (lt-ltb i 8 low)) (record {
+      brings = job_is s i now low shards a (due_place (shard_handed (shard_at shards i) now)) (due_below s i now low shards a) ∙ ap (λ (p : Option ℕ). turn_at p s i (max (s.shard_moment i) now)) place;
+      agrees = turn_agrees s i now low shards a (due_place (shard_handed (shard_at shards i) now)) place;
+    }))
+    (λ (high : 8 ≤ i).
+    let none = none_due s i (max (s.shard_moment i) now) high in
+    subst (TurnAt s i now shards) (sym (le-ltb i 8 high)) (record {
+      brings = ap (λ (p : Option ℕ). turn_at p s i (max (s.shard_moment i) now)) (sym none);
+      agrees = rest_agrees (AsksTurn i now) s shards
+          (λ j lt. ap (λ (b : Bool). if b then Some now else None) (ne_eqb i j (λ q. absurd (omega (arith, q, lt, high)))))
+          (λ n. ap (λ (p : Option ℕ). if is_place_of p i n then NextDue (max (s.shard_moment i) now) (slot_at s n).noticed ∷ [] else []) none)
+          a;
+    }))
+    (cases_lt i 8)
+
 -- ---- any
 
 pub shard_agrees : (y : AtShard) (s : Seen) (shards : List Shard) → ShardsAgree s shards → ShardsAgree (shard_seen y s) (shard_by y shards)
+shard_agrees (AsksTurn i now) s shards a = (asks_at s i now shards a).agrees
 shard_agrees (Signals i to id reset) s shards a = signal_agrees s i to id reset shards a
 shard_agrees (Ticks i now) s shards a = (ticks_at s i now shards a).agrees
 shard_agrees Calm s shards a = rest_agrees Calm s shards (λ i lt. refl) (λ n. refl) a
 
 pub shard_sends : (y : AtShard) (s : Seen) (shards : List Shard) → ShardsAgree s shards → resent_by y shards ≡ resent_in y s
+shard_sends (AsksTurn i now) s shards a = refl
 shard_sends (Signals i to id reset) s shards a = refl
 shard_sends (Ticks i now) s shards a = (ticks_at s i now shards a).sends
 shard_sends Calm s shards a = refl
+
+pub shard_brings : (y : AtShard) (s : Seen) (shards : List Shard) → ShardsAgree s shards → turns_at y shards ≡ turns_by y s
+shard_brings (AsksTurn i now) s shards a = ap (λ (o : Option Job). map new_task (option_to_list o)) (asks_at s i now shards a).brings
+shard_brings other s shards a = refl

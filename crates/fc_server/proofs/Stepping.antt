@@ -35,7 +35,7 @@ use Rattle.fc_server.specs.States.{front_after, scene_in, shards_moved}
 use Rattle.fc_server.specs.Steps.{Done, EmitsAt, IsSafeIn, Steps, brought_by, front_by, move_in, shard_by, shards_in, tasks_in, words_in}
 use Rattle.fc_server.proofs.Fronts.{front_advances, front_keeps, front_of, front_opens, transfers_added}
 use Rattle.fc_server.proofs.Places.{are_written, now_here, now_there, slot_here, slot_there, watch_here, watch_there}
-use Rattle.fc_server.proofs.ShardEvents.{shard_agrees, shard_sends}
+use Rattle.fc_server.proofs.ShardEvents.{shard_agrees, shard_brings, shard_sends}
 
 -- ---- what a taking finds has a meaning
 
@@ -219,7 +219,7 @@ goes_on e old new out done s a =
       means = takes_mean e s a.sound a.safe;
       agrees = record {
         front = d.front ∙ front_agrees s old.shards a.shards out (at_front e) (at_shard e) emits;
-        tasks = d.tasks ∙ (λ i. tasks_agree s e old.shards a.shards a.sound (names e) i ++ brought_agree s old.shards a.shards out (at_front e) i);
+        tasks = d.tasks ∙ (λ i. tasks_agree s e old.shards a.shards a.sound (names e) i ++ (shard_brings (at_shard e) s old.shards a.shards i ++ brought_agree s old.shards a.shards out (at_front e) i));
         words = d.words ∙ words_agree s e old.shards a.shards a.sound (names e);
         shards = subst (ShardsAgree (and_then (did e out) s)) (sym d.shards) (record { are = moved.are; slot = moved.slot; now = moved.now; watch = moved.watch });
         sound = still_sound (did e out) s a.sound;

@@ -1,14 +1,17 @@
 -- What an event does to a server and its jobs, and that it is what the history says.
 use Rattle.std.specs.Prelude.{◌≡◌, ℕ, Bool, true, false, nat_lt, List, [], ◌++◌, map, Option, Some, None, slice_set}
+use Rattle.std.specs.Option.{option_to_list}
 use Rattle.coap_msg.specs.declared.types.Endpoint.{Endpoint}
 use Rattle.coap_msg.specs.declared.types.Emission.{Emission}
+use Rattle.fc_registry.specs.declared.job.Job.{Job}
 use Rattle.fc_registry.specs.Shards.{shard_at}
 use Rattle.fc_registry.specs.Slots.{Shard}
-use Rattle.fc_registry.specs.Watches.{after_tick, handed as shard_handed, late_place, signal_call, signalled, ticked_in}
+use Rattle.fc_registry.specs.Turns.{due_job}
+use Rattle.fc_registry.specs.Watches.{after_due, after_tick, due_place, handed as shard_handed, late_place, signal_call, signalled, ticked_in}
 use Rattle.fc_core.specs.declared.event.Event.{Event}
 use Rattle.fc_core.specs.declared.stage.Task.{Task}
 use Rattle.fc_core.specs.Exchanges.{FrontState, advanced}
-use Rattle.fc_core.specs.History.{AtFront, Receives, Answers, Passes, Rests, AtShard, Signals, Ticks, Calm, Seen, and_then, at_front, at_shard, did, task_at}
+use Rattle.fc_core.specs.History.{AtFront, Receives, Answers, Passes, Rests, AtShard, AsksTurn, Signals, Ticks, Calm, Seen, and_then, at_front, at_shard, did, task_at}
 use Rattle.fc_core.specs.Legal.{AnswerEmits, Emits, TakesMeaning, resent}
 use Rattle.fc_core.specs.Receiving.{after_received, brought, next_opening, received, sent}
 use Rattle.fc_core.specs.Sound.{AllSafe}
@@ -62,14 +65,31 @@ shard_ticked now shard = after_tick (late_place (shard_handed shard now)) (shard
 abbrev pub shard_resent : ℕ → Shard → Option Emission
 shard_resent now shard = resent (ticked_in (late_place (shard_handed shard now)) (shard_handed shard now))
 
+-- a shard that was asked for a turn, and the job of the turn
+abbrev pub shard_asked : ℕ → Shard → Shard
+shard_asked now shard = after_due (due_place (shard_handed shard now)) (shard_handed shard now)
+
+abbrev pub shard_turn : ℕ → Shard → Option Job
+shard_turn now shard = due_job (due_place (shard_handed shard now)) (shard_handed shard now)
+
+abbrev pub turn_if : Bool → Option Job → Option Job
+turn_if true job = job
+turn_if false job = None
+
 abbrev pub resent_if : Bool → Option Emission → Option Emission
 resent_if true emitted = emitted
 resent_if false emitted = None
 
 abbrev pub shard_by : AtShard → List Shard → List Shard
+shard_by (AsksTurn i now) shards = shard_changed (nat_lt i 8) i (shard_asked now) shards
 shard_by (Signals i to id reset) shards = shard_changed (nat_lt i 8) i (signalled (signal_call reset to id)) shards
 shard_by (Ticks i now) shards = shard_changed (nat_lt i 8) i (shard_ticked now) shards
 shard_by Calm shards = shards
+
+-- the jobs that it brings
+abbrev pub turns_at : AtShard → List Shard → List Task
+turns_at (AsksTurn i now) shards = map new_task (option_to_list (turn_if (nat_lt i 8) (shard_turn now (shard_at shards i))))
+turns_at other shards = []
 
 abbrev pub resent_by : AtShard → List Shard → Option Emission
 resent_by (Ticks i now) shards = resent_if (nat_lt i 8) (shard_resent now (shard_at shards i))
@@ -88,7 +108,7 @@ EmitsAt Rests x p emitted = emitted ≡ resent_by x p.shards
 -- what an event does: to the front, to the jobs, to the shards, to the head words; and what it sends
 pub record Done (e : Event) (old : Parts) (emitted : Option Emission) (new : Parts) : Type 0 where
   pub front : new.front ≡ front_by (at_front e) old emitted
-  pub tasks : new.tasks ≡ tasks_in (names e) e old ++ brought_by (at_front e) old
+  pub tasks : new.tasks ≡ tasks_in (names e) e old ++ (turns_at (at_shard e) old.shards ++ brought_by (at_front e) old)
   pub shards : new.shards ≡ shard_by (at_shard e) (shards_in (names e) e old)
   pub words : new.words ≡ words_in (names e) e old
   pub emits : EmitsAt (at_front e) (at_shard e) old emitted

@@ -8,7 +8,7 @@ ghost use Rattle.fc_core.specs.Exchanges.{advanced, first_front};
 ghost use Rattle.fc_core.specs.Heads.{no_words};
 ghost use Rattle.fc_core.specs.Receiving.{after_delivered, delivered, emission_if, heard};
 ghost use Rattle.fc_server.specs.States.{Responds, AtWork, Does};
-ghost use Rattle.fc_server.specs.Steps.{shard_resent, shard_ticked};
+ghost use Rattle.fc_server.specs.Steps.{shard_asked, shard_resent, shard_ticked, shard_turn};
 
 use coap_msg::{Emission, Endpoint};
 use fc_core::front::blank_emission;
@@ -91,6 +91,17 @@ impl Server {
         ensures words { self.new.words ≡ self.old.words }
     {
         self.front.tick(now);
+    }
+
+    /// A shard is asked for the turn of an observer that is due at a moment in milliseconds: the job that answers its request anew.
+    pub fn due(&mut self, shard: u8, now: u64) -> Option<Job>
+        requires { shard < length self.old.shards }
+        ensures job { result ≡ shard_turn now (shard_at self.old.shards shard) }
+        ensures front { self.new.front ≡ self.old.front }
+        ensures shards { self.new.shards ≡ slice_set self.old.shards shard (shard_asked now (shard_at self.old.shards shard)) }
+        ensures words { self.new.words ≡ self.old.words }
+    {
+        self.shards[usize::from(shard)].next_due(now)
     }
 
     /// Hands an Acknowledgement or a Reset message to the observers of a shard's slots.
@@ -189,6 +200,14 @@ impl Server {
         ensures { (k : ℕ) → Does (Event.Raise k) self.old task.old self.new task.new }
     {
         task.raise(&mut self.heads);
+    }
+
+    /// A task gives up its turn, at a moment in milliseconds.
+    pub fn give_up(&mut self, now: u64, task: &mut Task)
+        requires { AtWork self.old task.old }
+        ensures { (k : ℕ) → Does (Event.GiveUp k now) self.old task.old self.new task.new }
+    {
+        task.give_up(&mut self.shards[task.job.origin.slot.shard()], now);
     }
 
     /// A task's worker is lost.

@@ -31,7 +31,7 @@ use Rattle.fc_core.specs.declared.stage.Stage.TheVariants.{ToMatch, ToTake, ToCo
 use Rattle.fc_core.specs.Contents.{Content, IsOf, Listed, Unavailable}
 use Rattle.fc_core.specs.Heads.{head_word, is_match}
 use Rattle.fc_core.specs.Ends.{refused, refused_by}
-use Rattle.fc_core.specs.Stages.{first_stage, first_by, image_of, listed, matched, matched_by, run_content, removed, told, took, after_commit, made, takings}
+use Rattle.fc_core.specs.Stages.{asked_stage, first_by, image_of, listed, matched, matched_by, run_content, removed, told, took, after_commit, made, takings}
 use Rattle.fc_workers.specs.declared.share.Share.{Share}
 use Rattle.fc_workers.specs.Answers.{AreTallied, commit_changes, install_changes, removal_changes, saturated, IsSomeTaking, IsSomeCommit, IsSomeInstall, IsSomeReceipt, IsSomeRemoval}
 use Rattle.fc_workers.specs.Steps.{Follows, IsReady, IsStep, taken_at}
@@ -229,11 +229,11 @@ no_calls : (job : Job) → AreCalls job []
 unfolding AreCalls
 no_calls job = tt
 
-at_first : (job : Job) → first_stage job ≡ stage_after job []
+at_first : (job : Job) → asked_stage job ≡ stage_after job []
 unfolding stage_after
 at_first job = refl
 
-pub sets_out : {T : Type 0} (changes : T → ℕ → ℕ) (job : Job) (p : Share T) → Walked changes job (first_stage job) p p
+pub sets_out : {T : Type 0} (changes : T → ℕ → ℕ) (job : Job) (p : Share T) → Walked changes job (asked_stage job) p p
 sets_out changes job p = record {
   calls = [];
   are = no_calls job;

@@ -2,7 +2,7 @@
 use Rattle.std.specs.Prelude.{◌≡◌, ℕ, ◌+◌, ◌*◌, ◌-◌, ◌<◌, ◌≤◌, [], ◌∷◌, length}
 use Rattle.fc_registry.specs.declared.job.Job.{Job}
 use Rattle.fc_core.specs.declared.stage.Stage.{Stage}
-use Rattle.fc_core.specs.declared.stage.Stage.TheVariants.{ToMatch, ToTake, ToCommit, ToInstall, ToRemove, ToDescribe, ToList, ToRaise, ToAnswer, Gone}
+use Rattle.fc_core.specs.declared.stage.Stage.TheVariants.{ToMatch, ToTake, ToCommit, ToInstall, ToRemove, ToDescribe, ToList, ToRaise, ToAnswer, ToTell, Gone}
 use Rattle.fc_core.specs.Contents.{IsOf}
 use Rattle.fc_core.specs.Stages.{takings}
 use Rattle.fc_workers.specs.declared.share.Share.{Share}
@@ -20,6 +20,7 @@ IsReady job ToDescribe = Unit {0}
 IsReady job (ToList seen) = length seen.items < 64
 IsReady job (ToRaise word content) = IsOf job content
 IsReady job (ToAnswer content) = IsOf job content
+IsReady job (ToTell turn needs) = ⊥
 IsReady job Gone = ⊥
 
 -- how many calls there can still be

@@ -20,7 +20,7 @@ use Rattle.fc_core.specs.declared.stage.Stage.{Stage}
 use Rattle.fc_core.specs.declared.stage.Stage.TheVariants.{ToMatch, ToTake, ToCommit, ToInstall, ToRemove, ToDescribe, ToList, ToRaise, ToAnswer}
 use Rattle.fc_core.specs.Contents.{Content, IsOf}
 use Rattle.fc_core.specs.Ends.{refused}
-use Rattle.fc_core.specs.Stages.{first_stage, image_of, listed, matched, took, told, after_commit, made, removed, takings}
+use Rattle.fc_core.specs.Stages.{asked_stage, image_of, listed, matched, took, told, after_commit, made, removed, takings}
 use Rattle.fc_workers.specs.Answers.{IsSomeTaking, IsSomeCommit, IsSomeInstall, IsSomeReceipt, IsSomeRemoval, AreTallied, HasRisen, commit_changes, install_changes, removal_changes}
 use Rattle.fc_workers.specs.declared.share.Share.{Share}
 
@@ -66,7 +66,7 @@ IsCallAt job stage call = ⊥
 
 -- the stage that these calls leave a job at
 unfoldable pub stage_after : Job → List Call → Stage
-stage_after job [] = first_stage job
+stage_after job [] = asked_stage job
 stage_after job (call ∷ calls) = next_stage job (stage_after job calls) call
 
 -- each is the call that the stage needs where the ones before it have led

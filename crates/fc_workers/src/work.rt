@@ -18,7 +18,7 @@ use fc_verify::{Refusal, Verified, verify};
 use std::sync::{Arc, Wait};
 
 impl<'a, B: Bench, G: Gate, W: Wire, M: Moments> Workshop<'a, B, G, W, M> {
-    /// Works a job off, up to what it is to be answered.
+    /// Works a job off, up to what it is to be answered. Turns don't come here yet: each job is taken for a request's.
     ///
     /// There is a list of calls from the job's first stage to this answer. Each is the call that its stage needs, and its
     /// answer is true of some slot; the next stage is the row of that answer. At most eight of them take. The share counts
@@ -34,7 +34,7 @@ impl<'a, B: Bench, G: Gate, W: Wire, M: Moments> Workshop<'a, B, G, W, M> {
         ensures worked { IsWorkedOff B.changes job.now result share.old share.new }
         ensures ended { B.ended share.new.tallies ≡ B.ended share.old.tallies }
     {
-        let mut stage = Stage::first(job);
+        let mut stage = Stage::asked(job);
         'calls: loop {
             stage = match stage {
                 Stage::ToMatch => Stage::matched(job, self.bench.peek(rt, job.origin.slot)),
@@ -52,7 +52,7 @@ impl<'a, B: Bench, G: Gate, W: Wire, M: Moments> Workshop<'a, B, G, W, M> {
                     Stage::ToAnswer(answer)
                 }
                 Stage::ToAnswer(answer) => return answer,
-                Stage::Gone => unreachable!(),
+                Stage::ToTell(..) | Stage::Gone => unreachable!(),
             };
         }
     }

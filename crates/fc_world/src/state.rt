@@ -47,6 +47,19 @@ impl State {
         self.server.tick(now);
     }
 
+    fn due(&mut self, shard: u8, now: u64) -> Result<(), AllocError>
+        requires { length self.old.server.shards ≡ 8 }
+        ensures { OnOk result (Done (Event.Due shard now) (parts self.old) None (parts self.new)) }
+    {
+        if shard >= SHARDS {
+            return Ok(());
+        }
+        if let Some(job) = self.server.due(shard, now) {
+            self.tasks.push(Task::new(job))?;
+        }
+        Ok(())
+    }
+
     fn signal(&mut self, shard: u8, endpoint: Endpoint, id: u16, reset: bool)
         requires { length self.old.server.shards ≡ 8 }
         ensures { Done (Event.Signal shard endpoint id reset) (parts self.old) None (parts self.new) }
@@ -141,6 +154,14 @@ impl State {
         self.server.raise(&mut self.tasks[job]);
     }
 
+    fn give_up(&mut self, job: usize, now: u64)
+        requires job { job < length self.old.tasks.items }
+        requires work { AtWork self.old.server (task_at self.old.tasks.items job) }
+        ensures { Done (Event.GiveUp job now) (parts self.old) None (parts self.new) }
+    {
+        self.server.give_up(now, &mut self.tasks[job]);
+    }
+
     fn lose(&mut self, job: usize)
         requires job { job < length self.old.tasks.items }
         requires work { AtWork self.old.server (task_at self.old.tasks.items job) }
@@ -228,6 +249,10 @@ impl State {
                 self.raise(job);
                 Ok(None)
             }
+            Event::GiveUp { job: _, now } => {
+                self.give_up(job, now);
+                Ok(None)
+            }
             Event::Lose { job: _ } => {
                 self.lose(job);
                 Ok(None)
@@ -254,6 +279,10 @@ impl State {
             }
             Event::Tick { now } => {
                 self.tick(now);
+                Ok(None)
+            }
+            Event::Due { shard, now } => {
+                self.due(shard, now)?;
                 Ok(None)
             }
             Event::Signal {

@@ -165,6 +165,67 @@ fn strays_send_nothing(rt: HostRuntime) {
     check_sends(&rt, &EVENTS, &[CREATED]);
 }
 
+// An observer of slot 0 is due once the slot has another program. Its shard brings one job then, job 3, and none while that turn is out;
+// no other shard does. Given up at a moment, the observer is due again at a later one only: job 4. So the GET that follows is job 5.
+#[test]
+fn turns_come_as_jobs(rt: HostRuntime) {
+    const OBSERVING: &[u8] = b"\x41\x01\x12\x34\x71\x60\x51\x72\x01\x30";
+    const GET_LATER: &[u8] = b"\x41\x01\x12\x36\x71\xb1\x72\x01\x30";
+    static EVENTS: [Event<'static>; 20] = [
+        Event::Deliver {
+            now: 1,
+            endpoint: PEER,
+            bytes: OBSERVING,
+        },
+        Event::Take {
+            job: 1,
+            memory: true,
+        },
+        Event::Commit { job: 1, now: 1 },
+        Event::Answer { job: 1, now: 1 },
+        Event::Due { shard: 0, now: 1 },
+        Event::Deliver {
+            now: 2,
+            endpoint: PEER,
+            bytes: PUT_AGAIN,
+        },
+        Event::Install {
+            job: 2,
+            memory: true,
+        },
+        Event::Raise { job: 2 },
+        Event::Answer { job: 2, now: 2 },
+        Event::Due { shard: 1, now: 3 },
+        Event::Due { shard: 8, now: 3 },
+        Event::Due { shard: 0, now: 3 },
+        Event::Due { shard: 0, now: 3 },
+        Event::GiveUp { job: 3, now: 3 },
+        Event::Due { shard: 0, now: 3 },
+        Event::Due { shard: 0, now: 4 },
+        Event::Deliver {
+            now: 4,
+            endpoint: PEER,
+            bytes: GET_LATER,
+        },
+        Event::Take {
+            job: 5,
+            memory: true,
+        },
+        Event::Commit { job: 5, now: 4 },
+        Event::Answer { job: 5, now: 4 },
+    ];
+    check_sends(
+        &rt,
+        &EVENTS,
+        &[
+            CREATED,
+            b"\x61\x45\x12\x34\x71\x48\x00\x00\x00\x00\x00\x00\x00\x01\x21\x01",
+            b"\x61\x44\x12\x35\x70\xffversion=2 cost=2 budget=2 vars=0",
+            b"\x61\x45\x12\x36\x71\x48\x00\x00\x00\x00\x00\x00\x00\x02",
+        ],
+    );
+}
+
 // Copies of a request at work are ignored; those of an answered one get the same bytes, each once.
 #[test]
 fn copies_of_an_answered_request_get_its_bytes(rt: HostRuntime) {

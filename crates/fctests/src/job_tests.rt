@@ -18,6 +18,7 @@ fn job(opened: u64) -> Job {
             id: 0,
             slot: SlotNumber::default(),
         },
+        turn: None,
         confirmable: true,
         token: Token::default(),
         etags: Default::default(),

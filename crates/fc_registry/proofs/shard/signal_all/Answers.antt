@@ -1,4 +1,4 @@
-use Rattle.std.proofs.Common.{◌≡◌, ap, ◌∙◌, sym, set}
+use Rattle.std.proofs.Common.{ap, ◌∙◌, sym, set}
 use Rattle.std.proofs.lemmas.List.Edits.{map_over_more}
 use Rattle.fc_observe.specs.Calls.{observers_after}
 use Rattle.fc_observe.specs.Observers.{ObserverList}

@@ -43,4 +43,4 @@ invariant_of-self c =
     let was = c.index_mut-watch.result.now in
     let rings = written_rings c.self.inside.slots.items c.place-place.result c.index_mut-slot.result.now c.committed.new.slot (c.self.invariant.0, c.self.invariant.1) c.place-place.ensures.limit c.index_mut-slot.ensures.value
     (ring_kept c.args.outcome.now c.args.ticket.now (as_seen c.index_mut-slot.result.now) was c.committed.result (as_seen c.committed.new.slot) c.committed.ensures.commit) in
-    (rings.0, rings.1, length-set c.self.inside.watches.items c.place-place.result c.committed.new.watch ∙ c.self.invariant.2)
+    (rings.0, rings.1, length-set c.self.inside.watches.items c.place-place.result c.committed.new.watch ∙ c.self.invariant.2, c.self.invariant.3)

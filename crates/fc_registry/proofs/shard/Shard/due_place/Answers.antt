@@ -1,4 +1,4 @@
-use Rattle.std.proofs.Common.{◌≡◌, sym, ◌∙◌, arith}
+use Rattle.std.proofs.Common.{sym, ◌∙◌, arith}
 use Rattle.fc_registry.specs.Watches.{is_due_at, due_place}
 use Rattle.fc_registry.proofs.Places.{place_passed, place_found, no_place}
 use Rattle.fc_registry.proofs.shard.Shard.due_place.Goals as goal

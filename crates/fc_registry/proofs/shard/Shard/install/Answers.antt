@@ -30,4 +30,4 @@ invariant_of-self c =
     let was = c.index_mut-state.result.now in
     let rings = written_rings c.self.inside.slots.items c.place.result was c.install.new.slot (c.self.invariant.0, c.self.invariant.1) c.place.ensures.limit c.index_mut-state.ensures.value
     (λ old. subst IsRing (sym c.install.ensures.slot) (ring_put (as_seen was) c.args.program.value old)) in
-    (rings.0, rings.1, c.self.invariant.2)
+    (rings.0, rings.1, c.self.invariant.2, c.self.invariant.3)

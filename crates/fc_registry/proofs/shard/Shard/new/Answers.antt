@@ -17,4 +17,5 @@ invariant_of-result c =
       sym (length-map items as_seen) ∙ (ap length c.loop-slot.invariant ∙ (length-replicate c.loop-slot._slot (new_slot c.args.first_serial) ∙ eight)),
       all_new items c.loop-slot._slot c.args.first_serial c.loop-slot.invariant,
       ap length c.in_ok-make_watches.ensures,
+      c.requires.index,
     )

@@ -1,4 +1,4 @@
-use Rattle.std.proofs.Common.{◌≡◌, ◌∙◌, ap}
+use Rattle.std.proofs.Common.{◌∙◌, ap}
 use Rattle.fc_registry.specs.Slots.{Slot}
 use Rattle.fc_registry.proofs.Writes.{slot_read}
 use Rattle.fc_registry.proofs.shard.Shard.noticed_at.Goals as goal

@@ -7,7 +7,7 @@ use Rattle.fc_workers.proofs.workshop.Workshop.work_off.Goals as goal
 pub calls-init : goal.calls-init
 calls-init g c =
     let before = c.args.share.now in
-    (subst (λ (s : Stage). Walked g.B.Bench.changes c.args.job.now s before before) (sym c.first-stage.ensures) (sets_out g.B.Bench.changes c.args.job.now before), refl)
+    (subst (λ (s : Stage). Walked g.B.Bench.changes c.args.job.now s before before) (sym c.asked-stage.ensures) (sets_out g.B.Bench.changes c.args.job.now before), refl)
 
 pub calls-preserved-in-ToTake : goal.calls-preserved-in-ToTake
 calls-preserved-in-ToTake g c = (walks_on g.B.Bench.changes c.args.job.now c.in-ToTake.is c.calls.invariant.0 c.take.ensures.step, c.take.ensures.ended ∙ c.calls.invariant.1)

@@ -12,6 +12,9 @@ returns-in_ok-emitted-in-Deliver c = subst (λ (e : Event). Steps e (parts c.arg
 pub returns-in-Tick : goal.returns-in-Tick
 returns-in-Tick c = subst (λ (e : Event). Steps e (parts c.args.self.now) None (parts c.tick.new.self)) (sym c.in-Tick.is) (goes_on _ (parts c.args.self.now) (parts c.tick.new.self) None c.tick.ensures)
 
+pub returns-in_ok-due-in-Due : goal.returns-in_ok-due-in-Due
+returns-in_ok-due-in-Due c = subst (λ (e : Event). Steps e (parts c.args.self.now) None (parts c.due.new.self)) (sym c.in-Due.is) (goes_on _ (parts c.args.self.now) (parts c.due.new.self) None c.in_ok-due-in-Due.ensures)
+
 pub returns-in-Signal : goal.returns-in-Signal
 returns-in-Signal c = subst (λ (e : Event). Steps e (parts c.args.self.now) None (parts c.signal.new.self)) (sym c.in-Signal.is) (goes_on _ (parts c.args.self.now) (parts c.signal.new.self) None c.signal.ensures)
 

@@ -1,0 +1,206 @@
+-- The calls of each event on the observers of slots, and that these observers' requests are within their limits.
+use Rattle.std.proofs.Common.{◌≡◌, ℕ, ◌<◌, ◌+◌, ◌*◌, ◌%◌, List, [], ◌∷◌, ◌++◌, Bool, true, false, Option, Some, None, max, refl, sym, ap, ◌∙◌, subst, arith, cond, if◌then◌else◌}
+use Rattle.std.specs.Prelude.{◌==◌, find, nat_lt, IfSome}
+use Rattle.std.proofs.lemmas.Bool.{ltb-true}
+use Rattle.std.specs.List.{All}
+use Rattle.std.specs.Option.{option_map, option_to_list}
+use Rattle.std.proofs.lemmas.List.Elements.{All-head, All-tail}
+use Rattle.arrayvec.specs.ArrayVec.{ArrayVec}
+use Rattle.coap_msg.specs.declared.types.Endpoint.{Endpoint}
+use Rattle.fc_observe.specs.declared.entry.Entry.{Entry}
+use Rattle.fc_observe.specs.declared.entry.Turn.{Turn}
+use Rattle.fc_observe.specs.Calls.{GiveUp as GiveUpTurn, NextDue, Notify, ObserverCall, Register, Tick as TickObservers, after_calls, changed_by, observers, observers_after}
+use Rattle.fc_observe.specs.Entries.{must_confirm, notified_by}
+use Rattle.fc_observe.specs.Observers.{ObserverList, at_moment, entry_out, is_out, next_turn}
+use Rattle.fc_observe.specs.Views.{interest_of}
+use Rattle.fc_observe.proofs.Keeping.{IfRegisters, all_after}
+use Rattle.fc_registry.specs.declared.commit.CommitOutcome.{CommitOutcome}
+use Rattle.fc_registry.specs.declared.commit.CommitOutcome.TheVariants.{Writes, Keeps, Overtakes, Ends}
+use Rattle.fc_registry.specs.declared.job.Ask.{Ask}
+use Rattle.fc_registry.specs.declared.job.Ask.TheVariants.{Run}
+use Rattle.fc_registry.specs.declared.job.Job.{Job}
+use Rattle.fc_registry.specs.Calls.{is_cancellation, observe_calls, observe_calls_by, outcome, is_registration, request_of}
+use Rattle.fc_registry.specs.Slots.{Slot, Ticket}
+use Rattle.fc_registry.specs.Turns.{job_of_turn, turn_given_to, turn_job}
+use Rattle.fc_registry.specs.Watches.{place_from, signal_call}
+use Rattle.fc_verify.specs.Accepted.{Judgement, Accepts, Breaks, Untypable}
+use Rattle.fc_verify.specs.Judged.{judged}
+use Rattle.fc_core.specs.declared.event.Event.{Event}
+use Rattle.fc_core.specs.declared.event.Event.TheVariants.{Peek, Take, Commit, Install, Remove, Receipt, Raise, Answer, GiveUp}
+use Rattle.fc_core.specs.declared.stage.Stage.{Stage}
+use Rattle.fc_core.specs.declared.stage.Stage.TheVariants.{ToMatch, ToTake, ToCommit, ToInstall, ToRemove, ToDescribe, ToList, ToRaise, ToAnswer, ToTell}
+use Rattle.fc_core.specs.Fits.{FitsStage}
+use Rattle.fc_core.specs.History.{AtShard, AsksTurn, Signals, Ticks, Calm, Seen, around, at_shard, calls_by, calls_named, due_in, is_due_at, is_place_of, job, late_in, scene, slot_at, stage, turn_at, watch}
+use Rattle.fc_core.specs.Receiving.{AskWithin, JobWithin, RequestWithin}
+use Rattle.fc_core.specs.Sound.{IsSound}
+use Rattle.fc_core.specs.Stages.{Around, Scene, committed, image_of, installed, names, row, verified}
+use Rattle.fc_core.proofs.Lists.{Each}
+use Rattle.fc_core.proofs.Places.{place_below}
+use Rattle.fc_core.proofs.Watches.{after_append}
+
+-- ---- the calls of an event of a job
+
+-- none, those of a commit that has nothing to write, or that of a turn that is given up
+pub data CallsBy (e : Event) (at : Stage) (cs : List ObserverCall) : Type 0 where
+  NoCall : (is : cs ≡ []) → CallsBy e at cs
+  OfCommit : (k now n moment : ℕ) (t : Ticket) (event : e ≡ Commit k now) (stands : at ≡ ToCommit n t) (is : cs ≡ observe_calls moment t) → CallsBy e at cs
+  OfGiveUp : (turn : Turn) (moment : ℕ) (is : cs ≡ GiveUpTurn turn moment ∷ []) → CallsBy e at cs
+
+abbrev at : Job → Slot → Around → Stage → Scene
+at job slot ws stage = record { job = job; slot = slot; around = ws; stage = stage }
+
+committed_calls : (k now n : ℕ) (t : Ticket) (ws : Around) (o : CommitOutcome) → CallsBy (Commit k now) (ToCommit n t) (committed o n t now ws).calls
+committed_calls k now n t ws Keeps = OfCommit k now n (max ws.moment now) t refl refl refl
+committed_calls k now n t ws Writes = NoCall refl
+committed_calls k now n t ws Overtakes = NoCall refl
+committed_calls k now n t ws Ends = NoCall refl
+
+installed_calls : (j : Judgement) (slot : Slot) → (installed j slot).calls ≡ []
+installed_calls (Accepts p) slot = refl
+installed_calls (Breaks rule k) slot = refl
+installed_calls Untypable slot = refl
+
+verified_calls : (memory : Bool) (x : Scene) → (verified memory x).calls ≡ []
+verified_calls true x = installed_calls (judged (image_of x.job.ask)) x.slot
+verified_calls false x = refl
+
+pub row_calls : (e : Event) (job : Job) (slot : Slot) (ws : Around) (s : Stage) → CallsBy e s (row e (at job slot ws s)).calls
+row_calls (Peek k n) job slot ws ToMatch = NoCall refl
+row_calls (Peek k n) job slot ws (ToList seen) = NoCall refl
+row_calls (Peek k n) job slot ws other = NoCall refl
+row_calls (Remove k) job slot ws ToRemove = NoCall refl
+row_calls (Remove k) job slot ws other = NoCall refl
+row_calls (Receipt k) job slot ws ToDescribe = NoCall refl
+row_calls (Receipt k) job slot ws other = NoCall refl
+row_calls (Take k memory) job slot ws (ToTake n) = NoCall refl
+row_calls (Take k memory) job slot ws other = NoCall refl
+row_calls (Commit k now) job slot ws (ToCommit n t) = committed_calls k now n t ws (outcome t slot)
+row_calls (Commit k now) job slot ws other = NoCall refl
+row_calls (Install k memory) job slot ws ToInstall = NoCall (verified_calls memory (at job slot ws ToInstall))
+row_calls (Install k memory) job slot ws other = NoCall refl
+row_calls (Raise k) job slot ws (ToRaise word content) = NoCall refl
+row_calls (Raise k) job slot ws other = NoCall refl
+row_calls (Answer k now) job slot ws (ToAnswer content) = NoCall refl
+row_calls (Answer k now) job slot ws other = NoCall refl
+row_calls (GiveUp k now) job slot ws (ToTell turn needs) = OfGiveUp turn (max ws.moment now) refl
+row_calls (GiveUp k now) job slot ws other = NoCall refl
+row_calls other job slot ws s = NoCall refl
+
+-- ---- a call keeps them within
+
+abbrev pub EntryWithin : Entry → Type 0
+EntryWithin o = RequestWithin o.request
+
+-- a registration's request is within
+abbrev CallWithin : ObserverCall → Type 0
+CallWithin (Register now to token request szx serial) = RequestWithin request
+CallWithin other = Unit {0}
+
+notified_within : (now id serial random : ℕ) (bytes : ArrayVec ℕ) (o : Entry) (b : Bool) → EntryWithin o → EntryWithin (notified_by b now id serial random bytes o)
+notified_within now id serial random bytes o true w = w
+notified_within now id serial random bytes o false w = w
+
+changed_within : (c : ObserverCall) (t : ObserverList) (o : Entry) → EntryWithin o → EntryWithin (changed_by c t o)
+changed_within (Notify now turn id serial random bytes) t o w = notified_within (max t.moment now) id serial random bytes o (must_confirm (max t.moment now) o) w
+changed_within other t o w = w
+
+new_within : (c : ObserverCall) (t : ObserverList) → CallWithin c → IfRegisters EntryWithin c t
+new_within (Register now to token request szx serial) t w = w
+new_within other t w = tt
+
+call_within : (c : ObserverCall) (t : ObserverList) → CallWithin c → All EntryWithin t.held → All EntryWithin (observers_after c t).held
+call_within c t w all = all_after EntryWithin EntryWithin c t (λ o here. here) (λ o here may. changed_within c t o here) (new_within c t w) all
+
+calls_within : (cs : List ObserverCall) (t : ObserverList) → Each CallWithin cs → All EntryWithin t.held → All EntryWithin (after_calls cs t).held
+calls_within [] t w all = all
+calls_within (c ∷ cs) t w all = call_within c (after_calls cs t) w.0 (calls_within cs t w.1 all)
+
+-- ---- the calls of an event
+
+request_within : (ask : Ask) → AskWithin ask → RequestWithin (request_of ask)
+request_within (Run request) w = w
+request_within other w = (omega arith, omega arith)
+
+observed_within : (b c : Bool) (moment : ℕ) (t : Ticket) → RequestWithin t.request → Each CallWithin (observe_calls_by b c moment t)
+observed_within true c moment t w = (w, tt)
+observed_within false true moment t w = (tt, tt)
+observed_within false false moment t w = tt
+
+row_within : (e : Event) (job : Job) (slot : Slot) (s : Stage) (cs : List ObserverCall) → FitsStage job slot s → AskWithin job.ask → CallsBy e s cs → Each CallWithin cs
+row_within e job slot s cs f w (NoCall is) = subst (Each CallWithin) (sym is) tt
+row_within e job slot s cs f w (OfCommit k now n moment t event stands is) =
+    let fits : FitsStage job slot (ToCommit n t) = subst (FitsStage job slot) stands f in
+    subst (Each CallWithin) (sym is) (observed_within (is_registration t) (is_cancellation t) moment t (subst RequestWithin (sym fits.1.request) (request_within job.ask w)))
+row_within e job slot s cs f w (OfGiveUp turn moment is) = subst (Each CallWithin) (sym is) (tt, tt)
+
+one_within : (b : Bool) (c : ObserverCall) → CallWithin c → Each CallWithin (if b then c ∷ [] else [])
+one_within true c w = (w, tt)
+one_within false c w = tt
+
+signal_within : (reset : Bool) (to : Endpoint) (id : ℕ) → CallWithin (signal_call reset to id)
+signal_within true to id = tt
+signal_within false to id = tt
+
+module _ (s : Seen) (a : IsSound s) where
+  named_if : (e : Event) (k : ℕ) (b : Bool) → Each CallWithin (if b then (row e (scene s k)).calls else [])
+  named_if e k true =
+      let n = (job s k).origin.slot in
+      row_within e (job s k) (slot_at s n) (stage s k) (row e (scene s k)).calls (a.stages k) (a.within k).1 (row_calls e (job s k) (slot_at s n) (around s n) (stage s k))
+  named_if e k false = tt
+
+  named_within : (e : Event) (o : Option ℕ) (n : ℕ) → Each CallWithin (calls_named o e s n)
+  named_within e None n = tt
+  named_within e (Some k) n = named_if e k ((job s k).origin.slot == n)
+
+  shard_within : (y : AtShard) (n : ℕ) → Each CallWithin (calls_by y s n)
+  shard_within (AsksTurn shard now) n =
+      let at = max (s.shard_moment shard) now in
+      one_within (is_place_of (due_in s shard at) shard n) (NextDue at (slot_at s n).noticed) tt
+  shard_within (Signals shard to id reset) n = one_within ((n % 8) == shard) (signal_call reset to id) (signal_within reset to id)
+  shard_within (Ticks shard now) n =
+      let at = max (s.shard_moment shard) now in
+      one_within (is_place_of (late_in s shard at) shard n) (TickObservers at) tt
+  shard_within Calm n = tt
+
+  pub watched_after : (e : Event) (n : ℕ) → All EntryWithin (observers n (calls_named (names e) e s n ++ (calls_by (at_shard e) s n ++ s.calls n))).held
+  watched_after e n =
+      let named = calls_named (names e) e s n in
+      let of_shard = calls_by (at_shard e) s n in
+      let is = after_append n named (of_shard ++ s.calls n) ∙ ap (after_calls named) (after_append n of_shard (s.calls n)) in
+      subst (λ (t : ObserverList). All EntryWithin t.held) (sym is) (calls_within named (after_calls of_shard (watch s n)) (named_within e (names e) n) (calls_within of_shard (watch s n) (shard_within (at_shard e) n) (a.watched n)))
+
+-- ---- the job of a turn
+
+found_by : (p : Entry → Bool) (o : Entry) (os : List Entry) (b : Bool) → EntryWithin o → IfSome (find p os) EntryWithin → IfSome (cond b (Some o) (find p os)) EntryWithin
+found_by p o os true here rest = here
+found_by p o os false here rest = rest
+
+found_within : (p : Entry → Bool) (os : List Entry) → All EntryWithin os → IfSome (find p os) EntryWithin
+found_within p [] all = tt
+found_within p (o ∷ os) all = found_by p o os (p o) (All-head EntryWithin o os all) (found_within p os (All-tail EntryWithin o os all))
+
+entry_within : (n number : ℕ) (e : Option Entry) → n < 64 → IfSome e EntryWithin → Each JobWithin (option_to_list (option_map (turn_job n number) (option_map interest_of e)))
+entry_within n number None lt w = tt
+entry_within n number (Some o) lt w = ((lt, w), tt)
+
+job_within : (n : ℕ) (p : Option Turn) (t : ObserverList) → n < 64 → All EntryWithin t.held → Each JobWithin (option_to_list (job_of_turn n p t))
+job_within n None t lt all = tt
+job_within n (Some turn) t lt all = entry_within n turn.number (entry_out turn t) lt (found_within (is_out turn t) t.held all)
+
+given_within : (n now noticed : ℕ) (t : ObserverList) → n < 64 → All EntryWithin t.held → Each JobWithin (option_to_list (turn_given_to n now noticed t))
+given_within n now noticed t lt all = job_within n (next_turn noticed (at_moment now t)) (observers_after (NextDue now noticed) t) lt (call_within (NextDue now noticed) t tt all)
+
+due_by : (s : Seen) (i at k : ℕ) (b : Bool) → nat_lt i 8 ≡ b → (if b then place_from (is_due_at s i at) 8 0 else None) ≡ Some k → 8 * k + i < 64
+due_by s i at k true low e = let k8 : k < 8 = place_below (is_due_at s i at) 8 0 k e in let i8 : i < 8 = ltb-true i 8 low in omega (arith, k8, i8)
+due_by s i at k false low e = absurd (cc e)
+
+due_below : (s : Seen) (i at k : ℕ) → due_in s i at ≡ Some k → 8 * k + i < 64
+unfolding due_in
+due_below s i at k e = due_by s i at k (nat_lt i 8) refl e
+
+turn_within : (s : Seen) (i at : ℕ) (p : Option ℕ) → IsSound s → ((k : ℕ) → p ≡ Some k → 8 * k + i < 64) → Each JobWithin (option_to_list (turn_at p s i at))
+turn_within s i at None a below = tt
+turn_within s i at (Some k) a below = given_within (8 * k + i) at (slot_at s (8 * k + i)).noticed (watch s (8 * k + i)) (below k refl) (a.watched (8 * k + i))
+
+pub turns_within : (s : Seen) (i at : ℕ) → IsSound s → Each JobWithin (option_to_list (turn_at (due_in s i at) s i at))
+turns_within s i at a = turn_within s i at (due_in s i at) a (due_below s i at)

@@ -1,0 +1,44 @@
+-- The turns of a slot's observers, as jobs: each answers its observer's request anew (RFC 7641, 4.2).
+use Rattle.std.specs.Prelude.{ℕ, ◌+◌, ◌*◌, ◌%◌, false, Option, Some, None, []}
+use Rattle.std.specs.Option.{option_map}
+use Rattle.coap_opts.specs.Values.{Place}
+use Rattle.fc_observe.specs.declared.entry.Turn.{Turn}
+use Rattle.fc_observe.specs.Calls.{NextDue, observers_after}
+use Rattle.fc_observe.specs.Observers.{ObserverList, at_moment, entry_out, next_turn}
+use Rattle.fc_observe.specs.Views.{Interest, interest_of}
+use Rattle.fc_registry.specs.declared.job.Ask.TheVariants.{Run}
+use Rattle.fc_registry.specs.declared.job.Job.{Job}
+use Rattle.fc_registry.specs.Slots.{Shard}
+use Rattle.fc_registry.specs.Watches.{noticed_at, watch_at}
+
+-- the first block of the size of this exponent, which has three bits
+abbrev pub first_block : Option ℕ → Option Place
+first_block None = None
+first_block (Some szx) = Some (record { number = 0; more = false; szx = szx % 8 })
+
+-- the job of the turn of this number of slot n, which has no exchange
+abbrev pub turn_job : ℕ → ℕ → Interest → Job
+turn_job n number o = record {
+  origin = record { opening = record { number = 0; at = 0 }; endpoint = o.endpoint; id = 0; slot = n };
+  turn = Some number;
+  confirmable = false;
+  token = o.token;
+  etags = record { items = [] };
+  block = first_block o.szx;
+  observe = None;
+  ask = Run o.request;
+}
+
+-- of the entry that has the turn
+abbrev pub job_of_turn : ℕ → Option Turn → ObserverList → Option Job
+job_of_turn n None w = None
+job_of_turn n (Some turn) w = option_map (turn_job n turn.number) (option_map interest_of (entry_out turn w))
+
+-- the job of the turn that is given at a moment to one of these observers of slot n, where this serial is noticed
+abbrev pub turn_given_to : ℕ → ℕ → ℕ → ObserverList → Option Job
+turn_given_to n now noticed w = job_of_turn n (next_turn noticed (at_moment now w)) (observers_after (NextDue now noticed) w)
+
+-- at a place of a shard
+abbrev pub due_job : Option ℕ → Shard → Option Job
+due_job None shard = None
+due_job (Some k) shard = turn_given_to (8 * k + shard.index) shard.now (noticed_at shard k) (watch_at shard k)
