@@ -1,5 +1,5 @@
 -- A commit that a shard carries out is the row of its table.
-use Rattle.std.proofs.Common.{◌≡◌, ℕ, ◌+◌, ◌/◌, List, Bool, true, false, refl, sym, ap, ◌∙◌, subst, max, arith}
+use Rattle.std.proofs.Common.{◌≡◌, ℕ, ◌+◌, ◌/◌, List, Bool, true, false, refl, sym, ap, ◌∙◌, subst, max, arith, None}
 use Rattle.std.specs.Prelude.{nat_lt, ◌==◌}
 use Rattle.std.proofs.lemmas.Bool.{eqb-true}
 use Rattle.fc_machine.specs.Ran.{Ran}
@@ -47,11 +47,11 @@ own_row ran t slot v c after given w =
       after_is = w.1.after_is ∙ ap (λ (o : CommitOutcome). after_changes slot (commits o t slot.serial v).changes) is;
     }
 
-pub commit_row : (ran : Ran) (t : Ticket) (slot : Slot) (v : ObserverList) (c : Committed) (after : Slot) → ran.program ≡ t.found.program → ran.input.request ≡ t.request → ran.input.vars ≡ t.found.vars → HasGiven slot t → IsCommit ran t slot v c after → IsRow t slot v c after
-commit_row ran t slot v Stranger after p r vars given w = absurd (w.stranger (record { program = p; request = r; vars = vars; serial = given.serial }))
-commit_row ran t slot v (Done m) after p r vars given w = own_row ran t slot v (Done m) after given w
-commit_row ran t slot v Overtaken after p r vars given w = own_row ran t slot v Overtaken after given w
-commit_row ran t slot v Ended after p r vars given w = own_row ran t slot v Ended after given w
+pub commit_row : (ran : Ran) (t : Ticket) (slot : Slot) (v : ObserverList) (c : Committed) (after : Slot) → ran.program ≡ t.found.program → ran.input.request ≡ t.request → ran.input.vars ≡ t.found.vars → HasGiven slot t → t.turn ≡ None → IsCommit ran t slot v c after → IsRow t slot v c after
+commit_row ran t slot v Stranger after p r vars given none w = absurd (w.stranger (record { asked = none; program = p; request = r; vars = vars; serial = given.serial }))
+commit_row ran t slot v (Done m) after p r vars given none w = own_row ran t slot v (Done m) after given w
+commit_row ran t slot v Overtaken after p r vars given none w = own_row ran t slot v Overtaken after given w
+commit_row ran t slot v Ended after p r vars given none w = own_row ran t slot v Ended after given w
 
 -- a commit that writes is at the ticket's serial
 writes_same : (w same below : Bool) → outcome_by w same below ≡ Writes → same ≡ true

@@ -60,9 +60,9 @@ given_changed slot t (c ∷ cs) g =
 -- a job fits its slot after changes
 pub fits_changed : (job : Job) (slot : Slot) (s : Stage) (cs : List Change) → FitsStage job slot s → FitsStage job (after_changes slot cs) s
 fits_changed job slot (ToTake n) cs f = f
-fits_changed job slot (ToCommit n t) cs f = (f.0, record { origin = f.1.origin; request = f.1.request; given = given_changed slot t cs f.1.given })
+fits_changed job slot (ToCommit n t) cs f = (f.0, record { origin = f.1.origin; turn = f.1.turn; request = f.1.request; given = given_changed slot t cs f.1.given }, f.2)
 fits_changed job slot ToInstall cs f = tt
-fits_changed job slot ToMatch cs f = tt
+fits_changed job slot ToMatch cs f = f
 fits_changed job slot ToRemove cs f = tt
 fits_changed job slot ToDescribe cs f = tt
 fits_changed job slot (ToList seen) cs f = f
@@ -76,35 +76,35 @@ pub fits_next : (job : Job) (slot : Slot) (s : Stage) → FitsStage job slot s �
 fits_next job slot (ToList seen) f = f
 fits_next job slot other f = tt
 
-first_ask_fits : (job : Job) (slot : Slot) (ask : Ask) (serials : List ℕ) → FitsStage job slot (first_by ask serials)
-first_ask_fits job slot (Run request) [] = omega arith
-first_ask_fits job slot (Run request) (x ∷ xs) = tt
-first_ask_fits job slot (Installs image) serials = tt
-first_ask_fits job slot Removes serials = tt
-first_ask_fits job slot Describe serials = tt
-first_ask_fits job slot Discover serials = omega arith
+first_ask_fits : (job : Job) (slot : Slot) → job.turn ≡ None → (ask : Ask) (serials : List ℕ) → FitsStage job slot (first_by ask serials)
+first_ask_fits job slot none (Run request) [] = (omega arith, none)
+first_ask_fits job slot none (Run request) (x ∷ xs) = none
+first_ask_fits job slot none (Installs image) serials = tt
+first_ask_fits job slot none Removes serials = tt
+first_ask_fits job slot none Describe serials = tt
+first_ask_fits job slot none Discover serials = omega arith
 
-first_turn_fits : (job : Job) (slot : Slot) (turn : Option ℕ) → FitsStage job slot (first_or_turn turn job)
-first_turn_fits job slot None = first_ask_fits job slot job.ask job.etags.items
-first_turn_fits job slot (Some number) = refl
+first_turn_fits : (job : Job) (slot : Slot) (turn : Option ℕ) → job.turn ≡ turn → FitsStage job slot (first_or_turn turn job)
+first_turn_fits job slot None none = first_ask_fits job slot none job.ask job.etags.items
+first_turn_fits job slot (Some number) is = refl
 
 pub first_fits : (job : Job) (slot : Slot) → FitsStage job slot (first_stage job)
-first_fits job slot = first_turn_fits job slot job.turn
+first_fits job slot = first_turn_fits job slot job.turn refl
 
-took_fits : (memory : Bool) (job : Job) (slot : Slot) (n : ℕ) (p : Option Present) → slot.present ≡ p → n < 8 → FitsStage job slot (took n (taking memory job slot.serial p))
-took_fits memory job slot n None e lt = tt
-took_fits true job slot n (Some p) e lt = (omega arith, record { origin = refl; request = refl; given = record { serial = omega arith; present = λ _. e } })
-took_fits false job slot n (Some p) e lt = tt
+took_fits : (memory : Bool) (job : Job) (slot : Slot) (n : ℕ) (p : Option Present) → slot.present ≡ p → n < 8 → job.turn ≡ None → FitsStage job slot (took n (taking memory job slot.serial p))
+took_fits memory job slot n None e lt none = tt
+took_fits true job slot n (Some p) e lt none = (omega arith, record { origin = refl; turn = refl; request = refl; given = record { serial = omega arith; present = λ _. e } }, none)
+took_fits false job slot n (Some p) e lt none = tt
 
-retaken_fits : (job : Job) (slot : Slot) (n : ℕ) (b : Bool) → nat_lt n 8 ≡ b → FitsStage job slot (if b then ToTake n else ToAnswer Unavailable)
-retaken_fits job slot n true e = ltb-true n 8 e
-retaken_fits job slot n false e = tt
+retaken_fits : (job : Job) (slot : Slot) (n : ℕ) (b : Bool) → job.turn ≡ None → nat_lt n 8 ≡ b → FitsStage job slot (if b then ToTake n else ToAnswer Unavailable)
+retaken_fits job slot n true none e = (ltb-true n 8 e, none)
+retaken_fits job slot n false none e = tt
 
-committed_fits : (job : Job) (slot : Slot) (n : ℕ) (t : Ticket) (o : CommitOutcome) (now : ℕ) (ws : Around) → t.origin ≡ job.origin → FitsStage job slot (committed o n t now ws).stage
-committed_fits job slot n t Writes now ws own = own
-committed_fits job slot n t Keeps now ws own = own
-committed_fits job slot n t Overtakes now ws own = retaken_fits job slot n (nat_lt n 8) refl
-committed_fits job slot n t Ends now ws own = tt
+committed_fits : (job : Job) (slot : Slot) (n : ℕ) (t : Ticket) (o : CommitOutcome) (now : ℕ) (ws : Around) → t.origin ≡ job.origin → job.turn ≡ None → FitsStage job slot (committed o n t now ws).stage
+committed_fits job slot n t Writes now ws own none = own
+committed_fits job slot n t Keeps now ws own none = own
+committed_fits job slot n t Overtakes now ws own none = retaken_fits job slot n (nat_lt n 8) none refl
+committed_fits job slot n t Ends now ws own none = tt
 
 made_fits : (job : Job) (slot : Slot) (b : Bool) (p : Program) → FitsStage job slot (made (receipt_of p 0) (put_by b slot p).answer)
 made_fits job slot true p = tt
@@ -131,13 +131,13 @@ told_fits : (job : Job) (slot : Slot) (receipt : Option Facts) → FitsStage job
 told_fits job slot None = tt
 told_fits job slot (Some receipt) = tt
 
-matched_fits : (job : Job) (slot : Slot) (b : Bool) (word : ℕ) → FitsStage job slot (matched_by b word)
-matched_fits job slot true word = tt
-matched_fits job slot false word = omega arith
+matched_fits : (job : Job) (slot : Slot) (b : Bool) (word : ℕ) → job.turn ≡ None → FitsStage job slot (matched_by b word)
+matched_fits job slot true word none = tt
+matched_fits job slot false word none = (omega arith, none)
 
-own_fits : (job : Job) (slot : Slot) (b : Bool) (word : ℕ) (serials : List ℕ) → FitsStage job slot (peeked_own b word serials)
-own_fits job slot true word serials = matched_fits job slot (is_match word serials) word
-own_fits job slot false word serials = tt
+own_fits : (job : Job) (slot : Slot) (b : Bool) (word : ℕ) (serials : List ℕ) → job.turn ≡ None → FitsStage job slot (peeked_own b word serials)
+own_fits job slot true word serials none = matched_fits job slot (is_match word serials) word none
+own_fits job slot false word serials none = none
 
 listed_fits : (job : Job) (slot : Slot) (b : Bool) (words : List ℕ) → nat_lt (length words) 64 ≡ b → FitsStage job slot (if b then ToList (record { items = words }) else ToAnswer (Listed words))
 listed_fits job slot true words e = ltb-true (length words) 64 e
@@ -149,13 +149,13 @@ next_fits job slot false word seen lt = lt
 
 -- a job that an event moved fits its slot as it was
 pub row_fits : (e : Event) (job : Job) (slot : Slot) (ws : Around) (s : Stage) → FitsStage job slot s → FitsStage job slot (row e (at job slot ws s)).stage
-row_fits (Peek k n) job slot ws ToMatch f = own_fits job slot (n == job.origin.slot) (word_at ws.words n) job.etags.items
+row_fits (Peek k n) job slot ws ToMatch f = own_fits job slot (n == job.origin.slot) (word_at ws.words n) job.etags.items f
 row_fits (Peek k n) job slot ws (ToList seen) f = next_fits job slot (n == length seen.items) (word_at ws.words n) seen f
 row_fits (Remove k) job slot ws ToRemove f = clear_fits job slot (nat_lt slot.serial last_serial) slot.serial slot.present
 row_fits (Receipt k) job slot ws ToDescribe f = told_fits job slot (receipt_at slot.present)
 row_fits (Lose k) job slot ws s f = tt
-row_fits (Take k memory) job slot ws (ToTake n) f = took_fits memory job slot n slot.present refl f
-row_fits (Commits k now) job slot ws (ToCommit n t) f = committed_fits job slot n t (outcome t slot) now ws f.1.origin
+row_fits (Take k memory) job slot ws (ToTake n) f = took_fits memory job slot n slot.present refl f.0 f.1
+row_fits (Commits k now) job slot ws (ToCommit n t) f = committed_fits job slot n t (outcome t slot) now ws f.1.origin f.2
 row_fits (Install k memory) job slot ws ToInstall f = verified_fits memory (at job slot ws ToInstall)
 row_fits (Raise k) job slot ws (ToRaise word content) f = f
 row_fits (Answer k now) job slot ws (ToAnswer content) f = tt

@@ -6,13 +6,14 @@ use Rattle.fc_registry.specs.declared.job.Job.{Job}
 use Rattle.fc_registry.specs.Slots.{Slot, Present, Ticket}
 use Rattle.fc_registry.specs.Calls.{HasGiven, request_of}
 use Rattle.fc_core.specs.declared.stage.Stage.{Stage}
-use Rattle.fc_core.specs.declared.stage.Stage.TheVariants.{ToTake, ToCommit, ToList, ToRaise, ToAnswer, ToTell}
+use Rattle.fc_core.specs.declared.stage.Stage.TheVariants.{ToMatch, ToTake, ToCommit, ToList, ToRaise, ToAnswer, ToTell}
 use Rattle.fc_core.specs.Contents.{IsOf}
 use Rattle.fc_core.specs.Stages.{takings}
 
 -- a ticket that the slot gave to the job
 pub record IsTicketOf (job : Job) (slot : Slot) (t : Ticket) : Type 0 where
   pub origin : t.origin ≡ job.origin
+  pub turn : t.turn ≡ job.turn
   pub request : t.request ≡ request_of job.ask
   pub given : HasGiven slot t
 
@@ -21,10 +22,11 @@ abbrev pub HasNext : Stage → Type 0
 HasNext (ToList seen) = length seen.items < 64
 HasNext other = Unit {0}
 
--- a job that is to take may take once more; a ticket is its job's, and so is an answer; a turn is of its job's slot
+-- a request's job that is to take may take once more; a ticket is its job's, and so is an answer; a turn is of its job's slot
 abbrev pub FitsStage : Job → Slot → Stage → Type 0
-FitsStage job slot (ToTake count) = count < takings
-FitsStage job slot (ToCommit count t) = (count ≤ takings) × IsTicketOf job slot t
+FitsStage job slot ToMatch = job.turn ≡ None
+FitsStage job slot (ToTake count) = (count < takings) × (job.turn ≡ None)
+FitsStage job slot (ToCommit count t) = (count ≤ takings) × IsTicketOf job slot t × (job.turn ≡ None)
 FitsStage job slot (ToList seen) = HasNext (ToList seen)
 FitsStage job slot (ToRaise word content) = IsOf job content
 FitsStage job slot (ToAnswer content) = IsOf job content

@@ -1,5 +1,5 @@
 //! Jobs at work: what each event does to a job, its slot and its shard.
-ghost use Rattle.std.specs.Prelude.{◌≡◌, ℕ, ◌<◌, ◌∷◌, ◌++◌, ◌==◌, [], List, length, false, IfOk, OnOk, IsErr};
+ghost use Rattle.std.specs.Prelude.{◌≡◌, ℕ, ◌<◌, ◌∷◌, ◌++◌, ◌==◌, [], List, None, length, false, IfOk, OnOk, IsErr};
 ghost use Rattle.fc_verify.specs.Accepted.{Accepts};
 ghost use Rattle.fc_verify.specs.Judged.{judged};
 ghost use Rattle.fc_registry.specs.Slots.{IsOwned, slot_in};
@@ -441,6 +441,7 @@ fn run_and_commit(
 ) -> Stage
     requires owned { IsOwned shard.old ticket.now.origin.slot }
     requires given { HasGiven (slot_in shard.old ticket.now.origin.slot) ticket.now }
+    requires asked { ticket.now.turn ≡ None }
     ensures stage { (words : List ℕ) → result ≡ (commit_move shard.old words count ticket.now now).stage }
     ensures shard { (words : List ℕ) →
         shard.new ≡ shard_moved (commit_move shard.old words count ticket.now now) ticket.now.origin.slot shard.old }

@@ -40,7 +40,7 @@ request_of other = no_request
 
 -- a ticket of what a slot holds at a serial
 abbrev pub ticket_of : Job → ℕ → Present → Ticket
-ticket_of job serial found = record { origin = job.origin; token = job.token; request = request_of job.ask; block = job.block; observe = job.observe; serial = serial; found = found }
+ticket_of job serial found = record { origin = job.origin; turn = job.turn; token = job.token; request = request_of job.ask; block = job.block; observe = job.observe; serial = serial; found = found }
 
 -- a taking gives a ticket of what the slot holds, where there is memory for it; an empty slot asks for none
 abbrev pub taking : Bool → Job → ℕ → Option Present → Taken
@@ -204,8 +204,9 @@ abbrev pub commit_calls : Committed → ℕ → Ticket → List ObserverCall
 commit_calls (Done m) now t = if m.changed then [] else observe_calls now t
 commit_calls other now t = []
 
--- the outcome is of the ticket's program, request and variables, and the ticket's serial isn't above the slot's
+-- the ticket is no turn's, the outcome is of its program, request and variables, and its serial isn't above the slot's
 pub record IsOwn (ran : Ran) (t : Ticket) (slot : Slot) : Type 0 where
+  pub asked : t.turn ≡ None
   pub program : ran.program ≡ t.found.program
   pub request : ran.input.request ≡ t.request
   pub vars : ran.input.vars ≡ t.found.vars

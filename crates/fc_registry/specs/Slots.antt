@@ -59,9 +59,10 @@ abbrev pub with_slot : Shard → ℕ → Slot → Shard
 with_slot shard n slot = record shard { slots = slice_set shard.slots (n / 8) slot }
 
 -- what a taking found: the serial of the slot, and its program with version and variables; and its request with its token, the
--- block of the reply that it asks, and the value of its Observe option
+-- block of the reply that it asks, and the value of its Observe option. That of a turn has its number
 pub record Ticket : Type 0 where
   pub origin : Origin
+  pub turn : Option ℕ
   pub token : ArrayVec ℕ
   pub request : Request
   pub block : Option Place

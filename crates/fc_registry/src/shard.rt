@@ -131,7 +131,7 @@ impl Shard {
 
     /// Commits a run, at a moment in milliseconds: it writes where the run answered a POST with a code of class 2,
     /// nothing has changed since the ticket was taken, and the slot's serials aren't at their end. `Overtaken`, `Ended`
-    /// and `Stranger` leave the slot as it was. The shard advances to the moment, whatever it answers. What a GET's run wrote
+    /// and `Stranger`, which a turn's ticket is, leave the slot as it was. The shard advances to the moment, whatever it answers. What a GET's run wrote
     /// to its variables is dropped, and so is its notice; that of a commit that writes makes the new serial the noticed one.
     /// A GET with Observe 0 that is answered 2.05 from its first block on registers its client as an observer, where there is
     /// room; Observe 1 removes the entry, whatever the code.
@@ -369,6 +369,7 @@ fn find(job: &Job, slot: &SlotState) -> Taken
     match Arc::try_clone(&body.program) {
         Ok(program) => Taken::Given(Ticket {
             origin: job.origin,
+            turn: job.turn,
             token: copy_token(&job.token),
             request: request_of(&job.ask),
             block: job.block,
@@ -457,12 +458,13 @@ fn receipt_in(slot: &SlotState) -> Option<Receipt>
     }
 }
 
-// Whether the outcome is of the ticket's program, request and variables, and the ticket's serial isn't above the slot's.
+// Whether the ticket is no turn's, the outcome is of its program, request and variables, and its serial isn't above the slot's.
 fn is_own(outcome: &Outcome<'_>, ticket: &Ticket, slot: &SlotState) -> bool
     ensures own { IsTrue result ↔ IsOwn outcome.now ticket.now (as_seen slot.now) }
     ensures run { IsTrue result → outcome.now ≡ run_of ticket.now }
 {
-    outcome.program().is(ticket.program())
+    ticket.turn.is_none()
+        && outcome.program().is(ticket.program())
         && outcome.request().is(ticket.request())
         && outcome.found().is(ticket.vars())
         && ticket.serial() <= slot.serial

@@ -14,6 +14,7 @@ use std::sync::Arc;
 #[derive(Drop)]
 pub struct Ticket {
     pub(crate) origin: Origin,
+    pub(crate) turn: Option<u64>,
     pub(crate) token: Token,
     pub(crate) request: Request,
     pub(crate) block: Option<Block>,
@@ -33,6 +34,7 @@ impl Model for Ticket {
 
     ghost view = { λ t. record {
       origin = t.origin;
+      turn = t.turn;
       token = t.token;
       request = t.request;
       block = t.block;
@@ -50,6 +52,13 @@ impl Ticket {
         ensures { result ≡ self.now.origin }
     {
         self.origin
+    }
+
+    /// The number of the turn that its job is; none of a request.
+    pub fn turn(&self) -> Option<u64>
+        ensures { result ≡ self.now.turn }
+    {
+        self.turn
     }
 
     /// The job's request.
