@@ -9,7 +9,7 @@ use Rattle.arrayvec.specs.ArrayVec.{ArrayVec}
 use Rattle.coap_msg.specs.declared.types.Endpoint.{Endpoint}
 use Rattle.fc_observe.specs.declared.entry.Entry.{Entry}
 use Rattle.fc_observe.specs.declared.entry.Turn.{Turn}
-use Rattle.fc_observe.specs.Calls.{GiveUp as GiveUpTurn, NextDue, Notify, ObserverCall, Register, Tick as TickObservers, after_calls, changed_by, observers, observers_after}
+use Rattle.fc_observe.specs.Calls.{Advance, GiveUp as GiveUpTurn, NextDue, Notify, ObserverCall, Register, Tick as TickObservers, after_calls, changed_by, observers, observers_after}
 use Rattle.fc_observe.specs.Entries.{must_confirm, notified_by}
 use Rattle.fc_observe.specs.Observers.{ObserverList, at_moment, entry_out, is_out, next_turn}
 use Rattle.fc_observe.specs.Views.{interest_of}
@@ -19,8 +19,8 @@ use Rattle.fc_registry.specs.declared.commit.CommitOutcome.TheVariants.{Writes, 
 use Rattle.fc_registry.specs.declared.job.Ask.{Ask}
 use Rattle.fc_registry.specs.declared.job.Ask.TheVariants.{Run}
 use Rattle.fc_registry.specs.declared.job.Job.{Job}
-use Rattle.fc_registry.specs.Calls.{is_cancellation, observe_calls, observe_calls_by, outcome, is_registration, request_of}
-use Rattle.fc_registry.specs.Slots.{Slot, Ticket}
+use Rattle.fc_registry.specs.Calls.{is_cancellation, observe_calls, observe_calls_by, outcome, is_registration, request_of, is_out_at, miss_calls, turn_calls}
+use Rattle.fc_registry.specs.Slots.{Present, Slot, Ticket}
 use Rattle.fc_registry.specs.Turns.{job_of_turn, turn_given_to, turn_job}
 use Rattle.fc_registry.specs.Watches.{place_from, signal_call}
 use Rattle.fc_verify.specs.Accepted.{Judgement, Accepts, Breaks, Untypable}
@@ -29,6 +29,7 @@ use Rattle.fc_core.specs.declared.event.Event.{Event}
 use Rattle.fc_core.specs.declared.event.Event.TheVariants.{Peek, Take, Commit, Install, Remove, Receipt, Raise, Answer, GiveUp}
 use Rattle.fc_core.specs.declared.stage.Stage.{Stage}
 use Rattle.fc_core.specs.declared.stage.Stage.TheVariants.{ToMatch, ToTake, ToCommit, ToInstall, ToRemove, ToDescribe, ToList, ToRaise, ToAnswer, ToTell}
+use Rattle.fc_core.specs.declared.stage.TurnStage.TheVariants as turns
 use Rattle.fc_core.specs.Fits.{FitsStage}
 use Rattle.fc_core.specs.History.{AtShard, AsksTurn, Signals, Ticks, Calm, Seen, around, at_shard, calls_by, calls_named, due_in, is_due_at, is_place_of, job, late_in, scene, slot_at, stage, turn_at, watch}
 use Rattle.fc_core.specs.Receiving.{AskWithin, JobWithin, RequestWithin}
@@ -40,10 +41,11 @@ use Rattle.fc_core.proofs.Watches.{after_append}
 
 -- ---- the calls of an event of a job
 
--- none, those of a commit that has nothing to write, or that of a turn that is given up
+-- none, those of a commit that has nothing to write, of the taking of a turn, or that of a turn that is given up
 pub data CallsBy (e : Event) (at : Stage) (cs : List ObserverCall) : Type 0 where
   NoCall : (is : cs ≡ []) → CallsBy e at cs
   OfCommit : (k now n moment : ℕ) (t : Ticket) (event : e ≡ Commit k now) (stands : at ≡ ToCommit n t) (is : cs ≡ observe_calls moment t) → CallsBy e at cs
+  OfTaking : (turn : Turn) (moment : ℕ) (present : Option Present) (w : ObserverList) (is : cs ≡ turn_calls turn moment present w) → CallsBy e at cs
   OfGiveUp : (turn : Turn) (moment : ℕ) (is : cs ≡ GiveUpTurn turn moment ∷ []) → CallsBy e at cs
 
 abbrev at : Job → Slot → Around → Stage → Scene
@@ -73,6 +75,7 @@ row_calls (Remove k) job slot ws other = NoCall refl
 row_calls (Receipt k) job slot ws ToDescribe = NoCall refl
 row_calls (Receipt k) job slot ws other = NoCall refl
 row_calls (Take k memory) job slot ws (ToTake n) = NoCall refl
+row_calls (Take k memory) job slot ws (ToTell turn turns.ToTake) = OfTaking turn ws.moment slot.present ws.watch refl
 row_calls (Take k memory) job slot ws other = NoCall refl
 row_calls (Commit k now) job slot ws (ToCommit n t) = committed_calls k now n t ws (outcome t slot)
 row_calls (Commit k now) job slot ws other = NoCall refl
@@ -126,11 +129,17 @@ observed_within true c moment t w = (w, tt)
 observed_within false true moment t w = (tt, tt)
 observed_within false false moment t w = tt
 
+miss_within : (out : Bool) (turn : Turn) (present : Option Present) (moment : ℕ) → Each CallWithin (miss_calls out turn present ++ Advance moment ∷ [])
+miss_within true turn None moment = (tt, (tt, tt))
+miss_within true turn (Some p) moment = (tt, tt)
+miss_within false turn present moment = (tt, tt)
+
 row_within : (e : Event) (job : Job) (slot : Slot) (s : Stage) (cs : List ObserverCall) → FitsStage job slot s → AskWithin job.ask → CallsBy e s cs → Each CallWithin cs
 row_within e job slot s cs f w (NoCall is) = subst (Each CallWithin) (sym is) tt
 row_within e job slot s cs f w (OfCommit k now n moment t event stands is) =
     let fits : FitsStage job slot (ToCommit n t) = subst (FitsStage job slot) stands f in
     subst (Each CallWithin) (sym is) (observed_within (is_registration t) (is_cancellation t) moment t (subst RequestWithin (sym fits.1.request) (request_within job.ask w)))
+row_within e job slot s cs f w (OfTaking turn moment present t is) = subst (Each CallWithin) (sym is) (miss_within (is_out_at turn moment t) turn present moment)
 row_within e job slot s cs f w (OfGiveUp turn moment is) = subst (Each CallWithin) (sym is) (tt, tt)
 
 one_within : (b : Bool) (c : ObserverCall) → CallWithin c → Each CallWithin (if b then c ∷ [] else [])

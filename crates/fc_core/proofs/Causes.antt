@@ -16,6 +16,7 @@ use Rattle.fc_core.specs.declared.event.Event.{Event}
 use Rattle.fc_core.specs.declared.event.Event.TheVariants.{Peek, Take, Commit, Install, Remove, Receipt, Raise, Answer, GiveUp}
 use Rattle.fc_core.specs.declared.stage.Stage.{Stage}
 use Rattle.fc_core.specs.declared.stage.Stage.TheVariants.{ToMatch, ToTake, ToCommit, ToInstall, ToRemove, ToDescribe, ToList, ToRaise, ToAnswer, ToTell}
+use Rattle.fc_core.specs.declared.stage.TurnStage.TheVariants as turns
 use Rattle.fc_core.specs.History.{around, Entry, History, Begins, Then, Seen, seen, and_then, job, scene, slot_at, stage}
 use Rattle.fc_core.specs.Laws.{slot_of}
 use Rattle.fc_core.specs.SlotLaws.{AllOfImages, ChangesBy, IsInstall, IsOfImage, IsRemoving, IsWriting, Clears, Installs, Nothing, Writes}
@@ -62,6 +63,7 @@ row_makes (Peek k n) job slot ws (ToList seen) = None_made refl
 row_makes (Remove k) job slot ws ToRemove = clear_makes k job slot (nat_lt slot.serial last_serial) slot.present refl refl
 row_makes (Receipt k) job slot ws ToDescribe = None_made refl
 row_makes (Take k memory) job slot ws (ToTake n) = None_made refl
+row_makes (Take k memory) job slot ws (ToTell turn turns.ToTake) = None_made refl
 row_makes (Commit k now) job slot ws (ToCommit n t) = committed_makes k now n t job slot ws (outcome t slot)
 row_makes (Install k memory) job slot ws ToInstall = verified_makes k memory job slot ws
 row_makes (Raise k) job slot ws (ToRaise word content) = None_made refl

@@ -16,6 +16,7 @@ use Rattle.fc_core.specs.declared.event.Event.{Event}
 use Rattle.fc_core.specs.declared.event.Event.TheVariants.{Peek, Take, Commit, Install, Remove, Receipt, Raise, Answer, Lose, GiveUp}
 use Rattle.fc_core.specs.declared.stage.Stage.{Stage}
 use Rattle.fc_core.specs.declared.stage.Stage.TheVariants.{ToMatch, ToTake, ToCommit, ToInstall, ToRemove, ToDescribe, ToList, ToRaise, ToAnswer, Gone, ToTell}
+use Rattle.fc_core.specs.declared.stage.TurnStage.TheVariants as turns
 use Rattle.arrayvec.specs.ArrayVec.{ArrayVec}
 use Rattle.fc_core.specs.Contents.{Content, Listed, Unavailable}
 use Rattle.fc_core.specs.Heads.{is_match, word_at}
@@ -23,6 +24,7 @@ use Rattle.fc_core.specs.History.{around, Entry, History, Then, Seen, seen, and_
 use Rattle.fc_core.specs.Laws.{HasCome, changes_by, is_named, is_job, is_stray, is_stray_at, needs_word, own_of_named, slot_of, stage_named}
 use Rattle.fc_core.specs.SlotLaws.{IsToRaise}
 use Rattle.fc_core.specs.Stages.{Around, Scene, at_peek, committed, first_by, image_of, installed, made, matched_by, names, peeked_next, peeked_own, removed, row, took, verified}
+use Rattle.fc_core.proofs.Telling.{after_turn}
 use Rattle.fc_core.proofs.Along.{IsTold, along, gone_before}
 use Rattle.fc_core.proofs.Others.{named_stage, own_slot}
 use Rattle.fc_core.proofs.Strays.{strays_stay}
@@ -106,6 +108,7 @@ row_raises (Peek j n) k job slot ws s named e = peek_makes n (at job slot ws s) 
 row_raises (Remove j) k job slot ws ToRemove named e = clear_raises (nat_lt slot.serial last_serial) slot.serial slot.present
 row_raises (Receipt j) k job slot ws ToDescribe named e = refl
 row_raises (Take j memory) k job slot ws (ToTake n) named e = taking_raises memory job slot n slot.present
+row_raises (Take j memory) k job slot ws (ToTell turn turns.ToTake) named e = after_turn (λ st. 0 ≡ raises st) (λ turn needs. refl) refl memory turn (at job slot ws (ToTell turn turns.ToTake))
 row_raises (Commit j now) k job slot ws (ToCommit n t) named e = committed_raises n t now ws (outcome t slot)
 row_raises (Install j memory) k job slot ws ToInstall named e = verified_raises memory (at job slot ws ToInstall)
 row_raises (Raise j) k job slot ws (ToRaise word content) named e = refl
@@ -161,6 +164,7 @@ row_changes (Peek k i) job slot ws (ToList seen) n f = first_change (row (Peek k
 row_changes (Remove k) job slot ws ToRemove n f = first_change (row (Remove k) (at job slot ws ToRemove)).stage n (length (row (Remove k) (at job slot ws ToRemove)).changes) f (row_raises (Remove k) k job slot ws ToRemove refl refl)
 row_changes (Receipt k) job slot ws ToDescribe n f = omega (arith, f)
 row_changes (Take k memory) job slot ws (ToTake c) n f = first_change (row (Take k memory) (at job slot ws (ToTake c))).stage n 0 f (row_raises (Take k memory) k job slot ws (ToTake c) refl refl)
+row_changes (Take k memory) job slot ws (ToTell turn turns.ToTake) n f = after_turn (λ st. FitsChanges (n + 0) st) (λ turn needs. omega (arith, f)) (omega (arith, f)) memory turn (at job slot ws (ToTell turn turns.ToTake))
 row_changes (Commit k now) job slot ws (ToCommit c t) n f = first_change (row (Commit k now) (at job slot ws (ToCommit c t))).stage n (length (row (Commit k now) (at job slot ws (ToCommit c t))).changes) f (row_raises (Commit k now) k job slot ws (ToCommit c t) refl refl)
 row_changes (Install k memory) job slot ws ToInstall n f = first_change (row (Install k memory) (at job slot ws ToInstall)).stage n (length (row (Install k memory) (at job slot ws ToInstall)).changes) f (row_raises (Install k memory) k job slot ws ToInstall refl refl)
 row_changes (Raise k) job slot ws (ToRaise word content) n f = omega (arith, f)

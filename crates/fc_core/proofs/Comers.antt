@@ -5,11 +5,12 @@ use Rattle.std.specs.Cmp.Lexicographic.{pointwise}
 use Rattle.std.proofs.lemmas.Bool.{cases_Bool, eqb-true}
 use Rattle.coap_msg.specs.declared.types.Endpoint.{Endpoint}
 use Rattle.coap_msg.specs.Endpoints.{same_endpoint}
-use Rattle.fc_observe.specs.Calls.{ObserverCall, NextDue, Tick as TickObservers, after_calls, is_registration_of}
+use Rattle.fc_observe.specs.Calls.{Advance, ObserverCall, NextDue, Tick as TickObservers, after_calls, is_registration_of}
 use Rattle.fc_observe.specs.Laws.{RegistersNone}
 use Rattle.fc_observe.proofs.Hearing.{stays_gone}
-use Rattle.fc_registry.specs.Calls.{is_cancellation, observe_calls, observe_calls_by, is_registration}
-use Rattle.fc_registry.specs.Slots.{Ticket}
+use Rattle.fc_observe.specs.declared.entry.Turn.{Turn}
+use Rattle.fc_registry.specs.Calls.{is_cancellation, observe_calls, observe_calls_by, is_registration, is_out_at, miss_calls}
+use Rattle.fc_registry.specs.Slots.{Present, Ticket}
 use Rattle.fc_registry.specs.Watches.{signal_call}
 use Rattle.fc_core.specs.declared.event.Event.{Event}
 use Rattle.fc_core.specs.declared.event.Event.TheVariants.{Commit, Signal, ShardTick, Due}
@@ -17,7 +18,7 @@ use Rattle.fc_core.specs.History.{Entry, History, Then, Seen, seen, and_then, ar
 use Rattle.fc_core.specs.Laws.{later, slot_of}
 use Rattle.fc_core.specs.ObserveLaws.{NoneRegisters, Registers, is_held}
 use Rattle.fc_core.specs.Stages.{names, row}
-use Rattle.fc_core.proofs.Calling.{CallsBy, NoCall, OfCommit, OfGiveUp, row_calls}
+use Rattle.fc_core.proofs.Calling.{CallsBy, NoCall, OfCommit, OfGiveUp, OfTaking, row_calls}
 use Rattle.fc_core.proofs.Observing.{asked}
 use Rattle.fc_core.proofs.Watches.{after_append}
 
@@ -30,6 +31,11 @@ signal_registers false from to id token = refl
 none_if : (b : Bool) (c : ObserverCall) (to : Endpoint) (token : List ℕ) → is_registration_of to token c ≡ false → RegistersNone to token (if b then c ∷ [] else [])
 none_if true c to token is = (is, tt)
 none_if false c to token is = tt
+
+miss_registers : (out : Bool) (turn : Turn) (present : Option Present) (moment : ℕ) (to : Endpoint) (token : List ℕ) → RegistersNone to token (miss_calls out turn present ++ Advance moment ∷ [])
+miss_registers true turn None moment to token = (refl, (refl, tt))
+miss_registers true turn (Some p) moment to token = (refl, tt)
+miss_registers false turn present moment to token = (refl, tt)
 
 none_in : (e : Event) (s : Seen) (n : ℕ) (to : Endpoint) (token : List ℕ) → RegistersNone to token (calls_in e s n)
 none_in (Due shard now) s n to token =
@@ -61,6 +67,7 @@ module _ (r : Entry) (s : Seen) (n : ℕ) (to : Endpoint) (token : List ℕ) whe
   -- the calls of the event that names this job
   by_row : (k : ℕ) (cs : List ObserverCall) → names r.event ≡ Some k → slot_of s k ≡ n → CallsBy r.event (stage s k) cs → RegistersNone to token cs ⊎ Registers r s n to token
   by_row k cs named slot (NoCall is) = inl (subst (RegistersNone to token) (sym is) tt)
+  by_row k cs named slot (OfTaking turn moment present t is) = inl (subst (RegistersNone to token) (sym is) (miss_registers (is_out_at turn moment t) turn present moment to token))
   by_row k cs named slot (OfGiveUp turn moment is) = inl (subst (RegistersNone to token) (sym is) (refl, tt))
   by_row k cs named slot (OfCommit j now count moment t event stands is) =
       let same : k ≡ j = cc (sym named ∙ ap names event) in

@@ -15,12 +15,14 @@ use Rattle.fc_core.specs.declared.event.Event.{Event}
 use Rattle.fc_core.specs.declared.event.Event.TheVariants.{Peek, Take, Commit, Install, Remove, Receipt, Raise, Answer, Lose, GiveUp}
 use Rattle.fc_core.specs.declared.stage.Stage.{Stage}
 use Rattle.fc_core.specs.declared.stage.Stage.TheVariants.{ToMatch, ToTake, ToCommit, ToInstall, ToRemove, ToDescribe, ToList, ToRaise, ToAnswer, ToTell}
+use Rattle.fc_core.specs.declared.stage.TurnStage.TheVariants as turns
 use Rattle.fc_core.specs.declared.stage.Task.{Task}
 use Rattle.fc_core.specs.Contents.{Deleted, Listed, Unavailable}
 use Rattle.fc_core.specs.Heads.{is_match, word_at}
 use Rattle.fc_core.specs.History.{around, Entry, History, Then, Seen, seen, and_then, job, slot_at, stage, task_at}
 use Rattle.fc_core.specs.Laws.{HasCome, answer_at, slot_of}
 use Rattle.fc_core.specs.Stages.{Around, Scene, committed, image_of, installed, made, matched_by, names, peeked_next, peeked_own, removed, row, told, took, verified}
+use Rattle.fc_core.proofs.Telling.{after_turn}
 use Rattle.fc_core.proofs.Published.{own_after}
 use Rattle.fc_core.proofs.Steps.{Becomes, Moves, Stays, Comes, becomes}
 
@@ -86,6 +88,7 @@ next_empties slot false word seen e = absurd (cc e)
 
 row_empties : (e : Event) (job : Job) (slot : Slot) (ws : Around) (s : Stage) → answer_at (row e (at job slot ws s)).stage ≡ Some Deleted → (answer_at s ≡ Some Deleted) ⊎ ((after_changes slot (row e (at job slot ws s)).changes).present ≡ None)
 row_empties (Take k memory) job slot ws (ToTake n) e = inr (took_empties slot memory job slot.serial n slot.present e)
+row_empties (Take k memory) job slot ws (ToTell turn turns.ToTake) e = absurd (after_turn (λ st. answer_at st ≡ Some Deleted → ⊥) (λ turn needs e. cc e) (λ e. cc e) memory turn (at job slot ws (ToTell turn turns.ToTake)) e)
 row_empties (Commit k now) job slot ws (ToCommit n t) e = inr (committed_empties (after_changes slot (committed (outcome t slot) n t now ws).changes) n t now ws (outcome t slot) e)
 row_empties (Install k memory) job slot ws ToInstall e = inr (verified_empties (after_changes slot (verified memory (at job slot ws ToInstall)).changes) memory (at job slot ws ToInstall) e)
 row_empties (Remove k) job slot ws ToRemove e = inr (clear_empties slot (nat_lt slot.serial last_serial) slot.present refl e)

@@ -10,10 +10,12 @@ use Rattle.fc_core.specs.declared.event.Event.{Event}
 use Rattle.fc_core.specs.declared.event.Event.TheVariants.{Peek, Take, Commit, Install, Remove, Receipt, Raise, Answer, Lose, GiveUp}
 use Rattle.fc_core.specs.declared.stage.Stage.{Stage}
 use Rattle.fc_core.specs.declared.stage.Stage.TheVariants.{ToMatch, ToTake, ToCommit, ToInstall, ToRemove, ToDescribe, ToList, ToRaise, ToAnswer, Gone, ToTell}
+use Rattle.fc_core.specs.declared.stage.TurnStage.TheVariants as turns
 use Rattle.fc_core.specs.Contents.{Content, Unavailable}
 use Rattle.fc_core.specs.History.{around, Entry, History, Then, Seen, seen, and_then, did, job, slot_at, stage, task_at}
 use Rattle.fc_core.specs.Laws.{HasCome, Taking, answers_of, gives, is_answered, is_named, later, slot_of, takings_of}
 use Rattle.fc_core.specs.Stages.{Around, Scene, first_by, row, took}
+use Rattle.fc_core.proofs.Telling.{after_turn}
 use Rattle.fc_core.proofs.Along.{IsTold, along}
 use Rattle.fc_core.proofs.Others.{is_here, kept_by, kept_later, named_stage, still_here}
 use Rattle.fc_core.proofs.Steps.{becomes, gone_stays}
@@ -47,6 +49,7 @@ never_yet other n is = is
 
 row_answers : (e : Event) (job : Job) (slot : Slot) (ws : Around) (s : Stage) (n : ℕ) → FitsAnswers n s → FitsAnswers (if is_answered e s then n + 1 else n) (row e (at job slot ws s)).stage
 row_answers (Take k memory) job slot ws (ToTake count) n f = never_yet (row (Take k memory) (at job slot ws (ToTake count))).stage n f
+row_answers (Take k memory) job slot ws (ToTell turn turns.ToTake) n f = after_turn (λ st. FitsAnswers n st) (λ turn needs. f) (omega (arith, f)) memory turn (at job slot ws (ToTell turn turns.ToTake))
 row_answers (Commit k now) job slot ws (ToCommit count t) n f = never_yet (row (Commit k now) (at job slot ws (ToCommit count t))).stage n f
 row_answers (Install k memory) job slot ws ToInstall n f = never_yet (row (Install k memory) (at job slot ws ToInstall)).stage n f
 row_answers (Raise k) job slot ws (ToRaise word content) n f = f
@@ -141,6 +144,7 @@ IsSettled other = ⊥
 
 row_settled : (e : Event) (job : Job) (slot : Slot) (ws : Around) (s : Stage) → IsSettled s → IsSettled (row e (at job slot ws s)).stage
 row_settled (Take k memory) job slot ws (ToTake count) f = absurd f
+row_settled (Take k memory) job slot ws (ToTell turn turns.ToTake) f = absurd f
 row_settled (Commit k now) job slot ws (ToCommit count t) f = absurd f
 row_settled (Install k memory) job slot ws ToInstall f = absurd f
 row_settled (Raise k) job slot ws (ToRaise word content) f = tt

@@ -11,6 +11,7 @@ use Rattle.fc_help.specs.Region.{FitsRegion}
 use Rattle.fc_kinds.specs.Meaning.{Program, IsInput, input_with}
 use Rattle.fc_verify.specs.Accepted.{Judgement, Accepts, Breaks, Untypable}
 use Rattle.fc_verify.specs.Judged.{judged}
+use Rattle.fc_observe.specs.declared.entry.Turn.{Turn}
 use Rattle.fc_registry.specs.declared.job.Ask.{Ask}
 use Rattle.fc_registry.specs.declared.job.Ask.TheVariants.{Run, Install as Installs, Remove as Removes, Describe, Discover}
 use Rattle.fc_registry.specs.declared.job.Job.{Job}
@@ -20,18 +21,20 @@ use Rattle.fc_registry.specs.Slots.{Slot, Present, Ticket, last_serial}
 use Rattle.fc_registry.specs.Changes.{Change, Installed, Committed, Removed, changed, after_changes, with_vars}
 use Rattle.fc_registry.specs.Record.{IsChain, IsLink, code_class}
 use Rattle.fc_registry.specs.declared.receipt.Receipt.{Receipt as Facts}
-use Rattle.fc_registry.specs.Calls.{HasGiven, clear_by, commit_of, input_of, is_post, meaning_at, outcome, outcome_by, put_by, receipt_at, receipt_of, request_of, taking, wants}
+use Rattle.fc_registry.specs.Calls.{HasGiven, clear_by, commit_of, input_of, is_post, meaning_at, outcome, outcome_by, put_by, receipt_at, receipt_of, request_of, taking, wants, is_out_at, turn_taking}
 use Rattle.fc_core.specs.declared.event.Event.{Event}
 use Rattle.fc_core.specs.declared.event.Event.TheVariants.{Peek, Take, Commit as Commits, Install, Remove, Receipt, Raise, Answer, Lose, GiveUp}
 use Rattle.fc_core.specs.declared.stage.Stage.{Stage}
 use Rattle.fc_core.specs.declared.stage.Stage.TheVariants.{ToMatch, ToTake, ToCommit, ToInstall, ToRemove, ToDescribe, ToList, ToRaise, ToAnswer, Gone, ToTell}
+use Rattle.fc_core.specs.declared.stage.TurnStage.{TurnStage}
+use Rattle.fc_core.specs.declared.stage.TurnStage.TheVariants as turns
 use Rattle.arrayvec.specs.ArrayVec.{ArrayVec}
 use Rattle.fc_core.specs.Contents.{Listed, Unavailable}
 use Rattle.fc_core.specs.Heads.{is_match, word_at}
-use Rattle.fc_core.specs.Fits.{FitsPresent, FitsSlot, FitsStage, HasNext, IsTicketOf}
+use Rattle.fc_core.specs.Fits.{FitsPresent, FitsSlot, FitsStage, FitsTurn, HasNext, IsTicketOf}
 use Rattle.fc_core.specs.Receiving.{AskWithin}
 use Rattle.fc_core.specs.Sound.{AllSafe}
-use Rattle.fc_core.specs.Stages.{Around, Scene, committed, first_by, first_or_turn, first_stage, image_of, installed, made, matched_by, peeked_next, peeked_own, removed, row, told, took, verified}
+use Rattle.fc_core.specs.Stages.{Around, Scene, committed, first_by, first_or_turn, first_stage, image_of, installed, made, matched_by, peeked_next, peeked_own, removed, row, told, took, verified, turn_took}
 
 -- ---- slots
 
@@ -57,10 +60,18 @@ given_changed slot t (c ∷ cs) g =
     let lt = changed_rises (after_changes slot cs) c in
     record { serial = omega (arith, g.serial); present = λ e. absurd (omega (arith, g.serial, e)) }
 
+ticket_changed : (job : Job) (slot : Slot) (t : Ticket) (cs : List Change) → IsTicketOf job slot t → IsTicketOf job (after_changes slot cs) t
+ticket_changed job slot t cs own = record { origin = own.origin; turn = own.turn; request = own.request; given = given_changed slot t cs own.given }
+
+turn_changed : (job : Job) (slot : Slot) (needs : TurnStage) (cs : List Change) → FitsTurn job slot needs → FitsTurn job (after_changes slot cs) needs
+turn_changed job slot (turns.ToDraw (Some t)) cs own = ticket_changed job slot t cs own
+turn_changed job slot (turns.ToDraw None) cs own = tt
+turn_changed job slot turns.ToTake cs own = tt
+
 -- a job fits its slot after changes
 pub fits_changed : (job : Job) (slot : Slot) (s : Stage) (cs : List Change) → FitsStage job slot s → FitsStage job (after_changes slot cs) s
 fits_changed job slot (ToTake n) cs f = f
-fits_changed job slot (ToCommit n t) cs f = (f.0, record { origin = f.1.origin; turn = f.1.turn; request = f.1.request; given = given_changed slot t cs f.1.given }, f.2)
+fits_changed job slot (ToCommit n t) cs f = (f.0, ticket_changed job slot t cs f.1, f.2)
 fits_changed job slot ToInstall cs f = tt
 fits_changed job slot ToMatch cs f = f
 fits_changed job slot ToRemove cs f = tt
@@ -68,7 +79,7 @@ fits_changed job slot ToDescribe cs f = tt
 fits_changed job slot (ToList seen) cs f = f
 fits_changed job slot (ToRaise word content) cs f = f
 fits_changed job slot (ToAnswer content) cs f = f
-fits_changed job slot (ToTell turn needs) cs f = f
+fits_changed job slot (ToTell turn needs) cs f = (f.0, f.1, turn_changed job slot needs cs f.2)
 fits_changed job slot Gone cs f = tt
 
 -- a job that lists head words has yet one to read
@@ -86,7 +97,7 @@ first_ask_fits job slot none Discover serials = omega arith
 
 first_turn_fits : (job : Job) (slot : Slot) (turn : Option ℕ) → job.turn ≡ turn → FitsStage job slot (first_or_turn turn job)
 first_turn_fits job slot None none = first_ask_fits job slot none job.ask job.etags.items
-first_turn_fits job slot (Some number) is = refl
+first_turn_fits job slot (Some number) is = (refl, is, tt)
 
 pub first_fits : (job : Job) (slot : Slot) → FitsStage job slot (first_stage job)
 first_fits job slot = first_turn_fits job slot job.turn refl
@@ -95,6 +106,12 @@ took_fits : (memory : Bool) (job : Job) (slot : Slot) (n : ℕ) (p : Option Pres
 took_fits memory job slot n None e lt none = tt
 took_fits true job slot n (Some p) e lt none = (omega arith, record { origin = refl; turn = refl; request = refl; given = record { serial = omega arith; present = λ _. e } }, none)
 took_fits false job slot n (Some p) e lt none = tt
+
+turn_fits : (memory : Bool) (job : Job) (slot : Slot) (turn : Turn) (out : Bool) (p : Option Present) → slot.present ≡ p → turn.slot ≡ job.origin.slot → job.turn ≡ Some turn.number → FitsStage job slot (turn_took turn (turn_taking out memory job slot.serial p))
+turn_fits memory job slot turn false p e own number = tt
+turn_fits memory job slot turn true None e own number = (own, number, tt)
+turn_fits true job slot turn true (Some p) e own number = (own, number, record { origin = refl; turn = refl; request = refl; given = record { serial = omega arith; present = λ _. e } })
+turn_fits false job slot turn true (Some p) e own number = (own, number, tt)
 
 retaken_fits : (job : Job) (slot : Slot) (n : ℕ) (b : Bool) → job.turn ≡ None → nat_lt n 8 ≡ b → FitsStage job slot (if b then ToTake n else ToAnswer Unavailable)
 retaken_fits job slot n true none e = (ltb-true n 8 e, none)
@@ -155,6 +172,7 @@ row_fits (Remove k) job slot ws ToRemove f = clear_fits job slot (nat_lt slot.se
 row_fits (Receipt k) job slot ws ToDescribe f = told_fits job slot (receipt_at slot.present)
 row_fits (Lose k) job slot ws s f = tt
 row_fits (Take k memory) job slot ws (ToTake n) f = took_fits memory job slot n slot.present refl f.0 f.1
+row_fits (Take k memory) job slot ws (ToTell turn turns.ToTake) f = turn_fits memory job slot turn (is_out_at turn ws.moment ws.watch) slot.present refl f.0 f.1
 row_fits (Commits k now) job slot ws (ToCommit n t) f = committed_fits job slot n t (outcome t slot) now ws f.1.origin f.2
 row_fits (Install k memory) job slot ws ToInstall f = verified_fits memory (at job slot ws ToInstall)
 row_fits (Raise k) job slot ws (ToRaise word content) f = f
@@ -227,6 +245,7 @@ row_chain (Receipt k) job first cs ws ToDescribe f chain = chain
 row_chain (Commits k now) job first cs ws (ToCommit n t) f chain = commit_chain first cs n t now ws (outcome t (after_changes first cs)) refl f.1.given chain
 row_chain (Install k memory) job first cs ws ToInstall f chain = verified_chain memory first cs (at job (after_changes first cs) ws ToInstall) chain
 row_chain (Take k memory) job first cs ws (ToTake n) f chain = chain
+row_chain (Take k memory) job first cs ws (ToTell turn turns.ToTake) f chain = chain
 row_chain (Raise k) job first cs ws (ToRaise word content) f chain = chain
 row_chain (Answer k now) job first cs ws (ToAnswer content) f chain = chain
 row_chain (GiveUp k now) job first cs ws (ToTell turn needs) f chain = chain
@@ -281,6 +300,7 @@ row_safe (Receipt k) job slot ws ToDescribe within f safe fits = fits
 row_safe (Commits k now) job slot ws (ToCommit n t) within f safe fits = commit_safe job slot n t now ws (outcome t slot) refl within f.1 fits
 row_safe (Install k memory) job slot ws ToInstall within f safe fits = verified_safe memory (at job slot ws ToInstall) safe fits
 row_safe (Take k memory) job slot ws (ToTake n) within f safe fits = fits
+row_safe (Take k memory) job slot ws (ToTell turn turns.ToTake) within f safe fits = fits
 row_safe (Raise k) job slot ws (ToRaise word content) within f safe fits = fits
 row_safe (Answer k now) job slot ws (ToAnswer content) within f safe fits = fits
 row_safe (GiveUp k now) job slot ws (ToTell turn needs) within f safe fits = fits

@@ -5,6 +5,8 @@ pub mod Commits
 pub mod Lists
 pub mod Fitting
 pub mod Places
+pub mod Telling
+pub mod TurnTakings
 pub mod Calling
 pub mod Keeping
 pub mod Strays

@@ -12,6 +12,7 @@ use Rattle.fc_core.specs.declared.event.Event.{Event}
 use Rattle.fc_core.specs.declared.event.Event.TheVariants.{Deliver, Peek, Take, Commit, Install, Remove, Receipt, Raise, Answer, Tick, GiveUp, Due, ShardTick}
 use Rattle.fc_core.specs.declared.stage.Stage.{Stage}
 use Rattle.fc_core.specs.declared.stage.Stage.TheVariants.{ToMatch, ToTake, ToCommit, ToInstall, ToRemove, ToDescribe, ToList, ToRaise, ToAnswer, ToTell}
+use Rattle.fc_core.specs.declared.stage.TurnStage.TheVariants as turns
 use Rattle.fc_core.specs.AnswerLaws.{answer_moment, row_moment, greatest, is_of_shard, own_moment, moments_in, moments_of, shard_moments_of}
 use Rattle.fc_core.specs.History.{around, History, Begins, Then, Seen, seen, job, moment_after, scene, shard_hands, shard_moment_after, slot_at, stage}
 use Rattle.fc_core.specs.Laws.{slot_of, stage_named}
@@ -54,6 +55,7 @@ row_handed : (e : Event) (job : Job) (slot : Slot) (ws : Around) (st : Stage) (m
 row_handed (Commit k now) job slot ws (ToCommit n t) m ms is = ap (λ (o : Option ℕ). handed o m) (committed_hands n t now ws (outcome t slot)) ∙ ap (λ (x : ℕ). max x now) is
 row_handed (Install k memory) job slot ws ToInstall m ms is = ap (λ (o : Option ℕ). handed o m) (verified_hands memory (at job slot ws ToInstall)) ∙ is
 row_handed (Take k memory) job slot ws (ToTake n) m ms is = is
+row_handed (Take k memory) job slot ws (ToTell turn turns.ToTake) m ms is = is
 row_handed (Raise k) job slot ws (ToRaise word content) m ms is = is
 row_handed (Answer k now) job slot ws (ToAnswer content) m ms is = is
 row_handed (GiveUp k now) job slot ws (ToTell turn needs) m ms is = ap (λ (x : ℕ). max x now) is

@@ -14,6 +14,7 @@ use Rattle.fc_core.specs.declared.event.Event.{Event}
 use Rattle.fc_core.specs.declared.event.Event.TheVariants.{Peek, Take, Commit as Commits, Install, Remove, Receipt, Raise, Answer, Lose, GiveUp}
 use Rattle.fc_core.specs.declared.stage.Stage.{Stage}
 use Rattle.fc_core.specs.declared.stage.Stage.TheVariants.{ToMatch, ToTake, ToCommit, ToInstall, ToRemove, ToDescribe, ToList, ToRaise, ToAnswer, ToTell}
+use Rattle.fc_core.specs.declared.stage.TurnStage.TheVariants as turns
 use Rattle.fc_core.specs.declared.stage.Task.{Task}
 use Rattle.arrayvec.specs.ArrayVec.{ArrayVec}
 use Rattle.fc_core.specs.Contents.{Listed, Unavailable}
@@ -24,6 +25,7 @@ use Rattle.fc_core.specs.HeadLaws.{PublishesAt}
 use Rattle.fc_core.specs.Laws.{HasCome, slot_of}
 use Rattle.fc_core.specs.Sound.{IsSound}
 use Rattle.fc_core.specs.Stages.{Around, Scene, committed, image_of, installed, made, matched_by, names, peeked_next, peeked_own, removed, row, took, verified}
+use Rattle.fc_core.proofs.Telling.{after_turn}
 use Rattle.fc_core.proofs.Commits.{writes_at}
 use Rattle.fc_core.proofs.Fitting.{after_changes-append, writes_found}
 use Rattle.fc_core.proofs.Others.{own_slot}
@@ -97,6 +99,7 @@ row_publishes (Commits k now) job slot ws (ToCommit n t) f = committed_publishes
 row_publishes (Install k memory) job slot ws ToInstall f = verified_publishes memory (at job slot ws ToInstall)
 row_publishes (Remove k) job slot ws ToRemove f = clear_publishes slot (nat_lt slot.serial last_serial) slot.present
 row_publishes (Take k memory) job slot ws (ToTake n) f = took_publishes slot (ToTake n) memory job slot.serial n slot.present
+row_publishes (Take k memory) job slot ws (ToTell turn turns.ToTake) f = after_turn (PublishesAt slot (ToTell turn turns.ToTake)) (λ turn needs. tt) tt memory turn (at job slot ws (ToTell turn turns.ToTake))
 row_publishes (Receipt k) job slot ws ToDescribe f = tt
 row_publishes (Peek k n) job slot ws ToMatch f = own_publishes slot ToMatch (n == job.origin.slot) (word_at ws.words n) job.etags.items
 row_publishes (Peek k n) job slot ws (ToList seen) f = next_publishes slot (ToList seen) (n == length seen.items) (word_at ws.words n) seen

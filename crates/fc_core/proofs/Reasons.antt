@@ -19,6 +19,7 @@ use Rattle.fc_core.specs.declared.event.Event.{Event}
 use Rattle.fc_core.specs.declared.event.Event.TheVariants.{Peek, Take, Commit, Install, Remove, Receipt, Raise, Answer, Lose, GiveUp}
 use Rattle.fc_core.specs.declared.stage.Stage.{Stage}
 use Rattle.fc_core.specs.declared.stage.Stage.TheVariants.{ToMatch, ToTake, ToCommit, ToInstall, ToRemove, ToDescribe, ToList, ToRaise, ToAnswer, ToTell}
+use Rattle.fc_core.specs.declared.stage.TurnStage.TheVariants as turns
 use Rattle.fc_core.specs.declared.stage.Task.{Task}
 use Rattle.arrayvec.specs.ArrayVec.{ArrayVec}
 use Rattle.fc_core.specs.Contents.{Content, Missing, Unavailable, Made, Rejected, Untyped, Valid, Deleted, Described, Listed}
@@ -28,6 +29,7 @@ use Rattle.fc_core.specs.AnswerLaws.{HasSerial, IsCause, NoTicket, NoMemory, Not
 use Rattle.fc_core.specs.History.{around, Entry, History, Then, Seen, seen, and_then, did, job, slot_at, stage, task_at}
 use Rattle.fc_core.specs.Laws.{answer_at, slot_of, takings_of}
 use Rattle.fc_core.specs.Stages.{Around, Scene, committed, first_by, first_or_turn, image_of, installed, made, matched_by, names, peeked_next, peeked_own, removed, run_content, row, told, took, verified}
+use Rattle.fc_core.proofs.Telling.{after_turn}
 use Rattle.fc_core.proofs.Others.{is_here, named_stage}
 use Rattle.fc_core.proofs.Steps.{Becomes, Moves, Stays, Comes, becomes}
 use Rattle.fc_core.proofs.Fitting.{fits_next}
@@ -179,6 +181,7 @@ row_why (Remove j) k job slot ws other taken c named f e = inl e
 row_why (Receipt j) k job slot ws ToDescribe taken c named f e = let same : j ≡ k = cc named in inr (subst (λ (i : ℕ). IsCause (Receipt i) k job slot ws.words ToDescribe taken c) (sym same) (told_why k job slot ws taken slot.present c refl e))
 row_why (Receipt j) k job slot ws other taken c named f e = inl e
 row_why (Take j memory) k job slot ws (ToTake n) taken c named f e = let same : j ≡ k = cc named in inr (subst (λ (i : ℕ). IsCause (Take i memory) k job slot ws.words (ToTake n) taken c) (sym same) (taking_why k job slot ws taken memory n slot.present c refl e))
+row_why (Take j memory) k job slot ws (ToTell turn turns.ToTake) taken c named f e = absurd (after_turn (λ st. answer_at st ≡ Some c → ⊥) (λ turn needs e. cc e) (λ e. cc e) memory turn (at job slot ws (ToTell turn turns.ToTake)) e)
 row_why (Take j memory) k job slot ws other taken c named f e = inl e
 row_why (Commit j now) k job slot ws (ToCommit n t) taken c named f e = let same : j ≡ k = cc named in inr (subst (λ (i : ℕ). IsCause (Commit i now) k job slot ws.words (ToCommit n t) taken c) (sym same) (committed_why k job slot ws taken now n t (outcome t slot) c f.0 f.1 refl e))
 row_why (Commit j now) k job slot ws other taken c named f e = inl e

@@ -9,6 +9,7 @@ use Rattle.fc_core.specs.declared.event.Event.{Event}
 use Rattle.fc_core.specs.declared.event.Event.TheVariants.{Deliver, Peek, Take, Commit, Install, Remove, Receipt, Raise, Answer, Signal, Tick, ShardTick, Lose, GiveUp, Due}
 use Rattle.fc_core.specs.declared.stage.Stage.{Stage}
 use Rattle.fc_core.specs.declared.stage.Stage.TheVariants.{ToMatch, ToTake, ToCommit, ToInstall, ToRemove, ToDescribe, ToList, ToRaise, ToAnswer, Gone, ToTell}
+use Rattle.fc_core.specs.declared.stage.TurnStage.TheVariants as turns
 use Rattle.fc_core.specs.Contents.{Content}
 use Rattle.fc_core.specs.Stages.{Around, Move, Scene, content_at, handed, task_moved, moves, names, peeked_next, peeked_own, row, words_after}
 use Rattle.fc_core.specs.Heads.{word_at}
@@ -37,6 +38,7 @@ row_still (Peek k n) job slot ws (ToList seen) e = next_still n (at job slot ws 
 row_still (Remove k) job slot ws ToRemove e = absurd (cc)
 row_still (Receipt k) job slot ws ToDescribe e = absurd (cc)
 row_still (Take k memory) job slot ws (ToTake n) e = absurd (cc)
+row_still (Take k memory) job slot ws (ToTell turn turns.ToTake) e = absurd (cc)
 row_still (Commit k now) job slot ws (ToCommit n t) e = absurd (cc)
 row_still (Install k memory) job slot ws ToInstall e = absurd (cc)
 row_still (Raise k) job slot ws (ToRaise word content) e = absurd (cc)

@@ -20,6 +20,7 @@ use Rattle.fc_core.specs.declared.event.Event.{Event}
 use Rattle.fc_core.specs.declared.event.Event.TheVariants.{Peek, Take, Commit, Install, Remove, Receipt, Raise, Answer, Lose, GiveUp}
 use Rattle.fc_core.specs.declared.stage.Stage.{Stage}
 use Rattle.fc_core.specs.declared.stage.Stage.TheVariants.{ToMatch, ToTake, ToCommit, ToInstall, ToRemove, ToDescribe, ToList, ToRaise, ToAnswer, Gone, ToTell}
+use Rattle.fc_core.specs.declared.stage.TurnStage.TheVariants as turns
 use Rattle.coap_reply.specs.Blocks.{cut_for}
 use Rattle.arrayvec.specs.ArrayVec.{ArrayVec}
 use Rattle.fc_core.specs.Contents.{Content, Listed, Ran, RunAnswer, run_answer, Unavailable}
@@ -27,6 +28,7 @@ use Rattle.fc_core.specs.Heads.{is_match, word_at}
 use Rattle.fc_core.specs.History.{around, Entry, History, Then, Seen, seen, and_then, did, job, slot_at, stage}
 use Rattle.fc_core.specs.Laws.{IsOfNewest, IsOvertaken, Taking, TakesAgain, answer_at, gives, slot_of, takings_of}
 use Rattle.fc_core.specs.Stages.{Around, Scene, committed, first_by, image_of, installed, made, matched_by, peeked_next, peeked_own, removed, retaken, row, told, took, verified}
+use Rattle.fc_core.proofs.Telling.{after_turn}
 use Rattle.fc_core.proofs.Along.{IsTold, along}
 use Rattle.fc_core.proofs.Others.{is_here, named_stage}
 
@@ -129,6 +131,8 @@ row_took (Peek k n) job slot cs ws (ToList seen) ts f = next_took (n == length s
 row_took (Remove k) job slot cs ws ToRemove ts f = clear_took (nat_lt slot.serial last_serial) slot.serial slot.present ts f
 row_took (Receipt k) job slot cs ws ToDescribe ts f = told_took (receipt_at slot.present) ts f
 row_took (Take k memory) job slot cs ws (ToTake n) ts f = taking_took memory k job slot cs n ts slot.present refl f.0 f.1
+row_took (Take k true) job slot cs ws (ToTell turn turns.ToTake) ts f = after_turn (Took ts) (λ turn needs. f) f true turn (at job slot ws (ToTell turn turns.ToTake))
+row_took (Take k false) job slot cs ws (ToTell turn turns.ToTake) ts f = after_turn (Took ts) (λ turn needs. f) f false turn (at job slot ws (ToTell turn turns.ToTake))
 row_took (Take k true) job slot cs ws other ts f = f
 row_took (Take k false) job slot cs ws other ts f = f
 row_took (Commit k now) job slot cs ws (ToCommit n t) ts f = committed_took n ts t now ws (outcome t slot) f.0 f.1 f.2

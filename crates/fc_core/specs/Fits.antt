@@ -6,6 +6,8 @@ use Rattle.fc_registry.specs.declared.job.Job.{Job}
 use Rattle.fc_registry.specs.Slots.{Slot, Present, Ticket}
 use Rattle.fc_registry.specs.Calls.{HasGiven, request_of}
 use Rattle.fc_core.specs.declared.stage.Stage.{Stage}
+use Rattle.fc_core.specs.declared.stage.TurnStage.{TurnStage}
+use Rattle.fc_core.specs.declared.stage.TurnStage.TheVariants as turns
 use Rattle.fc_core.specs.declared.stage.Stage.TheVariants.{ToMatch, ToTake, ToCommit, ToList, ToRaise, ToAnswer, ToTell}
 use Rattle.fc_core.specs.Contents.{IsOf}
 use Rattle.fc_core.specs.Stages.{takings}
@@ -22,7 +24,13 @@ abbrev pub HasNext : Stage → Type 0
 HasNext (ToList seen) = length seen.items < 64
 HasNext other = Unit {0}
 
--- a request's job that is to take may take once more; a ticket is its job's, and so is an answer; a turn is of its job's slot
+-- a turn's ticket is its job's
+abbrev pub FitsTurn : Job → Slot → TurnStage → Type 0
+FitsTurn job slot (turns.ToDraw (Some t)) = IsTicketOf job slot t
+FitsTurn job slot other = Unit {0}
+
+-- a request's job that is to take may take once more; a ticket is its job's, and so is an answer; a turn is of its job's slot and
+-- number
 abbrev pub FitsStage : Job → Slot → Stage → Type 0
 FitsStage job slot ToMatch = job.turn ≡ None
 FitsStage job slot (ToTake count) = (count < takings) × (job.turn ≡ None)
@@ -30,7 +38,7 @@ FitsStage job slot (ToCommit count t) = (count ≤ takings) × IsTicketOf job sl
 FitsStage job slot (ToList seen) = HasNext (ToList seen)
 FitsStage job slot (ToRaise word content) = IsOf job content
 FitsStage job slot (ToAnswer content) = IsOf job content
-FitsStage job slot (ToTell turn needs) = turn.slot ≡ job.origin.slot
+FitsStage job slot (ToTell turn needs) = (turn.slot ≡ job.origin.slot) × (job.turn ≡ Some turn.number) × FitsTurn job slot needs
 FitsStage job slot other = Unit {0}
 
 -- a program whose every run has a meaning, and whose cost is that of its longest path

@@ -8,6 +8,7 @@ use Rattle.fc_core.specs.declared.event.Event.{Event}
 use Rattle.fc_core.specs.declared.event.Event.TheVariants.{Deliver, Peek, Take, Commit, Install, Remove, Receipt, Raise, Answer, Due, GiveUp, Signal, Tick, ShardTick, Lose}
 use Rattle.fc_core.specs.declared.stage.Stage.{Stage}
 use Rattle.fc_core.specs.declared.stage.Stage.TheVariants.{ToMatch, ToTake, ToCommit, ToInstall, ToRemove, ToDescribe, ToList, ToRaise, ToAnswer, ToTell, Gone}
+use Rattle.fc_core.specs.declared.stage.TurnStage.TheVariants as turns
 use Rattle.coap_reply.specs.Blocks.{cut_for}
 use Rattle.fc_core.specs.Contents.{Content, RunAnswer}
 use Rattle.fc_core.specs.Stages.{names}
@@ -26,6 +27,7 @@ needs_word own n other = false
 abbrev pub is_stray_at : Event → ℕ → Stage → Bool
 is_stray_at (Peek k n) own at = not (needs_word own n at)
 is_stray_at (Take k memory) own (ToTake count) = false
+is_stray_at (Take k memory) own (ToTell turn turns.ToTake) = false
 is_stray_at (Commit k now) own (ToCommit count t) = false
 is_stray_at (Install k memory) own ToInstall = false
 is_stray_at (Remove k) own ToRemove = false

@@ -12,7 +12,8 @@ use Rattle.fc_registry.specs.Calls.{ticket_of, input_of}
 use Rattle.fc_core.specs.declared.event.Event.{Event}
 use Rattle.fc_core.specs.declared.event.Event.TheVariants.{Take}
 use Rattle.fc_core.specs.declared.stage.Stage.{Stage}
-use Rattle.fc_core.specs.declared.stage.Stage.TheVariants.{ToTake}
+use Rattle.fc_core.specs.declared.stage.Stage.TheVariants.{ToTake, ToTell}
+use Rattle.fc_core.specs.declared.stage.TurnStage.TheVariants as turns
 use Rattle.fc_core.specs.Contents.{Content}
 use Rattle.fc_core.specs.Replies.{IsReplyTo}
 use Rattle.fc_core.specs.Exchanges.{FrontState, opening_is_live}
@@ -75,6 +76,7 @@ FoundMeans j serial (Some found) = IsMeant (ticket_of j serial found)
 
 abbrev pub FindsMeaning : Scene → Stage → Type 0
 FindsMeaning s (ToTake count) = FoundMeans s.job s.slot.serial s.slot.present
+FindsMeaning s (ToTell turn turns.ToTake) = FoundMeans s.job s.slot.serial s.slot.present
 FindsMeaning s other = Unit {0}
 
 -- a taking at its stage that finds a program finds one with a meaning, whether or not there is memory for a ticket

@@ -11,7 +11,7 @@ use Rattle.fc_registry.specs.declared.job.Ask.TheVariants.{Run, Install as Insta
 use Rattle.fc_registry.specs.declared.job.Job.{Job}
 use Rattle.fc_registry.specs.declared.receipt.Receipt.{Receipt as Facts}
 use Rattle.fc_registry.specs.declared.shard.Taken.{Taken}
-use Rattle.fc_registry.specs.declared.shard.Taken.TheVariants.{Given, Missing, Refused}
+use Rattle.fc_registry.specs.declared.shard.Taken.TheVariants.{Given, Missing, Stale, Refused}
 use Rattle.fc_registry.specs.declared.shard.Made.{Made}
 use Rattle.fc_registry.specs.declared.shard.Made.TheVariants.{Raised, AtEnd}
 use Rattle.fc_registry.specs.declared.shard.Removal.{Removal}
@@ -23,7 +23,7 @@ use Rattle.fc_registry.specs.Changes.{Change, Committed as Wrote, after_changes}
 use Rattle.fc_registry.specs.Watches.{watch_at, with_calls}
 use Rattle.fc_registry.specs.declared.commit.CommitOutcome.{CommitOutcome}
 use Rattle.fc_registry.specs.declared.commit.CommitOutcome.TheVariants.{Writes, Keeps, Overtakes, Ends}
-use Rattle.fc_registry.specs.Calls.{taking, install_in, remove_from, receipt_at, receipt_of, outcome, commit_of, is_observed, meaning_at, observe_calls}
+use Rattle.fc_registry.specs.Calls.{taking, install_in, remove_from, receipt_at, receipt_of, outcome, commit_of, is_observed, is_out_at, meaning_at, observe_calls, turn_calls, turn_of, turn_taking}
 use Rattle.fc_core.specs.Contents.{Content, Ran, run_answer, Missing as Misses, Unavailable, Made as Makes, Rejected, Untyped, Valid, Deleted, Described, Listed}
 use Rattle.fc_core.specs.Heads.{head_word, is_match, published, serial_in, word_at}
 use Rattle.fc_core.specs.declared.event.Event.{Event}
@@ -60,10 +60,6 @@ first_by Removes serials = ToRemove
 first_by Describe serials = ToDescribe
 first_by Discover serials = ToList (record { items = [] })
 
--- the turn of this number of the observers of a job's slot
-abbrev pub turn_of : Job → ℕ → Turn
-turn_of job number = record { slot = job.origin.slot; number = number }
-
 -- what a request's job needs first
 abbrev pub asked_stage : Job → Stage
 asked_stage job = first_by job.ask job.etags.items
@@ -85,6 +81,28 @@ abbrev pub took : ℕ → Taken → Stage
 took count (Given t) = ToCommit (count + 1) t
 took count Missing = ToAnswer Misses
 took count Refused = ToAnswer Unavailable
+took count Stale = ToAnswer Unavailable
+
+-- a turn whose taking found it stale is gone, and one without memory takes again
+abbrev pub turn_took : Turn → Taken → Stage
+turn_took turn (Given t) = ToTell turn (turns.ToDraw (Some t))
+turn_took turn Missing = ToTell turn (turns.ToDraw None)
+turn_took turn Stale = Gone
+turn_took turn Refused = ToTell turn turns.ToTake
+
+-- the turn that is to take, if one is
+abbrev pub turn_to_take : Stage → Option Turn
+turn_to_take (ToTell turn turns.ToTake) = Some turn
+turn_to_take other = None
+
+-- there was memory, or none was asked; and what a taking is without
+abbrev pub had_memory : Taken → Bool
+had_memory Refused = false
+had_memory other = true
+
+abbrev pub without_memory : Taken → Taken
+without_memory (Given t) = Refused
+without_memory other = other
 
 -- the answer of a ticket's run, whose client observes the slot from now on or doesn't
 abbrev pub run_content : Ticket → Bool → Content
@@ -159,6 +177,11 @@ moves_by stage changes = record { stage = stage; changes = changes; calls = []; 
 abbrev pub taken : Bool → ℕ → Scene → Move
 taken memory count s = moves (took count (taking memory s.job s.slot.serial s.slot.present))
 
+abbrev pub turn_taken : Bool → Turn → Scene → Move
+turn_taken memory turn s = record (moves (turn_took turn (turn_taking (is_out_at turn s.around.moment s.around.watch) memory s.job s.slot.serial s.slot.present))) {
+  calls = turn_calls turn s.around.moment s.slot.present s.around.watch;
+}
+
 -- a run that has nothing to write registers or removes its client as an observer, where its request asks for that
 abbrev pub committed : CommitOutcome → ℕ → Ticket → ℕ → Around → Move
 committed Writes count t now around = record (moves_by (ToRaise (head_word (t.serial + 1) true) (run_content t false)) (Wrote (commit_of t) ∷ [])) { hands = Some now }
@@ -197,6 +220,7 @@ at_peek n s other = moves other
 
 abbrev pub at_take : Bool → Scene → Stage → Move
 at_take memory s (ToTake count) = taken memory count s
+at_take memory s (ToTell turn turns.ToTake) = turn_taken memory turn s
 at_take memory s other = moves other
 
 abbrev pub at_commit : ℕ → Scene → Stage → Move

@@ -5,7 +5,7 @@ use coap_msg::Endpoint;
 /// are in milliseconds.
 ///
 /// An event whose job isn't at the stage that the event needs changes nothing, nor does one whose shard is above 7. `Fresh` and
-/// `Note` belong to what isn't served yet: they change nothing either, and neither does the taking of a turn.
+/// `Note` belong to what isn't served yet: they change nothing either.
 #[derive(Clone, Copy)]
 pub enum Event<'a> {
     /// A datagram comes.

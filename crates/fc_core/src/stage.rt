@@ -35,6 +35,8 @@ pub enum Stage {
 pub enum TurnStage {
     /// A taking.
     ToTake,
+    /// A message id, to tell of this ticket; none where the slot was found empty.
+    ToDraw(Option<Ticket>),
 }
 
 /// A job, and where it stands.

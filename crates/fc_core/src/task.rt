@@ -1,5 +1,5 @@
 //! Jobs at work: what each event does to a job, its slot and its shard.
-ghost use Rattle.std.specs.Prelude.{◌≡◌, ℕ, ◌<◌, ◌∷◌, ◌++◌, ◌==◌, [], List, None, length, false, IfOk, OnOk, IsErr};
+ghost use Rattle.std.specs.Prelude.{◌≡◌, ℕ, ◌<◌, ◌∷◌, ◌++◌, ◌==◌, [], List, None, Some, length, false, IfOk, OnOk, IsErr};
 ghost use Rattle.fc_verify.specs.Accepted.{Accepts};
 ghost use Rattle.fc_verify.specs.Judged.{judged};
 ghost use Rattle.fc_registry.specs.Slots.{IsOwned, slot_in};
@@ -10,7 +10,7 @@ ghost use Rattle.fc_core.specs.Heads.{word_at};
 ghost use Rattle.fc_core.specs.Sound.{AllSafe};
 ghost use Rattle.fc_registry.specs.Calls.{HasGiven, receipt_of};
 ghost use Rattle.fc_core.specs.Stages as rows;
-ghost use Rattle.fc_core.specs.Stages.{ShardMoves, TaskMoves, at_answer, at_commit, at_give_up, at_install, at_peek, at_raise, at_receipt, at_remove, at_take, asked_stage, commit_move, content_at, first_stage, image_of, installed, peeked_next, peeked_own, task_moved, new_task, scene_of, shard_after, shard_moved, words_after};
+ghost use Rattle.fc_core.specs.Stages.{ShardMoves, TaskMoves, at_answer, at_commit, at_give_up, at_install, at_peek, at_raise, at_receipt, at_remove, at_take, asked_stage, commit_move, content_at, first_stage, had_memory, image_of, installed, peeked_next, peeked_own, task_moved, new_task, scene_of, shard_after, shard_moved, turn_to_take, without_memory, words_after};
 
 use crate::answer::{Answer, End, Words};
 use crate::front::blank_job;
@@ -93,7 +93,19 @@ impl Stage {
         match taken {
             Taken::Missing => Stage::missing(),
             Taken::Given(ticket) => Stage::ToCommit(count + 1, ticket),
-            Taken::Refused => Stage::unavailable(),
+            Taken::Refused | Taken::Stale => Stage::unavailable(),
+        }
+    }
+
+    /// After the taking of a turn.
+    pub fn turn_took(turn: Turn, taken: Taken) -> Stage
+        ensures { result ≡ rows.turn_took turn taken }
+    {
+        match taken {
+            Taken::Given(ticket) => Stage::ToTell(turn, TurnStage::ToDraw(Some(ticket))),
+            Taken::Missing => Stage::ToTell(turn, TurnStage::ToDraw(None)),
+            Taken::Stale => Stage::Gone,
+            Taken::Refused => Stage::ToTell(turn, TurnStage::ToTake),
         }
     }
 
@@ -221,49 +233,63 @@ impl Task {
         }
     }
 
-    /// Takes its slot at its shard. Tells whether there was memory: where there was none it is answered 5.03.
+    /// Takes its slot at its shard. Tells whether there was memory: where there was none a request is answered 5.03, and a turn is
+    /// still to take.
     pub fn take(&mut self, shard: &mut Shard) -> bool
         requires owned { IsOwned shard.old self.old.job.origin.slot }
         requires fits { FitsStage self.old.job (slot_in shard.old self.old.job.origin.slot) self.old.stage }
         ensures task { TaskMoves (at_take result) shard.old self.old self.new }
-        ensures shard { shard.new ≡ shard.old }
+        ensures shard { ShardMoves (at_take result) shard.old self.old shard.new }
     {
+        if let Some(turn) = turn_to_take(&self.stage) {
+            return self.take_turn(turn, shard);
+        }
         let Stage::ToTake(count) = self.stage else {
             return true;
         };
-        match shard.take(&self.job) {
-            Taken::Given(ticket) => {
-                self.stage = Stage::ToCommit(count + 1, ticket);
-                true
-            }
-            Taken::Missing => {
-                self.stage = Stage::missing();
-                true
-            }
-            Taken::Refused => {
-                self.stage = Stage::unavailable();
-                false
-            }
-        }
+        let taken = shard.take(&self.job);
+        let memory = had_memory(&taken);
+        self.stage = Stage::took(count, taken);
+        memory
     }
 
-    /// Takes without memory: only an empty slot needs none.
+    // Takes its turn.
+    fn take_turn(&mut self, turn: Turn, shard: &mut Shard) -> bool
+        requires owned { IsOwned shard.old self.old.job.origin.slot }
+        requires fits { FitsStage self.old.job (slot_in shard.old self.old.job.origin.slot) self.old.stage }
+        requires turn { turn_to_take self.old.stage ≡ Some turn }
+        ensures task { TaskMoves (at_take result) shard.old self.old self.new }
+        ensures shard { ShardMoves (at_take result) shard.old self.old shard.new }
+    {
+        let taken = shard.take(&self.job);
+        let memory = had_memory(&taken);
+        self.stage = Stage::turn_took(turn, taken);
+        memory
+    }
+
+    /// Takes without memory: only an empty slot, and a turn that is out no longer, need none.
     pub fn refuse_take(&mut self, shard: &mut Shard)
         requires owned { IsOwned shard.old self.old.job.origin.slot }
         requires fits { FitsStage self.old.job (slot_in shard.old self.old.job.origin.slot) self.old.stage }
         ensures task { TaskMoves (at_take false) shard.old self.old self.new }
-        ensures shard { shard.new ≡ shard.old }
+        ensures shard { ShardMoves (at_take false) shard.old self.old shard.new }
     {
-        match self.leave() {
-            Stage::ToTake(count) => {
-                let taken = match shard.take(&self.job) {
-                    Taken::Given(_) => Taken::Refused,
-                    other => other,
-                };
-                self.stage = Stage::took(count, taken);
-            }
-            other => self.stage = other,
+        if let Some(turn) = turn_to_take(&self.stage) {
+            self.refuse_turn(turn, shard);
+        } else if let Stage::ToTake(count) = self.stage {
+            self.stage = Stage::took(count, without_memory(shard.take(&self.job)));
         }
+    }
+
+    // Takes its turn without memory.
+    fn refuse_turn(&mut self, turn: Turn, shard: &mut Shard)
+        requires owned { IsOwned shard.old self.old.job.origin.slot }
+        requires fits { FitsStage self.old.job (slot_in shard.old self.old.job.origin.slot) self.old.stage }
+        requires turn { turn_to_take self.old.stage ≡ Some turn }
+        ensures task { TaskMoves (at_take false) shard.old self.old self.new }
+        ensures shard { ShardMoves (at_take false) shard.old self.old shard.new }
+    {
+        self.stage = Stage::turn_took(turn, without_memory(shard.take(&self.job)));
     }
 
     /// Runs its ticket's program, and commits at its shard, at a moment in milliseconds.
@@ -396,6 +422,33 @@ impl Task {
         ensures after { self.new ≡ task_moved self.old (rows.moves Stage.Gone) }
     {
         mem::replace(&mut self.stage, Stage::Gone)
+    }
+}
+
+// The turn that is to take, if one is.
+fn turn_to_take(stage: &Stage) -> Option<Turn>
+    ensures { result ≡ turn_to_take stage.now }
+{
+    match stage {
+        Stage::ToTell(turn, TurnStage::ToTake) => Some(*turn),
+        _ => None,
+    }
+}
+
+// Whether there was memory for what was found.
+fn had_memory(taken: &Taken) -> bool
+    ensures { result ≡ had_memory taken.now }
+{
+    !matches!(taken, Taken::Refused)
+}
+
+// A taking where memory is refused.
+fn without_memory(taken: Taken) -> Taken
+    ensures { result ≡ without_memory taken }
+{
+    match taken {
+        Taken::Given(_) => Taken::Refused,
+        other => other,
     }
 }
 

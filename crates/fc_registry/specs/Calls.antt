@@ -1,5 +1,5 @@
 -- What the calls of a shard answer, and what they change. Each call is decided by one function of the slot that it finds.
-use Rattle.std.specs.Prelude.{◌≡◌, ℕ, ◌+◌, ◌/◌, ◌==◌, ◌&&◌, ◌<◌, ◌≤◌, Bool, true, false, if◌then◌else◌, nat_lt, List, [], ◌∷◌, Option, Some, None, is_none, max}
+use Rattle.std.specs.Prelude.{◌≡◌, ℕ, ◌+◌, ◌/◌, ◌==◌, ◌&&◌, ◌<◌, ◌≤◌, Bool, true, false, if◌then◌else◌, nat_lt, List, [], ◌∷◌, ◌++◌, Option, Some, None, is_none, is_some, max}
 use Rattle.coap_msg.specs.Codes.{code}
 use Rattle.coap_opts.specs.Values.{Place}
 use Rattle.fc_help.specs.Request.{Request, no_request}
@@ -9,14 +9,15 @@ use Rattle.fc_kinds.specs.Meaning.{Program, Input, input_with, Meaning}
 use Rattle.fc_machine.specs.Ran.{Ran, meaning_of}
 use Rattle.fc_observe.specs.declared.observers.Registered.{Registered}
 use Rattle.fc_observe.specs.declared.observers.Registered.TheVariants.{Full}
-use Rattle.fc_observe.specs.Calls.{ObserverCall, Cancel, Register}
-use Rattle.fc_observe.specs.Observers.{ObserverList, registration}
+use Rattle.fc_observe.specs.declared.entry.Turn.{Turn}
+use Rattle.fc_observe.specs.Calls.{ObserverCall, Advance, Cancel, Miss, Register}
+use Rattle.fc_observe.specs.Observers.{ObserverList, at_moment, entry_out, registration}
 use Rattle.fc_registry.specs.declared.observe.TheConstants as observe
 use Rattle.fc_registry.specs.declared.job.Ask.{Ask}
 use Rattle.fc_registry.specs.declared.job.Ask.TheVariants.{Run}
 use Rattle.fc_registry.specs.declared.job.Job.{Job}
 use Rattle.fc_registry.specs.declared.shard.Taken.{Taken}
-use Rattle.fc_registry.specs.declared.shard.Taken.TheVariants.{Given, Missing, Refused}
+use Rattle.fc_registry.specs.declared.shard.Taken.TheVariants.{Given, Missing, Stale, Refused}
 use Rattle.fc_registry.specs.declared.shard.Made.{Made}
 use Rattle.fc_registry.specs.declared.shard.Made.TheVariants.{Raised, AtEnd}
 use Rattle.fc_registry.specs.declared.shard.Removal.{Removal}
@@ -48,9 +49,61 @@ taking memory job serial None = Missing
 taking true job serial (Some found) = Given (ticket_of job serial found)
 taking false job serial (Some found) = Refused
 
+-- the turn of this number of the observers of a job's slot
+abbrev pub turn_of : Job → ℕ → Turn
+turn_of job number = record { slot = job.origin.slot; number = number }
+
+-- a turn that is out no longer is stale, whatever the slot holds
+abbrev pub turn_taking : Bool → Bool → Job → ℕ → Option Present → Taken
+turn_taking true memory job serial present = taking memory job serial present
+turn_taking false memory job serial present = Stale
+
+-- one that is out and finds the slot empty is missing
+abbrev pub miss_calls : Bool → Turn → Option Present → List ObserverCall
+miss_calls true turn None = Miss turn ∷ []
+miss_calls out turn present = []
+
+-- the turn is out at a moment
+abbrev pub is_out_at : Turn → ℕ → ObserverList → Bool
+is_out_at turn at w = is_some (entry_out turn (at_moment at w))
+
+-- what a turn's taking calls, the newest first
+abbrev pub turn_calls : Turn → ℕ → Option Present → ObserverList → List ObserverCall
+turn_calls turn at present w = miss_calls (is_out_at turn at w) turn present ++ Advance at ∷ []
+
+-- what a request's job takes, or that of the turn of a number, of a slot with these observers, at a moment
+abbrev pub taking_by : Option ℕ → Bool → Job → Slot → ℕ → ObserverList → Taken
+taking_by None memory job slot at w = taking memory job slot.serial slot.present
+taking_by (Some number) memory job slot at w = turn_taking (is_out_at (turn_of job number) at w) memory job slot.serial slot.present
+
+-- what it calls on them, the newest first
+abbrev pub taking_calls_by : Option ℕ → Job → Slot → ℕ → ObserverList → List ObserverCall
+taking_calls_by None job slot at w = []
+taking_calls_by (Some number) job slot at w = turn_calls (turn_of job number) at slot.present w
+
+abbrev pub taking_at : Bool → Job → Slot → ℕ → ObserverList → Taken
+taking_at memory job slot at w = taking_by job.turn memory job slot at w
+
+abbrev pub taking_calls : Job → Slot → ℕ → ObserverList → List ObserverCall
+taking_calls job slot at w = taking_calls_by job.turn job slot at w
+
 -- memory was there, or it was refused
-abbrev pub IsTaking : Job → Slot → Taken → Type 0
-IsTaking job slot taken = (memory : Bool) × (taken ≡ taking memory job slot.serial slot.present)
+abbrev pub IsFinding : Job → Slot → Taken → Type 0
+IsFinding job slot taken = (memory : Bool) × (taken ≡ taking memory job slot.serial slot.present)
+
+abbrev pub IsTurnTaking : Turn → ℕ → ObserverList → Job → Slot → Taken → Type 0
+IsTurnTaking turn at w job slot taken = (memory : Bool) × (taken ≡ turn_taking (is_out_at turn at w) memory job slot.serial slot.present)
+
+abbrev pub IsTaking : Job → Slot → ℕ → ObserverList → Taken → Type 0
+IsTaking job slot at w taken = (memory : Bool) × (taken ≡ taking_at memory job slot at w)
+
+-- a taking at a shard: of the job's slot and its observers
+abbrev pub TakesAt : Job → Shard → Taken → Type 0
+TakesAt job shard taken = IsTaking job (slot_in shard job.origin.slot) shard.now (watch_at shard (job.origin.slot / 8)) taken
+
+-- the shard after it
+abbrev pub after_taking : Job → Shard → Shard
+after_taking job shard = with_calls (taking_calls job (slot_in shard job.origin.slot) shard.now (watch_at shard (job.origin.slot / 8))) job.origin.slot shard
 
 -- what a call answers, and what it changes
 pub record Called (A : Type 0) : Type 0 where

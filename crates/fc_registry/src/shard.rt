@@ -3,7 +3,7 @@ ghost use Rattle.std.specs.Prelude.{◌≡◌, ℕ, ◌+◌, ◌<◌, ◌≤◌,
 ghost use Rattle.fc_machine.specs.Ran.{meaning_of};
 ghost use Rattle.fc_registry.specs.Slots.{IsOwned, slot_in, with_slot, new_slot, last_serial, version_in, vars_in};
 ghost use Rattle.fc_registry.specs.Changes.{Committed as Wrote, after_changes};
-ghost use Rattle.fc_registry.specs.Calls.{IsTaking, CommitsTo, IsCommit, ComesTo, IsOwn, IsCurrent, commit_calls, commit_of, is_observed, is_post, observe_calls, mark_of, install_in, receipt_at, remove_from, request_of, run_of, wants_by};
+ghost use Rattle.fc_registry.specs.Calls.{TakesAt, CommitsTo, IsCommit, ComesTo, IsOwn, IsCurrent, commit_calls, commit_of, is_observed, is_post, observe_calls, mark_of, install_in, receipt_at, remove_from, request_of, run_of, wants_by, IsFinding, IsTurnTaking, after_taking, turn_calls};
 ghost use Rattle.fc_registry.specs.Views.{as_seen, present_of};
 ghost use Rattle.fc_registry.specs.Record.{IsRing};
 ghost use Rattle.fc_observe.specs.Calls.{after_calls, observers_after};
@@ -73,6 +73,8 @@ pub enum Taken {
     Given(Ticket),
     /// The slot is empty.
     Missing,
+    /// The turn is out no longer.
+    Stale,
     /// There was no memory for another handle of the program.
     Refused,
 }
@@ -119,14 +121,28 @@ impl Shard {
         })
     }
 
-    /// Takes what a job finds in its slot. Only a handle of the program asks for memory.
+    /// Takes what a job finds in its slot. Only a handle of the program asks for memory. A turn that is out no longer is stale, which
+    /// is looked at first, at the shard's moment; one that finds its slot empty keeps that. A request's taking changes nothing.
     pub fn take(&mut self, job: &Job) -> Taken
-        requires owned { IsOwned self.old job.now.origin.slot }
-        ensures taken { IsTaking job.now (slot_in self.old job.now.origin.slot) result }
-        ensures same { self.new ≡ self.old }
+        requires { IsOwned self.old job.now.origin.slot }
+        ensures taken { TakesAt job.now self.old result }
+        ensures after { self.new ≡ after_taking job.now self.old }
     {
-        let slot = &self.slots[job.origin.slot.place()];
-        find(job, slot)
+        let place = job.origin.slot.place();
+        match job.turn {
+            None => find(job, &self.slots[place]),
+            Some(number) => {
+                let slot = job.origin.slot.number();
+                let watch = &mut self.watches[place];
+                take_turn(
+                    watch,
+                    self.now,
+                    Turn { slot, number },
+                    job,
+                    &self.slots[place],
+                )
+            }
+        }
     }
 
     /// Commits a run, at a moment in milliseconds: it writes where the run answered a POST with a code of class 2,
@@ -359,9 +375,24 @@ fn vars_of(slot: &SlotState) -> &[u8]
     }
 }
 
+// What a turn finds in a slot, at its shard's moment.
+fn take_turn(watch: &mut Observers, now: u64, turn: Turn, job: &Job, slot: &SlotState) -> Taken
+    ensures taken { IsTurnTaking turn now watch.old job.now (as_seen slot.now) result }
+    ensures watch { watch.new ≡ after_calls (turn_calls turn now (as_seen slot.now).present watch.old) watch.old }
+{
+    watch.advance(now);
+    if !watch.is_out(turn) {
+        return Taken::Stale;
+    }
+    if slot.body.is_none() {
+        watch.miss(turn);
+    }
+    find(job, slot)
+}
+
 // What a job finds in a slot.
 fn find(job: &Job, slot: &SlotState) -> Taken
-    ensures { IsTaking job.now (as_seen slot.now) result }
+    ensures { IsFinding job.now (as_seen slot.now) result }
 {
     let Some(body) = &slot.body else {
         return Taken::Missing;

@@ -45,10 +45,6 @@ owner_read shards n k found eight lt place is = is ∙ (get_or_default shards k 
 pub owner_same : (shards : List Shard) (k : ℕ) (found now : Shard) → now ≡ found → found ≡ get_or shards k found → set shards k now ≡ shards
 owner_same shards k found now same is = ap (λ (x : Shard). set shards k x) (same ∙ is) ∙ set-get_or shards k found
 
-pub take_quiet : (memory : Bool) (x : Scene) (st : Stage) → at_take memory x st ≡ moves (at_take memory x st).stage
-take_quiet memory x (ToTake count) = refl
-take_quiet memory x other = refl
-
 pub peek_quiet : (n : ℕ) (x : Scene) (st : Stage) → at_peek n x st ≡ moves (at_peek n x st).stage
 peek_quiet n x ToMatch = refl
 peek_quiet n x (ToList seen) = refl

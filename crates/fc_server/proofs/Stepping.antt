@@ -15,7 +15,8 @@ use Rattle.fc_registry.specs.Watches.{watch_at}
 use Rattle.fc_core.specs.declared.event.Event.{Event}
 use Rattle.fc_core.specs.declared.event.Event.TheVariants.{Take}
 use Rattle.fc_core.specs.declared.stage.Stage.{Stage}
-use Rattle.fc_core.specs.declared.stage.Stage.TheVariants.{ToTake}
+use Rattle.fc_core.specs.declared.stage.Stage.TheVariants.{ToTake, ToTell}
+use Rattle.fc_core.specs.declared.stage.TurnStage.TheVariants as turns
 use Rattle.fc_core.specs.Answering.{after_answered_by}
 use Rattle.fc_core.specs.Contents.{Content}
 use Rattle.fc_core.specs.Exchanges.{FrontState, opening_is_live}
@@ -45,6 +46,7 @@ found_means j slot (Some p) within fits = record { run = fits.safe.runs.run _ (i
 
 finds_by : (x : Scene) (st : Stage) → AskWithin x.job.ask → FitsSlot x.slot.present → FindsMeaning x st
 finds_by x (ToTake n) within fits = found_means x.job x.slot x.slot.present within fits
+finds_by x (ToTell turn turns.ToTake) within fits = found_means x.job x.slot x.slot.present within fits
 finds_by x other within fits = tt
 
 takes_mean : (e : Event) (s : Seen) → IsSound s → IsSafelySeen s → TakesMeaning s e

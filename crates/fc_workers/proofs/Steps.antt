@@ -9,6 +9,7 @@ use Rattle.fc_verify.specs.Refusals.{IsRefusal}
 use Rattle.fc_verify.specs.declared.refusal.Refusal.TheVariants.{Broken, NoMemory}
 use Rattle.fc_machine.specs.Ran.{Ran, ran}
 use Rattle.fc_help.specs.Request.{Request}
+use Rattle.fc_observe.specs.Observers.{ObserverList}
 use Rattle.fc_registry.specs.declared.job.Ask.{Ask}
 use Rattle.fc_registry.specs.declared.job.Ask.TheVariants.{Run, Install, Remove, Describe, Discover}
 use Rattle.fc_registry.specs.declared.job.Job.{Job}
@@ -24,8 +25,8 @@ use Rattle.fc_registry.specs.declared.shard.Removal.TheVariants as removals
 use Rattle.arrayvec.specs.ArrayVec.{ArrayVec}
 use Rattle.fc_registry.specs.declared.commit.Committed.{Committed}
 use Rattle.fc_registry.specs.declared.commit.Committed.TheVariants.{Done, Overtaken, Ended, Stranger}
-use Rattle.fc_registry.specs.Slots.{Present, Ticket}
-use Rattle.fc_registry.specs.Calls.{receipt_of, run_of, taking}
+use Rattle.fc_registry.specs.Slots.{Present, Slot, Ticket}
+use Rattle.fc_registry.specs.Calls.{is_out_at, receipt_of, run_of, taking, taking_by as taking_of_job, turn_of, turn_taking}
 use Rattle.fc_core.specs.declared.stage.Stage.{Stage}
 use Rattle.fc_core.specs.declared.stage.Stage.TheVariants.{ToMatch, ToTake, ToCommit, ToInstall, ToRemove, ToDescribe, ToList, ToRaise, ToAnswer}
 use Rattle.fc_core.specs.Contents.{Content, IsOf, Listed, Unavailable}
@@ -68,8 +69,16 @@ taking_follows memory job n serial None less = record { ready = tt; fewer = omeg
 taking_follows true job n serial (Some p) less = record { ready = (omega (arith, less), refl); fewer = omega (arith, less); few = omega (arith, less) }
 taking_follows false job n serial (Some p) less = record { ready = tt; fewer = omega (arith, less); few = omega (arith, less) }
 
+turn_follows : (out memory : Bool) (job : Job) (n serial : ℕ) (p : Option Present) → n < takings → Follows job (ToTake n) 1 (took n (turn_taking out memory job serial p))
+turn_follows true memory job n serial p less = taking_follows memory job n serial p less
+turn_follows false memory job n serial p less = record { ready = tt; fewer = omega (arith, less); few = omega (arith, less) }
+
+by_turn_follows : (turn : Option ℕ) (memory : Bool) (job : Job) (n : ℕ) (slot : Slot) (now : ℕ) (w : ObserverList) → n < takings → Follows job (ToTake n) 1 (took n (taking_of_job turn memory job slot now w))
+by_turn_follows None memory job n slot now w less = taking_follows memory job n slot.serial slot.present less
+by_turn_follows (Some number) memory job n slot now w less = turn_follows (is_out_at (turn_of job number) now w) memory job n slot.serial slot.present less
+
 took_follows : (job : Job) (n : ℕ) (x : Taken) → n < takings → IsSomeTaking job x → Follows job (ToTake n) 1 (took n x)
-took_follows job n x less is = subst (λ (x : Taken). Follows job (ToTake n) 1 (took n x)) (sym is.taking.1) (taking_follows is.taking.0 job n is.slot.serial is.slot.present less)
+took_follows job n x less is = subst (λ (x : Taken). Follows job (ToTake n) 1 (took n x)) (sym is.taking.1) (by_turn_follows job.turn is.taking.0 job n is.slot is.now is.watch less)
 
 retaken_follows : (job : Job) (n : ℕ) (t : Ticket) (b : Bool) → nat_lt n takings ≡ b → n ≤ takings → Follows job (ToCommit n t) 0 (if b then ToTake n else ToAnswer Unavailable)
 retaken_follows job n t true e le = record { ready = ltb-true n takings e; fewer = omega arith; few = omega arith }

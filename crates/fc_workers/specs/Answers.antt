@@ -25,10 +25,12 @@ pub record IsSomeDelivery (to : Endpoint) (bytes : List ℕ) (brings : Delivered
   pub front : FrontState
   pub is : brings ≡ delivered front to bytes
 
--- a taking of the job at some slot answers this
+-- a taking of the job at some slot, with some observers, at some moment answers this
 pub record IsSomeTaking (job : Job) (taken : Taken) : Type 0 where
   pub slot : Slot
-  pub taking : IsTaking job slot taken
+  pub now : ℕ
+  pub watch : ObserverList
+  pub taking : IsTaking job slot now watch taken
 
 -- a commit of a run, by the ticket, at some slot with some observers answers this
 pub record IsSomeCommit (ran : Ran) (t : Ticket) (committed : Committed) : Type 0 where

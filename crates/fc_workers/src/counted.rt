@@ -2,7 +2,7 @@
 ghost use Rattle.std.specs.Prelude.{◌≡◌, ◌+◌, ◌<◌, if◌then◌else◌};
 ghost use Rattle.fc_registry.specs.Slots.{IsOwned, slot_in, with_slot, version_in, vars_in};
 ghost use Rattle.fc_registry.specs.Changes.{after_changes};
-ghost use Rattle.fc_registry.specs.Calls.{IsTaking, CommitsTo, install_in, receipt_at, remove_from};
+ghost use Rattle.fc_registry.specs.Calls.{CommitsTo, TakesAt, after_taking, install_in, receipt_at, remove_from};
 ghost use Rattle.fc_workers.specs.Answers.{commit_changes, install_changes, removal_changes};
 ghost use Rattle.fc_workers.specs.Counts.{HasEightSlots, serials, counts};
 
@@ -60,8 +60,9 @@ impl<L: Ledger> Counted<L> {
     /// Takes what a job finds in its slot, as [`Shard::take`] does.
     pub fn take(&mut self, job: &Job) -> Taken
         requires { IsOwned self.old.shard job.now.origin.slot }
-        ensures taken { IsTaking job.now (slot_in self.old.shard job.now.origin.slot) result }
-        ensures same { self.new ≡ self.old }
+        ensures taken { TakesAt job.now self.old.shard result }
+        ensures after { self.new.shard ≡ after_taking job.now self.old.shard }
+        ensures opened { self.new.opened ≡ self.old.opened }
     {
         self.shard.take(job)
     }

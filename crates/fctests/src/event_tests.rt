@@ -166,12 +166,13 @@ fn strays_send_nothing(rt: HostRuntime) {
 }
 
 // An observer of slot 0 is due once the slot has another program. Its shard brings one job then, job 3, and none while that turn is out;
-// no other shard does. Given up at a moment, the observer is due again at a later one only: job 4. So the GET that follows is job 5.
+// no other shard does. The turn is taken, first without memory, and given up: the observer is due again at a later moment only, by job 4.
+// So the GET that follows is job 5.
 #[test]
 fn turns_come_as_jobs(rt: HostRuntime) {
     const OBSERVING: &[u8] = b"\x41\x01\x12\x34\x71\x60\x51\x72\x01\x30";
     const GET_LATER: &[u8] = b"\x41\x01\x12\x36\x71\xb1\x72\x01\x30";
-    static EVENTS: [Event<'static>; 20] = [
+    static EVENTS: [Event<'static>; 22] = [
         Event::Deliver {
             now: 1,
             endpoint: PEER,
@@ -199,6 +200,14 @@ fn turns_come_as_jobs(rt: HostRuntime) {
         Event::Due { shard: 8, now: 3 },
         Event::Due { shard: 0, now: 3 },
         Event::Due { shard: 0, now: 3 },
+        Event::Take {
+            job: 3,
+            memory: false,
+        },
+        Event::Take {
+            job: 3,
+            memory: true,
+        },
         Event::GiveUp { job: 3, now: 3 },
         Event::Due { shard: 0, now: 3 },
         Event::Due { shard: 0, now: 4 },

@@ -1,0 +1,20 @@
+-- Where the taking of a turn leaves its job: it is still to tell, or gone.
+use Rattle.std.proofs.Common.{Bool, true, false, ℕ, Option, Some, None}
+use Rattle.fc_observe.specs.declared.entry.Turn.{Turn}
+use Rattle.fc_registry.specs.declared.job.Job.{Job}
+use Rattle.fc_registry.specs.declared.shard.Taken.{Taken}
+use Rattle.fc_registry.specs.declared.shard.Taken.TheVariants.{Given, Missing, Stale, Refused}
+use Rattle.fc_core.specs.declared.stage.Stage.{Stage}
+use Rattle.fc_core.specs.declared.stage.Stage.TheVariants.{ToTell, Gone}
+use Rattle.fc_core.specs.declared.stage.TurnStage.{TurnStage}
+use Rattle.fc_core.specs.Stages.{Scene, turn_taken, turn_took}
+
+-- what holds of each of these stages
+pub told_or_gone : (P : Stage → Type 0) → ((turn : Turn) (needs : TurnStage) → P (ToTell turn needs)) → P Gone → (turn : Turn) (x : Taken) → P (turn_took turn x)
+told_or_gone P told gone turn (Given t) = told turn _
+told_or_gone P told gone turn Missing = told turn _
+told_or_gone P told gone turn Stale = gone
+told_or_gone P told gone turn Refused = told turn _
+
+pub after_turn : (P : Stage → Type 0) → ((turn : Turn) (needs : TurnStage) → P (ToTell turn needs)) → P Gone → (memory : Bool) (turn : Turn) (x : Scene) → P (turn_taken memory turn x).stage
+after_turn P told gone memory turn x = told_or_gone P told gone turn _

@@ -1,0 +1,84 @@
+-- The taking of a turn's job at its shard is the row of its turn.
+use Rattle.std.proofs.Common.{◌≡◌, ℕ, ◌/◌, List, Bool, true, false, Option, Some, None, refl, sym, ap, ◌∙◌}
+use Rattle.fc_observe.specs.declared.entry.Turn.{Turn}
+use Rattle.fc_observe.specs.Calls.{ObserverCall}
+use Rattle.fc_observe.specs.Observers.{ObserverList}
+use Rattle.fc_registry.specs.declared.job.Job.{Job}
+use Rattle.fc_registry.specs.declared.shard.Taken.{Taken}
+use Rattle.fc_registry.specs.Calls.{TakesAt, after_taking, is_out_at, taking_at, taking_by, taking_calls, taking_calls_by, turn_calls, turn_of, turn_taking}
+use Rattle.fc_registry.specs.Slots.{Present, Shard, Slot, slot_in}
+use Rattle.fc_registry.specs.Watches.{watch_at, with_calls}
+use Rattle.fc_core.specs.declared.stage.Stage.{Stage}
+use Rattle.fc_core.specs.declared.stage.Stage.TheVariants.{ToTell}
+use Rattle.fc_core.specs.declared.stage.Task.{Task}
+use Rattle.fc_core.specs.declared.stage.TurnStage.TheVariants as turns
+use Rattle.fc_core.specs.Fits.{FitsStage}
+use Rattle.fc_core.specs.Stages.{at_take, had_memory, scene_of, shard_after, task_moved, turn_to_take, turn_took, without_memory}
+use Rattle.fc_core.proofs.Rejections.{same_slot}
+use Rattle.std.proofs.Common.{subst}
+
+-- the answer tells whether there was memory
+had : (out memory : Bool) (job : Job) (serial : ℕ) (p : Option Present) → turn_taking out memory job serial p ≡ turn_taking out (had_memory (turn_taking out memory job serial p)) job serial p
+had false memory job serial p = refl
+had true memory job serial None = refl
+had true true job serial (Some p) = refl
+had true false job serial (Some p) = refl
+
+without : (out memory : Bool) (job : Job) (serial : ℕ) (p : Option Present) → without_memory (turn_taking out memory job serial p) ≡ turn_taking out false job serial p
+without false memory job serial p = refl
+without true memory job serial None = refl
+without true true job serial (Some p) = refl
+without true false job serial (Some p) = refl
+
+is_to_take : (st : Stage) (turn : Turn) → turn_to_take st ≡ Some turn → st ≡ ToTell turn turns.ToTake
+is_to_take (ToTell own turns.ToTake) turn e = let same : own ≡ turn = cc e in ap (λ (t : Turn). ToTell t turns.ToTake) same
+is_to_take other turn e = absurd (cc e)
+
+module _ (shard : Shard) (task : Task) (turn : Turn) (to_take : turn_to_take task.stage ≡ Some turn) (fits : FitsStage task.job (slot_in shard task.job.origin.slot) task.stage) where
+  is : task.stage ≡ ToTell turn turns.ToTake
+  is = is_to_take task.stage turn to_take
+
+  abbrev n : ℕ
+  n = task.job.origin.slot
+
+  abbrev slot : Slot
+  slot = slot_in shard n
+
+  abbrev w : ObserverList
+  w = watch_at shard (n / 8)
+
+  abbrev out : Bool
+  out = is_out_at turn shard.now w
+
+  told : FitsStage task.job slot (ToTell turn turns.ToTake)
+  told = subst (FitsStage task.job slot) is fits
+
+  turn_is : turn_of task.job turn.number ≡ turn
+  turn_is = λ i. record { slot = sym told.0 i; number = turn.number }
+
+  taking_is : (memory : Bool) → taking_at memory task.job slot shard.now w ≡ turn_taking out memory task.job slot.serial slot.present
+  taking_is memory = ap (λ (o : Option ℕ). taking_by o memory task.job slot shard.now w) told.1 ∙ ap (λ (t : Turn). turn_taking (is_out_at t shard.now w) memory task.job slot.serial slot.present) turn_is
+
+  calls_are : taking_calls task.job slot shard.now w ≡ turn_calls turn shard.now slot.present w
+  calls_are = ap (λ (o : Option ℕ). taking_calls_by o task.job slot shard.now w) told.1 ∙ ap (λ (t : Turn). turn_calls t shard.now slot.present w) turn_is
+
+  row_is : (memory : Bool) (words : List ℕ) → task_moved task (at_take memory (scene_of shard words task) (ToTell turn turns.ToTake)) ≡ task_moved task (at_take memory (scene_of shard words task) task.stage)
+  row_is memory words = ap (λ (st : Stage). task_moved task (at_take memory (scene_of shard words task) st)) (sym is)
+
+  pub turn_takes : (x : Taken) → TakesAt task.job shard x → (words : List ℕ) → record { job = task.job; stage = turn_took turn x } ≡ task_moved task (at_take (had_memory x) (scene_of shard words task) task.stage)
+  turn_takes x takes words =
+      let taken : x ≡ turn_taking out takes.0 task.job slot.serial slot.present = takes.1 ∙ taking_is takes.0 in
+      let settled : x ≡ turn_taking out (had_memory x) task.job slot.serial slot.present = taken ∙ (had out takes.0 task.job slot.serial slot.present ∙ ap (λ (y : Taken). turn_taking out (had_memory y) task.job slot.serial slot.present) (sym taken)) in
+      ap (λ (y : Taken). record { job = task.job; stage = turn_took turn y }) settled ∙ row_is (had_memory x) words
+
+  pub turn_takes_without : (x : Taken) → TakesAt task.job shard x → (words : List ℕ) → record { job = task.job; stage = turn_took turn (without_memory x) } ≡ task_moved task (at_take false (scene_of shard words task) task.stage)
+  turn_takes_without x takes words =
+      let taken : x ≡ turn_taking out takes.0 task.job slot.serial slot.present = takes.1 ∙ taking_is takes.0 in
+      ap (λ (y : Taken). record { job = task.job; stage = turn_took turn y }) (ap without_memory taken ∙ without out takes.0 task.job slot.serial slot.present) ∙ row_is false words
+
+  pub turn_calls_at : (memory : Bool) (new : Shard) → new ≡ after_taking task.job shard → (words : List ℕ) → new ≡ shard_after (at_take memory (scene_of shard words task) task.stage) task shard
+  turn_calls_at memory new after words =
+      after
+      ∙ (ap (λ (cs : List ObserverCall). with_calls cs n shard) calls_are
+      ∙ (ap (with_calls (turn_calls turn shard.now slot.present w) n) (sym (same_slot shard n))
+      ∙ ap (λ (st : Stage). shard_after (at_take memory (scene_of shard words task) st) task shard) (sym is)))
