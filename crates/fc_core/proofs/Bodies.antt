@@ -19,7 +19,7 @@ use Rattle.coap_block.specs.Uploads.{Add, add_of, block_added, Continues, IsWhol
 use Rattle.fc_registry.specs.declared.job.Ask.TheVariants.{Install as Installs}
 use Rattle.fc_registry.specs.declared.job.Opening.{Opening}
 use Rattle.fc_core.specs.declared.event.Event.{Event}
-use Rattle.fc_core.specs.declared.event.Event.TheVariants.{Deliver, Answer, Tick}
+use Rattle.fc_core.specs.declared.event.Event.TheVariants.{Deliver, Answer, Fresh, Tick}
 use Rattle.coap_reply.specs.Blocks.{cut_for}
 use Rattle.fc_core.specs.BodyLaws.{Asks, BringsInstall, FitsBy, IsAskedAnew, PutsBlock, addition_at, addition_by, asked_at, continue_by}
 use Rattle.fc_core.specs.ExchangeLaws.{IsAsking}
@@ -27,7 +27,7 @@ use Rattle.fc_core.specs.History.{Entry, History, Begins, Then, Seen, added_in, 
 use Rattle.fc_core.specs.Legal.{Emits}
 use Rattle.fc_core.specs.Receiving.{Received, Silenced, Refused, Settled, Opened, add_in, added_by, addition_of, ask_by, brought, job_of, look_in, looked, next_opening, received_added, received_as, received_read, request_received, sent, slot_of_resource}
 use Rattle.coap_reply.specs.Responses.{settled_by}
-use Rattle.fc_core.specs.Stages.{content_at, new_task}
+use Rattle.fc_core.specs.Stages.{content_at, needs_id, new_task}
 use Rattle.fc_core.proofs.Repeats.{new_as, opening_is, opening_of, received_of}
 
 -- ---- moments
@@ -48,6 +48,7 @@ answered_rises false moment now h w = w
 rises_on : (e : Event) (s : Seen) → RisesTo s.moment s.additions → RisesTo (moment_after e s) (added_in e s ++ s.additions)
 rises_on (Deliver now to bytes) s w = with_added (received_at s now to bytes.now) (max s.moment now) to s.additions (rises_later s.moment (max s.moment now) s.additions (le-max_left s.moment now) w)
 rises_on (Answer k now) s w = answered_rises (is_some (content_at (stage s k))) s.moment now s.additions w
+rises_on (Fresh k now) s w = answered_rises (needs_id (stage s k)) s.moment now s.additions w
 rises_on (Tick now) s w = rises_later s.moment (max s.moment now) s.additions (le-max_left s.moment now) w
 rises_on other s w = w
 

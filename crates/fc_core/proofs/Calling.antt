@@ -26,7 +26,7 @@ use Rattle.fc_registry.specs.Watches.{place_from, signal_call}
 use Rattle.fc_verify.specs.Accepted.{Judgement, Accepts, Breaks, Untypable}
 use Rattle.fc_verify.specs.Judged.{judged}
 use Rattle.fc_core.specs.declared.event.Event.{Event}
-use Rattle.fc_core.specs.declared.event.Event.TheVariants.{Peek, Take, Commit, Install, Remove, Receipt, Raise, Answer, GiveUp}
+use Rattle.fc_core.specs.declared.event.Event.TheVariants.{Peek, Take, Commit, Install, Remove, Receipt, Raise, Answer, Fresh, GiveUp}
 use Rattle.fc_core.specs.declared.stage.Stage.{Stage}
 use Rattle.fc_core.specs.declared.stage.Stage.TheVariants.{ToMatch, ToTake, ToCommit, ToInstall, ToRemove, ToDescribe, ToList, ToRaise, ToAnswer, ToTell}
 use Rattle.fc_core.specs.declared.stage.TurnStage.TheVariants as turns
@@ -85,6 +85,8 @@ row_calls (Raise k) job slot ws (ToRaise word content) = NoCall refl
 row_calls (Raise k) job slot ws other = NoCall refl
 row_calls (Answer k now) job slot ws (ToAnswer content) = NoCall refl
 row_calls (Answer k now) job slot ws other = NoCall refl
+row_calls (Fresh k now) job slot ws (ToTell turn (turns.ToDraw found)) = NoCall refl
+row_calls (Fresh k now) job slot ws other = NoCall refl
 row_calls (GiveUp k now) job slot ws (ToTell turn needs) = OfGiveUp turn (max ws.moment now) refl
 row_calls (GiveUp k now) job slot ws other = NoCall refl
 row_calls other job slot ws s = NoCall refl

@@ -13,7 +13,7 @@ use Rattle.fc_registry.specs.declared.commit.CommitOutcome.TheVariants.{Writes, 
 use Rattle.fc_registry.specs.Slots.{Slot, Present, Ticket, last_serial}
 use Rattle.fc_registry.specs.Calls.{clear_by, outcome, put_by, receipt_of, taking}
 use Rattle.fc_core.specs.declared.event.Event.{Event}
-use Rattle.fc_core.specs.declared.event.Event.TheVariants.{Peek, Take, Commit, Install, Remove, Receipt, Raise, Answer, Lose, GiveUp}
+use Rattle.fc_core.specs.declared.event.Event.TheVariants.{Peek, Take, Commit, Install, Remove, Receipt, Raise, Answer, Lose, Fresh, GiveUp}
 use Rattle.fc_core.specs.declared.stage.Stage.{Stage}
 use Rattle.fc_core.specs.declared.stage.Stage.TheVariants.{ToMatch, ToTake, ToCommit, ToInstall, ToRemove, ToDescribe, ToList, ToRaise, ToAnswer, Gone, ToTell}
 use Rattle.fc_core.specs.declared.stage.TurnStage.TheVariants as turns
@@ -87,8 +87,8 @@ next_raises true word seen = listed_raises (nat_lt (length (seen.items ++ word �
 next_raises false word seen = refl
 
 peek_raises : (n : ℕ) (x : Scene) (s : Stage) → (raises s ≡ 0) → 0 ≡ raises (at_peek n x s).stage
-peek_raises n x ToMatch e = own_raises (n == x.job.origin.slot) (word_at x.around.words n) x.job.etags.items
-peek_raises n x (ToList seen) e = next_raises (n == length seen.items) (word_at x.around.words n) seen
+peek_raises n x ToMatch e = own_raises (n == x.job.origin.slot) (word_at x.around.common.words n) x.job.etags.items
+peek_raises n x (ToList seen) e = next_raises (n == length seen.items) (word_at x.around.common.words n) seen
 peek_raises n x other e = sym e
 
 -- what a look changes and leaves to publish: nothing
@@ -113,6 +113,7 @@ row_raises (Commit j now) k job slot ws (ToCommit n t) named e = committed_raise
 row_raises (Install j memory) k job slot ws ToInstall named e = verified_raises memory (at job slot ws ToInstall)
 row_raises (Raise j) k job slot ws (ToRaise word content) named e = refl
 row_raises (Answer j now) k job slot ws (ToAnswer content) named e = refl
+row_raises (Fresh j now) k job slot ws (ToTell turn (turns.ToDraw found)) named e = refl
 row_raises (GiveUp j now) k job slot ws (ToTell turn needs) named e = refl
 row_raises (Lose j) k job slot ws s named e = refl
 row_raises other k job slot ws s named e = absurd (cc)
@@ -169,6 +170,7 @@ row_changes (Commit k now) job slot ws (ToCommit c t) n f = first_change (row (C
 row_changes (Install k memory) job slot ws ToInstall n f = first_change (row (Install k memory) (at job slot ws ToInstall)).stage n (length (row (Install k memory) (at job slot ws ToInstall)).changes) f (row_raises (Install k memory) k job slot ws ToInstall refl refl)
 row_changes (Raise k) job slot ws (ToRaise word content) n f = omega (arith, f)
 row_changes (Answer k now) job slot ws (ToAnswer content) n f = omega (arith, f)
+row_changes (Fresh k now) job slot ws (ToTell turn (turns.ToDraw found)) n f = omega (arith, f)
 row_changes (GiveUp k now) job slot ws (ToTell turn needs) n f = omega (arith, f)
 row_changes (Lose k) job slot ws s n f = omega (arith, one_change s n f)
 row_changes other job slot ws s n f = no_change s n f
@@ -228,6 +230,7 @@ named_stray (Commit j now) own k e = refl
 named_stray (Install j memory) own k e = refl
 named_stray (Raise j) own k e = refl
 named_stray (Answer j now) own k e = refl
+named_stray (Fresh j now) own k e = refl
 named_stray (GiveUp j now) own k e = refl
 named_stray (Lose j) own k e = refl
 named_stray other own k e = absurd (cc)

@@ -16,7 +16,7 @@ use Rattle.fc_registry.proofs.Outcomes.{by_serials, own_run}
 use Rattle.fc_core.specs.Contents.{AreDone}
 use Rattle.fc_core.specs.declared.stage.Stage.TheVariants.{ToRaise}
 use Rattle.fc_core.specs.Heads.{head_word}
-use Rattle.fc_core.specs.Stages.{Around, after_commit, around_of, committed, run_content, shard_moved}
+use Rattle.fc_core.specs.Stages.{Around, Common, after_commit, around_of, committed, run_content, shard_moved}
 
 -- the mark of a commit that is done is of the outcome and the ticket
 done_by : (ran : Ran) (t : Ticket) (slot : Slot) (v : ObserverList) (o : CommitOutcome) → IsOwn ran t slot → ComesTo t slot o → AreDone ran t (commits o t slot.serial v).answer
@@ -73,8 +73,8 @@ stage_of_row Ends n t now serial ws is = refl
 abbrev pub left_by : Ticket → ℕ → Shard → Committed → Slot → Shard
 left_by t now shard c after = with_calls (commit_calls c (max shard.now now) t) t.origin.slot (with_slot (record shard { now = max shard.now now }) t.origin.slot after)
 
-pub shard_of_row : (o : CommitOutcome) (n : ℕ) (t : Ticket) (now : ℕ) (shard : Shard) (words : List ℕ) → (let called = commits o t (slot_in shard t.origin.slot).serial (watch_at shard (t.origin.slot / 8)) in left_by t now shard called.answer (after_changes (slot_in shard t.origin.slot) called.changes)) ≡ shard_moved (committed o n t now (around_of shard words t.origin.slot)) t.origin.slot shard
-shard_of_row Writes n t now shard words = refl
-shard_of_row Keeps n t now shard words = refl
-shard_of_row Overtakes n t now shard words = refl
-shard_of_row Ends n t now shard words = refl
+pub shard_of_row : (o : CommitOutcome) (n : ℕ) (t : Ticket) (now : ℕ) (shard : Shard) (common : Common) → (let called = commits o t (slot_in shard t.origin.slot).serial (watch_at shard (t.origin.slot / 8)) in left_by t now shard called.answer (after_changes (slot_in shard t.origin.slot) called.changes)) ≡ shard_moved (committed o n t now (around_of shard common t.origin.slot)) t.origin.slot shard
+shard_of_row Writes n t now shard common = refl
+shard_of_row Keeps n t now shard common = refl
+shard_of_row Overtakes n t now shard common = refl
+shard_of_row Ends n t now shard common = refl

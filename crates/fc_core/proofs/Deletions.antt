@@ -12,7 +12,7 @@ use Rattle.fc_registry.specs.Slots.{Slot, Present, Ticket, last_serial}
 use Rattle.fc_registry.specs.Changes.{after_changes}
 use Rattle.fc_registry.specs.Calls.{clear_by, outcome, put_by, receipt_at, receipt_of, taking}
 use Rattle.fc_core.specs.declared.event.Event.{Event}
-use Rattle.fc_core.specs.declared.event.Event.TheVariants.{Peek, Take, Commit, Install, Remove, Receipt, Raise, Answer, Lose, GiveUp}
+use Rattle.fc_core.specs.declared.event.Event.TheVariants.{Peek, Take, Commit, Install, Remove, Receipt, Raise, Answer, Lose, Fresh, GiveUp}
 use Rattle.fc_core.specs.declared.stage.Stage.{Stage}
 use Rattle.fc_core.specs.declared.stage.Stage.TheVariants.{ToMatch, ToTake, ToCommit, ToInstall, ToRemove, ToDescribe, ToList, ToRaise, ToAnswer, ToTell}
 use Rattle.fc_core.specs.declared.stage.TurnStage.TheVariants as turns
@@ -93,10 +93,11 @@ row_empties (Commit k now) job slot ws (ToCommit n t) e = inr (committed_empties
 row_empties (Install k memory) job slot ws ToInstall e = inr (verified_empties (after_changes slot (verified memory (at job slot ws ToInstall)).changes) memory (at job slot ws ToInstall) e)
 row_empties (Remove k) job slot ws ToRemove e = inr (clear_empties slot (nat_lt slot.serial last_serial) slot.present refl e)
 row_empties (Receipt k) job slot ws ToDescribe e = inr (told_empties slot slot.present e)
-row_empties (Peek k n) job slot ws ToMatch e = inr (own_empties slot (n == job.origin.slot) (word_at ws.words n) job.etags.items e)
-row_empties (Peek k n) job slot ws (ToList seen) e = inr (next_empties slot (n == length seen.items) (word_at ws.words n) seen e)
+row_empties (Peek k n) job slot ws ToMatch e = inr (own_empties slot (n == job.origin.slot) (word_at ws.common.words n) job.etags.items e)
+row_empties (Peek k n) job slot ws (ToList seen) e = inr (next_empties slot (n == length seen.items) (word_at ws.common.words n) seen e)
 row_empties (Raise k) job slot ws (ToRaise word content) e = inl e
 row_empties (Answer k now) job slot ws (ToAnswer content) e = absurd (cc e)
+row_empties (Fresh k now) job slot ws (ToTell turn (turns.ToDraw found)) e = absurd (cc e)
 row_empties (GiveUp k now) job slot ws (ToTell turn needs) e = absurd (cc e)
 row_empties (Lose k) job slot ws s e = absurd (cc e)
 row_empties other job slot ws s e = inl e

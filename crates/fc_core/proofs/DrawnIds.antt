@@ -6,15 +6,21 @@ use Rattle.std.proofs.lemmas.Bool.{cases_eq, eq-eqb, ne_eqb}
 use Rattle.std.proofs.lemmas.List.{get_or-set_same, get_or-set_other, length-replicate}
 use Rattle.std.proofs.Math.Nat.{le-max_left}
 use Rattle.fc_core.specs.declared.event.Event.{Event}
-use Rattle.fc_core.specs.declared.event.Event.TheVariants.{Deliver, Answer, Tick}
+use Rattle.fc_core.specs.declared.event.Event.TheVariants.{Deliver, Answer, Fresh, Tick}
+use Rattle.coap_msg.specs.declared.types.Emission.{Emission}
+use Rattle.fc_observe.specs.declared.entry.Turn.{Turn}
+use Rattle.fc_registry.specs.Slots.{Ticket}
+use Rattle.fc_core.specs.declared.stage.Stage.{Stage}
+use Rattle.fc_core.specs.declared.stage.Stage.TheVariants.{ToTell}
+use Rattle.fc_core.specs.declared.stage.TurnStage.TheVariants as turns
 use Rattle.fc_core.specs.Contents.{Content}
 use Rattle.fc_core.specs.Exchanges.{opening_is_live}
 use Rattle.fc_core.specs.ExchangeLaws.{AllBefore, AreApart, AreInOrder, Draw, draws_by, draws_of, first_id}
-use Rattle.fc_core.specs.History.{History, Begins, Then, Seen, seen, and_then, ids_after, ids_answered, job, moment_after, received_at, stage}
-use Rattle.fc_core.specs.Ids.{Ids, drawn_by, drawn_for, is_recent, last_drawn, no_draws}
+use Rattle.fc_core.specs.History.{History, Begins, Then, Seen, seen, and_then, did, ids_after, ids_answered, job, moment_after, received_at, stage}
+use Rattle.fc_core.specs.Ids.{Ids, drawn, drawn_by, drawn_for, free_by, free_id, is_recent, last_drawn, no_draws}
 use Rattle.fc_core.specs.Receiving.{Received, Full, Refused, Settled, is_confirmable}
 use Rattle.fc_core.specs.Receiving as receiving
-use Rattle.fc_core.specs.Stages.{content_at}
+use Rattle.fc_core.specs.Stages.{content_at, needs_id}
 
 -- the ids after an event at a moment: as before, or after a draw of the next, which wasn't drawn in a window
 data Draws (old : Ids) (at : ℕ) (new : Ids) : Type 0 where
@@ -40,9 +46,14 @@ draw_answered (Some content) true confirmable old m now = draw_for confirmable o
 draw_answered (Some content) false confirmable old m now = Same refl
 draw_answered None live confirmable old m now = Same refl
 
+draw_needed : (b : Bool) (old : Ids) (m now : ℕ) → Draws old (if b then max m now else m) (if b then drawn old (max m now) else old)
+draw_needed true old m now = draw_if old (max m now) (is_recent (max m now) (last_drawn old)) refl
+draw_needed false old m now = Same refl
+
 event_draws : (e : Event) (s : Seen) → Draws s.ids (moment_after e s) (ids_after e s)
 event_draws (Deliver now to bytes) s = draw_received (received_at s now to bytes.now) s.ids (max s.moment now)
 event_draws (Answer k now) s = draw_answered (content_at (stage s k)) (opening_is_live (max s.moment now) (job s k).origin.opening) (job s k).confirmable s.ids s.moment now
+event_draws (Fresh k now) s = draw_needed (needs_id (stage s k)) s.ids s.moment now
 event_draws other s = Same refl
 
 -- each draw was at the moment at which its id was last drawn, or before
@@ -94,6 +105,7 @@ moment_rises : (e : Event) (s : Seen) → s.moment ≤ moment_after e s
 moment_rises (Deliver now to bytes) s = le-max_left s.moment now
 moment_rises (Tick now) s = le-max_left s.moment now
 moment_rises (Answer k now) s = rises_if (is_some (content_at (stage s k))) s.moment now
+moment_rises (Fresh k now) s = rises_if (needs_id (stage s k)) s.moment now
 moment_rises other s = omega arith
 
 step : (first : ℕ) (old new : Ids) (m at : ℕ) (ds : List Draw) → m ≤ at → AreKept first old m ds → Draws old at new → AreKept first new at (draws_by (new.next == old.next) (record { id = old.next; at = at }) ds)
@@ -122,6 +134,24 @@ all_kept : (h : History) → first_id h < 65536 → AreKept (first_id h) (seen h
 unfolding seen
 all_kept (Begins serial id) lt = record { next = omega (arith, lt); room = none_room; kept = tt; past = tt; order = tt; apart = tt }
 all_kept (Then h r) lt = step (first_id h) (seen h).ids (and_then r (seen h)).ids (seen h).moment (moment_after r.event (seen h)) (draws_of h) (moment_rises r.event (seen h)) (all_kept h lt) (event_draws r.event (seen h))
+
+-- ---- a turn's draw
+
+by_test : (ids : Ids) (at id : ℕ) (b : Bool) → ids.next < 65536 → free_by b ids.next ≡ Some id → (((drawn_by b ids at).next == ids.next) ≡ false) × (ids.next ≡ id)
+by_test ids at id true lt free = absurd (cc free)
+by_test ids at id false lt free = (ne_eqb ((ids.next + 1) % 65536) ids.next (λ q. omega (arith, q, lt)), cc free)
+
+module _ (h : History) (k now id : ℕ) (turn : Turn) (found : Option Ticket) (o : Option Emission) where
+  pub turn_draws : first_id h < 65536 → stage (seen h) k ≡ ToTell turn (turns.ToDraw found) → free_id (seen h).ids (max (seen h).moment now) ≡ Some id → draws_of (Then h (did (Fresh k now) o)) ≡ record { id = id; at = max (seen h).moment now } ∷ draws_of h
+  unfolding seen
+  turn_draws lt is free =
+      let s = seen h in
+      let at = max s.moment now in
+      let kept = all_kept h lt in
+      let test = by_test s.ids at id (is_recent at (last_drawn s.ids)) (let next = kept.next in omega (arith, next)) free in
+      let drew : ((and_then (did (Fresh k now) o) s).ids.next == s.ids.next) ≡ false = ap (λ (st : Stage). (if needs_id st then drawn s.ids at else s.ids).next == s.ids.next) is ∙ test.0 in
+      let moment : (and_then (did (Fresh k now) o) s).moment ≡ at = ap (λ (st : Stage). if needs_id st then at else s.moment) is in
+      λ i. draws_by (drew i) (record { id = test.1 i; at = moment i }) (draws_of h)
 
 pub ids_in_order : (h : History) → first_id h < 65536 → AreInOrder (first_id h) (draws_of h)
 ids_in_order h lt = (all_kept h lt).order

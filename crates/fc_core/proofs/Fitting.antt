@@ -23,7 +23,7 @@ use Rattle.fc_registry.specs.Record.{IsChain, IsLink, code_class}
 use Rattle.fc_registry.specs.declared.receipt.Receipt.{Receipt as Facts}
 use Rattle.fc_registry.specs.Calls.{HasGiven, clear_by, commit_of, input_of, is_post, meaning_at, outcome, outcome_by, put_by, receipt_at, receipt_of, request_of, taking, wants, is_out_at, turn_taking}
 use Rattle.fc_core.specs.declared.event.Event.{Event}
-use Rattle.fc_core.specs.declared.event.Event.TheVariants.{Peek, Take, Commit as Commits, Install, Remove, Receipt, Raise, Answer, Lose, GiveUp}
+use Rattle.fc_core.specs.declared.event.Event.TheVariants.{Peek, Take, Commit as Commits, Install, Remove, Receipt, Raise, Answer, Lose, Fresh, GiveUp}
 use Rattle.fc_core.specs.declared.stage.Stage.{Stage}
 use Rattle.fc_core.specs.declared.stage.Stage.TheVariants.{ToMatch, ToTake, ToCommit, ToInstall, ToRemove, ToDescribe, ToList, ToRaise, ToAnswer, Gone, ToTell}
 use Rattle.fc_core.specs.declared.stage.TurnStage.{TurnStage}
@@ -34,7 +34,7 @@ use Rattle.fc_core.specs.Heads.{is_match, word_at}
 use Rattle.fc_core.specs.Fits.{FitsPresent, FitsSlot, FitsStage, FitsTurn, HasNext, IsTicketOf}
 use Rattle.fc_core.specs.Receiving.{AskWithin}
 use Rattle.fc_core.specs.Sound.{AllSafe}
-use Rattle.fc_core.specs.Stages.{Around, Scene, committed, first_by, first_or_turn, first_stage, image_of, installed, made, matched_by, peeked_next, peeked_own, removed, row, told, took, verified, turn_took}
+use Rattle.fc_core.specs.Stages.{Around, Scene, committed, first_by, first_or_turn, first_stage, image_of, installed, made, matched_by, peeked_next, peeked_own, removed, row, told, took, verified, turn_took, with_id}
 
 -- ---- slots
 
@@ -66,6 +66,8 @@ ticket_changed job slot t cs own = record { origin = own.origin; turn = own.turn
 turn_changed : (job : Job) (slot : Slot) (needs : TurnStage) (cs : List Change) → FitsTurn job slot needs → FitsTurn job (after_changes slot cs) needs
 turn_changed job slot (turns.ToDraw (Some t)) cs own = ticket_changed job slot t cs own
 turn_changed job slot (turns.ToDraw None) cs own = tt
+turn_changed job slot (turns.ToNote (Some t) id) cs own = ticket_changed job slot t cs own
+turn_changed job slot (turns.ToNote None id) cs own = tt
 turn_changed job slot turns.ToTake cs own = tt
 
 -- a job fits its slot after changes
@@ -164,10 +166,16 @@ next_fits : (job : Job) (slot : Slot) (b : Bool) (word : ℕ) (seen : ArrayVec �
 next_fits job slot true word seen lt = listed_fits job slot (nat_lt (length (seen.items ++ word ∷ [])) 64) (seen.items ++ word ∷ []) refl
 next_fits job slot false word seen lt = lt
 
+drawn_fits : (job : Job) (slot : Slot) (found : Option Ticket) (free : Option ℕ) → FitsTurn job slot (turns.ToDraw found) → FitsTurn job slot (with_id found free)
+drawn_fits job slot (Some t) (Some id) own = own
+drawn_fits job slot (Some t) None own = own
+drawn_fits job slot None (Some id) own = tt
+drawn_fits job slot None None own = tt
+
 -- a job that an event moved fits its slot as it was
 pub row_fits : (e : Event) (job : Job) (slot : Slot) (ws : Around) (s : Stage) → FitsStage job slot s → FitsStage job slot (row e (at job slot ws s)).stage
-row_fits (Peek k n) job slot ws ToMatch f = own_fits job slot (n == job.origin.slot) (word_at ws.words n) job.etags.items f
-row_fits (Peek k n) job slot ws (ToList seen) f = next_fits job slot (n == length seen.items) (word_at ws.words n) seen f
+row_fits (Peek k n) job slot ws ToMatch f = own_fits job slot (n == job.origin.slot) (word_at ws.common.words n) job.etags.items f
+row_fits (Peek k n) job slot ws (ToList seen) f = next_fits job slot (n == length seen.items) (word_at ws.common.words n) seen f
 row_fits (Remove k) job slot ws ToRemove f = clear_fits job slot (nat_lt slot.serial last_serial) slot.serial slot.present
 row_fits (Receipt k) job slot ws ToDescribe f = told_fits job slot (receipt_at slot.present)
 row_fits (Lose k) job slot ws s f = tt
@@ -177,6 +185,7 @@ row_fits (Commits k now) job slot ws (ToCommit n t) f = committed_fits job slot 
 row_fits (Install k memory) job slot ws ToInstall f = verified_fits memory (at job slot ws ToInstall)
 row_fits (Raise k) job slot ws (ToRaise word content) f = f
 row_fits (Answer k now) job slot ws (ToAnswer content) f = tt
+row_fits (Fresh k now) job slot ws (ToTell turn (turns.ToDraw found)) f = (f.0, f.1, drawn_fits job slot found (ws.common.free now) f.2)
 row_fits (GiveUp k now) job slot ws (ToTell turn needs) f = tt
 row_fits other job slot ws s f = f
 
@@ -248,6 +257,7 @@ row_chain (Take k memory) job first cs ws (ToTake n) f chain = chain
 row_chain (Take k memory) job first cs ws (ToTell turn turns.ToTake) f chain = chain
 row_chain (Raise k) job first cs ws (ToRaise word content) f chain = chain
 row_chain (Answer k now) job first cs ws (ToAnswer content) f chain = chain
+row_chain (Fresh k now) job first cs ws (ToTell turn (turns.ToDraw found)) f chain = chain
 row_chain (GiveUp k now) job first cs ws (ToTell turn needs) f chain = chain
 row_chain other job first cs ws s f chain = chain
 
@@ -303,5 +313,6 @@ row_safe (Take k memory) job slot ws (ToTake n) within f safe fits = fits
 row_safe (Take k memory) job slot ws (ToTell turn turns.ToTake) within f safe fits = fits
 row_safe (Raise k) job slot ws (ToRaise word content) within f safe fits = fits
 row_safe (Answer k now) job slot ws (ToAnswer content) within f safe fits = fits
+row_safe (Fresh k now) job slot ws (ToTell turn (turns.ToDraw found)) within f safe fits = fits
 row_safe (GiveUp k now) job slot ws (ToTell turn needs) within f safe fits = fits
 row_safe other job slot ws s within f safe fits = fits

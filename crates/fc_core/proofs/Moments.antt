@@ -9,23 +9,28 @@ use Rattle.fc_registry.specs.declared.commit.CommitOutcome.TheVariants.{Writes, 
 use Rattle.fc_registry.specs.Slots.{Slot, Ticket}
 use Rattle.fc_registry.specs.Calls.{outcome}
 use Rattle.fc_core.specs.declared.event.Event.{Event}
-use Rattle.fc_core.specs.declared.event.Event.TheVariants.{Deliver, Peek, Take, Commit, Install, Remove, Receipt, Raise, Answer, Tick, GiveUp, Due, ShardTick}
+use Rattle.fc_core.specs.declared.event.Event.TheVariants.{Deliver, Peek, Take, Commit, Install, Remove, Receipt, Raise, Answer, Tick, Fresh, GiveUp, Due, ShardTick}
 use Rattle.fc_core.specs.declared.stage.Stage.{Stage}
 use Rattle.fc_core.specs.declared.stage.Stage.TheVariants.{ToMatch, ToTake, ToCommit, ToInstall, ToRemove, ToDescribe, ToList, ToRaise, ToAnswer, ToTell}
 use Rattle.fc_core.specs.declared.stage.TurnStage.TheVariants as turns
-use Rattle.fc_core.specs.AnswerLaws.{answer_moment, row_moment, greatest, is_of_shard, own_moment, moments_in, moments_of, shard_moments_of}
+use Rattle.fc_core.specs.AnswerLaws.{answer_moment, draw_moment, row_moment, greatest, is_of_shard, own_moment, moments_in, moments_of, shard_moments_of}
 use Rattle.fc_core.specs.History.{around, History, Begins, Then, Seen, seen, job, moment_after, scene, shard_hands, shard_moment_after, slot_at, stage}
 use Rattle.fc_core.specs.Laws.{slot_of, stage_named}
-use Rattle.fc_core.specs.Stages.{Around, Scene, content_at, committed, handed, image_of, installed, names, row, verified}
+use Rattle.fc_core.specs.Stages.{Around, Scene, content_at, committed, handed, image_of, installed, names, needs_id, row, verified}
 
 answer_handed : (st : Stage) (m now : ℕ) (ms : List ℕ) → m ≡ greatest ms → (if is_some (content_at st) then max m now else m) ≡ greatest (answer_moment st now ++ ms)
 answer_handed (ToAnswer content) m now ms is = ap (λ (x : ℕ). max x now) is
 answer_handed other m now ms is = is
 
+draw_handed : (st : Stage) (m now : ℕ) (ms : List ℕ) → m ≡ greatest ms → (if needs_id st then max m now else m) ≡ greatest (draw_moment st now ++ ms)
+draw_handed (ToTell turn (turns.ToDraw found)) m now ms is = ap (λ (x : ℕ). max x now) is
+draw_handed other m now ms is = is
+
 front_handed : (e : Event) (s : Seen) (ms : List ℕ) → s.moment ≡ greatest ms → moment_after e s ≡ greatest (moments_in e s ++ ms)
 front_handed (Deliver now to bytes) s ms is = ap (λ (x : ℕ). max x now) is
 front_handed (Tick now) s ms is = ap (λ (x : ℕ). max x now) is
 front_handed (Answer k now) s ms is = answer_handed (stage s k) s.moment now ms is
+front_handed (Fresh k now) s ms is = draw_handed (stage s k) s.moment now ms is
 front_handed other s ms is = is
 
 pub moment_is_greatest : (h : History) → (seen h).moment ≡ greatest (moments_of h)
@@ -58,6 +63,7 @@ row_handed (Take k memory) job slot ws (ToTake n) m ms is = is
 row_handed (Take k memory) job slot ws (ToTell turn turns.ToTake) m ms is = is
 row_handed (Raise k) job slot ws (ToRaise word content) m ms is = is
 row_handed (Answer k now) job slot ws (ToAnswer content) m ms is = is
+row_handed (Fresh k now) job slot ws (ToTell turn (turns.ToDraw found)) m ms is = is
 row_handed (GiveUp k now) job slot ws (ToTell turn needs) m ms is = ap (λ (x : ℕ). max x now) is
 row_handed (Peek k n) job slot ws ToMatch m ms is = is
 row_handed (Peek k n) job slot ws (ToList seen) m ms is = is

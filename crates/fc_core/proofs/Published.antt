@@ -11,7 +11,7 @@ use Rattle.fc_registry.specs.Slots.{Slot, Present, Ticket, last_serial, new_slot
 use Rattle.fc_registry.specs.Changes.{after_changes, with_vars}
 use Rattle.fc_registry.specs.Calls.{clear_by, commit_of, outcome, put_by, receipt_of, taking}
 use Rattle.fc_core.specs.declared.event.Event.{Event}
-use Rattle.fc_core.specs.declared.event.Event.TheVariants.{Peek, Take, Commit as Commits, Install, Remove, Receipt, Raise, Answer, Lose, GiveUp}
+use Rattle.fc_core.specs.declared.event.Event.TheVariants.{Peek, Take, Commit as Commits, Install, Remove, Receipt, Raise, Answer, Lose, Fresh, GiveUp}
 use Rattle.fc_core.specs.declared.stage.Stage.{Stage}
 use Rattle.fc_core.specs.declared.stage.Stage.TheVariants.{ToMatch, ToTake, ToCommit, ToInstall, ToRemove, ToDescribe, ToList, ToRaise, ToAnswer, ToTell}
 use Rattle.fc_core.specs.declared.stage.TurnStage.TheVariants as turns
@@ -101,10 +101,11 @@ row_publishes (Remove k) job slot ws ToRemove f = clear_publishes slot (nat_lt s
 row_publishes (Take k memory) job slot ws (ToTake n) f = took_publishes slot (ToTake n) memory job slot.serial n slot.present
 row_publishes (Take k memory) job slot ws (ToTell turn turns.ToTake) f = after_turn (PublishesAt slot (ToTell turn turns.ToTake)) (λ turn needs. tt) tt memory turn (at job slot ws (ToTell turn turns.ToTake))
 row_publishes (Receipt k) job slot ws ToDescribe f = tt
-row_publishes (Peek k n) job slot ws ToMatch f = own_publishes slot ToMatch (n == job.origin.slot) (word_at ws.words n) job.etags.items
-row_publishes (Peek k n) job slot ws (ToList seen) f = next_publishes slot (ToList seen) (n == length seen.items) (word_at ws.words n) seen
+row_publishes (Peek k n) job slot ws ToMatch f = own_publishes slot ToMatch (n == job.origin.slot) (word_at ws.common.words n) job.etags.items
+row_publishes (Peek k n) job slot ws (ToList seen) f = next_publishes slot (ToList seen) (n == length seen.items) (word_at ws.common.words n) seen
 row_publishes (Raise k) job slot ws (ToRaise word content) f = tt
 row_publishes (Answer k now) job slot ws (ToAnswer content) f = tt
+row_publishes (Fresh k now) job slot ws (ToTell turn (turns.ToDraw found)) f = tt
 row_publishes (GiveUp k now) job slot ws (ToTell turn needs) f = tt
 row_publishes (Lose k) job slot ws s f = tt
 row_publishes other job slot ws s f = same_publishes slot s

@@ -16,7 +16,7 @@ use Rattle.fc_registry.specs.declared.commit.CommitOutcome.TheVariants.{Writes, 
 use Rattle.fc_registry.specs.Slots.{Slot, Present, Ticket, last_serial}
 use Rattle.fc_registry.specs.Calls.{is_observed, clear_by, outcome, outcome_by, put_by, receipt_at, receipt_of, taking, wants}
 use Rattle.fc_core.specs.declared.event.Event.{Event}
-use Rattle.fc_core.specs.declared.event.Event.TheVariants.{Peek, Take, Commit, Install, Remove, Receipt, Raise, Answer, Lose, GiveUp}
+use Rattle.fc_core.specs.declared.event.Event.TheVariants.{Peek, Take, Commit, Install, Remove, Receipt, Raise, Answer, Lose, Fresh, GiveUp}
 use Rattle.fc_core.specs.declared.stage.Stage.{Stage}
 use Rattle.fc_core.specs.declared.stage.Stage.TheVariants.{ToMatch, ToTake, ToCommit, ToInstall, ToRemove, ToDescribe, ToList, ToRaise, ToAnswer, ToTell}
 use Rattle.fc_core.specs.declared.stage.TurnStage.TheVariants as turns
@@ -42,7 +42,7 @@ at job slot ws stage = record { job = job; slot = slot; around = ws; stage = sta
 module _ (k : ℕ) (job : Job) (slot : Slot) (ws : Around) (taken : ℕ) where
   -- it answers this for a reason
   abbrev Why : Event → Stage → Content → Type 0
-  Why e s c = IsCause e k job slot ws.words s taken c
+  Why e s c = IsCause e k job slot ws.common.words s taken c
 
   abbrev Answered : Event → Stage → Stage → Content → Type 0
   Answered e s new c = answer_at new ≡ Some c → Why e s c
@@ -138,32 +138,32 @@ module _ (k : ℕ) (job : Job) (slot : Slot) (ws : Around) (taken : ℕ) where
   both true b e = (refl, e)
   both false b e = absurd (cc)
 
-  matched_why : (word : ℕ) (b : Bool) (c : Content) → word ≡ word_at ws.words job.origin.slot → is_match word job.etags.items ≡ b → Answered (Peek k job.origin.slot) ToMatch (matched_by b word) c
+  matched_why : (word : ℕ) (b : Bool) (c : Content) → word ≡ word_at ws.common.words job.origin.slot → is_match word job.etags.items ≡ b → Answered (Peek k job.origin.slot) ToMatch (matched_by b word) c
   matched_why word true c is e f =
       let tests = both (is_present word) (list_any (λ x. x == serial_in word) job.etags.items) e in
       let odd = eqb-true (word % 2) 1 tests.0 in
       so (Peek k job.origin.slot) ToMatch (Valid (serial_in word)) c (record { event = refl; is = refl; word = sym is ∙ omega (arith, odd); asked = among job.etags.items (serial_in word) tests.1 }) f
   matched_why word false c is e f = absurd (cc f)
 
-  own_why : (n : ℕ) (b : Bool) (c : Content) → (n == job.origin.slot) ≡ b → Answered (Peek k n) ToMatch (peeked_own b (word_at ws.words n) job.etags.items) c
+  own_why : (n : ℕ) (b : Bool) (c : Content) → (n == job.origin.slot) ≡ b → Answered (Peek k n) ToMatch (peeked_own b (word_at ws.common.words n) job.etags.items) c
   own_why n true c is e =
       let same = eqb-true n job.origin.slot is in
-      subst (λ (i : ℕ). Answered (Peek k i) ToMatch (peeked_own true (word_at ws.words i) job.etags.items) c) (sym same)
-      (matched_why (word_at ws.words job.origin.slot) (is_match (word_at ws.words job.origin.slot) job.etags.items) c refl refl) e
+      subst (λ (i : ℕ). Answered (Peek k i) ToMatch (peeked_own true (word_at ws.common.words i) job.etags.items) c) (sym same)
+      (matched_why (word_at ws.common.words job.origin.slot) (is_match (word_at ws.common.words job.origin.slot) job.etags.items) c refl refl) e
   own_why n false c is e = absurd (cc e)
 
-  listed_why : (seen : ArrayVec ℕ) (n : ℕ) (b : Bool) (c : Content) → n ≡ length seen.items → length seen.items < 64 → nat_lt (length (seen.items ++ word_at ws.words n ∷ [])) 64 ≡ b → Answered (Peek k n) (ToList seen) (if b then ToList (record { items = seen.items ++ word_at ws.words n ∷ [] }) else ToAnswer (Listed (seen.items ++ word_at ws.words n ∷ []))) c
+  listed_why : (seen : ArrayVec ℕ) (n : ℕ) (b : Bool) (c : Content) → n ≡ length seen.items → length seen.items < 64 → nat_lt (length (seen.items ++ word_at ws.common.words n ∷ [])) 64 ≡ b → Answered (Peek k n) (ToList seen) (if b then ToList (record { items = seen.items ++ word_at ws.common.words n ∷ [] }) else ToAnswer (Listed (seen.items ++ word_at ws.common.words n ∷ []))) c
   listed_why seen n true c is below lt e = absurd (cc e)
   listed_why seen n false c is below lt e =
-      let len : length (seen.items ++ word_at ws.words n ∷ []) ≡ length seen.items + 1 = length-append seen.items (word_at ws.words n ∷ []) in
-      let past : 64 ≤ length (seen.items ++ word_at ws.words n ∷ []) = ltb-false (length (seen.items ++ word_at ws.words n ∷ [])) 64 lt in
+      let len : length (seen.items ++ word_at ws.common.words n ∷ []) ≡ length seen.items + 1 = length-append seen.items (word_at ws.common.words n ∷ []) in
+      let past : 64 ≤ length (seen.items ++ word_at ws.common.words n ∷ []) = ltb-false (length (seen.items ++ word_at ws.common.words n ∷ [])) 64 lt in
       let last : n ≡ 63 = omega (arith, is, below, len, past) in
-      let count : length (seen.items ++ word_at ws.words n ∷ []) ≡ 64 = omega (arith, below, len, past) in
-      so (Peek k n) (ToList seen) (Listed (seen.items ++ word_at ws.words n ∷ [])) c
-      (record { seen = seen; event = ap (Peek k) last; is = refl; list_is = ap (λ (i : ℕ). seen.items ++ word_at ws.words i ∷ []) last; count = count }) e
+      let count : length (seen.items ++ word_at ws.common.words n ∷ []) ≡ 64 = omega (arith, below, len, past) in
+      so (Peek k n) (ToList seen) (Listed (seen.items ++ word_at ws.common.words n ∷ [])) c
+      (record { seen = seen; event = ap (Peek k) last; is = refl; list_is = ap (λ (i : ℕ). seen.items ++ word_at ws.common.words i ∷ []) last; count = count }) e
 
-  next_why : (seen : ArrayVec ℕ) (n : ℕ) (b : Bool) (c : Content) → (n == length seen.items) ≡ b → length seen.items < 64 → Answered (Peek k n) (ToList seen) (peeked_next b (word_at ws.words n) seen) c
-  next_why seen n true c is below e = listed_why seen n (nat_lt (length (seen.items ++ word_at ws.words n ∷ [])) 64) c (eqb-true n (length seen.items) is) below refl e
+  next_why : (seen : ArrayVec ℕ) (n : ℕ) (b : Bool) (c : Content) → (n == length seen.items) ≡ b → length seen.items < 64 → Answered (Peek k n) (ToList seen) (peeked_next b (word_at ws.common.words n) seen) c
+  next_why seen n true c is below e = listed_why seen n (nat_lt (length (seen.items ++ word_at ws.common.words n ∷ [])) 64) c (eqb-true n (length seen.items) is) below refl e
   next_why seen n false c is below e = absurd (cc e)
 
 -- how many tickets a job took that is to commit; a job that lists head words has yet one to read
@@ -172,25 +172,27 @@ IsCount (ToCommit n t) taken = (taken ≡ n) × (n ≤ 8)
 IsCount (ToList seen) taken = length seen.items < 64
 IsCount other taken = Unit {0}
 
-row_why : (e : Event) (k : ℕ) (job : Job) (slot : Slot) (ws : Around) (s : Stage) (taken : ℕ) (c : Content) → names e ≡ Some k → IsCount s taken → answer_at (row e (at job slot ws s)).stage ≡ Some c → (answer_at s ≡ Some c) ⊎ IsCause e k job slot ws.words s taken c
-row_why (Peek j n) k job slot ws ToMatch taken c named f e = let same : j ≡ k = cc named in inr (subst (λ (i : ℕ). IsCause (Peek i n) k job slot ws.words ToMatch taken c) (sym same) (own_why k job slot ws taken n (n == job.origin.slot) c refl e))
-row_why (Peek j n) k job slot ws (ToList seen) taken c named f e = let same : j ≡ k = cc named in inr (subst (λ (i : ℕ). IsCause (Peek i n) k job slot ws.words (ToList seen) taken c) (sym same) (next_why k job slot ws taken seen n (n == length seen.items) c refl f e))
+row_why : (e : Event) (k : ℕ) (job : Job) (slot : Slot) (ws : Around) (s : Stage) (taken : ℕ) (c : Content) → names e ≡ Some k → IsCount s taken → answer_at (row e (at job slot ws s)).stage ≡ Some c → (answer_at s ≡ Some c) ⊎ IsCause e k job slot ws.common.words s taken c
+row_why (Peek j n) k job slot ws ToMatch taken c named f e = let same : j ≡ k = cc named in inr (subst (λ (i : ℕ). IsCause (Peek i n) k job slot ws.common.words ToMatch taken c) (sym same) (own_why k job slot ws taken n (n == job.origin.slot) c refl e))
+row_why (Peek j n) k job slot ws (ToList seen) taken c named f e = let same : j ≡ k = cc named in inr (subst (λ (i : ℕ). IsCause (Peek i n) k job slot ws.common.words (ToList seen) taken c) (sym same) (next_why k job slot ws taken seen n (n == length seen.items) c refl f e))
 row_why (Peek j n) k job slot ws other taken c named f e = inl e
-row_why (Remove j) k job slot ws ToRemove taken c named f e = let same : j ≡ k = cc named in inr (subst (λ (i : ℕ). IsCause (Remove i) k job slot ws.words ToRemove taken c) (sym same) (clear_why k job slot ws taken (nat_lt slot.serial last_serial) slot.present c refl refl e))
+row_why (Remove j) k job slot ws ToRemove taken c named f e = let same : j ≡ k = cc named in inr (subst (λ (i : ℕ). IsCause (Remove i) k job slot ws.common.words ToRemove taken c) (sym same) (clear_why k job slot ws taken (nat_lt slot.serial last_serial) slot.present c refl refl e))
 row_why (Remove j) k job slot ws other taken c named f e = inl e
-row_why (Receipt j) k job slot ws ToDescribe taken c named f e = let same : j ≡ k = cc named in inr (subst (λ (i : ℕ). IsCause (Receipt i) k job slot ws.words ToDescribe taken c) (sym same) (told_why k job slot ws taken slot.present c refl e))
+row_why (Receipt j) k job slot ws ToDescribe taken c named f e = let same : j ≡ k = cc named in inr (subst (λ (i : ℕ). IsCause (Receipt i) k job slot ws.common.words ToDescribe taken c) (sym same) (told_why k job slot ws taken slot.present c refl e))
 row_why (Receipt j) k job slot ws other taken c named f e = inl e
-row_why (Take j memory) k job slot ws (ToTake n) taken c named f e = let same : j ≡ k = cc named in inr (subst (λ (i : ℕ). IsCause (Take i memory) k job slot ws.words (ToTake n) taken c) (sym same) (taking_why k job slot ws taken memory n slot.present c refl e))
+row_why (Take j memory) k job slot ws (ToTake n) taken c named f e = let same : j ≡ k = cc named in inr (subst (λ (i : ℕ). IsCause (Take i memory) k job slot ws.common.words (ToTake n) taken c) (sym same) (taking_why k job slot ws taken memory n slot.present c refl e))
 row_why (Take j memory) k job slot ws (ToTell turn turns.ToTake) taken c named f e = absurd (after_turn (λ st. answer_at st ≡ Some c → ⊥) (λ turn needs e. cc e) (λ e. cc e) memory turn (at job slot ws (ToTell turn turns.ToTake)) e)
 row_why (Take j memory) k job slot ws other taken c named f e = inl e
-row_why (Commit j now) k job slot ws (ToCommit n t) taken c named f e = let same : j ≡ k = cc named in inr (subst (λ (i : ℕ). IsCause (Commit i now) k job slot ws.words (ToCommit n t) taken c) (sym same) (committed_why k job slot ws taken now n t (outcome t slot) c f.0 f.1 refl e))
+row_why (Commit j now) k job slot ws (ToCommit n t) taken c named f e = let same : j ≡ k = cc named in inr (subst (λ (i : ℕ). IsCause (Commit i now) k job slot ws.common.words (ToCommit n t) taken c) (sym same) (committed_why k job slot ws taken now n t (outcome t slot) c f.0 f.1 refl e))
 row_why (Commit j now) k job slot ws other taken c named f e = inl e
-row_why (Install j memory) k job slot ws ToInstall taken c named f e = let same : j ≡ k = cc named in inr (subst (λ (i : ℕ). IsCause (Install i memory) k job slot ws.words ToInstall taken c) (sym same) (verified_why k job slot ws taken memory c e))
+row_why (Install j memory) k job slot ws ToInstall taken c named f e = let same : j ≡ k = cc named in inr (subst (λ (i : ℕ). IsCause (Install i memory) k job slot ws.common.words ToInstall taken c) (sym same) (verified_why k job slot ws taken memory c e))
 row_why (Install j memory) k job slot ws other taken c named f e = inl e
 row_why (Raise j) k job slot ws (ToRaise word content) taken c named f e = inl e
 row_why (Raise j) k job slot ws other taken c named f e = inl e
 row_why (Answer j now) k job slot ws (ToAnswer content) taken c named f e = absurd (cc e)
 row_why (Answer j now) k job slot ws other taken c named f e = inl e
+row_why (Fresh j now) k job slot ws (ToTell turn (turns.ToDraw found)) taken c named f e = inl e
+row_why (Fresh j now) k job slot ws other taken c named f e = inl e
 row_why (GiveUp j now) k job slot ws (ToTell turn needs) taken c named f e = absurd (cc e)
 row_why (GiveUp j now) k job slot ws other taken c named f e = inl e
 row_why (Lose j) k job slot ws s taken c named f e = absurd (cc e)

@@ -6,12 +6,12 @@ use Rattle.coap_msg.specs.declared.types.Emission.{Emission}
 use Rattle.fc_registry.specs.declared.job.Job.{Job}
 use Rattle.fc_registry.specs.Slots.{Slot}
 use Rattle.fc_core.specs.declared.event.Event.{Event}
-use Rattle.fc_core.specs.declared.event.Event.TheVariants.{Deliver, Peek, Take, Commit, Install, Remove, Receipt, Raise, Answer, Signal, Tick, ShardTick, Lose, GiveUp, Due}
+use Rattle.fc_core.specs.declared.event.Event.TheVariants.{Deliver, Peek, Take, Commit, Install, Remove, Receipt, Raise, Answer, Signal, Tick, ShardTick, Lose, Fresh, GiveUp, Due}
 use Rattle.fc_core.specs.declared.stage.Stage.{Stage}
 use Rattle.fc_core.specs.declared.stage.Stage.TheVariants.{ToMatch, ToTake, ToCommit, ToInstall, ToRemove, ToDescribe, ToList, ToRaise, ToAnswer, Gone, ToTell}
 use Rattle.fc_core.specs.declared.stage.TurnStage.TheVariants as turns
 use Rattle.fc_core.specs.Contents.{Content}
-use Rattle.fc_core.specs.Stages.{Around, Move, Scene, content_at, handed, task_moved, moves, names, peeked_next, peeked_own, row, words_after}
+use Rattle.fc_core.specs.Stages.{Around, Move, Scene, content_at, handed, task_moved, moves, names, needs_id, peeked_next, peeked_own, row, words_after}
 use Rattle.fc_core.specs.Heads.{word_at}
 use Rattle.arrayvec.specs.ArrayVec.{ArrayVec}
 use Rattle.fc_core.specs.History.{Entry, Seen, added_in, and_then, calls_in, calls_named, changes_after, did, exchanges_after, ids_after, job, moment_after, no_task, scene, shard_hands, shard_moment_after, stage, task_at, tasks_brought, tasks_moved, words_seen}
@@ -24,11 +24,11 @@ abbrev at : Job → Slot → Around → Stage → Scene
 at job slot ws stage = record { job = job; slot = slot; around = ws; stage = stage }
 
 -- a look at another slot's head word than the one that is needed
-peek_still : (n : ℕ) (x : Scene) (b : Bool) → not b ≡ true → moves (peeked_own b (word_at x.around.words n) x.job.etags.items) ≡ moves ToMatch
+peek_still : (n : ℕ) (x : Scene) (b : Bool) → not b ≡ true → moves (peeked_own b (word_at x.around.common.words n) x.job.etags.items) ≡ moves ToMatch
 peek_still n x true e = absurd (cc)
 peek_still n x false e = refl
 
-next_still : (n : ℕ) (x : Scene) (seen : ArrayVec ℕ) (b : Bool) → not b ≡ true → moves (peeked_next b (word_at x.around.words n) seen) ≡ moves (ToList seen)
+next_still : (n : ℕ) (x : Scene) (seen : ArrayVec ℕ) (b : Bool) → not b ≡ true → moves (peeked_next b (word_at x.around.common.words n) seen) ≡ moves (ToList seen)
 next_still n x seen true e = absurd (cc)
 next_still n x seen false e = refl
 
@@ -43,10 +43,15 @@ row_still (Commit k now) job slot ws (ToCommit n t) e = absurd (cc)
 row_still (Install k memory) job slot ws ToInstall e = absurd (cc)
 row_still (Raise k) job slot ws (ToRaise word content) e = absurd (cc)
 row_still (Answer k now) job slot ws (ToAnswer content) e = absurd (cc)
+row_still (Fresh k now) job slot ws (ToTell turn (turns.ToDraw found)) e = absurd (cc)
 row_still (GiveUp k now) job slot ws (ToTell turn needs) e = absurd (cc)
 row_still (Lose k) job slot ws Gone e = refl
 row_still (Lose k) job slot ws other e = absurd (cc)
 row_still other job slot ws s e = refl
+
+none_drawn : (k now own : ℕ) (s : Stage) → is_stray_at (Fresh k now) own s ≡ true → needs_id s ≡ false
+none_drawn k now own (ToTell turn (turns.ToDraw found)) e = absurd (cc)
+none_drawn k now own other e = refl
 
 none_answered : (k now own : ℕ) (s : Stage) → is_stray_at (Answer k now) own s ≡ true → content_at s ≡ None
 none_answered k now own (ToAnswer content) e = absurd (cc)
@@ -120,6 +125,9 @@ stray_still (Lose k) o s e = named_still s (Lose k) o k refl e refl refl refl re
 stray_still (Answer k now) o s e =
     let none : content_at (stage s k) ≡ None = none_answered k now (job s k).origin.slot (stage s k) e in
     named_still s (Answer k now) o k refl e (rw none) (rw none) refl (rw none) refl (λ i. refl) (λ n. refl)
+stray_still (Fresh k now) o s e =
+    let none : needs_id (stage s k) ≡ false = none_drawn k now (job s k).origin.slot (stage s k) e in
+    named_still s (Fresh k now) o k refl e (rw none) refl refl (rw none) refl (λ i. refl) (λ n. refl)
 stray_still other o s e = unnamed_still s other o refl refl refl refl refl refl (λ i. refl) (λ n. refl)
 
 pub strays_stay : (r : Entry) (s : Seen) → is_stray s r.event ≡ true → and_then r s ≡ s

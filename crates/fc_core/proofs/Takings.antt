@@ -17,7 +17,7 @@ use Rattle.fc_registry.specs.Changes.{Change}
 use Rattle.fc_registry.specs.declared.receipt.Receipt.{Receipt as Facts}
 use Rattle.fc_registry.specs.Calls.{is_observed, clear_by, meaning_at, outcome, outcome_by, put_by, receipt_at, receipt_of, taking, wants}
 use Rattle.fc_core.specs.declared.event.Event.{Event}
-use Rattle.fc_core.specs.declared.event.Event.TheVariants.{Peek, Take, Commit, Install, Remove, Receipt, Raise, Answer, Lose, GiveUp}
+use Rattle.fc_core.specs.declared.event.Event.TheVariants.{Peek, Take, Commit, Install, Remove, Receipt, Raise, Answer, Lose, Fresh, GiveUp}
 use Rattle.fc_core.specs.declared.stage.Stage.{Stage}
 use Rattle.fc_core.specs.declared.stage.Stage.TheVariants.{ToMatch, ToTake, ToCommit, ToInstall, ToRemove, ToDescribe, ToList, ToRaise, ToAnswer, Gone, ToTell}
 use Rattle.fc_core.specs.declared.stage.TurnStage.TheVariants as turns
@@ -126,8 +126,8 @@ next_took true word seen ts le = listed_took (nat_lt (length (seen.items ++ word
 next_took false word seen ts le = le
 
 row_took : (e : Event) (job : Job) (slot : Slot) (cs : List Change) (ws : Around) (s : Stage) (ts : List Taking) → Took ts s → Took (gives e s job slot cs ++ ts) (row e (at job slot ws s)).stage
-row_took (Peek k n) job slot cs ws ToMatch ts f = own_took (n == job.origin.slot) (word_at ws.words n) job.etags.items ts f
-row_took (Peek k n) job slot cs ws (ToList seen) ts f = next_took (n == length seen.items) (word_at ws.words n) seen ts f
+row_took (Peek k n) job slot cs ws ToMatch ts f = own_took (n == job.origin.slot) (word_at ws.common.words n) job.etags.items ts f
+row_took (Peek k n) job slot cs ws (ToList seen) ts f = next_took (n == length seen.items) (word_at ws.common.words n) seen ts f
 row_took (Remove k) job slot cs ws ToRemove ts f = clear_took (nat_lt slot.serial last_serial) slot.serial slot.present ts f
 row_took (Receipt k) job slot cs ws ToDescribe ts f = told_took (receipt_at slot.present) ts f
 row_took (Take k memory) job slot cs ws (ToTake n) ts f = taking_took memory k job slot cs n ts slot.present refl f.0 f.1
@@ -139,6 +139,7 @@ row_took (Commit k now) job slot cs ws (ToCommit n t) ts f = committed_took n ts
 row_took (Install k memory) job slot cs ws ToInstall ts f = verified_took memory (at job slot ws ToInstall) ts f
 row_took (Raise k) job slot cs ws (ToRaise word content) ts f = f
 row_took (Answer k now) job slot cs ws (ToAnswer content) ts f = f.0
+row_took (Fresh k now) job slot cs ws (ToTell turn (turns.ToDraw found)) ts f = f
 row_took (GiveUp k now) job slot cs ws (ToTell turn needs) ts f = f
 row_took (Lose k) job slot cs ws s ts f = at_most_eight s ts f
 row_took other job slot cs ws s ts f = f

@@ -13,7 +13,7 @@ use Rattle.fc_core.specs.declared.stage.Stage.TheVariants.{ToTell}
 use Rattle.fc_core.specs.declared.stage.Task.{Task}
 use Rattle.fc_core.specs.declared.stage.TurnStage.TheVariants as turns
 use Rattle.fc_core.specs.Fits.{FitsStage}
-use Rattle.fc_core.specs.Stages.{at_take, had_memory, scene_of, shard_after, task_moved, turn_to_take, turn_took, without_memory}
+use Rattle.fc_core.specs.Stages.{Common, at_take, had_memory, scene_of, shard_after, task_moved, turn_to_take, turn_took, without_memory}
 use Rattle.fc_core.proofs.Rejections.{same_slot}
 use Rattle.std.proofs.Common.{subst}
 
@@ -62,23 +62,23 @@ module _ (shard : Shard) (task : Task) (turn : Turn) (to_take : turn_to_take tas
   calls_are : taking_calls task.job slot shard.now w ≡ turn_calls turn shard.now slot.present w
   calls_are = ap (λ (o : Option ℕ). taking_calls_by o task.job slot shard.now w) told.1 ∙ ap (λ (t : Turn). turn_calls t shard.now slot.present w) turn_is
 
-  row_is : (memory : Bool) (words : List ℕ) → task_moved task (at_take memory (scene_of shard words task) (ToTell turn turns.ToTake)) ≡ task_moved task (at_take memory (scene_of shard words task) task.stage)
-  row_is memory words = ap (λ (st : Stage). task_moved task (at_take memory (scene_of shard words task) st)) (sym is)
+  row_is : (memory : Bool) (common : Common) → task_moved task (at_take memory (scene_of shard common task) (ToTell turn turns.ToTake)) ≡ task_moved task (at_take memory (scene_of shard common task) task.stage)
+  row_is memory common = ap (λ (st : Stage). task_moved task (at_take memory (scene_of shard common task) st)) (sym is)
 
-  pub turn_takes : (x : Taken) → TakesAt task.job shard x → (words : List ℕ) → record { job = task.job; stage = turn_took turn x } ≡ task_moved task (at_take (had_memory x) (scene_of shard words task) task.stage)
-  turn_takes x takes words =
+  pub turn_takes : (x : Taken) → TakesAt task.job shard x → (common : Common) → record { job = task.job; stage = turn_took turn x } ≡ task_moved task (at_take (had_memory x) (scene_of shard common task) task.stage)
+  turn_takes x takes common =
       let taken : x ≡ turn_taking out takes.0 task.job slot.serial slot.present = takes.1 ∙ taking_is takes.0 in
       let settled : x ≡ turn_taking out (had_memory x) task.job slot.serial slot.present = taken ∙ (had out takes.0 task.job slot.serial slot.present ∙ ap (λ (y : Taken). turn_taking out (had_memory y) task.job slot.serial slot.present) (sym taken)) in
-      ap (λ (y : Taken). record { job = task.job; stage = turn_took turn y }) settled ∙ row_is (had_memory x) words
+      ap (λ (y : Taken). record { job = task.job; stage = turn_took turn y }) settled ∙ row_is (had_memory x) common
 
-  pub turn_takes_without : (x : Taken) → TakesAt task.job shard x → (words : List ℕ) → record { job = task.job; stage = turn_took turn (without_memory x) } ≡ task_moved task (at_take false (scene_of shard words task) task.stage)
-  turn_takes_without x takes words =
+  pub turn_takes_without : (x : Taken) → TakesAt task.job shard x → (common : Common) → record { job = task.job; stage = turn_took turn (without_memory x) } ≡ task_moved task (at_take false (scene_of shard common task) task.stage)
+  turn_takes_without x takes common =
       let taken : x ≡ turn_taking out takes.0 task.job slot.serial slot.present = takes.1 ∙ taking_is takes.0 in
-      ap (λ (y : Taken). record { job = task.job; stage = turn_took turn y }) (ap without_memory taken ∙ without out takes.0 task.job slot.serial slot.present) ∙ row_is false words
+      ap (λ (y : Taken). record { job = task.job; stage = turn_took turn y }) (ap without_memory taken ∙ without out takes.0 task.job slot.serial slot.present) ∙ row_is false common
 
-  pub turn_calls_at : (memory : Bool) (new : Shard) → new ≡ after_taking task.job shard → (words : List ℕ) → new ≡ shard_after (at_take memory (scene_of shard words task) task.stage) task shard
-  turn_calls_at memory new after words =
+  pub turn_calls_at : (memory : Bool) (new : Shard) → new ≡ after_taking task.job shard → (common : Common) → new ≡ shard_after (at_take memory (scene_of shard common task) task.stage) task shard
+  turn_calls_at memory new after common =
       after
       ∙ (ap (λ (cs : List ObserverCall). with_calls cs n shard) calls_are
       ∙ (ap (with_calls (turn_calls turn shard.now slot.present w) n) (sym (same_slot shard n))
-      ∙ ap (λ (st : Stage). shard_after (at_take memory (scene_of shard words task) st) task shard) (sym is)))
+      ∙ ap (λ (st : Stage). shard_after (at_take memory (scene_of shard common task) st) task shard) (sym is)))

@@ -17,14 +17,17 @@ use Rattle.fc_observe.proofs.Serials.{OutBelow, all_below, out_phase}
 use Rattle.fc_registry.specs.declared.job.Job.{Job}
 use Rattle.fc_registry.specs.Turns.{job_of_turn, turn_given_to, turn_job}
 use Rattle.fc_registry.specs.Watches.{place_from}
-use Rattle.fc_core.specs.declared.event.Event.TheVariants.{Due, GiveUp, Lose}
+use Rattle.fc_core.specs.declared.event.Event.TheVariants.{Due, Fresh, GiveUp, Lose}
 use Rattle.fc_core.specs.declared.stage.Stage.{Stage}
 use Rattle.fc_core.specs.declared.stage.Stage.TheVariants.{ToTell, Gone}
 use Rattle.fc_core.specs.declared.stage.TurnStage.{TurnStage}
+use Rattle.fc_core.specs.declared.stage.TurnStage.TheVariants as turns
+use Rattle.fc_core.specs.Ids.{free_id}
+use Rattle.fc_registry.specs.Slots.{Ticket}
 use Rattle.fc_core.specs.History.{Seen, and_then, around, did, due_in, is_due_at, is_late_at, is_place_of, job, late_in, scene, slot_at, stage, turn_at, watch}
 use Rattle.fc_core.specs.Laws.{slot_of}
 use Rattle.fc_core.specs.ObserveLaws.{BringsTurn}
-use Rattle.fc_core.specs.Stages.{Scene, new_task, row}
+use Rattle.fc_core.specs.Stages.{Scene, new_task, row, with_id}
 use Rattle.fc_core.proofs.Others.{is_here, named_stage}
 use Rattle.fc_core.proofs.Places.{none_passes, place_first, place_passes}
 use Rattle.fc_core.proofs.Watches.{called}
@@ -164,6 +167,19 @@ module _ (s : Seen) (k now : ℕ) (turn : Turn) (needs : TurnStage) (o : Option 
   pub given_up_gone : stage (and_then (did (GiveUp k now) o) s) k ≡ Gone
   given_up_gone = named_stage (did (GiveUp k now) o) s k (is_here s k (ToTell turn needs) is (λ e. absurd (cc e))) refl
       ∙ ap (λ (st : Stage). (row (GiveUp k now) (at_stage s k st)).stage) is
+
+-- ---- a turn that draws a message id
+
+module _ (s : Seen) (k now : ℕ) (turn : Turn) (found : Option Ticket) (o : Option Emission) (is : stage s k ≡ ToTell turn (turns.ToDraw found)) where
+  drew_stage : stage (and_then (did (Fresh k now) o) s) k ≡ ToTell turn (with_id found (free_id s.ids (max s.moment now)))
+  drew_stage = named_stage (did (Fresh k now) o) s k (is_here s k (ToTell turn (turns.ToDraw found)) is (λ e. absurd (cc e))) refl
+      ∙ ap (λ (st : Stage). (row (Fresh k now) (at_stage s k st)).stage) is
+
+  pub drawn_stage : (id : ℕ) → free_id s.ids (max s.moment now) ≡ Some id → stage (and_then (did (Fresh k now) o) s) k ≡ ToTell turn (turns.ToNote found id)
+  drawn_stage id free = drew_stage ∙ ap (λ (f : Option ℕ). ToTell turn (with_id found f)) free
+
+  pub undrawn_stage : free_id s.ids (max s.moment now) ≡ None → stage (and_then (did (Fresh k now) o) s) k ≡ ToTell turn (turns.ToDraw found)
+  undrawn_stage free = drew_stage ∙ ap (λ (f : Option ℕ). ToTell turn (with_id found f)) free
 
 pub given_up_elsewhere : (s : Seen) (k now m : ℕ) (o : Option Emission) → (m ≡ slot_of s k → ⊥) → watch (and_then (did (GiveUp k now) o) s) m ≡ watch s m
 given_up_elsewhere s k now m o ne = ap (λ (b : Bool). observers m ((if b then (row (GiveUp k now) (scene s k)).calls else []) ++ s.calls m)) (ne_eqb (slot_of s k) m (λ q. ne (sym q)))

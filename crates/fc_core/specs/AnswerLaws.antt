@@ -8,8 +8,9 @@ use Rattle.fc_registry.specs.declared.receipt.Receipt.{Receipt as Facts}
 use Rattle.fc_registry.specs.Calls.{meaning_at, wants}
 use Rattle.fc_registry.specs.Slots.{Slot, Present, Ticket}
 use Rattle.fc_core.specs.declared.event.Event.{Event}
-use Rattle.fc_core.specs.declared.event.Event.TheVariants.{Deliver, Peek, Take, Commit, Install, Remove, Receipt, Answer, Due, GiveUp, Tick, ShardTick}
+use Rattle.fc_core.specs.declared.event.Event.TheVariants.{Deliver, Peek, Take, Commit, Install, Remove, Receipt, Answer, Due, Fresh, GiveUp, Tick, ShardTick}
 use Rattle.fc_core.specs.declared.stage.Stage.{Stage}
+use Rattle.fc_core.specs.declared.stage.TurnStage.TheVariants as turns
 use Rattle.arrayvec.specs.ArrayVec.{ArrayVec}
 use Rattle.fc_core.specs.declared.stage.Stage.TheVariants.{ToMatch, ToTake, ToCommit, ToInstall, ToRemove, ToDescribe, ToList, ToAnswer, ToTell}
 use Rattle.coap_reply.specs.Blocks.{cut_for}
@@ -136,11 +137,18 @@ abbrev pub answer_moment : Stage → ℕ → List ℕ
 answer_moment (ToAnswer content) now = now ∷ []
 answer_moment other now = []
 
--- the moment that an event hands to the front: that of a delivery, of a tick, or of an answer at its stage
+-- the moment of a turn that draws a message id
+abbrev pub draw_moment : Stage → ℕ → List ℕ
+draw_moment (ToTell turn (turns.ToDraw found)) now = now ∷ []
+draw_moment other now = []
+
+-- the moment that an event hands to the front: that of a delivery, of a tick, of an answer at its stage, or of a turn that draws a
+-- message id, given or not
 abbrev pub moments_in : Event → Seen → List ℕ
 moments_in (Deliver now to bytes) s = now ∷ []
 moments_in (Tick now) s = now ∷ []
 moments_in (Answer k now) s = answer_moment (stage s k) now
+moments_in (Fresh k now) s = draw_moment (stage s k) now
 moments_in other s = []
 
 -- the moments that were handed to the front, the newest first

@@ -27,6 +27,7 @@ HasNext other = Unit {0}
 -- a turn's ticket is its job's
 abbrev pub FitsTurn : Job → Slot → TurnStage → Type 0
 FitsTurn job slot (turns.ToDraw (Some t)) = IsTicketOf job slot t
+FitsTurn job slot (turns.ToNote (Some t) id) = IsTicketOf job slot t
 FitsTurn job slot other = Unit {0}
 
 -- a request's job that is to take may take once more; a ticket is its job's, and so is an answer; a turn is of its job's slot and

@@ -16,16 +16,16 @@ use Rattle.fc_registry.specs.Changes.{Change, after_changes}
 use Rattle.fc_registry.specs.Turns.{turn_given_to}
 use Rattle.fc_registry.specs.Watches.{place_from, signal_call}
 use Rattle.fc_core.specs.declared.event.Event.{Event}
-use Rattle.fc_core.specs.declared.event.Event.TheVariants.{Deliver, Answer, Due, Signal, Tick, ShardTick}
+use Rattle.fc_core.specs.declared.event.Event.TheVariants.{Deliver, Answer, Due, Fresh, Signal, Tick, ShardTick}
 use Rattle.fc_core.specs.declared.stage.Stage.{Stage}
 use Rattle.fc_core.specs.declared.stage.Stage.TheVariants.{Gone}
 use Rattle.fc_core.specs.declared.stage.Task.{Task}
 use Rattle.fc_core.specs.Contents.{Content}
-use Rattle.fc_core.specs.Ids.{Ids, first_ids, drawn_for}
+use Rattle.fc_core.specs.Ids.{Ids, first_ids, drawn, drawn_for, free_id}
 use Rattle.fc_core.specs.Exchanges.{FrontState, opening_is_live}
 use Rattle.fc_core.specs.Receiving.{Received, added_by, received, opened_by, kept_of, drawn_by, brought, next_opening}
 use Rattle.fc_core.specs.Heads.{no_words}
-use Rattle.fc_core.specs.Stages.{Around, Scene, names, new_task, scene_at, row, content_at, task_moved, handed, words_after}
+use Rattle.fc_core.specs.Stages.{Around, Common, Scene, names, needs_id, new_task, scene_at, row, content_at, task_moved, handed, words_after}
 
 -- an event, and what it emitted
 pub record Entry : Type 0 where
@@ -90,9 +90,13 @@ stage s k = (task_at s.tasks k).stage
 abbrev pub watch : Seen → ℕ → ObserverList
 watch s n = observers n (s.calls n)
 
+-- what is common to the jobs of all slots
+abbrev pub common : Seen → Common
+common s = record { words = s.words; free = λ now. free_id s.ids (max s.moment now) }
+
 -- what there is around slot n
 abbrev pub around : Seen → ℕ → Around
-around s n = record { words = s.words; moment = s.shard_moment (n % 8); watch = watch s n }
+around s n = record { common = common s; moment = s.shard_moment (n % 8); watch = watch s n }
 
 -- what an event that names a job finds of it
 abbrev pub scene : Seen → ℕ → Scene
@@ -116,22 +120,26 @@ abbrev pub answered_in : ℕ → Option Emission → List Exchange → List Exch
 answered_in number None exchanges = exchanges
 answered_in number (Some emission) exchanges = map (λ e. answered_if (e.number == number) emission.bytes e) exchanges
 
--- what an event does at the front: it receives a datagram there, answers a job, lets time pass, or does nothing there
+-- what an event does at the front: it receives a datagram there, answers a job, draws a message id for a turn, lets time pass, or
+-- does nothing there
 pub data AtFront : Type 0 where
   Receives : (now : ℕ) (to : Endpoint) (bytes : List ℕ) → AtFront
   Answers : (job now : ℕ) → AtFront
+  Draws : (job now : ℕ) → AtFront
   Passes : (now : ℕ) → AtFront
   Rests : AtFront
 
 abbrev pub at_front : Event → AtFront
 at_front (Deliver now to bytes) = Receives now to bytes.now
 at_front (Answer k now) = Answers k now
+at_front (Fresh k now) = Draws k now
 at_front (Tick now) = Passes now
 at_front other = Rests
 
 abbrev pub moment_by : AtFront → Seen → ℕ
 moment_by (Receives now to bytes) s = max s.moment now
 moment_by (Answers k now) s = if is_some (content_at (stage s k)) then max s.moment now else s.moment
+moment_by (Draws k now) s = if needs_id (stage s k) then max s.moment now else s.moment
 moment_by (Passes now) s = max s.moment now
 moment_by Rests s = s.moment
 
@@ -142,6 +150,7 @@ exchanges_received x to emitted s now = answered_in (length s.exchanges) (kept_o
 abbrev pub exchanges_by : AtFront → Option Emission → Seen → List Exchange
 exchanges_by (Receives now to bytes) emitted s = exchanges_received (received_at s now to bytes) to emitted s now
 exchanges_by (Answers k now) emitted s = if is_some (content_at (stage s k)) then answered_in (job s k).origin.opening.number emitted s.exchanges else s.exchanges
+exchanges_by (Draws k now) emitted s = s.exchanges
 exchanges_by (Passes now) emitted s = s.exchanges
 exchanges_by Rests emitted s = s.exchanges
 
@@ -158,6 +167,7 @@ ids_answered content live confirmable ids at = ids
 abbrev pub ids_by : AtFront → Seen → Ids
 ids_by (Receives now to bytes) s = drawn_by (received_at s now to bytes) s.ids (max s.moment now)
 ids_by (Answers k now) s = ids_answered (content_at (stage s k)) (opening_is_live (max s.moment now) (job s k).origin.opening) (job s k).confirmable s.ids (max s.moment now)
+ids_by (Draws k now) s = if needs_id (stage s k) then drawn s.ids (max s.moment now) else s.ids
 ids_by (Passes now) s = s.ids
 ids_by Rests s = s.ids
 

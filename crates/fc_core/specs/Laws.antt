@@ -5,7 +5,7 @@ use Rattle.fc_registry.specs.Slots.{Slot, Present, Ticket}
 use Rattle.fc_registry.specs.Changes.{Change}
 use Rattle.fc_registry.specs.Calls.{meaning_at, ticket_of, wants}
 use Rattle.fc_core.specs.declared.event.Event.{Event}
-use Rattle.fc_core.specs.declared.event.Event.TheVariants.{Deliver, Peek, Take, Commit, Install, Remove, Receipt, Raise, Answer, Due, GiveUp, Signal, Tick, ShardTick, Lose}
+use Rattle.fc_core.specs.declared.event.Event.TheVariants.{Deliver, Peek, Take, Commit, Install, Remove, Receipt, Raise, Answer, Due, Fresh, GiveUp, Signal, Tick, ShardTick, Lose}
 use Rattle.fc_core.specs.declared.stage.Stage.{Stage}
 use Rattle.fc_core.specs.declared.stage.Stage.TheVariants.{ToMatch, ToTake, ToCommit, ToInstall, ToRemove, ToDescribe, ToList, ToRaise, ToAnswer, ToTell, Gone}
 use Rattle.fc_core.specs.declared.stage.TurnStage.TheVariants as turns
@@ -34,6 +34,7 @@ is_stray_at (Remove k) own ToRemove = false
 is_stray_at (Receipt k) own ToDescribe = false
 is_stray_at (Raise k) own (ToRaise word content) = false
 is_stray_at (Answer k now) own (ToAnswer content) = false
+is_stray_at (Fresh k now) own (ToTell turn (turns.ToDraw found)) = false
 is_stray_at (GiveUp k now) own (ToTell turn needs) = false
 is_stray_at (Lose k) own Gone = true
 is_stray_at (Lose k) own other = false

@@ -19,7 +19,7 @@ use Rattle.fc_core.specs.Replies.{IsReplyTo}
 use Rattle.fc_core.specs.Exchanges.{FrontState, opening_is_live}
 use Rattle.fc_core.specs.Receiving.{sent, id_in}
 use Rattle.fc_core.specs.Stages.{Scene, content_at}
-use Rattle.fc_core.specs.History.{AtFront, Receives, Answers, Passes, Rests, AtShard, Ticks, History, Begins, Then, Seen, seen, at_front, at_shard, front_at, received_at, job, late_in, stage, scene, watch}
+use Rattle.fc_core.specs.History.{AtFront, Receives, Answers, Draws, Passes, Rests, AtShard, Ticks, History, Begins, Then, Seen, seen, at_front, at_shard, front_at, received_at, job, late_in, stage, scene, watch}
 
 -- a job's answer goes out while its exchange is live and a message id is free, and not after
 abbrev pub IsAnswered : Bool → Option ℕ → Job → Content → Option Emission → Type 0
@@ -51,6 +51,7 @@ resent_in other s = None
 abbrev pub EmitsBy : AtFront → AtShard → Seen → Option Emission → Type 0
 EmitsBy (Receives now to bytes) x s emitted = emitted ≡ sent (received_at s now to bytes) (front_at s now) to
 EmitsBy (Answers k now) x s emitted = AnswerEmits (content_at (stage s k)) (job s k) (front_at s now) emitted
+EmitsBy (Draws k now) x s emitted = emitted ≡ None
 EmitsBy (Passes now) x s emitted = emitted ≡ None
 EmitsBy Rests x s emitted = emitted ≡ resent_in x s
 

@@ -27,9 +27,10 @@ use Rattle.fc_registry.specs.Calls.{taking, install_in, remove_from, receipt_at,
 use Rattle.fc_core.specs.Contents.{Content, Ran, run_answer, Missing as Misses, Unavailable, Made as Makes, Rejected, Untyped, Valid, Deleted, Described, Listed}
 use Rattle.fc_core.specs.Heads.{head_word, is_match, published, serial_in, word_at}
 use Rattle.fc_core.specs.declared.event.Event.{Event}
-use Rattle.fc_core.specs.declared.event.Event.TheVariants.{Peek, Take, Commit, Install, Remove, Receipt, Raise, Answer, GiveUp, Lose}
+use Rattle.fc_core.specs.declared.event.Event.TheVariants.{Peek, Take, Commit, Install, Remove, Receipt, Raise, Answer, Fresh, GiveUp, Lose}
 use Rattle.fc_core.specs.declared.stage.Stage.{Stage}
 use Rattle.fc_core.specs.declared.stage.Stage.TheVariants.{ToMatch, ToTake, ToCommit, ToInstall, ToRemove, ToDescribe, ToList, ToRaise, ToAnswer, ToTell, Gone}
+use Rattle.fc_core.specs.declared.stage.TurnStage.{TurnStage}
 use Rattle.fc_core.specs.declared.stage.TurnStage.TheVariants as turns
 use Rattle.fc_core.specs.declared.stage.Task.{Task}
 
@@ -43,6 +44,7 @@ names (Remove job) = Some job
 names (Receipt job) = Some job
 names (Raise job) = Some job
 names (Answer job now) = Some job
+names (Fresh job now) = Some job
 names (GiveUp job now) = Some job
 names (Lose job) = Some job
 names other = None
@@ -95,6 +97,20 @@ abbrev pub turn_to_take : Stage → Option Turn
 turn_to_take (ToTell turn turns.ToTake) = Some turn
 turn_to_take other = None
 
+-- the stage needs a message id of the server's own
+abbrev pub needs_id : Stage → Bool
+needs_id (ToTell turn (turns.ToDraw found)) = true
+needs_id other = false
+
+-- a turn has the id that is free; where none is, it needs one still
+abbrev pub with_id : Option Ticket → Option ℕ → TurnStage
+with_id found (Some id) = turns.ToNote found id
+with_id found None = turns.ToDraw found
+
+abbrev pub drew : Option ℕ → Stage → Stage
+drew free (ToTell turn (turns.ToDraw found)) = ToTell turn (with_id found free)
+drew free other = other
+
 -- there was memory, or none was asked; and what a taking is without
 abbrev pub had_memory : Taken → Bool
 had_memory Refused = false
@@ -145,9 +161,14 @@ listed words = if nat_lt (length words) 64 then ToList (record { items = words }
 
 -- ---- the rows
 
--- what there is around a job's slot: the head words of all slots, and its shard's moment and its observers
-pub record Around : Type 0 where
+-- what is common to the jobs of all slots: the head words, and the message id of the server's own that is free at a moment
+pub record Common : Type 0 where
   pub words : List ℕ
+  pub free : ℕ → Option ℕ
+
+-- what there is around a job's slot: what is common to all, and its shard's moment and its observers
+pub record Around : Type 0 where
+  pub common : Common
   pub moment : ℕ
   pub watch : ObserverList
 
@@ -214,8 +235,8 @@ peeked_next false word seen = ToList seen
 
 -- the rows of the table; an event at another stage than it needs does nothing
 abbrev pub at_peek : ℕ → Scene → Stage → Move
-at_peek n s ToMatch = moves (peeked_own (n == s.job.origin.slot) (word_at s.around.words n) s.job.etags.items)
-at_peek n s (ToList seen) = moves (peeked_next (n == length seen.items) (word_at s.around.words n) seen)
+at_peek n s ToMatch = moves (peeked_own (n == s.job.origin.slot) (word_at s.around.common.words n) s.job.etags.items)
+at_peek n s (ToList seen) = moves (peeked_next (n == length seen.items) (word_at s.around.common.words n) seen)
 at_peek n s other = moves other
 
 abbrev pub at_take : Bool → Scene → Stage → Move
@@ -247,6 +268,9 @@ abbrev pub at_answer : Stage → Move
 at_answer (ToAnswer content) = moves Gone
 at_answer other = moves other
 
+abbrev pub at_fresh : ℕ → Scene → Stage → Move
+at_fresh now s stage = moves (drew (s.around.common.free now) stage)
+
 -- the turn of an observer is given up, at whatever it needs
 abbrev pub at_give_up : ℕ → Scene → Stage → Move
 at_give_up now s (ToTell turn needs) = record (moves Gone) { calls = GiveUpTurn turn (max s.around.moment now) ∷ []; hands = Some now }
@@ -261,6 +285,7 @@ row (Remove job) s = at_remove s s.stage
 row (Receipt job) s = at_receipt s s.stage
 row (Raise job) s = at_raise s.stage
 row (Answer job now) s = at_answer s.stage
+row (Fresh job now) s = at_fresh now s s.stage
 row (GiveUp job now) s = at_give_up now s s.stage
 row (Lose job) s = moves Gone
 row other s = moves s.stage
@@ -276,16 +301,16 @@ abbrev pub scene_at : Task → Slot → Around → Scene
 scene_at task slot around = record { job = task.job; slot = slot; around = around; stage = task.stage }
 
 -- what there is around slot n at a shard
-abbrev pub around_of : Shard → List ℕ → ℕ → Around
-around_of shard words n = record { words = words; moment = shard.now; watch = watch_at shard (n / 8) }
+abbrev pub around_of : Shard → Common → ℕ → Around
+around_of shard common n = record { common = common; moment = shard.now; watch = watch_at shard (n / 8) }
 
 -- what an event on a task finds at a shard
-abbrev pub scene_of : Shard → List ℕ → Task → Scene
-scene_of shard words task = scene_at task (slot_in shard task.job.origin.slot) (around_of shard words task.job.origin.slot)
+abbrev pub scene_of : Shard → Common → Task → Scene
+scene_of shard common task = scene_at task (slot_in shard task.job.origin.slot) (around_of shard common task.job.origin.slot)
 
 -- the move of a commit of this ticket at a shard
-abbrev pub commit_move : Shard → List ℕ → ℕ → Ticket → ℕ → Move
-commit_move shard words count t now = committed (outcome t (slot_in shard t.origin.slot)) count t now (around_of shard words t.origin.slot)
+abbrev pub commit_move : Shard → Common → ℕ → Ticket → ℕ → Move
+commit_move shard common count t now = committed (outcome t (slot_in shard t.origin.slot)) count t now (around_of shard common t.origin.slot)
 
 abbrev pub task_moved : Task → Move → Task
 task_moved task m = record { job = task.job; stage = m.stage }
@@ -306,12 +331,12 @@ shard_after m task shard = shard_moved m task.job.origin.slot shard
 abbrev pub Row : Type 0
 Row = Scene → Stage → Move
 
--- the task, and the shard of its slot, after a row: whatever the head words, which the rows of slots don't look at
+-- the task, and the shard of its slot, after a row: whatever is common to all jobs, which the rows of slots don't look at
 abbrev pub TaskMoves : Row → Shard → Task → Task → Type 0
-TaskMoves at shard old new = (words : List ℕ) → new ≡ task_moved old (at (scene_of shard words old) old.stage)
+TaskMoves at shard old new = (common : Common) → new ≡ task_moved old (at (scene_of shard common old) old.stage)
 
 abbrev pub ShardMoves : Row → Shard → Task → Shard → Type 0
-ShardMoves at old task new = (words : List ℕ) → new ≡ shard_after (at (scene_of old words task) task.stage) task old
+ShardMoves at old task new = (common : Common) → new ≡ shard_after (at (scene_of old common task) task.stage) task old
 
 -- the head words after a move of this task
 abbrev pub words_after : Move → Task → List ℕ → List ℕ

@@ -4,8 +4,8 @@ use coap_msg::Endpoint;
 /// What happens to a server. Jobs are numbered from 0 in the order in which they come, and shards from 0 to 7; moments
 /// are in milliseconds.
 ///
-/// An event whose job isn't at the stage that the event needs changes nothing, nor does one whose shard is above 7. `Fresh` and
-/// `Note` belong to what isn't served yet: they change nothing either.
+/// An event whose job isn't at the stage that the event needs changes nothing, nor does one whose shard is above 7. `Note` belongs
+/// to what isn't served yet: it changes nothing either.
 #[derive(Clone, Copy)]
 pub enum Event<'a> {
     /// A datagram comes.
@@ -111,6 +111,7 @@ impl Event<'_> {
             Event::Receipt { job } => Some(job),
             Event::Raise { job } => Some(job),
             Event::Answer { job, .. } => Some(job),
+            Event::Fresh { job, .. } => Some(job),
             Event::GiveUp { job, .. } => Some(job),
             Event::Lose { job } => Some(job),
             _ => None,

@@ -1,5 +1,5 @@
 //! What a history promises of the observers of slots: each function is a law, and its contract says it.
-ghost use Rattle.std.specs.Prelude.{◌≡◌, ℕ, ◌+◌, ◌*◌, ◌%◌, ◌<◌, ◌⊎◌, Bool, List, Option, None, Some, max, true, false};
+ghost use Rattle.std.specs.Prelude.{◌≡◌, ℕ, ◌+◌, ◌*◌, ◌%◌, ◌<◌, ◌∷◌, ◌⊎◌, Bool, List, Option, None, Some, max, true, false};
 ghost use Rattle.coap_msg.specs.declared.types.Emission.{Emission};
 ghost use Rattle.coap_msg.specs.declared.types.Endpoint.{Endpoint};
 ghost use Rattle.fc_help.specs.declared.request.Method.TheVariants.{Get};
@@ -7,10 +7,13 @@ ghost use Rattle.fc_observe.specs.Observers.{after_ack, after_reset, after_tick,
 ghost use Rattle.fc_observe.specs.declared.entry.Turn.{Turn};
 ghost use Rattle.fc_registry.specs.Calls.{szx_of};
 ghost use Rattle.fc_registry.specs.Slots.{Ticket};
-ghost use Rattle.fc_core.specs.declared.event.Event.TheVariants.{Commit, Due, GiveUp, Signal, ShardTick, Lose};
+ghost use Rattle.fc_core.specs.declared.event.Event.TheVariants.{Commit, Due, Fresh, GiveUp, Signal, ShardTick, Lose};
 ghost use Rattle.fc_core.specs.declared.stage.Stage.TheVariants.{ToAnswer, ToCommit, ToTell, Gone};
 ghost use Rattle.fc_core.specs.declared.stage.TurnStage.{TurnStage};
-ghost use Rattle.fc_core.specs.History.{Entry, History, Seen, seen, and_then, did, due_in, is_due_at, is_late_at, late_in, slot_at, stage, watch};
+ghost use Rattle.fc_core.specs.declared.stage.TurnStage.TheVariants.{ToDraw, ToNote};
+ghost use Rattle.fc_core.specs.ExchangeLaws.{draws_of, first_id};
+ghost use Rattle.fc_core.specs.Ids.{free_id};
+ghost use Rattle.fc_core.specs.History.{Entry, History, Seen, Then, seen, and_then, did, due_in, is_due_at, is_late_at, late_in, slot_at, stage, watch};
 ghost use Rattle.fc_core.specs.Laws.{later, slot_of};
 ghost use Rattle.fc_core.specs.ObserveLaws.{AsksToObserve, BringsTurn, NoneRegisters, Registers, is_among, is_held};
 ghost use Rattle.fc_core.specs.Stages.{run_content};
@@ -74,6 +77,18 @@ pub fn turns_are_for_the_first_that_is_due()
         → watch (and_then (did (Due i now) o) s) n ≡ watch s n }
     ensures no_job { (s : Seen) (i now : ℕ) (o : Option Emission) → due_in s i (max (s.shard_moment i) now) ≡ None
         → (and_then (did (Due i now) o) s).tasks ≡ s.tasks }
+{}
+
+/// A turn that needs a message id draws the next of the server's own, unless that was drawn less than 247,000 ms before: then it needs
+/// one still.
+pub fn turns_draw_message_ids()
+    ensures drawn { (s : Seen) (k now id : ℕ) (turn : Turn) (found : Option Ticket) (o : Option Emission) → stage s k ≡ ToTell turn (ToDraw found)
+        → free_id s.ids (max s.moment now) ≡ Some id → stage (and_then (did (Fresh k now) o) s) k ≡ ToTell turn (ToNote found id) }
+    ensures none { (s : Seen) (k now : ℕ) (turn : Turn) (found : Option Ticket) (o : Option Emission) → stage s k ≡ ToTell turn (ToDraw found)
+        → free_id s.ids (max s.moment now) ≡ None → stage (and_then (did (Fresh k now) o) s) k ≡ ToTell turn (ToDraw found) }
+    ensures draws { (h : History) (k now id : ℕ) (turn : Turn) (found : Option Ticket) (o : Option Emission) → first_id h < 65536
+        → stage (seen h) k ≡ ToTell turn (ToDraw found) → free_id (seen h).ids (max (seen h).moment now) ≡ Some id
+        → draws_of (Then h (did (Fresh k now) o)) ≡ record { id = id; at = max (seen h).moment now } ∷ draws_of h }
 {}
 
 /// A turn that is given up is its observer's no longer, from the moment of its shard on, and its job is gone; no other slot's observers

@@ -37,6 +37,8 @@ pub enum TurnStage {
     ToTake,
     /// A message id, to tell of this ticket; none where the slot was found empty.
     ToDraw(Option<Ticket>),
+    /// Its notification, of this ticket, or none where the slot was found empty, by this message id.
+    ToNote(Option<Ticket>, u16),
 }
 
 /// A job, and where it stands.

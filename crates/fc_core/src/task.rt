@@ -1,5 +1,5 @@
 //! Jobs at work: what each event does to a job, its slot and its shard.
-ghost use Rattle.std.specs.Prelude.{◌≡◌, ℕ, ◌<◌, ◌∷◌, ◌++◌, ◌==◌, [], List, None, Some, length, false, IfOk, OnOk, IsErr};
+ghost use Rattle.std.specs.Prelude.{◌≡◌, ℕ, ◌<◌, ◌∷◌, ◌++◌, ◌==◌, [], List, None, Option, Some, length, false, IfOk, OnOk, IsErr};
 ghost use Rattle.fc_verify.specs.Accepted.{Accepts};
 ghost use Rattle.fc_verify.specs.Judged.{judged};
 ghost use Rattle.fc_registry.specs.Slots.{IsOwned, slot_in};
@@ -10,7 +10,7 @@ ghost use Rattle.fc_core.specs.Heads.{word_at};
 ghost use Rattle.fc_core.specs.Sound.{AllSafe};
 ghost use Rattle.fc_registry.specs.Calls.{HasGiven, receipt_of};
 ghost use Rattle.fc_core.specs.Stages as rows;
-ghost use Rattle.fc_core.specs.Stages.{ShardMoves, TaskMoves, at_answer, at_commit, at_give_up, at_install, at_peek, at_raise, at_receipt, at_remove, at_take, asked_stage, commit_move, content_at, first_stage, had_memory, image_of, installed, peeked_next, peeked_own, task_moved, new_task, scene_of, shard_after, shard_moved, turn_to_take, without_memory, words_after};
+ghost use Rattle.fc_core.specs.Stages.{Common, ShardMoves, TaskMoves, at_answer, at_commit, at_give_up, at_install, at_peek, at_raise, at_receipt, at_remove, at_take, asked_stage, commit_move, content_at, first_stage, had_memory, image_of, installed, needs_id, peeked_next, peeked_own, task_moved, new_task, scene_of, shard_after, shard_moved, turn_to_take, without_memory, words_after};
 
 use crate::answer::{Answer, End, Words};
 use crate::front::blank_job;
@@ -223,8 +223,8 @@ impl Task {
     /// Looks at the head word of a slot.
     pub fn peek(&mut self, slot: u8, heads: &Heads)
         requires { HasNext self.old.stage }
-        ensures { (shard : Shard) →
-            self.new ≡ task_moved self.old (at_peek slot (scene_of shard heads.now self.old) self.old.stage) }
+        ensures { (shard : Shard) (free : ℕ → Option ℕ) → let common : Common = record { words = heads.now; free = free } in
+            self.new ≡ task_moved self.old (at_peek slot (scene_of shard common self.old) self.old.stage) }
     {
         match self.leave() {
             Stage::ToMatch => self.stage = look_own(&self.job, slot, heads),
@@ -333,8 +333,8 @@ impl Task {
         requires { IsOwned shard.old self.old.job.origin.slot }
         ensures task { TaskMoves (at_install result) shard.old self.old self.new }
         ensures shard { ShardMoves (at_install result) shard.old self.old shard.new }
-        ensures safe { (words : List ℕ) →
-            AllSafe (at_install result (scene_of shard.old words self.old) self.old.stage).changes }
+        ensures safe { (common : Common) →
+            AllSafe (at_install result (scene_of shard.old common self.old) self.old.stage).changes }
     {
         match self.leave() {
             Stage::ToInstall => {
@@ -359,8 +359,8 @@ impl Task {
 
     /// Installs without memory.
     pub fn refuse_install(&mut self)
-        ensures { (shard : Shard) (words : List ℕ) →
-            self.new ≡ task_moved self.old (at_install false (scene_of shard words self.old) self.old.stage) }
+        ensures { (shard : Shard) (common : Common) →
+            self.new ≡ task_moved self.old (at_install false (scene_of shard common self.old) self.old.stage) }
     {
         match self.leave() {
             Stage::ToInstall => self.stage = Stage::unavailable(),
@@ -393,6 +393,25 @@ impl Task {
                 self.stage = other;
                 None
             }
+        }
+    }
+
+    /// Whether it needs a message id of the server's own, for the notification of its turn.
+    pub fn needs_id(&self) -> bool
+        ensures { result ≡ needs_id self.now.stage }
+    {
+        matches!(self.stage, Stage::ToTell(_, TurnStage::ToDraw(_)))
+    }
+
+    /// Takes the message id that was free for the notification of its turn. Where none was it needs one still.
+    pub fn draw(&mut self, free: Option<u16>)
+        ensures { self.new ≡ task_moved self.old (rows.moves (rows.drew free self.old.stage)) }
+    {
+        match (self.leave(), free) {
+            (Stage::ToTell(turn, TurnStage::ToDraw(found)), Some(id)) => {
+                self.stage = Stage::ToTell(turn, TurnStage::ToNote(found, id));
+            }
+            (other, _) => self.stage = other,
         }
     }
 
@@ -495,9 +514,9 @@ fn run_and_commit(
     requires owned { IsOwned shard.old ticket.now.origin.slot }
     requires given { HasGiven (slot_in shard.old ticket.now.origin.slot) ticket.now }
     requires asked { ticket.now.turn ≡ None }
-    ensures stage { (words : List ℕ) → result ≡ (commit_move shard.old words count ticket.now now).stage }
-    ensures shard { (words : List ℕ) →
-        shard.new ≡ shard_moved (commit_move shard.old words count ticket.now now) ticket.now.origin.slot shard.old }
+    ensures stage { (common : Common) → result ≡ (commit_move shard.old common count ticket.now now).stage }
+    ensures shard { (common : Common) →
+        shard.new ≡ shard_moved (commit_move shard.old common count ticket.now now) ticket.now.origin.slot shard.old }
 {
     let outcome = run(frame, ticket.program(), ticket.request(), ticket.vars());
     let committed = shard.commit(now, &outcome, ticket);

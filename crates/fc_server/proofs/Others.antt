@@ -1,24 +1,25 @@
 -- What each call does, as an event: on a job that came, on one that never came, on none.
-use Rattle.std.proofs.Common.{◌≡◌, ℕ, ◌<◌, ◌≤◌, ◌%◌, arith, get_or, List, ◌++◌, length, set, Bool, Option, Some, None, refl, sym, ap, ◌∙◌, subst, Bor}
+use Rattle.std.proofs.Common.{◌≡◌, ℕ, ◌<◌, ◌≤◌, ◌%◌, arith, max, get_or, List, ◌++◌, length, set, Bool, Option, Some, None, refl, sym, ap, ◌∙◌, subst, Bor}
 use Rattle.std.proofs.lemmas.List.{append-nil, get_or_default, get_or_past, set-get_or, set_past}
 use Rattle.coap_msg.specs.declared.types.Endpoint.{Endpoint}
 use Rattle.coap_msg.specs.declared.types.Emission.{Emission}
 use Rattle.fc_registry.specs.Shards.{no_shard, shard_at, slot_in_shards}
 use Rattle.fc_registry.specs.Slots.{Shard, Slot}
 use Rattle.fc_core.specs.declared.event.Event.{Event}
-use Rattle.fc_core.specs.declared.event.Event.TheVariants.{Deliver, Answer, Due, Signal, Tick, ShardTick, Lose}
+use Rattle.fc_core.specs.declared.event.Event.TheVariants.{Deliver, Answer, Due, Fresh, Signal, Tick, ShardTick, Lose}
 use Rattle.fc_core.specs.declared.stage.Stage.{Stage}
 use Rattle.fc_core.specs.declared.stage.Stage.TheVariants.{ToMatch, ToTake, ToDescribe, ToList, ToAnswer, Gone}
 use Rattle.fc_core.specs.declared.stage.Task.{Task}
 use Rattle.fc_core.specs.Exchanges.{advanced}
+use Rattle.fc_core.specs.Ids.{free_id}
 use Rattle.fc_core.specs.History.{AtFront, Rests, AtShard, at_front, at_shard, no_task, task_at}
 use Rattle.fc_core.specs.Legal.{AnswerEmits}
 use Rattle.fc_core.specs.Sound.{AllSafe}
-use Rattle.fc_core.specs.Stages.{around_of, Around, Move, Scene, at_answer, at_peek, at_receipt, at_take, content_at, moves, names, row, scene_at, task_moved, words_after}
+use Rattle.fc_core.specs.Stages.{around_of, Around, Move, Scene, at_answer, at_fresh, at_peek, at_receipt, content_at, drew, moves, names, needs_id, row, scene_at, task_moved, words_after}
 use Rattle.fc_core.proofs.Rejections.{same_slot}
 use Rattle.fc_server.specs.Agreement.{Parts}
 use Rattle.fc_server.specs.Serving.{with_tasks}
-use Rattle.fc_server.specs.States.{Does, Responds, ServerState, front_after, scene_in, shards_moved}
+use Rattle.fc_server.specs.States.{Does, DrawsId, Responds, ServerState, common_in, front_after, front_drawn, scene_in, shards_moved}
 use Rattle.fc_server.specs.Steps.{DeliveredTo, Done, EmitsAt, IsOfJob, IsSafeIn, brought_by, front_by, resent_by, shard_by, shards_in, tasks_in, turns_at, words_in}
 
 -- ---- a move that changes no slot
@@ -28,7 +29,7 @@ pub unwritten : (stage : Stage) (n : ℕ) (shards : List Shard) → shards_moved
 unwritten stage n shards = ap (λ (x : Shard). set shards (n % 8) x) (same_slot (shard_at shards (n % 8)) n) ∙ set-get_or shards (n % 8) no_shard
 
 -- an event that changes no slot and raises no head word
-pub does_quietly : (e : Event) (old new : ServerState) (task later : Task) (st : Stage) → row e (scene_in old.shards old.words task) ≡ moves st → later ≡ task_moved task (row e (scene_in old.shards old.words task)) → new ≡ old → Does e old task new later
+pub does_quietly : (e : Event) (old new : ServerState) (task later : Task) (st : Stage) → row e (scene_in old task) ≡ moves st → later ≡ task_moved task (row e (scene_in old task)) → new ≡ old → Does e old task new later
 does_quietly e old new task later st quiet is same = subst (λ (s : ServerState). Does e old task s later) (sym same) (record {
   front = refl;
   task_is = is;
@@ -67,12 +68,12 @@ does_done e k (rests, calm, named) old new tasks later was now at is d =
     record {
       front = d.front ∙ ap (λ (x : AtFront). front_by x p None) (sym rests);
       tasks = is
-          ∙ (ap (λ (t : Task). set tasks k t) (d.task_is ∙ ap (λ (t : Task). task_moved t (row e (scene_in old.shards old.words t))) at)
+          ∙ (ap (λ (t : Task). set tasks k t) (d.task_is ∙ ap (λ (t : Task). task_moved t (row e (scene_in old t))) at)
           ∙ (sym (append-nil (tasks_in (Some k) e p)) ∙ λ i. tasks_in (sym named i) e p ++ (turns_at (sym calm i) p.shards ++ brought_by (sym rests i) p)));
-      shards = subst (λ (t : Task). new.shards ≡ shards_moved (row e (scene_in old.shards old.words t)) t.job.origin.slot old.shards) at d.shards ∙ λ i. shard_by (sym calm i) (shards_in (sym named i) e p);
-      words = subst (λ (t : Task). new.words ≡ words_after (row e (scene_in old.shards old.words t)) t old.words) at d.words ∙ ap (λ (o : Option ℕ). words_in o e p) (sym named);
+      shards = subst (λ (t : Task). new.shards ≡ shards_moved (row e (scene_in old t)) t.job.origin.slot old.shards) at d.shards ∙ λ i. shard_by (sym calm i) (shards_in (sym named i) e p);
+      words = subst (λ (t : Task). new.words ≡ words_after (row e (scene_in old t)) t old.words) at d.words ∙ ap (λ (o : Option ℕ). words_in o e p) (sym named);
       emits = subst (λ (x : AtFront). EmitsAt x (at_shard e) p None) (sym rests) (ap (λ (y : AtShard). resent_by y p.shards) (sym calm));
-      safe = subst (λ (o : Option ℕ). IsSafeIn o e p) (sym named) (subst (λ (t : Task). AllSafe (row e (scene_in old.shards old.words t)).changes) at d.safe);
+      safe = subst (λ (o : Option ℕ). IsSafeIn o e p) (sym named) (subst (λ (t : Task). AllSafe (row e (scene_in old t)).changes) at d.safe);
     }
 
 pub responds_done : (k now : ℕ) (old new : ServerState) (tasks later : List Task) (was next : Task) (out : Option Emission) → was ≡ task_at tasks k → later ≡ set tasks k next → Responds now old was new next out → Done (Answer k now) (with_tasks old tasks) out (with_tasks new later)
@@ -86,6 +87,19 @@ responds_done k now old new tasks later was next out at is d =
       words = d.words ∙ ap (λ (m : Move). words_after m task old.words) (sym quiet);
       emits = subst (λ (t : Task). AnswerEmits (content_at t.stage) t.job (advanced old.front now) out) at d.emits;
       safe = subst (λ (m : Move). AllSafe m.changes) (sym quiet) tt;
+    }
+
+pub draws_done : (k now : ℕ) (old new : ServerState) (tasks later : List Task) (was next : Task) → was ≡ task_at tasks k → later ≡ set tasks k next → DrawsId now old was new next → Done (Fresh k now) (with_tasks old tasks) None (with_tasks new later)
+draws_done k now old new tasks later was next at is d =
+    let task = task_at tasks k in
+    let st = drew (free_id old.front.ids (max old.front.now now)) task.stage in
+    record {
+      front = subst (λ (t : Task). new.front ≡ front_drawn (needs_id t.stage) old.front now) at d.front;
+      tasks = is ∙ (ap (λ (t : Task). set tasks k t) (d.task_is ∙ ap (λ (t : Task). task_moved t (at_fresh now (scene_in old t) t.stage)) at) ∙ sym (append-nil (tasks_in (Some k) (Fresh k now) (with_tasks old tasks))));
+      shards = d.shards ∙ sym (unwritten st task.job.origin.slot old.shards);
+      words = d.words;
+      emits = refl;
+      safe = tt;
     }
 
 -- ---- no job
@@ -117,7 +131,7 @@ gone_moves other slot ws = refl
 
 past_does : (e : Event) (w : ServerState) → Does e w no_task w no_task
 past_does e w =
-    let quiet = gone_moves e (slot_in_shards w.shards 0) (around_of (shard_at w.shards 0) w.words 0) in
+    let quiet = gone_moves e (slot_in_shards w.shards 0) (around_of (shard_at w.shards 0) (common_in w.front w.words) 0) in
     does_quietly e w w no_task no_task Gone quiet (ap (λ (m : Move). task_moved no_task m) (sym quiet)) refl
 
 -- an event of a job that never came
@@ -126,6 +140,10 @@ past_done (Answer j now) k w tasks named le =
     let is : k ≡ j = cc in
     let past : length tasks ≤ j = subst (λ (i : ℕ). length tasks ≤ i) is le in
     responds_done j now w w tasks tasks no_task no_task None (sym (get_or_past tasks j no_task past)) (sym (set_past tasks j no_task past)) (record { front = refl; task_is = refl; shards = refl; words = refl; emits = refl })
+past_done (Fresh j now) k w tasks named le =
+    let is : k ≡ j = cc in
+    let past : length tasks ≤ j = subst (λ (i : ℕ). length tasks ≤ i) is le in
+    draws_done j now w w tasks tasks no_task no_task (sym (get_or_past tasks j no_task past)) (sym (set_past tasks j no_task past)) (record { front = refl; task_is = refl; shards = refl; words = refl })
 past_done (Deliver now to b) k w tasks named le = absurd (let n = named in cc)
 past_done (Tick now) k w tasks named le = absurd (let n = named in cc)
 past_done (Due shard now) k w tasks named le = absurd (let n = named in cc)

@@ -21,19 +21,19 @@ use Rattle.fc_core.specs.Answering.{after_answered_by}
 use Rattle.fc_core.specs.Contents.{Content}
 use Rattle.fc_core.specs.Exchanges.{FrontState, opening_is_live}
 use Rattle.fc_core.specs.Fits.{FitsSlot}
-use Rattle.fc_core.specs.History.{AtFront, Receives, Answers, Passes, Rests, AtShard, Calm, Seen, additions_by, and_then, answered_in, at_front, at_shard, calls_by, calls_named, changes_after, did, exchanges_by, front_at, front_in, hands_by, ids_answered, ids_by, job, moment_by, received_at, scene, shard_moment_after, stage, task_at, tasks_by, tasks_moved, watch, words_seen}
-use Rattle.fc_core.specs.Ids.{drawn_for}
+use Rattle.fc_core.specs.History.{AtFront, Receives, Answers, Draws, Passes, Rests, AtShard, Calm, Seen, additions_by, and_then, answered_in, at_front, at_shard, calls_by, calls_named, changes_after, common, did, exchanges_by, front_at, front_in, hands_by, ids_answered, ids_by, job, moment_by, received_at, scene, shard_moment_after, stage, task_at, tasks_by, tasks_moved, watch, words_seen}
+use Rattle.fc_core.specs.Ids.{drawn, drawn_for}
 use Rattle.fc_core.specs.Legal.{AnswerEmits, EmitsBy, FindsMeaning, FoundMeans, IsAnswered, TakesMeaning}
 use Rattle.fc_core.specs.Receiving.{AskWithin, added_by, after_added, after_received, brought, drawn_by, id_in, keeping, kept_of, next_opening, opened_by, received, sent}
 use Rattle.fc_core.specs.Sound.{AllSafe, IsSafelySeen, IsSound}
-use Rattle.fc_core.specs.Stages.{Move, Scene, content_at, handed, names, new_task, row, scene_at, task_moved, words_after}
+use Rattle.fc_core.specs.Stages.{Move, Scene, content_at, handed, names, needs_id, new_task, row, scene_at, task_moved, words_after}
 use Rattle.fc_core.proofs.Fitting.{after_changes-append, is_input}
 use Rattle.fc_core.proofs.Keeping.{IsSafeMove, still_safe, still_sound}
 use Rattle.fc_core.proofs.OnShards.{named_calm}
 use Rattle.fc_core.proofs.Watches.{after_append}
 use Rattle.fc_server.specs.Agreement.{Parts, ShardsAgree}
-use Rattle.fc_server.specs.States.{front_after, scene_in, shards_moved}
-use Rattle.fc_server.specs.Steps.{Done, EmitsAt, IsSafeIn, Steps, brought_by, front_by, move_in, shard_by, shards_in, tasks_in, words_in}
+use Rattle.fc_server.specs.States.{front_after, front_drawn, scene_in, shards_moved}
+use Rattle.fc_server.specs.Steps.{Done, EmitsAt, IsSafeIn, Steps, brought_by, front_by, move_in, server_in, shard_by, shards_in, tasks_in, words_in}
 use Rattle.fc_server.proofs.Fronts.{front_advances, front_keeps, front_of, front_opens, transfers_added}
 use Rattle.fc_server.proofs.Places.{are_written, now_here, now_there, slot_here, slot_there, watch_here, watch_there}
 use Rattle.fc_server.proofs.ShardEvents.{shard_agrees, shard_brings, shard_sends}
@@ -88,6 +88,12 @@ front_answered s now j out false (Some content) is emits =
     ∙ (ap (λ (b : Bool). after_answered_by b j out (front_at s now)) is
     ∙ ap (λ (em : Option Emission). front_of (max s.moment now) (answered_in j.origin.opening.number em s.exchanges) (transfers s.additions) s.ids) (sym late))
 
+front_drew : (s : Seen) (now : ℕ) (b : Bool) →
+    front_drawn b (front_in s s.moment) now
+    ≡ front_of (if b then max s.moment now else s.moment) s.exchanges (transfers s.additions) (if b then drawn s.ids (max s.moment now) else s.ids)
+front_drew s now true = ap (λ (f : FrontState). record f { ids = drawn s.ids (max s.moment now) }) (front_advances s now)
+front_drew s now false = refl
+
 -- ---- a state that agrees with what is seen, by its shards
 
 abbrev state_seen : Seen → List Shard → Parts
@@ -97,12 +103,14 @@ module _ (s : Seen) (shards : List Shard) (a : ShardsAgree s shards) (out : Opti
   emits_agree : (x : AtFront) (y : AtShard) → EmitsAt x y (state_seen s shards) out → EmitsBy x y s out
   emits_agree (Receives now to bytes) y e = subst (λ (f : FrontState). out ≡ sent (received f to bytes) f to) (front_advances s now) e
   emits_agree (Answers k now) y e = subst (λ (f : FrontState). AnswerEmits (content_at (stage s k)) (job s k) f out) (front_advances s now) e
+  emits_agree (Draws k now) y e = e
   emits_agree (Passes now) y e = e
   emits_agree Rests y e = e ∙ shard_sends y s shards a
 
   front_agrees : (x : AtFront) (y : AtShard) → EmitsBy x y s out → front_by x (state_seen s shards) out ≡ front_seen x out s
   front_agrees (Receives now to bytes) y e = ap (λ (f : FrontState). after_received (received f to bytes) f to) (front_advances s now) ∙ front_received s now to bytes out e
   front_agrees (Answers k now) y e = front_answered s now (job s k) out (opening_is_live (max s.moment now) (job s k).origin.opening) (content_at (stage s k)) refl e
+  front_agrees (Draws k now) y e = front_drew s now (needs_id (stage s k))
   front_agrees (Passes now) y e = front_advances s now
   front_agrees Rests y e = refl
 
@@ -134,8 +142,8 @@ module _ (s : Seen) (e : Event) (shards : List Shard) (a : ShardsAgree s shards)
         a.watch (n % 8) (n / 8) (omega arith) (omega (arith, low)) ∙ ap (watch s) number
 
     -- what the server finds of the task is what is seen
-    scene_is : scene_in shards s.words (task_at s.tasks k) ≡ scene s k
-    scene_is = λ i. scene_at (task_at s.tasks k) (a.slot n low i) (record { words = s.words; moment = a.now (n % 8) (omega arith) i; watch = watch_is i })
+    scene_is : scene_in (server_in (state_seen s shards)) (task_at s.tasks k) ≡ scene s k
+    scene_is = λ i. scene_at (task_at s.tasks k) (a.slot n low i) (record { common = common s; moment = a.now (n % 8) (omega arith) i; watch = watch_is i })
 
     move_is : move_in e (state_seen s shards) k ≡ m
     move_is = λ i. row e (scene_is i)

@@ -1,5 +1,5 @@
 -- What a server holds, and what an event does to it and to a task.
-use Rattle.std.specs.Prelude.{◌≡◌, ℕ, ◌%◌, ◌<◌, List, Option, Some, None, length}
+use Rattle.std.specs.Prelude.{◌≡◌, ℕ, ◌%◌, ◌<◌, Bool, true, false, List, Option, Some, None, length, max}
 use Rattle.coap_msg.specs.declared.types.Emission.{Emission}
 use Rattle.fc_registry.specs.declared.job.Job.{Job}
 use Rattle.fc_registry.specs.Shards.{shard_at, slot_in_shards, with_owner}
@@ -9,10 +9,11 @@ use Rattle.fc_core.specs.declared.stage.Task.{Task}
 use Rattle.fc_core.specs.Answering.{after_answered}
 use Rattle.fc_core.specs.Contents.{Content}
 use Rattle.fc_core.specs.Exchanges.{FrontState, advanced}
+use Rattle.fc_core.specs.Ids.{drawn, free_id}
 use Rattle.fc_core.specs.Fits.{FitsStage}
 use Rattle.fc_core.specs.Legal.{AnswerEmits}
 use Rattle.fc_core.specs.Sound.{AllSafe}
-use Rattle.fc_core.specs.Stages.{Move, Scene, at_answer, content_at, task_moved, row, scene_of, shard_moved, words_after}
+use Rattle.fc_core.specs.Stages.{Common, Move, Scene, at_answer, at_fresh, content_at, needs_id, task_moved, row, scene_of, shard_moved, words_after}
 
 -- its front, its shards, and the head words of their slots
 pub record ServerState : Type 0 where
@@ -20,9 +21,13 @@ pub record ServerState : Type 0 where
   pub shards : List Shard
   pub words : List ℕ
 
+-- what is common to the jobs of all slots
+abbrev pub common_in : FrontState → List ℕ → Common
+common_in f words = record { words = words; free = λ now. free_id f.ids (max f.now now) }
+
 -- what an event finds of a task
-abbrev pub scene_in : List Shard → List ℕ → Task → Scene
-scene_in shards words task = scene_of (shard_at shards (task.job.origin.slot % 8)) words task
+abbrev pub scene_in : ServerState → Task → Scene
+scene_in s task = scene_of (shard_at s.shards (task.job.origin.slot % 8)) (common_in s.front s.words) task
 
 -- the shards after a move of a job of slot n
 abbrev pub shards_moved : Move → ℕ → List Shard → List Shard
@@ -38,15 +43,27 @@ pub record AtWork (s : ServerState) (task : Task) : Type 0 where
 -- an event on a task: it moves by its row, and so do its slot and the slot's head word; what is installed is safe
 pub record Does (e : Event) (old : ServerState) (task : Task) (new : ServerState) (next : Task) : Type 0 where
   pub front : new.front ≡ old.front
-  pub task_is : next ≡ task_moved task (row e (scene_in old.shards old.words task))
-  pub shards : new.shards ≡ shards_moved (row e (scene_in old.shards old.words task)) task.job.origin.slot old.shards
-  pub words : new.words ≡ words_after (row e (scene_in old.shards old.words task)) task old.words
-  pub safe : AllSafe (row e (scene_in old.shards old.words task)).changes
+  pub task_is : next ≡ task_moved task (row e (scene_in old task))
+  pub shards : new.shards ≡ shards_moved (row e (scene_in old task)) task.job.origin.slot old.shards
+  pub words : new.words ≡ words_after (row e (scene_in old task)) task old.words
+  pub safe : AllSafe (row e (scene_in old task)).changes
 
 -- the front after an answer of this content, if there is one, that sent this
 abbrev pub front_after : Option Content → Job → Option Emission → FrontState → ℕ → FrontState
 front_after None job emitted f now = f
 front_after (Some content) job emitted f now = after_answered job emitted (advanced f now)
+
+-- the front after a task drew a message id, where it needed one
+abbrev pub front_drawn : Bool → FrontState → ℕ → FrontState
+front_drawn true f now = record (advanced f now) { ids = drawn f.ids (max f.now now) }
+front_drawn false f now = f
+
+-- a task's draw
+pub record DrawsId (now : ℕ) (old : ServerState) (task : Task) (new : ServerState) (next : Task) : Type 0 where
+  pub front : new.front ≡ front_drawn (needs_id task.stage) old.front now
+  pub task_is : next ≡ task_moved task (at_fresh now (scene_in old task) task.stage)
+  pub shards : new.shards ≡ old.shards
+  pub words : new.words ≡ old.words
 
 -- a task's answer
 pub record Responds (now : ℕ) (old : ServerState) (task : Task) (new : ServerState) (next : Task) (emitted : Option Emission) : Type 0 where

@@ -11,19 +11,20 @@ use Rattle.fc_registry.specs.Watches.{after_due, after_tick, due_place, handed a
 use Rattle.fc_core.specs.declared.event.Event.{Event}
 use Rattle.fc_core.specs.declared.stage.Task.{Task}
 use Rattle.fc_core.specs.Exchanges.{FrontState, advanced}
-use Rattle.fc_core.specs.History.{AtFront, Receives, Answers, Passes, Rests, AtShard, AsksTurn, Signals, Ticks, Calm, Seen, and_then, at_front, at_shard, did, task_at}
+use Rattle.fc_core.specs.History.{AtFront, Receives, Answers, Draws, Passes, Rests, AtShard, AsksTurn, Signals, Ticks, Calm, Seen, and_then, at_front, at_shard, did, task_at}
 use Rattle.fc_core.specs.Legal.{AnswerEmits, Emits, TakesMeaning, resent}
 use Rattle.fc_core.specs.Receiving.{after_received, brought, next_opening, received, sent}
 use Rattle.fc_core.specs.Sound.{AllSafe}
-use Rattle.fc_core.specs.Stages.{Move, content_at, names, new_task, row, task_moved, words_after}
+use Rattle.fc_core.specs.Stages.{Move, content_at, names, needs_id, new_task, row, task_moved, words_after}
 use Rattle.fc_server.specs.Agreement.{Agrees, Parts}
-use Rattle.fc_server.specs.States.{front_after, scene_in, shards_moved}
+use Rattle.fc_server.specs.States.{ServerState, front_after, front_drawn, scene_in, shards_moved}
 
 -- ---- by what an event does at the front
 
 abbrev pub front_by : AtFront → Parts → Option Emission → FrontState
 front_by (Receives now to bytes) p emitted = after_received (received (advanced p.front now) to bytes) (advanced p.front now) to
 front_by (Answers k now) p emitted = front_after (content_at (task_at p.tasks k).stage) (task_at p.tasks k).job emitted p.front now
+front_by (Draws k now) p emitted = front_drawn (needs_id (task_at p.tasks k).stage) p.front now
 front_by (Passes now) p emitted = advanced p.front now
 front_by Rests p emitted = p.front
 
@@ -33,8 +34,12 @@ brought_by other p = []
 
 -- ---- by the job that it names
 
+-- the server among the parts
+abbrev pub server_in : Parts → ServerState
+server_in p = record { front = p.front; shards = p.shards; words = p.words }
+
 abbrev pub move_in : Event → Parts → ℕ → Move
-move_in e p k = row e (scene_in p.shards p.words (task_at p.tasks k))
+move_in e p k = row e (scene_in (server_in p) (task_at p.tasks k))
 
 abbrev pub tasks_in : Option ℕ → Event → Parts → List Task
 tasks_in None e p = p.tasks
@@ -100,6 +105,7 @@ resent_by other shards = None
 abbrev pub EmitsAt : AtFront → AtShard → Parts → Option Emission → Type 0
 EmitsAt (Receives now to bytes) x p emitted = emitted ≡ sent (received (advanced p.front now) to bytes) (advanced p.front now) to
 EmitsAt (Answers k now) x p emitted = AnswerEmits (content_at (task_at p.tasks k).stage) (task_at p.tasks k).job (advanced p.front now) emitted
+EmitsAt (Draws k now) x p emitted = emitted ≡ None
 EmitsAt (Passes now) x p emitted = emitted ≡ None
 EmitsAt Rests x p emitted = emitted ≡ resent_by x p.shards
 

@@ -7,7 +7,7 @@ ghost use Rattle.fc_core.specs.declared.event.Event.{Event};
 ghost use Rattle.fc_core.specs.Exchanges.{advanced, first_front};
 ghost use Rattle.fc_core.specs.Heads.{no_words};
 ghost use Rattle.fc_core.specs.Receiving.{after_delivered, delivered, emission_if, heard};
-ghost use Rattle.fc_server.specs.States.{Responds, AtWork, Does};
+ghost use Rattle.fc_server.specs.States.{Responds, AtWork, Does, DrawsId};
 ghost use Rattle.fc_server.specs.Steps.{shard_asked, shard_resent, shard_ticked, shard_turn};
 
 use coap_msg::{Emission, Endpoint};
@@ -200,6 +200,17 @@ impl Server {
         ensures { (k : ℕ) → Does (Event.Raise k) self.old task.old self.new task.new }
     {
         task.raise(&mut self.heads);
+    }
+
+    /// A task draws a message id for the notification of its turn, at a moment in milliseconds, where it stands there. Where none is
+    /// free it stands there still.
+    pub fn fresh(&mut self, now: u64, task: &mut Task)
+        requires { AtWork self.old task.old }
+        ensures { DrawsId now self.old task.old self.new task.new }
+    {
+        if task.needs_id() {
+            task.draw(self.front.fresh_id(now));
+        }
     }
 
     /// A task gives up its turn, at a moment in milliseconds.

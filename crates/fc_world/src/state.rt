@@ -154,6 +154,14 @@ impl State {
         self.server.raise(&mut self.tasks[job]);
     }
 
+    fn fresh(&mut self, job: usize, now: u64)
+        requires job { job < length self.old.tasks.items }
+        requires work { AtWork self.old.server (task_at self.old.tasks.items job) }
+        ensures { Done (Event.Fresh job now) (parts self.old) None (parts self.new) }
+    {
+        self.server.fresh(now, &mut self.tasks[job]);
+    }
+
     fn give_up(&mut self, job: usize, now: u64)
         requires job { job < length self.old.tasks.items }
         requires work { AtWork self.old.server (task_at self.old.tasks.items job) }
@@ -247,6 +255,10 @@ impl State {
             }
             Event::Raise { job: _ } => {
                 self.raise(job);
+                Ok(None)
+            }
+            Event::Fresh { job: _, now } => {
+                self.fresh(job, now);
                 Ok(None)
             }
             Event::GiveUp { job: _, now } => {

@@ -25,15 +25,15 @@ row c =
     c.requires.given c.requires.asked w.commit
 
 pub returns-clause-stage : goal.returns-clause-stage
-returns-clause-stage c = λ words.
+returns-clause-stage c = λ common.
     let n = c.args.ticket.now.origin.slot in
     let slot = slot_in c.args.shard.now n in
-    c.committed.ensures ∙ (ap (λ (x : Committed). after_commit c.args.count c.args.ticket.now x) (row c).answer ∙ stage_of_row (outcome c.args.ticket.now slot) c.args.count c.args.ticket.now c.args.now slot.serial (around_of c.args.shard.now words n) (writes_at c.args.ticket.now slot))
+    c.committed.ensures ∙ (ap (λ (x : Committed). after_commit c.args.count c.args.ticket.now x) (row c).answer ∙ stage_of_row (outcome c.args.ticket.now slot) c.args.count c.args.ticket.now c.args.now slot.serial (around_of c.args.shard.now common n) (writes_at c.args.ticket.now slot))
 
 pub returns-clause-shard : goal.returns-clause-shard
-returns-clause-shard c = λ words.
+returns-clause-shard c = λ common.
     let shard = c.args.shard.now in
     let t = c.args.ticket.now in
     c.commit-committed.ensures.shard
     ∙ ((λ i. left_by t c.args.now shard ((row c).answer i) ((row c).after_is i))
-    ∙ shard_of_row (outcome t (slot_in shard t.origin.slot)) c.args.count t c.args.now shard words)
+    ∙ shard_of_row (outcome t (slot_in shard t.origin.slot)) c.args.count t c.args.now shard common)

@@ -5,9 +5,9 @@ use Rattle.fc_core.proofs.TurnTakings.{turn_calls_at, turn_takes_without}
 use Rattle.fc_core.proofs.stage.Task.refuse_turn.Goals as goal
 
 pub returns-clause-task : goal.returns-clause-task
-returns-clause-task c = λ words.
+returns-clause-task c = λ common.
     ap (λ (s : Stage). record { job = c.args.self.now.job; stage = s }) (c.turn_took.ensures ∙ ap (turn_took c.args.turn) c.without_memory.ensures)
-    ∙ turn_takes_without c.args.shard.now c.args.self.now c.args.turn c.requires.turn c.requires.fits c.take.result c.take.ensures.taken words
+    ∙ turn_takes_without c.args.shard.now c.args.self.now c.args.turn c.requires.turn c.requires.fits c.take.result c.take.ensures.taken common
 
 pub returns-clause-shard : goal.returns-clause-shard
-returns-clause-shard c = λ words. turn_calls_at c.args.shard.now c.args.self.now c.args.turn c.requires.turn c.requires.fits false _ c.take.ensures.after words
+returns-clause-shard c = λ common. turn_calls_at c.args.shard.now c.args.self.now c.args.turn c.requires.turn c.requires.fits false _ c.take.ensures.after common

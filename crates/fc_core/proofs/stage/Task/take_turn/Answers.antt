@@ -5,10 +5,10 @@ use Rattle.fc_core.proofs.TurnTakings.{turn_calls_at, turn_takes}
 use Rattle.fc_core.proofs.stage.Task.take_turn.Goals as goal
 
 pub returns-clause-task : goal.returns-clause-task
-returns-clause-task c = λ words.
+returns-clause-task c = λ common.
     ap (λ (s : Stage). record { job = c.args.self.now.job; stage = s }) c.turn_took.ensures
-    ∙ (turn_takes c.args.shard.now c.args.self.now c.args.turn c.requires.turn c.requires.fits c.take-taken.result c.take-taken.ensures.taken words
-    ∙ ap (λ (m : Bool). task_moved c.args.self.now (at_take m (scene_of c.args.shard.now words c.args.self.now) c.args.self.now.stage)) (sym c.had_memory-memory.ensures))
+    ∙ (turn_takes c.args.shard.now c.args.self.now c.args.turn c.requires.turn c.requires.fits c.take-taken.result c.take-taken.ensures.taken common
+    ∙ ap (λ (m : Bool). task_moved c.args.self.now (at_take m (scene_of c.args.shard.now common c.args.self.now) c.args.self.now.stage)) (sym c.had_memory-memory.ensures))
 
 pub returns-clause-shard : goal.returns-clause-shard
-returns-clause-shard c = λ words. turn_calls_at c.args.shard.now c.args.self.now c.args.turn c.requires.turn c.requires.fits c.had_memory-memory.result _ c.take-taken.ensures.after words
+returns-clause-shard c = λ common. turn_calls_at c.args.shard.now c.args.self.now c.args.turn c.requires.turn c.requires.fits c.had_memory-memory.result _ c.take-taken.ensures.after common

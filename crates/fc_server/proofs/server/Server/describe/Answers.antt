@@ -2,7 +2,7 @@ use Rattle.std.proofs.Common.{ap, ◌∙◌, length, refl, subst}
 use Rattle.fc_core.specs.declared.event.Event.TheVariants.{Receipt}
 use Rattle.fc_core.specs.Stages.{at_receipt, scene_of, task_moved}
 use Rattle.fc_registry.specs.Slots.{Shard}
-use Rattle.fc_server.specs.States.{Does, ServerState, scene_in}
+use Rattle.fc_server.specs.States.{Does, ServerState, common_in, scene_in}
 use Rattle.fc_server.proofs.Others.{does_quietly, owner_read, receipt_quiet}
 use Rattle.fc_server.proofs.server.Server.describe.Goals as goal
 
@@ -15,6 +15,6 @@ returns c = λ k.
     let eight = ap (λ (x : ServerState). length x.shards) c.self.view_is ∙ c.requires.count in
     let owner = owner_read s.shards task.job.origin.slot c.shard.result found eight c.shard.ensures.limit c.shard.ensures.shard c.index.ensures in
     subst (λ (x : ServerState). Does (Receipt k) x task x c.describe.new.self) c.self.view_is
-    (does_quietly (Receipt k) s s task c.describe.new.self _ (receipt_quiet (scene_in s.shards s.words task) task.stage)
-    (c.describe.ensures s.words ∙ ap (λ (x : Shard). task_moved task (at_receipt (scene_of x s.words task) task.stage)) owner)
+    (does_quietly (Receipt k) s s task c.describe.new.self _ (receipt_quiet (scene_in s task) task.stage)
+    (c.describe.ensures (common_in s.front s.words) ∙ ap (λ (x : Shard). task_moved task (at_receipt (scene_of x (common_in s.front s.words) task) task.stage)) owner)
     refl)

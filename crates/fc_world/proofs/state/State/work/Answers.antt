@@ -1,5 +1,5 @@
 use Rattle.std.proofs.Common.{None, refl}
-use Rattle.fc_core.specs.declared.event.Event.TheVariants.{Peek, Take, Commit, Install, Remove, Receipt, Raise, GiveUp, Lose, Answer}
+use Rattle.fc_core.specs.declared.event.Event.TheVariants.{Peek, Take, Commit, Install, Remove, Receipt, Raise, Fresh, GiveUp, Lose, Answer}
 use Rattle.fc_server.proofs.Stepping.{goes_on}
 use Rattle.fc_world.specs.Parts.{parts}
 use Rattle.fc_world.proofs.Dispatch.{retold}
@@ -25,6 +25,9 @@ returns-in-Receipt c = retold c.args.event.now Receipt _ c.args.job (λ j. refl)
 
 pub returns-in-Raise : goal.returns-in-Raise
 returns-in-Raise c = retold c.args.event.now Raise _ c.args.job (λ j. refl) c.in-Raise.is c.requires.named (parts c.args.self.now) (parts c.raise.new.self) None (goes_on (Raise c.args.job) (parts c.args.self.now) (parts c.raise.new.self) None c.raise.ensures)
+
+pub returns-in-Fresh : goal.returns-in-Fresh
+returns-in-Fresh c = retold c.args.event.now (λ j. Fresh j c.in-Fresh.now) _ c.args.job (λ j. refl) c.in-Fresh.is c.requires.named (parts c.args.self.now) (parts c.fresh.new.self) None (goes_on (Fresh c.args.job c.in-Fresh.now) (parts c.args.self.now) (parts c.fresh.new.self) None c.fresh.ensures)
 
 pub returns-in-GiveUp : goal.returns-in-GiveUp
 returns-in-GiveUp c = retold c.args.event.now (λ j. GiveUp j c.in-GiveUp.now) _ c.args.job (λ j. refl) c.in-GiveUp.is c.requires.named (parts c.args.self.now) (parts c.give_up.new.self) None (goes_on (GiveUp c.args.job c.in-GiveUp.now) (parts c.args.self.now) (parts c.give_up.new.self) None c.give_up.ensures)
