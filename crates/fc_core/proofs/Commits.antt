@@ -20,8 +20,8 @@ use Rattle.fc_core.specs.Stages.{Around, Common, after_commit, around_of, commit
 
 -- the mark of a commit that is done is of the outcome and the ticket
 done_by : (ran : Ran) (t : Ticket) (slot : Slot) (v : ObserverList) (o : CommitOutcome) → IsOwn ran t slot → ComesTo t slot o → AreDone ran t (commits o t slot.serial v).answer
-done_by ran t slot v Writes own is = (record { run = own_run ran t slot own; origin = refl; serial = refl }, λ e. let below = is.2 in omega (arith, below))
-done_by ran t slot v Keeps own is = (record { run = own_run ran t slot own; origin = refl; serial = refl }, λ e. absurd (cc e))
+done_by ran t slot v Writes own is = (record { run = own_run ran t slot.serial own.run; origin = refl; serial = refl }, λ e. let below = is.2 in omega (arith, below))
+done_by ran t slot v Keeps own is = (record { run = own_run ran t slot.serial own.run; origin = refl; serial = refl }, λ e. absurd (cc e))
 done_by ran t slot v Overtakes own is = tt
 done_by ran t slot v Ends own is = tt
 
@@ -48,7 +48,7 @@ own_row ran t slot v c after given w =
     }
 
 pub commit_row : (ran : Ran) (t : Ticket) (slot : Slot) (v : ObserverList) (c : Committed) (after : Slot) → ran.program ≡ t.found.program → ran.input.request ≡ t.request → ran.input.vars ≡ t.found.vars → HasGiven slot t → t.turn ≡ None → IsCommit ran t slot v c after → IsRow t slot v c after
-commit_row ran t slot v Stranger after p r vars given none w = absurd (w.stranger (record { asked = none; program = p; request = r; vars = vars; serial = given.serial }))
+commit_row ran t slot v Stranger after p r vars given none w = absurd (w.stranger (record { asked = none; run = record { program = p; request = r; vars = vars; found = given.serial } }))
 commit_row ran t slot v (Done m) after p r vars given none w = own_row ran t slot v (Done m) after given w
 commit_row ran t slot v Overtaken after p r vars given none w = own_row ran t slot v Overtaken after given w
 commit_row ran t slot v Ended after p r vars given none w = own_row ran t slot v Ended after given w

@@ -4,3 +4,4 @@ pub mod Rings
 pub mod Places
 pub mod Outcomes
 pub mod Noticed
+pub mod Telling

@@ -257,13 +257,17 @@ abbrev pub commit_calls : Committed → ℕ → Ticket → List ObserverCall
 commit_calls (Done m) now t = if m.changed then [] else observe_calls now t
 commit_calls other now t = []
 
--- the ticket is no turn's, the outcome is of its program, request and variables, and its serial isn't above the slot's
-pub record IsOwn (ran : Ran) (t : Ticket) (slot : Slot) : Type 0 where
-  pub asked : t.turn ≡ None
+-- the outcome is of the ticket's program, request and variables, and the ticket's serial isn't above the slot's
+pub record IsRunOf (ran : Ran) (t : Ticket) (serial : ℕ) : Type 0 where
   pub program : ran.program ≡ t.found.program
   pub request : ran.input.request ≡ t.request
   pub vars : ran.input.vars ≡ t.found.vars
-  pub serial : t.serial ≤ slot.serial
+  pub found : t.serial ≤ serial
+
+-- the ticket is no turn's, and the outcome is of it
+pub record IsOwn (ran : Ran) (t : Ticket) (slot : Slot) : Type 0 where
+  pub asked : t.turn ≡ None
+  pub run : IsRunOf ran t slot.serial
 
 -- the commit of an outcome that is the ticket's
 pub record IsCommitOf (t : Ticket) (slot : Slot) (w : ObserverList) (c : Committed) (after : Slot) : Type 0 where

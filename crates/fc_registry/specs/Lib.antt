@@ -7,4 +7,5 @@ pub mod Changes
 pub mod Record
 pub mod Views
 pub mod Calls
+pub mod Notes
 pub mod Laws

@@ -27,6 +27,7 @@ mod body;
 pub mod commit;
 pub mod job;
 pub mod laws;
+pub mod note;
 pub mod observe;
 pub mod receipt;
 pub mod ring;
@@ -38,6 +39,7 @@ mod turn;
 
 pub use commit::{CommitOutcome, Committed};
 pub use job::{Ask, Job, Opening, Origin};
+pub use note::{Noted, Notification};
 pub use observe::{CANCEL, REGISTER, has_observe};
 pub use receipt::Receipt;
 pub use ring::Entry;

@@ -7,17 +7,19 @@ ghost use Rattle.fc_registry.specs.Calls.{TakesAt, CommitsTo, IsCommit, ComesTo,
 ghost use Rattle.fc_registry.specs.Views.{as_seen, present_of};
 ghost use Rattle.fc_registry.specs.Record.{IsRing};
 ghost use Rattle.fc_observe.specs.Calls.{after_calls, observers_after};
+ghost use Rattle.fc_registry.specs.Notes.{NotesTo};
 ghost use Rattle.fc_registry.specs.Turns.{due_job};
 ghost use Rattle.fc_registry.specs.Watches.{after_due, after_given_up, after_tick, due_place, handed, is_due_at, late_place, new_watches, noticed_at, signal_call, signalled, ticked_in};
 
 use crate::body::Body;
 use crate::commit::{CommitOutcome, Committed};
 use crate::job::{Ask, Job};
+use crate::note::{Noted, Notification, note};
 use crate::observe::observe;
 use crate::receipt::Receipt;
 use crate::ring::{Entry, Ring};
 use crate::slot_number::{SHARDS, SlotNumber};
-use crate::ticket::{Mark, Ticket};
+use crate::ticket::{Mark, Ticket, is_run_of};
 use crate::turn::next_turn;
 use coap_msg::{Endpoint, Token};
 use fc_help::{Method, Request, Vars};
@@ -238,6 +240,29 @@ impl Shard {
         let slot = SlotNumber::new(SHARDS * place as u8 + self.index);
         let watch = &mut self.watches[place];
         next_turn(watch, self.now, noticed, slot)
+    }
+
+    /// Notifies the observer whose turn is out of what is told, by a message id, at a moment in milliseconds: the response, with the
+    /// serial found as its sequence number, where it is a 2.05 Content, and then the turn is over; another response, 4.04 of an empty
+    /// slot among them, has none, and removes the observer. It is confirmable 86,400,000 ms after the registration or the last
+    /// confirmable one (RFC 7641, 4.5), and then waits for an acknowledgement, by the random word. `Stale` and `Stranger`, tested in this
+    /// order, change no observer.
+    pub fn note(
+        &mut self,
+        turn: Turn,
+        id: u16,
+        now: u64,
+        random: u16,
+        told: &Notification<'_>,
+    ) -> Noted
+        requires { IsOwned self.old turn.slot }
+        ensures { NotesTo told.now turn id random self.old now result self.new }
+    {
+        self.now = self.now.max(now);
+        let place = usize::from(turn.slot / SHARDS);
+        let serial = serial_of(&self.slots[place]);
+        let watch = &mut self.watches[place];
+        note(watch, self.now, serial, turn, id, random, told)
     }
 
     /// Gives up a turn, at a moment in milliseconds. Its observer is due again at a later one.
@@ -494,11 +519,7 @@ fn is_own(outcome: &Outcome<'_>, ticket: &Ticket, slot: &SlotState) -> bool
     ensures own { IsTrue result ↔ IsOwn outcome.now ticket.now (as_seen slot.now) }
     ensures run { IsTrue result → outcome.now ≡ run_of ticket.now }
 {
-    ticket.turn.is_none()
-        && outcome.program().is(ticket.program())
-        && outcome.request().is(ticket.request())
-        && outcome.found().is(ticket.vars())
-        && ticket.serial() <= slot.serial
+    ticket.turn.is_none() && is_run_of(outcome, ticket, slot.serial)
 }
 
 // Whether the run answered a POST with a code of class 2.

@@ -1,10 +1,12 @@
 //! Tickets and marks.
-ghost use Rattle.std.specs.Prelude.{◌≡◌, length};
+ghost use Rattle.std.specs.Prelude.{◌≡◌, ◌↔◌, IsTrue, length};
+ghost use Rattle.fc_registry.specs.Calls.{IsRunOf, run_of};
 
 use crate::job::Origin;
 use coap_msg::Token;
 use coap_opts::Block;
 use fc_help::{Request, Vars};
+use fc_machine::Outcome;
 use fc_verify::Verified;
 use std::marker::Model;
 use std::sync::Arc;
@@ -110,6 +112,17 @@ impl Ticket {
     {
         &self.vars
     }
+}
+
+// Whether an outcome is of a ticket's program, request and variables, and the ticket's serial isn't above this one.
+pub(crate) fn is_run_of(outcome: &Outcome<'_>, ticket: &Ticket, serial: u64) -> bool
+    ensures of { IsTrue result ↔ IsRunOf outcome.now ticket.now serial }
+    ensures run { IsTrue result → outcome.now ≡ run_of ticket.now }
+{
+    outcome.program().is(ticket.program())
+        && outcome.request().is(ticket.request())
+        && outcome.found().is(ticket.vars())
+        && ticket.serial() <= serial
 }
 
 /// What a commit leaves. An answer of a run spends it, so no such answer is made without its commit: only a commit makes a
