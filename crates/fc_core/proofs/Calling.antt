@@ -6,6 +6,7 @@ use Rattle.std.specs.List.{All}
 use Rattle.std.specs.Option.{option_map, option_to_list}
 use Rattle.std.proofs.lemmas.List.Elements.{All-head, All-tail}
 use Rattle.arrayvec.specs.ArrayVec.{ArrayVec}
+use Rattle.coap_msg.specs.declared.types.Emission.{Emission}
 use Rattle.coap_msg.specs.declared.types.Endpoint.{Endpoint}
 use Rattle.fc_observe.specs.declared.entry.Entry.{Entry}
 use Rattle.fc_observe.specs.declared.entry.Turn.{Turn}
@@ -20,13 +21,14 @@ use Rattle.fc_registry.specs.declared.job.Ask.{Ask}
 use Rattle.fc_registry.specs.declared.job.Ask.TheVariants.{Run}
 use Rattle.fc_registry.specs.declared.job.Job.{Job}
 use Rattle.fc_registry.specs.Calls.{is_cancellation, observe_calls, observe_calls_by, outcome, is_registration, request_of, is_out_at, miss_calls, turn_calls}
+use Rattle.fc_registry.specs.Notes.{keeps_observer, note_at, note_calls, serial_told, told_call}
 use Rattle.fc_registry.specs.Slots.{Present, Slot, Ticket}
 use Rattle.fc_registry.specs.Turns.{job_of_turn, turn_given_to, turn_job}
 use Rattle.fc_registry.specs.Watches.{place_from, signal_call}
 use Rattle.fc_verify.specs.Accepted.{Judgement, Accepts, Breaks, Untypable}
 use Rattle.fc_verify.specs.Judged.{judged}
 use Rattle.fc_core.specs.declared.event.Event.{Event}
-use Rattle.fc_core.specs.declared.event.Event.TheVariants.{Peek, Take, Commit, Install, Remove, Receipt, Raise, Answer, Fresh, GiveUp}
+use Rattle.fc_core.specs.declared.event.Event.TheVariants.{Peek, Take, Commit, Install, Remove, Receipt, Raise, Answer, Fresh, Note, GiveUp}
 use Rattle.fc_core.specs.declared.stage.Stage.{Stage}
 use Rattle.fc_core.specs.declared.stage.Stage.TheVariants.{ToMatch, ToTake, ToCommit, ToInstall, ToRemove, ToDescribe, ToList, ToRaise, ToAnswer, ToTell}
 use Rattle.fc_core.specs.declared.stage.TurnStage.TheVariants as turns
@@ -41,11 +43,12 @@ use Rattle.fc_core.proofs.Watches.{after_append}
 
 -- ---- the calls of an event of a job
 
--- none, those of a commit that has nothing to write, of the taking of a turn, or that of a turn that is given up
+-- none, those of a commit that has nothing to write, of the taking of a turn, of its notification, or that of a turn that is given up
 pub data CallsBy (e : Event) (at : Stage) (cs : List ObserverCall) : Type 0 where
   NoCall : (is : cs ≡ []) → CallsBy e at cs
   OfCommit : (k now n moment : ℕ) (t : Ticket) (event : e ≡ Commit k now) (stands : at ≡ ToCommit n t) (is : cs ≡ observe_calls moment t) → CallsBy e at cs
   OfTaking : (turn : Turn) (moment : ℕ) (present : Option Present) (w : ObserverList) (is : cs ≡ turn_calls turn moment present w) → CallsBy e at cs
+  OfNote : (turn : Turn) (id random moment : ℕ) (found : Option Ticket) (sent : Option Emission) (is : cs ≡ note_calls turn id random moment found sent) → CallsBy e at cs
   OfGiveUp : (turn : Turn) (moment : ℕ) (is : cs ≡ GiveUpTurn turn moment ∷ []) → CallsBy e at cs
 
 abbrev at : Job → Slot → Around → Stage → Scene
@@ -87,6 +90,8 @@ row_calls (Answer k now) job slot ws (ToAnswer content) = NoCall refl
 row_calls (Answer k now) job slot ws other = NoCall refl
 row_calls (Fresh k now) job slot ws (ToTell turn (turns.ToDraw found)) = NoCall refl
 row_calls (Fresh k now) job slot ws other = NoCall refl
+row_calls (Note k now random) job slot ws (ToTell turn (turns.ToNote found id)) = OfNote turn id random (max ws.moment now) found (note_at turn id (max ws.moment now) found ws.watch) refl
+row_calls (Note k now random) job slot ws other = NoCall refl
 row_calls (GiveUp k now) job slot ws (ToTell turn needs) = OfGiveUp turn (max ws.moment now) refl
 row_calls (GiveUp k now) job slot ws other = NoCall refl
 row_calls other job slot ws s = NoCall refl
@@ -136,12 +141,21 @@ miss_within true turn None moment = (tt, (tt, tt))
 miss_within true turn (Some p) moment = (tt, tt)
 miss_within false turn present moment = (tt, tt)
 
+told_within : (b : Bool) (turn : Turn) (id random moment serial : ℕ) (bytes : ArrayVec ℕ) → CallWithin (told_call b turn id random moment serial bytes)
+told_within true turn id random moment serial bytes = tt
+told_within false turn id random moment serial bytes = tt
+
+note_within : (turn : Turn) (id random moment : ℕ) (found : Option Ticket) (sent : Option Emission) → Each CallWithin (note_calls turn id random moment found sent)
+note_within turn id random moment found None = (tt, tt)
+note_within turn id random moment found (Some e) = (told_within (keeps_observer found) turn id random moment (serial_told found) e.bytes, (tt, tt))
+
 row_within : (e : Event) (job : Job) (slot : Slot) (s : Stage) (cs : List ObserverCall) → FitsStage job slot s → AskWithin job.ask → CallsBy e s cs → Each CallWithin cs
 row_within e job slot s cs f w (NoCall is) = subst (Each CallWithin) (sym is) tt
 row_within e job slot s cs f w (OfCommit k now n moment t event stands is) =
     let fits : FitsStage job slot (ToCommit n t) = subst (FitsStage job slot) stands f in
     subst (Each CallWithin) (sym is) (observed_within (is_registration t) (is_cancellation t) moment t (subst RequestWithin (sym fits.1.request) (request_within job.ask w)))
 row_within e job slot s cs f w (OfTaking turn moment present t is) = subst (Each CallWithin) (sym is) (miss_within (is_out_at turn moment t) turn present moment)
+row_within e job slot s cs f w (OfNote turn id random moment found sent is) = subst (Each CallWithin) (sym is) (note_within turn id random moment found sent)
 row_within e job slot s cs f w (OfGiveUp turn moment is) = subst (Each CallWithin) (sym is) (tt, tt)
 
 one_within : (b : Bool) (c : ObserverCall) → CallWithin c → Each CallWithin (if b then c ∷ [] else [])

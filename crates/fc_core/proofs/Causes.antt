@@ -13,7 +13,7 @@ use Rattle.fc_registry.specs.Slots.{Slot, Present, Ticket, last_serial, new_slot
 use Rattle.fc_registry.specs.Changes.{Change, Installed, Committed, Removed, after_changes, with_vars}
 use Rattle.fc_registry.specs.Calls.{clear_by, commit_of, outcome, put_by}
 use Rattle.fc_core.specs.declared.event.Event.{Event}
-use Rattle.fc_core.specs.declared.event.Event.TheVariants.{Peek, Take, Commit, Install, Remove, Receipt, Raise, Answer, Fresh, GiveUp}
+use Rattle.fc_core.specs.declared.event.Event.TheVariants.{Peek, Take, Commit, Install, Remove, Receipt, Raise, Answer, Fresh, Note, GiveUp}
 use Rattle.fc_core.specs.declared.stage.Stage.{Stage}
 use Rattle.fc_core.specs.declared.stage.Stage.TheVariants.{ToMatch, ToTake, ToCommit, ToInstall, ToRemove, ToDescribe, ToList, ToRaise, ToAnswer, ToTell}
 use Rattle.fc_core.specs.declared.stage.TurnStage.TheVariants as turns
@@ -69,6 +69,7 @@ row_makes (Install k memory) job slot ws ToInstall = verified_makes k memory job
 row_makes (Raise k) job slot ws (ToRaise word content) = None_made refl
 row_makes (Answer k now) job slot ws (ToAnswer content) = None_made refl
 row_makes (Fresh k now) job slot ws (ToTell turn (turns.ToDraw found)) = None_made refl
+row_makes (Note k now random) job slot ws (ToTell turn (turns.ToNote found id)) = None_made refl
 row_makes (GiveUp k now) job slot ws (ToTell turn needs) = None_made refl
 row_makes other job slot ws s = None_made refl
 

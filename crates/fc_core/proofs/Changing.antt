@@ -13,7 +13,7 @@ use Rattle.fc_registry.specs.declared.commit.CommitOutcome.TheVariants.{Writes, 
 use Rattle.fc_registry.specs.Slots.{Slot, Present, Ticket, last_serial}
 use Rattle.fc_registry.specs.Calls.{clear_by, outcome, put_by, receipt_of, taking}
 use Rattle.fc_core.specs.declared.event.Event.{Event}
-use Rattle.fc_core.specs.declared.event.Event.TheVariants.{Peek, Take, Commit, Install, Remove, Receipt, Raise, Answer, Lose, Fresh, GiveUp}
+use Rattle.fc_core.specs.declared.event.Event.TheVariants.{Peek, Take, Commit, Install, Remove, Receipt, Raise, Answer, Lose, Fresh, Note, GiveUp}
 use Rattle.fc_core.specs.declared.stage.Stage.{Stage}
 use Rattle.fc_core.specs.declared.stage.Stage.TheVariants.{ToMatch, ToTake, ToCommit, ToInstall, ToRemove, ToDescribe, ToList, ToRaise, ToAnswer, Gone, ToTell}
 use Rattle.fc_core.specs.declared.stage.TurnStage.TheVariants as turns
@@ -114,6 +114,7 @@ row_raises (Install j memory) k job slot ws ToInstall named e = verified_raises 
 row_raises (Raise j) k job slot ws (ToRaise word content) named e = refl
 row_raises (Answer j now) k job slot ws (ToAnswer content) named e = refl
 row_raises (Fresh j now) k job slot ws (ToTell turn (turns.ToDraw found)) named e = refl
+row_raises (Note j now random) k job slot ws (ToTell turn (turns.ToNote found id)) named e = refl
 row_raises (GiveUp j now) k job slot ws (ToTell turn needs) named e = refl
 row_raises (Lose j) k job slot ws s named e = refl
 row_raises other k job slot ws s named e = absurd (cc)
@@ -171,6 +172,7 @@ row_changes (Install k memory) job slot ws ToInstall n f = first_change (row (In
 row_changes (Raise k) job slot ws (ToRaise word content) n f = omega (arith, f)
 row_changes (Answer k now) job slot ws (ToAnswer content) n f = omega (arith, f)
 row_changes (Fresh k now) job slot ws (ToTell turn (turns.ToDraw found)) n f = omega (arith, f)
+row_changes (Note k now random) job slot ws (ToTell turn (turns.ToNote found id)) n f = omega (arith, f)
 row_changes (GiveUp k now) job slot ws (ToTell turn needs) n f = omega (arith, f)
 row_changes (Lose k) job slot ws s n f = omega (arith, one_change s n f)
 row_changes other job slot ws s n f = no_change s n f
@@ -231,6 +233,7 @@ named_stray (Install j memory) own k e = refl
 named_stray (Raise j) own k e = refl
 named_stray (Answer j now) own k e = refl
 named_stray (Fresh j now) own k e = refl
+named_stray (Note j now random) own k e = refl
 named_stray (GiveUp j now) own k e = refl
 named_stray (Lose j) own k e = refl
 named_stray other own k e = absurd (cc)

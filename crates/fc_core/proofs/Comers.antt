@@ -3,6 +3,8 @@ use Rattle.std.proofs.Common.{◌≡◌, ℕ, List, [], ◌∷◌, ◌++◌, Boo
 use Rattle.std.specs.Prelude.{◌==◌, ◌&&◌, ◌%◌, nat_eq}
 use Rattle.std.specs.Cmp.Lexicographic.{pointwise}
 use Rattle.std.proofs.lemmas.Bool.{cases_Bool, eqb-true}
+use Rattle.arrayvec.specs.ArrayVec.{ArrayVec}
+use Rattle.coap_msg.specs.declared.types.Emission.{Emission}
 use Rattle.coap_msg.specs.declared.types.Endpoint.{Endpoint}
 use Rattle.coap_msg.specs.Endpoints.{same_endpoint}
 use Rattle.fc_observe.specs.Calls.{Advance, ObserverCall, NextDue, Tick as TickObservers, after_calls, is_registration_of}
@@ -10,6 +12,7 @@ use Rattle.fc_observe.specs.Laws.{RegistersNone}
 use Rattle.fc_observe.proofs.Hearing.{stays_gone}
 use Rattle.fc_observe.specs.declared.entry.Turn.{Turn}
 use Rattle.fc_registry.specs.Calls.{is_cancellation, observe_calls, observe_calls_by, is_registration, is_out_at, miss_calls}
+use Rattle.fc_registry.specs.Notes.{keeps_observer, note_calls, serial_told, told_call}
 use Rattle.fc_registry.specs.Slots.{Present, Ticket}
 use Rattle.fc_registry.specs.Watches.{signal_call}
 use Rattle.fc_core.specs.declared.event.Event.{Event}
@@ -18,7 +21,7 @@ use Rattle.fc_core.specs.History.{Entry, History, Then, Seen, seen, and_then, ar
 use Rattle.fc_core.specs.Laws.{later, slot_of}
 use Rattle.fc_core.specs.ObserveLaws.{NoneRegisters, Registers, is_held}
 use Rattle.fc_core.specs.Stages.{names, row}
-use Rattle.fc_core.proofs.Calling.{CallsBy, NoCall, OfCommit, OfGiveUp, OfTaking, row_calls}
+use Rattle.fc_core.proofs.Calling.{CallsBy, NoCall, OfCommit, OfGiveUp, OfNote, OfTaking, row_calls}
 use Rattle.fc_core.proofs.Observing.{asked}
 use Rattle.fc_core.proofs.Watches.{after_append}
 
@@ -36,6 +39,14 @@ miss_registers : (out : Bool) (turn : Turn) (present : Option Present) (moment :
 miss_registers true turn None moment to token = (refl, (refl, tt))
 miss_registers true turn (Some p) moment to token = (refl, tt)
 miss_registers false turn present moment to token = (refl, tt)
+
+told_registers : (b : Bool) (turn : Turn) (id random moment serial : ℕ) (bytes : ArrayVec ℕ) (to : Endpoint) (token : List ℕ) → is_registration_of to token (told_call b turn id random moment serial bytes) ≡ false
+told_registers true turn id random moment serial bytes to token = refl
+told_registers false turn id random moment serial bytes to token = refl
+
+note_registers : (turn : Turn) (id random moment : ℕ) (found : Option Ticket) (sent : Option Emission) (to : Endpoint) (token : List ℕ) → RegistersNone to token (note_calls turn id random moment found sent)
+note_registers turn id random moment found None to token = (refl, tt)
+note_registers turn id random moment found (Some e) to token = (told_registers (keeps_observer found) turn id random moment (serial_told found) e.bytes to token, (refl, tt))
 
 none_in : (e : Event) (s : Seen) (n : ℕ) (to : Endpoint) (token : List ℕ) → RegistersNone to token (calls_in e s n)
 none_in (Due shard now) s n to token =
@@ -68,6 +79,7 @@ module _ (r : Entry) (s : Seen) (n : ℕ) (to : Endpoint) (token : List ℕ) whe
   by_row : (k : ℕ) (cs : List ObserverCall) → names r.event ≡ Some k → slot_of s k ≡ n → CallsBy r.event (stage s k) cs → RegistersNone to token cs ⊎ Registers r s n to token
   by_row k cs named slot (NoCall is) = inl (subst (RegistersNone to token) (sym is) tt)
   by_row k cs named slot (OfTaking turn moment present t is) = inl (subst (RegistersNone to token) (sym is) (miss_registers (is_out_at turn moment t) turn present moment to token))
+  by_row k cs named slot (OfNote turn id random moment found sent is) = inl (subst (RegistersNone to token) (sym is) (note_registers turn id random moment found sent to token))
   by_row k cs named slot (OfGiveUp turn moment is) = inl (subst (RegistersNone to token) (sym is) (refl, tt))
   by_row k cs named slot (OfCommit j now count moment t event stands is) =
       let same : k ≡ j = cc (sym named ∙ ap names event) in

@@ -12,7 +12,7 @@ use Rattle.fc_registry.specs.Slots.{Slot, Present, Ticket, last_serial}
 use Rattle.fc_registry.specs.Changes.{after_changes}
 use Rattle.fc_registry.specs.Calls.{clear_by, outcome, put_by, receipt_at, receipt_of, taking}
 use Rattle.fc_core.specs.declared.event.Event.{Event}
-use Rattle.fc_core.specs.declared.event.Event.TheVariants.{Peek, Take, Commit, Install, Remove, Receipt, Raise, Answer, Lose, Fresh, GiveUp}
+use Rattle.fc_core.specs.declared.event.Event.TheVariants.{Peek, Take, Commit, Install, Remove, Receipt, Raise, Answer, Lose, Fresh, Note, GiveUp}
 use Rattle.fc_core.specs.declared.stage.Stage.{Stage}
 use Rattle.fc_core.specs.declared.stage.Stage.TheVariants.{ToMatch, ToTake, ToCommit, ToInstall, ToRemove, ToDescribe, ToList, ToRaise, ToAnswer, ToTell}
 use Rattle.fc_core.specs.declared.stage.TurnStage.TheVariants as turns
@@ -98,6 +98,7 @@ row_empties (Peek k n) job slot ws (ToList seen) e = inr (next_empties slot (n =
 row_empties (Raise k) job slot ws (ToRaise word content) e = inl e
 row_empties (Answer k now) job slot ws (ToAnswer content) e = absurd (cc e)
 row_empties (Fresh k now) job slot ws (ToTell turn (turns.ToDraw found)) e = absurd (cc e)
+row_empties (Note k now random) job slot ws (ToTell turn (turns.ToNote found id)) e = absurd (cc e)
 row_empties (GiveUp k now) job slot ws (ToTell turn needs) e = absurd (cc e)
 row_empties (Lose k) job slot ws s e = absurd (cc e)
 row_empties other job slot ws s e = inl e

@@ -7,7 +7,7 @@ use Rattle.fc_registry.specs.Slots.{Slot, Present}
 use Rattle.fc_registry.specs.Changes.{Change}
 use Rattle.fc_registry.specs.Calls.{taking}
 use Rattle.fc_core.specs.declared.event.Event.{Event}
-use Rattle.fc_core.specs.declared.event.Event.TheVariants.{Peek, Take, Commit, Install, Remove, Receipt, Raise, Answer, Lose, Fresh, GiveUp}
+use Rattle.fc_core.specs.declared.event.Event.TheVariants.{Peek, Take, Commit, Install, Remove, Receipt, Raise, Answer, Lose, Fresh, Note, GiveUp}
 use Rattle.fc_core.specs.declared.stage.Stage.{Stage}
 use Rattle.fc_core.specs.declared.stage.Stage.TheVariants.{ToMatch, ToTake, ToCommit, ToInstall, ToRemove, ToDescribe, ToList, ToRaise, ToAnswer, Gone, ToTell}
 use Rattle.fc_core.specs.declared.stage.TurnStage.TheVariants as turns
@@ -59,6 +59,7 @@ row_answers (Remove k) job slot ws ToRemove n f = never_yet (row (Remove k) (at 
 row_answers (Receipt k) job slot ws ToDescribe n f = f
 row_answers (Answer k now) job slot ws (ToAnswer content) n f = omega (arith, f)
 row_answers (Fresh k now) job slot ws (ToTell turn (turns.ToDraw found)) n f = f
+row_answers (Note k now random) job slot ws (ToTell turn (turns.ToNote found id)) n f = at_most_once (ToTell turn (turns.ToNote found id)) n f
 row_answers (GiveUp k now) job slot ws (ToTell turn needs) n f = at_most_once (ToTell turn needs) n f
 row_answers (Lose k) job slot ws s n f = at_most_once s n f
 row_answers other job slot ws s n f = f
@@ -155,6 +156,7 @@ row_settled (Remove k) job slot ws ToRemove f = absurd f
 row_settled (Receipt k) job slot ws ToDescribe f = absurd f
 row_settled (Answer k now) job slot ws (ToAnswer content) f = tt
 row_settled (Fresh k now) job slot ws (ToTell turn (turns.ToDraw found)) f = absurd f
+row_settled (Note k now random) job slot ws (ToTell turn (turns.ToNote found id)) f = absurd f
 row_settled (GiveUp k now) job slot ws (ToTell turn needs) f = tt
 row_settled (Lose k) job slot ws s f = tt
 row_settled other job slot ws s f = f

@@ -23,7 +23,7 @@ use Rattle.fc_registry.specs.Record.{IsChain, IsLink, code_class}
 use Rattle.fc_registry.specs.declared.receipt.Receipt.{Receipt as Facts}
 use Rattle.fc_registry.specs.Calls.{HasGiven, clear_by, commit_of, input_of, is_post, meaning_at, outcome, outcome_by, put_by, receipt_at, receipt_of, request_of, taking, wants, is_out_at, turn_taking}
 use Rattle.fc_core.specs.declared.event.Event.{Event}
-use Rattle.fc_core.specs.declared.event.Event.TheVariants.{Peek, Take, Commit as Commits, Install, Remove, Receipt, Raise, Answer, Lose, Fresh, GiveUp}
+use Rattle.fc_core.specs.declared.event.Event.TheVariants.{Peek, Take, Commit as Commits, Install, Remove, Receipt, Raise, Answer, Lose, Fresh, Note, GiveUp}
 use Rattle.fc_core.specs.declared.stage.Stage.{Stage}
 use Rattle.fc_core.specs.declared.stage.Stage.TheVariants.{ToMatch, ToTake, ToCommit, ToInstall, ToRemove, ToDescribe, ToList, ToRaise, ToAnswer, Gone, ToTell}
 use Rattle.fc_core.specs.declared.stage.TurnStage.{TurnStage}
@@ -186,6 +186,7 @@ row_fits (Install k memory) job slot ws ToInstall f = verified_fits memory (at j
 row_fits (Raise k) job slot ws (ToRaise word content) f = f
 row_fits (Answer k now) job slot ws (ToAnswer content) f = tt
 row_fits (Fresh k now) job slot ws (ToTell turn (turns.ToDraw found)) f = (f.0, f.1, drawn_fits job slot found (ws.common.free now) f.2)
+row_fits (Note k now random) job slot ws (ToTell turn (turns.ToNote found id)) f = tt
 row_fits (GiveUp k now) job slot ws (ToTell turn needs) f = tt
 row_fits other job slot ws s f = f
 
@@ -258,6 +259,7 @@ row_chain (Take k memory) job first cs ws (ToTell turn turns.ToTake) f chain = c
 row_chain (Raise k) job first cs ws (ToRaise word content) f chain = chain
 row_chain (Answer k now) job first cs ws (ToAnswer content) f chain = chain
 row_chain (Fresh k now) job first cs ws (ToTell turn (turns.ToDraw found)) f chain = chain
+row_chain (Note k now random) job first cs ws (ToTell turn (turns.ToNote found id)) f chain = chain
 row_chain (GiveUp k now) job first cs ws (ToTell turn needs) f chain = chain
 row_chain other job first cs ws s f chain = chain
 
@@ -314,5 +316,6 @@ row_safe (Take k memory) job slot ws (ToTell turn turns.ToTake) within f safe fi
 row_safe (Raise k) job slot ws (ToRaise word content) within f safe fits = fits
 row_safe (Answer k now) job slot ws (ToAnswer content) within f safe fits = fits
 row_safe (Fresh k now) job slot ws (ToTell turn (turns.ToDraw found)) within f safe fits = fits
+row_safe (Note k now random) job slot ws (ToTell turn (turns.ToNote found id)) within f safe fits = fits
 row_safe (GiveUp k now) job slot ws (ToTell turn needs) within f safe fits = fits
 row_safe other job slot ws s within f safe fits = fits

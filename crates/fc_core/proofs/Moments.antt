@@ -9,7 +9,7 @@ use Rattle.fc_registry.specs.declared.commit.CommitOutcome.TheVariants.{Writes, 
 use Rattle.fc_registry.specs.Slots.{Slot, Ticket}
 use Rattle.fc_registry.specs.Calls.{outcome}
 use Rattle.fc_core.specs.declared.event.Event.{Event}
-use Rattle.fc_core.specs.declared.event.Event.TheVariants.{Deliver, Peek, Take, Commit, Install, Remove, Receipt, Raise, Answer, Tick, Fresh, GiveUp, Due, ShardTick}
+use Rattle.fc_core.specs.declared.event.Event.TheVariants.{Deliver, Peek, Take, Commit, Install, Remove, Receipt, Raise, Answer, Tick, Fresh, Note, GiveUp, Due, ShardTick}
 use Rattle.fc_core.specs.declared.stage.Stage.{Stage}
 use Rattle.fc_core.specs.declared.stage.Stage.TheVariants.{ToMatch, ToTake, ToCommit, ToInstall, ToRemove, ToDescribe, ToList, ToRaise, ToAnswer, ToTell}
 use Rattle.fc_core.specs.declared.stage.TurnStage.TheVariants as turns
@@ -64,6 +64,7 @@ row_handed (Take k memory) job slot ws (ToTell turn turns.ToTake) m ms is = is
 row_handed (Raise k) job slot ws (ToRaise word content) m ms is = is
 row_handed (Answer k now) job slot ws (ToAnswer content) m ms is = is
 row_handed (Fresh k now) job slot ws (ToTell turn (turns.ToDraw found)) m ms is = is
+row_handed (Note k now random) job slot ws (ToTell turn (turns.ToNote found id)) m ms is = ap (λ (x : ℕ). max x now) is
 row_handed (GiveUp k now) job slot ws (ToTell turn needs) m ms is = ap (λ (x : ℕ). max x now) is
 row_handed (Peek k n) job slot ws ToMatch m ms is = is
 row_handed (Peek k n) job slot ws (ToList seen) m ms is = is

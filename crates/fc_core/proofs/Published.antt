@@ -11,7 +11,7 @@ use Rattle.fc_registry.specs.Slots.{Slot, Present, Ticket, last_serial, new_slot
 use Rattle.fc_registry.specs.Changes.{after_changes, with_vars}
 use Rattle.fc_registry.specs.Calls.{clear_by, commit_of, outcome, put_by, receipt_of, taking}
 use Rattle.fc_core.specs.declared.event.Event.{Event}
-use Rattle.fc_core.specs.declared.event.Event.TheVariants.{Peek, Take, Commit as Commits, Install, Remove, Receipt, Raise, Answer, Lose, Fresh, GiveUp}
+use Rattle.fc_core.specs.declared.event.Event.TheVariants.{Peek, Take, Commit as Commits, Install, Remove, Receipt, Raise, Answer, Lose, Fresh, Note, GiveUp}
 use Rattle.fc_core.specs.declared.stage.Stage.{Stage}
 use Rattle.fc_core.specs.declared.stage.Stage.TheVariants.{ToMatch, ToTake, ToCommit, ToInstall, ToRemove, ToDescribe, ToList, ToRaise, ToAnswer, ToTell}
 use Rattle.fc_core.specs.declared.stage.TurnStage.TheVariants as turns
@@ -106,6 +106,7 @@ row_publishes (Peek k n) job slot ws (ToList seen) f = next_publishes slot (ToLi
 row_publishes (Raise k) job slot ws (ToRaise word content) f = tt
 row_publishes (Answer k now) job slot ws (ToAnswer content) f = tt
 row_publishes (Fresh k now) job slot ws (ToTell turn (turns.ToDraw found)) f = tt
+row_publishes (Note k now random) job slot ws (ToTell turn (turns.ToNote found id)) f = tt
 row_publishes (GiveUp k now) job slot ws (ToTell turn needs) f = tt
 row_publishes (Lose k) job slot ws s f = tt
 row_publishes other job slot ws s f = same_publishes slot s

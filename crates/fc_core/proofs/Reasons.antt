@@ -16,7 +16,7 @@ use Rattle.fc_registry.specs.declared.commit.CommitOutcome.TheVariants.{Writes, 
 use Rattle.fc_registry.specs.Slots.{Slot, Present, Ticket, last_serial}
 use Rattle.fc_registry.specs.Calls.{is_observed, clear_by, outcome, outcome_by, put_by, receipt_at, receipt_of, taking, wants}
 use Rattle.fc_core.specs.declared.event.Event.{Event}
-use Rattle.fc_core.specs.declared.event.Event.TheVariants.{Peek, Take, Commit, Install, Remove, Receipt, Raise, Answer, Lose, Fresh, GiveUp}
+use Rattle.fc_core.specs.declared.event.Event.TheVariants.{Peek, Take, Commit, Install, Remove, Receipt, Raise, Answer, Lose, Fresh, Note, GiveUp}
 use Rattle.fc_core.specs.declared.stage.Stage.{Stage}
 use Rattle.fc_core.specs.declared.stage.Stage.TheVariants.{ToMatch, ToTake, ToCommit, ToInstall, ToRemove, ToDescribe, ToList, ToRaise, ToAnswer, ToTell}
 use Rattle.fc_core.specs.declared.stage.TurnStage.TheVariants as turns
@@ -193,6 +193,8 @@ row_why (Answer j now) k job slot ws (ToAnswer content) taken c named f e = absu
 row_why (Answer j now) k job slot ws other taken c named f e = inl e
 row_why (Fresh j now) k job slot ws (ToTell turn (turns.ToDraw found)) taken c named f e = inl e
 row_why (Fresh j now) k job slot ws other taken c named f e = inl e
+row_why (Note j now random) k job slot ws (ToTell turn (turns.ToNote found id)) taken c named f e = absurd (cc e)
+row_why (Note j now random) k job slot ws other taken c named f e = inl e
 row_why (GiveUp j now) k job slot ws (ToTell turn needs) taken c named f e = absurd (cc e)
 row_why (GiveUp j now) k job slot ws other taken c named f e = inl e
 row_why (Lose j) k job slot ws s taken c named f e = absurd (cc e)

@@ -6,12 +6,12 @@ use Rattle.coap_msg.specs.declared.types.Emission.{Emission}
 use Rattle.fc_registry.specs.declared.job.Job.{Job}
 use Rattle.fc_registry.specs.Slots.{Slot}
 use Rattle.fc_core.specs.declared.event.Event.{Event}
-use Rattle.fc_core.specs.declared.event.Event.TheVariants.{Deliver, Peek, Take, Commit, Install, Remove, Receipt, Raise, Answer, Signal, Tick, ShardTick, Lose, Fresh, GiveUp, Due}
+use Rattle.fc_core.specs.declared.event.Event.TheVariants.{Deliver, Peek, Take, Commit, Install, Remove, Receipt, Raise, Answer, Signal, Tick, ShardTick, Lose, Fresh, Note, GiveUp, Due}
 use Rattle.fc_core.specs.declared.stage.Stage.{Stage}
 use Rattle.fc_core.specs.declared.stage.Stage.TheVariants.{ToMatch, ToTake, ToCommit, ToInstall, ToRemove, ToDescribe, ToList, ToRaise, ToAnswer, Gone, ToTell}
 use Rattle.fc_core.specs.declared.stage.TurnStage.TheVariants as turns
 use Rattle.fc_core.specs.Contents.{Content}
-use Rattle.fc_core.specs.Stages.{Around, Move, Scene, content_at, handed, task_moved, moves, names, needs_id, peeked_next, peeked_own, row, words_after}
+use Rattle.fc_core.specs.Stages.{Around, Move, Scene, content_at, handed, task_moved, moves, names, needs_id, notification, peeked_next, peeked_own, row, words_after}
 use Rattle.fc_core.specs.Heads.{word_at}
 use Rattle.arrayvec.specs.ArrayVec.{ArrayVec}
 use Rattle.fc_core.specs.History.{Entry, Seen, added_in, and_then, calls_in, calls_named, changes_after, did, exchanges_after, ids_after, job, moment_after, no_task, scene, shard_hands, shard_moment_after, stage, task_at, tasks_brought, tasks_moved, words_seen}
@@ -44,6 +44,7 @@ row_still (Install k memory) job slot ws ToInstall e = absurd (cc)
 row_still (Raise k) job slot ws (ToRaise word content) e = absurd (cc)
 row_still (Answer k now) job slot ws (ToAnswer content) e = absurd (cc)
 row_still (Fresh k now) job slot ws (ToTell turn (turns.ToDraw found)) e = absurd (cc)
+row_still (Note k now random) job slot ws (ToTell turn (turns.ToNote found id)) e = absurd (cc)
 row_still (GiveUp k now) job slot ws (ToTell turn needs) e = absurd (cc)
 row_still (Lose k) job slot ws Gone e = refl
 row_still (Lose k) job slot ws other e = absurd (cc)
@@ -99,14 +100,6 @@ named_still s e o k is stray m x p d b g q =
     (λ n. (λ i. calls_named (is i) e s n ++ (q n i ++ s.calls n)) ∙ calls_still s e k still n)
     ((λ i. words_seen (is i) e s) ∙ words_still s e k still)
 
-unnamed_still : (s : Seen) (e : Event) (o : Option Emission) → names e ≡ None → moment_after e s ≡ s.moment → exchanges_after e o s ≡ s.exchanges → added_in e s ≡ [] → ids_after e s ≡ s.ids → tasks_brought e s ≡ [] → ((i : ℕ) → shard_hands e i ≡ None) → ((n : ℕ) → calls_in e s n ≡ []) → and_then (did e o) s ≡ s
-unnamed_still s e o is m x p d b g q = all_same (and_then (did e o) s) s refl m x (ap (λ (l : List Addition). l ++ s.additions) p) d
-    ((λ i. tasks_moved (is i) e s ++ b i) ∙ append-nil s.tasks)
-    (λ n. λ i. changes_after (is i) e s n)
-    (λ n. λ i. handed (g n i) (shard_moment_after (is i) e s n))
-    (λ n. λ i. calls_named (is i) e s n ++ (q n i ++ s.calls n))
-    (λ i. words_seen (is i) e s)
-
 stray_still : (e : Event) (o : Option Emission) (s : Seen) → is_stray s e ≡ true → and_then (did e o) s ≡ s
 stray_still (Deliver now to bytes) o s e = absurd (cc)
 stray_still (Tick now) o s e = absurd (cc)
@@ -125,13 +118,17 @@ stray_still (Lose k) o s e = named_still s (Lose k) o k refl e refl refl refl re
 stray_still (Answer k now) o s e =
     let none : content_at (stage s k) ≡ None = none_answered k now (job s k).origin.slot (stage s k) e in
     named_still s (Answer k now) o k refl e (rw none) (rw none) refl (rw none) refl (λ i. refl) (λ n. refl)
+stray_still (Note k now random) o s e = named_still s (Note k now random) o k refl e refl refl refl refl refl (λ i. refl) (λ n. refl)
 stray_still (Fresh k now) o s e =
     let none : needs_id (stage s k) ≡ false = none_drawn k now (job s k).origin.slot (stage s k) e in
     named_still s (Fresh k now) o k refl e (rw none) refl refl (rw none) refl (λ i. refl) (λ n. refl)
-stray_still other o s e = unnamed_still s other o refl refl refl refl refl refl (λ i. refl) (λ n. refl)
 
 pub strays_stay : (r : Entry) (s : Seen) → is_stray s r.event ≡ true → and_then r s ≡ s
 strays_stay r s e = stray_still r.event r.emitted s e
+
+none_told : (k now random own : ℕ) (x : Scene) (st : Stage) → is_stray_at (Note k now random) own st ≡ true → notification now x st ≡ None
+none_told k now random own x (ToTell turn (turns.ToNote found id)) e = absurd (cc)
+none_told k now random own x other e = refl
 
 none_emits : (c : Option Content) (j : Job) (f : FrontState) (o : Option Emission) → c ≡ None → AnswerEmits c j f o → o ≡ None
 none_emits None j f o e w = w
@@ -141,6 +138,7 @@ stray_emits : (s : Seen) (e : Event) (o : Option Emission) → is_stray s e ≡ 
 stray_emits s (Deliver now to bytes) o e w = absurd (cc)
 stray_emits s (ShardTick shard now) o e w = absurd (cc)
 stray_emits s (Answer k now) o e w = none_emits (content_at (stage s k)) _ _ o (none_answered k now (job s k).origin.slot (stage s k) e) w
+stray_emits s (Note k now random) o e w = w ∙ none_told k now random (job s k).origin.slot (scene s k) (stage s k) e
 stray_emits s other o e w = w
 
 pub strays_emit_nothing : (r : Entry) (s : Seen) → is_stray s r.event ≡ true → Emits s r.event r.emitted → r.emitted ≡ None

@@ -17,7 +17,7 @@ use Rattle.fc_registry.specs.Changes.{Change}
 use Rattle.fc_registry.specs.declared.receipt.Receipt.{Receipt as Facts}
 use Rattle.fc_registry.specs.Calls.{is_observed, clear_by, meaning_at, outcome, outcome_by, put_by, receipt_at, receipt_of, taking, wants}
 use Rattle.fc_core.specs.declared.event.Event.{Event}
-use Rattle.fc_core.specs.declared.event.Event.TheVariants.{Peek, Take, Commit, Install, Remove, Receipt, Raise, Answer, Lose, Fresh, GiveUp}
+use Rattle.fc_core.specs.declared.event.Event.TheVariants.{Peek, Take, Commit, Install, Remove, Receipt, Raise, Answer, Lose, Fresh, Note, GiveUp}
 use Rattle.fc_core.specs.declared.stage.Stage.{Stage}
 use Rattle.fc_core.specs.declared.stage.Stage.TheVariants.{ToMatch, ToTake, ToCommit, ToInstall, ToRemove, ToDescribe, ToList, ToRaise, ToAnswer, Gone, ToTell}
 use Rattle.fc_core.specs.declared.stage.TurnStage.TheVariants as turns
@@ -140,6 +140,7 @@ row_took (Install k memory) job slot cs ws ToInstall ts f = verified_took memory
 row_took (Raise k) job slot cs ws (ToRaise word content) ts f = f
 row_took (Answer k now) job slot cs ws (ToAnswer content) ts f = f.0
 row_took (Fresh k now) job slot cs ws (ToTell turn (turns.ToDraw found)) ts f = f
+row_took (Note k now random) job slot cs ws (ToTell turn (turns.ToNote found id)) ts f = f
 row_took (GiveUp k now) job slot cs ws (ToTell turn needs) ts f = f
 row_took (Lose k) job slot cs ws s ts f = at_most_eight s ts f
 row_took other job slot cs ws s ts f = f

@@ -8,7 +8,7 @@ use Rattle.fc_registry.specs.declared.receipt.Receipt.{Receipt as Facts}
 use Rattle.fc_registry.specs.Calls.{meaning_at, wants}
 use Rattle.fc_registry.specs.Slots.{Slot, Present, Ticket}
 use Rattle.fc_core.specs.declared.event.Event.{Event}
-use Rattle.fc_core.specs.declared.event.Event.TheVariants.{Deliver, Peek, Take, Commit, Install, Remove, Receipt, Answer, Due, Fresh, GiveUp, Tick, ShardTick}
+use Rattle.fc_core.specs.declared.event.Event.TheVariants.{Deliver, Peek, Take, Commit, Install, Remove, Receipt, Answer, Due, Fresh, Note, GiveUp, Tick, ShardTick}
 use Rattle.fc_core.specs.declared.stage.Stage.{Stage}
 use Rattle.fc_core.specs.declared.stage.TurnStage.TheVariants as turns
 use Rattle.arrayvec.specs.ArrayVec.{ArrayVec}
@@ -156,9 +156,10 @@ abbrev pub moments_of : History → List ℕ
 moments_of (Begins serial id) = []
 moments_of (Then h r) = moments_in r.event (seen h) ++ moments_of h
 
--- the moment of a commit at its stage, or of giving up a turn
+-- the moment of a commit at its stage, of a turn that notifies, or of giving one up
 abbrev pub row_moment : Event → Stage → List ℕ
 row_moment (Commit k now) (ToCommit count t) = now ∷ []
+row_moment (Note k now random) (ToTell turn (turns.ToNote found id)) = now ∷ []
 row_moment (GiveUp k now) (ToTell turn needs) = now ∷ []
 row_moment other at = []
 
@@ -173,8 +174,8 @@ own_moment (Due shard now) i = if shard == i then now ∷ [] else []
 own_moment (ShardTick shard now) i = if shard == i then now ∷ [] else []
 own_moment other i = []
 
--- the moments that were handed to a shard, the newest first: by its own events, and by the commits of its slots' jobs and by those that
--- gave up their turn
+-- the moments that were handed to a shard, the newest first: by its own events, and by the commits, the notifications and the givings up
+-- of its slots' jobs
 abbrev pub shard_moments_of : ℕ → History → List ℕ
 shard_moments_of i (Begins serial id) = []
 shard_moments_of i (Then h r) =

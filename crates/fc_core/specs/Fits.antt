@@ -1,7 +1,8 @@
 -- What is true of each job and its slot, at any history.
-use Rattle.std.specs.Prelude.{◌≡◌, ◌<◌, ◌≤◌, length, Option, Some, None}
+use Rattle.std.specs.Prelude.{◌≡◌, ℕ, ◌<◌, ◌≤◌, length, Option, Some, None}
 use Rattle.fc_image.specs.Paths.{IsLongest}
 use Rattle.fc_kinds.specs.Meaning.{Program, IsRunnable}
+use Rattle.fc_observe.specs.declared.entry.Turn.{Turn}
 use Rattle.fc_registry.specs.declared.job.Job.{Job}
 use Rattle.fc_registry.specs.Slots.{Slot, Present, Ticket}
 use Rattle.fc_registry.specs.Calls.{HasGiven, request_of}
@@ -29,6 +30,11 @@ abbrev pub FitsTurn : Job → Slot → TurnStage → Type 0
 FitsTurn job slot (turns.ToDraw (Some t)) = IsTicketOf job slot t
 FitsTurn job slot (turns.ToNote (Some t) id) = IsTicketOf job slot t
 FitsTurn job slot other = Unit {0}
+
+-- what a turn tells at a slot of this serial is its own
+abbrev pub TellsOwn : Turn → ℕ → Option Ticket → Type 0
+TellsOwn turn serial None = Unit {0}
+TellsOwn turn serial (Some t) = (t.origin.slot ≡ turn.slot) × (t.turn ≡ Some turn.number) × (t.serial ≤ serial)
 
 -- a request's job that is to take may take once more; a ticket is its job's, and so is an answer; a turn is of its job's slot and
 -- number

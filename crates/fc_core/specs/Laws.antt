@@ -5,7 +5,7 @@ use Rattle.fc_registry.specs.Slots.{Slot, Present, Ticket}
 use Rattle.fc_registry.specs.Changes.{Change}
 use Rattle.fc_registry.specs.Calls.{meaning_at, ticket_of, wants}
 use Rattle.fc_core.specs.declared.event.Event.{Event}
-use Rattle.fc_core.specs.declared.event.Event.TheVariants.{Deliver, Peek, Take, Commit, Install, Remove, Receipt, Raise, Answer, Due, Fresh, GiveUp, Signal, Tick, ShardTick, Lose}
+use Rattle.fc_core.specs.declared.event.Event.TheVariants.{Deliver, Peek, Take, Commit, Install, Remove, Receipt, Raise, Answer, Due, Fresh, Note, GiveUp, Signal, Tick, ShardTick, Lose}
 use Rattle.fc_core.specs.declared.stage.Stage.{Stage}
 use Rattle.fc_core.specs.declared.stage.Stage.TheVariants.{ToMatch, ToTake, ToCommit, ToInstall, ToRemove, ToDescribe, ToList, ToRaise, ToAnswer, ToTell, Gone}
 use Rattle.fc_core.specs.declared.stage.TurnStage.TheVariants as turns
@@ -22,8 +22,7 @@ needs_word own n ToMatch = n == own
 needs_word own n (ToList seen) = n == length seen.items
 needs_word own n other = false
 
--- the job that the event names, which is of slot own, isn't at the stage that the event needs; an event of what isn't served is
--- always a stray
+-- the job that the event names, which is of slot own, isn't at the stage that the event needs
 abbrev pub is_stray_at : Event → ℕ → Stage → Bool
 is_stray_at (Peek k n) own at = not (needs_word own n at)
 is_stray_at (Take k memory) own (ToTake count) = false
@@ -35,6 +34,7 @@ is_stray_at (Receipt k) own ToDescribe = false
 is_stray_at (Raise k) own (ToRaise word content) = false
 is_stray_at (Answer k now) own (ToAnswer content) = false
 is_stray_at (Fresh k now) own (ToTell turn (turns.ToDraw found)) = false
+is_stray_at (Note k now random) own (ToTell turn (turns.ToNote found id)) = false
 is_stray_at (GiveUp k now) own (ToTell turn needs) = false
 is_stray_at (Lose k) own Gone = true
 is_stray_at (Lose k) own other = false

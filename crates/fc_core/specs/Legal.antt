@@ -18,7 +18,7 @@ use Rattle.fc_core.specs.Contents.{Content}
 use Rattle.fc_core.specs.Replies.{IsReplyTo}
 use Rattle.fc_core.specs.Exchanges.{FrontState, opening_is_live}
 use Rattle.fc_core.specs.Receiving.{sent, id_in}
-use Rattle.fc_core.specs.Stages.{Scene, content_at}
+use Rattle.fc_core.specs.Stages.{Scene, content_at, names, sends}
 use Rattle.fc_core.specs.History.{AtFront, Receives, Answers, Draws, Passes, Rests, AtShard, Ticks, History, Begins, Then, Seen, seen, at_front, at_shard, front_at, received_at, job, late_in, stage, scene, watch}
 
 -- a job's answer goes out while its exchange is live and a message id is free, and not after
@@ -47,16 +47,22 @@ abbrev pub resent_in : AtShard → Seen → Option Emission
 resent_in (Ticks i now) s = resent_at (late_in s i (max (s.shard_moment i) now)) s i (max (s.shard_moment i) now)
 resent_in other s = None
 
--- what an event may emit, by what it does at the front, and else at its shard
-abbrev pub EmitsBy : AtFront → AtShard → Seen → Option Emission → Type 0
-EmitsBy (Receives now to bytes) x s emitted = emitted ≡ sent (received_at s now to bytes) (front_at s now) to
-EmitsBy (Answers k now) x s emitted = AnswerEmits (content_at (stage s k)) (job s k) (front_at s now) emitted
-EmitsBy (Draws k now) x s emitted = emitted ≡ None
-EmitsBy (Passes now) x s emitted = emitted ≡ None
-EmitsBy Rests x s emitted = emitted ≡ resent_in x s
+-- what an event sends that does nothing at the front: the notification of the job that it names, or what is sent again at its own
+-- shard
+abbrev pub sends_in : Option ℕ → Event → Seen → Option Emission
+sends_in None e s = resent_in (at_shard e) s
+sends_in (Some k) e s = sends e (scene s k)
+
+-- what an event may emit, by what it does at the front
+abbrev pub EmitsBy : AtFront → Event → Seen → Option Emission → Type 0
+EmitsBy (Receives now to bytes) e s emitted = emitted ≡ sent (received_at s now to bytes) (front_at s now) to
+EmitsBy (Answers k now) e s emitted = AnswerEmits (content_at (stage s k)) (job s k) (front_at s now) emitted
+EmitsBy (Draws k now) e s emitted = emitted ≡ None
+EmitsBy (Passes now) e s emitted = emitted ≡ None
+EmitsBy Rests e s emitted = emitted ≡ sends_in (names e) e s
 
 abbrev pub Emits : Seen → Event → Option Emission → Type 0
-Emits s e emitted = EmitsBy (at_front e) (at_shard e) s emitted
+Emits s e emitted = EmitsBy (at_front e) e s emitted
 
 -- each event emitted what it may
 abbrev pub IsLegal : History → Type 0

@@ -1,6 +1,7 @@
 -- What each event does to the job that it names, and to that job's slot and shard: one row a clause.
 use Rattle.std.specs.Prelude.{◌≡◌, ℕ, ◌+◌, ◌/◌, ◌==◌, Bool, true, false, nat_lt, if◌then◌else◌, Option, Some, None, List, [], ◌∷◌, ◌++◌, length, max}
 use Rattle.arrayvec.specs.ArrayVec.{ArrayVec}
+use Rattle.coap_msg.specs.declared.types.Emission.{Emission}
 use Rattle.fc_verify.specs.Accepted.{Judgement, Accepts, Breaks, Untypable}
 use Rattle.fc_verify.specs.Judged.{judged}
 use Rattle.fc_observe.specs.declared.entry.Turn.{Turn}
@@ -24,10 +25,11 @@ use Rattle.fc_registry.specs.Watches.{watch_at, with_calls}
 use Rattle.fc_registry.specs.declared.commit.CommitOutcome.{CommitOutcome}
 use Rattle.fc_registry.specs.declared.commit.CommitOutcome.TheVariants.{Writes, Keeps, Overtakes, Ends}
 use Rattle.fc_registry.specs.Calls.{taking, install_in, remove_from, receipt_at, receipt_of, outcome, commit_of, is_observed, is_out_at, meaning_at, observe_calls, turn_calls, turn_of, turn_taking}
+use Rattle.fc_registry.specs.Notes.{note_at, note_calls}
 use Rattle.fc_core.specs.Contents.{Content, Ran, run_answer, Missing as Misses, Unavailable, Made as Makes, Rejected, Untyped, Valid, Deleted, Described, Listed}
 use Rattle.fc_core.specs.Heads.{head_word, is_match, published, serial_in, word_at}
 use Rattle.fc_core.specs.declared.event.Event.{Event}
-use Rattle.fc_core.specs.declared.event.Event.TheVariants.{Peek, Take, Commit, Install, Remove, Receipt, Raise, Answer, Fresh, GiveUp, Lose}
+use Rattle.fc_core.specs.declared.event.Event.TheVariants.{Peek, Take, Commit, Install, Remove, Receipt, Raise, Answer, Fresh, Note, GiveUp, Lose}
 use Rattle.fc_core.specs.declared.stage.Stage.{Stage}
 use Rattle.fc_core.specs.declared.stage.Stage.TheVariants.{ToMatch, ToTake, ToCommit, ToInstall, ToRemove, ToDescribe, ToList, ToRaise, ToAnswer, ToTell, Gone}
 use Rattle.fc_core.specs.declared.stage.TurnStage.{TurnStage}
@@ -45,6 +47,7 @@ names (Receipt job) = Some job
 names (Raise job) = Some job
 names (Answer job now) = Some job
 names (Fresh job now) = Some job
+names (Note job now random) = Some job
 names (GiveUp job now) = Some job
 names (Lose job) = Some job
 names other = None
@@ -271,6 +274,22 @@ at_answer other = moves other
 abbrev pub at_fresh : ℕ → Scene → Stage → Move
 at_fresh now s stage = moves (drew (s.around.common.free now) stage)
 
+-- a turn notifies its observer, where it may be told, and is over
+abbrev pub noted : Turn → ℕ → ℕ → ℕ → Option Ticket → Around → Move
+noted turn id now random found around = record (moves Gone) {
+  calls = note_calls turn id random (max around.moment now) found (note_at turn id (max around.moment now) found around.watch);
+  hands = Some now;
+}
+
+abbrev pub at_note : ℕ → ℕ → Scene → Stage → Move
+at_note now random s (ToTell turn (turns.ToNote found id)) = noted turn id now random found s.around
+at_note now random s other = moves other
+
+-- the notification that it sends
+abbrev pub notification : ℕ → Scene → Stage → Option Emission
+notification now s (ToTell turn (turns.ToNote found id)) = note_at turn id (max s.around.moment now) found s.around.watch
+notification now s other = None
+
 -- the turn of an observer is given up, at whatever it needs
 abbrev pub at_give_up : ℕ → Scene → Stage → Move
 at_give_up now s (ToTell turn needs) = record (moves Gone) { calls = GiveUpTurn turn (max s.around.moment now) ∷ []; hands = Some now }
@@ -286,9 +305,15 @@ row (Receipt job) s = at_receipt s s.stage
 row (Raise job) s = at_raise s.stage
 row (Answer job now) s = at_answer s.stage
 row (Fresh job now) s = at_fresh now s s.stage
+row (Note job now random) s = at_note now random s s.stage
 row (GiveUp job now) s = at_give_up now s s.stage
 row (Lose job) s = moves Gone
 row other s = moves s.stage
+
+-- what an event sends of the job that it names, beside its answer
+abbrev pub sends : Event → Scene → Option Emission
+sends (Note job now random) s = notification now s s.stage
+sends other s = None
 
 -- what the job at this stage is answered
 abbrev pub content_at : Stage → Option Content

@@ -4,8 +4,7 @@ use coap_msg::Endpoint;
 /// What happens to a server. Jobs are numbered from 0 in the order in which they come, and shards from 0 to 7; moments
 /// are in milliseconds.
 ///
-/// An event whose job isn't at the stage that the event needs changes nothing, nor does one whose shard is above 7. `Note` belongs
-/// to what isn't served yet: it changes nothing either.
+/// An event whose job isn't at the stage that the event needs changes nothing, nor does one whose shard is above 7.
 #[derive(Clone, Copy)]
 pub enum Event<'a> {
     /// A datagram comes.
@@ -98,7 +97,7 @@ impl Event<'_> {
     ghost use Rattle.std.specs.Prelude.{◌≡◌};
     ghost use Rattle.fc_core.specs.Stages.{names};
 
-    /// The number of the job that it names; none where it names no job, or belongs to what isn't served.
+    /// The number of the job that it names, if it names one.
     pub fn job(&self) -> Option<usize>
         ensures { result ≡ names self.now }
     {
@@ -112,6 +111,7 @@ impl Event<'_> {
             Event::Raise { job } => Some(job),
             Event::Answer { job, .. } => Some(job),
             Event::Fresh { job, .. } => Some(job),
+            Event::Note { job, .. } => Some(job),
             Event::GiveUp { job, .. } => Some(job),
             Event::Lose { job } => Some(job),
             _ => None,

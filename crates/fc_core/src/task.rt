@@ -1,26 +1,32 @@
 //! Jobs at work: what each event does to a job, its slot and its shard.
-ghost use Rattle.std.specs.Prelude.{◌≡◌, ℕ, ◌<◌, ◌∷◌, ◌++◌, ◌==◌, [], List, None, Option, Some, length, false, IfOk, OnOk, IsErr};
+ghost use Rattle.std.specs.Prelude.{◌≡◌, ℕ, ◌/◌, ◌<◌, ◌∷◌, ◌++◌, ◌==◌, [], List, None, Option, Some, length, false, max, IfOk, OnOk, IsErr};
 ghost use Rattle.fc_verify.specs.Accepted.{Accepts};
 ghost use Rattle.fc_verify.specs.Judged.{judged};
 ghost use Rattle.fc_registry.specs.Slots.{IsOwned, slot_in};
 ghost use Rattle.fc_core.specs.Contents.{AreDone, IsMadeBelow, IsRemovedBelow, Missing as Misses, Unavailable};
 ghost use Rattle.fc_core.specs.Ends.{refused};
-ghost use Rattle.fc_core.specs.Fits.{FitsStage, HasNext};
+ghost use Rattle.fc_core.specs.Fits.{FitsStage, HasNext, TellsOwn};
 ghost use Rattle.fc_core.specs.Heads.{word_at};
 ghost use Rattle.fc_core.specs.Sound.{AllSafe};
 ghost use Rattle.fc_registry.specs.Calls.{HasGiven, receipt_of};
+ghost use Rattle.fc_registry.specs.Notes.{note_at, note_calls};
+ghost use Rattle.fc_registry.specs.Watches.{handed, watch_at, with_calls};
 ghost use Rattle.fc_core.specs.Stages as rows;
-ghost use Rattle.fc_core.specs.Stages.{Common, ShardMoves, TaskMoves, at_answer, at_commit, at_give_up, at_install, at_peek, at_raise, at_receipt, at_remove, at_take, asked_stage, commit_move, content_at, first_stage, had_memory, image_of, installed, needs_id, peeked_next, peeked_own, task_moved, new_task, scene_of, shard_after, shard_moved, turn_to_take, without_memory, words_after};
+ghost use Rattle.fc_core.specs.Stages.{Common, ShardMoves, TaskMoves, at_answer, at_commit, at_give_up, at_install, at_note, at_peek, at_raise, at_receipt, at_remove, at_take, asked_stage, commit_move, content_at, first_stage, had_memory, image_of, installed, needs_id, notification, peeked_next, peeked_own, task_moved, new_task, scene_of, shard_after, shard_moved, turn_to_take, without_memory, words_after};
 
 use crate::answer::{Answer, End, Words};
 use crate::front::blank_job;
 use crate::heads::{Heads, WORDS, head_word, is_present, serial_in};
 use crate::stage::{Stage, Task, TurnStage};
 use arrayvec::ArrayVec;
+use coap_msg::Emission;
 use fc_isa::Fault;
 use fc_machine::{Frame, Outcome, run};
 use fc_observe::Turn;
-use fc_registry::{Ask, Committed, Job, Made, Receipt, Removal, Shard, SlotNumber, Taken, Ticket};
+use fc_registry::{
+    Ask, Committed, Job, Made, Noted, Notification, Receipt, Removal, Shard, SlotNumber, Taken,
+    Ticket,
+};
 use fc_verify::{Refusal, Verified, verify};
 use std::alloc::{AllocError, Global};
 use std::mem;
@@ -415,6 +421,32 @@ impl Task {
         }
     }
 
+    /// Runs the program of its turn's ticket, if it has one, and notifies the turn's observer at its shard, at a moment in milliseconds:
+    /// what is sent, where the turn is out still. With that it is over.
+    pub fn note(
+        &mut self,
+        frame: &mut Frame,
+        shard: &mut Shard,
+        now: u64,
+        random: u16,
+    ) -> Option<Emission>
+        requires owned { IsOwned shard.old self.old.job.origin.slot }
+        requires fits { FitsStage self.old.job (slot_in shard.old self.old.job.origin.slot) self.old.stage }
+        ensures task { TaskMoves (at_note now random) shard.old self.old self.new }
+        ensures shard { ShardMoves (at_note now random) shard.old self.old shard.new }
+        ensures sent { (common : Common) → result ≡ notification now (scene_of shard.old common self.old) self.old.stage }
+    {
+        match self.leave() {
+            Stage::ToTell(turn, TurnStage::ToNote(found, id)) => {
+                note(frame, shard, turn, id, now, random, &found)
+            }
+            other => {
+                self.stage = other;
+                None
+            }
+        }
+    }
+
     /// Gives up its turn at its shard, at a moment in milliseconds, and so ends it.
     pub fn give_up(&mut self, shard: &mut Shard, now: u64)
         requires owned { IsOwned shard.old self.old.job.origin.slot }
@@ -521,6 +553,34 @@ fn run_and_commit(
     let outcome = run(frame, ticket.program(), ticket.request(), ticket.vars());
     let committed = shard.commit(now, &outcome, ticket);
     Stage::committed(count, &outcome, ticket, committed)
+}
+
+// Notifies the observer of a turn of what its taking found.
+fn note(
+    frame: &mut Frame,
+    shard: &mut Shard,
+    turn: Turn,
+    id: u16,
+    now: u64,
+    random: u16,
+    found: &Option<Ticket>,
+) -> Option<Emission>
+    requires owned { IsOwned shard.old turn.slot }
+    requires own { TellsOwn turn (slot_in shard.old turn.slot).serial found.now }
+    ensures sent { result ≡ note_at turn id (max shard.old.now now) found.now (watch_at shard.old (turn.slot / 8)) }
+    ensures shard { shard.new ≡ with_calls (note_calls turn id random (max shard.old.now now) found.now result) turn.slot (handed shard.old now) }
+{
+    let noted = match found {
+        Some(ticket) => {
+            let outcome = run(frame, ticket.program(), ticket.request(), ticket.vars());
+            shard.note(turn, id, now, random, &Notification::Ran(&outcome, ticket))
+        }
+        None => shard.note(turn, id, now, random, &Notification::Gone),
+    };
+    match noted {
+        Noted::Send(emission) => Some(emission),
+        Noted::Stale | Noted::Stranger => None,
+    }
 }
 
 // Where an accepted program is installed, or which rule an image breaks.

@@ -6,7 +6,7 @@ use Rattle.coap_msg.specs.declared.types.Emission.{Emission}
 use Rattle.fc_registry.specs.Shards.{no_shard, shard_at, slot_in_shards}
 use Rattle.fc_registry.specs.Slots.{Shard, Slot}
 use Rattle.fc_core.specs.declared.event.Event.{Event}
-use Rattle.fc_core.specs.declared.event.Event.TheVariants.{Deliver, Answer, Due, Fresh, Signal, Tick, ShardTick, Lose}
+use Rattle.fc_core.specs.declared.event.Event.TheVariants.{Deliver, Answer, Due, Fresh, Note, Signal, Tick, ShardTick, Lose}
 use Rattle.fc_core.specs.declared.stage.Stage.{Stage}
 use Rattle.fc_core.specs.declared.stage.Stage.TheVariants.{ToMatch, ToTake, ToDescribe, ToList, ToAnswer, Gone}
 use Rattle.fc_core.specs.declared.stage.Task.{Task}
@@ -15,12 +15,12 @@ use Rattle.fc_core.specs.Ids.{free_id}
 use Rattle.fc_core.specs.History.{AtFront, Rests, AtShard, at_front, at_shard, no_task, task_at}
 use Rattle.fc_core.specs.Legal.{AnswerEmits}
 use Rattle.fc_core.specs.Sound.{AllSafe}
-use Rattle.fc_core.specs.Stages.{around_of, Around, Move, Scene, at_answer, at_fresh, at_peek, at_receipt, content_at, drew, moves, names, needs_id, row, scene_at, task_moved, words_after}
+use Rattle.fc_core.specs.Stages.{around_of, Around, Move, Scene, at_answer, at_fresh, at_peek, at_receipt, content_at, drew, moves, names, needs_id, row, scene_at, sends, task_moved, words_after}
 use Rattle.fc_core.proofs.Rejections.{same_slot}
 use Rattle.fc_server.specs.Agreement.{Parts}
 use Rattle.fc_server.specs.Serving.{with_tasks}
 use Rattle.fc_server.specs.States.{Does, DrawsId, Responds, ServerState, common_in, front_after, front_drawn, scene_in, shards_moved}
-use Rattle.fc_server.specs.Steps.{DeliveredTo, Done, EmitsAt, IsOfJob, IsSafeIn, brought_by, front_by, resent_by, shard_by, shards_in, tasks_in, turns_at, words_in}
+use Rattle.fc_server.specs.Steps.{DeliveredTo, Done, EmitsAt, IsOfJob, IsSafeIn, brought_by, front_by, resent_by, sends_at, shard_by, shards_in, tasks_in, turns_at, words_in}
 
 -- ---- a move that changes no slot
 
@@ -29,13 +29,14 @@ pub unwritten : (stage : Stage) (n : ℕ) (shards : List Shard) → shards_moved
 unwritten stage n shards = ap (λ (x : Shard). set shards (n % 8) x) (same_slot (shard_at shards (n % 8)) n) ∙ set-get_or shards (n % 8) no_shard
 
 -- an event that changes no slot and raises no head word
-pub does_quietly : (e : Event) (old new : ServerState) (task later : Task) (st : Stage) → row e (scene_in old task) ≡ moves st → later ≡ task_moved task (row e (scene_in old task)) → new ≡ old → Does e old task new later
-does_quietly e old new task later st quiet is same = subst (λ (s : ServerState). Does e old task s later) (sym same) (record {
+pub does_quietly : (e : Event) (old new : ServerState) (task later : Task) (st : Stage) → row e (scene_in old task) ≡ moves st → None ≡ sends e (scene_in old task) → later ≡ task_moved task (row e (scene_in old task)) → new ≡ old → Does e old task new later None
+does_quietly e old new task later st quiet silent is same = subst (λ (s : ServerState). Does e old task s later None) (sym same) (record {
   front = refl;
   task_is = is;
   shards = sym (unwritten st task.job.origin.slot old.shards) ∙ ap (λ (m : Move). shards_moved m task.job.origin.slot old.shards) (sym quiet);
   words = ap (λ (m : Move). words_after m task old.words) (sym quiet);
   safe = subst (λ (m : Move). AllSafe m.changes) (sym quiet) tt;
+  emits = silent;
 })
 
 -- the shard at a place that was read, where it owns the slot
@@ -62,17 +63,17 @@ answer_quiet other = refl
 -- ---- a job that came
 
 -- an event on a job that does nothing at the front
-pub does_done : (e : Event) (k : ℕ) → IsOfJob e k → (old new : ServerState) (tasks later : List Task) (was now : Task) → was ≡ task_at tasks k → later ≡ set tasks k now → Does e old was new now → Done e (with_tasks old tasks) None (with_tasks new later)
-does_done e k (rests, calm, named) old new tasks later was now at is d =
+pub does_done : (e : Event) (k : ℕ) → IsOfJob e k → (old new : ServerState) (tasks later : List Task) (was now : Task) (out : Option Emission) → was ≡ task_at tasks k → later ≡ set tasks k now → Does e old was new now out → Done e (with_tasks old tasks) out (with_tasks new later)
+does_done e k (rests, calm, named) old new tasks later was now out at is d =
     let p : Parts = with_tasks old tasks in
     record {
-      front = d.front ∙ ap (λ (x : AtFront). front_by x p None) (sym rests);
+      front = d.front ∙ ap (λ (x : AtFront). front_by x p out) (sym rests);
       tasks = is
           ∙ (ap (λ (t : Task). set tasks k t) (d.task_is ∙ ap (λ (t : Task). task_moved t (row e (scene_in old t))) at)
           ∙ (sym (append-nil (tasks_in (Some k) e p)) ∙ λ i. tasks_in (sym named i) e p ++ (turns_at (sym calm i) p.shards ++ brought_by (sym rests i) p)));
       shards = subst (λ (t : Task). new.shards ≡ shards_moved (row e (scene_in old t)) t.job.origin.slot old.shards) at d.shards ∙ λ i. shard_by (sym calm i) (shards_in (sym named i) e p);
       words = subst (λ (t : Task). new.words ≡ words_after (row e (scene_in old t)) t old.words) at d.words ∙ ap (λ (o : Option ℕ). words_in o e p) (sym named);
-      emits = subst (λ (x : AtFront). EmitsAt x (at_shard e) p None) (sym rests) (ap (λ (y : AtShard). resent_by y p.shards) (sym calm));
+      emits = subst (λ (x : AtFront). EmitsAt x e p out) (sym rests) (subst (λ (t : Task). out ≡ sends e (scene_in old t)) at d.emits ∙ ap (λ (o : Option ℕ). sends_at o e p) (sym named));
       safe = subst (λ (o : Option ℕ). IsSafeIn o e p) (sym named) (subst (λ (t : Task). AllSafe (row e (scene_in old t)).changes) at d.safe);
     }
 
@@ -112,14 +113,14 @@ ticked_done now old new tasks front shards words = record { front = front; tasks
 
 -- an event that names no job and does nothing at the front does what it does at its own shard
 pub shard_done : (e : Event) (old new : ServerState) (tasks : List Task) (out : Option Emission) → names e ≡ None → at_front e ≡ Rests → new.front ≡ old.front → new.words ≡ old.words → new.shards ≡ shard_by (at_shard e) old.shards → out ≡ resent_by (at_shard e) old.shards → Done e (with_tasks old tasks) out (with_tasks new (tasks ++ turns_at (at_shard e) old.shards))
-shard_done e old new tasks out none rests front words shards sends =
+shard_done e old new tasks out none rests front words shards sent =
     let w : Parts = with_tasks old tasks in
     record {
       front = front ∙ ap (λ (x : AtFront). front_by x w out) (sym rests);
       tasks = λ i. tasks_in (sym none i) e w ++ (sym (append-nil (turns_at (at_shard e) old.shards)) ∙ ap (λ (x : AtFront). turns_at (at_shard e) old.shards ++ brought_by x w) (sym rests)) i;
       shards = shards ∙ ap (λ (o : Option ℕ). shard_by (at_shard e) (shards_in o e w)) (sym none);
       words = words ∙ ap (λ (o : Option ℕ). words_in o e w) (sym none);
-      emits = subst (λ (x : AtFront). EmitsAt x (at_shard e) w out) (sym rests) sends;
+      emits = subst (λ (x : AtFront). EmitsAt x e w out) (sym rests) (sent ∙ ap (λ (o : Option ℕ). sends_at o e w) (sym none));
       safe = subst (λ (o : Option ℕ). IsSafeIn o e w) (sym none) tt;
     }
 
@@ -129,10 +130,16 @@ gone_moves : (e : Event) (slot : Slot) (ws : Around) → row e (scene_at no_task
 gone_moves (Lose k) slot ws = refl
 gone_moves other slot ws = refl
 
-past_does : (e : Event) (w : ServerState) → Does e w no_task w no_task
+gone_sends : (e : Event) (slot : Slot) (ws : Around) → None ≡ sends e (scene_at no_task slot ws)
+gone_sends (Note k now random) slot ws = refl
+gone_sends other slot ws = refl
+
+past_does : (e : Event) (w : ServerState) → Does e w no_task w no_task None
 past_does e w =
-    let quiet = gone_moves e (slot_in_shards w.shards 0) (around_of (shard_at w.shards 0) (common_in w.front w.words) 0) in
-    does_quietly e w w no_task no_task Gone quiet (ap (λ (m : Move). task_moved no_task m) (sym quiet)) refl
+    let slot = slot_in_shards w.shards 0 in
+    let ws = around_of (shard_at w.shards 0) (common_in w.front w.words) 0 in
+    let quiet = gone_moves e slot ws in
+    does_quietly e w w no_task no_task Gone quiet (gone_sends e slot ws) (ap (λ (m : Move). task_moved no_task m) (sym quiet)) refl
 
 -- an event of a job that never came
 pub past_done : (e : Event) (k : ℕ) (w : ServerState) (tasks : List Task) → names e ≡ Some k → length tasks ≤ k → Done e (with_tasks w tasks) None (with_tasks w tasks)
@@ -149,4 +156,4 @@ past_done (Tick now) k w tasks named le = absurd (let n = named in cc)
 past_done (Due shard now) k w tasks named le = absurd (let n = named in cc)
 past_done (Signal shard to id reset) k w tasks named le = absurd (let n = named in cc)
 past_done (ShardTick shard now) k w tasks named le = absurd (let n = named in cc)
-past_done other k w tasks named le = does_done other k (refl, refl, named) w w tasks tasks no_task no_task (sym (get_or_past tasks k no_task le)) (sym (set_past tasks k no_task le)) (past_does other w)
+past_done other k w tasks named le = does_done other k (refl, refl, named) w w tasks tasks no_task no_task None (sym (get_or_past tasks k no_task le)) (sym (set_past tasks k no_task le)) (past_does other w)

@@ -54,29 +54,29 @@ serves_on h e old tasks out new later done v =
     record { legal = (s.emits, v.legal); means = (s.means, v.means); agrees = s.agrees }
 
 module _ (rest : List Task) {h : History} {old : ServerState} {task : Task} {new : ServerState} {later : Task} (v : Serves h old (rest ++ task ∷ [])) where
-  does_on : (e : Event) → IsOfJob e (length rest) → Does e old task new later → Serves (next h e None) new (rest ++ later ∷ [])
+  does_on : (e : Event) → IsOfJob e (length rest) → Does e old task new later None → Serves (next h e None) new (rest ++ later ∷ [])
   does_on e is d = serves_on h e old (rest ++ task ∷ []) None new (rest ++ later ∷ [])
-      (does_done e (length rest) is old new (rest ++ task ∷ []) (rest ++ later ∷ []) task later (sym (seam rest task)) (sym (set-append_seam rest task [] later)) d) v
+      (does_done e (length rest) is old new (rest ++ task ∷ []) (rest ++ later ∷ []) task later None (sym (seam rest task)) (sym (set-append_seam rest task [] later)) d) v
 
-  pub took_on : (memory : Bool) → Does (Take (length rest) memory) old task new later → Serves (next h (Take (length rest) memory) None) new (rest ++ later ∷ [])
+  pub took_on : (memory : Bool) → Does (Take (length rest) memory) old task new later None → Serves (next h (Take (length rest) memory) None) new (rest ++ later ∷ [])
   took_on memory d = does_on (Take (length rest) memory) (refl, refl, refl) d
 
-  pub peeked_on : (n : ℕ) → Does (Peek (length rest) n) old task new later → Serves (next h (Peek (length rest) n) None) new (rest ++ later ∷ [])
+  pub peeked_on : (n : ℕ) → Does (Peek (length rest) n) old task new later None → Serves (next h (Peek (length rest) n) None) new (rest ++ later ∷ [])
   peeked_on n d = does_on (Peek (length rest) n) (refl, refl, refl) d
 
-  pub removed_on : Does (Remove (length rest)) old task new later → Serves (next h (Remove (length rest)) None) new (rest ++ later ∷ [])
+  pub removed_on : Does (Remove (length rest)) old task new later None → Serves (next h (Remove (length rest)) None) new (rest ++ later ∷ [])
   removed_on d = does_on (Remove (length rest)) (refl, refl, refl) d
 
-  pub described_on : Does (Receipt (length rest)) old task new later → Serves (next h (Receipt (length rest)) None) new (rest ++ later ∷ [])
+  pub described_on : Does (Receipt (length rest)) old task new later None → Serves (next h (Receipt (length rest)) None) new (rest ++ later ∷ [])
   described_on d = does_on (Receipt (length rest)) (refl, refl, refl) d
 
-  pub committed_on : (now : ℕ) → Does (Commit (length rest) now) old task new later → Serves (next h (Commit (length rest) now) None) new (rest ++ later ∷ [])
+  pub committed_on : (now : ℕ) → Does (Commit (length rest) now) old task new later None → Serves (next h (Commit (length rest) now) None) new (rest ++ later ∷ [])
   committed_on now d = does_on (Commit (length rest) now) (refl, refl, refl) d
 
-  pub installed_on : (memory : Bool) → Does (Install (length rest) memory) old task new later → Serves (next h (Install (length rest) memory) None) new (rest ++ later ∷ [])
+  pub installed_on : (memory : Bool) → Does (Install (length rest) memory) old task new later None → Serves (next h (Install (length rest) memory) None) new (rest ++ later ∷ [])
   installed_on memory d = does_on (Install (length rest) memory) (refl, refl, refl) d
 
-  pub raised_on : Does (Raise (length rest)) old task new later → Serves (next h (Raise (length rest)) None) new (rest ++ later ∷ [])
+  pub raised_on : Does (Raise (length rest)) old task new later None → Serves (next h (Raise (length rest)) None) new (rest ++ later ∷ [])
   raised_on d = does_on (Raise (length rest)) (refl, refl, refl) d
 
   pub answered_on : (now : ℕ) (out : Option Emission) → Responds now old task new later out → Serves (next h (Answer (length rest) now) out) new (rest ++ later ∷ [])

@@ -23,17 +23,17 @@ use Rattle.fc_core.specs.Exchanges.{FrontState, opening_is_live}
 use Rattle.fc_core.specs.Fits.{FitsSlot}
 use Rattle.fc_core.specs.History.{AtFront, Receives, Answers, Draws, Passes, Rests, AtShard, Calm, Seen, additions_by, and_then, answered_in, at_front, at_shard, calls_by, calls_named, changes_after, common, did, exchanges_by, front_at, front_in, hands_by, ids_answered, ids_by, job, moment_by, received_at, scene, shard_moment_after, stage, task_at, tasks_by, tasks_moved, watch, words_seen}
 use Rattle.fc_core.specs.Ids.{drawn, drawn_for}
-use Rattle.fc_core.specs.Legal.{AnswerEmits, EmitsBy, FindsMeaning, FoundMeans, IsAnswered, TakesMeaning}
+use Rattle.fc_core.specs.Legal.{AnswerEmits, EmitsBy, sends_in, FindsMeaning, FoundMeans, IsAnswered, TakesMeaning}
 use Rattle.fc_core.specs.Receiving.{AskWithin, added_by, after_added, after_received, brought, drawn_by, id_in, keeping, kept_of, next_opening, opened_by, received, sent}
 use Rattle.fc_core.specs.Sound.{AllSafe, IsSafelySeen, IsSound}
-use Rattle.fc_core.specs.Stages.{Move, Scene, content_at, handed, names, needs_id, new_task, row, scene_at, task_moved, words_after}
+use Rattle.fc_core.specs.Stages.{Move, Scene, content_at, handed, names, needs_id, new_task, row, sends, scene_at, task_moved, words_after}
 use Rattle.fc_core.proofs.Fitting.{after_changes-append, is_input}
 use Rattle.fc_core.proofs.Keeping.{IsSafeMove, still_safe, still_sound}
 use Rattle.fc_core.proofs.OnShards.{named_calm}
 use Rattle.fc_core.proofs.Watches.{after_append}
 use Rattle.fc_server.specs.Agreement.{Parts, ShardsAgree}
 use Rattle.fc_server.specs.States.{front_after, front_drawn, scene_in, shards_moved}
-use Rattle.fc_server.specs.Steps.{Done, EmitsAt, IsSafeIn, Steps, brought_by, front_by, move_in, server_in, shard_by, shards_in, tasks_in, words_in}
+use Rattle.fc_server.specs.Steps.{Done, EmitsAt, IsSafeIn, Steps, brought_by, front_by, move_in, sends_at, server_in, shard_by, shards_in, tasks_in, words_in}
 use Rattle.fc_server.proofs.Fronts.{front_advances, front_keeps, front_of, front_opens, transfers_added}
 use Rattle.fc_server.proofs.Places.{are_written, now_here, now_there, slot_here, slot_there, watch_here, watch_there}
 use Rattle.fc_server.proofs.ShardEvents.{shard_agrees, shard_brings, shard_sends}
@@ -98,25 +98,6 @@ front_drew s now false = refl
 
 abbrev state_seen : Seen → List Shard → Parts
 state_seen s shards = record { front = front_in s s.moment; shards = shards; words = s.words; tasks = s.tasks }
-
-module _ (s : Seen) (shards : List Shard) (a : ShardsAgree s shards) (out : Option Emission) where
-  emits_agree : (x : AtFront) (y : AtShard) → EmitsAt x y (state_seen s shards) out → EmitsBy x y s out
-  emits_agree (Receives now to bytes) y e = subst (λ (f : FrontState). out ≡ sent (received f to bytes) f to) (front_advances s now) e
-  emits_agree (Answers k now) y e = subst (λ (f : FrontState). AnswerEmits (content_at (stage s k)) (job s k) f out) (front_advances s now) e
-  emits_agree (Draws k now) y e = e
-  emits_agree (Passes now) y e = e
-  emits_agree Rests y e = e ∙ shard_sends y s shards a
-
-  front_agrees : (x : AtFront) (y : AtShard) → EmitsBy x y s out → front_by x (state_seen s shards) out ≡ front_seen x out s
-  front_agrees (Receives now to bytes) y e = ap (λ (f : FrontState). after_received (received f to bytes) f to) (front_advances s now) ∙ front_received s now to bytes out e
-  front_agrees (Answers k now) y e = front_answered s now (job s k) out (opening_is_live (max s.moment now) (job s k).origin.opening) (content_at (stage s k)) refl e
-  front_agrees (Draws k now) y e = front_drew s now (needs_id (stage s k))
-  front_agrees (Passes now) y e = front_advances s now
-  front_agrees Rests y e = refl
-
-  brought_agree : (x : AtFront) → brought_by x (state_seen s shards) ≡ tasks_by x s
-  brought_agree (Receives now to bytes) = ap (λ (f : FrontState). map new_task (brought (received f to bytes) (next_opening f) to)) (front_advances s now)
-  brought_agree other = refl
 
 -- ---- the job that is named
 
@@ -216,20 +197,45 @@ module _ (s : Seen) (e : Event) (shards : List Shard) (a : ShardsAgree s shards)
       let calm = subst (λ (y : AtShard). ShardsAgree (shards_seen (Some k) y) (shard_by y (shards_in (Some k) e (state_seen s shards)))) (sym (named_calm e k is)) (job_agrees k) in
       subst (λ (o : Option ℕ). ShardsAgree (shards_seen o (at_shard e)) (shard_by (at_shard e) (shards_in o e (state_seen s shards)))) (sym is) calm
 
+-- ---- what it sends, and the front
+
+module _ (s : Seen) (shards : List Shard) (a : ShardsAgree s shards) (sound : IsSound s) (out : Option Emission) where
+  sends_agree : (o : Option ℕ) (e : Event) → sends_at o e (state_seen s shards) ≡ sends_in o e s
+  sends_agree None e = shard_sends (at_shard e) s shards a
+  sends_agree (Some k) e = ap (sends e) (scene_is s e shards a sound k)
+
+  emits_agree : (x : AtFront) (e : Event) → EmitsAt x e (state_seen s shards) out → EmitsBy x e s out
+  emits_agree (Receives now to bytes) e w = subst (λ (f : FrontState). out ≡ sent (received f to bytes) f to) (front_advances s now) w
+  emits_agree (Answers k now) e w = subst (λ (f : FrontState). AnswerEmits (content_at (stage s k)) (job s k) f out) (front_advances s now) w
+  emits_agree (Draws k now) e w = w
+  emits_agree (Passes now) e w = w
+  emits_agree Rests e w = w ∙ sends_agree (names e) e
+
+  front_agrees : (x : AtFront) (e : Event) → EmitsBy x e s out → front_by x (state_seen s shards) out ≡ front_seen x out s
+  front_agrees (Receives now to bytes) e w = ap (λ (f : FrontState). after_received (received f to bytes) f to) (front_advances s now) ∙ front_received s now to bytes out w
+  front_agrees (Answers k now) e w = front_answered s now (job s k) out (opening_is_live (max s.moment now) (job s k).origin.opening) (content_at (stage s k)) refl w
+  front_agrees (Draws k now) e w = front_drew s now (needs_id (stage s k))
+  front_agrees (Passes now) e w = front_advances s now
+  front_agrees Rests e w = refl
+
+  brought_agree : (x : AtFront) → brought_by x (state_seen s shards) ≡ tasks_by x s
+  brought_agree (Receives now to bytes) = ap (λ (f : FrontState). map new_task (brought (received f to bytes) (next_opening f) to)) (front_advances s now)
+  brought_agree other = refl
+
 -- ---- any event
 
 pub goes_on : (e : Event) (old new : Parts) (out : Option Emission) → Done e old out new → Steps e old out new
 goes_on e old new out done s a =
     let same : old ≡ state_seen s old.shards = λ i. record { front = a.front i; shards = old.shards; words = a.words i; tasks = a.tasks i } in
     let d = subst (λ (p : Parts). Done e p out new) same done in
-    let emits = emits_agree s old.shards a.shards out (at_front e) (at_shard e) d.emits in
+    let emits = emits_agree s old.shards a.shards a.sound out (at_front e) e d.emits in
     let moved = shards_agree s e old.shards a.shards a.sound (names e) refl in
     record {
       emits = emits;
       means = takes_mean e s a.sound a.safe;
       agrees = record {
-        front = d.front ∙ front_agrees s old.shards a.shards out (at_front e) (at_shard e) emits;
-        tasks = d.tasks ∙ (λ i. tasks_agree s e old.shards a.shards a.sound (names e) i ++ (shard_brings (at_shard e) s old.shards a.shards i ++ brought_agree s old.shards a.shards out (at_front e) i));
+        front = d.front ∙ front_agrees s old.shards a.shards a.sound out (at_front e) e emits;
+        tasks = d.tasks ∙ (λ i. tasks_agree s e old.shards a.shards a.sound (names e) i ++ (shard_brings (at_shard e) s old.shards a.shards i ++ brought_agree s old.shards a.shards a.sound out (at_front e) i));
         words = d.words ∙ words_agree s e old.shards a.shards a.sound (names e);
         shards = subst (ShardsAgree (and_then (did e out) s)) (sym d.shards) (record { are = moved.are; slot = moved.slot; now = moved.now; watch = moved.watch });
         sound = still_sound (did e out) s a.sound;

@@ -13,7 +13,7 @@ use Rattle.fc_core.specs.Ids.{drawn, free_id}
 use Rattle.fc_core.specs.Fits.{FitsStage}
 use Rattle.fc_core.specs.Legal.{AnswerEmits}
 use Rattle.fc_core.specs.Sound.{AllSafe}
-use Rattle.fc_core.specs.Stages.{Common, Move, Scene, at_answer, at_fresh, content_at, needs_id, task_moved, row, scene_of, shard_moved, words_after}
+use Rattle.fc_core.specs.Stages.{Common, Move, Scene, at_answer, at_fresh, content_at, needs_id, task_moved, row, scene_of, sends, shard_moved, words_after}
 
 -- its front, its shards, and the head words of their slots
 pub record ServerState : Type 0 where
@@ -40,13 +40,15 @@ pub record AtWork (s : ServerState) (task : Task) : Type 0 where
   pub slot : task.job.origin.slot < 64
   pub stage : FitsStage task.job (slot_in_shards s.shards task.job.origin.slot) task.stage
 
--- an event on a task: it moves by its row, and so do its slot and the slot's head word; what is installed is safe
-pub record Does (e : Event) (old : ServerState) (task : Task) (new : ServerState) (next : Task) : Type 0 where
+-- an event on a task, and what it sends: the task moves by its row, and so do its slot and the slot's head word; what is installed is
+-- safe
+pub record Does (e : Event) (old : ServerState) (task : Task) (new : ServerState) (next : Task) (emitted : Option Emission) : Type 0 where
   pub front : new.front ≡ old.front
   pub task_is : next ≡ task_moved task (row e (scene_in old task))
   pub shards : new.shards ≡ shards_moved (row e (scene_in old task)) task.job.origin.slot old.shards
   pub words : new.words ≡ words_after (row e (scene_in old task)) task old.words
   pub safe : AllSafe (row e (scene_in old task)).changes
+  pub emits : emitted ≡ sends e (scene_in old task)
 
 -- the front after an answer of this content, if there is one, that sent this
 abbrev pub front_after : Option Content → Job → Option Emission → FrontState → ℕ → FrontState

@@ -15,7 +15,7 @@ use Rattle.fc_core.specs.History.{AtFront, Receives, Answers, Draws, Passes, Res
 use Rattle.fc_core.specs.Legal.{AnswerEmits, Emits, TakesMeaning, resent}
 use Rattle.fc_core.specs.Receiving.{after_received, brought, next_opening, received, sent}
 use Rattle.fc_core.specs.Sound.{AllSafe}
-use Rattle.fc_core.specs.Stages.{Move, content_at, names, needs_id, new_task, row, task_moved, words_after}
+use Rattle.fc_core.specs.Stages.{Move, content_at, names, needs_id, new_task, row, sends, task_moved, words_after}
 use Rattle.fc_server.specs.Agreement.{Agrees, Parts}
 use Rattle.fc_server.specs.States.{ServerState, front_after, front_drawn, scene_in, shards_moved}
 
@@ -102,12 +102,16 @@ resent_by other shards = None
 
 -- ---- what it sends
 
-abbrev pub EmitsAt : AtFront → AtShard → Parts → Option Emission → Type 0
-EmitsAt (Receives now to bytes) x p emitted = emitted ≡ sent (received (advanced p.front now) to bytes) (advanced p.front now) to
-EmitsAt (Answers k now) x p emitted = AnswerEmits (content_at (task_at p.tasks k).stage) (task_at p.tasks k).job (advanced p.front now) emitted
-EmitsAt (Draws k now) x p emitted = emitted ≡ None
-EmitsAt (Passes now) x p emitted = emitted ≡ None
-EmitsAt Rests x p emitted = emitted ≡ resent_by x p.shards
+abbrev pub sends_at : Option ℕ → Event → Parts → Option Emission
+sends_at None e p = resent_by (at_shard e) p.shards
+sends_at (Some k) e p = sends e (scene_in (server_in p) (task_at p.tasks k))
+
+abbrev pub EmitsAt : AtFront → Event → Parts → Option Emission → Type 0
+EmitsAt (Receives now to bytes) e p emitted = emitted ≡ sent (received (advanced p.front now) to bytes) (advanced p.front now) to
+EmitsAt (Answers k now) e p emitted = AnswerEmits (content_at (task_at p.tasks k).stage) (task_at p.tasks k).job (advanced p.front now) emitted
+EmitsAt (Draws k now) e p emitted = emitted ≡ None
+EmitsAt (Passes now) e p emitted = emitted ≡ None
+EmitsAt Rests e p emitted = emitted ≡ sends_at (names e) e p
 
 -- ---- an event
 
@@ -117,7 +121,7 @@ pub record Done (e : Event) (old : Parts) (emitted : Option Emission) (new : Par
   pub tasks : new.tasks ≡ tasks_in (names e) e old ++ (turns_at (at_shard e) old.shards ++ brought_by (at_front e) old)
   pub shards : new.shards ≡ shard_by (at_shard e) (shards_in (names e) e old)
   pub words : new.words ≡ words_in (names e) e old
-  pub emits : EmitsAt (at_front e) (at_shard e) old emitted
+  pub emits : EmitsAt (at_front e) e old emitted
   pub safe : IsSafeIn (names e) e old
 
 -- an event of this job, and of nothing else

@@ -131,7 +131,7 @@ impl Server {
     /// A task looks at the head word of a slot.
     pub fn peek(&mut self, task: &mut Task, slot: u8)
         requires { AtWork self.old task.old }
-        ensures { (k : ℕ) → Does (Event.Peek k slot) self.old task.old self.new task.new }
+        ensures { (k : ℕ) → Does (Event.Peek k slot) self.old task.old self.new task.new None }
     {
         task.peek(slot, &self.heads);
     }
@@ -139,7 +139,7 @@ impl Server {
     /// A task removes its slot's program.
     pub fn remove(&mut self, task: &mut Task)
         requires { AtWork self.old task.old }
-        ensures { (k : ℕ) → Does (Event.Remove k) self.old task.old self.new task.new }
+        ensures { (k : ℕ) → Does (Event.Remove k) self.old task.old self.new task.new None }
     {
         task.remove(&mut self.shards[task.job.origin.slot.shard()]);
     }
@@ -147,7 +147,7 @@ impl Server {
     /// A task asks what its slot's program is.
     pub fn describe(&mut self, task: &mut Task)
         requires { AtWork self.old task.old }
-        ensures { (k : ℕ) → Does (Event.Receipt k) self.old task.old self.new task.new }
+        ensures { (k : ℕ) → Does (Event.Receipt k) self.old task.old self.new task.new None }
     {
         task.describe(&self.shards[task.job.origin.slot.shard()]);
     }
@@ -155,7 +155,7 @@ impl Server {
     /// A task takes its slot. Tells whether there was memory.
     pub fn take(&mut self, task: &mut Task) -> bool
         requires { AtWork self.old task.old }
-        ensures { (k : ℕ) → Does (Event.Take k result) self.old task.old self.new task.new }
+        ensures { (k : ℕ) → Does (Event.Take k result) self.old task.old self.new task.new None }
     {
         task.take(&mut self.shards[task.job.origin.slot.shard()])
     }
@@ -163,7 +163,7 @@ impl Server {
     /// A task takes its slot without memory.
     pub fn refuse_take(&mut self, task: &mut Task)
         requires { AtWork self.old task.old }
-        ensures { (k : ℕ) → Does (Event.Take k false) self.old task.old self.new task.new }
+        ensures { (k : ℕ) → Does (Event.Take k false) self.old task.old self.new task.new None }
     {
         task.refuse_take(&mut self.shards[task.job.origin.slot.shard()]);
     }
@@ -171,7 +171,7 @@ impl Server {
     /// A task runs its ticket's program, and commits at a moment in milliseconds.
     pub fn commit(&mut self, now: u64, task: &mut Task)
         requires { AtWork self.old task.old }
-        ensures { (k : ℕ) → Does (Event.Commit k now) self.old task.old self.new task.new }
+        ensures { (k : ℕ) → Does (Event.Commit k now) self.old task.old self.new task.new None }
     {
         let shard = &mut self.shards[task.job.origin.slot.shard()];
         task.commit(&mut self.frame, shard, now);
@@ -180,7 +180,7 @@ impl Server {
     /// A task verifies its image and installs the program. Tells whether there was memory.
     pub fn install(&mut self, alloc: Global, task: &mut Task) -> bool
         requires { AtWork self.old task.old }
-        ensures { (k : ℕ) → Does (Event.Install k result) self.old task.old self.new task.new }
+        ensures { (k : ℕ) → Does (Event.Install k result) self.old task.old self.new task.new None }
     {
         let shard = &mut self.shards[task.job.origin.slot.shard()];
         task.install(alloc, shard)
@@ -189,7 +189,7 @@ impl Server {
     /// A task installs without memory.
     pub fn refuse_install(&mut self, task: &mut Task)
         requires { AtWork self.old task.old }
-        ensures { (k : ℕ) → Does (Event.Install k false) self.old task.old self.new task.new }
+        ensures { (k : ℕ) → Does (Event.Install k false) self.old task.old self.new task.new None }
     {
         task.refuse_install();
     }
@@ -197,7 +197,7 @@ impl Server {
     /// A task publishes the new head word of its slot.
     pub fn raise(&mut self, task: &mut Task)
         requires { AtWork self.old task.old }
-        ensures { (k : ℕ) → Does (Event.Raise k) self.old task.old self.new task.new }
+        ensures { (k : ℕ) → Does (Event.Raise k) self.old task.old self.new task.new None }
     {
         task.raise(&mut self.heads);
     }
@@ -213,10 +213,20 @@ impl Server {
         }
     }
 
+    /// A task runs the program that its turn's taking found, if it found one, and notifies the turn's observer, at a moment in
+    /// milliseconds: what is sent, where the turn is out still.
+    pub fn note(&mut self, now: u64, random: u16, task: &mut Task) -> Option<Emission>
+        requires { AtWork self.old task.old }
+        ensures { (k : ℕ) → Does (Event.Note k now random) self.old task.old self.new task.new result }
+    {
+        let shard = &mut self.shards[task.job.origin.slot.shard()];
+        task.note(&mut self.frame, shard, now, random)
+    }
+
     /// A task gives up its turn, at a moment in milliseconds.
     pub fn give_up(&mut self, now: u64, task: &mut Task)
         requires { AtWork self.old task.old }
-        ensures { (k : ℕ) → Does (Event.GiveUp k now) self.old task.old self.new task.new }
+        ensures { (k : ℕ) → Does (Event.GiveUp k now) self.old task.old self.new task.new None }
     {
         task.give_up(&mut self.shards[task.job.origin.slot.shard()], now);
     }
@@ -224,7 +234,7 @@ impl Server {
     /// A task's worker is lost.
     pub fn lose(&mut self, task: &mut Task)
         requires { AtWork self.old task.old }
-        ensures { (k : ℕ) → Does (Event.Lose k) self.old task.old self.new task.new }
+        ensures { (k : ℕ) → Does (Event.Lose k) self.old task.old self.new task.new None }
     {
         task.lose();
     }

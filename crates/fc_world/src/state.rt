@@ -162,6 +162,14 @@ impl State {
         self.server.fresh(now, &mut self.tasks[job]);
     }
 
+    fn note(&mut self, job: usize, now: u64, random: u16) -> Option<Emission>
+        requires job { job < length self.old.tasks.items }
+        requires work { AtWork self.old.server (task_at self.old.tasks.items job) }
+        ensures { Done (Event.Note job now random) (parts self.old) result (parts self.new) }
+    {
+        self.server.note(now, random, &mut self.tasks[job])
+    }
+
     fn give_up(&mut self, job: usize, now: u64)
         requires job { job < length self.old.tasks.items }
         requires work { AtWork self.old.server (task_at self.old.tasks.items job) }
@@ -261,6 +269,11 @@ impl State {
                 self.fresh(job, now);
                 Ok(None)
             }
+            Event::Note {
+                job: _,
+                now,
+                random,
+            } => Ok(self.note(job, now, random)),
             Event::GiveUp { job: _, now } => {
                 self.give_up(job, now);
                 Ok(None)

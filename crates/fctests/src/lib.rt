@@ -29,6 +29,8 @@ mod machine_tests;
 #[cfg(test)]
 mod message_tests;
 #[cfg(test)]
+mod notification_tests;
+#[cfg(test)]
 mod observer_tests;
 #[cfg(test)]
 mod opcode_tests;

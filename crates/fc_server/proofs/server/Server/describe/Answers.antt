@@ -1,4 +1,4 @@
-use Rattle.std.proofs.Common.{ap, ◌∙◌, length, refl, subst}
+use Rattle.std.proofs.Common.{ap, ◌∙◌, length, None, refl, subst}
 use Rattle.fc_core.specs.declared.event.Event.TheVariants.{Receipt}
 use Rattle.fc_core.specs.Stages.{at_receipt, scene_of, task_moved}
 use Rattle.fc_registry.specs.Slots.{Shard}
@@ -14,7 +14,7 @@ returns c = λ k.
     let found = c.index.result.now in
     let eight = ap (λ (x : ServerState). length x.shards) c.self.view_is ∙ c.requires.count in
     let owner = owner_read s.shards task.job.origin.slot c.shard.result found eight c.shard.ensures.limit c.shard.ensures.shard c.index.ensures in
-    subst (λ (x : ServerState). Does (Receipt k) x task x c.describe.new.self) c.self.view_is
-    (does_quietly (Receipt k) s s task c.describe.new.self _ (receipt_quiet (scene_in s task) task.stage)
+    subst (λ (x : ServerState). Does (Receipt k) x task x c.describe.new.self None) c.self.view_is
+    (does_quietly (Receipt k) s s task c.describe.new.self _ (receipt_quiet (scene_in s task) task.stage) refl
     (c.describe.ensures (common_in s.front s.words) ∙ ap (λ (x : Shard). task_moved task (at_receipt (scene_of x (common_in s.front s.words) task) task.stage)) owner)
     refl)

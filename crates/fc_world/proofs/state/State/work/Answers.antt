@@ -1,5 +1,5 @@
 use Rattle.std.proofs.Common.{None, refl}
-use Rattle.fc_core.specs.declared.event.Event.TheVariants.{Peek, Take, Commit, Install, Remove, Receipt, Raise, Fresh, GiveUp, Lose, Answer}
+use Rattle.fc_core.specs.declared.event.Event.TheVariants.{Peek, Take, Commit, Install, Remove, Receipt, Raise, Fresh, Note, GiveUp, Lose, Answer}
 use Rattle.fc_server.proofs.Stepping.{goes_on}
 use Rattle.fc_world.specs.Parts.{parts}
 use Rattle.fc_world.proofs.Dispatch.{retold}
@@ -28,6 +28,9 @@ returns-in-Raise c = retold c.args.event.now Raise _ c.args.job (λ j. refl) c.i
 
 pub returns-in-Fresh : goal.returns-in-Fresh
 returns-in-Fresh c = retold c.args.event.now (λ j. Fresh j c.in-Fresh.now) _ c.args.job (λ j. refl) c.in-Fresh.is c.requires.named (parts c.args.self.now) (parts c.fresh.new.self) None (goes_on (Fresh c.args.job c.in-Fresh.now) (parts c.args.self.now) (parts c.fresh.new.self) None c.fresh.ensures)
+
+pub returns-in-Note : goal.returns-in-Note
+returns-in-Note c = retold c.args.event.now (λ j. Note j c.in-Note.now c.in-Note.random) _ c.args.job (λ j. refl) c.in-Note.is c.requires.named (parts c.args.self.now) (parts c.note.new.self) c.note.result (goes_on (Note c.args.job c.in-Note.now c.in-Note.random) (parts c.args.self.now) (parts c.note.new.self) c.note.result c.note.ensures)
 
 pub returns-in-GiveUp : goal.returns-in-GiveUp
 returns-in-GiveUp c = retold c.args.event.now (λ j. GiveUp j c.in-GiveUp.now) _ c.args.job (λ j. refl) c.in-GiveUp.is c.requires.named (parts c.args.self.now) (parts c.give_up.new.self) None (goes_on (GiveUp c.args.job c.in-GiveUp.now) (parts c.args.self.now) (parts c.give_up.new.self) None c.give_up.ensures)
