@@ -1,14 +1,20 @@
 -- What a server on one thread does with a job is a list of events.
-use Rattle.std.proofs.Common.{◌≡◌, ℕ, List, [], ◌∷◌, ◌++◌, length, map, Bool, Option, Some, None, refl, sym, ap, ◌∙◌, subst, Bor}
+use Rattle.std.proofs.Common.{◌≡◌, ℕ, List, [], ◌∷◌, ◌++◌, length, map, set, ◌<◌, Bool, true, false, Option, Some, None, refl, sym, ap, ◌∙◌, subst, Bor}
+use Rattle.std.specs.Option.{option_to_list}
+use Rattle.std.specs.Prelude.{nat_lt}
+use Rattle.std.proofs.lemmas.Bool.{lt-ltb}
+use Rattle.std.proofs.lemmas.List.{append-nil}
 use Rattle.std.proofs.Math.Seq.{get_or-append_seam, set-append_seam}
 use Rattle.coap_msg.specs.declared.types.Endpoint.{Endpoint}
 use Rattle.coap_msg.specs.declared.types.Emission.{Emission}
 use Rattle.fc_registry.specs.declared.job.Job.{Job}
+use Rattle.fc_registry.specs.Shards.{shard_at}
 use Rattle.fc_registry.specs.Slots.{Slot}
+use Rattle.fc_registry.specs.Watches.{signal_call, signalled}
 use Rattle.fc_core.specs.declared.event.Event.{Event}
-use Rattle.fc_core.specs.declared.event.Event.TheVariants.{Deliver, Peek, Take, Commit, Install, Remove, Receipt, Raise, Answer, Tick}
+use Rattle.fc_core.specs.declared.event.Event.TheVariants.{Deliver, Peek, Take, Commit, Install, Remove, Receipt, Raise, Answer, Due, Fresh, Note, GiveUp, Signal, Tick, ShardTick}
 use Rattle.fc_core.specs.declared.front.Delivered.{Delivered}
-use Rattle.fc_core.specs.declared.front.Delivered.TheVariants.{Reply, Job as Brings}
+use Rattle.fc_core.specs.declared.front.Delivered.TheVariants.{Reply, Job as Brings, Signal as Signals}
 use Rattle.fc_core.specs.declared.stage.Task.{Task}
 use Rattle.fc_core.specs.Exchanges.{FrontState, advanced}
 use Rattle.fc_core.specs.Fits.{FitsStage}
@@ -17,10 +23,10 @@ use Rattle.fc_core.specs.Receiving as x
 use Rattle.fc_core.specs.Receiving.{Received, after_delivered, brought, delivered, handed_on, next_opening, received, reply_or_nothing, sent}
 use Rattle.fc_core.specs.Stages.{new_task}
 use Rattle.fc_server.specs.Agreement.{Agrees, Parts}
-use Rattle.fc_server.specs.Serving.{Delivers, Heard, Hears, IsReachable, Passes, Serves, next, with_tasks, worked}
-use Rattle.fc_server.specs.States.{Responds, AtWork, Does, ServerState}
-use Rattle.fc_server.specs.Steps.{DeliveredTo, Done, IsOfJob, IsReached}
-use Rattle.fc_server.proofs.Others.{delivered_done, does_done, responds_done, ticked_done}
+use Rattle.fc_server.specs.Serving.{Asked, Delivers, Heard, Hears, IsReachable, Notifies, Passes, Resends, Serves, next, signalled_below, turned, with_tasks, worked}
+use Rattle.fc_server.specs.States.{Responds, AtWork, Does, DrawsId, ServerState}
+use Rattle.fc_server.specs.Steps.{DeliveredTo, Done, IsOfJob, IsReached, resent_if, shard_asked, shard_changed, shard_resent, shard_ticked, shard_turn, turn_if}
+use Rattle.fc_server.proofs.Others.{delivered_done, does_done, draws_done, responds_done, shard_done, ticked_done}
 use Rattle.fc_server.proofs.Stepping.{goes_on}
 
 seam : (rest : List Task) (task : Task) → task_at (rest ++ task ∷ []) (length rest) ≡ task
@@ -54,34 +60,69 @@ serves_on h e old tasks out new later done v =
     record { legal = (s.emits, v.legal); means = (s.means, v.means); agrees = s.agrees }
 
 module _ (rest : List Task) {h : History} {old : ServerState} {task : Task} {new : ServerState} {later : Task} (v : Serves h old (rest ++ task ∷ [])) where
-  does_on : (e : Event) → IsOfJob e (length rest) → Does e old task new later None → Serves (next h e None) new (rest ++ later ∷ [])
-  does_on e is d = serves_on h e old (rest ++ task ∷ []) None new (rest ++ later ∷ [])
-      (does_done e (length rest) is old new (rest ++ task ∷ []) (rest ++ later ∷ []) task later None (sym (seam rest task)) (sym (set-append_seam rest task [] later)) d) v
+  does_on : (e : Event) (out : Option Emission) → IsOfJob e (length rest) → Does e old task new later out → Serves (next h e out) new (rest ++ later ∷ [])
+  does_on e out is d = serves_on h e old (rest ++ task ∷ []) out new (rest ++ later ∷ [])
+      (does_done e (length rest) is old new (rest ++ task ∷ []) (rest ++ later ∷ []) task later out (sym (seam rest task)) (sym (set-append_seam rest task [] later)) d) v
 
   pub took_on : (memory : Bool) → Does (Take (length rest) memory) old task new later None → Serves (next h (Take (length rest) memory) None) new (rest ++ later ∷ [])
-  took_on memory d = does_on (Take (length rest) memory) (refl, refl, refl) d
+  took_on memory d = does_on (Take (length rest) memory) None (refl, refl, refl) d
 
   pub peeked_on : (n : ℕ) → Does (Peek (length rest) n) old task new later None → Serves (next h (Peek (length rest) n) None) new (rest ++ later ∷ [])
-  peeked_on n d = does_on (Peek (length rest) n) (refl, refl, refl) d
+  peeked_on n d = does_on (Peek (length rest) n) None (refl, refl, refl) d
 
   pub removed_on : Does (Remove (length rest)) old task new later None → Serves (next h (Remove (length rest)) None) new (rest ++ later ∷ [])
-  removed_on d = does_on (Remove (length rest)) (refl, refl, refl) d
+  removed_on d = does_on (Remove (length rest)) None (refl, refl, refl) d
 
   pub described_on : Does (Receipt (length rest)) old task new later None → Serves (next h (Receipt (length rest)) None) new (rest ++ later ∷ [])
-  described_on d = does_on (Receipt (length rest)) (refl, refl, refl) d
+  described_on d = does_on (Receipt (length rest)) None (refl, refl, refl) d
 
   pub committed_on : (now : ℕ) → Does (Commit (length rest) now) old task new later None → Serves (next h (Commit (length rest) now) None) new (rest ++ later ∷ [])
-  committed_on now d = does_on (Commit (length rest) now) (refl, refl, refl) d
+  committed_on now d = does_on (Commit (length rest) now) None (refl, refl, refl) d
 
   pub installed_on : (memory : Bool) → Does (Install (length rest) memory) old task new later None → Serves (next h (Install (length rest) memory) None) new (rest ++ later ∷ [])
-  installed_on memory d = does_on (Install (length rest) memory) (refl, refl, refl) d
+  installed_on memory d = does_on (Install (length rest) memory) None (refl, refl, refl) d
 
   pub raised_on : Does (Raise (length rest)) old task new later None → Serves (next h (Raise (length rest)) None) new (rest ++ later ∷ [])
-  raised_on d = does_on (Raise (length rest)) (refl, refl, refl) d
+  raised_on d = does_on (Raise (length rest)) None (refl, refl, refl) d
 
   pub answered_on : (now : ℕ) (out : Option Emission) → Responds now old task new later out → Serves (next h (Answer (length rest) now) out) new (rest ++ later ∷ [])
   answered_on now out d = serves_on h (Answer (length rest) now) old (rest ++ task ∷ []) out new (rest ++ later ∷ [])
       (responds_done (length rest) now old new (rest ++ task ∷ []) (rest ++ later ∷ []) task later out (sym (seam rest task)) (sym (set-append_seam rest task [] later)) d) v
+
+  pub drew_on : (now : ℕ) → DrawsId now old task new later → Serves (next h (Fresh (length rest) now) None) new (rest ++ later ∷ [])
+  drew_on now d = serves_on h (Fresh (length rest) now) old (rest ++ task ∷ []) None new (rest ++ later ∷ [])
+      (draws_done (length rest) now old new (rest ++ task ∷ []) (rest ++ later ∷ []) task later (sym (seam rest task)) (sym (set-append_seam rest task [] later)) d) v
+
+  pub noted_on : (now random : ℕ) (out : Option Emission) → Does (Note (length rest) now random) old task new later out → Serves (next h (Note (length rest) now random) out) new (rest ++ later ∷ [])
+  noted_on now random out d = does_on (Note (length rest) now random) out (refl, refl, refl) d
+
+  pub given_up_on : (now : ℕ) → Does (GiveUp (length rest) now) old task new later None → Serves (next h (GiveUp (length rest) now) None) new (rest ++ later ∷ [])
+  given_up_on now d = does_on (GiveUp (length rest) now) None (refl, refl, refl) d
+
+-- ---- a shard
+
+module _ (i : ℕ) (low : i < 8) (old new : ServerState) (front : new.front ≡ old.front) (words : new.words ≡ old.words) (h : History) (tasks : List Task) (v : Serves h old tasks) where
+  there : true ≡ nat_lt i 8
+  there = sym (lt-ltb i 8 low)
+
+  pub signalled_on : (to : Endpoint) (id : ℕ) (reset : Bool) → new.shards ≡ set old.shards i (signalled (signal_call reset to id) (shard_at old.shards i)) → Serves (next h (Signal i to id reset) None) new tasks
+  signalled_on to id reset shards =
+      let e = Signal i to id reset in
+      let done = shard_done e old new tasks None refl refl front words (shards ∙ ap (λ (b : Bool). shard_changed b i (signalled (signal_call reset to id)) old.shards) there) refl in
+      serves_on h e old tasks None new tasks (subst (λ (ts : List Task). Done e (with_tasks old tasks) None (with_tasks new ts)) (append-nil tasks) done) v
+
+  pub resent_on : (now : ℕ) (out : Option Emission) → new.shards ≡ set old.shards i (shard_ticked now (shard_at old.shards i)) → out ≡ shard_resent now (shard_at old.shards i) → Serves (next h (ShardTick i now) out) new tasks
+  resent_on now out shards sent =
+      let e = ShardTick i now in
+      let done = shard_done e old new tasks out refl refl front words (shards ∙ ap (λ (b : Bool). shard_changed b i (shard_ticked now) old.shards) there) (sent ∙ ap (λ (b : Bool). resent_if b (shard_resent now (shard_at old.shards i))) there) in
+      serves_on h e old tasks out new tasks (subst (λ (ts : List Task). Done e (with_tasks old tasks) out (with_tasks new ts)) (append-nil tasks) done) v
+
+  pub asked_on : (now : ℕ) (o : Option Job) → new.shards ≡ set old.shards i (shard_asked now (shard_at old.shards i)) → o ≡ shard_turn now (shard_at old.shards i) → Serves (next h (Due i now) None) new (tasks ++ map new_task (option_to_list o))
+  asked_on now o shards job =
+      let e = Due i now in
+      let done = shard_done e old new tasks None refl refl front words (shards ∙ ap (λ (b : Bool). shard_changed b i (shard_asked now) old.shards) there) refl in
+      let is : turn_if (nat_lt i 8) (shard_turn now (shard_at old.shards i)) ≡ o = ap (λ (b : Bool). turn_if b (shard_turn now (shard_at old.shards i))) (sym there) ∙ sym job in
+      serves_on h e old tasks None new (tasks ++ map new_task (option_to_list o)) (subst (λ (p : Option Job). Done e (with_tasks old tasks) None (with_tasks new (tasks ++ map new_task (option_to_list p)))) is done) v
 
 -- ---- a delivery
 
@@ -142,27 +183,31 @@ pub delivered_on : (now : ℕ) (to : Endpoint) (b : Bor (List ℕ)) (old new : S
 delivered_on now to b old new d is front shards words h tasks v =
     serves_on h (Deliver now to b) old tasks (sent_by d) new (tasks ++ map new_task (jobs_by d)) (delivered_done now to b (with_tasks old tasks) (with_tasks new (tasks ++ map new_task (jobs_by d))) (sent_by d) (delivered_to now to b.now old new tasks d is front shards words)) v
 
+-- it brings neither a job nor a signal
 abbrev pub IsJobless : Delivered → Type 0
 IsJobless (Brings job) = ⊥
+IsJobless (Signals id reset) = ⊥
 IsJobless other = Unit {0}
 
-heard_jobless : (h : History) (k : ℕ) (e : Event) (now : ℕ) (new : ServerState) (out : Option Emission) (d : Delivered) → IsJobless d → Delivers h e new out → Heard h k e d now new out
-heard_jobless h k e now new out (Brings job) none w = absurd none
-heard_jobless h k e now new out other none w = w
+heard_jobless : (h : History) (k now : ℕ) (to : Endpoint) (b : Bor (List ℕ)) (new : ServerState) (out : Option Emission) (d : Delivered) → IsJobless d → Delivers h (Deliver now to b) new out → Heard h k now to b d new out
+heard_jobless h k now to b new out (Brings job) none w = absurd none
+heard_jobless h k now to b new out (Signals id reset) none w = absurd none
+heard_jobless h k now to b new out other none w = w
 
 -- a delivery that brings no job
-pub heard_on : (now : ℕ) (to : Endpoint) (b : Bor (List ℕ)) (old new : ServerState) (d : Delivered) (out : Option Emission) → IsJobless d → out ≡ sent_by d → delivered (advanced old.front now) to b.now ≡ d → new.front ≡ after_delivered (advanced old.front now) to b.now → new.shards ≡ old.shards → new.words ≡ old.words → Hears now (Deliver now to b) (delivered (advanced old.front now) to b.now) old new out
+pub heard_on : (now : ℕ) (to : Endpoint) (b : Bor (List ℕ)) (old new : ServerState) (d : Delivered) (out : Option Emission) → IsJobless d → out ≡ sent_by d → delivered (advanced old.front now) to b.now ≡ d → new.front ≡ after_delivered (advanced old.front now) to b.now → new.shards ≡ old.shards → new.words ≡ old.words → Hears now to b (delivered (advanced old.front now) to b.now) old new out
 heard_on now to b old new d out none emits is front shards words h tasks v =
     let serves = subst (λ (o : Option Emission). Serves (next h (Deliver now to b) o) new (tasks ++ map new_task (jobs_by d))) (sym emits) (delivered_on now to b old new d is front shards words h tasks v) in
-    subst (λ (y : Delivered). Heard h (length tasks) (Deliver now to b) y now new out) (sym is) (heard_jobless h (length tasks) (Deliver now to b) now new out d none (record { tasks = tasks ++ map new_task (jobs_by d); serves = serves }))
+    subst (λ (y : Delivered). Heard h (length tasks) now to b y new out) (sym is) (heard_jobless h (length tasks) now to b new out d none (record { tasks = tasks ++ map new_task (jobs_by d); serves = serves }))
 
 -- a server that heard a datagram is one that some history leaves
-heard_served : (h : History) (k : ℕ) (e : Event) (now : ℕ) (new : ServerState) (out : Option Emission) (d : Delivered) → Heard h k e d now new out → IsReachable new
-heard_served h k e now new out (Brings job) w = record { history = worked job.ask job.origin.slot k w.memory now out (next h e None); tasks = w.tasks; serves = w.serves }
-heard_served h k e now new out other w = record { history = next h e out; tasks = w.tasks; serves = w.serves }
+heard_served : (h : History) (k now : ℕ) (to : Endpoint) (b : Bor (List ℕ)) (new : ServerState) (out : Option Emission) (d : Delivered) → Heard h k now to b d new out → IsReachable new
+heard_served h k now to b new out (Brings job) w = record { history = worked job.ask job.origin.slot k w.memory now out (next h (Deliver now to b) None); tasks = w.tasks; serves = w.serves }
+heard_served h k now to b new out (Signals id reset) w = record { history = signalled_below to id reset 8 (next h (Deliver now to b) None); tasks = w.1.tasks; serves = w.1.serves }
+heard_served h k now to b new out other w = record { history = next h (Deliver now to b) out; tasks = w.tasks; serves = w.serves }
 
-pub still_served : (now : ℕ) (e : Event) (d : Delivered) (old new : ServerState) (out : Option Emission) → IsReachable old → Hears now e d old new out → IsReachable new
-still_served now e d old new out s hears = heard_served s.history (length s.tasks) e now new out d (hears s.history s.tasks s.serves)
+pub still_served : (now : ℕ) (to : Endpoint) (b : Bor (List ℕ)) (d : Delivered) (old new : ServerState) (out : Option Emission) → IsReachable old → Hears now to b d old new out → IsReachable new
+still_served now to b d old new out s hears = heard_served s.history (length s.tasks) now to b new out d (hears s.history s.tasks s.serves)
 
 -- ---- a tick
 
@@ -171,3 +216,15 @@ ticked_on now old new front shards words h tasks v = serves_on h (Tick now) old 
 
 pub passed_served : (now : ℕ) (old new : ServerState) → IsReachable old → Passes now old new → IsReachable new
 passed_served now old new s passes = record { history = next s.history (Tick now) None; tasks = s.tasks; serves = passes s.history s.tasks s.serves }
+
+-- ---- a turn
+
+pub resent_served : (shard now : ℕ) (old new : ServerState) (out : Option Emission) → IsReachable old → Resends shard now old new out → IsReachable new
+resent_served shard now old new out s resends = record { history = next s.history (ShardTick shard now) out; tasks = s.tasks; serves = resends s.history s.tasks s.serves }
+
+asked_served : (b : Bool) (h : History) (k now random : ℕ) (new : ServerState) (out : Option Emission) → Asked b h k now random new out → IsReachable new
+asked_served false h k now random new out w = record { history = h; tasks = w.1.tasks; serves = w.1.serves }
+asked_served true h k now random new out w = record { history = turned k w.memory now random out h; tasks = w.tasks; serves = w.serves }
+
+pub notified_served : (shard now random : ℕ) (old new : ServerState) (given : Bool) (out : Option Emission) → IsReachable old → Notifies shard now random old new given out → IsReachable new
+notified_served shard now random old new given out s notifies = asked_served given (next s.history (Due shard now) None) (length s.tasks) now random new out (notifies.asked s.history s.tasks s.serves)

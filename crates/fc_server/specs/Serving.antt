@@ -1,13 +1,15 @@
 -- A server on one thread: what it does with a datagram is a list of events, whatever the history that it stands in. The clauses
 -- of the engine cite the agreement here: a server that agrees with a history is one that the history leaves.
-use Rattle.std.specs.Prelude.{ℕ, zero, suc, Bool, List, [], ◌∷◌, ◌++◌, length, Option, None}
+use Rattle.std.specs.Prelude.{◌≡◌, ℕ, zero, suc, Bool, true, false, List, [], ◌∷◌, ◌++◌, length, Option, None}
+use Rattle.std.specs.Borrow.{Bor}
 use Rattle.coap_msg.specs.declared.types.Emission.{Emission}
+use Rattle.coap_msg.specs.declared.types.Endpoint.{Endpoint}
 use Rattle.fc_registry.specs.declared.job.Ask.{Ask}
 use Rattle.fc_registry.specs.declared.job.Ask.TheVariants.{Run, Install as Installs, Remove as Removes, Describe, Discover}
 use Rattle.fc_core.specs.declared.event.Event.{Event}
-use Rattle.fc_core.specs.declared.event.Event.TheVariants.{Peek, Take, Commit, Install, Remove, Receipt, Raise, Answer, Tick}
+use Rattle.fc_core.specs.declared.event.Event.TheVariants.{Deliver, Peek, Take, Commit, Install, Remove, Receipt, Raise, Answer, Due, Fresh, Note, GiveUp, Signal, Tick, ShardTick}
 use Rattle.fc_core.specs.declared.front.Delivered.{Delivered}
-use Rattle.fc_core.specs.declared.front.Delivered.TheVariants.{Job as Brings}
+use Rattle.fc_core.specs.declared.front.Delivered.TheVariants.{Job as Brings, Signal as Signals}
 use Rattle.fc_core.specs.declared.stage.Task.{Task}
 use Rattle.fc_core.specs.History.{History, Then, did, seen}
 use Rattle.fc_core.specs.Legal.{AllMean, IsLegal}
@@ -52,18 +54,66 @@ pub record Delivers (h : History) (e : Event) (new : ServerState) (out : Option 
   pub tasks : List Task
   pub serves : Serves (next h e out) new tasks
 
--- a delivery that brings a job: its delivery, and then the job is worked off; any other: its delivery
-abbrev pub Heard : History → ℕ → Event → Delivered → ℕ → ServerState → Option Emission → Type 0
-Heard h k e (Brings job) now new out = Worked (next h e None) k job.ask job.origin.slot now new out
-Heard h k e other now new out = Delivers h e new out
+-- a signal goes to the shards below n
+abbrev pub signalled_below : Endpoint → ℕ → Bool → ℕ → History → History
+signalled_below to id reset zero h = h
+signalled_below to id reset (suc n) h = next (signalled_below to id reset n h) (Signal n to id reset) None
+
+-- a history after which only signals came, to each shard
+pub record Signalled (h : History) (to : Endpoint) (id : ℕ) (reset : Bool) (new : ServerState) : Type 0 where
+  pub tasks : List Task
+  pub serves : Serves (signalled_below to id reset 8 h) new tasks
+
+-- whatever the history so far
+abbrev pub IsSignalled : Endpoint → ℕ → Bool → ServerState → ServerState → Type 0
+IsSignalled to id reset old new = (h : History) → (tasks : List Task) → Serves h old tasks → Serves (signalled_below to id reset 8 h) new tasks
+
+-- a delivery that brings a job: its delivery, and then the job is worked off; one that brings a signal: its delivery, and then each
+-- shard gets it; any other: its delivery
+abbrev pub Heard : History → ℕ → ℕ → Endpoint → Bor (List ℕ) → Delivered → ServerState → Option Emission → Type 0
+Heard h k now to bytes (Brings job) new out = Worked (next h (Deliver now to bytes) None) k job.ask job.origin.slot now new out
+Heard h k now to bytes (Signals id reset) new out = (out ≡ None) × Signalled (next h (Deliver now to bytes) None) to id reset new
+Heard h k now to bytes other new out = Delivers h (Deliver now to bytes) new out
 
 -- whatever the history so far; the job has the next number
-abbrev pub Hears : ℕ → Event → Delivered → ServerState → ServerState → Option Emission → Type 0
-Hears now e brings old new out = (h : History) → (tasks : List Task) → Serves h old tasks → Heard h (length tasks) e brings now new out
+abbrev pub Hears : ℕ → Endpoint → Bor (List ℕ) → Delivered → ServerState → ServerState → Option Emission → Type 0
+Hears now to bytes brings old new out = (h : History) → (tasks : List Task) → Serves h old tasks → Heard h (length tasks) now to bytes brings new out
+
+-- the history leaves this server, with some jobs
+pub record Reaches (h : History) (new : ServerState) : Type 0 where
+  pub tasks : List Task
+  pub serves : Serves h new tasks
 
 -- time passes: a tick, and nothing is sent
 abbrev pub Passes : ℕ → ServerState → ServerState → Type 0
 Passes now old new = (h : History) → (tasks : List Task) → Serves h old tasks → Serves (next h (Tick now) None) new tasks
+
+-- a shard is ticked, and what is late is sent again
+abbrev pub Resends : ℕ → ℕ → ServerState → ServerState → Option Emission → Type 0
+Resends shard now old new out = (h : History) → (tasks : List Task) → Serves h old tasks → Serves (next h (ShardTick shard now) out) new tasks
+
+-- the events of the job of this number, which is a turn that is worked off at once: where no message id is free it is given up
+abbrev pub turned : ℕ → Bool → ℕ → ℕ → Option Emission → History → History
+turned k memory now random out h = next (next (next (next h (Take k memory) None) (Fresh k now) None) (Note k now random) out) (GiveUp k now) None
+
+-- a turn of this number was worked off
+pub record Turned (h : History) (k now random : ℕ) (new : ServerState) (out : Option Emission) : Type 0 where
+  pub memory : Bool
+  pub tasks : List Task
+  pub serves : Serves (turned k memory now random out h) new tasks
+
+-- a shard was asked for a turn: it gave none, or one that was worked off
+abbrev pub Asked : Bool → History → ℕ → ℕ → ℕ → ServerState → Option Emission → Type 0
+Asked false h k now random new out = (out ≡ None) × Reaches h new
+Asked true h k now random new out = Turned h k now random new out
+
+-- whatever the history so far; the turn has the next number
+pub record Notifies (shard now random : ℕ) (old new : ServerState) (given : Bool) (out : Option Emission) : Type 0 where
+  pub asked : (h : History) (tasks : List Task) → Serves h old tasks → Asked given (next h (Due shard now) None) (length tasks) now random new out
+
+-- the turn at work is the last job that came
+abbrev pub Turns : ℕ → ℕ → ServerState → Task → ServerState → Option Emission → Type 0
+Turns now random old task new out = (h : History) → (rest : List Task) → Serves h old (rest ++ task ∷ []) → Turned h (length rest) now random new out
 
 -- the job at work is the last that came
 abbrev pub WorksOff : Ask → ℕ → ServerState → Task → ServerState → Option Emission → Type 0

@@ -1,19 +1,22 @@
 //! A server on one thread: each datagram that it hears is worked off to its answer.
-ghost use Rattle.std.specs.Prelude.{ℕ, ◌≤◌, [], IfOk};
+ghost use Rattle.std.specs.Prelude.{◌≡◌, ℕ, ◌<◌, ◌≤◌, [], true, IfOk};
 ghost use Rattle.arrayvec.specs.ArrayVec.{ArrayVec};
 ghost use Rattle.fc_help.specs.Request.{Request};
 ghost use Rattle.fc_registry.specs.declared.job.Ask.{Ask};
 ghost use Rattle.fc_registry.specs.Slots.{last_serial};
-ghost use Rattle.fc_core.specs.declared.event.Event.{Event};
 ghost use Rattle.fc_core.specs.Exchanges.{advanced};
 ghost use Rattle.fc_core.specs.History.{Begins};
 ghost use Rattle.fc_core.specs.Receiving.{delivered, emission_if};
-ghost use Rattle.fc_server.specs.Serving.{Hears, IsBegun, IsReachable, Passes, Serves, WorksOff};
+ghost use Rattle.fc_core.specs.Legal.{resent};
+ghost use Rattle.fc_server.specs.Serving.{Hears, IsBegun, IsReachable, Notifies, Passes, Resends, Serves, Turns, WorksOff};
+ghost use Rattle.fc_server.specs.Notified.{is_given, notification_in};
+ghost use Rattle.fc_server.specs.Serving.{IsSignalled};
 
 use crate::server::Server;
 use coap_msg::{Emission, Endpoint};
 use fc_core::{Heard, Task};
-use fc_registry::{Ask, SLOTS};
+use fc_observe::Ticked;
+use fc_registry::{Ask, SHARDS, SLOTS};
 use std::alloc::{AllocError, Global};
 use std::marker::Model;
 
@@ -56,7 +59,8 @@ impl Engine {
     /// what is to be sent over another emission. Tells whether anything is. What it does is a list of events: Deliver, and where it
     /// brings a job that runs a program Peek of its slot, Take, Commit, Raise and Answer; one that installs Install, Raise and
     /// Answer; one that removes Remove, Raise and Answer; one that describes Receipt and Answer; one that lists what is there
-    /// Peek of each slot and Answer. Whatever the history was, with these it is legal, and the server is what it leaves.
+    /// Peek of each slot and Answer; and where it brings a signal, Signal of each shard. Whatever the history was, with these it is legal,
+    /// and the server is what it leaves.
     pub fn hear(
         &mut self,
         alloc: Global,
@@ -65,7 +69,7 @@ impl Engine {
         bytes: &[u8],
         reply: &mut Emission,
     ) -> bool
-        ensures { Hears now (Event.Deliver now endpoint bytes.entry) (delivered (advanced self.old.front now) endpoint bytes.now)
+        ensures { Hears now endpoint bytes.entry (delivered (advanced self.old.front now) endpoint bytes.now)
             self.old self.new (emission_if result reply.new) }
     {
         hear(
@@ -85,6 +89,37 @@ impl Engine {
     {
         self.server.tick(now);
     }
+
+    /// Advances a shard, 0 to 7, to a moment in milliseconds: it sends the first notification that is late again, or removes its
+    /// observer. What it does is the event ShardTick.
+    pub fn resend(&mut self, shard: u8, now: u64) -> Ticked
+        requires { shard < 8 }
+        ensures { Resends shard now self.old self.new (resent result) }
+    {
+        resend(&mut self.server, shard, now)
+    }
+
+    /// Asks a shard, 0 to 7, for the turn of an observer that is due at a moment in milliseconds, and works it off: the events Due, and,
+    /// where it brings a turn, Take, Fresh, Note and GiveUp of it. The random word says how long a confirmable notification is waited for.
+    pub fn notify(&mut self, shard: u8, now: u64, random: u16) -> Notified
+        requires { shard < 8 }
+        ensures { Notifies shard now random self.old self.new (is_given result) (notification_in result) }
+    {
+        notify(&mut self.server, &mut self.task, shard, now, random)
+    }
+}
+
+/// What became of a shard that was asked for a turn.
+#[derive(Drop)]
+pub enum Notified {
+    /// An observer is notified by this.
+    Sent(Emission),
+    /// There was a turn, of which nothing is sent: it was given up, since there was no memory for its taking.
+    Unsent,
+    /// There was a turn, which was given up, since no message id was free.
+    Starved,
+    /// No observer is due.
+    Nobody,
 }
 
 fn hear(
@@ -97,16 +132,79 @@ fn hear(
     reply: &mut Emission,
 ) -> bool
     requires { IsReachable server.old }
-    ensures { Hears now (Event.Deliver now endpoint bytes.entry) (delivered (advanced server.old.front now) endpoint bytes.now)
+    ensures { Hears now endpoint bytes.entry (delivered (advanced server.old.front now) endpoint bytes.now)
         server.old server.new (emission_if result reply.new) }
 {
     match server.hear(now, endpoint, bytes, &mut task.job, reply) {
-        Heard::Nothing | Heard::Signal { .. } => false,
+        Heard::Nothing => false,
         Heard::Reply => true,
+        Heard::Signal { mid, reset } => {
+            signal(server, endpoint, mid, reset);
+            false
+        }
         Heard::Job => {
             task.begin();
             work_off(server, alloc, now, task, reply)
         }
+    }
+}
+
+// Hands a signal to each shard.
+fn signal(server: &mut Server, endpoint: Endpoint, id: u16, reset: bool)
+    requires { IsReachable server.old }
+    ensures { IsSignalled endpoint id reset server.old server.new }
+{
+    for shard in 0..SHARDS {
+        server.signal(shard, endpoint, id, reset);
+    }
+}
+
+fn resend(server: &mut Server, shard: u8, now: u64) -> Ticked
+    requires shard { shard < 8 }
+    requires reachable { IsReachable server.old }
+    ensures { Resends shard now server.old server.new (resent result) }
+{
+    server.tick_shard(shard, now)
+}
+
+fn notify(server: &mut Server, task: &mut Task, shard: u8, now: u64, random: u16) -> Notified
+    requires shard { shard < 8 }
+    requires reachable { IsReachable server.old }
+    ensures { Notifies shard now random server.old server.new (is_given result) (notification_in result) }
+{
+    match server.due(shard, now) {
+        None => Notified::Nobody,
+        Some(job) => {
+            task.job = job;
+            task.begin();
+            tell(server, now, random, task)
+        }
+    }
+}
+
+// Works a turn off, which a shard has just given.
+fn tell(server: &mut Server, now: u64, random: u16, task: &mut Task) -> Notified
+    requires { IsBegun server.old task.old }
+    ensures turns { Turns now random server.old task.old server.new (notification_in result) }
+    ensures given { is_given result ≡ true }
+{
+    server.take(task);
+    server.fresh(now, task);
+    let starved = task.needs_id();
+    let sent = server.note(now, random, task);
+    server.give_up(now, task);
+    told(sent, starved)
+}
+
+// What became of a turn that sent this, and for which a message id was free or not.
+fn told(sent: Option<Emission>, starved: bool) -> Notified
+    ensures sent { notification_in result ≡ sent }
+    ensures given { is_given result ≡ true }
+{
+    match sent {
+        Some(emission) => Notified::Sent(emission),
+        None if starved => Notified::Starved,
+        None => Notified::Unsent,
     }
 }
 

@@ -6,6 +6,7 @@ ghost use Rattle.fc_registry.specs.Watches.{signal_call, signalled};
 ghost use Rattle.fc_core.specs.declared.event.Event.{Event};
 ghost use Rattle.fc_core.specs.Exchanges.{advanced, first_front};
 ghost use Rattle.fc_core.specs.Heads.{no_words};
+ghost use Rattle.fc_core.specs.Legal.{resent};
 ghost use Rattle.fc_core.specs.Receiving.{after_delivered, delivered, emission_if, heard};
 ghost use Rattle.fc_server.specs.States.{Responds, AtWork, Does, DrawsId};
 ghost use Rattle.fc_server.specs.Steps.{shard_asked, shard_resent, shard_ticked, shard_turn};
@@ -115,17 +116,14 @@ impl Server {
     }
 
     /// Advances a shard to a moment in milliseconds: what it sends again, if anything.
-    pub fn tick_shard(&mut self, shard: u8, now: u64) -> Option<Emission>
+    pub fn tick_shard(&mut self, shard: u8, now: u64) -> Ticked
         requires { shard < length self.old.shards }
-        ensures sent { result ≡ shard_resent now (shard_at self.old.shards shard) }
+        ensures sent { resent result ≡ shard_resent now (shard_at self.old.shards shard) }
         ensures front { self.new.front ≡ self.old.front }
         ensures shards { self.new.shards ≡ slice_set self.old.shards shard (shard_ticked now (shard_at self.old.shards shard)) }
         ensures words { self.new.words ≡ self.old.words }
     {
-        match self.shards[usize::from(shard)].tick(now) {
-            Ticked::Resend(emission) => Some(emission),
-            Ticked::Removed | Ticked::Quiet => None,
-        }
+        self.shards[usize::from(shard)].tick(now)
     }
 
     /// A task looks at the head word of a slot.

@@ -2,7 +2,6 @@
 use Rattle.std.specs.Prelude.{◌≡◌, ℕ, List, [], Option, Some, None}
 use Rattle.std.specs.Borrow.{Bor}
 use Rattle.coap_msg.specs.declared.types.Emission.{Emission}
-use Rattle.fc_core.specs.declared.event.Event.TheVariants.{Deliver as Delivers}
 use Rattle.fc_core.specs.Exchanges.{advanced}
 use Rattle.fc_core.specs.Receiving.{delivered}
 use Rattle.fc_server.specs.Serving.{Hears, Passes}
@@ -20,7 +19,7 @@ output_of (Some emission) = printed emission
 pub record IsHeard (now peer : ℕ) (bytes : List ℕ) (old : ServerState) (sent : Option Emission) (new : ServerState) : Type 0 where
   pub borrow : Bor (List ℕ)
   pub bytes_are : borrow.now ≡ bytes
-  pub heard : Hears now (Delivers now (endpoint_of peer) borrow) (delivered (advanced old.front now) (endpoint_of peer) bytes) old new sent
+  pub heard : Hears now (endpoint_of peer) borrow (delivered (advanced old.front now) (endpoint_of peer) bytes) old new sent
 
 -- time passed, whatever the history so far, and nothing was sent
 pub record IsPassed (now : ℕ) (old : ServerState) (sent : Option Emission) (new : ServerState) : Type 0 where

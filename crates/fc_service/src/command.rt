@@ -10,8 +10,12 @@ number of the peer's address 127.0.0.peer (0 to 255), and the datagram in hex di
 A line `now - -` says that time passes. Each datagram that is sent is printed as
 `peer hex`. The line `0 1 40000001` is answered by `1 70000001`.
 
+After each line observers are notified of changes, and notifications that weren't acknowledged
+are sent again.
+
 With `--workers W` the job of each line is worked off by one of W threads, before the next
-line is read; without, by the one thread there is. What is printed is the same.
+line is read; without, by the one thread there is. What is printed is the same, but that
+W threads notify no observers yet.
 
 Exit status: 0 at the end of the input; 2 where a line or the command line is bad; 3 where
 reading or writing failed, or memory was refused.";
@@ -19,7 +23,7 @@ reading or writing failed, or memory was refused.";
 /// What `--help` tells of `fcd serve` and of how it ends.
 pub const SERVING: &str = "\
 The server speaks CoAP on UDP, at 127.0.0.1 alone. A thread receives datagrams, and W others
-work jobs off. After N datagrams the server ends, where N isn't 0; it ends with a line on
+work jobs off; where W is 1 it does both, and only then observers are notified yet. After N datagrams the server ends, where N isn't 0; it ends with a line on
 standard error, `sent S failed F`, of how many replies went out and how many didn't, where
 `--log info` asks for it. `fcd serve --port 5683` serves at the port of CoAP, without end.
 

@@ -23,5 +23,6 @@ pub mod play;
 pub mod pool;
 pub mod replies;
 pub mod serve;
+mod settle;
 pub mod socket;
 pub mod workers;

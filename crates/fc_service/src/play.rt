@@ -1,11 +1,13 @@
 //! Playing lines: each is carried out, and what it sends is printed.
-ghost use Rattle.std.specs.Prelude.{◌≡◌, ◌≤◌, Option, OnOk};
+ghost use Rattle.std.specs.Prelude.{◌≡◌, ◌≤◌, List, Option, OnOk};
 ghost use Rattle.std.specs.Io.KnownBytes.{Appends};
 ghost use Rattle.coap_msg.specs.declared.types.Emission.{Emission as Sent};
 ghost use Rattle.fc_registry.specs.Slots.{last_serial};
 ghost use Rattle.fc_core.specs.Receiving.{emission_if};
 ghost use Rattle.fc_service.specs.Playing.{output_of, IsCarriedOut};
+ghost use Rattle.fc_service.specs.Settling.{AreSteps, Step, printed_steps};
 
+use crate::settle::{STEPS, Settling};
 use coap_msg::Emission;
 use fc_cli::status::{Status, tell};
 use fc_cli::stop::Stop;
@@ -17,7 +19,8 @@ use std::alloc::{AllocError, Global};
 use std::io;
 use std::io::{BufRead, Write};
 
-/// Reads lines, carries out each in turn on an engine of its own, and prints what each sends before it reads the next.
+/// Reads lines, carries out each in turn on an engine of its own, and prints what each sends before it reads the next: what the datagram is
+/// answered, and then what is sent again, and what observers are told, at the line's moment.
 /// It ends `Done` at the end of the input; `Bad` where a line is bad, which `err` is told by its number from 1; and
 /// `Failed` where reading or writing failed, or there was no memory for the engine or a line, which `err` is told as well.
 pub fn play<R: BufRead + Drop, W: Write, E: Write>(
@@ -66,7 +69,10 @@ fn play_line<W: Write>(
     out: &mut W,
 ) -> Result<(), Stop> {
     match parse(alloc, text) {
-        Ok(line) => carry_out(alloc, engine, reply, &line, out).map_err(Stop::Output),
+        Ok(line) => {
+            carry_out(alloc, engine, reply, &line, out).map_err(Stop::Output)?;
+            settle(engine, moment(&line), out).map_err(Stop::Output)
+        }
         Err(LineError::Bad) => Err(Stop::BadLine(number)),
         Err(LineError::NoMemory) => Err(Stop::Memory(AllocError)),
     }
@@ -93,6 +99,28 @@ fn carry_out<W: Write>(
             print_if(out, sent, reply)
         }
     }
+}
+
+// The moment of a line, in milliseconds.
+fn moment(line: &Line) -> u64 {
+    match line {
+        Line::Tick { now } | Line::Deliver { now, .. } => *now,
+    }
+}
+
+// Prints what is sent again, and what observers are told, at a moment in milliseconds.
+fn settle<W: Write>(engine: &mut Engine, now: u64, out: &mut W) -> io::Result<()>
+    ensures { (steps : List Step) × AreSteps now 0 steps engine.old engine.new
+        × OnOk result (Appends (W.contents out.old) (W.contents out.new) (printed_steps steps)) }
+{
+    let mut settling = Settling::new();
+    for _ in 0..STEPS {
+        match settling.next(engine, now, 0) {
+            Some(emission) => print(out, &emission)?,
+            None => break,
+        }
+    }
+    Ok(())
 }
 
 // Prints an emission, where it is sent.

@@ -1,15 +1,16 @@
 //! A server on a socket: datagrams are received on one thread, and their jobs are worked off by others, or by the same.
-ghost use Rattle.std.specs.Prelude.{◌≡◌, ◌≤◌, ◌⊎◌, is_some};
-ghost use Rattle.fc_core.specs.declared.event.Event.{Event};
+ghost use Rattle.std.specs.Prelude.{◌≡◌, ◌≤◌, ◌%◌, ◌⊎◌, List, is_some};
 ghost use Rattle.fc_core.specs.Exchanges.{advanced};
 ghost use Rattle.fc_core.specs.Receiving.{delivered, emission_if};
 ghost use Rattle.fc_registry.specs.Slots.{last_serial};
 ghost use Rattle.fc_server.specs.Serving.{Hears};
+ghost use Rattle.fc_service.specs.Settling.{AreSteps, Step};
 ghost use Rattle.fc_cli.specs.declared.status.Status.TheVariants.{Done, Failed};
 
 use crate::clock::Elapsed;
 use crate::pool::{Begin, Feeder, Intake, Pool, run_pool};
 use crate::replies::Replies;
+use crate::settle::{STEPS, Settling};
 use crate::socket::{Replying, Sink, Source, open};
 use coap_msg::types::DATAGRAM;
 use coap_msg::{Emission, Endpoint};
@@ -74,7 +75,8 @@ pub fn serve<R: Threads + Wait + Clock + Net + Sync, L: Log, E: Write>(
 
 /// Serves datagrams of a source, on a new server of empty slots, until so many were received: one that needs no job is answered
 /// at once, and the jobs of others are worked off by workers, each in a thread of its own. One worker is this thread: it works each
-/// datagram off before it receives the next. Where none comes in time, time passes. Then the workers work off the jobs that are
+/// datagram off before it receives the next, and after each it sends again what is late and notifies the observers that are due, which
+/// several workers don't yet. Where none comes in time, time passes. Then the workers work off the jobs that are
 /// left, and `log` is told how many replies went to the sink and how many couldn't be sent: a record `sent 2 failed 0` of level info.
 ///
 /// It fails, and `err` is told why, where the clock couldn't be read or there was no memory at the start.
@@ -217,8 +219,23 @@ impl<'a, S: Source, K: Sink, M: Moments> Receiver<'a, S, K, M> {
                 }
                 None => engine.tick(now),
             }
+            settle(&mut engine, now, self.sink, &mut replies);
         }
         Ok(replies)
+    }
+}
+
+// Sends what is late again, and notifies the observers that are due, at a moment in milliseconds, whose low bits are the random word.
+fn settle<K: Sink>(engine: &mut Engine, now: u64, sink: &K, replies: &mut Replies)
+    ensures { (steps : List Step) × AreSteps now (now % 65536) steps engine.old engine.new }
+{
+    let random = (now % 0x1_0000) as u16;
+    let mut settling = Settling::new();
+    for _ in 0..STEPS {
+        match settling.next(engine, now, random) {
+            Some(emission) => replies.count_if_any(Some(sink.send(&emission))),
+            None => return,
+        }
     }
 }
 
@@ -232,7 +249,7 @@ fn answer<K: Sink>(
     reply: &mut Emission,
     sink: &K,
 ) -> Option<bool>
-    ensures { Hears now (Event.Deliver now from bytes.entry) (delivered (advanced engine.old.front now) from bytes.now)
+    ensures { Hears now from bytes.entry (delivered (advanced engine.old.front now) from bytes.now)
         engine.old engine.new (emission_if (is_some result) reply.new) }
 {
     if engine.hear(alloc, now, from, bytes, reply) {

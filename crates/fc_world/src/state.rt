@@ -10,6 +10,7 @@ ghost use Rattle.fc_world.specs.Parts.{parts};
 
 use coap_msg::{Emission, Endpoint};
 use fc_core::{Delivered, Event, Task};
+use fc_observe::Ticked;
 use fc_registry::SHARDS;
 use fc_server::Server;
 use std::alloc::{AllocError, Global};
@@ -73,10 +74,12 @@ impl State {
         requires { length self.old.server.shards ≡ 8 }
         ensures { Done (Event.ShardTick shard now) (parts self.old) result (parts self.new) }
     {
-        if shard < SHARDS {
-            self.server.tick_shard(shard, now)
-        } else {
-            None
+        if shard >= SHARDS {
+            return None;
+        }
+        match self.server.tick_shard(shard, now) {
+            Ticked::Resend(emission) => Some(emission),
+            Ticked::Removed | Ticked::Quiet => None,
         }
     }
 

@@ -33,6 +33,8 @@ mod notification_tests;
 #[cfg(test)]
 mod observer_tests;
 #[cfg(test)]
+mod observing_tests;
+#[cfg(test)]
 mod opcode_tests;
 #[cfg(test)]
 mod overtaking_tests;

@@ -14,7 +14,7 @@ use std::test::Fail;
 const LAST_SERIAL: u64 = 9_223_372_036_854_775_807;
 
 // Whether a play ends in this status, and writes just this to its output and to where faults are told.
-fn plays<R: BufRead + Drop>(
+pub(crate) fn plays<R: BufRead + Drop>(
     alloc: Global,
     input: R,
     first_serial: u64,

@@ -1,0 +1,31 @@
+use Rattle.std.proofs.Common.{Option, [], ◌∷◌, ◌++◌, length, sym, subst}
+use Rattle.coap_msg.specs.declared.types.Emission.{Emission}
+use Rattle.fc_server.specs.Serving.{Turned}
+use Rattle.fc_server.proofs.Served.{at_work, drew_on, given_up_on, noted_on, took_on}
+use Rattle.fc_server.proofs.engine.tell.Goals as goal
+
+pub fresh-requires : goal.fresh-requires
+fresh-requires c =
+    let rest = c.requires.rest in
+    at_work rest (took_on rest c.requires.serves c.take.result (c.take.ensures (length rest)))
+
+pub note-sent-requires : goal.note-sent-requires
+note-sent-requires c =
+    let rest = c.requires.rest in
+    let took = took_on rest c.requires.serves c.take.result (c.take.ensures (length rest)) in
+    at_work rest (drew_on rest took c.args.now c.fresh.ensures)
+
+pub give_up-requires : goal.give_up-requires
+give_up-requires c =
+    let rest = c.requires.rest in
+    let took = took_on rest c.requires.serves c.take.result (c.take.ensures (length rest)) in
+    let drew = drew_on rest took c.args.now c.fresh.ensures in
+    at_work rest (noted_on rest drew c.args.now c.args.random c.note-sent.result (c.note-sent.ensures (length rest)))
+
+pub returns-clause-turns : goal.returns-clause-turns
+returns-clause-turns c = λ h rest v.
+    let took = took_on rest v c.take.result (c.take.ensures (length rest)) in
+    let drew = drew_on rest took c.args.now c.fresh.ensures in
+    let noted = noted_on rest drew c.args.now c.args.random c.note-sent.result (c.note-sent.ensures (length rest)) in
+    let up = given_up_on rest noted c.args.now (c.give_up.ensures (length rest)) in
+    subst (λ (out : Option Emission). Turned h (length rest) c.args.now c.args.random c.give_up.new.self out) (sym c.told.ensures.sent) (record { memory = c.take.result; tasks = rest ++ c.give_up.new.task ∷ []; serves = up })

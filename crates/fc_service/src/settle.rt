@@ -1,0 +1,98 @@
+//! What follows a datagram or a moment on a server of one thread: what is late is sent again, and observers that are due are notified.
+ghost use Rattle.std.specs.Prelude.{◌≡◌, ◌<◌, Bool, List};
+ghost use Rattle.fc_server.specs.Serving.{Notifies, Resends};
+ghost use Rattle.std.specs.Option.{option_to_list};
+ghost use Rattle.fc_service.specs.Settling.{AreSteps, IsStep, Step, sent_in_step, sent_in_steps};
+
+use coap_msg::Emission;
+use fc_observe::Ticked;
+use fc_registry::SHARDS;
+use fc_server::Engine;
+use fc_server::engine::Notified;
+
+/// More steps than there are at one moment: each of 32 observers of a slot is sent one notification again at most, and notified once, and
+/// a shard tells once of each that there is nothing left.
+pub(crate) const STEPS: u16 = 8192;
+
+/// Where a server is in what is left to do at a moment: at a shard, whose late notifications are sent again first, until there is none,
+/// and whose observers are notified then, until none is due.
+#[derive(Drop)]
+pub(crate) struct Settling {
+    shard: u8,
+    notifies: bool,
+}
+
+impl Settling {
+    /// At the first shard.
+    pub(crate) fn new() -> Settling {
+        Settling {
+            shard: 0,
+            notifies: false,
+        }
+    }
+
+    /// The next that is to be sent at a moment in milliseconds, shard after shard; none where nothing is left, or no message id is free.
+    /// The random word says how long a confirmable notification is waited for.
+    pub(crate) fn next(&mut self, engine: &mut Engine, now: u64, random: u16) -> Option<Emission>
+        ensures { (steps : List Step) × AreSteps now random steps engine.old engine.new
+            × (sent_in_steps steps ≡ option_to_list result) }
+    {
+        for _ in 0..STEPS {
+            if self.shard >= SHARDS {
+                return None;
+            }
+            match self.step(engine, now, random) {
+                Some(emission) => return Some(emission),
+                None => {}
+            }
+        }
+        None
+    }
+
+    // Asks the shard that it is at.
+    fn step(&mut self, engine: &mut Engine, now: u64, random: u16) -> Option<Emission>
+        requires { self.old.shard < 8 }
+        ensures { (step : Step) × IsStep now random step engine.old engine.new × (sent_in_step step ≡ result) }
+    {
+        if self.notifies {
+            self.notify(engine, now, random)
+        } else {
+            self.resend(engine, now)
+        }
+    }
+
+    // Has the first late notification of its shard sent again, or goes on to those that are due.
+    fn resend(&mut self, engine: &mut Engine, now: u64) -> Option<Emission>
+        requires { self.old.shard < 8 }
+        ensures { Resends self.old.shard now engine.old engine.new result }
+    {
+        match engine.resend(self.shard, now) {
+            Ticked::Resend(emission) => Some(emission),
+            Ticked::Removed => None,
+            Ticked::Quiet => {
+                self.notifies = true;
+                None
+            }
+        }
+    }
+
+    // Has the first observer of its shard that is due notified, or goes on to the next shard; where no message id is free, to the end.
+    fn notify(&mut self, engine: &mut Engine, now: u64, random: u16) -> Option<Emission>
+        requires { self.old.shard < 8 }
+        ensures { (given : Bool) × Notifies self.old.shard now random engine.old engine.new given result }
+    {
+        match engine.notify(self.shard, now, random) {
+            Notified::Sent(emission) => Some(emission),
+            Notified::Unsent => None,
+            Notified::Starved => {
+                self.shard = SHARDS;
+                None
+            }
+            Notified::Nobody => {
+                self.shard += 1;
+                self.notifies = false;
+                None
+            }
+        }
+    }
+}
