@@ -44,17 +44,17 @@ use Rattle.fc_core.proofs.Watches.{after_append}
 -- ---- the calls of an event of a job
 
 -- none, those of a commit that has nothing to write, of the taking of a turn, of its notification, or that of a turn that is given up
-pub data CallsBy (e : Event) (at : Stage) (cs : List ObserverCall) : Type 0 where
-  NoCall : (is : cs ≡ []) → CallsBy e at cs
-  OfCommit : (k now n moment : ℕ) (t : Ticket) (event : e ≡ Commit k now) (stands : at ≡ ToCommit n t) (is : cs ≡ observe_calls moment t) → CallsBy e at cs
-  OfTaking : (turn : Turn) (moment : ℕ) (present : Option Present) (w : ObserverList) (is : cs ≡ turn_calls turn moment present w) → CallsBy e at cs
-  OfNote : (turn : Turn) (id random moment : ℕ) (found : Option Ticket) (sent : Option Emission) (is : cs ≡ note_calls turn id random moment found sent) → CallsBy e at cs
-  OfGiveUp : (turn : Turn) (moment : ℕ) (is : cs ≡ GiveUpTurn turn moment ∷ []) → CallsBy e at cs
+pub data CallsBy (e : Event) (ws : Around) (at : Stage) (cs : List ObserverCall) : Type 0 where
+  NoCall : (is : cs ≡ []) → CallsBy e ws at cs
+  OfCommit : (k now n moment : ℕ) (t : Ticket) (event : e ≡ Commit k now) (stands : at ≡ ToCommit n t) (is : cs ≡ observe_calls moment t) → CallsBy e ws at cs
+  OfTaking : (turn : Turn) (moment : ℕ) (present : Option Present) (w : ObserverList) (is : cs ≡ turn_calls turn moment present w) → CallsBy e ws at cs
+  OfNote : (k now random id : ℕ) (turn : Turn) (found : Option Ticket) (event : e ≡ Note k now random) (stands : at ≡ ToTell turn (turns.ToNote found id)) (is : cs ≡ note_calls turn id random (max ws.moment now) found (note_at turn id (max ws.moment now) found ws.watch)) → CallsBy e ws at cs
+  OfGiveUp : (turn : Turn) (moment : ℕ) (is : cs ≡ GiveUpTurn turn moment ∷ []) → CallsBy e ws at cs
 
 abbrev at : Job → Slot → Around → Stage → Scene
 at job slot ws stage = record { job = job; slot = slot; around = ws; stage = stage }
 
-committed_calls : (k now n : ℕ) (t : Ticket) (ws : Around) (o : CommitOutcome) → CallsBy (Commit k now) (ToCommit n t) (committed o n t now ws).calls
+committed_calls : (k now n : ℕ) (t : Ticket) (ws : Around) (o : CommitOutcome) → CallsBy (Commit k now) ws (ToCommit n t) (committed o n t now ws).calls
 committed_calls k now n t ws Keeps = OfCommit k now n (max ws.moment now) t refl refl refl
 committed_calls k now n t ws Writes = NoCall refl
 committed_calls k now n t ws Overtakes = NoCall refl
@@ -65,11 +65,11 @@ installed_calls (Accepts p) slot = refl
 installed_calls (Breaks rule k) slot = refl
 installed_calls Untypable slot = refl
 
-verified_calls : (memory : Bool) (x : Scene) → (verified memory x).calls ≡ []
+pub verified_calls : (memory : Bool) (x : Scene) → (verified memory x).calls ≡ []
 verified_calls true x = installed_calls (judged (image_of x.job.ask)) x.slot
 verified_calls false x = refl
 
-pub row_calls : (e : Event) (job : Job) (slot : Slot) (ws : Around) (s : Stage) → CallsBy e s (row e (at job slot ws s)).calls
+pub row_calls : (e : Event) (job : Job) (slot : Slot) (ws : Around) (s : Stage) → CallsBy e ws s (row e (at job slot ws s)).calls
 row_calls (Peek k n) job slot ws ToMatch = NoCall refl
 row_calls (Peek k n) job slot ws (ToList seen) = NoCall refl
 row_calls (Peek k n) job slot ws other = NoCall refl
@@ -90,7 +90,7 @@ row_calls (Answer k now) job slot ws (ToAnswer content) = NoCall refl
 row_calls (Answer k now) job slot ws other = NoCall refl
 row_calls (Fresh k now) job slot ws (ToTell turn (turns.ToDraw found)) = NoCall refl
 row_calls (Fresh k now) job slot ws other = NoCall refl
-row_calls (Note k now random) job slot ws (ToTell turn (turns.ToNote found id)) = OfNote turn id random (max ws.moment now) found (note_at turn id (max ws.moment now) found ws.watch) refl
+row_calls (Note k now random) job slot ws (ToTell turn (turns.ToNote found id)) = OfNote k now random id turn found refl refl refl
 row_calls (Note k now random) job slot ws other = NoCall refl
 row_calls (GiveUp k now) job slot ws (ToTell turn needs) = OfGiveUp turn (max ws.moment now) refl
 row_calls (GiveUp k now) job slot ws other = NoCall refl
@@ -149,14 +149,14 @@ note_within : (turn : Turn) (id random moment : ℕ) (found : Option Ticket) (se
 note_within turn id random moment found None = (tt, tt)
 note_within turn id random moment found (Some e) = (told_within (keeps_observer found) turn id random moment (serial_told found) e.bytes, (tt, tt))
 
-row_within : (e : Event) (job : Job) (slot : Slot) (s : Stage) (cs : List ObserverCall) → FitsStage job slot s → AskWithin job.ask → CallsBy e s cs → Each CallWithin cs
-row_within e job slot s cs f w (NoCall is) = subst (Each CallWithin) (sym is) tt
-row_within e job slot s cs f w (OfCommit k now n moment t event stands is) =
+row_within : (e : Event) (job : Job) (slot : Slot) (ws : Around) (s : Stage) (cs : List ObserverCall) → FitsStage job slot s → AskWithin job.ask → CallsBy e ws s cs → Each CallWithin cs
+row_within e job slot ws s cs f w (NoCall is) = subst (Each CallWithin) (sym is) tt
+row_within e job slot ws s cs f w (OfCommit k now n moment t event stands is) =
     let fits : FitsStage job slot (ToCommit n t) = subst (FitsStage job slot) stands f in
     subst (Each CallWithin) (sym is) (observed_within (is_registration t) (is_cancellation t) moment t (subst RequestWithin (sym fits.1.request) (request_within job.ask w)))
-row_within e job slot s cs f w (OfTaking turn moment present t is) = subst (Each CallWithin) (sym is) (miss_within (is_out_at turn moment t) turn present moment)
-row_within e job slot s cs f w (OfNote turn id random moment found sent is) = subst (Each CallWithin) (sym is) (note_within turn id random moment found sent)
-row_within e job slot s cs f w (OfGiveUp turn moment is) = subst (Each CallWithin) (sym is) (tt, tt)
+row_within e job slot ws s cs f w (OfTaking turn moment present t is) = subst (Each CallWithin) (sym is) (miss_within (is_out_at turn moment t) turn present moment)
+row_within e job slot ws s cs f w (OfNote k now random id turn found event stands is) = subst (Each CallWithin) (sym is) (note_within turn id random (max ws.moment now) found (note_at turn id (max ws.moment now) found ws.watch))
+row_within e job slot ws s cs f w (OfGiveUp turn moment is) = subst (Each CallWithin) (sym is) (tt, tt)
 
 one_within : (b : Bool) (c : ObserverCall) → CallWithin c → Each CallWithin (if b then c ∷ [] else [])
 one_within true c w = (w, tt)
@@ -170,7 +170,7 @@ module _ (s : Seen) (a : IsSound s) where
   named_if : (e : Event) (k : ℕ) (b : Bool) → Each CallWithin (if b then (row e (scene s k)).calls else [])
   named_if e k true =
       let n = (job s k).origin.slot in
-      row_within e (job s k) (slot_at s n) (stage s k) (row e (scene s k)).calls (a.stages k) (a.within k).1 (row_calls e (job s k) (slot_at s n) (around s n) (stage s k))
+      row_within e (job s k) (slot_at s n) (around s n) (stage s k) (row e (scene s k)).calls (a.stages k) (a.within k).1 (row_calls e (job s k) (slot_at s n) (around s n) (stage s k))
   named_if e k false = tt
 
   named_within : (e : Event) (o : Option ℕ) (n : ℕ) → Each CallWithin (calls_named o e s n)

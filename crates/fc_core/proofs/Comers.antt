@@ -12,7 +12,7 @@ use Rattle.fc_observe.specs.Laws.{RegistersNone}
 use Rattle.fc_observe.proofs.Hearing.{stays_gone}
 use Rattle.fc_observe.specs.declared.entry.Turn.{Turn}
 use Rattle.fc_registry.specs.Calls.{is_cancellation, observe_calls, observe_calls_by, is_registration, is_out_at, miss_calls}
-use Rattle.fc_registry.specs.Notes.{keeps_observer, note_calls, serial_told, told_call}
+use Rattle.fc_registry.specs.Notes.{keeps_observer, note_at, note_calls, serial_told, told_call}
 use Rattle.fc_registry.specs.Slots.{Present, Ticket}
 use Rattle.fc_registry.specs.Watches.{signal_call}
 use Rattle.fc_core.specs.declared.event.Event.{Event}
@@ -48,7 +48,7 @@ note_registers : (turn : Turn) (id random moment : ℕ) (found : Option Ticket) 
 note_registers turn id random moment found None to token = (refl, tt)
 note_registers turn id random moment found (Some e) to token = (told_registers (keeps_observer found) turn id random moment (serial_told found) e.bytes to token, (refl, tt))
 
-none_in : (e : Event) (s : Seen) (n : ℕ) (to : Endpoint) (token : List ℕ) → RegistersNone to token (calls_in e s n)
+pub none_in : (e : Event) (s : Seen) (n : ℕ) (to : Endpoint) (token : List ℕ) → RegistersNone to token (calls_in e s n)
 none_in (Due shard now) s n to token =
     let at = max (s.shard_moment shard) now in
     none_if (is_place_of (due_in s shard at) shard n) (NextDue at (slot_at s n).noticed) to token refl
@@ -76,10 +76,12 @@ module _ (to : Endpoint) (token : List ℕ) (moment : ℕ) (t : Ticket) where
 
 module _ (r : Entry) (s : Seen) (n : ℕ) (to : Endpoint) (token : List ℕ) where
   -- the calls of the event that names this job
-  by_row : (k : ℕ) (cs : List ObserverCall) → names r.event ≡ Some k → slot_of s k ≡ n → CallsBy r.event (stage s k) cs → RegistersNone to token cs ⊎ Registers r s n to token
+  by_row : (k : ℕ) (cs : List ObserverCall) → names r.event ≡ Some k → slot_of s k ≡ n → CallsBy r.event (around s (slot_of s k)) (stage s k) cs → RegistersNone to token cs ⊎ Registers r s n to token
   by_row k cs named slot (NoCall is) = inl (subst (RegistersNone to token) (sym is) tt)
   by_row k cs named slot (OfTaking turn moment present t is) = inl (subst (RegistersNone to token) (sym is) (miss_registers (is_out_at turn moment t) turn present moment to token))
-  by_row k cs named slot (OfNote turn id random moment found sent is) = inl (subst (RegistersNone to token) (sym is) (note_registers turn id random moment found sent to token))
+  by_row k cs named slot (OfNote j now random id turn found event stands is) =
+      let moment = max (around s (slot_of s k)).moment now in
+      inl (subst (RegistersNone to token) (sym is) (note_registers turn id random moment found (note_at turn id moment found (around s (slot_of s k)).watch) to token))
   by_row k cs named slot (OfGiveUp turn moment is) = inl (subst (RegistersNone to token) (sym is) (refl, tt))
   by_row k cs named slot (OfCommit j now count moment t event stands is) =
       let same : k ≡ j = cc (sym named ∙ ap names event) in
@@ -95,6 +97,13 @@ module _ (r : Entry) (s : Seen) (n : ℕ) (to : Endpoint) (token : List ℕ) whe
   by_name : (o : Option ℕ) → names r.event ≡ o → RegistersNone to token (calls_named o r.event s n) ⊎ Registers r s n to token
   by_name None named = inl tt
   by_name (Some k) named = by_slot k (slot_of s k == n) named refl
+
+  -- an event that doesn't register this client
+  pub registers_none : (Registers r s n to token → ⊥) → RegistersNone to token (calls_named (names r.event) r.event s n)
+  registers_none not = ⊎_elim
+      (λ (none : RegistersNone to token (calls_named (names r.event) r.event s n)). none)
+      (λ (own : Registers r s n to token). absurd (not own))
+      (by_name (names r.event) refl)
 
   -- where the event doesn't register it, it stays away
   stays_away : RegistersNone to token (calls_named (names r.event) r.event s n) → is_held to token (watch s n) ≡ false → is_held to token (watch (and_then r s) n) ≡ false

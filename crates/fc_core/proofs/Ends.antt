@@ -12,7 +12,7 @@ use Rattle.fc_core.specs.declared.stage.Stage.{Stage}
 use Rattle.fc_core.specs.declared.stage.Stage.TheVariants.{ToMatch, ToTake, ToCommit, ToInstall, ToRemove, ToDescribe, ToList, ToRaise, ToAnswer, Gone, ToTell}
 use Rattle.fc_core.specs.declared.stage.TurnStage.TheVariants as turns
 use Rattle.fc_core.specs.Contents.{Content, Unavailable}
-use Rattle.fc_core.specs.History.{around, Entry, History, Then, Seen, seen, and_then, did, job, slot_at, stage, task_at}
+use Rattle.fc_core.specs.History.{around, Entry, History, Then, Seen, seen, and_then, did, job, scene, slot_at, stage, task_at}
 use Rattle.fc_core.specs.Laws.{HasCome, Taking, answers_of, gives, is_answered, is_named, later, slot_of, takings_of}
 use Rattle.fc_core.specs.Stages.{Around, Scene, first_by, row, took}
 use Rattle.fc_core.proofs.Telling.{after_turn}
@@ -161,10 +161,11 @@ row_settled (GiveUp k now) job slot ws (ToTell turn needs) f = tt
 row_settled (Lose k) job slot ws s f = tt
 row_settled other job slot ws s f = f
 
-settled_given : (e : Event) (job : Job) (slot : Slot) (cs : List Change) (s : Stage) → IsSettled s → gives e s job slot cs ≡ []
-settled_given (Take k true) job slot cs (ToTake count) f = absurd f
-settled_given (Take k false) job slot cs s f = refl
-settled_given other job slot cs s f = refl
+settled_given : (e : Event) (job : Job) (slot : Slot) (ws : Around) (cs : List Change) (s : Stage) → IsSettled s → gives e (at job slot ws s) cs ≡ []
+settled_given (Take k true) job slot ws cs (ToTake count) f = absurd f
+settled_given (Take k true) job slot ws cs (ToTell turn turns.ToTake) f = absurd f
+settled_given (Take k false) job slot ws cs s f = refl
+settled_given other job slot ws cs s f = refl
 
 none_more : (b : Bool) (new ts : List Taking) → new ≡ [] → (if b then new ++ ts else ts) ≡ ts
 none_more true new ts is = ap (λ (l : List Taking). l ++ ts) is
@@ -176,7 +177,7 @@ settled_later [] h k come f = refl
 settled_later (r ∷ rs) h k come f =
     let s = seen h in
     settled_later rs (Then h r) k (still_here r s k come) (kept_by IsSettled row_settled r s k (task_at (and_then r s).tasks k) (becomes r s k) come f)
-    ∙ none_more (is_named k r.event) (gives r.event (stage s k) (job s k) (slot_at s (slot_of s k)) (s.changes (slot_of s k))) (takings_of h k) (settled_given r.event (job s k) (slot_at s (slot_of s k)) (s.changes (slot_of s k)) (stage s k) f)
+    ∙ none_more (is_named k r.event) (gives r.event (scene s k) (s.changes (slot_of s k))) (takings_of h k) (settled_given r.event (job s k) (slot_at s (slot_of s k)) (around s (slot_of s k)) (s.changes (slot_of s k)) (stage s k) f)
 
 pub none_taken_later : (h : History) (rs : List Entry) (k : ℕ) (content : Content) → stage (seen h) k ≡ ToAnswer content → takings_of (later h rs) k ≡ takings_of h k
 none_taken_later h rs k content is = settled_later rs h k (is_here (seen h) k (ToAnswer content) is (λ e. absurd (cc e))) (subst IsSettled (sym is) tt)

@@ -32,3 +32,10 @@ pub mod FirstBlocks
 pub mod Published
 pub mod Deletions
 pub mod Bodies
+pub mod Apart
+pub mod Notices
+pub mod Told
+pub mod Stayers
+pub mod Clocks
+pub mod Climbing
+pub mod TurnBlocks

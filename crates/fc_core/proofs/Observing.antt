@@ -33,7 +33,7 @@ both : (a b : Bool) → (a && b) ≡ true → (a ≡ true) × (b ≡ true)
 both true b e = (refl, e)
 both false b e = absurd (cc)
 
-value_is : (value : ℕ) (o : Option ℕ) → has_observe value o ≡ true → o ≡ Some value
+pub value_is : (value : ℕ) (o : Option ℕ) → has_observe value o ≡ true → o ≡ Some value
 value_is value None e = absurd (cc)
 value_is value (Some own) e = ap Some (eqb-true own value e)
 
@@ -91,7 +91,7 @@ get_registers s k now n t o is get a =
     ∙ ap (λ (b : Bool). observers m (observe_calls_by b (is_cancellation t) (max (s.shard_moment (m % 8)) now) t ++ s.calls m)) (registers_asked t a)
 
 -- an entry is of its own endpoint and token
-own : (o : Entry) → is_entry_of o.endpoint o.token.items o ≡ true
+pub own : (o : Entry) → is_entry_of o.endpoint o.token.items o ≡ true
 own o = λ i. equal_endpoints o.endpoint o.endpoint refl i && same_bytes o.token.items i
 
 or_true : (b : Bool) → (b || true) ≡ true

@@ -1,7 +1,8 @@
 -- What a search of places finds.
-use Rattle.std.proofs.Common.{◌≡◌, ℕ, zero, suc, ◌+◌, ◌<◌, ◌≤◌, arith, Bool, true, false, Some, None, refl, sym, ap, ◌∙◌, ⊎_elim, if◌then◌else◌}
-use Rattle.std.proofs.lemmas.Bool.{cases_lt}
+use Rattle.std.proofs.Common.{◌≡◌, ℕ, zero, suc, ◌+◌, ◌*◌, ◌<◌, ◌≤◌, arith, Bool, true, false, Option, Some, None, refl, sym, ap, ◌∙◌, ⊎_elim, if◌then◌else◌}
+use Rattle.std.proofs.lemmas.Bool.{cases_lt, eqb-true}
 use Rattle.fc_registry.specs.Watches.{place_from}
+use Rattle.fc_core.specs.History.{is_place_of}
 
 below_by : (p : ℕ → Bool) (n k j : ℕ) (b : Bool) → (place_from p n (k + 1) ≡ Some j → j < (k + 1) + n) → (if b then Some k else place_from p n (k + 1)) ≡ Some j → j < k + suc n
 below_by p n k j true later e = let is : k ≡ j = cc in omega (arith, is)
@@ -44,3 +45,8 @@ none_by p n k m false here later e le lt = ⊎_elim
 pub none_passes : (p : ℕ → Bool) (n k m : ℕ) → place_from p n k ≡ None → k ≤ m → m < k + n → p m ≡ false
 none_passes p zero k m e le lt = absurd (omega (arith, le, lt))
 none_passes p (suc n) k m e le lt = none_by p n k m (p k) refl (none_passes p n (k + 1) m) e le lt
+
+-- the slot of a place
+pub place_is : (p : Option ℕ) (i n : ℕ) → is_place_of p i n ≡ true → (k : ℕ) × (p ≡ Some k) × (8 * k + i ≡ n)
+place_is None i n is = absurd (cc is)
+place_is (Some k) i n is = (k, refl, eqb-true (8 * k + i) n is)

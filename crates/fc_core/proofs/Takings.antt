@@ -7,6 +7,7 @@ use Rattle.coap_msg.specs.declared.types.Emission.{Emission}
 use Rattle.fc_kinds.specs.Meaning.{Program}
 use Rattle.fc_verify.specs.Accepted.{Judgement, Accepts, Breaks, Untypable}
 use Rattle.fc_verify.specs.Judged.{judged}
+use Rattle.fc_observe.specs.declared.entry.Turn.{Turn}
 use Rattle.fc_registry.specs.declared.job.Ask.{Ask}
 use Rattle.fc_registry.specs.declared.job.Ask.TheVariants.{Run, Install as Installs, Remove as Removes, Describe, Discover}
 use Rattle.fc_registry.specs.declared.job.Job.{Job}
@@ -15,20 +16,20 @@ use Rattle.fc_registry.specs.declared.commit.CommitOutcome.TheVariants.{Writes, 
 use Rattle.fc_registry.specs.Slots.{Slot, Present, Ticket, last_serial}
 use Rattle.fc_registry.specs.Changes.{Change}
 use Rattle.fc_registry.specs.declared.receipt.Receipt.{Receipt as Facts}
-use Rattle.fc_registry.specs.Calls.{is_observed, clear_by, meaning_at, outcome, outcome_by, put_by, receipt_at, receipt_of, taking, wants}
+use Rattle.fc_registry.specs.Calls.{is_observed, clear_by, meaning_at, outcome, outcome_by, put_by, is_out_at, receipt_at, receipt_of, taking, turn_taking, wants}
 use Rattle.fc_core.specs.declared.event.Event.{Event}
 use Rattle.fc_core.specs.declared.event.Event.TheVariants.{Peek, Take, Commit, Install, Remove, Receipt, Raise, Answer, Lose, Fresh, Note, GiveUp}
 use Rattle.fc_core.specs.declared.stage.Stage.{Stage}
 use Rattle.fc_core.specs.declared.stage.Stage.TheVariants.{ToMatch, ToTake, ToCommit, ToInstall, ToRemove, ToDescribe, ToList, ToRaise, ToAnswer, Gone, ToTell}
+use Rattle.fc_core.specs.declared.stage.TurnStage.{TurnStage}
 use Rattle.fc_core.specs.declared.stage.TurnStage.TheVariants as turns
 use Rattle.coap_reply.specs.Blocks.{cut_for}
 use Rattle.arrayvec.specs.ArrayVec.{ArrayVec}
 use Rattle.fc_core.specs.Contents.{Content, Listed, Ran, RunAnswer, run_answer, Unavailable}
 use Rattle.fc_core.specs.Heads.{is_match, word_at}
-use Rattle.fc_core.specs.History.{around, Entry, History, Then, Seen, seen, and_then, did, job, slot_at, stage}
-use Rattle.fc_core.specs.Laws.{IsOfNewest, IsOvertaken, Taking, TakesAgain, answer_at, gives, slot_of, takings_of}
-use Rattle.fc_core.specs.Stages.{Around, Scene, committed, first_by, image_of, installed, made, matched_by, peeked_next, peeked_own, removed, retaken, row, told, took, verified}
-use Rattle.fc_core.proofs.Telling.{after_turn}
+use Rattle.fc_core.specs.History.{around, Entry, History, Then, Seen, seen, and_then, did, job, scene, slot_at, stage}
+use Rattle.fc_core.specs.Laws.{IsNewest, IsOfNewest, IsOvertaken, Taking, TakesAgain, answer_at, finds_if, gives, slot_of, takings_of}
+use Rattle.fc_core.specs.Stages.{Around, Scene, committed, first_by, image_of, installed, made, matched_by, peeked_next, peeked_own, removed, retaken, row, told, took, turn_took, verified, with_id}
 use Rattle.fc_core.proofs.Along.{IsTold, along}
 use Rattle.fc_core.proofs.Others.{is_here, named_stage}
 
@@ -37,10 +38,15 @@ abbrev pub Says : List Taking → Content → Type 0
 Says ts (Ran run) = IsOfNewest ts run
 Says ts other = Unit {0}
 
--- the newest taking gave this ticket
-abbrev pub IsNewest : List Taking → Ticket → Type 0
-IsNewest [] t = ⊥
-IsNewest (x ∷ xs) t = x.ticket ≡ t
+-- a turn found the slot empty, or took one ticket
+abbrev pub TookOne : List Taking → Option Ticket → Type 0
+TookOne ts None = length ts ≡ 0
+TookOne ts (Some t) = (length ts ≡ 1) × IsNewest ts t
+
+abbrev pub TookTurn : List Taking → TurnStage → Type 0
+TookTurn ts turns.ToTake = length ts ≡ 0
+TookTurn ts (turns.ToDraw found) = TookOne ts found
+TookTurn ts (turns.ToNote found id) = TookOne ts found
 
 -- a job at this stage took these tickets
 abbrev pub Took : List Taking → Stage → Type 0
@@ -49,7 +55,17 @@ Took ts (ToCommit n t) = (length ts ≡ n) × (n ≤ 8) × IsNewest ts t
 Took ts ToMatch = length ts ≡ 0
 Took ts (ToRaise word content) = (length ts ≤ 8) × Says ts content
 Took ts (ToAnswer content) = (length ts ≤ 8) × Says ts content
+Took ts (ToTell turn needs) = TookTurn ts needs
 Took ts other = length ts ≤ 8
+
+one_at_most : (ts : List Taking) (found : Option Ticket) → TookOne ts found → length ts ≤ 8
+one_at_most ts None f = omega (arith, f)
+one_at_most ts (Some t) f = omega (arith, f.0)
+
+turn_at_most : (ts : List Taking) (needs : TurnStage) → TookTurn ts needs → length ts ≤ 8
+turn_at_most ts turns.ToTake f = omega (arith, f)
+turn_at_most ts (turns.ToDraw found) f = one_at_most ts found f
+turn_at_most ts (turns.ToNote found id) f = one_at_most ts found f
 
 at_most_eight : (s : Stage) (ts : List Taking) → Took ts s → length ts ≤ 8
 at_most_eight (ToTake n) ts f = omega (arith, f.0, f.1)
@@ -61,14 +77,32 @@ at_most_eight ToDescribe ts f = f
 at_most_eight (ToList seen) ts f = f
 at_most_eight (ToRaise word content) ts f = f.0
 at_most_eight (ToAnswer content) ts f = f.0
-at_most_eight (ToTell turn needs) ts f = f
+at_most_eight (ToTell turn needs) ts f = turn_at_most ts needs f
 at_most_eight Gone ts f = f
 
-taking_took : (memory : Bool) (k : ℕ) (job : Job) (slot : Slot) (cs : List Change) (n : ℕ) (ts : List Taking) (p : Option Present) → slot.present ≡ p → length ts ≡ n → n < 8 → Took (gives (Take k memory) (ToTake n) job (record slot { present = p }) cs ++ ts) (took n (taking memory job slot.serial p))
-taking_took true k job slot cs n ts None e is lt = (omega arith, tt)
-taking_took false k job slot cs n ts None e is lt = (omega arith, tt)
-taking_took true k job slot cs n ts (Some p) e is lt = (omega arith, omega arith, refl)
-taking_took false k job slot cs n ts (Some p) e is lt = (omega arith, tt)
+abbrev at : Job → Slot → Around → Stage → Scene
+at job slot ws stage = record { job = job; slot = slot; around = ws; stage = stage }
+
+taking_took : (memory : Bool) (k : ℕ) (job : Job) (slot : Slot) (cs : List Change) (ws : Around) (n : ℕ) (ts : List Taking) (p : Option Present) → slot.present ≡ p → length ts ≡ n → n < 8 → Took (gives (Take k memory) (at job (record slot { present = p }) ws (ToTake n)) cs ++ ts) (took n (taking memory job slot.serial p))
+taking_took true k job slot cs ws n ts None e is lt = (omega arith, tt)
+taking_took false k job slot cs ws n ts None e is lt = (omega arith, tt)
+taking_took true k job slot cs ws n ts (Some p) e is lt = (omega arith, omega arith, refl)
+taking_took false k job slot cs ws n ts (Some p) e is lt = (omega arith, tt)
+
+-- the taking of a turn, with memory and without
+turn_taking_took : (out : Bool) (turn : Turn) (job : Job) (serial : ℕ) (cs : List Change) (ts : List Taking) (p : Option Present) → length ts ≡ 0 → Took (finds_if out job serial p cs ++ ts) (turn_took turn (turn_taking out true job serial p))
+turn_taking_took false turn job serial cs ts p none = omega (arith, none)
+turn_taking_took true turn job serial cs ts None none = none
+turn_taking_took true turn job serial cs ts (Some p) none = (omega (arith, none), refl)
+
+refused_took : (out : Bool) (turn : Turn) (job : Job) (serial : ℕ) (ts : List Taking) (p : Option Present) → length ts ≡ 0 → Took ts (turn_took turn (turn_taking out false job serial p))
+refused_took false turn job serial ts p none = omega (arith, none)
+refused_took true turn job serial ts None none = none
+refused_took true turn job serial ts (Some p) none = none
+
+drawn_took : (ts : List Taking) (found : Option Ticket) (free : Option ℕ) → TookOne ts found → TookTurn ts (with_id found free)
+drawn_took ts found (Some id) f = f
+drawn_took ts found None f = f
 
 retaken_took : (n : ℕ) (ts : List Taking) (b : Bool) → nat_lt n 8 ≡ b → length ts ≡ n → n ≤ 8 → Took ts (if b then ToTake n else ToAnswer Unavailable)
 retaken_took n ts true e is le = (is, ltb-true n 8 e)
@@ -92,9 +126,6 @@ installed_took : (j : Judgement) (slot : Slot) (ts : List Taking) → length ts 
 installed_took (Accepts p) slot ts le = made_took (nat_lt slot.serial last_serial) p slot ts le
 installed_took (Breaks rule k) slot ts le = (le, tt)
 installed_took Untypable slot ts le = (le, tt)
-
-abbrev at : Job → Slot → Around → Stage → Scene
-at job slot ws stage = record { job = job; slot = slot; around = ws; stage = stage }
 
 verified_took : (memory : Bool) (s : Scene) (ts : List Taking) → length ts ≤ 8 → Took ts (verified memory s).stage
 verified_took true s ts le = installed_took (judged (image_of s.job.ask)) s.slot ts le
@@ -125,31 +156,31 @@ next_took : (b : Bool) (word : ℕ) (seen : ArrayVec ℕ) (ts : List Taking) →
 next_took true word seen ts le = listed_took (nat_lt (length (seen.items ++ word ∷ [])) 64) (seen.items ++ word ∷ []) ts le
 next_took false word seen ts le = le
 
-row_took : (e : Event) (job : Job) (slot : Slot) (cs : List Change) (ws : Around) (s : Stage) (ts : List Taking) → Took ts s → Took (gives e s job slot cs ++ ts) (row e (at job slot ws s)).stage
+row_took : (e : Event) (job : Job) (slot : Slot) (cs : List Change) (ws : Around) (s : Stage) (ts : List Taking) → Took ts s → Took (gives e (at job slot ws s) cs ++ ts) (row e (at job slot ws s)).stage
 row_took (Peek k n) job slot cs ws ToMatch ts f = own_took (n == job.origin.slot) (word_at ws.common.words n) job.etags.items ts f
 row_took (Peek k n) job slot cs ws (ToList seen) ts f = next_took (n == length seen.items) (word_at ws.common.words n) seen ts f
 row_took (Remove k) job slot cs ws ToRemove ts f = clear_took (nat_lt slot.serial last_serial) slot.serial slot.present ts f
 row_took (Receipt k) job slot cs ws ToDescribe ts f = told_took (receipt_at slot.present) ts f
-row_took (Take k memory) job slot cs ws (ToTake n) ts f = taking_took memory k job slot cs n ts slot.present refl f.0 f.1
-row_took (Take k true) job slot cs ws (ToTell turn turns.ToTake) ts f = after_turn (Took ts) (λ turn needs. f) f true turn (at job slot ws (ToTell turn turns.ToTake))
-row_took (Take k false) job slot cs ws (ToTell turn turns.ToTake) ts f = after_turn (Took ts) (λ turn needs. f) f false turn (at job slot ws (ToTell turn turns.ToTake))
+row_took (Take k memory) job slot cs ws (ToTake n) ts f = taking_took memory k job slot cs ws n ts slot.present refl f.0 f.1
+row_took (Take k true) job slot cs ws (ToTell turn turns.ToTake) ts f = turn_taking_took (is_out_at turn ws.moment ws.watch) turn job slot.serial cs ts slot.present f
+row_took (Take k false) job slot cs ws (ToTell turn turns.ToTake) ts f = refused_took (is_out_at turn ws.moment ws.watch) turn job slot.serial ts slot.present f
 row_took (Take k true) job slot cs ws other ts f = f
 row_took (Take k false) job slot cs ws other ts f = f
 row_took (Commit k now) job slot cs ws (ToCommit n t) ts f = committed_took n ts t now ws (outcome t slot) f.0 f.1 f.2
 row_took (Install k memory) job slot cs ws ToInstall ts f = verified_took memory (at job slot ws ToInstall) ts f
 row_took (Raise k) job slot cs ws (ToRaise word content) ts f = f
 row_took (Answer k now) job slot cs ws (ToAnswer content) ts f = f.0
-row_took (Fresh k now) job slot cs ws (ToTell turn (turns.ToDraw found)) ts f = f
-row_took (Note k now random) job slot cs ws (ToTell turn (turns.ToNote found id)) ts f = f
-row_took (GiveUp k now) job slot cs ws (ToTell turn needs) ts f = f
+row_took (Fresh k now) job slot cs ws (ToTell turn (turns.ToDraw found)) ts f = drawn_took ts found (ws.common.free now) f
+row_took (Note k now random) job slot cs ws (ToTell turn (turns.ToNote found id)) ts f = one_at_most ts found f
+row_took (GiveUp k now) job slot cs ws (ToTell turn needs) ts f = turn_at_most ts needs f
 row_took (Lose k) job slot cs ws s ts f = at_most_eight s ts f
 row_took other job slot cs ws s ts f = f
 
 -- nothing is given to a job that is gone
-gone_given : (e : Event) (job : Job) (slot : Slot) (cs : List Change) → gives e Gone job slot cs ≡ []
-gone_given (Take k true) job slot cs = refl
-gone_given (Take k false) job slot cs = refl
-gone_given other job slot cs = refl
+gone_given : (e : Event) (job : Job) (slot : Slot) (ws : Around) (cs : List Change) → gives e (at job slot ws Gone) cs ≡ []
+gone_given (Take k true) job slot ws cs = refl
+gone_given (Take k false) job slot ws cs = refl
+gone_given other job slot ws cs = refl
 
 first_took : (ask : Ask) (serials : List ℕ) → Took [] (first_by ask serials)
 first_took (Run request) [] = (refl, omega arith)
@@ -160,16 +191,16 @@ first_took Describe serials = omega arith
 first_took Discover serials = omega arith
 
 abbrev pub more : Event → Seen → ℕ → List Taking → List Taking
-more e s k ts = gives e (stage s k) (job s k) (slot_at s (slot_of s k)) (s.changes (slot_of s k)) ++ ts
+more e s k ts = gives e (scene s k) (s.changes (slot_of s k)) ++ ts
 
 pub is_told : IsTold takings_of more Took []
 is_told = record {
   begins = λ serial id k. refl;
   then_is = λ h r k. refl;
-  still = λ e s k ts is. ap (λ (x : Stage). gives e x (job s k) (slot_at s (slot_of s k)) (s.changes (slot_of s k)) ++ ts) is ∙ ap (λ (l : List Taking). l ++ ts) (gone_given e (job s k) (slot_at s (slot_of s k)) (s.changes (slot_of s k)));
+  still = λ e s k ts is. ap (λ (x : Stage). gives e (at (job s k) (slot_at s (slot_of s k)) (around s (slot_of s k)) x) (s.changes (slot_of s k)) ++ ts) is ∙ ap (λ (l : List Taking). l ++ ts) (gone_given e (job s k) (slot_at s (slot_of s k)) (around s (slot_of s k)) (s.changes (slot_of s k)));
   gone = omega arith;
   first = first_took;
-  turns = λ turn. omega arith;
+  turns = λ turn. refl;
   keeps = λ e s k ts f. row_took e (job s k) (slot_at s (slot_of s k)) (s.changes (slot_of s k)) (around s (slot_of s k)) (stage s k) ts f;
 }
 
@@ -191,6 +222,10 @@ said ts (ToList seen) run f e = absurd (cc e)
 said ts (ToTell turn needs) run f e = absurd (cc e)
 said ts (ToRaise word content) run f e = let is : content ≡ Ran run = cc e in subst (Says ts) is f.1
 said ts (ToAnswer content) run f e = let is : content ≡ Ran run = cc e in subst (Says ts) is f.1
+
+-- the ticket that a turn tells of
+pub told_newest : (h : History) (k id : ℕ) (turn : Turn) (t : Ticket) → stage (seen h) k ≡ ToTell turn (turns.ToNote (Some t) id) → (length (takings_of h k) ≡ 1) × IsNewest (takings_of h k) t
+told_newest h k id turn t is = subst (Took (takings_of h k)) is (known h k)
 
 pub answers_newest : (h : History) (k : ℕ) (run : RunAnswer) → answer_at (stage (seen h) k) ≡ Some (Ran run) → IsOfNewest (takings_of h k) run
 answers_newest h k run e = said (takings_of h k) (stage (seen h) k) run (known h k) e

@@ -154,7 +154,7 @@ no_job_due s i now o e =
 
 -- ---- a turn that is given up, or lost
 
-abbrev at_stage : Seen → ℕ → Stage → Scene
+abbrev pub at_stage : Seen → ℕ → Stage → Scene
 at_stage s k st = record { job = job s k; slot = slot_at s (slot_of s k); around = around s (slot_of s k); stage = st }
 
 module _ (s : Seen) (k now : ℕ) (turn : Turn) (needs : TurnStage) (o : Option Emission) (is : stage s k ≡ ToTell turn needs) where

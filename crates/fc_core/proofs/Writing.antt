@@ -14,14 +14,15 @@ use Rattle.fc_registry.specs.declared.commit.CommitOutcome.TheVariants.{Writes, 
 use Rattle.fc_registry.specs.Slots.{Slot, Present, Ticket, last_serial, new_slot}
 use Rattle.fc_registry.specs.Changes.{Change, Committed, after_changes}
 use Rattle.fc_registry.specs.Record.{IsChain, code_class}
-use Rattle.fc_registry.specs.Calls.{commit_of, is_post, meaning_at, outcome, outcome_by, wants}
+use Rattle.fc_registry.specs.Calls.{commit_of, is_out_at, is_post, meaning_at, outcome, outcome_by, wants}
 use Rattle.fc_registry.proofs.Installs.{serials_count}
 use Rattle.fc_core.specs.declared.event.Event.{Event}
 use Rattle.fc_core.specs.declared.event.Event.TheVariants.{Take, Commit}
 use Rattle.fc_core.specs.declared.stage.Stage.{Stage}
-use Rattle.fc_core.specs.declared.stage.Stage.TheVariants.{ToTake, ToCommit}
-use Rattle.fc_core.specs.History.{around, Entry, History, Begins, Then, Seen, seen, and_then, begun, did, job, slot_at, stage}
-use Rattle.fc_core.specs.Laws.{HasCome, Taking, finds, gives_at, is_named, slot_of, takings_of}
+use Rattle.fc_core.specs.declared.stage.Stage.TheVariants.{ToTake, ToCommit, ToTell}
+use Rattle.fc_core.specs.declared.stage.TurnStage.TheVariants as turns
+use Rattle.fc_core.specs.History.{around, Entry, History, Begins, Then, Seen, seen, and_then, begun, did, job, scene, slot_at, stage, watch}
+use Rattle.fc_core.specs.Laws.{HasCome, Taking, finds, finds_if, gives_at, is_named, slot_of, takings_of}
 use Rattle.fc_core.specs.SlotLaws.{IsUnchanged, IsWritten}
 use Rattle.fc_core.specs.Sound.{IsSound}
 use Rattle.fc_core.specs.Stages.{Around, Scene, committed, names, row}
@@ -71,8 +72,13 @@ found_since : (s : Seen) (k : ℕ) (p : Option Present) (ts : List Taking) → E
 found_since s k None ts w = w
 found_since s k (Some found) ts w = (record { since = []; is = refl; serial = refl }, w)
 
-at_since : (s : Seen) (k : ℕ) (at : Stage) (ts : List Taking) → Each (IsSince s k) ts → Each (IsSince s k) (gives_at at (job s k) (slot_at s (slot_of s k)) (s.changes (slot_of s k)) ++ ts)
+found_since_if : (s : Seen) (k : ℕ) (out : Bool) (ts : List Taking) → Each (IsSince s k) ts → Each (IsSince s k) (finds_if out (job s k) (slot_at s (slot_of s k)).serial (slot_at s (slot_of s k)).present (s.changes (slot_of s k)) ++ ts)
+found_since_if s k true ts w = found_since s k (slot_at s (slot_of s k)).present ts w
+found_since_if s k false ts w = w
+
+at_since : (s : Seen) (k : ℕ) (at : Stage) (ts : List Taking) → Each (IsSince s k) ts → Each (IsSince s k) (gives_at (scene s k) at (s.changes (slot_of s k)) ++ ts)
 at_since s k (ToTake n) ts w = found_since s k (slot_at s (slot_of s k)).present ts w
+at_since s k (ToTell turn turns.ToTake) ts w = found_since_if s k (is_out_at turn (around s (slot_of s k)).moment (watch s (slot_of s k))) ts w
 at_since s k other ts w = w
 
 given_since : (s : Seen) (k : ℕ) (e : Event) (ts : List Taking) → Each (IsSince s k) ts → Each (IsSince s k) (more e s k ts)

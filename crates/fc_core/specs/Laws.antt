@@ -1,9 +1,9 @@
 -- What the laws of jobs speak of.
 use Rattle.std.specs.Prelude.{◌≡◌, ℕ, ◌+◌, ◌-◌, ◌<◌, ◌==◌, Bool, true, false, not, if◌then◌else◌, Option, Some, None, List, [], ◌∷◌, ◌++◌, length}
 use Rattle.fc_registry.specs.declared.job.Job.{Job}
-use Rattle.fc_registry.specs.Slots.{Slot, Present, Ticket}
+use Rattle.fc_registry.specs.Slots.{Present, Ticket}
 use Rattle.fc_registry.specs.Changes.{Change}
-use Rattle.fc_registry.specs.Calls.{meaning_at, ticket_of, wants}
+use Rattle.fc_registry.specs.Calls.{is_out_at, meaning_at, ticket_of, wants}
 use Rattle.fc_core.specs.declared.event.Event.{Event}
 use Rattle.fc_core.specs.declared.event.Event.TheVariants.{Deliver, Peek, Take, Commit, Install, Remove, Receipt, Raise, Answer, Due, Fresh, Note, GiveUp, Signal, Tick, ShardTick, Lose}
 use Rattle.fc_core.specs.declared.stage.Stage.{Stage}
@@ -11,8 +11,8 @@ use Rattle.fc_core.specs.declared.stage.Stage.TheVariants.{ToMatch, ToTake, ToCo
 use Rattle.fc_core.specs.declared.stage.TurnStage.TheVariants as turns
 use Rattle.coap_reply.specs.Blocks.{cut_for}
 use Rattle.fc_core.specs.Contents.{Content, RunAnswer}
-use Rattle.fc_core.specs.Stages.{names}
-use Rattle.fc_core.specs.History.{Entry, History, Begins, Then, Seen, seen, job, slot_at, stage}
+use Rattle.fc_core.specs.Stages.{Scene, names}
+use Rattle.fc_core.specs.History.{Entry, History, Begins, Then, Seen, seen, job, scene, slot_at, stage}
 
 -- ---- strays
 
@@ -87,22 +87,33 @@ abbrev pub finds : Job → ℕ → Option Present → List Change → List Takin
 finds j serial None changes = []
 finds j serial (Some found) changes = record { ticket = ticket_of j serial found; changes = changes } ∷ []
 
-abbrev pub gives_at : Stage → Job → Slot → List Change → List Taking
-gives_at (ToTake count) j slot changes = finds j slot.serial slot.present changes
-gives_at other j slot changes = []
+-- a turn that is out no longer takes none
+abbrev pub finds_if : Bool → Job → ℕ → Option Present → List Change → List Taking
+finds_if true j serial present changes = finds j serial present changes
+finds_if false j serial present changes = []
+
+abbrev pub gives_at : Scene → Stage → List Change → List Taking
+gives_at s (ToTake count) changes = finds s.job s.slot.serial s.slot.present changes
+gives_at s (ToTell turn turns.ToTake) changes = finds_if (is_out_at turn s.around.moment s.around.watch) s.job s.slot.serial s.slot.present changes
+gives_at s other changes = []
 
 -- what an event gives to the job that it names: a taking at its stage gives a ticket, where there is memory for it
-abbrev pub gives : Event → Stage → Job → Slot → List Change → List Taking
-gives (Take k true) at j slot changes = gives_at at j slot changes
-gives other at j slot changes = []
+abbrev pub gives : Event → Scene → List Change → List Taking
+gives (Take k true) s changes = gives_at s s.stage changes
+gives other s changes = []
 
 -- the takings that gave a ticket to the job of this number, the newest first
 abbrev pub takings_of : History → ℕ → List Taking
 takings_of (Begins serial id) k = []
 takings_of (Then h r) k =
     if is_named k r.event
-    then gives r.event (stage (seen h) k) (job (seen h) k) (slot_at (seen h) (slot_of (seen h) k)) ((seen h).changes (slot_of (seen h) k)) ++ takings_of h k
+    then gives r.event (scene (seen h) k) ((seen h).changes (slot_of (seen h) k)) ++ takings_of h k
     else takings_of h k
+
+-- the newest of these takings gave this ticket
+abbrev pub IsNewest : List Taking → Ticket → Type 0
+IsNewest [] t = ⊥
+IsNewest (x ∷ xs) t = x.ticket ≡ t
 
 -- a run's answer is of the newest of these takings: the code that its program means, the block of the reply that its request asks,
 -- and the serial that the taking found

@@ -20,3 +20,4 @@ pub mod ObserveLaws
 pub mod HeadLaws
 pub mod AnswerLaws
 pub mod ExchangeLaws
+pub mod TurnLaws

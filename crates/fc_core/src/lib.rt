@@ -37,6 +37,7 @@ pub mod slot_laws;
 pub mod stage;
 pub mod task;
 mod text;
+pub mod turn_laws;
 
 pub use answer::{Answer, End, Words};
 pub use event::Event;

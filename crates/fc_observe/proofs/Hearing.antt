@@ -25,7 +25,7 @@ fail_by : (p : Entry → Bool) (o : Entry) (os : List Entry) (b : Bool) → p o 
 fail_by p o os true e rest none = absurd (cc none)
 fail_by p o os false e rest none = All-cons (λ o. p o ≡ false) o os e (rest none)
 
-all_fail : (p : Entry → Bool) (os : List Entry) → list_any p os ≡ false → All (λ o. p o ≡ false) os
+pub all_fail : (p : Entry → Bool) (os : List Entry) → list_any p os ≡ false → All (λ o. p o ≡ false) os
 all_fail p [] none = All-nil (λ o. p o ≡ false)
 all_fail p (o ∷ os) none = fail_by p o os (p o) refl (all_fail p os) none
 
@@ -41,7 +41,7 @@ all_unfound : (p : Entry → Bool) (os : List Entry) → find p os ≡ None → 
 all_unfound p [] none = All-nil (λ o. p o ≡ false)
 all_unfound p (o ∷ os) none = unfound_by p o os (p o) refl (all_unfound p os) none
 
-none_found : (p : Entry → Bool) (os : List Entry) → All (λ o. p o ≡ false) os → find p os ≡ None
+pub none_found : (p : Entry → Bool) (os : List Entry) → All (λ o. p o ≡ false) os → find p os ≡ None
 none_found p [] all = refl
 none_found p (o ∷ os) all =
     ap (λ (b : Bool). cond b (Some o) (find p os)) (All-head (λ o. p o ≡ false) o os all) ∙ none_found p os (All-tail (λ o. p o ≡ false) o os all)
@@ -173,7 +173,7 @@ over_after turn c t lt none =
     (subst (λ (m : ℕ). All (λ o. has_turn (observers_after c t).slot m turn o ≡ false) (observers_after c t).held) (sym g.moment)
     (subst (λ (s : ℕ). All (λ o. has_turn s (moment_after c t) turn o ≡ false) (observers_after c t).held) (sym g.slot) all))
 
-more_turns : (h : List ObserverCall) (t : ObserverList) → t.turns ≤ (after_calls h t).turns
+pub more_turns : (h : List ObserverCall) (t : ObserverList) → t.turns ≤ (after_calls h t).turns
 more_turns [] t = omega arith
 more_turns (c ∷ h) t = let before = more_turns h t in let g = goes_on c (after_calls h t) in let after = g.turns in omega (arith, before, after)
 

@@ -9,3 +9,6 @@ pub mod Serials
 pub mod Due
 pub mod Turns
 pub mod Missing
+pub mod Lasting
+pub mod Staying
+pub mod Rising

@@ -49,7 +49,7 @@ is_so to id o w =
     let own : (id == id) ≡ true = eq-eqb id id refl in
     (λ i. same_endpoint (w.0 i) to && is_id id (w.1 i)) ∙ (λ i. (ip i && port i) && own i)
 
-so_is : (to : Endpoint) (id : ℕ) (o : Entry) → has_last_id to id o ≡ true → (o.endpoint ≡ to) × (o.id ≡ Some id)
+pub so_is : (to : Endpoint) (id : ℕ) (o : Entry) → has_last_id to id o ≡ true → (o.endpoint ≡ to) × (o.id ≡ Some id)
 so_is to id o e =
     let w = and_parts (same_endpoint o.endpoint to) (is_id id o.id) e in
     let v = and_parts (pointwise nat_eq o.endpoint.ip to.ip) (o.endpoint.port == to.port) w.0 in

@@ -48,15 +48,15 @@ missed_out : (n at : ℕ) (missing : Bool) (p : Phase) → missed_phase p ≡ Tu
 missed_out n at missing (TurnOut own given before) out = let number : own ≡ n = cc out in let since : given ≡ at = cc out in (before, λ i. TurnOut (number i) (since i) before)
 missed_out n at missing other out = (missing, out)
 
-acknowledged_out : (n at : ℕ) (missing : Bool) (p : Phase) → acknowledged_phase p ≡ TurnOut n at missing → p ≡ TurnOut n at missing
+pub acknowledged_out : (n at : ℕ) (missing : Bool) (p : Phase) → acknowledged_phase p ≡ TurnOut n at missing → p ≡ TurnOut n at missing
 acknowledged_out n at missing (Outstanding sent_at timeout k bytes) out = absurd (cc out)
 acknowledged_out n at missing other out = out
 
-resent_out : (now n at : ℕ) (missing : Bool) (p : Phase) → retransmitted_phase now p ≡ TurnOut n at missing → p ≡ TurnOut n at missing
+pub resent_out : (now n at : ℕ) (missing : Bool) (p : Phase) → retransmitted_phase now p ≡ TurnOut n at missing → p ≡ TurnOut n at missing
 resent_out now n at missing (Outstanding sent_at timeout k bytes) out = absurd (cc out)
 resent_out now n at missing other out = out
 
-notified_out : (now id serial random n at : ℕ) (missing : Bool) (bytes : ArrayVec ℕ) (o : Entry) (b : Bool) → (notified_by b now id serial random bytes o).phase ≡ TurnOut n at missing → ⊥
+pub notified_out : (now id serial random n at : ℕ) (missing : Bool) (bytes : ArrayVec ℕ) (o : Entry) (b : Bool) → (notified_by b now id serial random bytes o).phase ≡ TurnOut n at missing → ⊥
 notified_out now id serial random n at missing bytes o true out = cc out
 notified_out now id serial random n at missing bytes o false out = cc out
 
@@ -106,7 +106,7 @@ sent_above slot now turn serial h le =
 
 -- ---- what a call leaves of the last sent serial
 
-notified_keeps : (now id serial random : ℕ) (bytes : ArrayVec ℕ) (o : Entry) (b : Bool) → (interest_of (notified_by b now id serial random bytes o) ≡ interest_of o) × ((notified_by b now id serial random bytes o).serial ≡ serial)
+pub notified_keeps : (now id serial random : ℕ) (bytes : ArrayVec ℕ) (o : Entry) (b : Bool) → (interest_of (notified_by b now id serial random bytes o) ≡ interest_of o) × ((notified_by b now id serial random bytes o).serial ≡ serial)
 notified_keeps now id serial random bytes o true = (refl, refl)
 notified_keeps now id serial random bytes o false = (refl, refl)
 

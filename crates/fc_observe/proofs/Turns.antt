@@ -21,7 +21,7 @@ use Rattle.fc_observe.proofs.Counting.{IfAdds, sum_after, sum_first, sum_left, u
 use Rattle.fc_observe.proofs.Serials.{all_below}
 
 -- 1 for an entry whose turn has the number
-abbrev turns_of : ℕ → Entry → ℕ
+abbrev pub turns_of : ℕ → Entry → ℕ
 turns_of n o = unit (has_number n o)
 
 -- ---- calls that give no turn
