@@ -41,9 +41,9 @@ pub fn empty_slots_are_missing()
         → stage (and_then (did (Take k memory) o) s) k ≡ ToAnswer Missing }
 {}
 
-/// The front's moment is the greatest of those that deliveries, ticks and answers at their stage handed to it; a shard's is
-/// the greatest of those at which it was asked for a turn or time passed for it, and of those of its slots' jobs that committed at their
-/// stage or gave up their turn.
+/// The front's moment is the greatest of those that deliveries, ticks, and at their stage answers and turns that draw a message id handed
+/// to it; a shard's is the greatest of those at which it was asked for a turn or time passed for it, and of those of its slots' jobs that
+/// committed, notified or gave up their turn at their stage.
 pub fn moments_are_the_greatest()
     ensures front { (h : History) → (seen h).moment ≡ greatest (moments_of h) }
     ensures shard { (h : History) (i : ℕ) → (seen h).shard_moment i ≡ greatest (shard_moments_of i h) }

@@ -27,4 +27,9 @@ impl<'a, C: Clock> Moments for Elapsed<'a, C> {
             Err(_) => 0,
         }
     }
+
+    // The clock's low bits.
+    fn random<R: Wait>(&self, rt: &R) -> u16 {
+        (self.now(rt) % 0x1_0000) as u16
+    }
 }

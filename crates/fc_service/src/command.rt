@@ -14,8 +14,7 @@ After each line observers are notified of changes, and notifications that weren'
 are sent again.
 
 With `--workers W` the job of each line is worked off by one of W threads, before the next
-line is read; without, by the one thread there is. What is printed is the same, but that
-W threads notify no observers yet.
+line is read; without, by the one thread there is. What is printed is the same.
 
 Exit status: 0 at the end of the input; 2 where a line or the command line is bad; 3 where
 reading or writing failed, or memory was refused.";
@@ -23,7 +22,7 @@ reading or writing failed, or memory was refused.";
 /// What `--help` tells of `fcd serve` and of how it ends.
 pub const SERVING: &str = "\
 The server speaks CoAP on UDP, at 127.0.0.1 alone. A thread receives datagrams, and W others
-work jobs off; where W is 1 it does both, and only then observers are notified yet. After N datagrams the server ends, where N isn't 0; it ends with a line on
+work jobs off; where W is 1 it does both. After each datagram observers are notified. After N datagrams the server ends, where N isn't 0; it ends with a line on
 standard error, `sent S failed F`, of how many replies went out and how many didn't, where
 `--log info` asks for it. `fcd serve --port 5683` serves at the port of CoAP, without end.
 

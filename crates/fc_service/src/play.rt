@@ -102,7 +102,7 @@ fn carry_out<W: Write>(
 }
 
 // The moment of a line, in milliseconds.
-fn moment(line: &Line) -> u64 {
+pub(crate) fn moment(line: &Line) -> u64 {
     match line {
         Line::Tick { now } | Line::Deliver { now, .. } => *now,
     }

@@ -7,6 +7,8 @@ use crate::replies::Replies;
 use coap_msg::Endpoint;
 use fc_core::Delivered;
 use fc_jobs::{Jobs, Sent};
+use fc_observe::Ticked;
+use fc_registry::{Job, SHARDS};
 use fc_workers::{Bench, Blanks, Gate, Locked, Moments, Wire, Workshop, feed_workers, make_seats};
 use std::alloc::{AllocError, Global};
 use std::marker::Brand;
@@ -21,7 +23,7 @@ pub struct Begin {
     pub id: u16,
 }
 
-// Where a feeder has datagrams taken in: the front of a server. (A method that is generic in its bench can't hand it on, since a
+// Where a feeder has datagrams taken in, and asks what else is to be sent: a server. (A method that is generic in its bench can't hand it on, since a
 // bench's tallies cross threads; it can hand on this.)
 pub(crate) trait Intake {
     // Takes a datagram in, at a moment in milliseconds.
@@ -30,9 +32,18 @@ pub(crate) trait Intake {
 
     // Has time pass, to a moment in milliseconds.
     fn tick<R: Wait>(&self, rt: &R, now: u64);
+
+    // Hands a signal to each shard.
+    fn signal<R: Wait>(&self, rt: &R, endpoint: Endpoint, id: u16, reset: bool);
+
+    // Has a shard, 0 to 7, tell what it sends again at a moment in milliseconds.
+    fn resend<R: Wait>(&self, rt: &R, shard: u8, now: u64) -> Ticked;
+
+    // Asks a shard, 0 to 7, for the turn of an observer that is due at a moment in milliseconds.
+    fn next_due<R: Wait>(&self, rt: &R, shard: u8, now: u64) -> Option<Job>;
 }
 
-// The front of a bench.
+// The server of a bench.
 #[derive(Drop)]
 struct FrontOf<'a, B: Bench> {
     bench: &'a B,
@@ -45,6 +56,20 @@ impl<'a, B: Bench> Intake for FrontOf<'a, B> {
 
     fn tick<R: Wait>(&self, rt: &R, now: u64) {
         self.bench.tick(rt, now);
+    }
+
+    fn signal<R: Wait>(&self, rt: &R, endpoint: Endpoint, id: u16, reset: bool) {
+        for shard in 0..SHARDS {
+            self.bench.signal(rt, shard, endpoint, id, reset);
+        }
+    }
+
+    fn resend<R: Wait>(&self, rt: &R, shard: u8, now: u64) -> Ticked {
+        self.bench.tick_shard(rt, shard, now)
+    }
+
+    fn next_due<R: Wait>(&self, rt: &R, shard: u8, now: u64) -> Option<Job> {
+        self.bench.next_due(rt, shard, now)
     }
 }
 

@@ -20,6 +20,7 @@ use fc_core::Delivered;
 use fc_core::front::blank_emission;
 use fc_jobs::{Jobs, Sent};
 use fc_server::Engine;
+use fc_server::engine::Notified;
 use fc_workers::Moments;
 use log::{Log, info};
 use std::alloc::{AllocError, Global};
@@ -75,8 +76,8 @@ pub fn serve<R: Threads + Wait + Clock + Net + Sync, L: Log, E: Write>(
 
 /// Serves datagrams of a source, on a new server of empty slots, until so many were received: one that needs no job is answered
 /// at once, and the jobs of others are worked off by workers, each in a thread of its own. One worker is this thread: it works each
-/// datagram off before it receives the next, and after each it sends again what is late and notifies the observers that are due, which
-/// several workers don't yet. Where none comes in time, time passes. Then the workers work off the jobs that are
+/// datagram off before it receives the next. After each datagram what is late is sent again, and the observers that are due are notified.
+/// Where none comes in time, time passes. Then the workers work off the jobs that are
 /// left, and `log` is told how many replies went to the sink and how many couldn't be sent: a record `sent 2 failed 0` of level info.
 ///
 /// It fails, and `err` is told why, where the clock couldn't be read or there was no memory at the start.
@@ -159,6 +160,7 @@ impl<'a, S: Source, K: Sink, M: Moments> Feeder<Replies> for Receiver<'a, S, K, 
                 }
                 None => intake.tick(rt, self.moments.now(rt)),
             }
+            self.settle(rt, intake, jobs, &mut sent, &mut replies);
         }
         replies
     }
@@ -184,8 +186,62 @@ impl<'a, S: Source, K: Sink, M: Moments> Receiver<'a, S, K, M> {
                 let _back = jobs.send(rt, job, sent);
                 None
             }
-            Delivered::Nothing | Delivered::Signal { .. } => None,
+            Delivered::Signal { mid, reset } => {
+                intake.signal(rt, from, mid, reset);
+                None
+            }
+            Delivered::Nothing => None,
         }
+    }
+
+    // Sends what is late again, and has the workers notify who is due.
+    fn settle<N: Intake, R: Wait>(
+        &self,
+        rt: &R,
+        intake: &N,
+        jobs: &Jobs,
+        sent: &mut Sent,
+        replies: &mut Replies,
+    )
+        requires { sent.old.channel ≡ jobs.now }
+        ensures { sent.new.channel ≡ sent.old.channel }
+    {
+        let now = self.moments.now(rt);
+        let mut settling = Settling::new();
+        for _ in 0..STEPS {
+            let Some(shard) = settling.shard() else {
+                return;
+            };
+            let emission = if settling.notifies() {
+                settling.notified(send_turn(rt, intake, jobs, sent, shard, now))
+            } else {
+                settling.resent(intake.resend(rt, shard, now))
+            };
+            if let Some(emission) = emission {
+                replies.count_if_any(Some(self.sink.send(&emission)));
+            }
+        }
+    }
+}
+
+// Sends the turn of the observer of a shard that is due first to the workers.
+fn send_turn<N: Intake, R: Wait>(
+    rt: &R,
+    intake: &N,
+    jobs: &Jobs,
+    sent: &mut Sent,
+    shard: u8,
+    now: u64,
+) -> Notified
+    requires { sent.old.channel ≡ jobs.now }
+    ensures { sent.new.channel ≡ sent.old.channel }
+{
+    match intake.next_due(rt, shard, now) {
+        Some(job) => {
+            let _back = jobs.send(rt, job, sent);
+            Notified::Unsent
+        }
+        None => Notified::Nobody,
     }
 }
 

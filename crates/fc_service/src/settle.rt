@@ -1,5 +1,7 @@
-//! What follows a datagram or a moment on a server of one thread: what is late is sent again, and observers that are due are notified.
-ghost use Rattle.std.specs.Prelude.{◌≡◌, ◌<◌, Bool, List};
+//! What follows a datagram or a moment: what is late is sent again, and observers that are due are notified.
+ghost use Rattle.std.specs.Prelude.{◌≡◌, ◌<◌, Bool, IfSome, List};
+ghost use Rattle.fc_core.specs.Legal.{resent};
+ghost use Rattle.fc_server.specs.Notified.{notification_in};
 ghost use Rattle.fc_server.specs.Serving.{Notifies, Resends};
 ghost use Rattle.std.specs.Option.{option_to_list};
 ghost use Rattle.fc_service.specs.Settling.{AreSteps, IsStep, Step, sent_in_step, sent_in_steps};
@@ -66,7 +68,42 @@ impl Settling {
         requires { self.old.shard < 8 }
         ensures { Resends self.old.shard now engine.old engine.new result }
     {
-        match engine.resend(self.shard, now) {
+        let ticked = engine.resend(self.shard, now);
+        self.resent(ticked)
+    }
+
+    // Has the first observer of its shard that is due notified, or goes on to the next shard; where no message id is free, to the end.
+    fn notify(&mut self, engine: &mut Engine, now: u64, random: u16) -> Option<Emission>
+        requires { self.old.shard < 8 }
+        ensures { (given : Bool) × Notifies self.old.shard now random engine.old engine.new given result }
+    {
+        let notified = engine.notify(self.shard, now, random);
+        self.notified(notified)
+    }
+
+    /// The shard that it is at; none where nothing is left to do.
+    pub(crate) fn shard(&self) -> Option<u8>
+        ensures { IfSome result (λ shard. (shard ≡ self.now.shard) × (shard < 8)) }
+    {
+        if self.shard < SHARDS {
+            Some(self.shard)
+        } else {
+            None
+        }
+    }
+
+    /// Whether the shard that it is at is to be asked who is due; else it is to be ticked.
+    pub(crate) fn notifies(&self) -> bool
+        ensures { result ≡ self.now.notifies }
+    {
+        self.notifies
+    }
+
+    /// Goes on after its shard was ticked: what is to be sent.
+    pub(crate) fn resent(&mut self, ticked: Ticked) -> Option<Emission>
+        ensures { result ≡ resent ticked }
+    {
+        match ticked {
             Ticked::Resend(emission) => Some(emission),
             Ticked::Removed => None,
             Ticked::Quiet => {
@@ -76,12 +113,12 @@ impl Settling {
         }
     }
 
-    // Has the first observer of its shard that is due notified, or goes on to the next shard; where no message id is free, to the end.
-    fn notify(&mut self, engine: &mut Engine, now: u64, random: u16) -> Option<Emission>
+    /// Goes on after its shard was asked who is due: what is to be sent.
+    pub(crate) fn notified(&mut self, notified: Notified) -> Option<Emission>
         requires { self.old.shard < 8 }
-        ensures { (given : Bool) × Notifies self.old.shard now random engine.old engine.new given result }
+        ensures { result ≡ notification_in notified }
     {
-        match engine.notify(self.shard, now, random) {
+        match notified {
             Notified::Sent(emission) => Some(emission),
             Notified::Unsent => None,
             Notified::Starved => {

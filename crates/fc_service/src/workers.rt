@@ -5,7 +5,9 @@ ghost use Rattle.coap_msg.specs.declared.types.Emission.{Emission as Emitted};
 ghost use Rattle.fc_registry.specs.Slots.{last_serial};
 ghost use Rattle.fc_service.specs.Playing.{output_of};
 
+use crate::play::moment;
 use crate::pool::{Begin, Feeder, Intake, Pool, run_pool};
+use crate::settle::{STEPS, Settling};
 use coap_msg::{Emission, Endpoint};
 use fc_cli::status::{Status, tell};
 use fc_cli::stop::Stop;
@@ -14,6 +16,8 @@ use fc_core::front::blank_emission;
 use fc_jobs::{Jobs, Sent};
 use fc_lines::emission::{endpoint, print};
 use fc_lines::line::{Line, LineError, parse};
+use fc_registry::Job;
+use fc_server::engine::Notified;
 use fc_workers::{Moments, Wire};
 use std::alloc::{AllocError, Global};
 use std::io;
@@ -88,6 +92,12 @@ impl Moments for Board {
         let _ = rt;
         self.now.load(Ordering::SeqCst)
     }
+
+    // What is printed is to be the same each time.
+    fn random<R: Wait>(&self, rt: &R) -> u16 {
+        let _ = rt;
+        0
+    }
 }
 
 fn copy(emission: &Emission) -> Emission {
@@ -132,7 +142,10 @@ impl<'a, N: Intake> Desk<'a, N> {
             number = number.saturating_add(1);
             let text = text.map_err(Stop::Input)?;
             match parse(alloc, &text) {
-                Ok(line) => self.carry_out(rt, &mut sent, &line, out)?,
+                Ok(line) => {
+                    self.carry_out(rt, &mut sent, &line, out)?;
+                    self.settle(rt, &mut sent, moment(&line), out)?;
+                }
                 Err(LineError::Bad) => return Err(Stop::BadLine(number)),
                 Err(LineError::NoMemory) => return Err(Stop::Memory(AllocError)),
             }
@@ -178,15 +191,77 @@ impl<'a, N: Intake> Desk<'a, N> {
         ensures { sent.new.channel ≡ sent.old.channel }
     {
         match self.intake.deliver(rt, now, endpoint, bytes) {
-            Delivered::Nothing | Delivered::Signal { .. } => Ok(None),
+            Delivered::Nothing => Ok(None),
             Delivered::Reply(emission) => Ok(Some(emission)),
-            Delivered::Job(job) => {
-                self.board.begin(rt, now);
-                match self.jobs.send(rt, job, sent) {
-                    None => Ok(self.board.wait(rt)),
-                    Some(_) => Err(Stop::Memory(AllocError)),
-                }
+            Delivered::Job(job) => self.work(rt, sent, now, job),
+            Delivered::Signal { mid, reset } => {
+                self.intake.signal(rt, endpoint, mid, reset);
+                Ok(None)
             }
+        }
+    }
+
+    // Has a job worked off at a moment in milliseconds: what is sent.
+    fn work<R: Wait>(
+        &self,
+        rt: &R,
+        sent: &mut Sent,
+        now: u64,
+        job: Job,
+    ) -> Result<Option<Emission>, Stop>
+        requires { sent.old.channel ≡ self.now.jobs.now }
+        ensures { sent.new.channel ≡ sent.old.channel }
+    {
+        self.board.begin(rt, now);
+        match self.jobs.send(rt, job, sent) {
+            None => Ok(self.board.wait(rt)),
+            Some(_) => Err(Stop::Memory(AllocError)),
+        }
+    }
+
+    // Has what is late at a moment in milliseconds sent again, and who is due notified, and prints what is sent.
+    fn settle<R: Wait, W: Write>(
+        &self,
+        rt: &R,
+        sent: &mut Sent,
+        now: u64,
+        out: &mut W,
+    ) -> Result<(), Stop>
+        requires { sent.old.channel ≡ self.now.jobs.now }
+        ensures { sent.new.channel ≡ sent.old.channel }
+    {
+        let mut settling = Settling::new();
+        for _ in 0..STEPS {
+            let Some(shard) = settling.shard() else {
+                break;
+            };
+            let emission = if settling.notifies() {
+                settling.notified(self.notify(rt, sent, shard, now)?)
+            } else {
+                settling.resent(self.intake.resend(rt, shard, now))
+            };
+            print_sent(out, &emission).map_err(Stop::Output)?;
+        }
+        Ok(())
+    }
+
+    // Has the observer of a shard notified that is due first. A turn of which nothing is sent had no message id, or no memory.
+    fn notify<R: Wait>(
+        &self,
+        rt: &R,
+        sent: &mut Sent,
+        shard: u8,
+        now: u64,
+    ) -> Result<Notified, Stop>
+        requires { sent.old.channel ≡ self.now.jobs.now }
+        ensures { sent.new.channel ≡ sent.old.channel }
+    {
+        let Some(job) = self.intake.next_due(rt, shard, now) else {
+            return Ok(Notified::Nobody);
+        };
+        match self.work(rt, sent, now, job)? {
+            Some(emission) => Ok(Notified::Sent(emission)),
+            None => Ok(Notified::Starved),
         }
     }
 }
@@ -224,7 +299,8 @@ impl<'a, I: BufRead + Drop, W: Write> Feeder<Result<(), Stop>> for Player<'a, I,
 }
 
 /// Plays lines as [`play`](crate::play::play) does, and ends as it does, but a line's job is worked off by one of so many
-/// workers, 1 to 16, each in a thread of its own. No line is read before the worker of the one before it is done.
+/// workers, 1 to 16, each in a thread of its own, and so is each turn of an observer. No line is read before the worker of the one before it
+/// is done.
 pub fn play_by_workers<R: Threads + Wait + Sync, I: BufRead + Drop, W: Write, E: Write>(
     rt: &R,
     alloc: Global,

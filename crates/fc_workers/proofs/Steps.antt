@@ -34,7 +34,7 @@ use Rattle.fc_core.specs.Heads.{head_word, is_match}
 use Rattle.fc_core.specs.Ends.{refused, refused_by}
 use Rattle.fc_core.specs.Stages.{asked_stage, first_by, image_of, listed, matched, matched_by, run_content, removed, told, took, after_commit, made, takings}
 use Rattle.fc_workers.specs.declared.share.Share.{Share}
-use Rattle.fc_workers.specs.Answers.{AreTallied, commit_changes, install_changes, removal_changes, saturated, IsSomeTaking, IsSomeCommit, IsSomeInstall, IsSomeReceipt, IsSomeRemoval}
+use Rattle.fc_workers.specs.Answers.{AreTallied, commit_changes, ended_by, install_changes, removal_changes, saturated, IsSomeTaking, IsSomeCommit, IsSomeInstall, IsSomeReceipt, IsSomeRemoval}
 use Rattle.fc_workers.specs.Steps.{Follows, IsReady, IsStep, taken_at}
 use Rattle.fc_workers.specs.Work.{Call, Takes, Commits, Installs, Refuses, Removes, Describes, Looks, Raises, AreCalls, IsCallAt, IsWorkedOff, HasCounted, next_stage, stage_after, change_by, overtaking_by, refusal_by, taking_by, total}
 
@@ -79,6 +79,17 @@ by_turn_follows (Some number) memory job n slot now w less = turn_follows (is_ou
 
 took_follows : (job : Job) (n : ℕ) (x : Taken) → n < takings → IsSomeTaking job x → Follows job (ToTake n) 1 (took n x)
 took_follows job n x less is = subst (λ (x : Taken). Follows job (ToTake n) 1 (took n x)) (sym is.taking.1) (by_turn_follows job.turn is.taking.0 job n is.slot is.now is.watch less)
+
+-- a request's taking is never stale
+finding_ends : (memory : Bool) (job : Job) (serial ended : ℕ) (p : Option Present) → ended_by (taking memory job serial p) ended ≡ ended
+finding_ends memory job serial ended None = refl
+finding_ends true job serial ended (Some p) = refl
+finding_ends false job serial ended (Some p) = refl
+
+pub asked_ends : (job : Job) (x : Taken) (ended : ℕ) → job.turn ≡ None → IsSomeTaking job x → ended_by x ended ≡ ended
+asked_ends job x ended none is =
+    let found : x ≡ taking is.taking.0 job is.slot.serial is.slot.present = is.taking.1 ∙ ap (λ (o : Option ℕ). taking_of_job o is.taking.0 job is.slot is.now is.watch) none in
+    ap (λ (y : Taken). ended_by y ended) found ∙ finding_ends is.taking.0 job is.slot.serial ended is.slot.present
 
 retaken_follows : (job : Job) (n : ℕ) (t : Ticket) (b : Bool) → nat_lt n takings ≡ b → n ≤ takings → Follows job (ToCommit n t) 0 (if b then ToTake n else ToAnswer Unavailable)
 retaken_follows job n t true e le = record { ready = ltb-true n takings e; fewer = omega arith; few = omega arith }
@@ -126,13 +137,13 @@ module _ {T : Type 0} (changes : T → ℕ → ℕ) (job : Job) where
   is_step : (old : Stage) {new next : Stage} {before after counted : Share T} → new ≡ next → after ≡ counted → IsStep changes job old next before counted → IsStep changes job old new before after
   is_step old {new} {next} {before} {after} {counted} e c s = subst (λ (x : Stage). IsStep changes job old x before after) (sym e) (subst (λ (p : Share T). IsStep changes job old next before p) (sym c) s)
 
-  pub took_step : (n : ℕ) (x : Taken) (p : Share T) {next : Stage} {after : Share T} → n < takings → IsSomeTaking job x → next ≡ took n x → after ≡ record p { refusals = saturated (p.refusals + refusal_by (Takes x)) } → IsStep changes job (ToTake n) next p after
-  took_step n x p less is e c = is_step (ToTake n) e c (record {
+  pub took_step : (n : ℕ) (x : Taken) (p : Share T) (tallies : T) {next : Stage} {after : Share T} → n < takings → IsSomeTaking job x → ((shard : ℕ) → shard < 8 → changes tallies shard ≡ changes p.tallies shard) → next ≡ took n x → after ≡ record p { tallies = tallies; refusals = saturated (p.refusals + refusal_by (Takes x)) } → IsStep changes job (ToTake n) next p after
+  took_step n x p tallies less is same e c = is_step (ToTake n) e c (record {
     call = Takes x;
     is = is;
     next = refl;
     follows = took_follows job n x less is;
-    counted = record { tallies = same_tallies (changes p.tallies) job.origin.slot; refusals = omega arith; overtakings = omega arith; got = refl };
+    counted = record { tallies = λ shard lt. same shard lt ∙ same_tallies (changes p.tallies) job.origin.slot shard lt; refusals = omega arith; overtakings = omega arith; got = refl };
   })
 
   pub commit_step : (n : ℕ) (t : Ticket) (x : Committed) (p : Share T) (tallies : T) {next : Stage} {after : Share T} → IsReady job (ToCommit n t) → IsSomeCommit (run_of t) t x → AreTallied (changes p.tallies) (changes tallies) t.origin.slot (commit_changes x) → next ≡ after_commit n t x → after ≡ record p { tallies = tallies; overtakings = saturated (p.overtakings + overtaking_by (Commits x)) } → IsStep changes job (ToCommit n t) next p after

@@ -7,14 +7,22 @@ use Rattle.fc_core.specs.Exchanges.{FrontState}
 use Rattle.fc_core.specs.Receiving.{delivered}
 use Rattle.fc_kinds.specs.Meaning.{Program}
 use Rattle.fc_machine.specs.Ran.{Ran}
+use Rattle.fc_observe.specs.declared.entry.Turn.{Turn}
+use Rattle.fc_observe.specs.declared.observers.Ticked.{Ticked}
 use Rattle.fc_observe.specs.Observers.{ObserverList}
 use Rattle.fc_registry.specs.declared.job.Job.{Job}
 use Rattle.fc_registry.specs.declared.shard.Taken.{Taken}
+use Rattle.fc_registry.specs.declared.shard.Taken.TheVariants.{Stale}
 use Rattle.fc_registry.specs.declared.shard.Made.{Made}
 use Rattle.fc_registry.specs.declared.shard.Made.TheVariants.{Raised, AtEnd}
 use Rattle.fc_registry.specs.declared.commit.Committed.{Committed}
 use Rattle.fc_registry.specs.declared.commit.Committed.TheVariants.{Done}
-use Rattle.fc_registry.specs.Slots.{Slot, Ticket}
+use Rattle.fc_registry.specs.declared.note.Noted.{Noted}
+use Rattle.fc_registry.specs.declared.note.Notification.{Notification}
+use Rattle.fc_registry.specs.Notes.{IsNoted}
+use Rattle.fc_registry.specs.Slots.{Shard, Slot, Ticket}
+use Rattle.fc_registry.specs.Turns.{due_job}
+use Rattle.fc_registry.specs.Watches.{due_place, late_place, ticked_in}
 use Rattle.fc_registry.specs.declared.receipt.Receipt.{Receipt}
 use Rattle.fc_registry.specs.declared.shard.Removal.{Removal}
 use Rattle.fc_registry.specs.declared.shard.Removal.TheVariants.{Removed}
@@ -31,6 +39,23 @@ pub record IsSomeTaking (job : Job) (taken : Taken) : Type 0 where
   pub now : ℕ
   pub watch : ObserverList
   pub taking : IsTaking job slot now watch taken
+
+-- some shard gives this turn, or none
+pub record IsSomeTurn (job : Option Job) : Type 0 where
+  pub shard : Shard
+  pub job_is : job ≡ due_job (due_place shard) shard
+
+-- some shard that is ticked sends this again, or removes an observer, or does nothing
+pub record IsSomeTick (ticked : Ticked) : Type 0 where
+  pub shard : Shard
+  pub ticked_is : ticked ≡ ticked_in (late_place shard) shard
+
+-- a notification of a turn by this message id, at some serial of its slot, to some observers at some moment, comes to this
+pub record IsSomeNote (told : Notification) (turn : Turn) (id : ℕ) (noted : Noted) : Type 0 where
+  pub now : ℕ
+  pub serial : ℕ
+  pub watch : ObserverList
+  pub note : IsNoted told turn id now serial watch noted
 
 -- a commit of a run, by the ticket, at some slot with some observers answers this
 pub record IsSomeCommit (ran : Ran) (t : Ticket) (committed : Committed) : Type 0 where
@@ -76,6 +101,11 @@ AreTallied before after n changes = (shard : ℕ) → shard < 8 → after shard 
 -- a count of 64 bits stops at its greatest
 abbrev pub saturated : ℕ → ℕ
 saturated count = min count 18446744073709551615
+
+-- a taking that is stale ends its job
+abbrev pub ended_by : Taken → ℕ → ℕ
+ended_by Stale ended = saturated (ended + 1)
+ended_by other ended = ended
 
 -- a count of 64 bits has risen by so many
 abbrev pub HasRisen : ℕ → ℕ → ℕ → Type 0

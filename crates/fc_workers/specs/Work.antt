@@ -1,6 +1,6 @@
 -- What is done with a job whose shard others change too: a list of calls, the newest first, each at the stage that needs it,
 -- and answered as its shard answers at some slot.
-use Rattle.std.specs.Prelude.{◌≡◌, ℕ, ◌+◌, ◌≤◌, List, [], ◌∷◌, ◌++◌, Option}
+use Rattle.std.specs.Prelude.{◌≡◌, ℕ, ◌+◌, ◌<◌, ◌≤◌, List, [], ◌∷◌, ◌++◌, Option, Some, None}
 use Rattle.fc_kinds.specs.Meaning.{Program}
 use Rattle.fc_verify.specs.Accepted.{Accepts}
 use Rattle.fc_verify.specs.Judged.{judged}
@@ -118,7 +118,20 @@ pub record IsWorkedOff {T : Type 0} (changes : T → ℕ → ℕ) (job : Job) (c
   pub own : IsOf job content
   pub counted : HasCounted changes job.origin.slot calls before after
 
--- a job was worked off, to some answer
-pub record IsWorked {T : Type 0} (changes : T → ℕ → ℕ) (job : Job) (before after : Share T) : Type 0 where
+-- a request's job was worked off, to some answer
+pub record IsRequestWorked {T : Type 0} (changes : T → ℕ → ℕ) (job : Job) (before after : Share T) : Type 0 where
   pub content : Content
   pub worked : IsWorkedOff changes job content before after
+
+-- a turn was worked off: it changes no slot
+pub record IsTurnWorked {T : Type 0} (changes : T → ℕ → ℕ) (before after : Share T) : Type 0 where
+  pub tallies : (shard : ℕ) → shard < 8 → changes after.tallies shard ≡ changes before.tallies shard
+  pub got : after.got ≡ before.got
+
+abbrev pub IsWorkedAs : {T : Type 0} → (T → ℕ → ℕ) → Option ℕ → Job → Share T → Share T → Type 0
+IsWorkedAs changes None job before after = IsRequestWorked changes job before after
+IsWorkedAs changes (Some number) job before after = IsTurnWorked changes before after
+
+-- a job was worked off, a request's or a turn's
+abbrev pub IsWorked : {T : Type 0} → (T → ℕ → ℕ) → Job → Share T → Share T → Type 0
+IsWorked changes job before after = IsWorkedAs changes job.turn job before after

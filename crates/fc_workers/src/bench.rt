@@ -1,12 +1,15 @@
 //! What workers work at.
 ghost use Rattle.std.specs.Prelude.{◌≡◌, ℕ, ◌+◌, ◌<◌};
 ghost use Rattle.fc_core.specs.Contents.{IsOf};
-ghost use Rattle.fc_workers.specs.Answers.{AreTallied, IsSomeCommit, IsSomeDelivery, IsSomeInstall, IsSomeReceipt, IsSomeRemoval, IsSomeTaking, commit_changes, install_changes, removal_changes, saturated};
+ghost use Rattle.fc_workers.specs.Answers.{AreTallied, IsSomeCommit, IsSomeDelivery, IsSomeInstall, IsSomeNote, IsSomeReceipt, IsSomeRemoval, IsSomeTaking, IsSomeTick, IsSomeTurn, commit_changes, ended_by, install_changes, removal_changes, saturated};
 
 use coap_msg::{Emission, Endpoint};
 use fc_core::{Answer, Delivered};
 use fc_machine::Outcome;
-use fc_registry::{Committed, Job, Made, Receipt, Removal, SlotNumber, Taken, Ticket};
+use fc_observe::{Ticked, Turn};
+use fc_registry::{
+    Committed, Job, Made, Noted, Notification, Receipt, Removal, SlotNumber, Taken, Ticket,
+};
 use fc_verify::Verified;
 use std::sync::{Arc, Wait};
 
@@ -33,9 +36,15 @@ pub trait Bench {
     /// Advances the front to a moment in milliseconds, as [`Front::tick`](fc_core::Front::tick) does.
     fn tick<R: Wait>(&self, rt: &R, now: u64);
 
-    /// Takes what a job finds in its slot, as [`Shard::take`](fc_registry::Shard::take) does.
-    fn take<R: Wait>(&self, rt: &R, job: &Job) -> Taken
-        ensures { IsSomeTaking job.now result };
+    /// A message id of the server's own, at a moment in milliseconds, as [`Front::fresh_id`](fc_core::Front::fresh_id) gives it.
+    fn fresh_id<R: Wait>(&self, rt: &R, now: u64) -> Option<u16>;
+
+    /// Takes what a job finds in its slot, as [`Shard::take`](fc_registry::Shard::take) does. A turn that is stale ends by that.
+    fn take<R: Wait>(&self, rt: &R, job: &Job, tallies: &mut Self::Tallies) -> Taken
+        ensures taken { IsSomeTaking job.now result }
+        ensures changes { (shard : ℕ) → shard < 8 →
+            changes tallies.new shard ≡ changes tallies.old shard }
+        ensures ended { ended tallies.new ≡ ended_by result (ended tallies.old) };
 
     /// Commits a run, at a moment in milliseconds, as [`Shard::commit`](fc_registry::Shard::commit) does.
     fn commit<R: Wait>(
@@ -70,6 +79,41 @@ pub trait Bench {
         ensures changes { AreTallied (changes tallies.old) (changes tallies.new)
             slot (removal_changes result) }
         ensures ended { ended tallies.new ≡ ended tallies.old };
+
+    /// Hands a signal to a shard, 0 to 7, as [`Shard::signal`](fc_registry::Shard::signal) does.
+    fn signal<R: Wait>(&self, rt: &R, shard: u8, endpoint: Endpoint, id: u16, reset: bool);
+
+    /// Advances a shard, 0 to 7, to a moment in milliseconds, as [`Shard::tick`](fc_registry::Shard::tick) does.
+    fn tick_shard<R: Wait>(&self, rt: &R, shard: u8, now: u64) -> Ticked
+        ensures { IsSomeTick result };
+
+    /// Asks a shard, 0 to 7, for a turn at a moment in milliseconds, as [`Shard::next_due`](fc_registry::Shard::next_due) gives it.
+    fn next_due<R: Wait>(&self, rt: &R, shard: u8, now: u64) -> Option<Job>
+        ensures { IsSomeTurn result };
+
+    /// Notifies the observer of a turn, at a moment in milliseconds, as [`Shard::note`](fc_registry::Shard::note) does, and ends its job.
+    fn note<R: Wait>(
+        &self,
+        rt: &R,
+        turn: Turn,
+        id: u16,
+        now: u64,
+        random: u16,
+        told: &Notification<'_>,
+        tallies: &mut Self::Tallies,
+    ) -> Noted
+        requires { turn.slot < 64 }
+        ensures noted { IsSomeNote told.now turn id result }
+        ensures changes { (shard : ℕ) → shard < 8 →
+            changes tallies.new shard ≡ changes tallies.old shard }
+        ensures ended { ended tallies.new ≡ saturated (ended tallies.old + 1) };
+
+    /// Gives up a turn, at a moment in milliseconds, as [`Shard::give_up`](fc_registry::Shard::give_up) does, and ends its job.
+    fn give_up<R: Wait>(&self, rt: &R, turn: Turn, now: u64, tallies: &mut Self::Tallies)
+        requires { turn.slot < 64 }
+        ensures changes { (shard : ℕ) → shard < 8 →
+            changes tallies.new shard ≡ changes tallies.old shard }
+        ensures ended { ended tallies.new ≡ saturated (ended tallies.old + 1) };
 
     /// What the program in a slot is, as [`Shard::receipt`](fc_registry::Shard::receipt) tells it.
     fn receipt<R: Wait>(&self, rt: &R, slot: SlotNumber) -> Option<Receipt>

@@ -3,13 +3,19 @@ ghost use Rattle.std.specs.Prelude.{◌≡◌, ◌+◌, ◌<◌, if◌then◌els
 ghost use Rattle.fc_registry.specs.Slots.{IsOwned, slot_in, with_slot, version_in, vars_in};
 ghost use Rattle.fc_registry.specs.Changes.{after_changes};
 ghost use Rattle.fc_registry.specs.Calls.{CommitsTo, TakesAt, after_taking, install_in, receipt_at, remove_from};
+ghost use Rattle.fc_registry.specs.Notes.{NotesTo};
+ghost use Rattle.fc_registry.specs.Turns.{due_job};
+ghost use Rattle.fc_registry.specs.Watches.{after_due, after_given_up, after_tick, due_place, handed, late_place, signal_call, signalled, ticked_in};
 ghost use Rattle.fc_workers.specs.Answers.{commit_changes, install_changes, removal_changes};
 ghost use Rattle.fc_workers.specs.Counts.{HasEightSlots, serials, counts};
 
 use crate::tally::Tally;
+use coap_msg::Endpoint;
 use fc_machine::Outcome;
+use fc_observe::{Ticked, Turn};
 use fc_registry::{
-    Committed, Job, Made, Receipt, Removal, SHARDS, Shard, SlotNumber, Taken, Ticket,
+    Committed, Job, Made, Noted, Notification, Receipt, Removal, SHARDS, Shard, SlotNumber, Taken,
+    Ticket,
 };
 use fc_verify::Verified;
 use std::marker::Model;
@@ -85,6 +91,55 @@ impl<L: Ledger> Counted<L> {
             tally.count(&mut self.book);
         }
         committed
+    }
+
+    /// Hands a signal to the observers of every slot, as [`Shard::signal`] does.
+    pub fn signal(&mut self, endpoint: Endpoint, id: u16, reset: bool)
+        ensures { self.new ≡ record self.old { shard = signalled (signal_call reset endpoint id) self.old.shard } }
+    {
+        self.shard.signal(endpoint, id, reset);
+    }
+
+    /// Sends the first notification that is late again, as [`Shard::tick`] does.
+    pub fn tick(&mut self, now: u64) -> Ticked
+        ensures answer { result ≡ ticked_in (late_place (handed self.old.shard now)) (handed self.old.shard now) }
+        ensures after { self.new ≡ record self.old { shard = after_tick (late_place (handed self.old.shard now)) (handed self.old.shard now) } }
+    {
+        self.shard.tick(now)
+    }
+
+    /// Gives a turn to the first observer that is due, as [`Shard::next_due`] does.
+    pub fn next_due(&mut self, now: u64) -> Option<Job>
+        ensures job { result ≡ due_job (due_place (handed self.old.shard now)) (handed self.old.shard now) }
+        ensures index { self.new.shard.index ≡ self.old.shard.index }
+        ensures opened { self.new.opened ≡ self.old.opened }
+        ensures after { self.new ≡ record self.old { shard = after_due (due_place (handed self.old.shard now)) (handed self.old.shard now) } }
+    {
+        self.shard.next_due(now)
+    }
+
+    /// Notifies the observer of a turn, as [`Shard::note`] does.
+    pub fn note(
+        &mut self,
+        turn: Turn,
+        id: u16,
+        now: u64,
+        random: u16,
+        told: &Notification<'_>,
+    ) -> Noted
+        requires { IsOwned self.old.shard turn.slot }
+        ensures noted { NotesTo told.now turn id random self.old.shard now result self.new.shard }
+        ensures opened { self.new.opened ≡ self.old.opened }
+    {
+        self.shard.note(turn, id, now, random, told)
+    }
+
+    /// Gives up a turn, as [`Shard::give_up`] does.
+    pub fn give_up(&mut self, turn: Turn, now: u64)
+        requires { IsOwned self.old.shard turn.slot }
+        ensures { self.new ≡ record self.old { shard = after_given_up turn (handed self.old.shard now) } }
+    {
+        self.shard.give_up(turn, now);
     }
 
     /// Installs a program, as [`Shard::install`] does. The tally counts it, but at the slot's last serial.

@@ -42,6 +42,7 @@
 pub mod bench;
 pub mod blanks;
 pub mod counted;
+pub mod notify;
 pub mod pool;
 pub mod reserve;
 pub mod seat;

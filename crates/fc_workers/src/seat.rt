@@ -1,14 +1,16 @@
 //! Workers, each at a seat of its own.
-ghost use Rattle.std.specs.Prelude.{◌≡◌, ◌+◌, IfOk};
+ghost use Rattle.std.specs.Prelude.{◌≡◌, ◌+◌, None, IfOk};
 ghost use Rattle.fc_workers.specs.Answers.{saturated};
 ghost use Rattle.fc_workers.specs.Shares.{IsShareOf};
-ghost use Rattle.fc_workers.specs.Work.{IsWorked};
+ghost use Rattle.fc_workers.specs.Work.{IsRequestWorked, IsWorked};
 
 use crate::bench::Bench;
 use crate::share::Share;
 use crate::workshop::{Gate, Moments, Wire, Workshop};
+use coap_msg::Emission;
 use fc_jobs::{Got, Jobs};
 use fc_machine::Frame;
+use fc_observe::Turn;
 use fc_registry::Job;
 use std::alloc::{AllocError, Global};
 use std::sync::Wait;
@@ -66,7 +68,7 @@ pub fn worker<B: Bench, G: Gate, W: Wire, M: Moments, R: Wait>(
 }
 
 impl<'a, B: Bench, G: Gate, W: Wire, M: Moments> Workshop<'a, B, G, W, M> {
-    // Works a job off, answers it, and sends its reply.
+    // Works a job off, answers it or notifies its turn's observer, and sends what that gives.
     fn work<R: Wait>(
         &self,
         rt: &R,
@@ -79,12 +81,51 @@ impl<'a, B: Bench, G: Gate, W: Wire, M: Moments> Workshop<'a, B, G, W, M> {
         ensures ended { B.ended share.new.tallies ≡ saturated (B.ended share.old.tallies + 1) }
         ensures got { share.new.got ≡ share.old.got }
     {
-        let answer = self.work_off(rt, frame, number, job, share);
-        let now = self.moments.now(rt);
-        let reply = self.bench.answer(rt, now, job, &answer, &mut share.tallies);
+        let reply = self.reply(rt, frame, number, job, share);
         if let Some(emission) = reply {
             share.count_reply(self.wire.send(rt, number, &emission));
         }
         self.wire.ended(rt, number);
+    }
+
+    // Works a job off: what is to be sent, if anything.
+    fn reply<R: Wait>(
+        &self,
+        rt: &R,
+        frame: &mut Frame,
+        number: u64,
+        job: &Job,
+        share: &mut Share<B::Tallies>,
+    ) -> Option<Emission>
+        ensures worked { IsWorked B.changes job.now share.old share.new }
+        ensures ended { B.ended share.new.tallies ≡ saturated (B.ended share.old.tallies + 1) }
+        ensures got { share.new.got ≡ share.old.got }
+    {
+        match job.turn {
+            None => self.answer(rt, frame, number, job, share),
+            Some(number) => {
+                let slot = job.origin.slot.number();
+                self.notify(rt, frame, job, Turn { slot, number }, share)
+            }
+        }
+    }
+
+    // Works a request's job off, and answers it.
+    fn answer<R: Wait>(
+        &self,
+        rt: &R,
+        frame: &mut Frame,
+        number: u64,
+        job: &Job,
+        share: &mut Share<B::Tallies>,
+    ) -> Option<Emission>
+        requires { job.now.turn ≡ None }
+        ensures worked { IsRequestWorked B.changes job.now share.old share.new }
+        ensures ended { B.ended share.new.tallies ≡ saturated (B.ended share.old.tallies + 1) }
+        ensures got { share.new.got ≡ share.old.got }
+    {
+        let answer = self.work_off(rt, frame, number, job, share);
+        let now = self.moments.now(rt);
+        self.bench.answer(rt, now, job, &answer, &mut share.tallies)
     }
 }

@@ -15,7 +15,7 @@ ghost use Rattle.std.specs.Prelude.{◌≡◌, ◌+◌, ◌*◌, ◌<◌, ◌≤
 ghost use Rattle.fc_core.specs.Contents.{IsOf};
 ghost use Rattle.fc_registry.specs.Slots.{last_serial};
 ghost use Rattle.fc_workers.specs.Counts.{no_changes, serials, IsFresh};
-ghost use Rattle.fc_workers.specs.Answers.{AreTallied, IsSomeCommit, IsSomeInstall, IsSomeReceipt, IsSomeRemoval, IsSomeTaking, commit_changes, install_changes, removal_changes, saturated};
+ghost use Rattle.fc_workers.specs.Answers.{AreTallied, IsSomeCommit, IsSomeInstall, IsSomeNote, IsSomeReceipt, IsSomeRemoval, IsSomeTaking, IsSomeTick, IsSomeTurn, commit_changes, install_changes, removal_changes, saturated};
 
 use crate::bench::Bench;
 use crate::blanks::Blanks;
@@ -26,7 +26,10 @@ use crate::tally::Tally;
 use coap_msg::{Emission, Endpoint};
 use fc_core::{Answer, Answered, Delivered, Front, Heads};
 use fc_machine::Outcome;
-use fc_registry::{Committed, Job, Made, Receipt, Removal, Shard, SlotNumber, Taken, Ticket};
+use fc_observe::{Ticked, Turn};
+use fc_registry::{
+    Committed, Job, Made, Noted, Notification, Receipt, Removal, Shard, SlotNumber, Taken, Ticket,
+};
 use fc_verify::Verified;
 use std::alloc::{AllocError, Global};
 use std::sync::ledger::Ledger;
@@ -182,6 +185,80 @@ impl<
             5 => self.shard5.remove(slot, &mut tallies.tally5),
             6 => self.shard6.remove(slot, &mut tallies.tally6),
             _ => self.shard7.remove(slot, &mut tallies.tally7),
+        }
+    }
+
+    fn signal(&mut self, shard: u8, endpoint: Endpoint, id: u16, reset: bool) {
+        match shard {
+            0 => self.shard0.signal(endpoint, id, reset),
+            1 => self.shard1.signal(endpoint, id, reset),
+            2 => self.shard2.signal(endpoint, id, reset),
+            3 => self.shard3.signal(endpoint, id, reset),
+            4 => self.shard4.signal(endpoint, id, reset),
+            5 => self.shard5.signal(endpoint, id, reset),
+            6 => self.shard6.signal(endpoint, id, reset),
+            _ => self.shard7.signal(endpoint, id, reset),
+        }
+    }
+
+    fn tick_shard(&mut self, shard: u8, now: u64) -> Ticked
+        ensures { IsSomeTick result }
+    {
+        match shard {
+            0 => self.shard0.tick(now),
+            1 => self.shard1.tick(now),
+            2 => self.shard2.tick(now),
+            3 => self.shard3.tick(now),
+            4 => self.shard4.tick(now),
+            5 => self.shard5.tick(now),
+            6 => self.shard6.tick(now),
+            _ => self.shard7.tick(now),
+        }
+    }
+
+    fn next_due(&mut self, shard: u8, now: u64) -> Option<Job>
+        ensures { IsSomeTurn result }
+    {
+        match shard {
+            0 => self.shard0.next_due(now),
+            1 => self.shard1.next_due(now),
+            2 => self.shard2.next_due(now),
+            3 => self.shard3.next_due(now),
+            4 => self.shard4.next_due(now),
+            5 => self.shard5.next_due(now),
+            6 => self.shard6.next_due(now),
+            _ => self.shard7.next_due(now),
+        }
+    }
+
+    fn note(&mut self, turn: Turn, id: u16, now: u64, random: u16, told: &Notification<'_>) -> Noted
+        requires { turn.slot < 64 }
+        ensures { IsSomeNote told.now turn id result }
+    {
+        match turn.slot % 8 {
+            0 => self.shard0.note(turn, id, now, random, told),
+            1 => self.shard1.note(turn, id, now, random, told),
+            2 => self.shard2.note(turn, id, now, random, told),
+            3 => self.shard3.note(turn, id, now, random, told),
+            4 => self.shard4.note(turn, id, now, random, told),
+            5 => self.shard5.note(turn, id, now, random, told),
+            6 => self.shard6.note(turn, id, now, random, told),
+            _ => self.shard7.note(turn, id, now, random, told),
+        }
+    }
+
+    fn give_up(&mut self, turn: Turn, now: u64)
+        requires { turn.slot < 64 }
+    {
+        match turn.slot % 8 {
+            0 => self.shard0.give_up(turn, now),
+            1 => self.shard1.give_up(turn, now),
+            2 => self.shard2.give_up(turn, now),
+            3 => self.shard3.give_up(turn, now),
+            4 => self.shard4.give_up(turn, now),
+            5 => self.shard5.give_up(turn, now),
+            6 => self.shard6.give_up(turn, now),
+            _ => self.shard7.give_up(turn, now),
         }
     }
 
@@ -489,9 +566,63 @@ impl<
         state.front.tick(now);
     }
 
-    fn take<R: Wait>(&self, rt: &R, job: &Job) -> Taken {
+    fn fresh_id<R: Wait>(&self, rt: &R, now: u64) -> Option<u16> {
         let mut state = self.state.lock(rt);
-        state.take(job)
+        state.front.fresh_id(now)
+    }
+
+    fn take<R: Wait>(
+        &self,
+        rt: &R,
+        job: &Job,
+        tallies: &mut Tallies<L0, L1, L2, L3, L4, L5, L6, L7>,
+    ) -> Taken {
+        let mut state = self.state.lock(rt);
+        let taken = state.take(job);
+        tallies.end_taking(&taken);
+        taken
+    }
+
+    fn signal<R: Wait>(&self, rt: &R, shard: u8, endpoint: Endpoint, id: u16, reset: bool) {
+        let mut state = self.state.lock(rt);
+        state.signal(shard, endpoint, id, reset);
+    }
+
+    fn tick_shard<R: Wait>(&self, rt: &R, shard: u8, now: u64) -> Ticked {
+        let mut state = self.state.lock(rt);
+        state.tick_shard(shard, now)
+    }
+
+    fn next_due<R: Wait>(&self, rt: &R, shard: u8, now: u64) -> Option<Job> {
+        let mut state = self.state.lock(rt);
+        state.next_due(shard, now)
+    }
+
+    fn note<R: Wait>(
+        &self,
+        rt: &R,
+        turn: Turn,
+        id: u16,
+        now: u64,
+        random: u16,
+        told: &Notification<'_>,
+        tallies: &mut Tallies<L0, L1, L2, L3, L4, L5, L6, L7>,
+    ) -> Noted {
+        tallies.end_job();
+        let mut state = self.state.lock(rt);
+        state.note(turn, id, now, random, told)
+    }
+
+    fn give_up<R: Wait>(
+        &self,
+        rt: &R,
+        turn: Turn,
+        now: u64,
+        tallies: &mut Tallies<L0, L1, L2, L3, L4, L5, L6, L7>,
+    ) {
+        tallies.end_job();
+        let mut state = self.state.lock(rt);
+        state.give_up(turn, now);
     }
 
     fn commit<R: Wait>(

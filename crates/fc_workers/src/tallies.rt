@@ -1,8 +1,9 @@
 //! The tallies of eight shards.
 ghost use Rattle.std.specs.Prelude.{◌≡◌, ◌+◌, ◌<◌, slice_index};
-ghost use Rattle.fc_workers.specs.Answers.{saturated};
+ghost use Rattle.fc_workers.specs.Answers.{ended_by, saturated};
 
 use crate::tally::Tally;
+use fc_registry::Taken;
 use std::marker::Model;
 use std::sync::ledger::Ledger;
 
@@ -96,5 +97,15 @@ impl<
         ensures { self.new ≡ record self.old { ended = saturated (self.old.ended + 1) } }
     {
         self.ended = self.ended.saturating_add(1);
+    }
+
+    // One job more has ended where its taking is stale.
+    pub(crate) fn end_taking(&mut self, taken: &Taken)
+        ensures { self.new ≡ record self.old { ended = ended_by taken.now self.old.ended } }
+    {
+        match taken {
+            Taken::Stale => self.end_job(),
+            Taken::Given(_) | Taken::Missing | Taken::Refused => {}
+        }
     }
 }

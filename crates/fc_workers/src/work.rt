@@ -1,5 +1,5 @@
 //! Jobs worked off over a bench.
-ghost use Rattle.std.specs.Prelude.{◌≡◌, ◌<◌, ◌++◌, ◌∷◌, ℕ, [], length};
+ghost use Rattle.std.specs.Prelude.{◌≡◌, ◌<◌, ◌++◌, ◌∷◌, ℕ, [], None, length};
 ghost use Rattle.fc_verify.specs.Judged.{judged};
 ghost use Rattle.fc_verify.specs.Accepted.{Accepts, IsAccepted};
 ghost use Rattle.fc_core.specs.Stages.{image_of, listed};
@@ -18,7 +18,7 @@ use fc_verify::{Refusal, Verified, verify};
 use std::sync::{Arc, Wait};
 
 impl<'a, B: Bench, G: Gate, W: Wire, M: Moments> Workshop<'a, B, G, W, M> {
-    /// Works a job off, up to what it is to be answered. Turns don't come here yet: each job is taken for a request's.
+    /// Works a request's job off, up to what it is to be answered.
     ///
     /// There is a list of calls from the job's first stage to this answer. Each is the call that its stage needs, and its
     /// answer is true of some slot; the next stage is the row of that answer. At most eight of them take. The share counts
@@ -31,6 +31,7 @@ impl<'a, B: Bench, G: Gate, W: Wire, M: Moments> Workshop<'a, B, G, W, M> {
         job: &Job,
         share: &mut Share<B::Tallies>,
     ) -> Answer
+        requires { job.now.turn ≡ None }
         ensures worked { IsWorkedOff B.changes job.now result share.old share.new }
         ensures ended { B.ended share.new.tallies ≡ B.ended share.old.tallies }
     {
@@ -77,11 +78,12 @@ impl<'a, B: Bench, G: Gate, W: Wire, M: Moments> Workshop<'a, B, G, W, M> {
 
     // Takes what the job finds.
     fn take<R: Wait>(&self, rt: &R, job: &Job, count: u8, share: &mut Share<B::Tallies>) -> Stage
-        requires { IsReady job.now (ToTake count) }
+        requires ready { IsReady job.now (ToTake count) }
+        requires asked { job.now.turn ≡ None }
         ensures step { IsStep B.changes job.now (ToTake count) result share.old share.new }
         ensures ended { B.ended share.new.tallies ≡ B.ended share.old.tallies }
     {
-        let taken = self.bench.take(rt, job);
+        let taken = self.bench.take(rt, job, &mut share.tallies);
         share.count_taking(&taken);
         Stage::took(count, taken)
     }

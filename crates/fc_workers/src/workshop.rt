@@ -19,11 +19,14 @@ pub trait Wire {
     fn ended<R: Wait>(&self, rt: &R, number: u64);
 }
 
-/// What moment it is, in milliseconds since a start of its own. It may run backwards: who is handed a moment keeps the
+/// What moment it is, in milliseconds since a start of its own, and random words. It may run backwards: who is handed a moment keeps the
 /// greatest.
 pub trait Moments {
     /// The moment of the call.
     fn now<R: Wait>(&self, rt: &R) -> u64;
+
+    /// A random word, which says how long a confirmable notification is waited for.
+    fn random<R: Wait>(&self, rt: &R) -> u16;
 }
 
 /// What all workers share.

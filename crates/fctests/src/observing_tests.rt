@@ -1,9 +1,12 @@
 // Observers of a server that plays lines: what they are told, by the bytes of the protocol, worked out by hand.
 use crate::play_tests::plays;
+use crate::post_tests::check_played;
 use crate::replay_tests::COUNT;
 use fc_cli::Status;
 use std::alloc::{AllocError, Global};
 use std::process::Abort;
+use std::sync::Wait;
+use std::thread::Threads;
 
 // COUNT is installed in slot 1; then these lines are played.
 fn observes(
@@ -24,11 +27,18 @@ fn observes(
     ))
 }
 
-fn check_observed<R: Abort + AllocGlobal>(rt: &R, lines: &str, printed: &str) {
-    assert!(rt;
-        observes(rt.alloc(), 0, lines, printed).is_ok_and(|is| is),
-        "{lines}"
-    );
+// On one thread, and by workers.
+fn check_observed<R: Abort + AllocGlobal + Threads + Wait + Sync>(
+    rt: &R,
+    lines: &str,
+    printed: &str,
+) {
+    let image = COUNT;
+    let input = format!(in rt.alloc(); "0 1 4103123370b1700131ff{image}\n{lines}");
+    match input {
+        Ok(input) => check_played(rt, &input, printed),
+        Err(_) => assert!(rt; false, "out of memory"),
+    }
 }
 
 // The sequence number is the serial's lowest 24 bits, which are all ones at the registration and 0 at the notification. After a Reset

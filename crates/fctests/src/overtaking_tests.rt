@@ -124,6 +124,11 @@ impl Moments for Replies {
         let _ = rt;
         0
     }
+
+    fn random<R: Wait>(&self, rt: &R) -> u16 {
+        let _ = rt;
+        0
+    }
 }
 
 // What the workers' shares count.

@@ -1,0 +1,104 @@
+//! Turns of observers worked off over a bench.
+ghost use Rattle.std.specs.Prelude.{◌≡◌, ◌+◌, ◌<◌, ℕ};
+ghost use Rattle.fc_workers.specs.Answers.{saturated};
+ghost use Rattle.fc_workers.specs.Work.{IsTurnWorked};
+
+use crate::bench::Bench;
+use crate::share::Share;
+use crate::workshop::{Gate, Moments, Wire, Workshop};
+use coap_msg::Emission;
+use fc_machine::{Frame, run};
+use fc_observe::Turn;
+use fc_registry::{Job, Noted, Notification, Taken, Ticket};
+use std::sync::Wait;
+
+impl<'a, B: Bench, G: Gate, W: Wire, M: Moments> Workshop<'a, B, G, W, M> {
+    /// Works a turn off: takes what its slot holds, draws a message id, runs the program and notifies the observer: what is to be sent,
+    /// if anything. Where memory is refused, or no message id is free, the turn is given up. No slot changes, and one job is ended.
+    pub fn notify<R: Wait>(
+        &self,
+        rt: &R,
+        frame: &mut Frame,
+        job: &Job,
+        turn: Turn,
+        share: &mut Share<B::Tallies>,
+    ) -> Option<Emission>
+        requires { turn.slot < 64 }
+        ensures worked { IsTurnWorked B.changes share.old share.new }
+        ensures ended { B.ended share.new.tallies ≡ saturated (B.ended share.old.tallies + 1) }
+    {
+        let taken = self.bench.take(rt, job, &mut share.tallies);
+        share.count_taking(&taken);
+        match taken {
+            Taken::Given(ticket) => self.tell(rt, frame, turn, Some(ticket), share),
+            Taken::Missing => self.tell(rt, frame, turn, None, share),
+            Taken::Refused => self.give_up(rt, turn, share),
+            Taken::Stale => None,
+        }
+    }
+
+    // Tells what a turn's taking found: a ticket, or an empty slot.
+    fn tell<R: Wait>(
+        &self,
+        rt: &R,
+        frame: &mut Frame,
+        turn: Turn,
+        found: Option<Ticket>,
+        share: &mut Share<B::Tallies>,
+    ) -> Option<Emission>
+        requires { turn.slot < 64 }
+        ensures worked { IsTurnWorked B.changes share.old share.new }
+        ensures ended { B.ended share.new.tallies ≡ saturated (B.ended share.old.tallies + 1) }
+    {
+        let Some(id) = self.bench.fresh_id(rt, self.moments.now(rt)) else {
+            return self.give_up(rt, turn, share);
+        };
+        match &found {
+            Some(ticket) => {
+                let outcome = run(frame, ticket.program(), ticket.request(), ticket.vars());
+                self.note(rt, turn, id, &Notification::Ran(&outcome, ticket), share)
+            }
+            None => self.note(rt, turn, id, &Notification::Gone, share),
+        }
+    }
+
+    // Notifies the observer of a turn.
+    fn note<R: Wait>(
+        &self,
+        rt: &R,
+        turn: Turn,
+        id: u16,
+        told: &Notification<'_>,
+        share: &mut Share<B::Tallies>,
+    ) -> Option<Emission>
+        requires { turn.slot < 64 }
+        ensures worked { IsTurnWorked B.changes share.old share.new }
+        ensures ended { B.ended share.new.tallies ≡ saturated (B.ended share.old.tallies + 1) }
+    {
+        let now = self.moments.now(rt);
+        let random = self.moments.random(rt);
+        match self
+            .bench
+            .note(rt, turn, id, now, random, told, &mut share.tallies)
+        {
+            Noted::Send(emission) => Some(emission),
+            Noted::Stale | Noted::Stranger => None,
+        }
+    }
+
+    // Gives up a turn: nothing is sent.
+    fn give_up<R: Wait>(
+        &self,
+        rt: &R,
+        turn: Turn,
+        share: &mut Share<B::Tallies>,
+    ) -> Option<Emission>
+        requires { turn.slot < 64 }
+        ensures worked { IsTurnWorked B.changes share.old share.new }
+        ensures ended { B.ended share.new.tallies ≡ saturated (B.ended share.old.tallies + 1) }
+    {
+        self.bench
+            .give_up(rt, turn, self.moments.now(rt), &mut share.tallies);
+        None
+    }
+}
