@@ -6,9 +6,11 @@ Run it at the top of the repository, behind `rt run` in crates/fcd, which builds
     python3 docs/socket/hostile.py [--count N] [--seconds S] [--no-wait]
 
 It starts `fcd serve`, installs a program in slot 1, and sends N datagrams (1,000,000 where it isn't given), each a request of the
-server's with bytes changed, cut, repeated or put in, or random bytes, for S seconds at most (600). The same seed gives the same
+server's, registrations of observers and their Acknowledgements and Resets among them, with bytes changed, cut, repeated or put in, or
+random bytes, for S seconds at most (600). The same seed gives the same
 datagrams. It tells the server's resident memory before and behind them, waits 247 s, after which each exchange is gone, and asks
-once more: a PUT has to be answered 2.01 or 2.04, and a GET 2.05. It ends with 1 where the server has ended or doesn't answer so.
+once more: a PUT has to be answered 2.01 or 2.04, and a GET 2.05, and 32 observers of one slot have to hear of a change. It ends with 1
+where the server has ended or doesn't answer so.
 """
 import argparse
 import random
@@ -46,7 +48,14 @@ SEEDS = [
     bytes.fromhex("40040000b1700132"),
     bytes.fromhex("70000000"),
     bytes.fromhex("60000000"),
+    # Registrations of observers and their end; the last byte but six is the token, which is drawn too.
+    bytes.fromhex("41010000006051720131"),
+    bytes.fromhex("4101000000610151720131"),
 ]
+
+# The observers of one slot, and the slot that they observe in the end.
+OBSERVERS = 32
+WATCHED = bytes.fromhex("b1720133")
 
 
 def mutated(rng):
@@ -55,6 +64,8 @@ def mutated(rng):
         return rng.randbytes(rng.randrange(0, 1400))
     bytes_ = bytearray(rng.choice(SEEDS))
     bytes_[2:4] = rng.randbytes(2)
+    if bytes_[0] == 0x41:
+        bytes_[4] = rng.randrange(0, 256)
     for _ in range(rng.randrange(0, 5)):
         place = rng.randrange(0, len(bytes_) + 1)
         kind = rng.randrange(0, 5)
@@ -118,6 +129,25 @@ def send(count, seconds):
     return sent, replies + drain(sockets)
 
 
+def observed():
+    """How many of 32 observers of slot 3 hear of a POST: each has a port of its own."""
+    sockets = [socket.socket(socket.AF_INET, socket.SOCK_DGRAM) for _ in range(OBSERVERS)]
+    print("PUT of the observed program:", ask(PUT.replace(b"p\x011", b"p\x013"), 4))
+    for it in sockets:
+        it.settimeout(5)
+        it.sendto(bytes.fromhex("41010001aa6051720133"), ("127.0.0.1", PORT))
+        it.recv(2048)
+    ask(bytes.fromhex("40020000") + WATCHED, 5)
+    heard = 0
+    for it in sockets:
+        try:
+            heard += it.recv(2048)[1] == 0x45
+        except TimeoutError:
+            pass
+        it.close()
+    return heard
+
+
 def main():
     parser = argparse.ArgumentParser(description=__doc__.splitlines()[0])
     parser.add_argument("--count", type=int, default=1_000_000)
@@ -142,7 +172,9 @@ def main():
         put, get = ask(PUT, 2), ask(GET, 3)
         print("PUT:", put)
         print("GET:", get)
-        return 0 if put in ("2.01", "2.04") and get == "2.05" else 1
+        heard = observed()
+        print(f"{heard} of {OBSERVERS} observers hear of a change")
+        return 0 if put in ("2.01", "2.04") and get == "2.05" and heard == OBSERVERS else 1
     finally:
         if server.poll() is None:
             server.terminate()

@@ -23,7 +23,7 @@ use Rattle.fc_core.specs.Receiving as x
 use Rattle.fc_core.specs.Receiving.{Received, after_delivered, brought, delivered, handed_on, next_opening, received, reply_or_nothing, sent}
 use Rattle.fc_core.specs.Stages.{new_task}
 use Rattle.fc_server.specs.Agreement.{Agrees, Parts}
-use Rattle.fc_server.specs.Serving.{Asked, Delivers, Heard, Hears, IsReachable, Notifies, Passes, Resends, Serves, next, signalled_below, turned, with_tasks, worked}
+use Rattle.fc_server.specs.Serving.{TurnGiven, Delivers, Heard, Hears, IsReachable, AsksForTurn, Passes, TicksShard, Serves, next, signalled_below, turned, with_tasks, worked}
 use Rattle.fc_server.specs.States.{Responds, AtWork, Does, DrawsId, ServerState}
 use Rattle.fc_server.specs.Steps.{DeliveredTo, Done, IsOfJob, IsReached, resent_if, shard_asked, shard_changed, shard_resent, shard_ticked, shard_turn, turn_if}
 use Rattle.fc_server.proofs.Others.{delivered_done, does_done, draws_done, responds_done, shard_done, ticked_done}
@@ -219,12 +219,12 @@ passed_served now old new s passes = record { history = next s.history (Tick now
 
 -- ---- a turn
 
-pub resent_served : (shard now : ℕ) (old new : ServerState) (out : Option Emission) → IsReachable old → Resends shard now old new out → IsReachable new
+pub resent_served : (shard now : ℕ) (old new : ServerState) (out : Option Emission) → IsReachable old → TicksShard shard now old new out → IsReachable new
 resent_served shard now old new out s resends = record { history = next s.history (ShardTick shard now) out; tasks = s.tasks; serves = resends s.history s.tasks s.serves }
 
-asked_served : (b : Bool) (h : History) (k now random : ℕ) (new : ServerState) (out : Option Emission) → Asked b h k now random new out → IsReachable new
+asked_served : (b : Bool) (h : History) (k now random : ℕ) (new : ServerState) (out : Option Emission) → TurnGiven b h k now random new out → IsReachable new
 asked_served false h k now random new out w = record { history = h; tasks = w.1.tasks; serves = w.1.serves }
 asked_served true h k now random new out w = record { history = turned k w.memory now random out h; tasks = w.tasks; serves = w.serves }
 
-pub notified_served : (shard now random : ℕ) (old new : ServerState) (given : Bool) (out : Option Emission) → IsReachable old → Notifies shard now random old new given out → IsReachable new
+pub notified_served : (shard now random : ℕ) (old new : ServerState) (given : Bool) (out : Option Emission) → IsReachable old → AsksForTurn shard now random old new given out → IsReachable new
 notified_served shard now random old new given out s notifies = asked_served given (next s.history (Due shard now) None) (length s.tasks) now random new out (notifies.asked s.history s.tasks s.serves)

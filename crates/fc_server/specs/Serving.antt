@@ -89,8 +89,8 @@ abbrev pub Passes : ℕ → ServerState → ServerState → Type 0
 Passes now old new = (h : History) → (tasks : List Task) → Serves h old tasks → Serves (next h (Tick now) None) new tasks
 
 -- a shard is ticked, and what is late is sent again
-abbrev pub Resends : ℕ → ℕ → ServerState → ServerState → Option Emission → Type 0
-Resends shard now old new out = (h : History) → (tasks : List Task) → Serves h old tasks → Serves (next h (ShardTick shard now) out) new tasks
+abbrev pub TicksShard : ℕ → ℕ → ServerState → ServerState → Option Emission → Type 0
+TicksShard shard now old new out = (h : History) → (tasks : List Task) → Serves h old tasks → Serves (next h (ShardTick shard now) out) new tasks
 
 -- the events of the job of this number, which is a turn that is worked off at once: where no message id is free it is given up
 abbrev pub turned : ℕ → Bool → ℕ → ℕ → Option Emission → History → History
@@ -103,13 +103,13 @@ pub record Turned (h : History) (k now random : ℕ) (new : ServerState) (out : 
   pub serves : Serves (turned k memory now random out h) new tasks
 
 -- a shard was asked for a turn: it gave none, or one that was worked off
-abbrev pub Asked : Bool → History → ℕ → ℕ → ℕ → ServerState → Option Emission → Type 0
-Asked false h k now random new out = (out ≡ None) × Reaches h new
-Asked true h k now random new out = Turned h k now random new out
+abbrev pub TurnGiven : Bool → History → ℕ → ℕ → ℕ → ServerState → Option Emission → Type 0
+TurnGiven false h k now random new out = (out ≡ None) × Reaches h new
+TurnGiven true h k now random new out = Turned h k now random new out
 
 -- whatever the history so far; the turn has the next number
-pub record Notifies (shard now random : ℕ) (old new : ServerState) (given : Bool) (out : Option Emission) : Type 0 where
-  pub asked : (h : History) (tasks : List Task) → Serves h old tasks → Asked given (next h (Due shard now) None) (length tasks) now random new out
+pub record AsksForTurn (shard now random : ℕ) (old new : ServerState) (given : Bool) (out : Option Emission) : Type 0 where
+  pub asked : (h : History) (tasks : List Task) → Serves h old tasks → TurnGiven given (next h (Due shard now) None) (length tasks) now random new out
 
 -- the turn at work is the last job that came
 abbrev pub Turns : ℕ → ℕ → ServerState → Task → ServerState → Option Emission → Type 0

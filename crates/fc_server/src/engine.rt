@@ -8,7 +8,7 @@ ghost use Rattle.fc_core.specs.Exchanges.{advanced};
 ghost use Rattle.fc_core.specs.History.{Begins};
 ghost use Rattle.fc_core.specs.Receiving.{delivered, emission_if};
 ghost use Rattle.fc_core.specs.Legal.{resent};
-ghost use Rattle.fc_server.specs.Serving.{Hears, IsBegun, IsReachable, Notifies, Passes, Resends, Serves, Turns, WorksOff};
+ghost use Rattle.fc_server.specs.Serving.{Hears, IsBegun, IsReachable, AsksForTurn, Passes, TicksShard, Serves, Turns, WorksOff};
 ghost use Rattle.fc_server.specs.Notified.{is_given, notification_in};
 ghost use Rattle.fc_server.specs.Serving.{IsSignalled};
 
@@ -94,7 +94,7 @@ impl Engine {
     /// observer. What it does is the event ShardTick.
     pub fn resend(&mut self, shard: u8, now: u64) -> Ticked
         requires { shard < 8 }
-        ensures { Resends shard now self.old self.new (resent result) }
+        ensures { TicksShard shard now self.old self.new (resent result) }
     {
         resend(&mut self.server, shard, now)
     }
@@ -103,7 +103,7 @@ impl Engine {
     /// where it brings a turn, Take, Fresh, Note and GiveUp of it. The random word says how long a confirmable notification is waited for.
     pub fn notify(&mut self, shard: u8, now: u64, random: u16) -> Notified
         requires { shard < 8 }
-        ensures { Notifies shard now random self.old self.new (is_given result) (notification_in result) }
+        ensures { AsksForTurn shard now random self.old self.new (is_given result) (notification_in result) }
     {
         notify(&mut self.server, &mut self.task, shard, now, random)
     }
@@ -162,7 +162,7 @@ fn signal(server: &mut Server, endpoint: Endpoint, id: u16, reset: bool)
 fn resend(server: &mut Server, shard: u8, now: u64) -> Ticked
     requires shard { shard < 8 }
     requires reachable { IsReachable server.old }
-    ensures { Resends shard now server.old server.new (resent result) }
+    ensures { TicksShard shard now server.old server.new (resent result) }
 {
     server.tick_shard(shard, now)
 }
@@ -170,7 +170,7 @@ fn resend(server: &mut Server, shard: u8, now: u64) -> Ticked
 fn notify(server: &mut Server, task: &mut Task, shard: u8, now: u64, random: u16) -> Notified
     requires shard { shard < 8 }
     requires reachable { IsReachable server.old }
-    ensures { Notifies shard now random server.old server.new (is_given result) (notification_in result) }
+    ensures { AsksForTurn shard now random server.old server.new (is_given result) (notification_in result) }
 {
     match server.due(shard, now) {
         None => Notified::Nobody,

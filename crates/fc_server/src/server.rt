@@ -109,7 +109,8 @@ impl Server {
     pub fn signal(&mut self, shard: u8, endpoint: Endpoint, id: u16, reset: bool)
         requires { shard < length self.old.shards }
         ensures front { self.new.front ≡ self.old.front }
-        ensures shards { self.new.shards ≡ slice_set self.old.shards shard (signalled (signal_call reset endpoint id) (shard_at self.old.shards shard)) }
+        ensures shards { let signal = signalled (signal_call reset endpoint id) in
+            self.new.shards ≡ slice_set self.old.shards shard (signal (shard_at self.old.shards shard)) }
         ensures words { self.new.words ≡ self.old.words }
     {
         self.shards[usize::from(shard)].signal(endpoint, id, reset);

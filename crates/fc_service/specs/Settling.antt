@@ -2,34 +2,34 @@
 use Rattle.std.specs.Prelude.{◌≡◌, ℕ, Bool, List, [], ◌∷◌, ◌++◌, flat_map, Option}
 use Rattle.std.specs.Option.{option_to_list}
 use Rattle.coap_msg.specs.declared.types.Emission.{Emission}
-use Rattle.fc_server.specs.Serving.{Notifies, Resends}
+use Rattle.fc_server.specs.Serving.{AsksForTurn, TicksShard}
 use Rattle.fc_server.specs.States.{ServerState}
 use Rattle.fc_lines.specs.Emissions.{printed}
 
 -- a shard is ticked, or asked for a turn that is worked off, where it gives one; and this was sent
-pub data Step : Type 0 where
-  Resent : (shard : ℕ) (sent : Option Emission) → Step
-  Notified : (shard : ℕ) (given : Bool) (sent : Option Emission) → Step
+pub data SettlingStep : Type 0 where
+  Resent : (shard : ℕ) (sent : Option Emission) → SettlingStep
+  Notified : (shard : ℕ) (given : Bool) (sent : Option Emission) → SettlingStep
 
-abbrev pub sent_in_step : Step → Option Emission
+abbrev pub sent_in_step : SettlingStep → Option Emission
 sent_in_step (Resent shard sent) = sent
 sent_in_step (Notified shard given sent) = sent
 
 -- at a moment, with this random word
-abbrev pub IsStep : ℕ → ℕ → Step → ServerState → ServerState → Type 0
-IsStep now random (Resent shard sent) old new = Resends shard now old new sent
-IsStep now random (Notified shard given sent) old new = Notifies shard now random old new given sent
+abbrev pub IsStep : ℕ → ℕ → SettlingStep → ServerState → ServerState → Type 0
+IsStep now random (Resent shard sent) old new = TicksShard shard now old new sent
+IsStep now random (Notified shard given sent) old new = AsksForTurn shard now random old new given sent
 
 -- steps that were taken one after the other, the newest first
-abbrev pub AreSteps : ℕ → ℕ → List Step → ServerState → ServerState → Type 0
+abbrev pub AreSteps : ℕ → ℕ → List SettlingStep → ServerState → ServerState → Type 0
 AreSteps now random [] old new = new ≡ old
 AreSteps now random (step ∷ steps) old new = (mid : ServerState) × IsStep now random step mid new × AreSteps now random steps old mid
 
 -- what they sent, the oldest first
-abbrev pub sent_in_steps : List Step → List Emission
+abbrev pub sent_in_steps : List SettlingStep → List Emission
 sent_in_steps [] = []
 sent_in_steps (step ∷ steps) = sent_in_steps steps ++ option_to_list (sent_in_step step)
 
 -- what is printed of it
-abbrev pub printed_steps : List Step → List ℕ
+abbrev pub printed_steps : List SettlingStep → List ℕ
 printed_steps steps = flat_map printed (sent_in_steps steps)

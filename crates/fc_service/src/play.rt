@@ -5,7 +5,7 @@ ghost use Rattle.coap_msg.specs.declared.types.Emission.{Emission as Sent};
 ghost use Rattle.fc_registry.specs.Slots.{last_serial};
 ghost use Rattle.fc_core.specs.Receiving.{emission_if};
 ghost use Rattle.fc_service.specs.Playing.{output_of, IsCarriedOut};
-ghost use Rattle.fc_service.specs.Settling.{AreSteps, Step, printed_steps};
+ghost use Rattle.fc_service.specs.Settling.{AreSteps, SettlingStep, printed_steps};
 
 use crate::settle::{STEPS, Settling};
 use coap_msg::Emission;
@@ -110,7 +110,7 @@ pub(crate) fn moment(line: &Line) -> u64 {
 
 // Prints what is sent again, and what observers are told, at a moment in milliseconds.
 fn settle<W: Write>(engine: &mut Engine, now: u64, out: &mut W) -> io::Result<()>
-    ensures { (steps : List Step) × AreSteps now 0 steps engine.old engine.new
+    ensures { (steps : List SettlingStep) × AreSteps now 0 steps engine.old engine.new
         × OnOk result (Appends (W.contents out.old) (W.contents out.new) (printed_steps steps)) }
 {
     let mut settling = Settling::new();

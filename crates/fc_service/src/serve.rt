@@ -4,7 +4,7 @@ ghost use Rattle.fc_core.specs.Exchanges.{advanced};
 ghost use Rattle.fc_core.specs.Receiving.{delivered, emission_if};
 ghost use Rattle.fc_registry.specs.Slots.{last_serial};
 ghost use Rattle.fc_server.specs.Serving.{Hears};
-ghost use Rattle.fc_service.specs.Settling.{AreSteps, Step};
+ghost use Rattle.fc_service.specs.Settling.{AreSteps, SettlingStep};
 ghost use Rattle.fc_cli.specs.declared.status.Status.TheVariants.{Done, Failed};
 
 use crate::clock::Elapsed;
@@ -283,7 +283,7 @@ impl<'a, S: Source, K: Sink, M: Moments> Receiver<'a, S, K, M> {
 
 // Sends what is late again, and notifies the observers that are due, at a moment in milliseconds, whose low bits are the random word.
 fn settle<K: Sink>(engine: &mut Engine, now: u64, sink: &K, replies: &mut Replies)
-    ensures { (steps : List Step) × AreSteps now (now % 65536) steps engine.old engine.new }
+    ensures { (steps : List SettlingStep) × AreSteps now (now % 65536) steps engine.old engine.new }
 {
     let random = (now % 0x1_0000) as u16;
     let mut settling = Settling::new();

@@ -2,9 +2,9 @@
 ghost use Rattle.std.specs.Prelude.{◌≡◌, ◌<◌, Bool, IfSome, List};
 ghost use Rattle.fc_core.specs.Legal.{resent};
 ghost use Rattle.fc_server.specs.Notified.{notification_in};
-ghost use Rattle.fc_server.specs.Serving.{Notifies, Resends};
+ghost use Rattle.fc_server.specs.Serving.{AsksForTurn, TicksShard};
 ghost use Rattle.std.specs.Option.{option_to_list};
-ghost use Rattle.fc_service.specs.Settling.{AreSteps, IsStep, Step, sent_in_step, sent_in_steps};
+ghost use Rattle.fc_service.specs.Settling.{AreSteps, IsStep, SettlingStep, sent_in_step, sent_in_steps};
 
 use coap_msg::Emission;
 use fc_observe::Ticked;
@@ -36,7 +36,7 @@ impl Settling {
     /// The next that is to be sent at a moment in milliseconds, shard after shard; none where nothing is left, or no message id is free.
     /// The random word says how long a confirmable notification is waited for.
     pub(crate) fn next(&mut self, engine: &mut Engine, now: u64, random: u16) -> Option<Emission>
-        ensures { (steps : List Step) × AreSteps now random steps engine.old engine.new
+        ensures { (steps : List SettlingStep) × AreSteps now random steps engine.old engine.new
             × (sent_in_steps steps ≡ option_to_list result) }
     {
         for _ in 0..STEPS {
@@ -54,7 +54,7 @@ impl Settling {
     // Asks the shard that it is at.
     fn step(&mut self, engine: &mut Engine, now: u64, random: u16) -> Option<Emission>
         requires { self.old.shard < 8 }
-        ensures { (step : Step) × IsStep now random step engine.old engine.new × (sent_in_step step ≡ result) }
+        ensures { (step : SettlingStep) × IsStep now random step engine.old engine.new × (sent_in_step step ≡ result) }
     {
         if self.notifies {
             self.notify(engine, now, random)
@@ -66,7 +66,7 @@ impl Settling {
     // Has the first late notification of its shard sent again, or goes on to those that are due.
     fn resend(&mut self, engine: &mut Engine, now: u64) -> Option<Emission>
         requires { self.old.shard < 8 }
-        ensures { Resends self.old.shard now engine.old engine.new result }
+        ensures { TicksShard self.old.shard now engine.old engine.new result }
     {
         let ticked = engine.resend(self.shard, now);
         self.resent(ticked)
@@ -75,7 +75,7 @@ impl Settling {
     // Has the first observer of its shard that is due notified, or goes on to the next shard; where no message id is free, to the end.
     fn notify(&mut self, engine: &mut Engine, now: u64, random: u16) -> Option<Emission>
         requires { self.old.shard < 8 }
-        ensures { (given : Bool) × Notifies self.old.shard now random engine.old engine.new given result }
+        ensures { (given : Bool) × AsksForTurn self.old.shard now random engine.old engine.new given result }
     {
         let notified = engine.notify(self.shard, now, random);
         self.notified(notified)

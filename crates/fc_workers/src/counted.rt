@@ -102,18 +102,18 @@ impl<L: Ledger> Counted<L> {
 
     /// Sends the first notification that is late again, as [`Shard::tick`] does.
     pub fn tick(&mut self, now: u64) -> Ticked
-        ensures answer { result ≡ ticked_in (late_place (handed self.old.shard now)) (handed self.old.shard now) }
-        ensures after { self.new ≡ record self.old { shard = after_tick (late_place (handed self.old.shard now)) (handed self.old.shard now) } }
+        ensures answer { let at = handed self.old.shard now in result ≡ ticked_in (late_place at) at }
+        ensures after { let at = handed self.old.shard now in self.new ≡ record self.old { shard = after_tick (late_place at) at } }
     {
         self.shard.tick(now)
     }
 
     /// Gives a turn to the first observer that is due, as [`Shard::next_due`] does.
     pub fn next_due(&mut self, now: u64) -> Option<Job>
-        ensures job { result ≡ due_job (due_place (handed self.old.shard now)) (handed self.old.shard now) }
+        ensures job { let at = handed self.old.shard now in result ≡ due_job (due_place at) at }
         ensures index { self.new.shard.index ≡ self.old.shard.index }
         ensures opened { self.new.opened ≡ self.old.opened }
-        ensures after { self.new ≡ record self.old { shard = after_due (due_place (handed self.old.shard now)) (handed self.old.shard now) } }
+        ensures after { let at = handed self.old.shard now in self.new ≡ record self.old { shard = after_due (due_place at) at } }
     {
         self.shard.next_due(now)
     }

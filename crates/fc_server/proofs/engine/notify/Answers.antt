@@ -2,7 +2,7 @@ use Rattle.std.proofs.Common.{Bool, List, [], ◌∷◌, ◌++◌, None, Some, l
 use Rattle.fc_core.specs.declared.event.Event.TheVariants.{Due}
 use Rattle.fc_core.specs.declared.stage.Task.{Task}
 use Rattle.fc_server.specs.Notified.{notification_in}
-use Rattle.fc_server.specs.Serving.{Asked, Serves, next}
+use Rattle.fc_server.specs.Serving.{TurnGiven, Serves, next}
 use Rattle.fc_server.proofs.Served.{asked_on}
 use Rattle.fc_server.proofs.engine.notify.Goals as goal
 
@@ -38,6 +38,6 @@ returns-in-Some c =
       asked = λ h tasks v.
           let brought = asked_on c.args.shard c.requires.shard c.args.server.now c.due.new.self e.front e.words h tasks v c.args.now (Some c.in-Some.job) e.shards (sym c.in-Some.is ∙ e.job) in
           let began = subst (λ (t : Task). Serves (next h (Due c.args.shard c.args.now) None) c.due.new.self (tasks ++ t ∷ [])) (sym c.begin.ensures) brought in
-          subst (λ (b : Bool). Asked b (next h (Due c.args.shard c.args.now) None) (length tasks) c.args.now c.args.random c.tell.new.server (notification_in c.tell.result)) (sym c.tell.ensures.given)
+          subst (λ (b : Bool). TurnGiven b (next h (Due c.args.shard c.args.now) None) (length tasks) c.args.now c.args.random c.tell.new.server (notification_in c.tell.result)) (sym c.tell.ensures.given)
           (c.tell.ensures.turns (next h (Due c.args.shard c.args.now) None) tasks began);
     }

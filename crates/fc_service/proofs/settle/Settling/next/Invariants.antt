@@ -1,7 +1,7 @@
 use Rattle.std.proofs.Common.{◌≡◌, List, []}
-use Rattle.fc_service.specs.Settling.{AreSteps, Step, sent_in_steps}
+use Rattle.fc_service.specs.Settling.{AreSteps, SettlingStep, sent_in_steps}
 use Rattle.fc_service.proofs.settle.Settling.next.Given as goal
 
 -- the steps so far sent nothing
 abbrev pub invariant-loop : goal.invariant-loop
-invariant-loop l = (steps : List Step) × AreSteps l.now l.random steps l.fn.engine l.engine × (sent_in_steps steps ≡ [])
+invariant-loop l = (steps : List SettlingStep) × AreSteps l.now l.random steps l.fn.engine l.engine × (sent_in_steps steps ≡ [])

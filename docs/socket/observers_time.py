@@ -1,0 +1,99 @@
+#!/usr/bin/env python3
+"""Measures the processor time of a change that 32 observers hear: `fcd serve` beside libcoap's `coap-server`.
+
+Run it at the top of the repository, behind `rt run` in crates/fcd, with Debian's libcoap3-bin:
+
+    python3 docs/socket/observers_time.py
+
+Each round has a fresh server, 32 observers on ports of their own, and 100 changes, each when all have heard the one before it. A
+confirmable notification is acknowledged at once. What is told is the server's user and system time of a change, by the scheduler: five
+rounds, the least and the middle one.
+"""
+import os
+import shutil
+import socket
+import statistics
+import subprocess
+import sys
+import time
+
+FCD = "crates/fcd/out/fcd"
+OBSERVERS = 32
+CHANGES = 100
+ROUNDS = 5
+PORT = 5698
+SERVER = ("127.0.0.1", PORT)
+
+# A program that counts POSTs in eight bytes of variables, and gives a notice of each.
+COUNT = bytes.fromhex(
+    "46434231080009000900000000000000" "b701000000000000" "8500000003000000" "0700000001000000" "bf02000000000000"
+    "b701000000000000" "8500000004000000" "8500000007000000" "b700000000000000" "9500000000000000"
+)
+
+
+def processor_time(pid):
+    """User and system time of a process so far, in nanoseconds, of all its threads."""
+    total = 0
+    for thread in os.listdir(f"/proc/{pid}/task"):
+        with open(f"/proc/{pid}/task/{thread}/schedstat", encoding="ascii") as file:
+            total += int(file.read().split()[0])
+    return total
+
+
+def asked(client, request, number):
+    client.sendto(request[:2] + number.to_bytes(2, "big") + request[4:], SERVER)
+    return client.recv(2048)
+
+
+def hear(observer):
+    """The next notification, which is acknowledged where it asks for that."""
+    message = observer.recv(2048)
+    if message[0] & 0x30 == 0:
+        observer.sendto(b"\x60\x00" + message[2:4], SERVER)
+
+
+def round_of(words, setup, observe, change):
+    """Microseconds of the server's processor time for each change of one round."""
+    server = subprocess.Popen(words, stdout=subprocess.DEVNULL, stderr=subprocess.DEVNULL)
+    try:
+        time.sleep(0.5)
+        client, *observers = [socket.socket(socket.AF_INET, socket.SOCK_DGRAM) for _ in range(OBSERVERS + 1)]
+        for it in (client, *observers):
+            it.settimeout(5)
+        if setup:
+            asked(client, setup, 1)
+        for it in observers:
+            asked(it, observe, 2)
+        before = processor_time(server.pid)
+        for number in range(CHANGES):
+            asked(client, change + str(number).encode() if change.endswith(b"\xff") else change, number + 3)
+            for it in observers:
+                hear(it)
+        return (processor_time(server.pid) - before) / CHANGES / 1000
+    finally:
+        server.terminate()
+        server.wait()
+
+
+def measure(name, words, setup, observe, change):
+    rounds = [round_of(words, setup, observe, change) for _ in range(ROUNDS)]
+    print(f"| {name} | {min(rounds):.0f} | {statistics.median(rounds):.0f} |", flush=True)
+
+
+def main():
+    print("| a change that 32 observers hear | least, us | middle, us |\n| --- | --- | --- |")
+    for workers in ("1", "2"):
+        serve = [FCD, "serve", "--port", str(PORT), "--workers", workers]
+        put = bytes.fromhex("40030000b1700130ff") + COUNT
+        measure(f"fcd, {workers} workers, POST", serve, put, bytes.fromhex("410100006f6051720130"), bytes.fromhex("40020000b1720130"))
+    libcoap = shutil.which("coap-server") or "coap-server-notls"
+    # `example_data`, which a PUT changes; it is put first, since what it begins with takes two blocks
+    path = b"example_data"
+    observe = bytes.fromhex("410100006f60") + bytes([0x50 | len(path)]) + path
+    change = bytes.fromhex("40030000") + bytes([0xb0 | len(path)]) + path + b"\xff"
+    measure("coap-server, PUT", [libcoap, "-A", "127.0.0.1", "-p", str(PORT)], change + b"first", observe, change)
+    return 0
+
+
+if __name__ == "__main__":
+    sys.exit(main())
