@@ -5,3 +5,4 @@ pub mod Places
 pub mod Outcomes
 pub mod Noticed
 pub mod Telling
+pub mod Ahead

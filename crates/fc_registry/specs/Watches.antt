@@ -1,12 +1,13 @@
 -- The observers of a shard's slots, and the calls on them.
-use Rattle.std.specs.Prelude.{ℕ, zero, suc, ◌+◌, ◌*◌, ◌/◌, Bool, true, false, if◌then◌else◌, Option, Some, None, is_some, List, [], ◌∷◌, ◌++◌, map, max, slice_index_or, slice_set}
+use Rattle.std.specs.Prelude.{ℕ, zero, suc, ◌+◌, ◌*◌, ◌/◌, ◌≤◌, Bool, true, false, if◌then◌else◌, Option, Some, None, is_some, List, [], ◌∷◌, ◌++◌, map, max, slice_index_or, slice_set}
+use Rattle.std.specs.List.{All}
 use Rattle.coap_msg.specs.declared.types.Endpoint.{Endpoint}
 use Rattle.fc_observe.specs.declared.entry.Turn.{Turn}
 use Rattle.fc_observe.specs.declared.observers.Ticked.{Ticked}
 use Rattle.fc_observe.specs.declared.observers.Ticked.TheVariants.{Quiet}
 use Rattle.fc_observe.specs.Calls.{ObserverCall, Acknowledge, GiveUp, NextDue, Reset, Tick, after_calls, observers_after}
 use Rattle.fc_observe.specs.Observers.{ObserverList, at_moment, late_entry, next_turn, no_observers, ticked}
-use Rattle.fc_registry.specs.Slots.{Shard, new_slot}
+use Rattle.fc_registry.specs.Slots.{Shard, Slot, new_slot}
 
 -- those of the slots at the first places of a new shard: place k is that of slot 8 k + index
 abbrev pub new_watches : ℕ → ℕ → List ObserverList
@@ -91,3 +92,13 @@ signal_call false to id = Acknowledge to id
 -- it is for the observers of every slot
 abbrev pub signalled : ObserverCall → Shard → Shard
 signalled c shard = record shard { watches = map (observers_after c) shard.watches }
+
+-- ---- what observers were sent
+
+-- no observer in the list was sent a serial above this
+abbrev pub IsSentUpTo : ℕ → ObserverList → Type 0
+IsSentUpTo serial w = All (λ o. o.serial ≤ serial) w.held
+
+-- at each place, none was sent a serial above that of the slot
+abbrev pub AreSentUpTo : List Slot → List ObserverList → Type 0
+AreSentUpTo slots watches = (k : ℕ) → IsSentUpTo (slice_index_or slots k (new_slot 0)).serial (slice_index_or watches k (no_observers 0))

@@ -1,5 +1,5 @@
 //! Shards of slots.
-ghost use Rattle.std.specs.Prelude.{◌≡◌, ℕ, ◌+◌, ◌<◌, ◌≤◌, ◌↔◌, [], ◌∷◌, true, false, length, map, replicate, IfOk, IfSome, IsTrue};
+ghost use Rattle.std.specs.Prelude.{◌≡◌, ℕ, ◌+◌, ◌/◌, ◌<◌, ◌≤◌, ◌↔◌, [], ◌∷◌, true, false, length, map, replicate, IfOk, IfSome, IsTrue};
 ghost use Rattle.fc_machine.specs.Ran.{meaning_of};
 ghost use Rattle.fc_registry.specs.Slots.{IsOwned, slot_in, with_slot, new_slot, last_serial, version_in, vars_in};
 ghost use Rattle.fc_registry.specs.Changes.{Committed as Wrote, after_changes};
@@ -9,7 +9,7 @@ ghost use Rattle.fc_registry.specs.Record.{IsRing};
 ghost use Rattle.fc_observe.specs.Calls.{after_calls, observers_after};
 ghost use Rattle.fc_registry.specs.Notes.{NotesTo};
 ghost use Rattle.fc_registry.specs.Turns.{due_job};
-ghost use Rattle.fc_registry.specs.Watches.{after_due, after_given_up, after_tick, due_place, handed, is_due_at, late_place, new_watches, noticed_at, signal_call, signalled, ticked_in};
+ghost use Rattle.fc_registry.specs.Watches.{IsSentUpTo, after_due, after_given_up, after_tick, due_place, handed, is_due_at, late_place, new_watches, noticed_at, signal_call, signalled, ticked_in, watch_at};
 
 use crate::body::Body;
 use crate::commit::{CommitOutcome, Committed};
@@ -62,10 +62,12 @@ impl Model for Shard {
 
     ghost use Rattle.fc_registry.specs.Views.{as_seen};
     ghost use Rattle.fc_registry.specs.Record.{IsRing};
+    ghost use Rattle.fc_registry.specs.Watches.{AreSentUpTo};
 
     ghost view = { λ s. record { index = s.index; now = s.now; slots = map as_seen s.slots.items; watches = s.watches.items } };
 
-    ghost invariant = { λ s. (length s.slots.items ≡ 8) × All (λ x. IsRing (as_seen x)) s.slots.items × (length s.watches.items ≡ 8) × (s.index < 8) };
+    ghost invariant = { λ s. (length s.slots.items ≡ 8) × All (λ x. IsRing (as_seen x)) s.slots.items × (length s.watches.items ≡ 8) × (s.index < 8)
+        × AreSentUpTo (map as_seen s.slots.items) s.watches.items };
 }
 
 /// What a taking found.
@@ -341,6 +343,14 @@ impl Shard {
     /// program, each begins with what the one before it left, and the last left the present variables.
     pub fn rings_are_chains(&self)
         ensures { (n : ℕ) → IsOwned self.entry.now n → IsRing (slot_in self.entry.now n) }
+    {
+        let _ = &self.index;
+    }
+
+    /// No observer of a slot was sent a serial above the slot's: whatever was called, in whatever order, what it was last sent, by
+    /// its registration's answer or a notification, is a state that the slot had.
+    pub fn no_observer_is_ahead(&self)
+        ensures { (n : ℕ) → IsOwned self.entry.now n → IsSentUpTo (slot_in self.entry.now n).serial (watch_at self.entry.now (n / 8)) }
     {
         let _ = &self.index;
     }

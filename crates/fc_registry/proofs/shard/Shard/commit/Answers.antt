@@ -1,4 +1,4 @@
-use Rattle.std.proofs.Common.{◌≡◌, ℕ, ◌/◌, ◌<◌, ◌∙◌, ap, subst, max, refl, arith, get_or, set, length-set}
+use Rattle.std.proofs.Common.{◌≡◌, ℕ, ◌/◌, ◌<◌, ◌∙◌, ap, subst, sym, max, refl, arith, get_or, set, length-set}
 use Rattle.std.proofs.lemmas.List.{get_or_default}
 use Rattle.fc_observe.specs.Calls.{after_calls}
 use Rattle.fc_observe.specs.Observers.{ObserverList, no_observers}
@@ -6,7 +6,8 @@ use Rattle.fc_registry.specs.declared.job.Origin.{Origin}
 use Rattle.fc_registry.specs.Slots.{Shard, Slot}
 use Rattle.fc_registry.specs.Calls.{IsCommit, commit_calls}
 use Rattle.fc_registry.specs.Views.{as_seen}
-use Rattle.fc_registry.specs.Watches.{watch_at, watches_called}
+use Rattle.fc_registry.specs.Watches.{IsSentUpTo, watch_at, watches_called}
+use Rattle.fc_registry.proofs.Ahead.{both_sent, sent_committed}
 use Rattle.fc_registry.proofs.Rings.{written_rings, ring_kept}
 use Rattle.fc_registry.proofs.Writes.{slot_read, slot_and_watch_write, now_is, slot_in_place}
 use Rattle.fc_registry.proofs.shard.Shard.commit.Goals as goal
@@ -43,4 +44,8 @@ invariant_of-self c =
     let was = c.index_mut-watch.result.now in
     let rings = written_rings c.self.inside.slots.items c.place-place.result c.index_mut-slot.result.now c.committed.new.slot (c.self.invariant.0, c.self.invariant.1) c.place-place.ensures.limit c.index_mut-slot.ensures.value
     (ring_kept c.args.outcome.now c.args.ticket.now (as_seen c.index_mut-slot.result.now) was c.committed.result (as_seen c.committed.new.slot) c.committed.ensures.commit) in
-    (rings.0, rings.1, length-set c.self.inside.watches.items c.place-place.result c.committed.new.watch ∙ c.self.invariant.2, c.self.invariant.3)
+    let now = as_seen c.committed.new.slot in
+    let sent = both_sent c.self.inside.slots.items c.self.inside.watches.items c.place-place.result c.self.invariant.0 c.self.invariant.2 c.place-place.ensures.limit c.self.invariant.4
+    c.index_mut-slot.result.now c.committed.new.slot was c.committed.new.watch c.index_mut-slot.ensures.value c.index_mut-watch.ensures.value
+    (λ old. subst (IsSentUpTo now.serial) (sym c.committed.ensures.watch) (sent_committed c.args.outcome.now c.args.ticket.now (as_seen c.index_mut-slot.result.now) was c.committed.result now c.max-self-inside.result c.committed.ensures.commit old)) in
+    (rings.0, rings.1, length-set c.self.inside.watches.items c.place-place.result c.committed.new.watch ∙ c.self.invariant.2, c.self.invariant.3, sent)

@@ -1,8 +1,10 @@
-use Rattle.std.proofs.Common.{◌≡◌, length, arith, sym, ◌++◌, ◌∷◌, ◌∙◌, [], ap, map}
+use Rattle.std.proofs.Common.{◌≡◌, length, arith, sym, ◌++◌, ◌∷◌, ◌∙◌, [], ap, subst, map}
+use Rattle.fc_registry.proofs.Ahead.{none_sent}
 use Rattle.fc_registry.proofs.Rings.{all_new}
 use Rattle.std.proofs.lemmas.List.{length-map, length-replicate, map-append, replicate-append-replicate}
 use Rattle.fc_registry.specs.Slots.{new_slot}
 use Rattle.fc_registry.specs.Views.{as_seen}
+use Rattle.fc_registry.specs.Watches.{AreSentUpTo}
 use Rattle.fc_registry.proofs.shard.Shard.new.Goals as goal
 
 pub loop-slot-preserved : goal.loop-slot-preserved
@@ -18,4 +20,5 @@ invariant_of-result c =
       all_new items c.loop-slot._slot c.args.first_serial c.loop-slot.invariant,
       ap length c.in_ok-make_watches.ensures,
       c.requires.index,
+      subst (AreSentUpTo (map as_seen items)) (sym c.in_ok-make_watches.ensures) (none_sent (map as_seen items) c.args.index),
     )
