@@ -1,5 +1,5 @@
 -- Worked programs: what the rules of the control flow say of each.
-use Rattle.std.proofs.Common.{◌≡◌, ℕ, [], ◌∷◌, Some, None, refl}
+use Rattle.std.proofs.Common.{◌≡◌, ℕ, true, false, [], ◌∷◌, Some, None, refl}
 use Rattle.std.specs.Prelude.{pos, negsuc}
 use Rattle.fc_isa.specs.declared.insn.Insn.{Insn}
 use Rattle.fc_isa.specs.declared.insn.Insn.TheVariants.{Alu, LoadWide, WideSecond, JumpAlways, JumpIf, CallHelper, CallLocal, Exit}
@@ -8,6 +8,7 @@ use Rattle.fc_isa.specs.declared.insn.Relation.TheVariants.{Gt}
 use Rattle.fc_isa.specs.declared.insn.Width.TheVariants.{W64}
 use Rattle.fc_isa.specs.declared.insn.Operand.TheVariants.{Imm}
 use Rattle.fc_isa.specs.declared.rule.Rule.TheVariants.{JumpTarget, BackwardJump, Boundary, BackwardCall, FrameDepth, Cost, Helper}
+use Rattle.fc_image.specs.Head.{is_bad_size, is_bad_count, is_bad_budget}
 use Rattle.fc_image.specs.Functions.{is_start, frames}
 use Rattle.fc_image.specs.Paths.{costs, longest}
 use Rattle.fc_image.specs.ShapeRules.{breaks_shape, shape_fault}
@@ -80,3 +81,11 @@ no_helper_eight = refl
 cost_before_helper : shape_fault 2 (CallHelper (pos 8) ∷ mov ∷ Exit ∷ []) ≡ Some (0, Cost)
 unfolding shape_fault breaks_shape longest costs is_start frames
 cost_before_helper = refl
+
+-- ---- the header's limits
+
+sizes_are_words : (is_bad_size 0 ≡ false) × (is_bad_size 4 ≡ true) × (is_bad_size 8 ≡ false) × (is_bad_size 12 ≡ true) × (is_bad_size 256 ≡ false) × (is_bad_size 264 ≡ true)
+sizes_are_words = (refl, refl, refl, refl, refl, refl)
+
+limits : (is_bad_count 0 ≡ true) × (is_bad_count 512 ≡ false) × (is_bad_count 513 ≡ true) × (is_bad_budget 0 ≡ true) × (is_bad_budget 65536 ≡ false) × (is_bad_budget 65537 ≡ true)
+limits = (refl, refl, refl, refl, refl, refl)

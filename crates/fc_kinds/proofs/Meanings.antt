@@ -4,8 +4,9 @@ use Rattle.std.specs.Prelude.{ℤ, pos, negsuc}
 use Rattle.fc_isa.specs.declared.insn.AluOp.TheVariants.{Add, Mov}
 use Rattle.fc_isa.specs.declared.insn.Width.TheVariants.{W64}
 use Rattle.fc_isa.specs.declared.insn.Operand.TheVariants.{Imm, Reg}
-use Rattle.fc_isa.specs.declared.insn.Size.TheVariants.{Byte}
-use Rattle.fc_isa.specs.declared.insn.LoadType.TheVariants.{Unsigned}
+use Rattle.fc_isa.specs.declared.insn.Size.TheVariants.{Byte, DoubleWord}
+use Rattle.fc_isa.specs.declared.insn.LoadType.{LoadType}
+use Rattle.fc_isa.specs.declared.insn.LoadType.TheVariants.{Unsigned, SignedByte, SignedHalfWord, SignedWord}
 use Rattle.fc_isa.specs.declared.insn.Insn.{Insn}
 use Rattle.fc_isa.specs.declared.insn.Insn.TheVariants.{Alu, Load, StoreImm, CallHelper, CallLocal, Exit}
 use Rattle.fc_alu.specs.Arithmetic.{computed, computed_at}
@@ -78,3 +79,18 @@ called =
 frames_are_fresh : means called [] none ≡ result 12 (0 ∷ 5 ∷ []) none
 unfolding meant step act helped result_of computed_at computed
 frames_are_fresh = refl
+
+-- 133 (4.05) is no answer of a program; a store of -1 in eight bytes, and signed loads of its parts, are all ones, so that the sum with 129 is 128
+abbrev refused : Meaning
+refused = record { code = 128; reply = []; vars = none; notice = false; steps = 4 }
+
+abbrev signs : LoadType → List Insn
+signs l = StoreImm DoubleWord 10 (negsuc 7) (negsuc 0) ∷ Load l 0 10 (negsuc 7) ∷ Alu Add W64 0 (Imm (pos 129)) ∷ Exit ∷ []
+
+signs_are_extended : (means (signs (Unsigned DoubleWord)) [] none ≡ refused) × (means (signs SignedByte) [] none ≡ refused) × (means (signs SignedHalfWord) [] none ≡ refused) × (means (signs SignedWord) [] none ≡ refused)
+unfolding meant step act helped result_of computed_at computed
+signs_are_extended = (refl, refl, refl, refl)
+
+no_answer : (means (set 0 (pos 133) ∷ Exit ∷ []) [] none).code ≡ 160
+unfolding meant step act helped result_of computed_at computed
+no_answer = refl

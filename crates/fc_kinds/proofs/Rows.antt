@@ -8,7 +8,7 @@ use Rattle.fc_isa.specs.declared.insn.Width.TheVariants.{W32, W64}
 use Rattle.fc_isa.specs.declared.insn.Operand.TheVariants.{Imm, Reg}
 use Rattle.fc_isa.specs.declared.insn.SignExtension.TheVariants as extension
 use Rattle.fc_isa.specs.declared.insn.ByteOrder.TheVariants.{Little, Big}
-use Rattle.fc_isa.specs.declared.insn.SwapWidth.TheVariants.{S16}
+use Rattle.fc_isa.specs.declared.insn.SwapWidth.TheVariants.{S16, S32, S64}
 use Rattle.fc_isa.specs.declared.insn.Size.TheVariants.{Byte, HalfWord, Word, DoubleWord}
 use Rattle.fc_isa.specs.declared.insn.LoadType.TheVariants.{Unsigned, SignedByte}
 use Rattle.fc_isa.specs.declared.insn.Relation.{Relation}
@@ -158,3 +158,12 @@ calls_answer = (refl, refl)
 
 call_hands_on : enter regs ≡ Unset ∷ Num 1 1 ∷ Stack 1 (pos 1) (pos 2) ∷ Req (pos 3) (pos 3) ∷ Num 4 4 ∷ Stack 3 (pos 5) (pos 5) ∷ Unset ∷ Unset ∷ Unset ∷ Unset ∷ Stack 0 (pos 256) (pos 256) ∷ []
 call_hands_on = refl
+
+-- at the ends of what fits
+rows_ends : (both Add W64 (Num 1 1) (Num 0 18446744073709551614) ≡ Some (Num 1 18446744073709551615)) × (both Mul W32 (Num 3 3) (Num 1 1431655765) ≡ Some (Num 3 4294967295)) × (both Div W64 (Num 10 21) (Num 1 5) ≡ Some (Num 2 21)) × (both Mod W64 (Num 10 21) (Num 1 5) ≡ Some (Num 0 4))
+    × (both Lsh W32 (Num 1 1) (Num 31 31) ≡ Some (Num 2147483648 2147483648)) × (both Arsh W64 (Num 2 9223372036854775807) (Num 1 1) ≡ Some (Num 1 4611686018427387903)) × (both Or W64 (Num 5 5) (Num 8 8) ≡ Some (Num 0 15)) × (both Arsh W64 (Num 8 64) (Num 2 3) ≡ Some all64)
+    × (leaves (SignExtend (extension.HalfWord W32) 0 1) Unset (Num 1 32767) ≡ Some (Num 1 32767)) × (leaves (SignExtend (extension.HalfWord W64) 0 1) Unset (Num 1 32768) ≡ Some all64) × (leaves (SignExtend extension.Word 0 1) Unset (Num 1 2147483647) ≡ Some (Num 1 2147483647))
+    × (leaves (End Little S32 0) (Num 1 4294967295) Unset ≡ Some (Num 1 4294967295)) × (leaves (End Little S64 0) (Num 1 65536) Unset ≡ Some (Num 1 65536))
+    × (leaves (Alu Sub W64 0 (Imm (pos 65536))) (Req (pos 0) (pos 0)) Unset ≡ Some (Req (negsuc 65535) (negsuc 65535)))
+unfolding transfer alu_kind alu_interval interval_of extended_values
+rows_ends = (refl, refl, refl, refl, refl, refl, refl, refl, refl, refl, refl, refl, refl, refl)
