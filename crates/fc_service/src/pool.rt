@@ -28,7 +28,7 @@ pub struct Begin {
 pub(crate) trait Intake {
     // Takes a datagram in, at a moment in milliseconds.
     fn deliver<R: Wait>(&self, rt: &R, now: u64, endpoint: Endpoint, bytes: &[u8]) -> Delivered
-        ensures { IsSomeDelivery endpoint bytes.now result };
+        ensures { IsSomeDelivery now endpoint bytes.now result };
 
     // Has time pass, to a moment in milliseconds.
     fn tick<R: Wait>(&self, rt: &R, now: u64);

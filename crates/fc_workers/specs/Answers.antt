@@ -1,9 +1,14 @@
 -- What a call answers at some slot, and what is tallied of it. Which slot it was is not said: between two calls of a job,
 -- others change the slots.
-use Rattle.std.specs.Prelude.{◌≡◌, ℕ, ◌+◌, ◌%◌, ◌<◌, ◌==◌, if◌then◌else◌, List, Option, min}
+use Rattle.std.specs.Prelude.{◌≡◌, ℕ, ◌+◌, ◌%◌, ◌<◌, ◌==◌, if◌then◌else◌, List, Option, max, min}
+use Rattle.coap_msg.specs.declared.types.Emission.{Emission}
 use Rattle.coap_msg.specs.declared.types.Endpoint.{Endpoint}
+use Rattle.fc_core.specs.declared.front.Answered.{Answered}
 use Rattle.fc_core.specs.declared.front.Delivered.{Delivered}
-use Rattle.fc_core.specs.Exchanges.{FrontState}
+use Rattle.fc_core.specs.Answering.{AnswersIn, emission_of}
+use Rattle.fc_core.specs.Contents.{Content}
+use Rattle.fc_core.specs.Exchanges.{FrontState, advanced}
+use Rattle.fc_core.specs.Ids.{free_id}
 use Rattle.fc_core.specs.Receiving.{delivered}
 use Rattle.fc_kinds.specs.Meaning.{Program}
 use Rattle.fc_machine.specs.Ran.{Ran}
@@ -22,16 +27,28 @@ use Rattle.fc_registry.specs.declared.note.Notification.{Notification}
 use Rattle.fc_registry.specs.Notes.{IsNoted}
 use Rattle.fc_registry.specs.Slots.{Shard, Slot, Ticket}
 use Rattle.fc_registry.specs.Turns.{due_job}
-use Rattle.fc_registry.specs.Watches.{due_place, late_place, ticked_in}
+use Rattle.fc_registry.specs.Watches.{due_place, handed, late_place, ticked_in}
 use Rattle.fc_registry.specs.declared.receipt.Receipt.{Receipt}
 use Rattle.fc_registry.specs.declared.shard.Removal.{Removal}
 use Rattle.fc_registry.specs.declared.shard.Removal.TheVariants.{Removed}
 use Rattle.fc_registry.specs.Calls.{IsTaking, IsCommit, install_in, receipt_at, remove_from}
 
--- a delivery at some front brings this
-pub record IsSomeDelivery (to : Endpoint) (bytes : List ℕ) (brings : Delivered) : Type 0 where
+-- a delivery at a moment to some front brings this
+pub record IsSomeDelivery (now : ℕ) (to : Endpoint) (bytes : List ℕ) (brings : Delivered) : Type 0 where
   pub front : FrontState
-  pub is : brings ≡ delivered front to bytes
+  pub is : brings ≡ delivered (advanced front now) to bytes
+
+-- some front draws this message id at a moment, or none
+pub record IsSomeDraw (now : ℕ) (id : Option ℕ) : Type 0 where
+  pub front : FrontState
+  pub is : id ≡ free_id (advanced front now).ids (advanced front now).now
+
+-- some front that answers a job at a moment sends this, or nothing
+pub record IsSomeAnswer (now : ℕ) (job : Job) (content : Content) (sent : Option Emission) : Type 0 where
+  pub front : FrontState
+  pub answered : Answered
+  pub answers : AnswersIn (advanced front now) job content answered
+  pub sent_is : sent ≡ emission_of answered
 
 -- a taking of the job at some slot, with some observers, at some moment answers this
 pub record IsSomeTaking (job : Job) (taken : Taken) : Type 0 where
@@ -40,22 +57,23 @@ pub record IsSomeTaking (job : Job) (taken : Taken) : Type 0 where
   pub watch : ObserverList
   pub taking : IsTaking job slot now watch taken
 
--- some shard gives this turn, or none
-pub record IsSomeTurn (job : Option Job) : Type 0 where
+-- some shard gives this turn at a moment, or none
+pub record IsSomeTurn (now : ℕ) (job : Option Job) : Type 0 where
   pub shard : Shard
-  pub job_is : job ≡ due_job (due_place shard) shard
+  pub job_is : job ≡ due_job (due_place (handed shard now)) (handed shard now)
 
--- some shard that is ticked sends this again, or removes an observer, or does nothing
-pub record IsSomeTick (ticked : Ticked) : Type 0 where
+-- some shard that is ticked at a moment sends this again, or removes an observer, or does nothing
+pub record IsSomeTick (now : ℕ) (ticked : Ticked) : Type 0 where
   pub shard : Shard
-  pub ticked_is : ticked ≡ ticked_in (late_place shard) shard
+  pub ticked_is : ticked ≡ ticked_in (late_place (handed shard now)) (handed shard now)
 
--- a notification of a turn by this message id, at some serial of its slot, to some observers at some moment, comes to this
-pub record IsSomeNote (told : Notification) (turn : Turn) (id : ℕ) (noted : Noted) : Type 0 where
-  pub now : ℕ
+-- a notification of a turn by this message id, at a moment or a later one that its shard was handed, at some serial of its slot, to
+-- some observers, comes to this
+pub record IsSomeNote (now : ℕ) (told : Notification) (turn : Turn) (id : ℕ) (noted : Noted) : Type 0 where
+  pub before : ℕ
   pub serial : ℕ
   pub watch : ObserverList
-  pub note : IsNoted told turn id now serial watch noted
+  pub note : IsNoted told turn id (max before now) serial watch noted
 
 -- a commit of a run, by the ticket, at some slot with some observers answers this
 pub record IsSomeCommit (ran : Ran) (t : Ticket) (committed : Committed) : Type 0 where

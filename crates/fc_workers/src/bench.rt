@@ -1,7 +1,7 @@
 //! What workers work at.
 ghost use Rattle.std.specs.Prelude.{◌≡◌, ℕ, ◌+◌, ◌<◌};
 ghost use Rattle.fc_core.specs.Contents.{IsOf};
-ghost use Rattle.fc_workers.specs.Answers.{AreTallied, IsSomeCommit, IsSomeDelivery, IsSomeInstall, IsSomeNote, IsSomeReceipt, IsSomeRemoval, IsSomeTaking, IsSomeTick, IsSomeTurn, commit_changes, ended_by, install_changes, removal_changes, saturated};
+ghost use Rattle.fc_workers.specs.Answers.{AreTallied, IsSomeAnswer, IsSomeCommit, IsSomeDelivery, IsSomeDraw, IsSomeInstall, IsSomeNote, IsSomeReceipt, IsSomeRemoval, IsSomeTaking, IsSomeTick, IsSomeTurn, commit_changes, ended_by, install_changes, removal_changes, saturated};
 
 use coap_msg::{Emission, Endpoint};
 use fc_core::{Answer, Delivered};
@@ -31,13 +31,14 @@ pub trait Bench {
 
     /// Takes a datagram in, at a moment in milliseconds, as [`Front::deliver`](fc_core::Front::deliver) does.
     fn deliver<R: Wait>(&self, rt: &R, now: u64, endpoint: Endpoint, bytes: &[u8]) -> Delivered
-        ensures { IsSomeDelivery endpoint bytes.now result };
+        ensures { IsSomeDelivery now endpoint bytes.now result };
 
     /// Advances the front to a moment in milliseconds, as [`Front::tick`](fc_core::Front::tick) does.
     fn tick<R: Wait>(&self, rt: &R, now: u64);
 
     /// A message id of the server's own, at a moment in milliseconds, as [`Front::fresh_id`](fc_core::Front::fresh_id) gives it.
-    fn fresh_id<R: Wait>(&self, rt: &R, now: u64) -> Option<u16>;
+    fn fresh_id<R: Wait>(&self, rt: &R, now: u64) -> Option<u16>
+        ensures { IsSomeDraw now result };
 
     /// Takes what a job finds in its slot, as [`Shard::take`](fc_registry::Shard::take) does. A turn that is stale ends by that.
     fn take<R: Wait>(&self, rt: &R, job: &Job, tallies: &mut Self::Tallies) -> Taken
@@ -60,24 +61,24 @@ pub trait Bench {
             ticket.now.origin.slot (commit_changes result) }
         ensures ended { ended tallies.new ≡ ended tallies.old };
 
-    /// Installs a program in a slot, as [`Shard::install`](fc_registry::Shard::install) does.
+    /// Installs a program in the slot of a job, as [`Shard::install`](fc_registry::Shard::install) does.
     fn install<R: Wait>(
         &self,
         rt: &R,
-        slot: SlotNumber,
+        job: &Job,
         program: Arc<Verified>,
         tallies: &mut Self::Tallies,
     ) -> Made
         ensures made { IsSomeInstall program.value result }
         ensures changes { AreTallied (changes tallies.old) (changes tallies.new)
-            slot (install_changes result) }
+            job.now.origin.slot (install_changes result) }
         ensures ended { ended tallies.new ≡ ended tallies.old };
 
-    /// Removes the program of a slot, as [`Shard::remove`](fc_registry::Shard::remove) does.
-    fn remove<R: Wait>(&self, rt: &R, slot: SlotNumber, tallies: &mut Self::Tallies) -> Removal
+    /// Removes the program of the slot of a job, as [`Shard::remove`](fc_registry::Shard::remove) does.
+    fn remove<R: Wait>(&self, rt: &R, job: &Job, tallies: &mut Self::Tallies) -> Removal
         ensures removal { IsSomeRemoval result }
         ensures changes { AreTallied (changes tallies.old) (changes tallies.new)
-            slot (removal_changes result) }
+            job.now.origin.slot (removal_changes result) }
         ensures ended { ended tallies.new ≡ ended tallies.old };
 
     /// Hands a signal to a shard, 0 to 7, as [`Shard::signal`](fc_registry::Shard::signal) does.
@@ -85,11 +86,11 @@ pub trait Bench {
 
     /// Advances a shard, 0 to 7, to a moment in milliseconds, as [`Shard::tick`](fc_registry::Shard::tick) does.
     fn tick_shard<R: Wait>(&self, rt: &R, shard: u8, now: u64) -> Ticked
-        ensures { IsSomeTick result };
+        ensures { IsSomeTick now result };
 
     /// Asks a shard, 0 to 7, for a turn at a moment in milliseconds, as [`Shard::next_due`](fc_registry::Shard::next_due) gives it.
     fn next_due<R: Wait>(&self, rt: &R, shard: u8, now: u64) -> Option<Job>
-        ensures { IsSomeTurn result };
+        ensures { IsSomeTurn now result };
 
     /// Notifies the observer of a turn, at a moment in milliseconds, as [`Shard::note`](fc_registry::Shard::note) does, and ends its job.
     fn note<R: Wait>(
@@ -103,7 +104,7 @@ pub trait Bench {
         tallies: &mut Self::Tallies,
     ) -> Noted
         requires { turn.slot < 64 }
-        ensures noted { IsSomeNote told.now turn id result }
+        ensures noted { IsSomeNote now told.now turn id result }
         ensures changes { (shard : ℕ) → shard < 8 →
             changes tallies.new shard ≡ changes tallies.old shard }
         ensures ended { ended tallies.new ≡ saturated (ended tallies.old + 1) };
@@ -115,15 +116,15 @@ pub trait Bench {
             changes tallies.new shard ≡ changes tallies.old shard }
         ensures ended { ended tallies.new ≡ saturated (ended tallies.old + 1) };
 
-    /// What the program in a slot is, as [`Shard::receipt`](fc_registry::Shard::receipt) tells it.
-    fn receipt<R: Wait>(&self, rt: &R, slot: SlotNumber) -> Option<Receipt>
+    /// What the program in the slot of a job is, as [`Shard::receipt`](fc_registry::Shard::receipt) tells it.
+    fn receipt<R: Wait>(&self, rt: &R, job: &Job) -> Option<Receipt>
         ensures { IsSomeReceipt result };
 
     /// The head word of a slot, as [`Heads::peek`](fc_core::Heads::peek) tells it.
     fn peek<R: Wait>(&self, rt: &R, slot: SlotNumber) -> u64;
 
-    /// Raises the head word of a slot, as [`Heads::raise`](fc_core::Heads::raise) does.
-    fn raise<R: Wait>(&self, rt: &R, slot: SlotNumber, word: u64);
+    /// Raises the head word of the slot of a job, as [`Heads::raise`](fc_core::Heads::raise) does.
+    fn raise<R: Wait>(&self, rt: &R, job: &Job, word: u64);
 
     /// Answers a job, at a moment in milliseconds, as [`Front::answer`](fc_core::Front::answer) does, and ends it: what is
     /// to be sent, if anything.
@@ -136,6 +137,7 @@ pub trait Bench {
         tallies: &mut Self::Tallies,
     ) -> Option<Emission>
         requires { IsOf job.now answer.now }
+        ensures sent { IsSomeAnswer now job.now answer.now result }
         ensures changes { (shard : ℕ) → shard < 8 →
             changes tallies.new shard ≡ changes tallies.old shard }
         ensures ended { ended tallies.new ≡ saturated (ended tallies.old + 1) };

@@ -142,51 +142,48 @@ impl<L: Ledger> Counted<L> {
         self.shard.give_up(turn, now);
     }
 
-    /// Installs a program, as [`Shard::install`] does. The tally counts it, but at the slot's last serial.
-    pub fn install(
-        &mut self,
-        slot: SlotNumber,
-        program: Arc<Verified>,
-        tally: &mut Tally<L>,
-    ) -> Made
-        requires { IsOwned self.old.shard slot }
-        ensures answer { result ≡ (install_in (slot_in self.old.shard slot) program.value).answer }
-        ensures slots { self.new ≡ record self.old {
-          shard = with_slot self.old.shard slot
-              (after_changes (slot_in self.old.shard slot) (install_in (slot_in self.old.shard slot) program.value).changes);
-        } }
+    /// Installs a program in the slot of a job, as [`Shard::install`] does. The tally counts it, but at the slot's last serial.
+    pub fn install(&mut self, job: &Job, program: Arc<Verified>, tally: &mut Tally<L>) -> Made
+        requires { IsOwned self.old.shard job.now.origin.slot }
+        ensures answer { result ≡ (install_in (slot_in self.old.shard job.now.origin.slot) program.value).answer }
+        ensures slots { let slot = slot_in self.old.shard job.now.origin.slot in
+            self.new ≡ record self.old {
+              shard = with_slot self.old.shard job.now.origin.slot
+                  (after_changes slot (install_in slot program.value).changes);
+            } }
         ensures tally { tally.new ≡ counts tally.old (install_changes result) }
     {
-        let made = self.shard.install(slot, program);
+        let made = self.shard.install(job.origin.slot, program);
         if matches!(made, Made::Raised { .. }) {
             tally.count(&mut self.book);
         }
         made
     }
 
-    /// Removes the program of a slot, as [`Shard::remove`] does. The tally counts it where there was one, but at the slot's
+    /// Removes the program of the slot of a job, as [`Shard::remove`] does. The tally counts it where there was one, but at the slot's
     /// last serial.
-    pub fn remove(&mut self, slot: SlotNumber, tally: &mut Tally<L>) -> Removal
-        requires { IsOwned self.old.shard slot }
-        ensures answer { result ≡ (remove_from (slot_in self.old.shard slot)).answer }
-        ensures slots { self.new ≡ record self.old {
-          shard = with_slot self.old.shard slot
-              (after_changes (slot_in self.old.shard slot) (remove_from (slot_in self.old.shard slot)).changes);
-        } }
+    pub fn remove(&mut self, job: &Job, tally: &mut Tally<L>) -> Removal
+        requires { IsOwned self.old.shard job.now.origin.slot }
+        ensures answer { result ≡ (remove_from (slot_in self.old.shard job.now.origin.slot)).answer }
+        ensures slots { let slot = slot_in self.old.shard job.now.origin.slot in
+            self.new ≡ record self.old {
+              shard = with_slot self.old.shard job.now.origin.slot
+                  (after_changes slot (remove_from slot).changes);
+            } }
         ensures tally { tally.new ≡ counts tally.old (removal_changes result) }
     {
-        let removal = self.shard.remove(slot);
+        let removal = self.shard.remove(job.origin.slot);
         if matches!(removal, Removal::Removed { .. }) {
             tally.count(&mut self.book);
         }
         removal
     }
 
-    /// What the program in a slot is, as [`Shard::receipt`] tells it.
-    pub fn receipt(&self, slot: SlotNumber) -> Option<Receipt>
-        ensures { result ≡ receipt_at (slot_in self.entry.now.shard slot).present }
+    /// What the program in the slot of a job is, as [`Shard::receipt`] tells it.
+    pub fn receipt(&self, job: &Job) -> Option<Receipt>
+        ensures { result ≡ receipt_at (slot_in self.entry.now.shard job.now.origin.slot).present }
     {
-        self.shard.receipt(slot)
+        self.shard.receipt(job.origin.slot)
     }
 
     /// The serial of a slot of this shard, as [`Shard::serial`] tells it.

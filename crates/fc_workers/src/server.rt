@@ -12,6 +12,7 @@
 //! No type of that function's signature may name a ledger: it opens the server, splits the reserve into the tallies of its
 //! workers, runs them, merges their tallies, and closes the server.
 ghost use Rattle.std.specs.Prelude.{◌≡◌, ◌+◌, ◌*◌, ◌<◌, ◌≤◌, ◌%◌, map, slice_index, IfOk};
+ghost use Rattle.fc_core.specs.Answering.{emission_of};
 ghost use Rattle.fc_core.specs.Contents.{IsOf};
 ghost use Rattle.fc_registry.specs.Slots.{last_serial};
 ghost use Rattle.fc_workers.specs.Counts.{no_changes, serials, IsFresh};
@@ -145,46 +146,46 @@ impl<
 
     fn install(
         &mut self,
-        slot: SlotNumber,
+        job: &Job,
         program: Arc<Verified>,
         tallies: &mut Tallies<L0, L1, L2, L3, L4, L5, L6, L7>,
     ) -> Made
         ensures made { IsSomeInstall program.value result }
         ensures changes { AreTallied (slice_index tallies.old.changes) (slice_index tallies.new.changes)
-            slot (install_changes result) }
+            job.now.origin.slot (install_changes result) }
         ensures ended { tallies.new.ended ≡ tallies.old.ended }
     {
-        match shard_of(slot) {
-            0 => self.shard0.install(slot, program, &mut tallies.tally0),
-            1 => self.shard1.install(slot, program, &mut tallies.tally1),
-            2 => self.shard2.install(slot, program, &mut tallies.tally2),
-            3 => self.shard3.install(slot, program, &mut tallies.tally3),
-            4 => self.shard4.install(slot, program, &mut tallies.tally4),
-            5 => self.shard5.install(slot, program, &mut tallies.tally5),
-            6 => self.shard6.install(slot, program, &mut tallies.tally6),
-            _ => self.shard7.install(slot, program, &mut tallies.tally7),
+        match shard_of(job.origin.slot) {
+            0 => self.shard0.install(job, program, &mut tallies.tally0),
+            1 => self.shard1.install(job, program, &mut tallies.tally1),
+            2 => self.shard2.install(job, program, &mut tallies.tally2),
+            3 => self.shard3.install(job, program, &mut tallies.tally3),
+            4 => self.shard4.install(job, program, &mut tallies.tally4),
+            5 => self.shard5.install(job, program, &mut tallies.tally5),
+            6 => self.shard6.install(job, program, &mut tallies.tally6),
+            _ => self.shard7.install(job, program, &mut tallies.tally7),
         }
     }
 
     fn remove(
         &mut self,
-        slot: SlotNumber,
+        job: &Job,
         tallies: &mut Tallies<L0, L1, L2, L3, L4, L5, L6, L7>,
     ) -> Removal
         ensures removal { IsSomeRemoval result }
         ensures changes { AreTallied (slice_index tallies.old.changes) (slice_index tallies.new.changes)
-            slot (removal_changes result) }
+            job.now.origin.slot (removal_changes result) }
         ensures ended { tallies.new.ended ≡ tallies.old.ended }
     {
-        match shard_of(slot) {
-            0 => self.shard0.remove(slot, &mut tallies.tally0),
-            1 => self.shard1.remove(slot, &mut tallies.tally1),
-            2 => self.shard2.remove(slot, &mut tallies.tally2),
-            3 => self.shard3.remove(slot, &mut tallies.tally3),
-            4 => self.shard4.remove(slot, &mut tallies.tally4),
-            5 => self.shard5.remove(slot, &mut tallies.tally5),
-            6 => self.shard6.remove(slot, &mut tallies.tally6),
-            _ => self.shard7.remove(slot, &mut tallies.tally7),
+        match shard_of(job.origin.slot) {
+            0 => self.shard0.remove(job, &mut tallies.tally0),
+            1 => self.shard1.remove(job, &mut tallies.tally1),
+            2 => self.shard2.remove(job, &mut tallies.tally2),
+            3 => self.shard3.remove(job, &mut tallies.tally3),
+            4 => self.shard4.remove(job, &mut tallies.tally4),
+            5 => self.shard5.remove(job, &mut tallies.tally5),
+            6 => self.shard6.remove(job, &mut tallies.tally6),
+            _ => self.shard7.remove(job, &mut tallies.tally7),
         }
     }
 
@@ -202,7 +203,7 @@ impl<
     }
 
     fn tick_shard(&mut self, shard: u8, now: u64) -> Ticked
-        ensures { IsSomeTick result }
+        ensures { IsSomeTick now result }
     {
         match shard {
             0 => self.shard0.tick(now),
@@ -217,7 +218,7 @@ impl<
     }
 
     fn next_due(&mut self, shard: u8, now: u64) -> Option<Job>
-        ensures { IsSomeTurn result }
+        ensures { IsSomeTurn now result }
     {
         match shard {
             0 => self.shard0.next_due(now),
@@ -233,7 +234,7 @@ impl<
 
     fn note(&mut self, turn: Turn, id: u16, now: u64, random: u16, told: &Notification<'_>) -> Noted
         requires { turn.slot < 64 }
-        ensures { IsSomeNote told.now turn id result }
+        ensures { IsSomeNote now told.now turn id result }
     {
         match turn.slot % 8 {
             0 => self.shard0.note(turn, id, now, random, told),
@@ -262,18 +263,18 @@ impl<
         }
     }
 
-    fn receipt(&self, slot: SlotNumber) -> Option<Receipt>
+    fn receipt(&self, job: &Job) -> Option<Receipt>
         ensures { IsSomeReceipt result }
     {
-        match shard_of(slot) {
-            0 => self.shard0.receipt(slot),
-            1 => self.shard1.receipt(slot),
-            2 => self.shard2.receipt(slot),
-            3 => self.shard3.receipt(slot),
-            4 => self.shard4.receipt(slot),
-            5 => self.shard5.receipt(slot),
-            6 => self.shard6.receipt(slot),
-            _ => self.shard7.receipt(slot),
+        match shard_of(job.origin.slot) {
+            0 => self.shard0.receipt(job),
+            1 => self.shard1.receipt(job),
+            2 => self.shard2.receipt(job),
+            3 => self.shard3.receipt(job),
+            4 => self.shard4.receipt(job),
+            5 => self.shard5.receipt(job),
+            6 => self.shard6.receipt(job),
+            _ => self.shard7.receipt(job),
         }
     }
 }
@@ -640,27 +641,27 @@ impl<
     fn install<R: Wait>(
         &self,
         rt: &R,
-        slot: SlotNumber,
+        job: &Job,
         program: Arc<Verified>,
         tallies: &mut Tallies<L0, L1, L2, L3, L4, L5, L6, L7>,
     ) -> Made {
         let mut state = self.state.lock(rt);
-        state.install(slot, program, tallies)
+        state.install(job, program, tallies)
     }
 
     fn remove<R: Wait>(
         &self,
         rt: &R,
-        slot: SlotNumber,
+        job: &Job,
         tallies: &mut Tallies<L0, L1, L2, L3, L4, L5, L6, L7>,
     ) -> Removal {
         let mut state = self.state.lock(rt);
-        state.remove(slot, tallies)
+        state.remove(job, tallies)
     }
 
-    fn receipt<R: Wait>(&self, rt: &R, slot: SlotNumber) -> Option<Receipt> {
+    fn receipt<R: Wait>(&self, rt: &R, job: &Job) -> Option<Receipt> {
         let state = self.state.lock(rt);
-        state.receipt(slot)
+        state.receipt(job)
     }
 
     fn peek<R: Wait>(&self, rt: &R, slot: SlotNumber) -> u64 {
@@ -668,9 +669,9 @@ impl<
         state.heads.peek(slot)
     }
 
-    fn raise<R: Wait>(&self, rt: &R, slot: SlotNumber, word: u64) {
+    fn raise<R: Wait>(&self, rt: &R, job: &Job, word: u64) {
         let mut state = self.state.lock(rt);
-        state.heads.raise(slot, word);
+        state.heads.raise(job.origin.slot, word);
     }
 
     fn answer<R: Wait>(
@@ -683,9 +684,16 @@ impl<
     ) -> Option<Emission> {
         tallies.end_job();
         let mut state = self.state.lock(rt);
-        match state.front.answer(now, job, answer) {
-            Answered::Sent(emission) => Some(emission),
-            Answered::Late | Answered::NoId => None,
-        }
+        emission(state.front.answer(now, job, answer))
+    }
+}
+
+// What an answer sends, if anything.
+fn emission(answered: Answered) -> Option<Emission>
+    ensures { result ≡ emission_of answered }
+{
+    match answered {
+        Answered::Sent(emission) => Some(emission),
+        Answered::Late | Answered::NoId => None,
     }
 }

@@ -46,10 +46,10 @@ impl<'a, B: Bench, G: Gate, W: Wire, M: Moments> Workshop<'a, B, G, W, M> {
                 }
                 Stage::ToInstall => self.install(rt, job, share),
                 Stage::ToRemove => self.remove(rt, job, share),
-                Stage::ToDescribe => Stage::told(self.bench.receipt(rt, job.origin.slot)),
+                Stage::ToDescribe => Stage::told(self.bench.receipt(rt, job)),
                 Stage::ToList(seen) => self.look(rt, seen),
                 Stage::ToRaise(word, answer) => {
-                    self.bench.raise(rt, job.origin.slot, word);
+                    self.bench.raise(rt, job, word);
                     Stage::ToAnswer(answer)
                 }
                 Stage::ToAnswer(answer) => return answer,
@@ -72,7 +72,7 @@ impl<'a, B: Bench, G: Gate, W: Wire, M: Moments> Workshop<'a, B, G, W, M> {
         ensures step { IsStep B.changes job.now ToRemove result share.old share.new }
         ensures ended { B.ended share.new.tallies ≡ B.ended share.old.tallies }
     {
-        let removal = self.bench.remove(rt, job.origin.slot, &mut share.tallies);
+        let removal = self.bench.remove(rt, job, &mut share.tallies);
         Stage::removed(removal)
     }
 
@@ -142,8 +142,7 @@ impl<'a, B: Bench, G: Gate, W: Wire, M: Moments> Workshop<'a, B, G, W, M> {
         let receipt = Receipt::of(&program, 0);
         match Arc::new(self.alloc, program) {
             Ok(program) => {
-                let slot = job.origin.slot;
-                let made = self.bench.install(rt, slot, program, &mut share.tallies);
+                let made = self.bench.install(rt, job, program, &mut share.tallies);
                 Stage::made(receipt, made)
             }
             Err(_) => {

@@ -5,8 +5,8 @@ use fc_jobs::Jobs;
 use fc_registry::{Ask, Job, Opening, Origin, SlotNumber};
 use std::test::Fail;
 
-// A job whose exchange has this number.
-fn job(opened: u64) -> Job {
+// A job of slot 0, whose exchange has this number.
+pub(crate) fn job(opened: u64) -> Job {
     let opening = Opening {
         number: opened,
         at: 0,

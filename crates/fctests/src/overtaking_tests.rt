@@ -2,6 +2,7 @@
 ghost use Rattle.std.specs.Prelude.{◌≡◌, ◌+◌, ◌<◌};
 
 use crate::feeder::{Feeder, Request};
+use crate::job_tests::job;
 use arrayvec::ArrayVec;
 use coap_msg::Emission;
 use fc_jobs::Sent;
@@ -256,9 +257,7 @@ impl<'a, B: Bench> Gate for Changing<'a, B> {
             return;
         }
         if let Ok(counter) = Arc::try_clone(&self.counter) {
-            let _made = self
-                .bench
-                .install(rt, SlotNumber::new(0), counter, &mut turn.tallies);
+            let _made = self.bench.install(rt, &job(0), counter, &mut turn.tallies);
         }
     }
 }
@@ -286,7 +285,7 @@ impl Overtaken {
         };
         let counter = Arc::new(alloc, verify(alloc, COUNTER)?)?;
         let installed = Arc::try_clone(&counter)?;
-        let _made = bench.install(rt, SlotNumber::new(0), installed, &mut others);
+        let _made = bench.install(rt, &job(0), installed, &mut others);
         let gate = Changing {
             bench,
             counter,
