@@ -164,7 +164,7 @@ call_hands_on = refl
 
 -- ---- each operation, and both ends of each bound
 
-abbrev operations : List AluOp
+abbrev pub operations : List AluOp
 operations = Add ∷ Sub ∷ Mul ∷ Div ∷ Or ∷ And ∷ Lsh ∷ Rsh ∷ Mod ∷ Xor ∷ Mov ∷ Arsh ∷ Sdiv ∷ Smod ∷ []
 
 -- what each operation leaves of 6 to 12 and of these numbers
