@@ -1,4 +1,4 @@
--- Worked programs: what the rules of the control flow say of each.
+-- Worked programs: what the rules of the control flow say of each; and the numbers that a header may have.
 use Rattle.std.proofs.Common.{◌≡◌, ℕ, true, false, [], ◌∷◌, Some, None, refl}
 use Rattle.std.specs.Prelude.{pos, negsuc}
 use Rattle.fc_isa.specs.declared.insn.Insn.{Insn}
@@ -11,7 +11,7 @@ use Rattle.fc_isa.specs.declared.rule.Rule.TheVariants.{JumpTarget, BackwardJump
 use Rattle.fc_image.specs.Head.{is_bad_size, is_bad_count, is_bad_budget}
 use Rattle.fc_image.specs.Functions.{is_start, frames}
 use Rattle.fc_image.specs.Paths.{costs, longest}
-use Rattle.fc_image.specs.ShapeRules.{breaks_shape, shape_fault}
+use Rattle.fc_image.specs.ShapeRules.{breaks_shape, is_helper, shape_fault}
 
 abbrev mov : Insn
 mov = Alu Mov W64 0 (Imm (pos 0))
@@ -82,10 +82,17 @@ cost_before_helper : shape_fault 2 (CallHelper (pos 8) ∷ mov ∷ Exit ∷ []) 
 unfolding shape_fault breaks_shape longest costs is_start frames
 cost_before_helper = refl
 
--- ---- the header's limits
+-- ---- the helpers' numbers, and the header's limits
 
-sizes_are_words : (is_bad_size 0 ≡ false) × (is_bad_size 4 ≡ true) × (is_bad_size 8 ≡ false) × (is_bad_size 12 ≡ true) × (is_bad_size 256 ≡ false) × (is_bad_size 264 ≡ true)
-sizes_are_words = (refl, refl, refl, refl, refl, refl)
+helpers_are_seven : (is_helper (pos 0) ≡ false) × (is_helper (pos 1) ≡ true) × (is_helper (pos 7) ≡ true) × (is_helper (pos 8) ≡ false) × (is_helper (negsuc 0) ≡ false)
+helpers_are_seven = (refl, refl, refl, refl, refl)
 
-limits : (is_bad_count 0 ≡ true) × (is_bad_count 512 ≡ false) × (is_bad_count 513 ≡ true) × (is_bad_budget 0 ≡ true) × (is_bad_budget 65536 ≡ false) × (is_bad_budget 65537 ≡ true)
-limits = (refl, refl, refl, refl, refl, refl)
+-- words of eight bytes, up to 256 bytes
+sizes_are_words : (is_bad_size 0 ≡ false) × (is_bad_size 4 ≡ true) × (is_bad_size 8 ≡ false) × (is_bad_size 12 ≡ true) × (is_bad_size 250 ≡ true) × (is_bad_size 256 ≡ false) × (is_bad_size 264 ≡ true)
+sizes_are_words = (refl, refl, refl, refl, refl, refl, refl)
+
+ends_of_counts : (is_bad_count 0 ≡ true) × (is_bad_count 1 ≡ false) × (is_bad_count 512 ≡ false) × (is_bad_count 513 ≡ true)
+ends_of_counts = (refl, refl, refl, refl)
+
+ends_of_budgets : (is_bad_budget 0 ≡ true) × (is_bad_budget 1 ≡ false) × (is_bad_budget 65536 ≡ false) × (is_bad_budget 65537 ≡ true)
+ends_of_budgets = (refl, refl, refl, refl)
