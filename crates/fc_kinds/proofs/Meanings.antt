@@ -1,6 +1,6 @@
 -- Worked rows of what instructions and helpers do, and of what programs mean.
 use Rattle.std.proofs.Common.{◌≡◌, ℕ, Bool, true, false, List, [], ◌∷◌, ◌++◌, Option, None, Some, refl}
-use Rattle.std.specs.Prelude.{ℤ, pos, negsuc, map, filter, drop, replicate, is_some}
+use Rattle.std.specs.Prelude.{ℤ, pos, negsuc, map, filter, take, drop, replicate, is_some}
 use Rattle.fc_isa.specs.declared.insn.AluOp.{AluOp}
 use Rattle.fc_isa.specs.declared.insn.AluOp.TheVariants.{Add, Sub, Mov}
 use Rattle.fc_isa.specs.declared.insn.Width.{Width}
@@ -317,3 +317,22 @@ leaving a = act Exit (record (before Post 0 Unset Unset) { regs = a ∷ []; call
 exits_answer_a_number : (is_some (leaving (Number 3)) ≡ true) × (is_some (leaving (Pointer Variables (pos 0))) ≡ false) × (is_some (leaving Unset) ≡ false)
 unfolding act
 exits_answer_a_number = (refl, refl, refl)
+
+-- four frames at most
+abbrev calling_from : ℕ → Option Config
+calling_from callers = act (CallLocal (pos 0)) (record (before Post 0 Unset Unset) { callers = replicate callers (record { place = 3; kept = [] }) })
+
+frames_are_four : (is_some (calling_from 2) ≡ true) × (is_some (calling_from 3) ≡ false)
+unfolding act
+frames_are_four = (refl, refl)
+
+-- ---- the request's region
+
+abbrev asked_with : Option ℕ → List ℕ
+asked_with format = region_of (request_with Post 5 format (97 ∷ 61 ∷ 49 ∷ []) (replicate 258 9))
+
+regions_are_laid_out :
+    (take 20 (asked_with (Some 515)) ≡ 2 ∷ 5 ∷ 2 ∷ 1 ∷ 3 ∷ 2 ∷ 1 ∷ 3 ∷ 0 ∷ 0 ∷ 0 ∷ 0 ∷ 0 ∷ 0 ∷ 0 ∷ 0 ∷ 97 ∷ 61 ∷ 49 ∷ 0 ∷ []) × (take 8 (asked_with None) ≡ 2 ∷ 5 ∷ 2 ∷ 1 ∷ 0 ∷ 0 ∷ 0 ∷ 3 ∷ [])
+    × (take 4 (region_of (request_with Get 15 None [] [])) ≡ 1 ∷ 15 ∷ 0 ∷ 0 ∷ []) × (drop 78 (asked_with None) ≡ 0 ∷ 0 ∷ (replicate 258 9 ++ replicate 766 0))
+unfolding region_of
+regions_are_laid_out = (refl, refl, refl, refl)
