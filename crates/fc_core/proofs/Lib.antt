@@ -39,3 +39,4 @@ pub mod Stayers
 pub mod Clocks
 pub mod Climbing
 pub mod TurnBlocks
+pub mod Kept

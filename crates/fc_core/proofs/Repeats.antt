@@ -259,12 +259,14 @@ no_arrival : (old : List Arrival) (es : List Exchange) → length es ≡ 0 → o
 no_arrival old [] none = append-nil old
 no_arrival old (e ∷ es) none = absurd (cc none)
 
+-- what isn't new opens nothing
+pub opened_none : (s : Seen) (now : ℕ) (to : Endpoint) (bytes : List ℕ) → (IsOpening s now to bytes → ⊥) → length (opened_by (received_at s now to bytes) (next_opening (front_at s now)) to) ≡ 0
+opened_none s now to bytes not =
+    ap (λ x. length (opened_by x (next_opening (front_at s now)) to)) (received_of (front_at s now) to bytes (reading_of bytes) refl)
+    ∙ read_opens s now to bytes (reading_of bytes) (next_opening (front_at s now)) refl not
+
 opens_none : (s : Seen) (e : Event) (o : Option Emission) → (Opens s e → ⊥) → map arrival_of (exchanges_after e o s) ≡ arrivals s
-opens_none s (Deliver now to bytes) o not =
-    let none : length (opened_by (received_at s now to bytes.now) (next_opening (front_at s now)) to) ≡ 0 =
-    ap (λ x. length (opened_by x (next_opening (front_at s now)) to)) (received_of (front_at s now) to bytes.now (reading_of bytes.now) refl)
-    ∙ read_opens s now to bytes.now (reading_of bytes.now) (next_opening (front_at s now)) refl not in
-    received_arrivals s now to (received_at s now to bytes.now) o ∙ no_arrival (arrivals s) (opened_by (received_at s now to bytes.now) (next_opening (front_at s now)) to) none
+opens_none s (Deliver now to bytes) o not = received_arrivals s now to (received_at s now to bytes.now) o ∙ no_arrival (arrivals s) (opened_by (received_at s now to bytes.now) (next_opening (front_at s now)) to) (opened_none s now to bytes.now not)
 opens_none s (Answer k now) o not = same_arrivals o s.exchanges (is_some (content_at (stage s k))) (job s k).origin.opening.number
 opens_none s other o not = refl
 

@@ -14,6 +14,7 @@ pub mod Fits
 pub mod History
 pub mod Sound
 pub mod Legal
+pub mod KeptLaws
 pub mod Laws
 pub mod SlotLaws
 pub mod ObserveLaws

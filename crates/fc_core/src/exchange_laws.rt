@@ -1,10 +1,15 @@
 //! What a history promises of exchanges and message ids: each function is a law, and its contract says it.
 ghost use Rattle.coap_dedup.specs.Exchanges.{Exchange};
 ghost use Rattle.fc_core.specs.ExchangeLaws.{AreApart, AreInOrder, Opens, OpensOne, Repeats, arrivals, draws_of, first_id, repeat_emits};
-ghost use Rattle.fc_core.specs.History.{Entry, History, Seen, seen, and_then, job};
+ghost use Rattle.fc_core.specs.Contents.{Content};
+ghost use Rattle.fc_core.specs.History.{Entry, History, Seen, Then, and_then, did, job, seen, stage};
+ghost use Rattle.fc_core.specs.KeptLaws.{AnswersJob, HasId, answers, answers_with, bytes_of, exchange_of_job, opened_at};
+ghost use Rattle.fc_core.specs.declared.event.Event.TheVariants.{Answer};
+ghost use Rattle.fc_core.specs.declared.stage.Stage.TheVariants.{ToAnswer};
+ghost use Rattle.coap_msg.specs.declared.types.Emission.{Emission};
 ghost use Rattle.fc_core.specs.Laws.{HasCome};
 ghost use Rattle.fc_core.specs.Legal.{Emits};
-ghost use Rattle.std.specs.Prelude.{ℕ, ◌+◌, ◌<◌, ◌≤◌, ◌≡◌, None};
+ghost use Rattle.std.specs.Prelude.{ℕ, ◌+◌, ◌<◌, ◌≤◌, ◌≡◌, ◌++◌, ◌∷◌, [], None, Option, Some, is_some, max, true};
 
 /// A repeat, which is a request of an endpoint and message id of which an exchange was opened less than 247,000 ms before,
 /// opens no exchange, brings no job, adds no payload to a transfer and draws no message id. It emits the bytes that are kept of that exchange, where its
@@ -44,4 +49,24 @@ pub fn requests_are_carried_out_once()
 pub fn message_ids_come_in_order()
     ensures order { (h : History) → first_id h < 65536 → AreInOrder (first_id h) (draws_of h) }
     ensures apart { (h : History) → first_id h < 65536 → AreApart (draws_of h) }
+{}
+
+/// The answer of a job goes out less than 247,000 ms after its request was opened, and never later. Until then it does go out, where
+/// its request was confirmable or a message id of the server's own is free.
+pub fn answers_go_out_in_time()
+    ensures late { (s : Seen) (k now : ℕ) (e : Emission) → Emits s (Answer k now) (Some e)
+        → max s.moment now < opened_at s k + 247000 }
+    ensures in_time { (s : Seen) (k now : ℕ) (content : Content) (o : Option Emission) → stage s k ≡ ToAnswer content
+        → max s.moment now < opened_at s k + 247000 → HasId s k now → Emits s (Answer k now) o → is_some o ≡ true }
+{}
+
+/// What is kept as the answer of an exchange is the bytes that went out: those that its delivery emitted, where it was answered at
+/// once, or those that the Answer of its job emitted. No other event touches an answer that is kept.
+pub fn kept_answers_are_what_went_out()
+    ensures opened { (h : History) (r : Entry) → Opens (seen h) r.event → Emits (seen h) r.event r.emitted
+        → answers (seen (Then h r)) ≡ answers (seen h) ++ bytes_of r.emitted ∷ [] }
+    ensures answered { (h : History) (k now : ℕ) (content : Content) (o : Option Emission) → stage (seen h) k ≡ ToAnswer content
+        → answers (seen (Then h (did (Answer k now) o))) ≡ answers_with o (exchange_of_job (seen h) k) (answers (seen h)) }
+    ensures others { (h : History) (r : Entry) → (Opens (seen h) r.event → ⊥) → (AnswersJob (seen h) r.event → ⊥)
+        → answers (seen (Then h r)) ≡ answers (seen h) }
 {}
