@@ -40,3 +40,4 @@ pub mod Clocks
 pub mod Climbing
 pub mod TurnBlocks
 pub mod Kept
+pub mod Words

@@ -1,9 +1,13 @@
 -- What the laws of head words speak of.
-use Rattle.std.specs.Prelude.{◌≡◌, ℕ, ◌⊎◌, is_some}
+use Rattle.std.specs.Prelude.{◌≡◌, ℕ, ◌==◌, ◌⊎◌, if◌then◌else◌, List, [], ◌∷◌, ◌++◌, is_some}
 use Rattle.fc_registry.specs.Slots.{Slot}
 use Rattle.fc_core.specs.declared.stage.Stage.{Stage}
 use Rattle.fc_core.specs.declared.stage.Stage.TheVariants.{ToRaise}
 use Rattle.fc_core.specs.Heads.{head_word}
+use Rattle.fc_core.specs.declared.event.Event.{Event}
+use Rattle.fc_core.specs.declared.event.Event.TheVariants.{Raise}
+use Rattle.fc_core.specs.History.{History, Begins, Then, Seen, seen, stage}
+use Rattle.fc_core.specs.Laws.{slot_of}
 
 -- the head word of a slot's state
 abbrev pub slot_word : Slot → ℕ
@@ -13,3 +17,18 @@ slot_word slot = head_word slot.serial (is_some slot.present)
 abbrev pub PublishesAt : Slot → Stage → Stage → Type 0
 PublishesAt slot old (ToRaise word content) = (old ≡ ToRaise word content) ⊎ (word ≡ slot_word slot)
 PublishesAt slot old other = Unit {0}
+
+-- the word that a job at this stage is to raise its slot's to
+abbrev pub word_to_raise : Stage → List ℕ
+word_to_raise (ToRaise word content) = word ∷ []
+word_to_raise other = []
+
+-- the word that an event raises slot n's to: that of a job of the slot, which is at its Raise
+abbrev pub words_raised : ℕ → Event → Seen → List ℕ
+words_raised n (Raise k) s = if slot_of s k == n then word_to_raise (stage s k) else []
+words_raised n other s = []
+
+-- the words that were raised for slot n, the newest first
+abbrev pub raises_of : ℕ → History → List ℕ
+raises_of n (Begins serial id) = []
+raises_of n (Then h r) = words_raised n r.event (seen h) ++ raises_of n h

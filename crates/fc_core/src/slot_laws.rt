@@ -2,7 +2,12 @@
 ghost use Rattle.coap_msg.specs.declared.types.Emission.{Emission};
 ghost use Rattle.fc_core.specs.Contents.{Content};
 ghost use Rattle.fc_core.specs.History.{Entry, History, Then, Seen, seen, and_then, did, job, slot_at, stage};
-ghost use Rattle.fc_core.specs.HeadLaws.{PublishesAt};
+ghost use Rattle.fc_core.specs.AnswerLaws.{HasSerial, greatest};
+ghost use Rattle.fc_core.specs.Contents.{Valid};
+ghost use Rattle.fc_core.specs.HeadLaws.{PublishesAt, raises_of};
+ghost use Rattle.fc_core.specs.Heads.{head_word, word_at};
+ghost use Rattle.fc_core.specs.declared.event.Event.TheVariants.{Peek};
+ghost use Rattle.fc_core.specs.declared.stage.Stage.TheVariants.{ToAnswer, ToMatch};
 ghost use Rattle.fc_core.specs.Laws.{HasCome, changes_by, slot_of, takings_of};
 ghost use Rattle.fc_core.specs.SlotLaws.{AllOfImages, ChangesBy, IsOfImage, IsToRaise, IsUnchanged, IsWritten};
 ghost use Rattle.fc_core.specs.Stages.{image_of, names};
@@ -16,7 +21,7 @@ ghost use Rattle.fc_registry.specs.Record.{IsChain, code_class};
 ghost use Rattle.fc_registry.specs.Slots.{Present, Ticket, new_slot};
 ghost use Rattle.fc_verify.specs.Accepted.{Accepts};
 ghost use Rattle.fc_verify.specs.Judged.{judged};
-ghost use Rattle.std.specs.Prelude.{ℕ, ◌+◌, ◌<◌, ◌≤◌, ◌∷◌, ◌⊎◌, Bool, Option, Some, length, ◌≡◌};
+ghost use Rattle.std.specs.Prelude.{ℕ, ◌+◌, ◌<◌, ◌≤◌, ◌∷◌, ◌⊎◌, Bool, Option, Some, length, true, ◌≡◌};
 
 /// A job changes its slot at most once. The event that changes it leaves the job to publish the slot's new head word, and no
 /// other event does.
@@ -84,4 +89,18 @@ pub fn gets_and_errors_change_nothing()
 /// there.
 pub fn commits_are_a_chain()
     ensures { (h : History) (n : ℕ) → IsChain (new_slot (seen h).first_serial) ((seen h).changes n) }
+{}
+
+/// The head word of a slot is the greatest that jobs of the slot raised it to, and 0 before that; so it never falls.
+pub fn head_words_are_the_greatest_raised()
+    ensures greatest { (h : History) (n : ℕ) → n < 64 → word_at (seen h).words n ≡ greatest (raises_of n h) }
+    ensures rises { (h : History) (r : Entry) (n : ℕ) → n < 64 → word_at (seen h).words n ≤ word_at (seen (Then h r)).words n }
+{}
+
+/// A GET of which an ETag is the serial of its slot's head word, as its look at the word finds it with a program, is answered
+/// 2.03 (Valid) with that serial.
+pub fn matching_etags_are_valid()
+    ensures { (s : Seen) (k serial : ℕ) (o : Option Emission) → stage s k ≡ ToMatch
+        → word_at s.words (slot_of s k) ≡ head_word serial true → HasSerial (job s k).etags.items serial
+        → stage (and_then (did (Peek k (slot_of s k)) o) s) k ≡ ToAnswer (Valid serial) }
 {}
