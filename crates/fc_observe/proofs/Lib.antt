@@ -12,3 +12,4 @@ pub mod Missing
 pub mod Lasting
 pub mod Staying
 pub mod Rising
+pub mod First

@@ -1,13 +1,13 @@
 //! What the calls on the observers of a slot promise together: each function is a law, and its contract says it.
-ghost use Rattle.std.specs.Prelude.{◌≡◌, ◌↔◌, ℕ, ◌+◌, ◌*◌, ◌%◌, ◌<◌, ◌≤◌, ◌⊎◌, nat_lt, nat_le, Bool, false, true, [], ◌∷◌, List, None, Option, Some, count_by, is_some, length};
+ghost use Rattle.std.specs.Prelude.{◌≡◌, ◌↔◌, ℕ, ◌+◌, ◌*◌, ◌%◌, ◌<◌, ◌≤◌, ◌⊎◌, nat_lt, nat_le, Bool, false, true, [], ◌∷◌, ◌++◌, List, None, Option, Some, count_by, is_some, length};
 ghost use Rattle.std.specs.List.{All, Any, Contains, list_any};
 ghost use Rattle.arrayvec.specs.ArrayVec.{ArrayVec};
 ghost use Rattle.coap_msg.specs.declared.types.Emission.{Emission};
 ghost use Rattle.coap_msg.specs.declared.types.Endpoint.{Endpoint};
 ghost use Rattle.fc_observe.specs.Calls.{ComesFrom, IsRegisteredBy, ObserverCall, NextDue, Notify, Miss, End, GiveUp, after_calls, observers, observers_after};
-ghost use Rattle.fc_observe.specs.Entries.{given_up, is_due, is_entry_of, is_late, must_confirm, notified, retransmission, timed_out};
+ghost use Rattle.fc_observe.specs.Entries.{given_up, is_due, is_entry_of, is_late, must_confirm, notified, retransmission, timed_out, with_turn};
 ghost use Rattle.fc_observe.specs.Laws.{HandsInUpTo, IsGivenUpNow, IsOutstanding, IsSentAt, IsTurnOut, KeepsSerial, RegistersNone, has_number, noticed_for, resent_at};
-ghost use Rattle.fc_observe.specs.Observers.{ObserverList, after_ack, after_reset, at_moment, entry_out, is_missing, is_out, next_turn, ticked};
+ghost use Rattle.fc_observe.specs.Observers.{ObserverList, after_ack, after_reset, at_moment, entry_out, is_missing, is_out, next_turn, ticked, turn_given};
 ghost use Rattle.fc_observe.specs.declared.entry.Entry.{Entry};
 ghost use Rattle.fc_observe.specs.declared.entry.Phase.TheVariants.{Outstanding, TurnOut};
 ghost use Rattle.fc_observe.specs.declared.entry.Turn.{Turn};
@@ -133,4 +133,12 @@ pub fn serials_stay_below()
     ensures { (n : ℕ) (c : ObserverCall) (t : ObserverList) → HandsInUpTo n c →
         All (λ (o : Entry). o.serial ≤ n) t.held →
         All (λ (o : Entry). o.serial ≤ n) (observers_after c t).held }
+{}
+
+/// The first observer of the list that is due gets the turn, numbered by how many were given before it; each other entry stays as it is.
+pub fn the_first_due_gets_the_turn()
+    ensures { (noticed : ℕ) (t : ObserverList) (before after : List Entry) (o : Entry) →
+        t.turns < 18446744073709551615 → t.held ≡ before ++ o ∷ after →
+        list_any (is_due t.moment noticed) before ≡ false → is_due t.moment noticed o ≡ true →
+        (turn_given noticed t).held ≡ before ++ with_turn t.turns t.moment o ∷ after }
 {}

@@ -1,0 +1,36 @@
+-- Who gets the turn.
+use Rattle.std.proofs.Common.{◌≡◌, ℕ, ◌<◌, List, [], ◌∷◌, ◌++◌, Bool, true, false, cond, refl, sym, ap, ◌∙◌}
+use Rattle.std.specs.Prelude.{◌&&◌, ◌||◌, nat_lt}
+use Rattle.std.specs.List.{list_any}
+use Rattle.std.proofs.lemmas.Bool.{lt-ltb}
+use Rattle.fc_observe.specs.declared.entry.Entry.{Entry}
+use Rattle.fc_observe.specs.Entries.{is_due, with_turn}
+use Rattle.fc_observe.specs.Observers.{ObserverList, at_first, turn_given, turn_given_by}
+
+or_false : (a b : Bool) → (a || b) ≡ false → (a ≡ false) × (b ≡ false)
+or_false true b e = absurd (cc e)
+or_false false b e = (refl, e)
+
+-- the first that passes gives way, where none before it passes
+first_passes : (p : Entry → Bool) (g : Entry → List Entry) (before : List Entry) (o : Entry) (after : List Entry) → list_any p before ≡ false → p o ≡ true → at_first p g (before ++ o ∷ after) ≡ before ++ (g o ++ after)
+first_passes p g [] o after none is = ap (λ (b : Bool). cond b (g o ++ after) (o ∷ at_first p g after)) is
+first_passes p g (x ∷ xs) o after none is =
+    let parts = or_false (p x) (list_any p xs) none in
+    ap (λ (b : Bool). cond b (g x ++ (xs ++ o ∷ after)) (x ∷ at_first p g (xs ++ o ∷ after))) parts.0
+    ∙ ap (λ (l : List Entry). x ∷ l) (first_passes p g xs o after parts.1 is)
+
+or_true : (a : Bool) → (a || true) ≡ true
+or_true true = refl
+or_true false = refl
+
+some_passes : (p : Entry → Bool) (before : List Entry) (o : Entry) (after : List Entry) → p o ≡ true → list_any p (before ++ o ∷ after) ≡ true
+some_passes p [] o after is = ap (λ (b : Bool). b || list_any p after) is
+some_passes p (x ∷ xs) o after is = ap (λ (b : Bool). p x || b) (some_passes p xs o after is) ∙ or_true (p x)
+
+pub first_gets : (noticed : ℕ) (t : ObserverList) (before after : List Entry) (o : Entry) → t.turns < 18446744073709551615 → t.held ≡ before ++ o ∷ after → list_any (is_due t.moment noticed) before ≡ false → is_due t.moment noticed o ≡ true → (turn_given noticed t).held ≡ before ++ with_turn t.turns t.moment o ∷ after
+first_gets noticed t before after o lt held none is =
+    let due : list_any (is_due t.moment noticed) t.held ≡ true = ap (list_any (is_due t.moment noticed)) held ∙ some_passes (is_due t.moment noticed) before o after is in
+    ap (λ (b : Bool). (turn_given_by (b && list_any (is_due t.moment noticed) t.held) noticed t).held) (lt-ltb t.turns 18446744073709551615 lt)
+    ∙ (ap (λ (b : Bool). (turn_given_by b noticed t).held) due
+    ∙ (ap (at_first (is_due t.moment noticed) (λ x. with_turn t.turns t.moment x ∷ [])) held
+    ∙ first_passes (is_due t.moment noticed) (λ x. with_turn t.turns t.moment x ∷ []) before o after none is))
