@@ -57,6 +57,56 @@ fn a_bad_line_stops_the_workers(rt: HostRuntime) {
     assert!(rt; err.as_slice() == b"line 2: bad\n".as_slice());
 }
 
+// Slots begin at the serial that is given, and the server's own message ids at the id, on one thread and by workers: an install at 41 is
+// version 42, and the reply to the non-confirmable PUT has message id 500.
+#[test]
+fn a_server_begins_as_it_is_told(rt: HostRuntime) {
+    let alloc = rt.alloc();
+    let input = b"0 1 50030001b1700130ff46434231000002000200000000000000b7000000450000009500000000000000\n".as_slice();
+    let want = b"1 504101f4ff76657273696f6e3d343220636f73743d32206275646765743d3220766172733d30\n".as_slice();
+    let mut out = Vec::new(alloc);
+    let mut err = Vec::new(alloc);
+    let status = play(alloc, input, &mut out, &mut err, 41, 500);
+    assert!(rt; status == Status::Done && out.as_slice() == want);
+    for workers in 1..3u8 {
+        let mut out = Vec::new(alloc);
+        let mut err = Vec::new(alloc);
+        let begin = Begin {
+            serial: 41,
+            id: 500,
+        };
+        let status = play_by_workers(&rt, alloc, input, &mut out, &mut err, workers, begin);
+        assert!(rt; status == Status::Done && out.as_slice() == want, "{workers} workers");
+    }
+}
+
+// Slots 5 and 13, which are of one shard, have words, programs and removals of their own: a GET with the serial of its own slot is told
+// that it is valid still, a removal of one leaves the other, and slot 0, where nothing is, says nothing of them.
+#[test]
+fn slots_of_a_shard_are_apart(rt: HostRuntime) {
+    check_played(
+        &rt,
+        "0 1 40030001b1700135ff46434231000002000200000000000000b7000000450000009500000000000000\n\
+         0 1 40030002b170023133ff46434231000002000200000000000000b7000000450000009500000000000000\n\
+         0 1 40010003b1720135\n\
+         0 1 4001000448000000000000000171720135\n\
+         0 1 40040005b1700135\n\
+         0 1 40010006b172023133\n\
+         0 1 400100074800000000000000017172023133\n\
+         0 1 40010008b1720135\n\
+         0 1 40030009b1700135ff46434231000002000200000000000000b7000000450000009500000000000000\n",
+        "1 60410001ff76657273696f6e3d3120636f73743d32206275646765743d3220766172733d30\n\
+         1 60410002ff76657273696f6e3d3120636f73743d32206275646765743d3220766172733d30\n\
+         1 60450003480000000000000001\n\
+         1 60430004480000000000000001\n\
+         1 60420005\n\
+         1 60450006480000000000000001\n\
+         1 60430007480000000000000001\n\
+         1 60840008\n\
+         1 60410009ff76657273696f6e3d3320636f73743d32206275646765743d3220766172733d30\n",
+    );
+}
+
 // Lines, and what is printed.
 static PLAYED: [(&str, &str); 6] = [
     // A counter of eight bytes: it adds one to its first word, and gives a notice. A POST keeps that, a GET doesn't, and a copy of
