@@ -348,7 +348,7 @@ impl Shard {
     }
 
     /// No observer of a slot was sent a serial above the slot's: whatever was called, in whatever order, what it was last sent, by
-    /// its registration's answer or a notification, is a state that the slot had.
+    /// its registration's answer or a notification, is of no state that is yet to come.
     pub fn no_observer_is_ahead(&self)
         ensures { (n : ℕ) → IsOwned self.entry.now n → IsSentUpTo (slot_in self.entry.now n).serial (watch_at self.entry.now (n / 8)) }
     {

@@ -143,7 +143,7 @@ module _ {T : Type 0} (changes : T → ℕ → ℕ) (job : Job) where
     is = is;
     next = refl;
     follows = took_follows job n x less is;
-    counted = record { tallies = λ shard lt. same shard lt ∙ same_tallies (changes p.tallies) job.origin.slot shard lt; refusals = omega arith; overtakings = omega arith; got = refl };
+    counted = record { tallies = λ shard lt. same shard lt ∙ same_tallies (changes p.tallies) job.origin.slot shard lt; refusals = omega arith; overtakings = omega arith; got = refl; sent = refl; failed = refl };
   })
 
   pub commit_step : (n : ℕ) (t : Ticket) (x : Committed) (p : Share T) (tallies : T) {next : Stage} {after : Share T} → IsReady job (ToCommit n t) → IsSomeCommit (run_of t) t x → AreTallied (changes p.tallies) (changes tallies) t.origin.slot (commit_changes x) → next ≡ after_commit n t x → after ≡ record p { tallies = tallies; overtakings = saturated (p.overtakings + overtaking_by (Commits x)) } → IsStep changes job (ToCommit n t) next p after
@@ -157,6 +157,8 @@ module _ {T : Type 0} (changes : T → ℕ → ℕ) (job : Job) where
       refusals = omega arith;
       overtakings = omega arith;
       got = refl;
+      sent = refl;
+      failed = refl;
     };
   })
 
@@ -166,7 +168,7 @@ module _ {T : Type 0} (changes : T → ℕ → ℕ) (job : Job) where
     is = (accepted, is);
     next = refl;
     follows = made_follows job (receipt_of program 0) x;
-    counted = record { tallies = one_tallied (changes p.tallies) (changes tallies) job.origin.slot (install_changes x) rises; refusals = omega arith; overtakings = omega arith; got = refl };
+    counted = record { tallies = one_tallied (changes p.tallies) (changes tallies) job.origin.slot (install_changes x) rises; refusals = omega arith; overtakings = omega arith; got = refl; sent = refl; failed = refl };
   })
 
   pub remove_step : (x : Removal) (p : Share T) (tallies : T) {next : Stage} → IsSomeRemoval x → AreTallied (changes p.tallies) (changes tallies) job.origin.slot (removal_changes x) → next ≡ removed x → IsStep changes job ToRemove next p (record p { tallies = tallies })
@@ -175,7 +177,7 @@ module _ {T : Type 0} (changes : T → ℕ → ℕ) (job : Job) where
     is = is;
     next = refl;
     follows = removed_follows job x;
-    counted = record { tallies = one_tallied (changes p.tallies) (changes tallies) job.origin.slot (removal_changes x) rises; refusals = omega arith; overtakings = omega arith; got = refl };
+    counted = record { tallies = one_tallied (changes p.tallies) (changes tallies) job.origin.slot (removal_changes x) rises; refusals = omega arith; overtakings = omega arith; got = refl; sent = refl; failed = refl };
   })
 
   -- calls that change nothing and count nothing
@@ -185,6 +187,8 @@ module _ {T : Type 0} (changes : T → ℕ → ℕ) (job : Job) where
     refusals = omega (arith, no_refusal);
     overtakings = omega (arith, no_overtaking);
     got = refl;
+    sent = refl;
+    failed = refl;
   }
 
   pub describe_step : (x : Option Receipt) (p : Share T) {next : Stage} → IsSomeReceipt x → next ≡ ToAnswer (told x) → IsStep changes job ToDescribe next p p
@@ -209,7 +213,7 @@ module _ {T : Type 0} (changes : T → ℕ → ℕ) (job : Job) where
     is = is;
     next = refl;
     follows = rejected_follows job f (nat_lt (number_of f.rule) 20);
-    counted = record { tallies = same_tallies (changes p.tallies) job.origin.slot; refusals = omega arith; overtakings = omega arith; got = refl };
+    counted = record { tallies = same_tallies (changes p.tallies) job.origin.slot; refusals = omega arith; overtakings = omega arith; got = refl; sent = refl; failed = refl };
   })
 
   -- memory that was refused
@@ -219,7 +223,7 @@ module _ {T : Type 0} (changes : T → ℕ → ℕ) (job : Job) where
     is = is;
     next = refl;
     follows = record { ready = tt; fewer = omega arith; few = omega arith };
-    counted = record { tallies = same_tallies (changes p.tallies) job.origin.slot; refusals = omega arith; overtakings = omega arith; got = refl };
+    counted = record { tallies = same_tallies (changes p.tallies) job.origin.slot; refusals = omega arith; overtakings = omega arith; got = refl; sent = refl; failed = refl };
   })
 
   pub raise_step : (word : ℕ) (content : Content) (p : Share T) → IsOf job content → IsStep changes job (ToRaise word content) (ToAnswer content) p p
@@ -228,7 +232,7 @@ module _ {T : Type 0} (changes : T → ℕ → ℕ) (job : Job) where
     is = tt;
     next = refl;
     follows = record { ready = own; fewer = omega arith; few = omega arith };
-    counted = record { tallies = same_tallies (changes p.tallies) job.origin.slot; refusals = omega arith; overtakings = omega arith; got = refl };
+    counted = record { tallies = same_tallies (changes p.tallies) job.origin.slot; refusals = omega arith; overtakings = omega arith; got = refl; sent = refl; failed = refl };
   }
 
 -- an outcome of the ticket's program, request and variables is that of its run
@@ -260,7 +264,7 @@ sets_out changes job p = record {
   stands = at_first job;
   ready = first_ready job job.ask job.etags.items;
   few = omega arith;
-  counted = record { tallies = same_tallies (changes p.tallies) job.origin.slot; refusals = omega arith; overtakings = omega arith; got = refl };
+  counted = record { tallies = same_tallies (changes p.tallies) job.origin.slot; refusals = omega arith; overtakings = omega arith; got = refl; sent = refl; failed = refl };
 }
 
 more_calls : (job : Job) (calls : List Call) (call : Call) → AreCalls job calls → IsCallAt job (stage_after job calls) call → AreCalls job (call ∷ calls)
@@ -281,6 +285,8 @@ counts_on changes n calls call before now after c d = record {
   refusals = omega (arith, c.refusals, d.refusals);
   overtakings = omega (arith, c.overtakings, d.overtakings);
   got = d.got ∙ c.got;
+  sent = d.sent ∙ c.sent;
+  failed = d.failed ∙ c.failed;
 }
 
 -- one more step, from a stage that is this one

@@ -1,5 +1,6 @@
 pub mod Answers
 pub mod Counts
+pub mod Outgoing
 pub mod Work
 pub mod Steps
 pub mod Shares

@@ -1,12 +1,14 @@
 -- What is done with a job whose shard others change too: a list of calls, the newest first, each at the stage that needs it,
 -- and answered as its shard answers at some slot.
-use Rattle.std.specs.Prelude.{◌≡◌, ℕ, ◌+◌, ◌<◌, ◌≤◌, List, [], ◌∷◌, ◌++◌, Option, Some, None}
+use Rattle.std.specs.Prelude.{◌≡◌, ℕ, ◌+◌, ◌<◌, ◌≤◌, Bool, List, [], ◌∷◌, ◌++◌, Option, Some, None}
+use Rattle.coap_msg.specs.declared.types.Emission.{Emission}
 use Rattle.fc_kinds.specs.Meaning.{Program}
 use Rattle.fc_verify.specs.Accepted.{Accepts}
 use Rattle.fc_verify.specs.Judged.{judged}
 use Rattle.fc_verify.specs.Refusals.{IsRefusal}
 use Rattle.fc_verify.specs.declared.refusal.Refusal.{Refusal}
 use Rattle.fc_verify.specs.declared.refusal.Refusal.TheVariants.{NoMemory}
+use Rattle.fc_observe.specs.declared.entry.Turn.{Turn}
 use Rattle.fc_registry.specs.declared.job.Job.{Job}
 use Rattle.fc_registry.specs.declared.shard.Taken.{Taken}
 use Rattle.fc_registry.specs.declared.shard.Taken.TheVariants.{Refused}
@@ -15,13 +17,14 @@ use Rattle.fc_registry.specs.declared.commit.Committed.{Committed}
 use Rattle.fc_registry.specs.declared.commit.Committed.TheVariants.{Overtaken}
 use Rattle.fc_registry.specs.declared.receipt.Receipt.{Receipt}
 use Rattle.fc_registry.specs.declared.shard.Removal.{Removal}
-use Rattle.fc_registry.specs.Calls.{receipt_of, run_of}
+use Rattle.fc_registry.specs.Calls.{receipt_of, run_of, turn_of}
 use Rattle.fc_core.specs.declared.stage.Stage.{Stage}
 use Rattle.fc_core.specs.declared.stage.Stage.TheVariants.{ToMatch, ToTake, ToCommit, ToInstall, ToRemove, ToDescribe, ToList, ToRaise, ToAnswer}
 use Rattle.fc_core.specs.Contents.{Content, IsOf}
 use Rattle.fc_core.specs.Ends.{refused}
 use Rattle.fc_core.specs.Stages.{asked_stage, image_of, listed, matched, took, told, after_commit, made, removed, takings}
 use Rattle.fc_workers.specs.Answers.{IsSomeTaking, IsSomeCommit, IsSomeInstall, IsSomeReceipt, IsSomeRemoval, AreTallied, HasRisen, commit_changes, install_changes, removal_changes}
+use Rattle.fc_workers.specs.Outgoing.{IsAnswered, IsTurnReply, with_reply}
 use Rattle.fc_workers.specs.declared.share.Share.{Share}
 
 -- a call for a job, and what it answered
@@ -108,6 +111,8 @@ pub record HasCounted {T : Type 0} (changes : T → ℕ → ℕ) (n : ℕ) (call
   pub refusals : HasRisen before.refusals (total refusal_by calls) after.refusals
   pub overtakings : HasRisen before.overtakings (total overtaking_by calls) after.overtakings
   pub got : after.got ≡ before.got
+  pub sent : after.sent ≡ before.sent
+  pub failed : after.failed ≡ before.failed
 
 -- a job's calls, from its first stage to this answer
 pub record IsWorkedOff {T : Type 0} (changes : T → ℕ → ℕ) (job : Job) (content : Content) (before after : Share T) : Type 0 where
@@ -118,20 +123,38 @@ pub record IsWorkedOff {T : Type 0} (changes : T → ℕ → ℕ) (job : Job) (c
   pub own : IsOf job content
   pub counted : HasCounted changes job.origin.slot calls before after
 
--- a request's job was worked off, to some answer
-pub record IsRequestWorked {T : Type 0} (changes : T → ℕ → ℕ) (job : Job) (before after : Share T) : Type 0 where
-  pub content : Content
-  pub worked : IsWorkedOff changes job content before after
-
--- a turn was worked off: it changes no slot
-pub record IsTurnWorked {T : Type 0} (changes : T → ℕ → ℕ) (before after : Share T) : Type 0 where
+-- a worker's share whose tallies of changes, jobs and replies are as before
+pub record IsQuiet {T : Type 0} (changes : T → ℕ → ℕ) (before after : Share T) : Type 0 where
   pub tallies : (shard : ℕ) → shard < 8 → changes after.tallies shard ≡ changes before.tallies shard
   pub got : after.got ≡ before.got
+  pub sent : after.sent ≡ before.sent
+  pub failed : after.failed ≡ before.failed
 
-abbrev pub IsWorkedAs : {T : Type 0} → (T → ℕ → ℕ) → Option ℕ → Job → Share T → Share T → Type 0
-IsWorkedAs changes None job before after = IsRequestWorked changes job before after
-IsWorkedAs changes (Some number) job before after = IsTurnWorked changes before after
+-- a request's job was worked off to some answer, and this goes out for it, or nothing
+pub record IsRequestWorked {T : Type 0} (changes : T → ℕ → ℕ) (IsMoment : ℕ → Type 0) (job : Job) (before after : Share T) (reply : Option Emission) : Type 0 where
+  pub content : Content
+  pub worked : IsWorkedOff changes job content before after
+  pub answered : IsAnswered IsMoment job content reply
+
+-- a turn's job was worked off, and this goes out for it, or nothing: it took once, and what it found is told. It changes no slot
+pub record IsTurnWorked {T : Type 0} (changes : T → ℕ → ℕ) (IsMoment : ℕ → Type 0) (job : Job) (turn : Turn) (before after : Share T) (reply : Option Emission) : Type 0 where
+  pub taken : Taken
+  pub taking : IsSomeTaking job taken
+  pub told : IsTurnReply IsMoment turn taken reply
+  pub kept : IsQuiet changes before after
+
+abbrev pub IsWorkedAs : {T : Type 0} → (T → ℕ → ℕ) → (IsMoment : ℕ → Type 0) → Option ℕ → Job → Share T → Share T → Option Emission → Type 0
+IsWorkedAs changes IsMoment None job before after reply = IsRequestWorked changes IsMoment job before after reply
+IsWorkedAs changes IsMoment (Some number) job before after reply = IsTurnWorked changes IsMoment job (turn_of job number) before after reply
 
 -- a job was worked off, a request's or a turn's
-abbrev pub IsWorked : {T : Type 0} → (T → ℕ → ℕ) → Job → Share T → Share T → Type 0
-IsWorked changes job before after = IsWorkedAs changes job.turn job before after
+abbrev pub IsWorked : {T : Type 0} → (T → ℕ → ℕ) → (IsMoment : ℕ → Type 0) → Job → Share T → Share T → Option Emission → Type 0
+IsWorked changes IsMoment job before after reply = IsWorkedAs changes IsMoment job.turn job before after reply
+
+-- a job was worked off, and the share has counted whether its reply went out
+pub record IsReplied {T : Type 0} (changes : T → ℕ → ℕ) (IsMoment : ℕ → Type 0) (job : Job) (before after : Share T) : Type 0 where
+  pub reply : Option Emission
+  pub out : Bool
+  pub share : Share T
+  pub worked : IsWorked changes IsMoment job before share reply
+  pub counted : after ≡ with_reply reply out share

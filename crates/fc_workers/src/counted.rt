@@ -1,11 +1,12 @@
 //! Shards whose changes are counted.
-ghost use Rattle.std.specs.Prelude.{◌≡◌, ◌+◌, ◌<◌, if◌then◌else◌};
+ghost use Rattle.std.specs.Prelude.{◌≡◌, ℕ, ◌+◌, ◌/◌, ◌<◌, if◌then◌else◌};
 ghost use Rattle.fc_registry.specs.Slots.{IsOwned, slot_in, with_slot, version_in, vars_in};
 ghost use Rattle.fc_registry.specs.Changes.{after_changes};
 ghost use Rattle.fc_registry.specs.Calls.{CommitsTo, TakesAt, after_taking, install_in, receipt_at, remove_from};
 ghost use Rattle.fc_registry.specs.Notes.{NotesTo};
+ghost use Rattle.fc_registry.specs.Record.{IsRing};
 ghost use Rattle.fc_registry.specs.Turns.{due_job};
-ghost use Rattle.fc_registry.specs.Watches.{after_due, after_given_up, after_tick, due_place, handed, late_place, signal_call, signalled, ticked_in};
+ghost use Rattle.fc_registry.specs.Watches.{IsSentUpTo, after_due, after_given_up, after_tick, due_place, handed, late_place, signal_call, signalled, ticked_in, watch_at};
 ghost use Rattle.fc_workers.specs.Answers.{commit_changes, install_changes, removal_changes};
 ghost use Rattle.fc_workers.specs.Counts.{HasEightSlots, serials, counts};
 
@@ -205,6 +206,21 @@ impl<L: Ledger> Counted<L> {
         ensures { result.now ≡ vars_in (slot_in self.entry.now.shard slot).present }
     {
         self.shard.vars(slot)
+    }
+
+    /// The ring of each slot is a chain, as [`Shard::rings_are_chains`] says.
+    pub fn rings_are_chains(&self)
+        ensures { (n : ℕ) → IsOwned self.entry.now.shard n → IsRing (slot_in self.entry.now.shard n) }
+    {
+        self.shard.rings_are_chains();
+    }
+
+    /// No observer of a slot was sent a serial above the slot's, as [`Shard::no_observer_is_ahead`] says.
+    pub fn no_observer_is_ahead(&self)
+        ensures { (n : ℕ) → IsOwned self.entry.now.shard n
+            → IsSentUpTo (slot_in self.entry.now.shard n).serial (watch_at self.entry.now.shard (n / 8)) }
+    {
+        self.shard.no_observer_is_ahead();
     }
 
     /// Closes the book, for the tally that has all its parts: the shard's serials have risen by its changes since the book

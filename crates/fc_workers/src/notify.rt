@@ -1,7 +1,8 @@
 //! Turns of observers worked off over a bench.
-ghost use Rattle.std.specs.Prelude.{◌≡◌, ◌+◌, ◌<◌, ℕ};
+ghost use Rattle.std.specs.Prelude.{◌≡◌, ◌+◌, ◌<◌, None};
 ghost use Rattle.fc_workers.specs.Answers.{saturated};
-ghost use Rattle.fc_workers.specs.Work.{IsTurnWorked};
+ghost use Rattle.fc_workers.specs.Outgoing.{IsNoted, IsTold};
+ghost use Rattle.fc_workers.specs.Work.{IsQuiet, IsTurnWorked};
 
 use crate::bench::Bench;
 use crate::share::Share;
@@ -24,7 +25,7 @@ impl<'a, B: Bench, G: Gate, W: Wire, M: Moments> Workshop<'a, B, G, W, M> {
         share: &mut Share<B::Tallies>,
     ) -> Option<Emission>
         requires { turn.slot < 64 }
-        ensures worked { IsTurnWorked B.changes share.old share.new }
+        ensures worked { IsTurnWorked B.changes M.is_moment job.now turn share.old share.new result }
         ensures ended { B.ended share.new.tallies ≡ saturated (B.ended share.old.tallies + 1) }
     {
         let taken = self.bench.take(rt, job, &mut share.tallies);
@@ -47,7 +48,8 @@ impl<'a, B: Bench, G: Gate, W: Wire, M: Moments> Workshop<'a, B, G, W, M> {
         share: &mut Share<B::Tallies>,
     ) -> Option<Emission>
         requires { turn.slot < 64 }
-        ensures worked { IsTurnWorked B.changes share.old share.new }
+        ensures told { IsTold M.is_moment turn found result }
+        ensures kept { IsQuiet B.changes share.old share.new }
         ensures ended { B.ended share.new.tallies ≡ saturated (B.ended share.old.tallies + 1) }
     {
         let Some(id) = self.bench.fresh_id(rt, self.moments.now(rt)) else {
@@ -72,7 +74,8 @@ impl<'a, B: Bench, G: Gate, W: Wire, M: Moments> Workshop<'a, B, G, W, M> {
         share: &mut Share<B::Tallies>,
     ) -> Option<Emission>
         requires { turn.slot < 64 }
-        ensures worked { IsTurnWorked B.changes share.old share.new }
+        ensures noted { IsNoted M.is_moment told.now turn id result }
+        ensures kept { IsQuiet B.changes share.old share.new }
         ensures ended { B.ended share.new.tallies ≡ saturated (B.ended share.old.tallies + 1) }
     {
         let now = self.moments.now(rt);
@@ -94,7 +97,8 @@ impl<'a, B: Bench, G: Gate, W: Wire, M: Moments> Workshop<'a, B, G, W, M> {
         share: &mut Share<B::Tallies>,
     ) -> Option<Emission>
         requires { turn.slot < 64 }
-        ensures worked { IsTurnWorked B.changes share.old share.new }
+        ensures nothing { result ≡ None }
+        ensures kept { IsQuiet B.changes share.old share.new }
         ensures ended { B.ended share.new.tallies ≡ saturated (B.ended share.old.tallies + 1) }
     {
         self.bench

@@ -70,14 +70,14 @@ pub fn run_workers<
     seats: Vec<Seat<B::Tallies>>,
 ) -> Result<Vec<Share<B::Tallies>>, AllocError>
     requires { All (λ s. s.got.channel ≡ jobs.now) seats.items }
-    ensures { IfOk result (λ v. AreSharesOf B.changes B.ended seats.items v.items) }
+    ensures { IfOk result (λ v. AreSharesOf B.changes B.ended M.is_moment seats.items v.items) }
 {
     thread::map_vec(
         rt,
         seats,
         &|seat: Seat<B::Tallies>| -> Share<B::Tallies>
             requires { seat.got.channel ≡ jobs.now }
-            ensures { IsShareOf B.changes B.ended seat result }
+            ensures { IsShareOf B.changes B.ended M.is_moment seat result }
         { worker(rt, workshop, jobs, seat) },
     )
 }
@@ -107,13 +107,13 @@ pub fn feed_workers<
     requires seats { All (λ s. s.got.channel ≡ jobs.now) seats.items }
     requires feed { F.pre feed }
     ensures fed { F.post feed result.0 }
-    ensures shares { IfOk result.1 (λ v. AreSharesOf B.changes B.ended seats.items v.items) }
+    ensures shares { IfOk result.1 (λ v. AreSharesOf B.changes B.ended M.is_moment seats.items v.items) }
 {
     let (shares, fed) = thread::join(
         rt,
         move || -> Result<Vec<Share<B::Tallies>>, AllocError>
             requires { All (λ s. s.got.channel ≡ jobs.now) seats.items }
-            ensures { IfOk result (λ v. AreSharesOf B.changes B.ended seats.items v.items) }
+            ensures { IfOk result (λ v. AreSharesOf B.changes B.ended M.is_moment seats.items v.items) }
         { run_workers(rt, workshop, jobs, seats) },
         feed,
     );

@@ -2,7 +2,7 @@
 ghost use Rattle.std.specs.Prelude.{◌≡◌, ◌+◌, None, IfOk};
 ghost use Rattle.fc_workers.specs.Answers.{saturated};
 ghost use Rattle.fc_workers.specs.Shares.{IsShareOf};
-ghost use Rattle.fc_workers.specs.Work.{IsRequestWorked, IsWorked};
+ghost use Rattle.fc_workers.specs.Work.{IsReplied, IsRequestWorked, IsWorked};
 
 use crate::bench::Bench;
 use crate::share::Share;
@@ -41,8 +41,8 @@ impl<T: Drop> Seat<T> {
     }
 }
 
-/// Works jobs off until the channel is closed and empty: each is worked off, answered, and its reply is sent. The share has
-/// ended just the jobs that it got.
+/// Works jobs off until the channel is closed and empty: each is worked off and answered, and its reply, if it has one, is sent and
+/// counted. The share has ended just the jobs that it got.
 pub fn worker<B: Bench, G: Gate, W: Wire, M: Moments, R: Wait>(
     rt: &R,
     workshop: &Workshop<'_, B, G, W, M>,
@@ -50,7 +50,7 @@ pub fn worker<B: Bench, G: Gate, W: Wire, M: Moments, R: Wait>(
     seat: Seat<B::Tallies>,
 ) -> Share<B::Tallies>
     requires { seat.got.channel ≡ jobs.now }
-    ensures { IsShareOf B.changes B.ended seat result }
+    ensures { IsShareOf B.changes B.ended M.is_moment seat result }
 {
     let Seat {
         got,
@@ -77,7 +77,7 @@ impl<'a, B: Bench, G: Gate, W: Wire, M: Moments> Workshop<'a, B, G, W, M> {
         job: &Job,
         share: &mut Share<B::Tallies>,
     )
-        ensures worked { IsWorked B.changes job.now share.old share.new }
+        ensures worked { IsReplied B.changes M.is_moment job.now share.old share.new }
         ensures ended { B.ended share.new.tallies ≡ saturated (B.ended share.old.tallies + 1) }
         ensures got { share.new.got ≡ share.old.got }
     {
@@ -97,7 +97,7 @@ impl<'a, B: Bench, G: Gate, W: Wire, M: Moments> Workshop<'a, B, G, W, M> {
         job: &Job,
         share: &mut Share<B::Tallies>,
     ) -> Option<Emission>
-        ensures worked { IsWorked B.changes job.now share.old share.new }
+        ensures worked { IsWorked B.changes M.is_moment job.now share.old share.new result }
         ensures ended { B.ended share.new.tallies ≡ saturated (B.ended share.old.tallies + 1) }
         ensures got { share.new.got ≡ share.old.got }
     {
@@ -120,7 +120,7 @@ impl<'a, B: Bench, G: Gate, W: Wire, M: Moments> Workshop<'a, B, G, W, M> {
         share: &mut Share<B::Tallies>,
     ) -> Option<Emission>
         requires { job.now.turn ≡ None }
-        ensures worked { IsRequestWorked B.changes job.now share.old share.new }
+        ensures worked { IsRequestWorked B.changes M.is_moment job.now share.old share.new result }
         ensures ended { B.ended share.new.tallies ≡ saturated (B.ended share.old.tallies + 1) }
         ensures got { share.new.got ≡ share.old.got }
     {

@@ -1,4 +1,7 @@
 //! What workers share.
+ghost use Rattle.std.specs.Prelude.{⊤, ℕ};
+ghost use Rattle.fc_workers.specs.Outgoing.{IsReply};
+
 use crate::bench::Bench;
 use coap_msg::Emission;
 use std::alloc::Global;
@@ -12,8 +15,10 @@ pub trait Gate {
 
 /// Where the replies of jobs go.
 pub trait Wire {
-    /// Sends the reply of the job of this number. Tells whether it went out.
-    fn send<R: Wait>(&self, rt: &R, number: u64, emission: &Emission) -> bool;
+    /// Sends the reply of the job of this number: some front answers some job by it, or some shard notifies an observer. Tells whether it
+    /// went out.
+    fn send<R: Wait>(&self, rt: &R, number: u64, emission: &Emission) -> bool
+        requires { IsReply emission.now };
 
     /// Is called last for each job, whether or not anything was sent: who waits for the job can go on.
     fn ended<R: Wait>(&self, rt: &R, number: u64);
@@ -22,8 +27,12 @@ pub trait Wire {
 /// What moment it is, in milliseconds since a start of its own, and random words. It may run backwards: who is handed a moment keeps the
 /// greatest.
 pub trait Moments {
+    // Which moments it tells. It says of a call's moment that it was asked for.
+    ghost is_moment: { ℕ → Type 0 } = { λ _. ⊤ };
+
     /// The moment of the call.
-    fn now<R: Wait>(&self, rt: &R) -> u64;
+    fn now<R: Wait>(&self, rt: &R) -> u64
+        ensures { is_moment result };
 
     /// A random word, which says how long a confirmable notification is waited for.
     fn random<R: Wait>(&self, rt: &R) -> u16;
