@@ -4,5 +4,6 @@ pub mod Order
 pub mod Paths
 pub mod Spellings
 pub mod Within
+pub mod Rows
 mod Left
 pub mod Following

@@ -17,21 +17,12 @@ use Rattle.coap_opts.specs.declared.request.Resource.TheVariants.{Run, Program, 
 use Rattle.coap_opts.specs.Path.{method_of}
 use Rattle.coap_opts.specs.Values.{Place, place_in, uint_value}
 use Rattle.coap_opts.specs.Verdict.{Asked, IsAsked, IsAskedWithin, IsBlockFor, IsErrorCode, IsRefused, IsSilent, IsReset, IsSignal, IsIgnored, Verdict, asked, accepted, resource, verdict, verdict_by, request_verdict, verdict_by_check, refusal_verdict, refusal_code, checks, first_failing, first_of, is_request, is_reserved, is_run, is_served, has_bad_value, query, values, number_in, block_in, etags, observe_at}
+use Rattle.coap_opts.specs.Fields.{IsMadeOf}
 use Rattle.coap_opts.specs.Served.{serves}
 use Rattle.coap_opts.proofs.Known.{block1_in_put, block2_in_get, etag_in_get, observe_in_get}
 use Rattle.coap_opts.proofs.Paths.{path_only}
 
 -- ---- the request is made of the message
-
-record IsMadeOf (m : Message) (r : Asked) : Type 0 where
-  method_is : method_of m.code ≡ Some r.method
-  resource_is : resource m ≡ Some r.resource
-  query_is : r.query ≡ query m
-  etags_are : r.etags ≡ etags m
-  observe_is : r.observe ≡ observe_at r.resource (number_in option.OBSERVE m)
-  block1_is : r.block1 ≡ block_in option.BLOCK1 m
-  block2_is : r.block2 ≡ block_in option.BLOCK2 m
-  payload_is : r.payload ≡ m.payload
 
 abbrev fields : Message → Method → Resource → Asked
 fields m method at = record {
@@ -55,7 +46,9 @@ made_by m r (Some method) (Some at) e f h =
     subst (λ q. IsMadeOf m q) same (record {
       method_is = e;
       resource_is = f;
+      path_is = (path_only (values option.URI_PATH m) at f).0;
       query_is = refl;
+      content_format_is = refl;
       etags_are = refl;
       observe_is = refl;
       block1_is = refl;
@@ -182,9 +175,9 @@ refusal_is_error m answer h =
 
 -- ---- by what the verdict is
 
--- what holds of a verdict: of a request, and of a refusal
+-- what holds of a verdict: of a request, its fields and their limits, and of a refusal
 abbrev IsWithin : Message → Verdict → Type 0
-IsWithin m (IsAsked r) = IsAskedWithin m r
+IsWithin m (IsAsked r) = IsMadeOf m r × IsAskedWithin m r
 IsWithin m (IsRefused answer) = IsErrorCode answer
 IsWithin m _ = Unit {0}
 
@@ -200,7 +193,7 @@ refused_by m kind.Reset answer h = h
 
 accepted_by : (m : Message) (r : Option Asked) → asked m ≡ r → IsPassed m → IsWithin m (accepted r)
 accepted_by m None e p = tt
-accepted_by m (Some r) e p = fields_within m r (made_of m r e) p
+accepted_by m (Some r) e p = let made = made_of m r e in (made, fields_within m r made p)
 
 judged_within : (m : Message) (o : Option ℕ) → refusal_code m ≡ o → IsWithin m (verdict_by_check m o)
 judged_within m (Some answer) e = refused_by m m.kind answer (refusal_is_error m answer e)
@@ -217,7 +210,10 @@ unfolding verdict
 within m = kind_within m m.kind
 
 pub asked_within : (m : Message) (r : Asked) → verdict m ≡ IsAsked r → IsAskedWithin m r
-asked_within m r h = let P : Verdict → Type 0 = λ v. IsWithin m v in subst P h (within m)
+asked_within m r h = let P : Verdict → Type 0 = λ v. IsWithin m v in (subst P h (within m)).1
+
+pub asked_made : (m : Message) (r : Asked) → verdict m ≡ IsAsked r → IsMadeOf m r
+asked_made m r h = let P : Verdict → Type 0 = λ v. IsWithin m v in (subst P h (within m)).0
 
 pub refused_within : (m : Message) (answer : ℕ) → verdict m ≡ IsRefused answer → IsErrorCode answer
 refused_within m answer h = let P : Verdict → Type 0 = λ v. IsWithin m v in subst P h (within m)

@@ -1,9 +1,12 @@
 //! Laws of what the definitions say, for the crates above: each function is a law, and its contract says it.
 ghost use Rattle.std.specs.Prelude.{◌≡◌, ◌≢◌, ◌<◌, ◌≤◌, ◌^◌, ℕ, List, Some, length, slice_index};
 ghost use Rattle.coap_opts.specs.Values.{uint_bytes, uint_value};
-ghost use Rattle.coap_opts.specs.Path.{IsResource, path_of, resource_of};
+ghost use Rattle.coap_opts.specs.Path.{IsResource, method_of, path_of, resource_of};
+ghost use Rattle.coap_opts.specs.Fields.{IsMadeOf};
 ghost use Rattle.coap_msg.specs.Wire.{Message};
 ghost use Rattle.coap_opts.specs.Verdict.{Asked, IsAsked, IsAskedWithin, IsErrorCode, IsRefused, verdict};
+ghost use Rattle.coap_opts.specs.declared.request.Method.{Method};
+ghost use Rattle.coap_opts.specs.declared.request.Method.TheVariants.{Get, Post, Put, Delete};
 ghost use Rattle.coap_opts.specs.declared.request.Resource.{Resource};
 
 use crate::number::{
@@ -29,6 +32,21 @@ pub fn resources_have_one_path()
 pub fn requests_are_within()
     ensures accepted { (m : Message) (r : Asked) → verdict m ≡ IsAsked r → IsAskedWithin m r }
     ensures refused { (m : Message) (code : ℕ) → verdict m ≡ IsRefused code → IsErrorCode code }
+{}
+
+/// Each field of a request that is carried out is what its message says: the method by the code, the resource by the values of Uri-Path,
+/// the query by those of Uri-Query, and each other field by the options of its number.
+pub fn fields_are_the_options()
+    ensures { (m : Message) (r : Asked) → verdict m ≡ IsAsked r → IsMadeOf m r }
+{}
+
+/// The codes of the methods (RFC 7252, 12.1.1); no other code is one.
+pub fn methods_have_their_codes()
+    ensures get { method_of 1 ≡ Some Get }
+    ensures post { method_of 2 ≡ Some Post }
+    ensures put { method_of 3 ≡ Some Put }
+    ensures delete { method_of 4 ≡ Some Delete }
+    ensures only { (code : ℕ) (method : Method) → method_of code ≡ Some method → (1 ≤ code) × (code ≤ 4) }
 {}
 
 /// The numbers of the options that have names (RFC 7252, 12.2; RFC 7641, 6; RFC 7959, 6).

@@ -1,0 +1,93 @@
+-- The codes of methods, and worked rows of what a message asks.
+use Rattle.std.proofs.Common.{◌≡◌, ℕ, ◌≤◌, ◌==◌, Bool, true, false, if◌then◌else◌, List, [], ◌∷◌, Some, None, codes, refl, arith}
+use Rattle.std.proofs.lemmas.Bool.{eqb-true}
+use Rattle.coap_msg.specs.Wire.{Message}
+use Rattle.coap_msg.specs.declared.types.MessageType.TheVariants.{Confirmable}
+use Rattle.coap_opts.specs.declared.request.Method.{Method}
+use Rattle.coap_opts.specs.declared.request.Method.TheVariants.{Get, Post, Put, Delete}
+use Rattle.coap_opts.specs.declared.request.Resource.TheVariants.{Run, Program}
+use Rattle.coap_opts.specs.Path.{method_of}
+use Rattle.coap_opts.specs.Recognition.{is_recognised, row_of}
+use Rattle.coap_opts.specs.Served.{rows}
+use Rattle.coap_opts.specs.Verdict.{IsAsked, IsRefused, asked, refusal_code, verdict}
+
+code_by : (code : ℕ) (method : Method) (get post put delete : Bool) → (code == 1) ≡ get → (code == 2) ≡ post → (code == 3) ≡ put → (code == 4) ≡ delete →
+    (if get then Some Get else (if post then Some Post else (if put then Some Put else (if delete then Some Delete else None)))) ≡ Some method → (1 ≤ code) × (code ≤ 4)
+code_by code method true post put delete a b c d e = let is = eqb-true code 1 a in (omega (arith, is), omega (arith, is))
+code_by code method false true put delete a b c d e = let is = eqb-true code 2 b in (omega (arith, is), omega (arith, is))
+code_by code method false false true delete a b c d e = let is = eqb-true code 3 c in (omega (arith, is), omega (arith, is))
+code_by code method false false false true a b c d e = let is = eqb-true code 4 d in (omega (arith, is), omega (arith, is))
+code_by code method false false false false a b c d e = absurd (cc e)
+
+pub codes_of_methods : (code : ℕ) (method : Method) → method_of code ≡ Some method → (1 ≤ code) × (code ≤ 4)
+codes_of_methods code method e = code_by code method (code == 1) (code == 2) (code == 3) (code == 4) refl refl refl refl e
+
+-- ---- whole messages
+
+-- a confirmable message of this code, these options and this payload
+abbrev message : ℕ → List (ℕ × List ℕ) → List ℕ → Message
+message code options payload = record { kind = Confirmable; code = code; id = 258; token = 9 ∷ []; options = options; payload = payload }
+
+-- a GET of /r/37 with an ETag of eight bytes and one of one byte, Observe 0, Content-Format 50, a query of two parameters, and its Block2
+row_get : verdict (message 1 ((4, 0 ∷ 0 ∷ 0 ∷ 0 ∷ 0 ∷ 0 ∷ 1 ∷ 5 ∷ []) ∷ (4, 7 ∷ []) ∷ (6, []) ∷ (11, codes "r") ∷ (11, codes "37") ∷ (12, 50 ∷ []) ∷ (15, codes "a=1") ∷ (15, codes "b") ∷ (23, 37 ∷ []) ∷ []) (8 ∷ [])) ≡ IsAsked (record {
+  method = Get;
+  resource = Run 37;
+  query = codes "a=1&b";
+  content_format = Some 50;
+  etags = 261 ∷ [];
+  observe = Some 0;
+  block1 = None;
+  block2 = Some (record { number = 2; more = false; szx = 5 });
+  payload = 8 ∷ [];
+})
+unfolding verdict asked refusal_code is_recognised row_of rows
+row_get = refl
+
+-- a POST of /r/0
+row_post : verdict (message 2 ((11, codes "r") ∷ (11, codes "0") ∷ (12, []) ∷ (15, codes "x") ∷ []) (1 ∷ 2 ∷ [])) ≡ IsAsked (record {
+  method = Post;
+  resource = Run 0;
+  query = codes "x";
+  content_format = Some 0;
+  etags = [];
+  observe = None;
+  block1 = None;
+  block2 = None;
+  payload = 1 ∷ 2 ∷ [];
+})
+unfolding verdict asked refusal_code is_recognised row_of rows
+row_post = refl
+
+-- a PUT of /p/63 with its Block1, of which more are to follow
+row_put : verdict (message 3 ((11, codes "p") ∷ (11, codes "63") ∷ (27, 1 ∷ 8 ∷ []) ∷ []) []) ≡ IsAsked (record {
+  method = Put;
+  resource = Program 63;
+  query = [];
+  content_format = None;
+  etags = [];
+  observe = None;
+  block1 = Some (record { number = 16; more = true; szx = 0 });
+  block2 = None;
+  payload = [];
+})
+unfolding verdict asked refusal_code is_recognised row_of rows
+row_put = refl
+
+-- a DELETE of /p/5, and the same of /.well-known/core, which is 4.05
+row_delete : verdict (message 4 ((11, codes "p") ∷ (11, codes "5") ∷ []) []) ≡ IsAsked (record {
+  method = Delete;
+  resource = Program 5;
+  query = [];
+  content_format = None;
+  etags = [];
+  observe = None;
+  block1 = None;
+  block2 = None;
+  payload = [];
+})
+unfolding verdict asked refusal_code is_recognised row_of rows
+row_delete = refl
+
+row_unserved : verdict (message 4 ((11, codes ".well-known") ∷ (11, codes "core") ∷ []) []) ≡ IsRefused 133
+unfolding verdict asked refusal_code is_recognised row_of rows
+row_unserved = refl
