@@ -1,26 +1,27 @@
 -- The codes of methods, and worked rows of what a message asks.
-use Rattle.std.proofs.Common.{◌≡◌, ℕ, ◌≤◌, ◌==◌, Bool, true, false, if◌then◌else◌, List, [], ◌∷◌, Some, None, codes, refl, arith}
+use Rattle.std.proofs.Common.{◌≡◌, ℕ, ◌==◌, Bool, true, false, if◌then◌else◌, List, [], ◌∷◌, Some, None, codes, refl, ap, ◌∙◌}
 use Rattle.std.proofs.lemmas.Bool.{eqb-true}
 use Rattle.coap_msg.specs.Wire.{Message}
 use Rattle.coap_msg.specs.declared.types.MessageType.TheVariants.{Confirmable}
 use Rattle.coap_opts.specs.declared.request.Method.{Method}
 use Rattle.coap_opts.specs.declared.request.Method.TheVariants.{Get, Post, Put, Delete}
 use Rattle.coap_opts.specs.declared.request.Resource.TheVariants.{Run, Program}
+use Rattle.coap_opts.specs.Fields.{code_of}
 use Rattle.coap_opts.specs.Path.{method_of}
 use Rattle.coap_opts.specs.Recognition.{is_recognised, row_of}
 use Rattle.coap_opts.specs.Served.{rows}
 use Rattle.coap_opts.specs.Verdict.{IsAsked, IsRefused, asked, refusal_code, verdict}
 
 code_by : (code : ℕ) (method : Method) (get post put delete : Bool) → (code == 1) ≡ get → (code == 2) ≡ post → (code == 3) ≡ put → (code == 4) ≡ delete →
-    (if get then Some Get else (if post then Some Post else (if put then Some Put else (if delete then Some Delete else None)))) ≡ Some method → (1 ≤ code) × (code ≤ 4)
-code_by code method true post put delete a b c d e = let is = eqb-true code 1 a in (omega (arith, is), omega (arith, is))
-code_by code method false true put delete a b c d e = let is = eqb-true code 2 b in (omega (arith, is), omega (arith, is))
-code_by code method false false true delete a b c d e = let is = eqb-true code 3 c in (omega (arith, is), omega (arith, is))
-code_by code method false false false true a b c d e = let is = eqb-true code 4 d in (omega (arith, is), omega (arith, is))
+    (if get then Some Get else (if post then Some Post else (if put then Some Put else (if delete then Some Delete else None)))) ≡ Some method → code ≡ code_of method
+code_by code method true post put delete a b c d e = let same : Get ≡ method = cc e in eqb-true code 1 a ∙ ap code_of same
+code_by code method false true put delete a b c d e = let same : Post ≡ method = cc e in eqb-true code 2 b ∙ ap code_of same
+code_by code method false false true delete a b c d e = let same : Put ≡ method = cc e in eqb-true code 3 c ∙ ap code_of same
+code_by code method false false false true a b c d e = let same : Delete ≡ method = cc e in eqb-true code 4 d ∙ ap code_of same
 code_by code method false false false false a b c d e = absurd (cc e)
 
-pub codes_of_methods : (code : ℕ) (method : Method) → method_of code ≡ Some method → (1 ≤ code) × (code ≤ 4)
-codes_of_methods code method e = code_by code method (code == 1) (code == 2) (code == 3) (code == 4) refl refl refl refl e
+pub code_is : (code : ℕ) (method : Method) → method_of code ≡ Some method → code ≡ code_of method
+code_is code method e = code_by code method (code == 1) (code == 2) (code == 3) (code == 4) refl refl refl refl e
 
 -- ---- whole messages
 
@@ -28,8 +29,13 @@ codes_of_methods code method e = code_by code method (code == 1) (code == 2) (co
 abbrev message : ℕ → List (ℕ × List ℕ) → List ℕ → Message
 message code options payload = record { kind = Confirmable; code = code; id = 258; token = 9 ∷ []; options = options; payload = payload }
 
--- a GET of /r/37 with an ETag of eight bytes and one of one byte, Observe 0, Content-Format 50, a query of two parameters, and its Block2
-row_get : verdict (message 1 ((4, 0 ∷ 0 ∷ 0 ∷ 0 ∷ 0 ∷ 0 ∷ 1 ∷ 5 ∷ []) ∷ (4, 7 ∷ []) ∷ (6, []) ∷ (11, codes "r") ∷ (11, codes "37") ∷ (12, 50 ∷ []) ∷ (15, codes "a=1") ∷ (15, codes "b") ∷ (23, 37 ∷ []) ∷ []) (8 ∷ [])) ≡ IsAsked (record {
+-- two ETags, one of them of eight bytes, Observe 0, the path /r/37, Content-Format 50, a query of two parameters, and Block2
+abbrev get_options : List (ℕ × List ℕ)
+get_options =
+    (4, 0 ∷ 0 ∷ 0 ∷ 0 ∷ 0 ∷ 0 ∷ 1 ∷ 5 ∷ []) ∷ (4, 7 ∷ []) ∷ (6, [])
+    ∷ (11, codes "r") ∷ (11, codes "37") ∷ (12, 50 ∷ []) ∷ (15, codes "a=1") ∷ (15, codes "b") ∷ (23, 37 ∷ []) ∷ []
+
+row_get : verdict (message 1 get_options (8 ∷ [])) ≡ IsAsked (record {
   method = Get;
   resource = Run 37;
   query = codes "a=1&b";

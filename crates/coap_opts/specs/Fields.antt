@@ -1,9 +1,18 @@
 -- What the fields of a request are, said of its message (RFC 7252, 5.10; RFC 7641, 2; RFC 7959, 2.1).
-use Rattle.std.specs.Prelude.{◌≡◌, Some}
+use Rattle.std.specs.Prelude.{◌≡◌, ℕ, Some}
 use Rattle.coap_msg.specs.Wire.{Message}
 use Rattle.coap_opts.specs.declared.number.TheConstants as option
+use Rattle.coap_opts.specs.declared.request.Method.{Method}
+use Rattle.coap_opts.specs.declared.request.Method.TheVariants.{Get, Post, Put, Delete}
 use Rattle.coap_opts.specs.Path.{method_of, path_of}
 use Rattle.coap_opts.specs.Verdict.{Asked, block_in, etags, number_in, observe_at, query, resource, values}
+
+-- the code of a method (RFC 7252, 12.1.1)
+abbrev pub code_of : Method → ℕ
+code_of Get = 1
+code_of Post = 2
+code_of Put = 3
+code_of Delete = 4
 
 -- the method is that of the message's code, the resource that of its Uri-Path, the payload its own, and each other field is what the
 -- options of one number mean
