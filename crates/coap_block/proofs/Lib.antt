@@ -6,4 +6,5 @@ pub mod Bodies
 pub mod UnderWay
 pub mod Joins
 pub mod Refusals
+pub mod Causes
 pub mod Single

@@ -3,3 +3,4 @@ pub mod Uploads
 pub mod Views
 pub mod Transfers
 pub mod Pieces
+pub mod Causes

@@ -6,6 +6,7 @@ ghost use Rattle.coap_block.specs.declared.transfer.Transfer.{Transfer};
 ghost use Rattle.coap_opts.specs.Values.{Place, block_size};
 ghost use Rattle.coap_block.specs.Uploads.{Continues, IsBadLength, IsFull, IsIncomplete, IsTooLarge, IsWhole, add_of, after_block, block_added, is_transfer_of, live, same_key};
 ghost use Rattle.coap_block.specs.Transfers.{Addition, BeginsBehind, FitsBehind, HasLength, IsUnderWay, RisesTo, bytes_held, others_at, transfers};
+ghost use Rattle.coap_block.specs.Causes.{FindsNoRoom, HasLargeSum, HasWrongLength, IsOutOfPlace};
 ghost use Rattle.coap_block.specs.Cuts.{Part, cut_at};
 ghost use Rattle.coap_block.specs.Pieces.{IsBlockOf, joined_cuts};
 
@@ -44,6 +45,18 @@ pub fn refusals_have_causes()
         BeginsBehind h a b before → HasLength b.more (block_size b.szx) (length a.payload) →
         4112 < length before + length a.payload →
         block_added (transfers h) a.at a.endpoint a.slot b a.payload ≡ IsTooLarge }
+{}
+
+/// A refusal has no other cause: what becomes of a block is each of them exactly where its cause holds.
+pub fn refusals_have_only_their_causes()
+    ensures full { (h : List Addition) (a : Addition) (b : Place) → RisesTo a.at h →
+        ((block_added (transfers h) a.at a.endpoint a.slot b a.payload ≡ IsFull) ↔ FindsNoRoom h a b) }
+    ensures incomplete { (h : List Addition) (a : Addition) (b : Place) → RisesTo a.at h →
+        ((block_added (transfers h) a.at a.endpoint a.slot b a.payload ≡ IsIncomplete) ↔ IsOutOfPlace h a b) }
+    ensures length { (h : List Addition) (a : Addition) (b : Place) → RisesTo a.at h →
+        ((block_added (transfers h) a.at a.endpoint a.slot b a.payload ≡ IsBadLength) ↔ HasWrongLength h a b) }
+    ensures sum { (h : List Addition) (a : Addition) (b : Place) → RisesTo a.at h →
+        ((block_added (transfers h) a.at a.endpoint a.slot b a.payload ≡ IsTooLarge) ↔ HasLargeSum h a b) }
 {}
 
 /// Of an endpoint and slot at most one transfer is held.

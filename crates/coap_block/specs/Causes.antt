@@ -1,0 +1,27 @@
+-- Why a block is refused, said of the blocks that were added before it (RFC 7959, 2.9).
+use Rattle.std.specs.Prelude.{◌≡◌, ◌≢◌, ℕ, ◌+◌, ◌<◌, ◌≤◌, List, length}
+use Rattle.coap_opts.specs.Values.{Place, block_size}
+use Rattle.coap_block.specs.Transfers.{Addition, BeginsBehind, HasLength, others_at}
+
+-- it has number 0, and 16 transfers of other endpoints and slots are under way
+pub record FindsNoRoom (h : List Addition) (a : Addition) (b : Place) : Type 0 where
+  pub first : b.number ≡ 0
+  pub others : 16 ≤ others_at a h
+
+-- it has another number, and doesn't begin where those before it end
+pub record IsOutOfPlace (h : List Addition) (a : Addition) (b : Place) : Type 0 where
+  pub later : b.number ≢ 0
+  pub nowhere : (before : List ℕ) → BeginsBehind h a b before → ⊥
+
+-- it begins there, and its payload hasn't the length of its block
+pub record HasWrongLength (h : List Addition) (a : Addition) (b : Place) : Type 0 where
+  pub before : List ℕ
+  pub begins : BeginsBehind h a b before
+  pub wrong : HasLength b.more (block_size b.szx) (length a.payload) → ⊥
+
+-- it begins there and has that length, and the sum is above 4,112 bytes
+pub record HasLargeSum (h : List Addition) (a : Addition) (b : Place) : Type 0 where
+  pub before : List ℕ
+  pub begins : BeginsBehind h a b before
+  pub long : HasLength b.more (block_size b.szx) (length a.payload)
+  pub large : 4112 < length before + length a.payload
