@@ -40,4 +40,5 @@ pub mod Clocks
 pub mod Climbing
 pub mod TurnBlocks
 pub mod Kept
+pub mod Asking
 pub mod Words

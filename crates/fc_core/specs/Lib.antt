@@ -1,4 +1,5 @@
 pub mod Ids
+pub mod AskLaws
 pub mod BodyLaws
 pub mod Contents
 pub mod Heads

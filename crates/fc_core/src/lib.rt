@@ -24,6 +24,7 @@
 
 pub mod answer;
 pub mod answer_laws;
+pub mod ask_laws;
 pub mod body_laws;
 pub mod event;
 pub mod exchange_laws;
