@@ -41,4 +41,5 @@ pub mod Climbing
 pub mod TurnBlocks
 pub mod Kept
 pub mod Asking
+pub mod Room
 pub mod Words

@@ -62,7 +62,7 @@ room_at s at = has_room (length (filter (is_within at) s.exchanges)) (length s.e
 pub look_is : (s : Seen) (now : ℕ) (to : Endpoint) (m : Message) → look_in (front_at s now) to m ≡ look_by (repeated s (max s.moment now) to m.id) (room_at s (max s.moment now))
 look_is s now to m = ap (λ o. look_by o (room_at s (max s.moment now))) (find-filter (is_of to m.id) (is_within (max s.moment now)) s.exchanges)
 
-request_is : (s : Seen) (now : ℕ) (to : Endpoint) (bytes : List ℕ) (m : Message) (o : Option Exchange) → reading_of bytes ≡ Ok m → IsAsking (verdict m) → repeated s (max s.moment now) to m.id ≡ o → received_at s now to bytes ≡ looked (look_by o (room_at s (max s.moment now))) m (new_as (front_at s now) to (verdict m) m)
+pub request_is : (s : Seen) (now : ℕ) (to : Endpoint) (bytes : List ℕ) (m : Message) (o : Option Exchange) → reading_of bytes ≡ Ok m → IsAsking (verdict m) → repeated s (max s.moment now) to m.id ≡ o → received_at s now to bytes ≡ looked (look_by o (room_at s (max s.moment now))) m (new_as (front_at s now) to (verdict m) m)
 request_is s now to bytes m o read asks is =
     received_of (front_at s now) to bytes (Ok m) read
     ∙ (asking_looked (front_at s now) to m (verdict m) asks

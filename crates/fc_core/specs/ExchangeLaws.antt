@@ -1,5 +1,5 @@
 -- What the laws of exchanges and message ids speak of.
-use Rattle.std.specs.Prelude.{◌≡◌, ℕ, ◌+◌, ◌%◌, ◌<◌, ◌≤◌, ◌==◌, ◌&&◌, Bool, true, false, nat_lt, List, [], ◌∷◌, ◌++◌, length, map, filter, find, max, Option, Some, None, Ok}
+use Rattle.std.specs.Prelude.{◌≡◌, ◌⊎◌, ℕ, ◌+◌, ◌%◌, ◌<◌, ◌≤◌, ◌==◌, ◌&&◌, Bool, true, false, nat_lt, List, [], ◌∷◌, ◌++◌, length, map, filter, find, max, Option, Some, None, Ok}
 use Rattle.arrayvec.specs.ArrayVec.{ArrayVec}
 use Rattle.coap_msg.specs.declared.types.Emission.{Emission}
 use Rattle.coap_msg.specs.declared.types.Endpoint.{Endpoint}
@@ -10,8 +10,9 @@ use Rattle.coap_dedup.specs.Exchanges.{Exchange}
 use Rattle.coap_dedup.specs.Exchanges.{is_of}
 use Rattle.fc_core.specs.declared.event.Event.{Event}
 use Rattle.fc_core.specs.declared.event.Event.TheVariants.{Deliver}
-use Rattle.fc_core.specs.History.{Entry, History, Begins, Then, Seen, seen, and_then}
-use Rattle.fc_core.specs.Receiving.{is_confirmable}
+use Rattle.coap_reply.specs.Responses.{bare}
+use Rattle.fc_core.specs.History.{Entry, History, Begins, Then, Seen, seen, and_then, front_at}
+use Rattle.fc_core.specs.Receiving.{is_confirmable, told}
 
 -- ---- repeats
 
@@ -52,6 +53,13 @@ pub record IsOpening (s : Seen) (now : ℕ) (to : Endpoint) (bytes : List ℕ) :
   pub room : length (filter (is_within (max s.moment now)) s.exchanges) < 1024
   pub numbers : length s.exchanges < 18446744073709551615
 
+-- the datagram is a request and no repeat, and there is no room: 1,024 exchanges were opened in the last 247,000 ms, or 2^64 - 1 ever
+pub record IsCrowdedOut (s : Seen) (now : ℕ) (to : Endpoint) (bytes : List ℕ) (m : Message) : Type 0 where
+  pub read : reading_of bytes ≡ Ok m
+  pub asks : IsAsking (verdict m)
+  pub new : repeated s (max s.moment now) to m.id ≡ None
+  pub full : (1024 ≤ length (filter (is_within (max s.moment now)) s.exchanges)) ⊎ (18446744073709551615 ≤ length s.exchanges)
+
 abbrev pub Repeats : Seen → Event → Exchange → Type 0
 Repeats s (Deliver now to bytes) e = IsRepeat s now to bytes.now e
 Repeats s other e = ⊥
@@ -64,6 +72,16 @@ repeat_emits other e = None
 abbrev pub Opens : Seen → Event → Type 0
 Opens s (Deliver now to bytes) = IsOpening s now to bytes.now
 Opens s other = ⊥
+
+-- the event delivers a new request that there is no room for
+abbrev pub FindsNoExchange : Seen → Event → Message → Type 0
+FindsNoExchange s (Deliver now to bytes) m = IsCrowdedOut s now to bytes.now m
+FindsNoExchange s other m = ⊥
+
+-- the answer to a message at once, by this code alone
+abbrev pub bare_by : Seen → Event → Message → ℕ → Option Emission
+bare_by s (Deliver now to bytes) m answer = told (front_at s now) to m (bare answer)
+bare_by s other m answer = None
 
 -- whose an exchange is, its message id, whether it is confirmable, and when it was opened
 pub record Arrival : Type 0 where

@@ -1,11 +1,12 @@
 //! What a history promises of exchanges and message ids: each function is a law, and its contract says it.
 ghost use Rattle.coap_dedup.specs.Exchanges.{Exchange};
-ghost use Rattle.fc_core.specs.ExchangeLaws.{AreApart, AreInOrder, Opens, OpensOne, Repeats, arrivals, draws_of, first_id, repeat_emits};
+ghost use Rattle.fc_core.specs.ExchangeLaws.{AreApart, AreInOrder, FindsNoExchange, Opens, OpensOne, Repeats, arrivals, bare_by, draws_of, first_id, repeat_emits};
 ghost use Rattle.fc_core.specs.Contents.{Content};
 ghost use Rattle.fc_core.specs.History.{Entry, History, Seen, Then, and_then, did, job, seen, stage};
 ghost use Rattle.fc_core.specs.KeptLaws.{AnswersJob, HasId, answers, answers_with, bytes_of, exchange_of_job, opened_at};
 ghost use Rattle.fc_core.specs.declared.event.Event.TheVariants.{Answer};
 ghost use Rattle.fc_core.specs.declared.stage.Stage.TheVariants.{ToAnswer};
+ghost use Rattle.coap_msg.specs.Wire.{Message};
 ghost use Rattle.coap_msg.specs.declared.types.Emission.{Emission};
 ghost use Rattle.fc_core.specs.Laws.{HasCome};
 ghost use Rattle.fc_core.specs.Legal.{Emits};
@@ -33,6 +34,19 @@ pub fn new_requests_open_exchanges()
     ensures opens { (r : Entry) (s : Seen) → Opens s r.event → OpensOne r s }
     ensures others { (r : Entry) (s : Seen) → (Opens s r.event → ⊥)
         → arrivals (and_then r s) ≡ arrivals s }
+{}
+
+/// A request that is no repeat and that finds no room, since 1,024 exchanges were opened less than 247,000 ms before, is answered 5.03
+/// (Service Unavailable), whose byte is 163. It opens no exchange, so that nothing of it is kept, brings no job, and adds no payload to a
+/// transfer.
+pub fn requests_without_room_are_unavailable()
+    ensures exchanges { (r : Entry) (s : Seen) (m : Message) → FindsNoExchange s r.event m
+        → (and_then r s).exchanges ≡ s.exchanges }
+    ensures tasks { (r : Entry) (s : Seen) (m : Message) → FindsNoExchange s r.event m → (and_then r s).tasks ≡ s.tasks }
+    ensures additions { (r : Entry) (s : Seen) (m : Message) → FindsNoExchange s r.event m
+        → (and_then r s).additions ≡ s.additions }
+    ensures emitted { (r : Entry) (s : Seen) (m : Message) → FindsNoExchange s r.event m → Emits s r.event r.emitted
+        → r.emitted ≡ bare_by s r.event m 163 }
 {}
 
 /// A request is carried out at most once in its window: two jobs of requests with one endpoint and message id came at least 247,000 ms
