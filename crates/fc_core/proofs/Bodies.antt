@@ -74,7 +74,7 @@ pub is_opened : (x : Add) (m : Message) (r : Asked) (body : List ℕ) → x ≡ 
 is_opened x m r body e = ap (λ (x : Add). received_added x m r) e
 
 -- the code that is sent at once
-abbrev settled_code : Received → ℕ
+abbrev pub settled_code : Received → ℕ
 settled_code (Settled m r response) = response.code
 settled_code other = 0
 

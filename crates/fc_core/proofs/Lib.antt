@@ -41,5 +41,6 @@ pub mod Climbing
 pub mod TurnBlocks
 pub mod Kept
 pub mod Asking
+pub mod BlockCauses
 pub mod Room
 pub mod Words

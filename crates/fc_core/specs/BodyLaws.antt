@@ -16,8 +16,8 @@ use Rattle.fc_core.specs.declared.event.Event.{Event}
 use Rattle.fc_core.specs.declared.event.Event.TheVariants.{Deliver}
 use Rattle.fc_core.specs.ExchangeLaws.{IsOpening}
 use Rattle.fc_core.specs.History.{Entry, Seen, and_then, front_at}
-use Rattle.fc_core.specs.Receiving.{Received, addition_of, request_received, told}
-use Rattle.coap_reply.specs.Responses.{settled_by}
+use Rattle.fc_core.specs.Receiving.{Received, Settled, addition_of, request_received, told}
+use Rattle.coap_reply.specs.Responses.{bare, settled_by}
 use Rattle.fc_core.specs.Stages.{new_task}
 
 -- what a new request is to a server that is handed a moment
@@ -66,3 +66,8 @@ pub record BringsInstall (e : Entry) (s : Seen) (n : ℕ) (body : List ℕ) : Ty
 abbrev pub continue_by : Seen → Event → Message → Place → Option Emission
 continue_by s (Deliver now to bytes) m b = told (front_at s now) to m (settled_by (code 2 31) (Some b))
 continue_by s other m b = None
+
+-- a request with a block is answered at once, by this code alone
+abbrev pub SettlesBy : Seen → Event → Message → Asked → ℕ → Type 0
+SettlesBy s (Deliver now to bytes) m r answer = asked_at s now to m r ≡ Settled m r (bare answer)
+SettlesBy s other m r answer = ⊥

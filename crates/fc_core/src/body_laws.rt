@@ -1,4 +1,5 @@
 //! What a history promises of bodies that come and go in blocks: each function is a law, and its contract says it.
+ghost use Rattle.coap_block.specs.Causes.{FindsNoRoom, HasLargeSum, HasWrongLength, IsOutOfPlace};
 ghost use Rattle.coap_block.specs.Cuts.{cut_at};
 ghost use Rattle.coap_block.specs.Transfers.{FitsBehind, RisesTo, transfers};
 ghost use Rattle.coap_msg.specs.Codes.{code};
@@ -7,15 +8,17 @@ ghost use Rattle.coap_msg.specs.declared.types.Endpoint.{Endpoint};
 ghost use Rattle.coap_opts.specs.Values.{Place};
 ghost use Rattle.coap_opts.specs.Verdict.{Asked};
 ghost use Rattle.coap_reply.specs.Blocks.{cut_for};
-ghost use Rattle.fc_core.specs.BodyLaws.{Asks, BringsInstall, FitsBy, PutsBlock, addition_at, addition_by, asked_at, continue_by};
+ghost use Rattle.fc_core.specs.BodyLaws.{Asks, BringsInstall, FitsBy, PutsBlock, SettlesBy, addition_at, addition_by, asked_at, continue_by};
+ghost use Rattle.fc_core.specs.ExchangeLaws.{bare_by};
 ghost use Rattle.fc_core.specs.History.{Entry, History, Seen, and_then, seen};
 ghost use Rattle.fc_core.specs.Legal.{Emits};
 ghost use Rattle.fc_core.specs.Receiving.{Opened, Settled};
-ghost use Rattle.coap_reply.specs.Responses.{settled_by};
+ghost use Rattle.coap_reply.specs.Responses.{bare, settled_by};
 ghost use Rattle.std.specs.Prelude.{ℕ, ◌≡◌, ◌↔◌, ◌++◌, ◌<◌, ◌≤◌, List, Some, false, length, true};
 
 use coap_block::laws::{
-    blocks_that_fit_are_joined, bodies_are_bounded, transfers_are_payloads_joined,
+    blocks_that_fit_are_joined, bodies_are_bounded, refusals_have_only_their_causes,
+    transfers_are_payloads_joined,
 };
 
 /// Blocks are joined (RFC 7959, 2.5). A new request with a block is carried out exactly where the block is the last and fits
@@ -66,6 +69,36 @@ pub fn blocks_that_fit_are_answered()
         → (and_then e (seen h)).tasks ≡ (seen h).tasks }
 {
     blocks_that_fit_are_joined();
+}
+
+/// A block that doesn't fit is answered at once, by the code of its one cause (RFC 7959, 2.9): 5.03 (Service Unavailable), whose byte is
+/// 163, exactly where it has number 0 and 16 other transfers are under way; 4.08 (Request Entity Incomplete), 136, where it has another
+/// number and doesn't begin where those before it end; 4.00 (Bad Request), 128, where its payload hasn't the length of its block; and
+/// 4.13 (Request Entity Too Large), 141, where the sum is above 4,112 bytes. It brings no job.
+pub fn refused_blocks_have_causes()
+    ensures full { (h : History) (now : ℕ) (to : Endpoint) (m : Message) (r : Asked) (b : Place) →
+        r.block1 ≡ Some b →
+        ((asked_at (seen h) now to m r ≡ Settled m r (bare 163))
+        ↔ FindsNoRoom (seen h).additions (addition_at (seen h) now to r) b) }
+    ensures incomplete { (h : History) (now : ℕ) (to : Endpoint) (m : Message) (r : Asked) (b : Place) →
+        r.block1 ≡ Some b →
+        ((asked_at (seen h) now to m r ≡ Settled m r (bare 136))
+        ↔ IsOutOfPlace (seen h).additions (addition_at (seen h) now to r) b) }
+    ensures length { (h : History) (now : ℕ) (to : Endpoint) (m : Message) (r : Asked) (b : Place) →
+        r.block1 ≡ Some b →
+        ((asked_at (seen h) now to m r ≡ Settled m r (bare 128))
+        ↔ HasWrongLength (seen h).additions (addition_at (seen h) now to r) b) }
+    ensures sum { (h : History) (now : ℕ) (to : Endpoint) (m : Message) (r : Asked) (b : Place) →
+        r.block1 ≡ Some b →
+        ((asked_at (seen h) now to m r ≡ Settled m r (bare 141))
+        ↔ HasLargeSum (seen h).additions (addition_at (seen h) now to r) b) }
+    ensures answered { (e : Entry) (s : Seen) (m : Message) (r : Asked) (answer : ℕ) →
+        Asks s e.event m r → SettlesBy s e.event m r answer → Emits s e.event e.emitted
+        → e.emitted ≡ bare_by s e.event m answer }
+    ensures waits { (e : Entry) (s : Seen) (m : Message) (r : Asked) (answer : ℕ) →
+        Asks s e.event m r → SettlesBy s e.event m r answer → (and_then e s).tasks ≡ s.tasks }
+{
+    refusals_have_only_their_causes();
 }
 
 /// A GET that names a block is answered by the block of that number and size, whatever it says of more.
