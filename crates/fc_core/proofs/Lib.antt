@@ -43,4 +43,5 @@ pub mod Kept
 pub mod Asking
 pub mod BlockCauses
 pub mod Room
+pub mod AnswerCodes
 pub mod Words

@@ -3,10 +3,16 @@ ghost use Rattle.coap_msg.specs.declared.types.Emission.{Emission};
 ghost use Rattle.fc_core.specs.AnswerLaws.{Causes, greatest, moments_of, shard_moments_of};
 ghost use Rattle.coap_block.specs.Cuts.{Part};
 ghost use Rattle.coap_reply.specs.Blocks.{cut_for};
-ghost use Rattle.fc_core.specs.Contents.{Content, Deleted, Missing};
+ghost use Rattle.fc_core.specs.Contents.{Content, Deleted, Described, Listed, Made, Missing, Ran, Rejected, RunAnswer, Unavailable, Untyped, Valid};
+ghost use Rattle.fc_core.specs.Links.{links_text};
+ghost use Rattle.fc_core.specs.Replies.{Says};
+ghost use Rattle.fc_isa.specs.declared.rule.Rule.{Rule};
+ghost use Rattle.fc_registry.specs.Receipts.{receipt_text};
+ghost use Rattle.fc_registry.specs.declared.job.Job.{Job};
+ghost use Rattle.fc_registry.specs.declared.receipt.Receipt.{Receipt};
 ghost use Rattle.fc_core.specs.History.{Entry, History, Then, Seen, seen, and_then, did, slot_at, stage};
 ghost use Rattle.fc_core.specs.Laws.{HasCome, answer_at, slot_of};
-ghost use Rattle.coap_reply.specs.Responses.{bare, ran_response};
+ghost use Rattle.coap_reply.specs.Responses.{Response, bare, ran_response};
 ghost use Rattle.fc_core.specs.declared.event.Event.TheVariants.{Take};
 ghost use Rattle.fc_core.specs.declared.stage.Stage.TheVariants.{ToAnswer, ToTake};
 ghost use Rattle.fc_help.specs.declared.request.Method.TheVariants.{Post};
@@ -65,4 +71,32 @@ pub fn errors_carry_no_block()
     ensures { (answer : ℕ) (cut : Option Part) (serial : ℕ) (observed : Bool)
         → (code_class answer ≡ 2 → ⊥)
         → ran_response answer cut serial observed ≡ bare answer }
+{}
+
+/// Each answer has its code, by its byte (RFC 7252, 12.1.2). The receipt of an install is 2.01 (Created), 65, where the slot was empty, and
+/// else 2.04 (Changed), 68; a removal is 2.02 (Deleted), 66; a match is 2.03 (Valid), 67; an empty slot is 4.04 (Not Found), 132; what can't
+/// be carried out is 5.03 (Service Unavailable), 163; a refused image is 4.00 (Bad Request), 128. The receipt of a slot and the list of
+/// slots are 2.05 (Content), 69, and a run is answered by its own code; where the block that is asked begins past the end, a Content is
+/// 4.00.
+pub fn answers_have_their_codes()
+    ensures created { (j : Job) (receipt : Receipt) (r : Response) → Says j (Made receipt true) r → r.code ≡ 65 }
+    ensures changed { (j : Job) (receipt : Receipt) (r : Response) → Says j (Made receipt false) r → r.code ≡ 68 }
+    ensures deleted { (j : Job) (r : Response) → Says j Deleted r → r.code ≡ 66 }
+    ensures valid { (j : Job) (serial : ℕ) (r : Response) → Says j (Valid serial) r → r.code ≡ 67 }
+    ensures missing { (j : Job) (r : Response) → Says j Missing r → r.code ≡ 132 }
+    ensures unavailable { (j : Job) (r : Response) → Says j Unavailable r → r.code ≡ 163 }
+    ensures rejected { (j : Job) (rule : Rule) (slot : ℕ) (r : Response) → Says j (Rejected rule slot) r → r.code ≡ 128 }
+    ensures untyped { (j : Job) (r : Response) → Says j Untyped r → r.code ≡ 128 }
+    ensures described { (j : Job) (receipt : Receipt) (part : Part) (r : Response)
+        → cut_for j.block (receipt_text receipt) ≡ Some part → Says j (Described receipt) r → r.code ≡ 69 }
+    ensures described_past { (j : Job) (receipt : Receipt) (r : Response)
+        → cut_for j.block (receipt_text receipt) ≡ None → Says j (Described receipt) r → r.code ≡ 128 }
+    ensures listed { (j : Job) (words : List ℕ) (part : Part) (r : Response)
+        → cut_for j.block (links_text words) ≡ Some part → Says j (Listed words) r → r.code ≡ 69 }
+    ensures listed_past { (j : Job) (words : List ℕ) (r : Response)
+        → cut_for j.block (links_text words) ≡ None → Says j (Listed words) r → r.code ≡ 128 }
+    ensures ran { (j : Job) (run : RunAnswer) (part : Part) (r : Response)
+        → run.cut ≡ Some part → Says j (Ran run) r → r.code ≡ run.code }
+    ensures ran_past { (j : Job) (run : RunAnswer) (r : Response)
+        → run.cut ≡ None → run.code ≡ 69 → Says j (Ran run) r → r.code ≡ 128 }
 {}
