@@ -6,21 +6,21 @@ use Rattle.coap_msg.specs.declared.types.MessageType.TheVariants.{Confirmable}
 use Rattle.coap_opts.specs.declared.request.Method.{Method}
 use Rattle.coap_opts.specs.declared.request.Method.TheVariants.{Get, Post, Put, Delete}
 use Rattle.coap_opts.specs.declared.request.Resource.TheVariants.{Run, Program}
-use Rattle.coap_opts.specs.Fields.{code_of}
+use Rattle.coap_opts.specs.Fields.{method_code}
 use Rattle.coap_opts.specs.Path.{method_of}
 use Rattle.coap_opts.specs.Recognition.{is_recognised, row_of}
 use Rattle.coap_opts.specs.Served.{rows}
 use Rattle.coap_opts.specs.Verdict.{IsAsked, IsRefused, asked, refusal_code, verdict}
 
 code_by : (code : ℕ) (method : Method) (get post put delete : Bool) → (code == 1) ≡ get → (code == 2) ≡ post → (code == 3) ≡ put → (code == 4) ≡ delete →
-    (if get then Some Get else (if post then Some Post else (if put then Some Put else (if delete then Some Delete else None)))) ≡ Some method → code ≡ code_of method
-code_by code method true post put delete a b c d e = let same : Get ≡ method = cc e in eqb-true code 1 a ∙ ap code_of same
-code_by code method false true put delete a b c d e = let same : Post ≡ method = cc e in eqb-true code 2 b ∙ ap code_of same
-code_by code method false false true delete a b c d e = let same : Put ≡ method = cc e in eqb-true code 3 c ∙ ap code_of same
-code_by code method false false false true a b c d e = let same : Delete ≡ method = cc e in eqb-true code 4 d ∙ ap code_of same
+    (if get then Some Get else (if post then Some Post else (if put then Some Put else (if delete then Some Delete else None)))) ≡ Some method → code ≡ method_code method
+code_by code method true post put delete a b c d e = let same : Get ≡ method = cc e in eqb-true code 1 a ∙ ap method_code same
+code_by code method false true put delete a b c d e = let same : Post ≡ method = cc e in eqb-true code 2 b ∙ ap method_code same
+code_by code method false false true delete a b c d e = let same : Put ≡ method = cc e in eqb-true code 3 c ∙ ap method_code same
+code_by code method false false false true a b c d e = let same : Delete ≡ method = cc e in eqb-true code 4 d ∙ ap method_code same
 code_by code method false false false false a b c d e = absurd (cc e)
 
-pub code_is : (code : ℕ) (method : Method) → method_of code ≡ Some method → code ≡ code_of method
+pub code_is : (code : ℕ) (method : Method) → method_of code ≡ Some method → code ≡ method_code method
 code_is code method e = code_by code method (code == 1) (code == 2) (code == 3) (code == 4) refl refl refl refl e
 
 -- ---- whole messages

@@ -8,11 +8,11 @@ use Rattle.coap_opts.specs.Path.{method_of, path_of}
 use Rattle.coap_opts.specs.Verdict.{Asked, block_in, etags, number_in, observe_at, query, resource, values}
 
 -- the code of a method (RFC 7252, 12.1.1)
-abbrev pub code_of : Method → ℕ
-code_of Get = 1
-code_of Post = 2
-code_of Put = 3
-code_of Delete = 4
+abbrev pub method_code : Method → ℕ
+method_code Get = 1
+method_code Post = 2
+method_code Put = 3
+method_code Delete = 4
 
 -- the method is that of the message's code, the resource that of its Uri-Path, the payload its own, and each other field is what the
 -- options of one number mean

@@ -2,7 +2,7 @@
 ghost use Rattle.std.specs.Prelude.{◌≡◌, ◌≢◌, ◌<◌, ◌≤◌, ◌^◌, ℕ, List, Some, length, slice_index};
 ghost use Rattle.coap_opts.specs.Values.{uint_bytes, uint_value};
 ghost use Rattle.coap_opts.specs.Path.{IsResource, method_of, path_of, resource_of};
-ghost use Rattle.coap_opts.specs.Fields.{IsMadeOf, code_of};
+ghost use Rattle.coap_opts.specs.Fields.{IsMadeOf, method_code};
 ghost use Rattle.coap_msg.specs.Wire.{Message};
 ghost use Rattle.coap_opts.specs.Verdict.{Asked, IsAsked, IsAskedWithin, IsErrorCode, IsRefused, verdict};
 ghost use Rattle.coap_opts.specs.declared.request.Method.{Method};
@@ -46,7 +46,7 @@ pub fn methods_have_their_codes()
     ensures post { method_of 2 ≡ Some Post }
     ensures put { method_of 3 ≡ Some Put }
     ensures delete { method_of 4 ≡ Some Delete }
-    ensures only { (code : ℕ) (method : Method) → method_of code ≡ Some method → code ≡ code_of method }
+    ensures only { (code : ℕ) (method : Method) → method_of code ≡ Some method → code ≡ method_code method }
 {}
 
 /// The numbers of the options that have names (RFC 7252, 12.2; RFC 7641, 6; RFC 7959, 6).

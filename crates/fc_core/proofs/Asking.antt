@@ -13,7 +13,7 @@ use Rattle.coap_opts.specs.declared.request.Method.{Method}
 use Rattle.coap_opts.specs.declared.request.Method.TheVariants as methods
 use Rattle.coap_opts.specs.declared.request.Resource.{Resource}
 use Rattle.coap_opts.specs.declared.request.Resource.TheVariants as resources
-use Rattle.coap_opts.specs.Fields.{IsMadeOf, code_of}
+use Rattle.coap_opts.specs.Fields.{IsMadeOf, method_code}
 use Rattle.coap_opts.specs.Path.{IsResource, method_of, path_of, resource_of}
 use Rattle.coap_opts.specs.Values.{Place}
 use Rattle.coap_opts.specs.Verdict.{Asked, IsBlockFor, Verdict, IsAsked, IsRefused, IsSilent, IsReset, IsSignal, IsIgnored, block_in, etags, number_in, observe_at, values, verdict}
@@ -30,7 +30,7 @@ use Rattle.fc_registry.specs.declared.job.Opening.{Opening}
 use Rattle.fc_core.specs.declared.event.Event.{Event}
 use Rattle.fc_core.specs.declared.event.Event.TheVariants.{Deliver}
 use Rattle.fc_core.specs.declared.stage.Task.{Task}
-use Rattle.fc_core.specs.AskLaws.{Brings, IsPlain, Requests, core_path, program_path, request_in, run_path}
+use Rattle.fc_core.specs.AskLaws.{BringsJob, IsPlain, Requests, core_path, program_path, request_in, run_path}
 use Rattle.fc_core.specs.BodyLaws.{Asks, asked_at}
 use Rattle.fc_core.specs.Exchanges.{FrontState}
 use Rattle.fc_core.specs.History.{Entry, Seen, front_at, no_task, tasks_brought, tasks_moved}
@@ -118,7 +118,7 @@ job_received f to bytes m j read e =
     let c = carried_out f to m (verdict m) o.message o.asked o.body (sym (received_of f to bytes (Ok m) read) ∙ o.opened) in
     record { asked = o.asked; body = o.body; asks = c.asks; whole = c.whole; is = subst (λ (x : Message). j ≡ job_of (next_opening f) to x o.asked o.body) (sym c.message) o.is }
 
-pub job_brought : (r : Entry) (s : Seen) (from : Endpoint) (m : Message) (j : Job) (b : Brings r s from m j) → IsJobOf (front_at s b.now) from m j
+pub job_brought : (r : Entry) (s : Seen) (from : Endpoint) (m : Message) (j : Job) (b : BringsJob r s from m j) → IsJobOf (front_at s b.now) from m j
 job_brought r s from m j b =
     let brings : Event → Type 0 = λ e. tasks_moved (names e) e s ++ tasks_brought e s ≡ s.tasks ++ (new_task j ∷ []) in
     let front = front_at s b.now in
@@ -134,8 +134,8 @@ resource_by : (m : Message) (r : Asked) (at : Resource) → IsMadeOf m r → val
 resource_by m r at made p within = let same : Some r.resource ≡ Some at = sym made.resource_is ∙ (ap resource_of p ∙ path_named at within) in cc same
 
 -- a job's request, made of its message
-made : (f : FrontState) (to : Endpoint) (m : Message) (j : Job) (w : IsJobOf f to m j) → IsMadeOf m w.asked
-made f to m j w = asked_made m w.asked w.asks
+fields_of : (f : FrontState) (to : Endpoint) (m : Message) (j : Job) (w : IsJobOf f to m j) → IsMadeOf m w.asked
+fields_of f to m j w = asked_made m w.asked w.asks
 
 asks_by : (f : FrontState) (to : Endpoint) (m : Message) (j : Job) (w : IsJobOf f to m j) (method : Method) (at : Resource) → w.asked.method ≡ method → w.asked.resource ≡ at → j.ask ≡ ask_by method at w.asked w.body
 asks_by f to m j w method at e a = ap (λ (x : Job). x.ask) w.is ∙ (λ i. ask_by (e i) (a i) w.asked w.body)
@@ -143,17 +143,17 @@ asks_by f to m j w method at e a = ap (λ (x : Job). x.ask) w.is ∙ (λ i. ask_
 asked_is : (m : Message) (r : Asked) (method : Verb) (n : ℕ) → IsMadeOf m r → slot_of_resource r.resource ≡ n → request_asked method r ≡ request_in method n m
 asked_is m r method n made slot = λ i. record { method = method; slot = slot i; content_format = made.content_format_is i; query = made.query_is i; payload = made.payload_is i }
 
-pub gets : (r : Entry) (s : Seen) (from : Endpoint) (m : Message) (j : Job) (n : ℕ) → n < 64 → Brings r s from m j → Requests m 1 (run_path n) → j.ask ≡ Run (request_in Get n m)
+pub gets : (r : Entry) (s : Seen) (from : Endpoint) (m : Message) (j : Job) (n : ℕ) → n < 64 → BringsJob r s from m j → Requests m 1 (run_path n) → j.ask ≡ Run (request_in Get n m)
 gets r s from m j n lt b q =
     let w = job_brought r s from m j b in
-    let fields = made (front_at s b.now) from m j w in
+    let fields = fields_of (front_at s b.now) from m j w in
     let at = resource_by m w.asked (resources.Run n) fields q.path_is lt in
     asks_by (front_at s b.now) from m j w methods.Get (resources.Run n) (method_by m w.asked 1 methods.Get fields q.code_is refl) at ∙ ap Run (asked_is m w.asked Get n fields (ap slot_of_resource at))
 
-pub posts : (r : Entry) (s : Seen) (from : Endpoint) (m : Message) (j : Job) (n : ℕ) → n < 64 → Brings r s from m j → Requests m 2 (run_path n) → j.ask ≡ Run (request_in Post n m)
+pub posts : (r : Entry) (s : Seen) (from : Endpoint) (m : Message) (j : Job) (n : ℕ) → n < 64 → BringsJob r s from m j → Requests m 2 (run_path n) → j.ask ≡ Run (request_in Post n m)
 posts r s from m j n lt b q =
     let w = job_brought r s from m j b in
-    let fields = made (front_at s b.now) from m j w in
+    let fields = fields_of (front_at s b.now) from m j w in
     let at = resource_by m w.asked (resources.Run n) fields q.path_is lt in
     asks_by (front_at s b.now) from m j w methods.Post (resources.Run n) (method_by m w.asked 2 methods.Post fields q.code_is refl) at ∙ ap Run (asked_is m w.asked Post n fields (ap slot_of_resource at))
 
@@ -166,68 +166,68 @@ body_is : (f : FrontState) (to : Endpoint) (r : Asked) (body : List ℕ) → r.b
 body_is f to r body none e =
     whole_is (nat_lt 4112 (0 + length r.payload)) r.payload body (subst (λ (b : Option Place). add_of f.transfers f.now to (slot_of_resource r.resource) b r.payload ≡ IsWhole body) none e)
 
-pub puts : (r : Entry) (s : Seen) (from : Endpoint) (m : Message) (j : Job) (n : ℕ) → n < 64 → Brings r s from m j → Requests m 3 (program_path n) → block_in option.BLOCK1 m ≡ None → j.ask ≡ Install (record { items = m.payload })
+pub puts : (r : Entry) (s : Seen) (from : Endpoint) (m : Message) (j : Job) (n : ℕ) → n < 64 → BringsJob r s from m j → Requests m 3 (program_path n) → block_in option.BLOCK1 m ≡ None → j.ask ≡ Install (record { items = m.payload })
 puts r s from m j n lt b q none =
     let w = job_brought r s from m j b in
-    let fields = made (front_at s b.now) from m j w in
+    let fields = fields_of (front_at s b.now) from m j w in
     asks_by (front_at s b.now) from m j w methods.Put (resources.Program n) (method_by m w.asked 3 methods.Put fields q.code_is refl) (resource_by m w.asked (resources.Program n) fields q.path_is lt)
     ∙ ap (λ (body : List ℕ). Install (record { items = body })) (body_is (front_at s b.now) from w.asked w.body (fields.block1_is ∙ none) w.whole ∙ fields.payload_is)
 
-pub deletes : (r : Entry) (s : Seen) (from : Endpoint) (m : Message) (j : Job) (n : ℕ) → n < 64 → Brings r s from m j → Requests m 4 (program_path n) → j.ask ≡ Remove
+pub deletes : (r : Entry) (s : Seen) (from : Endpoint) (m : Message) (j : Job) (n : ℕ) → n < 64 → BringsJob r s from m j → Requests m 4 (program_path n) → j.ask ≡ Remove
 deletes r s from m j n lt b q =
     let w = job_brought r s from m j b in
-    let fields = made (front_at s b.now) from m j w in
+    let fields = fields_of (front_at s b.now) from m j w in
     asks_by (front_at s b.now) from m j w methods.Delete (resources.Program n) (method_by m w.asked 4 methods.Delete fields q.code_is refl) (resource_by m w.asked (resources.Program n) fields q.path_is lt)
 
-pub describes : (r : Entry) (s : Seen) (from : Endpoint) (m : Message) (j : Job) (n : ℕ) → n < 64 → Brings r s from m j → Requests m 1 (program_path n) → j.ask ≡ Describe
+pub describes : (r : Entry) (s : Seen) (from : Endpoint) (m : Message) (j : Job) (n : ℕ) → n < 64 → BringsJob r s from m j → Requests m 1 (program_path n) → j.ask ≡ Describe
 describes r s from m j n lt b q =
     let w = job_brought r s from m j b in
-    let fields = made (front_at s b.now) from m j w in
+    let fields = fields_of (front_at s b.now) from m j w in
     asks_by (front_at s b.now) from m j w methods.Get (resources.Program n) (method_by m w.asked 1 methods.Get fields q.code_is refl) (resource_by m w.asked (resources.Program n) fields q.path_is lt)
 
-pub lists : (r : Entry) (s : Seen) (from : Endpoint) (m : Message) (j : Job) → Brings r s from m j → Requests m 1 core_path → j.ask ≡ Discover
+pub lists : (r : Entry) (s : Seen) (from : Endpoint) (m : Message) (j : Job) → BringsJob r s from m j → Requests m 1 core_path → j.ask ≡ Discover
 lists r s from m j b q =
     let w = job_brought r s from m j b in
-    let fields = made (front_at s b.now) from m j w in
+    let fields = fields_of (front_at s b.now) from m j w in
     asks_by (front_at s b.now) from m j w methods.Get resources.Core (method_by m w.asked 1 methods.Get fields q.code_is refl) (resource_by m w.asked resources.Core fields q.path_is tt)
 
-four_codes : (method : Method) → (1 ≤ code_of method) × (code_of method ≤ 4)
+four_codes : (method : Method) → (1 ≤ method_code method) × (method_code method ≤ 4)
 four_codes methods.Get = (omega arith, omega arith)
 four_codes methods.Post = (omega arith, omega arith)
 four_codes methods.Put = (omega arith, omega arith)
 four_codes methods.Delete = (omega arith, omega arith)
 
-pub of_four_codes : (r : Entry) (s : Seen) (from : Endpoint) (m : Message) (j : Job) → Brings r s from m j → (1 ≤ m.code) × (m.code ≤ 4)
+pub of_four_codes : (r : Entry) (s : Seen) (from : Endpoint) (m : Message) (j : Job) → BringsJob r s from m j → (1 ≤ m.code) × (m.code ≤ 4)
 of_four_codes r s from m j b =
     let w = job_brought r s from m j b in
-    subst (λ (code : ℕ). (1 ≤ code) × (code ≤ 4)) (sym (code_is m.code w.asked.method (made (front_at s b.now) from m j w).method_is)) (four_codes w.asked.method)
+    subst (λ (code : ℕ). (1 ≤ code) × (code ≤ 4)) (sym (code_is m.code w.asked.method (fields_of (front_at s b.now) from m j w).method_is)) (four_codes w.asked.method)
 
 -- ---- of the message
 
-pub endpoint_is : (r : Entry) (s : Seen) (from : Endpoint) (m : Message) (j : Job) → Brings r s from m j → j.origin.endpoint ≡ from
+pub endpoint_is : (r : Entry) (s : Seen) (from : Endpoint) (m : Message) (j : Job) → BringsJob r s from m j → j.origin.endpoint ≡ from
 endpoint_is r s from m j b = ap (λ (x : Job). x.origin.endpoint) (job_brought r s from m j b).is
 
-pub id_is : (r : Entry) (s : Seen) (from : Endpoint) (m : Message) (j : Job) → Brings r s from m j → j.origin.id ≡ m.id
+pub id_is : (r : Entry) (s : Seen) (from : Endpoint) (m : Message) (j : Job) → BringsJob r s from m j → j.origin.id ≡ m.id
 id_is r s from m j b = ap (λ (x : Job). x.origin.id) (job_brought r s from m j b).is
 
-pub token_is : (r : Entry) (s : Seen) (from : Endpoint) (m : Message) (j : Job) → Brings r s from m j → j.token.items ≡ m.token
+pub token_is : (r : Entry) (s : Seen) (from : Endpoint) (m : Message) (j : Job) → BringsJob r s from m j → j.token.items ≡ m.token
 token_is r s from m j b = ap (λ (x : Job). x.token.items) (job_brought r s from m j b).is
 
-pub turn_is : (r : Entry) (s : Seen) (from : Endpoint) (m : Message) (j : Job) → Brings r s from m j → j.turn ≡ None
+pub turn_is : (r : Entry) (s : Seen) (from : Endpoint) (m : Message) (j : Job) → BringsJob r s from m j → j.turn ≡ None
 turn_is r s from m j b = ap (λ (x : Job). x.turn) (job_brought r s from m j b).is
 
-pub exchange_is : (r : Entry) (s : Seen) (from : Endpoint) (m : Message) (j : Job) (b : Brings r s from m j) → j.origin.opening ≡ record { number = length s.exchanges; at = max s.moment b.now }
+pub exchange_is : (r : Entry) (s : Seen) (from : Endpoint) (m : Message) (j : Job) (b : BringsJob r s from m j) → j.origin.opening ≡ record { number = length s.exchanges; at = max s.moment b.now }
 exchange_is r s from m j b = ap (λ (x : Job). x.origin.opening) (job_brought r s from m j b).is
 
-slot_is : (r : Entry) (s : Seen) (from : Endpoint) (m : Message) (j : Job) (at : Resource) → Brings r s from m j → values option.URI_PATH m ≡ path_of at → IsResource at → j.origin.slot ≡ slot_of_resource at
+slot_is : (r : Entry) (s : Seen) (from : Endpoint) (m : Message) (j : Job) (at : Resource) → BringsJob r s from m j → values option.URI_PATH m ≡ path_of at → IsResource at → j.origin.slot ≡ slot_of_resource at
 slot_is r s from m j at b p within =
     let w = job_brought r s from m j b in
-    ap (λ (x : Job). x.origin.slot) w.is ∙ ap slot_of_resource (resource_by m w.asked at (made (front_at s b.now) from m j w) p within)
+    ap (λ (x : Job). x.origin.slot) w.is ∙ ap slot_of_resource (resource_by m w.asked at (fields_of (front_at s b.now) from m j w) p within)
 
-pub run_slot_is : (r : Entry) (s : Seen) (from : Endpoint) (m : Message) (j : Job) (code n : ℕ) → n < 64 → Brings r s from m j → Requests m code (run_path n) → j.origin.slot ≡ n
+pub run_slot_is : (r : Entry) (s : Seen) (from : Endpoint) (m : Message) (j : Job) (code n : ℕ) → n < 64 → BringsJob r s from m j → Requests m code (run_path n) → j.origin.slot ≡ n
 run_slot_is r s from m j code n lt b q = slot_is r s from m j (resources.Run n) b q.path_is lt
 
-pub program_slot_is : (r : Entry) (s : Seen) (from : Endpoint) (m : Message) (j : Job) (code n : ℕ) → n < 64 → Brings r s from m j → Requests m code (program_path n) → j.origin.slot ≡ n
+pub program_slot_is : (r : Entry) (s : Seen) (from : Endpoint) (m : Message) (j : Job) (code n : ℕ) → n < 64 → BringsJob r s from m j → Requests m code (program_path n) → j.origin.slot ≡ n
 program_slot_is r s from m j code n lt b q = slot_is r s from m j (resources.Program n) b q.path_is lt
 
 kind_is : (k : MessageType) → (is_confirmable k ≡ true) ↔ (k ≡ Confirmable)
@@ -236,7 +236,7 @@ kind_is NonConfirmable = (λ e. absurd (cc e), λ e. absurd (cc e))
 kind_is Acknowledgement = (λ e. absurd (cc e), λ e. absurd (cc e))
 kind_is Reset = (λ e. absurd (cc e), λ e. absurd (cc e))
 
-pub confirmable_is : (r : Entry) (s : Seen) (from : Endpoint) (m : Message) (j : Job) → Brings r s from m j → (j.confirmable ≡ true) ↔ (m.kind ≡ Confirmable)
+pub confirmable_is : (r : Entry) (s : Seen) (from : Endpoint) (m : Message) (j : Job) → BringsJob r s from m j → (j.confirmable ≡ true) ↔ (m.kind ≡ Confirmable)
 confirmable_is r s from m j b =
     let same = ap (λ (x : Job). x.confirmable) (job_brought r s from m j b).is in
     let kind = kind_is m.kind in
@@ -252,36 +252,36 @@ named_first : (sent : Option Place) → named_block sent None ≡ sent
 named_first None = refl
 named_first (Some place) = refl
 
-pub block2_is : (r : Entry) (s : Seen) (from : Endpoint) (m : Message) (j : Job) → Brings r s from m j → m.code ≡ 1 → j.block ≡ block_in option.BLOCK2 m
+pub block2_is : (r : Entry) (s : Seen) (from : Endpoint) (m : Message) (j : Job) → BringsJob r s from m j → m.code ≡ 1 → j.block ≡ block_in option.BLOCK2 m
 block2_is r s from m j b c =
     let w = job_brought r s from m j b in
-    let fields = made (front_at s b.now) from m j w in
+    let fields = fields_of (front_at s b.now) from m j w in
     let method = method_by m w.asked 1 methods.Get fields c refl in
     let none = no_block methods.Put w.asked.method w.asked.block1 (asked_within m w.asked w.asks).block1 (λ e. let same : methods.Get ≡ methods.Put = sym method ∙ e in absurd (cc same)) in
     ap (λ (x : Job). x.block) w.is ∙ (ap (λ (x : Option Place). named_block x w.asked.block2) none ∙ fields.block2_is)
 
-pub block1_is : (r : Entry) (s : Seen) (from : Endpoint) (m : Message) (j : Job) → Brings r s from m j → m.code ≡ 3 → j.block ≡ block_in option.BLOCK1 m
+pub block1_is : (r : Entry) (s : Seen) (from : Endpoint) (m : Message) (j : Job) → BringsJob r s from m j → m.code ≡ 3 → j.block ≡ block_in option.BLOCK1 m
 block1_is r s from m j b c =
     let w = job_brought r s from m j b in
-    let fields = made (front_at s b.now) from m j w in
+    let fields = fields_of (front_at s b.now) from m j w in
     let method = method_by m w.asked 3 methods.Put fields c refl in
     let none = no_block methods.Get w.asked.method w.asked.block2 (asked_within m w.asked w.asks).block2 (λ e. let same : methods.Put ≡ methods.Get = sym method ∙ e in absurd (cc same)) in
     ap (λ (x : Job). x.block) w.is ∙ (ap (λ (x : Option Place). named_block w.asked.block1 x) none ∙ (named_first w.asked.block1 ∙ fields.block1_is))
 
-pub no_block_is : (r : Entry) (s : Seen) (from : Endpoint) (m : Message) (j : Job) → Brings r s from m j → m.code ≢ 1 → m.code ≢ 3 → j.block ≡ None
+pub no_block_is : (r : Entry) (s : Seen) (from : Endpoint) (m : Message) (j : Job) → BringsJob r s from m j → m.code ≢ 1 → m.code ≢ 3 → j.block ≡ None
 no_block_is r s from m j b not_get not_put =
     let w = job_brought r s from m j b in
-    let fields = made (front_at s b.now) from m j w in
+    let fields = fields_of (front_at s b.now) from m j w in
     let within = asked_within m w.asked w.asks in
     let code = code_is m.code w.asked.method fields.method_is in
-    let first = no_block methods.Put w.asked.method w.asked.block1 within.block1 (λ e. not_put (code ∙ ap code_of e)) in
-    let second = no_block methods.Get w.asked.method w.asked.block2 within.block2 (λ e. not_get (code ∙ ap code_of e)) in
+    let first = no_block methods.Put w.asked.method w.asked.block1 within.block1 (λ e. not_put (code ∙ ap method_code e)) in
+    let second = no_block methods.Get w.asked.method w.asked.block2 within.block2 (λ e. not_get (code ∙ ap method_code e)) in
     ap (λ (x : Job). x.block) w.is ∙ (λ i. named_block (first i) (second i))
 
-pub observe_is : (r : Entry) (s : Seen) (from : Endpoint) (m : Message) (j : Job) (code n : ℕ) → n < 64 → Brings r s from m j → Requests m code (run_path n) → j.observe ≡ number_in option.OBSERVE m
+pub observe_is : (r : Entry) (s : Seen) (from : Endpoint) (m : Message) (j : Job) (code n : ℕ) → n < 64 → BringsJob r s from m j → Requests m code (run_path n) → j.observe ≡ number_in option.OBSERVE m
 observe_is r s from m j code n lt b q =
     let w = job_brought r s from m j b in
-    let fields = made (front_at s b.now) from m j w in
+    let fields = fields_of (front_at s b.now) from m j w in
     ap (λ (x : Job). x.observe) w.is ∙ (fields.observe_is ∙ ap (λ (at : Resource). observe_at at (number_in option.OBSERVE m)) (resource_by m w.asked (resources.Run n) fields q.path_is lt))
 
 neither : (value : ℕ) → Some value ≢ Some 0 → Some value ≢ Some 1 → (value == 0) || (value == 1) ≡ false
@@ -293,26 +293,26 @@ plain_by (resources.Run n) (Some value) first second = neither value first secon
 plain_by (resources.Program n) value first second = refl
 plain_by resources.Core value first second = refl
 
-pub etags_are : (r : Entry) (s : Seen) (from : Endpoint) (m : Message) (j : Job) → Brings r s from m j → IsPlain m → j.etags.items ≡ etags m
+pub etags_are : (r : Entry) (s : Seen) (from : Endpoint) (m : Message) (j : Job) → BringsJob r s from m j → IsPlain m → j.etags.items ≡ etags m
 etags_are r s from m j b plain =
     let w = job_brought r s from m j b in
-    let fields = made (front_at s b.now) from m j w in
+    let fields = fields_of (front_at s b.now) from m j w in
     let neither = ap observes fields.observe_is ∙ plain_by w.asked.resource (number_in option.OBSERVE m) plain.no_registration plain.no_cancellation in
     ap (λ (x : Job). x.etags.items) w.is ∙ (λ i. etags_by (neither i) (fields.etags_are i))
 
 -- where the client registers or cancels
-no_etags : (r : Entry) (s : Seen) (from : Endpoint) (m : Message) (j : Job) (n value : ℕ) → n < 64 → Brings r s from m j → values option.URI_PATH m ≡ run_path n → number_in option.OBSERVE m ≡ Some value → observes (Some value) ≡ true → j.etags.items ≡ []
+no_etags : (r : Entry) (s : Seen) (from : Endpoint) (m : Message) (j : Job) (n value : ℕ) → n < 64 → BringsJob r s from m j → values option.URI_PATH m ≡ run_path n → number_in option.OBSERVE m ≡ Some value → observes (Some value) ≡ true → j.etags.items ≡ []
 no_etags r s from m j n value lt b p is counts =
     let w = job_brought r s from m j b in
-    let fields = made (front_at s b.now) from m j w in
+    let fields = fields_of (front_at s b.now) from m j w in
     let at = resource_by m w.asked (resources.Run n) fields p lt in
     ap (λ (x : Job). x.etags.items) w.is
     ∙ ap (λ (x : Bool). etags_by x w.asked.etags) (ap observes (fields.observe_is ∙ (λ i. observe_at (at i) (is i))) ∙ counts)
 
-pub registers : (r : Entry) (s : Seen) (from : Endpoint) (m : Message) (j : Job) (code n : ℕ) → n < 64 → Brings r s from m j → Requests m code (run_path n) → number_in option.OBSERVE m ≡ Some 0 → j.etags.items ≡ []
+pub registers : (r : Entry) (s : Seen) (from : Endpoint) (m : Message) (j : Job) (code n : ℕ) → n < 64 → BringsJob r s from m j → Requests m code (run_path n) → number_in option.OBSERVE m ≡ Some 0 → j.etags.items ≡ []
 registers r s from m j code n lt b q is = no_etags r s from m j n 0 lt b q.path_is is refl
 
-pub cancels : (r : Entry) (s : Seen) (from : Endpoint) (m : Message) (j : Job) (code n : ℕ) → n < 64 → Brings r s from m j → Requests m code (run_path n) → number_in option.OBSERVE m ≡ Some 1 → j.etags.items ≡ []
+pub cancels : (r : Entry) (s : Seen) (from : Endpoint) (m : Message) (j : Job) (code n : ℕ) → n < 64 → BringsJob r s from m j → Requests m code (run_path n) → number_in option.OBSERVE m ≡ Some 1 → j.etags.items ≡ []
 cancels r s from m j code n lt b q is = no_etags r s from m j n 1 lt b q.path_is is refl
 
 -- ---- a job comes
@@ -323,7 +323,7 @@ payload_whole s now to m q none short =
     ap (λ (b : Option Place). received_added (add_of front.transfers front.now to (slot_of_resource q.resource) b q.payload) m q) none
     ∙ ap (λ (b : Bool). received_added (extended_by b q.payload) m q) (le-ltb 4112 (0 + length q.payload) (omega (arith, short)))
 
-comes_by : (e : Event) (s : Seen) (m : Message) (q : Asked) → Asks s e m q → q.block1 ≡ None → length q.payload ≤ 1024 → (r : Entry) → r.event ≡ e → (from : Endpoint) × (j : Job) × Brings r s from m j
+comes_by : (e : Event) (s : Seen) (m : Message) (q : Asked) → Asks s e m q → q.block1 ≡ None → length q.payload ≤ 1024 → (r : Entry) → r.event ≡ e → (from : Endpoint) × (j : Job) × BringsJob r s from m j
 comes_by (Deliver now to bytes) s m q w none short r is =
     let o = next_opening (front_at s now) in
     let comes : Event → Type 0 = λ e. tasks_moved (names e) e s ++ tasks_brought e s ≡ s.tasks ++ (new_task (job_of o to m q q.payload) ∷ []) in (
@@ -343,7 +343,7 @@ asked_of : (s : Seen) (e : Event) (m : Message) (q : Asked) → Asks s e m q →
 asked_of s (Deliver now to bytes) m q w = w.asks
 asked_of s other m q w = absurd w
 
-pub jobs_come : (r : Entry) (s : Seen) (m : Message) (q : Asked) → Asks s r.event m q → block_in option.BLOCK1 m ≡ None → (from : Endpoint) × (j : Job) × Brings r s from m j
+pub jobs_come : (r : Entry) (s : Seen) (m : Message) (q : Asked) → Asks s r.event m q → block_in option.BLOCK1 m ≡ None → (from : Endpoint) × (j : Job) × BringsJob r s from m j
 jobs_come r s m q w none =
     let asks = asked_of s r.event m q w in
     let fields = asked_made m q asks in

@@ -15,7 +15,7 @@ use Rattle.fc_core.specs.History.{Entry, Seen, and_then}
 use Rattle.fc_core.specs.Stages.{new_task}
 
 -- the event delivers this message from an endpoint, and this job comes of it
-pub record Brings (r : Entry) (s : Seen) (from : Endpoint) (m : Message) (j : Job) : Type 0 where
+pub record BringsJob (r : Entry) (s : Seen) (from : Endpoint) (m : Message) (j : Job) : Type 0 where
   pub now : ℕ
   pub bytes : Bor (List ℕ)
   pub delivers : r.event ≡ Deliver now from bytes
