@@ -22,7 +22,7 @@ use Rattle.fc_core.specs.Exchanges.{FrontState, opening_is_live}
 use Rattle.fc_core.specs.ExchangeLaws.{Opens}
 use Rattle.fc_core.specs.History.{Entry, History, Begins, Then, Seen, seen, and_then, answered_in, did, exchanges_after, exchanges_received, front_at, job, received_at, stage}
 use Rattle.fc_core.specs.Ids.{free_id}
-use Rattle.fc_core.specs.KeptLaws.{AnswersJob, HasId, answers, answers_with, bytes_of, exchange_of_job, opened_at}
+use Rattle.fc_core.specs.KeptLaws.{AnswersJob, HasId, answers, answers_with, emitted_bytes, exchange_of_job, opened_at}
 use Rattle.fc_core.specs.Legal.{AnswerEmits, Emits, IsAnswered}
 use Rattle.fc_core.specs.Receiving.{Received, Silenced, Refused, Opened, Settled, add_in, id_in, kept_of, next_opening, opened_by, received_added, sent}
 use Rattle.fc_core.specs.Stages.{content_at}
@@ -139,16 +139,16 @@ job_keeps h k now content o is = answered_by (content_at (stage (seen h) k)) con
 
 -- ---- a delivery
 
-seam : (o : Option Emission) (kept : List (Option (ArrayVec ℕ))) (n : ℕ) → length kept ≡ n → answers_with o n (kept ++ None ∷ []) ≡ kept ++ bytes_of o ∷ []
+seam : (o : Option Emission) (kept : List (Option (ArrayVec ℕ))) (n : ℕ) → length kept ≡ n → answers_with o n (kept ++ None ∷ []) ≡ kept ++ emitted_bytes o ∷ []
 seam None kept n len = refl
 seam (Some em) kept n len = ap (λ (i : ℕ). set (kept ++ None ∷ []) i (Some em.bytes)) (sym len) ∙ set-append_seam kept None [] (Some em.bytes)
 
 -- what went out of a new request is kept
 abbrev KeepsSent : Received → FrontState → Endpoint → Opening → Type 0
-KeepsSent x f to opening = (o : Option Emission) (kept : List (Option (ArrayVec ℕ))) (n : ℕ) → length kept ≡ n → o ≡ sent x f to → answers_with (kept_of x o) n (kept ++ map answer_of (opened_by x opening to)) ≡ kept ++ bytes_of o ∷ []
+KeepsSent x f to opening = (o : Option Emission) (kept : List (Option (ArrayVec ℕ))) (n : ℕ) → length kept ≡ n → o ≡ sent x f to → answers_with (kept_of x o) n (kept ++ map answer_of (opened_by x opening to)) ≡ kept ++ emitted_bytes o ∷ []
 
-nothing_sent : (kept : List (Option (ArrayVec ℕ))) (o : Option Emission) → o ≡ None → kept ++ None ∷ [] ≡ kept ++ bytes_of o ∷ []
-nothing_sent kept o is = ap (λ (x : Option Emission). kept ++ bytes_of x ∷ []) (sym is)
+nothing_sent : (kept : List (Option (ArrayVec ℕ))) (o : Option Emission) → o ≡ None → kept ++ None ∷ [] ≡ kept ++ emitted_bytes o ∷ []
+nothing_sent kept o is = ap (λ (x : Option Emission). kept ++ emitted_bytes x ∷ []) (sym is)
 
 added_keeps : (a : Add) (m : Message) (r : Asked) (f : FrontState) (to : Endpoint) (opening : Opening) → KeepsSent (received_added a m r) f to opening
 added_keeps (IsWhole body) m r f to opening o kept n len is = nothing_sent kept o is
@@ -172,13 +172,13 @@ received_answers s now to x o w =
     kept_answers (length s.exchanges) (kept_of x o) (s.exchanges ++ new) (numbered_more 0 s.exchanges x (max s.moment now) to (length s.exchanges) w (omega arith))
     ∙ ap (answers_with (kept_of x o) (length s.exchanges)) (map-append answer_of s.exchanges new)
 
-opened_keeps : (s : Seen) (e : Event) (o : Option Emission) → AreNumbered 0 s.exchanges → Opens s e → Emits s e o → map answer_of (exchanges_after e o s) ≡ answers s ++ bytes_of o ∷ []
+opened_keeps : (s : Seen) (e : Event) (o : Option Emission) → AreNumbered 0 s.exchanges → Opens s e → Emits s e o → map answer_of (exchanges_after e o s) ≡ answers s ++ emitted_bytes o ∷ []
 opened_keeps s (Deliver now to bytes) o w opens legal =
     received_answers s now to (received_at s now to bytes.now) o w
     ∙ subst (λ (x : Received). KeepsSent x (front_at s now) to (next_opening (front_at s now))) (sym (opening_is s now to bytes.now opens)) (new_keeps (verdict opens.message) opens.message (front_at s now) to (next_opening (front_at s now))) o (answers s) (length s.exchanges) (length-map s.exchanges answer_of) legal
 opened_keeps s other o w opens legal = absurd opens
 
-pub delivery_keeps : (h : History) (r : Entry) → Opens (seen h) r.event → Emits (seen h) r.event r.emitted → answers (seen (Then h r)) ≡ answers (seen h) ++ bytes_of r.emitted ∷ []
+pub delivery_keeps : (h : History) (r : Entry) → Opens (seen h) r.event → Emits (seen h) r.event r.emitted → answers (seen (Then h r)) ≡ answers (seen h) ++ emitted_bytes r.emitted ∷ []
 unfolding seen
 delivery_keeps h r opens legal = opened_keeps (seen h) r.event r.emitted (numbered h) opens legal
 

@@ -12,9 +12,9 @@ use Rattle.fc_core.specs.Ids.{free_id}
 -- ---- what is kept
 
 -- the bytes that went out
-abbrev pub bytes_of : Option Emission → Option (ArrayVec ℕ)
-bytes_of None = None
-bytes_of (Some emission) = Some emission.bytes
+abbrev pub emitted_bytes : Option Emission → Option (ArrayVec ℕ)
+emitted_bytes None = None
+emitted_bytes (Some emission) = Some emission.bytes
 
 -- the kept answer of each exchange, at its number
 abbrev pub answers : Seen → List (Option (ArrayVec ℕ))

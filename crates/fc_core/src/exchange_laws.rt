@@ -3,7 +3,7 @@ ghost use Rattle.coap_dedup.specs.Exchanges.{Exchange};
 ghost use Rattle.fc_core.specs.ExchangeLaws.{AreApart, AreInOrder, FindsNoExchange, Opens, OpensOne, Repeats, arrivals, bare_by, draws_of, first_id, repeat_emits};
 ghost use Rattle.fc_core.specs.Contents.{Content};
 ghost use Rattle.fc_core.specs.History.{Entry, History, Seen, Then, and_then, did, job, seen, stage};
-ghost use Rattle.fc_core.specs.KeptLaws.{AnswersJob, HasId, answers, answers_with, bytes_of, exchange_of_job, opened_at};
+ghost use Rattle.fc_core.specs.KeptLaws.{AnswersJob, HasId, answers, answers_with, emitted_bytes, exchange_of_job, opened_at};
 ghost use Rattle.fc_core.specs.declared.event.Event.TheVariants.{Answer};
 ghost use Rattle.fc_core.specs.declared.stage.Stage.TheVariants.{ToAnswer};
 ghost use Rattle.coap_msg.specs.Wire.{Message};
@@ -78,7 +78,7 @@ pub fn answers_go_out_in_time()
 /// once, or those that the Answer of its job emitted. No other event touches an answer that is kept.
 pub fn kept_answers_are_what_went_out()
     ensures opened { (h : History) (r : Entry) → Opens (seen h) r.event → Emits (seen h) r.event r.emitted
-        → answers (seen (Then h r)) ≡ answers (seen h) ++ bytes_of r.emitted ∷ [] }
+        → answers (seen (Then h r)) ≡ answers (seen h) ++ emitted_bytes r.emitted ∷ [] }
     ensures answered { (h : History) (k now : ℕ) (content : Content) (o : Option Emission) → stage (seen h) k ≡ ToAnswer content
         → answers (seen (Then h (did (Answer k now) o))) ≡ answers_with o (exchange_of_job (seen h) k) (answers (seen h)) }
     ensures others { (h : History) (r : Entry) → (Opens (seen h) r.event → ⊥) → (AnswersJob (seen h) r.event → ⊥)

@@ -62,8 +62,10 @@ fn a_bad_line_stops_the_workers(rt: HostRuntime) {
 #[test]
 fn a_server_begins_as_it_is_told(rt: HostRuntime) {
     let alloc = rt.alloc();
-    let input = b"0 1 50030001b1700130ff46434231000002000200000000000000b7000000450000009500000000000000\n".as_slice();
-    let want = b"1 504101f4ff76657273696f6e3d343220636f73743d32206275646765743d3220766172733d30\n".as_slice();
+    let input =
+        b"0 1 50030001b1700130ff46434231000002000200000000000000b7000000450000009500000000000000\n".as_slice();
+    let want =
+        b"1 504101f4ff76657273696f6e3d343220636f73743d32206275646765743d3220766172733d30\n".as_slice();
     let mut out = Vec::new(alloc);
     let mut err = Vec::new(alloc);
     let status = play(alloc, input, &mut out, &mut err, 41, 500);
@@ -76,7 +78,10 @@ fn a_server_begins_as_it_is_told(rt: HostRuntime) {
             id: 500,
         };
         let status = play_by_workers(&rt, alloc, input, &mut out, &mut err, workers, begin);
-        assert!(rt; status == Status::Done && out.as_slice() == want, "{workers} workers");
+        assert!(rt;
+            status == Status::Done && out.as_slice() == want,
+            "{workers} workers"
+        );
     }
 }
 

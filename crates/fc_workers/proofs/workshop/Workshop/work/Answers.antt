@@ -8,5 +8,7 @@ send-requires g c = goes_out g.M.Moments.is_moment g.B.Bench.changes c.args.job.
 
 pub returns-clause-worked : goal.returns-clause-worked
 returns-clause-worked g c =
-    elim c.match-reply.branch [ in-Some w ↦ counts_reply g.M.Moments.is_moment g.B.Bench.changes c.args.job.now c.args.share.now c.reply-reply.new.share w.in-Some.emission w.send.result c.reply-reply.ensures.worked w.in-Some.is (w.share-is ∙ w.count_reply.ensures)
-    | in_default w ↦ counts_nothing g.M.Moments.is_moment g.B.Bench.changes c.args.job.now c.args.share.now c.reply-reply.new.share c.reply-reply.ensures.worked w.in_default.is w.share-is ]
+    elim c.match-reply.branch [
+      | in-Some w ↦ counts_reply g.M.Moments.is_moment g.B.Bench.changes c.args.job.now c.args.share.now c.reply-reply.new.share w.in-Some.emission w.send.result c.reply-reply.ensures.worked w.in-Some.is (w.share-is ∙ w.count_reply.ensures)
+      | in_default w ↦ counts_nothing g.M.Moments.is_moment g.B.Bench.changes c.args.job.now c.args.share.now c.reply-reply.new.share c.reply-reply.ensures.worked w.in_default.is w.share-is
+    ]
