@@ -1,19 +1,21 @@
 -- A block that doesn't fit is answered at once by the code of its cause, and brings nothing.
-use Rattle.std.proofs.Common.{◌≡◌, ℕ, ◌∙◌, ◌++◌, map, Option, refl, ap, arith}
+use Rattle.std.proofs.Common.{◌≡◌, ℕ, ◌∙◌, ◌++◌, map, Option, Some, refl, sym, ap, arith}
 use Rattle.std.proofs.lemmas.List.{append-nil}
 use Rattle.coap_msg.specs.Codes.{code}
 use Rattle.coap_msg.specs.Wire.{Message}
 use Rattle.coap_msg.specs.declared.types.Emission.{Emission}
+use Rattle.coap_msg.specs.declared.types.Endpoint.{Endpoint}
+use Rattle.coap_opts.specs.Values.{Place}
 use Rattle.coap_opts.specs.Verdict.{Asked}
 use Rattle.coap_block.specs.Uploads.{Add, Continues, IsWhole, IsIncomplete, IsBadLength, IsTooLarge, IsFull}
-use Rattle.coap_reply.specs.Responses.{bare}
+use Rattle.coap_reply.specs.Responses.{Response, bare, settled_by}
 use Rattle.fc_core.specs.declared.event.Event.{Event}
 use Rattle.fc_core.specs.declared.event.Event.TheVariants.{Deliver}
-use Rattle.fc_core.specs.BodyLaws.{Asks, SettlesBy}
+use Rattle.fc_core.specs.BodyLaws.{Asks, BadRequest, Continue, Incomplete, IsAnswerAtOnce, SettlesBy, TooLarge, Unavailable, asked_at}
 use Rattle.fc_core.specs.ExchangeLaws.{bare_by}
 use Rattle.fc_core.specs.History.{Seen, and_then, did, front_at}
 use Rattle.fc_core.specs.Legal.{Emits}
-use Rattle.fc_core.specs.Receiving.{Received, Settled, brought, next_opening, received_added, sent}
+use Rattle.fc_core.specs.Receiving.{Received, Settled, add_in, brought, next_opening, received_added, sent}
 use Rattle.fc_core.specs.Stages.{new_task}
 use Rattle.fc_core.proofs.Bodies.{anew_is, settled_code}
 
@@ -51,6 +53,22 @@ is_too_large IsFull m r e = let same : code 5 3 ≡ 141 = ap settled_code e in a
 
 pub by_added : (x y : Add) (m : Message) (r : Asked) → x ≡ y → received_added x m r ≡ received_added y m r
 by_added x y m r e = ap (λ (z : Add). received_added z m r) e
+
+-- what is answered at once
+abbrev response_of : Received → Response
+response_of (Settled m r response) = response
+response_of other = bare 0
+
+answered_at_once : (x : Add) (m : Message) (r : Asked) (b : Place) (response : Response) → r.block1 ≡ Some b → received_added x m r ≡ Settled m r response → IsAnswerAtOnce b response
+answered_at_once (IsWhole bytes) m r b response is e = absurd (cc e)
+answered_at_once Continues m r b response is e = Continue (sym (ap response_of e) ∙ ap (λ (block : Option Place). settled_by 95 block) is)
+answered_at_once IsIncomplete m r b response is e = Incomplete (sym (ap response_of e))
+answered_at_once IsBadLength m r b response is e = BadRequest (sym (ap response_of e))
+answered_at_once IsTooLarge m r b response is e = TooLarge (sym (ap response_of e))
+answered_at_once IsFull m r b response is e = Unavailable (sym (ap response_of e))
+
+pub at_once : (s : Seen) (now : ℕ) (to : Endpoint) (m : Message) (r : Asked) (b : Place) (response : Response) → r.block1 ≡ Some b → asked_at s now to m r ≡ Settled m r response → IsAnswerAtOnce b response
+at_once s now to m r b response is e = answered_at_once (add_in (front_at s now) to r) m r b response is e
 
 -- ---- what comes of it
 

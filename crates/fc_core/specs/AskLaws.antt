@@ -45,7 +45,7 @@ request_in method n m = record { method = method; slot = n; content_format = num
 
 -- ---- by options
 
--- it neither registers its client as an observer, by Observe 0, nor cancels, by Observe 1 (RFC 7641, 2)
+-- a message that neither registers its client as an observer, by Observe 0, nor cancels, by Observe 1 (RFC 7641, 2)
 pub record IsPlain (m : Message) : Type 0 where
   pub no_registration : number_in option.OBSERVE m ≢ Some 0
   pub no_cancellation : number_in option.OBSERVE m ≢ Some 1

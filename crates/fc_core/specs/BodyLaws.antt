@@ -17,7 +17,7 @@ use Rattle.fc_core.specs.declared.event.Event.TheVariants.{Deliver}
 use Rattle.fc_core.specs.ExchangeLaws.{IsOpening}
 use Rattle.fc_core.specs.History.{Entry, Seen, and_then, front_at}
 use Rattle.fc_core.specs.Receiving.{Received, Settled, addition_of, request_received, told}
-use Rattle.coap_reply.specs.Responses.{bare, settled_by}
+use Rattle.coap_reply.specs.Responses.{Response, bare, settled_by}
 use Rattle.fc_core.specs.Stages.{new_task}
 
 -- what a new request is to a server that is handed a moment
@@ -71,3 +71,11 @@ continue_by s other m b = None
 abbrev pub SettlesBy : Seen → Event → Message → Asked → ℕ → Type 0
 SettlesBy s (Deliver now to bytes) m r answer = asked_at s now to m r ≡ Settled m r (bare answer)
 SettlesBy s other m r answer = ⊥
+
+-- what a block may be answered at once: 2.31 (Continue) with its Block1, or by the code of a refusal alone
+pub data IsAnswerAtOnce (b : Place) (response : Response) : Type 0 where
+  Continue : (is : response ≡ settled_by 95 (Some b)) → IsAnswerAtOnce b response
+  Unavailable : (is : response ≡ bare 163) → IsAnswerAtOnce b response
+  Incomplete : (is : response ≡ bare 136) → IsAnswerAtOnce b response
+  BadRequest : (is : response ≡ bare 128) → IsAnswerAtOnce b response
+  TooLarge : (is : response ≡ bare 141) → IsAnswerAtOnce b response

@@ -8,12 +8,12 @@ ghost use Rattle.coap_msg.specs.declared.types.Endpoint.{Endpoint};
 ghost use Rattle.coap_opts.specs.Values.{Place};
 ghost use Rattle.coap_opts.specs.Verdict.{Asked};
 ghost use Rattle.coap_reply.specs.Blocks.{cut_for};
-ghost use Rattle.fc_core.specs.BodyLaws.{Asks, BringsInstall, FitsBy, PutsBlock, SettlesBy, addition_at, addition_by, asked_at, continue_by};
+ghost use Rattle.fc_core.specs.BodyLaws.{Asks, BringsInstall, FitsBy, IsAnswerAtOnce, PutsBlock, SettlesBy, addition_at, addition_by, asked_at, continue_by};
 ghost use Rattle.fc_core.specs.ExchangeLaws.{bare_by};
 ghost use Rattle.fc_core.specs.History.{Entry, History, Seen, and_then, seen};
 ghost use Rattle.fc_core.specs.Legal.{Emits};
 ghost use Rattle.fc_core.specs.Receiving.{Opened, Settled};
-ghost use Rattle.coap_reply.specs.Responses.{bare, settled_by};
+ghost use Rattle.coap_reply.specs.Responses.{Response, bare, settled_by};
 ghost use Rattle.std.specs.Prelude.{ℕ, ◌≡◌, ◌↔◌, ◌++◌, ◌<◌, ◌≤◌, List, Some, false, length, true};
 
 use coap_block::laws::{
@@ -74,7 +74,8 @@ pub fn blocks_that_fit_are_answered()
 /// A block that doesn't fit is answered at once, by the code of its one cause (RFC 7959, 2.9): 5.03 (Service Unavailable), whose byte is
 /// 163, exactly where it has number 0 and 16 other transfers are under way; 4.08 (Request Entity Incomplete), 136, where it has another
 /// number and doesn't begin where those before it end; 4.00 (Bad Request), 128, where its payload hasn't the length of its block; and
-/// 4.13 (Request Entity Too Large), 141, where the sum is above 4,112 bytes. It brings no job.
+/// 4.13 (Request Entity Too Large), 141, where the sum is above 4,112 bytes. It brings no job. Nothing else is answered at once but
+/// 2.31 (Continue), 95.
 pub fn refused_blocks_have_causes()
     ensures full { (h : History) (now : ℕ) (to : Endpoint) (m : Message) (r : Asked) (b : Place) →
         r.block1 ≡ Some b →
@@ -92,6 +93,8 @@ pub fn refused_blocks_have_causes()
         r.block1 ≡ Some b →
         ((asked_at (seen h) now to m r ≡ Settled m r (bare 141))
         ↔ HasLargeSum (seen h).additions (addition_at (seen h) now to r) b) }
+    ensures only { (h : History) (now : ℕ) (to : Endpoint) (m : Message) (r : Asked) (b : Place) (response : Response) →
+        r.block1 ≡ Some b → asked_at (seen h) now to m r ≡ Settled m r response → IsAnswerAtOnce b response }
     ensures answered { (e : Entry) (s : Seen) (m : Message) (r : Asked) (answer : ℕ) →
         Asks s e.event m r → SettlesBy s e.event m r answer → Emits s e.event e.emitted
         → e.emitted ≡ bare_by s e.event m answer }

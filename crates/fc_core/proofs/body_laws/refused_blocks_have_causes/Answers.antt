@@ -2,7 +2,7 @@ use Rattle.std.proofs.Common.{sym, ◌∙◌}
 use Rattle.coap_block.specs.Uploads.{IsBadLength, IsFull, IsIncomplete, IsTooLarge}
 use Rattle.fc_core.specs.BodyLaws.{addition_at}
 use Rattle.fc_core.specs.History.{seen}
-use Rattle.fc_core.proofs.BlockCauses.{by_added, is_bad_length, is_full, is_incomplete, is_too_large, settles_emits, settles_waits}
+use Rattle.fc_core.proofs.BlockCauses.{at_once, by_added, is_bad_length, is_full, is_incomplete, is_too_large, settles_emits, settles_waits}
 use Rattle.fc_core.proofs.Bodies.{added_block, rises_at}
 use Rattle.fc_core.proofs.body_laws.refused_blocks_have_causes.Goals as goal
 
@@ -29,6 +29,9 @@ returns-clause-sum c h now to m r b is =
     let law = c.refusals_have_only_their_causes.ensures.sum (seen h).additions (addition_at (seen h) now to r) b (rises_at h now) in
     let same = added_block (seen h) now to r b is in
     (λ e. law.0 (sym same ∙ is_too_large _ m r e), λ w. by_added _ IsTooLarge m r (same ∙ law.1 w))
+
+pub returns-clause-only : goal.returns-clause-only
+returns-clause-only c h = at_once (seen h)
 
 pub returns-clause-answered : goal.returns-clause-answered
 returns-clause-answered c e s m r answer = settles_emits e.event s m r answer e.emitted
