@@ -14,7 +14,7 @@ use Rattle.fc_service.specs.Settling.{AreSteps, IsStep, SettlingStep, printed_st
 pub then_step : (now random : ℕ) (old mid new : ServerState) (out : Option Emission) → ((steps : List SettlingStep) × AreSteps now random steps old mid × (sent_in_steps steps ≡ [])) → ((step : SettlingStep) × IsStep now random step mid new × (sent_in_step step ≡ out)) → (steps : List SettlingStep) × AreSteps now random steps old new × (sent_in_steps steps ≡ option_to_list out)
 then_step now random old mid new out w x = (x.0 ∷ w.0, (mid, x.1, w.1), λ i. w.2 i ++ option_to_list (x.2 i))
 
-joined : (now random : ℕ) (old mid new : ServerState) (xs ys : List SettlingStep) → AreSteps now random xs mid new → AreSteps now random ys old mid → AreSteps now random (xs ++ ys) old new
+pub joined : (now random : ℕ) (old mid new : ServerState) (xs ys : List SettlingStep) → AreSteps now random xs mid new → AreSteps now random ys old mid → AreSteps now random (xs ++ ys) old new
 joined now random old mid new [] ys is w = subst (AreSteps now random ys old) (sym is) w
 joined now random old mid new (x ∷ xs) ys is w = (is.0, is.1, joined now random old mid is.0 xs ys is.2 w)
 
@@ -22,11 +22,11 @@ joined now random old mid new (x ∷ xs) ys is w = (is.0, is.1, joined now rando
 pub joined_steps : (now random : ℕ) (old mid new : ServerState) → ((steps : List SettlingStep) × AreSteps now random steps old mid) → ((steps : List SettlingStep) × AreSteps now random steps mid new) → (steps : List SettlingStep) × AreSteps now random steps old new
 joined_steps now random old mid new w x = (x.0 ++ w.0, joined now random old mid new x.0 w.0 x.1 w.1)
 
-sent_joined : (xs ys : List SettlingStep) → sent_in_steps (xs ++ ys) ≡ sent_in_steps ys ++ sent_in_steps xs
+pub sent_joined : (xs ys : List SettlingStep) → sent_in_steps (xs ++ ys) ≡ sent_in_steps ys ++ sent_in_steps xs
 sent_joined [] ys = sym (append-nil (sent_in_steps ys))
 sent_joined (x ∷ xs) ys = ap (λ (l : List Emission). l ++ option_to_list (sent_in_step x)) (sent_joined xs ys) ∙ append_assoc (sent_in_steps ys) (sent_in_steps xs) (option_to_list (sent_in_step x))
 
-appended : (a b c : Option (List ℕ)) (x y : List ℕ) → Appends a b x → Appends b c y → Appends a c (x ++ y)
+pub appended : (a b c : Option (List ℕ)) (x y : List ℕ) → Appends a b x → Appends b c y → Appends a c (x ++ y)
 appended None b c x y v w = tt
 appended (Some xs) None c x y v w = absurd v
 appended (Some xs) (Some ys) None x y v w = absurd w

@@ -1,3 +1,4 @@
 pub mod Counting
 pub mod Playing
 pub mod Settling
+pub mod Rounds

@@ -1,10 +1,11 @@
 //! Playing lines: each is carried out, and what it sends is printed.
-ghost use Rattle.std.specs.Prelude.{◌≡◌, ◌≤◌, List, Option, OnOk};
+ghost use Rattle.std.specs.Prelude.{◌≡◌, ◌++◌, ◌≤◌, List, Option, OnOk};
 ghost use Rattle.std.specs.Io.KnownBytes.{Appends};
 ghost use Rattle.coap_msg.specs.declared.types.Emission.{Emission as Sent};
 ghost use Rattle.fc_registry.specs.Slots.{last_serial};
 ghost use Rattle.fc_core.specs.Receiving.{emission_if};
-ghost use Rattle.fc_service.specs.Playing.{output_of, IsCarriedOut};
+ghost use Rattle.fc_cli.specs.declared.status.Status.TheVariants.{Done};
+ghost use Rattle.fc_service.specs.Playing.{output_by, output_of, moment_of, IsCarriedOut, IsPlayed, IsPlayedOut, PlayedLine};
 ghost use Rattle.fc_service.specs.Settling.{AreSteps, SettlingStep, printed_steps};
 
 use crate::settle::{STEPS, Settling};
@@ -21,7 +22,8 @@ use std::io::{BufRead, Write};
 
 /// Reads lines, carries out each in turn on an engine of its own, and prints what each sends before it reads the next: what the datagram is
 /// answered, and then what is sent again, and what observers are told, at the line's moment.
-/// It ends `Done` at the end of the input; `Bad` where a line is bad, which `err` is told by its number from 1; and
+/// It ends `Done` at the end of the input, when each line was carried out once, in order, and just what they sent was printed; `Bad` where a
+/// line is bad, which `err` is told by its number from 1; and
 /// `Failed` where reading or writing failed, or there was no memory for the engine or a line, which `err` is told as well.
 pub fn play<R: BufRead + Drop, W: Write, E: Write>(
     alloc: Global,
@@ -32,6 +34,7 @@ pub fn play<R: BufRead + Drop, W: Write, E: Write>(
     first_id: u16,
 ) -> Status
     requires { first_serial ≤ last_serial }
+    ensures { result ≡ Done → IsPlayedOut first_serial first_id (R.remaining input) (W.contents out.old) (W.contents out.new) }
 {
     match play_lines(alloc, input, out, first_serial, first_id) {
         Ok(()) => Status::Done,
@@ -47,14 +50,17 @@ fn play_lines<R: BufRead + Drop, W: Write>(
     first_id: u16,
 ) -> Result<(), Stop>
     requires { first_serial ≤ last_serial }
+    ensures { OnOk result (IsPlayedOut first_serial first_id (R.remaining input) (W.contents out.old) (W.contents out.new)) }
 {
     let mut engine = Engine::new(alloc, first_serial, first_id)?;
     let mut reply = blank_emission();
     let mut number = 0u64;
     for text in input.split(alloc, b'\n') {
         number = number.saturating_add(1);
-        let text = text.map_err(Stop::Input)?;
-        play_line(alloc, &mut engine, &mut reply, &text, number, out)?;
+        match text {
+            Ok(text) => play_line(alloc, &mut engine, &mut reply, &text, number, out)?,
+            Err(error) => return Err(Stop::Input(error)),
+        }
     }
     Ok(())
 }
@@ -67,11 +73,15 @@ fn play_line<W: Write>(
     text: &[u8],
     number: u64,
     out: &mut W,
-) -> Result<(), Stop> {
+) -> Result<(), Stop>
+    ensures { OnOk result ((p : PlayedLine) × (p.text ≡ text.now) × IsPlayed p engine.old engine.new
+        × Appends (W.contents out.old) (W.contents out.new) (output_by p)) }
+{
     match parse(alloc, text) {
         Ok(line) => {
-            carry_out(alloc, engine, reply, &line, out).map_err(Stop::Output)?;
-            settle(engine, moment(&line), out).map_err(Stop::Output)
+            carry_out(alloc, engine, reply, &line, out)?;
+            settle(engine, moment(&line), out)?;
+            Ok(())
         }
         Err(LineError::Bad) => Err(Stop::BadLine(number)),
         Err(LineError::NoMemory) => Err(Stop::Memory(AllocError)),
@@ -102,7 +112,9 @@ fn carry_out<W: Write>(
 }
 
 // The moment of a line, in milliseconds.
-pub(crate) fn moment(line: &Line) -> u64 {
+pub(crate) fn moment(line: &Line) -> u64
+    ensures { result ≡ moment_of line.now }
+{
     match line {
         Line::Tick { now } | Line::Deliver { now, .. } => *now,
     }

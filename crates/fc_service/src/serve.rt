@@ -1,10 +1,11 @@
 //! A server on a socket: datagrams are received on one thread, and their jobs are worked off by others, or by the same.
-ghost use Rattle.std.specs.Prelude.{◌≡◌, ◌≤◌, ◌%◌, ◌⊎◌, List, is_some};
+ghost use Rattle.std.specs.Prelude.{◌≡◌, ◌≤◌, ◌%◌, ◌⊎◌, IfOk, List, is_some, length};
 ghost use Rattle.fc_core.specs.Exchanges.{advanced};
 ghost use Rattle.fc_core.specs.Receiving.{delivered, emission_if};
 ghost use Rattle.fc_registry.specs.Slots.{last_serial};
 ghost use Rattle.fc_server.specs.Serving.{Hears};
-ghost use Rattle.fc_service.specs.Settling.{AreSteps, SettlingStep};
+ghost use Rattle.fc_service.specs.Rounds.{CountsMore, HasServed};
+ghost use Rattle.fc_service.specs.Settling.{AreSteps, SettlingStep, sent_in_steps};
 ghost use Rattle.fc_cli.specs.declared.status.Status.TheVariants.{Done, Failed};
 
 use crate::clock::Elapsed;
@@ -246,7 +247,8 @@ fn send_turn<N: Intake, R: Wait>(
 }
 
 impl<'a, S: Source, K: Sink, M: Moments> Receiver<'a, S, K, M> {
-    // Works each datagram off on this thread, before the next is received: the replies.
+    // Works each datagram off on this thread, before the next is received: the replies, each counted once. What it does is a list of events of
+    // one server, round after round.
     fn serve_alone<R: Wait>(
         self,
         rt: &R,
@@ -254,6 +256,7 @@ impl<'a, S: Source, K: Sink, M: Moments> Receiver<'a, S, K, M> {
         begin: Begin,
     ) -> Result<Replies, AllocError>
         requires { begin.serial ≤ last_serial }
+        ensures { IfOk result (HasServed begin.serial begin.id) }
     {
         let mut engine = Engine::new(alloc, begin.serial, begin.id)?;
         let mut reply = blank_emission();
@@ -283,7 +286,8 @@ impl<'a, S: Source, K: Sink, M: Moments> Receiver<'a, S, K, M> {
 
 // Sends what is late again, and notifies the observers that are due, at a moment in milliseconds, whose low bits are the random word.
 fn settle<K: Sink>(engine: &mut Engine, now: u64, sink: &K, replies: &mut Replies)
-    ensures { (steps : List SettlingStep) × AreSteps now (now % 65536) steps engine.old engine.new }
+    ensures { (steps : List SettlingStep) × AreSteps now (now % 65536) steps engine.old engine.new
+        × CountsMore (length (sent_in_steps steps)) replies.old replies.new }
 {
     let random = (now % 0x1_0000) as u16;
     let mut settling = Settling::new();

@@ -1,7 +1,7 @@
-use Rattle.std.proofs.Common.{List, ◌%◌}
-use Rattle.fc_service.specs.Settling.{AreSteps, SettlingStep}
+use Rattle.std.proofs.Common.{◌%◌}
+use Rattle.fc_service.proofs.Rounds.{Settled}
 use Rattle.fc_service.proofs.serve.settle.Given as goal
 
--- the steps so far
+-- the steps so far, and what they sent is counted
 abbrev pub invariant-loop : goal.invariant-loop
-invariant-loop g l = (steps : List SettlingStep) × AreSteps l.now (l.now % 65536) steps l.fn.engine l.engine
+invariant-loop g l = Settled l.now (l.now % 65536) l.fn.engine l.engine l.fn.replies l.replies
