@@ -1,6 +1,15 @@
 //! Replaying a list of events.
+ghost use Rattle.std.specs.Prelude.{◌≡◌, flat_map, map, IfOk, IfSome, OnOk};
+ghost use Rattle.std.specs.Io.KnownBytes.{Appends};
+ghost use Rattle.fc_registry.specs.Shards.{AreShards};
+ghost use Rattle.fc_cli.specs.declared.status.Status.TheVariants.{Done};
+ghost use Rattle.fc_replay.specs.Listed.{line_words};
+ghost use Rattle.fc_replay.specs.Printed.{emitted_line};
+ghost use Rattle.fc_replay.specs.Replayed.{AreEvents, AreReplayed, IsReplayed, IsText, lines_of, told_of_all};
+
 use crate::listed::ListedEvent;
 use crate::printing::{print_emitted, print_slot, slot_line};
+use coap_msg::Emission;
 use fc_cli::status::{Status, tell};
 use fc_cli::stop::Stop;
 use fc_lines::line::LineError;
@@ -18,32 +27,73 @@ pub fn replay<R: Read, W: Write, E: Write>(
     input: &mut R,
     out: &mut W,
     err: &mut E,
-) -> Status {
+) -> Status
+    ensures { result ≡ Done → IsReplayed (R.remaining input.old) (W.contents out.old) (W.contents out.new) }
+{
     match replay_list(alloc, input, out) {
         Ok(()) => Status::Done,
         Err(stop) => tell(err, &stop, stop.status()),
     }
 }
 
-fn replay_list<R: Read, W: Write>(alloc: Global, input: &mut R, out: &mut W) -> Result<(), Stop> {
-    let mut text = Vec::new(alloc);
-    input.read_to_end(&mut text).map_err(Stop::Input)?;
-    let list = text.strip_suffix(b"\n").unwrap_or(&text);
+fn replay_list<R: Read, W: Write>(alloc: Global, input: &mut R, out: &mut W) -> Result<(), Stop>
+    ensures { OnOk result (IsReplayed (R.remaining input.old) (W.contents out.old) (W.contents out.new)) }
+{
+    let text = read_text(alloc, input)?;
     if text.is_empty() {
         return Ok(());
     }
+    replay_lines(alloc, list_of(&text), out)?;
+    out.flush()?;
+    Ok(())
+}
+
+// All that a reader has.
+fn read_text<R: Read>(alloc: Global, input: &mut R) -> Result<Vec<u8>, Stop>
+    ensures { IfOk result (λ text. IfSome (R.remaining input.old) (λ bytes. text.items ≡ bytes)) }
+{
+    let mut text = Vec::new(alloc);
+    match input.read_to_end(&mut text) {
+        Ok(_) => Ok(text),
+        Err(error) => Err(Stop::Input(error)),
+    }
+}
+
+// The list of a text, whose last line may end with a line feed or not.
+fn list_of(text: &[u8]) -> &[u8]
+    ensures { IsText text.now result.now }
+{
+    match text {
+        [list @ .., b'\n'] => list,
+        _ => text,
+    }
+}
+
+fn replay_lines<W: Write>(alloc: Global, list: &[u8], out: &mut W) -> Result<(), Stop>
+    ensures { OnOk result (AreReplayed list.now (W.contents out.old) (W.contents out.new)) }
+{
     let lines = lines(alloc, list)?;
     let events = events(alloc, &lines)?;
     let world = run_world(alloc, events.as_slice())?;
-    for emitted in &world.emissions {
+    print_emissions(out, world.emissions.as_slice())?;
+    print_slots(alloc, out, world.shards.as_slice())?;
+    Ok(())
+}
+
+// Prints a line for what each event emitted.
+fn print_emissions<W: Write>(out: &mut W, emissions: &[Option<Emission>]) -> Result<(), Stop>
+    ensures { OnOk result (Appends (W.contents out.old) (W.contents out.new) (flat_map emitted_line emissions.now)) }
+{
+    for emitted in emissions {
         print_emitted(out, emitted)?;
     }
-    print_slots(alloc, out, world.shards.as_slice())?;
-    Ok(out.flush()?)
+    Ok(())
 }
 
 // The lines of a list, each of which says an event.
-fn lines(alloc: Global, list: &[u8]) -> Result<Vec<ListedEvent<'_>>, Stop> {
+fn lines(alloc: Global, list: &[u8]) -> Result<Vec<ListedEvent<'_>>, Stop>
+    ensures { IfOk result (λ v. map (λ l. l.words) v.items ≡ map line_words (lines_of list.now)) }
+{
     let mut lines = Vec::new(alloc);
     let mut number = 0u64;
     for line in list.split(|byte| *byte == b'\n') {
@@ -58,7 +108,9 @@ fn lines(alloc: Global, list: &[u8]) -> Result<Vec<ListedEvent<'_>>, Stop> {
 }
 
 // The event of each line.
-fn events<'a>(alloc: Global, lines: &'a [ListedEvent<'_>]) -> Result<Vec<Event<'a>>, Stop> {
+fn events<'a>(alloc: Global, lines: &'a [ListedEvent<'_>]) -> Result<Vec<Event<'a>>, Stop>
+    ensures { IfOk result (λ v. AreEvents (map (λ l. l.words) lines.entry.now) v.items) }
+{
     let mut events = Vec::new(alloc);
     let mut number = 0u64;
     for line in lines {
@@ -72,12 +124,14 @@ fn events<'a>(alloc: Global, lines: &'a [ListedEvent<'_>]) -> Result<Vec<Event<'
 }
 
 // Prints each slot that was changed, in rising order.
-fn print_slots<W: Write>(alloc: Global, out: &mut W, shards: &[Shard]) -> Result<(), Stop> {
+fn print_slots<W: Write>(alloc: Global, out: &mut W, shards: &[Shard]) -> Result<(), Stop>
+    requires { AreShards shards.now }
+    ensures { OnOk result (Appends (W.contents out.old) (W.contents out.new) (told_of_all shards.now)) }
+{
     for number in 0..SLOTS {
         let slot = SlotNumber::new(number);
-        if let Some(shard) = shards.get(slot.shard()) {
-            print_slot(alloc, out, number, slot_line(shard, slot))?;
-        }
+        let shard = &shards[slot.shard()];
+        print_slot(alloc, out, number, slot_line(shard, slot))?;
     }
     Ok(())
 }

@@ -11,7 +11,7 @@ use Rattle.fc_lines.specs.Lines.{IsLine}
 use Rattle.fc_server.specs.Serving.{Serves}
 use Rattle.fc_server.specs.States.{ServerState}
 use Rattle.fc_service.proofs.Steps.{appended}
-use Rattle.fc_service.specs.Playing.{HavePlayed, IsCarriedOut, IsNextText, IsPlayed, IsPlayedOut, PlayedLine, moment_of, output_by, output_of, printed_lines}
+use Rattle.fc_service.specs.Playing.{HavePlayed, IsCarriedOut, IsNextText, IsPlayed, PlayedLine, moment_of, output_by, output_of, printed_lines}
 use Rattle.fc_service.specs.Settling.{AreSteps, SettlingStep, printed_steps}
 
 nothing_appended : (known : Option (List ℕ)) → Appends known known []

@@ -1,0 +1,57 @@
+-- What a list of events comes to: each line says its event, all of them are carried out on one server, and what comes of them is printed.
+use Rattle.std.specs.Prelude.{◌≡◌, ◌⊎◌, ℕ, zero, suc, ◌<◌, ◌==◌, List, [], ◌∷◌, ◌++◌, flat_map, if◌then◌else◌, length, map, Option, IfSome}
+use Rattle.std.specs.Io.KnownBytes.{Appends}
+use Rattle.std.specs.List.{slice_split}
+use Rattle.coap_msg.specs.declared.types.Emission.{Emission}
+use Rattle.fc_registry.specs.Shards.{slot_in_shards}
+use Rattle.fc_registry.specs.Slots.{Shard, Slot, vars_in, version_in}
+use Rattle.fc_core.specs.declared.event.Event.{Event}
+use Rattle.fc_core.specs.History.{history_of, seen, slot_at}
+use Rattle.fc_core.specs.Legal.{IsLegal}
+use Rattle.fc_replay.specs.Listed.{AreOfEvent, Bytes, line_words}
+use Rattle.fc_replay.specs.Printed.{emitted_line, line_at}
+
+-- the lines of a list, which line feeds part
+abbrev pub lines_of : Bytes → List Bytes
+lines_of list = slice_split (λ b. b == 10) list
+
+-- a text is a list, with a line feed at its end or without
+abbrev pub IsText : Bytes → Bytes → Type 0
+IsText text list = (text ≡ list) ⊎ (text ≡ list ++ 10 ∷ [])
+
+-- each line says its event, by the words of the line
+abbrev pub AreEvents : List (List Bytes) → List Event → Type 0
+AreEvents [] [] = Unit {0}
+AreEvents (words ∷ lines) (event ∷ events) = AreOfEvent words event × AreEvents lines events
+AreEvents lines events = ⊥
+
+-- what is told of a slot that was changed
+abbrev pub told_of : ℕ → Slot → List ℕ
+told_of number slot = if slot.serial == 0 then [] else line_at number slot.serial (version_in slot.present) (vars_in slot.present)
+
+-- of each slot below a number, in rising order
+abbrev pub told_below : ℕ → List Shard → List ℕ
+told_below zero shards = []
+told_below (suc n) shards = told_below n shards ++ told_of n (slot_in_shards shards n)
+
+abbrev pub told_of_all : List Shard → List ℕ
+told_of_all shards = told_below 64 shards
+
+-- the events of a list were carried out in their order: what they emitted was printed, and then what is told of each slot
+pub record AreReplayed (list : Bytes) (before after : Option (List ℕ)) : Type 0 where
+  pub events : List Event
+  pub say : AreEvents (map line_words (lines_of list)) events
+  pub emissions : List (Option Emission)
+  pub count : length emissions ≡ length events
+  pub legal : IsLegal (history_of events emissions)
+  pub shards : List Shard
+  pub slots : (n : ℕ) → n < 64 → slot_in_shards shards n ≡ slot_at (seen (history_of events emissions)) n
+  pub printed : Appends before after (flat_map emitted_line emissions ++ told_of_all shards)
+
+-- a text was read and replayed; of an empty one nothing is printed
+pub record IsReplayed (known before after : Option (List ℕ)) : Type 0 where
+  pub text : Bytes
+  pub read : IfSome known (λ bytes. text ≡ bytes)
+  pub list : Bytes
+  pub is : IsText text list
+  pub done : ((length text ≡ 0) × Appends before after []) ⊎ AreReplayed list before after
