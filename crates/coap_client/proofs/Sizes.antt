@@ -15,7 +15,8 @@ use Rattle.coap_client.specs.declared.errand.Errand.{Errand}
 use Rattle.coap_client.specs.declared.part.Part.{Part}
 use Rattle.coap_client.specs.declared.part.Part.TheVariants.{Whole, Body, Answer}
 use Rattle.coap_client.specs.Paths.{IsSegment, segments_in}
-use Rattle.coap_client.specs.Parts.{answer_payload, method_code, most_at_once, part_options, part_payload, path_options, option_room}
+use Rattle.coap_opts.specs.Fields.{method_code}
+use Rattle.coap_client.specs.Parts.{answer_payload, most_at_once, part_options, part_payload, path_options, option_room}
 use Rattle.coap_client.specs.Requests.{IsPartOf}
 
 -- a path's options before others that take 13 bytes at most

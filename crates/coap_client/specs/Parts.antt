@@ -1,11 +1,10 @@
 -- What a client's requests carry: the whole body, a block of a body that is too large for one (RFC 7959, 2.5), or what asks for
 -- a further block of an answer (RFC 7959, 2.4).
 use Rattle.std.specs.Prelude.{◌≡◌, ℕ, ◌+◌, ◌*◌, ◌<◌, ◌≤◌, ◌^◌, nat_lt, Bool, true, false, min, if◌then◌else◌, List, [], ◌∷◌, ◌++◌, length, take, drop, map, sum_by, Option, Some, None}
-use Rattle.coap_msg.specs.declared.code.TheConstants.Code as registered
 use Rattle.coap_opts.specs.Values.{uint_bytes}
 use Rattle.coap_opts.specs.declared.number.TheConstants as option
 use Rattle.coap_opts.specs.declared.request.Method.{Method}
-use Rattle.coap_opts.specs.declared.request.Method.TheVariants.{Get, Post, Put, Delete}
+use Rattle.coap_opts.specs.declared.request.Method.TheVariants.{Get, Put}
 use Rattle.coap_client.specs.declared.part.Part.{Part}
 use Rattle.coap_client.specs.declared.part.Part.TheVariants.{Whole, Body, Answer}
 use Rattle.arrayvec.specs.ArrayVec.{ArrayVec}
@@ -16,13 +15,6 @@ fetched_size = 1024
 
 abbrev pub block_szx : ℕ
 block_szx = 6
-
--- a method's code (RFC 7252, 12.1.1)
-abbrev pub method_code : Method → ℕ
-method_code Get = registered.GET.byte
-method_code Post = registered.POST.byte
-method_code Put = registered.PUT.byte
-method_code Delete = registered.DELETE.byte
 
 -- how many bytes of a body go with one request: a PUT's go in blocks, others whole
 abbrev pub most_at_once : Method → ℕ → ℕ

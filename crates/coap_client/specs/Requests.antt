@@ -3,11 +3,12 @@ use Rattle.std.specs.Prelude.{◌≡◌, ℕ, ◌*◌, ◌<◌, ◌^◌, [], ◌
 use Rattle.coap_msg.specs.Wire.{Message}
 use Rattle.coap_msg.specs.declared.types.MessageType.TheVariants.{Confirmable}
 use Rattle.coap_opts.specs.declared.request.Method.TheVariants.{Put}
+use Rattle.coap_opts.specs.Fields.{method_code}
 use Rattle.coap_client.specs.declared.errand.Errand.{Errand}
 use Rattle.coap_client.specs.declared.part.Part.{Part}
 use Rattle.coap_client.specs.declared.part.Part.TheVariants.{Whole, Body, Answer}
 use Rattle.coap_client.specs.Paths.{segments_in}
-use Rattle.coap_client.specs.Parts.{fetched_size, method_code, most_at_once, part_options, part_payload, path_options}
+use Rattle.coap_client.specs.Parts.{fetched_size, most_at_once, part_options, part_payload, path_options}
 
 -- the part is one of the body's, and a block's number has 20 bits
 abbrev pub IsPartOf : Errand → Part → Type 0

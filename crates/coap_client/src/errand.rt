@@ -5,6 +5,7 @@ ghost use Rattle.coap_msg.specs.Writing.{options_in};
 ghost use Rattle.coap_client.specs.Paths.{segments_in};
 ghost use Rattle.coap_client.specs.Parts.{FitsDatagrams, option_in, path_options, option_room};
 ghost use Rattle.coap_client.specs.Parts as spec;
+ghost use Rattle.coap_opts.specs.Fields as fields;
 
 use crate::part::Part;
 use crate::path::Path;
@@ -142,7 +143,7 @@ fn block(number: u32, more: bool) -> Block
 }
 
 fn method_code(method: Method) -> Code
-    ensures { result.byte ≡ spec.method_code method }
+    ensures { result.byte ≡ fields.method_code method }
 {
     match method {
         Method::Get => Code::GET,

@@ -11,7 +11,7 @@ use Rattle.fc_registry.specs.Shards.{AreShards, no_shard, shard_at, slot_in_shar
 use Rattle.fc_registry.specs.Slots.{Shard, Slot, slot_in}
 use Rattle.fc_replay.specs.Listed.{AreOfEvent, Bytes, Line, line_words}
 use Rattle.fc_replay.specs.Printed.{IsSlotLine, emitted_line, line_at, slot_text}
-use Rattle.fc_replay.specs.Replayed.{AreEvents, AreReplayed, IsReplayed, IsText, lines_of, told_below, told_of, told_of_all}
+use Rattle.fc_replay.specs.Replayed.{AreEvents, AreReplayed, IsReplayed, IsText, listed_lines, told_below, told_of, told_of_all}
 use Rattle.fc_replay.specs.declared.printing.SlotLine.{SlotLine}
 
 says_more : (lines : List (List Bytes)) (events : List Event) (words : List Bytes) (event : Event) → AreEvents lines events → AreOfEvent words event → AreEvents (lines ++ words ∷ []) (events ++ event ∷ [])
@@ -60,7 +60,7 @@ nothing_appended None = tt
 nothing_appended (Some xs) = sym (append-nil xs)
 
 -- the events of a list were carried out, and what came of them was printed; a slice is what its vector holds
-pub replayed : (list : Bytes) (lines lent : List Line) (events given : List Event) (emissions sent : List (Option Emission)) (shards told : List Shard) (a b c : Option (List ℕ)) → map (λ (l : Line). l.words) lines ≡ map line_words (lines_of list) → lent ≡ lines → AreEvents (map (λ (l : Line). l.words) lent) events → given ≡ events → length emissions ≡ length given → IsLegal (history_of given emissions) → ((n : ℕ) → n < 64 → slot_in_shards shards n ≡ slot_at (seen (history_of given emissions)) n) → sent ≡ emissions → told ≡ shards → Appends a b (flat_map emitted_line sent) → Appends b c (told_of_all told) → AreReplayed list a c
+pub replayed : (list : Bytes) (lines lent : List Line) (events given : List Event) (emissions sent : List (Option Emission)) (shards told : List Shard) (a b c : Option (List ℕ)) → map (λ (l : Line). l.words) lines ≡ map line_words (listed_lines list) → lent ≡ lines → AreEvents (map (λ (l : Line). l.words) lent) events → given ≡ events → length emissions ≡ length given → IsLegal (history_of given emissions) → ((n : ℕ) → n < 64 → slot_in_shards shards n ≡ slot_at (seen (history_of given emissions)) n) → sent ≡ emissions → told ≡ shards → Appends a b (flat_map emitted_line sent) → Appends b c (told_of_all told) → AreReplayed list a c
 replayed list lines lent events given emissions sent shards told a b c words of_lines say of_events count legal slots of_emissions of_shards first second = record {
   events = events;
   say = subst (λ (w : List (List Bytes)). AreEvents w events) (ap (map (λ (l : Line). l.words)) of_lines ∙ words) say;

@@ -12,8 +12,8 @@ use Rattle.fc_replay.specs.Listed.{AreOfEvent, Bytes, line_words}
 use Rattle.fc_replay.specs.Printed.{emitted_line, line_at}
 
 -- the lines of a list, which line feeds part
-abbrev pub lines_of : Bytes → List Bytes
-lines_of list = slice_split (λ b. b == 10) list
+abbrev pub listed_lines : Bytes → List Bytes
+listed_lines list = slice_split (λ b. b == 10) list
 
 -- a text is a list, with a line feed at its end or without
 abbrev pub IsText : Bytes → Bytes → Type 0
@@ -40,7 +40,7 @@ told_of_all shards = told_below 64 shards
 -- the events of a list were carried out in their order: what they emitted was printed, and then what is told of each slot
 pub record AreReplayed (list : Bytes) (before after : Option (List ℕ)) : Type 0 where
   pub events : List Event
-  pub say : AreEvents (map line_words (lines_of list)) events
+  pub say : AreEvents (map line_words (listed_lines list)) events
   pub emissions : List (Option Emission)
   pub count : length emissions ≡ length events
   pub legal : IsLegal (history_of events emissions)

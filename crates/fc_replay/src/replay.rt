@@ -5,7 +5,7 @@ ghost use Rattle.fc_registry.specs.Shards.{AreShards};
 ghost use Rattle.fc_cli.specs.declared.status.Status.TheVariants.{Done};
 ghost use Rattle.fc_replay.specs.Listed.{line_words};
 ghost use Rattle.fc_replay.specs.Printed.{emitted_line};
-ghost use Rattle.fc_replay.specs.Replayed.{AreEvents, AreReplayed, IsReplayed, IsText, lines_of, told_of_all};
+ghost use Rattle.fc_replay.specs.Replayed.{AreEvents, AreReplayed, IsReplayed, IsText, listed_lines, told_of_all};
 
 use crate::listed::ListedEvent;
 use crate::printing::{print_emitted, print_slot, slot_line};
@@ -92,7 +92,7 @@ fn print_emissions<W: Write>(out: &mut W, emissions: &[Option<Emission>]) -> Res
 
 // The lines of a list, each of which says an event.
 fn lines(alloc: Global, list: &[u8]) -> Result<Vec<ListedEvent<'_>>, Stop>
-    ensures { IfOk result (λ v. map (λ l. l.words) v.items ≡ map line_words (lines_of list.now)) }
+    ensures { IfOk result (λ v. map (λ l. l.words) v.items ≡ map line_words (listed_lines list.now)) }
 {
     let mut lines = Vec::new(alloc);
     let mut number = 0u64;

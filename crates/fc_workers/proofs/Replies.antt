@@ -13,7 +13,7 @@ use Rattle.fc_registry.specs.Notes.{sent_of}
 use Rattle.fc_registry.specs.Slots.{Ticket}
 use Rattle.fc_workers.specs.declared.share.Share.{Share}
 use Rattle.fc_workers.specs.Answers.{IsSomeNote}
-use Rattle.fc_workers.specs.Outgoing.{IsNote, IsReply, IsTold, IsTurnReply, with_reply}
+use Rattle.fc_workers.specs.Outgoing.{IsNote, GoesOut, IsFoundTold, IsTurnReply, with_reply}
 use Rattle.fc_workers.specs.Work.{IsReplied, IsWorked, IsWorkedAs}
 
 nothing_out : {A : Type 0} (e : Emission) → Some e ≡ None → A
@@ -25,22 +25,22 @@ sent_is_note now told turn id StaleNote e note is = nothing_out e is
 sent_is_note now told turn id Stranger e note is = nothing_out e is
 
 module _ (IsMoment : ℕ → Type 0) where
-  told_is_reply : (turn : Turn) (found : Option Ticket) (e : Emission) → IsTold IsMoment turn found (Some e) → IsReply e
+  told_is_reply : (turn : Turn) (found : Option Ticket) (e : Emission) → IsFoundTold IsMoment turn found (Some e) → GoesOut e
   told_is_reply turn found e (inl n) = inr (sent_is_note n.noted.now n.told turn n.id n.noted.noted e n.noted.note n.noted.reply_is)
   told_is_reply turn found e (inr s) = nothing_out e s.nothing
 
-  turn_is_reply : (turn : Turn) (taken : Taken) (e : Emission) → IsTurnReply IsMoment turn taken (Some e) → IsReply e
+  turn_is_reply : (turn : Turn) (taken : Taken) (e : Emission) → IsTurnReply IsMoment turn taken (Some e) → GoesOut e
   turn_is_reply turn (Given t) e is = told_is_reply turn (Some t) e is
   turn_is_reply turn Missing e is = told_is_reply turn None e is
   turn_is_reply turn Stale e is = nothing_out e is
   turn_is_reply turn Refused e is = nothing_out e is
 
-  worked_is_reply : {T : Type 0} (changes : T → ℕ → ℕ) (turn : Option ℕ) (job : Job) (before after : Share T) (e : Emission) → IsWorkedAs changes IsMoment turn job before after (Some e) → IsReply e
+  worked_is_reply : {T : Type 0} (changes : T → ℕ → ℕ) (turn : Option ℕ) (job : Job) (before after : Share T) (e : Emission) → IsWorkedAs changes IsMoment turn job before after (Some e) → GoesOut e
   worked_is_reply changes None job before after e w = inl (record { now = w.answered.now; job = job; content = w.content; answer = w.answered.answer })
   worked_is_reply changes (Some number) job before after e w = turn_is_reply (turn_of job number) w.taken e w.told
 
   -- what a job that was worked off sends is a reply
-  pub goes_out : {T : Type 0} (changes : T → ℕ → ℕ) (job : Job) (before after : Share T) {reply : Option Emission} (e : Emission) → IsWorked changes IsMoment job before after reply → reply ≡ Some e → IsReply e
+  pub goes_out : {T : Type 0} (changes : T → ℕ → ℕ) (job : Job) (before after : Share T) {reply : Option Emission} (e : Emission) → IsWorked changes IsMoment job before after reply → reply ≡ Some e → GoesOut e
   goes_out changes job before after e w is = worked_is_reply changes job.turn job before after e (subst (λ (r : Option Emission). IsWorked changes IsMoment job before after r) is w)
 
   -- it was sent and counted, or there was nothing to send

@@ -19,7 +19,7 @@ use Rattle.fc_workers.specs.Answers.{IsSomeAnswer, IsSomeDraw, IsSomeNote, satur
 -- ---- a request
 
 -- at some moment of the workshop's some front answers the job so, and this goes out, or nothing
-pub record IsAnswered (IsMoment : ℕ → Type 0) (job : Job) (content : Content) (reply : Option Emission) : Type 0 where
+pub record GivesAnswer (IsMoment : ℕ → Type 0) (job : Job) (content : Content) (reply : Option Emission) : Type 0 where
   pub now : ℕ
   pub moment : IsMoment now
   pub answer : IsSomeAnswer now job content reply
@@ -27,12 +27,12 @@ pub record IsAnswered (IsMoment : ℕ → Type 0) (job : Job) (content : Content
 -- ---- a turn
 
 -- what is told is the run of the ticket that was found, or that the slot was found empty
-abbrev pub Tells : Notification → Option Ticket → Type 0
-Tells (tells.Ran outcome ticket) found = (found ≡ Some ticket.now) × (outcome.now ≡ run_of ticket.now)
-Tells tells.Gone found = found ≡ None
+abbrev pub SaysFound : Notification → Option Ticket → Type 0
+SaysFound (tells.Ran outcome ticket) found = (found ≡ Some ticket.now) × (outcome.now ≡ run_of ticket.now)
+SaysFound tells.Gone found = found ≡ None
 
 -- at some moment of the workshop's this is told the observer of the turn, by this message id, and this goes out, or nothing
-pub record IsNoted (IsMoment : ℕ → Type 0) (told : Notification) (turn : Turn) (id : ℕ) (reply : Option Emission) : Type 0 where
+pub record IsNoteSent (IsMoment : ℕ → Type 0) (told : Notification) (turn : Turn) (id : ℕ) (reply : Option Emission) : Type 0 where
   pub now : ℕ
   pub moment : IsMoment now
   pub noted : Noted
@@ -46,8 +46,8 @@ pub record IsNotification (IsMoment : ℕ → Type 0) (turn : Turn) (found : Opt
   pub id : ℕ
   pub draw : IsSomeDraw drawn (Some id)
   pub told : Notification
-  pub tells : Tells told found
-  pub noted : IsNoted IsMoment told turn id reply
+  pub tells : SaysFound told found
+  pub noted : IsNoteSent IsMoment told turn id reply
 
 -- no message id was free, and nothing goes out
 pub record IsStarved (IsMoment : ℕ → Type 0) (reply : Option Emission) : Type 0 where
@@ -56,13 +56,13 @@ pub record IsStarved (IsMoment : ℕ → Type 0) (reply : Option Emission) : Typ
   pub draw : IsSomeDraw now None
   pub nothing : reply ≡ None
 
-abbrev pub IsTold : (IsMoment : ℕ → Type 0) → Turn → Option Ticket → Option Emission → Type 0
-IsTold IsMoment turn found reply = IsNotification IsMoment turn found reply ⊎ IsStarved IsMoment reply
+abbrev pub IsFoundTold : (IsMoment : ℕ → Type 0) → Turn → Option Ticket → Option Emission → Type 0
+IsFoundTold IsMoment turn found reply = IsNotification IsMoment turn found reply ⊎ IsStarved IsMoment reply
 
 -- by what the turn's taking answered: where it is stale, or memory was refused, nothing goes out
 abbrev pub IsTurnReply : (IsMoment : ℕ → Type 0) → Turn → Taken → Option Emission → Type 0
-IsTurnReply IsMoment turn (Given t) reply = IsTold IsMoment turn (Some t) reply
-IsTurnReply IsMoment turn Missing reply = IsTold IsMoment turn None reply
+IsTurnReply IsMoment turn (Given t) reply = IsFoundTold IsMoment turn (Some t) reply
+IsTurnReply IsMoment turn Missing reply = IsFoundTold IsMoment turn None reply
 IsTurnReply IsMoment turn Stale reply = reply ≡ None
 IsTurnReply IsMoment turn Refused reply = reply ≡ None
 
@@ -84,8 +84,8 @@ pub record IsNote (emission : Emission) : Type 0 where
   pub note : IsSomeNote now told turn id (Send emission)
 
 -- what may go out of a workshop
-abbrev pub IsReply : Emission → Type 0
-IsReply emission = IsAnswer emission ⊎ IsNote emission
+abbrev pub GoesOut : Emission → Type 0
+GoesOut emission = IsAnswer emission ⊎ IsNote emission
 
 -- a share that has counted a reply, where there is one, by whether it went out
 abbrev pub with_reply : {T : Type 0} → Option Emission → Bool → Share T → Share T

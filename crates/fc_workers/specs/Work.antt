@@ -24,7 +24,7 @@ use Rattle.fc_core.specs.Contents.{Content, IsOf}
 use Rattle.fc_core.specs.Ends.{refused}
 use Rattle.fc_core.specs.Stages.{asked_stage, image_of, listed, matched, took, told, after_commit, made, removed, takings}
 use Rattle.fc_workers.specs.Answers.{IsSomeTaking, IsSomeCommit, IsSomeInstall, IsSomeReceipt, IsSomeRemoval, AreTallied, HasRisen, commit_changes, install_changes, removal_changes}
-use Rattle.fc_workers.specs.Outgoing.{IsAnswered, IsTurnReply, with_reply}
+use Rattle.fc_workers.specs.Outgoing.{GivesAnswer, IsTurnReply, with_reply}
 use Rattle.fc_workers.specs.declared.share.Share.{Share}
 
 -- a call for a job, and what it answered
@@ -134,7 +134,7 @@ pub record IsQuiet {T : Type 0} (changes : T → ℕ → ℕ) (before after : Sh
 pub record IsRequestWorked {T : Type 0} (changes : T → ℕ → ℕ) (IsMoment : ℕ → Type 0) (job : Job) (before after : Share T) (reply : Option Emission) : Type 0 where
   pub content : Content
   pub worked : IsWorkedOff changes job content before after
-  pub answered : IsAnswered IsMoment job content reply
+  pub answered : GivesAnswer IsMoment job content reply
 
 -- a turn's job was worked off, and this goes out for it, or nothing: it took once, and what it found is told. It changes no slot
 pub record IsTurnWorked {T : Type 0} (changes : T → ℕ → ℕ) (IsMoment : ℕ → Type 0) (job : Job) (turn : Turn) (before after : Share T) (reply : Option Emission) : Type 0 where

@@ -1,7 +1,7 @@
 //! Turns of observers worked off over a bench.
 ghost use Rattle.std.specs.Prelude.{◌≡◌, ◌+◌, ◌<◌, None};
 ghost use Rattle.fc_workers.specs.Answers.{saturated};
-ghost use Rattle.fc_workers.specs.Outgoing.{IsNoted, IsTold};
+ghost use Rattle.fc_workers.specs.Outgoing.{IsNoteSent, IsFoundTold};
 ghost use Rattle.fc_workers.specs.Work.{IsQuiet, IsTurnWorked};
 
 use crate::bench::Bench;
@@ -48,7 +48,7 @@ impl<'a, B: Bench, G: Gate, W: Wire, M: Moments> Workshop<'a, B, G, W, M> {
         share: &mut Share<B::Tallies>,
     ) -> Option<Emission>
         requires { turn.slot < 64 }
-        ensures told { IsTold M.is_moment turn found result }
+        ensures told { IsFoundTold M.is_moment turn found result }
         ensures kept { IsQuiet B.changes share.old share.new }
         ensures ended { B.ended share.new.tallies ≡ saturated (B.ended share.old.tallies + 1) }
     {
@@ -74,7 +74,7 @@ impl<'a, B: Bench, G: Gate, W: Wire, M: Moments> Workshop<'a, B, G, W, M> {
         share: &mut Share<B::Tallies>,
     ) -> Option<Emission>
         requires { turn.slot < 64 }
-        ensures noted { IsNoted M.is_moment told.now turn id result }
+        ensures noted { IsNoteSent M.is_moment told.now turn id result }
         ensures kept { IsQuiet B.changes share.old share.new }
         ensures ended { B.ended share.new.tallies ≡ saturated (B.ended share.old.tallies + 1) }
     {

@@ -1,6 +1,6 @@
 //! What workers share.
 ghost use Rattle.std.specs.Prelude.{⊤, ℕ};
-ghost use Rattle.fc_workers.specs.Outgoing.{IsReply};
+ghost use Rattle.fc_workers.specs.Outgoing.{GoesOut};
 
 use crate::bench::Bench;
 use coap_msg::Emission;
@@ -15,10 +15,10 @@ pub trait Gate {
 
 /// Where the replies of jobs go.
 pub trait Wire {
-    /// Sends the reply of the job of this number: some front answers some job by it, or some shard notifies an observer. Tells whether it
+    /// Sends the reply of the job of this number: some front answers some job by it, or some shard notifies an observer. SaysFound whether it
     /// went out.
     fn send<R: Wait>(&self, rt: &R, number: u64, emission: &Emission) -> bool
-        requires { IsReply emission.now };
+        requires { GoesOut emission.now };
 
     /// Is called last for each job, whether or not anything was sent: who waits for the job can go on.
     fn ended<R: Wait>(&self, rt: &R, number: u64);
