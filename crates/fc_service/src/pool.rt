@@ -1,4 +1,4 @@
-//! Pools: a new server behind its lock, workers at it, and who feeds them with jobs.
+//! Pools: a new server behind its locks, workers at it, and who feeds them with jobs.
 ghost use Rattle.std.specs.Prelude.{◌≡◌, ◌+◌, ◌≤◌};
 ghost use Rattle.fc_registry.specs.Slots.{last_serial};
 ghost use Rattle.fc_workers.specs.Answers.{IsSomeDelivery};

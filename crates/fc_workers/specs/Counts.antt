@@ -1,5 +1,5 @@
 -- Shards whose changes are counted, and tallies, as a clause sees them.
-use Rattle.std.specs.Prelude.{◌≡◌, ℕ, ◌+◌, ◌*◌, List, [], ◌∷◌, length, replicate, sum_by}
+use Rattle.std.specs.Prelude.{◌≡◌, ℕ, ◌+◌, List, [], ◌∷◌, length, replicate, sum_by}
 use Rattle.fc_registry.specs.Slots.{Slot, Shard}
 
 abbrev pub serial_of : Slot → ℕ
@@ -11,12 +11,6 @@ serials shard = sum_by serial_of shard.slots
 
 abbrev pub HasEightSlots : Shard → Type 0
 HasEightSlots shard = length shard.slots ≡ 8
-
--- the shard of this index, whose slots are each at the first serial
-pub record IsFresh (shard : Shard) (index first : ℕ) : Type 0 where
-  pub index_is : shard.index ≡ index
-  pub slots : HasEightSlots shard
-  pub sum : serials shard ≡ 8 * first
 
 -- a shard beside its book, and what its serials added up to when the book was opened
 pub record Counted : Type 0 where

@@ -10,7 +10,7 @@ use std::alloc::{AllocError, Global};
 use std::sync::Wait;
 
 /// What all datagrams come from.
-const PEER: Endpoint = Endpoint {
+pub(crate) const PEER: Endpoint = Endpoint {
     ip: [127, 0, 0, 1],
     port: 5683,
 };
@@ -20,6 +20,8 @@ const PEER: Endpoint = Endpoint {
 pub(crate) enum Request<'a> {
     /// `PUT /p/SLOT` of an image.
     Put(&'a [u8]),
+    /// `GET /r/SLOT`.
+    Get,
     /// `POST /r/SLOT`.
     Post,
 }
@@ -34,6 +36,7 @@ pub(crate) fn datagram(
     let mut bytes = Vec::new(alloc);
     let (code, path) = match request {
         Request::Put(_) => (3, b'p'),
+        Request::Get => (1, b'r'),
         Request::Post => (2, b'r'),
     };
     let id = id.to_be_bytes();

@@ -21,9 +21,13 @@ mod faulty;
 #[cfg(test)]
 mod feeder;
 #[cfg(test)]
+mod head_tests;
+#[cfg(test)]
 mod isa_tests;
 #[cfg(test)]
 mod job_tests;
+#[cfg(test)]
+mod lock_tests;
 #[cfg(test)]
 mod machine_tests;
 #[cfg(test)]

@@ -3,6 +3,7 @@ ghost use Rattle.std.specs.Prelude.{◌≡◌, ◌+◌, ◌<◌};
 
 use crate::feeder::{Feeder, Request};
 use crate::job_tests::job;
+use crate::lock_tests::{Locks, ShardHeld};
 use arrayvec::ArrayVec;
 use coap_msg::Emission;
 use fc_jobs::Sent;
@@ -21,11 +22,11 @@ use std::thread::Threads;
 use std::time::{Clock, Duration};
 
 // A counter: each request adds 1 to the first word of its eight bytes of variables.
-const COUNTER: &[u8] =
+pub(crate) const COUNTER: &[u8] =
     b"FCB1\x08\x00\x09\x00\x09\x00\x00\x00\x00\x00\x00\x00\xb7\x01\x00\x00\x00\x00\x00\x00\x85\x00\x00\x00\x03\x00\x00\x00\x07\x00\x00\x00\x01\x00\x00\x00\xbf\x02\x00\x00\x00\x00\x00\x00\xb7\x01\x00\x00\x00\x00\x00\x00\x85\x00\x00\x00\x04\x00\x00\x00\x85\x00\x00\x00\x07\x00\x00\x00\xb7\x00\x00\x00\x00\x00\x00\x00\x95\x00\x00\x00\x00\x00\x00\x00";
 
 // The codes of the replies (RFC 7252, 12.1.2).
-const CREATED: u8 = 0x41;
+pub(crate) const CREATED: u8 = 0x41;
 
 const CHANGED: u8 = 0x44;
 
@@ -33,9 +34,9 @@ const UNAVAILABLE: u8 = 0xa3;
 
 // What was done with a server, and the tallies of its workers.
 #[derive(Drop)]
-struct Held<X: Drop, T: Drop> {
-    given: X,
-    tallies: Vec<T>,
+pub(crate) struct Held<X: Drop, T: Drop> {
+    pub(crate) given: X,
+    pub(crate) tallies: Vec<T>,
 }
 
 // How many times a thread looks, once a millisecond, for what another one is to do.
@@ -43,20 +44,20 @@ const TURNS: u32 = 10_000;
 
 // A reply that went out: the number of its job, and its code.
 #[derive(Clone, Copy, Debug, Default, PartialEq, Eq)]
-struct Reply {
-    job: u64,
-    code: u8,
+pub(crate) struct Reply {
+    pub(crate) job: u64,
+    pub(crate) code: u8,
 }
 
 // The replies in the order in which they went out, and whether a thread looked for one in vain.
 #[derive(Drop)]
-struct Replies {
+pub(crate) struct Replies {
     all: Mutex<ArrayVec<Reply, 128>>,
     missed: Mutex<bool>,
 }
 
 impl Replies {
-    fn new() -> Replies {
+    pub(crate) fn new() -> Replies {
         Replies {
             all: Mutex::new(ArrayVec::new()),
             missed: Mutex::new(false),
@@ -69,7 +70,7 @@ impl Replies {
     }
 
     // Waits for the reply of a job, but no longer than so many turns.
-    fn wait_for<R: Wait, C: Clock>(&self, rt: &R, clock: &C, job: u64) {
+    pub(crate) fn wait_for<R: Wait, C: Clock>(&self, rt: &R, clock: &C, job: u64) {
         for _turn in 0..TURNS {
             if self.has(rt, job) {
                 return;
@@ -80,7 +81,7 @@ impl Replies {
     }
 
     // What the workers did, with the replies where all that were looked for came.
-    fn seen<T: Drop>(
+    pub(crate) fn seen<T: Drop>(
         self,
         alloc: Global,
         shares: Vec<Share<T>>,
@@ -134,9 +135,9 @@ impl Moments for Replies {
 
 // What the workers' shares count.
 #[derive(Drop)]
-struct Seen {
-    replies: Option<ArrayVec<Reply, 128>>,
-    overtakings: u64,
+pub(crate) struct Seen {
+    pub(crate) replies: Option<ArrayVec<Reply, 128>>,
+    pub(crate) overtakings: u64,
 }
 
 // Holds job 1 until job 2's reply went out.
@@ -156,7 +157,7 @@ impl<'c, 'r, C: Clock> Gate for Holding<'c, 'r, C> {
 
 // An install, and then two POSTs for two workers. The first one is held.
 #[derive(Drop)]
-struct TwoAtOnce;
+pub(crate) struct TwoAtOnce;
 
 impl TwoAtOnce {
     fn hold<B: Bench + Sync, R: Threads + Wait + Clock + Sync>(
@@ -265,7 +266,7 @@ impl<'a, B: Bench> Gate for Changing<'a, B> {
 // So many POSTs for one worker, to a slot that has the counter. Of each job whose number is a multiple of `every` so many runs
 // are overtaken.
 #[derive(Drop)]
-struct Overtaken {
+pub(crate) struct Overtaken {
     posts: u16,
     every: u64,
     runs: u64,
@@ -359,13 +360,14 @@ fn feed_posts<B: Bench, R: Wait>(
 
 // What is tried with a new server.
 #[derive(Drop)]
-enum Trial {
+pub(crate) enum Trial {
     TwoAtOnce(TwoAtOnce),
     Overtaken(Overtaken),
+    ShardHeld(ShardHeld),
 }
 
 impl Trial {
-    fn hold<B: Bench + Sync, R: Threads + Wait + Clock + Sync>(
+    fn hold<B: Locks + Sync, R: Threads + Wait + Clock + Sync>(
         &self,
         rt: &R,
         alloc: Global,
@@ -375,12 +377,13 @@ impl Trial {
         match self {
             Trial::TwoAtOnce(two) => two.hold(rt, alloc, bench, tallies),
             Trial::Overtaken(overtaken) => overtaken.hold(rt, alloc, bench, tallies),
+            Trial::ShardHeld(held) => held.hold(rt, alloc, bench, tallies),
         }
     }
 }
 
 // Holds a trial with a new server of empty slots and so many tallies: how many changes of shard 0 each of them counted.
-fn hold<R: Threads + Wait + Clock + Sync>(
+pub(crate) fn hold<R: Threads + Wait + Clock + Sync>(
     rt: &R,
     alloc: Global,
     tallies: u8,

@@ -1,0 +1,104 @@
+//! The words, and seats at them.
+ghost use Rattle.std.specs.Prelude.{◌≡◌, ℕ, ◌<◌, ◌≤◌, IfOk};
+ghost use Rattle.fc_heads.specs.Heads.{IsRaised, fresh, peeked, met, word_of};
+
+use crate::steps::{self, Words};
+use crate::view::View;
+use atomic_table::{Seat, Table};
+use std::alloc::{AllocError, Global};
+use std::marker::Model;
+
+/// How many slots have a word.
+pub const SLOTS: usize = 64;
+
+/// The head words of 64 slots, each 0 at first. A clause sees which words they are: no others are of this table.
+#[derive(Drop)]
+pub struct Heads {
+    words: Words,
+}
+
+impl Model for Heads {
+    ghost use Rattle.std.specs.Prelude.{◌≡◌};
+    ghost use Rattle.atomic_table.specs.Seated.{TableId};
+
+    ghost Value = { TableId };
+
+    ghost view = { λ h. h.words.shared.table_id };
+
+    ghost invariant = { λ h. h.words.shared.table_id.words ≡ 64 };
+}
+
+/// A seat at the words, for one thread. A clause sees which words they are, and what the seat has seen and raised.
+#[derive(Drop)]
+pub struct HeadSeat {
+    seat: Seat<u8, View>,
+}
+
+impl Model for HeadSeat {
+    ghost use Rattle.fc_heads.specs.Heads.{HeadSeat as Seated};
+
+    ghost Value = { Seated };
+
+    ghost use Rattle.std.specs.Prelude.{◌≡◌, []};
+    ghost use Rattle.fc_heads.specs.Heads.{IsWhole};
+
+    ghost view = { λ s. record { table = s.seat.table_id; view = s.seat.me.0 } };
+
+    ghost invariant = { λ s. (s.seat.me.1 ≡ []) × IsWhole s.seat.me.0 };
+}
+
+impl Heads {
+    /// Words of which none was raised, and a first seat at them.
+    ///
+    /// # Errors
+    /// There was no memory for them.
+    pub fn new(alloc: Global) -> Result<(Heads, HeadSeat), AllocError>
+        ensures { IfOk result (λ r. r.1 ≡ record { table = r.0; view = fresh }) }
+    {
+        let (words, seat) = Table::of_words(alloc, &[0; SLOTS], &())?;
+        Ok((Heads { words }, HeadSeat { seat }))
+    }
+
+    /// Another seat, which has seen and raised nothing.
+    ///
+    /// # Errors
+    /// None today: it asks for no memory.
+    pub fn seat(&self, from: &mut HeadSeat) -> Result<HeadSeat, AllocError>
+        requires { from.old.table ≡ self.now }
+        ensures new { IfOk result (λ s. s ≡ record { table = self.now; view = fresh }) }
+        ensures kept { from.new ≡ from.old }
+    {
+        Ok(HeadSeat {
+            seat: steps::another(&self.words, &mut from.seat),
+        })
+    }
+
+    /// Looks at the word of a slot, 0 to 63: it is no less than what the seat has seen of it, and the seat has seen it then.
+    pub fn peek(&self, slot: u8, seat: &mut HeadSeat) -> u64
+        requires seat { seat.old.table ≡ self.now }
+        requires slot { slot < 64 }
+        ensures rises { word_of seat.old.view.seen slot ≤ result }
+        ensures seen { seat.new ≡ record seat.old { view = peeked seat.old.view slot result } }
+    {
+        steps::load(&self.words, usize::from(slot), &mut seat.seat)
+    }
+
+    /// Raises the word of a slot, 0 to 63, to the one handed in; a lower one leaves it. The seat has raised that one, and has seen the
+    /// greater of both.
+    pub fn raise(&self, slot: u8, word: u64, seat: &mut HeadSeat)
+        requires seat { seat.old.table ≡ self.now }
+        requires slot { slot < 64 }
+        ensures { IsRaised slot word seat.old seat.new }
+    {
+        steps::raise(&self.words, usize::from(slot), word, &mut seat.seat);
+    }
+
+    /// Lets two seats tell each other what they have seen.
+    pub fn meet(&self, one: &mut HeadSeat, other: &mut HeadSeat)
+        requires { (one.old.table ≡ self.now) × (other.old.table ≡ self.now) }
+        ensures one { one.new ≡ record one.old { view = met one.old.view other.old.view } }
+        ensures other { other.new ≡ record other.old { view = met other.old.view one.old.view } }
+    {
+        steps::meet(&self.words, &mut one.seat, &mut other.seat);
+    }
+}

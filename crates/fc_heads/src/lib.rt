@@ -1,0 +1,29 @@
+//! Head words without a lock: a word for each of the 64 slots, which only rises.
+//!
+//! A worker looks at the words and raises them through a [`HeadSeat`] of its own. A seat's view is two lists of 64 words: for each slot
+//! the greatest that the seat has seen, and the greatest that it raised itself. Under every schedule a word is the greatest
+//! that was raised in any view, or 0, and nobody has seen more than the word (`specs/Heads.antt`, `AreGreatest`). There are two kinds of
+//! atomic step: a load, and the raise to the greater of two numbers. None takes a lock or waits. When a word rises that another one
+//! raised is not said.
+//!
+//! ```rust
+//! ghost use Rattle.std.specs.Prelude.{◌≡◌, ◌≤◌};
+//!
+//! use fc_heads::{HeadSeat, Heads};
+//!
+//! /// Raises the word of slot 5, and looks at it.
+//! fn raise_and_peek(heads: &Heads, word: u64, seat: &mut HeadSeat) -> u64
+//!     requires { seat.old.table ≡ heads.now }
+//!     ensures { word ≤ result }
+//! {
+//!     heads.raise(5, word, seat);
+//!     heads.peek(5, seat)
+//! }
+//! ```
+#![tactic(auto)]
+
+pub mod heads;
+mod steps;
+pub mod view;
+
+pub use heads::{HeadSeat, Heads, SLOTS};

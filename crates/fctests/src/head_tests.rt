@@ -1,0 +1,36 @@
+//! What seats see of the head words.
+use fc_heads::Heads;
+use std::test::Fail;
+
+// A seat sees what it raised, and nothing of another slot.
+#[test]
+fn a_raised_word_is_seen(rt: HostRuntime) -> Result<(), Fail> {
+    let (heads, mut seat) = Heads::new(rt.alloc())?;
+    heads.raise(5, 3, &mut seat);
+    assert!(rt; heads.peek(5, &mut seat) >= 3);
+    assert_eq!(rt; heads.peek(6, &mut seat), 0);
+    Ok(())
+}
+
+// A seat that was met by one that raised a word sees that word.
+#[test]
+fn a_met_seat_sees_what_the_other_raised(rt: HostRuntime) -> Result<(), Fail> {
+    let (heads, mut one) = Heads::new(rt.alloc())?;
+    let mut other = heads.seat(&mut one)?;
+    heads.raise(5, 3, &mut one);
+    heads.meet(&mut one, &mut other);
+    assert!(rt; heads.peek(5, &mut other) >= 3);
+    Ok(())
+}
+
+// A lower word that another seat raises leaves the word.
+#[test]
+fn a_lower_word_is_not_raised(rt: HostRuntime) -> Result<(), Fail> {
+    let (heads, mut one) = Heads::new(rt.alloc())?;
+    let mut other = heads.seat(&mut one)?;
+    heads.raise(5, 7, &mut one);
+    heads.raise(5, 5, &mut other);
+    assert_eq!(rt; heads.peek(5, &mut one), 7);
+    assert_eq!(rt; heads.peek(5, &mut other), 7);
+    Ok(())
+}

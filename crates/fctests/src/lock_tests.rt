@@ -1,0 +1,142 @@
+//! Locks that are apart: what a worker does while the lock of another shard is held.
+ghost use Rattle.std.specs.Prelude.{◌≡◌};
+
+use crate::feeder::{Feeder, PEER, Request, datagram};
+use crate::overtaking_tests::{COUNTER, CREATED, Held, Replies, Reply, Seen, Trial, hold};
+use coap_msg::Endpoint;
+use fc_core::Delivered;
+use fc_jobs::Sent;
+use fc_registry::{Job, SlotNumber};
+use fc_workers::{Bench, Gate, Locked, Workshop, feed_workers, make_seats};
+use std::alloc::{AllocError, Global};
+use std::sync::Wait;
+use std::sync::ledger::Ledger;
+use std::test::Fail;
+use std::thread::Threads;
+use std::time::Clock;
+
+// The code of an answer to a GET (RFC 7252, 12.1.2).
+const CONTENT: u8 = 0x45;
+
+// A bench of which a test can hold the lock of a shard.
+pub(crate) trait Locks: Bench {
+    fn hold<X, F: FnOnce() -> X, R: Wait>(&self, rt: &R, shard: u8, call: F) -> X
+        requires { F.pre call }
+        ensures { F.post call result };
+}
+
+impl<
+    L0: Ledger,
+    L1: Ledger,
+    L2: Ledger,
+    L3: Ledger,
+    L4: Ledger,
+    L5: Ledger,
+    L6: Ledger,
+    L7: Ledger,
+> Locks for Locked<L0, L1, L2, L3, L4, L5, L6, L7> {
+    fn hold<X, F: FnOnce() -> X, R: Wait>(&self, rt: &R, shard: u8, call: F) -> X {
+        self.hold_shard(rt, shard, call)
+    }
+}
+
+// No job is held up.
+#[derive(Drop)]
+struct Open;
+
+impl Gate for Open {
+    fn between<R: Wait>(&self, rt: &R, number: u64) {
+        let _ = rt;
+        let _ = number;
+    }
+}
+
+// An install in slot 1, and a GET of it, which a worker answers while the lock of this shard is held.
+#[derive(Drop)]
+pub(crate) struct ShardHeld {
+    pub(crate) shard: u8,
+}
+
+impl ShardHeld {
+    pub(crate) fn hold<B: Locks + Sync, R: Threads + Wait + Clock + Sync>(
+        &self,
+        rt: &R,
+        alloc: Global,
+        bench: &B,
+        tallies: Vec<B::Tallies>,
+    ) -> anyhow::Result<Held<Seen, B::Tallies>> {
+        let replies = Replies::new();
+        let (jobs, sent, seats) = make_seats(alloc, tallies)?;
+        let workshop = Workshop {
+            alloc,
+            bench,
+            gate: &Open,
+            wire: &replies,
+            moments: &replies,
+        };
+        let feeder = Feeder {
+            alloc,
+            bench,
+            jobs: &jobs,
+        };
+        let (fed, shares) = feed_workers(
+            rt,
+            &workshop,
+            &jobs,
+            seats,
+            || -> Result<(), AllocError>
+                requires { sent.channel ≡ feeder.jobs.now }
+            { self.feed(rt, &feeder, &replies, sent) },
+        );
+        fed?;
+        Ok(replies.seen(alloc, shares?)?)
+    }
+
+    // Has the counter installed, and sends a GET while it holds the lock, until that is answered or many turns have passed.
+    fn feed<B: Locks, R: Wait + Clock>(
+        &self,
+        rt: &R,
+        feeder: &Feeder<'_, B>,
+        replies: &Replies,
+        mut sent: Sent,
+    ) -> Result<(), AllocError>
+        requires { sent.channel ≡ feeder.now.jobs.now }
+    {
+        let slot = SlotNumber::new(1);
+        feeder.ask(rt, &mut sent, 0, Request::Put(COUNTER), 0, slot)?;
+        replies.wait_for(rt, rt, 0);
+        let bytes = datagram(feeder.alloc, Request::Get, 1, slot)?;
+        let jobs = feeder.jobs;
+        if let Delivered::Job(job) = feeder.bench.deliver(rt, 0, PEER, &bytes) {
+            let _back = feeder.bench.hold(
+                rt,
+                self.shard,
+                || -> Option<Job>
+                    requires { sent.channel ≡ jobs.now }
+                {
+                    let back = jobs.send(rt, job, &mut sent);
+                    replies.wait_for(rt, rt, 1);
+                    back
+                },
+            );
+        }
+        Ok(())
+    }
+}
+
+// While the lock of shard 0 is held, a worker answers a GET of slot 1, which is of shard 1.
+#[test]
+fn another_shards_lock_holds_nobody_up(rt: HostRuntime) -> Result<(), Fail> {
+    let trial = Trial::ShardHeld(ShardHeld { shard: 0 });
+    let Held { given, tallies } = hold(&rt, rt.alloc(), 1, &trial)?;
+    let Some(replies) = given.replies else {
+        panic!(rt; "a reply was missed")
+    };
+    let wanted = [(0, CREATED), (1, CONTENT)].map(|it| Reply {
+        job: it.0,
+        code: it.1,
+    });
+    assert!(rt; replies.as_slice() == wanted.as_slice());
+    assert!(rt; tallies.as_slice() == [0u64].as_slice());
+    Ok(())
+}
