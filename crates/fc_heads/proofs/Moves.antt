@@ -125,6 +125,14 @@ forks words views id v w h at none less = subst (λ (vs : List View). AreGreates
   seen = λ j u e. ⊎_elim (λ was. h.seen j u was) (λ (same : w ≡ u). subst (Below words) same (λ slot l. let a = less slot l in let b = h.seen id v at slot l in omega arith)) (at_snoc views w u j e);
 }
 
+-- a fresh view comes
+pub arrives : (words : List ℕ) (views : List View) → AreGreatest words views → AreGreatest words (views ++ fresh ∷ [])
+arrives words views h = record {
+  size = h.size;
+  tops = λ slot l. h.tops slot l ∙ sym (top_snoc slot views fresh (zeros_at slot l));
+  seen = λ j u e. ⊎_elim (λ was. h.seen j u was) (λ (same : fresh ≡ u). subst (Below words) same (λ slot l. let z = zeros_at slot l in omega arith)) (at_snoc views fresh u j e);
+}
+
 -- a view takes in what a note has seen, and the note is empty
 pub merges : (words : List ℕ) (views : List View) (id other : ℕ) (v w : View) → AreGreatest words views → get_elem? views id ≡ some v → other ≢ id → get_elem? (set views id (met v w)) other ≡ some w → ((slot : ℕ) → slot < 64 → slice_index w.raised slot ≡ 0)
     → AreGreatest words (set (set views id (met v w)) other fresh)

@@ -73,6 +73,15 @@ impl Heads {
         })
     }
 
+    /// Another seat, which has seen and raised nothing, for a thread that has none to make it from.
+    pub fn new_seat(&self) -> HeadSeat
+        ensures { result ≡ record { table = self.now; view = fresh } }
+    {
+        HeadSeat {
+            seat: steps::arrive(&self.words),
+        }
+    }
+
     /// Looks at the word of a slot, 0 to 63: it is no less than what the seat has seen of it, and the seat has seen it then.
     pub fn peek(&self, slot: u8, seat: &mut HeadSeat) -> u64
         requires seat { seat.old.table ≡ self.now }

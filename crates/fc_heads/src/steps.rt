@@ -45,6 +45,15 @@ pub(crate) fn another(words: &Words, seat: &mut Seat<u8, View>) -> Seat<u8, View
     words.shared.split_seat::<Sits>(seat)
 }
 
+/// Makes a seat that has seen and raised nothing, without another one.
+pub(crate) fn arrive(words: &Words) -> Seat<u8, View>
+    requires { words.now.shared.table_id.words ≡ 64 }
+    ensures { (result.table_id ≡ words.now.shared.table_id) × (result.me ≡ (fresh, [])) }
+{
+    let (_found, seat) = words.shared.load_new_seat::<Sits>(0);
+    seat
+}
+
 /// Lets two seats tell each other what they have seen.
 pub(crate) fn meet(words: &Words, one: &mut Seat<u8, View>, other: &mut Seat<u8, View>)
     requires size { words.now.shared.table_id.words ≡ 64 }

@@ -64,6 +64,12 @@ impl Join<View> for Tells {
 /// A new seat, which has seen and raised nothing.
 pub(crate) struct Sits;
 
+impl Play<u8, View> for Sits {
+    ghost use Rattle.std.specs.Prelude.{◌≡◌};
+
+    ghost then = { λ s v found w. w ≡ v };
+}
+
 impl Split<View> for Sits {
     ghost use Rattle.fc_heads.specs.Heads.{fresh};
 

@@ -1,10 +1,13 @@
 //! What workers work at.
-ghost use Rattle.std.specs.Prelude.{◌≡◌, ℕ, ◌+◌, ◌<◌};
+ghost use Rattle.std.specs.Prelude.{◌≡◌, ℕ, ◌+◌, ◌<◌, ◌≤◌};
+ghost use Rattle.atomic_table.specs.Seated.{TableId};
 ghost use Rattle.fc_core.specs.Contents.{IsOf};
+ghost use Rattle.fc_heads.specs.Heads.{IsRaised, fresh, peeked, word_of};
 ghost use Rattle.fc_workers.specs.Answers.{AreTallied, IsSomeAnswer, IsSomeCommit, IsSomeDelivery, IsSomeDraw, IsSomeInstall, IsSomeNote, IsSomeReceipt, IsSomeRemoval, IsSomeTaking, IsSomeTick, IsSomeTurn, commit_changes, ended_by, install_changes, removal_changes, saturated};
 
 use coap_msg::{Emission, Endpoint};
 use fc_core::{Answer, Delivered};
+use fc_heads::HeadSeat;
 use fc_machine::Outcome;
 use fc_observe::{Ticked, Turn};
 use fc_registry::{
@@ -28,6 +31,9 @@ pub trait Bench {
 
     // How many jobs it ended. The count stops at 2^64 - 1.
     ghost ended: { Self.Tallies → ℕ };
+
+    // Which head words it has.
+    ghost heads: { Self → TableId };
 
     /// Takes a datagram in, at a moment in milliseconds, as [`Front::deliver`](fc_core::Front::deliver) does.
     fn deliver<R: Wait>(&self, rt: &R, now: u64, endpoint: Endpoint, bytes: &[u8]) -> Delivered
@@ -120,11 +126,20 @@ pub trait Bench {
     fn receipt<R: Wait>(&self, rt: &R, job: &Job) -> Option<Receipt>
         ensures { IsSomeReceipt result };
 
-    /// The head word of a slot, as [`Heads::peek`](fc_core::Heads::peek) tells it.
-    fn peek<R: Wait>(&self, rt: &R, slot: SlotNumber) -> u64;
+    /// A seat at the head words for a worker, which has seen and raised nothing.
+    fn head_seat(&self) -> HeadSeat
+        ensures { result ≡ record { table = heads self.now; view = fresh } };
 
-    /// Raises the head word of the slot of a job, as [`Heads::raise`](fc_core::Heads::raise) does.
-    fn raise<R: Wait>(&self, rt: &R, job: &Job, word: u64);
+    /// Looks at the head word of a slot, as [`Heads::peek`](fc_heads::Heads::peek) does: it is no less than what the seat has seen of it. No lock is taken.
+    fn peek(&self, slot: SlotNumber, seat: &mut HeadSeat) -> u64
+        requires { seat.old.table ≡ heads self.now }
+        ensures rises { word_of seat.old.view.seen slot ≤ result }
+        ensures seen { seat.new ≡ record seat.old { view = peeked seat.old.view slot result } };
+
+    /// Raises the head word of the slot of a job, as [`Heads::raise`](fc_heads::Heads::raise) does: it is then no less than the word handed in. No lock is taken.
+    fn raise(&self, job: &Job, word: u64, seat: &mut HeadSeat)
+        requires { seat.old.table ≡ heads self.now }
+        ensures { IsRaised job.now.origin.slot word seat.old seat.new };
 
     /// Answers a job, at a moment in milliseconds, as [`Front::answer`](fc_core::Front::answer) does, and ends it: what is
     /// to be sent, if anything.

@@ -8,6 +8,7 @@ use crate::bench::Bench;
 use crate::share::Share;
 use crate::workshop::{Gate, Moments, Wire, Workshop};
 use coap_msg::Emission;
+use fc_heads::HeadSeat;
 use fc_jobs::{Got, Jobs};
 use fc_machine::Frame;
 use fc_observe::Turn;
@@ -58,11 +59,12 @@ pub fn worker<B: Bench, G: Gate, W: Wire, M: Moments, R: Wait>(
         mut frame,
     } = seat;
     let mut share = Share::new(got, tallies);
+    let mut heads = workshop.bench.head_seat();
     for _ in rt.forever() {
         let Some((number, job)) = jobs.next(rt, &mut share.got) else {
             break;
         };
-        workshop.work(rt, &mut frame, number, &job, &mut share);
+        workshop.work(rt, &mut frame, &mut heads, number, &job, &mut share);
     }
     share
 }
@@ -73,15 +75,18 @@ impl<'a, B: Bench, G: Gate, W: Wire, M: Moments> Workshop<'a, B, G, W, M> {
         &self,
         rt: &R,
         frame: &mut Frame,
+        heads: &mut HeadSeat,
         number: u64,
         job: &Job,
         share: &mut Share<B::Tallies>,
     )
+        requires { heads.old.table ≡ B.heads self.now.bench.now }
+        ensures heads { heads.new.table ≡ heads.old.table }
         ensures worked { IsReplied B.changes M.is_moment job.now share.old share.new }
         ensures ended { B.ended share.new.tallies ≡ saturated (B.ended share.old.tallies + 1) }
         ensures got { share.new.got ≡ share.old.got }
     {
-        let reply = self.reply(rt, frame, number, job, share);
+        let reply = self.reply(rt, frame, heads, number, job, share);
         if let Some(emission) = reply {
             share.count_reply(self.wire.send(rt, number, &emission));
         }
@@ -93,16 +98,19 @@ impl<'a, B: Bench, G: Gate, W: Wire, M: Moments> Workshop<'a, B, G, W, M> {
         &self,
         rt: &R,
         frame: &mut Frame,
+        heads: &mut HeadSeat,
         number: u64,
         job: &Job,
         share: &mut Share<B::Tallies>,
     ) -> Option<Emission>
+        requires { heads.old.table ≡ B.heads self.now.bench.now }
+        ensures heads { heads.new.table ≡ heads.old.table }
         ensures worked { IsWorked B.changes M.is_moment job.now share.old share.new result }
         ensures ended { B.ended share.new.tallies ≡ saturated (B.ended share.old.tallies + 1) }
         ensures got { share.new.got ≡ share.old.got }
     {
         match job.turn {
-            None => self.answer(rt, frame, number, job, share),
+            None => self.answer(rt, frame, heads, number, job, share),
             Some(number) => {
                 let slot = job.origin.slot.number();
                 self.notify(rt, frame, job, Turn { slot, number }, share)
@@ -115,16 +123,19 @@ impl<'a, B: Bench, G: Gate, W: Wire, M: Moments> Workshop<'a, B, G, W, M> {
         &self,
         rt: &R,
         frame: &mut Frame,
+        heads: &mut HeadSeat,
         number: u64,
         job: &Job,
         share: &mut Share<B::Tallies>,
     ) -> Option<Emission>
-        requires { job.now.turn ≡ None }
+        requires asked { job.now.turn ≡ None }
+        requires heads { heads.old.table ≡ B.heads self.now.bench.now }
+        ensures heads { heads.new.table ≡ heads.old.table }
         ensures worked { IsRequestWorked B.changes M.is_moment job.now share.old share.new result }
         ensures ended { B.ended share.new.tallies ≡ saturated (B.ended share.old.tallies + 1) }
         ensures got { share.new.got ≡ share.old.got }
     {
-        let answer = self.work_off(rt, frame, number, job, share);
+        let answer = self.work_off(rt, frame, heads, number, job, share);
         let now = self.moments.now(rt);
         self.bench.answer(rt, now, job, &answer, &mut share.tallies)
     }

@@ -1,4 +1,4 @@
-//! A server behind nine locks: one of the front, and one of each shard.
+//! A server behind nine locks: one of the front, and one of each shard. Its head words are behind none.
 //!
 //! Each shard's changes are counted in a ledger of its own, which a type stands for: so a server has eight type parameters, and a
 //! function that opens one is generic in them. Its caller gives it `Brand` for each, and picks in its `Invariants.antt` the
@@ -25,7 +25,8 @@ use crate::reserve::Reserve;
 use crate::tallies::Tallies;
 use crate::tally::Tally;
 use coap_msg::{Emission, Endpoint};
-use fc_core::{Answer, Answered, Delivered, Front, Heads};
+use fc_core::{Answer, Answered, Delivered, Front};
+use fc_heads::{HeadSeat, Heads};
 use fc_machine::Outcome;
 use fc_observe::{Ticked, Turn};
 use fc_registry::{
@@ -56,13 +57,6 @@ macro_rules! at_shard {
         $(let $tally = &mut $counts;)?
         $call
     }};
-}
-
-// The front and the head words.
-#[derive(Drop)]
-struct FrontState {
-    front: Front,
-    heads: Heads,
 }
 
 // The shard of an index beside its book, and the serial that each of its slots began with.
@@ -145,7 +139,7 @@ fn shard_of(slot: SlotNumber) -> usize
     slot.shard()
 }
 
-/// A server whose front and shards are behind a lock each: a call holds one of them, and no call two. While a program runs or an image is
+/// A server whose front and shards are behind a lock each: a call holds one of them, and no call two. Its head words are behind none. While a program runs or an image is
 /// verified nobody has one.
 #[derive(Drop)]
 pub struct Locked<
@@ -158,7 +152,8 @@ pub struct Locked<
     L6: Ledger,
     L7: Ledger,
 > {
-    front: Mutex<FrontState>,
+    heads: Heads,
+    front: Mutex<Front>,
     shard0: Mutex<ShardState<0, L0>>,
     shard1: Mutex<ShardState<1, L1>>,
     shard2: Mutex<ShardState<2, L2>>,
@@ -214,10 +209,8 @@ impl<
         requires book7 { (blanks.blank7.name ≡ L7.name) × (blanks.parts ≡ L7.parts) }
         ensures { IfOk result (λ r. r.1 ≡ record { parts = blanks.parts; changes = no_changes; ended = 0 }) }
     {
-        let front = FrontState {
-            front: Front::new(alloc, first_id)?,
-            heads: Heads::new(),
-        };
+        let (heads, _seat) = Heads::new(alloc)?;
+        let front = Front::new(alloc, first_id)?;
         let (shard0, tally0) = open_shard(alloc, first_serial, blanks.blank0)?;
         let (shard1, tally1) = open_shard(alloc, first_serial, blanks.blank1)?;
         let (shard2, tally2) = open_shard(alloc, first_serial, blanks.blank2)?;
@@ -227,6 +220,7 @@ impl<
         let (shard6, tally6) = open_shard(alloc, first_serial, blanks.blank6)?;
         let (shard7, tally7) = open_shard(alloc, first_serial, blanks.blank7)?;
         let server = Locked {
+            heads,
             front: Mutex::new(front),
             shard0,
             shard1,
@@ -318,19 +312,21 @@ impl<
 
     ghost ended = { λ t. t.ended };
 
+    ghost heads = { λ s. s.heads };
+
     fn deliver<R: Wait>(&self, rt: &R, now: u64, endpoint: Endpoint, bytes: &[u8]) -> Delivered {
-        let mut held = self.front.lock(rt);
-        held.front.deliver(now, endpoint, bytes)
+        let mut front = self.front.lock(rt);
+        front.deliver(now, endpoint, bytes)
     }
 
     fn tick<R: Wait>(&self, rt: &R, now: u64) {
-        let mut held = self.front.lock(rt);
-        held.front.tick(now);
+        let mut front = self.front.lock(rt);
+        front.tick(now);
     }
 
     fn fresh_id<R: Wait>(&self, rt: &R, now: u64) -> Option<u16> {
-        let mut held = self.front.lock(rt);
-        held.front.fresh_id(now)
+        let mut front = self.front.lock(rt);
+        front.fresh_id(now)
     }
 
     fn take<R: Wait>(
@@ -415,14 +411,16 @@ impl<
         at_shard!(self, rt, shard_of(job.origin.slot), shard => shard.receipt(job))
     }
 
-    fn peek<R: Wait>(&self, rt: &R, slot: SlotNumber) -> u64 {
-        let held = self.front.lock(rt);
-        held.heads.peek(slot)
+    fn head_seat(&self) -> HeadSeat {
+        self.heads.new_seat()
     }
 
-    fn raise<R: Wait>(&self, rt: &R, job: &Job, word: u64) {
-        let mut held = self.front.lock(rt);
-        held.heads.raise(job.origin.slot, word);
+    fn peek(&self, slot: SlotNumber, seat: &mut HeadSeat) -> u64 {
+        self.heads.peek(slot.number(), seat)
+    }
+
+    fn raise(&self, job: &Job, word: u64, seat: &mut HeadSeat) {
+        self.heads.raise(job.origin.slot.number(), word, seat);
     }
 
     fn answer<R: Wait>(
@@ -434,8 +432,8 @@ impl<
         tallies: &mut Tallies<L0, L1, L2, L3, L4, L5, L6, L7>,
     ) -> Option<Emission> {
         tallies.end_job();
-        let mut held = self.front.lock(rt);
-        emission(held.front.answer(now, job, answer))
+        let mut front = self.front.lock(rt);
+        emission(front.answer(now, job, answer))
     }
 }
 

@@ -12,6 +12,7 @@ use crate::share::Share;
 use crate::workshop::{Gate, Moments, Wire, Workshop};
 use fc_core::task::image;
 use fc_core::{Answer, Stage, Words};
+use fc_heads::HeadSeat;
 use fc_machine::{Frame, run};
 use fc_registry::{Job, Receipt, SlotNumber, Ticket};
 use fc_verify::{Refusal, Verified, verify};
@@ -27,18 +28,21 @@ impl<'a, B: Bench, G: Gate, W: Wire, M: Moments> Workshop<'a, B, G, W, M> {
         &self,
         rt: &R,
         frame: &mut Frame,
+        heads: &mut HeadSeat,
         number: u64,
         job: &Job,
         share: &mut Share<B::Tallies>,
     ) -> Answer
-        requires { job.now.turn ≡ None }
+        requires asked { job.now.turn ≡ None }
+        requires heads { heads.old.table ≡ B.heads self.now.bench.now }
+        ensures heads { heads.new.table ≡ heads.old.table }
         ensures worked { IsWorkedOff B.changes job.now result share.old share.new }
         ensures ended { B.ended share.new.tallies ≡ B.ended share.old.tallies }
     {
         let mut stage = Stage::asked(job);
         'calls: loop {
             stage = match stage {
-                Stage::ToMatch => Stage::matched(job, self.bench.peek(rt, job.origin.slot)),
+                Stage::ToMatch => Stage::matched(job, self.bench.peek(job.origin.slot, heads)),
                 Stage::ToTake(count) => self.take(rt, job, count, share),
                 Stage::ToCommit(count, ticket) => {
                     self.gate.between(rt, number);
@@ -47,9 +51,9 @@ impl<'a, B: Bench, G: Gate, W: Wire, M: Moments> Workshop<'a, B, G, W, M> {
                 Stage::ToInstall => self.install(rt, job, share),
                 Stage::ToRemove => self.remove(rt, job, share),
                 Stage::ToDescribe => Stage::told(self.bench.receipt(rt, job)),
-                Stage::ToList(seen) => self.look(rt, seen),
+                Stage::ToList(seen) => self.look(heads, seen),
                 Stage::ToRaise(word, answer) => {
-                    self.bench.raise(rt, job, word);
+                    self.bench.raise(job, word, heads);
                     Stage::ToAnswer(answer)
                 }
                 Stage::ToAnswer(answer) => return answer,
@@ -59,12 +63,14 @@ impl<'a, B: Bench, G: Gate, W: Wire, M: Moments> Workshop<'a, B, G, W, M> {
     }
 
     // Looks at the head word of the slot after those of these words.
-    fn look<R: Wait>(&self, rt: &R, seen: Words) -> Stage
-        requires { length seen.items < 64 }
-        ensures { (word : ℕ) × (result ≡ listed (seen.items ++ word ∷ [])) }
+    fn look(&self, heads: &mut HeadSeat, seen: Words) -> Stage
+        requires seen { length seen.items < 64 }
+        requires heads { heads.old.table ≡ B.heads self.now.bench.now }
+        ensures heads { heads.new.table ≡ heads.old.table }
+        ensures listed { (word : ℕ) × (result ≡ listed (seen.items ++ word ∷ [])) }
     {
         let slot = SlotNumber::new(seen.len() as u8);
-        Stage::listed(seen, self.bench.peek(rt, slot))
+        Stage::listed(seen, self.bench.peek(slot, heads))
     }
 
     // Removes the program of the job's slot.

@@ -22,6 +22,8 @@ pub(crate) enum Request<'a> {
     Put(&'a [u8]),
     /// `GET /r/SLOT`.
     Get,
+    /// `GET /r/SLOT` with the ETag of this serial.
+    Valid(u64),
     /// `POST /r/SLOT`.
     Post,
 }
@@ -36,13 +38,20 @@ pub(crate) fn datagram(
     let mut bytes = Vec::new(alloc);
     let (code, path) = match request {
         Request::Put(_) => (3, b'p'),
-        Request::Get => (1, b'r'),
+        Request::Get | Request::Valid(_) => (1, b'r'),
         Request::Post => (2, b'r'),
     };
     let id = id.to_be_bytes();
     let tens = b'0' + slot.number() / 10;
     let ones = b'0' + slot.number() % 10;
-    bytes.extend_from_slice(&[0x40, code, id[0], id[1], 0xb1, path])?;
+    bytes.extend_from_slice(&[0x40, code, id[0], id[1]])?;
+    if let Request::Valid(serial) = request {
+        bytes.push(0x48)?;
+        bytes.extend_from_slice(&serial.to_be_bytes())?;
+        bytes.extend_from_slice(&[0x71, path])?;
+    } else {
+        bytes.extend_from_slice(&[0xb1, path])?;
+    }
     if tens == b'0' {
         bytes.extend_from_slice(&[0x01, ones])?;
     } else {

@@ -15,7 +15,9 @@ use std::test::Fail;
 use std::thread::Threads;
 use std::time::Clock;
 
-// The code of an answer to a GET (RFC 7252, 12.1.2).
+// The codes of answers to a GET (RFC 7252, 12.1.2).
+const VALID: u8 = 0x43;
+
 const CONTENT: u8 = 0x45;
 
 // A bench of which a test can hold the lock of a shard.
@@ -51,10 +53,11 @@ impl Gate for Open {
     }
 }
 
-// An install in slot 1, and a GET of it, which a worker answers while the lock of this shard is held.
+// An install in slot 1, and a GET of it, which a worker answers while the lock of this shard is held. The GET may have the ETag of a serial.
 #[derive(Drop)]
 pub(crate) struct ShardHeld {
     pub(crate) shard: u8,
+    pub(crate) serial: Option<u64>,
 }
 
 impl ShardHeld {
@@ -105,7 +108,11 @@ impl ShardHeld {
         let slot = SlotNumber::new(1);
         feeder.ask(rt, &mut sent, 0, Request::Put(COUNTER), 0, slot)?;
         replies.wait_for(rt, rt, 0);
-        let bytes = datagram(feeder.alloc, Request::Get, 1, slot)?;
+        let request = match self.serial {
+            Some(serial) => Request::Valid(serial),
+            None => Request::Get,
+        };
+        let bytes = datagram(feeder.alloc, request, 1, slot)?;
         let jobs = feeder.jobs;
         if let Delivered::Job(job) = feeder.bench.deliver(rt, 0, PEER, &bytes) {
             let _back = feeder.bench.hold(
@@ -124,19 +131,43 @@ impl ShardHeld {
     }
 }
 
-// While the lock of shard 0 is held, a worker answers a GET of slot 1, which is of shard 1.
-#[test]
-fn another_shards_lock_holds_nobody_up(rt: HostRuntime) -> Result<(), Fail> {
-    let trial = Trial::ShardHeld(ShardHeld { shard: 0 });
-    let Held { given, tallies } = hold(&rt, rt.alloc(), 1, &trial)?;
+// Whether the GET is answered by this code, while the lock is held.
+fn is_answered<R: Threads + Wait + Clock + Sync>(
+    rt: &R,
+    alloc: Global,
+    held: ShardHeld,
+    code: u8,
+) -> anyhow::Result<bool> {
+    let trial = Trial::ShardHeld(held);
+    let Held { given, .. } = hold(rt, alloc, 1, &trial)?;
     let Some(replies) = given.replies else {
-        panic!(rt; "a reply was missed")
+        return Ok(false);
     };
-    let wanted = [(0, CREATED), (1, CONTENT)].map(|it| Reply {
+    let wanted = [(0, CREATED), (1, code)].map(|it| Reply {
         job: it.0,
         code: it.1,
     });
-    assert!(rt; replies.as_slice() == wanted.as_slice());
-    assert!(rt; tallies.as_slice() == [0u64].as_slice());
+    Ok(replies.as_slice() == wanted.as_slice())
+}
+
+// While the lock of shard 0 is held, a worker answers a GET of slot 1, which is of shard 1.
+#[test]
+fn another_shards_lock_holds_nobody_up(rt: HostRuntime) -> Result<(), Fail> {
+    let held = ShardHeld {
+        shard: 0,
+        serial: None,
+    };
+    assert!(rt; is_answered(&rt, rt.alloc(), held, CONTENT)?);
+    Ok(())
+}
+
+// While the lock of shard 1 is held, a worker answers a GET of slot 1 that names the slot's serial: it takes no shard's lock.
+#[test]
+fn a_valid_state_takes_no_shards_lock(rt: HostRuntime) -> Result<(), Fail> {
+    let held = ShardHeld {
+        shard: 1,
+        serial: Some(1),
+    };
+    assert!(rt; is_answered(&rt, rt.alloc(), held, VALID)?);
     Ok(())
 }
