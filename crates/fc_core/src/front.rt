@@ -509,8 +509,8 @@ pub fn blank_emission() -> Emission
     }
 }
 
-// A job that says nothing, to be written over.
-pub(crate) fn blank_job() -> Job {
+/// A job that says nothing, to be written over.
+pub fn blank_job() -> Job {
     Job {
         origin: Origin::default(),
         turn: None,

@@ -1,16 +1,20 @@
-//! Pools: a new server behind its locks, workers at it, and who feeds them with jobs.
-ghost use Rattle.std.specs.Prelude.{◌≡◌, ◌+◌, ◌≤◌};
+//! Pools: a new server behind its locks, workers at it, and who feeds them with datagrams.
+ghost use Rattle.std.specs.Prelude.{◌≡◌, ◌+◌, ◌<◌, ◌≤◌, vec_len};
+ghost use Rattle.fc_core.specs.Receiving.{heard};
+ghost use Rattle.fc_registry.specs.declared.job.Job.{Job};
 ghost use Rattle.fc_registry.specs.Slots.{last_serial};
-ghost use Rattle.fc_workers.specs.Answers.{IsSomeDelivery};
+ghost use Rattle.fc_workers.specs.Answers.{IsSomeDelivery, IsSomeTick};
 
 use crate::replies::Replies;
-use coap_msg::Endpoint;
-use fc_core::Delivered;
-use fc_jobs::{Jobs, Sent};
+use coap_msg::{Emission, Endpoint};
+use fc_core::Heard;
 use fc_observe::Ticked;
-use fc_registry::{Job, SHARDS};
-use fc_workers::{Bench, Blanks, Gate, Locked, Moments, Wire, Workshop, feed_workers, make_seats};
+use fc_workers::{
+    Bench, Blanks, Dispatcher, Gate, Handover, Locked, Moments, Share, Wire, Workshop,
+    feed_workers, make_seats,
+};
 use std::alloc::{AllocError, Global};
+use std::io::Write;
 use std::marker::Brand;
 use std::sync::Wait;
 use std::sync::ledger::Ledger;
@@ -23,74 +27,75 @@ pub struct Begin {
     pub id: u16,
 }
 
-// Where a feeder has datagrams taken in, and asks what else is to be sent: a server. (A method that is generic in its bench can't hand it on, since a
+// Where a feeder has datagrams taken in, and observers notified: a server. (A method that is generic in its bench can't hand it on, since a
 // bench's tallies cross threads; it can hand on this.)
 pub(crate) trait Intake {
-    // Takes a datagram in, at a moment in milliseconds.
-    fn deliver<R: Wait>(&self, rt: &R, now: u64, endpoint: Endpoint, bytes: &[u8]) -> Delivered
-        ensures { IsSomeDelivery now endpoint bytes.now result };
+    // Takes a datagram in, at a moment in milliseconds. Its reply is written over another; its job is worked off, here or by a worker; its signal goes to each
+    // shard.
+    fn hear<R: Wait>(
+        &mut self,
+        rt: &R,
+        now: u64,
+        from: Endpoint,
+        bytes: &[u8],
+        reply: &mut Emission,
+    ) -> Heard
+        ensures { (job : Job) × IsSomeDelivery now from bytes.now (heard result job reply.new) };
 
     // Has time pass, to a moment in milliseconds.
-    fn tick<R: Wait>(&self, rt: &R, now: u64);
-
-    // Hands a signal to each shard.
-    fn signal<R: Wait>(&self, rt: &R, endpoint: Endpoint, id: u16, reset: bool);
+    fn tick<R: Wait>(&mut self, rt: &R, now: u64);
 
     // Has a shard, 0 to 7, tell what it sends again at a moment in milliseconds.
-    fn resend<R: Wait>(&self, rt: &R, shard: u8, now: u64) -> Ticked;
+    fn resend<R: Wait>(&mut self, rt: &R, shard: u8, now: u64) -> Ticked
+        ensures { IsSomeTick now result };
 
-    // Asks a shard, 0 to 7, for the turn of an observer that is due at a moment in milliseconds.
-    fn next_due<R: Wait>(&self, rt: &R, shard: u8, now: u64) -> Option<Job>;
+    // Has the observer of a shard, 0 to 7, notified that is due first at a moment in milliseconds, here or by a worker. Tells whether there was one.
+    fn notify<R: Wait>(&mut self, rt: &R, shard: u8, now: u64) -> bool;
 }
 
-// The server of a bench.
-#[derive(Drop)]
-struct FrontOf<'a, B: Bench> {
-    bench: &'a B,
-}
-
-impl<'a, B: Bench> Intake for FrontOf<'a, B> {
-    fn deliver<R: Wait>(&self, rt: &R, now: u64, endpoint: Endpoint, bytes: &[u8]) -> Delivered {
-        self.bench.deliver(rt, now, endpoint, bytes)
+impl<'a, B: Bench, G: Gate, W: Wire, M: Moments> Intake for Dispatcher<'a, B, G, W, M> {
+    fn hear<R: Wait>(
+        &mut self,
+        rt: &R,
+        now: u64,
+        from: Endpoint,
+        bytes: &[u8],
+        reply: &mut Emission,
+    ) -> Heard {
+        Dispatcher::hear(self, rt, now, from, bytes, reply)
     }
 
-    fn tick<R: Wait>(&self, rt: &R, now: u64) {
-        self.bench.tick(rt, now);
+    fn tick<R: Wait>(&mut self, rt: &R, now: u64) {
+        Dispatcher::tick(self, rt, now);
     }
 
-    fn signal<R: Wait>(&self, rt: &R, endpoint: Endpoint, id: u16, reset: bool) {
-        for shard in 0..SHARDS {
-            self.bench.signal(rt, shard, endpoint, id, reset);
-        }
+    fn resend<R: Wait>(&mut self, rt: &R, shard: u8, now: u64) -> Ticked {
+        Dispatcher::resend(self, rt, shard, now)
     }
 
-    fn resend<R: Wait>(&self, rt: &R, shard: u8, now: u64) -> Ticked {
-        self.bench.tick_shard(rt, shard, now)
-    }
-
-    fn next_due<R: Wait>(&self, rt: &R, shard: u8, now: u64) -> Option<Job> {
-        self.bench.next_due(rt, shard, now)
+    fn notify<R: Wait>(&mut self, rt: &R, shard: u8, now: u64) -> bool {
+        Dispatcher::notify(self, rt, shard, now)
     }
 }
 
-// Who has datagrams taken in, and sends the jobs that they bring to workers.
+// Who has datagrams taken in by a server.
 pub(crate) trait Feeder<X> {
-    // Feeds to the end. The channel is closed then.
-    fn feed<N: Intake, R: Wait>(self, rt: &R, intake: &N, jobs: &Jobs, sent: Sent) -> X
-        requires { sent.channel ≡ jobs.now };
+    // Feeds to the end.
+    fn feed<N: Intake, R: Wait>(self, rt: &R, intake: &mut N) -> X;
 }
 
-// What a feeder gave, and the replies of the workers that it fed.
+// What a feeder gave, and the replies to the jobs that it had worked off.
 #[derive(Drop)]
 pub(crate) struct Fed<X: Drop> {
     pub(crate) given: X,
     pub(crate) replies: Replies,
 }
 
-// How many workers there are, 1 to 16, what their server begins with, where their replies go, and what moment it is.
+// How many workers there are, 1 to 16, and which jobs go to them; what their server begins with, where the replies of jobs go, and what moment it is.
 #[derive(Drop)]
 pub(crate) struct Pool<'a, W: Wire, M: Moments> {
     pub(crate) workers: u8,
+    pub(crate) handover: Handover,
     pub(crate) begin: Begin,
     pub(crate) wire: &'a W,
     pub(crate) moments: &'a M,
@@ -108,21 +113,28 @@ impl Gate for Open {
 }
 
 // Makes a server of empty slots, and runs its workers, each in a thread of its own, beside a feeder in the caller's, until all
-// have come to their end.
+// have come to their end. Where no thread can be made for a worker, the feeder's thread works all jobs off, and `err` is told.
 //
 // Errors: there was no memory for the server, the workers or their shares.
 pub(crate) fn run_pool<
     R: Threads + Wait + Sync,
     W: Wire + Sync,
     M: Moments + Sync,
+    E: Write,
     X: Drop,
     F: Feeder<X> + Drop,
->(rt: &R, alloc: Global, pool: &Pool<'_, W, M>, feeder: F) -> Result<Fed<X>, AllocError>
+>(
+    rt: &R,
+    alloc: Global,
+    err: &mut E,
+    pool: &Pool<'_, W, M>,
+    feeder: F,
+) -> Result<Fed<X>, AllocError>
     requires { pool.now.begin.serial ≤ last_serial }
 {
-    let blanks = Blanks::new(u64::from(pool.workers) + 1);
-    run_named::<Brand, Brand, Brand, Brand, Brand, Brand, Brand, Brand, R, W, M, X, F>(
-        rt, alloc, pool, feeder, blanks,
+    let blanks = Blanks::new(u64::from(pool.workers) + 2);
+    run_named::<Brand, Brand, Brand, Brand, Brand, Brand, Brand, Brand, R, W, M, E, X, F>(
+        rt, alloc, err, pool, feeder, blanks,
     )
 }
 
@@ -139,17 +151,19 @@ fn run_named<
     R: Threads + Wait + Sync,
     W: Wire + Sync,
     M: Moments + Sync,
+    E: Write,
     X: Drop,
     F: Feeder<X> + Drop,
 >(
     rt: &R,
     alloc: Global,
+    err: &mut E,
     pool: &Pool<'_, W, M>,
     feeder: F,
     blanks: Blanks,
 ) -> Result<Fed<X>, AllocError>
     requires serial { pool.now.begin.serial ≤ last_serial }
-    requires parts { blanks.parts ≡ pool.now.workers + 1 }
+    requires parts { blanks.parts ≡ pool.now.workers + 2 }
     requires book0 { (blanks.blank0.name ≡ L0.name) × (blanks.parts ≡ L0.parts) }
     requires book1 { (blanks.blank1.name ≡ L1.name) × (blanks.parts ≡ L1.parts) }
     requires book2 { (blanks.blank2.name ≡ L2.name) × (blanks.parts ≡ L2.parts) }
@@ -165,27 +179,36 @@ fn run_named<
         pool.begin.id,
         blanks,
     )?;
-    let tallies = reserve.split_each(alloc, usize::from(pool.workers))?;
-    run_at(rt, alloc, pool, &server, tallies, feeder)
+    let tallies = reserve.split_each(alloc, usize::from(pool.workers) + 1)?;
+    run_at(rt, alloc, err, pool, &server, tallies, feeder)
 }
 
-// Runs a worker for each of the tallies at a bench, and the feeder.
+// Runs a worker for each of the tallies but the last at a bench, and the feeder with that.
 fn run_at<
     B: Bench + Sync,
     R: Threads + Wait + Sync,
     W: Wire + Sync,
     M: Moments + Sync,
+    E: Write,
     X: Drop,
     F: Feeder<X> + Drop,
 >(
     rt: &R,
     alloc: Global,
+    err: &mut E,
     pool: &Pool<'_, W, M>,
     bench: &B,
     tallies: Vec<B::Tallies>,
     feeder: F,
-) -> Result<Fed<X>, AllocError> {
-    let (jobs, sent, seats) = make_seats(alloc, tallies)?;
+) -> Result<Fed<X>, AllocError>
+where
+    B::Tallies: Send,
+    requires { 0 < vec_len tallies }
+{
+    let (jobs, sent, mut seats) = make_seats(alloc, tallies)?;
+    let Some(own) = seats.pop() else {
+        unreachable!();
+    };
     let workshop = Workshop {
         alloc,
         bench,
@@ -193,19 +216,38 @@ fn run_at<
         wire: pool.wire,
         moments: pool.moments,
     };
-    let channel = &jobs;
-    let (given, shares) = feed_workers(
+    let (workshop, channel) = (&workshop, &jobs);
+    let handover = pool.handover;
+    let ((given, share), shares) = feed_workers(
         rt,
-        &workshop,
+        workshop,
         channel,
         seats,
-        move || -> X
+        move |has_workers| -> (X, Share<B::Tallies>)
             requires { sent.channel ≡ channel.now }
-        { feeder.feed(rt, &FrontOf { bench }, channel, sent) },
+        {
+            let handover = if has_workers {
+                handover
+            } else {
+                tell_alone(err);
+                Handover::Never
+            };
+            let mut dispatcher = Dispatcher::new(workshop, channel, sent, own, handover);
+            let given = feeder.feed(rt, &mut dispatcher);
+            (given, dispatcher.close())
+        },
     );
     let shares = shares?;
     Ok(Fed {
         given,
-        replies: Replies::of(&shares),
+        replies: Replies::of(&shares).plus(Replies::by(&share)),
     })
+}
+
+// Tells that there is no worker. What can't be told changes nothing.
+fn tell_alone<E: Write>(err: &mut E) {
+    let _told = writeln!(
+        err,
+        "no worker could be started: the receiving thread works all jobs off"
+    );
 }

@@ -1,6 +1,6 @@
 //! Replies, counted: those that went out, and those that didn't.
 ghost use Rattle.std.specs.Prelude.{◌≡◌};
-ghost use Rattle.fc_service.specs.Counting.{counted, no_replies, replies_of, both_replies};
+ghost use Rattle.fc_service.specs.Counting.{both_replies, counted, failed_by, no_replies, replies_of, sent_by};
 
 use fc_workers::Share;
 use std::fmt;
@@ -20,16 +20,23 @@ impl Replies {
         Replies { sent: 0, failed: 0 }
     }
 
+    /// The replies of a worker.
+    pub fn by<T: Drop>(share: &Share<T>) -> Replies
+        ensures { result ≡ record { sent = sent_by share.now; failed = failed_by share.now } }
+    {
+        Replies {
+            sent: share.sent,
+            failed: share.failed,
+        }
+    }
+
     /// The replies of these workers.
     pub fn of<T: Drop>(shares: &[Share<T>]) -> Replies
         ensures { result ≡ replies_of shares.now }
     {
         let mut replies = Replies::none();
         for share in shares {
-            replies = replies.plus(Replies {
-                sent: share.sent,
-                failed: share.failed,
-            });
+            replies = replies.plus(Replies::by(share));
         }
         replies
     }

@@ -17,12 +17,11 @@ use coap_msg::types::DATAGRAM;
 use coap_msg::{Emission, Endpoint};
 use fc_cli::clock::clock_id;
 use fc_cli::status::{Status, tell};
-use fc_core::Delivered;
+use fc_core::Heard;
 use fc_core::front::blank_emission;
-use fc_jobs::{Jobs, Sent};
 use fc_server::Engine;
 use fc_server::engine::Notified;
-use fc_workers::Moments;
+use fc_workers::{Handover, Moments};
 use log::{Log, info};
 use std::alloc::{AllocError, Global};
 use std::io;
@@ -38,6 +37,10 @@ const FIRST_SERIAL: u64 = 0;
 
 /// One byte more than a datagram may have: a longer one is seen to be too long, and ignored.
 const BUFFER: usize = DATAGRAM + 1;
+
+/// From how many instructions on a run is a worker's. A hand-over costs two threads' wakes, about 13 us of processor time: as much as 6,000 instructions of a
+/// program. A cheaper job is worked off by the thread that received it.
+const DEAR: u32 = 6_000;
 
 /// By how many workers a server works jobs off, 1 to 16, and after how many datagrams it ends; 0 is never.
 #[derive(Clone, Copy)]
@@ -75,9 +78,9 @@ pub fn serve<R: Threads + Wait + Clock + Net + Sync, L: Log, E: Write>(
     }
 }
 
-/// Serves datagrams of a source, on a new server of empty slots, until so many were received: one that needs no job is answered
-/// at once, and the jobs of others are worked off by workers, each in a thread of its own. One worker is this thread: it works each
-/// datagram off before it receives the next. After each datagram what is late is sent again, and the observers that are due are notified.
+/// Serves datagrams of a source, on a new server of empty slots, until so many were received. This thread answers each whose job is cheap before it receives the
+/// next; a job whose program may run long is worked off by workers, each in a thread of its own. One worker is this thread, for all jobs; and so it is where no
+/// thread can be made for a worker, which `err` is told. After each datagram what is late is sent again, and the observers that are due are notified.
 /// Where none comes in time, time passes. Then the workers work off the jobs that are
 /// left, and `log` is told how many replies went to the sink and how many couldn't be sent: a record `sent 2 failed 0` of level info.
 ///
@@ -93,7 +96,7 @@ pub fn serve_at<R: Threads + Wait + Clock + Sync, S: Source, K: Sink + Sync, L: 
 ) -> Status
     ensures { (result ≡ Done) ⊎ (result ≡ Failed) }
 {
-    match serve_to_end(rt, alloc, source, sink, extent) {
+    match serve_to_end(rt, alloc, err, source, sink, extent) {
         Ok(replies) => {
             info!(log; "{replies}");
             Status::Done
@@ -103,9 +106,10 @@ pub fn serve_at<R: Threads + Wait + Clock + Sync, S: Source, K: Sink + Sync, L: 
 }
 
 // Serves to the end: all replies.
-fn serve_to_end<R: Threads + Wait + Clock + Sync, S: Source, K: Sink + Sync>(
+fn serve_to_end<R: Threads + Wait + Clock + Sync, E: Write, S: Source, K: Sink + Sync>(
     rt: &R,
     alloc: Global,
+    err: &mut E,
     source: &S,
     sink: &K,
     extent: Extent,
@@ -126,11 +130,12 @@ fn serve_to_end<R: Threads + Wait + Clock + Sync, S: Source, K: Sink + Sync>(
     }
     let pool = Pool {
         workers: extent.workers,
+        handover: Handover::Dear(DEAR),
         begin,
         wire: &Replying { sink },
         moments: &moments,
     };
-    let fed = run_pool(rt, alloc, &pool, receiver)?;
+    let fed = run_pool(rt, alloc, err, &pool, receiver)?;
     Ok(fed.given.plus(fed.replies))
 }
 
@@ -144,7 +149,8 @@ struct Receiver<'a, S: Source, K: Sink, M: Moments> {
 }
 
 impl<'a, S: Source, K: Sink, M: Moments> Feeder<Replies> for Receiver<'a, S, K, M> {
-    fn feed<N: Intake, R: Wait>(self, rt: &R, intake: &N, jobs: &Jobs, mut sent: Sent) -> Replies {
+    fn feed<N: Intake, R: Wait>(self, rt: &R, intake: &mut N) -> Replies {
+        let mut reply = blank_emission();
         let mut buffer = [0; BUFFER];
         let mut replies = Replies::none();
         let mut received = 0u32;
@@ -152,69 +158,40 @@ impl<'a, S: Source, K: Sink, M: Moments> Feeder<Replies> for Receiver<'a, S, K, 
             if self.limit > 0 && received >= self.limit {
                 break;
             }
-            match self.source.receive(&mut buffer) {
+            let heard = self.source.receive(&mut buffer);
+            let now = self.moments.now(rt);
+            match heard {
                 Some((count, from)) => {
                     received = received.saturating_add(1);
                     let bytes = &buffer[..count];
-                    let out = self.hear(rt, intake, jobs, &mut sent, from, bytes);
-                    replies.count_if_any(out);
+                    let heard = intake.hear(rt, now, from, bytes, &mut reply);
+                    self.reply_if(heard, &reply, &mut replies);
                 }
-                None => intake.tick(rt, self.moments.now(rt)),
+                None => intake.tick(rt, now),
             }
-            self.settle(rt, intake, jobs, &mut sent, &mut replies);
+            self.settle(rt, intake, now, &mut replies);
         }
         replies
     }
 }
 
 impl<'a, S: Source, K: Sink, M: Moments> Receiver<'a, S, K, M> {
-    // Has a datagram taken in. Sends its reply, and tells whether that went out; or sends its job to the workers.
-    fn hear<N: Intake, R: Wait>(
-        &self,
-        rt: &R,
-        intake: &N,
-        jobs: &Jobs,
-        sent: &mut Sent,
-        from: Endpoint,
-        bytes: &[u8],
-    ) -> Option<bool>
-        requires { sent.old.channel ≡ jobs.now }
-        ensures { sent.new.channel ≡ sent.old.channel }
-    {
-        match intake.deliver(rt, self.moments.now(rt), from, bytes) {
-            Delivered::Reply(emission) => Some(self.sink.send(&emission)),
-            Delivered::Job(job) => {
-                let _back = jobs.send(rt, job, sent);
-                None
-            }
-            Delivered::Signal { mid, reset } => {
-                intake.signal(rt, from, mid, reset);
-                None
-            }
-            Delivered::Nothing => None,
+    // Sends what a datagram is answered at once, if anything.
+    fn reply_if(&self, heard: Heard, reply: &Emission, replies: &mut Replies) {
+        if heard == Heard::Reply {
+            replies.count_if_any(Some(self.sink.send(reply)));
         }
     }
 
-    // Sends what is late again, and has the workers notify who is due.
-    fn settle<N: Intake, R: Wait>(
-        &self,
-        rt: &R,
-        intake: &N,
-        jobs: &Jobs,
-        sent: &mut Sent,
-        replies: &mut Replies,
-    )
-        requires { sent.old.channel ≡ jobs.now }
-        ensures { sent.new.channel ≡ sent.old.channel }
-    {
-        let now = self.moments.now(rt);
+    // Sends what is late at a moment in milliseconds again, and has who is due notified.
+    fn settle<N: Intake, R: Wait>(&self, rt: &R, intake: &mut N, now: u64, replies: &mut Replies) {
         let mut settling = Settling::new();
         for _ in 0..STEPS {
             let Some(shard) = settling.shard() else {
                 return;
             };
             let emission = if settling.notifies() {
-                settling.notified(send_turn(rt, intake, jobs, sent, shard, now))
+                settling.notified(notify(rt, intake, shard, now))
             } else {
                 settling.resent(intake.resend(rt, shard, now))
             };
@@ -225,24 +202,12 @@ impl<'a, S: Source, K: Sink, M: Moments> Receiver<'a, S, K, M> {
     }
 }
 
-// Sends the turn of the observer of a shard that is due first to the workers.
-fn send_turn<N: Intake, R: Wait>(
-    rt: &R,
-    intake: &N,
-    jobs: &Jobs,
-    sent: &mut Sent,
-    shard: u8,
-    now: u64,
-) -> Notified
-    requires { sent.old.channel ≡ jobs.now }
-    ensures { sent.new.channel ≡ sent.old.channel }
-{
-    match intake.next_due(rt, shard, now) {
-        Some(job) => {
-            let _back = jobs.send(rt, job, sent);
-            Notified::Unsent
-        }
-        None => Notified::Nobody,
+// Has the observer of a shard notified that is due first, if one is.
+fn notify<N: Intake, R: Wait>(rt: &R, intake: &mut N, shard: u8, now: u64) -> Notified {
+    if intake.notify(rt, shard, now) {
+        Notified::Unsent
+    } else {
+        Notified::Nobody
     }
 }
 

@@ -11,14 +11,12 @@ use crate::settle::{STEPS, Settling};
 use coap_msg::{Emission, Endpoint};
 use fc_cli::status::{Status, tell};
 use fc_cli::stop::Stop;
-use fc_core::Delivered;
+use fc_core::Heard;
 use fc_core::front::blank_emission;
-use fc_jobs::{Jobs, Sent};
 use fc_lines::emission::{endpoint, print};
 use fc_lines::line::{Line, LineError, parse};
-use fc_registry::Job;
 use fc_server::engine::Notified;
-use fc_workers::{Moments, Wire};
+use fc_workers::{Handover, Moments, Wire};
 use std::alloc::{AllocError, Global};
 use std::io;
 use std::io::{BufRead, Write};
@@ -117,34 +115,31 @@ fn print_sent<W: Write>(out: &mut W, emission: &Option<Emission>) -> io::Result<
     }
 }
 
-// What a line needs: who takes it in, the channel to the workers, and where they are waited for.
+// What a line needs: who takes it in, where its job is waited for, and room for its reply.
 #[derive(Drop)]
-struct Desk<'a, N: Intake> {
-    intake: &'a N,
-    jobs: &'a Jobs,
+struct Desk<'a, 'b, N: Intake> {
+    intake: &'b mut N,
     board: &'a Board,
+    reply: Emission,
 }
 
-impl<'a, N: Intake> Desk<'a, N> {
+impl<'a, 'b, N: Intake> Desk<'a, 'b, N> {
     // Carries out the lines, each in turn, and prints what each sends.
     fn play<R: Wait, I: BufRead + Drop, W: Write>(
-        &self,
+        &mut self,
         rt: &R,
         alloc: Global,
-        mut sent: Sent,
         input: I,
         out: &mut W,
-    ) -> Result<(), Stop>
-        requires { sent.channel ≡ self.now.jobs.now }
-    {
+    ) -> Result<(), Stop> {
         let mut number = 0u64;
         for text in input.split(alloc, b'\n') {
             number = number.saturating_add(1);
             let text = text.map_err(Stop::Input)?;
             match parse(alloc, &text) {
                 Ok(line) => {
-                    self.carry_out(rt, &mut sent, &line, out)?;
-                    self.settle(rt, &mut sent, moment(&line), out)?;
+                    self.carry_out(rt, &line, out)?;
+                    self.settle(rt, moment(&line), out)?;
                 }
                 Err(LineError::Bad) => return Err(Stop::BadLine(number)),
                 Err(LineError::NoMemory) => return Err(Stop::Memory(AllocError)),
@@ -154,16 +149,8 @@ impl<'a, N: Intake> Desk<'a, N> {
     }
 
     // Carries out a line, and prints what it sends.
-    fn carry_out<R: Wait, W: Write>(
-        &self,
-        rt: &R,
-        sent: &mut Sent,
-        line: &Line,
-        out: &mut W,
-    ) -> Result<(), Stop>
-        requires { sent.old.channel ≡ self.now.jobs.now }
-        ensures channel { sent.new.channel ≡ sent.old.channel }
-        ensures printed { (emission : Option Emitted)
+    fn carry_out<R: Wait, W: Write>(&mut self, rt: &R, line: &Line, out: &mut W) -> Result<(), Stop>
+        ensures { (emission : Option Emitted)
             × OnOk result (Appends (W.contents out.old) (W.contents out.new) (output_of emission)) }
     {
         match line {
@@ -172,71 +159,37 @@ impl<'a, N: Intake> Desk<'a, N> {
                 Ok(())
             }
             Line::Deliver { now, peer, bytes } => {
-                let emission = self.hear(rt, sent, *now, endpoint(*peer), bytes)?;
+                let emission = self.hear(rt, *now, endpoint(*peer), bytes);
                 print_sent(out, &emission).map_err(Stop::Output)
             }
         }
     }
 
-    // Takes a datagram in, and has the job that it brings worked off: what is sent.
+    // Has a datagram taken in at a moment in milliseconds, and the job that it brings worked off: what is sent.
     fn hear<R: Wait>(
-        &self,
+        &mut self,
         rt: &R,
-        sent: &mut Sent,
         now: u64,
-        endpoint: Endpoint,
+        from: Endpoint,
         bytes: &[u8],
-    ) -> Result<Option<Emission>, Stop>
-        requires { sent.old.channel ≡ self.now.jobs.now }
-        ensures { sent.new.channel ≡ sent.old.channel }
-    {
-        match self.intake.deliver(rt, now, endpoint, bytes) {
-            Delivered::Nothing => Ok(None),
-            Delivered::Reply(emission) => Ok(Some(emission)),
-            Delivered::Job(job) => self.work(rt, sent, now, job),
-            Delivered::Signal { mid, reset } => {
-                self.intake.signal(rt, endpoint, mid, reset);
-                Ok(None)
-            }
-        }
-    }
-
-    // Has a job worked off at a moment in milliseconds: what is sent.
-    fn work<R: Wait>(
-        &self,
-        rt: &R,
-        sent: &mut Sent,
-        now: u64,
-        job: Job,
-    ) -> Result<Option<Emission>, Stop>
-        requires { sent.old.channel ≡ self.now.jobs.now }
-        ensures { sent.new.channel ≡ sent.old.channel }
-    {
+    ) -> Option<Emission> {
         self.board.begin(rt, now);
-        match self.jobs.send(rt, job, sent) {
-            None => Ok(self.board.wait(rt)),
-            Some(_) => Err(Stop::Memory(AllocError)),
+        match self.intake.hear(rt, now, from, bytes, &mut self.reply) {
+            Heard::Nothing | Heard::Signal { .. } => None,
+            Heard::Reply => Some(copy(&self.reply)),
+            Heard::Job => self.board.wait(rt),
         }
     }
 
     // Has what is late at a moment in milliseconds sent again, and who is due notified, and prints what is sent.
-    fn settle<R: Wait, W: Write>(
-        &self,
-        rt: &R,
-        sent: &mut Sent,
-        now: u64,
-        out: &mut W,
-    ) -> Result<(), Stop>
-        requires { sent.old.channel ≡ self.now.jobs.now }
-        ensures { sent.new.channel ≡ sent.old.channel }
-    {
+    fn settle<R: Wait, W: Write>(&mut self, rt: &R, now: u64, out: &mut W) -> Result<(), Stop> {
         let mut settling = Settling::new();
         for _ in 0..STEPS {
             let Some(shard) = settling.shard() else {
                 break;
             };
             let emission = if settling.notifies() {
-                settling.notified(self.notify(rt, sent, shard, now)?)
+                settling.notified(self.notify(rt, shard, now))
             } else {
                 settling.resent(self.intake.resend(rt, shard, now))
             };
@@ -246,22 +199,14 @@ impl<'a, N: Intake> Desk<'a, N> {
     }
 
     // Has the observer of a shard notified that is due first. A turn of which nothing is sent had no message id, or no memory.
-    fn notify<R: Wait>(
-        &self,
-        rt: &R,
-        sent: &mut Sent,
-        shard: u8,
-        now: u64,
-    ) -> Result<Notified, Stop>
-        requires { sent.old.channel ≡ self.now.jobs.now }
-        ensures { sent.new.channel ≡ sent.old.channel }
-    {
-        let Some(job) = self.intake.next_due(rt, shard, now) else {
-            return Ok(Notified::Nobody);
-        };
-        match self.work(rt, sent, now, job)? {
-            Some(emission) => Ok(Notified::Sent(emission)),
-            None => Ok(Notified::Starved),
+    fn notify<R: Wait>(&mut self, rt: &R, shard: u8, now: u64) -> Notified {
+        self.board.begin(rt, now);
+        if !self.intake.notify(rt, shard, now) {
+            return Notified::Nobody;
+        }
+        match self.board.wait(rt) {
+            Some(emission) => Notified::Sent(emission),
+            None => Notified::Starved,
         }
     }
 }
@@ -276,31 +221,25 @@ struct Player<'a, I: BufRead + Drop, W: Write> {
 }
 
 impl<'a, I: BufRead + Drop, W: Write> Feeder<Result<(), Stop>> for Player<'a, I, W> {
-    fn feed<N: Intake, R: Wait>(
-        self,
-        rt: &R,
-        intake: &N,
-        jobs: &Jobs,
-        sent: Sent,
-    ) -> Result<(), Stop> {
+    fn feed<N: Intake, R: Wait>(self, rt: &R, intake: &mut N) -> Result<(), Stop> {
         let Player {
             alloc,
             input,
             out,
             board,
         } = self;
-        let desk = Desk {
+        let mut desk = Desk {
             intake,
-            jobs,
             board,
+            reply: blank_emission(),
         };
-        desk.play(rt, alloc, sent, input, out)
+        desk.play(rt, alloc, input, out)
     }
 }
 
 /// Plays lines as [`play`](crate::play::play) does, and ends as it does, but a line's job is worked off by one of so many
 /// workers, 1 to 16, each in a thread of its own, and so is each turn of an observer. No line is read before the worker of the one before it
-/// is done.
+/// is done. Where no thread can be made for a worker, `err` is told, and this thread works them off.
 pub fn play_by_workers<R: Threads + Wait + Sync, I: BufRead + Drop, W: Write, E: Write>(
     rt: &R,
     alloc: Global,
@@ -312,18 +251,19 @@ pub fn play_by_workers<R: Threads + Wait + Sync, I: BufRead + Drop, W: Write, E:
 ) -> Status
     requires { begin.serial ≤ last_serial }
 {
-    match play_in_pool(rt, alloc, input, out, workers, begin) {
+    match play_in_pool(rt, alloc, input, out, err, workers, begin) {
         Ok(()) => Status::Done,
         Err(stop) => tell(err, &stop, stop.status()),
     }
 }
 
 // Plays lines by the workers of a pool.
-fn play_in_pool<R: Threads + Wait + Sync, I: BufRead + Drop, W: Write>(
+fn play_in_pool<R: Threads + Wait + Sync, I: BufRead + Drop, W: Write, E: Write>(
     rt: &R,
     alloc: Global,
     input: I,
     out: &mut W,
+    err: &mut E,
     workers: u8,
     begin: Begin,
 ) -> Result<(), Stop>
@@ -332,6 +272,7 @@ fn play_in_pool<R: Threads + Wait + Sync, I: BufRead + Drop, W: Write>(
     let board = Board::new();
     let pool = Pool {
         workers,
+        handover: Handover::Every,
         begin,
         wire: &board,
         moments: &board,
@@ -342,5 +283,5 @@ fn play_in_pool<R: Threads + Wait + Sync, I: BufRead + Drop, W: Write>(
         out,
         board: &board,
     };
-    run_pool(rt, alloc, &pool, player)?.given
+    run_pool(rt, alloc, err, &pool, player)?.given
 }

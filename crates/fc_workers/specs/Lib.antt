@@ -4,3 +4,4 @@ pub mod Outgoing
 pub mod Work
 pub mod Steps
 pub mod Shares
+pub mod Dispatch

@@ -2,11 +2,12 @@
 ghost use Rattle.std.specs.Prelude.{◌≡◌, ℕ, ◌+◌, ◌<◌, ◌≤◌};
 ghost use Rattle.atomic_table.specs.Seated.{TableId};
 ghost use Rattle.fc_core.specs.Contents.{IsOf};
+ghost use Rattle.fc_core.specs.Receiving.{emission_if, heard};
 ghost use Rattle.fc_heads.specs.Heads.{IsRaised, fresh, peeked, word_of};
 ghost use Rattle.fc_workers.specs.Answers.{AreTallied, IsSomeAnswer, IsSomeCommit, IsSomeDelivery, IsSomeDraw, IsSomeInstall, IsSomeNote, IsSomeReceipt, IsSomeRemoval, IsSomeTaking, IsSomeTick, IsSomeTurn, commit_changes, ended_by, install_changes, removal_changes, saturated};
 
 use coap_msg::{Emission, Endpoint};
-use fc_core::{Answer, Delivered};
+use fc_core::{Answer, Heard};
 use fc_heads::HeadSeat;
 use fc_machine::Outcome;
 use fc_observe::{Ticked, Turn};
@@ -24,7 +25,7 @@ use std::sync::{Arc, Wait};
 /// that it ended.
 pub trait Bench {
     /// What one worker changed, and how many jobs it ended.
-    type Tallies: Drop + Send;
+    type Tallies: Drop;
 
     // How many changes of a shard, by its index, from 0 to 7.
     ghost changes: { Self.Tallies → ℕ → ℕ };
@@ -35,9 +36,18 @@ pub trait Bench {
     // Which head words it has.
     ghost heads: { Self → TableId };
 
-    /// Takes a datagram in, at a moment in milliseconds, as [`Front::deliver`](fc_core::Front::deliver) does.
-    fn deliver<R: Wait>(&self, rt: &R, now: u64, endpoint: Endpoint, bytes: &[u8]) -> Delivered
-        ensures { IsSomeDelivery now endpoint bytes.now result };
+    /// Takes a datagram in, at a moment in milliseconds, as [`Front::hear`](fc_core::Front::hear) does: the job that it brings, or the
+    /// reply, is written over another.
+    fn hear<R: Wait>(
+        &self,
+        rt: &R,
+        now: u64,
+        endpoint: Endpoint,
+        bytes: &[u8],
+        job: &mut Job,
+        reply: &mut Emission,
+    ) -> Heard
+        ensures { IsSomeDelivery now endpoint bytes.now (heard result job.new reply.new) };
 
     /// Advances the front to a moment in milliseconds, as [`Front::tick`](fc_core::Front::tick) does.
     fn tick<R: Wait>(&self, rt: &R, now: u64);
@@ -141,18 +151,19 @@ pub trait Bench {
         requires { seat.old.table ≡ heads self.now }
         ensures { IsRaised job.now.origin.slot word seat.old seat.new };
 
-    /// Answers a job, at a moment in milliseconds, as [`Front::answer`](fc_core::Front::answer) does, and ends it: what is
-    /// to be sent, if anything.
-    fn answer<R: Wait>(
+    /// Answers a job, at a moment in milliseconds, as [`Front::respond`](fc_core::Front::respond) does, and ends it: what is to be sent is
+    /// written over another emission. Tells whether anything is.
+    fn respond<R: Wait>(
         &self,
         rt: &R,
         now: u64,
         job: &Job,
         answer: &Answer,
+        reply: &mut Emission,
         tallies: &mut Self::Tallies,
-    ) -> Option<Emission>
+    ) -> bool
         requires { IsOf job.now answer.now }
-        ensures sent { IsSomeAnswer now job.now answer.now result }
+        ensures sent { IsSomeAnswer now job.now answer.now (emission_if result reply.new) }
         ensures changes { (shard : ℕ) → shard < 8 →
             changes tallies.new shard ≡ changes tallies.old shard }
         ensures ended { ended tallies.new ≡ saturated (ended tallies.old + 1) };

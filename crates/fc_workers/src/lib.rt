@@ -31,7 +31,7 @@
 //! {
 //!     let (jobs, mut sent, seats) = make_seats(workshop.alloc, tallies)?;
 //!     let channel = &jobs;
-//!     let (_back, shares) = feed_workers(rt, workshop, channel, seats, move || -> Option<Job>
+//!     let (_back, shares) = feed_workers(rt, workshop, channel, seats, move |_staffed| -> Option<Job>
 //!         requires { sent.channel ≡ channel.now }
 //!     { channel.send(rt, job, &mut sent) });
 //!     shares
@@ -42,6 +42,7 @@
 pub mod bench;
 pub mod blanks;
 pub mod counted;
+pub mod dispatch;
 pub mod notify;
 pub mod pool;
 pub mod reserve;
@@ -50,12 +51,14 @@ pub mod server;
 pub mod share;
 pub mod tallies;
 pub mod tally;
+pub mod tools;
 pub mod work;
 pub mod workshop;
 
 pub use bench::Bench;
 pub use blanks::Blanks;
 pub use counted::Counted;
+pub use dispatch::{Dispatched, Dispatcher, Handover};
 pub use pool::{feed_workers, make_seats, run_workers};
 pub use reserve::Reserve;
 pub use seat::{Seat, worker};
@@ -63,4 +66,5 @@ pub use server::{Closed, Locked};
 pub use share::Share;
 pub use tallies::Tallies;
 pub use tally::Tally;
+pub use tools::Tools;
 pub use workshop::{Gate, Moments, Wire, Workshop};

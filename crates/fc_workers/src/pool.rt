@@ -1,5 +1,5 @@
 //! Workers in threads of their own.
-ghost use Rattle.std.specs.Prelude.{◌≡◌, IfOk, vec_len};
+ghost use Rattle.std.specs.Prelude.{◌≡◌, Bool, IfOk, vec_len};
 ghost use Rattle.std.specs.List.{All};
 ghost use Rattle.fc_jobs.specs.Ends.{nothing_got, nothing_sent};
 ghost use Rattle.fc_workers.specs.Shares.{AreNewSeats, AreSharesOf, IsShareOf};
@@ -10,9 +10,11 @@ use crate::share::Share;
 use crate::workshop::{Gate, Moments, Wire, Workshop};
 use fc_jobs::{Got, Jobs, Sent};
 use std::alloc::{AllocError, Global};
+use std::marker::PhantomData;
+use std::snapshot::Snapshot;
 use std::sync::Wait;
 use std::thread;
-use std::thread::Threads;
+use std::thread::{Promise, Threads};
 
 /// Makes a channel of jobs, its one end that sends, and a seat for a worker with each of these tallies.
 ///
@@ -69,6 +71,8 @@ pub fn run_workers<
     jobs: &Jobs,
     seats: Vec<Seat<B::Tallies>>,
 ) -> Result<Vec<Share<B::Tallies>>, AllocError>
+where
+    B::Tallies: Send,
     requires { All (λ s. s.got.channel ≡ jobs.now) seats.items }
     ensures { IfOk result (λ v. AreSharesOf B.changes B.ended M.is_moment seats.items v.items) }
 {
@@ -82,9 +86,20 @@ pub fn run_workers<
     )
 }
 
+// That a thread gives the share of the worker at each of these seats.
+#[derive(Drop)]
+struct SharesOf<B: Bench, M: Moments> {
+    seats: Snapshot<Vec<Seat<B::Tallies>>>,
+    moments: PhantomData<M>,
+}
+
+impl<B: Bench, M: Moments> Promise<Result<Vec<Share<B::Tallies>>, AllocError>> for SharesOf<B, M> {
+    ghost kept_by = { λ p r. IfOk r (λ v. AreSharesOf B.changes B.ended M.is_moment p.seats.value.items v.items) };
+}
+
 /// Runs a worker at each seat, as `run_workers` does, and beside them a feeder, in the caller's own thread: what the feeder
 /// gives, and the shares. The feeder sends the jobs, and owns the end that sends: once it has returned the channel is closed,
-/// and the workers come to their end. Where not even one thread can be made the workers run first, and wait for ever.
+/// and the workers come to their end. It is told whether it has a worker: where no thread can be made for one, the workers come after the feeder.
 ///
 /// # Errors
 /// The shares are as `run_workers` gives them. If memory is refused for every seat, a feeder of more than 256 jobs waits for
@@ -96,7 +111,7 @@ pub fn feed_workers<
     M: Moments + Sync,
     R: Threads + Wait + Sync,
     X: Drop,
-    F: FnOnce() -> X + Drop,
+    F: FnOnce(bool) -> X + Drop,
 >(
     rt: &R,
     workshop: &Workshop<'_, B, G, W, M>,
@@ -104,18 +119,43 @@ pub fn feed_workers<
     seats: Vec<Seat<B::Tallies>>,
     feed: F,
 ) -> (X, Result<Vec<Share<B::Tallies>>, AllocError>)
+where
+    B::Tallies: Send,
     requires seats { All (λ s. s.got.channel ≡ jobs.now) seats.items }
-    requires feed { F.pre feed }
-    ensures fed { F.post feed result.0 }
+    requires feed { F.IsAlwaysCallable feed }
+    ensures fed { (has_workers : Bool) × F.post feed has_workers result.0 }
     ensures shares { IfOk result.1 (λ v. AreSharesOf B.changes B.ended M.is_moment seats.items v.items) }
 {
-    let (shares, fed) = thread::join(
+    thread::scope(
+        thread::scope_env(),
         rt,
-        move || -> Result<Vec<Share<B::Tallies>>, AllocError>
-            requires { All (λ s. s.got.channel ≡ jobs.now) seats.items }
-            ensures { IfOk result (λ v. AreSharesOf B.changes B.ended M.is_moment seats.items v.items) }
-        { run_workers(rt, workshop, jobs, seats) },
-        feed,
-    );
-    (fed, shares)
+        move |scope| -> (X, Result<Vec<Share<B::Tallies>>, AllocError>)
+            requires { All (λ s. s.got.channel ≡ jobs.now) seats.items × F.IsAlwaysCallable feed }
+            ensures { ((has_workers : Bool) × F.post feed has_workers result.0)
+                × IfOk result.1 (λ v. AreSharesOf B.changes B.ended M.is_moment seats.items v.items) }
+        {
+            let has_seats = !seats.is_empty();
+            let promise = SharesOf::<B, M> {
+                seats: Snapshot::of(&seats),
+                moments: PhantomData,
+            };
+            let started = scope.spawn_with(
+                promise,
+                move || -> Result<Vec<Share<B::Tallies>>, AllocError>
+                    requires { All (λ s. s.got.channel ≡ jobs.now) seats.items }
+                    ensures { IfOk result (λ v. AreSharesOf B.changes B.ended M.is_moment seats.items v.items) }
+                { run_workers(rt, workshop, jobs, seats) },
+            );
+            match started {
+                Ok(workers) => {
+                    let fed = feed(has_seats);
+                    (fed, workers.join(rt))
+                }
+                Err(refused) => {
+                    let fed = feed(false);
+                    (fed, (refused.value)())
+                }
+            }
+        },
+    )
 }

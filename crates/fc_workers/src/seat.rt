@@ -1,14 +1,15 @@
 //! Workers, each at a seat of its own.
 ghost use Rattle.std.specs.Prelude.{◌≡◌, ◌+◌, None, IfOk};
+ghost use Rattle.fc_core.specs.Receiving.{emission_if};
 ghost use Rattle.fc_workers.specs.Answers.{saturated};
 ghost use Rattle.fc_workers.specs.Shares.{IsShareOf};
 ghost use Rattle.fc_workers.specs.Work.{IsReplied, IsRequestWorked, IsWorked};
 
 use crate::bench::Bench;
 use crate::share::Share;
+use crate::tools::Tools;
 use crate::workshop::{Gate, Moments, Wire, Workshop};
 use coap_msg::Emission;
-use fc_heads::HeadSeat;
 use fc_jobs::{Got, Jobs};
 use fc_machine::Frame;
 use fc_observe::Turn;
@@ -56,87 +57,98 @@ pub fn worker<B: Bench, G: Gate, W: Wire, M: Moments, R: Wait>(
     let Seat {
         got,
         tallies,
-        mut frame,
+        frame,
     } = seat;
     let mut share = Share::new(got, tallies);
-    let mut heads = workshop.bench.head_seat();
+    let mut tools = Tools::new(workshop.bench, frame);
     for _ in rt.forever() {
         let Some((number, job)) = jobs.next(rt, &mut share.got) else {
             break;
         };
-        workshop.work(rt, &mut frame, &mut heads, number, &job, &mut share);
+        workshop.work(rt, &mut tools, number, &job, &mut share);
     }
     share
 }
 
 impl<'a, B: Bench, G: Gate, W: Wire, M: Moments> Workshop<'a, B, G, W, M> {
-    // Works a job off, answers it or notifies its turn's observer, and sends what that gives.
-    fn work<R: Wait>(
+    /// Works a job off under this number: it is answered, or its turn's observer is notified; and what that gives, if anything, is sent and counted.
+    pub fn work<R: Wait>(
         &self,
         rt: &R,
-        frame: &mut Frame,
-        heads: &mut HeadSeat,
+        tools: &mut Tools,
         number: u64,
         job: &Job,
         share: &mut Share<B::Tallies>,
     )
-        requires { heads.old.table ≡ B.heads self.now.bench.now }
-        ensures heads { heads.new.table ≡ heads.old.table }
+        requires { tools.old.heads.table ≡ B.heads self.now.bench.now }
+        ensures heads { tools.new.heads.table ≡ tools.old.heads.table }
         ensures worked { IsReplied B.changes M.is_moment job.now share.old share.new }
         ensures ended { B.ended share.new.tallies ≡ saturated (B.ended share.old.tallies + 1) }
         ensures got { share.new.got ≡ share.old.got }
     {
-        let reply = self.reply(rt, frame, heads, number, job, share);
-        if let Some(emission) = reply {
-            share.count_reply(self.wire.send(rt, number, &emission));
+        let replies = self.reply(rt, tools, number, job, share);
+        if replies {
+            share.count_reply(self.wire.send(rt, number, &tools.reply));
         }
         self.wire.ended(rt, number);
     }
 
-    // Works a job off: what is to be sent, if anything.
+    // Works a job off, and writes what is to be sent. Tells whether anything is.
     fn reply<R: Wait>(
         &self,
         rt: &R,
-        frame: &mut Frame,
-        heads: &mut HeadSeat,
+        tools: &mut Tools,
         number: u64,
         job: &Job,
         share: &mut Share<B::Tallies>,
-    ) -> Option<Emission>
-        requires { heads.old.table ≡ B.heads self.now.bench.now }
-        ensures heads { heads.new.table ≡ heads.old.table }
-        ensures worked { IsWorked B.changes M.is_moment job.now share.old share.new result }
+    ) -> bool
+        requires { tools.old.heads.table ≡ B.heads self.now.bench.now }
+        ensures heads { tools.new.heads.table ≡ tools.old.heads.table }
+        ensures worked { IsWorked B.changes M.is_moment job.now share.old share.new (emission_if result tools.new.reply) }
         ensures ended { B.ended share.new.tallies ≡ saturated (B.ended share.old.tallies + 1) }
         ensures got { share.new.got ≡ share.old.got }
     {
         match job.turn {
-            None => self.answer(rt, frame, heads, number, job, share),
+            None => self.answer(rt, tools, number, job, share),
             Some(number) => {
                 let slot = job.origin.slot.number();
-                self.notify(rt, frame, job, Turn { slot, number }, share)
+                let sent = self.notify(rt, &mut tools.frame, job, Turn { slot, number }, share);
+                write_if(&mut tools.reply, sent)
             }
         }
     }
 
-    // Works a request's job off, and answers it.
+    // Works a request's job off, answers it, and writes what is to be sent. Tells whether anything is.
     fn answer<R: Wait>(
         &self,
         rt: &R,
-        frame: &mut Frame,
-        heads: &mut HeadSeat,
+        tools: &mut Tools,
         number: u64,
         job: &Job,
         share: &mut Share<B::Tallies>,
-    ) -> Option<Emission>
+    ) -> bool
         requires asked { job.now.turn ≡ None }
-        requires heads { heads.old.table ≡ B.heads self.now.bench.now }
-        ensures heads { heads.new.table ≡ heads.old.table }
-        ensures worked { IsRequestWorked B.changes M.is_moment job.now share.old share.new result }
+        requires heads { tools.old.heads.table ≡ B.heads self.now.bench.now }
+        ensures heads { tools.new.heads.table ≡ tools.old.heads.table }
+        ensures worked { IsRequestWorked B.changes M.is_moment job.now share.old share.new (emission_if result tools.new.reply) }
         ensures ended { B.ended share.new.tallies ≡ saturated (B.ended share.old.tallies + 1) }
         ensures got { share.new.got ≡ share.old.got }
     {
-        let answer = self.work_off(rt, frame, heads, number, job, share);
+        let answer = self.work_off(rt, tools, number, job, share);
         let now = self.moments.now(rt);
-        self.bench.answer(rt, now, job, &answer, &mut share.tallies)
+        self.bench.respond(rt, now, job, &answer, &mut tools.reply, &mut share.tallies)
+    }
+}
+
+// Writes what is sent over another emission. Tells whether anything is.
+fn write_if(reply: &mut Emission, sent: Option<Emission>) -> bool
+    ensures { emission_if result reply.new ≡ sent }
+{
+    match sent {
+        Some(emission) => {
+            *reply = emission;
+            true
+        }
+        None => false,
     }
 }

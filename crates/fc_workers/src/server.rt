@@ -12,8 +12,10 @@
 //! No type of that function's signature may name a ledger: it opens the server, splits the reserve into the tallies of its
 //! workers, runs them, merges their tallies, and closes the server.
 ghost use Rattle.std.specs.Prelude.{◌≡◌, ◌+◌, ◌*◌, ◌<◌, ◌≤◌, ◌%◌, map, slice_index, IfOk};
-ghost use Rattle.fc_core.specs.Answering.{emission_of};
+ghost use Rattle.coap_msg.specs.declared.types.Emission.{Emission as Emitted};
+ghost use Rattle.fc_core.specs.Answering.{emission_of, responded};
 ghost use Rattle.fc_core.specs.Contents.{IsOf};
+ghost use Rattle.fc_core.specs.Receiving.{emission_if};
 ghost use Rattle.fc_registry.specs.Slots.{last_serial};
 ghost use Rattle.fc_workers.specs.Counts.{no_changes, serials, sums};
 ghost use Rattle.fc_workers.specs.Answers.{AreTallied, IsSomeCommit, IsSomeInstall, IsSomeNote, IsSomeReceipt, IsSomeRemoval, IsSomeTaking, IsSomeTick, IsSomeTurn, commit_changes, install_changes, removal_changes, saturated};
@@ -25,7 +27,7 @@ use crate::reserve::Reserve;
 use crate::tallies::Tallies;
 use crate::tally::Tally;
 use coap_msg::{Emission, Endpoint};
-use fc_core::{Answer, Answered, Delivered, Front};
+use fc_core::{Answer, Front, Heard, Responded};
 use fc_heads::{HeadSeat, Heads};
 use fc_machine::Outcome;
 use fc_observe::{Ticked, Turn};
@@ -314,9 +316,17 @@ impl<
 
     ghost heads = { λ s. s.heads };
 
-    fn deliver<R: Wait>(&self, rt: &R, now: u64, endpoint: Endpoint, bytes: &[u8]) -> Delivered {
+    fn hear<R: Wait>(
+        &self,
+        rt: &R,
+        now: u64,
+        endpoint: Endpoint,
+        bytes: &[u8],
+        job: &mut Job,
+        reply: &mut Emission,
+    ) -> Heard {
         let mut front = self.front.lock(rt);
-        front.deliver(now, endpoint, bytes)
+        front.hear(now, endpoint, bytes, job, reply)
     }
 
     fn tick<R: Wait>(&self, rt: &R, now: u64) {
@@ -423,26 +433,27 @@ impl<
         self.heads.raise(job.origin.slot.number(), word, seat);
     }
 
-    fn answer<R: Wait>(
+    fn respond<R: Wait>(
         &self,
         rt: &R,
         now: u64,
         job: &Job,
         answer: &Answer,
+        reply: &mut Emission,
         tallies: &mut Tallies<L0, L1, L2, L3, L4, L5, L6, L7>,
-    ) -> Option<Emission> {
+    ) -> bool {
         tallies.end_job();
         let mut front = self.front.lock(rt);
-        emission(front.answer(now, job, answer))
+        is_sent(front.respond(now, job, answer, reply))
     }
 }
 
-// What an answer sends, if anything.
-fn emission(answered: Answered) -> Option<Emission>
-    ensures { result ≡ emission_of answered }
+// Whether an answer is sent.
+fn is_sent(answered: Responded) -> bool
+    ensures { (reply : Emitted) → emission_if result reply ≡ emission_of (responded answered reply) }
 {
     match answered {
-        Answered::Sent(emission) => Some(emission),
-        Answered::Late | Answered::NoId => None,
+        Responded::Sent => true,
+        Responded::Late | Responded::NoId => false,
     }
 }

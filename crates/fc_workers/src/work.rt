@@ -9,6 +9,7 @@ ghost use Rattle.fc_workers.specs.Steps.{IsReady, IsStep};
 
 use crate::bench::Bench;
 use crate::share::Share;
+use crate::tools::Tools;
 use crate::workshop::{Gate, Moments, Wire, Workshop};
 use fc_core::task::image;
 use fc_core::{Answer, Stage, Words};
@@ -27,33 +28,34 @@ impl<'a, B: Bench, G: Gate, W: Wire, M: Moments> Workshop<'a, B, G, W, M> {
     pub fn work_off<R: Wait>(
         &self,
         rt: &R,
-        frame: &mut Frame,
-        heads: &mut HeadSeat,
+        tools: &mut Tools,
         number: u64,
         job: &Job,
         share: &mut Share<B::Tallies>,
     ) -> Answer
         requires asked { job.now.turn ≡ None }
-        requires heads { heads.old.table ≡ B.heads self.now.bench.now }
-        ensures heads { heads.new.table ≡ heads.old.table }
+        requires heads { tools.old.heads.table ≡ B.heads self.now.bench.now }
+        ensures heads { tools.new.heads.table ≡ tools.old.heads.table }
         ensures worked { IsWorkedOff B.changes job.now result share.old share.new }
         ensures ended { B.ended share.new.tallies ≡ B.ended share.old.tallies }
     {
         let mut stage = Stage::asked(job);
         'calls: loop {
             stage = match stage {
-                Stage::ToMatch => Stage::matched(job, self.bench.peek(job.origin.slot, heads)),
+                Stage::ToMatch => {
+                    Stage::matched(job, self.bench.peek(job.origin.slot, &mut tools.heads))
+                }
                 Stage::ToTake(count) => self.take(rt, job, count, share),
                 Stage::ToCommit(count, ticket) => {
                     self.gate.between(rt, number);
-                    self.commit(rt, frame, job, count, ticket, share)
+                    self.commit(rt, &mut tools.frame, job, count, ticket, share)
                 }
                 Stage::ToInstall => self.install(rt, job, share),
                 Stage::ToRemove => self.remove(rt, job, share),
                 Stage::ToDescribe => Stage::told(self.bench.receipt(rt, job)),
-                Stage::ToList(seen) => self.look(heads, seen),
+                Stage::ToList(seen) => self.look(&mut tools.heads, seen),
                 Stage::ToRaise(word, answer) => {
-                    self.bench.raise(job, word, heads);
+                    self.bench.raise(job, word, &mut tools.heads);
                     Stage::ToAnswer(answer)
                 }
                 Stage::ToAnswer(answer) => return answer,

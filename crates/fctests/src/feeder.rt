@@ -2,9 +2,10 @@
 ghost use Rattle.std.specs.Prelude.{◌≡◌};
 
 use coap_msg::Endpoint;
-use fc_core::Delivered;
+use fc_core::Heard;
+use fc_core::front::{blank_emission, blank_job};
 use fc_jobs::{Jobs, Sent};
-use fc_registry::SlotNumber;
+use fc_registry::{Job, SlotNumber};
 use fc_workers::Bench;
 use std::alloc::{AllocError, Global};
 use std::sync::Wait;
@@ -87,9 +88,19 @@ impl<'a, B: Bench> Feeder<'a, B> {
         ensures { sent.new.channel ≡ sent.old.channel }
     {
         let bytes = datagram(self.alloc, request, id, slot)?;
-        match self.bench.deliver(rt, now, PEER, &bytes) {
-            Delivered::Job(job) => Ok(self.jobs.send(rt, job, sent).is_none()),
-            Delivered::Reply(_) | Delivered::Nothing | Delivered::Signal { .. } => Ok(false),
+        match self.job(rt, now, &bytes) {
+            Some(job) => Ok(self.jobs.send(rt, job, sent).is_none()),
+            None => Ok(false),
+        }
+    }
+
+    /// Has a datagram taken in, at a moment in milliseconds: the job that it brings.
+    pub(crate) fn job<R: Wait>(&self, rt: &R, now: u64, bytes: &[u8]) -> Option<Job> {
+        let mut job = blank_job();
+        let mut reply = blank_emission();
+        match self.bench.hear(rt, now, PEER, bytes, &mut job, &mut reply) {
+            Heard::Job => Some(job),
+            Heard::Reply | Heard::Nothing | Heard::Signal { .. } => None,
         }
     }
 }

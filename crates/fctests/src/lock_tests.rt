@@ -1,10 +1,8 @@
 //! Locks that are apart: what a worker does while the lock of another shard is held.
 ghost use Rattle.std.specs.Prelude.{◌≡◌};
 
-use crate::feeder::{Feeder, PEER, Request, datagram};
+use crate::feeder::{Feeder, Request, datagram};
 use crate::overtaking_tests::{COUNTER, CREATED, Held, Replies, Reply, Seen, Trial, hold};
-use coap_msg::Endpoint;
-use fc_core::Delivered;
 use fc_jobs::Sent;
 use fc_registry::{Job, SlotNumber};
 use fc_workers::{Bench, Gate, Locked, Workshop, feed_workers, make_seats};
@@ -67,7 +65,10 @@ impl ShardHeld {
         alloc: Global,
         bench: &B,
         tallies: Vec<B::Tallies>,
-    ) -> anyhow::Result<Held<Seen, B::Tallies>> {
+    ) -> anyhow::Result<Held<Seen, B::Tallies>>
+    where
+        B::Tallies: Send,
+    {
         let replies = Replies::new();
         let (jobs, sent, seats) = make_seats(alloc, tallies)?;
         let workshop = Workshop {
@@ -87,7 +88,7 @@ impl ShardHeld {
             &workshop,
             &jobs,
             seats,
-            || -> Result<(), AllocError>
+            |_has_workers| -> Result<(), AllocError>
                 requires { sent.channel ≡ feeder.jobs.now }
             { self.feed(rt, &feeder, &replies, sent) },
         );
@@ -114,7 +115,7 @@ impl ShardHeld {
         };
         let bytes = datagram(feeder.alloc, request, 1, slot)?;
         let jobs = feeder.jobs;
-        if let Delivered::Job(job) = feeder.bench.deliver(rt, 0, PEER, &bytes) {
+        if let Some(job) = feeder.job(rt, 0, &bytes) {
             let _back = feeder.bench.hold(
                 rt,
                 self.shard,

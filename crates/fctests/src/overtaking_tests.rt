@@ -166,7 +166,10 @@ impl TwoAtOnce {
         alloc: Global,
         bench: &B,
         tallies: Vec<B::Tallies>,
-    ) -> anyhow::Result<Held<Seen, B::Tallies>> {
+    ) -> anyhow::Result<Held<Seen, B::Tallies>>
+    where
+        B::Tallies: Send,
+    {
         let replies = Replies::new();
         let shares = self.hold_at(rt, alloc, bench, tallies, &replies)?;
         Ok(replies.seen(alloc, shares)?)
@@ -181,7 +184,10 @@ impl TwoAtOnce {
         bench: &B,
         tallies: Vec<B::Tallies>,
         replies: &Replies,
-    ) -> anyhow::Result<Vec<Share<B::Tallies>>> {
+    ) -> anyhow::Result<Vec<Share<B::Tallies>>>
+    where
+        B::Tallies: Send,
+    {
         let (jobs, sent, seats) = make_seats(alloc, tallies)?;
         let gate = Holding { clock: rt, replies };
         let workshop = Workshop {
@@ -201,7 +207,7 @@ impl TwoAtOnce {
             &workshop,
             &jobs,
             seats,
-            || -> Result<(), AllocError>
+            |_has_workers| -> Result<(), AllocError>
                 requires { sent.channel ≡ feeder.jobs.now }
             { feed_two(rt, &feeder, replies, sent) },
         );
@@ -280,7 +286,10 @@ impl Overtaken {
         alloc: Global,
         bench: &B,
         mut tallies: Vec<B::Tallies>,
-    ) -> anyhow::Result<Held<Seen, B::Tallies>> {
+    ) -> anyhow::Result<Held<Seen, B::Tallies>>
+    where
+        B::Tallies: Send,
+    {
         let Some(mut others) = tallies.pop() else {
             return Err(anyhow::anyhow!("no tallies"));
         };
@@ -316,7 +325,10 @@ fn post_at<B: Bench + Sync, G: Gate + Sync, R: Threads + Wait + Clock + Sync>(
     gate: &G,
     replies: &Replies,
     posts: u16,
-) -> anyhow::Result<Vec<Share<B::Tallies>>> {
+) -> anyhow::Result<Vec<Share<B::Tallies>>>
+where
+    B::Tallies: Send,
+{
     let (jobs, sent, seats) = make_seats(alloc, tallies)?;
     let workshop = Workshop {
         alloc,
@@ -335,7 +347,7 @@ fn post_at<B: Bench + Sync, G: Gate + Sync, R: Threads + Wait + Clock + Sync>(
         &workshop,
         &jobs,
         seats,
-        || -> Result<(), AllocError>
+        |_has_workers| -> Result<(), AllocError>
             requires { sent.channel ≡ feeder.jobs.now }
         { feed_posts(rt, &feeder, sent, posts) },
     );
@@ -373,7 +385,10 @@ impl Trial {
         alloc: Global,
         bench: &B,
         tallies: Vec<B::Tallies>,
-    ) -> anyhow::Result<Held<Seen, B::Tallies>> {
+    ) -> anyhow::Result<Held<Seen, B::Tallies>>
+    where
+        B::Tallies: Send,
+    {
         match self {
             Trial::TwoAtOnce(two) => two.hold(rt, alloc, bench, tallies),
             Trial::Overtaken(overtaken) => overtaken.hold(rt, alloc, bench, tallies),

@@ -57,6 +57,31 @@ fn a_bad_line_stops_the_workers(rt: HostRuntime) {
     assert!(rt; err.as_slice() == b"line 2: bad\n".as_slice());
 }
 
+// Where no worker could be started the thread that takes the lines in works their jobs off, and says so.
+#[test]
+fn jobs_are_worked_off_without_workers(rt: HostRuntime) {
+    let alloc = rt.alloc();
+    let mut out = Vec::new(alloc);
+    let mut err = Vec::new(alloc);
+    let begin = Begin { serial: 0, id: 0 };
+    let input =
+        b"0 1 4103123370b1700130ff46434231000002000200000000000000b7000000450000009500000000000000\n\
+        1 1 4101123471b1720130\n"
+            .as_slice();
+    let status = play_by_workers(&rt, alloc, input, &mut out, &mut err, 0, begin);
+    assert!(rt; status == Status::Done);
+    assert!(rt;
+        out.as_slice()
+            == b"1 6141123370ff76657273696f6e3d3120636f73743d32206275646765743d3220766172733d30\n\
+            1 6145123471480000000000000001\n"
+                .as_slice()
+    );
+    assert!(rt;
+        err.as_slice()
+            == b"no worker could be started: the receiving thread works all jobs off\n".as_slice()
+    );
+}
+
 // Slots begin at the serial that is given, and the server's own message ids at the id, on one thread and by workers: an install at 41 is
 // version 42, and the reply to the non-confirmable PUT has message id 500.
 #[test]

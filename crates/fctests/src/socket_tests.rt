@@ -1,6 +1,7 @@
 // A server and its clients in one process, over sockets of this host: the expected bytes are worked out by hand.
 ghost use Rattle.std.specs.Prelude.{◌≤◌, IfSome, length};
 
+use crate::tooling::assembled;
 use coap_msg::{Emission, Endpoint};
 use coap_opts::Method;
 use fc_cli::Status;
@@ -284,5 +285,121 @@ fn silence_is_no_datagram_and_a_loss_is_counted(rt: HostRuntime) -> Result<(), F
             .into_lines()
             .is_empty()
     );
+    Ok(())
+}
+
+// A program that counts POSTs in eight bytes of variables, and replies the count to a GET: a POST takes 12 instructions, a GET 8.
+static COUNTS: &[u8] = b"ldxb r6, r1, 0\n\
+mov64 r7, r2\n\
+jeq r6, 1, 7\n\
+mov64 r1, 0\n\
+call 3\n\
+mov64 r2, r0\n\
+add64 r2, 1\n\
+mov64 r1, 0\n\
+call 4\n\
+ja 3\n\
+mov64 r1, r7\n\
+mov64 r2, 8\n\
+call 5\n\
+mov64 r0, 0\n\
+exit\n";
+
+// The program and the resource of a counter that is common to eight clients, and of one of each client's own.
+const COMMON: (&str, &str) = ("/p/0", "/r/0");
+
+static OWN: [(&str, &str); 8] = [
+    ("/p/1", "/r/1"),
+    ("/p/2", "/r/2"),
+    ("/p/3", "/r/3"),
+    ("/p/4", "/r/4"),
+    ("/p/5", "/r/5"),
+    ("/p/6", "/r/6"),
+    ("/p/7", "/r/7"),
+    ("/p/8", "/r/8"),
+];
+
+// Posts 120 times: to a client's own counter and to the common one in turn.
+fn post_both<R: Abort + Net + Clock + AllocGlobal>(rt: &R, port: u16, own: &str) {
+    for _round in 0..60u8 {
+        check_asked(rt, port, Method::Post, own, &[], Status::Done, "2.04\n");
+        check_asked(
+            rt,
+            port,
+            Method::Post,
+            COMMON.1,
+            &[],
+            Status::Done,
+            "2.04\n",
+        );
+    }
+}
+
+// Eight clients post at once. Then each counter has as many as were posted to it.
+fn ask_by_eight<R: Abort + AllocGlobal + Threads + Net + Clock + Sync>(
+    rt: &R,
+    port: u16,
+) -> Result<(), AllocError> {
+    let alloc = rt.alloc();
+    let image = assembled(alloc, COUNTS, 8, 12)?.out;
+    // version=1 cost=12 budget=12 vars=8
+    let receipt = "2.01\n76657273696f6e3d3120636f73743d3132206275646765743d313220766172733d38\n";
+    check_asked(
+        rt,
+        port,
+        Method::Put,
+        COMMON.0,
+        &image,
+        Status::Done,
+        receipt,
+    );
+    for (program, _path) in &OWN {
+        check_asked(
+            rt,
+            port,
+            Method::Put,
+            program,
+            &image,
+            Status::Done,
+            receipt,
+        );
+    }
+    thread::map_indices(
+        rt,
+        alloc,
+        OWN.len(),
+        &|client: usize| {
+            if let Some((_program, path)) = OWN.get(client) {
+                post_both(rt, port, path);
+            }
+        },
+    )?;
+    let counts = "2.05\n3c00000000000000\n";
+    for (_program, path) in &OWN {
+        check_asked(rt, port, Method::Get, path, &[], Status::Done, counts);
+    }
+    let common = "2.05\ne001000000000000\n";
+    check_asked(rt, port, Method::Get, COMMON.1, &[], Status::Done, common);
+    Ok(())
+}
+
+#[test]
+fn eight_clients_count_right(rt: HostRuntime) -> Result<(), Fail> {
+    let alloc = rt.alloc();
+    let socket = open(&rt, 0)?;
+    let port = socket.local_addr()?.port();
+    // nine PUTs, eight times 120 POSTs, nine GETs
+    let extent = Extent {
+        workers: 2,
+        limit: 978,
+    };
+    let ((status, memory), asked) = thread::join(
+        &rt,
+        || serve_logged(&rt, alloc, &socket, extent),
+        || ask_by_eight(&rt, port),
+    );
+    asked?;
+    assert!(rt; status == Status::Done);
+    check_logged(&rt, memory, "sent 978 failed 0");
     Ok(())
 }

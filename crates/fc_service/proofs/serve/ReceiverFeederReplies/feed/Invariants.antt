@@ -1,5 +1,4 @@
-use Rattle.std.proofs.Common.{◌≡◌}
 use Rattle.fc_service.proofs.serve.ReceiverFeederReplies.feed.Given as goal
 
 abbrev pub invariant-loop : goal.invariant-loop
-invariant-loop g l = (goal.iterator-loop g).can_next l.iterator' × (goal.iterator-loop g).is_finite l.iterator' × (l.sent.channel ≡ l.jobs)
+invariant-loop g l = (goal.iterator-loop g).can_next l.iterator' × (goal.iterator-loop g).is_finite l.iterator'

@@ -1,0 +1,209 @@
+//! Who has jobs, and hands them to workers or works them off.
+ghost use Rattle.std.specs.Prelude.{◌≡◌, ◌<◌, MatchBool};
+ghost use Rattle.fc_jobs.specs.Ends.{with_sent};
+ghost use Rattle.fc_workers.specs.Answers.{IsSomeTick};
+ghost use Rattle.fc_workers.specs.Dispatch.{IsDispatched, IsTakenIn, IsTurnAsked, IsWorkedHere};
+ghost use Rattle.fc_workers.specs.Shares.{new_share};
+
+use crate::bench::Bench;
+use crate::seat::Seat;
+use crate::share::Share;
+use crate::tools::Tools;
+use crate::workshop::{Gate, Moments, Wire, Workshop};
+use coap_msg::{Emission, Endpoint};
+use fc_core::Heard;
+use fc_core::front::blank_job;
+use fc_jobs::{Jobs, Sent};
+use fc_observe::Ticked;
+use fc_registry::{Ask, Job, SHARDS};
+use std::mem;
+use std::sync::Wait;
+
+/// The number of a job that isn't sent to the workers: no job that is has it.
+pub const UNSENT: u64 = u64::MAX;
+
+/// Which jobs go to workers.
+#[derive(Clone, Copy)]
+pub enum Handover {
+    /// All of them.
+    Every,
+    /// Those whose program may run for so many instructions or more, by what its slot holds when they come.
+    Dear(u32),
+    /// None.
+    Never,
+}
+
+/// What a dispatcher has done: the jobs that it sent to the workers, and its share of those that it worked off itself.
+#[derive(Drop)]
+pub struct Dispatched<T: Drop> {
+    pub sent: Sent,
+    pub share: Share<T>,
+}
+
+/// Who has datagrams taken in and shards asked for turns, in a thread of its own. Each job that comes of it is sent to the workers, or, where it isn't handed
+/// over, worked off by the dispatcher itself, as a worker does.
+#[derive(Drop)]
+pub struct Dispatcher<'a, B: Bench, G: Gate, W: Wire, M: Moments> {
+    workshop: &'a Workshop<'a, B, G, W, M>,
+    jobs: &'a Jobs,
+    handover: Handover,
+    job: Job,
+    tools: Tools,
+    done: Dispatched<B::Tallies>,
+    ghost channel: { done.sent.channel ≡ jobs.now },
+    ghost heads: { tools.heads.table ≡ B.heads workshop.now.bench.now },
+}
+
+impl<'a, B: Bench, G: Gate, W: Wire, M: Moments> Dispatcher<'a, B, G, W, M> {
+    /// A dispatcher at a seat of its own, which sends by this end of the channel.
+    pub fn new(
+        workshop: &'a Workshop<'a, B, G, W, M>,
+        jobs: &'a Jobs,
+        sent: Sent,
+        seat: Seat<B::Tallies>,
+        handover: Handover,
+    ) -> Dispatcher<'a, B, G, W, M>
+        requires { sent.channel ≡ jobs.now }
+        ensures { result.done ≡ record { sent = sent; share = new_share seat.got seat.tallies } }
+    {
+        let Seat {
+            got,
+            tallies,
+            frame,
+        } = seat;
+        Dispatcher {
+            workshop,
+            jobs,
+            handover,
+            job: blank_job(),
+            tools: Tools::new(workshop.bench, frame),
+            done: Dispatched {
+                sent,
+                share: Share::new(got, tallies),
+            },
+        }
+    }
+
+    /// Closes the channel: what it has done itself.
+    pub fn close(self) -> Share<B::Tallies>
+        ensures { result ≡ self.entry.done.share }
+    {
+        let Dispatcher { done, .. } = self;
+        let Dispatched { share, .. } = done;
+        share
+    }
+
+    /// Takes a datagram in, at a moment in milliseconds: its reply is written over another, its job is dispatched, and its signal goes to each shard.
+    pub fn hear<R: Wait>(
+        &mut self,
+        rt: &R,
+        now: u64,
+        from: Endpoint,
+        bytes: &[u8],
+        reply: &mut Emission,
+    ) -> Heard
+        ensures { IsTakenIn B.changes B.ended M.is_moment now from bytes.now result reply.new self.old.done self.new.done }
+    {
+        let heard = self
+            .workshop
+            .bench
+            .hear(rt, now, from, bytes, &mut self.job, reply);
+        match heard {
+            Heard::Nothing | Heard::Reply => {}
+            Heard::Job => self.dispatch(rt),
+            Heard::Signal { mid, reset } => self.signal(rt, from, mid, reset),
+        }
+        heard
+    }
+
+    /// Advances the front to a moment in milliseconds.
+    pub fn tick<R: Wait>(&self, rt: &R, now: u64) {
+        self.workshop.bench.tick(rt, now);
+    }
+
+    /// Advances a shard, 0 to 7, to a moment in milliseconds: what it sends again, if anything.
+    pub fn resend<R: Wait>(&self, rt: &R, shard: u8, now: u64) -> Ticked
+        ensures { IsSomeTick now result }
+    {
+        self.workshop.bench.tick_shard(rt, shard, now)
+    }
+
+    /// Asks a shard, 0 to 7, for the turn of the observer that is due first at a moment in milliseconds, and dispatches it. Tells whether there was one.
+    pub fn notify<R: Wait>(&mut self, rt: &R, shard: u8, now: u64) -> bool
+        ensures { IsTurnAsked B.changes B.ended M.is_moment now result self.old.done self.new.done }
+    {
+        match self.workshop.bench.next_due(rt, shard, now) {
+            Some(job) => {
+                self.job = job;
+                self.dispatch(rt);
+                true
+            }
+            None => false,
+        }
+    }
+
+    // Sends its job to the workers, or works it off.
+    fn dispatch<R: Wait>(&mut self, rt: &R)
+        ensures { IsDispatched B.changes B.ended M.is_moment self.old.job self.old.done self.new.done }
+    {
+        let handed = self.hand_over(rt);
+        if !handed {
+            self.work(rt);
+        }
+    }
+
+    // Sends its job to the workers, where it is one that is handed over. Tells whether it was sent.
+    fn hand_over<R: Wait>(&mut self, rt: &R) -> bool
+        ensures { MatchBool result
+            (self.new.done ≡ record self.old.done { sent = with_sent self.old.done.sent self.old.job })
+            ((self.new.done ≡ self.old.done) × (self.new.job ≡ self.old.job)) }
+    {
+        if !self.is_handed_over(rt) {
+            return false;
+        }
+        let job = mem::replace(&mut self.job, blank_job());
+        match self.jobs.send(rt, job, &mut self.done.sent) {
+            None => true,
+            Some(back) => {
+                self.job = back;
+                false
+            }
+        }
+    }
+
+    // Works its job off.
+    fn work<R: Wait>(&mut self, rt: &R)
+        ensures { IsWorkedHere B.changes B.ended M.is_moment self.old.job self.old.done self.new.done }
+    {
+        let done = &mut self.done;
+        self.workshop
+            .work(rt, &mut self.tools, UNSENT, &self.job, &mut done.share);
+    }
+
+    // Whether its job is handed over.
+    fn is_handed_over<R: Wait>(&self, rt: &R) -> bool {
+        match self.handover {
+            Handover::Every => true,
+            Handover::Dear(least) => self.cost(rt) >= least,
+            Handover::Never => false,
+        }
+    }
+
+    // How many instructions its job's run takes at most, by the program that its slot has now; 0 where it runs none.
+    fn cost<R: Wait>(&self, rt: &R) -> u32 {
+        match &self.job.ask {
+            Ask::Run(_) => match self.workshop.bench.receipt(rt, &self.job) {
+                Some(receipt) => receipt.cost,
+                None => 0,
+            },
+            Ask::Install(_) | Ask::Remove | Ask::Describe | Ask::Discover => 0,
+        }
+    }
+
+    // Hands a signal to each shard.
+    fn signal<R: Wait>(&self, rt: &R, from: Endpoint, id: u16, reset: bool) {
+        for shard in 0..SHARDS {
+            self.workshop.bench.signal(rt, shard, from, id, reset);
+        }
+    }
+}
