@@ -5,9 +5,9 @@ Run it at the top of the repository, behind `rt run` in crates/fcd, with Debian'
 
     python3 docs/socket/processor_time.py
 
-Each measurement has a fresh server, and one client that sends 1,000 confirmable requests, each when the one before it was answered.
-What is told is the user and the system time of the server's process over these, divided by their number: five rounds, the least
-and the middle one. A fresh server holds 1,024 exchanges for 247 s, so that no round can be longer.
+Each measurement has a fresh server, pinned to two processors of its own, and 1,000 confirmable requests from one client or from eight, pinned to two others, of
+which at most 64 wait for their answer. What is told is the user and the system time of the server's process over these, divided by their number: the least and the
+middle one of fifteen rounds, in which the servers take turns. A fresh server holds 1,024 exchanges for 247 s, so that no round can be longer.
 """
 import os
 import shutil
@@ -19,16 +19,25 @@ import time
 
 FCD = "crates/fcd/out/fcd"
 REQUESTS = 1000
-ROUNDS = 5
+WAITING = 64
+ROUNDS = 15
 PORT = 5698
+ADDRESS = ("127.0.0.1", PORT)
 
 # `mov64 r0, 0` and `exit`, with no variables and with eight bytes of them.
 PLAIN = bytes.fromhex("46434231000002000200000000000000" "b700000000000000" "9500000000000000")
 EIGHT = bytes.fromhex("46434231080002000200000000000000" "b700000000000000" "9500000000000000")
 
+PUT = bytes.fromhex("40030000b1700130ff")
+GET = bytes.fromhex("40010000b1720130")
+POST = bytes.fromhex("40020000b1720130")
+# libcoap's server has no resource that a POST changes; `/` is a short text.
+ROOT = bytes.fromhex("40010000")
+EXAMPLE = bytes.fromhex("40030000bc") + b"example_data\xff1"
+
 
 def processor_time(pid):
-    """User and system time of a process so far, in nanoseconds by the scheduler where it tells them, of all its threads."""
+    """User and system time of a process so far, in nanoseconds by the scheduler, of all its threads."""
     total = 0
     for thread in os.listdir(f"/proc/{pid}/task"):
         with open(f"/proc/{pid}/task/{thread}/schedstat", encoding="ascii") as file:
@@ -36,51 +45,72 @@ def processor_time(pid):
     return total
 
 
-def asked(client, server, request, number):
-    """Sends a request under this message id, and waits for its answer."""
-    client.sendto(request[:2] + number.to_bytes(2, "big") + request[4:], server)
-    return client.recv(2048)
+def numbered(request, number):
+    return request[:2] + number.to_bytes(2, "big") + request[4:]
 
 
-def round_of(words, setup, request, code):
+def ask(clients, request, code):
+    """Has the clients send the requests, some at a time, and take their answers."""
+    waiting = WAITING // len(clients)
+    each = REQUESTS // len(clients)
+    for begin in range(0, each, waiting):
+        numbers = range(begin, min(begin + waiting, each))
+        for number in numbers:
+            for client in clients:
+                client.send(numbered(request, number + 2))
+        for _ in numbers:
+            for client in clients:
+                answer = client.recv(2048)
+                if answer[1] != code:
+                    sys.exit(f"answered {answer.hex()}")
+
+
+def client_of():
+    client = socket.socket(socket.AF_INET, socket.SOCK_DGRAM)
+    client.settimeout(2)
+    client.connect(ADDRESS)
+    return client
+
+
+def round_of(words, setup, request, code, count):
     """Microseconds of the server's processor time for each request of one round."""
-    server = subprocess.Popen(words, stdout=subprocess.DEVNULL, stderr=subprocess.DEVNULL)
+    server = subprocess.Popen(["taskset", "-c", "2,3", *words], stdout=subprocess.DEVNULL, stderr=subprocess.DEVNULL)
     try:
-        time.sleep(0.5)
-        client = socket.socket(socket.AF_INET, socket.SOCK_DGRAM)
-        client.settimeout(2)
-        address = ("127.0.0.1", PORT)
+        time.sleep(0.3)
+        clients = [client_of() for _ in range(count)]
         if setup:
-            asked(client, address, setup, 1)
+            clients[0].send(numbered(setup, 1))
+            clients[0].recv(2048)
         before = processor_time(server.pid)
-        for number in range(REQUESTS):
-            answer = asked(client, address, request, number + 2)
-            if answer[1] != code:
-                sys.exit(f"answered {answer.hex()}")
-        return (processor_time(server.pid) - before) / REQUESTS / 1000
+        ask(clients, request, code)
+        return (processor_time(server.pid) - before) / (REQUESTS // count * count) / 1000
     finally:
         server.terminate()
         server.wait()
 
 
-def measure(name, words, setup, request, code):
-    rounds = [round_of(words, setup, request, code) for _ in range(ROUNDS)]
-    print(f"| {name} | {min(rounds):.1f} | {statistics.median(rounds):.1f} |", flush=True)
-
-
 def main():
-    put = bytes.fromhex("40030000b1700130ff")
-    get = bytes.fromhex("40010000b1720130")
-    post = bytes.fromhex("40020000b1720130")
-    # libcoap serves its time resource; `/` is a short text
-    root = bytes.fromhex("40010000")
-    print("| a request | least, us | middle, us |\n| --- | --- | --- |")
-    for workers in ("1", "2"):
-        serve = [FCD, "serve", "--port", str(PORT), "--workers", workers]
-        measure(f"fcd, {workers} workers, GET of a program of 2 slots", serve, put + PLAIN, get, 0x45)
-        measure(f"fcd, {workers} workers, POST that commits", serve, put + EIGHT, post, 0x44)
-    libcoap = shutil.which("coap-server") or "coap-server-notls"
-    measure("coap-server, GET of /", [libcoap, "-A", "127.0.0.1", "-p", str(PORT)], b"", root, 0x45)
+    os.sched_setaffinity(0, {0, 1})
+    libcoap = [shutil.which("coap-server") or "coap-server-notls", "-A", "127.0.0.1", "-p", str(PORT)]
+    serve = [FCD, "serve", "--port", str(PORT)]
+    alone = [*serve, "--workers", "1"]
+    kinds = [
+        ("`fcd serve`, GET of a program of 2 slots", serve, PUT + PLAIN, GET, 0x45),
+        ("`fcd serve`, POST that commits", serve, PUT + EIGHT, POST, 0x44),
+        ("`fcd serve --workers 1`, GET", alone, PUT + PLAIN, GET, 0x45),
+        ("`fcd serve --workers 1`, POST", alone, PUT + EIGHT, POST, 0x44),
+        ("`coap-server`, GET of `/`", libcoap, b"", ROOT, 0x45),
+        ("`coap-server`, PUT of `example_data`", libcoap, EXAMPLE, EXAMPLE, 0x44),
+    ]
+    times = {}
+    for _ in range(ROUNDS):
+        for name, *kind in kinds:
+            for count in (1, 8):
+                times.setdefault((name, count), []).append(round_of(*kind, count))
+    print("| A request | 1 client: least, us | middle, us | 8 clients: least, us | middle, us |\n|---|---|---|---|---|")
+    for name, *_ in kinds:
+        cells = [f(times[name, count]) for count in (1, 8) for f in (min, statistics.median)]
+        print(f"| {name} | " + " | ".join(f"{cell:.1f}" for cell in cells) + " |", flush=True)
     return 0
 
 

@@ -390,11 +390,34 @@ impl Front {
         ensures after { let x = request_received self.old endpoint message.now (asked_by request.now) in
             self.new ≡ after_received x self.old endpoint }
     {
-        let Some(block) = request.block1 else {
-            let opening = self.open_exchange(endpoint, message);
-            write_job(job, opening, endpoint, message, request, request.payload);
-            return Heard::Job;
-        };
+        match request.block1 {
+            None => {
+                let opening = self.open_exchange(endpoint, message);
+                write_job(job, opening, endpoint, message, request, request.payload);
+                Heard::Job
+            }
+            Some(block) => self.serve_block(endpoint, message, request, block, job, reply),
+        }
+    }
+
+    // Joins the payload of a new request, which sends this block, to its transfer: carries the request out, or answers it at once.
+    fn serve_block(
+        &mut self,
+        endpoint: Endpoint,
+        message: &Message<'_>,
+        request: &Request<'_>,
+        block: Block,
+        job: &mut Job,
+        reply: &mut Emission,
+    ) -> Heard
+        requires new { look_in self.old endpoint message.now ≡ IsNew }
+        requires limits { IsWithinLimits (asked_by request.now) }
+        requires block { request.now.block1 ≡ Some block }
+        ensures delivered { let x = request_received self.old endpoint message.now (asked_by request.now) in
+            heard result job.new reply.new ≡ handed_on x self.old endpoint }
+        ensures after { let x = request_received self.old endpoint message.now (asked_by request.now) in
+            self.new ≡ after_received x self.old endpoint }
+    {
         match self.add(endpoint, request, block) {
             Added::Whole(body) => {
                 let opening = self.open_exchange(endpoint, message);

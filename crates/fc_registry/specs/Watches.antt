@@ -1,5 +1,5 @@
 -- The observers of a shard's slots, and the calls on them.
-use Rattle.std.specs.Prelude.{ℕ, zero, suc, ◌+◌, ◌*◌, ◌/◌, ◌≤◌, Bool, true, false, if◌then◌else◌, Option, Some, None, is_some, List, [], ◌∷◌, ◌++◌, map, max, slice_index_or, slice_set}
+use Rattle.std.specs.Prelude.{ℕ, zero, suc, ◌+◌, ◌*◌, ◌/◌, ◌≤◌, Bool, true, false, if◌then◌else◌, Option, Some, None, is_none, is_some, ◌&&◌, List, [], ◌∷◌, ◌++◌, map, max, slice_index_or, slice_set}
 use Rattle.std.specs.List.{All}
 use Rattle.coap_msg.specs.declared.types.Endpoint.{Endpoint}
 use Rattle.fc_observe.specs.declared.entry.Turn.{Turn}
@@ -72,6 +72,10 @@ is_due_at shard k = is_some (next_turn (noticed_at shard k) (at_moment shard.now
 -- the first such place
 abbrev pub due_place : Shard → Option ℕ
 due_place shard = place_from (is_due_at shard) 8 0
+
+-- no notification is late, and no observer is due
+abbrev pub is_quiet : Shard → Bool
+is_quiet shard = is_none (late_place shard) && is_none (due_place shard)
 
 -- the shard after a turn was given there
 abbrev pub after_due : Option ℕ → Shard → Shard

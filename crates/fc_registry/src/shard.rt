@@ -1,5 +1,5 @@
 //! Shards of slots.
-ghost use Rattle.std.specs.Prelude.{◌≡◌, ℕ, ◌+◌, ◌/◌, ◌<◌, ◌≤◌, ◌↔◌, [], ◌∷◌, true, false, length, map, replicate, IfOk, IfSome, IsTrue};
+ghost use Rattle.std.specs.Prelude.{◌≡◌, if◌then◌else◌, ℕ, ◌+◌, ◌/◌, ◌<◌, ◌≤◌, ◌↔◌, [], ◌∷◌, true, false, length, map, replicate, IfOk, IfSome, IsTrue};
 ghost use Rattle.fc_machine.specs.Ran.{meaning_of};
 ghost use Rattle.fc_registry.specs.Slots.{IsOwned, slot_in, with_slot, new_slot, last_serial, version_in, vars_in};
 ghost use Rattle.fc_registry.specs.Changes.{Committed as Wrote, after_changes};
@@ -9,7 +9,7 @@ ghost use Rattle.fc_registry.specs.Record.{IsRing};
 ghost use Rattle.fc_observe.specs.Calls.{after_calls, observers_after};
 ghost use Rattle.fc_registry.specs.Notes.{NotesTo};
 ghost use Rattle.fc_registry.specs.Turns.{due_job};
-ghost use Rattle.fc_registry.specs.Watches.{IsSentUpTo, after_due, after_given_up, after_tick, due_place, handed, is_due_at, late_place, new_watches, noticed_at, signal_call, signalled, ticked_in, watch_at};
+ghost use Rattle.fc_registry.specs.Watches.{IsSentUpTo, after_due, after_given_up, after_tick, due_place, handed, is_due_at, is_quiet, late_place, new_watches, noticed_at, signal_call, signalled, ticked_in, watch_at};
 
 use crate::body::Body;
 use crate::commit::{CommitOutcome, Committed};
@@ -237,7 +237,7 @@ impl Shard {
         ensures after { self.new ≡ after_due (due_place (handed self.old now)) (handed self.old now) }
     {
         self.now = self.now.max(now);
-        let place = self.due_place()?;
+        let place = self.due_place(self.now)?;
         let noticed = self.noticed_at(place);
         let slot = SlotNumber::new(SHARDS * place as u8 + self.index);
         let watch = &mut self.watches[place];
@@ -290,7 +290,7 @@ impl Shard {
         ensures after { self.new ≡ after_tick (late_place (handed self.old now)) (handed self.old now) }
     {
         self.now = self.now.max(now);
-        match self.late_place() {
+        match self.late_place(self.now) {
             None => Ticked::Quiet,
             Some(place) => self.watches[place].tick(self.now),
         }
@@ -305,34 +305,48 @@ impl Shard {
         noticed_of(state)
     }
 
-    // Whether an observer at a place is due.
-    fn is_due_at(&self, place: usize) -> bool
-        requires { place < 8 }
-        ensures { result ≡ is_due_at self.entry.now place }
+    /// Advances to a moment in milliseconds where no notification is late by then, and no observer is due: so `tick` and `next_due` would do
+    /// nothing else. Tells whether it did.
+    pub fn advance_if_quiet(&mut self, now: u64) -> bool
+        ensures quiet { result ≡ is_quiet (handed self.old now) }
+        ensures after { self.new ≡ (if result then handed self.old now else self.old) }
     {
-        self.watches[place].is_due(self.now, self.noticed_at(place))
+        let now = self.now.max(now);
+        let quiet = self.late_place(now).is_none() && self.due_place(now).is_none();
+        if quiet {
+            self.now = now;
+        }
+        quiet
     }
 
-    // The first place with an observer that is due.
-    fn due_place(&self) -> Option<usize>
-        ensures place { result ≡ due_place self.entry.now }
+    // Whether an observer at a place is due at a moment.
+    fn is_due_at(&self, now: u64, place: usize) -> bool
+        requires { place < 8 }
+        ensures { result ≡ is_due_at (record self.entry.now { now = now }) place }
+    {
+        self.watches[place].is_due(now, self.noticed_at(place))
+    }
+
+    // The first place with an observer that is due at a moment.
+    fn due_place(&self, now: u64) -> Option<usize>
+        ensures place { result ≡ due_place (record self.entry.now { now = now }) }
         ensures within { IfSome result (λ k. k < 8) }
     {
         for place in 0..PLACES {
-            if self.is_due_at(place) {
+            if self.is_due_at(now, place) {
                 return Some(place);
             }
         }
         None
     }
 
-    // The first place with a notification that is late.
-    fn late_place(&self) -> Option<usize>
-        ensures place { result ≡ late_place self.entry.now }
+    // The first place with a notification that is late at a moment.
+    fn late_place(&self, now: u64) -> Option<usize>
+        ensures place { result ≡ late_place (record self.entry.now { now = now }) }
         ensures within { IfSome result (λ k. k < 8) }
     {
         for place in 0..PLACES {
-            if self.watches[place].is_late(self.now) {
+            if self.watches[place].is_late(now) {
                 return Some(place);
             }
         }

@@ -5,3 +5,4 @@ pub mod Others
 pub mod ShardEvents
 pub mod Beginning
 pub mod Served
+pub mod Quiet

@@ -1,9 +1,11 @@
 //! A server on one thread: each datagram that it hears is worked off to its answer.
-ghost use Rattle.std.specs.Prelude.{◌≡◌, ℕ, ◌<◌, ◌≤◌, [], true, IfOk};
+ghost use Rattle.std.specs.Prelude.{◌≡◌, ℕ, ◌<◌, ◌≤◌, [], true, None, IfOk, MatchBool};
 ghost use Rattle.arrayvec.specs.ArrayVec.{ArrayVec};
 ghost use Rattle.fc_help.specs.Request.{Request};
 ghost use Rattle.fc_registry.specs.declared.job.Ask.{Ask};
+ghost use Rattle.fc_registry.specs.Shards.{shard_at};
 ghost use Rattle.fc_registry.specs.Slots.{last_serial};
+ghost use Rattle.fc_registry.specs.Watches.{handed, is_quiet};
 ghost use Rattle.fc_core.specs.Exchanges.{advanced};
 ghost use Rattle.fc_core.specs.History.{Begins};
 ghost use Rattle.fc_core.specs.Receiving.{delivered, emission_if};
@@ -99,6 +101,16 @@ impl Engine {
         resend(&mut self.server, shard, now)
     }
 
+    /// Advances a shard, 0 to 7, to a moment in milliseconds where no notification is late by then, and no observer is due: the event ShardTick, after which
+    /// Due would do nothing. Tells whether it did.
+    pub fn advance_if_quiet(&mut self, shard: u8, now: u64) -> bool
+        requires { shard < 8 }
+        ensures quiet { result ≡ is_quiet (handed (shard_at self.old.shards shard) now) }
+        ensures after { MatchBool result (TicksShard shard now self.old self.new None) (self.new ≡ self.old) }
+    {
+        advance_if_quiet(&mut self.server, shard, now)
+    }
+
     /// Asks a shard, 0 to 7, for the turn of an observer that is due at a moment in milliseconds, and works it off: the events Due, and,
     /// where it brings a turn, Take, Fresh, Note and GiveUp of it. The random word says how long a confirmable notification is waited for.
     pub fn notify(&mut self, shard: u8, now: u64, random: u16) -> Notified
@@ -165,6 +177,15 @@ fn resend(server: &mut Server, shard: u8, now: u64) -> Ticked
     ensures { TicksShard shard now server.old server.new (resent result) }
 {
     server.tick_shard(shard, now)
+}
+
+fn advance_if_quiet(server: &mut Server, shard: u8, now: u64) -> bool
+    requires shard { shard < 8 }
+    requires reachable { IsReachable server.old }
+    ensures quiet { result ≡ is_quiet (handed (shard_at server.old.shards shard) now) }
+    ensures after { MatchBool result (TicksShard shard now server.old server.new None) (server.new ≡ server.old) }
+{
+    server.advance_if_quiet(shard, now)
 }
 
 fn notify(server: &mut Server, task: &mut Task, shard: u8, now: u64, random: u16) -> Notified

@@ -1,8 +1,8 @@
 //! The front, the shards and the machine, and one call an event.
-ghost use Rattle.std.specs.Prelude.{◌≡◌, ℕ, ◌<◌, ◌≤◌, [], false, length, slice_set, IfOk};
+ghost use Rattle.std.specs.Prelude.{◌≡◌, ℕ, ◌<◌, ◌≤◌, if◌then◌else◌, [], false, length, slice_set, IfOk};
 ghost use Rattle.fc_registry.specs.Shards.{first_shards, shard_at};
 ghost use Rattle.fc_registry.specs.Slots.{last_serial};
-ghost use Rattle.fc_registry.specs.Watches.{signal_call, signalled};
+ghost use Rattle.fc_registry.specs.Watches.{handed, is_quiet, signal_call, signalled};
 ghost use Rattle.fc_core.specs.declared.event.Event.{Event};
 ghost use Rattle.fc_core.specs.Exchanges.{advanced, first_front};
 ghost use Rattle.fc_core.specs.Heads.{no_words};
@@ -125,6 +125,19 @@ impl Server {
         ensures words { self.new.words ≡ self.old.words }
     {
         self.shards[usize::from(shard)].tick(now)
+    }
+
+    /// Advances a shard to a moment in milliseconds where no notification is late by then, and no observer is due. Tells whether it did.
+    pub fn advance_if_quiet(&mut self, shard: u8, now: u64) -> bool
+        requires { shard < length self.old.shards }
+        ensures quiet { result ≡ is_quiet (handed (shard_at self.old.shards shard) now) }
+        ensures front { self.new.front ≡ self.old.front }
+        ensures shards { self.new.shards ≡ (if result
+            then slice_set self.old.shards shard (handed (shard_at self.old.shards shard) now)
+            else self.old.shards) }
+        ensures words { self.new.words ≡ self.old.words }
+    {
+        self.shards[usize::from(shard)].advance_if_quiet(now)
     }
 
     /// A task looks at the head word of a slot.

@@ -3,7 +3,7 @@ ghost use Rattle.std.specs.Prelude.{◌≡◌, ◌+◌, ◌<◌, ◌≤◌, vec_
 ghost use Rattle.fc_core.specs.Receiving.{heard};
 ghost use Rattle.fc_registry.specs.declared.job.Job.{Job};
 ghost use Rattle.fc_registry.specs.Slots.{last_serial};
-ghost use Rattle.fc_workers.specs.Answers.{IsSomeDelivery, IsSomeTick};
+ghost use Rattle.fc_workers.specs.Answers.{IsSomeDelivery, IsSomeQuiet, IsSomeTick};
 
 use crate::replies::Replies;
 use coap_msg::{Emission, Endpoint};
@@ -49,6 +49,10 @@ pub(crate) trait Intake {
     fn resend<R: Wait>(&mut self, rt: &R, shard: u8, now: u64) -> Ticked
         ensures { IsSomeTick now result };
 
+    // Advances a shard, 0 to 7, to a moment in milliseconds where nothing is late and nobody is due. Tells whether it did.
+    fn advance_if_quiet<R: Wait>(&mut self, rt: &R, shard: u8, now: u64) -> bool
+        ensures { IsSomeQuiet now result };
+
     // Has the observer of a shard, 0 to 7, notified that is due first at a moment in milliseconds, here or by a worker. Tells whether there was one.
     fn notify<R: Wait>(&mut self, rt: &R, shard: u8, now: u64) -> bool;
 }
@@ -71,6 +75,10 @@ impl<'a, B: Bench, G: Gate, W: Wire, M: Moments> Intake for Dispatcher<'a, B, G,
 
     fn resend<R: Wait>(&mut self, rt: &R, shard: u8, now: u64) -> Ticked {
         Dispatcher::resend(self, rt, shard, now)
+    }
+
+    fn advance_if_quiet<R: Wait>(&mut self, rt: &R, shard: u8, now: u64) -> bool {
+        Dispatcher::advance_if_quiet(self, rt, shard, now)
     }
 
     fn notify<R: Wait>(&mut self, rt: &R, shard: u8, now: u64) -> bool {

@@ -1,5 +1,5 @@
 //! A server on a socket: datagrams are received on one thread, and their jobs are worked off by others, or by the same.
-ghost use Rattle.std.specs.Prelude.{◌≡◌, ◌≤◌, ◌%◌, ◌⊎◌, IfOk, List, is_some, length};
+ghost use Rattle.std.specs.Prelude.{◌≡◌, ◌<◌, ◌≤◌, ◌%◌, ◌⊎◌, IfOk, List, is_some, length};
 ghost use Rattle.fc_core.specs.Exchanges.{advanced};
 ghost use Rattle.fc_core.specs.Receiving.{delivered, emission_if};
 ghost use Rattle.fc_registry.specs.Slots.{last_serial};
@@ -190,14 +190,33 @@ impl<'a, S: Source, K: Sink, M: Moments> Receiver<'a, S, K, M> {
             let Some(shard) = settling.shard() else {
                 return;
             };
-            let emission = if settling.notifies() {
-                settling.notified(notify(rt, intake, shard, now))
+            if !settling.notifies() && intake.advance_if_quiet(rt, shard, now) {
+                settling.pass();
             } else {
-                settling.resent(intake.resend(rt, shard, now))
-            };
-            if let Some(emission) = emission {
-                replies.count_if_any(Some(self.sink.send(&emission)));
+                self.settle_shard(rt, intake, shard, now, &mut settling, replies);
             }
+        }
+    }
+
+    // Sends what is late of a shard again, or has who is due notified.
+    fn settle_shard<N: Intake, R: Wait>(
+        &self,
+        rt: &R,
+        intake: &mut N,
+        shard: u8,
+        now: u64,
+        settling: &mut Settling,
+        replies: &mut Replies,
+    )
+        requires { settling.old.shard < 8 }
+    {
+        let emission = if settling.notifies() {
+            settling.notified(notify(rt, intake, shard, now))
+        } else {
+            settling.resent(intake.resend(rt, shard, now))
+        };
+        if let Some(emission) = emission {
+            replies.count_if_any(Some(self.sink.send(&emission)));
         }
     }
 }

@@ -1,5 +1,5 @@
 //! What follows a datagram or a moment: what is late is sent again, and observers that are due are notified.
-ghost use Rattle.std.specs.Prelude.{◌≡◌, ◌<◌, Bool, IfSome, List};
+ghost use Rattle.std.specs.Prelude.{◌≡◌, ◌+◌, ◌<◌, Bool, IfSome, List};
 ghost use Rattle.fc_core.specs.Legal.{resent};
 ghost use Rattle.fc_server.specs.Notified.{notification_in};
 ghost use Rattle.fc_server.specs.Serving.{AsksForTurn, TicksShard};
@@ -57,10 +57,13 @@ impl Settling {
         ensures { (step : SettlingStep) × IsStep now random step engine.old engine.new × (sent_in_step step ≡ result) }
     {
         if self.notifies {
-            self.notify(engine, now, random)
-        } else {
-            self.resend(engine, now)
+            return self.notify(engine, now, random);
         }
+        if engine.advance_if_quiet(self.shard, now) {
+            self.pass();
+            return None;
+        }
+        self.resend(engine, now)
     }
 
     // Has the first late notification of its shard sent again, or goes on to those that are due.
@@ -90,6 +93,15 @@ impl Settling {
         } else {
             None
         }
+    }
+
+    /// Goes on to the next shard.
+    pub(crate) fn pass(&mut self)
+        requires { self.old.shard < 8 }
+        ensures { self.new.shard ≡ self.old.shard + 1 }
+    {
+        self.shard += 1;
+        self.notifies = false;
     }
 
     /// Whether the shard that it is at is to be asked who is due; else it is to be ticked.
@@ -126,8 +138,7 @@ impl Settling {
                 None
             }
             Notified::Nobody => {
-                self.shard += 1;
-                self.notifies = false;
+                self.pass();
                 None
             }
         }

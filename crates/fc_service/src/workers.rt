@@ -188,6 +188,10 @@ impl<'a, 'b, N: Intake> Desk<'a, 'b, N> {
             let Some(shard) = settling.shard() else {
                 break;
             };
+            if !settling.notifies() && self.intake.advance_if_quiet(rt, shard, now) {
+                settling.pass();
+                continue;
+            }
             let emission = if settling.notifies() {
                 settling.notified(self.notify(rt, shard, now))
             } else {

@@ -1,6 +1,6 @@
 -- What a call answers at some slot, and what is tallied of it. Which slot it was is not said: between two calls of a job,
 -- others change the slots.
-use Rattle.std.specs.Prelude.{◌≡◌, ℕ, ◌+◌, ◌%◌, ◌<◌, ◌==◌, if◌then◌else◌, List, Option, max, min}
+use Rattle.std.specs.Prelude.{◌≡◌, ℕ, ◌+◌, ◌%◌, ◌<◌, ◌==◌, if◌then◌else◌, Bool, List, Option, max, min}
 use Rattle.coap_msg.specs.declared.types.Emission.{Emission}
 use Rattle.coap_msg.specs.declared.types.Endpoint.{Endpoint}
 use Rattle.fc_core.specs.declared.front.Answered.{Answered}
@@ -27,7 +27,7 @@ use Rattle.fc_registry.specs.declared.note.Notification.{Notification}
 use Rattle.fc_registry.specs.Notes.{IsNoted}
 use Rattle.fc_registry.specs.Slots.{Shard, Slot, Ticket}
 use Rattle.fc_registry.specs.Turns.{due_job}
-use Rattle.fc_registry.specs.Watches.{due_place, handed, late_place, ticked_in}
+use Rattle.fc_registry.specs.Watches.{due_place, handed, is_quiet, late_place, ticked_in}
 use Rattle.fc_registry.specs.declared.receipt.Receipt.{Receipt}
 use Rattle.fc_registry.specs.declared.shard.Removal.{Removal}
 use Rattle.fc_registry.specs.declared.shard.Removal.TheVariants.{Removed}
@@ -66,6 +66,11 @@ pub record IsSomeTurn (now : ℕ) (job : Option Job) : Type 0 where
 pub record IsSomeTick (now : ℕ) (ticked : Ticked) : Type 0 where
   pub shard : Shard
   pub ticked_is : ticked ≡ ticked_in (late_place (handed shard now)) (handed shard now)
+
+-- some shard has nothing late and nobody due at a moment, or it has
+pub record IsSomeQuiet (now : ℕ) (quiet : Bool) : Type 0 where
+  pub shard : Shard
+  pub quiet_is : quiet ≡ is_quiet (handed shard now)
 
 -- a notification of a turn by this message id, at a moment or a later one that its shard was handed, at some serial of its slot, to
 -- some observers, comes to this

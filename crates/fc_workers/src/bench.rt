@@ -4,7 +4,7 @@ ghost use Rattle.atomic_table.specs.Seated.{TableId};
 ghost use Rattle.fc_core.specs.Contents.{IsOf};
 ghost use Rattle.fc_core.specs.Receiving.{emission_if, heard};
 ghost use Rattle.fc_heads.specs.Heads.{IsRaised, fresh, peeked, word_of};
-ghost use Rattle.fc_workers.specs.Answers.{AreTallied, IsSomeAnswer, IsSomeCommit, IsSomeDelivery, IsSomeDraw, IsSomeInstall, IsSomeNote, IsSomeReceipt, IsSomeRemoval, IsSomeTaking, IsSomeTick, IsSomeTurn, commit_changes, ended_by, install_changes, removal_changes, saturated};
+ghost use Rattle.fc_workers.specs.Answers.{AreTallied, IsSomeAnswer, IsSomeCommit, IsSomeDelivery, IsSomeDraw, IsSomeInstall, IsSomeNote, IsSomeQuiet, IsSomeReceipt, IsSomeRemoval, IsSomeTaking, IsSomeTick, IsSomeTurn, commit_changes, ended_by, install_changes, removal_changes, saturated};
 
 use coap_msg::{Emission, Endpoint};
 use fc_core::{Answer, Heard};
@@ -103,6 +103,11 @@ pub trait Bench {
     /// Advances a shard, 0 to 7, to a moment in milliseconds, as [`Shard::tick`](fc_registry::Shard::tick) does.
     fn tick_shard<R: Wait>(&self, rt: &R, shard: u8, now: u64) -> Ticked
         ensures { IsSomeTick now result };
+
+    /// Advances a shard, 0 to 7, to a moment in milliseconds where nothing is late and nobody is due, as
+    /// [`Shard::advance_if_quiet`](fc_registry::Shard::advance_if_quiet) does. Tells whether it did.
+    fn advance_if_quiet<R: Wait>(&self, rt: &R, shard: u8, now: u64) -> bool
+        ensures { IsSomeQuiet now result };
 
     /// Asks a shard, 0 to 7, for a turn at a moment in milliseconds, as [`Shard::next_due`](fc_registry::Shard::next_due) gives it.
     fn next_due<R: Wait>(&self, rt: &R, shard: u8, now: u64) -> Option<Job>

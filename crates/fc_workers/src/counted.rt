@@ -6,7 +6,7 @@ ghost use Rattle.fc_registry.specs.Calls.{CommitsTo, TakesAt, after_taking, inst
 ghost use Rattle.fc_registry.specs.Notes.{NotesTo};
 ghost use Rattle.fc_registry.specs.Record.{IsRing};
 ghost use Rattle.fc_registry.specs.Turns.{due_job};
-ghost use Rattle.fc_registry.specs.Watches.{IsSentUpTo, after_due, after_given_up, after_tick, due_place, handed, late_place, signal_call, signalled, ticked_in, watch_at};
+ghost use Rattle.fc_registry.specs.Watches.{IsSentUpTo, after_due, after_given_up, after_tick, due_place, handed, is_quiet, late_place, signal_call, signalled, ticked_in, watch_at};
 ghost use Rattle.fc_workers.specs.Answers.{commit_changes, install_changes, removal_changes};
 ghost use Rattle.fc_workers.specs.Counts.{HasEightSlots, serials, counts};
 
@@ -107,6 +107,14 @@ impl<L: Ledger> Counted<L> {
         ensures after { let at = handed self.old.shard now in self.new ≡ record self.old { shard = after_tick (late_place at) at } }
     {
         self.shard.tick(now)
+    }
+
+    /// Advances to a moment where nothing is late and nobody is due, as [`Shard::advance_if_quiet`] does.
+    pub fn advance_if_quiet(&mut self, now: u64) -> bool
+        ensures quiet { result ≡ is_quiet (handed self.old.shard now) }
+        ensures after { self.new ≡ (if result then record self.old { shard = handed self.old.shard now } else self.old) }
+    {
+        self.shard.advance_if_quiet(now)
     }
 
     /// Gives a turn to the first observer that is due, as [`Shard::next_due`] does.

@@ -1,7 +1,7 @@
 //! Who has jobs, and hands them to workers or works them off.
 ghost use Rattle.std.specs.Prelude.{◌≡◌, ◌<◌, MatchBool};
 ghost use Rattle.fc_jobs.specs.Ends.{with_sent};
-ghost use Rattle.fc_workers.specs.Answers.{IsSomeTick};
+ghost use Rattle.fc_workers.specs.Answers.{IsSomeQuiet, IsSomeTick};
 ghost use Rattle.fc_workers.specs.Dispatch.{IsDispatched, IsTakenIn, IsTurnAsked, IsWorkedHere};
 ghost use Rattle.fc_workers.specs.Shares.{new_share};
 
@@ -128,6 +128,13 @@ impl<'a, B: Bench, G: Gate, W: Wire, M: Moments> Dispatcher<'a, B, G, W, M> {
         self.workshop.bench.tick_shard(rt, shard, now)
     }
 
+    /// Advances a shard, 0 to 7, to a moment in milliseconds where nothing is late and nobody is due. Tells whether it did.
+    pub fn advance_if_quiet<R: Wait>(&self, rt: &R, shard: u8, now: u64) -> bool
+        ensures { IsSomeQuiet now result }
+    {
+        self.workshop.bench.advance_if_quiet(rt, shard, now)
+    }
+
     /// Asks a shard, 0 to 7, for the turn of the observer that is due first at a moment in milliseconds, and dispatches it. Tells whether there was one.
     pub fn notify<R: Wait>(&mut self, rt: &R, shard: u8, now: u64) -> bool
         ensures { IsTurnAsked B.changes B.ended M.is_moment now result self.old.done self.new.done }
@@ -158,9 +165,19 @@ impl<'a, B: Bench, G: Gate, W: Wire, M: Moments> Dispatcher<'a, B, G, W, M> {
             (self.new.done ≡ record self.old.done { sent = with_sent self.old.done.sent self.old.job })
             ((self.new.done ≡ self.old.done) × (self.new.job ≡ self.old.job)) }
     {
-        if !self.is_handed_over(rt) {
-            return false;
+        if self.is_handed_over(rt) {
+            self.send(rt)
+        } else {
+            false
         }
+    }
+
+    // Sends its job to the workers. Tells whether it was sent.
+    fn send<R: Wait>(&mut self, rt: &R) -> bool
+        ensures { MatchBool result
+            (self.new.done ≡ record self.old.done { sent = with_sent self.old.done.sent self.old.job })
+            ((self.new.done ≡ self.old.done) × (self.new.job ≡ self.old.job)) }
+    {
         let job = mem::replace(&mut self.job, blank_job());
         match self.jobs.send(rt, job, &mut self.done.sent) {
             None => true,

@@ -358,6 +358,10 @@ impl<
         at_shard!(self, rt, shard, counted => counted.tick(now))
     }
 
+    fn advance_if_quiet<R: Wait>(&self, rt: &R, shard: u8, now: u64) -> bool {
+        at_shard!(self, rt, shard, counted => counted.advance_if_quiet(now))
+    }
+
     fn next_due<R: Wait>(&self, rt: &R, shard: u8, now: u64) -> Option<Job> {
         at_shard!(self, rt, shard, counted => counted.next_due(now))
     }

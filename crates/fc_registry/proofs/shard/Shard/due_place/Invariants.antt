@@ -3,4 +3,4 @@ use Rattle.fc_registry.specs.Watches.{is_due_at, place_from}
 use Rattle.fc_registry.proofs.shard.Shard.due_place.Given as goal
 
 abbrev pub invariant-loop-place : goal.invariant-loop-place
-invariant-loop-place l = place_from (is_due_at l.self) 8 0 ≡ place_from (is_due_at l.self) (8 - l.place) l.place
+invariant-loop-place l = place_from (is_due_at (record l.self { now = l.now })) 8 0 ≡ place_from (is_due_at (record l.self { now = l.now })) (8 - l.place) l.place
