@@ -11,14 +11,14 @@ use fc_service::socket::{Sink, Source, open};
 use log::sink::Memory;
 use log::{LevelFilter, Logged};
 use std::alloc::{AllocError, Global};
-use std::net::{Net, UdpSocket};
+use std::net::{Ipv4Addr, Net, SocketAddrV4, UdpSocket};
 use std::process::Abort;
 use std::sync::Wait;
 use std::sync::atomic::{AtomicUsize, Ordering};
 use std::test::Fail;
-use std::thread;
 use std::thread::Threads;
-use std::time::Clock;
+use std::time::{Clock, Duration};
+use std::{io, thread};
 
 // A program that counts POSTs in eight bytes of variables: nine slots, budget nine.
 static COUNT: [u8; 88] = [
@@ -319,27 +319,57 @@ static OWN: [(&str, &str); 8] = [
     ("/p/8", "/r/8"),
 ];
 
-// Posts 120 times: to a client's own counter and to the common one in turn.
-fn post_both<R: Abort + Net + Clock + AllocGlobal>(rt: &R, port: u16, own: &str) {
-    for _round in 0..60u8 {
-        check_asked(rt, port, Method::Post, own, &[], Status::Done, "2.04\n");
-        check_asked(
-            rt,
-            port,
-            Method::Post,
-            COMMON.1,
-            &[],
-            Status::Done,
-            "2.04\n",
-        );
+// A POST to the counter of this digit, under this message id.
+fn post_datagram(id: u16, digit: u8) -> [u8; 8] {
+    let [high, low] = id.to_be_bytes();
+    [0x40, 0x02, high, low, 0xb1, b'r', 0x01, digit]
+}
+
+// Whether a client's POST under this message id is answered 2.04.
+fn is_changed(client: &UdpSocket, id: u16) -> io::Result<bool> {
+    let [high, low] = id.to_be_bytes();
+    let mut answer = [0; 16];
+    let (count, _from) = client.recv_from(&mut answer)?;
+    Ok(answer[..count] == [0x60, 0x44, high, low])
+}
+
+// Each client posts, under this message id, to the counter of the next digit, or all to that of digit 0; then they look for their answers.
+fn post_at_once<R: Abort>(
+    rt: &R,
+    clients: &[UdpSocket],
+    server: SocketAddrV4,
+    id: u16,
+    common: bool,
+) -> io::Result<()> {
+    let mut digit = b'0';
+    for client in clients {
+        digit = digit.wrapping_add(u8::from(!common));
+        client.send_to(&post_datagram(id, digit), server)?;
     }
+    for client in clients {
+        assert!(rt; is_changed(client, id)?, "{id}");
+    }
+    Ok(())
+}
+
+// Eight clients post 120 times each, to counters of their own and to the common one in turn.
+fn post_by_eight<R: Abort + AllocGlobal + Net>(rt: &R, port: u16) -> Result<(), Fail> {
+    let server = SocketAddrV4::new(Ipv4Addr::LOCALHOST, port);
+    let mut clients = Vec::new(rt.alloc());
+    for _client in 0..8u8 {
+        let client = open(rt, 0)?;
+        client.set_read_timeout(Some(Duration::from_secs(5)))?;
+        clients.push(client)?;
+    }
+    for round in 0..60u16 {
+        post_at_once(rt, &clients, server, 2 * round, false)?;
+        post_at_once(rt, &clients, server, 2 * round + 1, true)?;
+    }
+    Ok(())
 }
 
 // Eight clients post at once. Then each counter has as many as were posted to it.
-fn ask_by_eight<R: Abort + AllocGlobal + Threads + Net + Clock + Sync>(
-    rt: &R,
-    port: u16,
-) -> Result<(), AllocError> {
+fn ask_by_eight<R: Abort + AllocGlobal + Net + Clock>(rt: &R, port: u16) -> Result<(), Fail> {
     let alloc = rt.alloc();
     let image = assembled(alloc, COUNTS, 8, 12)?.out;
     // version=1 cost=12 budget=12 vars=8
@@ -364,16 +394,7 @@ fn ask_by_eight<R: Abort + AllocGlobal + Threads + Net + Clock + Sync>(
             receipt,
         );
     }
-    thread::map_indices(
-        rt,
-        alloc,
-        OWN.len(),
-        &|client: usize| {
-            if let Some((_program, path)) = OWN.get(client) {
-                post_both(rt, port, path);
-            }
-        },
-    )?;
+    post_by_eight(rt, port)?;
     let counts = "2.05\n3c00000000000000\n";
     for (_program, path) in &OWN {
         check_asked(rt, port, Method::Get, path, &[], Status::Done, counts);
