@@ -1,2 +1,5 @@
 pub mod Arrival
+pub mod Halves
+pub mod Index
+pub mod Keys
 pub mod Places

@@ -12,7 +12,11 @@ use Rattle.coap_msg.specs.declared.types.Endpoint.{Endpoint}
 use Rattle.coap_dedup.specs.declared.exchange.Kept.{Kept}
 use Rattle.coap_dedup.specs.declared.exchange.Opened.{Opened}
 use Rattle.coap_dedup.specs.Exchanges.{Exchange, IsNew, Look, answered, answered_if, has_room, is_of, is_open, look_by, new_or_full, repeated_by}
+use Rattle.coap_dedup.specs.Keys.{key_of}
+use Rattle.coap_dedup.specs.Requests.{has_key}
 use Rattle.coap_dedup.specs.Views.{Arrives, IsArrived, IsGone, IsNumbered, answer_if, as_exchange, is_from, request_is_live, kept_at, no_answer, with_answer}
+use Rattle.std.proofs.lemmas.Cmp.{eq_by_cmp_equiv}
+use Rattle.coap_dedup.proofs.Keys.{key_total, same_key}
 
 -- numbers less than 1,024 apart have different places
 apart : (p q : ℕ) → q < p → p < q + 1024 → q % 1024 ≡ p % 1024 → ⊥
@@ -140,6 +144,10 @@ one_answered number since now at (suc i) kept bytes (x ∷ os) o long few found 
 
 -- ---- a request of an endpoint and a message id
 
+-- it is found by its key
+pub found_key : (to : Endpoint) (id : ℕ) (os : List Opened) → find (has_key (key_of to id)) os ≡ find (is_from to id) os
+found_key to id os = λ i. find (λ o. ((eq_by_cmp_equiv key_total).symm (key_of to id) o.key ∙ sym (same_key to id o.key)) i) os
+
 abbrev pub found_look : List Kept → Option Opened → Bool → Look
 found_look kept (Some o) room = repeated_by o.confirmable (answer_if (kept_at kept o.number).answered (kept_at kept o.number).bytes)
 found_look kept None room = new_or_full room
@@ -154,14 +162,22 @@ look_seen kept to id room (o ∷ os) = look_step kept (is_from to id o) o _ _ ro
 
 -- ---- a new request
 
-new_in_room : (b c : Bool) → new_or_full (b && c) ≡ IsNew → b ≡ true
-new_in_room true c new = refl
-new_in_room false c new = absurd (cc new)
-
 not_again : (confirmable : Bool) (answer : Option (ArrayVec ℕ)) → repeated_by confirmable answer ≡ IsNew → ⊥
 not_again confirmable None new = cc new
 not_again true (Some bytes) new = cc new
 not_again false (Some bytes) new = cc new
+
+not_found : (kept : List Kept) (found : Option Opened) (room : Bool) → found_look kept found room ≡ IsNew → found ≡ None
+not_found kept None room new = refl
+not_found kept (Some o) room new = absurd (not_again o.confirmable (answer_if (kept_at kept o.number).answered (kept_at kept o.number).bytes) new)
+
+new_in_room : (b c : Bool) → new_or_full (b && c) ≡ IsNew → b ≡ true
+new_in_room true c new = refl
+new_in_room false c new = absurd (cc new)
+
+-- it has a key that none has which is held
+pub new_key : (kept : List Kept) (to : Endpoint) (id : ℕ) (room : Bool) (os : List Opened) → look_by (find (is_of to id) (map (as_exchange kept) os)) room ≡ IsNew → find (has_key (key_of to id)) os ≡ None
+new_key kept to id room os new = found_key to id os ∙ not_found kept (find (is_from to id) os) room (sym (look_seen kept to id room os) ∙ new)
 
 pub has_space : (found : Option Exchange) (held opened : ℕ) → look_by found (has_room held opened) ≡ IsNew → held < 1024
 has_space None held opened new = ltb-true held 1024 (new_in_room (nat_lt held 1024) (nat_lt opened 18446744073709551615) new)

@@ -1,6 +1,5 @@
 -- How what is held is seen: the requests in order of arrival, and their answers, each at its number modulo 1,024.
 use Rattle.std.specs.Prelude.{◌≡◌, ℕ, ◌+◌, ◌-◌, ◌%◌, ◌<◌, ◌≤◌, ◌==◌, ◌&&◌, Bool, true, false, List, [], ◌∷◌, length, slice_get, slice_index_or, slice_set, Option, Some, None}
-use Rattle.circular_buffer.specs.Buffer.{Buffer}
 use Rattle.arrayvec.specs.ArrayVec.{ArrayVec}
 use Rattle.coap_msg.specs.declared.types.Endpoint.{Endpoint}
 use Rattle.coap_dedup.specs.declared.exchange.Kept.{Kept}
@@ -8,6 +7,7 @@ use Rattle.coap_dedup.specs.declared.exchange.Opened.{Opened}
 use Rattle.coap_msg.specs.Endpoints.{same_endpoint}
 use Rattle.coap_msg.specs.Windows.{within_window}
 use Rattle.coap_dedup.specs.Exchanges.{Exchange}
+use Rattle.coap_dedup.specs.Keys.{endpoint_of}
 
 abbrev pub no_answer : Kept
 no_answer = record { answered = false; bytes = record { items = [] } }
@@ -21,7 +21,7 @@ answer_if true bytes = Some bytes
 
 -- an exchange, by what is kept at its place
 abbrev pub with_answer : Kept → Opened → Exchange
-with_answer k o = record { endpoint = o.endpoint; id = o.id; confirmable = o.confirmable; number = o.number; at = o.at; answer = answer_if k.answered k.bytes }
+with_answer k o = record { endpoint = endpoint_of o.key; id = o.key.id; confirmable = o.confirmable; number = o.number; at = o.at; answer = answer_if k.answered k.bytes }
 
 abbrev pub as_exchange : List Kept → Opened → Exchange
 as_exchange kept o = with_answer (kept_at kept o.number) o
@@ -30,7 +30,7 @@ abbrev pub request_is_live : ℕ → Opened → Bool
 request_is_live now o = within_window now o.at
 
 abbrev pub is_from : Endpoint → ℕ → Opened → Bool
-is_from to id o = same_endpoint o.endpoint to && (o.id == id)
+is_from to id o = same_endpoint (endpoint_of o.key) to && (o.key.id == id)
 
 -- consecutive numbers, and moments that never fall, up to this one
 abbrev pub Arrives : ℕ → ℕ → ℕ → List Opened → Type 0
@@ -59,9 +59,11 @@ pub record IsNumbered (os : List Opened) (opened number : ℕ) (o : Opened) : Ty
 abbrev pub IsGone : List Opened → ℕ → ℕ → Type 0
 IsGone os opened number = number < opened → number + length os < opened
 
--- the requests fill a ring of 1,024 at most, in order of arrival, and there are 1,024 places for answers
-abbrev pub AreExchanges : ℕ → ℕ → Buffer Opened → List Kept → Type 0
-AreExchanges now opened ring kept = (ring.capacity ≡ 1024) × (length ring.items ≤ 1024) × (length kept ≡ 1024) × IsArrived now opened ring.items
+-- there are 1,024 requests at most, in order of arrival, and 1,024 places for answers
+pub record AreExchanges (now opened : ℕ) (os : List Opened) (kept : List Kept) : Type 0 where
+  pub few : length os ≤ 1024
+  pub places : length kept ≡ 1024
+  pub arrived : IsArrived now opened os
 
 -- the places, one of them without its answer, or with this one
 abbrev pub forgotten : List Kept → ℕ → List Kept

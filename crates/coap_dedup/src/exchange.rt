@@ -1,18 +1,18 @@
 //! One exchange.
 ghost use Rattle.std.specs.Prelude.{◌≡◌, ◌%◌, ◌<◌, length};
 ghost use Rattle.coap_msg.specs.Windows.{within_window};
-ghost use Rattle.coap_dedup.specs.Views.{answered_at, forgotten, is_from, kept_at};
+ghost use Rattle.coap_dedup.specs.Views.{answered_at, forgotten, kept_at};
 
-use coap_msg::{Datagram, Endpoint, WINDOW};
+use crate::key::Key;
+use coap_msg::{Datagram, WINDOW};
 
 /// How many exchanges are held at once.
 pub const EXCHANGES: usize = 1024;
 
-/// A request that was opened: whose it is, its message id, whether it is confirmable, its number and moment.
+/// A request that was opened: its key, whether it is confirmable, its number and moment.
 #[derive(Clone, Copy)]
 pub(crate) struct Opened {
-    pub(crate) endpoint: Endpoint,
-    pub(crate) id: u16,
+    pub(crate) key: Key,
     pub(crate) confirmable: bool,
     pub(crate) number: u64,
     pub(crate) at: u64,
@@ -32,19 +32,12 @@ pub(crate) fn is_live(now: u64, opened: &Opened) -> bool
     now < opened.at || now - opened.at < WINDOW
 }
 
-// Whether it is of this endpoint and message id.
-pub(crate) fn is_from(endpoint: Endpoint, id: u16, opened: &Opened) -> bool
-    ensures { result ≡ is_from endpoint id opened.now }
-{
-    opened.id == id && opened.endpoint == endpoint
-}
-
 // The place of the exchange of this number: no two that are held at once have the same.
-pub(crate) fn place(number: u64) -> usize
+pub(crate) fn place(number: u64) -> u16
     ensures place { result ≡ number % 1024 }
     ensures below { result < 1024 }
 {
-    (number % EXCHANGES as u64) as usize
+    (number % EXCHANGES as u64) as u16
 }
 
 // What is kept at the place of this number.
@@ -52,7 +45,7 @@ pub(crate) fn answer_of(answers: &Vec<Kept>, number: u64) -> &Kept
     requires { length answers.now.items ≡ 1024 }
     ensures { result.now ≡ kept_at answers.now.items number }
 {
-    &answers[place(number)]
+    &answers[usize::from(place(number))]
 }
 
 // Makes the place of this number free of an answer.
@@ -60,7 +53,7 @@ pub(crate) fn forget(answers: &mut Vec<Kept>, number: u64)
     requires { length answers.old.items ≡ 1024 }
     ensures { answers.new.items ≡ forgotten answers.old.items number }
 {
-    let kept = &mut answers[place(number)];
+    let kept = &mut answers[usize::from(place(number))];
     kept.answered = false;
 }
 
@@ -69,7 +62,7 @@ pub(crate) fn keep(answers: &mut Vec<Kept>, number: u64, bytes: &Datagram)
     requires { length answers.old.items ≡ 1024 }
     ensures { answers.new.items ≡ answered_at answers.old.items number bytes.now }
 {
-    let kept = &mut answers[place(number)];
+    let kept = &mut answers[usize::from(place(number))];
     kept.answered = true;
     write_over(&mut kept.bytes, bytes);
 }

@@ -1,13 +1,13 @@
 //! The exchanges that are held.
-ghost use Rattle.std.specs.Prelude.{◌≡◌, ◌+◌, ◌<◌, ◌≤◌, [], filter, find, length, map, IfOk, MatchOption};
+ghost use Rattle.std.specs.Prelude.{◌≡◌, ◌+◌, ◌<◌, ◌≤◌, [], length, map, IfOk, MatchOption};
 ghost use Rattle.std.specs.List.{list_any};
-ghost use Rattle.circular_buffer.specs.Buffer.{buffer};
 ghost use Rattle.coap_dedup.specs.Exchanges.{is_open, answered, expired, look_at, new_or_full, has_room, repeated_by, IsNew, closing, opened};
 ghost use Rattle.coap_dedup.specs.Looks.{look_of};
-ghost use Rattle.coap_dedup.specs.Views.{InOrder, IsGone, IsNumbered, answer_if, is_from, request_is_live};
+ghost use Rattle.coap_dedup.specs.Views.{IsGone, IsNumbered, answer_if};
 
-use crate::exchange::{EXCHANGES, Kept, Opened, answer_of, copy, forget, is_from, is_live, keep};
-use circular_buffer::HeapCircularBuffer;
+use crate::exchange::{EXCHANGES, Kept, Opened, answer_of, copy, forget, is_live, keep};
+use crate::key::{Key, Probes};
+use crate::requests::Requests;
 use coap_msg::{Datagram, Endpoint};
 use std::alloc::{AllocError, Global};
 use std::marker::Model;
@@ -38,25 +38,26 @@ pub enum Closed {
 
 /// The exchanges that are less than a window old, in order of arrival. Moments are in milliseconds.
 ///
-/// The requests are a ring. Their answers lie apart, each at its exchange's number modulo 1,024, and are never moved.
+/// The requests' answers lie apart, each at its exchange's number modulo 1,024, and are never moved.
 #[derive(Drop)]
 pub struct Exchanges {
     now: u64,
     opened: u64,
-    requests: HeapCircularBuffer<Opened>,
+    requests: Requests,
     answers: Vec<Kept>,
+    probes: Probes,
 }
 
 impl Model for Exchanges {
-    ghost use Rattle.std.specs.Prelude.{map};
+    ghost use Rattle.std.specs.Prelude.{◌≤◌, map};
     ghost use Rattle.coap_dedup.specs.Exchanges.{Table};
     ghost use Rattle.coap_dedup.specs.Views.{AreExchanges, as_exchange};
 
     ghost Value = { Table };
 
-    ghost view = { λ x. record { now = x.now; opened = x.opened; held = map (as_exchange x.answers.items) x.requests.items } };
+    ghost view = { λ x. record { now = x.now; opened = x.opened; held = map (as_exchange x.answers.items) x.requests } };
 
-    ghost invariant = { λ x. AreExchanges x.now x.opened x.requests x.answers.items };
+    ghost invariant = { λ x. AreExchanges x.now x.opened x.requests x.answers.items × (x.probes ≤ 11) };
 }
 
 impl Exchanges {
@@ -70,8 +71,9 @@ impl Exchanges {
         Ok(Exchanges {
             now: 0,
             opened: 0,
-            requests: HeapCircularBuffer::with_capacity(alloc, EXCHANGES)?,
+            requests: Requests::new(alloc)?,
             answers: no_answers(alloc)?,
+            probes: Probes::none(),
         })
     }
 
@@ -82,7 +84,11 @@ impl Exchanges {
         ensures after { self.new ≡ expired self.old now }
     {
         self.expire(now);
-        match find(&self.requests, endpoint, id) {
+        self.probes = Probes::none();
+        match self
+            .requests
+            .find(&Key::new(endpoint, id), &mut self.probes)
+        {
             Some(opened) => repeat(opened.confirmable, answer_of(&self.answers, opened.number)),
             None => new_in(self.requests.len(), self.opened),
         }
@@ -97,9 +103,8 @@ impl Exchanges {
     {
         let number = self.opened;
         forget(&mut self.answers, number);
-        self.requests.push_back(Opened {
-            endpoint,
-            id,
+        self.requests.push(Opened {
+            key: Key::new(endpoint, id),
             confirmable,
             number,
             at: now,
@@ -129,7 +134,14 @@ impl Exchanges {
         ensures { self.new ≡ expired self.old now }
     {
         self.now = now;
-        expire(&mut self.requests, now);
+        self.requests.expire(now);
+    }
+
+    /// How many keys the last [`Exchanges::look`] compared: 11 at most, and 0 before the first.
+    pub fn probes(&self) -> u32
+        ensures { result ≤ 11 }
+    {
+        self.probes.count()
     }
 }
 
@@ -171,49 +183,14 @@ fn repeat(confirmable: bool, kept: &Kept) -> Looked
     }
 }
 
-// Lets go of what is too old: the oldest, while they are.
-fn expire(requests: &mut HeapCircularBuffer<Opened>, now: u64)
-    requires { InOrder requests.old.items }
-    ensures { requests.new ≡ buffer (filter (request_is_live now) requests.old.items) requests.old.capacity }
-{
-    'oldest: while let Some(oldest) = requests.front() {
-        if is_live(now, oldest) {
-            return;
-        }
-        requests.pop_front();
-    }
-}
-
-// The request of this endpoint and message id.
-fn find(requests: &HeapCircularBuffer<Opened>, endpoint: Endpoint, id: u16) -> Option<Opened>
-    ensures { result ≡ find (is_from endpoint id) requests.now.items }
-{
-    let (older, newer) = requests.as_slices();
-    match find_in(older, endpoint, id) {
-        None => find_in(newer, endpoint, id),
-        found => found,
-    }
-}
-
-fn find_in(requests: &[Opened], endpoint: Endpoint, id: u16) -> Option<Opened>
-    ensures { result ≡ find (is_from endpoint id) requests.now }
-{
-    for opened in requests {
-        if is_from(endpoint, id, opened) {
-            return Some(*opened);
-        }
-    }
-    None
-}
-
 // The request of this number, of those that are held, where so many were opened.
-fn numbered(requests: &HeapCircularBuffer<Opened>, opened: u64, number: u64) -> Option<Opened>
-    ensures { MatchOption result (IsGone requests.now.items opened number) (IsNumbered requests.now.items opened number) }
+fn numbered(requests: &Requests, opened: u64, number: u64) -> Option<Opened>
+    ensures { MatchOption result (IsGone requests.now opened number) (IsNumbered requests.now opened number) }
 {
     let held = requests.len() as u64;
     if opened <= number || held < opened - number {
         return None;
     }
     let place = held - (opened - number);
-    requests.get(place as usize).copied()
+    requests.get(place as usize)
 }

@@ -34,5 +34,7 @@
 
 pub mod exchange;
 pub mod exchanges;
+mod key;
+mod requests;
 
 pub use exchanges::{Closed, Exchanges, Looked};

@@ -17,6 +17,8 @@ mod command_tests;
 #[cfg(test)]
 mod event_tests;
 #[cfg(test)]
+mod exchange_tests;
+#[cfg(test)]
 mod faulty;
 #[cfg(test)]
 mod feeder;

@@ -1,0 +1,88 @@
+-- A search by halves, in keys that rise.
+use Rattle.std.proofs.Common.{◌≡◌, ℕ, zero, suc, ◌+◌, ◌-◌, ◌/◌, ◌<◌, ◌≤◌, List, length, map, T, Some, ap, ◌∙◌, ⊎_elim, arith}
+use Rattle.std.specs.Prelude.{slice_get}
+use Rattle.std.specs.declared.cmp.Ordering.TheVariants.{Less, Greater}
+use Rattle.std.specs.Ordering.{ordering_reverse}
+use Rattle.std.specs.FinMap.Entries as entry_list
+use Rattle.std.proofs.lemmas.Bool.{cases_eq, cases_lt}
+use Rattle.std.proofs.lemmas.Option.{slice_get_within}
+use Rattle.coap_dedup.specs.declared.key.Key.{Key}
+use Rattle.coap_dedup.specs.Keys.{key_cmp}
+use Rattle.coap_dedup.specs.Requests.{AreAbove, AreBelow, left_after}
+use Rattle.coap_dedup.proofs.Index.{Entry, rises}
+use Rattle.coap_dedup.proofs.Keys.{key_total}
+
+-- the key is between these places, after so many comparisons
+pub record IsBetween (ks : List Key) (k : Key) (low high probes : ℕ) : Type 0 where
+  pub below : AreBelow ks k low
+  pub above : AreAbove ks k high
+  pub order : low ≤ high
+  pub within : high ≤ length ks
+  pub left : high - low ≤ left_after probes
+  pub few : probes ≤ 11
+
+pub start : (ks : List Key) (k : Key) → length ks ≤ 1024 → IsBetween ks k 0 (length ks) 0
+start ks k few = record {
+  below = λ j x lt is. absurd (omega (arith, lt));
+  above = λ j x le is. let within = slice_get_within ks j x is in absurd (omega (arith, le, within));
+  order = omega arith;
+  within = omega arith;
+  left = omega (arith, few);
+  few = omega arith;
+}
+
+at_most : (n : ℕ) → left_after n ≤ 1024
+at_most zero = omega arith
+at_most (suc n) = let le = at_most n in omega (arith, le)
+
+none_left : (n : ℕ) → left_after (suc (suc (suc (suc (suc (suc (suc (suc (suc (suc (suc n))))))))))) ≡ 0
+none_left n = let le = at_most n in omega (arith, le)
+
+-- while a key is left, fewer than eleven were compared
+pub fewer : (ks : List Key) (k : Key) (low high probes : ℕ) → IsBetween ks k low high probes → low < high → probes < 11
+fewer ks k low high probes b lt =
+    let left = b.left in
+    ⊎_elim
+    (λ (few : probes < 11). few)
+    (λ (many : 11 ≤ probes).
+    let all : probes ≡ suc (suc (suc (suc (suc (suc (suc (suc (suc (suc (suc (probes - 11))))))))))) = omega (arith, many) in
+    let none = ap left_after all ∙ none_left (probes - 11) in
+    absurd (omega (arith, left, lt, none)))
+    (cases_lt probes 11)
+
+turned : (x k : Key) → key_cmp x k ≡ Greater → key_cmp k x ≡ Less
+turned x k e = key_total.antisymm k x ∙ ap ordering_reverse e
+
+pub upper : (es : List Entry) (k x : Key) (low high middle probes : ℕ) → T (entry_list.is_sorted key_cmp es) → IsBetween (map (λ e. e.0) es) k low high probes → low < high → middle ≡ low + (high - low) / 2 → slice_get (map (λ e. e.0) es) middle ≡ Some x → key_cmp x k ≡ Less → IsBetween (map (λ e. e.0) es) k (middle + 1) high (suc probes)
+upper es k x low high middle probes sorted b lt half is less =
+    let left = b.left in
+    let few = fewer _ k low high probes b lt in
+    record {
+      below = λ j y lt_j is_j. ⊎_elim
+          (λ (e : j ≡ middle). let same : y ≡ x = cc (is_j, is, e) in ap (λ (z : Key). key_cmp z k) same ∙ less)
+          (λ (ne : j ≡ middle → ⊥). key_total.trans y x k (rises es j middle y x sorted (omega (arith, lt_j, ne)) is_j is) less)
+          (cases_eq j middle);
+      above = b.above;
+      order = omega (arith, half, lt);
+      within = b.within;
+      left = omega (arith, half, lt, left);
+      few = omega (arith, few);
+    }
+
+pub lower : (es : List Entry) (k x : Key) (low high middle probes : ℕ) → T (entry_list.is_sorted key_cmp es) → IsBetween (map (λ e. e.0) es) k low high probes → low < high → middle ≡ low + (high - low) / 2 → slice_get (map (λ e. e.0) es) middle ≡ Some x → key_cmp x k ≡ Greater → IsBetween (map (λ e. e.0) es) k low middle (suc probes)
+lower es k x low high middle probes sorted b lt half is greater =
+    let left = b.left in
+    let within = b.within in
+    let few = fewer _ k low high probes b lt in
+    let after : key_cmp k x ≡ Less = turned x k greater in
+    record {
+      below = b.below;
+      above = λ j y le is_j. ⊎_elim
+          (λ (e : middle ≡ j). let same : y ≡ x = cc (is_j, is, e) in ap (λ (z : Key). key_cmp z k) same ∙ greater)
+          (λ (ne : middle ≡ j → ⊥). key_total.antisymm y k ∙ ap ordering_reverse (key_total.trans k x y after (rises es middle j x y sorted (omega (arith, le, ne)) is is_j)))
+          (cases_eq middle j);
+      order = omega (arith, half);
+      within = omega (arith, half, within, lt);
+      left = omega (arith, half, lt, left);
+      few = omega (arith, few);
+    }

@@ -1,0 +1,39 @@
+use Rattle.std.proofs.Common.{◌≡◌, ◌∙◌, ◌<◌, length, List, None, Some, ap, subst, sym, arith}
+use Rattle.std.specs.Prelude.{find, slice_get}
+use Rattle.std.specs.FinMap.{entries}
+use Rattle.coap_dedup.specs.declared.exchange.Opened.{Opened}
+use Rattle.coap_dedup.specs.Requests.{by_key, has_key}
+use Rattle.coap_dedup.proofs.Index.{IsThere, at_place, index_length}
+use Rattle.coap_dedup.proofs.requests.Requests.at.Goals as goal
+
+pub index-requires : goal.index-requires
+index-requires c =
+    let long = index_length c.self.inside.ring.items c.self.inside.index.items c.self.invariant.is_index in
+    let lt : c.args.index < length c.self.inside.ring.items = subst (λ (os : List Opened). c.args.index < length os) (sym c.self.view_is) c.requires in
+    omega (arith, long, lt)
+
+pub unreachable-requires-in_default-get : goal.unreachable-requires-in_default-get
+unreachable-requires-in_default-get c =
+    let lt : c.args.index < length c.self.inside.ring.items = subst (λ (os : List Opened). c.args.index < length os) (sym c.self.view_is) c.requires in
+    let r = at_place c.self.inside.ring c.self.inside.index c.args.index c.index.result.now c.after.result c.in-Some.oldest.now c.self.invariant lt c.index.ensures (search c.in-Some.ensures) c.after.ensures in
+    let none : slice_get c.self.inside.ring.items c.after.result ≡ None = search c.in_default-get.ensures in
+    cc (none, r.there)
+
+-- the request, and where it is
+there : (c : goal.After-result-1) → IsThere c.self.inside.ring.items c.args.index c.after.result
+there c =
+    let lt : c.args.index < length c.self.inside.ring.items = subst (λ (os : List Opened). c.args.index < length os) (sym c.self.view_is) c.requires in
+    at_place c.self.inside.ring c.self.inside.index c.args.index c.index.result.now c.after.result c.in-Some.oldest.now c.self.invariant lt c.index.ensures (search c.in-Some.ensures) c.after.ensures
+
+same : (c : goal.After-result-1) → (there c).request ≡ c.in-Some-get.request.now
+same c =
+    let is : slice_get c.self.inside.ring.items c.after.result ≡ Some c.in-Some-get.request.now = search c.in-Some-get.ensures in
+    cc ((there c).there, is)
+
+pub returns-clause-entry : goal.returns-clause-entry
+returns-clause-entry c =
+    ap (λ (os : List Opened). slice_get (entries (by_key os)) c.args.index) (sym c.self.view_is) ∙ ((there c).entry ∙ ap (λ (o : Opened). Some (o.key, o.number)) (same c))
+
+pub returns-clause-found : goal.returns-clause-found
+returns-clause-found c =
+    ap (λ (os : List Opened). find (has_key c.in-Some-get.request.now.key) os) (sym c.self.view_is) ∙ (ap (λ (o : Opened). find (has_key o.key) c.self.inside.ring.items) (sym (same c)) ∙ ((there c).found ∙ ap (λ (o : Opened). Some o) (same c)))

@@ -1,0 +1,68 @@
+use Rattle.std.proofs.Common.{◌≡◌, ◌+◌, ◌-◌, ◌/◌, ◌∙◌, suc, List, ℕ, Some, length, ap, refl, sym, subst, arith}
+use Rattle.std.specs.FinMap.{entries, entries_sorted, keys}
+use Rattle.coap_dedup.specs.declared.exchange.Opened.{Opened}
+use Rattle.coap_dedup.specs.declared.key.Key.{Key}
+use Rattle.coap_dedup.specs.Requests.{by_key}
+use Rattle.coap_dedup.proofs.Halves.{IsBetween, fewer, lower, start, upper}
+use Rattle.coap_dedup.proofs.Index.{index_length, key_at, keys_length}
+use Rattle.coap_dedup.proofs.Keys.{key_antisymmetric}
+use Rattle.coap_dedup.proofs.requests.Requests.search.Goals as goal
+
+pub halves-init : goal.halves-init
+halves-init c =
+    let os = c.self.inside.ring.items in
+    let long = keys_length os c.self.inside.index.items c.self.invariant.is_index in
+    let same = index_length os c.self.inside.index.items c.self.invariant.is_index in
+    let counted = c.len-high.ensures in
+    let full : length (keys (by_key os)) ≡ c.len-high.result = omega (arith, long, same, counted) in
+    let few = c.self.invariant.few in
+    let b : IsBetween (keys (by_key os)) c.args.key.now 0 c.len-high.result 0 = subst (λ (n : ℕ). IsBetween (keys (by_key os)) c.args.key.now 0 n 0) full (start (keys (by_key os)) c.args.key.now (omega (arith, few, long))) in
+    subst (λ (n : ℕ). IsBetween (keys (by_key c.args.self.now)) c.args.key.now 0 c.len-high.result n) (sym c.requires) (subst (λ (xs : List Opened). IsBetween (keys (by_key xs)) c.args.key.now 0 c.len-high.result 0) c.self.view_is b)
+
+pub at-requires : goal.at-requires
+at-requires c =
+    let lt = c.halves-test.true in
+    let within = c.halves.invariant.within in
+    let long : length (keys (by_key c.args.self.now)) ≡ length c.args.self.now = subst (λ (xs : List Opened). length (keys (by_key xs)) ≡ length xs) c.self.view_is (keys_length c.self.inside.ring.items c.self.inside.index.items c.self.invariant.is_index) in
+    omega (arith, lt, within, long)
+
+pub order-requires : goal.order-requires
+order-requires c = let few = fewer (keys (by_key c.args.self.now)) c.args.key.now c.halves.low c.halves.high c.halves.probes c.halves.invariant c.halves-test.true in omega (arith, few)
+
+pub halves-preserved-in-Less : goal.halves-preserved-in-Less
+halves-preserved-in-Less c =
+    let m = by_key c.args.self.now in
+    let next : suc c.halves.probes ≡ c.order.new.probes = omega arith ∙ sym c.order.ensures.counted in
+    subst (λ (n : ℕ). IsBetween (keys m) c.args.key.now (c.halves.low + (c.halves.high - c.halves.low) / 2 + 1) c.halves.high n) next
+    (upper (entries m) c.args.key.now c.at.result.key c.halves.low c.halves.high (c.halves.low + (c.halves.high - c.halves.low) / 2) c.halves.probes (entries_sorted m) c.halves.invariant c.halves-test.true refl
+    (key_at c.args.self.now (c.halves.low + (c.halves.high - c.halves.low) / 2) c.at.result.key c.at.result.number c.at.ensures.entry) (sym c.order.ensures.order ∙ c.in-Less.is))
+
+pub returns-in-Equal-clause-found : goal.returns-in-Equal-clause-found
+returns-in-Equal-clause-found c =
+    let middle = c.halves.low + (c.halves.high - c.halves.low) / 2 in
+    key_at c.args.self.now middle c.at.result.key c.at.result.number c.at.ensures.entry ∙ ap (λ (k : Key). Some k) (key_antisymmetric c.at.result.key c.args.key.now (sym c.order.ensures.order ∙ c.in-Equal.is))
+
+pub returns-in-Equal-clause-few : goal.returns-in-Equal-clause-few
+returns-in-Equal-clause-few c =
+    let few = fewer (keys (by_key c.args.self.now)) c.args.key.now c.halves.low c.halves.high c.halves.probes c.halves.invariant c.halves-test.true in
+    let next = c.order.ensures.counted in
+    omega (arith, few, next)
+
+pub halves-preserved : goal.halves-preserved
+halves-preserved c =
+    let m = by_key c.args.self.now in
+    let next : suc c.halves.probes ≡ c.order.new.probes = omega arith ∙ sym c.order.ensures.counted in
+    subst (λ (n : ℕ). IsBetween (keys m) c.args.key.now c.halves.low (c.halves.low + (c.halves.high - c.halves.low) / 2) n) next
+    (lower (entries m) c.args.key.now c.at.result.key c.halves.low c.halves.high (c.halves.low + (c.halves.high - c.halves.low) / 2) c.halves.probes (entries_sorted m) c.halves.invariant c.halves-test.true refl
+    (key_at c.args.self.now (c.halves.low + (c.halves.high - c.halves.low) / 2) c.at.result.key c.at.result.number c.at.ensures.entry) (sym c.order.ensures.order ∙ c.in-Greater.is))
+
+pub returns-clause-absent : goal.returns-clause-absent
+returns-clause-absent c =
+    let b = c.halves.invariant in
+    let order = b.order in
+    let all : c.halves.high ≡ c.halves.low = omega (arith, order, c.halves-test.false) in
+    let within = b.within in
+    record { within = omega (arith, within, all); below = b.below; above = λ j x le is. b.above j x (omega (arith, le, all)) is }
+
+pub returns-clause-few : goal.returns-clause-few
+returns-clause-few c = c.halves.invariant.few

@@ -1,0 +1,100 @@
+//! What a caller sees of the exchanges that are held.
+ghost use Rattle.std.specs.Prelude.{◌≡◌, ◌≤◌};
+
+use coap_dedup::{Closed, Exchanges, Looked};
+use coap_msg::{Datagram, Endpoint};
+use std::alloc::AllocError;
+use std::process::Abort;
+use std::test::Fail;
+
+const CLIENT: Endpoint = Endpoint {
+    ip: [127, 0, 0, 1],
+    port: 5683,
+};
+
+// Looks a confirmable request up, and opens an exchange where it is new. Tells whether it was.
+fn arrives(exchanges: &mut Exchanges, now: u64, from: Endpoint, id: u16) -> bool
+    requires { exchanges.old.now ≤ now }
+    ensures { exchanges.new.now ≡ now }
+{
+    match exchanges.look(now, from, id) {
+        Looked::New => {
+            exchanges.open(now, from, id, true);
+            true
+        }
+        _ => false,
+    }
+}
+
+// Exchanges end in the order in which they were opened, and a key that is opened again comes last.
+#[test]
+fn exchanges_end_in_order_of_arrival(rt: HostRuntime) -> Result<(), AllocError> {
+    let mut exchanges = Exchanges::new(rt.alloc())?;
+    assert!(rt; arrives(&mut exchanges, 0, CLIENT, 1));
+    assert!(rt; arrives(&mut exchanges, 1, CLIENT, 2));
+    assert!(rt; arrives(&mut exchanges, 2, CLIENT, 3));
+    assert!(rt; arrives(&mut exchanges, 247_000, CLIENT, 1));
+    assert!(rt; arrives(&mut exchanges, 247_001, CLIENT, 2));
+    assert!(rt; !arrives(&mut exchanges, 247_001, CLIENT, 1));
+    assert!(rt; !arrives(&mut exchanges, 247_001, CLIENT, 3));
+    exchanges.expire(494_000);
+    assert!(rt; arrives(&mut exchanges, 494_000, CLIENT, 1));
+    assert!(rt; !arrives(&mut exchanges, 494_000, CLIENT, 2));
+    Ok(())
+}
+
+// Clients of two hosts and all ports, and message ids, in no order.
+fn key(number: u16) -> (Endpoint, u16) {
+    let host = if number % 2 == 0 { 1 } else { 2 };
+    let client = Endpoint {
+        ip: [10, 0, 0, host],
+        port: number.wrapping_mul(40_503),
+    };
+    (client, number % 3)
+}
+
+fn answer(number: u16) -> Datagram {
+    let mut bytes = Datagram::new();
+    let _fits = bytes.try_extend_from_slice(&number.to_be_bytes());
+    bytes
+}
+
+// Opens 1,024 exchanges, and answers each.
+fn fill(rt: &impl Abort, exchanges: &mut Exchanges)
+    requires { exchanges.old.now ≡ 0 }
+    ensures { exchanges.new.now ≡ 0 }
+{
+    for number in 0..1024 {
+        let (client, id) = key(number);
+        assert!(rt; arrives(exchanges, 0, client, id), "{number}");
+        let closed = exchanges.close(0, u64::from(number), &answer(number));
+        assert!(rt; closed == Closed::Closed, "{number}");
+    }
+}
+
+// Each of 1,024 exchanges is found by at most eleven comparisons, and its answer is its own.
+fn find_all(rt: &impl Abort, exchanges: &mut Exchanges)
+    requires { exchanges.old.now ≡ 0 }
+    ensures { exchanges.new.now ≡ 0 }
+{
+    for number in 0..1024 {
+        let (client, id) = key(number);
+        let found = match exchanges.look(0, client, id) {
+            Looked::Again(bytes) => bytes.as_slice() == answer(number).as_slice(),
+            _ => false,
+        };
+        let probes = exchanges.probes();
+        assert!(rt; found && 0 < probes && probes <= 11, "{number}: {probes}");
+    }
+}
+
+#[test]
+fn each_of_1024_exchanges_is_found(rt: HostRuntime) -> Result<(), Fail> {
+    let mut exchanges = Exchanges::new(rt.alloc())?;
+    assert_eq!(rt; exchanges.probes(), 0);
+    fill(&rt, &mut exchanges);
+    find_all(&rt, &mut exchanges);
+    assert!(rt; !arrives(&mut exchanges, 0, CLIENT, 1));
+    assert!(rt; exchanges.close(247_000, 0, &answer(0)) == Closed::Late);
+    Ok(())
+}
