@@ -2,4 +2,4 @@ use Rattle.std.proofs.Common.{◌≡◌}
 use Rattle.fctests.proofs.exchange_tests.fill.Given as goal
 
 abbrev pub invariant-loop-number : goal.invariant-loop-number
-invariant-loop-number l = l.exchanges.now ≡ 0
+invariant-loop-number g l = l.exchanges.now ≡ 0
