@@ -64,7 +64,7 @@ impl Requests {
         ensures few { probes.new ≤ 11 }
     {
         match self.search(key, probes) {
-            Ok(index) => Some(self.at(index)),
+            Ok(index) => Some(*self.at(index)),
             Err(_) => None,
         }
     }
@@ -128,10 +128,10 @@ impl Requests {
     }
 
     // The request at this index, in the order of keys.
-    fn at(&self, index: usize) -> Opened
+    fn at(&self, index: usize) -> &Opened
         requires { index < length self.now }
-        ensures entry { slice_get (entries (by_key self.now)) index ≡ Some (result.key, result.number) }
-        ensures found { find (has_key result.key) self.now ≡ Some result }
+        ensures entry { slice_get (entries (by_key self.now)) index ≡ Some (result.now.key, result.now.number) }
+        ensures found { find (has_key result.now.key) self.now ≡ Some result.now }
     {
         let Some(oldest) = self.ring.front() else {
             unreachable!();
@@ -139,7 +139,7 @@ impl Requests {
         let Some(request) = self.ring.get(after(oldest.number, self.index[index])) else {
             unreachable!();
         };
-        *request
+        request
     }
 }
 

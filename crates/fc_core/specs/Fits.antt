@@ -25,6 +25,11 @@ abbrev pub HasNext : Stage → Type 0
 HasNext (ToList seen) = length seen.items < 64
 HasNext other = Unit {0}
 
+-- a job that lists head words has read them all
+abbrev pub HasListed : Stage → Type 0
+HasListed (ToList seen) = length seen.items ≡ 64
+HasListed other = Unit {0}
+
 -- a turn's ticket is its job's
 abbrev pub FitsTurn : Job → Slot → TurnStage → Type 0
 FitsTurn job slot (turns.ToDraw (Some t)) = IsTicketOf job slot t

@@ -162,6 +162,10 @@ matched word serials = matched_by (is_match word serials) word
 abbrev pub listed : List ℕ → Stage
 listed words = if nat_lt (length words) 64 then ToList (record { items = words }) else ToAnswer (Listed words)
 
+abbrev pub after_list : Stage → Stage
+after_list (ToList seen) = listed seen.items
+after_list other = other
+
 -- ---- the rows
 
 -- what is common to the jobs of all slots: the head words, and the message id of the server's own that is free at a moment

@@ -542,7 +542,7 @@ pub fn blank_job() -> Job {
         etags: ArrayVec::new(),
         block: None,
         observe: None,
-        ask: Ask::Run(fc_help::Request::new(Verb::Get, 0, None, &[], &[])),
+        ask: Ask::Run(blank_request()),
     }
 }
 
@@ -637,7 +637,7 @@ fn write_run(ask: &mut Ask, method: Verb, request: &Request<'_>)
     ensures { ask.new ≡ Ask.Run (request_asked method (asked_by request.now)) }
 {
     match ask {
-        Ask::Run(before) => *before = run_request(method, request),
+        Ask::Run(before) => write_request(before, method, request),
         _ => write_run_anew(ask, method, request),
     }
 }
@@ -646,7 +646,9 @@ fn write_run_anew(ask: &mut Ask, method: Verb, request: &Request<'_>)
     requires { IsWithinLimits (asked_by request.now) }
     ensures { ask.new ≡ Ask.Run (request_asked method (asked_by request.now)) }
 {
-    *ask = Ask::Run(run_request(method, request));
+    let mut run = blank_request();
+    write_request(&mut run, method, request);
+    *ask = Ask::Run(run);
 }
 
 fn write_image(ask: &mut Ask, image: &[u8])
@@ -665,15 +667,20 @@ fn image_of(bytes: &[u8]) -> Body
     image
 }
 
-fn run_request(method: Verb, request: &Request<'_>) -> fc_help::Request
+fn write_request(run: &mut fc_help::Request, method: Verb, request: &Request<'_>)
     requires { IsWithinLimits (asked_by request.now) }
-    ensures { result ≡ request_asked method (asked_by request.now) }
+    ensures { run.new ≡ request_asked method (asked_by request.now) }
 {
-    fc_help::Request::new(
+    run.write(
         method,
         slot_named(request.resource),
         request.content_format,
         request.query.as_slice(),
         request.payload,
-    )
+    );
+}
+
+// A request that says nothing, to be written over.
+fn blank_request() -> fc_help::Request {
+    fc_help::Request::new(Verb::Get, 0, None, &[], &[])
 }

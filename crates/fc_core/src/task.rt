@@ -1,18 +1,18 @@
 //! Jobs at work: what each event does to a job, its slot and its shard.
-ghost use Rattle.std.specs.Prelude.{◌≡◌, ℕ, ◌/◌, ◌<◌, ◌∷◌, ◌++◌, ◌==◌, [], List, None, Option, Some, length, false, max, IfOk, OnOk, IsErr};
+ghost use Rattle.std.specs.Prelude.{◌≡◌, ℕ, ◌/◌, ◌<◌, ◌∷◌, ◌++◌, ◌==◌, [], List, None, Option, Some, option_copied, length, false, max, IfOk, OnOk, IsErr};
 ghost use Rattle.fc_verify.specs.Accepted.{Accepts};
 ghost use Rattle.fc_verify.specs.Judged.{judged};
 ghost use Rattle.fc_registry.specs.Slots.{IsOwned, slot_in};
 ghost use Rattle.fc_core.specs.Contents.{AreDone, IsMadeBelow, IsRemovedBelow, Missing as Misses, Unavailable};
 ghost use Rattle.fc_core.specs.Ends.{refused};
-ghost use Rattle.fc_core.specs.Fits.{FitsStage, HasNext, TellsOwn};
+ghost use Rattle.fc_core.specs.Fits.{FitsStage, HasListed, HasNext, TellsOwn};
 ghost use Rattle.fc_core.specs.Heads.{word_at};
 ghost use Rattle.fc_core.specs.Sound.{AllSafe};
 ghost use Rattle.fc_registry.specs.Calls.{HasGiven, receipt_of};
 ghost use Rattle.fc_registry.specs.Notes.{note_at, note_calls};
 ghost use Rattle.fc_registry.specs.Watches.{handed, watch_at, with_calls};
 ghost use Rattle.fc_core.specs.Stages as rows;
-ghost use Rattle.fc_core.specs.Stages.{Common, ShardMoves, TaskMoves, at_answer, at_commit, at_give_up, at_install, at_note, at_peek, at_raise, at_receipt, at_remove, at_take, asked_stage, commit_move, content_at, first_stage, had_memory, image_of, installed, needs_id, notification, peeked_next, peeked_own, task_moved, new_task, scene_of, shard_after, shard_moved, turn_to_take, without_memory, words_after};
+ghost use Rattle.fc_core.specs.Stages.{Common, ShardMoves, TaskMoves, after_list, at_answer, at_commit, at_give_up, at_install, at_note, at_peek, at_raise, at_receipt, at_remove, at_take, asked_stage, commit_move, content_at, first_stage, had_memory, image_of, installed, needs_id, notification, peeked_own, task_moved, new_task, scene_of, shard_after, shard_moved, turn_to_take, without_memory, words_after};
 
 use crate::answer::{Answer, End, Words};
 use crate::front::blank_job;
@@ -232,9 +232,27 @@ impl Task {
         ensures { (shard : Shard) (free : ℕ → Option ℕ) → let common : Common = record { words = heads.now; free = free } in
             self.new ≡ task_moved self.old (at_peek slot (scene_of shard common self.old) self.old.stage) }
     {
-        match self.leave() {
+        match &mut self.stage {
             Stage::ToMatch => self.stage = look_own(&self.job, slot, heads),
-            Stage::ToList(seen) => self.stage = look_next(seen, slot, heads),
+            Stage::ToList(seen) if usize::from(slot) == seen.len() => {
+                let _fits = seen.try_push(heads.peek(SlotNumber::new(slot)));
+                if seen.len() == WORDS {
+                    self.end_list();
+                }
+            }
+            _ => {}
+        }
+    }
+
+    // Answers by the head words of all slots, which it has listed.
+    fn end_list(&mut self)
+        requires { HasListed self.old.stage }
+        ensures { self.new ≡ task_moved self.old (rows.moves (after_list self.old.stage)) }
+    {
+        match self.leave() {
+            Stage::ToList(words) => {
+                self.stage = Stage::ToAnswer(Answer::other(End::Core(words)));
+            }
             other => self.stage = other,
         }
     }
@@ -379,26 +397,31 @@ impl Task {
         ensures task { self.new ≡ task_moved self.old (at_raise self.old.stage) }
         ensures words { heads.new ≡ words_after (at_raise self.old.stage) self.old heads.old }
     {
-        match self.leave() {
-            Stage::ToRaise(word, answer) => {
-                heads.raise(self.job.origin.slot, word);
-                self.stage = Stage::ToAnswer(answer);
-            }
-            other => self.stage = other,
+        if !matches!(self.stage, Stage::ToRaise(..)) {
+            return;
+        }
+        if let Stage::ToRaise(word, answer) = self.leave() {
+            heads.raise(self.job.origin.slot, word);
+            self.stage = Stage::ToAnswer(answer);
         }
     }
 
-    /// What it is answered, once, where it stands there.
-    pub fn answer(&mut self) -> Option<Answer>
-        ensures task { self.new ≡ task_moved self.old (at_answer self.old.stage) }
-        ensures content { result ≡ content_at self.old.stage }
+    /// What it is to be answered, where it stands there.
+    pub fn content(&self) -> Option<&Answer>
+        ensures { option_copied result ≡ content_at self.now.stage }
     {
-        match self.leave() {
+        match &self.stage {
             Stage::ToAnswer(answer) => Some(answer),
-            other => {
-                self.stage = other;
-                None
-            }
+            _ => None,
+        }
+    }
+
+    /// Ends it, where it was to be answered: it is answered once.
+    pub fn end(&mut self)
+        ensures { self.new ≡ task_moved self.old (at_answer self.old.stage) }
+    {
+        if let Stage::ToAnswer(_) = &self.stage {
+            self.stage = Stage::Gone;
         }
     }
 
@@ -511,18 +534,6 @@ fn look_own(job: &Job, slot: u8, heads: &Heads) -> Stage
         Stage::matched(job, heads.peek(job.origin.slot))
     } else {
         Stage::ToMatch
-    }
-}
-
-// Where the head words are listed, each in its turn.
-fn look_next(seen: Words, slot: u8, heads: &Heads) -> Stage
-    requires { length seen.items < 64 }
-    ensures { result ≡ peeked_next (slot == length seen.items) (word_at heads.now slot) seen }
-{
-    if usize::from(slot) == seen.len() {
-        Stage::listed(seen, heads.peek(SlotNumber::new(slot)))
-    } else {
-        Stage::ToList(seen)
     }
 }
 

@@ -91,6 +91,25 @@ fn head(
     ]
 }
 
+/// Writes the region of a request over another.
+fn lay_out(
+    region: &mut ArrayVec<u8, REGION>,
+    method: Method,
+    slot: u8,
+    content_format: Option<u16>,
+    query: &[u8],
+    payload: &[u8],
+)
+    requires query { length query.now ≤ QUERY }
+    requires payload { length payload.now ≤ PAYLOAD }
+    ensures { region.new.items ≡ region_of (request_with method slot content_format query.now payload.now) }
+{
+    region.clear();
+    let _fits = region.try_extend_from_slice(&head(method, slot, content_format, query, payload));
+    put_padded(region, query, QUERY);
+    put_padded(region, payload, PAYLOAD);
+}
+
 /// A method's byte.
 fn method_byte(method: Method) -> u8
     ensures { result ≡ method_number method }
@@ -116,15 +135,7 @@ impl Request {
         ensures { result ≡ request_with method slot content_format query.now payload.now }
     {
         let mut region = ArrayVec::new();
-        let _fits = region.try_extend_from_slice(&head(
-            method,
-            slot,
-            content_format,
-            query,
-            payload,
-        ));
-        put_padded(&mut region, query, QUERY);
-        put_padded(&mut region, payload, PAYLOAD);
+        lay_out(&mut region, method, slot, content_format, query, payload);
         Request {
             method,
             slot,
@@ -133,6 +144,34 @@ impl Request {
             payload_size: payload.len() as u16,
             region,
         }
+    }
+
+    /// Writes a GET or POST of this slot's resource over this request, as `new` makes one: none is moved.
+    pub fn write(
+        &mut self,
+        method: Method,
+        slot: u8,
+        content_format: Option<u16>,
+        query: &[u8],
+        payload: &[u8],
+    )
+        requires query { length query.now ≤ QUERY }
+        requires payload { length payload.now ≤ PAYLOAD }
+        ensures { self.new ≡ request_with method slot content_format query.now payload.now }
+    {
+        lay_out(
+            &mut self.region,
+            method,
+            slot,
+            content_format,
+            query,
+            payload,
+        );
+        self.method = method;
+        self.slot = slot;
+        self.content_format = content_format;
+        self.query_size = query.len() as u8;
+        self.payload_size = payload.len() as u16;
     }
 
     /// The region of memory that a program finds the request in.

@@ -1,5 +1,5 @@
 //! Bytes by hex digits, in and out.
-ghost use Rattle.std.specs.Prelude.{◌≡◌, ◌≤◌, ℕ, List, length, IfOk, OnOk};
+ghost use Rattle.std.specs.Prelude.{◌≡◌, ◌*◌, ◌≤◌, ℕ, List, length, IfOk, OnOk};
 ghost use Rattle.std.specs.Io.KnownBytes.{Appends};
 ghost use Rattle.hex.specs.Hex.{decode_of, encode_lower};
 ghost use Rattle.fc_lines.specs.declared.line.LineError.TheVariants.{Bad};
@@ -28,6 +28,9 @@ pub fn decode(alloc: Global, digits: &[u8]) -> Result<Vec<u8>, LineError>
 /// The most digits of a datagram.
 const DIGITS: usize = 2560;
 
+/// The most bytes of a short datagram.
+const SHORT: usize = 64;
+
 /// Writes a datagram, at most 1,280 bytes, by hex digits in lower case, two a byte.
 ///
 /// # Errors
@@ -36,8 +39,36 @@ pub fn write<W: Write>(out: &mut W, bytes: &[u8]) -> io::Result<()>
     requires { length bytes.now ≤ 1280 }
     ensures { OnOk result (Appends (W.contents out.old) (W.contents out.new) (encode_lower bytes.now)) }
 {
+    if bytes.len() <= SHORT {
+        write_short(out, bytes)
+    } else {
+        write_long(out, bytes)
+    }
+}
+
+// Most datagrams are short, and need no room for the digits of the longest, which would be zeroed for each.
+fn write_short<W: Write>(out: &mut W, bytes: &[u8]) -> io::Result<()>
+    requires { length bytes.now ≤ 64 }
+    ensures { OnOk result (Appends (W.contents out.old) (W.contents out.new) (encode_lower bytes.now)) }
+{
+    let mut digits = [0; 2 * SHORT];
+    write_by(out, bytes, &mut digits)
+}
+
+fn write_long<W: Write>(out: &mut W, bytes: &[u8]) -> io::Result<()>
+    requires { length bytes.now ≤ 1280 }
+    ensures { OnOk result (Appends (W.contents out.old) (W.contents out.new) (encode_lower bytes.now)) }
+{
     let mut digits = [0; DIGITS];
-    let digits = &mut digits[..2 * bytes.len()];
+    write_by(out, bytes, &mut digits)
+}
+
+// Writes bytes by their digits, which are made in this room.
+fn write_by<W: Write>(out: &mut W, bytes: &[u8], room: &mut [u8]) -> io::Result<()>
+    requires { 2 * length bytes.now ≤ length room.old }
+    ensures { OnOk result (Appends (W.contents out.old) (W.contents out.new) (encode_lower bytes.now)) }
+{
+    let digits = &mut room[..2 * bytes.len()];
     let _fits = hex::encode_to_slice(bytes, digits);
     out.write_all(digits)
 }

@@ -1,5 +1,5 @@
 //! The list of observers of a slot.
-ghost use Rattle.std.specs.Prelude.{◌≡◌, ◌<◌, ◌≤◌, [], ◌∷◌, find, length, true, is_some, IfOk, IfSome, vec_capacity};
+ghost use Rattle.std.specs.Prelude.{◌≡◌, ◌<◌, ◌≤◌, [], ◌∷◌, find, length, true, ◌&&◌, is_none, is_some, IfOk, IfSome, vec_capacity};
 ghost use Rattle.std.specs.List.{list_any, position_from};
 ghost use Rattle.std.specs.Option.{option_map};
 ghost use Rattle.fc_observe.specs.Entries.{acknowledged, has_last_id, has_turn, is_due, is_entry_of, is_late};
@@ -299,6 +299,17 @@ impl Observers {
         ensures { result ≡ is_some (late_entry (at_moment now self.now)) }
     {
         first_late(&self.held, self.moment.max(now)).is_some()
+    }
+
+    /// Whether neither `tick` nor `next_due` would do anything.
+    pub fn is_quiet(&self, now: u64, noticed: u64) -> bool
+        ensures { let w = at_moment now self.now in
+            result ≡ (is_none (late_entry w) && is_none (next_turn noticed w)) }
+    {
+        if self.held.is_empty() {
+            return true;
+        }
+        !self.is_late(now) && !self.is_due(now, noticed)
     }
 }
 

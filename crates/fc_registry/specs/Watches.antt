@@ -73,7 +73,11 @@ is_due_at shard k = is_some (next_turn (noticed_at shard k) (at_moment shard.now
 abbrev pub due_place : Shard → Option ℕ
 due_place shard = place_from (is_due_at shard) 8 0
 
--- no notification is late, and no observer is due
+-- no notification at a place is late, and no observer due
+abbrev pub is_quiet_at : Shard → ℕ → Bool
+is_quiet_at shard k = is_none (late_entry (at_moment shard.now (watch_at shard k))) && is_none (next_turn (noticed_at shard k) (at_moment shard.now (watch_at shard k)))
+
+-- nor at any place
 abbrev pub is_quiet : Shard → Bool
 is_quiet shard = is_none (late_place shard) && is_none (due_place shard)
 

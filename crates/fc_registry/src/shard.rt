@@ -9,7 +9,7 @@ ghost use Rattle.fc_registry.specs.Record.{IsRing};
 ghost use Rattle.fc_observe.specs.Calls.{after_calls, observers_after};
 ghost use Rattle.fc_registry.specs.Notes.{NotesTo};
 ghost use Rattle.fc_registry.specs.Turns.{due_job};
-ghost use Rattle.fc_registry.specs.Watches.{IsSentUpTo, after_due, after_given_up, after_tick, due_place, handed, is_due_at, is_quiet, late_place, new_watches, noticed_at, signal_call, signalled, ticked_in, watch_at};
+ghost use Rattle.fc_registry.specs.Watches.{IsSentUpTo, after_due, after_given_up, after_tick, due_place, handed, is_due_at, is_quiet, is_quiet_at, late_place, new_watches, noticed_at, signal_call, signalled, ticked_in, watch_at};
 
 use crate::body::Body;
 use crate::commit::{CommitOutcome, Committed};
@@ -312,11 +312,31 @@ impl Shard {
         ensures after { self.new ≡ (if result then handed self.old now else self.old) }
     {
         let now = self.now.max(now);
-        let quiet = self.late_place(now).is_none() && self.due_place(now).is_none();
+        let quiet = self.is_quiet(now);
         if quiet {
             self.now = now;
         }
         quiet
+    }
+
+    // Whether no notification is late at a moment, and no observer due, at any place.
+    fn is_quiet(&self, now: u64) -> bool
+        ensures { result ≡ is_quiet (record self.entry.now { now = now }) }
+    {
+        for place in 0..PLACES {
+            if !self.is_quiet_at(now, place) {
+                return false;
+            }
+        }
+        true
+    }
+
+    // Whether no notification is late at a moment, and no observer due, at a place.
+    fn is_quiet_at(&self, now: u64, place: usize) -> bool
+        requires { place < 8 }
+        ensures { result ≡ is_quiet_at (record self.entry.now { now = now }) place }
+    {
+        self.watches[place].is_quiet(now, self.noticed_at(place))
     }
 
     // Whether an observer at a place is due at a moment.

@@ -270,10 +270,12 @@ impl Server {
         requires { AtWork self.old task.old }
         ensures { Responds now self.old task.old self.new task.new (emission_if result reply.new) }
     {
-        let Some(answer) = task.answer() else {
+        let Some(answer) = task.content() else {
             return false;
         };
-        match self.front.respond(now, &task.job, &answer, reply) {
+        let responded = self.front.respond(now, &task.job, answer, reply);
+        task.end();
+        match responded {
             Responded::Sent => true,
             Responded::Late | Responded::NoId => false,
         }

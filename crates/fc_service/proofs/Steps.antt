@@ -26,6 +26,10 @@ pub sent_joined : (xs ys : List SettlingStep) → sent_in_steps (xs ++ ys) ≡ s
 sent_joined [] ys = sym (append-nil (sent_in_steps ys))
 sent_joined (x ∷ xs) ys = ap (λ (l : List Emission). l ++ option_to_list (sent_in_step x)) (sent_joined xs ys) ∙ append_assoc (sent_in_steps ys) (sent_in_steps xs) (option_to_list (sent_in_step x))
 
+-- steps after steps that sent nothing
+pub then_steps : (now random : ℕ) (old mid new : ServerState) (out : Option Emission) → ((steps : List SettlingStep) × AreSteps now random steps old mid × (sent_in_steps steps ≡ [])) → ((steps : List SettlingStep) × AreSteps now random steps mid new × (sent_in_steps steps ≡ option_to_list out)) → (steps : List SettlingStep) × AreSteps now random steps old new × (sent_in_steps steps ≡ option_to_list out)
+then_steps now random old mid new out w x = (x.0 ++ w.0, joined now random old mid new x.0 w.0 x.1 w.1, sent_joined x.0 w.0 ∙ (ap (λ (l : List Emission). l ++ sent_in_steps x.0) w.2 ∙ x.2))
+
 pub appended : (a b c : Option (List ℕ)) (x y : List ℕ) → Appends a b x → Appends b c y → Appends a c (x ++ y)
 appended None b c x y v w = tt
 appended (Some xs) None c x y v w = absurd v

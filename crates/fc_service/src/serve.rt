@@ -38,8 +38,8 @@ const FIRST_SERIAL: u64 = 0;
 /// One byte more than a datagram may have: a longer one is seen to be too long, and ignored.
 const BUFFER: usize = DATAGRAM + 1;
 
-/// From how many instructions on a run is a worker's. A hand-over costs two threads' wakes, about 13 us of processor time: as much as 6,000 instructions of a
-/// program. A cheaper job is worked off by the thread that received it.
+/// From how many instructions on a run is a worker's. A hand-over wakes a thread, which costs some 15 us of processor time: as much as about 3,600 instructions of
+/// a program. A cheaper job is worked off by the thread that received it.
 const DEAR: u32 = 6_000;
 
 /// By how many workers a server works jobs off, 1 to 16, and after how many datagrams it ends; 0 is never.

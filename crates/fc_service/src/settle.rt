@@ -1,5 +1,5 @@
 //! What follows a datagram or a moment: what is late is sent again, and observers that are due are notified.
-ghost use Rattle.std.specs.Prelude.{◌≡◌, ◌+◌, ◌<◌, Bool, IfSome, List};
+ghost use Rattle.std.specs.Prelude.{◌≡◌, ◌+◌, ◌<◌, [], ℕ, Bool, IfSome, List};
 ghost use Rattle.fc_core.specs.Legal.{resent};
 ghost use Rattle.fc_server.specs.Notified.{notification_in};
 ghost use Rattle.fc_server.specs.Serving.{AsksForTurn, TicksShard};
@@ -36,6 +36,30 @@ impl Settling {
     /// The next that is to be sent at a moment in milliseconds, shard after shard; none where nothing is left, or no message id is free.
     /// The random word says how long a confirmable notification is waited for.
     pub(crate) fn next(&mut self, engine: &mut Engine, now: u64, random: u16) -> Option<Emission>
+        ensures { (steps : List SettlingStep) × AreSteps now random steps engine.old engine.new
+            × (sent_in_steps steps ≡ option_to_list result) }
+    {
+        self.skip_quiet(engine, now);
+        if self.shard >= SHARDS {
+            return None;
+        }
+        self.next_sent(engine, now, random)
+    }
+
+    // Passes the shards that have nothing to do at a moment, up to one that has. Most have nothing, and no room is made for what they would send.
+    fn skip_quiet(&mut self, engine: &mut Engine, now: u64)
+        ensures { (random : ℕ) → (steps : List SettlingStep) × AreSteps now random steps engine.old engine.new × (sent_in_steps steps ≡ []) }
+    {
+        'quiet: while self.shard < SHARDS
+            && !self.notifies
+            && engine.advance_if_quiet(self.shard, now)
+        {
+            self.pass();
+        }
+    }
+
+    // The next that is to be sent, as `next` finds it, shard after shard.
+    fn next_sent(&mut self, engine: &mut Engine, now: u64, random: u16) -> Option<Emission>
         ensures { (steps : List SettlingStep) × AreSteps now random steps engine.old engine.new
             × (sent_in_steps steps ≡ option_to_list result) }
     {

@@ -1,7 +1,8 @@
 -- The steps of a job's work, and the list of its calls.
-use Rattle.std.proofs.Common.{◌≡◌, ℕ, ◌+◌, ◌<◌, ◌≤◌, Bool, true, false, if◌then◌else◌, refl, sym, ap, subst, ◌∙◌, arith, List, [], ◌∷◌, ◌++◌, Option, Some, None, length-append}
+use Rattle.std.proofs.Common.{◌≡◌, ℕ, ◌+◌, ◌<◌, ◌≤◌, Bool, true, false, if◌then◌else◌, refl, sym, ap, subst, ◌∙◌, arith, List, [], ◌∷◌, ◌++◌, Option, Some, None, append_assoc, length-append}
 use Rattle.std.specs.Prelude.{length, nat_lt, ◌==◌, ◌%◌}
 use borrow.Author.Tests.{ltb-true}
+use Rattle.std.proofs.lemmas.Bool.{le-ltb, lt-ltb}
 use Rattle.fc_kinds.specs.Meaning.{Program}
 use Rattle.fc_verify.specs.Accepted.{Accepts}
 use Rattle.fc_verify.specs.Judged.{judged}
@@ -28,6 +29,7 @@ use Rattle.fc_registry.specs.declared.commit.Committed.TheVariants.{Done, Overta
 use Rattle.fc_registry.specs.Slots.{Present, Slot, Ticket}
 use Rattle.fc_registry.specs.Calls.{is_out_at, receipt_of, run_of, taking, taking_by as taking_of_job, turn_of, turn_taking}
 use Rattle.fc_core.specs.declared.stage.Stage.{Stage}
+use Rattle.fc_heads.specs.Heads.{HeadSeat}
 use Rattle.fc_core.specs.declared.stage.Stage.TheVariants.{ToMatch, ToTake, ToCommit, ToInstall, ToRemove, ToDescribe, ToList, ToRaise, ToAnswer}
 use Rattle.fc_core.specs.Contents.{Content, IsOf, Listed, Unavailable}
 use Rattle.fc_core.specs.Heads.{head_word, is_match}
@@ -35,7 +37,7 @@ use Rattle.fc_core.specs.Ends.{refused, refused_by}
 use Rattle.fc_core.specs.Stages.{asked_stage, first_by, image_of, listed, matched, matched_by, run_content, removed, told, took, after_commit, made, takings}
 use Rattle.fc_workers.specs.declared.share.Share.{Share}
 use Rattle.fc_workers.specs.Answers.{AreTallied, commit_changes, ended_by, install_changes, removal_changes, saturated, IsSomeTaking, IsSomeCommit, IsSomeInstall, IsSomeReceipt, IsSomeRemoval}
-use Rattle.fc_workers.specs.Steps.{Follows, IsReady, IsStep, taken_at}
+use Rattle.fc_workers.specs.Steps.{Follows, IsReady, IsStep, ListsOn, taken_at}
 use Rattle.fc_workers.specs.Work.{Call, Takes, Commits, Installs, Refuses, Removes, Describes, Looks, Raises, AreCalls, IsCallAt, IsWorkedOff, HasCounted, next_stage, stage_after, change_by, overtaking_by, refusal_by, taking_by, total}
 
 -- the calls so far, and where they led the job
@@ -311,3 +313,29 @@ arrives changes job stage content before now e w = record {
   own = subst (λ (x : Stage). IsReady job x) e w.ready;
   counted = w.counted;
 }
+
+-- a look at each head word that is left
+walks_list : {T : Type 0} (changes : T → ℕ → ℕ) (job : Job) (seen : ArrayVec ℕ) (more : List ℕ) {stage : Stage} {before now : Share T} → stage ≡ ToList seen → 0 < length more → length (seen.items ++ more) ≡ 64 → Walked changes job stage before now → Walked changes job (ToAnswer (Listed (seen.items ++ more))) before now
+walks_list changes job seen [] at some all w = absurd (omega (arith, some))
+walks_list changes job seen (word ∷ []) {stage} {before} {now} at some all w =
+    let lt : length seen.items < 64 = subst (λ (s : Stage). IsReady job s) at w.ready in
+    let words = seen.items ++ word ∷ [] in
+    let last : nat_lt (length words) 64 ≡ false = le-ltb (length words) 64 (omega (arith, all)) in
+    walks_on changes job at w (list_step changes job seen word now lt (sym (ap (λ (b : Bool). if b then ToList (record { items = words }) else ToAnswer (Listed words)) last)))
+walks_list changes job seen (word ∷ next ∷ more) {stage} {before} {now} at some all w =
+    let lt : length seen.items < 64 = subst (λ (s : Stage). IsReady job s) at w.ready in
+    let words = seen.items ++ word ∷ [] in
+    let on : ArrayVec ℕ = record { items = words } in
+    let same = append_assoc seen.items (word ∷ []) (next ∷ more) in
+    let full : length (words ++ next ∷ more) ≡ 64 = ap length same ∙ all in
+    let long = length-append words (next ∷ more) in
+    let yet : nat_lt (length words) 64 ≡ true = lt-ltb (length words) 64 (omega (arith, full, long)) in
+    let step = walks_on changes job at w (list_step changes job seen word now {next = ToList on} lt (sym (ap (λ (b : Bool). if b then ToList on else ToAnswer (Listed words)) yet))) in
+    subst (λ (ws : List ℕ). Walked changes job (ToAnswer (Listed ws)) before now) same (walks_list changes job on (next ∷ more) refl (omega arith) full step)
+
+pub lists_on : {T : Type 0} (changes : T → ℕ → ℕ) (job : Job) (seen : ArrayVec ℕ) (words : List ℕ) {stage : Stage} {before now : Share T} → stage ≡ ToList seen → ListsOn seen.items words → Walked changes job stage before now → Walked changes job (ToAnswer (Listed words)) before now
+lists_on changes job seen words {stage} {before} {now} at lists w = subst (λ (ws : List ℕ). Walked changes job (ToAnswer (Listed ws)) before now) (sym lists.are) (walks_list changes job seen lists.more at lists.some (sym (ap length lists.are) ∙ lists.all) w)
+
+-- what holds of a seat at the head words, a stage and a share holds of others that are these
+pub of_these : {S : Type 0} (P : HeadSeat → Stage → S → Type 0) {heads at : HeadSeat} {stage next : Stage} {share after : S} → heads ≡ at → stage ≡ next → share ≡ after → P at next after → P heads stage share
+of_these P {heads} {at} {stage} {next} {share} {after} e f g p = subst (λ (h : HeadSeat). P h stage share) (sym e) (subst (λ (s : Stage). P at s share) (sym f) (subst (P at next) (sym g) p))

@@ -1,5 +1,5 @@
 -- What becomes of the jobs that come to a dispatcher: each goes to a worker, or is worked off where it came.
-use Rattle.std.specs.Prelude.{◌≡◌, ◌⊎◌, ◌+◌, ℕ, Bool, true, false, List, Option, Some, None}
+use Rattle.std.specs.Prelude.{◌≡◌, ◌⊎◌, ◌+◌, ◌<◌, ◌≤◌, ℕ, Bool, true, false, List, Option, Some, None}
 use Rattle.coap_msg.specs.declared.types.Emission.{Emission}
 use Rattle.coap_msg.specs.declared.types.Endpoint.{Endpoint}
 use Rattle.fc_core.specs.declared.front.Delivered.{Delivered}
@@ -7,10 +7,33 @@ use Rattle.fc_core.specs.declared.front.Delivered.TheVariants.{Job as Brings}
 use Rattle.fc_core.specs.declared.front.Heard.{Heard}
 use Rattle.fc_core.specs.Receiving.{heard}
 use Rattle.fc_jobs.specs.Ends.{with_sent}
+use Rattle.fc_registry.specs.declared.job.Ask.{Ask}
+use Rattle.fc_registry.specs.declared.job.Ask.TheVariants.{Run}
 use Rattle.fc_registry.specs.declared.job.Job.{Job}
+use Rattle.fc_registry.specs.declared.receipt.Receipt.{Receipt}
 use Rattle.fc_workers.specs.declared.dispatch.Dispatched.{Dispatched}
-use Rattle.fc_workers.specs.Answers.{IsSomeDelivery, IsSomeTurn, saturated}
+use Rattle.fc_workers.specs.declared.dispatch.Handover.{Handover}
+use Rattle.fc_workers.specs.declared.dispatch.Handover.TheVariants.{Every, Dear, Never}
+use Rattle.fc_workers.specs.Answers.{IsSomeDelivery, IsSomeReceipt, IsSomeTurn, saturated}
 use Rattle.fc_workers.specs.Work.{IsReplied}
+
+-- it asks for a run
+abbrev pub AsksRun : Ask → Type 0
+AsksRun (Run request) = Unit {0}
+AsksRun other = ⊥
+
+-- a job of a run that takes so many instructions at most, or more, by what some shard told of the program in its slot
+pub record IsDear (least : ℕ) (job : Job) : Type 0 where
+  pub asks : AsksRun job.ask
+  pub receipt : Receipt
+  pub told : IsSomeReceipt (Some receipt)
+  pub cost : least ≤ receipt.cost
+
+-- the jobs that may go to workers
+abbrev pub MayGo : Handover → Job → Type 0
+MayGo Every job = Unit {0}
+MayGo (Dear least) job = 0 < least → IsDear least job
+MayGo Never job = ⊥
 
 module _ {T : Type 0} (changes : T → ℕ → ℕ) (ended : T → ℕ) (IsMoment : ℕ → Type 0) where
   -- a job was sent to the workers, under the next number
@@ -24,27 +47,28 @@ module _ {T : Type 0} (changes : T → ℕ → ℕ) (ended : T → ℕ) (IsMomen
     pub worked : IsReplied changes IsMoment job before.share after.share
     pub ends : ended after.share.tallies ≡ saturated (ended before.share.tallies + 1)
 
-  abbrev pub IsDispatched : Job → Dispatched T → Dispatched T → Type 0
-  IsDispatched job before after = IsHandedOver job before after ⊎ IsWorkedHere job before after
+  -- it went to the workers, where it may, or was worked off here
+  abbrev pub IsDispatched : Handover → Job → Dispatched T → Dispatched T → Type 0
+  IsDispatched handover job before after = (MayGo handover job × IsHandedOver job before after) ⊎ IsWorkedHere job before after
 
   -- the job that a delivery brings is dispatched; where it brings none, none is
-  abbrev pub IsDone : Delivered → Dispatched T → Dispatched T → Type 0
-  IsDone (Brings job) before after = IsDispatched job before after
-  IsDone other before after = after ≡ before
+  abbrev pub IsDone : Handover → Delivered → Dispatched T → Dispatched T → Type 0
+  IsDone handover (Brings job) before after = IsDispatched handover job before after
+  IsDone handover other before after = after ≡ before
 
   -- a delivery at a moment to some front brought this, and its job is dispatched
-  pub record IsTakenIn (now : ℕ) (from : Endpoint) (bytes : List ℕ) (result : Heard) (reply : Emission) (before after : Dispatched T) : Type 0 where
+  pub record IsTakenIn (handover : Handover) (now : ℕ) (from : Endpoint) (bytes : List ℕ) (result : Heard) (reply : Emission) (before after : Dispatched T) : Type 0 where
     pub job : Job
     pub delivery : IsSomeDelivery now from bytes (heard result job reply)
-    pub done : IsDone (heard result job reply) before after
+    pub done : IsDone handover (heard result job reply) before after
 
   -- a turn that a shard gave is dispatched; where it gave none, none is
-  abbrev pub IsTurnDone : Option Job → Bool → Dispatched T → Dispatched T → Type 0
-  IsTurnDone (Some job) given before after = (given ≡ true) × IsDispatched job before after
-  IsTurnDone None given before after = (given ≡ false) × (after ≡ before)
+  abbrev pub IsTurnDone : Handover → Option Job → Bool → Dispatched T → Dispatched T → Type 0
+  IsTurnDone handover (Some job) given before after = (given ≡ true) × IsDispatched handover job before after
+  IsTurnDone handover None given before after = (given ≡ false) × (after ≡ before)
 
   -- some shard gave this turn at a moment, or none, and it is dispatched
-  pub record IsTurnAsked (now : ℕ) (given : Bool) (before after : Dispatched T) : Type 0 where
+  pub record IsTurnAsked (handover : Handover) (now : ℕ) (given : Bool) (before after : Dispatched T) : Type 0 where
     pub turn : Option Job
     pub turn_is : IsSomeTurn now turn
-    pub done : IsTurnDone turn given before after
+    pub done : IsTurnDone handover turn given before after

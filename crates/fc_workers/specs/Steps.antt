@@ -1,5 +1,5 @@
 -- One step of a job's work, as the worker's loop keeps it.
-use Rattle.std.specs.Prelude.{◌≡◌, ℕ, ◌+◌, ◌*◌, ◌-◌, ◌<◌, ◌≤◌, [], ◌∷◌, length}
+use Rattle.std.specs.Prelude.{◌≡◌, ℕ, ◌+◌, ◌*◌, ◌-◌, ◌<◌, ◌≤◌, List, [], ◌∷◌, ◌++◌, length}
 use Rattle.fc_registry.specs.declared.job.Job.{Job}
 use Rattle.fc_core.specs.declared.stage.Stage.{Stage}
 use Rattle.fc_core.specs.declared.stage.Stage.TheVariants.{ToMatch, ToTake, ToCommit, ToInstall, ToRemove, ToDescribe, ToList, ToRaise, ToAnswer, ToTell, Gone}
@@ -55,3 +55,20 @@ pub record IsStep {T : Type 0} (changes : T → ℕ → ℕ) (job : Job) (old ne
   pub next : new ≡ next_stage job old call
   pub follows : Follows job old (taking_by call) new
   pub counted : HasCounted changes job.origin.slot (call ∷ []) before after
+
+-- after the head word of a job's slot was raised
+abbrev pub raised : Stage → Stage
+raised (ToRaise word content) = ToAnswer content
+raised other = other
+
+-- it stands at its answer
+abbrev pub IsAnswered : Stage → Type 0
+IsAnswered (ToAnswer content) = Unit {0}
+IsAnswered other = ⊥
+
+-- head words of all slots, of which these were seen before, but not all
+pub record ListsOn (seen words : List ℕ) : Type 0 where
+  pub more : List ℕ
+  pub some : 0 < length more
+  pub are : words ≡ seen ++ more
+  pub all : length words ≡ 64

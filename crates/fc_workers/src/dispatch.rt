@@ -1,8 +1,8 @@
 //! Who has jobs, and hands them to workers or works them off.
-ghost use Rattle.std.specs.Prelude.{◌≡◌, ◌<◌, MatchBool};
+ghost use Rattle.std.specs.Prelude.{◌≡◌, ◌<◌, ◌≤◌, ℕ, true, MatchBool};
 ghost use Rattle.fc_jobs.specs.Ends.{with_sent};
 ghost use Rattle.fc_workers.specs.Answers.{IsSomeQuiet, IsSomeTick};
-ghost use Rattle.fc_workers.specs.Dispatch.{IsDispatched, IsTakenIn, IsTurnAsked, IsWorkedHere};
+ghost use Rattle.fc_workers.specs.Dispatch.{IsDear, IsDispatched, IsTakenIn, IsTurnAsked, IsWorkedHere, MayGo};
 ghost use Rattle.fc_workers.specs.Shares.{new_share};
 
 use crate::bench::Bench;
@@ -64,7 +64,8 @@ impl<'a, B: Bench, G: Gate, W: Wire, M: Moments> Dispatcher<'a, B, G, W, M> {
         handover: Handover,
     ) -> Dispatcher<'a, B, G, W, M>
         requires { sent.channel ≡ jobs.now }
-        ensures { result.done ≡ record { sent = sent; share = new_share seat.got seat.tallies } }
+        ensures done { result.done ≡ record { sent = sent; share = new_share seat.got seat.tallies } }
+        ensures handover { result.handover ≡ handover }
     {
         let Seat {
             got,
@@ -102,7 +103,8 @@ impl<'a, B: Bench, G: Gate, W: Wire, M: Moments> Dispatcher<'a, B, G, W, M> {
         bytes: &[u8],
         reply: &mut Emission,
     ) -> Heard
-        ensures { IsTakenIn B.changes B.ended M.is_moment now from bytes.now result reply.new self.old.done self.new.done }
+        ensures taken_in { IsTakenIn B.changes B.ended M.is_moment self.old.handover now from bytes.now result reply.new self.old.done self.new.done }
+        ensures handover { self.new.handover ≡ self.old.handover }
     {
         let heard = self
             .workshop
@@ -137,7 +139,8 @@ impl<'a, B: Bench, G: Gate, W: Wire, M: Moments> Dispatcher<'a, B, G, W, M> {
 
     /// Asks a shard, 0 to 7, for the turn of the observer that is due first at a moment in milliseconds, and dispatches it. Tells whether there was one.
     pub fn notify<R: Wait>(&mut self, rt: &R, shard: u8, now: u64) -> bool
-        ensures { IsTurnAsked B.changes B.ended M.is_moment now result self.old.done self.new.done }
+        ensures asked { IsTurnAsked B.changes B.ended M.is_moment self.old.handover now result self.old.done self.new.done }
+        ensures handover { self.new.handover ≡ self.old.handover }
     {
         match self.workshop.bench.next_due(rt, shard, now) {
             Some(job) => {
@@ -151,7 +154,8 @@ impl<'a, B: Bench, G: Gate, W: Wire, M: Moments> Dispatcher<'a, B, G, W, M> {
 
     // Sends its job to the workers, or works it off.
     fn dispatch<R: Wait>(&mut self, rt: &R)
-        ensures { IsDispatched B.changes B.ended M.is_moment self.old.job self.old.done self.new.done }
+        ensures dispatched { IsDispatched B.changes B.ended M.is_moment self.old.handover self.old.job self.old.done self.new.done }
+        ensures handover { self.new.handover ≡ self.old.handover }
     {
         let handed = self.hand_over(rt);
         if !handed {
@@ -159,13 +163,15 @@ impl<'a, B: Bench, G: Gate, W: Wire, M: Moments> Dispatcher<'a, B, G, W, M> {
         }
     }
 
-    // Sends its job to the workers, where it is one that is handed over. Tells whether it was sent.
+    // Sends its job to the workers, where it may go. Tells whether it was sent.
     fn hand_over<R: Wait>(&mut self, rt: &R) -> bool
-        ensures { MatchBool result
-            (self.new.done ≡ record self.old.done { sent = with_sent self.old.done.sent self.old.job })
+        ensures sent { MatchBool result
+            (MayGo self.old.handover self.old.job
+            × (self.new.done ≡ record self.old.done { sent = with_sent self.old.done.sent self.old.job }))
             ((self.new.done ≡ self.old.done) × (self.new.job ≡ self.old.job)) }
+        ensures handover { self.new.handover ≡ self.old.handover }
     {
-        if self.is_handed_over(rt) {
+        if self.may_go(rt) {
             self.send(rt)
         } else {
             false
@@ -174,9 +180,10 @@ impl<'a, B: Bench, G: Gate, W: Wire, M: Moments> Dispatcher<'a, B, G, W, M> {
 
     // Sends its job to the workers. Tells whether it was sent.
     fn send<R: Wait>(&mut self, rt: &R) -> bool
-        ensures { MatchBool result
+        ensures sent { MatchBool result
             (self.new.done ≡ record self.old.done { sent = with_sent self.old.done.sent self.old.job })
             ((self.new.done ≡ self.old.done) × (self.new.job ≡ self.old.job)) }
+        ensures handover { self.new.handover ≡ self.old.handover }
     {
         let job = mem::replace(&mut self.job, blank_job());
         match self.jobs.send(rt, job, &mut self.done.sent) {
@@ -190,15 +197,18 @@ impl<'a, B: Bench, G: Gate, W: Wire, M: Moments> Dispatcher<'a, B, G, W, M> {
 
     // Works its job off.
     fn work<R: Wait>(&mut self, rt: &R)
-        ensures { IsWorkedHere B.changes B.ended M.is_moment self.old.job self.old.done self.new.done }
+        ensures worked { IsWorkedHere B.changes B.ended M.is_moment self.old.job self.old.done self.new.done }
+        ensures handover { self.new.handover ≡ self.old.handover }
     {
         let done = &mut self.done;
         self.workshop
             .work(rt, &mut self.tools, UNSENT, &self.job, &mut done.share);
     }
 
-    // Whether its job is handed over.
-    fn is_handed_over<R: Wait>(&self, rt: &R) -> bool {
+    // Whether its job may go to the workers.
+    fn may_go<R: Wait>(&self, rt: &R) -> bool
+        ensures { result ≡ true → MayGo self.now.handover self.now.job }
+    {
         match self.handover {
             Handover::Every => true,
             Handover::Dear(least) => self.cost(rt) >= least,
@@ -206,14 +216,19 @@ impl<'a, B: Bench, G: Gate, W: Wire, M: Moments> Dispatcher<'a, B, G, W, M> {
         }
     }
 
-    // How many instructions its job's run takes at most, by the program that its slot has now; 0 where it runs none.
-    fn cost<R: Wait>(&self, rt: &R) -> u32 {
+    // How many instructions its job's run takes at most, by the program that its slot has now; 0 where it needs none. One with an entity tag is taken for one
+    // that needs none: its slot's head word most often answers it, and that is read without a lock.
+    fn cost<R: Wait>(&self, rt: &R) -> u32
+        ensures { (least : ℕ) → 0 < least → least ≤ result → IsDear least self.now.job }
+    {
         match &self.job.ask {
-            Ask::Run(_) => match self.workshop.bench.receipt(rt, &self.job) {
-                Some(receipt) => receipt.cost,
-                None => 0,
-            },
-            Ask::Install(_) | Ask::Remove | Ask::Describe | Ask::Discover => 0,
+            Ask::Run(_) if self.job.etags.is_empty() => {
+                match self.workshop.bench.receipt(rt, &self.job) {
+                    Some(receipt) => receipt.cost,
+                    None => 0,
+                }
+            }
+            Ask::Run(_) | Ask::Install(_) | Ask::Remove | Ask::Describe | Ask::Discover => 0,
         }
     }
 

@@ -98,8 +98,8 @@ impl<B: Bench, M: Moments> Promise<Result<Vec<Share<B::Tallies>>, AllocError>> f
 }
 
 /// Runs a worker at each seat, as `run_workers` does, and beside them a feeder, in the caller's own thread: what the feeder
-/// gives, and the shares. The feeder sends the jobs, and owns the end that sends: once it has returned the channel is closed,
-/// and the workers come to their end. It is told whether it has a worker: where no thread can be made for one, the workers come after the feeder.
+/// gives, and the shares. The feeder sends the jobs, and owns the end that sends: once that has gone with it the channel is closed,
+/// and the workers come to their end. It is told whether workers were begun: where no thread can be made for them, they come after the feeder.
 ///
 /// # Errors
 /// The shares are as `run_workers` gives them. If memory is refused for every seat, a feeder of more than 256 jobs waits for

@@ -1,22 +1,25 @@
 //! Jobs worked off over a bench.
-ghost use Rattle.std.specs.Prelude.{◌≡◌, ◌<◌, ◌++◌, ◌∷◌, ℕ, [], None, length};
+ghost use Rattle.std.specs.Prelude.{◌≡◌, ◌<◌, None, length};
 ghost use Rattle.fc_verify.specs.Judged.{judged};
 ghost use Rattle.fc_verify.specs.Accepted.{Accepts, IsAccepted};
-ghost use Rattle.fc_core.specs.Stages.{image_of, listed};
-ghost use Rattle.fc_core.specs.declared.stage.Stage.TheVariants.{ToTake, ToCommit, ToInstall, ToRemove};
+ghost use Rattle.fc_core.specs.Stages.{image_of};
+ghost use Rattle.fc_core.specs.declared.stage.Stage.TheVariants.{ToAnswer, ToTake, ToCommit, ToInstall, ToRemove};
 ghost use Rattle.fc_workers.specs.Work.{IsWorkedOff};
-ghost use Rattle.fc_workers.specs.Steps.{IsReady, IsStep};
+ghost use Rattle.fc_workers.specs.Steps.{IsAnswered, IsReady, IsStep, ListsOn, raised};
 
 use crate::bench::Bench;
 use crate::share::Share;
 use crate::tools::Tools;
 use crate::workshop::{Gate, Moments, Wire, Workshop};
+use fc_core::answer::{End, Words};
+use fc_core::heads::WORDS;
 use fc_core::task::image;
-use fc_core::{Answer, Stage, Words};
+use fc_core::{Answer, Stage};
 use fc_heads::HeadSeat;
 use fc_machine::{Frame, run};
 use fc_registry::{Job, Receipt, SlotNumber, Ticket};
 use fc_verify::{Refusal, Verified, verify};
+use std::mem;
 use std::sync::{Arc, Wait};
 
 impl<'a, B: Bench, G: Gate, W: Wire, M: Moments> Workshop<'a, B, G, W, M> {
@@ -41,38 +44,47 @@ impl<'a, B: Bench, G: Gate, W: Wire, M: Moments> Workshop<'a, B, G, W, M> {
     {
         let mut stage = Stage::asked(job);
         'calls: loop {
-            stage = match stage {
+            let next = match &stage {
                 Stage::ToMatch => {
                     Stage::matched(job, self.bench.peek(job.origin.slot, &mut tools.heads))
                 }
-                Stage::ToTake(count) => self.take(rt, job, count, share),
+                Stage::ToTake(count) => self.take(rt, job, *count, share),
                 Stage::ToCommit(count, ticket) => {
                     self.gate.between(rt, number);
-                    self.commit(rt, &mut tools.frame, job, count, ticket, share)
+                    self.commit(rt, &mut tools.frame, job, *count, ticket, share)
                 }
                 Stage::ToInstall => self.install(rt, job, share),
                 Stage::ToRemove => self.remove(rt, job, share),
                 Stage::ToDescribe => Stage::told(self.bench.receipt(rt, job)),
-                Stage::ToList(seen) => self.look(&mut tools.heads, seen),
-                Stage::ToRaise(word, answer) => {
-                    self.bench.raise(job, word, &mut tools.heads);
-                    Stage::ToAnswer(answer)
+                Stage::ToList(seen) => {
+                    let words = self.list(&mut tools.heads, seen);
+                    Stage::ToAnswer(Answer::other(End::Core(words)))
                 }
-                Stage::ToAnswer(answer) => return answer,
+                Stage::ToRaise(word, _) => {
+                    self.bench.raise(job, *word, &mut tools.heads);
+                    raised(mem::replace(&mut stage, Stage::Gone))
+                }
+                Stage::ToAnswer(_) => return content(mem::replace(&mut stage, Stage::Gone)),
                 Stage::ToTell(..) | Stage::Gone => unreachable!(),
             };
+            stage = next;
         }
     }
 
-    // Looks at the head word of the slot after those of these words.
-    fn look(&self, heads: &mut HeadSeat, seen: Words) -> Stage
-        requires seen { length seen.items < 64 }
+    // Looks at the head words of the slots after those of these words, up to the last.
+    fn list(&self, heads: &mut HeadSeat, seen: &Words) -> Words
+        requires seen { length seen.now.items < 64 }
         requires heads { heads.old.table ≡ B.heads self.now.bench.now }
         ensures heads { heads.new.table ≡ heads.old.table }
-        ensures listed { (word : ℕ) × (result ≡ listed (seen.items ++ word ∷ [])) }
+        ensures listed { ListsOn seen.now.items result.items }
     {
-        let slot = SlotNumber::new(seen.len() as u8);
-        Stage::listed(seen, self.bench.peek(slot, heads))
+        let mut words = Words::new();
+        let _fits = words.try_extend_from_slice(seen.as_slice());
+        'slots: while words.len() < WORDS {
+            let slot = SlotNumber::new(words.len() as u8);
+            let _fits = words.try_push(self.bench.peek(slot, heads));
+        }
+        words
     }
 
     // Removes the program of the job's slot.
@@ -103,20 +115,20 @@ impl<'a, B: Bench, G: Gate, W: Wire, M: Moments> Workshop<'a, B, G, W, M> {
         frame: &mut Frame,
         job: &Job,
         count: u8,
-        ticket: Ticket,
+        ticket: &Ticket,
         share: &mut Share<B::Tallies>,
     ) -> Stage
-        requires { IsReady job.now (ToCommit count ticket) }
-        ensures step { IsStep B.changes job.now (ToCommit count ticket) result share.old share.new }
+        requires { IsReady job.now (ToCommit count ticket.now) }
+        ensures step { IsStep B.changes job.now (ToCommit count ticket.now) result share.old share.new }
         ensures ended { B.ended share.new.tallies ≡ B.ended share.old.tallies }
     {
         let outcome = run(frame, ticket.program(), ticket.request(), ticket.vars());
         let now = self.moments.now(rt);
         let committed = self
             .bench
-            .commit(rt, now, &outcome, &ticket, &mut share.tallies);
+            .commit(rt, now, &outcome, ticket, &mut share.tallies);
         share.count_commit(&committed);
-        Stage::committed(count, &outcome, &ticket, committed)
+        Stage::committed(count, &outcome, ticket, committed)
     }
 
     // Verifies the job's image, and installs the program.
@@ -158,5 +170,26 @@ impl<'a, B: Bench, G: Gate, W: Wire, M: Moments> Workshop<'a, B, G, W, M> {
                 Stage::unavailable()
             }
         }
+    }
+}
+
+// After the head word of its slot was raised.
+fn raised(stage: Stage) -> Stage
+    ensures { result ≡ raised stage }
+{
+    match stage {
+        Stage::ToRaise(_, answer) => Stage::ToAnswer(answer),
+        other => other,
+    }
+}
+
+// What a job is to be answered.
+fn content(stage: Stage) -> Answer
+    requires { IsAnswered stage }
+    ensures { stage ≡ ToAnswer result }
+{
+    match stage {
+        Stage::ToAnswer(answer) => answer,
+        _ => unreachable!(),
     }
 }

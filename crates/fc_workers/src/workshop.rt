@@ -15,7 +15,7 @@ pub trait Gate {
 
 /// Where the replies of jobs go.
 pub trait Wire {
-    /// Sends the reply of the job of this number: some front answers some job by it, or some shard notifies an observer. SaysFound whether it
+    /// Sends the reply of the job of this number: some front answers some job by it, or some shard notifies an observer. Tells whether it
     /// went out.
     fn send<R: Wait>(&self, rt: &R, number: u64, emission: &Emission) -> bool
         requires { GoesOut emission.now };

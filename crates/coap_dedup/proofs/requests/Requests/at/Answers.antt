@@ -20,12 +20,12 @@ unreachable-requires-in_default-get c =
     cc (none, r.there)
 
 -- the request, and where it is
-there : (c : goal.After-result-1) → IsThere c.self.inside.ring.items c.args.index c.after.result
+there : (c : goal.In-Some-get) → IsThere c.self.inside.ring.items c.args.index c.after.result
 there c =
     let lt : c.args.index < length c.self.inside.ring.items = subst (λ (os : List Opened). c.args.index < length os) (sym c.self.view_is) c.requires in
     at_place c.self.inside.ring c.self.inside.index c.args.index c.index.result.now c.after.result c.in-Some.oldest.now c.self.invariant lt c.index.ensures (search c.in-Some.ensures) c.after.ensures
 
-same : (c : goal.After-result-1) → (there c).request ≡ c.in-Some-get.request.now
+same : (c : goal.In-Some-get) → (there c).request ≡ c.in-Some-get.request.now
 same c =
     let is : slice_get c.self.inside.ring.items c.after.result ≡ Some c.in-Some-get.request.now = search c.in-Some-get.ensures in
     cc ((there c).there, is)

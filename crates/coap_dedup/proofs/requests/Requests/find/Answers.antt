@@ -10,7 +10,7 @@ at-requires c = key_within c.args.self.now c.in-Ok.index c.args.key.now (search 
 
 pub returns-in-Ok-clause-found : goal.returns-in-Ok-clause-found
 returns-in-Ok-clause-found c =
-    let same = same_key_at c.args.self.now c.in-Ok.index c.args.key.now c.at.result (search c.in-Ok.ensures.found) c.at.ensures.entry in
+    let same = same_key_at c.args.self.now c.in-Ok.index c.args.key.now c.at.result.now (search c.in-Ok.ensures.found) c.at.ensures.entry in
     sym (ap (λ (k : Key). find (has_key k) c.args.self.now) (sym same) ∙ c.at.ensures.found)
 
 pub returns-in-Err-clause-found : goal.returns-in-Err-clause-found

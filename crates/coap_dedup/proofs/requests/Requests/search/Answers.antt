@@ -34,13 +34,13 @@ halves-preserved-in-Less c =
     let m = by_key c.args.self.now in
     let next : suc c.halves.probes ≡ c.order.new.probes = omega arith ∙ sym c.order.ensures.counted in
     subst (λ (n : ℕ). IsBetween (keys m) c.args.key.now (c.halves.low + (c.halves.high - c.halves.low) / 2 + 1) c.halves.high n) next
-    (upper (entries m) c.args.key.now c.at.result.key c.halves.low c.halves.high (c.halves.low + (c.halves.high - c.halves.low) / 2) c.halves.probes (entries_sorted m) c.halves.invariant c.halves-test.true refl
-    (key_at c.args.self.now (c.halves.low + (c.halves.high - c.halves.low) / 2) c.at.result.key c.at.result.number c.at.ensures.entry) (sym c.order.ensures.order ∙ c.in-Less.is))
+    (upper (entries m) c.args.key.now c.at.result.now.key c.halves.low c.halves.high (c.halves.low + (c.halves.high - c.halves.low) / 2) c.halves.probes (entries_sorted m) c.halves.invariant c.halves-test.true refl
+    (key_at c.args.self.now (c.halves.low + (c.halves.high - c.halves.low) / 2) c.at.result.now.key c.at.result.now.number c.at.ensures.entry) (sym c.order.ensures.order ∙ c.in-Less.is))
 
 pub returns-in-Equal-clause-found : goal.returns-in-Equal-clause-found
 returns-in-Equal-clause-found c =
     let middle = c.halves.low + (c.halves.high - c.halves.low) / 2 in
-    key_at c.args.self.now middle c.at.result.key c.at.result.number c.at.ensures.entry ∙ ap (λ (k : Key). Some k) (key_antisymmetric c.at.result.key c.args.key.now (sym c.order.ensures.order ∙ c.in-Equal.is))
+    key_at c.args.self.now middle c.at.result.now.key c.at.result.now.number c.at.ensures.entry ∙ ap (λ (k : Key). Some k) (key_antisymmetric c.at.result.now.key c.args.key.now (sym c.order.ensures.order ∙ c.in-Equal.is))
 
 pub returns-in-Equal-clause-few : goal.returns-in-Equal-clause-few
 returns-in-Equal-clause-few c =
@@ -53,8 +53,8 @@ halves-preserved c =
     let m = by_key c.args.self.now in
     let next : suc c.halves.probes ≡ c.order.new.probes = omega arith ∙ sym c.order.ensures.counted in
     subst (λ (n : ℕ). IsBetween (keys m) c.args.key.now c.halves.low (c.halves.low + (c.halves.high - c.halves.low) / 2) n) next
-    (lower (entries m) c.args.key.now c.at.result.key c.halves.low c.halves.high (c.halves.low + (c.halves.high - c.halves.low) / 2) c.halves.probes (entries_sorted m) c.halves.invariant c.halves-test.true refl
-    (key_at c.args.self.now (c.halves.low + (c.halves.high - c.halves.low) / 2) c.at.result.key c.at.result.number c.at.ensures.entry) (sym c.order.ensures.order ∙ c.in-Greater.is))
+    (lower (entries m) c.args.key.now c.at.result.now.key c.halves.low c.halves.high (c.halves.low + (c.halves.high - c.halves.low) / 2) c.halves.probes (entries_sorted m) c.halves.invariant c.halves-test.true refl
+    (key_at c.args.self.now (c.halves.low + (c.halves.high - c.halves.low) / 2) c.at.result.now.key c.at.result.now.number c.at.ensures.entry) (sym c.order.ensures.order ∙ c.in-Greater.is))
 
 pub returns-clause-absent : goal.returns-clause-absent
 returns-clause-absent c =

@@ -1,29 +1,16 @@
-use Rattle.std.proofs.Common.{◌≡◌, ◌++◌, List, ℕ, length, refl, ap, ◌∙◌, append_assoc, rules, arith}
+use Rattle.std.proofs.Common.{◌≡◌, length, refl, ap, ◌∙◌, arith}
 use Rattle.fc_help.specs.Request.{Request, request_with}
-use Rattle.fc_help.specs.Region.{FitsRegion, region_head, padded, region_of}
+use Rattle.fc_help.specs.Region.{FitsRegion}
 use Rattle.fc_help.proofs.Laid.{laid_out}
 use Rattle.fc_help.proofs.request.Request.new.Goals as goal
-
--- the region is the head, the query and the payload
-region_is : (r : Request) (first second region : List ℕ) → first ≡ region_head r → second ≡ first ++ padded 64 r.query → region ≡ second ++ padded 1024 r.payload → region ≡ region_of r
-unfolding region_of
-region_is r first second region e f g =
-    g ∙ ap (λ m. m ++ padded 1024 r.payload) (f ∙ ap (λ m. m ++ padded 64 r.query) e) ∙ append_assoc (region_head r) (padded 64 r.query) (padded 1024 r.payload)
-
-made : (c : goal.After-put_padded-2) → c.put_padded-2.new.region.items ≡ region_of (request_with c.args.method c.args.slot c.args.content_format c.args.query.now c.args.payload.now)
-made c =
-    let r : Request = request_with c.args.method c.args.slot c.args.content_format c.args.query.now c.args.payload.now in
-    let first : c.try_extend_from_slice-fits.new.self.items ≡ region_head r = search rules in
-    region_is r c.try_extend_from_slice-fits.new.self.items c.put_padded.new.region.items c.put_padded-2.new.region.items first c.put_padded.ensures c.put_padded-2.ensures
 
 pub invariant_of-result : goal.invariant_of-result
 invariant_of-result c =
     let r : Request = request_with c.args.method c.args.slot c.args.content_format c.args.query.now c.args.payload.now in
-    let e = made c in
     let fits : FitsRegion r = record { query = c.requires.query; payload = c.requires.payload } in
-    let back = laid_out r c.put_padded-2.new.region.items fits e in
+    let back = laid_out r c.lay_out.new.region.items fits c.lay_out.ensures in
     record {
-      region_is = e ∙ rw (back.0, back.1) refl;
+      region_is = c.lay_out.ensures ∙ rw (back.0, back.1) refl;
       fits = record { query = omega (arith, ap length back.0, c.requires.query); payload = omega (arith, ap length back.1, c.requires.payload) };
       query_is = ap length back.0;
       payload_is = ap length back.1;
@@ -32,5 +19,5 @@ invariant_of-result c =
 pub returns : goal.returns
 returns c =
     let r : Request = request_with c.args.method c.args.slot c.args.content_format c.args.query.now c.args.payload.now in
-    let back = laid_out r c.put_padded-2.new.region.items (record { query = c.requires.query; payload = c.requires.payload }) (made c) in
+    let back = laid_out r c.lay_out.new.region.items (record { query = c.requires.query; payload = c.requires.payload }) c.lay_out.ensures in
     rw (back.0, back.1) refl

@@ -1,0 +1,10 @@
+use Rattle.std.proofs.Common.{◌≡◌, ◌-◌}
+use Rattle.fc_registry.specs.Slots.{Shard}
+use Rattle.fc_registry.specs.Watches.{is_due_at, is_late_at, place_from}
+use Rattle.fc_registry.proofs.shard.Shard.is_quiet.Given as goal
+
+abbrev pub invariant-loop-place : goal.invariant-loop-place
+invariant-loop-place l =
+    let s : Shard = record l.self { now = l.now } in
+    (place_from (is_late_at s) 8 0 ≡ place_from (is_late_at s) (8 - l.place) l.place)
+    × (place_from (is_due_at s) 8 0 ≡ place_from (is_due_at s) (8 - l.place) l.place)

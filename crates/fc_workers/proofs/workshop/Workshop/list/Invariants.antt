@@ -1,0 +1,8 @@
+use Rattle.std.proofs.Common.{◌≡◌, ◌++◌, ◌-◌, ◌≤◌, ℕ, List, length}
+use Rattle.fc_workers.proofs.workshop.Workshop.list.Given as goal
+
+abbrev pub invariant-slots : goal.invariant-slots
+invariant-slots g l = (l.heads.table ≡ l.initial.heads.table) × (length l.words.items ≤ 64) × ((more : List ℕ) × (l.words.items ≡ l.seen.items ++ more))
+
+abbrev pub decreases-slots : goal.decreases-slots
+decreases-slots g l = 64 - length l.words.items
