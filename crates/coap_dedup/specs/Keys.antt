@@ -13,6 +13,10 @@ key_of to id = record { id = id; port = to.port; ip = to.ip }
 abbrev pub endpoint_of : Key → Endpoint
 endpoint_of k = record { ip = k.ip; port = k.port }
 
--- by message id, then by port, then by address
+-- by port, then by address
+abbrev pub endpoint_cmp : Key → Key → Ordering
+endpoint_cmp = then_cmp (on (λ k. k.port) nat_cmp) (on (λ k. k.ip) (slice_cmp nat_cmp))
+
+-- by message id, then by endpoint
 abbrev pub key_cmp : Key → Key → Ordering
-key_cmp = then_cmp (on (λ k. k.id) nat_cmp) (then_cmp (on (λ k. k.port) nat_cmp) (on (λ k. k.ip) (slice_cmp nat_cmp)))
+key_cmp = then_cmp (on (λ k. k.id) nat_cmp) endpoint_cmp

@@ -1,6 +1,6 @@
 //! The key by which an exchange is found.
 ghost use Rattle.std.specs.Prelude.{◌≡◌, ◌+◌, ◌<◌};
-ghost use Rattle.coap_dedup.specs.Keys.{key_cmp, key_of};
+ghost use Rattle.coap_dedup.specs.Keys.{endpoint_cmp, key_cmp, key_of};
 
 use coap_msg::Endpoint;
 use std::cmp::Ordering;
@@ -37,7 +37,7 @@ impl Probes {
 
 /// Whose request it is, and its message id. Keys are in order of message id, then of port, then of address: most differ in
 /// the first.
-#[derive(Clone, Copy, PartialEq, Eq, PartialOrd, Ord)]
+#[derive(Clone, Copy)]
 pub(crate) struct Key {
     id: u16,
     port: u16,
@@ -52,13 +52,26 @@ impl Key {
         Key { id, port, ip }
     }
 
-    // How it compares to another. It is the one call that reads a key, and it is counted.
+    // How it compares to another. No other call reads a key, and this one is counted.
     pub(crate) fn order(&self, other: &Key, probes: &mut Probes) -> Ordering
         requires { probes.old < 4294967295 }
         ensures order { result ≡ key_cmp self.now other.now }
         ensures counted { probes.new ≡ probes.old + 1 }
     {
         probes.count += 1;
-        self.cmp(other)
+        match self.id.cmp(&other.id) {
+            Ordering::Equal => self.endpoint_order(other),
+            unequal => unequal,
+        }
+    }
+
+    // How its endpoint compares to another's.
+    fn endpoint_order(&self, other: &Key) -> Ordering
+        ensures { result ≡ endpoint_cmp self.now other.now }
+    {
+        match self.port.cmp(&other.port) {
+            Ordering::Equal => self.ip.cmp(&other.ip),
+            unequal => unequal,
+        }
     }
 }

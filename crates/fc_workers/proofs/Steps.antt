@@ -29,7 +29,6 @@ use Rattle.fc_registry.specs.declared.commit.Committed.TheVariants.{Done, Overta
 use Rattle.fc_registry.specs.Slots.{Present, Slot, Ticket}
 use Rattle.fc_registry.specs.Calls.{is_out_at, receipt_of, run_of, taking, taking_by as taking_of_job, turn_of, turn_taking}
 use Rattle.fc_core.specs.declared.stage.Stage.{Stage}
-use Rattle.fc_heads.specs.Heads.{HeadSeat}
 use Rattle.fc_core.specs.declared.stage.Stage.TheVariants.{ToMatch, ToTake, ToCommit, ToInstall, ToRemove, ToDescribe, ToList, ToRaise, ToAnswer}
 use Rattle.fc_core.specs.Contents.{Content, IsOf, Listed, Unavailable}
 use Rattle.fc_core.specs.Heads.{head_word, is_match}
@@ -335,7 +334,3 @@ walks_list changes job seen (word ∷ next ∷ more) {stage} {before} {now} at s
 
 pub lists_on : {T : Type 0} (changes : T → ℕ → ℕ) (job : Job) (seen : ArrayVec ℕ) (words : List ℕ) {stage : Stage} {before now : Share T} → stage ≡ ToList seen → ListsOn seen.items words → Walked changes job stage before now → Walked changes job (ToAnswer (Listed words)) before now
 lists_on changes job seen words {stage} {before} {now} at lists w = subst (λ (ws : List ℕ). Walked changes job (ToAnswer (Listed ws)) before now) (sym lists.are) (walks_list changes job seen lists.more at lists.some (sym (ap length lists.are) ∙ lists.all) w)
-
--- what holds of a seat at the head words, a stage and a share holds of others that are these
-pub of_these : {S : Type 0} (P : HeadSeat → Stage → S → Type 0) {heads at : HeadSeat} {stage next : Stage} {share after : S} → heads ≡ at → stage ≡ next → share ≡ after → P at next after → P heads stage share
-of_these P {heads} {at} {stage} {next} {share} {after} e f g p = subst (λ (h : HeadSeat). P h stage share) (sym e) (subst (λ (s : Stage). P at s share) (sym f) (subst (P at next) (sym g) p))

@@ -13,6 +13,7 @@ use crate::workshop::{Gate, Moments, Wire, Workshop};
 use coap_msg::{Emission, Endpoint};
 use fc_core::Heard;
 use fc_core::front::blank_job;
+use fc_core::heads::{is_present, serial_in};
 use fc_jobs::{Jobs, Sent};
 use fc_observe::Ticked;
 use fc_registry::{Ask, Job, SHARDS};
@@ -206,29 +207,46 @@ impl<'a, B: Bench, G: Gate, W: Wire, M: Moments> Dispatcher<'a, B, G, W, M> {
     }
 
     // Whether its job may go to the workers.
-    fn may_go<R: Wait>(&self, rt: &R) -> bool
-        ensures { result ≡ true → MayGo self.now.handover self.now.job }
+    fn may_go<R: Wait>(&mut self, rt: &R) -> bool
+        ensures may { result ≡ true → MayGo self.old.handover self.old.job }
+        ensures done { self.new.done ≡ self.old.done }
+        ensures job { self.new.job ≡ self.old.job }
+        ensures handover { self.new.handover ≡ self.old.handover }
     {
         match self.handover {
             Handover::Every => true,
-            Handover::Dear(least) => self.cost(rt) >= least,
+            Handover::Dear(least) => self.needs_run() && self.cost(rt) >= least,
             Handover::Never => false,
         }
     }
 
-    // How many instructions its job's run takes at most, by the program that its slot has now; 0 where it needs none. One with an entity tag is taken for one
-    // that needs none: its slot's head word most often answers it, and that is read without a lock.
+    // Whether its job needs a run: it asks for one, and its slot's head word doesn't answer it by one of its entity tags. No lock is taken.
+    fn needs_run(&mut self) -> bool
+        ensures done { self.new.done ≡ self.old.done }
+        ensures job { self.new.job ≡ self.old.job }
+        ensures handover { self.new.handover ≡ self.old.handover }
+    {
+        match &self.job.ask {
+            Ask::Run(_) if self.job.etags.is_empty() => true,
+            Ask::Run(_) => {
+                let slot = self.job.origin.slot;
+                let word = self.workshop.bench.peek(slot, &mut self.tools.heads);
+                !is_present(word) || !self.job.etags.as_slice().contains(&serial_in(word))
+            }
+            Ask::Install(_) | Ask::Remove | Ask::Describe | Ask::Discover => false,
+        }
+    }
+
+    // How many instructions its job's run takes at most, by the program that its slot has now; 0 where it asks for none.
     fn cost<R: Wait>(&self, rt: &R) -> u32
         ensures { (least : ℕ) → 0 < least → least ≤ result → IsDear least self.now.job }
     {
         match &self.job.ask {
-            Ask::Run(_) if self.job.etags.is_empty() => {
-                match self.workshop.bench.receipt(rt, &self.job) {
-                    Some(receipt) => receipt.cost,
-                    None => 0,
-                }
-            }
-            Ask::Run(_) | Ask::Install(_) | Ask::Remove | Ask::Describe | Ask::Discover => 0,
+            Ask::Run(_) => match self.workshop.bench.receipt(rt, &self.job) {
+                Some(receipt) => receipt.cost,
+                None => 0,
+            },
+            Ask::Install(_) | Ask::Remove | Ask::Describe | Ask::Discover => 0,
         }
     }
 

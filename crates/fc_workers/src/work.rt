@@ -19,7 +19,6 @@ use fc_heads::HeadSeat;
 use fc_machine::{Frame, run};
 use fc_registry::{Job, Receipt, SlotNumber, Ticket};
 use fc_verify::{Refusal, Verified, verify};
-use std::mem;
 use std::sync::{Arc, Wait};
 
 impl<'a, B: Bench, G: Gate, W: Wire, M: Moments> Workshop<'a, B, G, W, M> {
@@ -44,30 +43,33 @@ impl<'a, B: Bench, G: Gate, W: Wire, M: Moments> Workshop<'a, B, G, W, M> {
     {
         let mut stage = Stage::asked(job);
         'calls: loop {
-            let next = match &stage {
+            match &stage {
                 Stage::ToMatch => {
-                    Stage::matched(job, self.bench.peek(job.origin.slot, &mut tools.heads))
+                    let word = self.bench.peek(job.origin.slot, &mut tools.heads);
+                    stage = Stage::matched(job, word);
                 }
-                Stage::ToTake(count) => self.take(rt, job, *count, share),
+                Stage::ToTake(count) => {
+                    let count = *count;
+                    stage = self.take(rt, job, count, share);
+                }
                 Stage::ToCommit(count, ticket) => {
                     self.gate.between(rt, number);
-                    self.commit(rt, &mut tools.frame, job, *count, ticket, share)
+                    stage = self.commit(rt, &mut tools.frame, job, *count, ticket, share);
                 }
-                Stage::ToInstall => self.install(rt, job, share),
-                Stage::ToRemove => self.remove(rt, job, share),
-                Stage::ToDescribe => Stage::told(self.bench.receipt(rt, job)),
+                Stage::ToInstall => stage = self.install(rt, job, share),
+                Stage::ToRemove => stage = self.remove(rt, job, share),
+                Stage::ToDescribe => stage = Stage::told(self.bench.receipt(rt, job)),
                 Stage::ToList(seen) => {
                     let words = self.list(&mut tools.heads, seen);
-                    Stage::ToAnswer(Answer::other(End::Core(words)))
+                    stage = Stage::ToAnswer(Answer::other(End::Core(words)));
                 }
                 Stage::ToRaise(word, _) => {
                     self.bench.raise(job, *word, &mut tools.heads);
-                    raised(mem::replace(&mut stage, Stage::Gone))
+                    stage = raised(stage);
                 }
-                Stage::ToAnswer(_) => return content(mem::replace(&mut stage, Stage::Gone)),
+                Stage::ToAnswer(_) => return content(stage),
                 Stage::ToTell(..) | Stage::Gone => unreachable!(),
-            };
-            stage = next;
+            }
         }
     }
 

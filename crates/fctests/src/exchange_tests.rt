@@ -43,7 +43,22 @@ fn exchanges_end_in_order_of_arrival(rt: HostRuntime) -> Result<(), AllocError> 
     Ok(())
 }
 
-// Clients of two hosts and all ports, and message ids, in no order.
+// A look compares no key where none is held, and else begins in the middle; what follows it compares none that is counted.
+#[test]
+fn looks_count_their_comparisons(rt: HostRuntime) -> Result<(), AllocError> {
+    let mut exchanges = Exchanges::new(rt.alloc())?;
+    assert!(rt; arrives(&mut exchanges, 0, CLIENT, 1) && exchanges.probes() == 0);
+    assert!(rt; arrives(&mut exchanges, 0, CLIENT, 2) && exchanges.probes() == 1);
+    assert!(rt; arrives(&mut exchanges, 0, CLIENT, 3) && exchanges.probes() == 1);
+    assert!(rt; !arrives(&mut exchanges, 0, CLIENT, 2) && exchanges.probes() == 1);
+    assert!(rt; !arrives(&mut exchanges, 0, CLIENT, 1) && exchanges.probes() == 2);
+    exchanges.close(0, 0, &Datagram::new());
+    exchanges.expire(247_000);
+    assert!(rt; exchanges.probes() == 2);
+    Ok(())
+}
+
+// Clients of two hosts and of 1,024 ports, and message ids, in no order.
 fn key(number: u16) -> (Endpoint, u16) {
     let host = if number % 2 == 0 { 1 } else { 2 };
     let client = Endpoint {
