@@ -4,8 +4,9 @@ use Rattle.std.proofs.lemmas.Bool.{lt-ltb, le-ltb}
 use Rattle.coap_msg.specs.Wire.{Message}
 use Rattle.coap_opts.specs.declared.request.Method.{Method}
 use Rattle.coap_opts.specs.declared.request.Resource.{Resource}
+use Rattle.coap_opts.specs.declared.request.Action.{Action}
 use Rattle.coap_opts.specs.Path.{method_of}
-use Rattle.coap_opts.specs.Served.{serves}
+use Rattle.coap_opts.specs.Served.{action_of}
 use Rattle.coap_opts.specs.Recognition.{has_unknown_critical}
 use Rattle.coap_opts.specs.Verdict.{IsKnown, IsServedAt, asked, has, resource, names_proxy, number_in, block_in, query, etags, observe_at, is_reserved, has_bad_value, refusal_code}
 use Rattle.coap_opts.specs.Collected.{IsCollected, IsQueryBy, lent, resource_with}
@@ -29,21 +30,21 @@ pub path_fails : (m : Message) (method : Method) → IsKnown m → method_of m.c
 unfolding refusal_code
 path_fails m method k e r = rw (k.no_proxy, k.no_unknown, e, r) refl
 
-pub service_fails : (m : Message) (method : Method) (at : Resource) → IsKnown m → method_of m.code ≡ Some method → resource m ≡ Some at → serves at method ≡ false → refusal_code m ≡ Some 133
+pub service_fails : (m : Message) (method : Method) (at : Resource) → IsKnown m → method_of m.code ≡ Some method → resource m ≡ Some at → action_of at method ≡ None → refusal_code m ≡ Some 133
 unfolding refusal_code
 service_fails m method at k e r s = rw (k.no_proxy, k.no_unknown, e, r, s) refl
 
-pub value_fails : (m : Message) (method : Method) (at : Resource) → IsServedAt m method at → has_bad_value m ≡ true → refusal_code m ≡ Some 128
+pub value_fails : (m : Message) (method : Method) (at : Resource) (action : Action) → IsServedAt m method at action → has_bad_value m ≡ true → refusal_code m ≡ Some 128
 unfolding refusal_code
-value_fails m method at s b = rw (s.known.no_proxy, s.known.no_unknown, s.method_is, s.resource_is, s.served, b) refl
+value_fails m method at action s b = rw (s.known.no_proxy, s.known.no_unknown, s.method_is, s.resource_is, s.served, b) refl
 
-pub payload_fails : (m : Message) (method : Method) (at : Resource) → IsServedAt m method at → has_bad_value m ≡ false → nat_lt 1024 (length m.payload) ≡ true → refusal_code m ≡ Some 141
+pub payload_fails : (m : Message) (method : Method) (at : Resource) (action : Action) → IsServedAt m method at action → has_bad_value m ≡ false → nat_lt 1024 (length m.payload) ≡ true → refusal_code m ≡ Some 141
 unfolding refusal_code
-payload_fails m method at s b p = rw (s.known.no_proxy, s.known.no_unknown, s.method_is, s.resource_is, s.served, b, p) refl
+payload_fails m method at action s b p = rw (s.known.no_proxy, s.known.no_unknown, s.method_is, s.resource_is, s.served, b, p) refl
 
-pub none_fails : (m : Message) (method : Method) (at : Resource) → IsServedAt m method at → has_bad_value m ≡ false → nat_lt 1024 (length m.payload) ≡ false → refusal_code m ≡ None
+pub none_fails : (m : Message) (method : Method) (at : Resource) (action : Action) → IsServedAt m method at action → has_bad_value m ≡ false → nat_lt 1024 (length m.payload) ≡ false → refusal_code m ≡ None
 unfolding refusal_code
-none_fails m method at s b p = rw (s.known.no_proxy, s.known.no_unknown, s.method_is, s.resource_is, s.served, b, p) refl
+none_fails m method at action s b p = rw (s.known.no_proxy, s.known.no_unknown, s.method_is, s.resource_is, s.served, b, p) refl
 
 -- ---- by what is collected
 
@@ -57,9 +58,9 @@ long_by : (b : Bool) (items all : List ℕ) → IsQueryBy b items all → nat_lt
 long_by true items all h = lt-ltb 64 (length all) h
 long_by false items all h = rw (sym h.0) (le-ltb 64 (length items) h.1)
 
-pub collected_served : (m : Message) (g : Collected) (method : Method) (at : Resource) → IsCollected m g → IsKnown m → method_of m.code ≡ Some method → resource_with g.path [] ≡ Some at →
-    serves at method ≡ true → IsServedAt m method at
-collected_served m g method at h k e r s = record { known = k; method_is = e; resource_is = sym h.path ∙ r; served = s }
+pub collected_served : (m : Message) (g : Collected) (method : Method) (at : Resource) (action : Action) → IsCollected m g → IsKnown m → method_of m.code ≡ Some method → resource_with g.path [] ≡ Some at →
+    action_of at method ≡ Some action → IsServedAt m method at action
+collected_served m g method at action h k e r s = record { known = k; method_is = e; resource_is = sym h.path ∙ r; served = s }
 
 pub collected_bad : (m : Message) (g : Collected) → IsCollected m g → (first second : Option Place) → first ≡ option_map place_in (lent g.block1) → second ≡ option_map place_in (lent g.block2) →
     has_bad_value m ≡ ((is_reserved first || is_reserved second) || g.query.is_long)
@@ -77,25 +78,23 @@ pub collected_query : (m : Message) (g : Collected) → IsCollected m g → has_
 collected_query m g h e = query_by _ _ _ h.query (or_right (is_reserved (block_in 27 m) || is_reserved (block_in 23 m)) _ e)
 
 -- the request
-asked_is : (m : Message) (method : Method) (at : Resource) → IsServedAt m method at → asked m ≡ Some (record {
-  method = method;
-  resource = at;
+asked_is : (m : Message) (method : Method) (at : Resource) (action : Action) → IsServedAt m method at action → asked m ≡ Some (record {
+  action = action;
   query = query m;
   content_format = number_in 12 m;
   etags = etags m;
-  observe = observe_at at (number_in 6 m);
+  observe = observe_at action (number_in 6 m);
   block1 = block_in 27 m;
   block2 = block_in 23 m;
   payload = m.payload;
 })
 unfolding asked
-asked_is m method at s = rw (s.method_is, s.resource_is) refl
+asked_is m method at action s = rw (s.method_is, s.resource_is, s.served) refl
 
-pub asked_with : (m : Message) (method : Method) (at : Resource) (whole : List ℕ) (format : Option ℕ) (tags : List ℕ) (watch : Option ℕ) (first second : Option Place) (payload : List ℕ) →
-    IsServedAt m method at → whole ≡ query m → format ≡ number_in 12 m → tags ≡ etags m → watch ≡ observe_at at (number_in 6 m) → first ≡ block_in 27 m → second ≡ block_in 23 m → payload ≡ m.payload →
+pub asked_with : (m : Message) (method : Method) (at : Resource) (action : Action) (whole : List ℕ) (format : Option ℕ) (tags : List ℕ) (watch : Option ℕ) (first second : Option Place) (payload : List ℕ) →
+    IsServedAt m method at action → whole ≡ query m → format ≡ number_in 12 m → tags ≡ etags m → watch ≡ observe_at action (number_in 6 m) → first ≡ block_in 27 m → second ≡ block_in 23 m → payload ≡ m.payload →
     asked m ≡ Some (record {
-      method = method;
-      resource = at;
+      action = action;
       query = whole;
       content_format = format;
       etags = tags;
@@ -104,4 +103,4 @@ pub asked_with : (m : Message) (method : Method) (at : Resource) (whole : List �
       block2 = second;
       payload = payload;
     })
-asked_with m method at whole format tags watch first second payload s a b c d e f g = rw (a, b, c, d, e, f, g) (asked_is m method at s)
+asked_with m method at action whole format tags watch first second payload s a b c d e f g = rw (a, b, c, d, e, f, g) (asked_is m method at action s)

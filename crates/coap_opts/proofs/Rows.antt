@@ -5,7 +5,7 @@ use Rattle.coap_msg.specs.Wire.{Message}
 use Rattle.coap_msg.specs.declared.types.MessageType.TheVariants.{Confirmable}
 use Rattle.coap_opts.specs.declared.request.Method.{Method}
 use Rattle.coap_opts.specs.declared.request.Method.TheVariants.{Get, Post, Put, Delete}
-use Rattle.coap_opts.specs.declared.request.Resource.TheVariants.{Run, Program}
+use Rattle.coap_opts.specs.declared.request.Action.TheVariants as actions
 use Rattle.coap_opts.specs.Fields.{method_code}
 use Rattle.coap_opts.specs.Path.{method_of}
 use Rattle.coap_opts.specs.Recognition.{is_recognised, row_of}
@@ -36,8 +36,7 @@ get_options =
     ∷ (11, codes "r") ∷ (11, codes "37") ∷ (12, 50 ∷ []) ∷ (15, codes "a=1") ∷ (15, codes "b") ∷ (23, 37 ∷ []) ∷ []
 
 row_get : verdict (message 1 get_options (8 ∷ [])) ≡ IsAsked (record {
-  method = Get;
-  resource = Run 37;
+  action = actions.Get 37;
   query = codes "a=1&b";
   content_format = Some 50;
   etags = 261 ∷ [];
@@ -49,10 +48,36 @@ row_get : verdict (message 1 get_options (8 ∷ [])) ≡ IsAsked (record {
 unfolding verdict asked refusal_code is_recognised row_of rows
 row_get = refl
 
+-- a GET of /p/9, and of /.well-known/core
+row_describe : verdict (message 1 ((11, codes "p") ∷ (11, codes "9") ∷ []) []) ≡ IsAsked (record {
+  action = actions.Describe 9;
+  query = [];
+  content_format = None;
+  etags = [];
+  observe = None;
+  block1 = None;
+  block2 = None;
+  payload = [];
+})
+unfolding verdict asked refusal_code is_recognised row_of rows
+row_describe = refl
+
+row_discover : verdict (message 1 ((11, codes ".well-known") ∷ (11, codes "core") ∷ []) []) ≡ IsAsked (record {
+  action = actions.Discover;
+  query = [];
+  content_format = None;
+  etags = [];
+  observe = None;
+  block1 = None;
+  block2 = None;
+  payload = [];
+})
+unfolding verdict asked refusal_code is_recognised row_of rows
+row_discover = refl
+
 -- a POST of /r/0
 row_post : verdict (message 2 ((11, codes "r") ∷ (11, codes "0") ∷ (12, []) ∷ (15, codes "x") ∷ []) (1 ∷ 2 ∷ [])) ≡ IsAsked (record {
-  method = Post;
-  resource = Run 0;
+  action = actions.Post 0;
   query = codes "x";
   content_format = Some 0;
   etags = [];
@@ -66,8 +91,7 @@ row_post = refl
 
 -- a PUT of /p/63 with its Block1, of which more are to follow
 row_put : verdict (message 3 ((11, codes "p") ∷ (11, codes "63") ∷ (27, 1 ∷ 8 ∷ []) ∷ []) []) ≡ IsAsked (record {
-  method = Put;
-  resource = Program 63;
+  action = actions.Install 63;
   query = [];
   content_format = None;
   etags = [];
@@ -81,8 +105,7 @@ row_put = refl
 
 -- a DELETE of /p/5, and the same of /.well-known/core, which is 4.05
 row_delete : verdict (message 4 ((11, codes "p") ∷ (11, codes "5") ∷ []) []) ≡ IsAsked (record {
-  method = Delete;
-  resource = Program 5;
+  action = actions.Remove 5;
   query = [];
   content_format = None;
   etags = [];

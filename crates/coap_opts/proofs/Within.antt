@@ -1,5 +1,5 @@
 -- What a request that is carried out is within, and what a refusal is.
-use Rattle.std.proofs.Common.{◌≡◌, ◌≢◌, ℕ, ◌<◌, ◌≤◌, ◌==◌, ◌&&◌, ◌||◌, List, [], ◌∷◌, not, Bool, true, false, if◌then◌else◌, nat_lt, nat_le, length, map, take, Option, Some, None, IfSome, refl, sym, ap, subst, ◌∙◌, arith}
+use Rattle.std.proofs.Common.{◌≡◌, ◌≢◌, ℕ, ◌<◌, ◌≤◌, ◌==◌, ◌&&◌, ◌||◌, List, [], ◌∷◌, Bool, true, false, if◌then◌else◌, nat_lt, nat_le, length, map, take, Option, Some, None, IfSome, refl, sym, ap, subst, ◌∙◌, arith}
 use Rattle.std.specs.List.{filter}
 use Rattle.std.specs.Option.{option_map}
 use Rattle.std.proofs.lemmas.List.{length-take}
@@ -11,42 +11,78 @@ use Rattle.coap_msg.specs.declared.types.MessageType.TheVariants as kind
 use Rattle.coap_msg.specs.declared.code.TheConstants.Code.{GET, PUT, BAD_OPTION}
 use Rattle.coap_opts.specs.declared.number.TheConstants as option
 use Rattle.coap_opts.specs.declared.request.Method.{Method}
-use Rattle.coap_opts.specs.declared.request.Method.TheVariants.{Get, Put}
+use Rattle.coap_opts.specs.declared.request.Method.TheVariants.{Get, Post, Put, Delete}
 use Rattle.coap_opts.specs.declared.request.Resource.{Resource}
 use Rattle.coap_opts.specs.declared.request.Resource.TheVariants.{Run, Program, Core}
+use Rattle.coap_opts.specs.declared.request.Action.{Action}
+use Rattle.coap_opts.specs.declared.request.Action.TheVariants as actions
 use Rattle.coap_opts.specs.Path.{method_of}
 use Rattle.coap_opts.specs.Values.{Place, place_in, uint_value}
-use Rattle.coap_opts.specs.Verdict.{Asked, IsAsked, IsAskedWithin, IsBlockFor, IsErrorCode, IsRefused, IsSilent, IsReset, IsSignal, IsIgnored, Verdict, asked, accepted, resource, verdict, verdict_by, request_verdict, verdict_by_check, refusal_verdict, refusal_code, checks, first_failing, first_of, is_request, is_reserved, is_run, is_served, has_bad_value, query, values, number_in, block_in, etags, observe_at}
+use Rattle.coap_opts.specs.Verdict.{Asked, IsAsked, IsAskedWithin, IsBlockFor, IsErrorCode, IsRefused, IsSilent, IsReset, IsSignal, IsIgnored, Verdict, asked, accepted, resource, verdict, verdict_by, request_verdict, verdict_by_check, refusal_verdict, refusal_code, action, checks, first_failing, first_of, is_request, is_get, is_reserved, has_bad_value, query, values, number_in, block_in, etags, observe_at}
 use Rattle.coap_opts.specs.Fields.{IsMadeOf}
-use Rattle.coap_opts.specs.Served.{serves}
+use Rattle.coap_opts.specs.Served.{action_of, method_in, resource_in}
 use Rattle.coap_opts.proofs.Known.{block1_in_put, block2_in_get, etag_in_get, observe_in_get}
 use Rattle.coap_opts.proofs.Paths.{path_only}
 
 -- ---- the request is made of the message
 
-abbrev fields : Message → Method → Resource → Asked
-fields m method at = record {
-  method = method;
-  resource = at;
+abbrev fields : Message → Action → Asked
+fields m action = record {
+  action = action;
   query = query m;
   content_format = number_in option.CONTENT_FORMAT m;
   etags = etags m;
-  observe = observe_at at (number_in option.OBSERVE m);
+  observe = observe_at action (number_in option.OBSERVE m);
   block1 = block_in option.BLOCK1 m;
   block2 = block_in option.BLOCK2 m;
   payload = m.payload;
 }
 
-made_by : (m : Message) (r : Asked) (method : Option Method) (at : Option Resource) → method_of m.code ≡ method → resource m ≡ at →
-    (method >>= λ method. at >>= λ at. Some (fields m method at)) ≡ Some r → IsMadeOf m r
-made_by m r None at e f h = absurd (cc h)
-made_by m r (Some method) None e f h = absurd (cc h)
-made_by m r (Some method) (Some at) e f h =
-    let same : fields m method at ≡ r = cc h in
+-- what is asked has its method and its resource
+pub action_only : (at : Resource) (method : Method) (found : Action) → action_of at method ≡ Some found → (at ≡ resource_in found) × (method ≡ method_in found)
+action_only (Run n) Get found h = let same : actions.Get n ≡ found = cc h in (ap resource_in same, ap method_in same)
+action_only (Run n) Post found h = let same : actions.Post n ≡ found = cc h in (ap resource_in same, ap method_in same)
+action_only (Run n) Put found h = absurd (cc h)
+action_only (Run n) Delete found h = absurd (cc h)
+action_only (Program n) Get found h = let same : actions.Describe n ≡ found = cc h in (ap resource_in same, ap method_in same)
+action_only (Program n) Post found h = absurd (cc h)
+action_only (Program n) Put found h = let same : actions.Install n ≡ found = cc h in (ap resource_in same, ap method_in same)
+action_only (Program n) Delete found h = let same : actions.Remove n ≡ found = cc h in (ap resource_in same, ap method_in same)
+action_only Core Get found h = let same : actions.Discover ≡ found = cc h in (ap resource_in same, ap method_in same)
+action_only Core Post found h = absurd (cc h)
+action_only Core Put found h = absurd (cc h)
+action_only Core Delete found h = absurd (cc h)
+
+pub action_served : (action : Action) → action_of (resource_in action) (method_in action) ≡ Some action
+action_served (actions.Get n) = refl
+action_served (actions.Post n) = refl
+action_served (actions.Install n) = refl
+action_served (actions.Remove n) = refl
+action_served (actions.Describe n) = refl
+action_served actions.Discover = refl
+
+-- the parts of which an action is found
+record IsActionOf (m : Message) (action : Action) : Type 0 where
+  method : method_of m.code ≡ Some (method_in action)
+  resource : resource m ≡ Some (resource_in action)
+
+action_by : (m : Message) (method : Option Method) (at : Option Resource) (found : Action) → method_of m.code ≡ method → resource m ≡ at →
+    (method >>= λ method. at >>= λ at. action_of at method) ≡ Some found → IsActionOf m found
+action_by m None at found e f h = absurd (cc h)
+action_by m (Some method) None found e f h = absurd (cc h)
+action_by m (Some method) (Some at) found e f h =
+    let only = action_only at method found h in
+    record { method = e ∙ ap Some only.1; resource = f ∙ ap Some only.0 }
+
+made_by : (m : Message) (r : Asked) (found : Option Action) → action m ≡ found → (found >>= λ action. Some (fields m action)) ≡ Some r → IsMadeOf m r
+made_by m r None e h = absurd (cc h)
+made_by m r (Some found) e h =
+    let same : fields m found ≡ r = cc h in
+    let parts = action_by m (method_of m.code) (resource m) found refl refl e in
     subst (λ q. IsMadeOf m q) same (record {
-      method_is = e;
-      resource_is = f;
-      path_is = (path_only (values option.URI_PATH m) at f).0;
+      method_is = parts.method;
+      resource_is = parts.resource;
+      path_is = (path_only (values option.URI_PATH m) (resource_in found) parts.resource).0;
       query_is = refl;
       content_format_is = refl;
       etags_are = refl;
@@ -58,7 +94,7 @@ made_by m r (Some method) (Some at) e f h =
 
 made_of : (m : Message) (r : Asked) → asked m ≡ Some r → IsMadeOf m r
 unfolding asked
-made_of m r h = made_by m r (method_of m.code) (resource m) refl refl h
+made_of m r h = made_by m r (action m) refl h
 
 -- ---- no check fails
 
@@ -76,32 +112,19 @@ all_pass [] h = tt
 all_pass ((fails, answer) ∷ more) h = pass_by fails answer more (all_pass more) h
 
 record IsPassed (m : Message) : Type 0 where
-  served : is_served (resource m) (method_of m.code) ≡ true
   values_are_good : has_bad_value m ≡ false
   payload : nat_lt 1024 (length m.payload) ≡ false
-
-not_false : (b : Bool) → not b ≡ false → b ≡ true
-not_false true h = refl
-not_false false h = absurd (cc h)
 
 passed : (m : Message) → refusal_code m ≡ None → IsPassed m
 unfolding refusal_code
 passed m h =
     let behind_path = (all_pass (checks m) h).1.1.1.1 in
-    record { served = not_false _ behind_path.0; values_are_good = behind_path.1.0; payload = behind_path.1.1.0 }
+    record { values_are_good = behind_path.1.0; payload = behind_path.1.1.0 }
 
 -- ---- the fields
 
 method_is : (m : Message) (method found : Method) (wanted : ℕ) → method_of m.code ≡ Some method → m.code ≡ wanted → method_of wanted ≡ Some found → method ≡ found
 method_is m method found wanted e c f = let same : Some method ≡ Some found = sym e ∙ (ap method_of c ∙ f) in cc same
-
-served_by : (at : Option Resource) (method : Option Method) (r : Resource) (q : Method) → at ≡ Some r → method ≡ Some q → is_served at method ≡ true → serves r q ≡ true
-served_by None method r q a e h = absurd (cc a)
-served_by (Some at) None r q a e h = absurd (cc e)
-served_by (Some at) (Some method) r q a e h =
-    let same : at ≡ r = cc in
-    let equal : method ≡ q = cc in
-    cc
 
 good_size : (b : Place) → b.szx < 8 → is_reserved (Some b) ≡ false → b.szx < 7
 good_size b lt h = let not_seven : b.szx ≢ 7 = eqb-false b.szx 7 h in omega arith
@@ -114,11 +137,15 @@ or_false : (a b : Bool) → a || b ≡ false → (a ≡ false) × (b ≡ false)
 or_false true b h = absurd (cc h)
 or_false false b h = (refl, h)
 
-observe_by : (method : Method) (at : Resource) (value : Option (List ℕ)) → ((v : List ℕ) → value ≡ Some v → method ≡ Get) → IfSome (observe_at at (option_map uint_value value)) (λ n. (method ≡ Get) × (is_run at ≡ true))
-observe_by method (Run n) None h = tt
-observe_by method (Run n) (Some v) h = (h v refl, refl)
-observe_by method (Program n) value h = tt
-observe_by method Core value h = tt
+observe_by : (action : Action) (value : Option (List ℕ)) → ((v : List ℕ) → value ≡ Some v → method_in action ≡ Get) → IfSome (observe_at action (option_map uint_value value)) (λ n. is_get action ≡ true)
+observe_by (actions.Get n) None h = tt
+observe_by (actions.Get n) (Some v) h = refl
+observe_by (actions.Post n) None h = tt
+observe_by (actions.Post n) (Some v) h = absurd (cc (h v refl))
+observe_by (actions.Install n) value h = tt
+observe_by (actions.Remove n) value h = tt
+observe_by (actions.Describe n) value h = tt
+observe_by actions.Discover value h = tt
 
 no_tags : (method : Method) (tags : List (List ℕ)) → ((v : List ℕ) → first_of tags ≡ Some v → method ≡ Get) → method ≢ Get → take 4 (map uint_value (filter (λ v. length v == 8) tags)) ≡ []
 no_tags method [] h n = refl
@@ -129,20 +156,21 @@ at_most count xs = omega (arith, length-take count xs)
 
 fields_within : (m : Message) (r : Asked) → IsMadeOf m r → IsPassed m → IsAskedWithin m r
 fields_within m r made p =
+    let method = method_in r.action in
     let good = or_false _ _ p.values_are_good in
     let sizes = or_false _ _ good.0 in
-    let in_get : m.code ≡ GET.byte → r.method ≡ Get = λ c. method_is m r.method Get GET.byte made.method_is c refl in
-    let in_put : m.code ≡ PUT.byte → r.method ≡ Put = λ c. method_is m r.method Put PUT.byte made.method_is c refl in
+    let in_get : m.code ≡ GET.byte → method ≡ Get = λ c. method_is m method Get GET.byte made.method_is c refl in
+    let in_put : m.code ≡ PUT.byte → method ≡ Put = λ c. method_is m method Put PUT.byte made.method_is c refl in
     record {
       method = made.method_is;
-      resource = (path_only (values option.URI_PATH m) r.resource made.resource_is).1;
-      served = served_by _ _ r.resource r.method made.resource_is made.method_is p.served;
+      resource = (path_only (values option.URI_PATH m) (resource_in r.action) made.resource_is).1;
+      served = action_served r.action;
       query = rw made.query_is (ltb-false 64 (length (query m)) good.1);
       etags = rw made.etags_are (at_most 4 _);
-      etags_in_get = λ n. made.etags_are ∙ no_tags r.method (values option.ETAG m) (λ v h. in_get (etag_in_get m v h)) n;
-      observe = rw made.observe_is (observe_by r.method r.resource (first_of (values option.OBSERVE m)) (λ v h. in_get (observe_in_get m v h)));
-      block1 = rw made.block1_is (block_by Put r.method (first_of (values option.BLOCK1 m)) sizes.0 (λ v h. in_put (block1_in_put m v h)));
-      block2 = rw made.block2_is (block_by Get r.method (first_of (values option.BLOCK2 m)) sizes.1 (λ v h. in_get (block2_in_get m v h)));
+      etags_in_get = λ n. made.etags_are ∙ no_tags method (values option.ETAG m) (λ v h. in_get (etag_in_get m v h)) n;
+      observe = rw made.observe_is (observe_by r.action (first_of (values option.OBSERVE m)) (λ v h. in_get (observe_in_get m v h)));
+      block1 = rw made.block1_is (block_by Put method (first_of (values option.BLOCK1 m)) sizes.0 (λ v h. in_put (block1_in_put m v h)));
+      block2 = rw made.block2_is (block_by Get method (first_of (values option.BLOCK2 m)) sizes.1 (λ v h. in_get (block2_in_get m v h)));
       payload_is = made.payload_is;
       short = ltb-false 1024 (length m.payload) p.payload;
     }

@@ -1,5 +1,5 @@
--- What is served: a row for each option that is recognised, and one for each resource and each method there.
-use Rattle.std.specs.Prelude.{ℕ, Bool, true, false, List, [], ◌∷◌, Option, Some, None}
+-- What is served: a row for each option that is recognised, and one for each resource and each method there, with what is asked by it.
+use Rattle.std.specs.Prelude.{ℕ, true, false, List, [], ◌∷◌, Option, Some, None}
 use Rattle.coap_msg.specs.declared.code.Code.{Code}
 use Rattle.coap_msg.specs.declared.code.TheConstants.Code.{GET, PUT}
 use Rattle.coap_opts.specs.declared.number.TheConstants as option
@@ -8,6 +8,8 @@ use Rattle.coap_opts.specs.declared.request.Method.{Method}
 use Rattle.coap_opts.specs.declared.request.Method.TheVariants.{Get, Post, Put, Delete}
 use Rattle.coap_opts.specs.declared.request.Resource.{Resource}
 use Rattle.coap_opts.specs.declared.request.Resource.TheVariants.{Run, Program, Core}
+use Rattle.coap_opts.specs.declared.request.Action.{Action}
+use Rattle.coap_opts.specs.declared.request.Action.TheVariants as actions
 
 -- an option that may occur once
 abbrev pub once : ℕ → ℕ → ℕ → Option Code → Row
@@ -34,11 +36,31 @@ rows =
     ∷ []
 
 -- a GET and a POST run a program; a PUT installs one, a GET tells what it is, and a DELETE removes it; a GET lists what is there
-abbrev pub serves : Resource → Method → Bool
-serves (Run n) Get = true
-serves (Run n) Post = true
-serves (Program n) Get = true
-serves (Program n) Put = true
-serves (Program n) Delete = true
-serves Core Get = true
-serves _ _ = false
+abbrev pub action_of : Resource → Method → Option Action
+action_of (Run n) Get = Some (actions.Get n)
+action_of (Run n) Post = Some (actions.Post n)
+action_of (Program n) Put = Some (actions.Install n)
+action_of (Program n) Delete = Some (actions.Remove n)
+action_of (Program n) Get = Some (actions.Describe n)
+action_of Core Get = Some actions.Discover
+action_of _ _ = None
+
+-- ---- the same the other way
+
+-- the method by which it is asked
+abbrev pub method_in : Action → Method
+method_in (actions.Get n) = Get
+method_in (actions.Post n) = Post
+method_in (actions.Install n) = Put
+method_in (actions.Remove n) = Delete
+method_in (actions.Describe n) = Get
+method_in actions.Discover = Get
+
+-- the resource of which it is asked
+abbrev pub resource_in : Action → Resource
+resource_in (actions.Get n) = Run n
+resource_in (actions.Post n) = Run n
+resource_in (actions.Install n) = Program n
+resource_in (actions.Remove n) = Program n
+resource_in (actions.Describe n) = Program n
+resource_in actions.Discover = Core

@@ -12,15 +12,16 @@ use Rattle.coap_msg.specs.Reading.{◌>>=◌}
 use Rattle.coap_opts.specs.declared.number.TheConstants as option
 use Rattle.coap_opts.specs.declared.request.Method.{Method}
 use Rattle.coap_opts.specs.declared.request.Method.TheVariants.{Get, Put}
+use Rattle.coap_opts.specs.declared.request.Action.{Action}
+use Rattle.coap_opts.specs.declared.request.Action.TheVariants as actions
 use Rattle.coap_opts.specs.declared.request.Resource.{Resource}
-use Rattle.coap_opts.specs.declared.request.Resource.TheVariants.{Run}
 use Rattle.coap_opts.specs.declared.request.Request.{Request}
 use Rattle.coap_opts.specs.declared.request.Classified.{Classified}
 use Rattle.coap_opts.specs.declared.request.Classified.TheVariants as classified
 use Rattle.coap_opts.specs.Values.{Place, place_in, uint_value}
 use Rattle.coap_opts.specs.Recognition.{values_of, has_unknown_critical}
 use Rattle.coap_opts.specs.Path.{IsResource, method_of, resource_of}
-use Rattle.coap_opts.specs.Served.{serves}
+use Rattle.coap_opts.specs.Served.{action_of, method_in, resource_in}
 
 -- ---- the fields of a request
 
@@ -58,15 +59,19 @@ etags m = take 4 (map uint_value (filter (λ v. length v == 8) (values option.ET
 abbrev pub resource : Message → Option Resource
 resource m = resource_of (values option.URI_PATH m)
 
--- Observe is for the resources that a program answers
-abbrev pub observe_at : Resource → Option ℕ → Option ℕ
-observe_at (Run n) value = value
+-- what is asked, where the method is one that is served at the resource
+abbrev pub action : Message → Option Action
+action m = method_of m.code >>= λ method. resource m >>= λ at. action_of at method
+
+-- Observe is for what a program answers
+abbrev pub observe_at : Action → Option ℕ → Option ℕ
+observe_at (actions.Get n) value = value
+observe_at (actions.Post n) value = value
 observe_at _ value = None
 
 -- a request that is carried out
 pub record Asked : Type 0 where
-  pub method : Method
-  pub resource : Resource
+  pub action : Action
   pub query : List ℕ
   pub content_format : Option ℕ
   pub etags : List ℕ
@@ -75,18 +80,16 @@ pub record Asked : Type 0 where
   pub block2 : Option Place
   pub payload : List ℕ
 
--- the fields of a request whose method and resource there are
+-- the fields of a request that is served
 unfoldable pub asked : Message → Option Asked
 asked m =
-    method_of m.code >>= λ method.
-    resource m >>= λ resource.
+    action m >>= λ action.
     Some (record {
-      method = method;
-      resource = resource;
+      action = action;
       query = query m;
       content_format = number_in option.CONTENT_FORMAT m;
       etags = etags m;
-      observe = observe_at resource (number_in option.OBSERVE m);
+      observe = observe_at action (number_in option.OBSERVE m);
       block1 = block_in option.BLOCK1 m;
       block2 = block_in option.BLOCK2 m;
       payload = m.payload;
@@ -97,11 +100,6 @@ asked m =
 -- Proxy-Uri or Proxy-Scheme is there (RFC 7252, 5.10.2)
 abbrev pub names_proxy : Message → Bool
 names_proxy m = has (first_of (values option.PROXY_URI m)) || has (first_of (values option.PROXY_SCHEME m))
-
--- the method is served at the resource
-abbrev pub is_served : Option Resource → Option Method → Bool
-is_served (Some resource) (Some method) = serves resource method
-is_served _ _ = false
 
 -- size 7 is reserved (RFC 7959, 2.2)
 abbrev pub is_reserved : Option Place → Bool
@@ -123,7 +121,7 @@ checks m =
     ∷ (has_unknown_critical m.code None m.options, registered.BAD_OPTION.byte)
     ∷ (not (has (method_of m.code)), registered.METHOD_NOT_ALLOWED.byte)
     ∷ (not (has (resource m)), registered.NOT_FOUND.byte)
-    ∷ (not (is_served (resource m) (method_of m.code)), registered.METHOD_NOT_ALLOWED.byte)
+    ∷ (not (has (action m)), registered.METHOD_NOT_ALLOWED.byte)
     ∷ (has_bad_value m, registered.BAD_REQUEST.byte)
     ∷ (nat_lt 1024 (length m.payload), registered.REQUEST_ENTITY_TOO_LARGE.byte)
     ∷ []
@@ -143,11 +141,11 @@ pub record IsKnown (m : Message) : Type 0 where
   pub no_unknown : has_unknown_critical m.code None m.options ≡ false
 
 -- and those on method and path
-pub record IsServedAt (m : Message) (method : Method) (at : Resource) : Type 0 where
+pub record IsServedAt (m : Message) (method : Method) (at : Resource) (action : Action) : Type 0 where
   pub known : IsKnown m
   pub method_is : method_of m.code ≡ Some method
   pub resource_is : resource m ≡ Some at
-  pub served : serves at method ≡ true
+  pub served : action_of at method ≡ Some action
 
 -- ---- the verdict
 
@@ -199,8 +197,7 @@ verdict m = verdict_by m.kind m
 -- a request without where its payload lies
 abbrev pub asked_by : Request → Asked
 asked_by r = record {
-  method = r.method;
-  resource = r.resource;
+  action = r.action;
   query = r.query.items;
   content_format = r.content_format;
   etags = r.etags.items;
@@ -225,10 +222,10 @@ verdict_of classified.Ignored = IsIgnored
 
 -- ---- what a verdict is within
 
--- a program answers there
-abbrev pub is_run : Resource → Bool
-is_run (Run n) = true
-is_run _ = false
+-- a GET of what a program answers
+abbrev pub is_get : Action → Bool
+is_get (actions.Get n) = true
+is_get _ = false
 
 -- a block, where there is one, comes with this method, and its size isn't the reserved one
 abbrev pub IsBlockFor : Method → Method → Option Place → Type 0
@@ -236,15 +233,15 @@ IsBlockFor wanted method block = IfSome block (λ b. (method ≡ wanted) × (b.s
 
 -- a request that is carried out: its method is served at its resource, one of the server's, its payload is the message's, and each field is within its limits
 pub record IsAskedWithin (m : Message) (r : Asked) : Type 0 where
-  pub method : method_of m.code ≡ Some r.method
-  pub resource : IsResource r.resource
-  pub served : serves r.resource r.method ≡ true
+  pub method : method_of m.code ≡ Some (method_in r.action)
+  pub resource : IsResource (resource_in r.action)
+  pub served : action_of (resource_in r.action) (method_in r.action) ≡ Some r.action
   pub query : length r.query ≤ 64
   pub etags : length r.etags ≤ 4
-  pub etags_in_get : r.method ≢ Get → r.etags ≡ []
-  pub observe : IfSome r.observe (λ value. (r.method ≡ Get) × (is_run r.resource ≡ true))
-  pub block1 : IsBlockFor Put r.method r.block1
-  pub block2 : IsBlockFor Get r.method r.block2
+  pub etags_in_get : method_in r.action ≢ Get → r.etags ≡ []
+  pub observe : IfSome r.observe (λ value. is_get r.action ≡ true)
+  pub block1 : IsBlockFor Put (method_in r.action) r.block1
+  pub block2 : IsBlockFor Get (method_in r.action) r.block2
   pub payload_is : r.payload ≡ m.payload
   pub short : length m.payload ≤ 1024
 

@@ -7,8 +7,8 @@ use crate::block::Block;
 use crate::collector::{JoinedQuery, collect};
 use crate::fields;
 use crate::path::method_of;
-use crate::request::{Classified, PAYLOAD, Request, Resource};
-use crate::served::serves;
+use crate::request::{Action, Classified, PAYLOAD, Request};
+use crate::served::action_of;
 use coap_msg::{Code, Message, MessageType};
 
 /// Classifies a message: a request with its fields, the code of the first check that fails, or what else is done about it.
@@ -72,9 +72,9 @@ fn request<'a>(message: &Message<'a>) -> Result<Request<'a>, Code>
     let Some(resource) = fields::resource_of(collected.path) else {
         return Err(Code::NOT_FOUND);
     };
-    if !serves(resource, method) {
+    let Some(action) = action_of(resource, method) else {
         return Err(Code::METHOD_NOT_ALLOWED);
-    }
+    };
     if is_bad(
         fields::block_of(collected.block1),
         fields::block_of(collected.block2),
@@ -87,12 +87,11 @@ fn request<'a>(message: &Message<'a>) -> Result<Request<'a>, Code>
         return Err(Code::REQUEST_ENTITY_TOO_LARGE);
     }
     Ok(Request {
-        method,
-        resource,
+        action,
         query: collected.query.items,
         content_format: fields::format_of(collected.content_format),
         etags: collected.etags,
-        observe: observe_at(resource, fields::observe_of(collected.observe)),
+        observe: observe_at(action, fields::observe_of(collected.observe)),
         block1: fields::block_of(collected.block1),
         block2: fields::block_of(collected.block2),
         payload,
@@ -106,12 +105,12 @@ fn is_bad(block1: Option<Block>, block2: Option<Block>, query: &JoinedQuery) -> 
     is_reserved(block1) || is_reserved(block2) || query.is_long
 }
 
-/// Observe is for the resources that a program answers.
-fn observe_at(resource: Resource, observe: Option<u32>) -> Option<u32>
-    ensures { result ≡ spec.observe_at resource observe }
+/// Observe is for what a program answers.
+fn observe_at(action: Action, observe: Option<u32>) -> Option<u32>
+    ensures { result ≡ spec.observe_at action observe }
 {
-    match resource {
-        Resource::Run(_) => observe,
+    match action {
+        Action::Get(_) | Action::Post(_) => observe,
         _ => None,
     }
 }

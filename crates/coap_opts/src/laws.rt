@@ -8,6 +8,8 @@ ghost use Rattle.coap_opts.specs.Verdict.{Asked, IsAsked, IsAskedWithin, IsError
 ghost use Rattle.coap_opts.specs.declared.request.Method.{Method};
 ghost use Rattle.coap_opts.specs.declared.request.Method.TheVariants.{Get, Post, Put, Delete};
 ghost use Rattle.coap_opts.specs.declared.request.Resource.{Resource};
+ghost use Rattle.coap_opts.specs.declared.request.Action.{Action};
+ghost use Rattle.coap_opts.specs.Served.{action_of, method_in, resource_in};
 
 use crate::number::{
     BLOCK1, BLOCK2, CONTENT_FORMAT, ETAG, OBSERVE, PROXY_SCHEME, PROXY_URI, URI_HOST, URI_PATH,
@@ -26,6 +28,13 @@ pub fn resources_have_one_path()
     ensures named { (r : Resource) → IsResource r → resource_of (path_of r) ≡ Some r }
     ensures only { (segments : List (List ℕ)) (r : Resource) → resource_of segments ≡ Some r →
         (segments ≡ path_of r) × IsResource r }
+{}
+
+/// Each action is asked by one method at one resource, and no other method there asks one.
+pub fn actions_have_their_methods()
+    ensures served { (action : Action) → action_of (resource_in action) (method_in action) ≡ Some action }
+    ensures only { (at : Resource) (method : Method) (action : Action) → action_of at method ≡ Some action →
+        (at ≡ resource_in action) × (method ≡ method_in action) }
 {}
 
 /// What the fields of a request that is carried out are within, and that a refusal is the reply of an error.

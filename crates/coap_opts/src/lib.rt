@@ -6,14 +6,14 @@
 //!
 //! ```rust
 //! use coap_msg::read;
-//! use coap_opts::{Classified, Method, Resource, classify};
+//! use coap_opts::{Action, Classified, classify};
 //!
 //! /// The slot whose program a datagram asks by a GET of `/r/N`.
 //! fn asked_slot(bytes: &[u8]) -> Option<u8> {
 //!     let message = read(bytes).ok()?;
 //!     match classify(&message) {
-//!         Classified::Request(request) => match (request.method, request.resource) {
-//!             (Method::Get, Resource::Run(slot)) => Some(slot),
+//!         Classified::Request(request) => match request.action {
+//!             Action::Get(slot) => Some(slot),
 //!             _ => None,
 //!         },
 //!         _ => None,
@@ -38,6 +38,6 @@ pub mod uint;
 pub use block::Block;
 pub use classifier::classify;
 pub use reply::{Reply, ReplyOptions};
-pub use request::{Classified, Method, Query, Request, Resource};
+pub use request::{Action, Classified, Method, Query, Request, Resource};
 pub use served::{OPTIONS, Row};
 pub use uint::{UintBytes, decode_uint, encode_uint};

@@ -23,6 +23,23 @@ pub enum Resource {
     Core,
 }
 
+/// What is asked of the server: a method at a resource where it is served.
+#[derive(Clone, Copy, PartialEq, Eq)]
+pub enum Action {
+    /// A GET of `/r/N`, which slot N's program answers.
+    Get(u8),
+    /// A POST of `/r/N`, which slot N's program answers.
+    Post(u8),
+    /// A PUT of `/p/N`, which installs a program in slot N.
+    Install(u8),
+    /// A DELETE of `/p/N`, which removes slot N's program.
+    Remove(u8),
+    /// A GET of `/p/N`, which tells what slot N's program is.
+    Describe(u8),
+    /// A GET of `/.well-known/core`, which lists what is there.
+    Discover,
+}
+
 /// The most bytes of a query.
 pub const QUERY: usize = 64;
 
@@ -38,8 +55,7 @@ pub const PAYLOAD: usize = 1024;
 /// A request that the server carries out. The payload is lent from the datagram.
 #[derive(Drop)]
 pub struct Request<'a> {
-    pub method: Method,
-    pub resource: Resource,
+    pub action: Action,
     /// The query, at most 64 bytes.
     pub query: Query,
     /// The format of the payload, where there is one.

@@ -6,7 +6,7 @@ use crate::number::{
     BLOCK1, BLOCK2, CONTENT_FORMAT, ETAG, OBSERVE, PROXY_SCHEME, PROXY_URI, URI_HOST, URI_PATH,
     URI_PORT, URI_QUERY,
 };
-use crate::request::{Method, Resource};
+use crate::request::{Action, Method, Resource};
 use coap_msg::Code;
 
 /// What is known of an option.
@@ -105,14 +105,17 @@ pub const OPTIONS: [Row; 11] = [
     },
 ];
 
-/// Whether a method is served at a resource: a row for each that is.
-pub(crate) fn serves(resource: Resource, method: Method) -> bool
-    ensures { result ≡ spec.serves resource method }
+/// What a method asks of a resource, where it is served there: a row for each that is.
+pub(crate) fn action_of(resource: Resource, method: Method) -> Option<Action>
+    ensures { result ≡ spec.action_of resource method }
 {
     match (resource, method) {
-        (Resource::Run(_), Method::Get | Method::Post) => true,
-        (Resource::Program(_), Method::Get | Method::Put | Method::Delete) => true,
-        (Resource::Core, Method::Get) => true,
-        _ => false,
+        (Resource::Run(slot), Method::Get) => Some(Action::Get(slot)),
+        (Resource::Run(slot), Method::Post) => Some(Action::Post(slot)),
+        (Resource::Program(slot), Method::Put) => Some(Action::Install(slot)),
+        (Resource::Program(slot), Method::Delete) => Some(Action::Remove(slot)),
+        (Resource::Program(slot), Method::Get) => Some(Action::Describe(slot)),
+        (Resource::Core, Method::Get) => Some(Action::Discover),
+        _ => None,
     }
 }

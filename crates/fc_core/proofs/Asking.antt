@@ -16,10 +16,13 @@ use Rattle.coap_opts.specs.declared.request.Resource.TheVariants as resources
 use Rattle.coap_opts.specs.Fields.{IsMadeOf, method_code}
 use Rattle.coap_opts.specs.Path.{IsResource, method_of, path_of, resource_of}
 use Rattle.coap_opts.specs.Values.{Place}
+use Rattle.coap_opts.specs.declared.request.Action.{Action}
+use Rattle.coap_opts.specs.declared.request.Action.TheVariants as actions
+use Rattle.coap_opts.specs.Served.{action_of, method_in, resource_in}
 use Rattle.coap_opts.specs.Verdict.{Asked, IsBlockFor, Verdict, IsAsked, IsRefused, IsSilent, IsReset, IsSignal, IsIgnored, block_in, etags, number_in, observe_at, values, verdict}
 use Rattle.coap_opts.proofs.Paths.{path_named}
 use Rattle.coap_opts.proofs.Rows.{code_is}
-use Rattle.coap_opts.proofs.Within.{asked_made, asked_within}
+use Rattle.coap_opts.proofs.Within.{action_served, asked_made, asked_within}
 use Rattle.coap_dedup.specs.Exchanges.{Look, IsNew, IsBusy, IsAgain, IsSilent as IsAnsweredNon, IsFull as IsTableFull}
 use Rattle.coap_block.specs.Uploads.{Add, Continues, IsWhole, IsIncomplete, IsBadLength, IsTooLarge, IsFull, add_of, extended_by}
 use Rattle.fc_help.specs.declared.request.Method.{Method as Verb}
@@ -34,7 +37,7 @@ use Rattle.fc_core.specs.AskLaws.{BringsJob, IsPlain, Requests, core_path, progr
 use Rattle.fc_core.specs.BodyLaws.{Asks, asked_at}
 use Rattle.fc_core.specs.Exchanges.{FrontState}
 use Rattle.fc_core.specs.History.{Entry, Seen, front_at, no_task, tasks_brought, tasks_moved}
-use Rattle.fc_core.specs.Receiving.{Received, Opened, Refused, Silenced, add_in, ask_by, brought, etags_by, is_confirmable, job_of, look_in, looked, named_block, next_opening, observes, received, received_added, received_as, request_asked, request_received, slot_of_resource}
+use Rattle.fc_core.specs.Receiving.{Received, Opened, Refused, Silenced, add_in, ask_by, brought, etags_by, is_confirmable, job_of, look_in, looked, named_block, next_opening, observes, received, received_added, received_as, request_asked, request_received, slot_asked, slot_of_resource}
 use Rattle.fc_core.specs.Stages.{names, new_task}
 use Rattle.fc_core.proofs.Bodies.{anew_is}
 use Rattle.fc_core.proofs.Repeats.{received_of}
@@ -127,35 +130,39 @@ job_brought r s from m j b =
 
 -- ---- by code and path
 
-method_by : (m : Message) (r : Asked) (code : ℕ) (method : Method) → IsMadeOf m r → m.code ≡ code → method_of code ≡ Some method → r.method ≡ method
-method_by m r code method made c is = let same : Some r.method ≡ Some method = sym made.method_is ∙ (ap method_of c ∙ is) in cc same
+method_by : (m : Message) (r : Asked) (code : ℕ) (method : Method) → IsMadeOf m r → m.code ≡ code → method_of code ≡ Some method → method_in r.action ≡ method
+method_by m r code method made c is = let same : Some (method_in r.action) ≡ Some method = sym made.method_is ∙ (ap method_of c ∙ is) in cc same
 
-resource_by : (m : Message) (r : Asked) (at : Resource) → IsMadeOf m r → values option.URI_PATH m ≡ path_of at → IsResource at → r.resource ≡ at
-resource_by m r at made p within = let same : Some r.resource ≡ Some at = sym made.resource_is ∙ (ap resource_of p ∙ path_named at within) in cc same
+resource_by : (m : Message) (r : Asked) (at : Resource) → IsMadeOf m r → values option.URI_PATH m ≡ path_of at → IsResource at → resource_in r.action ≡ at
+resource_by m r at made p within = let same : Some (resource_in r.action) ≡ Some at = sym made.resource_is ∙ (ap resource_of p ∙ path_named at within) in cc same
 
 -- a job's request, made of its message
 fields_of : (f : FrontState) (to : Endpoint) (m : Message) (j : Job) (w : IsJobOf f to m j) → IsMadeOf m w.asked
 fields_of f to m j w = asked_made m w.asked w.asks
 
-asks_by : (f : FrontState) (to : Endpoint) (m : Message) (j : Job) (w : IsJobOf f to m j) (method : Method) (at : Resource) → w.asked.method ≡ method → w.asked.resource ≡ at → j.ask ≡ ask_by method at w.asked w.body
-asks_by f to m j w method at e a = ap (λ (x : Job). x.ask) w.is ∙ (λ i. ask_by (e i) (a i) w.asked w.body)
+-- what its code and its path ask
+action_by : (m : Message) (r : Asked) (code : ℕ) (method : Method) (at : Resource) (action : Action) → IsMadeOf m r → m.code ≡ code → method_of code ≡ Some method → values option.URI_PATH m ≡ path_of at → IsResource at → action_of at method ≡ Some action → r.action ≡ action
+action_by m r code method at action made c is p within served =
+    let same : Some r.action ≡ Some action = sym (action_served r.action) ∙ ((λ i. action_of (resource_by m r at made p within i) (method_by m r code method made c is i)) ∙ served) in
+    cc same
 
-asked_is : (m : Message) (r : Asked) (method : Verb) (n : ℕ) → IsMadeOf m r → slot_of_resource r.resource ≡ n → request_asked method r ≡ request_in method n m
-asked_is m r method n made slot = λ i. record { method = method; slot = slot i; content_format = made.content_format_is i; query = made.query_is i; payload = made.payload_is i }
+asks_by : (f : FrontState) (to : Endpoint) (m : Message) (j : Job) (w : IsJobOf f to m j) (action : Action) → w.asked.action ≡ action → j.ask ≡ ask_by action w.asked w.body
+asks_by f to m j w action e = ap (λ (x : Job). x.ask) w.is ∙ (λ i. ask_by (e i) w.asked w.body)
+
+asked_is : (m : Message) (r : Asked) (method : Verb) (n : ℕ) → IsMadeOf m r → request_asked method n r ≡ request_in method n m
+asked_is m r method n made = λ i. record { method = method; slot = n; content_format = made.content_format_is i; query = made.query_is i; payload = made.payload_is i }
 
 pub gets : (r : Entry) (s : Seen) (from : Endpoint) (m : Message) (j : Job) (n : ℕ) → n < 64 → BringsJob r s from m j → Requests m 1 (run_path n) → j.ask ≡ Run (request_in Get n m)
 gets r s from m j n lt b q =
     let w = job_brought r s from m j b in
     let fields = fields_of (front_at s b.now) from m j w in
-    let at = resource_by m w.asked (resources.Run n) fields q.path_is lt in
-    asks_by (front_at s b.now) from m j w methods.Get (resources.Run n) (method_by m w.asked 1 methods.Get fields q.code_is refl) at ∙ ap Run (asked_is m w.asked Get n fields (ap slot_of_resource at))
+    asks_by (front_at s b.now) from m j w (actions.Get n) (action_by m w.asked 1 methods.Get (resources.Run n) (actions.Get n) fields q.code_is refl q.path_is lt refl) ∙ ap Run (asked_is m w.asked Get n fields)
 
 pub posts : (r : Entry) (s : Seen) (from : Endpoint) (m : Message) (j : Job) (n : ℕ) → n < 64 → BringsJob r s from m j → Requests m 2 (run_path n) → j.ask ≡ Run (request_in Post n m)
 posts r s from m j n lt b q =
     let w = job_brought r s from m j b in
     let fields = fields_of (front_at s b.now) from m j w in
-    let at = resource_by m w.asked (resources.Run n) fields q.path_is lt in
-    asks_by (front_at s b.now) from m j w methods.Post (resources.Run n) (method_by m w.asked 2 methods.Post fields q.code_is refl) at ∙ ap Run (asked_is m w.asked Post n fields (ap slot_of_resource at))
+    asks_by (front_at s b.now) from m j w (actions.Post n) (action_by m w.asked 2 methods.Post (resources.Run n) (actions.Post n) fields q.code_is refl q.path_is lt refl) ∙ ap Run (asked_is m w.asked Post n fields)
 
 whole_is : (b : Bool) (bytes body : List ℕ) → extended_by b bytes ≡ IsWhole body → body ≡ bytes
 whole_is true bytes body e = absurd (cc e)
@@ -164,32 +171,32 @@ whole_is false bytes body e = cc e
 -- without a block the body is the payload
 body_is : (f : FrontState) (to : Endpoint) (r : Asked) (body : List ℕ) → r.block1 ≡ None → add_in f to r ≡ IsWhole body → body ≡ r.payload
 body_is f to r body none e =
-    whole_is (nat_lt 4112 (0 + length r.payload)) r.payload body (subst (λ (b : Option Place). add_of f.transfers f.now to (slot_of_resource r.resource) b r.payload ≡ IsWhole body) none e)
+    whole_is (nat_lt 4112 (0 + length r.payload)) r.payload body (subst (λ (b : Option Place). add_of f.transfers f.now to (slot_asked r.action) b r.payload ≡ IsWhole body) none e)
 
 pub puts : (r : Entry) (s : Seen) (from : Endpoint) (m : Message) (j : Job) (n : ℕ) → n < 64 → BringsJob r s from m j → Requests m 3 (program_path n) → block_in option.BLOCK1 m ≡ None → j.ask ≡ Install (record { items = m.payload })
 puts r s from m j n lt b q none =
     let w = job_brought r s from m j b in
     let fields = fields_of (front_at s b.now) from m j w in
-    asks_by (front_at s b.now) from m j w methods.Put (resources.Program n) (method_by m w.asked 3 methods.Put fields q.code_is refl) (resource_by m w.asked (resources.Program n) fields q.path_is lt)
+    asks_by (front_at s b.now) from m j w (actions.Install n) (action_by m w.asked 3 methods.Put (resources.Program n) (actions.Install n) fields q.code_is refl q.path_is lt refl)
     ∙ ap (λ (body : List ℕ). Install (record { items = body })) (body_is (front_at s b.now) from w.asked w.body (fields.block1_is ∙ none) w.whole ∙ fields.payload_is)
 
 pub deletes : (r : Entry) (s : Seen) (from : Endpoint) (m : Message) (j : Job) (n : ℕ) → n < 64 → BringsJob r s from m j → Requests m 4 (program_path n) → j.ask ≡ Remove
 deletes r s from m j n lt b q =
     let w = job_brought r s from m j b in
     let fields = fields_of (front_at s b.now) from m j w in
-    asks_by (front_at s b.now) from m j w methods.Delete (resources.Program n) (method_by m w.asked 4 methods.Delete fields q.code_is refl) (resource_by m w.asked (resources.Program n) fields q.path_is lt)
+    asks_by (front_at s b.now) from m j w (actions.Remove n) (action_by m w.asked 4 methods.Delete (resources.Program n) (actions.Remove n) fields q.code_is refl q.path_is lt refl)
 
 pub describes : (r : Entry) (s : Seen) (from : Endpoint) (m : Message) (j : Job) (n : ℕ) → n < 64 → BringsJob r s from m j → Requests m 1 (program_path n) → j.ask ≡ Describe
 describes r s from m j n lt b q =
     let w = job_brought r s from m j b in
     let fields = fields_of (front_at s b.now) from m j w in
-    asks_by (front_at s b.now) from m j w methods.Get (resources.Program n) (method_by m w.asked 1 methods.Get fields q.code_is refl) (resource_by m w.asked (resources.Program n) fields q.path_is lt)
+    asks_by (front_at s b.now) from m j w (actions.Describe n) (action_by m w.asked 1 methods.Get (resources.Program n) (actions.Describe n) fields q.code_is refl q.path_is lt refl)
 
 pub lists : (r : Entry) (s : Seen) (from : Endpoint) (m : Message) (j : Job) → BringsJob r s from m j → Requests m 1 core_path → j.ask ≡ Discover
 lists r s from m j b q =
     let w = job_brought r s from m j b in
     let fields = fields_of (front_at s b.now) from m j w in
-    asks_by (front_at s b.now) from m j w methods.Get resources.Core (method_by m w.asked 1 methods.Get fields q.code_is refl) (resource_by m w.asked resources.Core fields q.path_is tt)
+    asks_by (front_at s b.now) from m j w actions.Discover (action_by m w.asked 1 methods.Get resources.Core actions.Discover fields q.code_is refl q.path_is tt refl)
 
 four_codes : (method : Method) → (1 ≤ method_code method) × (method_code method ≤ 4)
 four_codes methods.Get = (omega arith, omega arith)
@@ -200,7 +207,7 @@ four_codes methods.Delete = (omega arith, omega arith)
 pub of_four_codes : (r : Entry) (s : Seen) (from : Endpoint) (m : Message) (j : Job) → BringsJob r s from m j → (1 ≤ m.code) × (m.code ≤ 4)
 of_four_codes r s from m j b =
     let w = job_brought r s from m j b in
-    subst (λ (code : ℕ). (1 ≤ code) × (code ≤ 4)) (sym (code_is m.code w.asked.method (fields_of (front_at s b.now) from m j w).method_is)) (four_codes w.asked.method)
+    subst (λ (code : ℕ). (1 ≤ code) × (code ≤ 4)) (sym (code_is m.code (method_in w.asked.action) (fields_of (front_at s b.now) from m j w).method_is)) (four_codes (method_in w.asked.action))
 
 -- ---- of the message
 
@@ -257,7 +264,7 @@ block2_is r s from m j b c =
     let w = job_brought r s from m j b in
     let fields = fields_of (front_at s b.now) from m j w in
     let method = method_by m w.asked 1 methods.Get fields c refl in
-    let none = no_block methods.Put w.asked.method w.asked.block1 (asked_within m w.asked w.asks).block1 (λ e. let same : methods.Get ≡ methods.Put = sym method ∙ e in absurd (cc same)) in
+    let none = no_block methods.Put (method_in w.asked.action) w.asked.block1 (asked_within m w.asked w.asks).block1 (λ e. let same : methods.Get ≡ methods.Put = sym method ∙ e in absurd (cc same)) in
     ap (λ (x : Job). x.block) w.is ∙ (ap (λ (x : Option Place). named_block x w.asked.block2) none ∙ fields.block2_is)
 
 pub block1_is : (r : Entry) (s : Seen) (from : Endpoint) (m : Message) (j : Job) → BringsJob r s from m j → m.code ≡ 3 → j.block ≡ block_in option.BLOCK1 m
@@ -265,7 +272,7 @@ block1_is r s from m j b c =
     let w = job_brought r s from m j b in
     let fields = fields_of (front_at s b.now) from m j w in
     let method = method_by m w.asked 3 methods.Put fields c refl in
-    let none = no_block methods.Get w.asked.method w.asked.block2 (asked_within m w.asked w.asks).block2 (λ e. let same : methods.Put ≡ methods.Get = sym method ∙ e in absurd (cc same)) in
+    let none = no_block methods.Get (method_in w.asked.action) w.asked.block2 (asked_within m w.asked w.asks).block2 (λ e. let same : methods.Put ≡ methods.Get = sym method ∙ e in absurd (cc same)) in
     ap (λ (x : Job). x.block) w.is ∙ (ap (λ (x : Option Place). named_block w.asked.block1 x) none ∙ (named_first w.asked.block1 ∙ fields.block1_is))
 
 pub no_block_is : (r : Entry) (s : Seen) (from : Endpoint) (m : Message) (j : Job) → BringsJob r s from m j → m.code ≢ 1 → m.code ≢ 3 → j.block ≡ None
@@ -273,31 +280,44 @@ no_block_is r s from m j b not_get not_put =
     let w = job_brought r s from m j b in
     let fields = fields_of (front_at s b.now) from m j w in
     let within = asked_within m w.asked w.asks in
-    let code = code_is m.code w.asked.method fields.method_is in
-    let first = no_block methods.Put w.asked.method w.asked.block1 within.block1 (λ e. not_put (code ∙ ap method_code e)) in
-    let second = no_block methods.Get w.asked.method w.asked.block2 within.block2 (λ e. not_get (code ∙ ap method_code e)) in
+    let code = code_is m.code (method_in w.asked.action) fields.method_is in
+    let first = no_block methods.Put (method_in w.asked.action) w.asked.block1 within.block1 (λ e. not_put (code ∙ ap method_code e)) in
+    let second = no_block methods.Get (method_in w.asked.action) w.asked.block2 within.block2 (λ e. not_get (code ∙ ap method_code e)) in
     ap (λ (x : Job). x.block) w.is ∙ (λ i. named_block (first i) (second i))
+
+-- of a run, the value of Observe counts
+observed_by : (action : Action) (n : ℕ) (value : Option ℕ) → resource_in action ≡ resources.Run n → observe_at action value ≡ value
+observed_by (actions.Get k) n value e = refl
+observed_by (actions.Post k) n value e = refl
+observed_by (actions.Install k) n value e = absurd (cc e)
+observed_by (actions.Remove k) n value e = absurd (cc e)
+observed_by (actions.Describe k) n value e = absurd (cc e)
+observed_by actions.Discover n value e = absurd (cc e)
 
 pub observe_is : (r : Entry) (s : Seen) (from : Endpoint) (m : Message) (j : Job) (code n : ℕ) → n < 64 → BringsJob r s from m j → Requests m code (run_path n) → j.observe ≡ number_in option.OBSERVE m
 observe_is r s from m j code n lt b q =
     let w = job_brought r s from m j b in
     let fields = fields_of (front_at s b.now) from m j w in
-    ap (λ (x : Job). x.observe) w.is ∙ (fields.observe_is ∙ ap (λ (at : Resource). observe_at at (number_in option.OBSERVE m)) (resource_by m w.asked (resources.Run n) fields q.path_is lt))
+    ap (λ (x : Job). x.observe) w.is ∙ (fields.observe_is ∙ observed_by w.asked.action n (number_in option.OBSERVE m) (resource_by m w.asked (resources.Run n) fields q.path_is lt))
 
 neither : (value : ℕ) → Some value ≢ Some 0 → Some value ≢ Some 1 → (value == 0) || (value == 1) ≡ false
 neither value first second = λ i. ne_eqb value 0 (λ e. first (ap Some e)) i || ne_eqb value 1 (λ e. second (ap Some e)) i
 
-plain_by : (at : Resource) (value : Option ℕ) → value ≢ Some 0 → value ≢ Some 1 → observes (observe_at at value) ≡ false
-plain_by (resources.Run n) None first second = refl
-plain_by (resources.Run n) (Some value) first second = neither value first second
-plain_by (resources.Program n) value first second = refl
-plain_by resources.Core value first second = refl
+plain_by : (action : Action) (value : Option ℕ) → value ≢ Some 0 → value ≢ Some 1 → observes (observe_at action value) ≡ false
+plain_by (actions.Get n) None first second = refl
+plain_by (actions.Get n) (Some value) first second = neither value first second
+plain_by (actions.Post n) None first second = refl
+plain_by (actions.Post n) (Some value) first second = neither value first second
+plain_by (actions.Install n) value first second = refl
+plain_by (actions.Remove n) value first second = refl
+plain_by (actions.Describe n) value first second = refl
+plain_by actions.Discover value first second = refl
 
 pub etags_are : (r : Entry) (s : Seen) (from : Endpoint) (m : Message) (j : Job) → BringsJob r s from m j → IsPlain m → j.etags.items ≡ etags m
 etags_are r s from m j b plain =
     let w = job_brought r s from m j b in
     let fields = fields_of (front_at s b.now) from m j w in
-    let neither = ap observes fields.observe_is ∙ plain_by w.asked.resource (number_in option.OBSERVE m) plain.no_registration plain.no_cancellation in
+    let neither = ap observes fields.observe_is ∙ plain_by w.asked.action (number_in option.OBSERVE m) plain.no_registration plain.no_cancellation in
     ap (λ (x : Job). x.etags.items) w.is ∙ (λ i. etags_by (neither i) (fields.etags_are i))
 
 -- where the client registers or cancels
@@ -307,7 +327,7 @@ no_etags r s from m j n value lt b p is counts =
     let fields = fields_of (front_at s b.now) from m j w in
     let at = resource_by m w.asked (resources.Run n) fields p lt in
     ap (λ (x : Job). x.etags.items) w.is
-    ∙ ap (λ (x : Bool). etags_by x w.asked.etags) (ap observes (fields.observe_is ∙ (λ i. observe_at (at i) (is i))) ∙ counts)
+    ∙ ap (λ (x : Bool). etags_by x w.asked.etags) (ap observes (fields.observe_is ∙ (observed_by w.asked.action n (number_in option.OBSERVE m) at ∙ is)) ∙ counts)
 
 pub registers : (r : Entry) (s : Seen) (from : Endpoint) (m : Message) (j : Job) (code n : ℕ) → n < 64 → BringsJob r s from m j → Requests m code (run_path n) → number_in option.OBSERVE m ≡ Some 0 → j.etags.items ≡ []
 registers r s from m j code n lt b q is = no_etags r s from m j n 0 lt b q.path_is is refl
@@ -320,7 +340,7 @@ cancels r s from m j code n lt b q is = no_etags r s from m j n 1 lt b q.path_is
 payload_whole : (s : Seen) (now : ℕ) (to : Endpoint) (m : Message) (q : Asked) → q.block1 ≡ None → length q.payload ≤ 1024 → asked_at s now to m q ≡ Opened m q q.payload
 payload_whole s now to m q none short =
     let front = front_at s now in
-    ap (λ (b : Option Place). received_added (add_of front.transfers front.now to (slot_of_resource q.resource) b q.payload) m q) none
+    ap (λ (b : Option Place). received_added (add_of front.transfers front.now to (slot_asked q.action) b q.payload) m q) none
     ∙ ap (λ (b : Bool). received_added (extended_by b q.payload) m q) (le-ltb 4112 (0 + length q.payload) (omega (arith, short)))
 
 comes_by : (e : Event) (s : Seen) (m : Message) (q : Asked) → Asks s e m q → q.block1 ≡ None → length q.payload ≤ 1024 → (r : Entry) → r.event ≡ e → (from : Endpoint) × (j : Job) × BringsJob r s from m j

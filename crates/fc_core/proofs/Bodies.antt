@@ -25,7 +25,7 @@ use Rattle.fc_core.specs.BodyLaws.{Asks, BringsInstall, FitsBy, IsAskedAnew, Put
 use Rattle.fc_core.specs.ExchangeLaws.{IsAsking}
 use Rattle.fc_core.specs.History.{Entry, History, Begins, Then, Seen, added_in, and_then, did, front_at, moment_after, received_at, seen, stage}
 use Rattle.fc_core.specs.Legal.{Emits}
-use Rattle.fc_core.specs.Receiving.{Received, Silenced, Refused, Settled, Opened, add_in, added_by, addition_of, ask_by, brought, job_of, look_in, looked, next_opening, received_added, received_as, received_read, request_received, sent, slot_of_resource}
+use Rattle.fc_core.specs.Receiving.{Received, Silenced, Refused, Settled, Opened, add_in, added_by, addition_of, ask_by, brought, job_of, look_in, looked, next_opening, received_added, received_as, received_read, request_received, sent, slot_asked}
 use Rattle.coap_reply.specs.Responses.{settled_by}
 use Rattle.fc_core.specs.Stages.{content_at, needs_id, new_task}
 use Rattle.fc_core.proofs.Repeats.{new_as, opening_is, opening_of, received_of}
@@ -90,8 +90,8 @@ pub is_continued : (x : Add) (m : Message) (r : Asked) (b : Place) → r.block1 
 is_continued x m r b is e = ap (λ (x : Add). received_added x m r) e ∙ ap (λ (block : Option Place). Settled m r (settled_by (code 2 31) block)) is
 
 -- what becomes of the block of a new request
-pub added_block : (s : Seen) (now : ℕ) (to : Endpoint) (r : Asked) (b : Place) → r.block1 ≡ Some b → add_of (transfers s.additions) (max s.moment now) to (slot_of_resource r.resource) r.block1 r.payload ≡ block_added (transfers s.additions) (max s.moment now) to (slot_of_resource r.resource) b r.payload
-added_block s now to r b is = ap (λ (block : Option Place). add_of (transfers s.additions) (max s.moment now) to (slot_of_resource r.resource) block r.payload) is
+pub added_block : (s : Seen) (now : ℕ) (to : Endpoint) (r : Asked) (b : Place) → r.block1 ≡ Some b → add_of (transfers s.additions) (max s.moment now) to (slot_asked r.action) r.block1 r.payload ≡ block_added (transfers s.additions) (max s.moment now) to (slot_asked r.action) b r.payload
+added_block s now to r b is = ap (λ (block : Option Place). add_of (transfers s.additions) (max s.moment now) to (slot_asked r.action) block r.payload) is
 
 -- ---- what is added
 
@@ -154,7 +154,7 @@ others_add_nothing e s not = ap (λ (l : List Addition). l ++ s.additions) (adds
 
 -- a PUT of slot N installs its body there
 put_asks : (o : Opening) (to : Endpoint) (m : Message) (r : Asked) (n : ℕ) (b : Place) (body : List ℕ) → PutsBlock r n b → (job_of o to m r body).ask ≡ Installs (record { items = body })
-put_asks o to m r n b body w = λ i. ask_by (w.method i) (w.resource i) r body
+put_asks o to m r n b body w = λ i. ask_by (w.action i) r body
 
 -- where this is so of each PUT at a moment, a block that fits and is the last brings its body
 pub put_brings : (e : Event) (o : Option Emission) (s : Seen) (m : Message) (r : Asked) (n : ℕ) (b : Place) (body : List ℕ) → ((now : ℕ) (to : Endpoint) → FitsBehind s.additions (addition_at s now to r) b body → asked_at s now to m r ≡ Opened m r body) → Asks s e m r → PutsBlock r n b → FitsBy s e r b body → BringsInstall (did e o) s n body
@@ -162,7 +162,7 @@ put_brings (Deliver now to bytes) o s m r n b body is w puts fits = record {
   job = job_of (next_opening (front_at s now)) to m r body;
   tasks = ap (λ (x : Received). s.tasks ++ map new_task (brought x (next_opening (front_at s now)) to)) (anew_is s now to bytes.now m r w ∙ is now to fits);
   asks = put_asks (next_opening (front_at s now)) to m r n b body puts;
-  slot = ap slot_of_resource puts.resource;
+  slot = ap slot_asked puts.action;
 }
 put_brings other o s m r n b body is w puts fits = absurd w
 

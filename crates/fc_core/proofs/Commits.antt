@@ -1,5 +1,5 @@
 -- A commit that a shard carries out is the row of its table.
-use Rattle.std.proofs.Common.{◌≡◌, ℕ, ◌+◌, ◌/◌, List, Bool, true, false, refl, sym, ap, ◌∙◌, subst, max, arith, None}
+use Rattle.std.proofs.Common.{◌≡◌, ℕ, ◌+◌, ◌/◌, Bool, true, false, refl, sym, ap, ◌∙◌, subst, max, arith, None}
 use Rattle.std.specs.Prelude.{nat_lt, ◌==◌}
 use Rattle.std.proofs.lemmas.Bool.{eqb-true}
 use Rattle.fc_machine.specs.Ran.{Ran}

@@ -9,8 +9,9 @@ use Rattle.coap_msg.specs.declared.types.Endpoint.{Endpoint}
 use Rattle.coap_msg.specs.Wire.{Message}
 use Rattle.coap_msg.specs.Reading.{reading_of}
 use Rattle.coap_opts.specs.Path.{IsResource}
-use Rattle.coap_opts.specs.declared.request.Method.{Method}
-use Rattle.coap_opts.specs.declared.request.Method.TheVariants as methods
+use Rattle.coap_opts.specs.declared.request.Action.{Action}
+use Rattle.coap_opts.specs.declared.request.Action.TheVariants as actions
+use Rattle.coap_opts.specs.Served.{resource_in}
 use Rattle.coap_opts.specs.declared.request.Resource.{Resource}
 use Rattle.coap_opts.specs.declared.request.Resource.TheVariants as resources
 use Rattle.coap_opts.specs.Verdict.{Asked, Verdict, IsAsked, IsRefused, IsSilent, IsReset, IsSignal, IsIgnored, IsAskedWithin, verdict}
@@ -39,19 +40,13 @@ use Rattle.fc_core.proofs.Fitting.{after_changes-append, first_fits, fits_change
 
 -- ---- what a delivery brings is within its limits
 
-ask_within : (r : Asked) (method : Method) (at : Resource) (body : List ℕ) → length r.query ≤ 64 → length r.payload ≤ 1024 → AskWithin (ask_by method at r body)
-ask_within r methods.Get (resources.Run n) body q p = (q, p)
-ask_within r methods.Post (resources.Run n) body q p = (q, p)
-ask_within r methods.Put (resources.Run n) body q p = tt
-ask_within r methods.Delete (resources.Run n) body q p = tt
-ask_within r methods.Get (resources.Program n) body q p = tt
-ask_within r methods.Post (resources.Program n) body q p = tt
-ask_within r methods.Put (resources.Program n) body q p = tt
-ask_within r methods.Delete (resources.Program n) body q p = tt
-ask_within r methods.Get resources.Core body q p = tt
-ask_within r methods.Post resources.Core body q p = tt
-ask_within r methods.Put resources.Core body q p = tt
-ask_within r methods.Delete resources.Core body q p = tt
+ask_within : (r : Asked) (action : Action) (body : List ℕ) → length r.query ≤ 64 → length r.payload ≤ 1024 → AskWithin (ask_by action r body)
+ask_within r (actions.Get n) body q p = (q, p)
+ask_within r (actions.Post n) body q p = (q, p)
+ask_within r (actions.Install n) body q p = tt
+ask_within r (actions.Remove n) body q p = tt
+ask_within r (actions.Describe n) body q p = tt
+ask_within r actions.Discover body q p = tt
 
 slot_within : (at : Resource) → IsResource at → slot_of_resource at < 64
 slot_within (resources.Run n) is = is
@@ -61,7 +56,7 @@ slot_within resources.Core is = omega arith
 asked_job : (o : Opening) (to : Endpoint) (m : Message) (r : Asked) (body : List ℕ) → IsAskedWithin m r → JobWithin (job_of o to m r body)
 asked_job o to m r body w =
     let short : length r.payload ≤ 1024 = subst (λ (p : List ℕ). length p ≤ 1024) (sym w.payload_is) w.short in
-    (slot_within r.resource w.resource, ask_within r r.method r.resource body w.query short)
+    (slot_within (resource_in r.action) w.resource, ask_within r r.action body w.query short)
 
 abbrev AreWithin : Received → Opening → Endpoint → Type 0
 AreWithin x o to = Each JobWithin (brought x o to)

@@ -1,6 +1,6 @@
 -- When the answer of a job goes out, and what is kept of it.
-use Rattle.std.proofs.Common.{◌≡◌, ℕ, zero, suc, ◌+◌, ◌<◌, ◌≤◌, List, [], ◌∷◌, ◌++◌, length, map, set, Bool, true, false, Option, Some, None, refl, sym, ap, ◌∙◌, subst, ◌⊎◌, inl, inr, arith, max, if◌then◌else◌}
-use Rattle.std.specs.Prelude.{nat_lt, is_some, ◌==◌}
+use Rattle.std.proofs.Common.{◌≡◌, ℕ, zero, suc, ◌+◌, ◌<◌, List, [], ◌∷◌, ◌++◌, length, map, set, Bool, true, false, Option, Some, None, refl, sym, ap, ◌∙◌, subst, ◌⊎◌, inl, inr, arith, max, if◌then◌else◌}
+use Rattle.std.specs.Prelude.{is_some, ◌==◌}
 use Rattle.std.proofs.lemmas.Bool.{eq-eqb, ne_eqb, ltb-true, lt-ltb}
 use Rattle.std.proofs.lemmas.List.{append-nil, length-map, map-append}
 use Rattle.std.proofs.Math.Seq.{set-append_seam}
@@ -20,7 +20,7 @@ use Rattle.fc_core.specs.declared.stage.Stage.{Stage}
 use Rattle.fc_core.specs.declared.stage.Stage.TheVariants.{ToAnswer}
 use Rattle.fc_core.specs.Exchanges.{FrontState, opening_is_live}
 use Rattle.fc_core.specs.ExchangeLaws.{Opens}
-use Rattle.fc_core.specs.History.{Entry, History, Begins, Then, Seen, seen, and_then, answered_in, did, exchanges_after, exchanges_received, front_at, job, received_at, stage}
+use Rattle.fc_core.specs.History.{Entry, History, Begins, Then, Seen, seen, answered_in, did, exchanges_after, exchanges_received, front_at, job, received_at, stage}
 use Rattle.fc_core.specs.Ids.{free_id}
 use Rattle.fc_core.specs.KeptLaws.{AnswersJob, HasId, answers, answers_with, emitted_bytes, exchange_of_job, opened_at}
 use Rattle.fc_core.specs.Legal.{AnswerEmits, Emits, IsAnswered}

@@ -1,7 +1,6 @@
 -- Where the taking of a turn leaves its job: it is still to tell, or gone.
-use Rattle.std.proofs.Common.{Bool, true, false, ℕ, Option, Some, None}
+use Rattle.std.proofs.Common.{Bool}
 use Rattle.fc_observe.specs.declared.entry.Turn.{Turn}
-use Rattle.fc_registry.specs.declared.job.Job.{Job}
 use Rattle.fc_registry.specs.declared.shard.Taken.{Taken}
 use Rattle.fc_registry.specs.declared.shard.Taken.TheVariants.{Given, Missing, Stale, Refused}
 use Rattle.fc_core.specs.declared.stage.Stage.{Stage}

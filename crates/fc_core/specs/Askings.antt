@@ -2,6 +2,7 @@
 use Rattle.std.specs.Prelude.{◌≤◌, length}
 use Rattle.coap_msg.specs.Wire.{Message}
 use Rattle.coap_opts.specs.Path.{IsResource}
+use Rattle.coap_opts.specs.Served.{resource_in}
 use Rattle.coap_opts.specs.Verdict.{Asked, asked_by}
 use Rattle.fc_core.specs.declared.front.Asking.{Asking}
 use Rattle.fc_core.specs.declared.front.Asking.TheVariants.{Serve, Refuse, Hush}
@@ -20,7 +21,7 @@ asked_in f to m asking = looked (look_in f to m) m (new_request f to m asking)
 
 -- a request that is carried out names a resource that there is, and is within the limits of its query and its payload
 pub record IsWithinLimits (asked : Asked) : Type 0 where
-  pub resource : IsResource asked.resource
+  pub resource : IsResource (resource_in asked.action)
   pub query : length asked.query ≤ 64
   pub payload : length asked.payload ≤ 1024
 

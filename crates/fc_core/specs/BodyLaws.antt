@@ -5,9 +5,8 @@ use Rattle.coap_msg.specs.declared.types.Endpoint.{Endpoint}
 use Rattle.coap_msg.specs.Codes.{code}
 use Rattle.coap_msg.specs.Reading.{reading_of}
 use Rattle.coap_msg.specs.Wire.{Message}
-use Rattle.coap_opts.specs.declared.request.Method.TheVariants as methods
-use Rattle.coap_opts.specs.declared.request.Resource.TheVariants as resources
 use Rattle.coap_opts.specs.Values.{Place}
+use Rattle.coap_opts.specs.declared.request.Action.TheVariants as actions
 use Rattle.coap_opts.specs.Verdict.{Asked, IsAsked, verdict}
 use Rattle.coap_block.specs.Transfers.{Addition, FitsBehind}
 use Rattle.fc_registry.specs.declared.job.Ask.TheVariants.{Install as Installs}
@@ -51,8 +50,7 @@ FitsBy s other r b body = ⊥
 
 -- a PUT of slot N with a block
 pub record PutsBlock (r : Asked) (n : ℕ) (b : Place) : Type 0 where
-  pub method : r.method ≡ methods.Put
-  pub resource : r.resource ≡ resources.Program n
+  pub action : r.action ≡ actions.Install n
   pub block : r.block1 ≡ Some b
 
 -- one job comes, which installs this body in slot N

@@ -9,10 +9,11 @@ use Rattle.coap_msg.specs.declared.types.MessageType.TheVariants.{Confirmable}
 use Rattle.coap_msg.specs.Codes.{code}
 use Rattle.coap_msg.specs.Wire.{Message}
 use Rattle.coap_msg.specs.Reading.{reading_of}
-use Rattle.coap_opts.specs.declared.request.Method.{Method}
-use Rattle.coap_opts.specs.declared.request.Method.TheVariants as methods
+use Rattle.coap_opts.specs.declared.request.Action.{Action}
+use Rattle.coap_opts.specs.declared.request.Action.TheVariants as actions
 use Rattle.coap_opts.specs.declared.request.Resource.{Resource}
 use Rattle.coap_opts.specs.declared.request.Resource.TheVariants as resources
+use Rattle.coap_opts.specs.Served.{resource_in}
 use Rattle.coap_opts.specs.Verdict.{Asked, Verdict, IsAsked, IsRefused, IsSilent, IsReset, IsSignal, IsIgnored, verdict}
 use Rattle.coap_dedup.specs.Exchanges.{Exchange}
 use Rattle.coap_dedup.specs.Exchanges.{Look, IsNew, IsBusy, IsAgain, IsSilent as IsAnsweredNon, IsFull, look_at, answered}
@@ -59,11 +60,14 @@ pub data Received : Type 0 where
   -- a new request that is carried out, with its whole body (RFC 7959, 2.5)
   Opened : (m : Message) (asked : Asked) (body : List ℕ) → Received
 
--- the slot of a resource
+-- the slot of a resource; the list of what is there is of no slot, and its job stands at slot 0, which it reads no more than the others
 abbrev pub slot_of_resource : Resource → ℕ
 slot_of_resource (resources.Run n) = n
 slot_of_resource (resources.Program n) = n
 slot_of_resource resources.Core = 0
+
+abbrev pub slot_asked : Action → ℕ
+slot_asked action = slot_of_resource (resource_in action)
 
 -- a request by what becomes of its payload: 2.31 Continue with its Block1, 4.08 Request Entity Incomplete, 4.00 Bad Request, 4.13
 -- Request Entity Too Large, 5.03 Service Unavailable
@@ -77,7 +81,7 @@ received_added IsFull m r = Settled m r (bare (code 5 3))
 
 -- what becomes of the payload of a request; without Block1 it is the whole body
 abbrev pub add_in : FrontState → Endpoint → Asked → Add
-add_in f to r = add_of f.transfers f.now to (slot_of_resource r.resource) r.block1 r.payload
+add_in f to r = add_of f.transfers f.now to (slot_asked r.action) r.block1 r.payload
 
 abbrev pub request_received : FrontState → Endpoint → Message → Asked → Received
 request_received f to m r = received_added (add_in f to r) m r
@@ -117,18 +121,18 @@ is_confirmable Confirmable = true
 is_confirmable other = false
 
 -- the request that slot N's program is to answer
-abbrev pub request_asked : Verb → Asked → Request
-request_asked method r = record { method = method; slot = slot_of_resource r.resource; content_format = r.content_format; query = r.query; payload = r.payload }
+abbrev pub request_asked : Verb → ℕ → Asked → Request
+request_asked method n r = record { method = method; slot = n; content_format = r.content_format; query = r.query; payload = r.payload }
 
 -- a GET or POST on /r/N asks slot N's program; on /p/N a PUT installs its body, a DELETE removes slot N's program, and a GET
 -- tells what it is; a GET on /.well-known/core lists the slots that have one
-abbrev pub ask_by : Method → Resource → Asked → List ℕ → Ask
-ask_by methods.Get (resources.Run n) r body = Run (request_asked Get r)
-ask_by methods.Post (resources.Run n) r body = Run (request_asked Post r)
-ask_by methods.Delete (resources.Program n) r body = Remove
-ask_by methods.Get (resources.Program n) r body = Describe
-ask_by methods.Get resources.Core r body = Discover
-ask_by method at r body = Install (record { items = body })
+abbrev pub ask_by : Action → Asked → List ℕ → Ask
+ask_by (actions.Get n) r body = Run (request_asked Get n r)
+ask_by (actions.Post n) r body = Run (request_asked Post n r)
+ask_by (actions.Install n) r body = Install (record { items = body })
+ask_by (actions.Remove n) r body = Remove
+ask_by (actions.Describe n) r body = Describe
+ask_by actions.Discover r body = Discover
 
 -- the block that a request names: a PUT's Block1, or a GET's Block2
 abbrev pub named_block : Option Place → Option Place → Option Place
@@ -146,14 +150,14 @@ etags_by false etags = etags
 
 abbrev pub job_of : Opening → Endpoint → Message → Asked → List ℕ → Job
 job_of opening to m r body = record {
-  origin = record { opening = opening; endpoint = to; id = m.id; slot = slot_of_resource r.resource };
+  origin = record { opening = opening; endpoint = to; id = m.id; slot = slot_asked r.action };
   turn = None;
   confirmable = is_confirmable m.kind;
   token = record { items = m.token };
   etags = record { items = etags_by (observes r.observe) r.etags };
   block = named_block r.block1 r.block2;
   observe = r.observe;
-  ask = ask_by r.method r.resource r body;
+  ask = ask_by r.action r body;
 }
 
 -- a request has at most 64 bytes of query and 1,024 of payload
@@ -232,7 +236,7 @@ brought other o to = []
 
 -- the payload of a request, with its block if it has one
 abbrev pub addition_of : ℕ → Endpoint → Asked → Addition
-addition_of at to r = record { at = at; endpoint = to; slot = slot_of_resource r.resource; block = r.block1; payload = r.payload }
+addition_of at to r = record { at = at; endpoint = to; slot = slot_asked r.action; block = r.block1; payload = r.payload }
 
 abbrev pub added_by : Received → ℕ → Endpoint → List Addition
 added_by (Opened m asked body) at to = addition_of at to asked ∷ []

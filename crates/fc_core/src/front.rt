@@ -26,9 +26,9 @@ use coap_msg::{
 };
 use coap_opts::laws::requests_are_within;
 use coap_opts::request::ETAGS;
-use coap_opts::{Block, Classified, Method, Request, Resource, classify};
+use coap_opts::{Action, Block, Classified, Request, classify};
 use coap_reply::reset;
-use fc_help::Method as Verb;
+use fc_help::Method;
 use fc_registry::{Ask, CANCEL, Job, Opening, Origin, REGISTER, SlotNumber, has_observe};
 use std::alloc::{AllocError, Global};
 use std::marker::Model;
@@ -456,7 +456,7 @@ impl Front {
           transfers = after_addition (addition_of self.old.now endpoint (asked_by request.now)) self.old.transfers;
         } }
     {
-        let slot = slot_named(request.resource);
+        let slot = slot_asked(request.action);
         self.uploads
             .add(self.now, endpoint, slot, Some(block), request.payload)
     }
@@ -563,7 +563,7 @@ fn write_job(
         opening,
         endpoint,
         id: message.id(),
-        slot: SlotNumber::new(slot_named(request.resource)),
+        slot: SlotNumber::new(slot_asked(request.action)),
     };
     job.turn = None;
     job.confirmable = message.kind() == MessageType::Confirmable;
@@ -607,47 +607,52 @@ fn observes(option: Option<u32>) -> bool
     has_observe(REGISTER, option) || has_observe(CANCEL, option)
 }
 
-fn slot_named(resource: Resource) -> u8
-    ensures { result ≡ receiving.slot_of_resource resource }
+// The list of what is there is of no slot; slot 0 stands in its job.
+fn slot_asked(action: Action) -> u8
+    ensures { result ≡ receiving.slot_asked action }
 {
-    match resource {
-        Resource::Run(slot) | Resource::Program(slot) => slot,
-        Resource::Core => 0,
+    match action {
+        Action::Get(slot)
+        | Action::Post(slot)
+        | Action::Install(slot)
+        | Action::Remove(slot)
+        | Action::Describe(slot) => slot,
+        Action::Discover => 0,
     }
 }
 
 fn write_ask(ask: &mut Ask, request: &Request<'_>, body: &[u8])
     requires request { IsWithinLimits (asked_by request.now) }
     requires body { length body.now ≤ 4112 }
-    ensures { ask.new ≡ ask_by request.now.method request.now.resource (asked_by request.now) body.now }
+    ensures { ask.new ≡ ask_by request.now.action (asked_by request.now) body.now }
 {
-    match (request.method, request.resource) {
-        (Method::Get, Resource::Run(_)) => write_run(ask, Verb::Get, request),
-        (Method::Post, Resource::Run(_)) => write_run(ask, Verb::Post, request),
-        (Method::Delete, Resource::Program(_)) => *ask = Ask::Remove,
-        (Method::Get, Resource::Program(_)) => *ask = Ask::Describe,
-        (Method::Get, Resource::Core) => *ask = Ask::Discover,
-        _ => write_image(ask, body),
+    match request.action {
+        Action::Get(slot) => write_run(ask, Method::Get, slot, request),
+        Action::Post(slot) => write_run(ask, Method::Post, slot, request),
+        Action::Install(_) => write_image(ask, body),
+        Action::Remove(_) => *ask = Ask::Remove,
+        Action::Describe(_) => *ask = Ask::Describe,
+        Action::Discover => *ask = Ask::Discover,
     }
 }
 
 // Writes a request over what was asked. The room of an image isn't touched, unless there was one.
-fn write_run(ask: &mut Ask, method: Verb, request: &Request<'_>)
+fn write_run(ask: &mut Ask, method: Method, slot: u8, request: &Request<'_>)
     requires { IsWithinLimits (asked_by request.now) }
-    ensures { ask.new ≡ Ask.Run (request_asked method (asked_by request.now)) }
+    ensures { ask.new ≡ Ask.Run (request_asked method slot (asked_by request.now)) }
 {
     match ask {
-        Ask::Run(before) => write_request(before, method, request),
-        _ => write_run_anew(ask, method, request),
+        Ask::Run(before) => write_request(before, method, slot, request),
+        _ => write_run_anew(ask, method, slot, request),
     }
 }
 
-fn write_run_anew(ask: &mut Ask, method: Verb, request: &Request<'_>)
+fn write_run_anew(ask: &mut Ask, method: Method, slot: u8, request: &Request<'_>)
     requires { IsWithinLimits (asked_by request.now) }
-    ensures { ask.new ≡ Ask.Run (request_asked method (asked_by request.now)) }
+    ensures { ask.new ≡ Ask.Run (request_asked method slot (asked_by request.now)) }
 {
     let mut run = blank_request();
-    write_request(&mut run, method, request);
+    write_request(&mut run, method, slot, request);
     *ask = Ask::Run(run);
 }
 
@@ -667,13 +672,13 @@ fn image_of(bytes: &[u8]) -> Body
     image
 }
 
-fn write_request(run: &mut fc_help::Request, method: Verb, request: &Request<'_>)
+fn write_request(run: &mut fc_help::Request, method: Method, slot: u8, request: &Request<'_>)
     requires { IsWithinLimits (asked_by request.now) }
-    ensures { run.new ≡ request_asked method (asked_by request.now) }
+    ensures { run.new ≡ request_asked method slot (asked_by request.now) }
 {
     run.write(
         method,
-        slot_named(request.resource),
+        slot,
         request.content_format,
         request.query.as_slice(),
         request.payload,
@@ -682,5 +687,5 @@ fn write_request(run: &mut fc_help::Request, method: Verb, request: &Request<'_>
 
 // A request that says nothing, to be written over.
 fn blank_request() -> fc_help::Request {
-    fc_help::Request::new(Verb::Get, 0, None, &[], &[])
+    fc_help::Request::new(Method::Get, 0, None, &[], &[])
 }

@@ -77,20 +77,6 @@ impl Stage {
         }
     }
 
-    /// After a look at one more head word, of fewer than 64 slots before.
-    pub fn listed(seen: Words, word: u64) -> Stage
-        requires { length seen.items < 64 }
-        ensures { result ≡ rows.listed (seen.items ++ word ∷ []) }
-    {
-        let mut words = seen;
-        let _fits = words.try_push(word);
-        if words.len() < WORDS {
-            Stage::ToList(words)
-        } else {
-            Stage::ToAnswer(Answer::other(End::Core(words)))
-        }
-    }
-
     /// After a taking, and so many takings before it.
     pub fn took(count: u8, taken: Taken) -> Stage
         requires { count < 8 }
@@ -130,11 +116,11 @@ impl Stage {
             Committed::Done(mark) => {
                 let changed = mark.changed();
                 let serial = mark.serial();
-                let answer = Answer::ran(outcome, ticket, mark);
                 if changed {
-                    Stage::ToRaise(head_word(serial, true), answer)
+                    let word = head_word(serial, true);
+                    Stage::ToRaise(word, Answer::ran(outcome, ticket, mark))
                 } else {
-                    Stage::ToAnswer(answer)
+                    Stage::ToAnswer(Answer::ran(outcome, ticket, mark))
                 }
             }
             Committed::Overtaken if count < TAKINGS => Stage::ToTake(count),
@@ -223,7 +209,12 @@ impl Task {
     pub fn begin(&mut self)
         ensures { self.new ≡ new_task self.old.job }
     {
-        self.stage = Stage::first(&self.job);
+        match &self.job.ask {
+            Ask::Run(_) if self.job.turn.is_none() && self.job.etags.is_empty() => {
+                self.stage = Stage::ToTake(0);
+            }
+            _ => self.stage = Stage::first(&self.job),
+        }
     }
 
     /// Looks at the head word of a slot.
@@ -271,10 +262,17 @@ impl Task {
         let Stage::ToTake(count) = self.stage else {
             return true;
         };
-        let taken = shard.take(&self.job);
-        let memory = had_memory(&taken);
-        self.stage = Stage::took(count, taken);
-        memory
+        match shard.take(&self.job) {
+            Taken::Given(ticket) => {
+                self.stage = Stage::ToCommit(count + 1, ticket);
+                true
+            }
+            taken => {
+                let memory = had_memory(&taken);
+                self.stage = Stage::took(count, taken);
+                memory
+            }
+        }
     }
 
     // Takes its turn.

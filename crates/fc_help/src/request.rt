@@ -235,12 +235,15 @@ impl Request {
     pub fn copy(&self) -> Request
         ensures { result ≡ self.now }
     {
-        Request::new(
-            self.method,
-            self.slot,
-            self.content_format,
-            self.query(),
-            self.payload(),
-        )
+        let mut region = ArrayVec::new();
+        let _fits = region.try_extend_from_slice(self.region.as_slice());
+        Request {
+            method: self.method,
+            slot: self.slot,
+            content_format: self.content_format,
+            query_size: self.query_size,
+            payload_size: self.payload_size,
+            region,
+        }
     }
 }

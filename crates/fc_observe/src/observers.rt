@@ -1,5 +1,5 @@
 //! The list of observers of a slot.
-ghost use Rattle.std.specs.Prelude.{◌≡◌, ◌<◌, ◌≤◌, [], ◌∷◌, find, length, true, ◌&&◌, is_none, is_some, IfOk, IfSome, vec_capacity};
+ghost use Rattle.std.specs.Prelude.{◌≡◌, ◌<◌, ◌≤◌, ◌↔◌, [], ◌∷◌, find, length, true, ◌&&◌, is_none, is_some, IfOk, IfSome, IsTrue, vec_capacity};
 ghost use Rattle.std.specs.List.{list_any, position_from};
 ghost use Rattle.std.specs.Option.{option_map};
 ghost use Rattle.fc_observe.specs.Entries.{acknowledged, has_last_id, has_turn, is_due, is_entry_of, is_late};
@@ -301,14 +301,18 @@ impl Observers {
         first_late(&self.held, self.moment.max(now)).is_some()
     }
 
+    /// Whether there is no observer.
+    pub fn is_empty(&self) -> bool
+        ensures { IsTrue result ↔ (self.now.held ≡ []) }
+    {
+        self.held.is_empty()
+    }
+
     /// Whether neither `tick` nor `next_due` would do anything.
     pub fn is_quiet(&self, now: u64, noticed: u64) -> bool
         ensures { let w = at_moment now self.now in
             result ≡ (is_none (late_entry w) && is_none (next_turn noticed w)) }
     {
-        if self.held.is_empty() {
-            return true;
-        }
         !self.is_late(now) && !self.is_due(now, noticed)
     }
 }

@@ -336,7 +336,8 @@ impl Shard {
         requires { place < 8 }
         ensures { result ≡ is_quiet_at (record self.entry.now { now = now }) place }
     {
-        self.watches[place].is_quiet(now, self.noticed_at(place))
+        let watch = &self.watches[place];
+        watch.is_empty() || watch.is_quiet(now, self.noticed_at(place))
     }
 
     // Whether an observer at a place is due at a moment.

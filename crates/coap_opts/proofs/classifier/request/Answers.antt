@@ -25,38 +25,38 @@ returns-in_default-resource_of c =
     path_fails c.args.message.now c.in-Some.method known (ap method_of (sym c.code.ensures) ∙ (sym c.method_of.ensures ∙ c.in-Some.is))
     (sym c.collect-collected.ensures.parts.path ∙ (sym c.resource_of.ensures ∙ c.in_default-resource_of.is))
 
-pub returns-then-not-serves : goal.returns-then-not-serves
-returns-then-not-serves c =
+pub returns-in_default-action_of : goal.returns-in_default-action_of
+returns-in_default-action_of c =
     let known = known_by c.args.message.now _ c.collect-collected.ensures.parts (sym c.names_proxy.ensures ∙ c.if-names_proxy.false) (sym c.collect-collected.ensures.unknown ∙ c.if-collected.false) in
     service_fails c.args.message.now c.in-Some.method c.in-Some-resource_of.resource known (ap method_of (sym c.code.ensures) ∙ (sym c.method_of.ensures ∙ c.in-Some.is))
-    (sym c.collect-collected.ensures.parts.path ∙ (sym c.resource_of.ensures ∙ c.in-Some-resource_of.is)) (sym c.if-not-serves.ensures)
+    (sym c.collect-collected.ensures.parts.path ∙ (sym c.resource_of.ensures ∙ c.in-Some-resource_of.is)) (sym c.action_of.ensures ∙ c.in_default-action_of.is)
 
 pub returns-then-is_bad : goal.returns-then-is_bad
 returns-then-is_bad c =
     let known = known_by c.args.message.now _ c.collect-collected.ensures.parts (sym c.names_proxy.ensures ∙ c.if-names_proxy.false) (sym c.collect-collected.ensures.unknown ∙ c.if-collected.false) in
-    let served = collected_served c.args.message.now _ c.in-Some.method c.in-Some-resource_of.resource c.collect-collected.ensures.parts known (ap method_of (sym c.code.ensures) ∙ (sym c.method_of.ensures ∙ c.in-Some.is))
-    (sym c.resource_of.ensures ∙ c.in-Some-resource_of.is) (sym c.if-not-serves.ensures) in
-    value_fails c.args.message.now c.in-Some.method c.in-Some-resource_of.resource served
+    let served = collected_served c.args.message.now _ c.in-Some.method c.in-Some-resource_of.resource c.in-Some-action_of.action c.collect-collected.ensures.parts known (ap method_of (sym c.code.ensures) ∙ (sym c.method_of.ensures ∙ c.in-Some.is))
+    (sym c.resource_of.ensures ∙ c.in-Some-resource_of.is) (sym c.action_of.ensures ∙ c.in-Some-action_of.is) in
+    value_fails c.args.message.now c.in-Some.method c.in-Some-resource_of.resource c.in-Some-action_of.action served
     (collected_bad _ _ c.collect-collected.ensures.parts _ _ c.block_of.ensures c.block_of-2.ensures ∙ (sym c.is_bad.ensures ∙ c.if-is_bad.true))
 
 pub returns-then-payload-gt-PAYLOAD : goal.returns-then-payload-gt-PAYLOAD
 returns-then-payload-gt-PAYLOAD c =
     let known = known_by c.args.message.now _ c.collect-collected.ensures.parts (sym c.names_proxy.ensures ∙ c.if-names_proxy.false) (sym c.collect-collected.ensures.unknown ∙ c.if-collected.false) in
-    let served = collected_served c.args.message.now _ c.in-Some.method c.in-Some-resource_of.resource c.collect-collected.ensures.parts known (ap method_of (sym c.code.ensures) ∙ (sym c.method_of.ensures ∙ c.in-Some.is))
-    (sym c.resource_of.ensures ∙ c.in-Some-resource_of.is) (sym c.if-not-serves.ensures) in
+    let served = collected_served c.args.message.now _ c.in-Some.method c.in-Some-resource_of.resource c.in-Some-action_of.action c.collect-collected.ensures.parts known (ap method_of (sym c.code.ensures) ∙ (sym c.method_of.ensures ∙ c.in-Some.is))
+    (sym c.resource_of.ensures ∙ c.in-Some-resource_of.is) (sym c.action_of.ensures ∙ c.in-Some-action_of.is) in
     let good = collected_bad _ _ c.collect-collected.ensures.parts _ _ c.block_of.ensures c.block_of-2.ensures ∙ (sym c.is_bad.ensures ∙ c.if-is_bad.false) in
-    payload_fails c.args.message.now c.in-Some.method c.in-Some-resource_of.resource served good (lt-ltb 1024 (length c.args.message.now.payload) (omega (arith, ap length c.payload-payload.ensures)))
+    payload_fails c.args.message.now c.in-Some.method c.in-Some-resource_of.resource c.in-Some-action_of.action served good (lt-ltb 1024 (length c.args.message.now.payload) (omega (arith, ap length c.payload-payload.ensures)))
 
 pub returns : goal.returns
 returns c =
     let known = known_by c.args.message.now _ c.collect-collected.ensures.parts (sym c.names_proxy.ensures ∙ c.if-names_proxy.false) (sym c.collect-collected.ensures.unknown ∙ c.if-collected.false) in
-    let served = collected_served c.args.message.now _ c.in-Some.method c.in-Some-resource_of.resource c.collect-collected.ensures.parts known (ap method_of (sym c.code.ensures) ∙ (sym c.method_of.ensures ∙ c.in-Some.is))
-    (sym c.resource_of.ensures ∙ c.in-Some-resource_of.is) (sym c.if-not-serves.ensures) in
+    let served = collected_served c.args.message.now _ c.in-Some.method c.in-Some-resource_of.resource c.in-Some-action_of.action c.collect-collected.ensures.parts known (ap method_of (sym c.code.ensures) ∙ (sym c.method_of.ensures ∙ c.in-Some.is))
+    (sym c.resource_of.ensures ∙ c.in-Some-resource_of.is) (sym c.action_of.ensures ∙ c.in-Some-action_of.is) in
     let good = collected_bad _ _ c.collect-collected.ensures.parts _ _ c.block_of.ensures c.block_of-2.ensures ∙ (sym c.is_bad.ensures ∙ c.if-is_bad.false) in (
-      none_fails c.args.message.now c.in-Some.method c.in-Some-resource_of.resource served good (le-ltb 1024 (length c.args.message.now.payload) (omega (arith, ap length c.payload-payload.ensures))),
-      asked_with c.args.message.now c.in-Some.method c.in-Some-resource_of.resource _ _ _ _ _ _ _ served (collected_query _ _ c.collect-collected.ensures.parts good)
+      none_fails c.args.message.now c.in-Some.method c.in-Some-resource_of.resource c.in-Some-action_of.action served good (le-ltb 1024 (length c.args.message.now.payload) (omega (arith, ap length c.payload-payload.ensures))),
+      asked_with c.args.message.now c.in-Some.method c.in-Some-resource_of.resource c.in-Some-action_of.action _ _ _ _ _ _ _ served (collected_query _ _ c.collect-collected.ensures.parts good)
           (c.format_of.ensures ∙ ap (option_map uint_value) c.collect-collected.ensures.parts.content_format) c.collect-collected.ensures.parts.etags
-          (c.observe_at.ensures ∙ ap (spec.observe_at c.in-Some-resource_of.resource) (c.observe_of.ensures ∙ ap (option_map uint_value) c.collect-collected.ensures.parts.observe))
+          (c.observe_at.ensures ∙ ap (spec.observe_at c.in-Some-action_of.action) (c.observe_of.ensures ∙ ap (option_map uint_value) c.collect-collected.ensures.parts.observe))
           (c.block_of-3.ensures ∙ ap (option_map place_in) c.collect-collected.ensures.parts.block1) (c.block_of-4.ensures ∙ ap (option_map place_in) c.collect-collected.ensures.parts.block2)
           c.payload-payload.ensures,
     )

@@ -2,7 +2,7 @@ use Rattle.std.proofs.Common.{sym, ◌∙◌, max}
 use Rattle.coap_block.specs.Transfers.{transfers}
 use Rattle.fc_core.specs.BodyLaws.{addition_at}
 use Rattle.fc_core.specs.History.{seen}
-use Rattle.fc_core.specs.Receiving.{slot_of_resource}
+use Rattle.fc_core.specs.Receiving.{slot_asked}
 use Rattle.fc_core.proofs.Bodies.{added_block, goes_on, is_continued, is_opened, is_whole, rises, rises_at}
 use Rattle.fc_core.proofs.body_laws.blocks_are_joined.Goals as goal
 
@@ -20,7 +20,7 @@ returns-clause-continues c h now to m r b is =
 
 pub returns-clause-most : goal.returns-clause-most
 returns-clause-most c h now to m r body e =
-    c.bodies_are_bounded.ensures.most (transfers (seen h).additions) (max (seen h).moment now) to (slot_of_resource r.resource) r.block1 r.payload body (is_whole _ m r body e)
+    c.bodies_are_bounded.ensures.most (transfers (seen h).additions) (max (seen h).moment now) to (slot_asked r.action) r.block1 r.payload body (is_whole _ m r body e)
 
 pub returns-clause-few : goal.returns-clause-few
 returns-clause-few c h = c.transfers_are_payloads_joined.ensures.few (seen h).additions

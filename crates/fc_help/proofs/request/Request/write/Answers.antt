@@ -1,4 +1,4 @@
-use Rattle.std.proofs.Common.{◌≡◌, length, refl, ap, ◌∙◌, arith}
+use Rattle.std.proofs.Common.{length, refl, ap, ◌∙◌, arith}
 use Rattle.fc_help.specs.Request.{Request, request_with}
 use Rattle.fc_help.specs.Region.{FitsRegion}
 use Rattle.fc_help.proofs.Laid.{laid_out}

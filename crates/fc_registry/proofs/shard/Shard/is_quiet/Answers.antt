@@ -1,4 +1,4 @@
-use Rattle.std.proofs.Common.{◌≡◌, ◌∙◌, refl, sym, arith}
+use Rattle.std.proofs.Common.{refl, arith}
 use Rattle.fc_observe.specs.Observers.{at_moment, late_entry, next_turn}
 use Rattle.fc_registry.specs.Slots.{Shard}
 use Rattle.fc_registry.specs.Watches.{due_place, is_due_at, is_late_at, late_place, noticed_at, watch_at}
