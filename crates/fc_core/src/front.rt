@@ -401,6 +401,8 @@ impl Front {
     }
 
     // Joins the payload of a new request, which sends this block, to its transfer: carries the request out, or answers it at once.
+    // It isn't made a part of its caller, which would zero the room of a body for each request.
+    #[inline(never)]
     fn serve_block(
         &mut self,
         endpoint: Endpoint,

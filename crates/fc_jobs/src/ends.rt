@@ -2,11 +2,13 @@
 use crate::protocol::{Hand, Numbered, OnceEach};
 use crossbeam_channel::{Pass, RuledReceiver, RuledSender};
 use std::marker::Model;
+use std::sync::atomic::AtomicBool;
 
-/// The end from which the workers get their jobs. A clause sees which channel it is.
+/// The end from which the workers get their jobs, and whether one has asked for a job yet. A clause sees which channel it is.
 #[derive(Drop)]
 pub struct Jobs {
     pub(crate) receiver: RuledReceiver<Numbered, Hand, OnceEach>,
+    pub(crate) asked: AtomicBool,
 }
 
 impl Model for Jobs {

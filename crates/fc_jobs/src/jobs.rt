@@ -9,6 +9,7 @@ use crossbeam_channel::{SendError, bounded_with};
 use fc_registry::Job;
 use std::alloc::{AllocError, Global};
 use std::sync::Wait;
+use std::sync::atomic::{AtomicBool, Ordering};
 
 /// The places of the channel: how many jobs may wait.
 const PLACES: usize = 256;
@@ -32,7 +33,8 @@ impl Jobs {
             next: 0,
         };
         let gots = hire(alloc, &mut sent, workers)?;
-        Ok((Jobs { receiver }, sent, gots))
+        let asked = AtomicBool::new(false);
+        Ok((Jobs { receiver, asked }, sent, gots))
     }
 
     /// Sends a job under the next number, from 0 on, or hands it back; the numbers end at 2^61, from where on each job comes
@@ -57,10 +59,19 @@ impl Jobs {
         ensures got { MatchOption result (got.new ≡ got.old) (λ r. got.new ≡ with_got got.old r.0 r.1) }
         ensures once { IfSome result (λ r. times r.0 got.old.got ≡ 0) }
     {
+        self.asked.store(true, Ordering::Relaxed);
         match self.receiver.recv_as::<Takes, R>(rt, &mut got.pass) {
             Ok(Numbered { number, job }) => Some((number, job)),
             Err(_) => None,
         }
+    }
+}
+
+impl Jobs {
+    /// Whether a worker has asked for a job yet. Where none has, none may ever: the thread that was to begin them may have been refused memory. Who sends no job before then
+    /// doesn't wait for ever.
+    pub fn is_served(&self) -> bool {
+        self.asked.load(Ordering::Relaxed)
     }
 }
 

@@ -59,6 +59,7 @@ impl Settling {
     }
 
     // The next that is to be sent, as `next` finds it, shard after shard.
+    #[inline(never)]
     fn next_sent(&mut self, engine: &mut Engine, now: u64, random: u16) -> Option<Emission>
         ensures { (steps : List SettlingStep) × AreSteps now random steps engine.old engine.new
             × (sent_in_steps steps ≡ option_to_list result) }

@@ -42,7 +42,8 @@ pub struct Dispatched<T: Drop> {
 }
 
 /// Who has datagrams taken in and shards asked for turns, in a thread of its own. Each job that comes of it is sent to the workers, or, where it isn't handed
-/// over, worked off by the dispatcher itself, as a worker does.
+/// over, worked off by the dispatcher itself, as a worker does. So is each that comes before a worker has asked for a job: the workers may have been refused the
+/// memory that they begin with.
 #[derive(Drop)]
 pub struct Dispatcher<'a, B: Bench, G: Gate, W: Wire, M: Moments> {
     workshop: &'a Workshop<'a, B, G, W, M>,
@@ -206,7 +207,7 @@ impl<'a, B: Bench, G: Gate, W: Wire, M: Moments> Dispatcher<'a, B, G, W, M> {
             .work(rt, &mut self.tools, UNSENT, &self.job, &mut done.share);
     }
 
-    // Whether its job may go to the workers.
+    // Whether its job may go to the workers. Before one of them has asked for a job, none does.
     fn may_go<R: Wait>(&mut self, rt: &R) -> bool
         ensures may { result ≡ true → MayGo self.old.handover self.old.job }
         ensures done { self.new.done ≡ self.old.done }
@@ -214,8 +215,10 @@ impl<'a, B: Bench, G: Gate, W: Wire, M: Moments> Dispatcher<'a, B, G, W, M> {
         ensures handover { self.new.handover ≡ self.old.handover }
     {
         match self.handover {
-            Handover::Every => true,
-            Handover::Dear(least) => self.needs_run() && self.cost(rt) >= least,
+            Handover::Every => self.jobs.is_served(),
+            Handover::Dear(least) => {
+                self.jobs.is_served() && self.needs_run() && self.cost(rt) >= least
+            }
             Handover::Never => false,
         }
     }

@@ -16,6 +16,7 @@ use std::sync::Wait;
 impl<'a, B: Bench, G: Gate, W: Wire, M: Moments> Workshop<'a, B, G, W, M> {
     /// Works a turn off: takes what its slot holds, draws a message id, runs the program and notifies the observer: what is to be sent,
     /// if anything. Where memory is refused, or no message id is free, the turn is given up. No slot changes, and one job is ended.
+    #[inline(never)]
     pub fn notify<R: Wait>(
         &self,
         rt: &R,

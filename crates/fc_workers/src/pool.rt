@@ -102,8 +102,8 @@ impl<B: Bench, M: Moments> Promise<Result<Vec<Share<B::Tallies>>, AllocError>> f
 /// and the workers come to their end. It is told whether workers were begun: where no thread can be made for them, they come after the feeder.
 ///
 /// # Errors
-/// The shares are as `run_workers` gives them. If memory is refused for every seat, a feeder of more than 256 jobs waits for
-/// ever.
+/// The shares are as `run_workers` gives them. If memory is refused for every seat, no worker ever asks for a job ([`Jobs::is_served`]), and a feeder that
+/// sends more than 256 all the same waits for ever.
 pub fn feed_workers<
     B: Bench + Sync,
     G: Gate + Sync,

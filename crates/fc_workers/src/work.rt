@@ -21,6 +21,7 @@ use fc_registry::{Job, Receipt, SlotNumber, Ticket};
 use fc_verify::{Refusal, Verified, verify};
 use std::sync::{Arc, Wait};
 
+// The calls that few jobs need aren't made a part of the loop, which would zero their room for each job.
 impl<'a, B: Bench, G: Gate, W: Wire, M: Moments> Workshop<'a, B, G, W, M> {
     /// Works a request's job off, up to what it is to be answered.
     ///
@@ -74,6 +75,7 @@ impl<'a, B: Bench, G: Gate, W: Wire, M: Moments> Workshop<'a, B, G, W, M> {
     }
 
     // Looks at the head words of the slots after those of these words, up to the last.
+    #[inline(never)]
     fn list(&self, heads: &mut HeadSeat, seen: &Words) -> Words
         requires seen { length seen.now.items < 64 }
         requires heads { heads.old.table ≡ B.heads self.now.bench.now }
@@ -90,6 +92,7 @@ impl<'a, B: Bench, G: Gate, W: Wire, M: Moments> Workshop<'a, B, G, W, M> {
     }
 
     // Removes the program of the job's slot.
+    #[inline(never)]
     fn remove<R: Wait>(&self, rt: &R, job: &Job, share: &mut Share<B::Tallies>) -> Stage
         ensures step { IsStep B.changes job.now ToRemove result share.old share.new }
         ensures ended { B.ended share.new.tallies ≡ B.ended share.old.tallies }
@@ -134,6 +137,7 @@ impl<'a, B: Bench, G: Gate, W: Wire, M: Moments> Workshop<'a, B, G, W, M> {
     }
 
     // Verifies the job's image, and installs the program.
+    #[inline(never)]
     fn install<R: Wait>(&self, rt: &R, job: &Job, share: &mut Share<B::Tallies>) -> Stage
         ensures step { IsStep B.changes job.now ToInstall result share.old share.new }
         ensures ended { B.ended share.new.tallies ≡ B.ended share.old.tallies }
