@@ -1,10 +1,11 @@
 //! Why a program that reads lines stops.
-ghost use Rattle.std.specs.Prelude.{◌≡◌};
+ghost use Rattle.std.specs.Prelude.{◌≡◌, ◌⊎◌};
 ghost use Rattle.fc_cli.specs.Stops.{status_of};
 
 use crate::status::Status;
 use std::alloc::AllocError;
 use std::io;
+use std::io::ErrorKind;
 use thiserror::Error;
 
 /// Why lines aren't carried out to their end, or what they send isn't printed.
@@ -25,6 +26,16 @@ pub enum Stop {
 }
 
 impl Stop {
+    /// Why reading the line of this number failed: it is bad where its bytes are no line's, as where it is too long.
+    pub fn at_line(error: io::Error, number: u64) -> Stop
+        ensures { (result ≡ Stop.BadLine number) ⊎ (result ≡ Stop.Input error) }
+    {
+        match error.kind() {
+            ErrorKind::InvalidData => Stop::BadLine(number),
+            _ => Stop::Input(error),
+        }
+    }
+
     /// How the program ends.
     pub fn status(&self) -> Status
         ensures { result ≡ status_of self.now }

@@ -3,6 +3,8 @@
 
 pub mod emission;
 pub mod hexadecimal;
+pub mod limit;
 pub mod line;
 
+pub use limit::LineLimit;
 pub use line::{Line, LineError};

@@ -59,7 +59,7 @@ fn play_lines<R: BufRead + Drop, W: Write>(
         number = number.saturating_add(1);
         match text {
             Ok(text) => play_line(alloc, &mut engine, &mut reply, &text, number, out)?,
-            Err(error) => return Err(Stop::Input(error)),
+            Err(error) => return Err(Stop::at_line(error, number)),
         }
     }
     Ok(())

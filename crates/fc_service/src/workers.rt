@@ -135,7 +135,10 @@ impl<'a, 'b, N: Intake> Desk<'a, 'b, N> {
         let mut number = 0u64;
         for text in input.split(alloc, b'\n') {
             number = number.saturating_add(1);
-            let text = text.map_err(Stop::Input)?;
+            let text = match text {
+                Ok(text) => text,
+                Err(error) => return Err(Stop::at_line(error, number)),
+            };
             match parse(alloc, &text) {
                 Ok(line) => {
                     self.carry_out(rt, &line, out)?;

@@ -15,12 +15,18 @@ use thiserror::Error;
 /// The most bytes of an image whose length fits its count: a header, and 65,535 slots of eight bytes.
 const LONGEST_IMAGE: u64 = 16 + 8 * 65_535;
 
+/// The most bytes of a text. The longest listing has 16,384: 512 lines of 32 bytes.
+const LONGEST_TEXT: u64 = 1_048_576;
+
 /// Why a tool has no result.
 #[derive(Debug, Drop, Error)]
 pub enum ToolError {
     /// The text has a mistake.
     #[error("{0}")]
     Text(AsmError),
+    /// The text is too long to be read.
+    #[error("the text has more than 1048576 bytes")]
+    LongText,
     /// The image, or a number of its header, breaks a rule.
     #[error("{0}")]
     Image(Fault),
@@ -38,7 +44,7 @@ pub enum ToolError {
 impl ToolError {
     fn status(&self) -> Status {
         match self {
-            ToolError::Text(_) | ToolError::Image(_) => Status::Refused,
+            ToolError::Text(_) | ToolError::LongText | ToolError::Image(_) => Status::Refused,
             ToolError::Input(_) | ToolError::Output(_) | ToolError::Memory(_) => Status::Failed,
         }
     }
@@ -69,7 +75,7 @@ impl From<Fault> for ToolError {
 }
 
 /// Reads a text, assembles it, and writes the image with this size of the variables, in bytes, and this budget of steps.
-/// It ends `Done` where the image is written; `Refused` where the text has a mistake, or else a number of the header is
+/// It ends `Done` where the image is written; `Refused` where the text has more than 1,048,576 bytes or a mistake, or else a number of the header is
 /// out of its limits; `Failed` where reading or writing failed, or there was no memory. `err` is told why.
 pub fn image<R: Read, W: Write, E: Write>(
     alloc: Global,
@@ -122,6 +128,17 @@ fn read_image<R: Read>(alloc: Global, input: &mut R) -> Result<Vec<u8>, ToolErro
     Ok(image)
 }
 
+// Reads a text; of one that is too long, no more than shows that.
+fn read_text<R: Read>(alloc: Global, input: &mut R) -> Result<Vec<u8>, ToolError> {
+    let mut text = Vec::new(alloc);
+    let mut input = input.by_ref().take(LONGEST_TEXT + 1);
+    input.read_to_end(&mut text).map_err(ToolError::Input)?;
+    if text.len() as u64 > LONGEST_TEXT {
+        return Err(ToolError::LongText);
+    }
+    Ok(text)
+}
+
 // Writes all of these bytes, and has them written out.
 fn write_whole<W: Write>(out: &mut W, bytes: &[u8]) -> Result<(), ToolError> {
     out.write_all(bytes).map_err(ToolError::Output)?;
@@ -135,8 +152,7 @@ fn write_image<R: Read, W: Write>(
     vars_size: u16,
     budget: u32,
 ) -> Result<(), ToolError> {
-    let mut text = Vec::new(alloc);
-    input.read_to_end(&mut text).map_err(ToolError::Input)?;
+    let text = read_text(alloc, input)?;
     let image = image_of(alloc, &text, vars_size, budget)?;
     write_whole(out, &image)
 }

@@ -4,6 +4,7 @@
 use clap::ArgMatches;
 use fc_cli::Status;
 use fc_cli::command_line::{exit_code, parse, words};
+use fc_lines::LineLimit;
 use fc_service::command::command;
 use fc_service::play::play;
 use fc_service::pool::Begin;
@@ -61,7 +62,7 @@ fn play_input<R: Runtime + AllocGlobal + Threads + Wait + Net + Sync, E: Write>(
     workers: Option<u8>,
 ) -> anyhow::Result<Status> {
     let alloc = rt.alloc();
-    let input = BufReader::new(alloc, rt.reader())?;
+    let input = BufReader::new(alloc, LineLimit::new(rt.reader()))?;
     let mut out = BufWriter::new(alloc, io::writer(rt))?;
     let begin = Begin {
         serial: FIRST_SERIAL,

@@ -3,10 +3,13 @@ use crate::faulty::{Full, Unflushed};
 use clap::Error;
 use fc_cli::Status;
 use fc_cli::command_line::explain;
+use fc_lines::LineLimit;
 use fc_service::play::play;
+use fc_service::pool::Begin;
+use fc_service::workers::play_by_workers;
 use std::alloc::{AllocError, Global};
 use std::io;
-use std::io::{BufRead, ErrorKind, Read, Write};
+use std::io::{BufRead, BufReader, ErrorKind, Read, Write};
 use std::process::Abort;
 use std::test::Fail;
 
@@ -40,12 +43,93 @@ fn check_printed<R: Abort + AllocGlobal>(rt: &R, input: &str, want: &str) {
     );
 }
 
+// COUNT goes into slot 1 at the last serial but one, and has the last one then. It answers, its ETag and its head word tell the last serial, and 2.03 is told by it; what
+// would change the slot is 5.03, and changes nothing.
+static AT_THE_END: [(&str, &str); 8] = [
+    (
+        "0 1 4103123370b1700131ff46434231080009000900000000000000b70100000000000085000000030000000700000001000000bf02000000000000\
+         b70100000000000085000000040000008500000007000000b7000000000000009500000000000000\n",
+        "1 6141123370ff76657273696f6e3d3932323333373230333638353437373538303720636f73743d39206275646765743d3920766172733d38\n",
+    ),
+    (
+        "1 1 4101123471b1720131\n",
+        "1 6145123471487fffffffffffffff\n",
+    ),
+    ("2 1 4102123572b1720131\n", "1 61a3123572\n"),
+    ("3 1 4104123673b1700131\n", "1 61a3123673\n"),
+    (
+        "4 1 4103123774b1700131ff46434231000002000200000000000000b7000000450000009500000000000000\n",
+        "1 61a3123774\n",
+    ),
+    (
+        "5 1 4101123875b1720131\n",
+        "1 6145123875487fffffffffffffff\n",
+    ),
+    (
+        "6 1 4101123976487fffffffffffffff71720131\n",
+        "1 6143123976487fffffffffffffff\n",
+    ),
+    (
+        "7 1 4101123a77bb2e77656c6c2d6b6e6f776e04636f7265\n",
+        "1 6145123a77c128ff3c2f722f313e3b6f6273\n",
+    ),
+];
+
+// What is sent there, and what is printed.
+fn lines_at_the_end(alloc: Global) -> Result<(String, String), AllocError> {
+    let mut lines = String::new(alloc);
+    let mut printed = String::new(alloc);
+    for (line, answer) in AT_THE_END.iter().copied() {
+        lines.push_str(line)?;
+        printed.push_str(answer)?;
+    }
+    Ok((lines, printed))
+}
+
+#[test]
+fn the_last_serial_is_reached_once(rt: HostRuntime) -> Result<(), AllocError> {
+    let (lines, printed) = lines_at_the_end(rt.alloc())?;
+    assert!(rt;
+        plays(
+            rt.alloc(),
+            lines.as_bytes(),
+            LAST_SERIAL - 1,
+            Status::Done,
+            &printed,
+            ""
+        )
+    );
+    for workers in 1..3u8 {
+        let mut out = Vec::new(rt.alloc());
+        let mut err = Vec::new(rt.alloc());
+        let begin = Begin {
+            serial: LAST_SERIAL - 1,
+            id: 0,
+        };
+        let status = play_by_workers(
+            &rt,
+            rt.alloc(),
+            lines.as_bytes(),
+            &mut out,
+            &mut err,
+            workers,
+            begin,
+        );
+        assert!(rt;
+            status == Status::Done && err.is_empty() && out.as_slice() == printed.as_bytes(),
+            "{workers} workers"
+        );
+    }
+    Ok(())
+}
+
 #[test]
 fn last_serial_is_not_passed(rt: HostRuntime) {
     let input =
         "0 1 4103123370b1700130ff46434231000002000200000000000000b7000000450000009500000000000000\n\
-                 1 1 4101123471b1720130\n";
-    let want = "1 61a3123370\n1 6184123471\n";
+                 1 1 4101123471b1720130\n\
+                 2 1 4104123573b1700130\n";
+    let want = "1 61a3123370\n1 6184123471\n1 6142123573\n";
     assert!(rt;
         plays(
             rt.alloc(),
@@ -251,15 +335,17 @@ fn many_requests(alloc: Global) -> io::Result<(Vec<u8>, Vec<u8>)> {
     Ok((lines, answers))
 }
 
-// Behind 1,024 requests the next is answered 5.03, which isn't kept: its copy, when a window has gone by, is 4.04. A
-// copy of the first is no new request: it gets its bytes again.
+// Behind 1,024 requests the next is answered 5.03, which isn't kept: so is its copy, as long as they are held, and 4.04 when a window has gone by. So is a
+// non-confirmable one with an option that isn't known, which else gets no answer, by the server's first message id. A copy of the first is no new request: it
+// gets its bytes again.
 #[test]
 fn the_1025th_request_within_a_window_is_unavailable(rt: HostRuntime) -> Result<(), Fail> {
     let (mut lines, mut answers) = many_requests(rt.alloc())?;
     lines.extend_from_slice(
-        b"246999 1 40010400b1720130\n246999 1 40010000b1720130\n247000 1 40010400b1720130\n",
+        b"0 1 40010400b1720130\n0 1 50010401b172013060\n\
+        246999 1 40010400b1720130\n246999 1 40010000b1720130\n247000 1 40010400b1720130\n",
     )?;
-    answers.extend_from_slice(b"1 60a30400\n1 60840000\n1 60840400\n")?;
+    answers.extend_from_slice(b"1 60a30400\n1 50a30000\n1 60a30400\n1 60840000\n1 60840400\n")?;
     let mut out = Vec::new(rt.alloc());
     let mut err = Vec::new(rt.alloc());
     let status = play(rt.alloc(), lines.as_slice(), &mut out, &mut err, 0, 0);
@@ -376,6 +462,42 @@ fn failed_reading_is_status_3(rt: HostRuntime) {
             "standard input: broken pipe\n"
         )
     );
+}
+
+// What comes behind a line is read no further than shows that it is too long for one; the line before it was carried out.
+#[test]
+fn a_line_without_end_is_bad(rt: HostRuntime) -> Result<(), Fail> {
+    let line = b"0 1 4101123471b1720130\n".as_slice();
+    let endless = LineLimit::new(line.chain(io::repeat(b'0')));
+    let input = BufReader::new(rt.alloc(), endless)?;
+    assert!(rt;
+        plays(
+            rt.alloc(),
+            input,
+            0,
+            Status::Bad,
+            "1 6184123471\n",
+            "line 2: bad\n"
+        )
+    );
+    Ok(())
+}
+
+// A line of these bytes and so many zeros is played.
+fn status_of_line(alloc: Global, start: &[u8], zeros: u64) -> io::Result<Status> {
+    let line = LineLimit::new(start.chain(io::repeat(b'0').take(zeros)));
+    let input = BufReader::new(alloc, line)?;
+    Ok(play(alloc, input, &mut Full(0), &mut Full(99), 0, 0))
+}
+
+// The longest line has the greatest moment, peer 255 and 65,507 bytes, which are ignored. With a zero in front it is too long.
+#[test]
+fn the_longest_line_is_read(rt: HostRuntime) -> Result<(), Fail> {
+    let status = status_of_line(rt.alloc(), b"18446744073709551615 255 ", 131_014)?;
+    assert!(rt; status == Status::Done);
+    let status = status_of_line(rt.alloc(), b"018446744073709551615 255 ", 131_014)?;
+    assert!(rt; status == Status::Bad);
+    Ok(())
 }
 
 // The status of a play whose output, and then whose faults, have room for so many bytes.

@@ -316,6 +316,18 @@ fn an_image_without_end_is_refused(rt: HostRuntime) -> Result<(), Fail> {
     Ok(())
 }
 
+#[test]
+fn a_text_without_end_is_refused(rt: HostRuntime) -> Result<(), Fail> {
+    let alloc = rt.alloc();
+    let mut out = Vec::new(alloc);
+    let mut err = Vec::new(alloc);
+    let status = image(alloc, &mut io::repeat(b'\n'), &mut out, &mut err, 0, 1);
+    let done = with_memory(Done { status, out, err })?;
+    assert!(rt; done.status == Status::Refused && done.out.is_empty());
+    assert!(rt; done.err.as_slice() == b"the text has more than 1048576 bytes\n".as_slice());
+    Ok(())
+}
+
 // A reader that fails at once.
 #[derive(Drop)]
 struct Torn;
