@@ -213,31 +213,43 @@ fn blocks_of_small_answers(rt: HostRuntime) -> Result<(), Fail> {
     check_pieces(&rt, &SENT, &TOLD)
 }
 
-// Sixteen peers have a transfer each. A seventeenth is told to come later, before its length is looked at; one of the sixteen may
+// Peers 1 to 16 send a block of 16 bytes to slot 0 each, under this message id and with this value of Block1, by hex digits, and are told to go on.
+fn send_blocks(
+    alloc: Global,
+    sent: &mut Vec<u8>,
+    told: &mut Vec<u8>,
+    id: &str,
+    block: &str,
+) -> Result<(), AllocError> {
+    for peer in 1..17u8 {
+        let line = format!(in alloc;
+            "0 {peer} 4003{id}b1700130d103{block}ff00112233445566778899aabbccddeeff\n"
+        )?;
+        sent.extend_from_slice(line.as_bytes())?;
+        let reply = format!(in alloc; "{peer} 605f{id}d10e{block}\n")?;
+        told.extend_from_slice(reply.as_bytes())?;
+    }
+    Ok(())
+}
+
+// Sixteen peers have a transfer each. A seventeenth is told to come later, before its length is looked at; the sixteen go on, one of them may
 // begin anew, and 247,000 ms later all are gone.
 #[test]
 fn sixteen_transfers_are_held(rt: HostRuntime) -> Result<(), Fail> {
     let alloc = rt.alloc();
     let mut sent = Vec::new(alloc);
     let mut told = Vec::new(alloc);
-    for peer in 1..17u8 {
-        let line = format!(in alloc;
-            "0 {peer} 40030001b1700130d10308ff00112233445566778899aabbccddeeff\n"
-        )?;
-        sent.extend_from_slice(line.as_bytes())?;
-        let reply = format!(in alloc; "{peer} 605f0001d10e08\n")?;
-        told.extend_from_slice(reply.as_bytes())?;
-    }
+    send_blocks(alloc, &mut sent, &mut told, "0001", "08")?;
+    sent.extend_from_slice(b"0 17 40030001b1700130d10308ff00\n")?;
+    told.extend_from_slice(b"17 60a30001\n")?;
+    send_blocks(alloc, &mut sent, &mut told, "0006", "18")?;
     sent.extend_from_slice(
-        b"0 17 40030001b1700130d10308ff00\n\
-          0 16 40030002b1700130d10308ff00112233445566778899aabbccddeeff\n\
+        b"0 16 40030002b1700130d10308ff00112233445566778899aabbccddeeff\n\
           246999 17 40030003b1700130d10308ff00112233445566778899aabbccddeeff\n\
           247000 17 40030004b1700130d10308ff00112233445566778899aabbccddeeff\n\
           247000 16 40030005b1700130d10318ff00112233445566778899aabbccddeeff\n",
     )?;
-    told.extend_from_slice(
-        b"17 60a30001\n16 605f0002d10e08\n17 60a30003\n17 605f0004d10e08\n16 60880005\n",
-    )?;
+    told.extend_from_slice(b"16 605f0002d10e08\n17 60a30003\n17 605f0004d10e08\n16 60880005\n")?;
     check_text(&rt, &sent, &told)
 }
 

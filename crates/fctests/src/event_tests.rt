@@ -110,6 +110,43 @@ fn an_install_without_memory_changes_nothing(rt: HostRuntime) {
     check_sends(&rt, &EVENTS, &[CREATED, b"\x61\xa3\x12\x35\x70", CONTENT]);
 }
 
+// `GET /r/0` of a client that has the answer of serial 1.
+const VALID: &[u8] = b"\x41\x01\x12\x36\x71\x48\x00\x00\x00\x00\x00\x00\x00\x01\x71\x72\x01\x30";
+
+// An install that finds no memory raises no head word: a client that has the answer of serial 1 is told that it is valid still.
+#[test]
+fn an_install_without_memory_raises_nothing(rt: HostRuntime) {
+    static EVENTS: [Event<'static>; 7] = [
+        Event::Deliver {
+            now: 1,
+            endpoint: PEER,
+            bytes: PUT_AGAIN,
+        },
+        Event::Install {
+            job: 1,
+            memory: false,
+        },
+        Event::Raise { job: 1 },
+        Event::Answer { job: 1, now: 1 },
+        Event::Deliver {
+            now: 2,
+            endpoint: PEER,
+            bytes: VALID,
+        },
+        Event::Peek { job: 2, slot: 0 },
+        Event::Answer { job: 2, now: 2 },
+    ];
+    check_sends(
+        &rt,
+        &EVENTS,
+        &[
+            CREATED,
+            b"\x61\xa3\x12\x35\x70",
+            b"\x61\x43\x12\x36\x71\x48\x00\x00\x00\x00\x00\x00\x00\x01",
+        ],
+    );
+}
+
 #[test]
 fn a_taking_without_memory_is_unavailable(rt: HostRuntime) {
     static EVENTS: [Event<'static>; 3] = [

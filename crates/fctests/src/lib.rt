@@ -19,11 +19,15 @@ mod event_tests;
 #[cfg(test)]
 mod exchange_tests;
 #[cfg(test)]
+mod failing_tests;
+#[cfg(test)]
 mod faulty;
 #[cfg(test)]
 mod feeder;
 #[cfg(test)]
 mod head_tests;
+#[cfg(test)]
+mod hostile_tests;
 #[cfg(test)]
 mod isa_tests;
 #[cfg(test)]

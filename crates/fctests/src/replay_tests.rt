@@ -1,7 +1,7 @@
 // Lists that are replayed: what a bad line is, and what is printed and told.
 use fc_cli::Status;
 use fc_replay::replay::replay;
-use std::alloc::Global;
+use std::alloc::{AllocError, Global};
 use std::io;
 use std::io::Write;
 use std::process::Abort;
@@ -204,4 +204,51 @@ fn an_install_overtakes_a_post(rt: HostRuntime) {
          1 6144200372\n\
          slot 1 serial 5 version 4 vars 0100000000000000\n";
     assert!(rt; list.is_ok_and(|list| replays(rt.alloc(), &list, Status::Done, printed, "")));
+}
+
+// COUNT is installed in slot 1 by job 0; then these events happen.
+fn check_counter_replayed<R: Abort + AllocGlobal>(
+    rt: &R,
+    events: &str,
+    printed: &str,
+) -> Result<(), AllocError> {
+    let image = COUNT;
+    let list = format!(in rt.alloc();
+        "Deliver now=0 ep=1 data=4103200072b1700131ff{image}\nInstall job=0 memory=1\nRaise job=0\nAnswer job=0 now=0\n{events}"
+    )?;
+    let printed = format!(in rt.alloc();
+        "none\nnone\nnone\n1 6141200072ff76657273696f6e3d3120636f73743d39206275646765743d3920766172733d38\n{printed}"
+    )?;
+    check_replayed(rt, &list, &printed);
+    Ok(())
+}
+
+// A POST whose worker is lost after its taking changes nothing, and isn't answered: neither are its copies, for 247,000 ms after it came. Then it is
+// carried out.
+#[test]
+fn a_job_lost_before_its_commit_changes_nothing(rt: HostRuntime) -> Result<(), AllocError> {
+    check_counter_replayed(
+        &rt,
+        "Deliver now=1 ep=1 data=4102200172b1720131\nTake job=1 memory=1\nLose job=1\nCommit job=1 now=2\nAnswer job=1 now=2\n\
+         Deliver now=2 ep=2 data=4101300072b1720131\nTake job=2 memory=1\nCommit job=2 now=2\nAnswer job=2 now=2\n\
+         Deliver now=2 ep=1 data=4102200172b1720131\nDeliver now=247000 ep=1 data=4102200172b1720131\n\
+         Deliver now=247001 ep=1 data=4102200172b1720131\nTake job=3 memory=1\nCommit job=3 now=247001\nRaise job=3\nAnswer job=3 now=247001\n",
+        "none\nnone\nnone\nnone\nnone\nnone\nnone\nnone\n2 6145300072480000000000000001\nnone\nnone\nnone\nnone\nnone\nnone\n1 6144200172\n\
+         slot 1 serial 2 version 1 vars 0100000000000000\n",
+    )
+}
+
+// One that is lost after its commit has changed its slot, and isn't answered. It didn't raise the slot's head word, so a client that has the answer of before is
+// told that it is valid still, and one that has none gets the answer of the new serial.
+#[test]
+fn a_job_lost_after_its_commit_has_changed_its_slot(rt: HostRuntime) -> Result<(), AllocError> {
+    check_counter_replayed(
+        &rt,
+        "Deliver now=1 ep=1 data=4102200172b1720131\nTake job=1 memory=1\nCommit job=1 now=1\nLose job=1\nRaise job=1\nAnswer job=1 now=1\n\
+         Deliver now=2 ep=1 data=4102200172b1720131\n\
+         Deliver now=3 ep=2 data=410130017248000000000000000171720131\nPeek job=2 slot=1\nAnswer job=2 now=3\n\
+         Deliver now=4 ep=2 data=4101300272b1720131\nTake job=3 memory=1\nCommit job=3 now=4\nAnswer job=3 now=4\n",
+        "none\nnone\nnone\nnone\nnone\nnone\nnone\nnone\nnone\n2 6143300172480000000000000001\nnone\nnone\nnone\n2 6145300272480000000000000002\n\
+         slot 1 serial 2 version 1 vars 0100000000000000\n",
+    )
 }

@@ -119,7 +119,7 @@ fn serve_counter<R: Abort + AllocGlobal + Threads + Wait + Clock + Net + Sync>(
 }
 
 // One line was logged, with this message.
-fn check_logged<R: Abort>(rt: &R, memory: Memory, message: &str) {
+pub(crate) fn check_logged<R: Abort>(rt: &R, memory: Memory, message: &str) {
     let lines = memory.into_lines();
     assert!(rt; lines.len() == 1, "one line");
     for line in lines.as_slice() {
@@ -213,7 +213,7 @@ const PEER: Endpoint = Endpoint {
     port: 5683,
 };
 
-fn put_datagram(bytes: &[u8], buffer: &mut [u8]) -> Option<(usize, Endpoint)>
+pub(crate) fn put_datagram(bytes: &[u8], buffer: &mut [u8]) -> Option<(usize, Endpoint)>
     ensures { IfSome result (λ r. r.0 ≤ length buffer.new) }
 {
     buffer.get_mut(..bytes.len())?.copy_from_slice(bytes);

@@ -1,0 +1,124 @@
+// A source that fails at every second receive, and a sink that fails at every second send: what is answered is worked out by hand.
+ghost use Rattle.std.specs.Prelude.{◌≤◌, IfSome, length};
+
+use crate::socket_tests::{check_logged, put_datagram};
+use coap_msg::{Emission, Endpoint};
+use fc_cli::Status;
+use fc_service::serve::{Extent, serve_at};
+use fc_service::socket::{Sink, Source};
+use log::sink::Memory;
+use log::{LevelFilter, Logged};
+use std::process::Abort;
+use std::sync::Wait;
+use std::sync::atomic::{AtomicUsize, Ordering};
+use std::thread::Threads;
+use std::time::Clock;
+
+// A program that counts POSTs in eight bytes of variables goes into slot 1.
+const PUT: &[u8] =
+    b"\x40\x03\x00\x01\xb1\x70\x01\x31\xff\x46\x43\x42\x31\x08\x00\x09\x00\x09\x00\x00\x00\x00\x00\x00\x00\xb7\x01\x00\x00\x00\x00\x00\x00\x85\x00\x00\x00\x03\x00\x00\x00\x07\x00\x00\x00\x01\x00\x00\x00\xbf\x02\x00\x00\x00\x00\x00\x00\xb7\x01\x00\x00\x00\x00\x00\x00\x85\x00\x00\x00\x04\x00\x00\x00\x85\x00\x00\x00\x07\x00\x00\x00\xb7\x00\x00\x00\x00\x00\x00\x00\x95\x00\x00\x00\x00\x00\x00\x00";
+
+// It is posted to, and asked.
+const POST: &[u8] = b"\x40\x02\x00\x02\xb1\x72\x01\x31";
+
+const GET: &[u8] = b"\x40\x01\x00\x03\xb1\x72\x01\x31";
+
+// What it is, is asked.
+const DESCRIBE: &[u8] = b"\x40\x01\x00\x04\xb1\x70\x01\x31";
+
+// Each datagram comes twice.
+static REQUESTS: [&[u8]; 8] = [PUT, PUT, POST, POST, GET, GET, DESCRIBE, DESCRIBE];
+
+const CREATED: &[u8] = b"\x60\x41\x00\x01\xffversion=1 cost=9 budget=9 vars=8";
+
+const CHANGED: &[u8] = b"\x60\x44\x00\x02";
+
+// The one POST that was carried out made serial 2.
+const CONTENT: &[u8] = b"\x60\x45\x00\x03\x48\x00\x00\x00\x00\x00\x00\x00\x02";
+
+const DESCRIBED: &[u8] = b"\x60\x45\x00\x04\xffversion=1 cost=9 budget=9 vars=8";
+
+// So is each answer.
+static ANSWERS: [&[u8]; 8] = [
+    CREATED, CREATED, CHANGED, CHANGED, CONTENT, CONTENT, DESCRIBED, DESCRIBED,
+];
+
+// A source that has the next request at each call, or at every second one.
+#[derive(Drop)]
+struct Letters {
+    fails: bool,
+    calls: AtomicUsize,
+}
+
+impl Source for Letters {
+    fn receive(&self, buffer: &mut [u8]) -> Option<(usize, Endpoint)> {
+        let call = self.calls.fetch_add(1, Ordering::SeqCst);
+        if !self.fails {
+            return put_datagram(REQUESTS.get(call)?, buffer);
+        }
+        if call % 2 == 0 {
+            return None;
+        }
+        put_datagram(REQUESTS.get(call / 2)?, buffer)
+    }
+}
+
+// A sink that counts what isn't the next answer, and fails at every second call, the first among them, or never.
+#[derive(Drop)]
+struct Matching {
+    fails: bool,
+    sends: AtomicUsize,
+    wrong: AtomicUsize,
+}
+
+impl Sink for Matching {
+    fn send(&self, emission: &Emission) -> bool {
+        let send = self.sends.fetch_add(1, Ordering::SeqCst);
+        let is_right = match ANSWERS.get(send) {
+            Some(answer) => emission.bytes.as_slice() == *answer,
+            None => false,
+        };
+        if !is_right {
+            self.wrong.fetch_add(1, Ordering::SeqCst);
+        }
+        !self.fails || send % 2 == 1
+    }
+}
+
+// The requests are served by so many workers, and each repeat is answered by the same bytes, whether or not the source and the sink fail. What was sent and what
+// couldn't be are all the answers.
+fn check_served<R: Abort + AllocGlobal + Threads + Wait + Clock + Sync>(
+    rt: &R,
+    fails: bool,
+    workers: u8,
+    message: &str,
+) {
+    let alloc = rt.alloc();
+    let memory = Memory::new(alloc);
+    let log = Logged::new(rt, LevelFilter::Info, &memory);
+    let mut err = Vec::new(alloc);
+    let letters = Letters {
+        fails,
+        calls: AtomicUsize::new(0),
+    };
+    let matching = Matching {
+        fails,
+        sends: AtomicUsize::new(0),
+        wrong: AtomicUsize::new(0),
+    };
+    let extent = Extent { workers, limit: 8 };
+    let status = serve_at(rt, alloc, &log, &mut err, &letters, &matching, extent);
+    assert!(rt; status == Status::Done && err.is_empty());
+    assert!(rt;
+        matching.sends.load(Ordering::SeqCst) == 8 && matching.wrong.load(Ordering::SeqCst) == 0
+    );
+    check_logged(rt, memory, message);
+}
+
+#[test]
+fn repeats_are_answered_by_the_same_bytes(rt: HostRuntime) {
+    check_served(&rt, false, 1, "sent 8 failed 0");
+    check_served(&rt, true, 1, "sent 4 failed 4");
+    check_served(&rt, false, 2, "sent 8 failed 0");
+    check_served(&rt, true, 2, "sent 4 failed 4");
+}
