@@ -5,13 +5,15 @@ use Rattle.std.proofs.lemmas.List.{get_or_default, map_push, take_more}
 use Rattle.std.specs.Prelude.{IfSome, flat_map}
 use Rattle.coap_msg.specs.declared.types.Emission.{Emission}
 use Rattle.fc_core.specs.declared.event.Event.{Event}
-use Rattle.fc_core.specs.History.{history_of, seen, slot_at}
+use Rattle.fc_core.specs.History.{seen, slot_at}
 use Rattle.fc_core.specs.Legal.{IsLegal}
 use Rattle.fc_registry.specs.Shards.{AreShards, no_shard, shard_at, slot_in_shards}
 use Rattle.fc_registry.specs.Slots.{Shard, Slot, slot_in}
+use Rattle.fc_server.specs.declared.server.Begin.{Begin}
+use Rattle.fc_world.specs.Histories.{history_from}
 use Rattle.fc_replay.specs.Listed.{AreOfEvent, Bytes, Line, line_words}
 use Rattle.fc_replay.specs.Printed.{IsSlotLine, emitted_line, line_at, slot_text}
-use Rattle.fc_replay.specs.Replayed.{AreEvents, AreReplayed, IsReplayed, IsText, listed_lines, told_below, told_of, told_of_all}
+use Rattle.fc_replay.specs.Replayed.{AreEvents, AreReplayed, IsBegun, IsReplayed, IsText, listed_lines, told_below, told_of, told_of_all}
 use Rattle.fc_replay.specs.declared.printing.SlotLine.{SlotLine}
 
 says_more : (lines : List (List Bytes)) (events : List Event) (words : List Bytes) (event : Event) → AreEvents lines events → AreOfEvent words event → AreEvents (lines ++ words ∷ []) (events ++ event ∷ [])
@@ -60,29 +62,41 @@ nothing_appended None = tt
 nothing_appended (Some xs) = sym (append-nil xs)
 
 -- the events of a list were carried out, and what came of them was printed; a slice is what its vector holds
-pub replayed : (list : Bytes) (lines lent : List Line) (events given : List Event) (emissions sent : List (Option Emission)) (shards told : List Shard) (a b c : Option (List ℕ)) → map (λ (l : Line). l.words) lines ≡ map line_words (listed_lines list) → lent ≡ lines → AreEvents (map (λ (l : Line). l.words) lent) events → given ≡ events → length emissions ≡ length given → IsLegal (history_of given emissions) → ((n : ℕ) → n < 64 → slot_in_shards shards n ≡ slot_at (seen (history_of given emissions)) n) → sent ≡ emissions → told ≡ shards → Appends a b (flat_map emitted_line sent) → Appends b c (told_of_all told) → AreReplayed list a c
-replayed list lines lent events given emissions sent shards told a b c words of_lines say of_events count legal slots of_emissions of_shards first second = record {
+pub replayed : (begin : Begin) (list : Bytes) (lines lent : List Line) (events given : List Event) (emissions sent : List (Option Emission)) (shards told : List Shard) (a b c : Option (List ℕ)) → map (λ (l : Line). l.words) lines ≡ map line_words (listed_lines list) → lent ≡ lines → AreEvents (map (λ (l : Line). l.words) lent) events → given ≡ events → length emissions ≡ length given → IsLegal (history_from begin given emissions) → ((n : ℕ) → n < 64 → slot_in_shards shards n ≡ slot_at (seen (history_from begin given emissions)) n) → sent ≡ emissions → told ≡ shards → Appends a b (flat_map emitted_line sent) → Appends b c (told_of_all told) → AreReplayed begin list a c
+replayed begin list lines lent events given emissions sent shards told a b c words of_lines say of_events count legal slots of_emissions of_shards first second = record {
   events = events;
   say = subst (λ (w : List (List Bytes)). AreEvents w events) (ap (map (λ (l : Line). l.words)) of_lines ∙ words) say;
   emissions = emissions;
   count = count ∙ ap (λ (l : List Event). length l) of_events;
-  legal = subst (λ (l : List Event). IsLegal (history_of l emissions)) of_events legal;
+  legal = subst (λ (l : List Event). IsLegal (history_from begin l emissions)) of_events legal;
   shards = shards;
-  slots = subst (λ (l : List Event). (n : ℕ) → n < 64 → slot_in_shards shards n ≡ slot_at (seen (history_of l emissions)) n) of_events slots;
+  slots = subst (λ (l : List Event). (n : ℕ) → n < 64 → slot_in_shards shards n ≡ slot_at (seen (history_from begin l emissions)) n) of_events slots;
   printed = appended a b c (flat_map emitted_line emissions) (told_of_all shards) (subst (λ (l : List (Option Emission)). Appends a b (flat_map emitted_line l)) of_emissions first) (subst (λ (l : List Shard). Appends b c (told_of_all l)) of_shards second);
 }
 
--- an empty text was read
-pub replayed_nothing : (known out : Option (List ℕ)) (text : Bytes) → IfSome known (λ (bytes : List ℕ). text ≡ bytes) → length text ≡ 0 → IsReplayed known out out
-replayed_nothing known out text read empty = record { text = text; read = read; list = text; is = inl refl; done = inl (empty, nothing_appended out) }
-
--- a text was read and replayed
-pub replayed_text : (known a b c : Option (List ℕ)) (text lent list : Bytes) → IfSome known (λ (bytes : List ℕ). text ≡ bytes) → lent ≡ text → IsText lent list → AreReplayed list a b → Keeps b c → IsReplayed known a c
-replayed_text known a b c text lent list read same is done kept = record {
+-- a text without events was read
+pub replayed_nothing : (known out : Option (List ℕ)) (text lent rest : Bytes) (begin : Begin) → IfSome known (λ (bytes : List ℕ). text ≡ bytes) → lent ≡ text → IsBegun lent begin rest → length rest ≡ 0 → IsReplayed known out out
+replayed_nothing known out text lent rest begin read same begun empty = record {
   text = text;
   read = read;
+  begin = begin;
+  rest = rest;
+  begun = subst (λ (t : Bytes). IsBegun t begin rest) same begun;
+  list = rest;
+  is = inl refl;
+  done = inl (empty, nothing_appended out);
+}
+
+-- a text was read and replayed
+pub replayed_text : (known a b c : Option (List ℕ)) (text lent rest list : Bytes) (begin : Begin) → IfSome known (λ (bytes : List ℕ). text ≡ bytes) → lent ≡ text → IsBegun lent begin rest → IsText rest list → AreReplayed begin list a b → Keeps b c → IsReplayed known a c
+replayed_text known a b c text lent rest list begin read same begun is done kept = record {
+  text = text;
+  read = read;
+  begin = begin;
+  rest = rest;
+  begun = subst (λ (t : Bytes). IsBegun t begin rest) same begun;
   list = list;
-  is = subst (λ (t : Bytes). IsText t list) same is;
+  is = is;
   done = inr (record {
     events = done.events;
     say = done.say;

@@ -1,11 +1,13 @@
 -- Events as lines of text.
-use Rattle.std.specs.Prelude.{◌≡◌, ◌==◌, ℕ, ◌<◌, ◌^◌, List, ◌∷◌, ◌++◌, Bool, true, false, length, map, Option, Ok, codes}
+use Rattle.std.specs.Prelude.{◌≡◌, ◌==◌, ℕ, ◌<◌, ◌≤◌, ◌^◌, List, ◌∷◌, ◌++◌, Bool, true, false, length, map, Option, Ok, codes}
 use Rattle.std.specs.Borrow.{Bor}
 use Rattle.std.specs.List.{Contains, slice_split}
 use Rattle.hex.specs.Hex.{decode_of}
 use Rattle.fc_core.specs.declared.event.Event.{Event}
 use Rattle.fc_core.specs.declared.event.Event.TheVariants.{Deliver, Peek, Take, Commit, Install, Remove, Receipt, Raise, Answer, Due, Fresh, Note, GiveUp, Signal, Tick, ShardTick, Lose}
 use Rattle.coap_msg.specs.declared.types.Endpoint.{Endpoint}
+use Rattle.fc_registry.specs.Slots.{last_serial}
+use Rattle.fc_server.specs.declared.server.Begin.{Begin}
 use Rattle.fc_lines.specs.Fields.{space, IsNumber}
 use Rattle.fc_lines.specs.Emissions.{endpoint_of}
 
@@ -97,6 +99,18 @@ pub record AreOfEvent (words : List Bytes) (event : Event) : Type 0 where
   pub parts : List Bytes
   pub words_are : words ≡ name ∷ parts
   pub says : IsEventOf name parts event
+
+-- a name and its parts, in any order, say how a server begins: by the serial of its empty slots, and by the first message id of its own
+abbrev pub IsBeginOf : Bytes → List Bytes → Begin → Type 0
+IsBeginOf name parts begin =
+    IsForm name parts (codes "Begin") 2 × HasNumber parts (codes "serial") (2 ^ 64) begin.serial × (begin.serial ≤ last_serial)
+    × HasNumber parts (codes "id") 65536 begin.id
+
+pub record SaysBegin (words : List Bytes) (begin : Begin) : Type 0 where
+  pub name : Bytes
+  pub parts : List Bytes
+  pub words_are : words ≡ name ∷ parts
+  pub says : IsBeginOf name parts begin
 
 -- a line by its words, with the datagram that they have
 pub record Line : Type 0 where

@@ -6,9 +6,11 @@ use Rattle.coap_msg.specs.declared.types.Emission.{Emission}
 use Rattle.fc_registry.specs.Shards.{slot_in_shards}
 use Rattle.fc_registry.specs.Slots.{Shard, Slot, vars_in, version_in}
 use Rattle.fc_core.specs.declared.event.Event.{Event}
-use Rattle.fc_core.specs.History.{history_of, seen, slot_at}
+use Rattle.fc_core.specs.History.{seen, slot_at}
 use Rattle.fc_core.specs.Legal.{IsLegal}
-use Rattle.fc_replay.specs.Listed.{AreOfEvent, Bytes, line_words}
+use Rattle.fc_server.specs.declared.server.Begin.{Begin}
+use Rattle.fc_world.specs.Histories.{history_from}
+use Rattle.fc_replay.specs.Listed.{AreOfEvent, Bytes, SaysBegin, line_words}
 use Rattle.fc_replay.specs.Printed.{emitted_line, line_at}
 
 -- the lines of a list, which line feeds part
@@ -18,6 +20,20 @@ listed_lines list = slice_split (λ b. b == 10) list
 -- a text is a list, with a line feed at its end or without
 abbrev pub IsText : Bytes → Bytes → Type 0
 IsText text list = (text ≡ list) ⊎ (text ≡ list ++ 10 ∷ [])
+
+-- a text's first line, and what stands behind it
+abbrev pub IsFirstLine : Bytes → Bytes → Bytes → Type 0
+IsFirstLine text line rest = (text ≡ line ++ 10 ∷ rest) ⊎ ((text ≡ line) × (rest ≡ []))
+
+-- the first line says how the server begins
+pub record HasBeginLine (text : Bytes) (begin : Begin) (rest : Bytes) : Type 0 where
+  pub line : Bytes
+  pub first : IsFirstLine text line rest
+  pub says : SaysBegin (line_words line) begin
+
+-- how the server begins, and the text of the events: where no first line says it, at serial 0 and message id 0
+abbrev pub IsBegun : Bytes → Begin → Bytes → Type 0
+IsBegun text begin rest = ((rest ≡ text) × (begin ≡ record { serial = 0; id = 0 })) ⊎ HasBeginLine text begin rest
 
 -- each line says its event, by the words of the line
 abbrev pub AreEvents : List (List Bytes) → List Event → Type 0
@@ -37,21 +53,24 @@ told_below (suc n) shards = told_below n shards ++ told_of n (slot_in_shards sha
 abbrev pub told_of_all : List Shard → List ℕ
 told_of_all shards = told_below 64 shards
 
--- the events of a list were carried out in their order: what they emitted was printed, and then what is told of each slot
-pub record AreReplayed (list : Bytes) (before after : Option (List ℕ)) : Type 0 where
+-- the events of a list were carried out in their order, on a server that begins so: what they emitted was printed, and then what is told of each slot
+pub record AreReplayed (begin : Begin) (list : Bytes) (before after : Option (List ℕ)) : Type 0 where
   pub events : List Event
   pub say : AreEvents (map line_words (listed_lines list)) events
   pub emissions : List (Option Emission)
   pub count : length emissions ≡ length events
-  pub legal : IsLegal (history_of events emissions)
+  pub legal : IsLegal (history_from begin events emissions)
   pub shards : List Shard
-  pub slots : (n : ℕ) → n < 64 → slot_in_shards shards n ≡ slot_at (seen (history_of events emissions)) n
+  pub slots : (n : ℕ) → n < 64 → slot_in_shards shards n ≡ slot_at (seen (history_from begin events emissions)) n
   pub printed : Appends before after (flat_map emitted_line emissions ++ told_of_all shards)
 
--- a text was read and replayed; of an empty one nothing is printed
+-- a text was read and replayed; of one without events nothing is printed
 pub record IsReplayed (known before after : Option (List ℕ)) : Type 0 where
   pub text : Bytes
   pub read : IfSome known (λ bytes. text ≡ bytes)
+  pub begin : Begin
+  pub rest : Bytes
+  pub begun : IsBegun text begin rest
   pub list : Bytes
-  pub is : IsText text list
-  pub done : ((length text ≡ 0) × Appends before after []) ⊎ AreReplayed list before after
+  pub is : IsText rest list
+  pub done : ((length rest ≡ 0) × Appends before after []) ⊎ AreReplayed begin list before after

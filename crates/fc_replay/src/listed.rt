@@ -1,13 +1,16 @@
 //! Events as lines of text: a name, and its parts as `name=value`, in any order.
-ghost use Rattle.std.specs.Prelude.{◌≡◌, ◌++◌, ◌∷◌, ◌^◌, length, codes, IfOk, IfSome};
-ghost use Rattle.fc_replay.specs.Listed.{HasData, HasEndpoint, HasFlag, HasNumber, HasPart, AreOfEvent, IsEventOf, equals, line_words, texts};
+ghost use Rattle.std.specs.Prelude.{◌≡◌, ◌≤◌, ◌++◌, ◌∷◌, ◌^◌, length, codes, IfOk, IfSome};
+ghost use Rattle.fc_registry.specs.Slots.{last_serial};
+ghost use Rattle.fc_replay.specs.Listed.{HasData, HasEndpoint, HasFlag, HasNumber, HasPart, AreOfEvent, IsBeginOf, SaysBegin, IsEventOf, equals, line_words, texts};
 
 use coap_msg::Endpoint;
 use fc_lines::emission::endpoint;
 use fc_lines::hexadecimal::decode;
 use fc_lines::line::{LineError, byte, number};
+use fc_registry::LAST_SERIAL;
+use fc_server::Begin;
 use fc_world::Event;
-use std::alloc::Global;
+use std::alloc::{AllocError, Global};
 use std::marker::Model;
 
 /// A line's words, and its datagram where one of its parts is `data=hex`.
@@ -60,6 +63,58 @@ impl<'a> ListedEvent<'a> {
             4 => with_four(name, parts),
             _ => None,
         }
+    }
+}
+
+/// How a server begins, where a line says it: `Begin serial=S id=I`, its parts in any order.
+///
+/// # Errors
+/// There was no memory.
+pub fn begin_in(alloc: Global, line: &[u8]) -> Result<Option<Begin>, AllocError>
+    ensures { IfOk result (λ found. IfSome found (SaysBegin (line_words line.now))) }
+{
+    match words(alloc, line) {
+        Ok(words) => Ok(begin_of(&words)),
+        Err(LineError::Bad) => Ok(None),
+        Err(LineError::NoMemory) => Err(AllocError),
+    }
+}
+
+fn begin_of(words: &[&str]) -> Option<Begin>
+    ensures { IfSome result (SaysBegin (texts words.now)) }
+{
+    let [name, parts @ ..] = words else {
+        return None;
+    };
+    match parts.len() {
+        2 => begin_with(name, parts),
+        _ => None,
+    }
+}
+
+// How a server begins, by two parts.
+fn begin_with(name: &str, parts: &[&str]) -> Option<Begin>
+    requires { length parts.now ≡ 2 }
+    ensures { IfSome result (IsBeginOf name.now (texts parts.now)) }
+{
+    match name {
+        "Begin" => Some(Begin {
+            serial: serial(parts)?,
+            id: short(parts, "id")?,
+        }),
+        _ => None,
+    }
+}
+
+// A serial that slots may begin with.
+fn serial(parts: &[&str]) -> Option<u64>
+    ensures { IfSome result (λ n. HasNumber (texts parts.now) (codes "serial") (2 ^ 64) n × (n ≤ last_serial)) }
+{
+    let serial = long(parts, "serial")?;
+    if serial <= LAST_SERIAL {
+        Some(serial)
+    } else {
+        None
     }
 }
 

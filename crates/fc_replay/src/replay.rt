@@ -1,24 +1,27 @@
 //! Replaying a list of events.
-ghost use Rattle.std.specs.Prelude.{◌≡◌, flat_map, map, IfOk, IfSome, OnOk};
+ghost use Rattle.std.specs.Prelude.{◌≡◌, ◌≤◌, flat_map, map, IfOk, IfSome, OnOk};
 ghost use Rattle.std.specs.Io.KnownBytes.{Appends};
 ghost use Rattle.fc_registry.specs.Shards.{AreShards};
+ghost use Rattle.fc_registry.specs.Slots.{last_serial};
 ghost use Rattle.fc_cli.specs.declared.status.Status.TheVariants.{Done};
 ghost use Rattle.fc_replay.specs.Listed.{line_words};
 ghost use Rattle.fc_replay.specs.Printed.{emitted_line};
-ghost use Rattle.fc_replay.specs.Replayed.{AreEvents, AreReplayed, IsReplayed, IsText, listed_lines, told_of_all};
+ghost use Rattle.fc_replay.specs.Replayed.{AreEvents, AreReplayed, IsBegun, IsFirstLine, IsReplayed, IsText, listed_lines, told_of_all};
 
-use crate::listed::ListedEvent;
+use crate::listed::{ListedEvent, begin_in};
 use crate::printing::{print_emitted, print_slot, slot_line};
 use coap_msg::Emission;
 use fc_cli::status::{Status, tell};
 use fc_cli::stop::Stop;
 use fc_lines::line::LineError;
 use fc_registry::{SLOTS, Shard, SlotNumber};
-use fc_world::{Event, run_world};
+use fc_server::Begin;
+use fc_world::{Event, run_world_from};
 use std::alloc::{AllocError, Global};
 use std::io::{Read, Write};
 
-/// Reads a list of events, one a line, carries it out, and prints a line for each event, `none` or what it emitted as
+/// Reads a list of events, one a line, carries it out, from empty slots at serial 0 unless a first line `Begin serial=S id=I` says another serial, 0 to 2^63 - 1, and
+/// the first message id of the server's own, and prints a line for each event, `none` or what it emitted as
 /// `peer hex`, and then one for each slot whose serial is above 0. It ends `Done` where all is printed; `Bad` where a
 /// line is bad, which `err` is told by its number from 1, and nothing is carried out; `Failed` where reading or writing
 /// failed, or there was no memory, which `err` is told as well.
@@ -40,12 +43,36 @@ fn replay_list<R: Read, W: Write>(alloc: Global, input: &mut R, out: &mut W) -> 
     ensures { OnOk result (IsReplayed (R.remaining input.old) (W.contents out.old) (W.contents out.new)) }
 {
     let text = read_text(alloc, input)?;
-    if text.is_empty() {
+    let (begin, rest) = begun(alloc, &text)?;
+    if rest.is_empty() {
         return Ok(());
     }
-    replay_lines(alloc, list_of(&text), out)?;
+    let before = u64::from(rest.len() < text.len());
+    replay_lines(alloc, begin, list_of(rest), before, out)?;
     out.flush()?;
     Ok(())
+}
+
+// How the server of a text begins, and the text of its events.
+fn begun(alloc: Global, text: &[u8]) -> Result<(Begin, &[u8]), AllocError>
+    ensures begun { IfOk result (λ r. IsBegun text.now r.0 r.1.now) }
+    ensures serial { IfOk result (λ r. r.0.serial ≤ last_serial) }
+{
+    let (line, rest) = first_line(text);
+    match begin_in(alloc, line)? {
+        Some(begin) => Ok((begin, rest)),
+        None => Ok((Begin { serial: 0, id: 0 }, text)),
+    }
+}
+
+// The first line of a text, and what stands behind it.
+fn first_line(text: &[u8]) -> (&[u8], &[u8])
+    ensures { IsFirstLine text.now result.0.now result.1.now }
+{
+    match text.iter().position(|byte| *byte == b'\n') {
+        Some(at) => (&text[..at], &text[at + 1..]),
+        None => (text, &[]),
+    }
 }
 
 // All that a reader has.
@@ -69,12 +96,20 @@ fn list_of(text: &[u8]) -> &[u8]
     }
 }
 
-fn replay_lines<W: Write>(alloc: Global, list: &[u8], out: &mut W) -> Result<(), Stop>
-    ensures { OnOk result (AreReplayed list.now (W.contents out.old) (W.contents out.new)) }
+// Replays a list, before which so many lines stand.
+fn replay_lines<W: Write>(
+    alloc: Global,
+    begin: Begin,
+    list: &[u8],
+    before: u64,
+    out: &mut W,
+) -> Result<(), Stop>
+    requires { begin.serial ≤ last_serial }
+    ensures { OnOk result (AreReplayed begin list.now (W.contents out.old) (W.contents out.new)) }
 {
-    let lines = lines(alloc, list)?;
-    let events = events(alloc, &lines)?;
-    let world = run_world(alloc, events.as_slice())?;
+    let lines = lines(alloc, list, before)?;
+    let events = events(alloc, &lines, before)?;
+    let world = run_world_from(alloc, begin, events.as_slice())?;
     print_emissions(out, world.emissions.as_slice())?;
     print_slots(alloc, out, world.shards.as_slice())?;
     Ok(())
@@ -90,12 +125,12 @@ fn print_emissions<W: Write>(out: &mut W, emissions: &[Option<Emission>]) -> Res
     Ok(())
 }
 
-// The lines of a list, each of which says an event.
-fn lines(alloc: Global, list: &[u8]) -> Result<Vec<ListedEvent<'_>>, Stop>
+// The lines of a list, each of which says an event. So many lines stand before them.
+fn lines(alloc: Global, list: &[u8], before: u64) -> Result<Vec<ListedEvent<'_>>, Stop>
     ensures { IfOk result (λ v. map (λ l. l.words) v.items ≡ map line_words (listed_lines list.now)) }
 {
     let mut lines = Vec::new(alloc);
-    let mut number = 0u64;
+    let mut number = before;
     for line in list.split(|byte| *byte == b'\n') {
         number = number.saturating_add(1);
         match ListedEvent::read(alloc, line) {
@@ -107,12 +142,16 @@ fn lines(alloc: Global, list: &[u8]) -> Result<Vec<ListedEvent<'_>>, Stop>
     Ok(lines)
 }
 
-// The event of each line.
-fn events<'a>(alloc: Global, lines: &'a [ListedEvent<'_>]) -> Result<Vec<Event<'a>>, Stop>
+// The event of each line. So many lines stand before them.
+fn events<'a>(
+    alloc: Global,
+    lines: &'a [ListedEvent<'_>],
+    before: u64,
+) -> Result<Vec<Event<'a>>, Stop>
     ensures { IfOk result (λ v. AreEvents (map (λ l. l.words) lines.entry.now) v.items) }
 {
     let mut events = Vec::new(alloc);
-    let mut number = 0u64;
+    let mut number = before;
     for line in lines {
         number = number.saturating_add(1);
         match line.event() {

@@ -31,4 +31,4 @@ pub mod engine;
 pub mod server;
 
 pub use engine::Engine;
-pub use server::Server;
+pub use server::{Begin, Server};

@@ -20,6 +20,13 @@ use fc_registry::{Job, Shard, make_shards};
 use std::alloc::{AllocError, Global};
 use std::marker::Model;
 
+/// What a server begins with: the serial of its empty slots, and the first message id of its own.
+#[derive(Clone, Copy)]
+pub struct Begin {
+    pub serial: u64,
+    pub id: u16,
+}
+
 /// The front, the eight shards, the head words of their slots, and a frame to run programs in: all that a server on one
 /// thread holds beside its jobs. A clause sees what the front holds, the shards, and the head words.
 #[derive(Drop)]

@@ -9,6 +9,7 @@ use crate::replies::Replies;
 use coap_msg::{Emission, Endpoint};
 use fc_core::Heard;
 use fc_observe::Ticked;
+use fc_server::Begin;
 use fc_workers::{
     Bench, Blanks, Dispatcher, Gate, Handover, Locked, Moments, Share, Wire, Workshop,
     feed_workers, make_seats,
@@ -19,13 +20,6 @@ use std::marker::Brand;
 use std::sync::Wait;
 use std::sync::ledger::Ledger;
 use std::thread::Threads;
-
-/// The serial that empty slots begin with, and the first message id of the server's own.
-#[derive(Clone, Copy)]
-pub struct Begin {
-    pub serial: u64,
-    pub id: u16,
-}
 
 // Where a feeder has datagrams taken in, and observers notified: a server. (A method that is generic in its bench can't hand it on, since a
 // bench's tallies cross threads; it can hand on this.)

@@ -9,7 +9,7 @@ ghost use Rattle.fc_service.specs.Settling.{AreSteps, SettlingStep, sent_in_step
 ghost use Rattle.fc_cli.specs.declared.status.Status.TheVariants.{Done, Failed};
 
 use crate::clock::Elapsed;
-use crate::pool::{Begin, Feeder, Intake, Pool, run_pool};
+use crate::pool::{Feeder, Intake, Pool, run_pool};
 use crate::replies::Replies;
 use crate::settle::{STEPS, Settling};
 use crate::socket::{Replying, Sink, Source, open};
@@ -19,8 +19,8 @@ use fc_cli::clock::clock_id;
 use fc_cli::status::{Status, tell};
 use fc_core::Heard;
 use fc_core::front::blank_emission;
-use fc_server::Engine;
 use fc_server::engine::Notified;
+use fc_server::{Begin, Engine};
 use fc_workers::{Handover, Moments};
 use log::{Log, info};
 use std::alloc::{AllocError, Global};

@@ -6,7 +6,7 @@ ghost use Rattle.fc_registry.specs.Slots.{last_serial};
 ghost use Rattle.fc_service.specs.Playing.{output_of};
 
 use crate::play::moment;
-use crate::pool::{Begin, Feeder, Intake, Pool, run_pool};
+use crate::pool::{Feeder, Intake, Pool, run_pool};
 use crate::settle::{STEPS, Settling};
 use coap_msg::{Emission, Endpoint};
 use fc_cli::status::{Status, tell};
@@ -15,6 +15,7 @@ use fc_core::Heard;
 use fc_core::front::blank_emission;
 use fc_lines::emission::{endpoint, print};
 use fc_lines::line::{Line, LineError, parse};
+use fc_server::Begin;
 use fc_server::engine::Notified;
 use fc_workers::{Handover, Moments, Wire};
 use std::alloc::{AllocError, Global};

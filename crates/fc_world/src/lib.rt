@@ -30,4 +30,4 @@ pub mod run;
 mod state;
 
 pub use fc_core::Event;
-pub use run::{World, run_world};
+pub use run::{World, run_world, run_world_from};

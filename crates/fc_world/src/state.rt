@@ -1,8 +1,9 @@
 //! The state of a world, and what each event does to it.
-ghost use Rattle.std.specs.Prelude.{◌≡◌, ◌<◌, [], None, Some, length, IfOk, OnOk};
+ghost use Rattle.std.specs.Prelude.{◌≡◌, ◌<◌, ◌≤◌, [], None, Some, length, IfOk, OnOk};
 ghost use Rattle.fc_core.specs.declared.event.Event.{Event};
 ghost use Rattle.fc_core.specs.History.{Begins, task_at};
 ghost use Rattle.fc_core.specs.Stages.{names};
+ghost use Rattle.fc_registry.specs.Slots.{last_serial};
 ghost use Rattle.fc_server.specs.Serving.{Serves};
 ghost use Rattle.fc_server.specs.States.{AtWork};
 ghost use Rattle.fc_server.specs.Steps.{DeliveredTo, Done, IsReached, Steps};
@@ -12,7 +13,7 @@ use coap_msg::{Emission, Endpoint};
 use fc_core::{Delivered, Event, Task};
 use fc_observe::Ticked;
 use fc_registry::SHARDS;
-use fc_server::Server;
+use fc_server::{Begin, Server};
 use std::alloc::{AllocError, Global};
 
 /// A server, and all the jobs that came, each at its stage.
@@ -199,12 +200,13 @@ impl State {
 }
 
 impl State {
-    pub(crate) fn new(alloc: Global) -> Result<State, AllocError>
-        ensures serves { IfOk result (λ w. Serves (Begins 0 0) w.server []) }
+    pub(crate) fn new(alloc: Global, begin: Begin) -> Result<State, AllocError>
+        requires { begin.serial ≤ last_serial }
+        ensures serves { IfOk result (λ w. Serves (Begins begin.serial begin.id) w.server []) }
         ensures none { IfOk result (λ w. w.tasks.items ≡ []) }
     {
         Ok(State {
-            server: Server::new(alloc, 0, 0)?,
+            server: Server::new(alloc, begin.serial, begin.id)?,
             tasks: Vec::new(alloc),
         })
     }

@@ -19,7 +19,8 @@ An event is its name and its parts in any order, parted by single spaces:
   Take job=0 memory=1
   Commit job=0 now=5
 
-Jobs are numbered from 0 in the order of their coming; moments are in milliseconds. For
+A first line `Begin serial=S id=I` has empty slots begin at serial S, and the server draw
+message id I first; else both are 0. Jobs are numbered from 0 in the order of their coming; moments are in milliseconds. For
 each event `none` is printed, or the datagram that it sends as `peer hex`; then each slot
 whose serial is above 0.
 

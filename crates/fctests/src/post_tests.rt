@@ -1,7 +1,7 @@
 // POSTs of a counter: the expected bytes, serials and variables are worked out by hand.
 use fc_cli::Status;
+use fc_server::Begin;
 use fc_service::play::play;
-use fc_service::pool::Begin;
 use fc_service::workers::play_by_workers;
 use std::process::Abort;
 use std::sync::Wait;

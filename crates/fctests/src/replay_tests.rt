@@ -252,3 +252,87 @@ fn a_job_lost_after_its_commit_has_changed_its_slot(rt: HostRuntime) -> Result<(
          slot 1 serial 2 version 1 vars 0100000000000000\n",
     )
 }
+
+// A first line says how the server begins: at the last serial but one, and with the last message id. The install has the last serial, which the GET's answer tells, under the message id
+// 65,535; a POST, a DELETE and a further install are 5.03 and change nothing, and the last of them, which isn't confirmable, has message id 0.
+static AT_THE_END: [(&str, &str); 5] = [
+    (
+        "Deliver now=0 ep=1 data=4103123370b1700131ff46434231080009000900000000000000b70100000000000085000000030000000700000001000000bf02000000000000\
+         b70100000000000085000000040000008500000007000000b7000000000000009500000000000000\nInstall job=0 memory=1\nRaise job=0\nAnswer job=0 now=0\n",
+        "none\nnone\nnone\n\
+         1 6141123370ff76657273696f6e3d3932323333373230333638353437373538303720636f73743d39206275646765743d3920766172733d38\n",
+    ),
+    (
+        "Deliver now=1 ep=1 data=5101123471b1720131\nTake job=1 memory=1\nCommit job=1 now=1\nAnswer job=1 now=1\n",
+        "none\nnone\nnone\n1 5145ffff71487fffffffffffffff\n",
+    ),
+    (
+        "Deliver now=2 ep=1 data=4102123572b1720131\nTake job=2 memory=1\nCommit job=2 now=2\nAnswer job=2 now=2\n",
+        "none\nnone\nnone\n1 61a3123572\n",
+    ),
+    (
+        "Deliver now=3 ep=1 data=4104123673b1700131\nRemove job=3\nAnswer job=3 now=3\n",
+        "none\nnone\n1 61a3123673\n",
+    ),
+    (
+        "Deliver now=4 ep=1 data=5103123774b1700131ff46434231000002000200000000000000b7000000450000009500000000000000\nInstall job=4 memory=1\nAnswer job=4 now=4\n",
+        "none\nnone\n1 51a3000074\n",
+    ),
+];
+
+// The list of these events, and what is printed of them.
+fn list_at_the_end(alloc: Global) -> Result<(String, String), AllocError> {
+    let mut list = String::new(alloc);
+    list.push_str("Begin id=65535 serial=9223372036854775806\n")?;
+    let mut printed = String::new(alloc);
+    for (events, emitted) in AT_THE_END.iter().copied() {
+        list.push_str(events)?;
+        printed.push_str(emitted)?;
+    }
+    Ok((list, printed))
+}
+
+// Each slot has a serial above 0, and so all are told of.
+fn tell_slots(alloc: Global, printed: &mut String) -> Result<(), AllocError> {
+    for number in 0..64u8 {
+        let line = if number == 1 {
+            format!(in alloc;
+                "slot 1 serial 9223372036854775807 version 9223372036854775807 vars 0000000000000000\n"
+            )?
+        } else {
+            format!(in alloc; "slot {number} serial 9223372036854775806 version - vars -\n")?
+        };
+        printed.push_str(&line)?;
+    }
+    Ok(())
+}
+
+#[test]
+fn a_first_line_says_how_the_server_begins(rt: HostRuntime) -> Result<(), AllocError> {
+    let (list, mut printed) = list_at_the_end(rt.alloc())?;
+    tell_slots(rt.alloc(), &mut printed)?;
+    check_replayed(&rt, &list, &printed);
+    check_replayed(&rt, "Begin serial=0 id=7", "");
+    check_replayed(
+        &rt,
+        "Begin serial=0 id=7\nDeliver now=0 ep=1 data=5001000ab178",
+        "1 50840007\n",
+    );
+    Ok(())
+}
+
+static BAD_BEGINS: [(&str, &str); 6] = [
+    ("Begin serial=9223372036854775808 id=0\n", "line 1: bad\n"),
+    ("Begin serial=0\nTick now=0\n", "line 1: bad\n"),
+    ("Begin serial=0 id=65536\n", "line 1: bad\n"),
+    ("Begin serial=0 id=0 id=0\n", "line 1: bad\n"),
+    ("Tick now=0\nBegin serial=0 id=0\n", "line 2: bad\n"),
+    ("Begin serial=0 id=0\nTick now=0\nTick\n", "line 3: bad\n"),
+];
+
+#[test]
+fn a_bad_first_line_is_told(rt: HostRuntime) {
+    for (list, told) in BAD_BEGINS.iter().copied() {
+        assert!(rt; replays(rt.alloc(), list, Status::Bad, "", told), "{list}");
+    }
+}

@@ -1,0 +1,10 @@
+-- The history of a whole list of events.
+use Rattle.std.specs.Prelude.{List, Option}
+use Rattle.coap_msg.specs.declared.types.Emission.{Emission}
+use Rattle.fc_core.specs.declared.event.Event.{Event}
+use Rattle.fc_core.specs.History.{Begins, History, history_after}
+use Rattle.fc_server.specs.declared.server.Begin.{Begin}
+
+-- of a server that begins so, whose events emitted these
+abbrev pub history_from : Begin → List Event → List (Option Emission) → History
+history_from begin events emissions = history_after (Begins begin.serial begin.id) events emissions
