@@ -37,6 +37,8 @@ mod lock_tests;
 #[cfg(test)]
 mod machine_tests;
 #[cfg(test)]
+mod memory_tests;
+#[cfg(test)]
 mod message_tests;
 #[cfg(test)]
 mod notification_tests;

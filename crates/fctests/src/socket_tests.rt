@@ -6,7 +6,7 @@ use coap_msg::{Emission, Endpoint};
 use coap_opts::Method;
 use fc_cli::Status;
 use fc_fetch::fetch;
-use fc_service::serve::{Extent, serve_at};
+use fc_service::serve::{Extent, serve, serve_at};
 use fc_service::socket::{Sink, Source, open};
 use log::sink::Memory;
 use log::{LevelFilter, Logged};
@@ -131,6 +131,25 @@ pub(crate) fn check_logged<R: Abort>(rt: &R, memory: Memory, message: &str) {
 fn a_server_answers_clients(rt: HostRuntime) -> Result<(), Fail> {
     serve_counter(&rt, 1)?;
     serve_counter(&rt, 2)
+}
+
+// A port that another socket has can't be had.
+#[test]
+fn a_taken_port_is_status_3(rt: HostRuntime) -> Result<(), Fail> {
+    let alloc = rt.alloc();
+    let socket = open(&rt, 0)?;
+    let port = socket.local_addr()?.port();
+    let memory = Memory::new(alloc);
+    let log = Logged::new(&rt, LevelFilter::Info, &memory);
+    let mut err = Vec::new(alloc);
+    let extent = Extent {
+        workers: 1,
+        limit: 1,
+    };
+    let status = serve(&rt, alloc, &log, &mut err, port, extent);
+    let told = format!(in alloc; "UDP port {port}: Address already in use (os error 98)\n")?;
+    assert!(rt; status == Status::Failed && err.as_slice() == told.as_bytes());
+    Ok(())
 }
 
 // An image of 512 slots, 4,112 bytes: `mov64 r0, 0`, 511 times, and `exit`, with a budget of as many steps.
