@@ -7,13 +7,18 @@ Run it at the top of the repository, behind `rt run` in crates/fcd, which builds
 
 It starts `fcd serve`, installs a program in slot 1, and sends N datagrams (1,000,000 where it isn't given), each a request of the
 server's, registrations of observers and their Acknowledgements and Resets among them, with bytes changed, cut, repeated or put in, or
-random bytes, for S seconds at most (600). The same seed gives the same
-datagrams. It tells the server's resident memory before and behind them, waits 247 s, after which each exchange is gone, and asks
-once more: a PUT has to be answered 2.01 or 2.04, and a GET 2.05, and 32 observers of one slot have to hear of a change. It ends with 1
-where the server has ended or doesn't answer so.
+random bytes, for S seconds at most (600). The same seed gives the same datagrams. Before them an honest client installs a program in a
+slot of its own and posts to it, and every 1,000 datagrams it repeats that POST, whose answer has to be the same bytes each time.
+
+It tells how many datagrams the kernel dropped, and the server's resident memory before and behind them, waits 247 s, after which each
+exchange is gone, and asks once more: a PUT has to be answered 2.01 or 2.04, a GET 2.05, and the honest client's GET as after its one
+POST, and 32 observers of one slot have to hear of a change (`--no-wait` leaves this out). Then it sends pings until the server has had as
+many datagrams as it was started for: it has to end with status 0 and tell its replies. It ends with 1 where any of that isn't so, or
+where the pings that were needed say that more or fewer datagrams were dropped than the kernel counted.
 """
 import argparse
 import random
+import re
 import select
 import socket
 import subprocess
@@ -26,10 +31,25 @@ PORT = 5699
 # How long an exchange is kept, in seconds, and a little more.
 LIFETIME = 247.5
 
+# The honest client repeats its POST every so many datagrams, sends it so many times where no answer comes, and no more behind so many seconds.
+EVERY = 1_000
+TRIES = 5
+REPEATED = 240
+
+# How many datagrams there may be beside the mutated ones and the repeats.
+BESIDE = 100
+
 # A program that counts POSTs in eight bytes of variables.
 COUNT = bytes.fromhex(
     "46434231080009000900000000000000" "b701000000000000" "8500000003000000" "0700000001000000" "bf02000000000000"
     "b701000000000000" "8500000004000000" "8500000007000000" "b700000000000000" "9500000000000000"
+)
+
+# The worked program counter.s: a POST adds one to the count in eight bytes of variables, and gives a notice; both methods reply the count.
+COUNTER = bytes.fromhex(
+    "4643423108000f000f00000000000000" "7116000000000000" "bf27000000000000" "5506070002000000" "b701000000000000" "8500000003000000"
+    "bf02000000000000" "0702000001000000" "b701000000000000" "8500000004000000" "8500000007000000" "bf71000000000000" "b702000008000000"
+    "8500000005000000" "b700000000000000" "9500000000000000"
 )
 
 PUT = bytes.fromhex("40030000b1700131ff") + COUNT
@@ -52,6 +72,17 @@ SEEDS = [
     bytes.fromhex("41010000006051720131"),
     bytes.fromhex("4101000000610151720131"),
 ]
+
+# The honest client's slot: no other datagram has these two bytes, so that nobody else names it. Its requests, and what they are answered.
+SLOT = b"47"
+HONEST_PUT = bytes.fromhex("40030001b17002") + SLOT + b"\xff" + COUNTER
+HONEST_POST = bytes.fromhex("40020002b17202") + SLOT
+HONEST_GET = bytes.fromhex("40010003b17202") + SLOT
+INSTALLED = bytes.fromhex("60410001ff") + b"version=1 cost=15 budget=15 vars=8"
+POSTED = bytes.fromhex("60440002ff0100000000000000")
+GOT = bytes.fromhex("60450003480000000000000002ff0100000000000000")
+
+PING = bytes.fromhex("40000000")
 
 # The observers of one slot, and the slot that they observe in the end.
 OBSERVERS = 32
@@ -84,6 +115,14 @@ def mutated(rng):
     return bytes(bytes_[:1400])
 
 
+def stranger(rng):
+    """A mutated datagram that doesn't name the honest client's slot."""
+    while True:
+        datagram = mutated(rng)
+        if SLOT not in datagram:
+            return datagram
+
+
 def resident(pid):
     """The resident memory of a process, in KiB."""
     with open(f"/proc/{pid}/status", encoding="ascii") as file:
@@ -91,6 +130,47 @@ def resident(pid):
             if line.startswith("VmRSS:"):
                 return int(line.split()[1])
     return 0
+
+
+def dropped():
+    """How many datagrams the kernel dropped because the server's socket was full."""
+    with open("/proc/net/udp", encoding="ascii") as file:
+        for line in file:
+            fields = line.split()
+            if fields[1] == f"0100007F:{PORT:04X}":
+                return int(fields[-1])
+    return 0
+
+
+class Client:
+    """A client on a port of its own. How many datagrams all of them sent is counted."""
+
+    sent = 0
+
+    def __init__(self):
+        self.socket = socket.socket(socket.AF_INET, socket.SOCK_DGRAM)
+
+    def send(self, datagram):
+        self.socket.sendto(datagram, ("127.0.0.1", PORT))
+        Client.sent += 1
+
+    def received(self, seconds):
+        """What comes next, in time; else nothing."""
+        self.socket.settimeout(seconds)
+        try:
+            return self.socket.recv(2048)
+        except TimeoutError:
+            return b""
+
+    def asked(self, request, tries=1, seconds=5):
+        """What a request is answered, after so many tries; else nothing."""
+        drain([self.socket])
+        for _ in range(tries):
+            self.send(request)
+            answer = self.received(seconds)
+            if answer:
+                return answer
+        return b""
 
 
 def drain(sockets):
@@ -107,45 +187,99 @@ def drain(sockets):
 
 def ask(request, number):
     """The code of the answer to a confirmable request of this message id."""
-    with socket.socket(socket.AF_INET, socket.SOCK_DGRAM) as client:
-        client.settimeout(5)
-        client.sendto(request[:2] + number.to_bytes(2, "big") + request[4:], ("127.0.0.1", PORT))
-        code = client.recv(2048)[1]
-        return f"{code >> 5}.{code & 31:02}"
+    answer = Client().asked(request[:2] + number.to_bytes(2, "big") + request[4:])
+    return f"{answer[1] >> 5}.{answer[1] & 31:02}" if answer else "no answer"
 
 
-def send(count, seconds):
+class Honest:
+    """A client that installs a program and posts to it, and then repeats its POST: how often, and how often it was answered as the first time."""
+
+    def __init__(self):
+        self.client = Client()
+        self.is_well = self.client.asked(HONEST_PUT) == INSTALLED and self.client.asked(HONEST_POST) == POSTED
+        self.until = time.monotonic() + REPEATED
+        self.repeats = self.alike = 0
+
+    def repeat(self):
+        if time.monotonic() < self.until:
+            self.repeats += 1
+            self.alike += self.client.asked(HONEST_POST, TRIES, 1) == POSTED
+
+    def told(self):
+        """Whether all was answered right."""
+        print(f"of the honest client's {self.repeats} repeats {self.alike} were answered as the first time", flush=True)
+        return self.is_well and self.alike == self.repeats
+
+
+def send(count, seconds, honest):
     """Sends so many datagrams, from 64 ports in turn. Returns how many were sent and how many replies came."""
     rng = random.Random(1)
-    sockets = [socket.socket(socket.AF_INET, socket.SOCK_DGRAM) for _ in range(64)]
+    clients = [Client() for _ in range(64)]
+    sockets = [it.socket for it in clients]
     until = time.monotonic() + seconds
     sent = replies = 0
     while sent < count and time.monotonic() < until:
-        sockets[sent % 64].sendto(mutated(rng), ("127.0.0.1", PORT))
+        clients[sent % 64].send(stranger(rng))
         sent += 1
         if sent % 32 == 0:
             replies += drain(sockets)
+        if sent % EVERY == 0:
+            honest.repeat()
     time.sleep(0.5)
     return sent, replies + drain(sockets)
 
 
 def observed():
-    """How many of 32 observers of slot 3 hear of a POST: each has a port of its own."""
-    sockets = [socket.socket(socket.AF_INET, socket.SOCK_DGRAM) for _ in range(OBSERVERS)]
+    """How many of 32 observers of slot 3 hear of a POST."""
     print("PUT of the observed program:", ask(PUT.replace(b"p\x011", b"p\x013"), 4))
-    for it in sockets:
-        it.settimeout(5)
-        it.sendto(bytes.fromhex("41010001aa6051720133"), ("127.0.0.1", PORT))
-        it.recv(2048)
+    observers = [Client() for _ in range(OBSERVERS)]
+    for it in observers:
+        it.asked(bytes.fromhex("41010001aa6051720133"))
     ask(bytes.fromhex("40020000") + WATCHED, 5)
-    heard = 0
-    for it in sockets:
-        try:
-            heard += it.recv(2048)[1] == 0x45
-        except TimeoutError:
-            pass
-        it.close()
-    return heard
+    return sum(it.received(5)[1:2] == b"\x45" for it in observers)
+
+
+def asked_again(honest):
+    """Waits until each exchange is gone, and asks: whether all is answered as it should be."""
+    time.sleep(LIFETIME)
+    put, get, own = ask(PUT, 2), ask(GET, 3), honest.client.asked(HONEST_GET)
+    print(f"PUT: {put}\nGET: {get}\nthe honest client's GET: {own.hex()}")
+    heard = observed()
+    print(f"{heard} of {OBSERVERS} observers hear of a change", flush=True)
+    return put in ("2.01", "2.04") and get == "2.05" and own == GOT and heard == OBSERVERS
+
+
+def ended(server, limit):
+    """Sends pings until the server has had as many datagrams as it was started for: whether it ends well, and told what was dropped."""
+    sent, lost, client = Client.sent, dropped(), Client()
+    pings = 0
+    while server.poll() is None and client.asked(PING, seconds=2):
+        pings += 1
+    try:
+        _, told = server.communicate(timeout=5)
+    except subprocess.TimeoutExpired:
+        print(f"the server hasn't ended after {pings} pings")
+        return False
+    replies = re.search(r"sent \d+ failed \d+", told)
+    print(f"status {server.returncode}; {replies and replies[0]}; by the {pings} pings until its end {sent + pings - limit} datagrams were dropped")
+    return server.returncode == 0 and replies is not None and sent + pings - limit == lost
+
+
+def tried(server, options, limit):
+    """Sends the datagrams, asks again, and ends the server: whether all went well."""
+    print("PUT:", ask(PUT, 1), flush=True)
+    honest, before = Honest(), resident(server.pid)
+    started = time.monotonic()
+    sent, replies = send(options.count, options.seconds, honest)
+    took = time.monotonic() - started
+    if server.poll() is not None:
+        print(f"the server has ended with status {server.returncode}")
+        return False
+    behind = f"resident {before} KiB before, {resident(server.pid)} KiB behind"
+    print(f"{sent} datagrams in {took:.0f} s, {replies} replies, {dropped()} dropped; {behind}", flush=True)
+    is_well = honest.told()
+    is_well = (options.no_wait or asked_again(honest)) and is_well
+    return ended(server, limit) and is_well
 
 
 def main():
@@ -154,27 +288,12 @@ def main():
     parser.add_argument("--seconds", type=float, default=600)
     parser.add_argument("--no-wait", action="store_true", help="don't wait for the exchanges to be gone, nor ask after that")
     options = parser.parse_args()
-    server = subprocess.Popen([FCD, "serve", "--port", str(PORT)])
+    limit = options.count + options.count // EVERY * TRIES + BESIDE
+    words = [FCD, "serve", "--port", str(PORT), "--limit", str(limit), "--log", "info"]
+    server = subprocess.Popen(words, stderr=subprocess.PIPE, text=True)
     try:
         time.sleep(0.5)
-        print("PUT:", ask(PUT, 1), flush=True)
-        before = resident(server.pid)
-        started = time.monotonic()
-        sent, replies = send(options.count, options.seconds)
-        took = time.monotonic() - started
-        if server.poll() is not None:
-            print(f"the server has ended with status {server.returncode}")
-            return 1
-        print(f"{sent} datagrams in {took:.0f} s, {replies} replies; resident {before} KiB before, {resident(server.pid)} KiB behind", flush=True)
-        if options.no_wait:
-            return 0
-        time.sleep(LIFETIME)
-        put, get = ask(PUT, 2), ask(GET, 3)
-        print("PUT:", put)
-        print("GET:", get)
-        heard = observed()
-        print(f"{heard} of {OBSERVERS} observers hear of a change")
-        return 0 if put in ("2.01", "2.04") and get == "2.05" and heard == OBSERVERS else 1
+        return 0 if tried(server, options, limit) else 1
     finally:
         if server.poll() is None:
             server.terminate()
