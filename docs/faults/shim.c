@@ -1,0 +1,19 @@
+// Preloaded into a program, this leaves it no descriptor but its three, where FILES is set, and starts no thread of it, where THREADS is.
+#define _GNU_SOURCE
+#include <dlfcn.h>
+#include <errno.h>
+#include <pthread.h>
+#include <stdlib.h>
+#include <sys/resource.h>
+
+__attribute__((constructor)) static void leave_no_files(void) {
+    struct rlimit three = {3, 3};
+    if (getenv("FILES")) {
+        setrlimit(RLIMIT_NOFILE, &three);
+    }
+}
+
+int pthread_create(pthread_t *thread, const pthread_attr_t *attributes, void *(*start)(void *), void *argument) {
+    int (*next)(pthread_t *, const pthread_attr_t *, void *(*)(void *), void *) = dlsym(RTLD_NEXT, "pthread_create");
+    return getenv("THREADS") ? EAGAIN : next(thread, attributes, start, argument);
+}
