@@ -34,7 +34,7 @@ FCREPLAY = "crates/fcreplay/out/fcreplay"
 PORT = 5697
 
 # The modules whose tests are run.
-TRIED = ("asm_tests::", "call_tests::", "isa_tests::", "tool_tests::")
+TRIED = ("asm_tests::", "call_tests::", "isa_tests::", "memory_tests::", "tool_tests::")
 
 # Two of them read what a failed read or write tells: where memory is refused first, that is told.
 LEFT_OUT = ("tool_tests::a_failed_reader_is_status_3", "tool_tests::a_failed_writer_is_status_3")
