@@ -1,5 +1,5 @@
 #!/usr/bin/env python3
-"""Runs the tests of the assembler, the instructions, the tools and the calls, and the programs, once with ample memory and once with
+"""Runs the tests of the assembler, the instructions, the tools, the calls and of each call that asks for memory, and the programs, once with ample memory and once with
 each request for memory refused.
 
 Run it at the top of the repository, behind `rt test` in crates/fctests and `rt run` in crates/fcd, crates/fcasm and crates/fcreplay, which
@@ -174,7 +174,7 @@ def of_test(ran, _ample):
     if ran.status == 0:
         return "passed", True
     said = (ran.told.splitlines() or [""])[0]
-    return said, said in ("error: AllocError", "error: NoMemory")
+    return said, said.lower() in ("error: allocerror", "error: nomemory")
 
 
 def of_command(ran, ample):
