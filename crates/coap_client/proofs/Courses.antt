@@ -1,5 +1,5 @@
 -- A fetch, reply by reply.
-use Rattle.std.proofs.Common.{◌≡◌, ℕ, ◌+◌, ◌%◌, ◌<◌, List, [], ◌∷◌, length, Ok, Option, Some, None, MatchOption, refl, sym, ◌∙◌, ap, subst, arith}
+use Rattle.std.proofs.Common.{◌≡◌, ℕ, ◌+◌, ◌%◌, ◌<◌, List, [], ◌∷◌, length, Ok, Option, Some, None, MatchOption, sym, ◌∙◌, ap, subst, arith}
 use Rattle.coap_msg.specs.Wire.{Message}
 use Rattle.coap_msg.specs.Reading.{reading_of}
 use Rattle.coap_client.specs.declared.errand.Errand.{Errand}

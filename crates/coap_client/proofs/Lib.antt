@@ -1,3 +1,4 @@
 pub mod Courses
 pub mod Sizes
 pub mod Splitting
+mod LeftOut

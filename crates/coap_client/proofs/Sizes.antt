@@ -1,10 +1,10 @@
 -- The requests of an errand fit a datagram.
-use Rattle.std.proofs.Common.{◌≡◌, ℕ, zero, suc, ◌+◌, ◌-◌, ◌*◌, ◌<◌, ◌≤◌, List, [], ◌∷◌, ◌++◌, length, take, drop, sum_by, arith, refl, sym, ◌∙◌, ap, subst, length-append, min}
+use Rattle.std.proofs.Common.{◌≡◌, ℕ, ◌+◌, ◌-◌, ◌*◌, ◌<◌, ◌≤◌, List, [], ◌∷◌, ◌++◌, length, take, drop, sum_by, arith, sym, ◌∙◌, ap, subst, length-append, min}
 use Rattle.std.proofs.lemmas.List.{length-take, length-drop, take_all, take_min}
 use Rattle.std.proofs.lemmas.List.Sums.{sum_by-cons}
 use Rattle.std.specs.List.{All}
 use Rattle.std.proofs.lemmas.List.Elements.{All-head, All-tail}
-use Rattle.coap_msg.specs.Wire.{IsMessage, AreOptions, extension, option_bytes, options_bytes}
+use Rattle.coap_msg.specs.Wire.{IsMessage, AreOptions, extension, options_bytes}
 use Rattle.coap_msg.proofs.Sizes.{option_size, message_fits}
 use Rattle.coap_msg.specs.declared.types.MessageType.TheVariants.{Confirmable}
 use Rattle.coap_opts.proofs.Spellings.{uint_short}

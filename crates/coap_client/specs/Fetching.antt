@@ -3,7 +3,7 @@ use Rattle.std.specs.Prelude.{◌≡◌, ℕ, ◌+◌, ◌%◌, List, [], ◌∷
 use Rattle.coap_msg.specs.Wire.{Message}
 use Rattle.coap_client.specs.declared.errand.Errand.{Errand}
 use Rattle.coap_client.specs.declared.part.Part.{Part}
-use Rattle.coap_client.specs.declared.part.Part.TheVariants.{Whole, Body, Answer}
+use Rattle.coap_client.specs.declared.part.Part.TheVariants.{Answer}
 use Rattle.coap_client.specs.declared.reply.Next.{Next}
 use Rattle.coap_client.specs.declared.reply.Next.TheVariants.{Ask, Last, Refused, Misfit}
 use Rattle.coap_client.specs.Parts.{first_part}

@@ -1,6 +1,6 @@
 -- What a client's requests carry: the whole body, a block of a body that is too large for one (RFC 7959, 2.5), or what asks for
 -- a further block of an answer (RFC 7959, 2.4).
-use Rattle.std.specs.Prelude.{◌≡◌, ℕ, ◌+◌, ◌*◌, ◌<◌, ◌≤◌, ◌^◌, nat_lt, Bool, true, false, min, if◌then◌else◌, List, [], ◌∷◌, ◌++◌, length, take, drop, map, sum_by, Option, Some, None}
+use Rattle.std.specs.Prelude.{ℕ, ◌+◌, ◌*◌, ◌≤◌, ◌^◌, nat_lt, Bool, false, min, if◌then◌else◌, List, [], ◌∷◌, length, take, drop, map, sum_by, Option, Some, None}
 use Rattle.coap_opts.specs.Values.{uint_bytes}
 use Rattle.coap_opts.specs.declared.number.TheConstants as option
 use Rattle.coap_opts.specs.declared.request.Method.{Method}

@@ -1,11 +1,10 @@
 -- Which datagrams answer a request, and what an answer says of the next one.
-use Rattle.std.specs.Prelude.{◌≡◌, ℕ, ◌+◌, ◌*◌, ◌/◌, ◌%◌, ◌<◌, ◌≤◌, ◌==◌, ◌&&◌, ◌||◌, Bool, true, false, nat_lt, nat_le, not, if◌then◌else◌, List, [], ◌∷◌, length, Option, Some, None, Ok}
+use Rattle.std.specs.Prelude.{◌≡◌, ℕ, ◌+◌, ◌/◌, ◌%◌, ◌≤◌, ◌==◌, ◌&&◌, ◌||◌, Bool, true, false, nat_lt, nat_le, if◌then◌else◌, List, [], ◌∷◌, length, Option, Some, None}
 use Rattle.coap_msg.specs.Wire.{Message}
-use Rattle.coap_msg.specs.Reading.{reading_of}
 use Rattle.coap_msg.specs.Values.{values_in}
 use Rattle.coap_msg.specs.declared.code.TheConstants.Code as registered
 use Rattle.coap_msg.specs.declared.types.MessageType.TheVariants.{Acknowledgement, Reset}
-use Rattle.coap_opts.specs.Values.{uint_value}
+use Rattle.coap_opts.specs.Values.{Place, place_in, uint_value}
 use Rattle.coap_opts.specs.declared.number.TheConstants as option
 use Rattle.coap_client.specs.declared.part.Part.{Part}
 use Rattle.coap_client.specs.declared.part.Part.TheVariants.{Whole, Body, Answer}
@@ -65,12 +64,29 @@ by_option n count (Some value) = if nat_le (length value) 3 then by_block n coun
 abbrev pub next_of_answer : ℕ → Message → Next
 next_of_answer n m = by_option n (length m.payload) (block2_of m)
 
--- a block of the body that has others behind it is answered 2.31, and each other code ends the fetch (RFC 7959, 2.9.1)
+-- the value of Block1 (RFC 7959, 2.1)
+abbrev pub block1_of : Message → Option (List ℕ)
+block1_of m = first_or_none (values_in option.BLOCK1 m.options)
+
+-- the block that was sent is named, and of the size that it was sent in
+abbrev pub is_block : ℕ → Place → Bool
+is_block n block = (block.number == n) && (block.szx == block_szx)
+
+abbrev pub names_block : ℕ → Option (List ℕ) → Bool
+names_block n None = false
+names_block n (Some value) = nat_le (length value) 3 && is_block n (place_in value)
+
+-- a block of the body that has others behind it was taken: by 2.31 (RFC 7959, 2.9.1), or by a success that names it, whose server carries each block out by itself or waits for
+-- the others (RFC 7959, 2.3)
+abbrev pub takes_block : ℕ → Message → Bool
+takes_block n m = (m.code == registered.CONTINUE.byte) || names_block n (block1_of m)
+
+-- where such a block was taken the next one goes; no other success is an answer to it
 abbrev pub by_part : ℕ → Part → Message → Next
 by_part count Whole m = next_of_answer 0 m
 by_part count (Answer n) m = next_of_answer n m
 by_part count (Body n) m =
-    if has_more count n then (if m.code == registered.CONTINUE.byte then Ask (Body (n + 1)) else Last) else next_of_answer 0 m
+    if has_more count n then (if takes_block n m then Ask (Body (n + 1)) else Misfit) else next_of_answer 0 m
 
 -- what comes after the answer to a part, where the body has so many bytes
 abbrev pub next_of : ℕ → Part → Message → Next

@@ -3,6 +3,7 @@
 
 pub mod errand;
 pub mod fetching;
+pub mod laws;
 pub mod part;
 pub mod path;
 pub mod reply;

@@ -9,7 +9,7 @@ use crate::errand::{BLOCK, BLOCK_SZX, Errand};
 use crate::part::Part;
 use coap_msg::{Code, Message, MessageType};
 use coap_opts::Block;
-use coap_opts::number::{BLOCK2, ETAG};
+use coap_opts::number::{BLOCK1, BLOCK2, ETAG};
 
 /// The least code of a response (RFC 7252, 12.1).
 const RESPONSE: u8 = 0x40;
@@ -65,10 +65,10 @@ pub fn next_of(errand: &Errand<'_>, part: Part, message: &Message<'_>) -> Next
         Part::Whole => next_of_answer(0, message),
         Part::Answer(number) => next_of_answer(number, message),
         Part::Body(number) if errand.payload.len() > BLOCK * (number as usize + 1) => {
-            if message.code() == Code::CONTINUE {
+            if takes_block(number, message) {
                 Next::Ask(Part::Body(number + 1))
             } else {
-                Next::Last
+                Next::Misfit
             }
         }
         Part::Body(_) => next_of_answer(0, message),
@@ -83,6 +83,29 @@ pub fn etag_of<'a>(message: &Message<'a>) -> &'a [u8]
         Some(value) => value,
         None => &[],
     }
+}
+
+// Whether a success says that a block of the body, which has others behind it, was taken.
+fn takes_block(number: u32, message: &Message<'_>) -> bool
+    ensures { result ≡ spec.takes_block number message.now }
+{
+    message.code() == Code::CONTINUE || names_block(number, message)
+}
+
+// Whether an answer names this block of the body, of the size that it was sent in.
+fn names_block(number: u32, message: &Message<'_>) -> bool
+    ensures { result ≡ spec.names_block number (spec.block1_of message.now) }
+{
+    match message.values(BLOCK1).next() {
+        Some(value) if value.len() <= BLOCK_VALUE => is_block(number, Block::read(value)),
+        _ => false,
+    }
+}
+
+fn is_block(number: u32, block: Block) -> bool
+    ensures { result ≡ spec.is_block number block }
+{
+    block.number() == number && block.szx() == BLOCK_SZX
 }
 
 // What comes after a success that answers what asked for this block.

@@ -112,6 +112,39 @@ fn a_large_body_goes_by_blocks(rt: HostRuntime) -> Result<(), Fail> {
     Ok(())
 }
 
+// A server that carries each block out by itself answers it by a success that names it.
+#[test]
+fn blocks_that_are_carried_out_one_by_one_go_on(rt: HostRuntime) -> Result<(), Fail> {
+    let mut server = follows(rt.alloc());
+    comes(&mut server, b"\x60\x44\x00\x07\xd1\x0e\x06", &[])?;
+    comes(&mut server, b"\x60\x44\x00\x08\xd1\x0e\x16", &[])?;
+    comes(&mut server, b"\x60\x44\x00\x09\xd1\x0e\x26\xff", b"done")?;
+    let answer = fetched(&mut server, Method::Put, "/p/1", &[7; 3000])?;
+    assert!(rt; answer.code.byte == 0x44 && answer.body.as_slice() == b"done".as_slice());
+    assert!(rt; server.sent.len() == 3);
+    let last = b"\x40\x03\x00\x09\xb1\x70\x01\x31\xd1\x03\x26\xff";
+    check_sent(&rt, &server, 2, last, &[7; 952]);
+    Ok(())
+}
+
+// Successes to the first of two blocks: without Block1, of another block, and of a smaller size.
+static NOT_TAKEN: [&[u8]; 3] = [
+    b"\x60\x44\x00\x07",
+    b"\x60\x44\x00\x07\xd1\x0e\x16",
+    b"\x60\x44\x00\x07\xd1\x0e\x05",
+];
+
+#[test]
+fn no_success_leaves_a_block_out(rt: HostRuntime) -> Result<(), Fail> {
+    for reply in NOT_TAKEN.iter().copied() {
+        let mut server = follows(rt.alloc());
+        comes(&mut server, reply, &[])?;
+        let answer = fetched(&mut server, Method::Put, "/p/1", &[7; 1500]);
+        assert!(rt; matches!(&answer, Err(Fault::Misfit)), "{reply:?}");
+    }
+    Ok(())
+}
+
 #[test]
 fn a_refused_block_ends_it(rt: HostRuntime) -> Result<(), Fail> {
     let mut server = follows(rt.alloc());

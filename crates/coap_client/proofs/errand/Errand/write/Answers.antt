@@ -1,4 +1,4 @@
-use Rattle.std.proofs.Common.{rules, ◌∙◌, ap, ◌++◌, sym}
+use Rattle.std.proofs.Common.{rules}
 use Rattle.coap_client.proofs.Sizes.{request_fits}
 use Rattle.coap_client.proofs.errand.Errand.write.Goals as goal
 
