@@ -30,7 +30,7 @@ pub fn resources_have_one_path()
         (segments ≡ path_of r) × IsResource r }
 {}
 
-/// Each action is asked by one method at one resource, and no other method there asks one.
+/// Each action is asked by one method at one resource, and by no other pair.
 pub fn actions_have_their_methods()
     ensures served { (action : Action) → action_of (resource_in action) (method_in action) ≡ Some action }
     ensures only { (at : Resource) (method : Method) (action : Action) → action_of at method ≡ Some action →

@@ -1,5 +1,6 @@
 //! Why a program that reads lines stops.
-ghost use Rattle.std.specs.Prelude.{◌≡◌, ◌⊎◌};
+ghost use Rattle.std.specs.Prelude.{◌≡◌, ◌≢◌};
+ghost use Rattle.std.specs.IoError.{error_kind};
 ghost use Rattle.fc_cli.specs.Stops.{status_of};
 
 use crate::status::Status;
@@ -26,9 +27,10 @@ pub enum Stop {
 }
 
 impl Stop {
-    /// Why reading the line of this number failed: it is bad where its bytes are no line's, as where it is too long.
+    /// Why reading the line of this number failed: it is bad where the reader says that its bytes are no line's, by `InvalidData`, as where it is too long.
     pub fn at_line(error: io::Error, number: u64) -> Stop
-        ensures { (result ≡ Stop.BadLine number) ⊎ (result ≡ Stop.Input error) }
+        ensures bad { error_kind error ≡ ErrorKind.InvalidData → result ≡ Stop.BadLine number }
+        ensures failed { error_kind error ≢ ErrorKind.InvalidData → result ≡ Stop.Input error }
     {
         match error.kind() {
             ErrorKind::InvalidData => Stop::BadLine(number),

@@ -3,13 +3,13 @@ ghost use Rattle.std.specs.Prelude.{◌≡◌, ◌<◌, ◌≤◌, ◌^◌, ◌�
 ghost use Rattle.fc_jobs.specs.Once.{times};
 ghost use Rattle.fc_jobs.specs.Ends.{nothing_sent, nothing_got, with_sent, with_got};
 
-use crate::ends::{Got, Jobs, Sent};
+use crate::ends::{Crew, Got, Jobs, Sent};
 use crate::protocol::{Hires, Numbered, Puts, Takes};
 use crossbeam_channel::{SendError, bounded_with};
 use fc_registry::Job;
 use std::alloc::{AllocError, Global};
-use std::sync::Wait;
 use std::sync::atomic::{AtomicBool, Ordering};
+use std::sync::{Condvar, Mutex, Wait};
 
 /// The places of the channel: how many jobs may wait.
 const PLACES: usize = 256;
@@ -33,8 +33,13 @@ impl Jobs {
             next: 0,
         };
         let gots = hire(alloc, &mut sent, workers)?;
-        let asked = AtomicBool::new(false);
-        Ok((Jobs { receiver, asked }, sent, gots))
+        let jobs = Jobs {
+            receiver,
+            asked: AtomicBool::new(false),
+            crew: Mutex::new(Crew::Awaited),
+            told: Condvar::new(),
+        };
+        Ok((jobs, sent, gots))
     }
 
     /// Sends a job under the next number, from 0 on, or hands it back; the numbers end at 2^61, from where on each job comes
@@ -59,7 +64,10 @@ impl Jobs {
         ensures got { MatchOption result (got.new ≡ got.old) (λ r. got.new ≡ with_got got.old r.0 r.1) }
         ensures once { IfSome result (λ r. times r.0 got.old.got ≡ 0) }
     {
-        self.asked.store(true, Ordering::Relaxed);
+        if !self.is_served() {
+            self.asked.store(true, Ordering::Relaxed);
+            self.tell(rt, Crew::Here);
+        }
         match self.receiver.recv_as::<Takes, R>(rt, &mut got.pass) {
             Ok(Numbered { number, job }) => Some((number, job)),
             Err(_) => None,
@@ -72,6 +80,30 @@ impl Jobs {
     /// doesn't wait for ever.
     pub fn is_served(&self) -> bool {
         self.asked.load(Ordering::Relaxed)
+    }
+
+    /// Waits until a worker has asked for a job, or it is known that none will. Tells whether one has.
+    pub fn await_worker<R: Wait>(&self, rt: &R) -> bool {
+        if self.is_served() {
+            return true;
+        }
+        let crew = self
+            .told
+            .wait_while(rt, self.crew.lock(rt), |crew| *crew == Crew::Awaited);
+        *crew == Crew::Here
+    }
+
+    /// Says that no worker will ask for a job any more: who waits for one goes on.
+    pub fn dismiss<R: Wait>(&self, rt: &R) {
+        if !self.is_served() {
+            self.tell(rt, Crew::Gone);
+        }
+    }
+
+    // Says what is known of the workers to who waits for one.
+    fn tell<R: Wait>(&self, rt: &R, known: Crew) {
+        *self.crew.lock(rt) = known;
+        self.told.notify_all();
     }
 }
 

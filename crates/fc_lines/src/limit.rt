@@ -22,7 +22,7 @@ impl<R: Read + Drop> LineLimit<R> {
         LineLimit { inner, length: 0 }
     }
 
-    // Goes on behind these bytes, no more than a line may have. Tells whether the line that they begin in is short enough: those that end in them are.
+    // Goes on behind these bytes, at most one more than the line that they begin in may still have. Tells whether the line that they begin in is short enough: those that end in them are.
     fn goes_on(&mut self, bytes: &[u8]) -> bool {
         let begun = match bytes.iter().position(is_line_feed) {
             Some(end) => self.length.saturating_add(end),
@@ -49,7 +49,8 @@ fn too_long() -> io::Error {
 
 impl<R: Read + Drop> Read for LineLimit<R> {
     fn read(&mut self, buf: &mut [u8]) -> io::Result<usize> {
-        let most = buf.len().min(LONGEST_LINE);
+        let left = (LONGEST_LINE + 1).saturating_sub(self.length).max(1);
+        let most = buf.len().min(left);
         let count = self.inner.read(&mut buf[..most])?;
         if self.goes_on(&buf[..count]) {
             Ok(count)

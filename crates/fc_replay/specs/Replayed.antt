@@ -1,5 +1,5 @@
 -- What a list of events comes to: each line says its event, all of them are carried out on one server, and what comes of them is printed.
-use Rattle.std.specs.Prelude.{◌≡◌, ◌⊎◌, ℕ, zero, suc, ◌<◌, ◌==◌, List, [], ◌∷◌, ◌++◌, flat_map, if◌then◌else◌, length, map, Option, IfSome}
+use Rattle.std.specs.Prelude.{◌≡◌, ◌≢◌, ◌⊎◌, All, ℕ, zero, suc, ◌<◌, ◌==◌, List, [], ◌∷◌, ◌++◌, flat_map, if◌then◌else◌, length, map, Option, IfSome}
 use Rattle.std.specs.Io.KnownBytes.{Appends}
 use Rattle.std.specs.List.{slice_split}
 use Rattle.coap_msg.specs.declared.types.Emission.{Emission}
@@ -21,9 +21,9 @@ listed_lines list = slice_split (λ b. b == 10) list
 abbrev pub IsText : Bytes → Bytes → Type 0
 IsText text list = (text ≡ list) ⊎ (text ≡ list ++ 10 ∷ [])
 
--- a text's first line, and what stands behind it
+-- a text's first line, which has no line feed, and what stands behind it
 abbrev pub IsFirstLine : Bytes → Bytes → Bytes → Type 0
-IsFirstLine text line rest = (text ≡ line ++ 10 ∷ rest) ⊎ ((text ≡ line) × (rest ≡ []))
+IsFirstLine text line rest = All (λ b. b ≢ 10) line × ((text ≡ line ++ 10 ∷ rest) ⊎ ((text ≡ line) × (rest ≡ [])))
 
 -- the first line says how the server begins
 pub record HasBeginLine (text : Bytes) (begin : Begin) (rest : Bytes) : Type 0 where

@@ -26,9 +26,9 @@ pub const UNSENT: u64 = u64::MAX;
 /// Which jobs go to workers.
 #[derive(Clone, Copy)]
 pub enum Handover {
-    /// All of them.
+    /// All of them, where there is a worker: the first that asks for a job is waited for.
     Every,
-    /// Those whose program may run for so many instructions or more, by what its slot holds when they come.
+    /// Those whose program may run for so many instructions or more, by what its slot holds when they come, once a worker has asked for a job.
     Dear(u32),
     /// None.
     Never,
@@ -42,7 +42,7 @@ pub struct Dispatched<T: Drop> {
 }
 
 /// Who has datagrams taken in and shards asked for turns, in a thread of its own. Each job that comes of it is sent to the workers, or, where it isn't handed
-/// over, worked off by the dispatcher itself, as a worker does. So is each that comes before a worker has asked for a job: the workers may have been refused the
+/// over, worked off by the dispatcher itself, as a worker does. So is each where no worker has asked for a job: the workers may have been refused the
 /// memory that they begin with.
 #[derive(Drop)]
 pub struct Dispatcher<'a, B: Bench, G: Gate, W: Wire, M: Moments> {
@@ -207,7 +207,7 @@ impl<'a, B: Bench, G: Gate, W: Wire, M: Moments> Dispatcher<'a, B, G, W, M> {
             .work(rt, &mut self.tools, UNSENT, &self.job, &mut done.share);
     }
 
-    // Whether its job may go to the workers. Before one of them has asked for a job, none does.
+    // Whether its job may go to the workers. Before one of them has asked for a job, none does: where all are to go, that is waited for.
     fn may_go<R: Wait>(&mut self, rt: &R) -> bool
         ensures may { result ≡ true → MayGo self.old.handover self.old.job }
         ensures done { self.new.done ≡ self.old.done }
@@ -215,7 +215,7 @@ impl<'a, B: Bench, G: Gate, W: Wire, M: Moments> Dispatcher<'a, B, G, W, M> {
         ensures handover { self.new.handover ≡ self.old.handover }
     {
         match self.handover {
-            Handover::Every => self.jobs.is_served(),
+            Handover::Every => self.jobs.await_worker(rt),
             Handover::Dear(least) => {
                 self.jobs.is_served() && self.needs_run() && self.cost(rt) >= least
             }

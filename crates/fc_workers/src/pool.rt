@@ -144,7 +144,11 @@ where
                 move || -> Result<Vec<Share<B::Tallies>>, AllocError>
                     requires { All (λ s. s.got.channel ≡ jobs.now) seats.items }
                     ensures { IfOk result (λ v. AreSharesOf B.changes B.ended M.is_moment seats.items v.items) }
-                { run_workers(rt, workshop, jobs, seats) },
+                {
+                    let shares = run_workers(rt, workshop, jobs, seats);
+                    jobs.dismiss(rt);
+                    shares
+                },
             );
             match started {
                 Ok(workers) => {

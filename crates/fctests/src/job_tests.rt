@@ -61,6 +61,37 @@ fn of(got: Option<(u64, Job)>) -> Option<(u64, u64)> {
     Some((number, job.origin.opening.number))
 }
 
+// Who waits for a worker goes on when one asks for a job, here of a closed channel.
+#[test]
+fn a_worker_is_awaited(rt: HostRuntime) -> Result<(), Fail> {
+    let (jobs, sent, mut gots) = Jobs::new(rt.alloc(), 1)?;
+    let Some(mut got) = gots.pop() else {
+        panic!(rt; "a worker")
+    };
+    drop(sent);
+    let jobs = &jobs;
+    let (is_here, is_none) = thread::join(
+        &rt,
+        || -> bool { jobs.await_worker(&rt) },
+        || -> bool
+            requires { got.channel ≡ jobs.now }
+        { jobs.next(&rt, &mut got).is_none() },
+    );
+    assert!(rt; is_here && is_none);
+    jobs.dismiss(&rt);
+    assert!(rt; jobs.await_worker(&rt));
+    Ok(())
+}
+
+// Where it is known that none comes, nobody waits.
+#[test]
+fn nobody_waits_for_workers_that_do_not_come(rt: HostRuntime) -> Result<(), Fail> {
+    let (jobs, _sent, _gots) = Jobs::new(rt.alloc(), 1)?;
+    jobs.dismiss(&rt);
+    assert!(rt; !jobs.await_worker(&rt) && !jobs.is_served());
+    Ok(())
+}
+
 // How many jobs the channel holds, and how many are sent.
 const PLACES: usize = 256;
 
