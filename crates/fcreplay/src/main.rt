@@ -19,10 +19,11 @@ An event is its name and its parts in any order, parted by single spaces:
   Take job=0 memory=1
   Commit job=0 now=5
 
-A first line `Begin serial=S id=I` has empty slots begin at serial S, and the server draw
-message id I first; else both are 0. Jobs are numbered from 0 in the order of their coming; moments are in milliseconds. For
-each event `none` is printed, or the datagram that it sends as `peer hex`; then each slot
-whose serial is above 0.
+A first line `Begin serial=S id=I` has empty slots begin at serial S, 0 to 2^63 - 1, and the
+server draw message id I, 0 to 65535, first; else both are 0. Jobs are numbered from 0 in the
+order of their coming; moments are in milliseconds. For each event `none` is printed, or the
+datagram that it sends as `peer hex`; then each slot whose serial is above 0. Of a list
+without events nothing is printed.
 
 Exit status: 0 where all is printed; 2 where a line or the command line is bad, and nothing
 is carried out; 3 where reading or writing failed, or memory was refused.";
