@@ -1,0 +1,184 @@
+#!/usr/bin/env python3
+"""Makes the programs of this folder from C and from their assembler texts, uploads both to a server, and asks them; then shows what is refused.
+
+Use: docs/c/try.py [CLANG], at the top of the repository, whose fcasm and fcd are built, or on the path. CLANG is `clang` if not given.
+The status is 0 where no answer was wrong, and no mended form was refused."""
+import re
+import shutil
+import socket
+import subprocess
+import sys
+import tempfile
+import time
+from pathlib import Path
+
+TOP = Path(__file__).resolve().parent.parent.parent
+FLAGS = ["-target", "bpf", "-mcpu=v2", "-O2", "-mllvm", "-enable-tail-merge=0", "-I", str(TOP / "include")]
+PROGRAMS = {"thermostat": 8, "average": 16, "access": 8}  # name and --vars
+
+# method, query, payload, and the answer: code and payload
+ASKED = {
+    "thermostat": [
+        ("GET", "", b"", "2.05", b"off"),
+        ("POST", "", b"\x13", "2.04", b"on"),  # 19 degrees, below 20
+        ("POST", "", b"\x14", "2.04", b"on"),  # 20: as it was
+        ("POST", "", b"\x15", "2.04", b"off"),  # 21
+        ("POST", "target", b"\x17", "2.04", b"off"),  # 23 is wanted
+        ("POST", "", b"\x16", "2.04", b"on"),  # 22
+        ("GET", "", b"", "2.05", b"on"),
+        ("POST", "target", b"", "4.00", b""),
+        ("POST", "tarGet", b"\x18", "2.04", b"off"),  # a reading, 24: above 23
+        ("GET", "target", b"\x50", "2.05", b"off"),  # a GET changes nothing
+    ],
+    "average": [
+        ("GET", "", b"", "4.04", b""),
+        ("POST", "", b"7", "2.04", b""),
+        ("GET", "", b"", "2.05", b"7"),
+        ("POST", "", b"20", "2.04", b""),
+        ("GET", "", b"", "2.05", b"13"),
+        ("POST", "", b"9999", "2.04", b""),
+        ("POST", "", b"0", "2.04", b""),
+        ("GET", "", b"", "2.05", b"2506"),
+        ("POST", "", b"100", "2.04", b""),  # 7 goes
+        ("GET", "", b"", "2.05", b"2529"),
+        ("POST", "", b"1/", "4.00", b""),
+        ("POST", "", b":", "4.00", b""),
+        ("POST", "", b"", "4.00", b""),
+        ("POST", "", b"12345", "4.00", b""),
+        *[("POST", "", b"0", "2.04", b"")] * 4,
+        ("GET", "", b"", "2.05", b"0"),
+    ],
+    "access": [
+        ("GET", "code=4711", b"", "4.04", b""),
+        ("POST", "", b"47", "4.00", b""),
+        ("POST", "", b"4711", "2.04", b""),
+        ("GET", "code=4711", b"", "2.05", b"open"),
+        ("GET", "code=4712", b"", "4.03", b""),
+        ("GET", "code=47110", b"", "4.03", b""),
+        ("GET", "Code=4711", b"", "4.03", b""),
+        ("GET", "", b"", "4.03", b""),
+        ("POST", "code=1234", b"0000", "4.03", b""),
+        ("POST", "code=4711", b"80a0", "2.04", b""),
+        ("GET", "code=4711", b"", "4.03", b""),
+        ("GET", "code=80a0", b"", "2.05", b"open"),
+    ],
+}
+
+
+def built(name):
+    return shutil.which(name) or str(TOP / f"crates/{name}/out/{name}")
+
+
+def run(*words, **more):
+    """Runs a command, and returns its status and what it printed."""
+    done = subprocess.run([str(it) for it in words], stdout=subprocess.PIPE, stderr=subprocess.STDOUT, **more)
+    return done.returncode, done.stdout
+
+
+def image_of(clang, source, image, size, *more, flags=FLAGS):
+    """Compiles a source, makes an image of it, and returns the status and the last command's text."""
+    status, said = run(clang, *flags, *more, "-c", source, "-o", image.with_suffix(".o"))
+    lines = said.decode(errors="replace").replace(str(source), source.name).splitlines()
+    if status:
+        return status, re.sub("0x[0-9a-f]+", "0x..", next(it for it in lines if "error" in it))
+    status, said = run(TOP / "tools/elf2img", "--fcasm", built("fcasm"), "--vars", size, image.with_suffix(".o"), image)
+    return status, said.decode().strip().replace(str(image.parent) + "/", "")
+
+
+class Client:
+    """Sends confirmable requests, one after the other."""
+
+    def __init__(self, port):
+        self.socket, self.id = socket.socket(socket.AF_INET, socket.SOCK_DGRAM), 0
+        self.socket.connect(("127.0.0.1", port))
+        self.socket.settimeout(0.2)
+
+    def ask(self, method, path, query, payload):
+        """Returns the answer's code and payload."""
+        self.id += 1
+        message = bytes([0x40, {"GET": 1, "POST": 2, "PUT": 3}[method], self.id >> 8, self.id & 255])
+        last = 0
+        for number, value in [*((11, it) for it in path.split("/")), *((15, it) for it in [query] if it)]:
+            message += bytes([(number - last) << 4 | len(value)]) + value.encode()
+            last = number
+        message += b"\xff" + payload if payload else b""
+        for _ in range(50):
+            try:
+                self.socket.send(message)
+                answer = self.socket.recv(1280)
+            except TimeoutError:
+                continue
+            except ConnectionRefusedError:  # the server has no socket yet
+                time.sleep(0.1)
+                continue
+            assert answer[0] == 0x60 and answer[2:4] == message[2:4], answer.hex()
+            return f"{answer[1] >> 5}.{answer[1] & 31:02}", answer[4:].partition(b"\xff")[2] if answer[1] >> 5 != 2 else payload_of(answer[4:])
+        raise SystemExit("try.py: no answer")
+
+
+def payload_of(rest):
+    """What stands behind the options, all of which are short."""
+    while rest and rest[0] != 0xFF:
+        rest = rest[1 + (rest[0] & 15) :]
+    return rest[1:]
+
+
+def main(words):
+    clang, wrong, refused = words[0] if words else "clang", 0, [0, 0]
+    print(run(clang, "--version")[1].decode().splitlines()[0])
+    with tempfile.TemporaryDirectory(prefix="try-") as room:
+        room, slots = Path(room), []
+        for name, size in PROGRAMS.items():
+            source, image = TOP / f"docs/c/{name}.c", room / f"{name}.img"
+            status, said = image_of(clang, source, image, size)
+            if status:
+                raise SystemExit(f"{name}.c: {said}")
+            print(f"\n{name}.c  {said}")
+            slots.append((name, "c", image.read_bytes()))
+            print(f"{name}.c  fcasm check: {run(built('fcasm'), 'check', input=image.read_bytes())[1].decode().strip()}")
+            lines = (TOP / f"docs/c/{name}.s").read_text()
+            status, made = run(built("fcasm"), "image", *lines.splitlines()[1].strip("; ").split(), input=lines.encode())
+            print(f"{name}.s  fcasm check: {run(built('fcasm'), 'check', input=made)[1].decode().strip()}")
+            slots.append((name, "s", made))
+        with socket.socket(socket.AF_INET, socket.SOCK_DGRAM) as free:
+            free.bind(("127.0.0.1", 0))
+            port = free.getsockname()[1]
+        server = subprocess.Popen([built("fcd"), "serve", "--port", str(port)])
+        try:
+            client = Client(port)
+            count = 0
+            for slot, (_, _, image) in enumerate(slots):
+                code, receipt = client.ask("PUT", f"p/{slot}", "", image)
+                wrong += code != "2.01"
+                count += 1
+            for slot in range(0, len(slots), 2):
+                name = slots[slot][0]
+                print(f"\n{name}: /r/{slot} from C, /r/{slot + 1} from assembler")
+                for method, query, payload, *right in ASKED[name]:
+                    for here in (slot, slot + 1):
+                        code, said = client.ask(method, f"r/{here}", query, payload)
+                        count += 1
+                        is_wrong = [code, said] != right
+                        wrong += is_wrong
+                        if here == slot or is_wrong:
+                            asked = f"{method:4} /r/{here}{'?' + query if query else '':11} {repr(payload)[1:]:8}"
+                            print(f"  {asked} {code} {said.decode()}{'  WRONG' if is_wrong else ''}".rstrip())
+        finally:
+            server.kill()
+            server.wait()
+        print("\nWhat is refused, and as it is mended:")
+        plain = [it for it in FLAGS if it not in ("-mllvm", "-enable-tail-merge=0")]
+        sources = [(TOP / "docs/c/thermostat.c", plain, FLAGS), (TOP / "docs/c/refused/tails.c", plain, FLAGS)]
+        sources += [(it, FLAGS, [*FLAGS, "-DMENDED"]) for it in sorted((TOP / "docs/c/refused").glob("*.c")) if it.stem != "tails"]
+        for source, natural, mended in sources:
+            for at, flags in enumerate((natural, mended)):
+                status, said = image_of(clang, source, room / f"{source.stem}.img", 32, "-w", flags=flags)
+                text = said.splitlines()[0].replace(f"elf2img: {source.stem}.o: ", "").replace(f"{source.stem}.img: ", "")
+                print(f"{source.stem if at == 0 else '':11} {text.replace(', 32 bytes of variables', '')}")
+                refused[at] += status != 0
+    print(f"\n{count} asked, {wrong} answered wrong; {len(sources)} natural forms, {refused[0]} refused; as many mended, {refused[1]} refused")
+    return bool(wrong or refused[1])
+
+
+if __name__ == "__main__":
+    sys.exit(main(sys.argv[1:]))
