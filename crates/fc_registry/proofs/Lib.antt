@@ -6,3 +6,4 @@ pub mod Outcomes
 pub mod Noticed
 pub mod Telling
 pub mod Ahead
+mod Quiet

@@ -1,10 +1,13 @@
 //! What the slots promise of their changes: each function is a law, and its contract says it.
 ghost use Rattle.fc_registry.specs.Changes.{Change, after_changes};
 ghost use Rattle.fc_registry.specs.Laws.{FollowsInstall, noticed_serial};
-ghost use Rattle.fc_registry.specs.Slots.{Present, Slot, Ticket, new_slot};
+ghost use Rattle.fc_observe.specs.declared.observers.Ticked.TheVariants.{Quiet};
+ghost use Rattle.fc_registry.specs.Slots.{Present, Shard, Slot, Ticket, new_slot};
+ghost use Rattle.fc_registry.specs.Turns.{due_job};
+ghost use Rattle.fc_registry.specs.Watches.{after_due, after_tick, due_place, is_quiet, late_place, ticked_in};
 ghost use Rattle.fc_registry.specs.declared.commit.CommitOutcome.{CommitOutcome};
 ghost use Rattle.fc_registry.specs.Calls.{HasGiven, ComesTo, outcome};
-ghost use Rattle.std.specs.Prelude.{List, Some, length, ℕ, ◌+◌, ◌≤◌, ◌≡◌};
+ghost use Rattle.std.specs.Prelude.{List, None, Some, length, true, ℕ, ◌+◌, ◌≤◌, ◌≡◌};
 
 /// A slot's serial counts its changes, from its first serial on.
 pub fn serials_count_changes()
@@ -31,4 +34,12 @@ pub fn versions_are_installs()
 /// since exactly where its serial is another.
 pub fn serials_decide()
     ensures { (t : Ticket) (slot : Slot) (o : CommitOutcome) → HasGiven slot t → ComesTo t slot o → o ≡ outcome t slot }
+{}
+
+/// A quiet shard has nothing to do: at its moment a tick sends nothing, nobody is due, and neither changes it.
+pub fn quiet_shards_do_nothing()
+    ensures tick { (shard : Shard) → is_quiet shard ≡ true →
+        (ticked_in (late_place shard) shard ≡ Quiet) × (after_tick (late_place shard) shard ≡ shard) }
+    ensures due { (shard : Shard) → is_quiet shard ≡ true →
+        (due_job (due_place shard) shard ≡ None) × (after_due (due_place shard) shard ≡ shard) }
 {}

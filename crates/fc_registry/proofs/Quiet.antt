@@ -1,0 +1,22 @@
+-- A shard that is quiet: no notification of it is late, and no observer due.
+use Rattle.std.proofs.Common.{◌≡◌, ℕ, Bool, true, Option, Some, None, refl, ap}
+use Rattle.std.specs.Prelude.{is_none}
+use Rattle.std.proofs.lemmas.Bool.{and_parts}
+use Rattle.fc_observe.specs.declared.observers.Ticked.TheVariants.{Quiet}
+use Rattle.fc_registry.specs.Slots.{Shard}
+use Rattle.fc_registry.specs.Turns.{due_job}
+use Rattle.fc_registry.specs.Watches.{after_due, after_tick, due_place, is_quiet, late_place, ticked_in}
+
+none_is : (o : Option ℕ) → is_none o ≡ true → o ≡ None
+none_is None e = refl
+none_is (Some k) e = absurd (cc e)
+
+pub ticks_nothing : (shard : Shard) → is_quiet shard ≡ true → (ticked_in (late_place shard) shard ≡ Quiet) × (after_tick (late_place shard) shard ≡ shard)
+ticks_nothing shard quiet =
+    let none = none_is (late_place shard) (and_parts _ _ quiet).0 in
+    (ap (λ (k : Option ℕ). ticked_in k shard) none, ap (λ (k : Option ℕ). after_tick k shard) none)
+
+pub nobody_is_due : (shard : Shard) → is_quiet shard ≡ true → (due_job (due_place shard) shard ≡ None) × (after_due (due_place shard) shard ≡ shard)
+nobody_is_due shard quiet =
+    let none = none_is (due_place shard) (and_parts _ _ quiet).1 in
+    (ap (λ (k : Option ℕ). due_job k shard) none, ap (λ (k : Option ℕ). after_due k shard) none)
