@@ -13,7 +13,7 @@ use Rattle.fc_server.specs.declared.server.Begin.{Begin}
 use Rattle.fc_world.specs.Histories.{history_from}
 use Rattle.fc_replay.specs.Listed.{AreOfEvent, Bytes, Line, line_words}
 use Rattle.fc_replay.specs.Printed.{IsSlotLine, emitted_line, line_at, slot_text}
-use Rattle.fc_replay.specs.Replayed.{AreEvents, AreReplayed, IsBegun, IsReplayed, IsText, listed_lines, told_below, told_of, told_of_all}
+use Rattle.fc_replay.specs.Replayed.{AreEvents, AreReplayed, HasBeginning, IsReplayed, IsText, listed_lines, told_below, told_of, told_of_all}
 use Rattle.fc_replay.specs.declared.printing.SlotLine.{SlotLine}
 
 says_more : (lines : List (List Bytes)) (events : List Event) (words : List Bytes) (event : Event) → AreEvents lines events → AreOfEvent words event → AreEvents (lines ++ words ∷ []) (events ++ event ∷ [])
@@ -75,26 +75,26 @@ replayed begin list lines lent events given emissions sent shards told a b c wor
 }
 
 -- a text without events was read
-pub replayed_nothing : (known out : Option (List ℕ)) (text lent rest : Bytes) (begin : Begin) → IfSome known (λ (bytes : List ℕ). text ≡ bytes) → lent ≡ text → IsBegun lent begin rest → length rest ≡ 0 → IsReplayed known out out
+pub replayed_nothing : (known out : Option (List ℕ)) (text lent rest : Bytes) (begin : Begin) → IfSome known (λ (bytes : List ℕ). text ≡ bytes) → lent ≡ text → HasBeginning lent begin rest → length rest ≡ 0 → IsReplayed known out out
 replayed_nothing known out text lent rest begin read same begun empty = record {
   text = text;
   read = read;
   begin = begin;
   rest = rest;
-  begun = subst (λ (t : Bytes). IsBegun t begin rest) same begun;
+  begun = subst (λ (t : Bytes). HasBeginning t begin rest) same begun;
   list = rest;
   is = inl refl;
   done = inl (empty, nothing_appended out);
 }
 
 -- a text was read and replayed
-pub replayed_text : (known a b c : Option (List ℕ)) (text lent rest list : Bytes) (begin : Begin) → IfSome known (λ (bytes : List ℕ). text ≡ bytes) → lent ≡ text → IsBegun lent begin rest → IsText rest list → AreReplayed begin list a b → Keeps b c → IsReplayed known a c
+pub replayed_text : (known a b c : Option (List ℕ)) (text lent rest list : Bytes) (begin : Begin) → IfSome known (λ (bytes : List ℕ). text ≡ bytes) → lent ≡ text → HasBeginning lent begin rest → IsText rest list → AreReplayed begin list a b → Keeps b c → IsReplayed known a c
 replayed_text known a b c text lent rest list begin read same begun is done kept = record {
   text = text;
   read = read;
   begin = begin;
   rest = rest;
-  begun = subst (λ (t : Bytes). IsBegun t begin rest) same begun;
+  begun = subst (λ (t : Bytes). HasBeginning t begin rest) same begun;
   list = list;
   is = is;
   done = inr (record {

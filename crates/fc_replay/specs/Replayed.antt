@@ -32,8 +32,8 @@ pub record HasBeginLine (text : Bytes) (begin : Begin) (rest : Bytes) : Type 0 w
   pub says : SaysBegin (line_words line) begin
 
 -- how the server begins, and the text of the events: where no first line says it, at serial 0 and message id 0
-abbrev pub IsBegun : Bytes → Begin → Bytes → Type 0
-IsBegun text begin rest = ((rest ≡ text) × (begin ≡ record { serial = 0; id = 0 })) ⊎ HasBeginLine text begin rest
+abbrev pub HasBeginning : Bytes → Begin → Bytes → Type 0
+HasBeginning text begin rest = ((rest ≡ text) × (begin ≡ record { serial = 0; id = 0 })) ⊎ HasBeginLine text begin rest
 
 -- each line says its event, by the words of the line
 abbrev pub AreEvents : List (List Bytes) → List Event → Type 0
@@ -70,7 +70,7 @@ pub record IsReplayed (known before after : Option (List ℕ)) : Type 0 where
   pub read : IfSome known (λ bytes. text ≡ bytes)
   pub begin : Begin
   pub rest : Bytes
-  pub begun : IsBegun text begin rest
+  pub begun : HasBeginning text begin rest
   pub list : Bytes
   pub is : IsText rest list
   pub done : ((length rest ≡ 0) × Appends before after []) ⊎ AreReplayed begin list before after

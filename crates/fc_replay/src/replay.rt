@@ -6,7 +6,7 @@ ghost use Rattle.fc_registry.specs.Slots.{last_serial};
 ghost use Rattle.fc_cli.specs.declared.status.Status.TheVariants.{Done};
 ghost use Rattle.fc_replay.specs.Listed.{line_words};
 ghost use Rattle.fc_replay.specs.Printed.{emitted_line};
-ghost use Rattle.fc_replay.specs.Replayed.{AreEvents, AreReplayed, IsBegun, IsFirstLine, IsReplayed, IsText, listed_lines, told_of_all};
+ghost use Rattle.fc_replay.specs.Replayed.{AreEvents, AreReplayed, HasBeginning, IsFirstLine, IsReplayed, IsText, listed_lines, told_of_all};
 
 use crate::listed::{ListedEvent, begin_in};
 use crate::printing::{print_emitted, print_slot, slot_line};
@@ -55,7 +55,7 @@ fn replay_list<R: Read, W: Write>(alloc: Global, input: &mut R, out: &mut W) -> 
 
 // How the server of a text begins, and the text of its events.
 fn begun(alloc: Global, text: &[u8]) -> Result<(Begin, &[u8]), AllocError>
-    ensures begun { IfOk result (λ r. IsBegun text.now r.0 r.1.now) }
+    ensures begun { IfOk result (λ r. HasBeginning text.now r.0 r.1.now) }
     ensures serial { IfOk result (λ r. r.0.serial ≤ last_serial) }
 {
     let (line, rest) = first_line(text);
