@@ -1,52 +1,71 @@
 -- A fetch, reply by reply.
-use Rattle.std.proofs.Common.{◌≡◌, ℕ, ◌+◌, ◌%◌, ◌<◌, List, [], ◌∷◌, length, Ok, Option, Some, None, MatchOption, sym, ◌∙◌, ap, subst, arith}
-use Rattle.coap_msg.specs.Wire.{Message}
+use Rattle.std.proofs.Common.{◌≡◌, ℕ, ◌+◌, ◌%◌, ◌<◌, List, [], ◌∷◌, length, Ok, refl, sym, ◌∙◌, ap, subst, arith}
+use Rattle.coap_msg.specs.Wire.{Message, message_bytes}
 use Rattle.coap_msg.specs.Reading.{reading_of}
 use Rattle.coap_client.specs.declared.errand.Errand.{Errand}
+use Rattle.coap_client.specs.declared.fetching.Course.{Course}
+use Rattle.coap_client.specs.declared.fetching.Step.{Step}
+use Rattle.coap_client.specs.declared.hearing.Request.{Request}
 use Rattle.coap_client.specs.declared.part.Part.{Part}
 use Rattle.coap_client.specs.Parts.{first_part}
-use Rattle.coap_client.specs.Replies.{IsReply}
-use Rattle.coap_client.specs.Heard.{IsReadAs}
-use Rattle.coap_client.specs.Fetching.{Out, Ended, AreReplies, IsOfVersion, IsFetched, IsFetching, after_reply, state_after}
+use Rattle.coap_client.specs.Requests.{part_request}
+use Rattle.coap_client.specs.Heard.{IsAnswer, IsAnsweredBy}
+use Rattle.coap_client.specs.Fetching.{State, Out, AnswersIn, IsAnswerTo, IsStep, IsUnderWay, LeadsTo, after_reply, ids_after, state_after, with_id}
 
-pub at_some : {X : Type 0} (A : Type 0) (B : X → Type 0) (r : Option X) (x : X) → r ≡ Some x → MatchOption r A B → B x
-at_some A B r x e m = subst (λ o. MatchOption o A B) e m
+-- what came answers the request of a part
+pub answers_part : (went came : List ℕ → Type 0) (e : Errand) (part : Part) (id : ℕ) (earlier : List ℕ) (r : Request) (bytes : List ℕ) (m : Message) →
+    IsAnswer went came r bytes → reading_of bytes ≡ Ok m →
+    r.confirmable ≡ e.confirmable → r.id ≡ id → r.earlier.now ≡ earlier → r.datagram.now.items ≡ message_bytes (part_request e part id) →
+    IsAnswerTo went came e id earlier part m
+answers_part went came e part id earlier r bytes m a read c i k d =
+    let same : a.message ≡ m = cc (a.is.asked.read_is, read) in
+    record {
+      bytes = bytes;
+      is = subst (λ x. IsAnsweredBy went came e.confirmable id earlier (message_bytes (part_request e part id)) bytes x) same
+           (subst (λ x. IsAnsweredBy went came e.confirmable id earlier x bytes a.message) d
+           (subst (λ x. IsAnsweredBy went came e.confirmable id x r.datagram.now.items bytes a.message) k
+           (subst (λ x. IsAnsweredBy went came e.confirmable x r.earlier.now r.datagram.now.items bytes a.message) i
+           (subst (λ x. IsAnsweredBy went came x r.id r.earlier.now r.datagram.now.items bytes a.message) c a.is))));
+    }
 
-pub at_none : {X : Type 0} (A : Type 0) (B : X → Type 0) (r : Option X) → r ≡ None → MatchOption r A B → A
-at_none A B r e m = subst (λ o. MatchOption o A B) e m
+pub begins : (went came : List ℕ → Type 0) (e : Errand) (first : ℕ) (known : List ℕ) (part : Part) (body etag : List ℕ) →
+    first < 65536 → part ≡ first_part e.method (length e.payload.now) → body ≡ [] → etag ≡ [] →
+    IsUnderWay went came e first known first known (Out part body etag)
+begins went came e first known part body etag below p b t =
+    record { replies = []; are = tt; leads = cc (p, b, t); id_is = omega (arith, below); earlier_is = refl }
 
--- a datagram spells one message
-pub reply_of : (bytes : List ℕ) (id : ℕ) (m : Message) → reading_of bytes ≡ Ok m → IsReadAs bytes (IsReply id) → IsReply id m
-reply_of bytes id m e s = let same : s.message ≡ m = cc (s.read_is, e) in subst (IsReply id) same s.holds
-
-pub begins : (e : Errand) (first : ℕ) (part : Part) (body etag : List ℕ) → first < 65536 → part ≡ first_part e.method (length e.payload.now) → body ≡ [] → etag ≡ [] →
-    IsFetching e first first part body etag
-begins e first part body etag below p b t = record { replies = []; are = tt; leads = cc (p, b, t); id_is = omega (arith, below) }
-
-one_more : (e : Errand) (first id : ℕ) (part : Part) (body etag : List ℕ) (m : Message) (u : IsFetching e first id part body etag) → IsReply id m → IsOfVersion (Out part body etag) m →
-    AreReplies e first (m ∷ u.replies)
-one_more e first id part body etag m u r v =
-    (u.are, subst (λ i. IsReply i m) u.id_is r, subst (λ s. IsOfVersion s m) (sym u.leads) v)
-
-led : (e : Errand) (first id : ℕ) (part : Part) (body etag : List ℕ) (m : Message) (u : IsFetching e first id part body etag) →
-    state_after e (m ∷ u.replies) ≡ after_reply (length e.payload.now) m (Out part body etag)
-led e first id part body etag m u = ap (after_reply (length e.payload.now) m) u.leads
-
-pub goes_on : (e : Errand) (first id : ℕ) (part : Part) (body etag : List ℕ) (m : Message) (next : Part) (more tag : List ℕ) (after : ℕ) →
-    IsFetching e first id part body etag → IsReply id m → IsOfVersion (Out part body etag) m →
-    after_reply (length e.payload.now) m (Out part body etag) ≡ Out next more tag → after ≡ (id + 1) % 65536 → IsFetching e first after next more tag
-goes_on e first id part body etag m next more tag after u r v a i = record {
+pub one_more : (went came : List ℕ → Type 0) (e : Errand) (first : ℕ) (known : List ℕ) (id : ℕ) (earlier : List ℕ) (part : Part) (body etag : List ℕ) (m : Message)
+    (id' : ℕ) (earlier' : List ℕ) (next : State) →
+    IsUnderWay went came e first known id earlier (Out part body etag) → IsAnswerTo went came e id earlier part m →
+    after_reply (length e.payload.now) m (Out part body etag) ≡ next → id' ≡ (id + 1) % 65536 → earlier' ≡ with_id m earlier →
+    IsUnderWay went came e first known id' earlier' next
+one_more went came e first known id earlier part body etag m id' earlier' next u a n i k = record {
   replies = m ∷ u.replies;
-  are = one_more e first id part body etag m u r v;
-  leads = led e first id part body etag m u ∙ a;
+  are = (u.are,
+      subst (λ s. AnswersIn went came e ((first + length u.replies) % 65536) (ids_after known u.replies) s m) (sym u.leads)
+      (subst (λ x. IsAnswerTo went came e ((first + length u.replies) % 65536) x part m) u.earlier_is
+      (subst (λ x. IsAnswerTo went came e x earlier part m) u.id_is a)));
+  leads = ap (after_reply (length e.payload.now) m) u.leads ∙ n;
   id_is = omega (arith, i, u.id_is);
+  earlier_is = k ∙ ap (with_id m) u.earlier_is;
 }
 
-pub ends : (e : Errand) (first id : ℕ) (part : Part) (body etag : List ℕ) (m : Message) (code : ℕ) (all : List ℕ) →
-    IsFetching e first id part body etag → IsReply id m → IsOfVersion (Out part body etag) m →
-    after_reply (length e.payload.now) m (Out part body etag) ≡ Ended code all → IsFetched e first code all
-ends e first id part body etag m code all u r v a = record {
-  replies = m ∷ u.replies;
-  are = one_more e first id part body etag m u r v;
-  ends = led e first id part body etag m u ∙ a;
-}
+pub leads_to : (went came : List ℕ → Type 0) (e : Errand) (first : ℕ) (known : List ℕ) (id : ℕ) (earlier : List ℕ) (state : State) →
+    IsUnderWay went came e first known id earlier state → LeadsTo went came e first known state
+leads_to went came e first known id earlier state u = record { replies = u.replies; are = u.are; leads = u.leads }
+
+-- an answer was taken
+pub taken : (went came : List ℕ → Type 0) (e : Errand) (first : ℕ) (known : List ℕ) (old new : Course) (m : Message) (step : Step) →
+    IsUnderWay went came e first known old.id old.earlier.items (Out old.part old.body.items old.etag.items) → IsAnswerTo went came e old.id old.earlier.items old.part m →
+    IsStep (length e.payload.now) m old new step →
+    IsUnderWay went came e first known new.id new.earlier.items (after_reply (length e.payload.now) m (Out old.part old.body.items old.etag.items))
+taken went came e first known old new m step u a s =
+    one_more went came e first known old.id old.earlier.items old.part old.body.items old.etag.items m new.id new.earlier.items _ u a refl s.id s.earlier
+
+-- what the answer leads to
+pub leads_on : (went came : List ℕ → Type 0) (e : Errand) (first : ℕ) (known : List ℕ) (old new : Course) (m : Message) (step : Step) (state : State) →
+    IsUnderWay went came e first known old.id old.earlier.items (Out old.part old.body.items old.etag.items) → IsAnswerTo went came e old.id old.earlier.items old.part m →
+    IsStep (length e.payload.now) m old new step → after_reply (length e.payload.now) m (Out old.part old.body.items old.etag.items) ≡ state →
+    IsUnderWay went came e first known new.id new.earlier.items state
+leads_on went came e first known old new m step state u a s is =
+    subst (IsUnderWay went came e first known new.id new.earlier.items) is (taken went came e first known old new m step u a s)

@@ -1,4 +1,6 @@
 pub mod Courses
+pub mod NextParts
 pub mod Sizes
 pub mod Splitting
-mod LeftOut
+mod SentBodies
+mod JoinedAnswers

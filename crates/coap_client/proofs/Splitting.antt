@@ -1,11 +1,14 @@
 -- A path is cut in one way, so what its cuts don't say it doesn't say.
-use Rattle.std.proofs.Common.{◌≡◌, ◌≢◌, ℕ, List, [], ◌∷◌, ◌++◌, length, refl, sym, ◌∙◌, ap, subst}
+use Rattle.std.proofs.Common.{◌≡◌, ◌≢◌, ℕ, ◌<◌, List, [], ◌∷◌, ◌++◌, length, refl, sym, ◌∙◌, ap, subst, arith}
 use Rattle.std.proofs.lemmas.List.{append_assoc, append-nil, map_push}
 use Rattle.std.specs.List.{All}
 use Rattle.std.proofs.lemmas.List.Elements.{All-head, All-tail, All-nil, All-cons, All-append}
 use Rattle.std.specs.Prelude.{◌==◌, false}
 use Rattle.std.specs.Borrow.{Bor}
-use Rattle.coap_client.specs.Paths.{segments_in, slash, IsSegment, path_text, IsSlashed, IsNoPath, IsRest, IsFirstSegment, HasNoSlash}
+use Rattle.coap_client.specs.declared.path.PathError.{PathError}
+use Rattle.coap_client.specs.declared.path.PathError.TheVariants.{NoSlash, Empty, Long, NoMemory}
+use Rattle.coap_client.specs.PathErrors.{IsUnfit, TellsNoPath}
+use Rattle.coap_client.specs.Paths.{slices_in, slash, IsSegment, path_text, IsSlashed, IsNoPath, IsRest, IsFirstSegment, HasNoSlash}
 
 abbrev pub IsUnsplit : List ℕ → Type 0
 IsUnsplit s = All (λ b. b ≢ slash) s
@@ -105,5 +108,18 @@ not_nil [] e n = cc e
 not_nil (x ∷ xs) e n = cc n
 
 -- a segment is pushed
-pub pushed : (old new : List (Bor (List ℕ))) (s : Bor (List ℕ)) → new ≡ old ++ s ∷ [] → segments_in new ≡ segments_in old ++ s.now ∷ []
-pushed old new s e = ap segments_in e ∙ map_push (λ x. x.now) old s
+pub pushed : (old new : List (Bor (List ℕ))) (s : Bor (List ℕ)) → new ≡ old ++ s ∷ [] → slices_in new ≡ slices_in old ++ s.now ∷ []
+pushed old new s e = ap slices_in e ∙ map_push (λ x. x.now) old s
+
+-- a segment of no byte, or of more than 255, is none
+pub unfit : (segment : List ℕ) (e : PathError) → IsUnfit segment e → IsSegment segment → ⊥
+unfit segment NoSlash u own = absurd u
+unfit segment (Empty n) u own = let none = ap length u in omega (arith, none, own.some)
+unfit segment (Long n) u own = omega (arith, u, own.short)
+unfit segment NoMemory u own = absurd u
+
+pub tells : (text : List ℕ) (e : PathError) → IsNoPath text → TellsNoPath text e
+tells text NoSlash none = none
+tells text (Empty n) none = none
+tells text (Long n) none = none
+tells text NoMemory none = tt

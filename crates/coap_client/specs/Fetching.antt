@@ -1,33 +1,42 @@
 -- A fetch as a list of replies, the newest first, each to the request that the ones before it have led to.
-use Rattle.std.specs.Prelude.{◌≡◌, ℕ, ◌+◌, ◌%◌, List, [], ◌∷◌, ◌++◌, length}
-use Rattle.coap_msg.specs.Wire.{Message}
+use Rattle.std.specs.Prelude.{◌≡◌, ℕ, ◌+◌, ◌%◌, ◌⊎◌, if◌then◌else◌, List, [], ◌∷◌, ◌++◌, length}
+use Rattle.coap_msg.specs.Wire.{Message, message_bytes}
 use Rattle.coap_client.specs.declared.errand.Errand.{Errand}
+use Rattle.coap_client.specs.declared.fetching.Attempt.{Attempt}
+use Rattle.coap_client.specs.declared.fetching.Attempt.TheVariants as attempt
+use Rattle.coap_client.specs.declared.fetching.Course.{Course}
+use Rattle.coap_client.specs.declared.fetching.Step.{Step}
+use Rattle.coap_client.specs.declared.fetching.Step.TheVariants as step
 use Rattle.coap_client.specs.declared.part.Part.{Part}
 use Rattle.coap_client.specs.declared.part.Part.TheVariants.{Answer}
 use Rattle.coap_client.specs.declared.reply.Next.{Next}
-use Rattle.coap_client.specs.declared.reply.Next.TheVariants.{Ask, Last, Refused, Misfit}
+use Rattle.coap_client.specs.declared.reply.Next.TheVariants as next
 use Rattle.coap_client.specs.Parts.{first_part}
-use Rattle.coap_client.specs.Replies.{IsReply, etag_of, next_of}
+use Rattle.coap_client.specs.Heard.{IsAnsweredBy}
+use Rattle.coap_client.specs.Replies.{begins_exchange, etag_of, next_of}
+use Rattle.coap_client.specs.Requests.{part_request}
 
--- a request is out, and so much of the answer is there, with this ETag; or the fetch has ended; or an answer didn't fit
+-- a request is out, and so much of the answer is there, with this ETag; or the fetch has ended; or a further block of the answer was of another version; or an answer didn't fit
 pub data State : Type 0 where
-  Out : (part : Part) (body : List ℕ) (etag : List ℕ) → State
+  Out : (part : Part) (body etag : List ℕ) → State
   Ended : (code : ℕ) (body : List ℕ) → State
+  Outdated : State
   Lost : State
 
 -- a reply brings a block of the answer where a further one is asked for; one to a block of the request's body brings none
 abbrev pub going_on : Part → List ℕ → List ℕ → Message → State
-going_on (Answer n) body etag m = Out (Answer n) (body ++ m.payload) (etag_of m)
+going_on (Answer n szx) body etag m = Out (Answer n szx) (body ++ m.payload) (etag_of m)
 going_on other body etag m = Out other body etag
 
 abbrev pub moved_on : Next → List ℕ → List ℕ → Message → State
-moved_on (Ask part) body etag m = going_on part body etag m
-moved_on Last body etag m = Ended m.code (body ++ m.payload)
-moved_on Refused body etag m = Ended m.code m.payload
-moved_on Misfit body etag m = Lost
+moved_on (next.Ask part) body etag m = going_on part body etag m
+moved_on next.Last body etag m = Ended m.code (body ++ m.payload)
+moved_on next.Refused body etag m = Ended m.code m.payload
+moved_on next.Stale body etag m = Outdated
+moved_on next.Misfit body etag m = Lost
 
 abbrev pub after_reply : ℕ → Message → State → State
-after_reply count m (Out part body etag) = moved_on (next_of count part m) body etag m
+after_reply count m (Out part body etag) = moved_on (next_of count part etag m) body etag m
 after_reply count m other = other
 
 -- what these replies lead to, where the request's body has so many bytes
@@ -35,25 +44,68 @@ abbrev pub state_after : Errand → List Message → State
 state_after e [] = Out (first_part e.method (length e.payload.now)) [] []
 state_after e (m ∷ ms) = after_reply (length e.payload.now) m (state_after e ms)
 
--- a further block is of the version that the blocks before it are of (RFC 7959, 2.4)
-abbrev pub IsOfVersion : State → Message → Type 0
-IsOfVersion (Out (Answer n) body etag) m = etag_of m ≡ etag
-IsOfVersion other m = Unit {0}
+-- behind these ids, those of the replies that came in messages of their own, in order
+abbrev pub with_id : Message → List ℕ → List ℕ
+with_id m ids = if begins_exchange m.kind then ids ++ m.id ∷ [] else ids
 
--- each is a reply to the request before it, whose ids count up from the first
-abbrev pub AreReplies : Errand → ℕ → List Message → Type 0
-AreReplies e first [] = Unit {0}
-AreReplies e first (m ∷ ms) = AreReplies e first ms × IsReply ((first + length ms) % 65536) m × IsOfVersion (state_after e ms) m
+abbrev pub ids_after : List ℕ → List Message → List ℕ
+ids_after known [] = known
+ids_after known (m ∷ ms) = with_id m (ids_after known ms)
 
--- replies to the requests from this id on end the fetch with this code and body
-pub record IsFetched (e : Errand) (first code : ℕ) (body : List ℕ) : Type 0 where
+-- a datagram came that spells the message, which answers the request of a part
+pub record IsAnswerTo (went came : List ℕ → Type 0) (e : Errand) (id : ℕ) (earlier : List ℕ) (part : Part) (m : Message) : Type 0 where
+  pub bytes : List ℕ
+  pub is : IsAnsweredBy went came e.confirmable id earlier (message_bytes (part_request e part id)) bytes m
+
+-- the request that is out is answered by the message
+abbrev pub AnswersIn : (List ℕ → Type 0) → (List ℕ → Type 0) → Errand → ℕ → List ℕ → State → Message → Type 0
+AnswersIn went came e id earlier (Out part body etag) m = IsAnswerTo went came e id earlier part m
+AnswersIn went came e id earlier other m = ⊥
+
+-- each is a reply to the request before it, whose ids count up from the first; messages of the ids that are known answered others
+abbrev pub AreReplies : (List ℕ → Type 0) → (List ℕ → Type 0) → Errand → ℕ → List ℕ → List Message → Type 0
+AreReplies went came e first known [] = Unit {0}
+AreReplies went came e first known (m ∷ ms) =
+    AreReplies went came e first known ms × AnswersIn went came e ((first + length ms) % 65536) (ids_after known ms) (state_after e ms) m
+
+-- replies to the requests from this id on lead to this state
+pub record LeadsTo (went came : List ℕ → Type 0) (e : Errand) (first : ℕ) (known : List ℕ) (state : State) : Type 0 where
   pub replies : List Message
-  pub are : AreReplies e first replies
-  pub ends : state_after e replies ≡ Ended code body
+  pub are : AreReplies went came e first known replies
+  pub leads : state_after e replies ≡ state
 
--- a fetch under way: these replies have led to the request of this part
-pub record IsFetching (e : Errand) (first id : ℕ) (part : Part) (body etag : List ℕ) : Type 0 where
+-- after replies whose last one was outdated, others to requests of later ids lead to this state
+pub record LeadsToAgain (went came : List ℕ → Type 0) (e : Errand) (first : ℕ) (state : State) : Type 0 where
+  pub outdated : List Message
+  pub are : AreReplies went came e first [] outdated
+  pub leads : state_after e outdated ≡ Outdated
+  pub again : LeadsTo went came e ((first + length outdated) % 65536) (ids_after [] outdated) state
+
+-- the fetch ends with this code and body, at once or begun again once
+abbrev pub IsFetched : (List ℕ → Type 0) → (List ℕ → Type 0) → Errand → ℕ → ℕ → List ℕ → Type 0
+IsFetched went came e first code body =
+    LeadsTo went came e first [] (Ended code body) ⊎ LeadsToAgain went came e first (Ended code body)
+
+-- replies have led to this state, so that the next request has this id, and messages of these ids have answered
+pub record IsUnderWay (went came : List ℕ → Type 0) (e : Errand) (first : ℕ) (known : List ℕ) (id : ℕ) (earlier : List ℕ) (state : State) : Type 0 where
   pub replies : List Message
-  pub are : AreReplies e first replies
-  pub leads : state_after e replies ≡ Out part body etag
+  pub are : AreReplies went came e first known replies
+  pub leads : state_after e replies ≡ state
   pub id_is : id ≡ (first + length replies) % 65536
+  pub earlier_is : earlier ≡ ids_after known replies
+
+-- what one attempt comes to
+abbrev pub IsAttempt : (List ℕ → Type 0) → (List ℕ → Type 0) → Errand → ℕ → List ℕ → Attempt → Type 0
+IsAttempt went came e first known (attempt.Ended f) = LeadsTo went came e first known (Ended f.code.byte f.body.items)
+IsAttempt went came e first known (attempt.Outdated id earlier) = IsUnderWay went came e first known id earlier.items Outdated
+
+-- what an answer makes of a fetch under way: the next request is out, or it has ended, or the answer was outdated
+abbrev pub IsNow : State → Course → Step → Type 0
+IsNow state c step.GoesOn = state ≡ Out c.part c.body.items c.etag.items
+IsNow state c (step.Ended code) = state ≡ Ended code.byte c.body.items
+IsNow state c step.Outdated = state ≡ Outdated
+
+pub record IsStep (count : ℕ) (m : Message) (old new : Course) (step : Step) : Type 0 where
+  pub now : IsNow (after_reply count m (Out old.part old.body.items old.etag.items)) new step
+  pub id : new.id ≡ (old.id + 1) % 65536
+  pub earlier : new.earlier.items ≡ with_id m old.earlier.items

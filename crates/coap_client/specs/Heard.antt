@@ -1,10 +1,75 @@
 -- What a datagram from the server is to the request that is out.
-use Rattle.std.specs.Prelude.{◌≡◌, ℕ, List, Ok}
-use Rattle.coap_msg.specs.Wire.{Message}
+use Rattle.std.specs.Prelude.{◌≡◌, ℕ, ◌≤◌, ◌⊎◌, Bool, true, false, List, length, take, Ok}
+use Rattle.coap_msg.specs.Wire.{Message, message_bytes}
 use Rattle.coap_msg.specs.Reading.{reading_of}
-use Rattle.coap_client.specs.declared.fetching.Heard.{Heard}
-use Rattle.coap_client.specs.declared.fetching.Heard.TheVariants.{Reply, Reset, Other}
-use Rattle.coap_client.specs.Replies.{IsReply, IsReset}
+use Rattle.coap_msg.specs.declared.types.MessageType.TheVariants.{Confirmable}
+use Rattle.coap_client.specs.declared.hearing.Heard.{Heard}
+use Rattle.coap_client.specs.declared.hearing.Heard.TheVariants.{Reply, Separate, Repeat, Acknowledged, Rejected, Other}
+use Rattle.coap_client.specs.declared.hearing.Listened.{Listened}
+use Rattle.coap_client.specs.declared.hearing.Listened.TheVariants as listened
+use Rattle.coap_client.specs.declared.hearing.Request.{Request}
+use Rattle.coap_client.specs.Replies.{IsEmptyAcknowledgement, IsReply, IsReset, IsSeparate, is_among}
+use Rattle.coap_client.specs.Requests.{acknowledgement}
+
+-- an empty acknowledgement came
+pub record IsAcknowledged (came : List ℕ → Type 0) (id : ℕ) : Type 0 where
+  pub bytes : List ℕ
+  pub message : Message
+  pub came_is : came bytes
+  pub read_is : reading_of bytes ≡ Ok message
+  pub is : IsEmptyAcknowledgement id message
+
+-- a response in a message of its own, which isn't one of those before; a confirmable request has been acknowledged then
+pub record IsSeparateTo (came : List ℕ → Type 0) (confirmable : Bool) (id : ℕ) (earlier : List ℕ) (m : Message) : Type 0 where
+  pub own : IsSeparate m
+  pub new : is_among earlier m.id ≡ false
+  pub awaited : confirmable ≡ true → IsAcknowledged came id
+
+-- the message answers the request of this id, where messages of these ids have answered others
+abbrev pub Responds : (List ℕ → Type 0) → Bool → ℕ → List ℕ → Message → Type 0
+Responds came confirmable id earlier m = IsReply id m ⊎ IsSeparateTo came confirmable id earlier m
+
+-- this request was sent, and a datagram came that spells the message, which answers it
+pub record IsAskedFor (went came : List ℕ → Type 0) (confirmable : Bool) (id : ℕ) (earlier request bytes : List ℕ) (m : Message) : Type 0 where
+  pub asked : went request
+  pub came_is : came bytes
+  pub read_is : reading_of bytes ≡ Ok m
+  pub responds : Responds came confirmable id earlier m
+
+-- and the message was acknowledged where it asks for that (RFC 7252, 4.2)
+pub record IsAnsweredBy (went came : List ℕ → Type 0) (confirmable : Bool) (id : ℕ) (earlier request bytes : List ℕ) (m : Message) : Type 0 where
+  pub asked : IsAskedFor went came confirmable id earlier request bytes m
+  pub acknowledged : m.kind ≡ Confirmable → went (message_bytes (acknowledgement m.id))
+
+-- the bytes answer a request
+pub record IsAsked (went came : List ℕ → Type 0) (r : Request) (bytes : List ℕ) : Type 0 where
+  pub message : Message
+  pub is : IsAskedFor went came r.confirmable r.id r.earlier.now r.datagram.now.items bytes message
+
+pub record IsAnswer (went came : List ℕ → Type 0) (r : Request) (bytes : List ℕ) : Type 0 where
+  pub message : Message
+  pub is : IsAnsweredBy went came r.confirmable r.id r.earlier.now r.datagram.now.items bytes message
+
+-- a separate response that came before, or didn't
+pub record IsSeparateAmong (earlier : List ℕ) (before : Bool) (m : Message) : Type 0 where
+  pub own : IsSeparate m
+  pub before_is : is_among earlier m.id ≡ before
+
+-- none of all
+pub record IsOther (id : ℕ) (m : Message) : Type 0 where
+  pub reply : IsReply id m → ⊥
+  pub acknowledged : IsEmptyAcknowledgement id m → ⊥
+  pub rejected : IsReset id m → ⊥
+  pub separate : IsSeparate m → ⊥
+
+-- the request of this id is answered, acknowledged or rejected; or a response came in a message of its own, for the first time or again; or none of these
+abbrev pub IsHeardAs : ℕ → List ℕ → Message → Heard → Type 0
+IsHeardAs id earlier m Reply = IsReply id m
+IsHeardAs id earlier m Separate = IsSeparateAmong earlier false m
+IsHeardAs id earlier m Repeat = IsSeparateAmong earlier true m
+IsHeardAs id earlier m Acknowledged = IsEmptyAcknowledgement id m
+IsHeardAs id earlier m Rejected = IsReset id m
+IsHeardAs id earlier m Other = IsOther id m
 
 -- the datagram spells a message of this kind
 pub record IsReadAs (bytes : List ℕ) (P : Message → Type 0) : Type 0 where
@@ -12,8 +77,23 @@ pub record IsReadAs (bytes : List ℕ) (P : Message → Type 0) : Type 0 where
   pub read_is : reading_of bytes ≡ Ok message
   pub holds : P message
 
--- the request of this id is answered or rejected, or neither
-abbrev pub Tells : ℕ → List ℕ → Heard → Type 0
-Tells id bytes Reply = IsReadAs bytes (IsReply id)
-Tells id bytes Reset = IsReadAs bytes (IsReset id)
-Tells id bytes Other = (m : Message) → reading_of bytes ≡ Ok m → (IsReply id m → ⊥) × (IsReset id m → ⊥)
+-- what a datagram is; one that spells no message is none of these
+abbrev pub Tells : ℕ → List ℕ → List ℕ → Heard → Type 0
+Tells id earlier bytes Other = (m : Message) → reading_of bytes ≡ Ok m → IsOther id m
+Tells id earlier bytes heard = IsReadAs bytes (λ m. IsHeardAs id earlier m heard)
+
+-- what came answers a request, in its acknowledgement, or where that is awaited in a message of its own
+abbrev pub IsAnswering : Request → Bool → Message → Type 0
+IsAnswering r awaited m = IsReply r.id m ⊎ ((awaited ≡ true) × IsSeparateAmong r.earlier.now false m)
+
+pub record IsHeard (came : List ℕ → Type 0) (r : Request) (awaited : Bool) (bytes : List ℕ) : Type 0 where
+  pub message : Message
+  pub came_is : came bytes
+  pub read_is : reading_of bytes ≡ Ok message
+  pub answers : IsAnswering r awaited message
+
+-- what listening comes to
+abbrev pub Hears : (List ℕ → Type 0) → Request → Bool → List ℕ → Listened → Type 0
+Hears came r awaited buffer (listened.Answer count) = (count ≤ length buffer) × IsHeard came r awaited (take count buffer)
+Hears came r awaited buffer listened.Acknowledged = IsAcknowledged came r.id
+Hears came r awaited buffer listened.Nothing = Unit {0}

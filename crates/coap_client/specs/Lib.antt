@@ -1,6 +1,8 @@
 pub mod Paths
+pub mod PathErrors
 pub mod Parts
 pub mod Requests
 pub mod Replies
-pub mod Fetching
 pub mod Heard
+pub mod Fetching
+pub mod Joined

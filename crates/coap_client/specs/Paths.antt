@@ -26,9 +26,9 @@ pub record IsSlashed (text : List ℕ) (segments : List (List ℕ)) : Type 0 whe
 pub record IsNoPath (text : List ℕ) : Type 0 where
   pub none : (segments : List (List ℕ)) → IsSlashed text segments → ⊥
 
--- segments without where they lie
-abbrev pub segments_in : List (Bor (List ℕ)) → List (List ℕ)
-segments_in lent = map (λ s. s.now) lent
+-- slices without where they lie
+abbrev pub slices_in : List (Bor (List ℕ)) → List (List ℕ)
+slices_in lent = map (λ s. s.now) lent
 
 -- the text begins with no slash
 pub record HasNoSlash (text : List ℕ) : Type 0 where

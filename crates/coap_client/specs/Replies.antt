@@ -1,16 +1,18 @@
--- Which datagrams answer a request, and what an answer says of the next one.
-use Rattle.std.specs.Prelude.{◌≡◌, ℕ, ◌+◌, ◌/◌, ◌%◌, ◌≤◌, ◌==◌, ◌&&◌, ◌||◌, Bool, true, false, nat_lt, nat_le, if◌then◌else◌, List, [], ◌∷◌, length, Option, Some, None}
+-- Which messages answer a request, and what an answer says of the next one.
+use Rattle.std.specs.Prelude.{◌≡◌, ℕ, ◌+◌, ◌-◌, ◌*◌, ◌/◌, ◌≤◌, ◌^◌, ◌==◌, ◌&&◌, not, Bool, true, false, nat_eq, nat_lt, nat_le, if◌then◌else◌, bytes_eq, List, [], ◌∷◌, length, Option, Some, None}
+use Rattle.std.specs.List.{list_any}
 use Rattle.coap_msg.specs.Wire.{Message}
 use Rattle.coap_msg.specs.Values.{values_in}
 use Rattle.coap_msg.specs.declared.code.TheConstants.Code as registered
-use Rattle.coap_msg.specs.declared.types.MessageType.TheVariants.{Acknowledgement, Reset}
-use Rattle.coap_opts.specs.Values.{Place, place_in, uint_value}
+use Rattle.coap_msg.specs.declared.types.MessageType.{MessageType}
+use Rattle.coap_msg.specs.declared.types.MessageType.TheVariants.{Acknowledgement, Confirmable, NonConfirmable, Reset}
+use Rattle.coap_opts.specs.Values.{Place, block_size, place_in}
 use Rattle.coap_opts.specs.declared.number.TheConstants as option
 use Rattle.coap_client.specs.declared.part.Part.{Part}
 use Rattle.coap_client.specs.declared.part.Part.TheVariants.{Whole, Body, Answer}
 use Rattle.coap_client.specs.declared.reply.Next.{Next}
-use Rattle.coap_client.specs.declared.reply.Next.TheVariants.{Ask, Last, Refused, Misfit}
-use Rattle.coap_client.specs.Parts.{fetched_size, block_szx, has_more}
+use Rattle.coap_client.specs.declared.reply.Next.TheVariants.{Ask, Last, Refused, Stale, Misfit}
+use Rattle.coap_client.specs.Parts.{has_more, largest_szx}
 
 -- a piggybacked response to the request of this id, which had no token (RFC 7252, 5.2.1)
 pub record IsReply (id : ℕ) (m : Message) : Type 0 where
@@ -18,6 +20,28 @@ pub record IsReply (id : ℕ) (m : Message) : Type 0 where
   pub id_is : m.id ≡ id
   pub token : m.token ≡ []
   pub response : 64 ≤ m.code
+
+-- an empty acknowledgement of the request of this id: its response comes in a message of its own (RFC 7252, 5.2.2)
+pub record IsEmptyAcknowledgement (id : ℕ) (m : Message) : Type 0 where
+  pub kind : m.kind ≡ Acknowledgement
+  pub id_is : m.id ≡ id
+  pub empty : m.code ≡ 0
+
+-- confirmable or not: a message that begins an exchange
+abbrev pub begins_exchange : MessageType → Bool
+begins_exchange Confirmable = true
+begins_exchange NonConfirmable = true
+begins_exchange other = false
+
+-- a response in a message of its own, to a request without a token (RFC 7252, 5.2.2 and 5.2.3)
+pub record IsSeparate (m : Message) : Type 0 where
+  pub kind : begins_exchange m.kind ≡ true
+  pub token : m.token ≡ []
+  pub response : 64 ≤ m.code
+
+-- a message with one of these ids has come before
+abbrev pub is_among : List ℕ → ℕ → Bool
+is_among earlier id = list_any (λ y. nat_eq y id) earlier
 
 -- the request of this id is rejected (RFC 7252, 4.2)
 pub record IsReset (id : ℕ) (m : Message) : Type 0 where
@@ -28,11 +52,18 @@ pub record IsReset (id : ℕ) (m : Message) : Type 0 where
 abbrev pub is_success : ℕ → Bool
 is_success code = code / 32 == 2
 
+-- the body is taken so far, and more of it is to come (RFC 7959, 2.9.1)
+abbrev pub is_continue : Message → Bool
+is_continue m = m.code == registered.CONTINUE.byte
+
 abbrev pub first_or_none : List (List ℕ) → Option (List ℕ)
 first_or_none [] = None
 first_or_none (v ∷ vs) = Some v
 
--- the value of Block2 (RFC 7959, 2.1)
+-- the values of Block1 and Block2 (RFC 7959, 2.1)
+abbrev pub block1_of : Message → Option (List ℕ)
+block1_of m = first_or_none (values_in option.BLOCK1 m.options)
+
 abbrev pub block2_of : Message → Option (List ℕ)
 block2_of m = first_or_none (values_in option.BLOCK2 m.options)
 
@@ -45,49 +76,74 @@ abbrev pub etag_of : Message → List ℕ
 etag_of m = or_empty (first_or_none (values_in option.ETAG m.options))
 
 -- after a block of the answer that has others behind it
-abbrev pub next_block : ℕ → Next
-next_block n = if nat_lt (n + 1) 1048576 then Ask (Answer (n + 1)) else Misfit
+abbrev pub next_block : Place → Next
+next_block b = if nat_lt (b.number + 1) 1048576 then Ask (Answer (b.number + 1) b.szx) else Misfit
 
--- the answer to what asked for block n, of so many bytes: block n, of the size that was asked for where others are behind it
-abbrev pub by_more : Bool → Bool → ℕ → ℕ → Next
-by_more true sized n count = if sized && (count == fetched_size) then next_block n else Misfit
-by_more false sized n count = if sized || (n == 0) then Last else Misfit
+-- a block of the answer that has so many bytes: just its size where others are behind it, and no more than that where none is
+abbrev pub by_more : Place → ℕ → Next
+by_more b count = if b.more
+  then (if count == block_size b.szx then next_block b else Misfit)
+  else (if nat_le count (block_size b.szx) then Last else Misfit)
 
-abbrev pub by_block : ℕ → ℕ → ℕ → Next
-by_block n count value = if value / 16 == n then by_more ((value / 8) % 2 == 1) (value % 8 == block_szx) n count else Misfit
+-- the block begins where the one begins that was asked for, and is no larger (RFC 7959, 2.3 and 2.4)
+abbrev pub is_place : ℕ → ℕ → Place → Bool
+is_place n szx b = nat_le b.szx szx && (block_size b.szx * b.number == block_size szx * n)
+
+abbrev pub by_block : ℕ → ℕ → ℕ → Place → Next
+by_block n szx count b = if is_place n szx b then by_more b count else Misfit
 
 -- without Block2 an answer is whole
-abbrev pub by_option : ℕ → ℕ → Option (List ℕ) → Next
-by_option n count None = if n == 0 then Last else Misfit
-by_option n count (Some value) = if nat_le (length value) 3 then by_block n count (uint_value value) else Misfit
+abbrev pub by_option : ℕ → ℕ → ℕ → Option (List ℕ) → Next
+by_option n szx count None = if n == 0 then Last else Misfit
+by_option n szx count (Some value) = if nat_le (length value) 3 then by_block n szx count (place_in value) else Misfit
 
-abbrev pub next_of_answer : ℕ → Message → Next
-next_of_answer n m = by_option n (length m.payload) (block2_of m)
+-- what comes after the answer to what asked for block n of this size
+abbrev pub next_of_answer : ℕ → ℕ → Message → Next
+next_of_answer n szx m = by_option n szx (length m.payload) (block2_of m)
 
--- the value of Block1 (RFC 7959, 2.1)
-abbrev pub block1_of : Message → Option (List ℕ)
-block1_of m = first_or_none (values_in option.BLOCK1 m.options)
+-- in which size the rest of the body goes, where a success says that block n was taken: by its Block1, which names that block and a size that is no greater, or by 2.31 without one
+-- (RFC 7959, 2.3 and 2.9.1). A success that isn't 2.31 is one of a server that carries each block out by itself, or waits for the others.
+abbrev pub size_by_block : ℕ → ℕ → Place → Option ℕ
+size_by_block n szx b = if (b.number == n) && nat_le b.szx szx then Some b.szx else None
 
--- the block that was sent is named, and of the size that it was sent in
-abbrev pub is_block : ℕ → Place → Bool
-is_block n block = (block.number == n) && (block.szx == block_szx)
+abbrev pub next_size : ℕ → ℕ → Bool → Option (List ℕ) → Option ℕ
+next_size n szx continued None = if continued then Some szx else None
+next_size n szx continued (Some value) = if nat_le (length value) 3 then size_by_block n szx (place_in value) else None
 
-abbrev pub names_block : ℕ → Option (List ℕ) → Bool
-names_block n None = false
-names_block n (Some value) = nat_le (length value) 3 && is_block n (place_in value)
+-- the block behind block n, as it is counted in blocks of a size that is no greater
+abbrev pub next_number : ℕ → ℕ → ℕ → ℕ
+next_number n szx smaller = (n + 1) * 2 ^ (szx - smaller)
 
--- a block of the body that has others behind it was taken: by 2.31 (RFC 7959, 2.9.1), or by a success that names it, whose server carries each block out by itself or waits for
--- the others (RFC 7959, 2.3)
-abbrev pub takes_block : ℕ → Message → Bool
-takes_block n m = (m.code == registered.CONTINUE.byte) || names_block n (block1_of m)
+abbrev pub next_of_body : ℕ → ℕ → Option ℕ → Next
+next_of_body n szx None = Misfit
+next_of_body n szx (Some smaller) =
+    if nat_lt (next_number n szx smaller) 1048576 then Ask (Body (next_number n szx smaller) smaller) else Misfit
 
--- where such a block was taken the next one goes; no other success is an answer to it
-abbrev pub by_part : ℕ → Part → Message → Next
-by_part count Whole m = next_of_answer 0 m
-by_part count (Answer n) m = next_of_answer n m
-by_part count (Body n) m =
-    if has_more count n then (if takes_block n m then Ask (Body (n + 1)) else Misfit) else next_of_answer 0 m
+-- a success is the answer to the whole request: it isn't 2.31, and where it has a Block1, that names block n and says that the server has all (RFC 7959, 2.3)
+abbrev pub names_last : ℕ → Place → Bool
+names_last n b = (b.number == n) && not b.more
 
--- what comes after the answer to a part, where the body has so many bytes
-abbrev pub next_of : ℕ → Part → Message → Next
-next_of count part m = if is_success m.code then by_part count part m else Refused
+abbrev pub says_last : ℕ → Option (List ℕ) → Bool
+says_last n None = true
+says_last n (Some value) = nat_le (length value) 3 && names_last n (place_in value)
+
+abbrev pub is_final : ℕ → Message → Bool
+is_final n m = not (is_continue m) && says_last n (block1_of m)
+
+abbrev pub next_of_whole : ℕ → Message → Next
+next_of_whole n m = if is_final n m then next_of_answer 0 largest_szx m else Misfit
+
+-- a further block is of the version that the blocks before it are of (RFC 7959, 2.4)
+abbrev pub next_of_further : ℕ → ℕ → List ℕ → Message → Next
+next_of_further n szx etag m =
+    if bytes_eq (etag_of m) etag then (if is_continue m then Misfit else next_of_answer n szx m) else Stale
+
+abbrev pub by_part : ℕ → Part → List ℕ → Message → Next
+by_part count Whole etag m = next_of_whole 0 m
+by_part count (Answer n szx) etag m = next_of_further n szx etag m
+by_part count (Body n szx) etag m =
+    if has_more count n szx then next_of_body n szx (next_size n szx (is_continue m) (block1_of m)) else next_of_whole n m
+
+-- what comes after the answer to a part, where the body has so many bytes, and the blocks of the answer so far are of this version
+abbrev pub next_of : ℕ → Part → List ℕ → Message → Next
+next_of count part etag m = if is_success m.code then by_part count part etag m else Refused

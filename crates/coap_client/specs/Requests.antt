@@ -1,28 +1,44 @@
--- The requests that a client sends.
-use Rattle.std.specs.Prelude.{◌≡◌, ℕ, ◌*◌, ◌<◌, ◌^◌, [], ◌++◌, length}
+-- The requests that a client sends, and how it acknowledges a response.
+use Rattle.std.specs.Prelude.{◌≡◌, ℕ, ◌*◌, ◌<◌, ◌≤◌, ◌^◌, [], ◌++◌, length}
 use Rattle.coap_msg.specs.Wire.{Message}
-use Rattle.coap_msg.specs.declared.types.MessageType.TheVariants.{Confirmable}
+use Rattle.coap_msg.specs.declared.types.MessageType.TheVariants.{Acknowledgement}
 use Rattle.coap_opts.specs.declared.request.Method.TheVariants.{Put}
 use Rattle.coap_opts.specs.Fields.{method_code}
+use Rattle.coap_opts.specs.Values.{block_size}
 use Rattle.coap_client.specs.declared.errand.Errand.{Errand}
 use Rattle.coap_client.specs.declared.part.Part.{Part}
 use Rattle.coap_client.specs.declared.part.Part.TheVariants.{Whole, Body, Answer}
-use Rattle.coap_client.specs.Paths.{segments_in}
-use Rattle.coap_client.specs.Parts.{fetched_size, most_at_once, part_options, part_payload, path_options}
+use Rattle.coap_client.specs.Paths.{slices_in}
+use Rattle.coap_client.specs.Parts.{largest_szx, most_at_once, part_options, part_payload, request_kind, resource_options}
 
--- the part is one of the body's, and a block's number has 20 bits
+-- a block's number has 20 bits, and no block is larger than 1,024 bytes (RFC 7959, 2.2)
+pub record IsBlock (n szx : ℕ) : Type 0 where
+  pub number : n < 2 ^ 20
+  pub size : szx ≤ largest_szx
+
+-- a block of the body: only a PUT's goes in blocks
+pub record IsBodyBlock (e : Errand) (n szx : ℕ) : Type 0 where
+  pub block : IsBlock n szx
+  pub method : e.method ≡ Put
+  pub within : block_size szx * n < length e.payload.now
+
+-- the part is one of the errand's
 abbrev pub IsPartOf : Errand → Part → Type 0
 IsPartOf e Whole = most_at_once e.method (length e.payload.now) ≡ length e.payload.now
-IsPartOf e (Body n) = (e.method ≡ Put) × (fetched_size * n < length e.payload.now)
-IsPartOf e (Answer n) = n < 2 ^ 20
+IsPartOf e (Body n szx) = IsBodyBlock e n szx
+IsPartOf e (Answer n szx) = IsBlock n szx
 
 -- the request of a part, with this message id and no token
 abbrev pub part_request : Errand → Part → ℕ → Message
 part_request e part id = record {
-  kind = Confirmable;
+  kind = request_kind e.confirmable;
   code = method_code e.method;
   id = id;
   token = [];
-  options = path_options (segments_in e.path.segments.items) ++ part_options part (length e.payload.now);
+  options = resource_options (slices_in e.target.path.segments.items) (slices_in e.target.query.items) ++ part_options part (length e.payload.now);
   payload = part_payload e.method e.payload.now part;
 }
+
+-- the acknowledgement of a message, which has nothing but its id (RFC 7252, 4.2)
+abbrev pub acknowledgement : ℕ → Message
+acknowledgement id = record { kind = Acknowledgement; code = 0; id = id; token = []; options = []; payload = [] }

@@ -2,25 +2,25 @@
 ghost use Rattle.std.specs.Prelude.{◌≡◌, ◌+◌, ◌*◌, ◌<◌, ◌≤◌, ◌++◌, ◌↔◌, IfOk, IfSome, IsNone, OnOk, length, min, sum_by};
 ghost use Rattle.coap_msg.specs.Wire.{message_bytes};
 ghost use Rattle.coap_msg.specs.Writing.{options_in};
-ghost use Rattle.coap_client.specs.Paths.{segments_in};
-ghost use Rattle.coap_client.specs.Parts.{FitsDatagrams, option_in, path_options, option_room};
+ghost use Rattle.coap_client.specs.Paths.{slices_in};
+ghost use Rattle.coap_client.specs.Parts.{FitsDatagrams, option_in, option_room, options_of, resource_options};
 ghost use Rattle.coap_client.specs.Parts as spec;
 ghost use Rattle.coap_opts.specs.Fields as fields;
 
 use crate::part::Part;
 use crate::path::Path;
 use coap_msg::{Code, Datagram, MessageType, Outgoing, write};
-use coap_opts::number::{BLOCK1, BLOCK2, URI_PATH};
+use coap_opts::number::{BLOCK1, BLOCK2, URI_PATH, URI_QUERY};
 use coap_opts::{Block, Method, UintBytes};
 use std::alloc::{AllocError, Global};
 
-/// The bytes of a block.
-pub const BLOCK: usize = 1024;
+/// The bytes of the largest block.
+pub const LARGEST_BLOCK: usize = 1024;
 
-/// The size of a block as options write it: its exponent less 4.
-pub const BLOCK_SZX: u8 = 6;
+/// The size of the largest block as options write it: its exponent less 4 (RFC 7959, 2.2).
+pub const LARGEST_SZX: u8 = 6;
 
-/// The most bytes of a path, each segment with five more, and what goes of a body at once.
+/// The most bytes of a path and a query, each segment and each argument with five more, and what goes of a body at once.
 const ROOM: usize = 1262;
 
 /// The most bytes that go before the value of an option.
@@ -29,30 +29,48 @@ const OPTION_HEAD: usize = 5;
 /// The most bytes of a body: a block's number has 20 bits.
 const MOST: usize = 1 << 30;
 
-/// What is asked: a method of a resource, and the request's body. Each request that asks it fits a datagram.
+/// A resource: its path, and the arguments of its query, each of which goes as a Uri-Query (RFC 7252, 5.10.1).
+#[derive(Drop)]
+pub struct Target<'a> {
+    pub path: Path<'a>,
+    pub query: Vec<&'a [u8]>,
+}
+
+/// What is asked: a method of a resource, and the request's body, by confirmable requests or others. Each of them fits a datagram.
 #[derive(Drop)]
 pub struct Errand<'a> {
+    pub confirmable: bool,
     pub method: Method,
-    pub path: Path<'a>,
+    pub target: Target<'a>,
     pub payload: &'a [u8],
-    ghost fits: { FitsDatagrams method (segments_in path.segments.items) payload.now },
+    ghost fits: { FitsDatagrams method (slices_in target.path.segments.items) (slices_in target.query.items) payload.now },
 }
 
 impl<'a> Errand<'a> {
-    ghost use Rattle.coap_client.specs.Parts.{first_part, part_options, part_payload};
-    ghost use Rattle.coap_client.specs.Requests.{IsPartOf, part_request};
+    ghost use Rattle.coap_client.specs.Parts.{first_part, has_more, part_options, part_payload};
+    ghost use Rattle.coap_client.specs.Requests.{IsBlock, IsPartOf, part_request};
 
-    /// The errand of these, where its requests fit a datagram: the segments of the path, each with five bytes more, and what
-    /// goes of the body at once have at most 1,262 bytes together. Of a PUT's body 1,024 bytes go at once.
-    pub fn new(method: Method, path: Path<'a>, payload: &'a [u8]) -> Option<Errand<'a>>
-        ensures errand { IfSome result (λ e. (e.method ≡ method) × (e.path ≡ path.entry) × (e.payload ≡ payload.entry)) }
-        ensures none { IsNone result ↔ (FitsDatagrams method (segments_in path.entry.segments.items) payload.entry.now → ⊥) }
+    /// The errand of these, where its requests fit a datagram: the segments of the path and the arguments of the query, each with
+    /// five bytes more, and what goes of the body at once have at most 1,262 bytes together. Of a PUT's body 1,024 bytes go at once.
+    pub fn new(
+        confirmable: bool,
+        method: Method,
+        target: Target<'a>,
+        payload: &'a [u8],
+    ) -> Option<Errand<'a>>
+        ensures errand { IfSome result (λ e. (e.confirmable ≡ confirmable) × (e.method ≡ method)
+            × (e.target ≡ target.entry) × (e.payload ≡ payload.entry)) }
+        ensures none { IsNone result ↔ (FitsDatagrams method (slices_in target.entry.path.segments.items)
+            (slices_in target.entry.query.items) payload.entry.now → ⊥) }
     {
-        let room = path_room(&path).saturating_add(most_at_once(method, payload.len()));
+        let room = room_of(&target.path.segments)
+            .saturating_add(room_of(&target.query))
+            .saturating_add(most_at_once(method, payload.len()));
         if room <= ROOM && payload.len() <= MOST {
             Some(Errand {
+                confirmable,
                 method,
-                path,
+                target,
                 payload,
             })
         } else {
@@ -65,11 +83,23 @@ impl<'a> Errand<'a> {
         ensures first { result ≡ first_part self.now.method (length self.now.payload.now) }
         ensures own { IsPartOf self.now result }
     {
-        if self.method == Method::Put && self.payload.len() > BLOCK {
-            Part::Body(0)
+        if self.method == Method::Put && self.payload.len() > LARGEST_BLOCK {
+            Part::Body {
+                number: 0,
+                szx: LARGEST_SZX,
+            }
         } else {
             Part::Whole
         }
+    }
+
+    /// Whether the block of the body of this number and size has another one behind it.
+    pub fn has_more(&self, number: u32, szx: u8) -> bool
+        requires { IsBlock number szx }
+        ensures { result ≡ has_more (length self.now.payload.now) number szx }
+    {
+        let block = Block::new(number, false, szx);
+        self.payload.len() > block.size() * (block.number() as usize + 1)
     }
 
     /// Writes the request of a part, with this message id, in place of what the datagram held.
@@ -87,9 +117,9 @@ impl<'a> Errand<'a> {
         ensures { OnOk result (datagram.new.items ≡ message_bytes (part_request self.now part id)) }
     {
         let block = self.block_of(part);
-        let options = options_with(alloc, &self.path.segments, &block)?;
+        let options = options_with(alloc, &self.target, &block)?;
         let request = Outgoing {
-            kind: MessageType::Confirmable,
+            kind: request_kind(self.confirmable),
             code: method_code(self.method),
             id,
             token: &[],
@@ -107,11 +137,13 @@ impl<'a> Errand<'a> {
     {
         match part {
             Part::Whole => None,
-            Part::Body(number) => {
-                let more = self.payload.len() > BLOCK * (number as usize + 1);
-                Some((BLOCK1, block(number, more).value()))
+            Part::Body { number, szx } => {
+                let more = self.has_more(number, szx);
+                Some((BLOCK1, Block::new(number, more, szx).value()))
             }
-            Part::Answer(number) => Some((BLOCK2, block(number, false).value())),
+            Part::Answer { number, szx } => {
+                Some((BLOCK2, Block::new(number, false, szx).value()))
+            }
         }
     }
 
@@ -122,11 +154,12 @@ impl<'a> Errand<'a> {
     {
         match part {
             Part::Whole => self.payload,
-            Part::Body(number) => {
-                let rest = &self.payload[BLOCK * number as usize..];
-                &rest[..rest.len().min(BLOCK)]
+            Part::Body { number, szx } => {
+                let block = Block::new(number, false, szx);
+                let rest = &self.payload[block.size() * block.number() as usize..];
+                &rest[..rest.len().min(block.size())]
             }
-            Part::Answer(_) => match self.method {
+            Part::Answer { .. } => match self.method {
                 Method::Get => self.payload,
                 Method::Post | Method::Put | Method::Delete => &[],
             },
@@ -134,12 +167,14 @@ impl<'a> Errand<'a> {
     }
 }
 
-// A block of the size that the client sends and asks for.
-fn block(number: u32, more: bool) -> Block
-    requires { number < 1048576 }
-    ensures { (result.number ≡ number) × (result.more ≡ more) × (result.szx ≡ 6) }
+fn request_kind(confirmable: bool) -> MessageType
+    ensures { result ≡ spec.request_kind confirmable }
 {
-    Block::new(number, more, BLOCK_SZX)
+    if confirmable {
+        MessageType::Confirmable
+    } else {
+        MessageType::NonConfirmable
+    }
 }
 
 fn method_code(method: Method) -> Code
@@ -158,38 +193,52 @@ fn most_at_once(method: Method, count: usize) -> usize
     ensures { result ≡ spec.most_at_once method count }
 {
     match method {
-        Method::Put => count.min(BLOCK),
+        Method::Put => count.min(LARGEST_BLOCK),
         Method::Get | Method::Post | Method::Delete => count,
     }
 }
 
-// What room the options of a path have, up to 2^64 - 1.
-fn path_room(path: &Path<'_>) -> usize
-    ensures { result ≡ min (sum_by option_room (segments_in path.entry.now.segments.items)) 18446744073709551615 }
+// What room the options of these values have, up to 2^64 - 1.
+fn room_of(values: &[&[u8]]) -> usize
+    ensures { result ≡ min (sum_by option_room (slices_in values.entry.now)) 18446744073709551615 }
 {
     let mut room = 0usize;
-    for segment in &path.segments {
+    for value in values {
         room = room
-            .saturating_add(segment.len())
+            .saturating_add(value.len())
             .saturating_add(OPTION_HEAD);
     }
     room
 }
 
-// The options of a request: its path, and a block.
+// The options of a request: its resource, and a block.
 fn options_with<'a>(
     alloc: Global,
-    segments: &'a [&'a [u8]],
+    target: &'a Target<'a>,
     block: &'a Option<(u16, UintBytes)>,
 ) -> Result<Vec<(u16, &'a [u8])>, AllocError>
-    ensures { IfOk result (λ v. options_in v.items ≡ path_options (segments_in segments.entry.now) ++ option_in block.entry.now) }
+    ensures { IfOk result (λ v. options_in v.items ≡ resource_options (slices_in target.entry.now.path.segments.items)
+        (slices_in target.entry.now.query.items) ++ option_in block.entry.now) }
 {
     let mut options = Vec::new(alloc);
-    for segment in segments {
-        options.push((URI_PATH, *segment))?;
-    }
+    push_options(&mut options, URI_PATH, &target.path.segments)?;
+    push_options(&mut options, URI_QUERY, &target.query)?;
     if let Some((number, value)) = block {
         options.push((*number, value.as_slice()))?;
     }
     Ok(options)
+}
+
+// Adds an option of this number for each value.
+fn push_options<'a>(
+    options: &mut Vec<(u16, &'a [u8])>,
+    number: u16,
+    values: &'a [&'a [u8]],
+) -> Result<(), AllocError>
+    ensures { OnOk result (options_in options.new.items ≡ options_in options.old.items ++ options_of number (slices_in values.entry.now)) }
+{
+    for value in values {
+        options.push((number, *value))?;
+    }
+    Ok(())
 }

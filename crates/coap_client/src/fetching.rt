@@ -1,21 +1,20 @@
-//! The fetch itself: requests go out, each again until its reply has come.
-ghost use Rattle.std.specs.Prelude.{◌≡◌, ◌+◌, ◌≤◌, ◌%◌, IfOk, IfSome, MatchOption, OnOk, length, take};
+//! The fetch itself: requests go out one after the other, each when the one before it was answered.
+ghost use Rattle.std.specs.Prelude.{◌≡◌, ◌+◌, ◌++◌, ◌%◌, [], IfOk, OnOk, if◌then◌else◌, length};
 ghost use Rattle.coap_client.specs.Requests.{IsPartOf};
-ghost use Rattle.coap_client.specs.Heard.{Tells};
-ghost use Rattle.coap_client.specs.Fetching.{Ended, IsFetched, IsOfVersion, Out, after_reply, going_on};
-ghost use Rattle.coap_client.specs.declared.fetching.Heard.TheVariants.{Reply};
+ghost use Rattle.coap_client.specs.Replies.{begins_exchange};
+ghost use Rattle.coap_client.specs.Fetching.{IsAttempt, IsFetched, IsStep, Out, going_on, with_id};
 
 use crate::errand::Errand;
+use crate::hearing::{Request, ask};
 use crate::part::Part;
-use crate::reply::{Next, etag_of, is_reply, is_reset, next_of};
+use crate::peer::Peer;
+use crate::reply::{Next, begins_exchange, etag_of, next_of};
 use coap_msg::types::DATAGRAM;
 use coap_msg::{Code, Datagram, Message, read};
+use coap_opts::Method;
 use std::alloc::{AllocError, Global};
 use std::io;
 use thiserror::Error;
-
-/// How long the reply to each sending of a request is waited for, in seconds: RFC 7252, 4.2 and 4.8, without the random part.
-const WAITS: [u64; 5] = [2, 4, 8, 16, 32];
 
 /// One byte more than a datagram may have: a longer one is seen to be too long.
 const BUFFER: usize = DATAGRAM + 1;
@@ -23,35 +22,21 @@ const BUFFER: usize = DATAGRAM + 1;
 /// More requests than there are blocks of a body and of an answer.
 const REQUESTS: u32 = 1 << 22;
 
-/// The server, as a client has it.
-pub trait Peer {
-    /// Sends a datagram to the server, and begins a wait of so many seconds.
-    ///
-    /// # Errors
-    /// It couldn't be sent.
-    fn send(&mut self, datagram: &Datagram, seconds: u64) -> io::Result<()>;
-
-    /// The next datagram that comes from the server while the wait lasts: how many bytes at the start of the buffer it is.
-    /// What doesn't fit the buffer is lost. `None` where the wait is over.
-    ///
-    /// # Errors
-    /// Nothing can be received.
-    fn receive(&mut self, buffer: &mut [u8]) -> io::Result<Option<usize>>
-        ensures { IfOk result (λ r. IfSome r (λ count. count ≤ length buffer.new)) };
-}
-
 /// Why a fetch brings no answer.
 #[derive(Debug, Drop, Error)]
 pub enum Fault {
-    /// No reply came, to the last sending of a request either.
+    /// No answer came, to the last sending of a request either.
     #[error("no answer")]
     Silence,
     /// The server answered a request by a Reset message (RFC 7252, 4.2).
     #[error("the request was rejected")]
     Rejected,
-    /// An answer doesn't bring the block that was asked for, or it is of another version than the blocks before it.
-    #[error("a block of the answer doesn't fit")]
+    /// A success doesn't say that the block of the body was taken that it answers, or doesn't bring the block of the answer that was asked for.
+    #[error("the answer doesn't fit the block that was sent or asked for")]
     Misfit,
+    /// A further block is of another version of the answer than the blocks before it, for the second time, or where the request can't be made again.
+    #[error("the answer changed while its blocks were fetched")]
+    Changed,
     /// Sending or receiving failed.
     #[error("UDP: {0}")]
     Socket(#[from] io::Error),
@@ -69,9 +54,19 @@ pub struct Fetched {
     pub body: Vec<u8>,
 }
 
+/// What one attempt comes to.
+#[derive(Drop)]
+pub enum Attempt {
+    /// The answer.
+    Ended(Fetched),
+    /// The answer changed while its blocks were fetched: the next request's id, and the ids of the messages that answered so far.
+    Outdated(u16, Vec<u16>),
+}
+
 /// Asks the server, by requests whose ids count up from the first. A body that is too large goes by blocks, and a larger answer
-/// is asked for by blocks. Each request is sent again where no reply comes within 2 seconds, then 4, 8 and 16, and given up 32
-/// seconds after the last sending.
+/// is asked for by blocks, of 1,024 bytes or of the smaller size that the server names (RFC 7959). A confirmable request is sent again where no answer comes within 2
+/// seconds, then 4, 8 and 16, and given up 32 seconds after the last sending; once it is acknowledged, its answer is waited for 93 seconds. The answer to
+/// another is waited for 32 seconds. Where the answer to a GET changes while its blocks are fetched, the fetch begins again, once.
 ///
 /// # Errors
 /// What [`Fault`] says.
@@ -81,70 +76,134 @@ pub fn fetch<P: Peer>(
     errand: &Errand<'_>,
     first_id: u16,
 ) -> Result<Fetched, Fault>
-    ensures { IfOk result (λ f. IsFetched errand.now first_id f.code.byte f.body.items) }
+    ensures { IfOk result (λ f. IsFetched P.went P.came errand.now first_id f.code.byte f.body.items) }
+{
+    match fetch_once(alloc, peer, errand, first_id, Vec::new(alloc))? {
+        Attempt::Ended(fetched) => Ok(fetched),
+        Attempt::Outdated(id, earlier) if errand.method == Method::Get => {
+            match fetch_once(alloc, peer, errand, id, earlier)? {
+                Attempt::Ended(fetched) => Ok(fetched),
+                Attempt::Outdated(..) => Err(Fault::Changed),
+            }
+        }
+        Attempt::Outdated(..) => Err(Fault::Changed),
+    }
+}
+
+// Asks the server from the first part on.
+fn fetch_once<P: Peer>(
+    alloc: Global,
+    peer: &mut P,
+    errand: &Errand<'_>,
+    first_id: u16,
+    earlier: Vec<u16>,
+) -> Result<Attempt, Fault>
+    ensures { IfOk result (IsAttempt P.went P.came errand.now first_id earlier.items) }
 {
     let mut course = Course {
         id: first_id,
         part: errand.first_part(),
         body: Vec::new(alloc),
         etag: Vec::new(alloc),
+        earlier,
     };
     let mut datagram = Datagram::new();
     let mut buffer = [0; BUFFER];
     for _ in 0..REQUESTS {
         errand.write(alloc, course.part, course.id, &mut datagram)?;
-        let count = ask(peer, &datagram, course.id, &mut buffer)?;
+        let request = course.request(errand.confirmable, &datagram);
+        let count = ask(peer, &request, &mut buffer)?;
         let Ok(message) = read(&buffer[..count]) else {
             unreachable!();
         };
-        if let Some(code) = course.hear(errand, &message)? {
-            let Course { body, .. } = course;
-            return Ok(Fetched { code, body });
+        let step = course.hear(errand, &message)?;
+        match step {
+            Step::GoesOn => {}
+            Step::Ended(code) => {
+                let Course { body, .. } = course;
+                return Ok(Attempt::Ended(Fetched { code, body }));
+            }
+            Step::Outdated => {
+                let Course { id, earlier, .. } = course;
+                return Ok(Attempt::Outdated(id, earlier));
+            }
         }
     }
     Err(Fault::Misfit)
 }
 
-// A fetch under way: the request that is out, and what is there of the answer, with its ETag.
+/// What an answer leads to.
+#[derive(Clone, Copy, PartialEq, Eq)]
+pub enum Step {
+    /// The next request.
+    GoesOn,
+    /// The end of the fetch, with this code.
+    Ended(Code),
+    /// The fetch's end: the answer changed.
+    Outdated,
+}
+
+// A fetch under way: the request that is out, what is there of the answer, with its ETag, and the ids of the messages that brought answers.
 #[derive(Drop)]
 struct Course {
     id: u16,
     part: Part,
     body: Vec<u8>,
     etag: Vec<u8>,
+    earlier: Vec<u16>,
 }
 
 impl Course {
-    // Takes the reply to the request that is out: the code that the fetch ends with, or else the next request is set.
-    fn hear(&mut self, errand: &Errand<'_>, message: &Message<'_>) -> Result<Option<Code>, Fault>
-        requires { IsPartOf errand.now self.old.part }
-        ensures version { IfOk result (λ _. IsOfVersion (Out self.old.part self.old.body.items self.old.etag.items) message.now) }
-        ensures own { OnOk result (IsPartOf errand.now self.new.part) }
-        ensures after { let next = after_reply (length errand.now.payload.now) message.now
-            (Out self.old.part self.old.body.items self.old.etag.items) in
-            IfOk result (λ r. MatchOption r
-            ((next ≡ Out self.new.part self.new.body.items self.new.etag.items) × (self.new.id ≡ (self.old.id + 1) % 65536))
-            (λ code. next ≡ Ended code.byte self.new.body.items)) }
+    // The request that is out.
+    fn request<'a>(&'a self, confirmable: bool, datagram: &'a Datagram) -> Request<'a>
+        ensures { (result.datagram.now ≡ datagram.entry.now) × (result.id ≡ self.entry.now.id) × (result.confirmable ≡ confirmable)
+            × (result.earlier.now ≡ self.entry.now.earlier.items) }
     {
-        if matches!(self.part, Part::Answer(_)) && etag_of(message) != self.etag.as_slice() {
-            return Err(Fault::Misfit);
+        Request {
+            datagram,
+            id: self.id,
+            confirmable,
+            earlier: &self.earlier,
         }
-        match next_of(errand, self.part, message) {
+    }
+
+    // Takes the answer to the request that is out: what it leads to. The next request is set, or the answer is whole.
+    fn hear(&mut self, errand: &Errand<'_>, message: &Message<'_>) -> Result<Step, Fault>
+        requires { IsPartOf errand.now self.old.part }
+        ensures own { OnOk result (IsPartOf errand.now self.new.part) }
+        ensures step { IfOk result (IsStep (length errand.now.payload.now) message.now self.old self.new) }
+    {
+        self.count(message)?;
+        match next_of(errand, self.part, &self.etag, message) {
             Next::Ask(part) => {
                 self.go_on(part, message)?;
-                Ok(None)
+                Ok(Step::GoesOn)
             }
             Next::Last => {
                 self.body.extend_from_slice(message.payload())?;
-                Ok(Some(message.code()))
+                Ok(Step::Ended(message.code()))
             }
             Next::Refused => {
                 self.body.clear();
                 self.body.extend_from_slice(message.payload())?;
-                Ok(Some(message.code()))
+                Ok(Step::Ended(message.code()))
             }
+            Next::Stale => Ok(Step::Outdated),
             Next::Misfit => Err(Fault::Misfit),
         }
+    }
+
+    // Counts an answer: the next request has the next id, and the answer's own is kept where it came in a message of its own.
+    fn count(&mut self, message: &Message<'_>) -> Result<(), AllocError>
+        ensures id { OnOk result (self.new.id ≡ (self.old.id + 1) % 65536) }
+        ensures earlier { OnOk result (self.new.earlier.items ≡ with_id message.now self.old.earlier.items) }
+        ensures others { (self.new.part ≡ self.old.part) × (self.new.body.items ≡ self.old.body.items) × (self.new.etag.items ≡ self.old.etag.items) }
+    {
+        self.id = self.id.wrapping_add(1);
+        if begins_exchange(message.kind()) {
+            self.earlier.push(message.id())?;
+        }
+        Ok(())
     }
 
     // Sets the next request, and keeps what this answer brings.
@@ -152,70 +211,14 @@ impl Course {
         ensures after { OnOk result (going_on part self.old.body.items self.old.etag.items message.now
             ≡ Out self.new.part self.new.body.items self.new.etag.items) }
         ensures part { OnOk result (self.new.part ≡ part) }
-        ensures id { OnOk result (self.new.id ≡ (self.old.id + 1) % 65536) }
+        ensures others { OnOk result ((self.new.id ≡ self.old.id) × (self.new.earlier.items ≡ self.old.earlier.items)) }
     {
-        if matches!(part, Part::Answer(_)) {
+        if matches!(part, Part::Answer { .. }) {
             self.body.extend_from_slice(message.payload())?;
             self.etag.clear();
             self.etag.extend_from_slice(etag_of(message))?;
         }
         self.part = part;
-        self.id = self.id.wrapping_add(1);
         Ok(())
-    }
-}
-
-// What a datagram from the server is to the request that is out.
-#[derive(Clone, Copy, PartialEq, Eq)]
-enum Heard {
-    Reply,
-    Reset,
-    Other,
-}
-
-// Sends a request, and again while no reply comes: how many bytes at the start of the buffer the reply is.
-fn ask<P: Peer>(
-    peer: &mut P,
-    datagram: &Datagram,
-    id: u16,
-    buffer: &mut [u8],
-) -> Result<usize, Fault>
-    ensures { IfOk result (λ count. (count ≤ length buffer.new) × Tells id (take count buffer.new) Reply) }
-{
-    for seconds in WAITS {
-        peer.send(datagram, seconds)?;
-        if let Some(count) = await_reply(peer, id, buffer)? {
-            return Ok(count);
-        }
-    }
-    Err(Fault::Silence)
-}
-
-// Waits for the reply to a request, and passes over what is none.
-fn await_reply<P: Peer>(peer: &mut P, id: u16, buffer: &mut [u8]) -> Result<Option<usize>, Fault>
-    ensures { IfOk result (λ r. IfSome r (λ count.
-        (count ≤ length buffer.new) × Tells id (take count buffer.new) Reply)) }
-{
-    for _ in 0..u64::MAX {
-        let Some(count) = peer.receive(buffer)? else {
-            return Ok(None);
-        };
-        match hear_datagram(id, &buffer[..count]) {
-            Heard::Reply => return Ok(Some(count)),
-            Heard::Reset => return Err(Fault::Rejected),
-            Heard::Other => {}
-        }
-    }
-    Ok(None)
-}
-
-// What a datagram is to the request of this id.
-fn hear_datagram(id: u16, bytes: &[u8]) -> Heard
-    ensures { Tells id bytes.now result }
-{
-    match read(bytes) {
-        Ok(message) if is_reply(id, &message) => Heard::Reply,
-        Ok(message) if is_reset(id, &message) => Heard::Reset,
-        Ok(_) | Err(_) => Heard::Other,
     }
 }

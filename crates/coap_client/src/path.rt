@@ -1,8 +1,8 @@
 //! Paths of resources.
-ghost use Rattle.std.specs.Prelude.{◌≡◌, ◌∷◌, ◌<◌, ◌≤◌, ◌↔◌, IfOk, IsTrue, MatchOption, length};
+ghost use Rattle.std.specs.Prelude.{◌≡◌, ◌∷◌, ◌<◌, ◌≤◌, IfErr, IfOk, MatchOption, length};
 ghost use Rattle.std.specs.List.{All};
-ghost use Rattle.coap_client.specs.Paths.{HasNoSlash, IsFirstSegment, IsNoPath, IsSlashed, IsSegment, segments_in, slash};
-ghost use Rattle.coap_client.specs.declared.path.PathError.TheVariants.{Bad};
+ghost use Rattle.coap_client.specs.Paths.{HasNoSlash, IsFirstSegment, IsSlashed, IsSegment, slices_in, slash};
+ghost use Rattle.coap_client.specs.PathErrors.{IsUnfit, TellsNoPath};
 
 use std::alloc::{AllocError, Global};
 use thiserror::Error;
@@ -14,15 +14,21 @@ const SEGMENT: usize = 255;
 #[derive(Drop)]
 pub struct Path<'a> {
     pub segments: Vec<&'a [u8]>,
-    ghost are: { (All IsSegment (segments_in segments.items)) },
+    ghost are: { (All IsSegment (slices_in segments.items)) },
 }
 
 /// Why a text is no path.
 #[derive(Clone, Copy, Debug, PartialEq, Eq, Error)]
 pub enum PathError {
-    /// It isn't a slash before each of its segments, or a segment hasn't 1 to 255 bytes.
-    #[error("a path is a slash before each of its segments of 1 to 255 bytes")]
-    Bad,
+    /// It doesn't begin with a slash.
+    #[error("a path begins with a slash, as /r/1")]
+    NoSlash,
+    /// The segment of this number, counted from 1, has no byte.
+    #[error("segment {0} of the path is empty: between two slashes, and behind the last one, stand 1 to 255 bytes")]
+    Empty(usize),
+    /// The segment of this number, counted from 1, has more than 255 bytes (RFC 7252, 5.10).
+    #[error("segment {0} of the path has more than 255 bytes")]
+    Long(usize),
     /// There was no memory for it.
     #[error("out of memory")]
     NoMemory,
@@ -45,15 +51,15 @@ impl<'a> Path<'a> {
     /// # Errors
     /// The text is no path, or there was no memory for its segments.
     pub fn parse(alloc: Global, text: &'a [u8]) -> Result<Path<'a>, PathError>
-        ensures path { IfOk result (λ p. IsSlashed text.entry.now (segments_in p.segments.items)) }
-        ensures bad { result ≡ Err Bad → IsNoPath text.entry.now }
+        ensures path { IfOk result (λ p. IsSlashed text.entry.now (slices_in p.segments.items)) }
+        ensures none { IfErr result (TellsNoPath text.entry.now) }
     {
         let mut segments = Vec::new(alloc);
         let mut rest = text;
         while let Some(after) = after_slash(rest) {
             let (segment, next) = first_segment(after);
-            if !has_length(segment) {
-                return Err(PathError::Bad);
+            if let Some(error) = fault_of(segment, segments.len().saturating_add(1)) {
+                return Err(error);
             }
             match segments.push(segment) {
                 Ok(()) => rest = next,
@@ -63,16 +69,22 @@ impl<'a> Path<'a> {
         if rest.is_empty() {
             Ok(Path { segments })
         } else {
-            Err(PathError::Bad)
+            Err(PathError::NoSlash)
         }
     }
 }
 
-// Whether a segment has 1 to 255 bytes.
-fn has_length(segment: &[u8]) -> bool
-    ensures { IsTrue result ↔ ((0 < length segment.now) × (length segment.now ≤ 255)) }
+// What is wrong with the segment of this number, which has 1 to 255 bytes where nothing is.
+fn fault_of(segment: &[u8], number: usize) -> Option<PathError>
+    ensures { MatchOption result ((0 < length segment.now) × (length segment.now ≤ 255)) (IsUnfit segment.now) }
 {
-    !segment.is_empty() && segment.len() <= SEGMENT
+    if segment.is_empty() {
+        Some(PathError::Empty(number))
+    } else if segment.len() > SEGMENT {
+        Some(PathError::Long(number))
+    } else {
+        None
+    }
 }
 
 // What stands behind the slash that a text begins with.

@@ -1,11 +1,11 @@
-//! Replies: which datagrams answer a request, and what comes after the answer.
-ghost use Rattle.std.specs.Prelude.{◌≡◌, ◌↔◌, IsTrue, length};
-ghost use Rattle.coap_client.specs.Requests.{IsPartOf};
-ghost use Rattle.coap_client.specs.Replies.{IsReply, IsReset};
-ghost use Rattle.coap_opts.specs.Values.{block_value};
+//! Replies: which messages answer a request, and what comes after the answer.
+ghost use Rattle.std.specs.Prelude.{◌≡◌, ◌≤◌, ◌↔◌, IfSome, IsTrue, length};
+ghost use Rattle.coap_client.specs.Requests.{IsBlock, IsPartOf};
+ghost use Rattle.coap_client.specs.Replies.{IsEmptyAcknowledgement, IsReply, IsReset, IsSeparate};
 ghost use Rattle.coap_client.specs.Replies as spec;
+ghost use Rattle.std.specs.Prelude.{Some};
 
-use crate::errand::{BLOCK, BLOCK_SZX, Errand};
+use crate::errand::{Errand, LARGEST_SZX};
 use crate::part::Part;
 use coap_msg::{Code, Message, MessageType};
 use coap_opts::Block;
@@ -32,11 +32,13 @@ pub enum Next {
     Last,
     /// The code is no success: what comes with it is the answer.
     Refused,
+    /// The block of the answer is of another version than the blocks before it.
+    Stale,
     /// The answer is none to that part.
     Misfit,
 }
 
-/// Whether a message answers the confirmable request of this id, which had no token, in its acknowledgement.
+/// Whether a message answers the request of this id, which had no token, in its acknowledgement.
 pub fn is_reply(id: u16, message: &Message<'_>) -> bool
     ensures { IsTrue result ↔ IsReply id message.now }
 {
@@ -46,6 +48,34 @@ pub fn is_reply(id: u16, message: &Message<'_>) -> bool
         && message.code().byte >= RESPONSE
 }
 
+/// Whether a message acknowledges the request of this id, and doesn't answer it: the answer comes in a message of its own.
+pub fn is_empty_acknowledgement(id: u16, message: &Message<'_>) -> bool
+    ensures { IsTrue result ↔ IsEmptyAcknowledgement id message.now }
+{
+    message.kind() == MessageType::Acknowledgement
+        && message.id() == id
+        && message.code() == Code::EMPTY
+}
+
+/// Whether a message answers a request that had no token, and is no acknowledgement.
+pub fn is_separate(message: &Message<'_>) -> bool
+    ensures { IsTrue result ↔ IsSeparate message.now }
+{
+    begins_exchange(message.kind())
+        && message.token().is_empty()
+        && message.code().byte >= RESPONSE
+}
+
+/// Whether messages of this type begin an exchange: they are confirmable, or non-confirmable.
+pub fn begins_exchange(kind: MessageType) -> bool
+    ensures { result ≡ spec.begins_exchange kind }
+{
+    match kind {
+        MessageType::Confirmable | MessageType::NonConfirmable => true,
+        MessageType::Acknowledgement | MessageType::Reset => false,
+    }
+}
+
 /// Whether a message rejects the request of this id.
 pub fn is_reset(id: u16, message: &Message<'_>) -> bool
     ensures { IsTrue result ↔ IsReset id message.now }
@@ -53,25 +83,24 @@ pub fn is_reset(id: u16, message: &Message<'_>) -> bool
     message.kind() == MessageType::Reset && message.id() == id
 }
 
-/// What comes after this answer to a part.
-pub fn next_of(errand: &Errand<'_>, part: Part, message: &Message<'_>) -> Next
+/// What comes after this answer to a part, where the blocks of the answer so far have this ETag.
+pub fn next_of(errand: &Errand<'_>, part: Part, etag: &[u8], message: &Message<'_>) -> Next
     requires { IsPartOf errand.now part }
-    ensures { result ≡ spec.next_of (length errand.now.payload.now) part message.now }
+    ensures { result ≡ spec.next_of (length errand.now.payload.now) part etag.now message.now }
 {
     if message.code().class() != SUCCESS {
         return Next::Refused;
     }
     match part {
-        Part::Whole => next_of_answer(0, message),
-        Part::Answer(number) => next_of_answer(number, message),
-        Part::Body(number) if errand.payload.len() > BLOCK * (number as usize + 1) => {
-            if takes_block(number, message) {
-                Next::Ask(Part::Body(number + 1))
-            } else {
-                Next::Misfit
+        Part::Whole => next_of_whole(0, message),
+        Part::Body { number, szx } if errand.has_more(number, szx) => {
+            match next_size(number, szx, message) {
+                Some(smaller) => next_of_body(number, szx, smaller),
+                None => Next::Misfit,
             }
         }
-        Part::Body(_) => next_of_answer(0, message),
+        Part::Body { number, .. } => next_of_whole(number, message),
+        Part::Answer { number, szx } => next_of_further(number, szx, etag, message),
     }
 }
 
@@ -85,58 +114,137 @@ pub fn etag_of<'a>(message: &Message<'a>) -> &'a [u8]
     }
 }
 
-// Whether a success says that a block of the body, which has others behind it, was taken.
-fn takes_block(number: u32, message: &Message<'_>) -> bool
-    ensures { result ≡ spec.takes_block number message.now }
+// Whether the body is taken so far, and more of it is to come.
+fn is_continue(message: &Message<'_>) -> bool
+    ensures { result ≡ spec.is_continue message.now }
 {
-    message.code() == Code::CONTINUE || names_block(number, message)
+    message.code() == Code::CONTINUE
 }
 
-// Whether an answer names this block of the body, of the size that it was sent in.
-fn names_block(number: u32, message: &Message<'_>) -> bool
-    ensures { result ≡ spec.names_block number (spec.block1_of message.now) }
+// In which size the rest of the body goes, where a success says that this block, which has others behind it, was taken.
+fn next_size(number: u32, szx: u8, message: &Message<'_>) -> Option<u8>
+    ensures size { result ≡ spec.next_size number szx (spec.is_continue message.now) (spec.block1_of message.now) }
+    ensures smaller { IfSome result (λ smaller. smaller ≤ szx) }
 {
     match message.values(BLOCK1).next() {
-        Some(value) if value.len() <= BLOCK_VALUE => is_block(number, Block::read(value)),
-        _ => false,
+        None => is_continue(message).then_some(szx),
+        Some(value) if value.len() <= BLOCK_VALUE => {
+            size_by_block(number, szx, Block::read(value))
+        }
+        Some(_) => None,
     }
 }
 
-fn is_block(number: u32, block: Block) -> bool
-    ensures { result ≡ spec.is_block number block }
+fn size_by_block(number: u32, szx: u8, block: Block) -> Option<u8>
+    ensures { result ≡ spec.size_by_block number szx block }
 {
-    block.number() == number && block.szx() == BLOCK_SZX
+    (block.number() == number && block.szx() <= szx).then_some(block.szx())
+}
+
+// The block of the body behind this one, in a size that is no greater.
+fn next_of_body(number: u32, szx: u8, smaller: u8) -> Next
+    requires block { IsBlock number szx }
+    requires smaller { smaller ≤ szx }
+    ensures { result ≡ spec.next_of_body number szx (Some smaller) }
+{
+    let next = (number + 1) << (szx - smaller);
+    if next < BLOCKS {
+        Next::Ask(Part::Body {
+            number: next,
+            szx: smaller,
+        })
+    } else {
+        Next::Misfit
+    }
+}
+
+// What comes after a success that answers all of the request, of whose body this block is the last.
+fn next_of_whole(number: u32, message: &Message<'_>) -> Next
+    ensures { result ≡ spec.next_of_whole number message.now }
+{
+    if !is_continue(message) && says_last(number, message) {
+        next_of_answer(0, LARGEST_SZX, message)
+    } else {
+        Next::Misfit
+    }
+}
+
+// Whether an answer's Block1, where it has one, names this block and says that the server has all of the body.
+fn says_last(number: u32, message: &Message<'_>) -> bool
+    ensures { result ≡ spec.says_last number (spec.block1_of message.now) }
+{
+    match message.values(BLOCK1).next() {
+        None => true,
+        Some(value) => value.len() <= BLOCK_VALUE && names_last(number, Block::read(value)),
+    }
+}
+
+fn names_last(number: u32, block: Block) -> bool
+    ensures { result ≡ spec.names_last number block }
+{
+    block.number() == number && !block.more()
+}
+
+// What comes after a success that answers what asked for a further block of the answer.
+fn next_of_further(number: u32, szx: u8, etag: &[u8], message: &Message<'_>) -> Next
+    requires { IsBlock number szx }
+    ensures { result ≡ spec.next_of_further number szx etag.now message.now }
+{
+    if etag_of(message) != etag {
+        return Next::Stale;
+    }
+    if is_continue(message) {
+        return Next::Misfit;
+    }
+    next_of_answer(number, szx, message)
 }
 
 // What comes after a success that answers what asked for this block.
-fn next_of_answer(number: u32, message: &Message<'_>) -> Next
-    ensures { result ≡ spec.next_of_answer number message.now }
+fn next_of_answer(number: u32, szx: u8, message: &Message<'_>) -> Next
+    requires { IsBlock number szx }
+    ensures { result ≡ spec.next_of_answer number szx message.now }
 {
     match message.values(BLOCK2).next() {
         None if number == 0 => Next::Last,
         Some(value) if value.len() <= BLOCK_VALUE => {
-            after_block(number, message.payload().len(), Block::read(value))
+            let block = Block::read(value);
+            if is_place(number, szx, block) {
+                after_block(message.payload().len(), block)
+            } else {
+                Next::Misfit
+            }
         }
         _ => Next::Misfit,
     }
 }
 
-// What comes after this block of so many bytes, which answers what asked for this number.
-fn after_block(number: u32, count: usize, block: Block) -> Next
-    ensures { result ≡ spec.by_block number count (block_value block) }
+// Whether a block begins where the one begins that was asked for, and is no larger.
+fn is_place(number: u32, szx: u8, block: Block) -> bool
+    requires { IsBlock number szx }
+    ensures { result ≡ spec.is_place number szx block }
 {
-    if block.number() != number {
-        return Next::Misfit;
-    }
-    let sized = block.szx() == BLOCK_SZX;
-    if block.more() {
-        if sized && count == BLOCK && number + 1 < BLOCKS {
-            Next::Ask(Part::Answer(number + 1))
+    let asked = Block::new(number, false, szx);
+    block.szx() <= szx
+        && block.size() * block.number() as usize == asked.size() * asked.number() as usize
+}
+
+// What comes after this block of so many bytes.
+fn after_block(count: usize, block: Block) -> Next
+    ensures { result ≡ spec.by_more block count }
+{
+    if !block.more() {
+        return if count <= block.size() {
+            Next::Last
         } else {
             Next::Misfit
-        }
-    } else if sized || number == 0 {
-        Next::Last
+        };
+    }
+    let number = block.number() + 1;
+    if count == block.size() && number < BLOCKS {
+        Next::Ask(Part::Answer {
+            number,
+            szx: block.szx(),
+        })
     } else {
         Next::Misfit
     }

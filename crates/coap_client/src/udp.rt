@@ -1,45 +1,49 @@
-//! A server at a port of this host.
+//! A server at an address and a port.
 ghost use Rattle.std.specs.Prelude.{◌≤◌, IfOk, IfSome, length};
 
-use crate::fetching::Peer;
+use crate::peer::Peer;
 use coap_msg::Datagram;
 use std::io;
 use std::io::ErrorKind;
-use std::net::{Ipv4Addr, Net, SocketAddr, SocketAddrV4, UdpSocket};
+use std::net::{Ipv4Addr, Net, SocketAddrV4, UdpSocket};
 use std::time::{Clock, Duration, Instant};
 
-/// The server at 127.0.0.1 and a port, as a socket of the client's own has it.
+/// The server at an address and a port, as a socket of the client's own has it: that is connected to it, so that it tells where nobody
+/// listens at the port.
 #[derive(Drop)]
 pub struct Server<'a, C: Clock> {
     clock: &'a C,
     socket: UdpSocket,
-    address: SocketAddr,
+    _spare: [UdpSocket; 3],
     until: Instant,
 }
 
 impl<'a, C: Clock> Server<'a, C> {
-    /// The server at this port.
+    /// The server at this address and port.
     ///
     /// # Errors
     /// There is no socket, or the clock can't be read.
-    pub fn at_port<R: Net>(net: &R, clock: &'a C, port: u16) -> io::Result<Server<'a, C>> {
-        let socket = UdpSocket::bind(net, SocketAddrV4::new(Ipv4Addr::LOCALHOST, 0))?;
+    pub fn at<R: Net>(net: &R, clock: &'a C, address: SocketAddrV4) -> io::Result<Server<'a, C>> {
+        // Where a standard stream is closed, its descriptor goes to what is opened next. These three take such descriptors: what is
+        // printed must not go to a socket that is connected to the server.
+        let spare = [any_port(net)?, any_port(net)?, any_port(net)?];
+        let socket = any_port(net)?;
+        socket.connect(address)?;
         Ok(Server {
             clock,
             socket,
-            address: SocketAddr::V4(SocketAddrV4::new(Ipv4Addr::LOCALHOST, port)),
+            _spare: spare,
             until: Instant::now(clock)?,
         })
     }
 
-    // Waits for a datagram while the wait lasts: how many bytes it is, where it came from the server.
+    // Waits for a datagram while the wait lasts: how many bytes it is.
     fn receive_once(&self, left: Duration, buffer: &mut [u8]) -> io::Result<Option<usize>>
         ensures { IfOk result (λ r. IfSome r (λ count. count ≤ length buffer.new)) }
     {
         self.socket.set_read_timeout(Some(left))?;
-        match self.socket.recv_from(buffer) {
-            Ok((count, from)) if from == self.address => Ok(Some(count)),
-            Ok(_) => Ok(None),
+        match self.socket.recv(buffer) {
+            Ok(count) => Ok(Some(count)),
             Err(error) if is_over(&error) => Ok(None),
             Err(error) => Err(error),
         }
@@ -47,8 +51,12 @@ impl<'a, C: Clock> Server<'a, C> {
 }
 
 impl<'a, C: Clock> Peer for Server<'a, C> {
-    fn send(&mut self, datagram: &Datagram, seconds: u64) -> io::Result<()> {
-        self.socket.send_to(datagram.as_slice(), self.address)?;
+    fn send(&mut self, datagram: &Datagram) -> io::Result<()> {
+        self.socket.send(datagram.as_slice())?;
+        Ok(())
+    }
+
+    fn begin_wait(&mut self, seconds: u64) -> io::Result<()> {
         let now = Instant::now(self.clock)?;
         self.until = now.checked_add(Duration::from_secs(seconds)).unwrap_or(now);
         Ok(())
@@ -66,6 +74,11 @@ impl<'a, C: Clock> Peer for Server<'a, C> {
         }
         Ok(None)
     }
+}
+
+// A socket at a port that the system chooses, of any of this host's addresses.
+fn any_port<R: Net>(net: &R) -> io::Result<UdpSocket> {
+    UdpSocket::bind(net, SocketAddrV4::new(Ipv4Addr::UNSPECIFIED, 0))
 }
 
 // Whether an error of receiving says that nothing came in time.

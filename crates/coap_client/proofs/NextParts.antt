@@ -1,0 +1,120 @@
+-- What is asked next is a part of the errand.
+use Rattle.std.proofs.Common.{◌≡◌, ℕ, ◌+◌, ◌-◌, ◌*◌, ◌<◌, ◌≤◌, ◌^◌, ◌%◌, ◌==◌, ◌&&◌, nat_lt, nat_le, bytes_eq, Bool, true, false, not, if◌then◌else◌, List, length, Option, Some, None, refl, sym, ap, subst, ◌∙◌, arith, rules}
+use Rattle.std.proofs.lemmas.Bool.{and_parts, eqb-true, leb-true, lt-ltb, ltb-true}
+use Rattle.std.proofs.lemmas.Nat.{mul-le, pow-add}
+use Rattle.std.proofs.Math.Pow.{pow_mono}
+use Rattle.coap_msg.specs.Wire.{Message}
+use Rattle.coap_opts.specs.Values.{Place, block_size, place_in}
+use Rattle.coap_client.specs.declared.errand.Errand.{Errand}
+use Rattle.coap_client.specs.declared.part.Part.{Part}
+use Rattle.coap_client.specs.declared.part.Part.TheVariants.{Whole, Body, Answer}
+use Rattle.coap_client.specs.declared.reply.Next.{Next}
+use Rattle.coap_client.specs.declared.reply.Next.TheVariants.{Ask, Last, Refused, Stale, Misfit}
+use Rattle.coap_client.specs.Parts.{has_more}
+use Rattle.coap_client.specs.Replies.{block1_of, block2_of, by_more, by_option, by_part, etag_of, is_continue, is_final, is_place, is_success, next_block, next_number, next_of, next_of_answer, next_of_body, next_of_further, next_of_whole, next_size, size_by_block}
+use Rattle.coap_client.specs.Requests.{IsBlock, IsBodyBlock, IsPartOf}
+
+-- what holds of both
+pub either : {X : Type 0} (P : X → Type 0) (b : Bool) (x y : X) → (b ≡ true → P x) → (b ≡ false → P y) → P (if b then x else y)
+either P true x y f g = f refl
+either P false x y f g = g refl
+
+-- a block of the answer is no larger than the one that was asked for, and begins where that begins
+pub record IsPlace (n szx : ℕ) (b : Place) : Type 0 where
+  pub smaller : b.szx ≤ szx
+  pub begins : block_size b.szx * b.number ≡ block_size szx * n
+
+pub place_is : (n szx : ℕ) (b : Place) → is_place n szx b ≡ true → IsPlace n szx b
+place_is n szx b is =
+    let both = and_parts _ _ is in
+    record { smaller = leb-true _ _ both.0; begins = eqb-true _ _ both.1 }
+
+-- a block in a smaller size begins where the same block begins in the larger one
+pub begins_alike : (n szx smaller : ℕ) → smaller ≤ szx → block_size smaller * next_number n szx smaller ≡ block_size szx * (n + 1)
+begins_alike n szx smaller small =
+    let split : szx + 4 ≡ (smaller + 4) + (szx - smaller) = omega (arith, small) in
+    let power : 2 ^ (szx + 4) ≡ 2 ^ (smaller + 4) * 2 ^ (szx - smaller) = ap (λ k. 2 ^ k) split ∙ pow-add 2 (smaller + 4) (szx - smaller) in
+    let regroup : 2 ^ (smaller + 4) * ((n + 1) * 2 ^ (szx - smaller)) ≡ (2 ^ (smaller + 4) * 2 ^ (szx - smaller)) * (n + 1) = omega arith in
+    regroup ∙ ap (λ k. k * (n + 1)) (sym power)
+
+-- the next number fits 32 bits
+pub no_wrap : (n szx smaller : ℕ) → IsBlock n szx → next_number n szx smaller % 4294967296 ≡ next_number n szx smaller
+no_wrap n szx smaller block =
+    let most : szx - smaller ≤ 6 = omega (arith, block.size) in
+    let power : 2 ^ (szx - smaller) ≤ 2 ^ 6 = pow_mono most in
+    let some : n + 1 ≤ 1048576 = omega (arith, block.number) in
+    let product : (n + 1) * 2 ^ (szx - smaller) ≤ 1048576 * 64 = mul-le (n + 1) (2 ^ (szx - smaller)) 1048576 64 some power in
+    let fits : (n + 1) * 2 ^ (szx - smaller) < 4294967296 = omega (arith, product) in
+    omega (arith, fits)
+
+pub next_body_is : (n szx smaller r : ℕ) → IsBlock n szx → r ≡ next_number n szx smaller % 4294967296 → r < 1048576 → Ask (Body r smaller) ≡ next_of_body n szx (Some smaller)
+next_body_is n szx smaller r block e below =
+    let whole : r ≡ next_number n szx smaller = e ∙ no_wrap n szx smaller block in
+    let under : next_number n szx smaller < 1048576 = omega (arith, whole, below) in
+    ap (λ k. Ask (Body k smaller)) whole ∙ sym (ap (λ (b : Bool). if b then Ask (Body (next_number n szx smaller) smaller) else Misfit) (lt-ltb _ _ under))
+
+-- the size that is gone on in is no greater
+pub size_smaller : (n szx : ℕ) (b : Place) → (smaller : ℕ) → size_by_block n szx b ≡ Some smaller → smaller ≤ szx
+size_smaller n szx b smaller =
+    either (λ o. o ≡ Some smaller → smaller ≤ szx) ((b.number == n) && nat_le b.szx szx) (Some b.szx) None
+    (λ is e. let same : b.szx ≡ smaller = cc e in let le : b.szx ≤ szx = leb-true b.szx szx (and_parts (b.number == n) (nat_le b.szx szx) is).1 in omega (arith, le, same))
+    (λ _ e. absurd (cc e))
+
+pub next_smaller : (n szx : ℕ) (continued : Bool) (value : Option (List ℕ)) → (smaller : ℕ) → next_size n szx continued value ≡ Some smaller → smaller ≤ szx
+next_smaller n szx continued None smaller =
+    either (λ o. o ≡ Some smaller → smaller ≤ szx) continued (Some szx) None (λ _ e. let same : szx ≡ smaller = cc e in omega (arith, same)) (λ _ e. absurd (cc e))
+next_smaller n szx continued (Some value) smaller =
+    either (λ o. o ≡ Some smaller → smaller ≤ szx) (nat_le (length value) 3) (size_by_block n szx (place_in value)) None (λ _. size_smaller n szx (place_in value) smaller) (λ _ e. absurd (cc e))
+
+abbrev pub IsAskOf : Errand → Next → Type 0
+IsAskOf e (Ask part) = IsPartOf e part
+IsAskOf e other = Unit {0}
+
+block_next : (e : Errand) (b : Place) → b.szx ≤ 6 → IsAskOf e (next_block b)
+block_next e b small =
+    either (IsAskOf e) (nat_lt (b.number + 1) 1048576) (Ask (Answer (b.number + 1) b.szx)) Misfit (λ below. record { number = ltb-true _ _ below; size = small }) (λ _. tt)
+
+more_next : (e : Errand) (b : Place) (count : ℕ) → b.szx ≤ 6 → IsAskOf e (by_more b count)
+more_next e b count small =
+    either (IsAskOf e) b.more _ _
+    (λ _. either (IsAskOf e) (count == block_size b.szx) (next_block b) Misfit (λ _. block_next e b small) (λ _. tt))
+    (λ _. either (IsAskOf e) (nat_le count (block_size b.szx)) Last Misfit (λ _. tt) (λ _. tt))
+
+option_next : (e : Errand) (n szx count : ℕ) (value : Option (List ℕ)) → szx ≤ 6 → IsAskOf e (by_option n szx count value)
+option_next e n szx count None small = either (IsAskOf e) (n == 0) Last Misfit (λ _. tt) (λ _. tt)
+option_next e n szx count (Some value) small =
+    either (IsAskOf e) (nat_le (length value) 3) _ Misfit
+    (λ _. either (IsAskOf e) (is_place n szx (place_in value)) (by_more (place_in value) count) Misfit
+        (λ is. let place = place_is n szx (place_in value) is in more_next e (place_in value) count (omega (arith, place.smaller, small))) (λ _. tt))
+    (λ _. tt)
+
+whole_next : (e : Errand) (n : ℕ) (m : Message) → IsAskOf e (next_of_whole n m)
+whole_next e n m = either (IsAskOf e) (is_final n m) (next_of_answer 0 6 m) Misfit (λ _. option_next e 0 6 (length m.payload) (block2_of m) (omega arith)) (λ _. tt)
+
+body_next : (e : Errand) (n szx : ℕ) (next : Option ℕ) → IsBodyBlock e n szx → has_more (length e.payload.now) n szx ≡ true → ((smaller : ℕ) → next ≡ Some smaller → smaller ≤ szx) →
+    IsAskOf e (next_of_body n szx next)
+body_next e n szx None own more small = tt
+body_next e n szx (Some smaller) own more small =
+    let le = small smaller refl in
+    let behind = ltb-true _ _ more in
+    either (IsAskOf e) (nat_lt (next_number n szx smaller) 1048576) (Ask (Body (next_number n szx smaller) smaller)) Misfit
+    (λ below. record {
+        block = record { number = ltb-true _ _ below; size = omega (arith, le, own.block.size) };
+        method = own.method;
+        within = omega (arith, begins_alike n szx smaller le, behind);
+    })
+    (λ _. tt)
+
+part_next : (e : Errand) (part : Part) (etag : List ℕ) (m : Message) → IsPartOf e part → IsAskOf e (by_part (length e.payload.now) part etag m)
+part_next e Whole etag m own = whole_next e 0 m
+part_next e (Body n szx) etag m own =
+    either (IsAskOf e) (has_more (length e.payload.now) n szx) (next_of_body n szx (next_size n szx (is_continue m) (block1_of m))) (next_of_whole n m)
+    (λ more. body_next e n szx _ own more (next_smaller n szx (is_continue m) (block1_of m))) (λ _. whole_next e n m)
+part_next e (Answer n szx) etag m own =
+    either (IsAskOf e) (bytes_eq (etag_of m) etag) _ Stale
+    (λ _. either (IsAskOf e) (is_continue m) Misfit (next_of_answer n szx m) (λ _. tt) (λ _. option_next e n szx (length m.payload) (block2_of m) own.size)) (λ _. tt)
+
+-- after an answer to a part of the errand, what is asked next is a part of it
+pub next_is_part : (e : Errand) (part next : Part) (etag : List ℕ) (m : Message) → IsPartOf e part → next_of (length e.payload.now) part etag m ≡ Ask next → IsPartOf e next
+next_is_part e part next etag m own is =
+    subst (IsAskOf e) is (either (IsAskOf e) (is_success m.code) (by_part (length e.payload.now) part etag m) Refused (λ _. part_next e part etag m own) (λ _. tt))

@@ -1,0 +1,114 @@
+-- What is sent of a request's body before a fetch ends.
+use Rattle.std.proofs.Common.{◌≡◌, ℕ, ◌+◌, ◌*◌, ◌≤◌, ◌==◌, nat_lt, nat_le, bytes_eq, Bool, true, false, if◌then◌else◌, List, [], ◌∷◌, ◌++◌, length, take, drop, Option, Some, None, refl, sym, ap, subst, ◌∙◌, arith}
+use Rattle.std.proofs.lemmas.Bool.{ltb-false, ltb-true}
+use Rattle.std.proofs.lemmas.List.{append-nil, take_all}
+use Rattle.std.proofs.Math.Seq.{take-add}
+use Rattle.coap_msg.specs.Wire.{Message}
+use Rattle.coap_opts.specs.Values.{Place, block_size, place_in}
+use Rattle.coap_opts.specs.declared.request.Method.{Method}
+use Rattle.coap_opts.specs.declared.request.Method.TheVariants.{Get, Post, Put, Delete}
+use Rattle.coap_client.specs.declared.errand.Errand.{Errand}
+use Rattle.coap_client.specs.declared.part.Part.{Part}
+use Rattle.coap_client.specs.declared.part.Part.TheVariants.{Whole, Body, Answer}
+use Rattle.coap_client.specs.declared.reply.Next.{Next}
+use Rattle.coap_client.specs.declared.reply.Next.TheVariants as next
+use Rattle.coap_client.specs.Fetching.{State, Out, Ended, Outdated, Lost, after_reply, going_on, moved_on, state_after}
+use Rattle.coap_client.specs.Joined.{body_sent, brought}
+use Rattle.coap_client.specs.Parts.{block_of, first_part, has_more, part_payload}
+use Rattle.coap_client.specs.Replies.{block1_of, block2_of, by_more, by_option, by_part, etag_of, is_continue, is_final, is_place, is_success, next_block, next_number, next_of, next_of_answer, next_of_body, next_of_whole, next_size}
+use Rattle.coap_client.proofs.NextParts.{begins_alike, either, next_smaller}
+
+-- what has been sent in a state: nothing, the blocks before the one that is out, or all
+abbrev pub HasSent : Errand → List ℕ → State → Type 0
+HasSent e sent (Out Whole body etag) = sent ≡ []
+HasSent e sent (Out (Body n szx) body etag) = sent ≡ take (block_size szx * n) e.payload.now
+HasSent e sent (Out (Answer n szx) body etag) = sent ≡ e.payload.now
+HasSent e sent (Ended code body) = is_success code ≡ true → sent ≡ e.payload.now
+HasSent e sent other = Unit {0}
+
+-- what an answer of success may lead to where so much has been sent
+abbrev pub GoesTo : Errand → List ℕ → Next → Type 0
+GoesTo e sent (next.Ask Whole) = ⊥
+GoesTo e sent (next.Ask (Body n szx)) = sent ≡ take (block_size szx * n) e.payload.now
+GoesTo e sent (next.Ask (Answer n szx)) = sent ≡ e.payload.now
+GoesTo e sent next.Last = sent ≡ e.payload.now
+GoesTo e sent next.Refused = ⊥
+GoesTo e sent other = Unit {0}
+
+option_goes : (e : Errand) (sent : List ℕ) (n szx count : ℕ) (value : Option (List ℕ)) → sent ≡ e.payload.now → GoesTo e sent (by_option n szx count value)
+option_goes e sent n szx count None all = either (GoesTo e sent) (n == 0) next.Last next.Misfit (λ _. all) (λ _. tt)
+option_goes e sent n szx count (Some value) all =
+    let b = place_in value in
+    either (GoesTo e sent) (nat_le (length value) 3) _ next.Misfit
+    (λ _. either (GoesTo e sent) (is_place n szx b) (by_more b count) next.Misfit
+        (λ _. either (GoesTo e sent) b.more _ _
+            (λ _. either (GoesTo e sent) (count == block_size b.szx) (next_block b) next.Misfit
+                (λ _. either (GoesTo e sent) (nat_lt (b.number + 1) 1048576) (next.Ask (Answer (b.number + 1) b.szx)) next.Misfit (λ _. all) (λ _. tt))
+                (λ _. tt))
+            (λ _. either (GoesTo e sent) (nat_le count (block_size b.szx)) next.Last next.Misfit (λ _. all) (λ _. tt)))
+        (λ _. tt))
+    (λ _. tt)
+
+whole_goes : (e : Errand) (sent : List ℕ) (n : ℕ) (m : Message) → sent ≡ e.payload.now → GoesTo e sent (next_of_whole n m)
+whole_goes e sent n m all =
+    either (GoesTo e sent) (is_final n m) (next_of_answer 0 6 m) next.Misfit (λ _. option_goes e sent 0 6 (length m.payload) (block2_of m) all) (λ _. tt)
+
+body_goes : (e : Errand) (sent : List ℕ) (n szx : ℕ) (size : Option ℕ) → ((smaller : ℕ) → size ≡ Some smaller → smaller ≤ szx) →
+    sent ≡ take (block_size szx * (n + 1)) e.payload.now → GoesTo e sent (next_of_body n szx size)
+body_goes e sent n szx None small so = tt
+body_goes e sent n szx (Some smaller) small so =
+    either (GoesTo e sent) (nat_lt (next_number n szx smaller) 1048576) (next.Ask (Body (next_number n szx smaller) smaller)) next.Misfit
+    (λ _. so ∙ ap (λ k. take k e.payload.now) (sym (begins_alike n szx smaller (small smaller refl)))) (λ _. tt)
+
+-- the blocks before one, and that one
+one_block_more : (payload : List ℕ) (n szx : ℕ) → take (block_size szx * n) payload ++ block_of payload n szx ≡ take (block_size szx * (n + 1)) payload
+one_block_more payload n szx =
+    let size = block_size szx in
+    let k : size * n + size ≡ size * (n + 1) = omega arith in
+    sym (take-add (size * n) size payload) ∙ ap (λ k. take k payload) k
+
+part_goes : (e : Errand) (part : Part) (sent body etag : List ℕ) (m : Message) → HasSent e sent (Out part body etag) →
+    GoesTo e (sent ++ brought e (Out part body etag)) (by_part (length e.payload.now) part etag m)
+part_goes e Whole sent body etag m so = whole_goes e _ 0 m (ap (λ s. s ++ e.payload.now) so)
+part_goes e (Body n szx) sent body etag m so =
+    let now = ap (λ s. s ++ block_of e.payload.now n szx) so ∙ one_block_more e.payload.now n szx in
+    either (GoesTo e _) (has_more (length e.payload.now) n szx) (next_of_body n szx (next_size n szx (is_continue m) (block1_of m))) (next_of_whole n m)
+    (λ _. body_goes e _ n szx _ (next_smaller n szx (is_continue m) (block1_of m)) now)
+    (λ last. whole_goes e _ n m (now ∙ take_all _ _ (ltb-false _ _ last)))
+part_goes e (Answer n szx) sent body etag m so =
+    let now = append-nil sent ∙ so in
+    either (GoesTo e _) (bytes_eq (etag_of m) etag) _ next.Stale
+    (λ _. either (GoesTo e _) (is_continue m) next.Misfit (next_of_answer n szx m) (λ _. tt) (λ _. option_goes e _ n szx (length m.payload) (block2_of m) now))
+    (λ _. tt)
+
+moved_has : (e : Errand) (sent body etag : List ℕ) (m : Message) (n : Next) → GoesTo e sent n → HasSent e sent (moved_on n body etag m)
+moved_has e sent body etag m (next.Ask Whole) g = absurd g
+moved_has e sent body etag m (next.Ask (Body n szx)) g = g
+moved_has e sent body etag m (next.Ask (Answer n szx)) g = g
+moved_has e sent body etag m next.Last g = λ _. g
+moved_has e sent body etag m next.Refused g = absurd g
+moved_has e sent body etag m next.Stale g = tt
+moved_has e sent body etag m next.Misfit g = tt
+
+reply_has : (e : Errand) (sent : List ℕ) (m : Message) (s : State) → HasSent e sent s → HasSent e (sent ++ brought e s) (after_reply (length e.payload.now) m s)
+reply_has e sent m (Out part body etag) so =
+    let after = sent ++ brought e (Out part body etag) in
+    either (λ n. HasSent e after (moved_on n body etag m)) (is_success m.code) (by_part (length e.payload.now) part etag m) next.Refused
+    (λ _. moved_has e after body etag m _ (part_goes e part sent body etag m so))
+    (λ failed success. absurd (cc (failed, success)))
+reply_has e sent m (Ended code body) so = λ success. append-nil sent ∙ so success
+reply_has e sent m Outdated so = tt
+reply_has e sent m Lost so = tt
+
+first_has : (e : Errand) (method : Method) (count : ℕ) → HasSent e [] (Out (first_part method count) [] [])
+first_has e Get count = refl
+first_has e Post count = refl
+first_has e Delete count = refl
+first_has e Put count = either (λ p. HasSent e [] (Out p [] [])) (nat_lt 1024 count) (Body 0 6) Whole (λ _. refl) (λ _. refl)
+
+pub has_sent : (e : Errand) (ms : List Message) → HasSent e (body_sent e ms) (state_after e ms)
+has_sent e [] = first_has e e.method (length e.payload.now)
+has_sent e (m ∷ ms) = reply_has e (body_sent e ms) m (state_after e ms) (has_sent e ms)
+
+pub whole_sent : (e : Errand) (ms : List Message) (code : ℕ) (answer : List ℕ) → state_after e ms ≡ Ended code answer → is_success code ≡ true → body_sent e ms ≡ e.payload.now
+whole_sent e ms code answer ends success = subst (HasSent e (body_sent e ms)) ends (has_sent e ms) success

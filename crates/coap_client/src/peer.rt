@@ -1,0 +1,35 @@
+//! The server, as a client has it.
+ghost use Rattle.std.specs.Prelude.{◌≤◌, ⊤, ℕ, List, IfOk, IfSome, OnOk, length, take};
+
+use coap_msg::Datagram;
+use std::io;
+
+/// The server, as a client has it.
+pub trait Peer {
+    // Which datagrams were handed to it: it says of one that it was sent.
+    ghost went: { List ℕ → Type 0 } = { λ _. ⊤ };
+
+    // Which datagrams came by it.
+    ghost came: { List ℕ → Type 0 } = { λ _. ⊤ };
+
+    /// Sends a datagram to the server.
+    ///
+    /// # Errors
+    /// It couldn't be sent.
+    fn send(&mut self, datagram: &Datagram) -> io::Result<()>
+        ensures { OnOk result (went datagram.now.items) };
+
+    /// Begins a wait of so many seconds.
+    ///
+    /// # Errors
+    /// There is no clock.
+    fn begin_wait(&mut self, seconds: u64) -> io::Result<()>;
+
+    /// The next datagram that comes from the server while the wait lasts: how many bytes at the start of the buffer it is.
+    /// What doesn't fit the buffer is lost. `None` where the wait is over.
+    ///
+    /// # Errors
+    /// Nothing can be received.
+    fn receive(&mut self, buffer: &mut [u8]) -> io::Result<Option<usize>>
+        ensures { IfOk result (λ r. IfSome r (λ count. (count ≤ length buffer.new) × came (take count buffer.new))) };
+}
