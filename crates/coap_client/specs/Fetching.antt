@@ -1,6 +1,7 @@
 -- A fetch as a list of replies, the newest first, each to the request that the ones before it have led to.
 use Rattle.std.specs.Prelude.{◌≡◌, ℕ, ◌+◌, ◌%◌, ◌⊎◌, if◌then◌else◌, List, [], ◌∷◌, ◌++◌, length}
 use Rattle.coap_msg.specs.Wire.{Message, message_bytes}
+use Rattle.coap_opts.specs.declared.request.Method.TheVariants.{Get}
 use Rattle.coap_client.specs.declared.errand.Errand.{Errand}
 use Rattle.coap_client.specs.declared.fetching.Attempt.{Attempt}
 use Rattle.coap_client.specs.declared.fetching.Attempt.TheVariants as attempt
@@ -74,11 +75,12 @@ pub record LeadsTo (went came : List ℕ → Type 0) (e : Errand) (first : ℕ) 
   pub are : AreReplies went came e first known replies
   pub leads : state_after e replies ≡ state
 
--- after replies whose last one was outdated, others to requests of later ids lead to this state
+-- after replies to a GET whose last one was outdated, others to requests of later ids lead to this state
 pub record LeadsToAgain (went came : List ℕ → Type 0) (e : Errand) (first : ℕ) (state : State) : Type 0 where
   pub outdated : List Message
   pub are : AreReplies went came e first [] outdated
   pub leads : state_after e outdated ≡ Outdated
+  pub method : e.method ≡ Get
   pub again : LeadsTo went came e ((first + length outdated) % 65536) (ids_after [] outdated) state
 
 -- the fetch ends with this code and body, at once or begun again once

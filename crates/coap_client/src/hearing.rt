@@ -91,8 +91,7 @@ fn ask_again<P: Peer>(
     ensures { IfOk result (λ count. (count ≤ length buffer.new) × IsAsked P.went P.came request.now (take count buffer.new)) }
 {
     for seconds in WAITS {
-        peer.send(request.datagram)?;
-        peer.begin_wait(seconds)?;
+        send(peer, request, seconds)?;
         match listen(peer, request, false, buffer)? {
             Listened::Answer(count) => return Ok(count),
             Listened::Acknowledged => {
@@ -114,9 +113,17 @@ fn ask_once<P: Peer>(
     requires { request.now.confirmable ≡ false }
     ensures { IfOk result (λ count. (count ≤ length buffer.new) × IsAsked P.went P.came request.now (take count buffer.new)) }
 {
-    peer.send(request.datagram)?;
-    peer.begin_wait(NON_WAIT)?;
+    send(peer, request, NON_WAIT)?;
     await_separate(peer, request, buffer)
+}
+
+// Sends a request, and begins a wait of so many seconds.
+fn send<P: Peer>(peer: &mut P, request: &Request<'_>, seconds: u64) -> Result<(), Fault>
+    ensures { OnOk result (P.went request.now.datagram.now.items) }
+{
+    peer.send(request.datagram)?;
+    peer.begin_wait(seconds)?;
+    Ok(())
 }
 
 // Waits for an answer, where the request was acknowledged or asks for no acknowledgement.

@@ -1,9 +1,8 @@
 //! Replies: which messages answer a request, and what comes after the answer.
-ghost use Rattle.std.specs.Prelude.{◌≡◌, ◌≤◌, ◌↔◌, IfSome, IsTrue, length};
+ghost use Rattle.std.specs.Prelude.{◌≡◌, ◌≤◌, ◌↔◌, IfSome, IsTrue, Some, [], length};
 ghost use Rattle.coap_client.specs.Requests.{IsBlock, IsPartOf};
 ghost use Rattle.coap_client.specs.Replies.{IsEmptyAcknowledgement, IsReply, IsReset, IsSeparate};
 ghost use Rattle.coap_client.specs.Replies as spec;
-ghost use Rattle.std.specs.Prelude.{Some};
 
 use crate::errand::{Errand, LARGEST_SZX};
 use crate::part::Part;
@@ -42,10 +41,7 @@ pub enum Next {
 pub fn is_reply(id: u16, message: &Message<'_>) -> bool
     ensures { IsTrue result ↔ IsReply id message.now }
 {
-    message.kind() == MessageType::Acknowledgement
-        && message.id() == id
-        && message.token().is_empty()
-        && message.code().byte >= RESPONSE
+    message.kind() == MessageType::Acknowledgement && message.id() == id && is_response(message)
 }
 
 /// Whether a message acknowledges the request of this id, and doesn't answer it: the answer comes in a message of its own.
@@ -61,9 +57,14 @@ pub fn is_empty_acknowledgement(id: u16, message: &Message<'_>) -> bool
 pub fn is_separate(message: &Message<'_>) -> bool
     ensures { IsTrue result ↔ IsSeparate message.now }
 {
-    begins_exchange(message.kind())
-        && message.token().is_empty()
-        && message.code().byte >= RESPONSE
+    begins_exchange(message.kind()) && is_response(message)
+}
+
+// Whether a message has the code of a response, and no token.
+fn is_response(message: &Message<'_>) -> bool
+    ensures { IsTrue result ↔ ((message.now.token ≡ []) × (64 ≤ message.now.code)) }
+{
+    message.token().is_empty() && message.code().byte >= RESPONSE
 }
 
 /// Whether messages of this type begin an exchange: they are confirmable, or non-confirmable.

@@ -1,10 +1,11 @@
 //! A client's request: what is asked, and the printed answer.
-ghost use Rattle.std.specs.Prelude.{◌≡◌, ◌⊎◌, OnOk};
-ghost use Rattle.std.specs.Io.KnownBytes.{Appends};
-ghost use Rattle.fc_fetch.specs.Fetching.{answer_text, ending_of};
+ghost use Rattle.std.specs.Prelude.{◌≡◌, ◌⊎◌};
+ghost use Rattle.fc_fetch.specs.Fetching.{ending_of};
 ghost use Rattle.fc_cli.specs.declared.status.Status.TheVariants.{Failed};
 
-use coap_client::{Errand, Fault, Fetched, Path, PathError, Server};
+use crate::address::{Address, AddressError};
+use crate::printing::{Shown, write_answer};
+use coap_client::{Errand, Fault, Fetched, Path, PathError, Server, Target};
 use coap_opts::Method;
 use fc_cli::clock::clock_id;
 use fc_cli::status::{Status, tell};
@@ -18,75 +19,116 @@ use thiserror::Error;
 /// The class of the codes of success (RFC 7252, 5.9.1).
 const SUCCESS: u8 = 2;
 
+/// The most bytes of an argument of a query (RFC 7252, 5.10).
+const ARGUMENT: usize = 255;
+
+/// What is asked for.
+#[derive(Clone, Copy)]
+pub struct Asking<'a> {
+    /// Whether the server is to acknowledge the request: it is sent again where nothing comes.
+    pub confirmable: bool,
+    pub method: Method,
+    /// A path, or a URI of the scheme coap.
+    pub target: &'a str,
+    /// The port of 127.0.0.1, for a path.
+    pub port: Option<u16>,
+    /// What the request's body is read from, as a fault of reading names it.
+    pub source: &'a str,
+    pub shown: Shown,
+}
+
 // Why nothing is printed.
 #[derive(Debug, Drop, Error)]
-enum Stop {
+enum Stop<'a> {
+    #[error("{0}")]
+    Address(AddressError),
     #[error("{0}")]
     Path(PathError),
-    #[error("the request has no room in a datagram")]
+    #[error("an argument of the query has more than 255 bytes")]
+    Argument,
+    #[error("the request has no room in a datagram: the path, the query and what goes of the body at once have at most 1262 bytes, with 5 more for each segment and argument")]
     Room,
-    #[error("standard input: {0}")]
-    Input(io::Error),
+    #[error("{0}: {1}")]
+    Input(&'a str, io::Error),
     #[error("{0}")]
     Fault(#[from] Fault),
-    #[error("standard output: {0}")]
-    Output(io::Error),
     #[error("{0}")]
     Memory(#[from] AllocError),
 }
 
-impl Stop {
+impl<'a> Stop<'a> {
     fn status(&self) -> Status {
         match self {
-            Stop::Path(PathError::Bad) | Stop::Room => Status::Bad,
-            Stop::Path(PathError::NoMemory)
-            | Stop::Input(_)
-            | Stop::Fault(_)
-            | Stop::Output(_)
-            | Stop::Memory(_) => Status::Failed,
+            Stop::Address(AddressError::NoMemory) | Stop::Path(PathError::NoMemory) => {
+                Status::Failed
+            }
+            Stop::Address(_) | Stop::Path(_) | Stop::Argument | Stop::Room => Status::Bad,
+            Stop::Input(..) | Stop::Fault(_) | Stop::Memory(_) => Status::Failed,
         }
     }
 }
 
-/// Asks the server at 127.0.0.1 and this port, by this method of a path, with the input as the request's body, and prints the
-/// answer's code and, where it has bytes, these in hex on a line of their own.
+/// Asks a server, with the input as the request's body, and prints the answer's code and, where it has bytes, these on a line of
+/// their own.
 ///
-/// It is done where the code is one of success, and refused at any other. It ends `Bad` where the path isn't a slash before each
-/// of its segments of 1 to 255 bytes, or a request has no room in a datagram; and `Failed` where no answer came, at a fault of the
-/// socket, or where reading, writing or memory failed. `err` is told why.
+/// It is done where the code is one of success, and refused at any other. It ends `Bad` where the target is neither a path, a slash before each
+/// of its segments of 1 to 255 bytes, with a port, nor a URI of the scheme coap with an IPv4 address, or where a request has no room in a datagram; and `Failed` where no
+/// answer came, at a fault of the socket, or where reading, writing or memory failed. `err` is told why.
 pub fn fetch<R: Net + Clock, I: Read, W: Write, E: Write>(
     rt: &R,
     alloc: Global,
     input: &mut I,
     out: &mut W,
     err: &mut E,
-    port: u16,
-    method: Method,
-    path: &str,
+    asking: &Asking<'_>,
 ) -> Status {
-    match answer(rt, alloc, input, port, method, path) {
-        Ok(fetched) => print_answer(alloc, out, err, &fetched),
+    match answer(rt, alloc, input, asking) {
+        Ok(fetched) => print_answer(alloc, out, err, asking.shown, &fetched),
         Err(stop) => tell(err, &stop, stop.status()),
     }
 }
 
 // The answer of the server.
-fn answer<R: Net + Clock, I: Read>(
+fn answer<'a, R: Net + Clock, I: Read>(
     rt: &R,
     alloc: Global,
     input: &mut I,
-    port: u16,
-    method: Method,
-    path: &str,
-) -> Result<Fetched, Stop> {
-    let path = Path::parse(alloc, path.as_bytes()).map_err(Stop::Path)?;
+    asking: &Asking<'a>,
+) -> Result<Fetched, Stop<'a>> {
+    let address = Address::parse(alloc, asking.target, asking.port).map_err(Stop::Address)?;
+    let target = Target {
+        path: Path::parse(alloc, &address.path).map_err(Stop::Path)?,
+        query: arguments(alloc, &address.query)?,
+    };
     let mut payload = Vec::new(alloc);
-    input.read_to_end(&mut payload).map_err(Stop::Input)?;
-    let Some(errand) = Errand::new(method, path, &payload) else {
+    if let Err(error) = input.read_to_end(&mut payload) {
+        return Err(Stop::Input(asking.source, error));
+    }
+    let Some(errand) = Errand::new(asking.confirmable, asking.method, target, &payload) else {
         return Err(Stop::Room);
     };
-    let mut server = Server::at_port(rt, rt, port).map_err(Fault::Socket)?;
-    Ok(coap_client::fetch(alloc, &mut server, &errand, clock_id(rt))?)
+    let mut server = Server::at(rt, rt, address.server).map_err(Fault::Socket)?;
+    Ok(coap_client::fetch(
+        alloc,
+        &mut server,
+        &errand,
+        clock_id(rt),
+    )?)
+}
+
+// The arguments of a query, which `&` parts; an empty one has none.
+fn arguments<'a, 'b>(alloc: Global, query: &'b [u8]) -> Result<Vec<&'b [u8]>, Stop<'a>> {
+    let mut arguments = Vec::new(alloc);
+    if query.is_empty() {
+        return Ok(arguments);
+    }
+    for argument in query.split(|byte| *byte == b'&') {
+        if argument.len() > ARGUMENT {
+            return Err(Stop::Argument);
+        }
+        arguments.push(argument).map_err(AllocError::from)?;
+    }
+    Ok(arguments)
 }
 
 // Prints an answer: how the client ends.
@@ -94,27 +136,14 @@ fn print_answer<W: Write, E: Write>(
     alloc: Global,
     out: &mut W,
     err: &mut E,
+    shown: Shown,
     fetched: &Fetched,
 ) -> Status
     ensures { (result ≡ ending_of fetched.now.code.byte) ⊎ (result ≡ Failed) }
 {
-    match write_answer(alloc, out, fetched) {
+    match write_answer(alloc, out, shown, fetched) {
         Ok(()) if fetched.code.class() == SUCCESS => Status::Done,
         Ok(()) => Status::Refused,
-        Err(stop) => tell(err, &stop, Status::Failed),
+        Err(error) => tell(err, &error, Status::Failed),
     }
-}
-
-// Writes the code, and the answer's bytes in hex, where it has some.
-fn write_answer<W: Write>(alloc: Global, out: &mut W, fetched: &Fetched) -> Result<(), Stop>
-    ensures { OnOk result (Appends (W.contents out.old) (W.contents out.new)
-        (answer_text fetched.now.code.byte fetched.now.body.items)) }
-{
-    let code = fetched.code;
-    writeln!(out, "{code}").map_err(Stop::Output)?;
-    if !fetched.body.is_empty() {
-        let digits = hex::encode(alloc, &fetched.body)?;
-        writeln!(out, "{digits}").map_err(Stop::Output)?;
-    }
-    out.flush().map_err(Stop::Output)
 }

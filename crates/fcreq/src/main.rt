@@ -1,58 +1,86 @@
 //! The client's program: it parses its command line, and asks the service.
 #![tactic(auto)]
 
-use clap::{Arg, ArgMatches, Command, Error, value_parser};
+use clap::{Arg, ArgAction, ArgMatches, Command, Error, value_parser};
 use coap_opts::Method;
 use fc_cli::Status;
 use fc_cli::command_line::{VERSION, exit_code, parse, words};
-use fc_fetch::fetch;
+use fc_fetch::{Asking, Shown, fetch};
 use std::alloc::Global;
+use std::fs::File;
 use std::io;
-use std::io::{BufWriter, Write};
+use std::io::{BufWriter, Read, Write};
 use std::net::Net;
 use std::process::ExitCode;
 use std::rt::Runtime;
 
 /// What `--help` tells of requests, of what is printed, and of how it ends.
 const ASKING: &str = "\
-PATH has a slash before each of its segments of 1 to 255 bytes. The request's body is read from
-standard input, to its end. Printed are the answer's code and, where it has bytes, these in hex
-on a line of their own. `fcreq --port 5683 get /r/1 < /dev/null` prints `2.05`, where slot 1
-has a program that answers a GET by no byte.
+TARGET is a path, a slash before each of its segments of 1 to 255 bytes, at `--port P` of
+127.0.0.1; or a URI, coap://HOST:PORT/path?query, whose host is an IPv4 address or localhost, and
+whose port is 5683 where it says none. The request's body is read from standard input, or from
+FILE, to its end. Printed are the answer's code and, where it has bytes, these in hex on a line
+of their own.
+
+  fcreq --port 5683 put /p/1 -f program.img
+  fcreq --text get coap://127.0.0.1:5683/.well-known/core < /dev/null
+  echo 20 | fcreq post 'coap://127.0.0.1/r/1?unit=C'
 
 A request is sent again after 2, 4, 8 and 16 seconds without an answer, and given up after 32
-more. The body of a PUT goes in blocks where it has more than 1,024 bytes, and so does an
-answer.
+more. Where the server acknowledges it and answers later, the answer is waited for 93 seconds. The
+body of a PUT goes in blocks where it has more than 1,024 bytes, and so does an answer; where the
+server names a smaller size, in blocks of that.
 
 Exit status: 0 where the code is of class 2; 1 where it is another; 2 where the command line is
-bad, or the request has no room in a datagram; 3 where no answer came, the socket, reading or
-writing failed, or memory was refused.";
+bad, or the request has no room in a datagram; 3 where no answer came, nobody listens at the port,
+the socket, reading or writing failed, or memory was refused.";
 
 fn command<'a>(alloc: Global) -> Result<Command<'a>, Error> {
-    let port = Arg::new(alloc, "port")
-        .long("port")
-        .value_name("P")
-        .required(true)
-        .value_parser(value_parser!(u16).range(1..))
-        .help("The port of the server at 127.0.0.1, 1 to 65535");
     let method = Arg::new(alloc, "method")
         .value_name("METHOD")
         .required(true)
         .value_parser(["get", "post", "put", "delete"].as_slice())
         .help("What is asked");
-    let path = Arg::new(alloc, "path")
-        .value_name("PATH")
+    let target = Arg::new(alloc, "target")
+        .value_name("TARGET")
         .required(true)
-        .help("Of which resource, as /r/1");
+        .help("Of which resource: /r/1, or coap://127.0.0.1:5683/r/1");
     Ok(
         Command::new(alloc, "fcreq")
             .version(VERSION)
-            .about("Ask a CoAP server of this host")
+            .about("Ask a CoAP server")
             .after_help(ASKING)
-            .arg(port)?
+            .arg(port(alloc))?
+            .arg(flag(alloc, "non", "Ask by a non-confirmable request: once, and wait 32 seconds").short('N'))?
+            .arg(flag(alloc, "text", "Print the answer's bytes as text, where they are text"))?
+            .arg(file(alloc))?
             .arg(method)?
-            .arg(path)?,
+            .arg(target)?,
     )
+}
+
+fn port<'a>(alloc: Global) -> Arg<'a> {
+    Arg::new(alloc, "port")
+        .long("port")
+        .value_name("P")
+        .value_parser(value_parser!(u16).range(1..))
+        .help("The port of the server at 127.0.0.1, 1 to 65535: with a path")
+}
+
+fn file<'a>(alloc: Global) -> Arg<'a> {
+    Arg::new(alloc, "file")
+        .short('f')
+        .long("file")
+        .value_name("FILE")
+        .help("Read the request's body from this file")
+}
+
+// An option without a value.
+fn flag<'a>(alloc: Global, name: &'static str, help: &'static str) -> Arg<'a> {
+    Arg::new(alloc, name)
+        .long(name)
+        .action(ArgAction::SetTrue)
+        .help(help)
 }
 
 fn method_of(word: &str) -> Option<Method> {
@@ -82,25 +110,46 @@ fn obey<R: Runtime + AllocGlobal + Net, E: Write>(
         Ok(matches) => matches,
         Err(status) => return Ok(status),
     };
-    ask(rt, err, &matches)
-}
-
-fn ask<R: Runtime + AllocGlobal + Net, E: Write>(
-    rt: &R,
-    err: &mut E,
-    matches: &ArgMatches<'_>,
-) -> anyhow::Result<Status> {
-    let alloc = rt.alloc();
-    let (Some(port), Some(method), Some(path)) = (
-        matches.get_one::<u16>("port"),
-        matches.get_str("method").and_then(method_of),
-        matches.get_str("path"),
-    ) else {
+    let Some(asking) = asking_of(&matches) else {
         return Ok(Status::Bad);
     };
-    let mut input = rt.reader();
+    let Some(name) = matches.get_str("file") else {
+        return ask(rt, err, &mut rt.reader(), &asking);
+    };
+    match File::open(rt, name) {
+        Ok(mut file) => ask(rt, err, &mut file, &asking),
+        Err(error) => {
+            writeln!(err, "{name}: {error}")?;
+            Ok(Status::Failed)
+        }
+    }
+}
+
+// What the command line asks for.
+fn asking_of<'a>(matches: &ArgMatches<'a>) -> Option<Asking<'a>> {
+    Some(Asking {
+        confirmable: !matches.get_flag("non"),
+        method: matches.get_str("method").and_then(method_of)?,
+        target: matches.get_str("target")?,
+        port: matches.get_one::<u16>("port"),
+        source: matches.get_str("file").unwrap_or("standard input"),
+        shown: if matches.get_flag("text") {
+            Shown::Text
+        } else {
+            Shown::Hex
+        },
+    })
+}
+
+fn ask<R: Runtime + AllocGlobal + Net, I: Read, E: Write>(
+    rt: &R,
+    err: &mut E,
+    input: &mut I,
+    asking: &Asking<'_>,
+) -> anyhow::Result<Status> {
+    let alloc = rt.alloc();
     let mut out = BufWriter::new(alloc, io::writer(rt))?;
-    Ok(fetch(rt, alloc, &mut input, &mut out, err, port, method, path))
+    Ok(fetch(rt, alloc, input, &mut out, err, asking))
 }
 
 fn main(rt: HostRuntime) -> ExitCode {

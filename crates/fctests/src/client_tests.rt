@@ -1,97 +1,8 @@
 // Fetches from a server that follows a script: the datagrams are worked out by hand (RFC 7252, 3; RFC 7959, 2.2 and 3).
-use coap_client::{Errand, Fault, Fetched, Path, PathError, Peer, fetch};
-use coap_msg::Datagram;
+use crate::scripted::{answers, check_sent, comes, fetched, follows, joined};
+use coap_client::{Fault, Path, PathError};
 use coap_opts::Method;
-use std::alloc::{AllocError, Global};
-use std::io;
-use std::process::Abort;
 use std::test::Fail;
-
-// A server whose datagrams are these, in order; an empty one says that the wait is over. It keeps what it is sent, and for how
-// many seconds it was waited for.
-#[derive(Drop)]
-struct Scripted {
-    alloc: Global,
-    script: Vec<Vec<u8>>,
-    place: usize,
-    sent: Vec<Vec<u8>>,
-    waits: Vec<u64>,
-}
-
-impl Peer for Scripted {
-    fn send(&mut self, datagram: &Datagram, seconds: u64) -> io::Result<()> {
-        let copy = joined(self.alloc, datagram.as_slice(), &[])?;
-        self.sent.push(copy).map_err(AllocError::from)?;
-        self.waits.push(seconds)?;
-        Ok(())
-    }
-
-    fn receive(&mut self, buffer: &mut [u8]) -> io::Result<Option<usize>> {
-        let Some(bytes) = self.script.get(self.place) else {
-            return Ok(None);
-        };
-        self.place = self.place.saturating_add(1);
-        let Some(place) = buffer.get_mut(..bytes.len()) else {
-            return Ok(None);
-        };
-        place.copy_from_slice(bytes);
-        Ok((!bytes.is_empty()).then_some(bytes.len()))
-    }
-}
-
-// These bytes, and these behind them.
-fn joined(alloc: Global, first: &[u8], second: &[u8]) -> Result<Vec<u8>, AllocError> {
-    let mut bytes = Vec::new(alloc);
-    bytes.extend_from_slice(first)?;
-    bytes.extend_from_slice(second)?;
-    Ok(bytes)
-}
-
-fn follows(alloc: Global) -> Scripted {
-    Scripted {
-        alloc,
-        script: Vec::new(alloc),
-        place: 0,
-        sent: Vec::new(alloc),
-        waits: Vec::new(alloc),
-    }
-}
-
-// The server sends these bytes, and these behind them.
-fn comes(server: &mut Scripted, first: &[u8], second: &[u8]) -> Result<(), AllocError> {
-    let bytes = joined(server.alloc, first, second)?;
-    server.script.push(bytes).map_err(AllocError::from)
-}
-
-// What comes of asking this of a path, from message id 7 on.
-fn fetched(
-    server: &mut Scripted,
-    method: Method,
-    path: &str,
-    payload: &[u8],
-) -> Result<Fetched, Fault> {
-    let path = match Path::parse(server.alloc, path.as_bytes()) {
-        Ok(path) => path,
-        Err(_) => return Err(Fault::Memory(AllocError)),
-    };
-    let Some(errand) = Errand::new(method, path, payload) else {
-        return Err(Fault::Memory(AllocError));
-    };
-    fetch(server.alloc, server, &errand, 7)
-}
-
-// The server got these bytes, and these behind them, as the datagram of this place.
-fn check_sent<R: Abort>(rt: &R, server: &Scripted, place: usize, first: &[u8], second: &[u8]) {
-    let is_so = match server.sent.get(place) {
-        Some(sent) => {
-            sent.len() == first.len().saturating_add(second.len())
-                && sent.starts_with(first)
-                && sent.ends_with(second)
-        }
-        None => false,
-    };
-    assert!(rt; is_so, "datagram {place}");
-}
 
 #[test]
 fn a_large_body_goes_by_blocks(rt: HostRuntime) -> Result<(), Fail> {
@@ -127,11 +38,13 @@ fn blocks_that_are_carried_out_one_by_one_go_on(rt: HostRuntime) -> Result<(), F
     Ok(())
 }
 
-// Successes to the first of two blocks: without Block1, of another block, and of a smaller size.
-static NOT_TAKEN: [&[u8]; 3] = [
+// Successes to the first of two blocks: without Block1, of another block, by 2.31 too, of a greater size, and with a Block1 of four bytes.
+static NOT_TAKEN: [&[u8]; 5] = [
     b"\x60\x44\x00\x07",
     b"\x60\x44\x00\x07\xd1\x0e\x16",
-    b"\x60\x44\x00\x07\xd1\x0e\x05",
+    b"\x60\x5f\x00\x07\xd1\x0e\x1e",
+    b"\x60\x44\x00\x07\xd1\x0e\x07",
+    b"\x60\x5f\x00\x07\xd4\x0e\x00\x00\x00\x06",
 ];
 
 #[test]
@@ -142,6 +55,26 @@ fn no_success_leaves_a_block_out(rt: HostRuntime) -> Result<(), Fail> {
         let answer = fetched(&mut server, Method::Put, "/p/1", &[7; 1500]);
         assert!(rt; matches!(&answer, Err(Fault::Misfit)), "{reply:?}");
     }
+    Ok(())
+}
+
+// Successes to the last of two blocks that aren't the answer: 2.31, of another block, and one that says that more is to come.
+static NOT_LAST: [&[u8]; 3] = [
+    b"\x60\x5f\x00\x08\xd1\x0e\x16",
+    b"\x60\x44\x00\x08\xd1\x0e\x06",
+    b"\x60\x44\x00\x08\xd1\x0e\x1e",
+];
+
+#[test]
+fn no_success_ends_it_before_the_server_has_all(rt: HostRuntime) -> Result<(), Fail> {
+    for reply in NOT_LAST.iter().copied() {
+        let mut server = answers(rt.alloc(), &[(b"\x60\x5f\x00\x07\xd1\x0e\x0e", b""), (reply, b"")])?;
+        let answer = fetched(&mut server, Method::Put, "/p/1", &[7; 1500]);
+        assert!(rt; matches!(&answer, Err(Fault::Misfit)), "{reply:?}");
+    }
+    let mut server = answers(rt.alloc(), &[(b"\x60\x5f\x00\x07", b"")])?;
+    let answer = fetched(&mut server, Method::Put, "/p/1", &[7; 100]);
+    assert!(rt; matches!(&answer, Err(Fault::Misfit)));
     Ok(())
 }
 
@@ -184,21 +117,50 @@ fn a_large_answer_comes_by_blocks(rt: HostRuntime) -> Result<(), Fail> {
     Ok(())
 }
 
+// The answer to a GET changes between its blocks: the GET is made again, once.
 #[test]
-fn a_block_of_another_version_is_a_fault(rt: HostRuntime) -> Result<(), Fail> {
-    let mut server = follows(rt.alloc());
-    comes(
-        &mut server,
-        b"\x60\x45\x00\x07\x41\x02\xd1\x06\x0e\xff",
-        &[8; 1024],
-    )?;
-    comes(
-        &mut server,
-        b"\x60\x45\x00\x08\x41\x03\xd1\x06\x16\xff",
-        b"rest",
+fn an_answer_that_changes_is_asked_for_anew(rt: HostRuntime) -> Result<(), Fail> {
+    let begun: (&[u8], &[u8]) = (b"\x60\x45\x00\x07\x41\x02\xd1\x06\x0e\xff", &[8; 1024]);
+    let changed: (&[u8], &[u8]) = (b"\x60\x45\x00\x08\x41\x03\xd1\x06\x16\xff", b"rest");
+    let anew: (&[u8], &[u8]) = (b"\x60\x45\x00\x09\x41\x03\xff", b"new");
+    let mut server = answers(rt.alloc(), &[begun, changed, anew])?;
+    let answer = fetched(&mut server, Method::Get, "/r/1", &[])?;
+    assert!(rt; answer.code.byte == 0x45 && answer.body.as_slice() == b"new".as_slice());
+    check_sent(&rt, &server, 2, b"\x40\x01\x00\x09\xb1\x72\x01\x31", &[]);
+    let mut server = answers(rt.alloc(), &[begun, changed])?;
+    let answer = fetched(&mut server, Method::Post, "/r/1", &[]);
+    assert!(rt; matches!(&answer, Err(Fault::Changed)) && server.sent.len() == 2);
+    Ok(())
+}
+
+#[test]
+fn an_answer_that_changes_twice_is_a_fault(rt: HostRuntime) -> Result<(), Fail> {
+    let mut server = answers(
+        rt.alloc(),
+        &[
+            (b"\x60\x45\x00\x07\x41\x02\xd1\x06\x0e\xff", &[8; 1024]),
+            (b"\x60\x45\x00\x08\x41\x03\xd1\x06\x16\xff", b"rest"),
+            (b"\x60\x45\x00\x09\x41\x03\xd1\x06\x0e\xff", &[8; 1024]),
+            (b"\x60\x45\x00\x0a\x41\x04\xd1\x06\x16\xff", b"rest"),
+        ],
     )?;
     let answer = fetched(&mut server, Method::Get, "/r/1", &[]);
-    assert!(rt; matches!(&answer, Err(Fault::Misfit)));
+    assert!(rt; matches!(&answer, Err(Fault::Changed)) && server.sent.len() == 4);
+    Ok(())
+}
+
+// A further block that is refused ends it by its code, though it has no ETag.
+#[test]
+fn a_refused_further_block_ends_it(rt: HostRuntime) -> Result<(), Fail> {
+    let mut server = answers(
+        rt.alloc(),
+        &[
+            (b"\x60\x45\x00\x07\x41\x02\xd1\x06\x0e\xff", &[8; 1024]),
+            (b"\x60\xa3\x00\x08", b""),
+        ],
+    )?;
+    let answer = fetched(&mut server, Method::Get, "/r/1", &[])?;
+    assert!(rt; answer.code.byte == 0xa3 && answer.body.is_empty());
     Ok(())
 }
 
@@ -206,12 +168,12 @@ fn a_block_of_another_version_is_a_fault(rt: HostRuntime) -> Result<(), Fail> {
 fn a_request_is_sent_again(rt: HostRuntime) -> Result<(), Fail> {
     let mut server = follows(rt.alloc());
     comes(&mut server, &[], &[])?;
-    // another id, a token, no acknowledgement, no message, and an acknowledgement without an answer
+    // another id, a token, no acknowledgement, no message, and an acknowledgement of another request
     comes(&mut server, b"\x60\x45\x00\x06", &[])?;
     comes(&mut server, b"\x61\x45\x00\x07\x01", &[])?;
     comes(&mut server, b"\x50\x45\x00\x07", &[])?;
     comes(&mut server, b"\x60\x45\x00\x07\xff", &[])?;
-    comes(&mut server, b"\x60\x00\x00\x07", &[])?;
+    comes(&mut server, b"\x60\x00\x00\x06", &[])?;
     comes(&mut server, &[], &[])?;
     comes(&mut server, b"\x60\x84\x00\x07", &[])?;
     let answer = fetched(&mut server, Method::Delete, "/p/1", &[])?;
@@ -237,9 +199,16 @@ fn silence_and_a_reset_end_it(rt: HostRuntime) -> Result<(), Fail> {
 fn paths_are_read(rt: HostRuntime) -> Result<(), Fail> {
     let path = Path::parse(rt.alloc(), b"/.well-known/core")?;
     assert!(rt; path.segments.len() == 2 && path.segments[1] == b"core".as_slice());
-    for text in ["/", "r/1", "/r//1", "/r/1/"] {
-        let path = Path::parse(rt.alloc(), text.as_bytes());
-        assert!(rt; matches!(&path, Err(PathError::Bad)), "{text}");
+    let long = joined(rt.alloc(), b"/r/", &[b'x'; 256])?;
+    let texts: [(&[u8], PathError); 5] = [
+        (b"/", PathError::Empty(1)),
+        (b"r/1", PathError::NoSlash),
+        (b"/r//1", PathError::Empty(2)),
+        (b"/r/1/", PathError::Empty(3)),
+        (&long, PathError::Long(2)),
+    ];
+    for (text, error) in texts {
+        assert!(rt; Path::parse(rt.alloc(), text).err() == Some(error), "{text:?}");
     }
     Ok(())
 }

@@ -3,6 +3,8 @@
 #![tactic(auto)]
 
 #[cfg(test)]
+mod address_tests;
+#[cfg(test)]
 mod alu_tests;
 #[cfg(test)]
 mod asm_tests;
@@ -62,6 +64,12 @@ mod reply_tests;
 mod request_tests;
 #[cfg(test)]
 mod response_tests;
+#[cfg(test)]
+mod scripted;
+#[cfg(test)]
+mod separate_tests;
+#[cfg(test)]
+mod smaller_block_tests;
 #[cfg(test)]
 mod socket_tests;
 #[cfg(test)]

@@ -5,7 +5,7 @@ use crate::tooling::assembled;
 use coap_msg::{Emission, Endpoint};
 use coap_opts::Method;
 use fc_cli::Status;
-use fc_fetch::fetch;
+use fc_fetch::{Asking, Shown, fetch};
 use fc_service::serve::{Extent, serve, serve_at};
 use fc_service::socket::{Sink, Source, open};
 use log::sink::Memory;
@@ -43,16 +43,15 @@ fn check_asked<R: Abort + Net + Clock + AllocGlobal>(
     let alloc = rt.alloc();
     let mut out = Vec::new(alloc);
     let mut err = Vec::new(alloc);
-    let ended = fetch(
-        rt,
-        alloc,
-        &mut payload,
-        &mut out,
-        &mut err,
-        port,
+    let asking = Asking {
+        confirmable: true,
         method,
-        path,
-    );
+        target: path,
+        port: Some(port),
+        source: "a slice",
+        shown: Shown::Hex,
+    };
+    let ended = fetch(rt, alloc, &mut payload, &mut out, &mut err, &asking);
     assert!(rt;
         ended == status && err.is_empty() && out.as_slice() == printed.as_bytes(),
         "{path}"

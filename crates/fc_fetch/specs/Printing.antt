@@ -1,0 +1,25 @@
+-- As what the bytes of an answer are printed.
+use Rattle.std.specs.Prelude.{◌≡◌, ℕ, ◌≤◌, ◌==◌, ◌&&◌, ◌||◌, not, nat_le, Bool, true, false, if◌then◌else◌, List, Option, Some, None}
+use Rattle.std.specs.Borrow.{Bor}
+use Rattle.std.specs.List.{list_all}
+use Rattle.std.specs.Str.{is_utf8}
+use Rattle.hex.specs.Hex.{encode_lower}
+use Rattle.fc_fetch.specs.declared.printing.Shown.{Shown}
+use Rattle.fc_fetch.specs.declared.printing.Shown.TheVariants.{Hex, Text}
+
+-- no byte of a control character, but a tab or a line feed
+abbrev pub is_plain : ℕ → Bool
+is_plain b = (b == 9) || ((b == 10) || (nat_le 32 b && not (b == 127)))
+
+abbrev pub is_text : List ℕ → Bool
+is_text bytes = list_all is_plain bytes && is_utf8 bytes
+
+-- text as it is, where it is asked for, and all else in hex
+abbrev pub shown_bytes : Shown → List ℕ → List ℕ
+shown_bytes Hex bytes = encode_lower bytes
+shown_bytes Text bytes = if is_text bytes then bytes else encode_lower bytes
+
+-- the text that is printed for the bytes, or none where they go in hex
+abbrev pub IsText : Shown → List ℕ → Option (Bor (List ℕ)) → Type 0
+IsText shown bytes None = shown_bytes shown bytes ≡ encode_lower bytes
+IsText shown bytes (Some text) = shown_bytes shown bytes ≡ text.now

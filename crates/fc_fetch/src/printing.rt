@@ -1,0 +1,96 @@
+//! How an answer is printed.
+ghost use Rattle.std.specs.Prelude.{◌≡◌, MatchOption, OnOk, false, true};
+ghost use Rattle.std.specs.List.{list_all};
+ghost use Rattle.std.specs.Io.KnownBytes.{Appends};
+ghost use Rattle.fc_fetch.specs.Fetching.{answer_text};
+ghost use Rattle.fc_fetch.specs.Printing as spec;
+
+use coap_client::Fetched;
+use std::alloc::{AllocError, Global};
+use std::io;
+use std::io::Write;
+use thiserror::Error;
+
+/// As what the bytes of an answer are printed.
+#[derive(Clone, Copy, Debug, PartialEq, Eq)]
+pub enum Shown {
+    /// In hex.
+    Hex,
+    /// As they are, where they are text without control characters but tabs and line feeds; else in hex.
+    Text,
+}
+
+/// Why an answer isn't printed.
+#[derive(Debug, Drop, Error)]
+pub enum PrintError {
+    /// It can't be written.
+    #[error("standard output: {0}")]
+    Output(#[from] io::Error),
+    /// There was no memory for its digits.
+    #[error("{0}")]
+    Memory(#[from] AllocError),
+}
+
+/// Writes the code and, where the answer has bytes, these on a line of their own.
+///
+/// # Errors
+/// It can't be written, or there was no memory for its digits.
+pub fn write_answer<W: Write>(
+    alloc: Global,
+    out: &mut W,
+    shown: Shown,
+    fetched: &Fetched,
+) -> Result<(), PrintError>
+    ensures { OnOk result (Appends (W.contents out.old) (W.contents out.new)
+        (answer_text shown fetched.now.code.byte fetched.now.body.items)) }
+{
+    let code = fetched.code;
+    writeln!(out, "{code}")?;
+    if !fetched.body.is_empty() {
+        match text_of(shown, &fetched.body) {
+            Some(text) => writeln!(out, "{text}")?,
+            None => {
+                let digits = hex::encode(alloc, &fetched.body)?;
+                writeln!(out, "{digits}")?;
+            }
+        }
+    }
+    out.flush()?;
+    Ok(())
+}
+
+// The bytes as text, where they are to be shown so and can be.
+fn text_of(shown: Shown, bytes: &[u8]) -> Option<&str>
+    ensures { spec.IsText shown bytes.now result }
+{
+    match shown {
+        Shown::Hex => None,
+        Shown::Text => plain_text(bytes),
+    }
+}
+
+// The bytes as text without control characters but tabs and line feeds.
+fn plain_text(bytes: &[u8]) -> Option<&str>
+    ensures { MatchOption result (spec.is_text bytes.now ≡ false) (λ text. (spec.is_text bytes.now ≡ true) × (text.now ≡ bytes.now)) }
+{
+    if !are_plain(bytes) {
+        return None;
+    }
+    match str::from_utf8(bytes) {
+        Ok(text) => Some(text),
+        Err(_) => None,
+    }
+}
+
+fn are_plain(bytes: &[u8]) -> bool
+    ensures { result ≡ list_all spec.is_plain bytes.now }
+{
+    bytes.iter().all(|byte| is_plain(*byte))
+}
+
+// Whether a byte is none of a control character but those of tabs and line feeds.
+fn is_plain(byte: u8) -> bool
+    ensures { result ≡ spec.is_plain byte }
+{
+    byte == b'\t' || byte == b'\n' || (byte >= b' ' && byte != 0x7f)
+}

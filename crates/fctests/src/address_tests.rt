@@ -1,0 +1,82 @@
+// Where a client's request goes, as its command line says it (RFC 7252, 6.1 and 6.4), and how an answer is printed.
+use coap_client::Fetched;
+use coap_msg::Code;
+use fc_fetch::Shown;
+use fc_fetch::address::{Address, AddressError};
+use fc_fetch::printing::write_answer;
+use std::net::{Ipv4Addr, SocketAddrV4};
+use std::test::Fail;
+
+// A URI, its host and port, and the bytes of its path and query.
+static URIS: [(&str, [u8; 4], u16, &[u8], &[u8]); 6] = [
+    ("coap://127.0.0.1:5684/r/1", [127, 0, 0, 1], 5684, b"/r/1", b""),
+    ("coap://192.0.2.7/r/1?a=1&b", [192, 0, 2, 7], 5683, b"/r/1", b"a=1&b"),
+    ("coap://localhost", [127, 0, 0, 1], 5683, b"", b""),
+    ("coap://localhost/", [127, 0, 0, 1], 5683, b"", b""),
+    ("COAP://127.0.0.1/a%20b/%C3%A9?%3D", [127, 0, 0, 1], 5683, b"/a b/\xc3\xa9", b"="),
+    ("coap://127.0.0.1/.well-known/core?rt=x", [127, 0, 0, 1], 5683, b"/.well-known/core", b"rt=x"),
+];
+
+#[test]
+fn uris_are_read(rt: HostRuntime) -> Result<(), Fail> {
+    for (uri, [a, b, c, d], port, path, query) in URIS.iter().copied() {
+        let address = Address::parse(rt.alloc(), uri, None)?;
+        let server = SocketAddrV4::new(Ipv4Addr::new(a, b, c, d), port);
+        assert!(rt; address.server == server, "{uri}");
+        assert!(rt; address.path.as_slice() == path && address.query.as_slice() == query, "{uri}");
+    }
+    Ok(())
+}
+
+#[test]
+fn a_path_is_at_a_port_of_this_host(rt: HostRuntime) -> Result<(), Fail> {
+    let address = Address::parse(rt.alloc(), "/r/1?x", Some(7))?;
+    assert!(rt; address.server == SocketAddrV4::new(Ipv4Addr::LOCALHOST, 7));
+    assert!(rt; address.path.as_slice() == b"/r/1?x".as_slice() && address.query.is_empty());
+    Ok(())
+}
+
+// What is no address, with the port that `--port` gives.
+static NONE: [(&str, Option<u16>, AddressError); 9] = [
+    ("/r/1", None, AddressError::NoPort),
+    ("coap://127.0.0.1/r/1", Some(5683), AddressError::TwoPorts),
+    ("coaps://127.0.0.1/r/1", None, AddressError::NoUri),
+    ("coap://127.0.0.1:70000/r/1", None, AddressError::NoUri),
+    ("coap://example.org/r/1", None, AddressError::Host),
+    ("coap://[::1]/r/1", None, AddressError::Host),
+    ("coap://127.0.0.1/r/1#x", None, AddressError::Parts),
+    ("coap://127.0.0.1/a%2fb", None, AddressError::Escape),
+    ("coap://127.0.0.1/a?b%26c", None, AddressError::Escape),
+];
+
+#[test]
+fn what_is_no_address_is_told(rt: HostRuntime) -> Result<(), Fail> {
+    for (text, port, error) in NONE.iter().copied() {
+        assert!(rt; Address::parse(rt.alloc(), text, port).err() == Some(error), "{text}");
+    }
+    Ok(())
+}
+
+// How bytes are shown, and what is printed of them.
+static SHOWN: [(Shown, &[u8], &[u8]); 6] = [
+    (Shown::Hex, b"on", b"2.05\n6f6e\n"),
+    (Shown::Text, b"on", b"2.05\non\n"),
+    (Shown::Text, b"a\n\xc3\xa9", b"2.05\na\n\xc3\xa9\n"),
+    (Shown::Text, b"\x1b[0m", b"2.05\n1b5b306d\n"),
+    (Shown::Text, b"\xff", b"2.05\nff\n"),
+    (Shown::Text, b"", b"2.05\n"),
+];
+
+#[test]
+fn answers_are_printed_as_text_or_in_hex(rt: HostRuntime) -> Result<(), Fail> {
+    for (shown, bytes, printed) in SHOWN.iter().copied() {
+        let fetched = Fetched {
+            code: Code::CONTENT,
+            body: Vec::from_slice(rt.alloc(), bytes)?,
+        };
+        let mut out = Vec::new(rt.alloc());
+        let written = write_answer(rt.alloc(), &mut out, shown, &fetched);
+        assert!(rt; written.is_ok() && out.as_slice() == printed, "{bytes:?}");
+    }
+    Ok(())
+}

@@ -1,0 +1,124 @@
+// A server that follows a script, for tests of the client.
+use coap_client::{Errand, Fault, Fetched, Path, Peer, Target, fetch};
+use coap_msg::Datagram;
+use coap_opts::Method;
+use std::alloc::{AllocError, Global};
+use std::io;
+use std::process::Abort;
+
+// A server whose datagrams are these, in order; an empty one says that the wait is over. It keeps what it is sent, and for how
+// many seconds it was waited for.
+#[derive(Drop)]
+pub(crate) struct Scripted {
+    alloc: Global,
+    script: Vec<Vec<u8>>,
+    place: usize,
+    pub(crate) sent: Vec<Vec<u8>>,
+    pub(crate) waits: Vec<u64>,
+}
+
+impl Peer for Scripted {
+    fn send(&mut self, datagram: &Datagram) -> io::Result<()> {
+        let copy = joined(self.alloc, datagram.as_slice(), &[])?;
+        self.sent.push(copy).map_err(AllocError::from)?;
+        Ok(())
+    }
+
+    fn begin_wait(&mut self, seconds: u64) -> io::Result<()> {
+        self.waits.push(seconds)?;
+        Ok(())
+    }
+
+    fn receive(&mut self, buffer: &mut [u8]) -> io::Result<Option<usize>> {
+        let Some(bytes) = self.script.get(self.place) else {
+            return Ok(None);
+        };
+        self.place = self.place.saturating_add(1);
+        let Some(place) = buffer.get_mut(..bytes.len()) else {
+            return Ok(None);
+        };
+        place.copy_from_slice(bytes);
+        Ok((!bytes.is_empty()).then_some(bytes.len()))
+    }
+}
+
+// These bytes, and these behind them.
+pub(crate) fn joined(alloc: Global, first: &[u8], second: &[u8]) -> Result<Vec<u8>, AllocError> {
+    let mut bytes = Vec::new(alloc);
+    bytes.extend_from_slice(first)?;
+    bytes.extend_from_slice(second)?;
+    Ok(bytes)
+}
+
+pub(crate) fn follows(alloc: Global) -> Scripted {
+    Scripted {
+        alloc,
+        script: Vec::new(alloc),
+        place: 0,
+        sent: Vec::new(alloc),
+        waits: Vec::new(alloc),
+    }
+}
+
+// The server sends these bytes, and these behind them.
+pub(crate) fn comes(server: &mut Scripted, first: &[u8], second: &[u8]) -> Result<(), AllocError> {
+    let bytes = joined(server.alloc, first, second)?;
+    server.script.push(bytes).map_err(AllocError::from)
+}
+
+// What comes of asking this of a path by confirmable requests, from message id 7 on.
+pub(crate) fn fetched(
+    server: &mut Scripted,
+    method: Method,
+    path: &str,
+    payload: &[u8],
+) -> Result<Fetched, Fault> {
+    asked(server, true, method, path, payload)
+}
+
+// The same by confirmable requests or others.
+pub(crate) fn asked(
+    server: &mut Scripted,
+    confirmable: bool,
+    method: Method,
+    path: &str,
+    payload: &[u8],
+) -> Result<Fetched, Fault> {
+    let path = match Path::parse(server.alloc, path.as_bytes()) {
+        Ok(path) => path,
+        Err(_) => return Err(Fault::Memory(AllocError)),
+    };
+    let target = Target {
+        path,
+        query: Vec::new(server.alloc),
+    };
+    let Some(errand) = Errand::new(confirmable, method, target, payload) else {
+        return Err(Fault::Memory(AllocError));
+    };
+    fetch(server.alloc, server, &errand, 7)
+}
+
+// A server that answers so: each datagram is two parts, one behind the other.
+pub(crate) fn answers(
+    alloc: Global,
+    script: &[(&[u8], &[u8])],
+) -> Result<Scripted, AllocError> {
+    let mut server = follows(alloc);
+    for (first, second) in script.iter().copied() {
+        comes(&mut server, first, second)?;
+    }
+    Ok(server)
+}
+
+// The server got these bytes, and these behind them, as the datagram of this place.
+pub(crate) fn check_sent<R: Abort>(rt: &R, server: &Scripted, place: usize, first: &[u8], second: &[u8]) {
+    let is_so = match server.sent.get(place) {
+        Some(sent) => {
+            sent.len() == first.len().saturating_add(second.len())
+                && sent.starts_with(first)
+                && sent.ends_with(second)
+        }
+        None => false,
+    };
+    assert!(rt; is_so, "datagram {place}");
+}

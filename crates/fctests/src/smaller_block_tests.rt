@@ -1,0 +1,94 @@
+// A server that names a smaller size of blocks: the client goes on in that size (RFC 7959, 2.3 to 2.5).
+use crate::scripted::{answers, check_sent, fetched};
+use coap_client::Fault;
+use coap_opts::Method;
+use std::test::Fail;
+
+// The body's first block has 1,024 bytes; the server wants 64, so that the next is number 16 of that size.
+#[test]
+fn a_body_goes_on_in_smaller_blocks(rt: HostRuntime) -> Result<(), Fail> {
+    let mut server = answers(
+        rt.alloc(),
+        &[
+            (b"\x60\x5f\x00\x07\xd1\x0e\x0a", b""),
+            (b"\x60\x5f\x00\x08\xd2\x0e\x01\x0a", b""),
+            (b"\x60\x44\x00\x09\xd2\x0e\x01\x12", b""),
+        ],
+    )?;
+    let answer = fetched(&mut server, Method::Put, "/p/1", &[7; 1100])?;
+    assert!(rt; answer.code.byte == 0x44 && server.sent.len() == 3);
+    check_sent(&rt, &server, 0, b"\x40\x03\x00\x07\xb1\x70\x01\x31\xd1\x03\x0e\xff", &[7; 1024]);
+    check_sent(&rt, &server, 1, b"\x40\x03\x00\x08\xb1\x70\x01\x31\xd2\x03\x01\x0a\xff", &[7; 64]);
+    check_sent(&rt, &server, 2, b"\x40\x03\x00\x09\xb1\x70\x01\x31\xd2\x03\x01\x12\xff", &[7; 12]);
+    Ok(())
+}
+
+// The size goes down again midway: blocks 0 of 1,024, 2 and 3 of 512, and 128 of 16 bytes.
+#[test]
+fn a_body_goes_on_in_ever_smaller_blocks(rt: HostRuntime) -> Result<(), Fail> {
+    let mut server = answers(
+        rt.alloc(),
+        &[
+            (b"\x60\x5f\x00\x07\xd1\x0e\x0d", b""),
+            (b"\x60\x5f\x00\x08\xd1\x0e\x2d", b""),
+            (b"\x60\x44\x00\x09\xd1\x0e\x30", b""),
+            (b"\x60\x44\x00\x0a\xd2\x0e\x08\x00", b""),
+        ],
+    )?;
+    let answer = fetched(&mut server, Method::Put, "/p/1", &[7; 2050])?;
+    assert!(rt; answer.code.byte == 0x44 && server.sent.len() == 4);
+    check_sent(&rt, &server, 2, b"\x40\x03\x00\x09\xb1\x70\x01\x31\xd1\x03\x3d\xff", &[7; 512]);
+    check_sent(&rt, &server, 3, b"\x40\x03\x00\x0a\xb1\x70\x01\x31\xd2\x03\x08\x00\xff", &[7; 2]);
+    Ok(())
+}
+
+// An answer of 74 bytes in blocks of 64.
+#[test]
+fn an_answer_comes_in_smaller_blocks(rt: HostRuntime) -> Result<(), Fail> {
+    let mut server = answers(
+        rt.alloc(),
+        &[
+            (b"\x60\x45\x00\x07\xd1\x0a\x0a\xff", &[8; 64]),
+            (b"\x60\x45\x00\x08\xd1\x0a\x12\xff", &[9; 10]),
+        ],
+    )?;
+    let answer = fetched(&mut server, Method::Get, "/r/1", &[])?;
+    assert!(rt; answer.body.len() == 74 && answer.body.starts_with(&[8; 64]) && answer.body.ends_with(&[9; 10]));
+    check_sent(&rt, &server, 1, b"\x40\x01\x00\x08\xb1\x72\x01\x31\xc1\x12", &[]);
+    Ok(())
+}
+
+// Asked for block 1 of 1,024 bytes, the server answers by block 16 of 64 bytes, and the client asks for block 17.
+#[test]
+fn an_answer_goes_on_in_smaller_blocks(rt: HostRuntime) -> Result<(), Fail> {
+    let mut server = answers(
+        rt.alloc(),
+        &[
+            (b"\x60\x45\x00\x07\xd1\x0a\x0e\xff", &[8; 1024]),
+            (b"\x60\x45\x00\x08\xd2\x0a\x01\x0a\xff", &[9; 64]),
+            (b"\x60\x45\x00\x09\xd2\x0a\x01\x12\xff", b"end"),
+        ],
+    )?;
+    let answer = fetched(&mut server, Method::Get, "/r/1", &[])?;
+    assert!(rt; answer.body.len() == 1091 && answer.body.ends_with(b"end"));
+    check_sent(&rt, &server, 2, b"\x40\x01\x00\x09\xb1\x72\x01\x31\xc2\x01\x12", &[]);
+    Ok(())
+}
+
+// What comes where block 1 of 64 bytes was asked for: a larger block, one that begins elsewhere, a short one with others behind it, and a last one that is longer than its size.
+static NOT_THE_NEXT: [&[u8]; 4] = [
+    b"\x60\x45\x00\x08\xd1\x0a\x03\xff\x01",
+    b"\x60\x45\x00\x08\xd1\x0a\x22\xff\x01",
+    b"\x60\x45\x00\x08\xd1\x0a\x1a\xff\x01",
+    b"\x60\x45\x00\x08\xd1\x0a\x40\xff0123456789abcdefg",
+];
+
+#[test]
+fn a_block_that_was_not_asked_for_is_a_fault(rt: HostRuntime) -> Result<(), Fail> {
+    for reply in NOT_THE_NEXT.iter().copied() {
+        let mut server = answers(rt.alloc(), &[(b"\x60\x45\x00\x07\xd1\x0a\x0a\xff", &[8; 64]), (reply, b"")])?;
+        let answer = fetched(&mut server, Method::Get, "/r/1", &[]);
+        assert!(rt; matches!(&answer, Err(Fault::Misfit)), "{reply:?}");
+    }
+    Ok(())
+}
