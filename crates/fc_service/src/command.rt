@@ -21,10 +21,20 @@ reading or writing failed, or memory was refused.";
 
 /// What `--help` tells of `fcd serve` and of how it ends.
 pub const SERVING: &str = "\
-The server speaks CoAP on UDP, at 127.0.0.1 alone. A thread receives datagrams, and W others
-work jobs off; where W is 1 it does both. After each datagram observers are notified. After N datagrams the server ends, where N isn't 0; it ends with a line on
-standard error, `sent S failed F`, of how many replies went out and how many didn't, where
-`--log info` asks for it. `fcd serve --port 5683` serves at the port of CoAP, without end.
+The server speaks CoAP on UDP, at 127.0.0.1, so that this host alone reaches it, or at the
+address that `--bind` names; 0.0.0.0 is each of this host's. Whoever reaches it may upload
+programs and remove them.
+
+One thread receives datagrams, and runs the programs that take less than 6,000 instructions;
+W others run those that may take more. With `--workers 1` there are no others: the one thread
+runs all. After each datagram observers are notified.
+
+After N datagrams the server ends, where N isn't 0. With `--log info` standard error is told
+`listening on ADDRESS:PORT` once it receives, and at its end `sent S failed F`, how many replies
+went out and how many didn't.
+
+  fcd serve --port 5683
+  fcd serve --port 5683 --bind 0.0.0.0 --log info
 
 Exit status: 0 after N datagrams; 2 where the command line is bad; 3 where the port couldn't
 be had, or memory was refused at the start.";
@@ -66,12 +76,11 @@ fn serve_command<'a>(alloc: Global) -> Result<Command<'a>, Error> {
         .required(true)
         .value_parser(value_parser!(u16).range(1..))
         .help("The port, 1 to 65535");
-    let workers = Arg::new(alloc, "workers")
-        .long("workers")
-        .value_name("W")
-        .value_parser(value_parser!(u8).range(1..17))
-        .default_value("2")
-        .help("How many threads work jobs off: 1 to 16");
+    let bind = Arg::new(alloc, "bind")
+        .long("bind")
+        .value_name("A.B.C.D")
+        .default_value("127.0.0.1")
+        .help("The IPv4 address of this host that it listens at");
     let limit = Arg::new(alloc, "limit")
         .long("limit")
         .value_name("N")
@@ -83,14 +92,25 @@ fn serve_command<'a>(alloc: Global) -> Result<Command<'a>, Error> {
         .value_name("L")
         .value_parser(["off", "info"].as_slice())
         .default_value("off")
-        .help("Whether it ends with a line of how much was sent");
+        .help("Whether it says where it listens, and at its end how much was sent");
     Ok(
         Command::new(alloc, "serve")
             .about("Serve on UDP")
             .after_help(SERVING)
             .arg(port)?
-            .arg(workers)?
+            .arg(bind)?
+            .arg(dear_workers(alloc))?
             .arg(limit)?
             .arg(log)?,
     )
+}
+
+// By how many workers jobs are worked off that may take long.
+fn dear_workers<'a>(alloc: Global) -> Arg<'a> {
+    Arg::new(alloc, "workers")
+        .long("workers")
+        .value_name("W")
+        .value_parser(value_parser!(u8).range(1..17))
+        .default_value("2")
+        .help("How many threads run long programs, 1 to 16; with 1 the receiving thread does")
 }

@@ -26,7 +26,7 @@ use log::{Log, info};
 use std::alloc::{AllocError, Global};
 use std::io;
 use std::io::Write;
-use std::net::Net;
+use std::net::{Net, SocketAddrV4};
 use std::sync::Wait;
 use std::thread::Threads;
 use std::time::Clock;
@@ -52,29 +52,42 @@ pub struct Extent {
 // Why a server doesn't start.
 #[derive(Debug, Drop, Error)]
 enum Stop {
-    #[error("UDP port {0}: {1}")]
-    Socket(u16, io::Error),
+    #[error("UDP {0}: {1}")]
+    Socket(SocketAddrV4, io::Error),
     #[error("clock: {0}")]
     Clock(io::Error),
     #[error("{0}")]
     Memory(#[from] AllocError),
 }
 
-/// Serves on UDP at 127.0.0.1 and this port, as [`serve_at`] does. It fails, and `err` is told why, where the socket can't be
-/// had as well.
+/// Where a server listens, and whether it says so.
+#[derive(Clone, Copy)]
+pub struct Listening {
+    pub address: SocketAddrV4,
+    pub told: bool,
+}
+
+/// Serves on UDP at an address and a port of this host, as [`serve_at`] does; `err` is told that it listens, where that is asked for. It fails, and `err` is told why, where
+/// the socket can't be had as well.
 pub fn serve<R: Threads + Wait + Clock + Net + Sync, L: Log, E: Write>(
     rt: &R,
     alloc: Global,
     log: &L,
     err: &mut E,
-    port: u16,
+    listening: Listening,
     extent: Extent,
 ) -> Status
     ensures { (result ≡ Done) ⊎ (result ≡ Failed) }
 {
-    match open(rt, port) {
-        Ok(socket) => serve_at(rt, alloc, log, err, &socket, &socket, extent),
-        Err(error) => tell(err, &Stop::Socket(port, error), Status::Failed),
+    let address = listening.address;
+    match open(rt, address) {
+        Ok(socket) => {
+            if listening.told {
+                let _told = writeln!(err, "listening on {address}");
+            }
+            serve_at(rt, alloc, log, err, &socket, &socket, extent)
+        }
+        Err(error) => tell(err, &Stop::Socket(address, error), Status::Failed),
     }
 }
 

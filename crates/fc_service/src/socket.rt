@@ -41,12 +41,12 @@ impl Sink for UdpSocket {
     }
 }
 
-/// A UDP socket of this host alone, 127.0.0.1, at a port, or at one that is free for port 0. A receive waits 100 ms.
+/// A UDP socket at an address and a port of this host, or at a port that is free for port 0. A receive waits 100 ms.
 ///
 /// # Errors
-/// The port is taken or may not be had, or there is no socket.
-pub fn open<R: Net>(rt: &R, port: u16) -> io::Result<UdpSocket> {
-    let socket = UdpSocket::bind(rt, SocketAddrV4::new(Ipv4Addr::LOCALHOST, port))?;
+/// The address is none of this host, the port is taken or may not be had, or there is no socket.
+pub fn open<R: Net>(rt: &R, address: SocketAddrV4) -> io::Result<UdpSocket> {
+    let socket = UdpSocket::bind(rt, address)?;
     socket.set_read_timeout(Some(Duration::from_millis(RECEIVE_WAIT)))?;
     Ok(socket)
 }

@@ -8,13 +8,13 @@ use fc_lines::LineLimit;
 use fc_server::Begin;
 use fc_service::command::command;
 use fc_service::play::play;
-use fc_service::serve::{Extent, serve};
+use fc_service::serve::{Extent, Listening, serve};
 use fc_service::workers::play_by_workers;
 use log::sink::Console;
 use log::{LevelFilter, Logged};
 use std::io;
 use std::io::{BufReader, BufWriter, Write};
-use std::net::Net;
+use std::net::{Ipv4Addr, Net, SocketAddrV4};
 use std::process::ExitCode;
 use std::rt::Runtime;
 use std::sync::Wait;
@@ -74,7 +74,7 @@ fn play_input<R: Runtime + AllocGlobal + Threads + Wait + Net + Sync, E: Write>(
     })
 }
 
-// Serves at the port that the command line names.
+// Serves at the address and port that the command line names.
 fn serve_socket<R: Runtime + AllocGlobal + Threads + Wait + Net + Sync, E: Write>(
     rt: &R,
     err: &mut E,
@@ -87,13 +87,27 @@ fn serve_socket<R: Runtime + AllocGlobal + Threads + Wait + Net + Sync, E: Write
     ) else {
         return Ok(Status::Bad);
     };
-    let level = match matches.get_str("log") {
-        Some("info") => LevelFilter::Info,
-        _ => LevelFilter::Off,
+    let Some(ip) = matches.get_str("bind").and_then(ip_of) else {
+        writeln!(err, "error: `--bind` is to be an IPv4 address, as 127.0.0.1")?;
+        return Ok(Status::Bad);
+    };
+    let told = matches.get_str("log") == Some("info");
+    let level = if told {
+        LevelFilter::Info
+    } else {
+        LevelFilter::Off
     };
     let log = Logged::new(rt, level, Console(rt));
+    let listening = Listening {
+        address: SocketAddrV4::new(ip, port),
+        told,
+    };
     let extent = Extent { workers, limit };
-    Ok(serve(rt, rt.alloc(), &log, err, port, extent))
+    Ok(serve(rt, rt.alloc(), &log, err, listening, extent))
+}
+
+fn ip_of(text: &str) -> Option<Ipv4Addr> {
+    text.parse::<Ipv4Addr>().ok()
 }
 
 fn main(rt: HostRuntime) -> ExitCode {

@@ -6,7 +6,7 @@ use coap_msg::{Emission, Endpoint};
 use coap_opts::Method;
 use fc_cli::Status;
 use fc_fetch::{Asking, Shown, fetch};
-use fc_service::serve::{Extent, serve, serve_at};
+use fc_service::serve::{Extent, Listening, serve, serve_at};
 use fc_service::socket::{Sink, Source, open};
 use log::sink::Memory;
 use log::{LevelFilter, Logged};
@@ -29,6 +29,11 @@ static COUNT: [u8; 88] = [
     0x85, 0x00, 0x00, 0x00, 0x07, 0x00, 0x00, 0x00, 0xb7, 0x00, 0x00, 0x00, 0x00, 0x00, 0x00, 0x00,
     0x95, 0x00, 0x00, 0x00, 0x00, 0x00, 0x00, 0x00,
 ];
+
+// A port of this host, at 127.0.0.1.
+fn at_port(port: u16) -> SocketAddrV4 {
+    SocketAddrV4::new(Ipv4Addr::LOCALHOST, port)
+}
 
 // A request of this path is answered so, and the client ends with this status.
 fn check_asked<R: Abort + Net + Clock + AllocGlobal>(
@@ -104,7 +109,7 @@ fn serve_counter<R: Abort + AllocGlobal + Threads + Wait + Clock + Net + Sync>(
     workers: u8,
 ) -> Result<(), Fail> {
     let alloc = rt.alloc();
-    let socket = open(rt, 0)?;
+    let socket = open(rt, at_port(0))?;
     let port = socket.local_addr()?.port();
     let extent = Extent { workers, limit: 4 };
     let ((status, memory), _) = thread::join(
@@ -136,7 +141,7 @@ fn a_server_answers_clients(rt: HostRuntime) -> Result<(), Fail> {
 #[test]
 fn a_taken_port_is_status_3(rt: HostRuntime) -> Result<(), Fail> {
     let alloc = rt.alloc();
-    let socket = open(&rt, 0)?;
+    let socket = open(&rt, at_port(0))?;
     let port = socket.local_addr()?.port();
     let memory = Memory::new(alloc);
     let log = Logged::new(&rt, LevelFilter::Info, &memory);
@@ -145,9 +150,37 @@ fn a_taken_port_is_status_3(rt: HostRuntime) -> Result<(), Fail> {
         workers: 1,
         limit: 1,
     };
-    let status = serve(&rt, alloc, &log, &mut err, port, extent);
-    let told = format!(in alloc; "UDP port {port}: Address already in use (os error 98)\n")?;
+    let listening = Listening {
+        address: at_port(port),
+        told: true,
+    };
+    let status = serve(&rt, alloc, &log, &mut err, listening, extent);
+    let told = format!(in alloc; "UDP 127.0.0.1:{port}: Address already in use (os error 98)\n")?;
     assert!(rt; status == Status::Failed && err.as_slice() == told.as_bytes());
+    Ok(())
+}
+
+// A port where nobody listens is told at once.
+#[test]
+fn a_refused_port_is_status_3(rt: HostRuntime) -> Result<(), Fail> {
+    let alloc = rt.alloc();
+    let socket = open(&rt, at_port(0))?;
+    let port = socket.local_addr()?.port();
+    drop(socket);
+    let mut out = Vec::new(alloc);
+    let mut err = Vec::new(alloc);
+    let asking = Asking {
+        confirmable: true,
+        method: Method::Get,
+        target: "/r/1",
+        port: Some(port),
+        source: "a slice",
+        shown: Shown::Hex,
+    };
+    let mut payload: &[u8] = &[];
+    let ended = fetch(&rt, alloc, &mut payload, &mut out, &mut err, &asking);
+    let told = b"UDP: Connection refused (os error 111)\n".as_slice();
+    assert!(rt; ended == Status::Failed && out.is_empty() && err.as_slice() == told);
     Ok(())
 }
 
@@ -197,7 +230,7 @@ fn ask_by_blocks<R: Abort + Net + Clock + AllocGlobal>(
 #[test]
 fn bodies_go_and_come_by_blocks(rt: HostRuntime) -> Result<(), Fail> {
     let alloc = rt.alloc();
-    let socket = open(&rt, 0)?;
+    let socket = open(&rt, at_port(0))?;
     let port = socket.local_addr()?.port();
     let extent = Extent {
         workers: 2,
@@ -375,7 +408,7 @@ fn post_by_eight<R: Abort + AllocGlobal + Net>(rt: &R, port: u16) -> Result<(), 
     let server = SocketAddrV4::new(Ipv4Addr::LOCALHOST, port);
     let mut clients = Vec::new(rt.alloc());
     for _client in 0..8u8 {
-        let client = open(rt, 0)?;
+        let client = open(rt, at_port(0))?;
         client.set_read_timeout(Some(Duration::from_secs(5)))?;
         clients.push(client)?;
     }
@@ -425,7 +458,7 @@ fn ask_by_eight<R: Abort + AllocGlobal + Net + Clock>(rt: &R, port: u16) -> Resu
 #[test]
 fn eight_clients_count_right(rt: HostRuntime) -> Result<(), Fail> {
     let alloc = rt.alloc();
-    let socket = open(&rt, 0)?;
+    let socket = open(&rt, at_port(0))?;
     let port = socket.local_addr()?.port();
     // nine PUTs, eight times 120 POSTs, nine GETs
     let extent = Extent {
