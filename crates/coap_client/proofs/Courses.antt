@@ -10,7 +10,7 @@ use Rattle.coap_client.specs.declared.part.Part.{Part}
 use Rattle.coap_client.specs.Parts.{first_part}
 use Rattle.coap_client.specs.Requests.{part_request}
 use Rattle.coap_client.specs.Heard.{IsAnswer, IsAnsweredBy}
-use Rattle.coap_client.specs.Fetching.{State, Out, AnswersIn, IsAnswerTo, IsStep, IsUnderWay, LeadsTo, after_reply, ids_after, state_after, with_id}
+use Rattle.coap_client.specs.Fetching.{State, Out, AnswersIn, IsAnswerTo, IsStep, IsUnderWay, LeadsTo, after_reply, taken_ids, with_taken_id}
 
 -- what came answers the request of a part
 pub answers_part : (went came : List ℕ → Type 0) (e : Errand) (part : Part) (id : ℕ) (earlier : List ℕ) (r : Request) (bytes : List ℕ) (m : Message) →
@@ -22,10 +22,10 @@ answers_part went came e part id earlier r bytes m a read c i k d =
     record {
       bytes = bytes;
       is = subst (λ x. IsAnsweredBy went came e.confirmable id earlier (message_bytes (part_request e part id)) bytes x) same
-           (subst (λ x. IsAnsweredBy went came e.confirmable id earlier x bytes a.message) d
-           (subst (λ x. IsAnsweredBy went came e.confirmable id x r.datagram.now.items bytes a.message) k
-           (subst (λ x. IsAnsweredBy went came e.confirmable x r.earlier.now r.datagram.now.items bytes a.message) i
-           (subst (λ x. IsAnsweredBy went came x r.id r.earlier.now r.datagram.now.items bytes a.message) c a.is))));
+          (subst (λ x. IsAnsweredBy went came e.confirmable id earlier x bytes a.message) d
+          (subst (λ x. IsAnsweredBy went came e.confirmable id x r.datagram.now.items bytes a.message) k
+          (subst (λ x. IsAnsweredBy went came e.confirmable x r.earlier.now r.datagram.now.items bytes a.message) i
+          (subst (λ x. IsAnsweredBy went came x r.id r.earlier.now r.datagram.now.items bytes a.message) c a.is))));
     }
 
 pub begins : (went came : List ℕ → Type 0) (e : Errand) (first : ℕ) (known : List ℕ) (part : Part) (body etag : List ℕ) →
@@ -37,17 +37,19 @@ begins went came e first known part body etag below p b t =
 pub one_more : (went came : List ℕ → Type 0) (e : Errand) (first : ℕ) (known : List ℕ) (id : ℕ) (earlier : List ℕ) (part : Part) (body etag : List ℕ) (m : Message)
     (id' : ℕ) (earlier' : List ℕ) (next : State) →
     IsUnderWay went came e first known id earlier (Out part body etag) → IsAnswerTo went came e id earlier part m →
-    after_reply (length e.payload.now) m (Out part body etag) ≡ next → id' ≡ (id + 1) % 65536 → earlier' ≡ with_id m earlier →
+    after_reply (length e.payload.now) m (Out part body etag) ≡ next → id' ≡ (id + 1) % 65536 → earlier' ≡ with_taken_id m earlier →
     IsUnderWay went came e first known id' earlier' next
 one_more went came e first known id earlier part body etag m id' earlier' next u a n i k = record {
   replies = m ∷ u.replies;
-  are = (u.are,
-      subst (λ s. AnswersIn went came e ((first + length u.replies) % 65536) (ids_after known u.replies) s m) (sym u.leads)
-      (subst (λ x. IsAnswerTo went came e ((first + length u.replies) % 65536) x part m) u.earlier_is
-      (subst (λ x. IsAnswerTo went came e x earlier part m) u.id_is a)));
+  are = (
+    u.are,
+    subst (λ s. AnswersIn went came e ((first + length u.replies) % 65536) (taken_ids known u.replies) s m) (sym u.leads)
+        (subst (λ x. IsAnswerTo went came e ((first + length u.replies) % 65536) x part m) u.earlier_is
+        (subst (λ x. IsAnswerTo went came e x earlier part m) u.id_is a)),
+  );
   leads = ap (after_reply (length e.payload.now) m) u.leads ∙ n;
   id_is = omega (arith, i, u.id_is);
-  earlier_is = k ∙ ap (with_id m) u.earlier_is;
+  earlier_is = k ∙ ap (with_taken_id m) u.earlier_is;
 }
 
 pub leads_to : (went came : List ℕ → Type 0) (e : Errand) (first : ℕ) (known : List ℕ) (id : ℕ) (earlier : List ℕ) (state : State) →

@@ -1,11 +1,11 @@
 -- What is joined of an answer before a fetch ends.
-use Rattle.std.proofs.Common.{◌≡◌, ℕ, ◌+◌, ◌*◌, ◌==◌, nat_lt, nat_le, bytes_eq, Bool, true, false, if◌then◌else◌, List, [], ◌∷◌, ◌++◌, length, Option, Some, None, refl, sym, ap, subst, ◌∙◌, arith, length-append}
+use Rattle.std.proofs.Common.{◌≡◌, ℕ, ◌+◌, ◌*◌, ◌==◌, nat_lt, nat_le, bytes_eq, true, List, [], ◌∷◌, ◌++◌, length, Option, Some, None, refl, sym, ap, subst, ◌∙◌, arith, length-append}
 use Rattle.std.specs.List.{All}
 use Rattle.std.proofs.lemmas.Bool.{eqb-true}
 use Rattle.std.proofs.lemmas.List.Elements.{All-nil, All-cons}
 use Rattle.std.proofs.lemmas.Slice.Eq.{bytes_eq-Decides}
 use Rattle.coap_msg.specs.Wire.{Message}
-use Rattle.coap_opts.specs.Values.{Place, block_size, place_in}
+use Rattle.coap_opts.specs.Values.{block_size, place_in}
 use Rattle.coap_opts.specs.declared.request.Method.{Method}
 use Rattle.coap_opts.specs.declared.request.Method.TheVariants.{Get, Post, Put, Delete}
 use Rattle.coap_client.specs.declared.errand.Errand.{Errand}
@@ -16,7 +16,7 @@ use Rattle.coap_client.specs.declared.reply.Next.TheVariants as next
 use Rattle.coap_client.specs.Fetching.{State, Out, Ended, Outdated, Lost, after_reply, moved_on, state_after}
 use Rattle.coap_client.specs.Joined.{AreInOrder, BeginsAt, IsOneAnswer, payloads}
 use Rattle.coap_client.specs.Parts.{first_part, has_more}
-use Rattle.coap_client.specs.Replies.{block1_of, block2_of, by_more, by_option, by_part, etag_of, is_continue, is_final, is_place, is_success, next_block, next_number, next_of, next_of_answer, next_of_body, next_of_whole, next_size}
+use Rattle.coap_client.specs.Replies.{block1_of, block2_of, by_more, by_option, by_part, etag_of, is_continue, is_final, fits_place, is_success, next_block, next_number, next_of_answer, next_of_body, next_of_whole, next_size}
 use Rattle.coap_client.proofs.NextParts.{either, place_is}
 
 -- so much of the answer is there, of this version, from the last replies
@@ -50,15 +50,15 @@ option_joins n szx count offset (Some value) at =
     let b = place_in value in
     let P = JoinsAt offset count (Some value) in
     either P (nat_le (length value) 3) _ next.Misfit
-    (λ _. either P (is_place n szx b) (by_more b count) next.Misfit
-        (λ is. let begins = (place_is n szx b is).begins ∙ at in
-            either P b.more _ _
-            (λ _. either P (count == block_size b.szx) (next_block b) next.Misfit
-                (λ whole. either P (nat_lt (b.number + 1) 1048576) (next.Ask (Answer (b.number + 1) b.szx)) next.Misfit
-                    (λ _. (begins, let size : count ≡ block_size b.szx = eqb-true _ _ whole in omega (arith, begins, size))) (λ _. tt))
-                (λ _. tt))
-            (λ _. either P (nat_le count (block_size b.szx)) next.Last next.Misfit (λ _. begins) (λ _. tt)))
-        (λ _. tt))
+    (λ _. either P (fits_place n szx b) (by_more b count) next.Misfit
+    (λ is. let begins = (place_is n szx b is).begins ∙ at in
+    either P b.more _ _
+    (λ _. either P (count == block_size b.szx) (next_block b) next.Misfit
+    (λ whole. either P (nat_lt (b.number + 1) 1048576) (next.Ask (Answer (b.number + 1) b.szx)) next.Misfit
+    (λ _. (begins, let size : count ≡ block_size b.szx = eqb-true _ _ whole in omega (arith, begins, size))) (λ _. tt))
+    (λ _. tt))
+    (λ _. either P (nat_le count (block_size b.szx)) next.Last next.Misfit (λ _. begins) (λ _. tt)))
+    (λ _. tt))
     (λ _. tt)
 
 whole_joins : (n : ℕ) (m : Message) → JoinsAt 0 (length m.payload) (block2_of m) (next_of_whole n m)
@@ -93,7 +93,13 @@ more m ms body etag j begins same = record {
 
 answer_of : (answer body etag : List ℕ) (ms : List Message) → answer ≡ body → IsJoined body etag ms → IsOneAnswer answer ms
 answer_of answer body etag ms is j = record {
-  blocks = j.blocks; before = j.before; last = j.last; joined = is ∙ j.joined; in_order = j.in_order; etag = etag; version = j.version;
+  blocks = j.blocks;
+  before = j.before;
+  last = j.last;
+  joined = is ∙ j.joined;
+  in_order = j.in_order;
+  etag = etag;
+  version = j.version;
 }
 
 -- after a reply: what is there then, and where the fetch ends by a success, the answer
@@ -118,14 +124,14 @@ grown : (m : Message) (ms : List Message) (body etag : List ℕ) (n : Next) → 
     Joins (m ∷ ms) (moved_on n body etag m)
 grown m ms body etag (next.Ask Whole) so same j = empty body j
   where
-  empty : (xs : List ℕ) → length xs ≡ 0 → xs ≡ []
-  empty [] e = refl
-  empty (x ∷ xs) e = absurd (cc e)
+    empty : (xs : List ℕ) → length xs ≡ 0 → xs ≡ []
+    empty [] e = refl
+    empty (x ∷ xs) e = absurd (cc e)
 grown m ms body etag (next.Ask (Body n szx)) so same j = empty body j
   where
-  empty : (xs : List ℕ) → length xs ≡ 0 → xs ≡ []
-  empty [] e = refl
-  empty (x ∷ xs) e = absurd (cc e)
+    empty : (xs : List ℕ) → length xs ≡ 0 → xs ≡ []
+    empty [] e = refl
+    empty (x ∷ xs) e = absurd (cc e)
 grown m ms body etag (next.Ask (Answer n szx)) so same j = (more m ms body etag so j.0 same, omega (arith, j.1, length-append body m.payload))
 grown m ms body etag next.Last so same j = λ _. answer_of (body ++ m.payload) (body ++ m.payload) (etag_of m) (m ∷ ms) refl (more m ms body etag so j same)
 grown m ms body etag next.Refused so same j = absurd j
@@ -137,11 +143,11 @@ part_joins : (e : Errand) (part : Part) (body etag : List ℕ) (m : Message) (ms
 part_joins e Whole body etag m ms so = begun m ms body etag _ so (whole_joins 0 m)
 part_joins e (Body n szx) body etag m ms so =
     begun m ms body etag _ so (either (JoinsAt 0 (length m.payload) (block2_of m)) (has_more (length e.payload.now) n szx) (next_of_body n szx (next_size n szx (is_continue m) (block1_of m))) (next_of_whole n m)
-        (λ _. body_joins n szx (length m.payload) (block2_of m) _) (λ _. whole_joins n m))
+    (λ _. body_joins n szx (length m.payload) (block2_of m) _) (λ _. whole_joins n m))
 part_joins e (Answer n szx) body etag m ms so =
     either (λ x. Joins (m ∷ ms) (moved_on x body etag m)) (bytes_eq (etag_of m) etag) _ next.Stale
     (λ equal. grown m ms body etag _ so.0 ((bytes_eq-Decides (etag_of m) etag).0 equal)
-        (either (JoinsAt (length body) (length m.payload) (block2_of m)) (is_continue m) next.Misfit (next_of_answer n szx m) (λ _. tt) (λ _. option_joins n szx (length m.payload) (length body) (block2_of m) so.1)))
+    (either (JoinsAt (length body) (length m.payload) (block2_of m)) (is_continue m) next.Misfit (next_of_answer n szx m) (λ _. tt) (λ _. option_joins n szx (length m.payload) (length body) (block2_of m) so.1)))
     (λ _. tt)
 
 reply_joins : (e : Errand) (part : Part) (body etag : List ℕ) (m : Message) (ms : List Message) → HasJoined ms (Out part body etag) →

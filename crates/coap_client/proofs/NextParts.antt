@@ -1,5 +1,5 @@
 -- What is asked next is a part of the errand.
-use Rattle.std.proofs.Common.{◌≡◌, ℕ, ◌+◌, ◌-◌, ◌*◌, ◌<◌, ◌≤◌, ◌^◌, ◌%◌, ◌==◌, ◌&&◌, nat_lt, nat_le, bytes_eq, Bool, true, false, not, if◌then◌else◌, List, length, Option, Some, None, refl, sym, ap, subst, ◌∙◌, arith, rules}
+use Rattle.std.proofs.Common.{◌≡◌, ℕ, ◌+◌, ◌-◌, ◌*◌, ◌<◌, ◌≤◌, ◌^◌, ◌%◌, ◌==◌, ◌&&◌, nat_lt, nat_le, bytes_eq, Bool, true, false, if◌then◌else◌, List, length, Option, Some, None, refl, sym, ap, subst, ◌∙◌, arith}
 use Rattle.std.proofs.lemmas.Bool.{and_parts, eqb-true, leb-true, lt-ltb, ltb-true}
 use Rattle.std.proofs.lemmas.Nat.{mul-le, pow-add}
 use Rattle.std.proofs.Math.Pow.{pow_mono}
@@ -11,7 +11,7 @@ use Rattle.coap_client.specs.declared.part.Part.TheVariants.{Whole, Body, Answer
 use Rattle.coap_client.specs.declared.reply.Next.{Next}
 use Rattle.coap_client.specs.declared.reply.Next.TheVariants.{Ask, Last, Refused, Stale, Misfit}
 use Rattle.coap_client.specs.Parts.{has_more}
-use Rattle.coap_client.specs.Replies.{block1_of, block2_of, by_more, by_option, by_part, etag_of, is_continue, is_final, is_place, is_success, next_block, next_number, next_of, next_of_answer, next_of_body, next_of_further, next_of_whole, next_size, size_by_block}
+use Rattle.coap_client.specs.Replies.{block1_of, block2_of, by_more, by_option, by_part, etag_of, is_continue, is_final, fits_place, is_success, next_block, next_number, next_of, next_of_answer, next_of_body, next_of_whole, next_size, size_by_block}
 use Rattle.coap_client.specs.Requests.{IsBlock, IsBodyBlock, IsPartOf}
 
 -- what holds of both
@@ -24,7 +24,7 @@ pub record IsPlace (n szx : ℕ) (b : Place) : Type 0 where
   pub smaller : b.szx ≤ szx
   pub begins : block_size b.szx * b.number ≡ block_size szx * n
 
-pub place_is : (n szx : ℕ) (b : Place) → is_place n szx b ≡ true → IsPlace n szx b
+pub place_is : (n szx : ℕ) (b : Place) → fits_place n szx b ≡ true → IsPlace n szx b
 place_is n szx b is =
     let both = and_parts _ _ is in
     record { smaller = leb-true _ _ both.0; begins = eqb-true _ _ both.1 }
@@ -84,8 +84,8 @@ option_next : (e : Errand) (n szx count : ℕ) (value : Option (List ℕ)) → s
 option_next e n szx count None small = either (IsAskOf e) (n == 0) Last Misfit (λ _. tt) (λ _. tt)
 option_next e n szx count (Some value) small =
     either (IsAskOf e) (nat_le (length value) 3) _ Misfit
-    (λ _. either (IsAskOf e) (is_place n szx (place_in value)) (by_more (place_in value) count) Misfit
-        (λ is. let place = place_is n szx (place_in value) is in more_next e (place_in value) count (omega (arith, place.smaller, small))) (λ _. tt))
+    (λ _. either (IsAskOf e) (fits_place n szx (place_in value)) (by_more (place_in value) count) Misfit
+    (λ is. let place = place_is n szx (place_in value) is in more_next e (place_in value) count (omega (arith, place.smaller, small))) (λ _. tt))
     (λ _. tt)
 
 whole_next : (e : Errand) (n : ℕ) (m : Message) → IsAskOf e (next_of_whole n m)
@@ -99,9 +99,9 @@ body_next e n szx (Some smaller) own more small =
     let behind = ltb-true _ _ more in
     either (IsAskOf e) (nat_lt (next_number n szx smaller) 1048576) (Ask (Body (next_number n szx smaller) smaller)) Misfit
     (λ below. record {
-        block = record { number = ltb-true _ _ below; size = omega (arith, le, own.block.size) };
-        method = own.method;
-        within = omega (arith, begins_alike n szx smaller le, behind);
+      block = record { number = ltb-true _ _ below; size = omega (arith, le, own.block.size) };
+      method = own.method;
+      within = omega (arith, begins_alike n szx smaller le, behind);
     })
     (λ _. tt)
 

@@ -1,10 +1,10 @@
 -- What is sent of a request's body before a fetch ends.
-use Rattle.std.proofs.Common.{◌≡◌, ℕ, ◌+◌, ◌*◌, ◌≤◌, ◌==◌, nat_lt, nat_le, bytes_eq, Bool, true, false, if◌then◌else◌, List, [], ◌∷◌, ◌++◌, length, take, drop, Option, Some, None, refl, sym, ap, subst, ◌∙◌, arith}
-use Rattle.std.proofs.lemmas.Bool.{ltb-false, ltb-true}
+use Rattle.std.proofs.Common.{◌≡◌, ℕ, ◌+◌, ◌*◌, ◌≤◌, ◌==◌, nat_lt, nat_le, bytes_eq, true, List, [], ◌∷◌, ◌++◌, length, take, Option, Some, None, refl, sym, ap, subst, ◌∙◌, arith}
+use Rattle.std.proofs.lemmas.Bool.{ltb-false}
 use Rattle.std.proofs.lemmas.List.{append-nil, take_all}
 use Rattle.std.proofs.Math.Seq.{take-add}
 use Rattle.coap_msg.specs.Wire.{Message}
-use Rattle.coap_opts.specs.Values.{Place, block_size, place_in}
+use Rattle.coap_opts.specs.Values.{block_size, place_in}
 use Rattle.coap_opts.specs.declared.request.Method.{Method}
 use Rattle.coap_opts.specs.declared.request.Method.TheVariants.{Get, Post, Put, Delete}
 use Rattle.coap_client.specs.declared.errand.Errand.{Errand}
@@ -12,10 +12,10 @@ use Rattle.coap_client.specs.declared.part.Part.{Part}
 use Rattle.coap_client.specs.declared.part.Part.TheVariants.{Whole, Body, Answer}
 use Rattle.coap_client.specs.declared.reply.Next.{Next}
 use Rattle.coap_client.specs.declared.reply.Next.TheVariants as next
-use Rattle.coap_client.specs.Fetching.{State, Out, Ended, Outdated, Lost, after_reply, going_on, moved_on, state_after}
-use Rattle.coap_client.specs.Joined.{body_sent, brought}
-use Rattle.coap_client.specs.Parts.{block_of, first_part, has_more, part_payload}
-use Rattle.coap_client.specs.Replies.{block1_of, block2_of, by_more, by_option, by_part, etag_of, is_continue, is_final, is_place, is_success, next_block, next_number, next_of, next_of_answer, next_of_body, next_of_whole, next_size}
+use Rattle.coap_client.specs.Fetching.{State, Out, Ended, Outdated, Lost, after_reply, moved_on, state_after}
+use Rattle.coap_client.specs.Joined.{body_sent, body_of_request}
+use Rattle.coap_client.specs.Parts.{block_of, first_part, has_more}
+use Rattle.coap_client.specs.Replies.{block1_of, block2_of, by_more, by_option, by_part, etag_of, is_continue, is_final, fits_place, is_success, next_block, next_number, next_of_answer, next_of_body, next_of_whole, next_size}
 use Rattle.coap_client.proofs.NextParts.{begins_alike, either, next_smaller}
 
 -- what has been sent in a state: nothing, the blocks before the one that is out, or all
@@ -40,13 +40,13 @@ option_goes e sent n szx count None all = either (GoesTo e sent) (n == 0) next.L
 option_goes e sent n szx count (Some value) all =
     let b = place_in value in
     either (GoesTo e sent) (nat_le (length value) 3) _ next.Misfit
-    (λ _. either (GoesTo e sent) (is_place n szx b) (by_more b count) next.Misfit
-        (λ _. either (GoesTo e sent) b.more _ _
-            (λ _. either (GoesTo e sent) (count == block_size b.szx) (next_block b) next.Misfit
-                (λ _. either (GoesTo e sent) (nat_lt (b.number + 1) 1048576) (next.Ask (Answer (b.number + 1) b.szx)) next.Misfit (λ _. all) (λ _. tt))
-                (λ _. tt))
-            (λ _. either (GoesTo e sent) (nat_le count (block_size b.szx)) next.Last next.Misfit (λ _. all) (λ _. tt)))
-        (λ _. tt))
+    (λ _. either (GoesTo e sent) (fits_place n szx b) (by_more b count) next.Misfit
+    (λ _. either (GoesTo e sent) b.more _ _
+    (λ _. either (GoesTo e sent) (count == block_size b.szx) (next_block b) next.Misfit
+    (λ _. either (GoesTo e sent) (nat_lt (b.number + 1) 1048576) (next.Ask (Answer (b.number + 1) b.szx)) next.Misfit (λ _. all) (λ _. tt))
+    (λ _. tt))
+    (λ _. either (GoesTo e sent) (nat_le count (block_size b.szx)) next.Last next.Misfit (λ _. all) (λ _. tt)))
+    (λ _. tt))
     (λ _. tt)
 
 whole_goes : (e : Errand) (sent : List ℕ) (n : ℕ) (m : Message) → sent ≡ e.payload.now → GoesTo e sent (next_of_whole n m)
@@ -68,7 +68,7 @@ one_block_more payload n szx =
     sym (take-add (size * n) size payload) ∙ ap (λ k. take k payload) k
 
 part_goes : (e : Errand) (part : Part) (sent body etag : List ℕ) (m : Message) → HasSent e sent (Out part body etag) →
-    GoesTo e (sent ++ brought e (Out part body etag)) (by_part (length e.payload.now) part etag m)
+    GoesTo e (sent ++ body_of_request e (Out part body etag)) (by_part (length e.payload.now) part etag m)
 part_goes e Whole sent body etag m so = whole_goes e _ 0 m (ap (λ s. s ++ e.payload.now) so)
 part_goes e (Body n szx) sent body etag m so =
     let now = ap (λ s. s ++ block_of e.payload.now n szx) so ∙ one_block_more e.payload.now n szx in
@@ -90,9 +90,9 @@ moved_has e sent body etag m next.Refused g = absurd g
 moved_has e sent body etag m next.Stale g = tt
 moved_has e sent body etag m next.Misfit g = tt
 
-reply_has : (e : Errand) (sent : List ℕ) (m : Message) (s : State) → HasSent e sent s → HasSent e (sent ++ brought e s) (after_reply (length e.payload.now) m s)
+reply_has : (e : Errand) (sent : List ℕ) (m : Message) (s : State) → HasSent e sent s → HasSent e (sent ++ body_of_request e s) (after_reply (length e.payload.now) m s)
 reply_has e sent m (Out part body etag) so =
-    let after = sent ++ brought e (Out part body etag) in
+    let after = sent ++ body_of_request e (Out part body etag) in
     either (λ n. HasSent e after (moved_on n body etag m)) (is_success m.code) (by_part (length e.payload.now) part etag m) next.Refused
     (λ _. moved_has e after body etag m _ (part_goes e part sent body etag m so))
     (λ failed success. absurd (cc (failed, success)))

@@ -16,25 +16,25 @@ use Rattle.coap_client.specs.declared.part.Part.{Part}
 use Rattle.coap_client.specs.declared.part.Part.TheVariants.{Whole, Body, Answer}
 use Rattle.coap_client.specs.Paths.{slices_in}
 use Rattle.coap_opts.specs.Fields.{method_code}
-use Rattle.coap_client.specs.Parts.{answer_payload, block_of, most_at_once, part_options, part_payload, options_of, option_room, resource_options}
-use Rattle.coap_client.specs.Requests.{IsBlock, IsBodyBlock, IsPartOf}
+use Rattle.coap_client.specs.Parts.{answer_payload, block_of, most_at_once, part_options, part_payload, numbered, option_room, resource_options}
+use Rattle.coap_client.specs.Requests.{IsPartOf}
 
 -- options of one number before others that take so many bytes at most
 pub values_size : (number more before : ℕ) (values : List (List ℕ)) (rest : List (ℕ × List ℕ)) → ((b : ℕ) → length (options_bytes b rest) ≤ more) →
-    length (options_bytes before (options_of number values ++ rest)) ≤ sum_by option_room values + more
+    length (options_bytes before (numbered number values ++ rest)) ≤ sum_by option_room values + more
 values_size number more before [] rest h = omega (arith, h before)
 values_size number more before (s ∷ values) rest h =
     let value = extension (number - before) ++ (extension (length s) ++ s) in
-    omega (arith, option_size (number - before) s, values_size number more number values rest h, length-append value (options_bytes number (options_of number values ++ rest)), sum_by-cons option_room s values)
+    omega (arith, option_size (number - before) s, values_size number more number values rest h, length-append value (options_bytes number (numbered number values ++ rest)), sum_by-cons option_room s values)
 
 pub resource_size : (segments query : List (List ℕ)) (rest : List (ℕ × List ℕ)) → ((b : ℕ) → length (options_bytes b rest) ≤ 13) →
     length (options_bytes 0 (resource_options segments query ++ rest)) ≤ sum_by option_room segments + (sum_by option_room query + 13)
 resource_size segments query rest h =
-    rw (append_assoc (options_of URI_PATH segments) (options_of URI_QUERY query) rest)
-    (values_size URI_PATH (sum_by option_room query + 13) 0 segments (options_of URI_QUERY query ++ rest) (λ b. values_size URI_QUERY 13 b query rest h))
+    rw (append_assoc (numbered URI_PATH segments) (numbered URI_QUERY query) rest)
+    (values_size URI_PATH (sum_by option_room query + 13) 0 segments (numbered URI_QUERY query ++ rest) (λ b. values_size URI_QUERY 13 b query rest h))
 
 pub values_are : (number before : ℕ) (values : List (List ℕ)) (rest : List (ℕ × List ℕ)) → before ≤ number → number < 65536 → sum_by option_room values ≤ 1262 →
-    ((b : ℕ) → b ≤ number → AreOptions b rest) → AreOptions before (options_of number values ++ rest)
+    ((b : ℕ) → b ≤ number → AreOptions b rest) → AreOptions before (numbered number values ++ rest)
 values_are number before [] rest at below short h = h before at
 values_are number before (s ∷ values) rest at below short h =
     let split = sum_by-cons option_room s values in
@@ -43,8 +43,8 @@ values_are number before (s ∷ values) rest at below short h =
 pub resource_are : (segments query : List (List ℕ)) (rest : List (ℕ × List ℕ)) → sum_by option_room segments ≤ 1262 → sum_by option_room query ≤ 1262 →
     ((b : ℕ) → b ≤ 15 → AreOptions b rest) → AreOptions 0 (resource_options segments query ++ rest)
 resource_are segments query rest short also h =
-    rw (append_assoc (options_of URI_PATH segments) (options_of URI_QUERY query) rest)
-    (values_are URI_PATH 0 segments (options_of URI_QUERY query ++ rest) (omega arith) (omega arith) short
+    rw (append_assoc (numbered URI_PATH segments) (numbered URI_QUERY query) rest)
+    (values_are URI_PATH 0 segments (numbered URI_QUERY query ++ rest) (omega arith) (omega arith) short
     (λ b at. values_are URI_QUERY b query rest (omega (arith, at)) (omega arith) also h))
 
 one_size : (b number : ℕ) (value : List ℕ) → length value ≤ 8 → length (options_bytes b ((number, value) ∷ [])) ≤ 13

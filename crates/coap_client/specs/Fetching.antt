@@ -46,12 +46,12 @@ state_after e [] = Out (first_part e.method (length e.payload.now)) [] []
 state_after e (m ∷ ms) = after_reply (length e.payload.now) m (state_after e ms)
 
 -- behind these ids, those of the replies that came in messages of their own, in order
-abbrev pub with_id : Message → List ℕ → List ℕ
-with_id m ids = if begins_exchange m.kind then ids ++ m.id ∷ [] else ids
+abbrev pub with_taken_id : Message → List ℕ → List ℕ
+with_taken_id m ids = if begins_exchange m.kind then ids ++ m.id ∷ [] else ids
 
-abbrev pub ids_after : List ℕ → List Message → List ℕ
-ids_after known [] = known
-ids_after known (m ∷ ms) = with_id m (ids_after known ms)
+abbrev pub taken_ids : List ℕ → List Message → List ℕ
+taken_ids known [] = known
+taken_ids known (m ∷ ms) = with_taken_id m (taken_ids known ms)
 
 -- a datagram came that spells the message, which answers the request of a part
 pub record IsAnswerTo (went came : List ℕ → Type 0) (e : Errand) (id : ℕ) (earlier : List ℕ) (part : Part) (m : Message) : Type 0 where
@@ -67,7 +67,7 @@ AnswersIn went came e id earlier other m = ⊥
 abbrev pub AreReplies : (List ℕ → Type 0) → (List ℕ → Type 0) → Errand → ℕ → List ℕ → List Message → Type 0
 AreReplies went came e first known [] = Unit {0}
 AreReplies went came e first known (m ∷ ms) =
-    AreReplies went came e first known ms × AnswersIn went came e ((first + length ms) % 65536) (ids_after known ms) (state_after e ms) m
+    AreReplies went came e first known ms × AnswersIn went came e ((first + length ms) % 65536) (taken_ids known ms) (state_after e ms) m
 
 -- replies to the requests from this id on lead to this state
 pub record LeadsTo (went came : List ℕ → Type 0) (e : Errand) (first : ℕ) (known : List ℕ) (state : State) : Type 0 where
@@ -81,7 +81,7 @@ pub record LeadsToAgain (went came : List ℕ → Type 0) (e : Errand) (first : 
   pub are : AreReplies went came e first [] outdated
   pub leads : state_after e outdated ≡ Outdated
   pub method : e.method ≡ Get
-  pub again : LeadsTo went came e ((first + length outdated) % 65536) (ids_after [] outdated) state
+  pub again : LeadsTo went came e ((first + length outdated) % 65536) (taken_ids [] outdated) state
 
 -- the fetch ends with this code and body, at once or begun again once
 abbrev pub IsFetched : (List ℕ → Type 0) → (List ℕ → Type 0) → Errand → ℕ → ℕ → List ℕ → Type 0
@@ -94,7 +94,7 @@ pub record IsUnderWay (went came : List ℕ → Type 0) (e : Errand) (first : �
   pub are : AreReplies went came e first known replies
   pub leads : state_after e replies ≡ state
   pub id_is : id ≡ (first + length replies) % 65536
-  pub earlier_is : earlier ≡ ids_after known replies
+  pub earlier_is : earlier ≡ taken_ids known replies
 
 -- what one attempt comes to
 abbrev pub IsAttempt : (List ℕ → Type 0) → (List ℕ → Type 0) → Errand → ℕ → List ℕ → Attempt → Type 0
@@ -110,4 +110,10 @@ IsNow state c step.Outdated = state ≡ Outdated
 pub record IsStep (count : ℕ) (m : Message) (old new : Course) (step : Step) : Type 0 where
   pub now : IsNow (after_reply count m (Out old.part old.body.items old.etag.items)) new step
   pub id : new.id ≡ (old.id + 1) % 65536
-  pub earlier : new.earlier.items ≡ with_id m old.earlier.items
+  pub earlier : new.earlier.items ≡ with_taken_id m old.earlier.items
+
+-- the same request is out, and the same is there of the answer
+pub record IsSameAnswer (old new : Course) : Type 0 where
+  pub part : new.part ≡ old.part
+  pub body : new.body.items ≡ old.body.items
+  pub etag : new.etag.items ≡ old.etag.items

@@ -8,7 +8,7 @@ use Rattle.coap_client.specs.declared.hearing.Heard.TheVariants.{Reply, Separate
 use Rattle.coap_client.specs.declared.hearing.Listened.{Listened}
 use Rattle.coap_client.specs.declared.hearing.Listened.TheVariants as listened
 use Rattle.coap_client.specs.declared.hearing.Request.{Request}
-use Rattle.coap_client.specs.Replies.{IsEmptyAcknowledgement, IsReply, IsReset, IsSeparate, is_among}
+use Rattle.coap_client.specs.Replies.{IsEmptyAcknowledgement, IsReply, IsReset, IsSeparate, is_taken}
 use Rattle.coap_client.specs.Requests.{acknowledgement}
 
 -- an empty acknowledgement came
@@ -22,7 +22,7 @@ pub record IsAcknowledged (came : List ℕ → Type 0) (id : ℕ) : Type 0 where
 -- a response in a message of its own, which isn't one of those before; a confirmable request has been acknowledged then
 pub record IsSeparateTo (came : List ℕ → Type 0) (confirmable : Bool) (id : ℕ) (earlier : List ℕ) (m : Message) : Type 0 where
   pub own : IsSeparate m
-  pub new : is_among earlier m.id ≡ false
+  pub new : is_taken earlier m.id ≡ false
   pub awaited : confirmable ≡ true → IsAcknowledged came id
 
 -- the message answers the request of this id, where messages of these ids have answered others
@@ -53,7 +53,7 @@ pub record IsAnswer (went came : List ℕ → Type 0) (r : Request) (bytes : Lis
 -- a separate response that came before, or didn't
 pub record IsSeparateAmong (earlier : List ℕ) (before : Bool) (m : Message) : Type 0 where
   pub own : IsSeparate m
-  pub before_is : is_among earlier m.id ≡ before
+  pub before_is : is_taken earlier m.id ≡ before
 
 -- none of all
 pub record IsOther (id : ℕ) (m : Message) : Type 0 where

@@ -1,8 +1,8 @@
 -- What a fetch sent of the request's body, and what it joined of the answer.
-use Rattle.std.specs.Prelude.{◌≡◌, ℕ, ◌*◌, ◌≤◌, List, [], ◌∷◌, ◌++◌, length, Option, Some, None}
+use Rattle.std.specs.Prelude.{◌≡◌, ℕ, ◌*◌, List, [], ◌∷◌, ◌++◌, length, Option, Some, None}
 use Rattle.std.specs.List.{All}
 use Rattle.coap_msg.specs.Wire.{Message}
-use Rattle.coap_opts.specs.Values.{Place, block_size, place_in}
+use Rattle.coap_opts.specs.Values.{block_size, place_in}
 use Rattle.coap_client.specs.declared.errand.Errand.{Errand}
 use Rattle.coap_client.specs.declared.part.Part.TheVariants.{Answer}
 use Rattle.coap_client.specs.Fetching.{State, Out, state_after}
@@ -10,15 +10,15 @@ use Rattle.coap_client.specs.Parts.{part_payload}
 use Rattle.coap_client.specs.Replies.{block2_of, etag_of}
 
 -- what the request that is out brings of the body: one that asks for a further block of the answer brings nothing new
-abbrev pub brought : Errand → State → List ℕ
-brought e (Out (Answer n szx) body etag) = []
-brought e (Out part body etag) = part_payload e.method e.payload.now part
-brought e other = []
+abbrev pub body_of_request : Errand → State → List ℕ
+body_of_request e (Out (Answer n szx) body etag) = []
+body_of_request e (Out part body etag) = part_payload e.method e.payload.now part
+body_of_request e other = []
 
--- what the requests that these replies answer brought of the body, in order
+-- what the requests that these replies answer body_of_request of the body, in order
 abbrev pub body_sent : Errand → List Message → List ℕ
 body_sent e [] = []
-body_sent e (m ∷ ms) = body_sent e ms ++ brought e (state_after e ms)
+body_sent e (m ∷ ms) = body_sent e ms ++ body_of_request e (state_after e ms)
 
 -- the payloads of these messages, of which the newest is the first, in order
 abbrev pub payloads : List Message → List ℕ

@@ -50,12 +50,12 @@ abbrev pub block_option : ℕ → Bool → ℕ → List ℕ
 block_option n more szx = block_bytes (record { number = n; more = more; szx = szx })
 
 -- an option of this number for each value
-abbrev pub options_of : ℕ → List (List ℕ) → List (ℕ × List ℕ)
-options_of number values = map (λ v. (number, v)) values
+abbrev pub numbered : ℕ → List (List ℕ) → List (ℕ × List ℕ)
+numbered number values = map (λ v. (number, v)) values
 
 -- the resource: its path and its query (RFC 7252, 5.10.1)
 abbrev pub resource_options : List (List ℕ) → List (List ℕ) → List (ℕ × List ℕ)
-resource_options segments query = options_of option.URI_PATH segments ++ options_of option.URI_QUERY query
+resource_options segments query = numbered option.URI_PATH segments ++ numbered option.URI_QUERY query
 
 abbrev pub part_options : Part → ℕ → List (ℕ × List ℕ)
 part_options Whole count = []

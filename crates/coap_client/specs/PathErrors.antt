@@ -1,7 +1,7 @@
 -- Why a text is no path.
 use Rattle.std.specs.Prelude.{◌≡◌, ℕ, ◌<◌, List, [], length}
 use Rattle.coap_client.specs.declared.path.PathError.{PathError}
-use Rattle.coap_client.specs.declared.path.PathError.TheVariants.{NoSlash, Empty, Long, NoMemory}
+use Rattle.coap_client.specs.declared.path.PathError.TheVariants.{Empty, Long, NoMemory}
 use Rattle.coap_client.specs.Paths.{IsNoPath}
 
 -- a segment that is none: it is empty, or has more than 255 bytes

@@ -40,8 +40,8 @@ pub record IsSeparate (m : Message) : Type 0 where
   pub response : 64 ≤ m.code
 
 -- a message with one of these ids has come before
-abbrev pub is_among : List ℕ → ℕ → Bool
-is_among earlier id = list_any (λ y. nat_eq y id) earlier
+abbrev pub is_taken : List ℕ → ℕ → Bool
+is_taken earlier id = list_any (λ y. nat_eq y id) earlier
 
 -- the request of this id is rejected (RFC 7252, 4.2)
 pub record IsReset (id : ℕ) (m : Message) : Type 0 where
@@ -82,15 +82,15 @@ next_block b = if nat_lt (b.number + 1) 1048576 then Ask (Answer (b.number + 1) 
 -- a block of the answer that has so many bytes: just its size where others are behind it, and no more than that where none is
 abbrev pub by_more : Place → ℕ → Next
 by_more b count = if b.more
-  then (if count == block_size b.szx then next_block b else Misfit)
-  else (if nat_le count (block_size b.szx) then Last else Misfit)
+    then (if count == block_size b.szx then next_block b else Misfit)
+    else (if nat_le count (block_size b.szx) then Last else Misfit)
 
 -- the block begins where the one begins that was asked for, and is no larger (RFC 7959, 2.3 and 2.4)
-abbrev pub is_place : ℕ → ℕ → Place → Bool
-is_place n szx b = nat_le b.szx szx && (block_size b.szx * b.number == block_size szx * n)
+abbrev pub fits_place : ℕ → ℕ → Place → Bool
+fits_place n szx b = nat_le b.szx szx && (block_size b.szx * b.number == block_size szx * n)
 
 abbrev pub by_block : ℕ → ℕ → ℕ → Place → Next
-by_block n szx count b = if is_place n szx b then by_more b count else Misfit
+by_block n szx count b = if fits_place n szx b then by_more b count else Misfit
 
 -- without Block2 an answer is whole
 abbrev pub by_option : ℕ → ℕ → ℕ → Option (List ℕ) → Next

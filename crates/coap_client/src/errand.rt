@@ -3,7 +3,7 @@ ghost use Rattle.std.specs.Prelude.{◌≡◌, ◌+◌, ◌*◌, ◌<◌, ◌≤
 ghost use Rattle.coap_msg.specs.Wire.{message_bytes};
 ghost use Rattle.coap_msg.specs.Writing.{options_in};
 ghost use Rattle.coap_client.specs.Paths.{slices_in};
-ghost use Rattle.coap_client.specs.Parts.{FitsDatagrams, option_in, option_room, options_of, resource_options};
+ghost use Rattle.coap_client.specs.Parts.{FitsDatagrams, option_in, option_room, numbered, resource_options};
 ghost use Rattle.coap_client.specs.Parts as spec;
 ghost use Rattle.coap_opts.specs.Fields as fields;
 
@@ -204,9 +204,7 @@ fn room_of(values: &[&[u8]]) -> usize
 {
     let mut room = 0usize;
     for value in values {
-        room = room
-            .saturating_add(value.len())
-            .saturating_add(OPTION_HEAD);
+        room = room.saturating_add(value.len()).saturating_add(OPTION_HEAD);
     }
     room
 }
@@ -235,7 +233,7 @@ fn push_options<'a>(
     number: u16,
     values: &'a [&'a [u8]],
 ) -> Result<(), AllocError>
-    ensures { OnOk result (options_in options.new.items ≡ options_in options.old.items ++ options_of number (slices_in values.entry.now)) }
+    ensures { OnOk result (options_in options.new.items ≡ options_in options.old.items ++ numbered number (slices_in values.entry.now)) }
 {
     for value in values {
         options.push((number, *value))?;

@@ -2,7 +2,7 @@
 ghost use Rattle.std.specs.Prelude.{◌≡◌, ◌+◌, ◌++◌, ◌%◌, [], IfOk, OnOk, if◌then◌else◌, length};
 ghost use Rattle.coap_client.specs.Requests.{IsPartOf};
 ghost use Rattle.coap_client.specs.Replies.{begins_exchange};
-ghost use Rattle.coap_client.specs.Fetching.{IsAttempt, IsFetched, IsStep, Out, going_on, with_id};
+ghost use Rattle.coap_client.specs.Fetching.{IsAttempt, IsFetched, IsSameAnswer, IsStep, Out, going_on, with_taken_id};
 
 use crate::errand::Errand;
 use crate::hearing::{Request, ask};
@@ -45,7 +45,7 @@ pub enum Fault {
     Memory(#[from] AllocError),
 }
 
-/// What a fetch brought.
+/// What a fetch body_of_request.
 #[derive(Drop)]
 pub struct Fetched {
     /// The code of the last answer.
@@ -143,7 +143,7 @@ pub enum Step {
     Outdated,
 }
 
-// A fetch under way: the request that is out, what is there of the answer, with its ETag, and the ids of the messages that brought answers.
+// A fetch under way: the request that is out, what is there of the answer, with its ETag, and the ids of the messages that body_of_request answers.
 #[derive(Drop)]
 struct Course {
     id: u16,
@@ -196,8 +196,8 @@ impl Course {
     // Counts an answer: the next request has the next id, and the answer's own is kept where it came in a message of its own.
     fn count(&mut self, message: &Message<'_>) -> Result<(), AllocError>
         ensures id { OnOk result (self.new.id ≡ (self.old.id + 1) % 65536) }
-        ensures earlier { OnOk result (self.new.earlier.items ≡ with_id message.now self.old.earlier.items) }
-        ensures others { (self.new.part ≡ self.old.part) × (self.new.body.items ≡ self.old.body.items) × (self.new.etag.items ≡ self.old.etag.items) }
+        ensures earlier { OnOk result (self.new.earlier.items ≡ with_taken_id message.now self.old.earlier.items) }
+        ensures others { IsSameAnswer self.old self.new }
     {
         self.id = self.id.wrapping_add(1);
         if begins_exchange(message.kind()) {

@@ -5,7 +5,7 @@ ghost use Rattle.coap_msg.specs.Reading.{reading_of};
 ghost use Rattle.coap_msg.specs.Wire as wire;
 ghost use Rattle.coap_msg.specs.declared.types.MessageType.TheVariants.{Confirmable};
 ghost use Rattle.coap_client.specs.Heard.{Hears, IsAnswer, IsAsked, IsHeard, IsHeardAs, Tells};
-ghost use Rattle.coap_client.specs.Replies.{is_among};
+ghost use Rattle.coap_client.specs.Replies.{is_taken};
 ghost use Rattle.coap_client.specs.Requests.{acknowledgement};
 
 use crate::fetching::Fault;
@@ -66,11 +66,7 @@ pub enum Listened {
 ///
 /// # Errors
 /// No answer came, the request was rejected, or sending or receiving failed.
-pub fn ask<P: Peer>(
-    peer: &mut P,
-    request: &Request<'_>,
-    buffer: &mut [u8],
-) -> Result<usize, Fault>
+pub fn ask<P: Peer>(peer: &mut P, request: &Request<'_>, buffer: &mut [u8]) -> Result<usize, Fault>
     ensures { IfOk result (λ count. (count ≤ length buffer.new) × IsAnswer P.went P.came request.now (take count buffer.new)) }
 {
     let count = if request.confirmable {
@@ -105,11 +101,7 @@ fn ask_again<P: Peer>(
 }
 
 // Asks by a non-confirmable request.
-fn ask_once<P: Peer>(
-    peer: &mut P,
-    request: &Request<'_>,
-    buffer: &mut [u8],
-) -> Result<usize, Fault>
+fn ask_once<P: Peer>(peer: &mut P, request: &Request<'_>, buffer: &mut [u8]) -> Result<usize, Fault>
     requires { request.now.confirmable ≡ false }
     ensures { IfOk result (λ count. (count ≤ length buffer.new) × IsAsked P.went P.came request.now (take count buffer.new)) }
 {

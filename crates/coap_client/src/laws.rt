@@ -7,7 +7,7 @@ ghost use Rattle.coap_client.specs.Fetching.{Ended, Out, state_after};
 ghost use Rattle.coap_client.specs.Joined.{IsOneAnswer, body_sent};
 ghost use Rattle.coap_client.specs.Replies.{is_success};
 
-/// Where a fetch ends by a success, what the requests that its replies answer brought of the body, joined, is the body.
+/// Where a fetch ends by a success, what the requests that its replies answer body_of_request of the body, joined, is the body.
 pub fn the_whole_body_is_sent()
     ensures { (e : Errand) (replies : List Message) (code : ℕ) (answer : List ℕ) →
         state_after e replies ≡ Ended code answer → is_success code ≡ true →

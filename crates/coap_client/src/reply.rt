@@ -209,7 +209,7 @@ fn next_of_answer(number: u32, szx: u8, message: &Message<'_>) -> Next
         None if number == 0 => Next::Last,
         Some(value) if value.len() <= BLOCK_VALUE => {
             let block = Block::read(value);
-            if is_place(number, szx, block) {
+            if fits_place(number, szx, block) {
                 after_block(message.payload().len(), block)
             } else {
                 Next::Misfit
@@ -220,9 +220,9 @@ fn next_of_answer(number: u32, szx: u8, message: &Message<'_>) -> Next
 }
 
 // Whether a block begins where the one begins that was asked for, and is no larger.
-fn is_place(number: u32, szx: u8, block: Block) -> bool
+fn fits_place(number: u32, szx: u8, block: Block) -> bool
     requires { IsBlock number szx }
-    ensures { result ≡ spec.is_place number szx block }
+    ensures { result ≡ spec.fits_place number szx block }
 {
     let asked = Block::new(number, false, szx);
     block.szx() <= szx

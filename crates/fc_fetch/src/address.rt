@@ -60,11 +60,7 @@ impl Address {
     ///
     /// # Errors
     /// What [`AddressError`] says.
-    pub fn parse(
-        alloc: Global,
-        text: &str,
-        port: Option<u16>,
-    ) -> Result<Address, AddressError> {
+    pub fn parse(alloc: Global, text: &str, port: Option<u16>) -> Result<Address, AddressError> {
         if text.contains("://") && !text.starts_with('/') {
             match port {
                 None => read_uri(alloc, text),

@@ -41,9 +41,9 @@ pub struct Asking<'a> {
 #[derive(Debug, Drop, Error)]
 enum Stop<'a> {
     #[error("{0}")]
-    Address(AddressError),
+    Address(#[from] AddressError),
     #[error("{0}")]
-    Path(PathError),
+    Path(#[from] PathError),
     #[error("an argument of the query has more than 255 bytes")]
     Argument,
     #[error("the request has no room in a datagram: the path, the query and what goes of the body at once have at most 1262 bytes, with 5 more for each segment and argument")]
@@ -95,9 +95,9 @@ fn answer<'a, R: Net + Clock, I: Read>(
     input: &mut I,
     asking: &Asking<'a>,
 ) -> Result<Fetched, Stop<'a>> {
-    let address = Address::parse(alloc, asking.target, asking.port).map_err(Stop::Address)?;
+    let address = Address::parse(alloc, asking.target, asking.port)?;
     let target = Target {
-        path: Path::parse(alloc, &address.path).map_err(Stop::Path)?,
+        path: Path::parse(alloc, &address.path)?,
         query: arguments(alloc, &address.query)?,
     };
     let mut payload = Vec::new(alloc);
@@ -108,12 +108,7 @@ fn answer<'a, R: Net + Clock, I: Read>(
         return Err(Stop::Room);
     };
     let mut server = Server::at(rt, rt, address.server).map_err(Fault::Socket)?;
-    Ok(coap_client::fetch(
-        alloc,
-        &mut server,
-        &errand,
-        clock_id(rt),
-    )?)
+    Ok(coap_client::fetch(alloc, &mut server, &errand, clock_id(rt))?)
 }
 
 // The arguments of a query, which `&` parts; an empty one has none.

@@ -88,7 +88,10 @@ fn serve_socket<R: Runtime + AllocGlobal + Threads + Wait + Net + Sync, E: Write
         return Ok(Status::Bad);
     };
     let Some(ip) = matches.get_str("bind").and_then(ip_of) else {
-        writeln!(err, "error: `--bind` is to be an IPv4 address, as 127.0.0.1")?;
+        writeln!(
+            err,
+            "error: `--bind` is to be an IPv4 address, as 127.0.0.1"
+        )?;
         return Ok(Status::Bad);
     };
     let told = matches.get_str("log") == Some("info");

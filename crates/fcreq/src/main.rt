@@ -51,8 +51,17 @@ fn command<'a>(alloc: Global) -> Result<Command<'a>, Error> {
             .about("Ask a CoAP server")
             .after_help(ASKING)
             .arg(port(alloc))?
-            .arg(flag(alloc, "non", "Ask by a non-confirmable request: once, and wait 32 seconds").short('N'))?
-            .arg(flag(alloc, "text", "Print the answer's bytes as text, where they are text"))?
+            .arg(flag(
+                alloc,
+                "non",
+                "Ask by a non-confirmable request: once, and wait 32 seconds",
+            )
+            .short('N'))?
+            .arg(flag(
+                alloc,
+                "text",
+                "Print the answer's bytes as text, where they are text",
+            ))?
             .arg(file(alloc))?
             .arg(method)?
             .arg(target)?,

@@ -9,12 +9,36 @@ use std::test::Fail;
 
 // A URI, its host and port, and the bytes of its path and query.
 static URIS: [(&str, [u8; 4], u16, &[u8], &[u8]); 6] = [
-    ("coap://127.0.0.1:5684/r/1", [127, 0, 0, 1], 5684, b"/r/1", b""),
-    ("coap://192.0.2.7/r/1?a=1&b", [192, 0, 2, 7], 5683, b"/r/1", b"a=1&b"),
+    (
+        "coap://127.0.0.1:5684/r/1",
+        [127, 0, 0, 1],
+        5684,
+        b"/r/1",
+        b"",
+    ),
+    (
+        "coap://192.0.2.7/r/1?a=1&b",
+        [192, 0, 2, 7],
+        5683,
+        b"/r/1",
+        b"a=1&b",
+    ),
     ("coap://localhost", [127, 0, 0, 1], 5683, b"", b""),
     ("coap://localhost/", [127, 0, 0, 1], 5683, b"", b""),
-    ("COAP://127.0.0.1/a%20b/%C3%A9?%3D", [127, 0, 0, 1], 5683, b"/a b/\xc3\xa9", b"="),
-    ("coap://127.0.0.1/.well-known/core?rt=x", [127, 0, 0, 1], 5683, b"/.well-known/core", b"rt=x"),
+    (
+        "COAP://127.0.0.1/a%20b/%C3%A9?%3D",
+        [127, 0, 0, 1],
+        5683,
+        b"/a b/\xc3\xa9",
+        b"=",
+    ),
+    (
+        "coap://127.0.0.1/.well-known/core?rt=x",
+        [127, 0, 0, 1],
+        5683,
+        b"/.well-known/core",
+        b"rt=x",
+    ),
 ];
 
 #[test]
@@ -23,7 +47,10 @@ fn uris_are_read(rt: HostRuntime) -> Result<(), Fail> {
         let address = Address::parse(rt.alloc(), uri, None)?;
         let server = SocketAddrV4::new(Ipv4Addr::new(a, b, c, d), port);
         assert!(rt; address.server == server, "{uri}");
-        assert!(rt; address.path.as_slice() == path && address.query.as_slice() == query, "{uri}");
+        assert!(rt;
+            address.path.as_slice() == path && address.query.as_slice() == query,
+            "{uri}"
+        );
     }
     Ok(())
 }
@@ -52,7 +79,10 @@ static NONE: [(&str, Option<u16>, AddressError); 9] = [
 #[test]
 fn what_is_no_address_is_told(rt: HostRuntime) -> Result<(), Fail> {
     for (text, port, error) in NONE.iter().copied() {
-        assert!(rt; Address::parse(rt.alloc(), text, port).err() == Some(error), "{text}");
+        assert!(rt;
+            Address::parse(rt.alloc(), text, port).err() == Some(error),
+            "{text}"
+        );
     }
     Ok(())
 }

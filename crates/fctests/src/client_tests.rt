@@ -68,7 +68,10 @@ static NOT_LAST: [&[u8]; 3] = [
 #[test]
 fn no_success_ends_it_before_the_server_has_all(rt: HostRuntime) -> Result<(), Fail> {
     for reply in NOT_LAST.iter().copied() {
-        let mut server = answers(rt.alloc(), &[(b"\x60\x5f\x00\x07\xd1\x0e\x0e", b""), (reply, b"")])?;
+        let mut server = answers(
+            rt.alloc(),
+            &[(b"\x60\x5f\x00\x07\xd1\x0e\x0e", b""), (reply, b"")],
+        )?;
         let answer = fetched(&mut server, Method::Put, "/p/1", &[7; 1500]);
         assert!(rt; matches!(&answer, Err(Fault::Misfit)), "{reply:?}");
     }
@@ -208,7 +211,10 @@ fn paths_are_read(rt: HostRuntime) -> Result<(), Fail> {
         (&long, PathError::Long(2)),
     ];
     for (text, error) in texts {
-        assert!(rt; Path::parse(rt.alloc(), text).err() == Some(error), "{text:?}");
+        assert!(rt;
+            Path::parse(rt.alloc(), text).err() == Some(error),
+            "{text:?}"
+        );
     }
     Ok(())
 }

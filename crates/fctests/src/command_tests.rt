@@ -17,7 +17,9 @@ fn told(alloc: Global, word: &str) -> Result<String, Fail> {
 #[test]
 fn version_and_help_are_told(rt: HostRuntime) -> Result<(), Fail> {
     let version = told(rt.alloc(), "--version")?;
-    assert!(rt; version.as_str() == "fcd 0.1.0, proved with rattle-kit-13f logic dac8208d650f15bf\n");
+    assert!(rt;
+        version.as_str() == "fcd 0.1.0, proved with rattle-kit-13f logic dac8208d650f15bf\n"
+    );
     let help = told(rt.alloc(), "--help")?;
     assert!(rt; help.as_str().contains(LINES));
     Ok(())

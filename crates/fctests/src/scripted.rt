@@ -99,10 +99,7 @@ pub(crate) fn asked(
 }
 
 // A server that answers so: each datagram is two parts, one behind the other.
-pub(crate) fn answers(
-    alloc: Global,
-    script: &[(&[u8], &[u8])],
-) -> Result<Scripted, AllocError> {
+pub(crate) fn answers(alloc: Global, script: &[(&[u8], &[u8])]) -> Result<Scripted, AllocError> {
     let mut server = follows(alloc);
     for (first, second) in script.iter().copied() {
         comes(&mut server, first, second)?;
@@ -111,7 +108,13 @@ pub(crate) fn answers(
 }
 
 // The server got these bytes, and these behind them, as the datagram of this place.
-pub(crate) fn check_sent<R: Abort>(rt: &R, server: &Scripted, place: usize, first: &[u8], second: &[u8]) {
+pub(crate) fn check_sent<R: Abort>(
+    rt: &R,
+    server: &Scripted,
+    place: usize,
+    first: &[u8],
+    second: &[u8],
+) {
     let is_so = match server.sent.get(place) {
         Some(sent) => {
             sent.len() == first.len().saturating_add(second.len())

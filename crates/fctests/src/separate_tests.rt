@@ -9,7 +9,10 @@ use std::test::Fail;
 fn a_confirmable_response_is_acknowledged(rt: HostRuntime) -> Result<(), Fail> {
     let mut server = answers(
         rt.alloc(),
-        &[(b"\x60\x00\x00\x07", b""), (b"\x40\x45\x12\x34\xff", b"late")],
+        &[
+            (b"\x60\x00\x00\x07", b""),
+            (b"\x40\x45\x12\x34\xff", b"late"),
+        ],
     )?;
     let answer = fetched(&mut server, Method::Get, "/r/1", &[])?;
     assert!(rt; answer.code.byte == 0x45 && answer.body.as_slice() == b"late".as_slice());
@@ -68,7 +71,10 @@ fn a_response_that_comes_again_answers_nothing(rt: HostRuntime) -> Result<(), Fa
 fn a_response_before_the_acknowledgement_is_passed_over(rt: HostRuntime) -> Result<(), Fail> {
     let mut server = answers(
         rt.alloc(),
-        &[(b"\x50\x45\x12\x34\xff", b"other"), (b"\x60\x45\x00\x07\xff", b"own")],
+        &[
+            (b"\x50\x45\x12\x34\xff", b"other"),
+            (b"\x60\x45\x00\x07\xff", b"own"),
+        ],
     )?;
     let answer = fetched(&mut server, Method::Get, "/r/1", &[])?;
     assert!(rt; answer.body.as_slice() == b"own".as_slice() && server.sent.len() == 1);

@@ -17,9 +17,27 @@ fn a_body_goes_on_in_smaller_blocks(rt: HostRuntime) -> Result<(), Fail> {
     )?;
     let answer = fetched(&mut server, Method::Put, "/p/1", &[7; 1100])?;
     assert!(rt; answer.code.byte == 0x44 && server.sent.len() == 3);
-    check_sent(&rt, &server, 0, b"\x40\x03\x00\x07\xb1\x70\x01\x31\xd1\x03\x0e\xff", &[7; 1024]);
-    check_sent(&rt, &server, 1, b"\x40\x03\x00\x08\xb1\x70\x01\x31\xd2\x03\x01\x0a\xff", &[7; 64]);
-    check_sent(&rt, &server, 2, b"\x40\x03\x00\x09\xb1\x70\x01\x31\xd2\x03\x01\x12\xff", &[7; 12]);
+    check_sent(
+        &rt,
+        &server,
+        0,
+        b"\x40\x03\x00\x07\xb1\x70\x01\x31\xd1\x03\x0e\xff",
+        &[7; 1024],
+    );
+    check_sent(
+        &rt,
+        &server,
+        1,
+        b"\x40\x03\x00\x08\xb1\x70\x01\x31\xd2\x03\x01\x0a\xff",
+        &[7; 64],
+    );
+    check_sent(
+        &rt,
+        &server,
+        2,
+        b"\x40\x03\x00\x09\xb1\x70\x01\x31\xd2\x03\x01\x12\xff",
+        &[7; 12],
+    );
     Ok(())
 }
 
@@ -37,8 +55,20 @@ fn a_body_goes_on_in_ever_smaller_blocks(rt: HostRuntime) -> Result<(), Fail> {
     )?;
     let answer = fetched(&mut server, Method::Put, "/p/1", &[7; 2050])?;
     assert!(rt; answer.code.byte == 0x44 && server.sent.len() == 4);
-    check_sent(&rt, &server, 2, b"\x40\x03\x00\x09\xb1\x70\x01\x31\xd1\x03\x3d\xff", &[7; 512]);
-    check_sent(&rt, &server, 3, b"\x40\x03\x00\x0a\xb1\x70\x01\x31\xd2\x03\x08\x00\xff", &[7; 2]);
+    check_sent(
+        &rt,
+        &server,
+        2,
+        b"\x40\x03\x00\x09\xb1\x70\x01\x31\xd1\x03\x3d\xff",
+        &[7; 512],
+    );
+    check_sent(
+        &rt,
+        &server,
+        3,
+        b"\x40\x03\x00\x0a\xb1\x70\x01\x31\xd2\x03\x08\x00\xff",
+        &[7; 2],
+    );
     Ok(())
 }
 
@@ -53,8 +83,18 @@ fn an_answer_comes_in_smaller_blocks(rt: HostRuntime) -> Result<(), Fail> {
         ],
     )?;
     let answer = fetched(&mut server, Method::Get, "/r/1", &[])?;
-    assert!(rt; answer.body.len() == 74 && answer.body.starts_with(&[8; 64]) && answer.body.ends_with(&[9; 10]));
-    check_sent(&rt, &server, 1, b"\x40\x01\x00\x08\xb1\x72\x01\x31\xc1\x12", &[]);
+    assert!(rt;
+        answer.body.len() == 74
+            && answer.body.starts_with(&[8; 64])
+            && answer.body.ends_with(&[9; 10])
+    );
+    check_sent(
+        &rt,
+        &server,
+        1,
+        b"\x40\x01\x00\x08\xb1\x72\x01\x31\xc1\x12",
+        &[],
+    );
     Ok(())
 }
 
@@ -71,7 +111,13 @@ fn an_answer_goes_on_in_smaller_blocks(rt: HostRuntime) -> Result<(), Fail> {
     )?;
     let answer = fetched(&mut server, Method::Get, "/r/1", &[])?;
     assert!(rt; answer.body.len() == 1091 && answer.body.ends_with(b"end"));
-    check_sent(&rt, &server, 2, b"\x40\x01\x00\x09\xb1\x72\x01\x31\xc2\x01\x12", &[]);
+    check_sent(
+        &rt,
+        &server,
+        2,
+        b"\x40\x01\x00\x09\xb1\x72\x01\x31\xc2\x01\x12",
+        &[],
+    );
     Ok(())
 }
 
@@ -86,7 +132,13 @@ static NOT_THE_NEXT: [&[u8]; 4] = [
 #[test]
 fn a_block_that_was_not_asked_for_is_a_fault(rt: HostRuntime) -> Result<(), Fail> {
     for reply in NOT_THE_NEXT.iter().copied() {
-        let mut server = answers(rt.alloc(), &[(b"\x60\x45\x00\x07\xd1\x0a\x0a\xff", &[8; 64]), (reply, b"")])?;
+        let mut server = answers(
+            rt.alloc(),
+            &[
+                (b"\x60\x45\x00\x07\xd1\x0a\x0a\xff", &[8; 64]),
+                (reply, b""),
+            ],
+        )?;
         let answer = fetched(&mut server, Method::Get, "/r/1", &[]);
         assert!(rt; matches!(&answer, Err(Fault::Misfit)), "{reply:?}");
     }

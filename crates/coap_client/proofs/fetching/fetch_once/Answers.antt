@@ -1,6 +1,5 @@
-use Rattle.std.proofs.Common.{◌≡◌, sym, ◌∙◌, ap, subst}
-use Rattle.arrayvec.specs.ArrayVec.{ArrayVec}
-use Rattle.coap_client.specs.Fetching.{IsNow, after_reply, Out}
+use Rattle.std.proofs.Common.{sym, ◌∙◌, ap, subst}
+use Rattle.coap_client.specs.Fetching.{IsNow}
 use Rattle.coap_client.proofs.Courses.{answers_part, leads_on, leads_to}
 use Rattle.coap_client.proofs.fetching.fetch_once.Goals as goal
 

@@ -1,4 +1,4 @@
-use Rattle.std.proofs.Common.{sym, ◌∙◌, rules}
+use Rattle.std.proofs.Common.{rules}
 use Rattle.fc_fetch.proofs.Texts.{no_text, text_is}
 use Rattle.fc_fetch.proofs.printing.plain_text.Goals as goal
 
