@@ -9,23 +9,23 @@ use Rattle.coap_client.specs.declared.hearing.Request.{Request}
 use Rattle.coap_client.specs.declared.part.Part.{Part}
 use Rattle.coap_client.specs.Parts.{first_part}
 use Rattle.coap_client.specs.Requests.{part_request}
-use Rattle.coap_client.specs.Heard.{IsAnswer, IsAnsweredBy}
+use Rattle.coap_client.specs.Heard.{HasTakenResponse, IsTakenResponse}
 use Rattle.coap_client.specs.Fetching.{State, Out, AnswersIn, IsAnswerTo, IsStep, IsUnderWay, LeadsTo, after_reply, taken_ids, with_taken_id}
 
 -- what came answers the request of a part
 pub answers_part : (went came : List ℕ → Type 0) (e : Errand) (part : Part) (id : ℕ) (earlier : List ℕ) (r : Request) (bytes : List ℕ) (m : Message) →
-    IsAnswer went came r bytes → reading_of bytes ≡ Ok m →
+    HasTakenResponse went came r bytes → reading_of bytes ≡ Ok m →
     r.confirmable ≡ e.confirmable → r.id ≡ id → r.earlier.now ≡ earlier → r.datagram.now.items ≡ message_bytes (part_request e part id) →
     IsAnswerTo went came e id earlier part m
 answers_part went came e part id earlier r bytes m a read c i k d =
     let same : a.message ≡ m = cc (a.is.asked.read_is, read) in
     record {
       bytes = bytes;
-      is = subst (λ x. IsAnsweredBy went came e.confirmable id earlier (message_bytes (part_request e part id)) bytes x) same
-          (subst (λ x. IsAnsweredBy went came e.confirmable id earlier x bytes a.message) d
-          (subst (λ x. IsAnsweredBy went came e.confirmable id x r.datagram.now.items bytes a.message) k
-          (subst (λ x. IsAnsweredBy went came e.confirmable x r.earlier.now r.datagram.now.items bytes a.message) i
-          (subst (λ x. IsAnsweredBy went came x r.id r.earlier.now r.datagram.now.items bytes a.message) c a.is))));
+      is = subst (λ x. IsTakenResponse went came e.confirmable id earlier (message_bytes (part_request e part id)) bytes x) same
+          (subst (λ x. IsTakenResponse went came e.confirmable id earlier x bytes a.message) d
+          (subst (λ x. IsTakenResponse went came e.confirmable id x r.datagram.now.items bytes a.message) k
+          (subst (λ x. IsTakenResponse went came e.confirmable x r.earlier.now r.datagram.now.items bytes a.message) i
+          (subst (λ x. IsTakenResponse went came x r.id r.earlier.now r.datagram.now.items bytes a.message) c a.is))));
     }
 
 pub begins : (went came : List ℕ → Type 0) (e : Errand) (first : ℕ) (known : List ℕ) (part : Part) (body etag : List ℕ) →

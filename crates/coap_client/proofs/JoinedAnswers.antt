@@ -14,9 +14,9 @@ use Rattle.coap_client.specs.declared.part.Part.TheVariants.{Whole, Body, Answer
 use Rattle.coap_client.specs.declared.reply.Next.{Next}
 use Rattle.coap_client.specs.declared.reply.Next.TheVariants as next
 use Rattle.coap_client.specs.Fetching.{State, Out, Ended, Outdated, Lost, after_reply, moved_on, state_after}
-use Rattle.coap_client.specs.Joined.{AreInOrder, BeginsAt, IsOneAnswer, payloads}
+use Rattle.coap_client.specs.Joined.{AreInOrder, BeginsAt, IsLastBlock, IsOneAnswer, payloads}
 use Rattle.coap_client.specs.Parts.{first_part, has_more}
-use Rattle.coap_client.specs.Replies.{block1_of, block2_of, by_more, by_option, by_part, etag_of, is_continue, is_final, fits_place, is_success, next_block, next_number, next_of_answer, next_of_body, next_of_whole, next_size}
+use Rattle.coap_client.specs.Replies.{block1_of, block2_of, by_more, by_option, by_part, etag_of, is_continue, is_final, fits_place, is_success, is_understood, next_by_code, next_block, next_number, next_of_answer, next_of_body, next_of_whole, next_size}
 use Rattle.coap_client.proofs.NextParts.{either, place_is}
 
 -- so much of the answer is there, of this version, from the last replies
@@ -37,7 +37,7 @@ HasJoined ms other = Unit {0}
 -- what an answer of so many bytes, whose Block2 has this value, may lead to where so many bytes are there
 abbrev pub JoinsAt : ℕ → ℕ → Option (List ℕ) → Next → Type 0
 JoinsAt offset count value (next.Ask (Answer n szx)) = BeginsAt offset value × (block_size szx * n ≡ offset + count)
-JoinsAt offset count value next.Last = BeginsAt offset value
+JoinsAt offset count value next.Last = BeginsAt offset value × IsLastBlock value
 JoinsAt offset count value (next.Ask other) = offset ≡ 0
 JoinsAt offset count value next.Refused = ⊥
 JoinsAt offset count value other = Unit {0}
@@ -45,7 +45,7 @@ JoinsAt offset count value other = Unit {0}
 option_joins : (n szx count offset : ℕ) (value : Option (List ℕ)) → block_size szx * n ≡ offset → JoinsAt offset count value (by_option n szx count value)
 option_joins n szx count offset None at =
     either (JoinsAt offset count None) (n == 0) next.Last next.Misfit
-    (λ zero. let none : n ≡ 0 = eqb-true _ _ zero in sym at ∙ (ap (λ k. block_size szx * k) none ∙ omega arith)) (λ _. tt)
+    (λ zero. let none : n ≡ 0 = eqb-true _ _ zero in (sym at ∙ (ap (λ k. block_size szx * k) none ∙ omega arith), tt)) (λ _. tt)
 option_joins n szx count offset (Some value) at =
     let b = place_in value in
     let P = JoinsAt offset count (Some value) in
@@ -57,7 +57,7 @@ option_joins n szx count offset (Some value) at =
     (λ whole. either P (nat_lt (b.number + 1) 1048576) (next.Ask (Answer (b.number + 1) b.szx)) next.Misfit
     (λ _. (begins, let size : count ≡ block_size b.szx = eqb-true _ _ whole in omega (arith, begins, size))) (λ _. tt))
     (λ _. tt))
-    (λ _. either P (nat_le count (block_size b.szx)) next.Last next.Misfit (λ _. begins) (λ _. tt)))
+    (λ last. either P (nat_le count (block_size b.szx)) next.Last next.Misfit (λ _. (begins, last)) (λ _. tt)))
     (λ _. tt))
     (λ _. tt)
 
@@ -91,37 +91,50 @@ more m ms body etag j begins same = record {
   version = All-cons (λ x. etag_of x ≡ etag_of m) m j.blocks refl (subst (λ t. All (λ x. etag_of x ≡ t) j.blocks) (sym same) j.version);
 }
 
-answer_of : (answer body etag : List ℕ) (ms : List Message) → answer ≡ body → IsJoined body etag ms → IsOneAnswer answer ms
-answer_of answer body etag ms is j = record {
-  blocks = j.blocks;
+-- the last block ends it
+answer_of : (m : Message) (ms : List Message) (answer body etag : List ℕ) (j : IsJoined body etag ms) → answer ≡ body ++ m.payload → BeginsAt (length body) (block2_of m) → IsLastBlock (block2_of m) → etag_of m ≡ etag →
+    IsOneAnswer answer m ms
+answer_of m ms answer body etag j is begins last same = record {
+  older = j.blocks;
   before = j.before;
   last = j.last;
-  joined = is ∙ j.joined;
-  in_order = j.in_order;
-  etag = etag;
-  version = j.version;
+  joined = is ∙ ap (λ x. x ++ m.payload) j.joined;
+  whole = last;
+  in_order = (j.in_order, subst (λ x. BeginsAt (length x) (block2_of m)) j.joined begins);
+  version = subst (λ t. All (λ x. etag_of x ≡ t) j.blocks) (sym same) j.version;
+}
+
+answer_alone : (m : Message) (ms : List Message) (answer : List ℕ) → answer ≡ m.payload → BeginsAt 0 (block2_of m) → IsLastBlock (block2_of m) → IsOneAnswer answer m ms
+answer_alone m ms answer is begins last = record {
+  older = [];
+  before = ms;
+  last = refl;
+  joined = is;
+  whole = last;
+  in_order = (tt, begins);
+  version = All-nil (λ x. etag_of x ≡ etag_of m);
 }
 
 -- after a reply: what is there then, and where the fetch ends by a success, the answer
-abbrev pub Joins : List Message → State → Type 0
-Joins ms (Ended code body) = is_success code ≡ true → IsOneAnswer body ms
-Joins ms other = HasJoined ms other
+abbrev pub Joins : Message → List Message → State → Type 0
+Joins m ms (Ended code body) = is_success code ≡ true → IsOneAnswer body m ms
+Joins m ms other = HasJoined (m ∷ ms) other
 
 -- an answer begins
-begun : (m : Message) (ms : List Message) (body etag : List ℕ) (n : Next) → body ≡ [] → JoinsAt 0 (length m.payload) (block2_of m) n → Joins (m ∷ ms) (moved_on n body etag m)
+begun : (m : Message) (ms : List Message) (body etag : List ℕ) (n : Next) → body ≡ [] → JoinsAt 0 (length m.payload) (block2_of m) n → Joins m ms (moved_on n body etag m)
 begun m ms body etag (next.Ask Whole) none j = none
 begun m ms body etag (next.Ask (Body n szx)) none j = none
 begun m ms body etag (next.Ask (Answer n szx)) none j =
     let is : body ++ m.payload ≡ m.payload = ap (λ x. x ++ m.payload) none in
     (subst (λ x. IsJoined x (etag_of m) (m ∷ ms)) (sym is) (one m ms j.0), let count = ap length is in omega (arith, j.1, count))
-begun m ms body etag next.Last none j = λ _. answer_of (body ++ m.payload) m.payload (etag_of m) (m ∷ ms) (ap (λ x. x ++ m.payload) none) (one m ms j)
+begun m ms body etag next.Last none j = λ _. answer_alone m ms (body ++ m.payload) (ap (λ x. x ++ m.payload) none) j.0 j.1
 begun m ms body etag next.Refused none j = absurd j
 begun m ms body etag next.Stale none j = tt
 begun m ms body etag next.Misfit none j = tt
 
 -- a further block is joined
 grown : (m : Message) (ms : List Message) (body etag : List ℕ) (n : Next) → IsJoined body etag ms → etag_of m ≡ etag → JoinsAt (length body) (length m.payload) (block2_of m) n →
-    Joins (m ∷ ms) (moved_on n body etag m)
+    Joins m ms (moved_on n body etag m)
 grown m ms body etag (next.Ask Whole) so same j = empty body j
   where
     empty : (xs : List ℕ) → length xs ≡ 0 → xs ≡ []
@@ -133,38 +146,41 @@ grown m ms body etag (next.Ask (Body n szx)) so same j = empty body j
     empty [] e = refl
     empty (x ∷ xs) e = absurd (cc e)
 grown m ms body etag (next.Ask (Answer n szx)) so same j = (more m ms body etag so j.0 same, omega (arith, j.1, length-append body m.payload))
-grown m ms body etag next.Last so same j = λ _. answer_of (body ++ m.payload) (body ++ m.payload) (etag_of m) (m ∷ ms) refl (more m ms body etag so j same)
+grown m ms body etag next.Last so same j = λ _. answer_of m ms (body ++ m.payload) body etag so refl j.0 j.1 same
 grown m ms body etag next.Refused so same j = absurd j
 grown m ms body etag next.Stale so same j = tt
 grown m ms body etag next.Misfit so same j = tt
 
 part_joins : (e : Errand) (part : Part) (body etag : List ℕ) (m : Message) (ms : List Message) → HasJoined ms (Out part body etag) →
-    Joins (m ∷ ms) (moved_on (by_part (length e.payload.now) part etag m) body etag m)
+    Joins m ms (moved_on (by_part (length e.payload.now) part etag m) body etag m)
 part_joins e Whole body etag m ms so = begun m ms body etag _ so (whole_joins 0 m)
 part_joins e (Body n szx) body etag m ms so =
     begun m ms body etag _ so (either (JoinsAt 0 (length m.payload) (block2_of m)) (has_more (length e.payload.now) n szx) (next_of_body n szx (next_size n szx (is_continue m) (block1_of m))) (next_of_whole n m)
     (λ _. body_joins n szx (length m.payload) (block2_of m) _) (λ _. whole_joins n m))
 part_joins e (Answer n szx) body etag m ms so =
-    either (λ x. Joins (m ∷ ms) (moved_on x body etag m)) (bytes_eq (etag_of m) etag) _ next.Stale
+    either (λ x. Joins m ms (moved_on x body etag m)) (bytes_eq (etag_of m) etag) _ next.Stale
     (λ equal. grown m ms body etag _ so.0 ((bytes_eq-Decides (etag_of m) etag).0 equal)
     (either (JoinsAt (length body) (length m.payload) (block2_of m)) (is_continue m) next.Misfit (next_of_answer n szx m) (λ _. tt) (λ _. option_joins n szx (length m.payload) (length body) (block2_of m) so.1)))
     (λ _. tt)
 
 reply_joins : (e : Errand) (part : Part) (body etag : List ℕ) (m : Message) (ms : List Message) → HasJoined ms (Out part body etag) →
-    Joins (m ∷ ms) (after_reply (length e.payload.now) m (Out part body etag))
+    Joins m ms (after_reply (length e.payload.now) m (Out part body etag))
 reply_joins e part body etag m ms so =
-    either (λ n. Joins (m ∷ ms) (moved_on n body etag m)) (is_success m.code) (by_part (length e.payload.now) part etag m) next.Refused
+    let P : Next → Type 0 = λ n. Joins m ms (moved_on n body etag m) in
+    either P (is_understood m) (next_by_code (length e.payload.now) part etag m) next.Misfit
+    (λ _. either P (is_success m.code) (by_part (length e.payload.now) part etag m) next.Refused
     (λ _. part_joins e part body etag m ms so)
-    (λ failed success. absurd (cc (failed, success)))
+    (λ failed success. absurd (cc (failed, success))))
+    (λ _. tt)
 
-weaker : (ms : List Message) (s : State) → Joins ms s → HasJoined ms s
-weaker ms (Out part body etag) j = j
-weaker ms (Ended code body) j = tt
-weaker ms Outdated j = tt
-weaker ms Lost j = tt
+weaker : (m : Message) (ms : List Message) (s : State) → Joins m ms s → HasJoined (m ∷ ms) s
+weaker m ms (Out part body etag) j = j
+weaker m ms (Ended code body) j = tt
+weaker m ms Outdated j = tt
+weaker m ms Lost j = tt
 
 step_joins : (e : Errand) (m : Message) (ms : List Message) (s : State) → HasJoined ms s → HasJoined (m ∷ ms) (after_reply (length e.payload.now) m s)
-step_joins e m ms (Out part body etag) so = weaker (m ∷ ms) (after_reply (length e.payload.now) m (Out part body etag)) (reply_joins e part body etag m ms so)
+step_joins e m ms (Out part body etag) so = weaker m ms (after_reply (length e.payload.now) m (Out part body etag)) (reply_joins e part body etag m ms so)
 step_joins e m ms (Ended code body) so = tt
 step_joins e m ms Outdated so = tt
 step_joins e m ms Lost so = tt
@@ -180,8 +196,8 @@ has_joined e [] = first_joins e.method (length e.payload.now)
 has_joined e (m ∷ ms) = step_joins e m ms (state_after e ms) (has_joined e ms)
 
 pub one_answer : (e : Errand) (m : Message) (ms : List Message) (part : Part) (body etag answer : List ℕ) (code : ℕ) → state_after e ms ≡ Out part body etag →
-    after_reply (length e.payload.now) m (state_after e ms) ≡ Ended code answer → is_success code ≡ true → IsOneAnswer answer (m ∷ ms)
+    after_reply (length e.payload.now) m (state_after e ms) ≡ Ended code answer → is_success code ≡ true → IsOneAnswer answer m ms
 one_answer e m ms part body etag answer code out ends success =
     let so = subst (HasJoined ms) out (has_joined e ms) in
     let is = sym (ap (after_reply (length e.payload.now) m) out) ∙ ends in
-    subst (Joins (m ∷ ms)) is (reply_joins e part body etag m ms so) success
+    subst (Joins m ms) is (reply_joins e part body etag m ms so) success

@@ -2,5 +2,6 @@ pub mod Courses
 pub mod NextParts
 pub mod Sizes
 pub mod Splitting
-mod SentBodies
+pub mod SentBodies
 mod JoinedAnswers
+mod TakenBlocks

@@ -11,7 +11,7 @@ use Rattle.coap_client.specs.declared.part.Part.TheVariants.{Whole, Body, Answer
 use Rattle.coap_client.specs.declared.reply.Next.{Next}
 use Rattle.coap_client.specs.declared.reply.Next.TheVariants.{Ask, Last, Refused, Stale, Misfit}
 use Rattle.coap_client.specs.Parts.{has_more}
-use Rattle.coap_client.specs.Replies.{block1_of, block2_of, by_more, by_option, by_part, etag_of, is_continue, is_final, fits_place, is_success, next_block, next_number, next_of, next_of_answer, next_of_body, next_of_whole, next_size, size_by_block}
+use Rattle.coap_client.specs.Replies.{block1_of, block2_of, by_more, by_option, by_part, etag_of, is_continue, is_final, fits_place, is_success, is_understood, next_block, next_by_code, next_number, next_of, next_of_answer, next_of_body, next_of_whole, next_size, size_by_block}
 use Rattle.coap_client.specs.Requests.{IsBlock, IsBodyBlock, IsPartOf}
 
 -- what holds of both
@@ -117,4 +117,5 @@ part_next e (Answer n szx) etag m own =
 -- after an answer to a part of the errand, what is asked next is a part of it
 pub next_is_part : (e : Errand) (part next : Part) (etag : List ℕ) (m : Message) → IsPartOf e part → next_of (length e.payload.now) part etag m ≡ Ask next → IsPartOf e next
 next_is_part e part next etag m own is =
-    subst (IsAskOf e) is (either (IsAskOf e) (is_success m.code) (by_part (length e.payload.now) part etag m) Refused (λ _. part_next e part etag m own) (λ _. tt))
+    subst (IsAskOf e) is (either (IsAskOf e) (is_understood m) (next_by_code (length e.payload.now) part etag m) Misfit
+    (λ _. either (IsAskOf e) (is_success m.code) (by_part (length e.payload.now) part etag m) Refused (λ _. part_next e part etag m own) (λ _. tt)) (λ _. tt))

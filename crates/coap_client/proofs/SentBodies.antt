@@ -1,9 +1,9 @@
 -- What is sent of a request's body before a fetch ends.
-use Rattle.std.proofs.Common.{◌≡◌, ℕ, ◌+◌, ◌*◌, ◌≤◌, ◌==◌, nat_lt, nat_le, bytes_eq, true, List, [], ◌∷◌, ◌++◌, length, take, Option, Some, None, refl, sym, ap, subst, ◌∙◌, arith}
+use Rattle.std.proofs.Common.{◌≡◌, inl, inr, ℕ, ◌%◌, ◌+◌, ◌*◌, ◌≤◌, ◌==◌, nat_lt, nat_le, bytes_eq, true, List, [], ◌∷◌, ◌++◌, length, take, Option, Some, None, refl, sym, ap, subst, ◌∙◌, arith}
 use Rattle.std.proofs.lemmas.Bool.{ltb-false}
 use Rattle.std.proofs.lemmas.List.{append-nil, take_all}
 use Rattle.std.proofs.Math.Seq.{take-add}
-use Rattle.coap_msg.specs.Wire.{Message}
+use Rattle.coap_msg.specs.Wire.{Message, message_bytes}
 use Rattle.coap_opts.specs.Values.{block_size, place_in}
 use Rattle.coap_opts.specs.declared.request.Method.{Method}
 use Rattle.coap_opts.specs.declared.request.Method.TheVariants.{Get, Post, Put, Delete}
@@ -12,11 +12,25 @@ use Rattle.coap_client.specs.declared.part.Part.{Part}
 use Rattle.coap_client.specs.declared.part.Part.TheVariants.{Whole, Body, Answer}
 use Rattle.coap_client.specs.declared.reply.Next.{Next}
 use Rattle.coap_client.specs.declared.reply.Next.TheVariants as next
-use Rattle.coap_client.specs.Fetching.{State, Out, Ended, Outdated, Lost, after_reply, moved_on, state_after}
-use Rattle.coap_client.specs.Joined.{body_sent, body_of_request}
-use Rattle.coap_client.specs.Parts.{block_of, first_part, has_more}
-use Rattle.coap_client.specs.Replies.{block1_of, block2_of, by_more, by_option, by_part, etag_of, is_continue, is_final, fits_place, is_success, next_block, next_number, next_of_answer, next_of_body, next_of_whole, next_size}
+use Rattle.std.specs.List.{All}
+use Rattle.std.proofs.lemmas.List.Elements.{All-nil, All-cons}
+use Rattle.coap_client.specs.Requests.{part_request}
+use Rattle.coap_client.specs.Fetching.{State, Out, Ended, Outdated, Lost, AnswersIn, AreReplies, IsFetched, LeadsTo, after_reply, moved_on, state_after, taken_ids}
+use Rattle.coap_client.specs.Joined.{SendsWhole, payloads}
+use Rattle.coap_client.specs.Parts.{block_of, first_part, has_more, part_payload}
+use Rattle.coap_client.specs.Replies.{block1_of, block2_of, by_more, by_option, by_part, etag_of, is_continue, is_final, fits_place, is_success, is_understood, next_block, next_by_code, next_number, next_of_answer, next_of_body, next_of_whole, next_size}
 use Rattle.coap_client.proofs.NextParts.{begins_alike, either, next_smaller}
+
+-- what the request that is out brings of the body: one that asks for a further block of the answer brings nothing new
+abbrev pub body_of_request : Errand → State → List ℕ
+body_of_request e (Out (Answer n szx) body etag) = []
+body_of_request e (Out part body etag) = part_payload e.method e.payload.now part
+body_of_request e other = []
+
+-- what the requests that these replies answer brought of the body, in order
+abbrev pub body_sent : Errand → List Message → List ℕ
+body_sent e [] = []
+body_sent e (m ∷ ms) = body_sent e ms ++ body_of_request e (state_after e ms)
 
 -- what has been sent in a state: nothing, the blocks before the one that is out, or all
 abbrev pub HasSent : Errand → List ℕ → State → Type 0
@@ -93,9 +107,12 @@ moved_has e sent body etag m next.Misfit g = tt
 reply_has : (e : Errand) (sent : List ℕ) (m : Message) (s : State) → HasSent e sent s → HasSent e (sent ++ body_of_request e s) (after_reply (length e.payload.now) m s)
 reply_has e sent m (Out part body etag) so =
     let after = sent ++ body_of_request e (Out part body etag) in
-    either (λ n. HasSent e after (moved_on n body etag m)) (is_success m.code) (by_part (length e.payload.now) part etag m) next.Refused
+    let P : Next → Type 0 = λ n. HasSent e after (moved_on n body etag m) in
+    either P (is_understood m) (next_by_code (length e.payload.now) part etag m) next.Misfit
+    (λ _. either P (is_success m.code) (by_part (length e.payload.now) part etag m) next.Refused
     (λ _. moved_has e after body etag m _ (part_goes e part sent body etag m so))
-    (λ failed success. absurd (cc (failed, success)))
+    (λ failed success. absurd (cc (failed, success))))
+    (λ _. tt)
 reply_has e sent m (Ended code body) so = λ success. append-nil sent ∙ so success
 reply_has e sent m Outdated so = tt
 reply_has e sent m Lost so = tt
@@ -112,3 +129,54 @@ has_sent e (m ∷ ms) = reply_has e (body_sent e ms) m (state_after e ms) (has_s
 
 pub whole_sent : (e : Errand) (ms : List Message) (code : ℕ) (answer : List ℕ) → state_after e ms ≡ Ended code answer → is_success code ≡ true → body_sent e ms ≡ e.payload.now
 whole_sent e ms code answer ends success = subst (HasSent e (body_sent e ms)) ends (has_sent e ms) success
+
+-- the requests that brought the body
+abbrev pub with_request : Errand → ℕ → State → List Message → List Message
+with_request e id (Out (Answer n szx) body etag) rs = rs
+with_request e id (Out part body etag) rs = part_request e part id ∷ rs
+with_request e id other rs = rs
+
+abbrev pub requests_of : Errand → ℕ → List Message → List Message
+requests_of e first [] = []
+requests_of e first (m ∷ ms) = with_request e ((first + length ms) % 65536) (state_after e ms) (requests_of e first ms)
+
+one_joins : (e : Errand) (id : ℕ) (s : State) (rs : List Message) → payloads (with_request e id s rs) ≡ payloads rs ++ body_of_request e s
+one_joins e id (Out Whole body etag) rs = refl
+one_joins e id (Out (Body n szx) body etag) rs = refl
+one_joins e id (Out (Answer n szx) body etag) rs = sym (append-nil (payloads rs))
+one_joins e id (Ended code body) rs = sym (append-nil (payloads rs))
+one_joins e id Outdated rs = sym (append-nil (payloads rs))
+one_joins e id Lost rs = sym (append-nil (payloads rs))
+
+requests_join : (e : Errand) (first : ℕ) (ms : List Message) → payloads (requests_of e first ms) ≡ body_sent e ms
+requests_join e first [] = refl
+requests_join e first (m ∷ ms) =
+    one_joins e _ (state_after e ms) (requests_of e first ms) ∙ ap (λ x. x ++ body_of_request e (state_after e ms)) (requests_join e first ms)
+
+one_went : (went came : List ℕ → Type 0) (e : Errand) (id : ℕ) (earlier : List ℕ) (s : State) (m : Message) (rs : List Message) →
+    AnswersIn went came e id earlier s m → All (λ r. went (message_bytes r)) rs → All (λ r. went (message_bytes r)) (with_request e id s rs)
+one_went went came e id earlier (Out Whole body etag) m rs a all = All-cons (λ r. went (message_bytes r)) _ rs a.is.asked.asked all
+one_went went came e id earlier (Out (Body n szx) body etag) m rs a all = All-cons (λ r. went (message_bytes r)) _ rs a.is.asked.asked all
+one_went went came e id earlier (Out (Answer n szx) body etag) m rs a all = all
+one_went went came e id earlier (Ended code body) m rs a all = all
+one_went went came e id earlier Outdated m rs a all = all
+one_went went came e id earlier Lost m rs a all = all
+
+requests_went : (went came : List ℕ → Type 0) (e : Errand) (first : ℕ) (known : List ℕ) (ms : List Message) → AreReplies went came e first known ms →
+    All (λ r. went (message_bytes r)) (requests_of e first ms)
+requests_went went came e first known [] are = All-nil (λ r. went (message_bytes r))
+requests_went went came e first known (m ∷ ms) are =
+    one_went went came e ((first + length ms) % 65536) (taken_ids known ms) (state_after e ms) m (requests_of e first ms) are.1 (requests_went went came e first known ms are.0)
+
+-- a fetch that ended by a success has sent the whole body
+pub went_whole : (went came : List ℕ → Type 0) (e : Errand) (first : ℕ) (known : List ℕ) (code : ℕ) (answer : List ℕ) →
+    LeadsTo went came e first known (Ended code answer) → SendsWhole went e code
+went_whole went came e first known code answer l success = record {
+  requests = requests_of e first l.replies;
+  each = requests_went went came e first known l.replies l.are;
+  joined = requests_join e first l.replies ∙ whole_sent e l.replies code answer l.leads success;
+}
+
+pub fetched_whole : (went came : List ℕ → Type 0) (e : Errand) (first code : ℕ) (answer : List ℕ) → IsFetched went came e first code answer → SendsWhole went e code
+fetched_whole went came e first code answer (inl l) = went_whole went came e first [] code answer l
+fetched_whole went came e first code answer (inr r) = went_whole went came e _ _ code answer r.again

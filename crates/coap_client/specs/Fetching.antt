@@ -13,7 +13,7 @@ use Rattle.coap_client.specs.declared.part.Part.TheVariants.{Answer}
 use Rattle.coap_client.specs.declared.reply.Next.{Next}
 use Rattle.coap_client.specs.declared.reply.Next.TheVariants as next
 use Rattle.coap_client.specs.Parts.{first_part}
-use Rattle.coap_client.specs.Heard.{IsAnsweredBy}
+use Rattle.coap_client.specs.Heard.{IsTakenResponse}
 use Rattle.coap_client.specs.Replies.{begins_exchange, etag_of, next_of}
 use Rattle.coap_client.specs.Requests.{part_request}
 
@@ -56,7 +56,7 @@ taken_ids known (m ∷ ms) = with_taken_id m (taken_ids known ms)
 -- a datagram came that spells the message, which answers the request of a part
 pub record IsAnswerTo (went came : List ℕ → Type 0) (e : Errand) (id : ℕ) (earlier : List ℕ) (part : Part) (m : Message) : Type 0 where
   pub bytes : List ℕ
-  pub is : IsAnsweredBy went came e.confirmable id earlier (message_bytes (part_request e part id)) bytes m
+  pub is : IsTakenResponse went came e.confirmable id earlier (message_bytes (part_request e part id)) bytes m
 
 -- the request that is out is answered by the message
 abbrev pub AnswersIn : (List ℕ → Type 0) → (List ℕ → Type 0) → Errand → ℕ → List ℕ → State → Message → Type 0

@@ -25,30 +25,35 @@ pub record IsSeparateTo (came : List ℕ → Type 0) (confirmable : Bool) (id : 
   pub new : is_taken earlier m.id ≡ false
   pub awaited : confirmable ≡ true → IsAcknowledged came id
 
--- the message answers the request of this id, where messages of these ids have answered others
+-- a response in the acknowledgement, which only a confirmable request has
+pub record IsReplyTo (confirmable : Bool) (id : ℕ) (m : Message) : Type 0 where
+  pub own : IsReply id m
+  pub asked : confirmable ≡ true
+
+-- the message answers the request of this id, where separate responses of these ids came before
 abbrev pub Responds : (List ℕ → Type 0) → Bool → ℕ → List ℕ → Message → Type 0
-Responds came confirmable id earlier m = IsReply id m ⊎ IsSeparateTo came confirmable id earlier m
+Responds came confirmable id earlier m = IsReplyTo confirmable id m ⊎ IsSeparateTo came confirmable id earlier m
 
 -- this request was sent, and a datagram came that spells the message, which answers it
-pub record IsAskedFor (went came : List ℕ → Type 0) (confirmable : Bool) (id : ℕ) (earlier request bytes : List ℕ) (m : Message) : Type 0 where
+pub record IsResponseTo (went came : List ℕ → Type 0) (confirmable : Bool) (id : ℕ) (earlier request bytes : List ℕ) (m : Message) : Type 0 where
   pub asked : went request
   pub came_is : came bytes
   pub read_is : reading_of bytes ≡ Ok m
   pub responds : Responds came confirmable id earlier m
 
 -- and the message was acknowledged where it asks for that (RFC 7252, 4.2)
-pub record IsAnsweredBy (went came : List ℕ → Type 0) (confirmable : Bool) (id : ℕ) (earlier request bytes : List ℕ) (m : Message) : Type 0 where
-  pub asked : IsAskedFor went came confirmable id earlier request bytes m
+pub record IsTakenResponse (went came : List ℕ → Type 0) (confirmable : Bool) (id : ℕ) (earlier request bytes : List ℕ) (m : Message) : Type 0 where
+  pub asked : IsResponseTo went came confirmable id earlier request bytes m
   pub acknowledged : m.kind ≡ Confirmable → went (message_bytes (acknowledgement m.id))
 
--- the bytes answer a request
-pub record IsAsked (went came : List ℕ → Type 0) (r : Request) (bytes : List ℕ) : Type 0 where
+-- the bytes spell a response to a request, and one that was acknowledged
+pub record HasResponse (went came : List ℕ → Type 0) (r : Request) (bytes : List ℕ) : Type 0 where
   pub message : Message
-  pub is : IsAskedFor went came r.confirmable r.id r.earlier.now r.datagram.now.items bytes message
+  pub is : IsResponseTo went came r.confirmable r.id r.earlier.now r.datagram.now.items bytes message
 
-pub record IsAnswer (went came : List ℕ → Type 0) (r : Request) (bytes : List ℕ) : Type 0 where
+pub record HasTakenResponse (went came : List ℕ → Type 0) (r : Request) (bytes : List ℕ) : Type 0 where
   pub message : Message
-  pub is : IsAnsweredBy went came r.confirmable r.id r.earlier.now r.datagram.now.items bytes message
+  pub is : IsTakenResponse went came r.confirmable r.id r.earlier.now r.datagram.now.items bytes message
 
 -- a separate response that came before, or didn't
 pub record IsSeparateAmong (earlier : List ℕ) (before : Bool) (m : Message) : Type 0 where
@@ -56,20 +61,20 @@ pub record IsSeparateAmong (earlier : List ℕ) (before : Bool) (m : Message) : 
   pub before_is : is_taken earlier m.id ≡ before
 
 -- none of all
-pub record IsOther (id : ℕ) (m : Message) : Type 0 where
-  pub reply : IsReply id m → ⊥
+pub record IsOther (confirmable : Bool) (id : ℕ) (m : Message) : Type 0 where
+  pub reply : IsReplyTo confirmable id m → ⊥
   pub acknowledged : IsEmptyAcknowledgement id m → ⊥
   pub rejected : IsReset id m → ⊥
   pub separate : IsSeparate m → ⊥
 
 -- the request of this id is answered, acknowledged or rejected; or a response came in a message of its own, for the first time or again; or none of these
-abbrev pub IsHeardAs : ℕ → List ℕ → Message → Heard → Type 0
-IsHeardAs id earlier m Reply = IsReply id m
-IsHeardAs id earlier m Separate = IsSeparateAmong earlier false m
-IsHeardAs id earlier m Repeat = IsSeparateAmong earlier true m
-IsHeardAs id earlier m Acknowledged = IsEmptyAcknowledgement id m
-IsHeardAs id earlier m Rejected = IsReset id m
-IsHeardAs id earlier m Other = IsOther id m
+abbrev pub IsHeardAs : Request → Message → Heard → Type 0
+IsHeardAs r m Reply = IsReplyTo r.confirmable r.id m
+IsHeardAs r m Separate = IsSeparateAmong r.earlier.now false m
+IsHeardAs r m Repeat = IsSeparateAmong r.earlier.now true m
+IsHeardAs r m Acknowledged = IsEmptyAcknowledgement r.id m
+IsHeardAs r m Rejected = IsReset r.id m
+IsHeardAs r m Other = IsOther r.confirmable r.id m
 
 -- the datagram spells a message of this kind
 pub record IsReadAs (bytes : List ℕ) (P : Message → Type 0) : Type 0 where
@@ -78,19 +83,19 @@ pub record IsReadAs (bytes : List ℕ) (P : Message → Type 0) : Type 0 where
   pub holds : P message
 
 -- what a datagram is; one that spells no message is none of these
-abbrev pub Tells : ℕ → List ℕ → List ℕ → Heard → Type 0
-Tells id earlier bytes Other = (m : Message) → reading_of bytes ≡ Ok m → IsOther id m
-Tells id earlier bytes heard = IsReadAs bytes (λ m. IsHeardAs id earlier m heard)
+abbrev pub Tells : Request → List ℕ → Heard → Type 0
+Tells r bytes Other = (m : Message) → reading_of bytes ≡ Ok m → IsOther r.confirmable r.id m
+Tells r bytes heard = IsReadAs bytes (λ m. IsHeardAs r m heard)
 
 -- what came answers a request, in its acknowledgement, or where that is awaited in a message of its own
-abbrev pub IsAnswering : Request → Bool → Message → Type 0
-IsAnswering r awaited m = IsReply r.id m ⊎ ((awaited ≡ true) × IsSeparateAmong r.earlier.now false m)
+abbrev pub IsAwaited : Request → Bool → Message → Type 0
+IsAwaited r awaited m = IsReplyTo r.confirmable r.id m ⊎ ((awaited ≡ true) × IsSeparateAmong r.earlier.now false m)
 
 pub record IsHeard (came : List ℕ → Type 0) (r : Request) (awaited : Bool) (bytes : List ℕ) : Type 0 where
   pub message : Message
   pub came_is : came bytes
   pub read_is : reading_of bytes ≡ Ok message
-  pub answers : IsAnswering r awaited message
+  pub answers : IsAwaited r awaited message
 
 -- what listening comes to
 abbrev pub Hears : (List ℕ → Type 0) → Request → Bool → List ℕ → Listened → Type 0

@@ -1,24 +1,11 @@
 -- What a fetch sent of the request's body, and what it joined of the answer.
-use Rattle.std.specs.Prelude.{◌≡◌, ℕ, ◌*◌, List, [], ◌∷◌, ◌++◌, length, Option, Some, None}
+use Rattle.std.specs.Prelude.{◌≡◌, ℕ, ◌*◌, ◌≤◌, true, false, List, [], ◌∷◌, ◌++◌, length, Option, Some, None}
 use Rattle.std.specs.List.{All}
-use Rattle.coap_msg.specs.Wire.{Message}
+use Rattle.coap_msg.specs.Wire.{Message, message_bytes}
+use Rattle.coap_msg.specs.declared.code.TheConstants.Code as registered
 use Rattle.coap_opts.specs.Values.{block_size, place_in}
 use Rattle.coap_client.specs.declared.errand.Errand.{Errand}
-use Rattle.coap_client.specs.declared.part.Part.TheVariants.{Answer}
-use Rattle.coap_client.specs.Fetching.{State, Out, state_after}
-use Rattle.coap_client.specs.Parts.{part_payload}
-use Rattle.coap_client.specs.Replies.{block2_of, etag_of}
-
--- what the request that is out brings of the body: one that asks for a further block of the answer brings nothing new
-abbrev pub body_of_request : Errand → State → List ℕ
-body_of_request e (Out (Answer n szx) body etag) = []
-body_of_request e (Out part body etag) = part_payload e.method e.payload.now part
-body_of_request e other = []
-
--- what the requests that these replies answer body_of_request of the body, in order
-abbrev pub body_sent : Errand → List Message → List ℕ
-body_sent e [] = []
-body_sent e (m ∷ ms) = body_sent e ms ++ body_of_request e (state_after e ms)
+use Rattle.coap_client.specs.Replies.{block1_of, block2_of, etag_of, is_success}
 
 -- the payloads of these messages, of which the newest is the first, in order
 abbrev pub payloads : List Message → List ℕ
@@ -35,12 +22,36 @@ abbrev pub AreInOrder : List Message → Type 0
 AreInOrder [] = Unit {0}
 AreInOrder (m ∷ ms) = AreInOrder ms × BeginsAt (length (payloads ms)) (block2_of m)
 
--- the answer is what the last of these replies bring, joined, of one version (RFC 7959, 2.4)
-pub record IsOneAnswer (answer : List ℕ) (replies : List Message) : Type 0 where
-  pub blocks : List Message
+-- no block is behind this one
+abbrev pub IsLastBlock : Option (List ℕ) → Type 0
+IsLastBlock None = Unit {0}
+IsLastBlock (Some value) = (place_in value).more ≡ false
+
+-- the answer is what this reply and the last ones before it bring, joined: no block is behind it, each begins where the ones before it end, and all have one ETag, or none (RFC 7959, 2.4)
+pub record IsOneAnswer (answer : List ℕ) (m : Message) (replies : List Message) : Type 0 where
+  pub older : List Message
   pub before : List Message
-  pub last : replies ≡ blocks ++ before
-  pub joined : answer ≡ payloads blocks
-  pub in_order : AreInOrder blocks
-  pub etag : List ℕ
-  pub version : All (λ m. etag_of m ≡ etag) blocks
+  pub last : replies ≡ older ++ before
+  pub joined : answer ≡ payloads (m ∷ older)
+  pub whole : IsLastBlock (block2_of m)
+  pub in_order : AreInOrder (m ∷ older)
+  pub version : All (λ x. etag_of x ≡ etag_of m) older
+
+-- requests that were sent bring the whole body, in order
+pub record WentWhole (went : List ℕ → Type 0) (body : List ℕ) : Type 0 where
+  pub requests : List Message
+  pub each : All (λ r. went (message_bytes r)) requests
+  pub joined : payloads requests ≡ body
+
+-- where the fetch ended by a success, they do
+abbrev pub SendsWhole : (List ℕ → Type 0) → Errand → ℕ → Type 0
+SendsWhole went e code = is_success code ≡ true → WentWhole went e.payload.now
+
+-- a success says that block n was taken, which has others behind it: by a Block1 that names it and no greater size, or by 2.31 without one (RFC 7959, 2.3 and 2.9.1)
+abbrev pub NamesTaken : ℕ → ℕ → Message → Option (List ℕ) → Type 0
+NamesTaken n szx m None = m.code ≡ registered.CONTINUE.byte
+NamesTaken n szx m (Some value) = ((place_in value).number ≡ n) × ((place_in value).szx ≤ szx)
+
+pub record SaysTaken (n szx : ℕ) (m : Message) : Type 0 where
+  pub success : is_success m.code ≡ true
+  pub names : NamesTaken n szx m (block1_of m)

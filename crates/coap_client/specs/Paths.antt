@@ -6,7 +6,7 @@ use Rattle.std.specs.Borrow.{Bor}
 abbrev pub slash : ℕ
 slash = 47
 
--- a Uri-Path: 1 to 255 bytes (RFC 7252, 5.10), none of them a slash
+-- a Uri-Path of 1 to 255 bytes, none of them a slash; RFC 7252, 5.10, knows empty ones as well
 pub record IsSegment (s : List ℕ) : Type 0 where
   pub some : 0 < length s
   pub short : length s ≤ 255

@@ -1,6 +1,6 @@
 -- Which messages answer a request, and what an answer says of the next one.
-use Rattle.std.specs.Prelude.{◌≡◌, ℕ, ◌+◌, ◌-◌, ◌*◌, ◌/◌, ◌≤◌, ◌^◌, ◌==◌, ◌&&◌, not, Bool, true, false, nat_eq, nat_lt, nat_le, if◌then◌else◌, bytes_eq, List, [], ◌∷◌, length, Option, Some, None}
-use Rattle.std.specs.List.{list_any}
+use Rattle.std.specs.Prelude.{◌≡◌, ℕ, ◌+◌, ◌-◌, ◌*◌, ◌/◌, ◌≤◌, ◌^◌, ◌%◌, ◌==◌, ◌&&◌, ◌||◌, not, Bool, true, false, nat_eq, nat_lt, nat_le, if◌then◌else◌, bytes_eq, List, [], ◌∷◌, length, Option, Some, None}
+use Rattle.std.specs.List.{list_all, list_any}
 use Rattle.coap_msg.specs.Wire.{Message}
 use Rattle.coap_msg.specs.Values.{values_in}
 use Rattle.coap_msg.specs.declared.code.TheConstants.Code as registered
@@ -14,12 +14,16 @@ use Rattle.coap_client.specs.declared.reply.Next.{Next}
 use Rattle.coap_client.specs.declared.reply.Next.TheVariants.{Ask, Last, Refused, Stale, Misfit}
 use Rattle.coap_client.specs.Parts.{has_more, largest_szx}
 
+-- a response: class 2, 4 or 5 (RFC 7252, 5.9)
+abbrev pub is_response : ℕ → Bool
+is_response code = (code / 32 == 2) || ((code / 32 == 4) || (code / 32 == 5))
+
 -- a piggybacked response to the request of this id, which had no token (RFC 7252, 5.2.1)
 pub record IsReply (id : ℕ) (m : Message) : Type 0 where
   pub kind : m.kind ≡ Acknowledgement
   pub id_is : m.id ≡ id
   pub token : m.token ≡ []
-  pub response : 64 ≤ m.code
+  pub response : is_response m.code ≡ true
 
 -- an empty acknowledgement of the request of this id: its response comes in a message of its own (RFC 7252, 5.2.2)
 pub record IsEmptyAcknowledgement (id : ℕ) (m : Message) : Type 0 where
@@ -37,7 +41,7 @@ begins_exchange other = false
 pub record IsSeparate (m : Message) : Type 0 where
   pub kind : begins_exchange m.kind ≡ true
   pub token : m.token ≡ []
-  pub response : 64 ≤ m.code
+  pub response : is_response m.code ≡ true
 
 -- a message with one of these ids has come before
 abbrev pub is_taken : List ℕ → ℕ → Bool
@@ -47,6 +51,19 @@ is_taken earlier id = list_any (λ y. nat_eq y id) earlier
 pub record IsReset (id : ℕ) (m : Message) : Type 0 where
   pub kind : m.kind ≡ Reset
   pub id_is : m.id ≡ id
+  pub empty : m.code ≡ 0
+
+-- an option that may be ignored where it isn't known, or one of the two critical ones that a client knows of responses (RFC 7252, 5.4.1 and 5.4.6)
+abbrev pub is_known : ℕ → Bool
+is_known number = (number % 2 == 0) || ((number == option.BLOCK1) || (number == option.BLOCK2))
+
+-- at most one option of this number
+abbrev pub is_single : ℕ → Message → Bool
+is_single number m = nat_le (length (values_in number m.options)) 1
+
+-- no critical option is unknown, or stands there again (RFC 7252, 5.4.1 and 5.4.5)
+abbrev pub is_understood : Message → Bool
+is_understood m = list_all (λ o. is_known o.0) m.options && (is_single option.BLOCK1 m && is_single option.BLOCK2 m)
 
 -- the class of success (RFC 7252, 5.9.1)
 abbrev pub is_success : ℕ → Bool
@@ -144,6 +161,9 @@ by_part count (Answer n szx) etag m = next_of_further n szx etag m
 by_part count (Body n szx) etag m =
     if has_more count n szx then next_of_body n szx (next_size n szx (is_continue m) (block1_of m)) else next_of_whole n m
 
+abbrev pub next_by_code : ℕ → Part → List ℕ → Message → Next
+next_by_code count part etag m = if is_success m.code then by_part count part etag m else Refused
+
 -- what comes after the answer to a part, where the body has so many bytes, and the blocks of the answer so far are of this version
 abbrev pub next_of : ℕ → Part → List ℕ → Message → Next
-next_of count part etag m = if is_success m.code then by_part count part etag m else Refused
+next_of count part etag m = if is_understood m then next_by_code count part etag m else Misfit

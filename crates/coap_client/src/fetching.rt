@@ -2,6 +2,7 @@
 ghost use Rattle.std.specs.Prelude.{◌≡◌, ◌+◌, ◌++◌, ◌%◌, [], IfOk, OnOk, if◌then◌else◌, length};
 ghost use Rattle.coap_client.specs.Requests.{IsPartOf};
 ghost use Rattle.coap_client.specs.Replies.{begins_exchange};
+ghost use Rattle.coap_client.specs.Joined.{SendsWhole};
 ghost use Rattle.coap_client.specs.Fetching.{IsAttempt, IsFetched, IsSameAnswer, IsStep, Out, going_on, with_taken_id};
 
 use crate::errand::Errand;
@@ -31,8 +32,9 @@ pub enum Fault {
     /// The server answered a request by a Reset message (RFC 7252, 4.2).
     #[error("the request was rejected")]
     Rejected,
-    /// A success doesn't say that the block of the body was taken that it answers, or doesn't bring the block of the answer that was asked for.
-    #[error("the answer doesn't fit the block that was sent or asked for")]
+    /// A success doesn't say that the block of the body was taken that it answers, or doesn't bring the block of the answer that was asked for; or an answer has a critical
+    /// option that a client doesn't know.
+    #[error("the answer doesn't fit the block that was sent or asked for, or has a critical option that isn't known")]
     Misfit,
     /// A further block is of another version of the answer than the blocks before it, for the second time, or where the request can't be made again.
     #[error("the answer changed while its blocks were fetched")]
@@ -45,7 +47,7 @@ pub enum Fault {
     Memory(#[from] AllocError),
 }
 
-/// What a fetch body_of_request.
+/// What a fetch brings.
 #[derive(Drop)]
 pub struct Fetched {
     /// The code of the last answer.
@@ -59,7 +61,7 @@ pub struct Fetched {
 pub enum Attempt {
     /// The answer.
     Ended(Fetched),
-    /// The answer changed while its blocks were fetched: the next request's id, and the ids of the messages that answered so far.
+    /// The answer changed while its blocks were fetched: the next request's id, and the ids of the separate responses so far.
     Outdated(u16, Vec<u16>),
 }
 
@@ -76,7 +78,8 @@ pub fn fetch<P: Peer>(
     errand: &Errand<'_>,
     first_id: u16,
 ) -> Result<Fetched, Fault>
-    ensures { IfOk result (λ f. IsFetched P.went P.came errand.now first_id f.code.byte f.body.items) }
+    ensures fetched { IfOk result (λ f. IsFetched P.went P.came errand.now first_id f.code.byte f.body.items) }
+    ensures whole { IfOk result (λ f. SendsWhole P.went errand.now f.code.byte) }
 {
     match fetch_once(alloc, peer, errand, first_id, Vec::new(alloc))? {
         Attempt::Ended(fetched) => Ok(fetched),
@@ -143,7 +146,7 @@ pub enum Step {
     Outdated,
 }
 
-// A fetch under way: the request that is out, what is there of the answer, with its ETag, and the ids of the messages that body_of_request answers.
+// A fetch under way: the request that is out, what is there of the answer, with its ETag, and the ids of the separate responses so far.
 #[derive(Drop)]
 struct Course {
     id: u16,

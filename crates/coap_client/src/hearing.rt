@@ -4,7 +4,7 @@ ghost use Rattle.coap_msg.specs.Wire.{message_bytes};
 ghost use Rattle.coap_msg.specs.Reading.{reading_of};
 ghost use Rattle.coap_msg.specs.Wire as wire;
 ghost use Rattle.coap_msg.specs.declared.types.MessageType.TheVariants.{Confirmable};
-ghost use Rattle.coap_client.specs.Heard.{Hears, IsAnswer, IsAsked, IsHeard, IsHeardAs, Tells};
+ghost use Rattle.coap_client.specs.Heard.{Hears, HasTakenResponse, HasResponse, IsHeard, IsHeardAs, Tells};
 ghost use Rattle.coap_client.specs.Replies.{is_taken};
 ghost use Rattle.coap_client.specs.Requests.{acknowledgement};
 
@@ -29,7 +29,7 @@ pub struct Request<'a> {
     pub datagram: &'a Datagram,
     pub id: u16,
     pub confirmable: bool,
-    /// The ids of the messages that answered other requests.
+    /// The ids of the separate responses so far: to other requests.
     pub earlier: &'a [u16],
 }
 
@@ -67,7 +67,7 @@ pub enum Listened {
 /// # Errors
 /// No answer came, the request was rejected, or sending or receiving failed.
 pub fn ask<P: Peer>(peer: &mut P, request: &Request<'_>, buffer: &mut [u8]) -> Result<usize, Fault>
-    ensures { IfOk result (λ count. (count ≤ length buffer.new) × IsAnswer P.went P.came request.now (take count buffer.new)) }
+    ensures { IfOk result (λ count. (count ≤ length buffer.new) × HasTakenResponse P.went P.came request.now (take count buffer.new)) }
 {
     let count = if request.confirmable {
         ask_again(peer, request, buffer)?
@@ -84,7 +84,7 @@ fn ask_again<P: Peer>(
     request: &Request<'_>,
     buffer: &mut [u8],
 ) -> Result<usize, Fault>
-    ensures { IfOk result (λ count. (count ≤ length buffer.new) × IsAsked P.went P.came request.now (take count buffer.new)) }
+    ensures { IfOk result (λ count. (count ≤ length buffer.new) × HasResponse P.went P.came request.now (take count buffer.new)) }
 {
     for seconds in WAITS {
         send(peer, request, seconds)?;
@@ -103,7 +103,7 @@ fn ask_again<P: Peer>(
 // Asks by a non-confirmable request.
 fn ask_once<P: Peer>(peer: &mut P, request: &Request<'_>, buffer: &mut [u8]) -> Result<usize, Fault>
     requires { request.now.confirmable ≡ false }
-    ensures { IfOk result (λ count. (count ≤ length buffer.new) × IsAsked P.went P.came request.now (take count buffer.new)) }
+    ensures { IfOk result (λ count. (count ≤ length buffer.new) × HasResponse P.went P.came request.now (take count buffer.new)) }
 {
     send(peer, request, NON_WAIT)?;
     await_separate(peer, request, buffer)
@@ -159,7 +159,7 @@ fn listen<P: Peer>(
 
 // What a datagram is to a request.
 fn hear_datagram(request: &Request<'_>, bytes: &[u8]) -> Heard
-    ensures { Tells request.now.id request.now.earlier.now bytes.now result }
+    ensures { Tells request.now bytes.now result }
 {
     match read(bytes) {
         Ok(message) => hear_message(request, &message),
@@ -168,9 +168,9 @@ fn hear_datagram(request: &Request<'_>, bytes: &[u8]) -> Heard
 }
 
 fn hear_message(request: &Request<'_>, message: &Message<'_>) -> Heard
-    ensures { IsHeardAs request.now.id request.now.earlier.now message.now result }
+    ensures { IsHeardAs request.now message.now result }
 {
-    if is_reply(request.id, message) {
+    if request.confirmable && is_reply(request.id, message) {
         Heard::Reply
     } else if is_empty_acknowledgement(request.id, message) {
         Heard::Acknowledged

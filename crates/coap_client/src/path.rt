@@ -4,7 +4,7 @@ ghost use Rattle.std.specs.List.{All};
 ghost use Rattle.coap_client.specs.Paths.{HasNoSlash, IsFirstSegment, IsSlashed, IsSegment, slices_in, slash};
 ghost use Rattle.coap_client.specs.PathErrors.{IsUnfit, TellsNoPath};
 
-use std::alloc::{AllocError, Global};
+use std::alloc::Global;
 use thiserror::Error;
 
 /// The most bytes of a segment (RFC 7252, 5.10).
@@ -32,17 +32,6 @@ pub enum PathError {
     /// There was no memory for it.
     #[error("out of memory")]
     NoMemory,
-}
-
-impl From<AllocError> for PathError {
-    ghost use Rattle.std.specs.Prelude.{◌≡◌};
-    ghost use Rattle.coap_client.specs.declared.path.PathError.TheVariants.{NoMemory};
-
-    ghost from_gives = { λ _ error. error ≡ NoMemory };
-
-    fn from(_: AllocError) -> PathError {
-        PathError::NoMemory
-    }
 }
 
 impl<'a> Path<'a> {

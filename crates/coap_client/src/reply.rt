@@ -1,5 +1,6 @@
 //! Replies: which messages answer a request, and what comes after the answer.
-ghost use Rattle.std.specs.Prelude.{◌≡◌, ◌≤◌, ◌↔◌, IfSome, IsTrue, Some, [], length};
+ghost use Rattle.std.specs.Prelude.{◌≡◌, ◌≤◌, ◌↔◌, IfSome, IsTrue, Some, [], length, true};
+ghost use Rattle.std.specs.List.{list_all};
 ghost use Rattle.coap_client.specs.Requests.{IsBlock, IsPartOf};
 ghost use Rattle.coap_client.specs.Replies.{IsEmptyAcknowledgement, IsReply, IsReset, IsSeparate};
 ghost use Rattle.coap_client.specs.Replies as spec;
@@ -10,11 +11,14 @@ use coap_msg::{Code, Message, MessageType};
 use coap_opts::Block;
 use coap_opts::number::{BLOCK1, BLOCK2, ETAG};
 
-/// The least code of a response (RFC 7252, 12.1).
-const RESPONSE: u8 = 0x40;
-
 /// The class of the codes of success (RFC 7252, 5.9.1).
 const SUCCESS: u8 = 2;
+
+/// The class of the codes of errors of the client (RFC 7252, 5.9.2).
+const CLIENT_ERROR: u8 = 4;
+
+/// The class of the codes of errors of the server (RFC 7252, 5.9.3).
+const SERVER_ERROR: u8 = 5;
 
 /// How many blocks can be told apart.
 const BLOCKS: u32 = 1 << 20;
@@ -62,9 +66,13 @@ pub fn is_separate(message: &Message<'_>) -> bool
 
 // Whether a message has the code of a response, and no token.
 fn is_response(message: &Message<'_>) -> bool
-    ensures { IsTrue result ↔ ((message.now.token ≡ []) × (64 ≤ message.now.code)) }
+    ensures { IsTrue result ↔ ((message.now.token ≡ []) × (spec.is_response message.now.code ≡ true)) }
 {
-    message.token().is_empty() && message.code().byte >= RESPONSE
+    message.token().is_empty()
+        && matches!(
+            message.code().class(),
+            SUCCESS | CLIENT_ERROR | SERVER_ERROR
+        )
 }
 
 /// Whether messages of this type begin an exchange: they are confirmable, or non-confirmable.
@@ -81,7 +89,7 @@ pub fn begins_exchange(kind: MessageType) -> bool
 pub fn is_reset(id: u16, message: &Message<'_>) -> bool
     ensures { IsTrue result ↔ IsReset id message.now }
 {
-    message.kind() == MessageType::Reset && message.id() == id
+    message.kind() == MessageType::Reset && message.id() == id && message.code() == Code::EMPTY
 }
 
 /// What comes after this answer to a part, where the blocks of the answer so far have this ETag.
@@ -89,6 +97,9 @@ pub fn next_of(errand: &Errand<'_>, part: Part, etag: &[u8], message: &Message<'
     requires { IsPartOf errand.now part }
     ensures { result ≡ spec.next_of (length errand.now.payload.now) part etag.now message.now }
 {
+    if !is_understood(message) {
+        return Next::Misfit;
+    }
     if message.code().class() != SUCCESS {
         return Next::Refused;
     }
@@ -113,6 +124,38 @@ pub fn etag_of<'a>(message: &Message<'a>) -> &'a [u8]
         Some(value) => value,
         None => &[],
     }
+}
+
+// Whether no critical option is unknown, or stands there again.
+fn is_understood(message: &Message<'_>) -> bool
+    ensures { result ≡ spec.is_understood message.now }
+{
+    are_known(message) && is_single(BLOCK1, message) && is_single(BLOCK2, message)
+}
+
+fn are_known(message: &Message<'_>) -> bool
+    ensures { result ≡ list_all (λ o. spec.is_known o.0) message.now.options }
+{
+    for (number, _) in message.options() {
+        if !is_known(number) {
+            return false;
+        }
+    }
+    true
+}
+
+// Whether an option may be ignored where it isn't known, or is one of the critical ones that a client knows.
+fn is_known(number: u16) -> bool
+    ensures { result ≡ spec.is_known number }
+{
+    number % 2 == 0 || number == BLOCK1 || number == BLOCK2
+}
+
+fn is_single(number: u16, message: &Message<'_>) -> bool
+    ensures { result ≡ spec.is_single number message.now }
+{
+    let mut values = message.values(number);
+    values.next().is_none() || values.next().is_none()
 }
 
 // Whether the body is taken so far, and more of it is to come.

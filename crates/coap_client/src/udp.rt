@@ -5,7 +5,7 @@ use crate::peer::Peer;
 use coap_msg::Datagram;
 use std::io;
 use std::io::ErrorKind;
-use std::net::{Ipv4Addr, Net, SocketAddrV4, UdpSocket};
+use std::net::{Ipv4Addr, Net, SocketAddr, SocketAddrV4, UdpSocket};
 use std::time::{Clock, Duration, Instant};
 
 /// The server at an address and a port, as a socket of the client's own has it: that is connected to it, so that it tells where nobody
@@ -14,7 +14,7 @@ use std::time::{Clock, Duration, Instant};
 pub struct Server<'a, C: Clock> {
     clock: &'a C,
     socket: UdpSocket,
-    _spare: [UdpSocket; 3],
+    address: SocketAddr,
     until: Instant,
 }
 
@@ -24,26 +24,24 @@ impl<'a, C: Clock> Server<'a, C> {
     /// # Errors
     /// There is no socket, or the clock can't be read.
     pub fn at<R: Net>(net: &R, clock: &'a C, address: SocketAddrV4) -> io::Result<Server<'a, C>> {
-        // Where a standard stream is closed, its descriptor goes to what is opened next. These three take such descriptors: what is
-        // printed must not go to a socket that is connected to the server.
-        let spare = [any_port(net)?, any_port(net)?, any_port(net)?];
-        let socket = any_port(net)?;
+        let socket = UdpSocket::bind(net, SocketAddrV4::new(Ipv4Addr::UNSPECIFIED, 0))?;
         socket.connect(address)?;
         Ok(Server {
             clock,
             socket,
-            _spare: spare,
+            address: SocketAddr::V4(address),
             until: Instant::now(clock)?,
         })
     }
 
-    // Waits for a datagram while the wait lasts: how many bytes it is.
+    // Waits for a datagram while the wait lasts: how many bytes it is. One that came before the socket was connected may be another's.
     fn receive_once(&self, left: Duration, buffer: &mut [u8]) -> io::Result<Option<usize>>
         ensures { IfOk result (λ r. IfSome r (λ count. count ≤ length buffer.new)) }
     {
         self.socket.set_read_timeout(Some(left))?;
-        match self.socket.recv(buffer) {
-            Ok(count) => Ok(Some(count)),
+        match self.socket.recv_from(buffer) {
+            Ok((count, from)) if from == self.address => Ok(Some(count)),
+            Ok(_) => Ok(None),
             Err(error) if is_over(&error) => Ok(None),
             Err(error) => Err(error),
         }
@@ -74,11 +72,6 @@ impl<'a, C: Clock> Peer for Server<'a, C> {
         }
         Ok(None)
     }
-}
-
-// A socket at a port that the system chooses, of any of this host's addresses.
-fn any_port<R: Net>(net: &R) -> io::Result<UdpSocket> {
-    UdpSocket::bind(net, SocketAddrV4::new(Ipv4Addr::UNSPECIFIED, 0))
 }
 
 // Whether an error of receiving says that nothing came in time.

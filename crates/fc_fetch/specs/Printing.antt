@@ -2,17 +2,17 @@
 use Rattle.std.specs.Prelude.{◌≡◌, ℕ, ◌≤◌, ◌==◌, ◌&&◌, ◌||◌, not, nat_le, Bool, true, false, if◌then◌else◌, List, Option, Some, None}
 use Rattle.std.specs.Borrow.{Bor}
 use Rattle.std.specs.List.{list_all}
-use Rattle.std.specs.Str.{is_utf8}
+use Rattle.std.specs.Str.{chars, is_utf8}
 use Rattle.hex.specs.Hex.{encode_lower}
 use Rattle.fc_fetch.specs.declared.printing.Shown.{Shown}
 use Rattle.fc_fetch.specs.declared.printing.Shown.TheVariants.{Hex, Text}
 
--- no byte of a control character, but a tab or a line feed
+-- no control character (Unicode, general category Cc), but a tab or a line feed
 abbrev pub is_plain : ℕ → Bool
-is_plain b = (b == 9) || ((b == 10) || (nat_le 32 b && not (b == 127)))
+is_plain c = (c == 9) || ((c == 10) || (nat_le 32 c && not (nat_le 127 c && nat_le c 159)))
 
 abbrev pub is_text : List ℕ → Bool
-is_text bytes = list_all is_plain bytes && is_utf8 bytes
+is_text bytes = is_utf8 bytes && list_all is_plain (chars bytes)
 
 -- text as it is, where it is asked for, and all else in hex
 abbrev pub shown_bytes : Shown → List ℕ → List ℕ

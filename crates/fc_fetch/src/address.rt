@@ -25,16 +25,16 @@ pub enum AddressError {
     #[error("`--port P` is missing, which a path needs; or give a URI: coap://127.0.0.1:5683/r/1")]
     NoPort,
     /// A URI, which says its port, and a port besides.
-    #[error("a URI says its own port: leave `--port` out")]
+    #[error("`--port` goes with a path: a URI says its port itself, or means 5683")]
     TwoPorts,
     /// No URI, or one of another scheme.
-    #[error("this is no URI as coap://127.0.0.1:5683/r/1, nor a path as /r/1")]
+    #[error("this is no URI of the scheme coap, as coap://127.0.0.1:5683/r/1, with a port below 65536")]
     NoUri,
     /// A user, a password or a fragment, which coap URIs don't have.
     #[error("a coap URI has neither a user nor a fragment (`#`)")]
     Parts,
     /// A host that isn't an IPv4 address.
-    #[error("the host is to be an IPv4 address, as 127.0.0.1, or localhost: names aren't looked up")]
+    #[error("the host is to be an IPv4 address, as 127.0.0.1, or localhost; other names aren't looked up")]
     Host,
     /// An escaped slash in a path, or an escaped ampersand in a query.
     #[error("%2F in a path and %26 in a query can't be sent")]

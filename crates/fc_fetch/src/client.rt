@@ -46,7 +46,7 @@ enum Stop<'a> {
     Path(#[from] PathError),
     #[error("an argument of the query has more than 255 bytes")]
     Argument,
-    #[error("the request has no room in a datagram: the path, the query and what goes of the body at once have at most 1262 bytes, with 5 more for each segment and argument")]
+    #[error("the request has no room in a datagram: the path, the query and the body have at most 1262 bytes together, with 5 more for each segment and argument; only a PUT's body goes in blocks, 1024 bytes at once")]
     Room,
     #[error("{0}: {1}")]
     Input(&'a str, io::Error),

@@ -1,6 +1,7 @@
 //! How an answer is printed.
 ghost use Rattle.std.specs.Prelude.{◌≡◌, MatchOption, OnOk, false, true};
 ghost use Rattle.std.specs.List.{list_all};
+ghost use Rattle.std.specs.Str.{chars};
 ghost use Rattle.std.specs.Io.KnownBytes.{Appends};
 ghost use Rattle.fc_fetch.specs.Fetching.{answer_text};
 ghost use Rattle.fc_fetch.specs.Printing as spec;
@@ -16,7 +17,7 @@ use thiserror::Error;
 pub enum Shown {
     /// In hex.
     Hex,
-    /// As they are, where they are text without control characters but tabs and line feeds; else in hex.
+    /// As they are, where they are UTF-8 without control characters but tabs and line feeds; else in hex.
     Text,
 }
 
@@ -73,24 +74,24 @@ fn text_of(shown: Shown, bytes: &[u8]) -> Option<&str>
 fn plain_text(bytes: &[u8]) -> Option<&str>
     ensures { MatchOption result (spec.is_text bytes.now ≡ false) (λ text. (spec.is_text bytes.now ≡ true) × (text.now ≡ bytes.now)) }
 {
-    if !are_plain(bytes) {
+    let Ok(text) = str::from_utf8(bytes) else {
         return None;
-    }
-    match str::from_utf8(bytes) {
-        Ok(text) => Some(text),
-        Err(_) => None,
-    }
+    };
+    if are_plain(text) { Some(text) } else { None }
 }
 
-fn are_plain(bytes: &[u8]) -> bool
-    ensures { result ≡ list_all spec.is_plain bytes.now }
+fn are_plain(text: &str) -> bool
+    ensures { result ≡ list_all spec.is_plain (chars text.now) }
 {
-    bytes.iter().all(|byte| is_plain(*byte))
+    text.chars().all(is_plain)
 }
 
-// Whether a byte is none of a control character but those of tabs and line feeds.
-fn is_plain(byte: u8) -> bool
-    ensures { result ≡ spec.is_plain byte }
+// Whether a character is no control character (Unicode, general category Cc), but a tab or a line feed.
+fn is_plain(character: char) -> bool
+    ensures { result ≡ spec.is_plain character }
 {
-    byte == b'\t' || byte == b'\n' || (byte >= b' ' && byte != 0x7f)
+    match u32::from(character) {
+        0x09 | 0x0a => true,
+        code => code >= 0x20 && !(0x7f..=0x9f).contains(&code),
+    }
 }

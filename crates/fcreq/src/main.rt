@@ -18,9 +18,9 @@ use std::rt::Runtime;
 const ASKING: &str = "\
 TARGET is a path, a slash before each of its segments of 1 to 255 bytes, at `--port P` of
 127.0.0.1; or a URI, coap://HOST:PORT/path?query, whose host is an IPv4 address or localhost, and
-whose port is 5683 where it says none. The request's body is read from standard input, or from
-FILE, to its end. Printed are the answer's code and, where it has bytes, these in hex on a line
-of their own.
+whose port is 5683 where it says none. In a path `?` and `%` stand for themselves. The request's
+body is read from standard input, or from FILE, to its end. Printed are the answer's code and,
+where it has bytes, these in hex on a line of their own.
 
   fcreq --port 5683 put /p/1 -f program.img
   fcreq --text get coap://127.0.0.1:5683/.well-known/core < /dev/null

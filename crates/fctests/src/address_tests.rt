@@ -88,12 +88,13 @@ fn what_is_no_address_is_told(rt: HostRuntime) -> Result<(), Fail> {
 }
 
 // How bytes are shown, and what is printed of them.
-static SHOWN: [(Shown, &[u8], &[u8]); 6] = [
+static SHOWN: [(Shown, &[u8], &[u8]); 7] = [
     (Shown::Hex, b"on", b"2.05\n6f6e\n"),
     (Shown::Text, b"on", b"2.05\non\n"),
     (Shown::Text, b"a\n\xc3\xa9", b"2.05\na\n\xc3\xa9\n"),
     (Shown::Text, b"\x1b[0m", b"2.05\n1b5b306d\n"),
     (Shown::Text, b"\xff", b"2.05\nff\n"),
+    (Shown::Text, b"\xc2\x9b", b"2.05\nc29b\n"),
     (Shown::Text, b"", b"2.05\n"),
 ];
 
