@@ -1,1 +1,3 @@
 pub mod Tools
+pub mod Reads
+pub mod Diagnosed

@@ -1,11 +1,14 @@
 //! Assembling, listing and checking images: the bodies of `fcasm`.
 ghost use Rattle.std.specs.Prelude.{IfOk, string_bytes};
+ghost use Rattle.fc_tools.specs.Diagnosed.{IsDiagnosisOf, IsRejected};
 ghost use Rattle.fc_tools.specs.Tools.{IsImageOf, IsListingOf};
 
+use crate::diagnosis::{Cause, Diagnosis, Rejection, diagnose, read_code, read_head};
+use crate::explain::{explain, explain_line};
 use fc_asm::{AsmError, Mistake, assemble, disassemble};
 use fc_cli::status::{Status, tell};
-use fc_image::{HEADER_SIZE, Head, head};
-use fc_isa::{DecodeError, Fault, decode, encode};
+use fc_image::{HEADER_SIZE, Head};
+use fc_isa::{Fault, encode};
 use fc_verify::{Refusal, verify};
 use std::alloc::{AllocError, Global};
 use std::io;
@@ -29,7 +32,7 @@ pub enum ToolError {
     LongText,
     /// The image, or a number of its header, breaks a rule.
     #[error("{0}")]
-    Image(Fault),
+    Image(Diagnosis),
     /// Reading failed.
     #[error("standard input: {0}")]
     Input(io::Error),
@@ -59,24 +62,19 @@ impl From<AsmError> for ToolError {
     }
 }
 
-impl From<DecodeError> for ToolError {
-    fn from(error: DecodeError) -> Self {
-        match error {
-            DecodeError::Fault(fault) => ToolError::Image(fault),
-            DecodeError::NoMemory => ToolError::Memory(AllocError),
+impl From<Rejection> for ToolError {
+    fn from(rejection: Rejection) -> Self {
+        match rejection {
+            Rejection::Broken(diagnosis) => ToolError::Image(diagnosis),
+            Rejection::NoMemory => ToolError::Memory(AllocError),
         }
-    }
-}
-
-impl From<Fault> for ToolError {
-    fn from(fault: Fault) -> Self {
-        ToolError::Image(fault)
     }
 }
 
 /// Reads a text, assembles it, and writes the image with this size of the variables, in bytes, and this budget of steps.
 /// It ends `Done` where the image is written; `Refused` where the text has more than 1,048,576 bytes or a mistake, or else a number of the header is
-/// out of its limits; `Failed` where reading or writing failed, or there was no memory. `err` is told why.
+/// out of its limits; `Failed` where reading or writing failed, or there was no memory. `err` is told why: after a line with the mistake or
+/// the rule come those of `explain_line` or `explain`.
 pub fn image<R: Read, W: Write, E: Write>(
     alloc: Global,
     input: &mut R,
@@ -85,14 +83,19 @@ pub fn image<R: Read, W: Write, E: Write>(
     vars_size: u16,
     budget: u32,
 ) -> Status {
-    match write_image(alloc, input, out, vars_size, budget) {
+    let text = match read_text(alloc, input) {
+        Ok(text) => text,
+        Err(error) => return tell(err, &error, error.status()),
+    };
+    match write_image(alloc, &text, out, vars_size, budget) {
         Ok(()) => Status::Done,
-        Err(error) => tell(err, &error, error.status()),
+        Err(error) => tell_whole(alloc, err, &error, &text),
     }
 }
 
 /// Reads an image and writes its listing. It ends `Done` where the listing is written; `Refused` where the header or a
-/// slot breaks a rule; `Failed` where reading or writing failed, or there was no memory. `err` is told why.
+/// slot breaks a rule; `Failed` where reading or writing failed, or there was no memory. `err` is told why: after a line with the rule
+/// come those of `explain`.
 pub fn list<R: Read, W: Write, E: Write>(
     alloc: Global,
     input: &mut R,
@@ -101,13 +104,13 @@ pub fn list<R: Read, W: Write, E: Write>(
 ) -> Status {
     match write_listing(alloc, input, out) {
         Ok(()) => Status::Done,
-        Err(error) => tell(err, &error, error.status()),
+        Err(error) => tell_whole(alloc, err, &error, &[]),
     }
 }
 
 /// Reads an image, and says on `out` whether it is accepted: with its cost and budget, or the first rule that it breaks.
-/// It ends `Done` where it is accepted, `Refused` where it is not, and `Failed` where reading or writing failed, or there
-/// was no memory, which `err` is told.
+/// It ends `Done` where it is accepted, `Refused` where it is not, and then `err` is told why, by `explain`; and `Failed` where
+/// reading or writing failed, or there was no memory, which `err` is told.
 pub fn check<R: Read, W: Write, E: Write>(
     alloc: Global,
     input: &mut R,
@@ -115,8 +118,37 @@ pub fn check<R: Read, W: Write, E: Write>(
     err: &mut E,
 ) -> Status {
     match write_verdict(alloc, input, out) {
-        Ok(status) => status,
+        Ok(None) => Status::Done,
+        Ok(Some(diagnosis)) => tell_cause(alloc, err, &diagnosis),
         Err(error) => tell(err, &error, error.status()),
+    }
+}
+
+// Tells why there is no result, and what to change where a text or an image is refused.
+fn tell_whole<E: Write>(alloc: Global, err: &mut E, error: &ToolError, text: &[u8]) -> Status {
+    let told = tell(err, error, error.status());
+    match error {
+        ToolError::Text(AsmError::Faulty { mistake, line }) if told == Status::Refused => {
+            tell_line(err, text, *mistake, *line)
+        }
+        ToolError::Image(diagnosis) if told == Status::Refused => tell_cause(alloc, err, diagnosis),
+        _ => told,
+    }
+}
+
+// Tells why an image is refused.
+fn tell_cause<E: Write>(alloc: Global, err: &mut E, diagnosis: &Diagnosis) -> Status {
+    match explain(alloc, err, diagnosis) {
+        Ok(()) => Status::Refused,
+        Err(error) => tell(err, &error, Status::Failed),
+    }
+}
+
+// Tells what is wrong with a line of a text.
+fn tell_line<E: Write>(err: &mut E, text: &[u8], mistake: Mistake, line: usize) -> Status {
+    match explain_line(err, text, mistake, line) {
+        Ok(()) => Status::Refused,
+        Err(error) => tell(err, &error, Status::Failed),
     }
 }
 
@@ -145,15 +177,14 @@ fn write_whole<W: Write>(out: &mut W, bytes: &[u8]) -> Result<(), ToolError> {
     out.flush().map_err(ToolError::Output)
 }
 
-fn write_image<R: Read, W: Write>(
+fn write_image<W: Write>(
     alloc: Global,
-    input: &mut R,
+    text: &[u8],
     out: &mut W,
     vars_size: u16,
     budget: u32,
 ) -> Result<(), ToolError> {
-    let text = read_text(alloc, input)?;
-    let image = image_of(alloc, &text, vars_size, budget)?;
+    let image = image_of(alloc, text, vars_size, budget)?;
     write_whole(out, &image)
 }
 
@@ -167,26 +198,43 @@ fn write_listing<R: Read, W: Write>(
     write_whole(out, listing.as_bytes())
 }
 
+// The verdict on an image, and why it is refused.
 fn write_verdict<R: Read, W: Write>(
     alloc: Global,
     input: &mut R,
     out: &mut W,
-) -> Result<Status, ToolError> {
+) -> Result<Option<Diagnosis>, ToolError> {
     let image = read_image(alloc, input)?;
-    let status = match verify(alloc, &image) {
+    let refused = match verify(alloc, &image) {
         Ok(program) => {
             let (cost, budget) = (program.cost(), program.budget());
             writeln!(out, "accepted cost {cost} budget {budget}").map_err(ToolError::Output)?;
-            Status::Done
+            None
         }
-        Err(Refusal::Broken(fault)) => {
-            writeln!(out, "{fault}").map_err(ToolError::Output)?;
-            Status::Refused
+        Err(Refusal::Broken(_)) => {
+            let diagnosis = diagnosis_of(alloc, &image)?;
+            writeln!(out, "{diagnosis}").map_err(ToolError::Output)?;
+            Some(diagnosis)
         }
         Err(Refusal::NoMemory) => return Err(ToolError::Memory(AllocError)),
     };
     out.flush().map_err(ToolError::Output)?;
-    Ok(status)
+    Ok(refused)
+}
+
+/// Why an image is refused that breaks a rule.
+///
+/// # Errors
+/// Memory was refused.
+fn diagnosis_of(alloc: Global, image: &[u8]) -> Result<Diagnosis, AllocError>
+    requires { IsRejected image.now }
+    ensures { IfOk result (IsDiagnosisOf image.now) }
+{
+    match diagnose(alloc, image) {
+        Ok(()) => unreachable!(),
+        Err(Rejection::Broken(diagnosis)) => Ok(diagnosis),
+        Err(Rejection::NoMemory) => Err(AllocError),
+    }
 }
 
 /// The image of a text's program. A text that isn't UTF-8 has an unknown word in its first line.
@@ -210,12 +258,20 @@ pub fn image_of(
         }));
     };
     let program = assemble(alloc, text)?;
-    let head = Head::new(vars_size, program.len(), budget)?;
+    let head = Head::new(vars_size, program.len(), budget).map_err(header_error)?;
     let slots = encode(alloc, &program)?;
     let mut image = Vec::with_capacity(alloc, HEADER_SIZE)?;
     image.extend_from_slice(&head.bytes())?;
     image.extend_from_slice(&slots)?;
     Ok(image)
+}
+
+// A number of the header that is out of its limits.
+fn header_error(fault: Fault) -> ToolError {
+    ToolError::Image(Diagnosis {
+        fault,
+        cause: Cause::Header,
+    })
 }
 
 /// The listing of an image's program.
@@ -225,7 +281,7 @@ pub fn image_of(
 pub fn listing_of(alloc: Global, image: &[u8]) -> Result<String, ToolError>
     ensures { IfOk result (λ s. IsListingOf image.now (string_bytes s)) }
 {
-    let _head = head(image)?;
-    let program = decode(alloc, &image[HEADER_SIZE..])?;
+    let head = read_head(image)?;
+    let program = read_code(alloc, image, &head)?;
     Ok(disassemble(alloc, &program)?)
 }

@@ -55,6 +55,8 @@ mod play_tests;
 #[cfg(test)]
 mod post_tests;
 #[cfg(test)]
+mod refusal_tests;
+#[cfg(test)]
 mod replay_tests;
 #[cfg(test)]
 mod reply_tests;
