@@ -1,3 +1,4 @@
 pub mod Tools
 pub mod Reads
 pub mod Diagnosed
+pub mod Numbered

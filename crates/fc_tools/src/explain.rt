@@ -1,14 +1,13 @@
 //! Why an image or a text is refused, in a few lines.
-ghost use Rattle.std.specs.Prelude.{IfOk, IsTrue, ◌≡◌};
-
 use crate::diagnosis::{Cause, Diagnosis};
 use crate::known::Known;
+use crate::numbered::listed;
 use crate::reads::{Reads, registers_read};
 use crate::rules::{correction, mistake_text, remedy, rule_text};
-use fc_asm::{Mistake, disassemble};
+use fc_asm::Mistake;
 use fc_isa::{Insn, Reg};
 use fc_kinds::Regs;
-use std::alloc::{AllocError, Global};
+use std::alloc::Global;
 use std::io;
 use std::io::Write;
 
@@ -70,15 +69,6 @@ fn write_bytes<W: Write>(out: &mut W, slot: usize, bytes: &[u8; 8]) -> io::Resul
 fn write_insn<W: Write>(alloc: Global, out: &mut W, slot: usize, insn: Insn) -> io::Result<()> {
     let listed = listed(alloc, insn)?;
     writeln!(out, "slot {slot}: {}", listed.trim_end())
-}
-
-// An instruction as it is listed.
-fn listed(alloc: Global, insn: Insn) -> Result<String, AllocError> {
-    match insn {
-        Insn::WideSecond => String::from_str(alloc, "the second slot of the `lddw` before it"),
-        Insn::LoadWide { .. } => disassemble(alloc, &[insn, Insn::WideSecond]),
-        _ => disassemble(alloc, &[insn]),
-    }
 }
 
 fn write_cost<W: Write>(out: &mut W, cost: Option<u32>, budget: u32) -> io::Result<()> {

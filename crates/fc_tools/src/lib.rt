@@ -1,10 +1,12 @@
 //! What the assembler's program does with texts and images.
 #![tactic(auto)]
 
+pub mod budget;
 pub mod diagnosis;
 pub mod explain;
 pub mod known;
 pub mod laws;
+pub mod numbered;
 pub mod reads;
 pub mod rules;
 pub mod tools;

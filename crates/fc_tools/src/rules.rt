@@ -59,7 +59,7 @@ pub fn remedy(rule: Rule) -> &'static str {
         Rule::BackwardCall => "put a function behind all that call it: none calls itself",
         Rule::FrameDepth => "put the text of an inner function in place of its call",
         Rule::Cost =>
-            "give a greater budget, 65536 at most, or shorten the longest path; a function called twice costs twice",
+            "give a greater budget, 65536 at most, as `--budget auto` does, or shorten the longest path; a function called twice costs twice",
         Rule::Helper => "call one of the helpers 1 to 7",
         Rule::UnsetRegister =>
             "set it on each way that leads here; r1 to r5 are unset after each call, r0 and r6 to r9 at a function's start",

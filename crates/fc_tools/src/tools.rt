@@ -1,14 +1,24 @@
 //! Assembling, listing and checking images: the bodies of `fcasm`.
-ghost use Rattle.std.specs.Prelude.{IfOk, string_bytes};
+ghost use Rattle.std.specs.Prelude.{IfOk, IsTrue, None, string_bytes, ◌++◌, ◌≡◌};
+ghost use Rattle.fc_asm.specs.Assembled.{IsAssembled};
+ghost use Rattle.fc_asm.specs.Syntax.{lines_of};
+ghost use Rattle.fc_image.specs.Head.{head_bytes, limit_fault};
+ghost use Rattle.fc_image.specs.Paths.{IsLongest};
+ghost use Rattle.fc_isa.specs.Encoding.{encoded};
+ghost use Rattle.fc_isa.specs.Program.{is_program};
 ghost use Rattle.fc_tools.specs.Diagnosed.{IsDiagnosisOf, IsRejected};
-ghost use Rattle.fc_tools.specs.Tools.{IsImageOf, IsListingOf};
+ghost use Rattle.fc_tools.specs.Tools.{IsImageOf, IsListingOf, IsNumberedListingOf, IsPricedImageOf, program_head};
 
-use crate::diagnosis::{Cause, Diagnosis, Rejection, diagnose, read_code, read_head};
+use crate::budget::Budget;
+use crate::diagnosis::{
+    Cause, Diagnosis, GREATEST_BUDGET, Rejection, diagnose, read_code, read_head, shape_cost,
+};
 use crate::explain::{explain, explain_line};
+use crate::numbered::numbered;
 use fc_asm::{AsmError, Mistake, assemble, disassemble};
 use fc_cli::status::{Status, tell};
 use fc_image::{HEADER_SIZE, Head};
-use fc_isa::{Fault, encode};
+use fc_isa::{Fault, Insn, encode};
 use fc_verify::{Refusal, verify};
 use std::alloc::{AllocError, Global};
 use std::io;
@@ -73,7 +83,7 @@ impl From<Rejection> for ToolError {
 
 /// Reads a text, assembles it, and writes the image with this size of the variables, in bytes, and this budget of steps.
 /// It ends `Done` where the image is written; `Refused` where the text has more than 1,048,576 bytes or a mistake, or else a number of the header is
-/// out of its limits; `Failed` where reading or writing failed, or there was no memory. `err` is told why: after a line with the mistake or
+/// out of its limits, or the control flow breaks a rule where the budget is to be the cost; `Failed` where reading or writing failed, or there was no memory. `err` is told why: after a line with the mistake or
 /// the rule come those of `explain_line` or `explain`.
 pub fn image<R: Read, W: Write, E: Write>(
     alloc: Global,
@@ -81,7 +91,7 @@ pub fn image<R: Read, W: Write, E: Write>(
     out: &mut W,
     err: &mut E,
     vars_size: u16,
-    budget: u32,
+    budget: Budget,
 ) -> Status {
     let text = match read_text(alloc, input) {
         Ok(text) => text,
@@ -93,7 +103,7 @@ pub fn image<R: Read, W: Write, E: Write>(
     }
 }
 
-/// Reads an image and writes its listing. It ends `Done` where the listing is written; `Refused` where the header or a
+/// Reads an image and writes its listing, with the slots' numbers if they are asked for. It ends `Done` where the listing is written; `Refused` where the header or a
 /// slot breaks a rule; `Failed` where reading or writing failed, or there was no memory. `err` is told why: after a line with the rule
 /// come those of `explain`.
 pub fn list<R: Read, W: Write, E: Write>(
@@ -101,8 +111,9 @@ pub fn list<R: Read, W: Write, E: Write>(
     input: &mut R,
     out: &mut W,
     err: &mut E,
+    with_slots: bool,
 ) -> Status {
-    match write_listing(alloc, input, out) {
+    match write_listing(alloc, input, out, with_slots) {
         Ok(()) => Status::Done,
         Err(error) => tell_whole(alloc, err, &error, &[]),
     }
@@ -182,9 +193,12 @@ fn write_image<W: Write>(
     text: &[u8],
     out: &mut W,
     vars_size: u16,
-    budget: u32,
+    budget: Budget,
 ) -> Result<(), ToolError> {
-    let image = image_of(alloc, text, vars_size, budget)?;
+    let image = match budget {
+        Budget::Steps(steps) => image_of(alloc, text, vars_size, steps)?,
+        Budget::Auto => priced_image_of(alloc, text, vars_size)?,
+    };
     write_whole(out, &image)
 }
 
@@ -192,9 +206,14 @@ fn write_listing<R: Read, W: Write>(
     alloc: Global,
     input: &mut R,
     out: &mut W,
+    with_slots: bool,
 ) -> Result<(), ToolError> {
     let image = read_image(alloc, input)?;
-    let listing = listing_of(alloc, &image)?;
+    let listing = if with_slots {
+        numbered_listing_of(alloc, &image)?
+    } else {
+        listing_of(alloc, &image)?
+    };
     write_whole(out, listing.as_bytes())
 }
 
@@ -251,15 +270,56 @@ pub fn image_of(
 ) -> Result<Vec<u8>, ToolError>
     ensures { IfOk result (λ v. IsImageOf text.now vars_size budget v.items) }
 {
+    let program = program_of(alloc, text)?;
+    let head = Head::new(vars_size, program.len(), budget).map_err(header_error)?;
+    image_with(alloc, &head, &program)
+}
+
+/// The image of a text's program whose budget is the program's cost: the least budget that the program may have.
+///
+/// # Errors
+/// As of `image_of`; and after the header's rules the first rule of the control flow, 11 to 17, that the program breaks with the
+/// greatest budget.
+pub fn priced_image_of(alloc: Global, text: &[u8], vars_size: u16) -> Result<Vec<u8>, ToolError>
+    ensures { IfOk result (λ v. IsPricedImageOf text.now vars_size v.items) }
+{
+    let program = program_of(alloc, text)?;
+    let head = priced_head(vars_size, &program)?;
+    image_with(alloc, &head, &program)
+}
+
+/// The header of a program whose budget is its cost.
+fn priced_head(vars_size: u16, program: &[Insn]) -> Result<Head, ToolError>
+    ensures head { IfOk result (λ h. (h ≡ program_head vars_size h.budget program.now) × (limit_fault h ≡ None)) }
+    ensures cost { IfOk result (λ h. IsLongest program.now h.budget) }
+{
+    let greatest = Head::new(vars_size, program.len(), GREATEST_BUDGET).map_err(header_error)?;
+    match shape_cost(&greatest, program) {
+        Ok(cost) => Head::new(vars_size, program.len(), cost).map_err(header_error),
+        Err(diagnosis) => Err(ToolError::Image(diagnosis)),
+    }
+}
+
+/// The program of a text.
+fn program_of(alloc: Global, text: &[u8]) -> Result<Vec<Insn>, ToolError>
+    ensures program { IfOk result (λ v. IsAssembled (lines_of text.now) v.items) }
+    ensures slots { IfOk result (λ v. IsTrue (is_program v.items)) }
+{
     let Ok(text) = str::from_utf8(text) else {
         return Err(ToolError::Text(AsmError::Faulty {
             mistake: Mistake::UnknownWord,
             line: 1,
         }));
     };
-    let program = assemble(alloc, text)?;
-    let head = Head::new(vars_size, program.len(), budget).map_err(header_error)?;
-    let slots = encode(alloc, &program)?;
+    Ok(assemble(alloc, text)?)
+}
+
+/// The image of a header and its program.
+fn image_with(alloc: Global, head: &Head, program: &[Insn]) -> Result<Vec<u8>, ToolError>
+    requires { IsTrue (is_program program.now) }
+    ensures { IfOk result (λ v. v.items ≡ head_bytes head.now ++ encoded program.now) }
+{
+    let slots = encode(alloc, program)?;
     let mut image = Vec::with_capacity(alloc, HEADER_SIZE)?;
     image.extend_from_slice(&head.bytes())?;
     image.extend_from_slice(&slots)?;
@@ -284,4 +344,16 @@ pub fn listing_of(alloc: Global, image: &[u8]) -> Result<String, ToolError>
     let head = read_head(image)?;
     let program = read_code(alloc, image, &head)?;
     Ok(disassemble(alloc, &program)?)
+}
+
+/// The listing of an image's program, each line behind the number of its slot.
+///
+/// # Errors
+/// As of `listing_of`.
+pub fn numbered_listing_of(alloc: Global, image: &[u8]) -> Result<String, ToolError>
+    ensures { IfOk result (λ s. IsNumberedListingOf image.now (string_bytes s)) }
+{
+    let head = read_head(image)?;
+    let program = read_code(alloc, image, &head)?;
+    Ok(numbered(alloc, &program)?)
 }

@@ -1,9 +1,11 @@
 //! The assembler's program: it parses its command line, and calls the service.
 #![tactic(auto)]
 
-use clap::{Arg, ArgMatches, Command, value_parser};
+use clap::{Arg, ArgAction, ArgMatches, Command, value_parser};
 use fc_cli::Status;
 use fc_cli::command_line::{VERSION, exit_code, parse, words};
+use fc_cli::status::tell;
+use fc_tools::budget::Budget;
 use fc_tools::tools::{check, image, list};
 use std::alloc::{AllocError, Global};
 use std::io;
@@ -15,14 +17,14 @@ use std::rt::Runtime;
 const STATUSES: &str = "\
 Example: a text with the lines `mov64 r0, 0` and `exit`
 
-  fcasm image --vars 0 --budget 2 < program.txt > program.img
+  fcasm image --vars 0 --budget auto < program.txt > program.img
   fcasm check < program.img
 
 Exit status: 0 where the work is done; 1 where a text or an image is refused; 2 where the
 command line is bad; 3 where reading or writing failed, or memory was refused.";
 
-// An option that takes a number and can't be left out.
-fn number<'a>(
+// An option that takes a value and can't be left out.
+fn wanted<'a>(
     alloc: Global,
     name: &'static str,
     value: &'static str,
@@ -38,20 +40,30 @@ fn number<'a>(
 fn image_command<'a>(alloc: Global) -> Result<Command<'a>, AllocError> {
     Command::new(alloc, "image")
         .about("Assemble a text to an image")
-        .arg(number(
+        .arg(wanted(
             alloc,
             "vars",
             "V",
             "The size of the variables: 0 to 256 bytes, a multiple of 8",
         )
         .value_parser(value_parser!(u16)))?
-        .arg(number(
+        .arg(wanted(
             alloc,
             "budget",
             "B",
-            "The most steps that a run may take: 1 to 65536",
+            "The most steps that a run may take: 1 to 65536, or `auto`, the program's cost",
+        ))
+}
+
+fn list_command<'a>(alloc: Global) -> Result<Command<'a>, AllocError> {
+    Command::new(alloc, "list")
+        .about("List the program of an image")
+        .arg(
+            Arg::new(alloc, "slots")
+                .long("slots")
+                .action(ArgAction::SetTrue)
+                .help("Put the number of its slot in front of each line"),
         )
-        .value_parser(value_parser!(u32)))
 }
 
 fn command<'a>(alloc: Global) -> Result<Command<'a>, AllocError> {
@@ -61,7 +73,7 @@ fn command<'a>(alloc: Global) -> Result<Command<'a>, AllocError> {
         .after_help(STATUSES)
         .subcommand_required(true)
         .subcommand(image_command(alloc)?)?
-        .subcommand(Command::new(alloc, "list").about("List the program of an image"))?
+        .subcommand(list_command(alloc)?)?
         .subcommand(Command::new(alloc, "check").about("Say whether an image is accepted"))
 }
 
@@ -87,7 +99,13 @@ fn obey<R: Runtime + AllocGlobal, E: Write>(
     let mut out = BufWriter::new(alloc, io::writer(rt))?;
     match matches.subcommand() {
         Some(("image", numbers)) => Ok(write_image(alloc, &mut input, &mut out, err, numbers)),
-        Some(("list", _)) => Ok(list(alloc, &mut input, &mut out, err)),
+        Some(("list", asked)) => Ok(list(
+            alloc,
+            &mut input,
+            &mut out,
+            err,
+            asked.get_flag("slots"),
+        )),
         Some(("check", _)) => Ok(check(alloc, &mut input, &mut out, err)),
         _ => Ok(Status::Bad),
     }
@@ -101,11 +119,11 @@ fn write_image<R: Read, W: Write, E: Write>(
     err: &mut E,
     numbers: &ArgMatches<'_>,
 ) -> Status {
-    match (
-        numbers.get_one::<u16>("vars"),
-        numbers.get_one::<u32>("budget"),
-    ) {
-        (Some(vars), Some(budget)) => image(alloc, input, out, err, vars, budget),
+    match (numbers.get_one::<u16>("vars"), numbers.get_str("budget")) {
+        (Some(vars), Some(budget)) => match budget.parse::<Budget>() {
+            Ok(budget) => image(alloc, input, out, err, vars, budget),
+            Err(error) => tell(err, &error, Status::Bad),
+        },
         _ => Status::Bad,
     }
 }

@@ -138,7 +138,7 @@ static FLOWS: [(&[u8], u32, &str, &str); 9] = [
         "V16 slot 0\n",
         "rule: the longest path is above the budget\n\
         cost: 9 steps, with a budget of 8\n\
-        change: give a greater budget, 65536 at most, or shorten the longest path; a function called twice costs twice\n",
+        change: give a greater budget, 65536 at most, as `--budget auto` does, or shorten the longest path; a function called twice costs twice\n",
     ),
     (
         b"mov64 r0, 0\ncall 8\nexit",
@@ -146,7 +146,7 @@ static FLOWS: [(&[u8], u32, &str, &str); 9] = [
         "V16 slot 0\n",
         "rule: the longest path is above the budget\n\
         cost: more than the budget of 2 steps\n\
-        change: give a greater budget, 65536 at most, or shorten the longest path; a function called twice costs twice\n",
+        change: give a greater budget, 65536 at most, as `--budget auto` does, or shorten the longest path; a function called twice costs twice\n",
     ),
     (
         b"mov64 r0, 0\ncall 8\nexit",
