@@ -2,3 +2,4 @@ pub mod Tools
 pub mod Reads
 pub mod Diagnosed
 pub mod Numbered
+pub mod Runs

@@ -1,6 +1,7 @@
 //! What the assembler's program does with texts and images.
 #![tactic(auto)]
 
+pub mod asked;
 pub mod budget;
 pub mod diagnosis;
 pub mod explain;
@@ -9,4 +10,5 @@ pub mod laws;
 pub mod numbered;
 pub mod reads;
 pub mod rules;
+pub mod running;
 pub mod tools;

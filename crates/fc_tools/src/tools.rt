@@ -9,12 +9,14 @@ ghost use Rattle.fc_isa.specs.Program.{is_program};
 ghost use Rattle.fc_tools.specs.Diagnosed.{IsDiagnosisOf, IsRejected};
 ghost use Rattle.fc_tools.specs.Tools.{IsImageOf, IsListingOf, IsNumberedListingOf, IsPricedImageOf, program_head};
 
+use crate::asked::Asked;
 use crate::budget::Budget;
 use crate::diagnosis::{
     Cause, Diagnosis, GREATEST_BUDGET, Rejection, diagnose, read_code, read_head, shape_cost,
 };
 use crate::explain::{explain, explain_line};
 use crate::numbered::numbered;
+use crate::running::report;
 use fc_asm::{AsmError, Mistake, assemble, disassemble};
 use fc_cli::status::{Status, tell};
 use fc_image::{HEADER_SIZE, Head};
@@ -43,6 +45,9 @@ pub enum ToolError {
     /// The image, or a number of its header, breaks a rule.
     #[error("{0}")]
     Image(Diagnosis),
+    /// The variables that are given to a run have another size than the program's.
+    #[error("the variables have {given} bytes, and the program's {wanted}")]
+    Variables { given: usize, wanted: u16 },
     /// Reading failed.
     #[error("standard input: {0}")]
     Input(io::Error),
@@ -58,6 +63,7 @@ impl ToolError {
     fn status(&self) -> Status {
         match self {
             ToolError::Text(_) | ToolError::LongText | ToolError::Image(_) => Status::Refused,
+            ToolError::Variables { .. } => Status::Bad,
             ToolError::Input(_) | ToolError::Output(_) | ToolError::Memory(_) => Status::Failed,
         }
     }
@@ -135,6 +141,37 @@ pub fn check<R: Read, W: Write, E: Write>(
     }
 }
 
+/// Reads an image from standard input, and runs it as `run_image` does. It ends as that does, and `Failed` where reading failed.
+pub fn run<R: Read, W: Write, E: Write>(
+    alloc: Global,
+    input: &mut R,
+    out: &mut W,
+    err: &mut E,
+    asked: &Asked,
+) -> Status {
+    match read_image(alloc, input) {
+        Ok(image) => run_image(alloc, &image, out, err, asked),
+        Err(error) => tell(err, &error, error.status()),
+    }
+}
+
+/// Runs an image's program once, as the server would, and writes the report of it. It ends `Done` where that is written; `Refused`
+/// where the image is refused, which is told as by `check`; `Bad` where the variables that are given have another size than the program's; and `Failed`
+/// where writing failed, or there was no memory. `err` is told why.
+pub fn run_image<W: Write, E: Write>(
+    alloc: Global,
+    image: &[u8],
+    out: &mut W,
+    err: &mut E,
+    asked: &Asked,
+) -> Status {
+    match write_report(alloc, image, out, asked) {
+        Ok(None) => Status::Done,
+        Ok(Some(diagnosis)) => tell_cause(alloc, err, &diagnosis),
+        Err(error) => tell(err, &error, error.status()),
+    }
+}
+
 // Tells why there is no result, and what to change where a text or an image is refused.
 fn tell_whole<E: Write>(alloc: Global, err: &mut E, error: &ToolError, text: &[u8]) -> Status {
     let told = tell(err, error, error.status());
@@ -163,11 +200,18 @@ fn tell_line<E: Write>(err: &mut E, text: &[u8], mistake: Mistake, line: usize) 
     }
 }
 
-// Reads an image; of one that is too long to have its length fit its count, as much as shows that.
 fn read_image<R: Read>(alloc: Global, input: &mut R) -> Result<Vec<u8>, ToolError> {
+    image_bytes(alloc, input).map_err(ToolError::Input)
+}
+
+/// Reads an image; of one that is too long to have its length fit its count, as much as shows that.
+///
+/// # Errors
+/// Reading failed, or memory was refused.
+pub fn image_bytes<R: Read>(alloc: Global, input: &mut R) -> io::Result<Vec<u8>> {
     let mut image = Vec::new(alloc);
     let mut input = input.by_ref().take(LONGEST_IMAGE + 1);
-    input.read_to_end(&mut image).map_err(ToolError::Input)?;
+    input.read_to_end(&mut image)?;
     Ok(image)
 }
 
@@ -224,21 +268,48 @@ fn write_verdict<R: Read, W: Write>(
     out: &mut W,
 ) -> Result<Option<Diagnosis>, ToolError> {
     let image = read_image(alloc, input)?;
-    let refused = match verify(alloc, &image) {
+    match verify(alloc, &image) {
         Ok(program) => {
             let (cost, budget) = (program.cost(), program.budget());
             writeln!(out, "accepted cost {cost} budget {budget}").map_err(ToolError::Output)?;
-            None
+            out.flush().map_err(ToolError::Output)?;
+            Ok(None)
         }
-        Err(Refusal::Broken(_)) => {
-            let diagnosis = diagnosis_of(alloc, &image)?;
-            writeln!(out, "{diagnosis}").map_err(ToolError::Output)?;
-            Some(diagnosis)
+        Err(Refusal::Broken(_)) => write_refusal(alloc, &image, out),
+        Err(Refusal::NoMemory) => Err(ToolError::Memory(AllocError)),
+    }
+}
+
+// The report of a run, or the verdict on an image that is refused.
+fn write_report<W: Write>(
+    alloc: Global,
+    image: &[u8],
+    out: &mut W,
+    asked: &Asked,
+) -> Result<Option<Diagnosis>, ToolError> {
+    match verify(alloc, image) {
+        Ok(program) => {
+            let report = report(alloc, &program, asked)?;
+            write_whole(out, report.as_bytes())?;
+            Ok(None)
         }
-        Err(Refusal::NoMemory) => return Err(ToolError::Memory(AllocError)),
-    };
+        Err(Refusal::Broken(_)) => write_refusal(alloc, image, out),
+        Err(Refusal::NoMemory) => Err(ToolError::Memory(AllocError)),
+    }
+}
+
+// The verdict on an image that is refused.
+fn write_refusal<W: Write>(
+    alloc: Global,
+    image: &[u8],
+    out: &mut W,
+) -> Result<Option<Diagnosis>, ToolError>
+    requires { IsRejected image.now }
+{
+    let diagnosis = diagnosis_of(alloc, image)?;
+    writeln!(out, "{diagnosis}").map_err(ToolError::Output)?;
     out.flush().map_err(ToolError::Output)?;
-    Ok(refused)
+    Ok(Some(diagnosis))
 }
 
 /// Why an image is refused that breaks a rule.

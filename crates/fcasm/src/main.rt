@@ -5,13 +5,15 @@ use clap::{Arg, ArgAction, ArgMatches, Command, value_parser};
 use fc_cli::Status;
 use fc_cli::command_line::{VERSION, exit_code, parse, words};
 use fc_cli::status::tell;
+use fc_help::Method;
+use fc_tools::asked::{Asked, AskedError};
 use fc_tools::budget::Budget;
-use fc_tools::tools::{check, image, list};
+use fc_tools::tools::{check, image, image_bytes, list, run as run_input, run_image};
 use std::alloc::{AllocError, Global};
-use std::io;
 use std::io::{BufReader, BufWriter, Read, Write};
 use std::process::ExitCode;
 use std::rt::Runtime;
+use std::{fs, io};
 
 /// What `--help` tells of how the commands are used and how they end.
 const STATUSES: &str = "\
@@ -66,15 +68,56 @@ fn list_command<'a>(alloc: Global) -> Result<Command<'a>, AllocError> {
         )
 }
 
+fn run_command<'a>(alloc: Global) -> Result<Command<'a>, AllocError> {
+    let image = Arg::new(alloc, "image").value_name("IMAGE").help(
+        "The image's file; standard input where it is `-` or not given",
+    );
+    let method = Arg::new(alloc, "method")
+        .long("method")
+        .value_name("METHOD")
+        .value_parser(["get", "post"].as_slice())
+        .help("What is asked; get where it is not given");
+    Command::new(alloc, "run")
+        .about("Run an image's program once, and tell what it answers")
+        .arg(image)?
+        .arg(method)?
+        .arg(hex_bytes(
+            alloc,
+            "payload",
+            "The request's payload in hex, 1024 bytes at most; none where it is not given",
+        ))?
+        .arg(hex_bytes(
+            alloc,
+            "query",
+            "The request's query in hex, 64 bytes at most; none where it is not given",
+        ))?
+        .arg(hex_bytes(
+            alloc,
+            "vars",
+            "The variables in hex, as many bytes as the image says; zeros where they are not given",
+        ))
+}
+
+// An option that takes bytes in hex.
+fn hex_bytes<'a>(alloc: Global, name: &'static str, help: &'static str) -> Arg<'a> {
+    Arg::new(alloc, name)
+        .long(name)
+        .value_name("HEX")
+        .help(help)
+}
+
 fn command<'a>(alloc: Global) -> Result<Command<'a>, AllocError> {
     Command::new(alloc, "fcasm")
         .version(VERSION)
-        .about("Assemble, list and check resource programs: from standard input to standard output")
+        .about(
+            "Assemble, list, check and run resource programs: from standard input to standard output",
+        )
         .after_help(STATUSES)
         .subcommand_required(true)
         .subcommand(image_command(alloc)?)?
         .subcommand(list_command(alloc)?)?
-        .subcommand(Command::new(alloc, "check").about("Say whether an image is accepted"))
+        .subcommand(Command::new(alloc, "check").about("Say whether an image is accepted"))?
+        .subcommand(run_command(alloc)?)
 }
 
 fn run<R: Runtime + AllocGlobal, E: Write>(rt: &R, err: &mut E) -> anyhow::Result<Status> {
@@ -107,6 +150,7 @@ fn obey<R: Runtime + AllocGlobal, E: Write>(
             asked.get_flag("slots"),
         )),
         Some(("check", _)) => Ok(check(alloc, &mut input, &mut out, err)),
+        Some(("run", asked)) => run_asked(rt, &mut input, &mut out, err, asked),
         _ => Ok(Status::Bad),
     }
 }
@@ -126,6 +170,57 @@ fn write_image<R: Read, W: Write, E: Write>(
         },
         _ => Status::Bad,
     }
+}
+
+// Runs the image that the command line names, as it asks.
+fn run_asked<R: Runtime + AllocGlobal, I: Read, W: Write, E: Write>(
+    rt: &R,
+    input: &mut I,
+    out: &mut W,
+    err: &mut E,
+    words: &ArgMatches<'_>,
+) -> anyhow::Result<Status> {
+    let asked = match asked_by(rt.alloc(), words) {
+        Ok(asked) => asked,
+        Err(error) => return Ok(tell(err, &error, error.status())),
+    };
+    match words.get_str("image") {
+        None | Some("-") => Ok(run_input(rt.alloc(), input, out, err, &asked)),
+        Some(path) => run_file(rt, path, out, err, &asked),
+    }
+}
+
+// What the command line asks a program.
+fn asked_by(alloc: Global, words: &ArgMatches<'_>) -> Result<Asked, AskedError> {
+    let method = match words.get_str("method") {
+        Some("post") => Method::Post,
+        _ => Method::Get,
+    };
+    let payload = words.get_str("payload").unwrap_or("");
+    let query = words.get_str("query").unwrap_or("");
+    Asked::new(alloc, method, payload, query, words.get_str("vars"))
+}
+
+// Runs the image of this file.
+fn run_file<R: Runtime + AllocGlobal, W: Write, E: Write>(
+    rt: &R,
+    path: &str,
+    out: &mut W,
+    err: &mut E,
+    asked: &Asked,
+) -> anyhow::Result<Status> {
+    match file_bytes(rt, path) {
+        Ok(image) => Ok(run_image(rt.alloc(), &image, out, err, asked)),
+        Err(error) => {
+            writeln!(err, "{path}: {error}")?;
+            Ok(Status::Failed)
+        }
+    }
+}
+
+fn file_bytes<R: Runtime + AllocGlobal>(rt: &R, path: &str) -> io::Result<Vec<u8>> {
+    let mut file = fs::open(rt, path)?;
+    image_bytes(rt.alloc(), &mut file)
 }
 
 fn main(rt: HostRuntime) -> ExitCode {

@@ -65,6 +65,8 @@ mod request_tests;
 #[cfg(test)]
 mod response_tests;
 #[cfg(test)]
+mod run_tests;
+#[cfg(test)]
 mod socket_tests;
 #[cfg(test)]
 mod tool_tests;
