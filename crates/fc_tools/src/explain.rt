@@ -1,5 +1,6 @@
 //! Why an image or a text is refused, in a few lines.
 use crate::diagnosis::{Cause, Diagnosis};
+use crate::form::BadForm;
 use crate::known::Known;
 use crate::numbered::listed;
 use crate::reads::{Reads, registers_read};
@@ -33,10 +34,25 @@ pub fn explain_line<W: Write>(
     line: usize,
 ) -> io::Result<()> {
     writeln!(out, "rule: {}", mistake_text(mistake))?;
-    if let Some(code) = line_of(text, line) {
-        writeln!(out, "line {line}: {code}")?;
-    }
+    write_line(out, text, line)?;
     writeln!(out, "change: {}", correction(mistake))
+}
+
+/// Writes why a text isn't expanded, as `explain_line` does.
+///
+/// # Errors
+/// Writing failed.
+pub fn explain_form<W: Write>(out: &mut W, text: &[u8], bad: BadForm) -> io::Result<()> {
+    writeln!(out, "rule: {}", bad.form.text())?;
+    write_line(out, text, bad.line)?;
+    writeln!(out, "change: {}", bad.form.correction())
+}
+
+fn write_line<W: Write>(out: &mut W, text: &[u8], line: usize) -> io::Result<()> {
+    match line_of(text, line) {
+        Some(code) => writeln!(out, "line {line}: {code}"),
+        None => Ok(()),
+    }
 }
 
 // The line of a text, counted from 1.

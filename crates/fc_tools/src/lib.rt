@@ -4,7 +4,9 @@
 pub mod asked;
 pub mod budget;
 pub mod diagnosis;
+pub mod expand;
 pub mod explain;
+pub mod form;
 pub mod known;
 pub mod laws;
 pub mod numbered;

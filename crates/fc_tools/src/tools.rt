@@ -14,7 +14,9 @@ use crate::budget::Budget;
 use crate::diagnosis::{
     Cause, Diagnosis, GREATEST_BUDGET, Rejection, diagnose, read_code, read_head, shape_cost,
 };
-use crate::explain::{explain, explain_line};
+use crate::expand::{ExpandError, expand as expand_text};
+use crate::explain::{explain, explain_form, explain_line};
+use crate::form::BadForm;
 use crate::numbered::numbered;
 use crate::running::report;
 use fc_asm::{AsmError, Mistake, assemble, disassemble};
@@ -39,6 +41,9 @@ pub enum ToolError {
     /// The text has a mistake.
     #[error("{0}")]
     Text(AsmError),
+    /// A label, a number or a text of the text has one.
+    #[error("{0}")]
+    Form(BadForm),
     /// The text is too long to be read.
     #[error("the text has more than 1048576 bytes")]
     LongText,
@@ -62,7 +67,8 @@ pub enum ToolError {
 impl ToolError {
     fn status(&self) -> Status {
         match self {
-            ToolError::Text(_) | ToolError::LongText | ToolError::Image(_) => Status::Refused,
+            ToolError::Text(_) | ToolError::Form(_) => Status::Refused,
+            ToolError::LongText | ToolError::Image(_) => Status::Refused,
             ToolError::Variables { .. } => Status::Bad,
             ToolError::Input(_) | ToolError::Output(_) | ToolError::Memory(_) => Status::Failed,
         }
@@ -78,6 +84,15 @@ impl From<AsmError> for ToolError {
     }
 }
 
+impl From<ExpandError> for ToolError {
+    fn from(error: ExpandError) -> Self {
+        match error {
+            ExpandError::Faulty(bad) => ToolError::Form(bad),
+            ExpandError::NoMemory => ToolError::Memory(AllocError),
+        }
+    }
+}
+
 impl From<Rejection> for ToolError {
     fn from(rejection: Rejection) -> Self {
         match rejection {
@@ -87,7 +102,7 @@ impl From<Rejection> for ToolError {
     }
 }
 
-/// Reads a text, assembles it, and writes the image with this size of the variables, in bytes, and this budget of steps.
+/// Reads a text, expands and assembles it, and writes the image with this size of the variables, in bytes, and this budget of steps.
 /// It ends `Done` where the image is written; `Refused` where the text has more than 1,048,576 bytes or a mistake, or else a number of the header is
 /// out of its limits, or the control flow breaks a rule where the budget is to be the cost; `Failed` where reading or writing failed, or there was no memory. `err` is told why: after a line with the mistake or
 /// the rule come those of `explain_line` or `explain`.
@@ -104,6 +119,25 @@ pub fn image<R: Read, W: Write, E: Write>(
         Err(error) => return tell(err, &error, error.status()),
     };
     match write_image(alloc, &text, out, vars_size, budget) {
+        Ok(()) => Status::Done,
+        Err(error) => tell_whole(alloc, err, &error, &text),
+    }
+}
+
+/// Reads a text and writes the one that it is expanded to, which `image` assembles. It ends `Done` where that is written; `Refused` where the
+/// text has more than 1,048,576 bytes, or a mistake in what is expanded; `Failed` where reading or writing failed, or there was no memory. `err` is told
+/// why, as by `image`.
+pub fn expand<R: Read, W: Write, E: Write>(
+    alloc: Global,
+    input: &mut R,
+    out: &mut W,
+    err: &mut E,
+) -> Status {
+    let text = match read_text(alloc, input) {
+        Ok(text) => text,
+        Err(error) => return tell(err, &error, error.status()),
+    };
+    match write_expanded(alloc, &text, out) {
         Ok(()) => Status::Done,
         Err(error) => tell_whole(alloc, err, &error, &text),
     }
@@ -179,6 +213,7 @@ fn tell_whole<E: Write>(alloc: Global, err: &mut E, error: &ToolError, text: &[u
         ToolError::Text(AsmError::Faulty { mistake, line }) if told == Status::Refused => {
             tell_line(err, text, *mistake, *line)
         }
+        ToolError::Form(bad) if told == Status::Refused => tell_form(err, text, *bad),
         ToolError::Image(diagnosis) if told == Status::Refused => tell_cause(alloc, err, diagnosis),
         _ => told,
     }
@@ -195,6 +230,14 @@ fn tell_cause<E: Write>(alloc: Global, err: &mut E, diagnosis: &Diagnosis) -> St
 // Tells what is wrong with a line of a text.
 fn tell_line<E: Write>(err: &mut E, text: &[u8], mistake: Mistake, line: usize) -> Status {
     match explain_line(err, text, mistake, line) {
+        Ok(()) => Status::Refused,
+        Err(error) => tell(err, &error, Status::Failed),
+    }
+}
+
+// Tells why a text isn't expanded.
+fn tell_form<E: Write>(err: &mut E, text: &[u8], bad: BadForm) -> Status {
+    match explain_form(err, text, bad) {
         Ok(()) => Status::Refused,
         Err(error) => tell(err, &error, Status::Failed),
     }
@@ -239,11 +282,17 @@ fn write_image<W: Write>(
     vars_size: u16,
     budget: Budget,
 ) -> Result<(), ToolError> {
+    let text = expand_text(alloc, text)?;
     let image = match budget {
-        Budget::Steps(steps) => image_of(alloc, text, vars_size, steps)?,
-        Budget::Auto => priced_image_of(alloc, text, vars_size)?,
+        Budget::Steps(steps) => image_of(alloc, &text, vars_size, steps)?,
+        Budget::Auto => priced_image_of(alloc, &text, vars_size)?,
     };
     write_whole(out, &image)
+}
+
+fn write_expanded<W: Write>(alloc: Global, text: &[u8], out: &mut W) -> Result<(), ToolError> {
+    let text = expand_text(alloc, text)?;
+    write_whole(out, &text)
 }
 
 fn write_listing<R: Read, W: Write>(

@@ -8,7 +8,7 @@ use fc_cli::status::tell;
 use fc_help::Method;
 use fc_tools::asked::{Asked, AskedError};
 use fc_tools::budget::Budget;
-use fc_tools::tools::{check, image, image_bytes, list, run as run_input, run_image};
+use fc_tools::tools::{check, expand, image, image_bytes, list, run as run_input, run_image};
 use std::alloc::{AllocError, Global};
 use std::io::{BufReader, BufWriter, Read, Write};
 use std::process::ExitCode;
@@ -115,6 +115,9 @@ fn command<'a>(alloc: Global) -> Result<Command<'a>, AllocError> {
         .after_help(STATUSES)
         .subcommand_required(true)
         .subcommand(image_command(alloc)?)?
+        .subcommand(Command::new(alloc, "expand").about(
+            "Write a text as `image` assembles it: without labels, hexadecimal numbers, characters and texts",
+        ))?
         .subcommand(list_command(alloc)?)?
         .subcommand(Command::new(alloc, "check").about("Say whether an image is accepted"))?
         .subcommand(run_command(alloc)?)
@@ -142,6 +145,7 @@ fn obey<R: Runtime + AllocGlobal, E: Write>(
     let mut out = BufWriter::new(alloc, io::writer(rt))?;
     match matches.subcommand() {
         Some(("image", numbers)) => Ok(write_image(alloc, &mut input, &mut out, err, numbers)),
+        Some(("expand", _)) => Ok(expand(alloc, &mut input, &mut out, err)),
         Some(("list", asked)) => Ok(list(
             alloc,
             &mut input,

@@ -19,6 +19,8 @@ mod event_tests;
 #[cfg(test)]
 mod exchange_tests;
 #[cfg(test)]
+mod expand_tests;
+#[cfg(test)]
 mod failing_tests;
 #[cfg(test)]
 mod faulty;
