@@ -1,5 +1,5 @@
 -- What each step of a diagnosis finds is right for the image.
-use Rattle.std.proofs.Common.{◌≡◌, ℕ, ◌+◌, ◌*◌, ◌<◌, ◌≤◌, true, false, List, length, take, drop, Option, Some, None, Result, Ok, Err, refl, sym, ap, ◌∙◌, subst, arith}
+use Rattle.std.proofs.Common.{◌≡◌, ℕ, ◌+◌, ◌*◌, ◌<◌, ◌≤◌, false, List, length, Some, None, Result, Ok, Err, sym, ap, ◌∙◌, subst, arith}
 use Rattle.std.proofs.lemmas.Option.{slice_get_within}
 use Rattle.std.specs.Prelude.{IfErr, IfSome, slice_get}
 use Rattle.std.specs.Result.{IsErrAnd}
@@ -13,8 +13,6 @@ use Rattle.fc_image.specs.Paths.{longest}
 use Rattle.fc_image.specs.ShapeRules.{IsShapeFault, shape_fault}
 use Rattle.fc_kinds.specs.Transfer.{transfer}
 use Rattle.fc_kinds.specs.Typing.{state_at}
-use Rattle.fc_verify.specs.Accepted.{slots_of}
-use Rattle.fc_verify.specs.Judged.{code_in}
 use Rattle.fc_verify.specs.Pass.{beginning, forward, is_typable}
 use Rattle.fc_verify.specs.Stages.{IsHeadOf, IsCodeOf, IsTypingFault, IsUntyped}
 use Rattle.fc_verify.specs.declared.untyped.Untyped.{Untyped}

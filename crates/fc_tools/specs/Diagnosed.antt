@@ -1,5 +1,5 @@
 -- What is told of an image that isn't accepted.
-use Rattle.std.specs.Prelude.{◌≡◌, ℕ, ◌+◌, ◌*◌, List, take, drop, Option, Some, None, slice_get, IfSome}
+use Rattle.std.specs.Prelude.{◌≡◌, ℕ, ◌+◌, ◌*◌, List, take, drop, Some, None, slice_get, IfSome}
 use Rattle.fc_isa.specs.declared.insn.Insn.{Insn}
 use Rattle.fc_isa.specs.declared.rule.Fault.{Fault}
 use Rattle.fc_image.specs.Head.{head_fault, stated}

@@ -1,4 +1,3 @@
-use Rattle.std.proofs.Common.{sym, ap, ◌∙◌, None, Some, ◌≡◌}
 use Rattle.fc_verify.specs.Verified.{program_of}
 use Rattle.fc_verify.proofs.Judging.{accepts_is, untyped_of}
 use Rattle.fc_tools.specs.Diagnosed.{IsRejection}
