@@ -3,9 +3,11 @@ use Rattle.std.specs.Prelude.{◌≡◌, ℕ, ◌++◌, List, length, drop, None
 use Rattle.fc_isa.specs.declared.insn.Insn.{Insn}
 use Rattle.fc_isa.specs.Encoding.{Spells, encoded}
 use Rattle.fc_image.specs.Head.{head_bytes, head_fault, limit_fault, Head}
+use Rattle.fc_image.specs.Paths.{IsLongest}
 use Rattle.fc_asm.specs.Syntax.{lines_of}
 use Rattle.fc_asm.specs.Assembled.{IsAssembled}
 use Rattle.fc_asm.specs.Listing.{listing}
+use Rattle.fc_tools.specs.Numbered.{numbered_from}
 
 -- the header of a program
 abbrev pub program_head : ℕ → ℕ → List Insn → Head
@@ -18,9 +20,22 @@ pub record IsImageOf (text : List ℕ) (vars_size budget : ℕ) (image : List �
   pub limits : limit_fault (program_head vars_size budget program) ≡ None
   pub bytes_are : image ≡ head_bytes (program_head vars_size budget program) ++ encoded program
 
+-- the image's budget is the steps of the program's longest path
+pub record IsPricedImageOf (text : List ℕ) (vars_size : ℕ) (image : List ℕ) : Type 0 where
+  pub budget : ℕ
+  pub image_is : IsImageOf text vars_size budget image
+  pub cost : IsLongest image_is.program budget
+
 -- the image's slots spell a program, and the text is its listing
 pub record IsListingOf (image text : List ℕ) : Type 0 where
   pub head : head_fault image ≡ None
   pub program : List Insn
   pub spelled : Spells (drop 16 image) program
   pub listed : text ≡ listing program
+
+-- and the text is its listing with the slots' numbers
+pub record IsNumberedListingOf (image text : List ℕ) : Type 0 where
+  pub head : head_fault image ≡ None
+  pub program : List Insn
+  pub spelled : Spells (drop 16 image) program
+  pub listed : text ≡ numbered_from 0 program

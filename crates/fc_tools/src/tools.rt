@@ -1,11 +1,28 @@
 //! Assembling, listing and checking images: the bodies of `fcasm`.
-ghost use Rattle.std.specs.Prelude.{IfOk, string_bytes};
-ghost use Rattle.fc_tools.specs.Tools.{IsImageOf, IsListingOf};
+ghost use Rattle.std.specs.Prelude.{IfOk, IsTrue, None, string_bytes, ◌++◌, ◌≡◌};
+ghost use Rattle.fc_asm.specs.Assembled.{IsAssembled};
+ghost use Rattle.fc_asm.specs.Syntax.{lines_of};
+ghost use Rattle.fc_image.specs.Head.{head_bytes, limit_fault};
+ghost use Rattle.fc_image.specs.Paths.{IsLongest};
+ghost use Rattle.fc_isa.specs.Encoding.{encoded};
+ghost use Rattle.fc_isa.specs.Program.{is_program};
+ghost use Rattle.fc_tools.specs.Diagnosed.{IsDiagnosisOf, IsRejected};
+ghost use Rattle.fc_tools.specs.Tools.{IsImageOf, IsListingOf, IsNumberedListingOf, IsPricedImageOf, program_head};
 
+use crate::asked::Asked;
+use crate::budget::Budget;
+use crate::diagnosis::{
+    Cause, Diagnosis, GREATEST_BUDGET, Rejection, diagnose, read_code, read_head, shape_cost,
+};
+use crate::expand::{ExpandError, expand as expand_text};
+use crate::explain::{explain, explain_form, explain_line};
+use crate::form::BadForm;
+use crate::numbered::numbered;
+use crate::running::report;
 use fc_asm::{AsmError, Mistake, assemble, disassemble};
 use fc_cli::status::{Status, tell};
-use fc_image::{HEADER_SIZE, Head, head};
-use fc_isa::{DecodeError, Fault, decode, encode};
+use fc_image::{HEADER_SIZE, Head};
+use fc_isa::{Fault, Insn, encode};
 use fc_verify::{Refusal, verify};
 use std::alloc::{AllocError, Global};
 use std::io;
@@ -24,12 +41,18 @@ pub enum ToolError {
     /// The text has a mistake.
     #[error("{0}")]
     Text(AsmError),
+    /// A label, a number or a text of the text has one.
+    #[error("{0}")]
+    Form(BadForm),
     /// The text is too long to be read.
     #[error("the text has more than 1048576 bytes")]
     LongText,
     /// The image, or a number of its header, breaks a rule.
     #[error("{0}")]
-    Image(Fault),
+    Image(Diagnosis),
+    /// The variables that are given to a run have another size than the program's.
+    #[error("the variables have {given} bytes, and the program's {wanted}")]
+    Variables { given: usize, wanted: u16 },
     /// Reading failed.
     #[error("standard input: {0}")]
     Input(io::Error),
@@ -44,7 +67,9 @@ pub enum ToolError {
 impl ToolError {
     fn status(&self) -> Status {
         match self {
-            ToolError::Text(_) | ToolError::LongText | ToolError::Image(_) => Status::Refused,
+            ToolError::Text(_) | ToolError::Form(_) => Status::Refused,
+            ToolError::LongText | ToolError::Image(_) => Status::Refused,
+            ToolError::Variables { .. } => Status::Bad,
             ToolError::Input(_) | ToolError::Output(_) | ToolError::Memory(_) => Status::Failed,
         }
     }
@@ -59,55 +84,84 @@ impl From<AsmError> for ToolError {
     }
 }
 
-impl From<DecodeError> for ToolError {
-    fn from(error: DecodeError) -> Self {
+impl From<ExpandError> for ToolError {
+    fn from(error: ExpandError) -> Self {
         match error {
-            DecodeError::Fault(fault) => ToolError::Image(fault),
-            DecodeError::NoMemory => ToolError::Memory(AllocError),
+            ExpandError::Faulty(bad) => ToolError::Form(bad),
+            ExpandError::NoMemory => ToolError::Memory(AllocError),
         }
     }
 }
 
-impl From<Fault> for ToolError {
-    fn from(fault: Fault) -> Self {
-        ToolError::Image(fault)
+impl From<Rejection> for ToolError {
+    fn from(rejection: Rejection) -> Self {
+        match rejection {
+            Rejection::Broken(diagnosis) => ToolError::Image(diagnosis),
+            Rejection::NoMemory => ToolError::Memory(AllocError),
+        }
     }
 }
 
-/// Reads a text, assembles it, and writes the image with this size of the variables, in bytes, and this budget of steps.
+/// Reads a text, expands and assembles it, and writes the image with this size of the variables, in bytes, and this budget of steps.
 /// It ends `Done` where the image is written; `Refused` where the text has more than 1,048,576 bytes or a mistake, or else a number of the header is
-/// out of its limits; `Failed` where reading or writing failed, or there was no memory. `err` is told why.
+/// out of its limits, or the control flow breaks a rule where the budget is to be the cost; `Failed` where reading or writing failed, or there was no memory. `err` is told why: after a line with the mistake or
+/// the rule come those of `explain_line` or `explain`.
 pub fn image<R: Read, W: Write, E: Write>(
     alloc: Global,
     input: &mut R,
     out: &mut W,
     err: &mut E,
     vars_size: u16,
-    budget: u32,
+    budget: Budget,
 ) -> Status {
-    match write_image(alloc, input, out, vars_size, budget) {
+    let text = match read_text(alloc, input) {
+        Ok(text) => text,
+        Err(error) => return tell(err, &error, error.status()),
+    };
+    match write_image(alloc, &text, out, vars_size, budget) {
         Ok(()) => Status::Done,
-        Err(error) => tell(err, &error, error.status()),
+        Err(error) => tell_whole(alloc, err, &error, &text),
     }
 }
 
-/// Reads an image and writes its listing. It ends `Done` where the listing is written; `Refused` where the header or a
-/// slot breaks a rule; `Failed` where reading or writing failed, or there was no memory. `err` is told why.
-pub fn list<R: Read, W: Write, E: Write>(
+/// Reads a text and writes the one that it is expanded to, which `image` assembles. It ends `Done` where that is written; `Refused` where the
+/// text has more than 1,048,576 bytes, or a mistake in what is expanded; `Failed` where reading or writing failed, or there was no memory. `err` is told
+/// why, as by `image`.
+pub fn expand<R: Read, W: Write, E: Write>(
     alloc: Global,
     input: &mut R,
     out: &mut W,
     err: &mut E,
 ) -> Status {
-    match write_listing(alloc, input, out) {
+    let text = match read_text(alloc, input) {
+        Ok(text) => text,
+        Err(error) => return tell(err, &error, error.status()),
+    };
+    match write_expanded(alloc, &text, out) {
         Ok(()) => Status::Done,
-        Err(error) => tell(err, &error, error.status()),
+        Err(error) => tell_whole(alloc, err, &error, &text),
+    }
+}
+
+/// Reads an image and writes its listing, with the slots' numbers if they are asked for. It ends `Done` where the listing is written; `Refused` where the header or a
+/// slot breaks a rule; `Failed` where reading or writing failed, or there was no memory. `err` is told why: after a line with the rule
+/// come those of `explain`.
+pub fn list<R: Read, W: Write, E: Write>(
+    alloc: Global,
+    input: &mut R,
+    out: &mut W,
+    err: &mut E,
+    with_slots: bool,
+) -> Status {
+    match write_listing(alloc, input, out, with_slots) {
+        Ok(()) => Status::Done,
+        Err(error) => tell_whole(alloc, err, &error, &[]),
     }
 }
 
 /// Reads an image, and says on `out` whether it is accepted: with its cost and budget, or the first rule that it breaks.
-/// It ends `Done` where it is accepted, `Refused` where it is not, and `Failed` where reading or writing failed, or there
-/// was no memory, which `err` is told.
+/// It ends `Done` where it is accepted, `Refused` where it is not, and then `err` is told why, by `explain`; and `Failed` where
+/// reading or writing failed, or there was no memory, which `err` is told.
 pub fn check<R: Read, W: Write, E: Write>(
     alloc: Global,
     input: &mut R,
@@ -115,16 +169,92 @@ pub fn check<R: Read, W: Write, E: Write>(
     err: &mut E,
 ) -> Status {
     match write_verdict(alloc, input, out) {
-        Ok(status) => status,
+        Ok(None) => Status::Done,
+        Ok(Some(diagnosis)) => tell_cause(alloc, err, &diagnosis),
         Err(error) => tell(err, &error, error.status()),
     }
 }
 
-// Reads an image; of one that is too long to have its length fit its count, as much as shows that.
+/// Reads an image from standard input, and runs it as `run_image` does. It ends as that does, and `Failed` where reading failed.
+pub fn run<R: Read, W: Write, E: Write>(
+    alloc: Global,
+    input: &mut R,
+    out: &mut W,
+    err: &mut E,
+    asked: &Asked,
+) -> Status {
+    match read_image(alloc, input) {
+        Ok(image) => run_image(alloc, &image, out, err, asked),
+        Err(error) => tell(err, &error, error.status()),
+    }
+}
+
+/// Runs an image's program once, as the server would, and writes the report of it. It ends `Done` where that is written; `Refused`
+/// where the image is refused, which is told as by `check`; `Bad` where the variables that are given have another size than the program's; and `Failed`
+/// where writing failed, or there was no memory. `err` is told why.
+pub fn run_image<W: Write, E: Write>(
+    alloc: Global,
+    image: &[u8],
+    out: &mut W,
+    err: &mut E,
+    asked: &Asked,
+) -> Status {
+    match write_report(alloc, image, out, asked) {
+        Ok(None) => Status::Done,
+        Ok(Some(diagnosis)) => tell_cause(alloc, err, &diagnosis),
+        Err(error) => tell(err, &error, error.status()),
+    }
+}
+
+// Tells why there is no result, and what to change where a text or an image is refused.
+fn tell_whole<E: Write>(alloc: Global, err: &mut E, error: &ToolError, text: &[u8]) -> Status {
+    let told = tell(err, error, error.status());
+    match error {
+        ToolError::Text(AsmError::Faulty { mistake, line }) if told == Status::Refused => {
+            tell_line(err, text, *mistake, *line)
+        }
+        ToolError::Form(bad) if told == Status::Refused => tell_form(err, text, *bad),
+        ToolError::Image(diagnosis) if told == Status::Refused => tell_cause(alloc, err, diagnosis),
+        _ => told,
+    }
+}
+
+// Tells why an image is refused.
+fn tell_cause<E: Write>(alloc: Global, err: &mut E, diagnosis: &Diagnosis) -> Status {
+    match explain(alloc, err, diagnosis) {
+        Ok(()) => Status::Refused,
+        Err(error) => tell(err, &error, Status::Failed),
+    }
+}
+
+// Tells what is wrong with a line of a text.
+fn tell_line<E: Write>(err: &mut E, text: &[u8], mistake: Mistake, line: usize) -> Status {
+    match explain_line(err, text, mistake, line) {
+        Ok(()) => Status::Refused,
+        Err(error) => tell(err, &error, Status::Failed),
+    }
+}
+
+// Tells why a text isn't expanded.
+fn tell_form<E: Write>(err: &mut E, text: &[u8], bad: BadForm) -> Status {
+    match explain_form(err, text, bad) {
+        Ok(()) => Status::Refused,
+        Err(error) => tell(err, &error, Status::Failed),
+    }
+}
+
 fn read_image<R: Read>(alloc: Global, input: &mut R) -> Result<Vec<u8>, ToolError> {
+    image_bytes(alloc, input).map_err(ToolError::Input)
+}
+
+/// Reads an image; of one that is too long to have its length fit its count, as much as shows that.
+///
+/// # Errors
+/// Reading failed, or memory was refused.
+pub fn image_bytes<R: Read>(alloc: Global, input: &mut R) -> io::Result<Vec<u8>> {
     let mut image = Vec::new(alloc);
     let mut input = input.by_ref().take(LONGEST_IMAGE + 1);
-    input.read_to_end(&mut image).map_err(ToolError::Input)?;
+    input.read_to_end(&mut image)?;
     Ok(image)
 }
 
@@ -145,48 +275,105 @@ fn write_whole<W: Write>(out: &mut W, bytes: &[u8]) -> Result<(), ToolError> {
     out.flush().map_err(ToolError::Output)
 }
 
-fn write_image<R: Read, W: Write>(
+fn write_image<W: Write>(
     alloc: Global,
-    input: &mut R,
+    text: &[u8],
     out: &mut W,
     vars_size: u16,
-    budget: u32,
+    budget: Budget,
 ) -> Result<(), ToolError> {
-    let text = read_text(alloc, input)?;
-    let image = image_of(alloc, &text, vars_size, budget)?;
+    let text = expand_text(alloc, text)?;
+    let image = match budget {
+        Budget::Steps(steps) => image_of(alloc, &text, vars_size, steps)?,
+        Budget::Auto => priced_image_of(alloc, &text, vars_size)?,
+    };
     write_whole(out, &image)
+}
+
+fn write_expanded<W: Write>(alloc: Global, text: &[u8], out: &mut W) -> Result<(), ToolError> {
+    let text = expand_text(alloc, text)?;
+    write_whole(out, &text)
 }
 
 fn write_listing<R: Read, W: Write>(
     alloc: Global,
     input: &mut R,
     out: &mut W,
+    with_slots: bool,
 ) -> Result<(), ToolError> {
     let image = read_image(alloc, input)?;
-    let listing = listing_of(alloc, &image)?;
+    let listing = if with_slots {
+        numbered_listing_of(alloc, &image)?
+    } else {
+        listing_of(alloc, &image)?
+    };
     write_whole(out, listing.as_bytes())
 }
 
+// The verdict on an image, and why it is refused.
 fn write_verdict<R: Read, W: Write>(
     alloc: Global,
     input: &mut R,
     out: &mut W,
-) -> Result<Status, ToolError> {
+) -> Result<Option<Diagnosis>, ToolError> {
     let image = read_image(alloc, input)?;
-    let status = match verify(alloc, &image) {
+    match verify(alloc, &image) {
         Ok(program) => {
             let (cost, budget) = (program.cost(), program.budget());
             writeln!(out, "accepted cost {cost} budget {budget}").map_err(ToolError::Output)?;
-            Status::Done
+            out.flush().map_err(ToolError::Output)?;
+            Ok(None)
         }
-        Err(Refusal::Broken(fault)) => {
-            writeln!(out, "{fault}").map_err(ToolError::Output)?;
-            Status::Refused
+        Err(Refusal::Broken(_)) => write_refusal(alloc, &image, out),
+        Err(Refusal::NoMemory) => Err(ToolError::Memory(AllocError)),
+    }
+}
+
+// The report of a run, or the verdict on an image that is refused.
+fn write_report<W: Write>(
+    alloc: Global,
+    image: &[u8],
+    out: &mut W,
+    asked: &Asked,
+) -> Result<Option<Diagnosis>, ToolError> {
+    match verify(alloc, image) {
+        Ok(program) => {
+            let report = report(alloc, &program, asked)?;
+            write_whole(out, report.as_bytes())?;
+            Ok(None)
         }
-        Err(Refusal::NoMemory) => return Err(ToolError::Memory(AllocError)),
-    };
+        Err(Refusal::Broken(_)) => write_refusal(alloc, image, out),
+        Err(Refusal::NoMemory) => Err(ToolError::Memory(AllocError)),
+    }
+}
+
+// The verdict on an image that is refused.
+fn write_refusal<W: Write>(
+    alloc: Global,
+    image: &[u8],
+    out: &mut W,
+) -> Result<Option<Diagnosis>, ToolError>
+    requires { IsRejected image.now }
+{
+    let diagnosis = diagnosis_of(alloc, image)?;
+    writeln!(out, "{diagnosis}").map_err(ToolError::Output)?;
     out.flush().map_err(ToolError::Output)?;
-    Ok(status)
+    Ok(Some(diagnosis))
+}
+
+/// Why an image is refused that breaks a rule.
+///
+/// # Errors
+/// Memory was refused.
+fn diagnosis_of(alloc: Global, image: &[u8]) -> Result<Diagnosis, AllocError>
+    requires { IsRejected image.now }
+    ensures { IfOk result (IsDiagnosisOf image.now) }
+{
+    match diagnose(alloc, image) {
+        Ok(()) => unreachable!(),
+        Err(Rejection::Broken(diagnosis)) => Ok(diagnosis),
+        Err(Rejection::NoMemory) => Err(AllocError),
+    }
 }
 
 /// The image of a text's program. A text that isn't UTF-8 has an unknown word in its first line.
@@ -203,19 +390,68 @@ pub fn image_of(
 ) -> Result<Vec<u8>, ToolError>
     ensures { IfOk result (λ v. IsImageOf text.now vars_size budget v.items) }
 {
+    let program = program_of(alloc, text)?;
+    let head = Head::new(vars_size, program.len(), budget).map_err(header_error)?;
+    image_with(alloc, &head, &program)
+}
+
+/// The image of a text's program whose budget is the program's cost: the least budget that the program may have.
+///
+/// # Errors
+/// As of `image_of`; and after the header's rules the first rule of the control flow, 11 to 17, that the program breaks with the
+/// greatest budget.
+pub fn priced_image_of(alloc: Global, text: &[u8], vars_size: u16) -> Result<Vec<u8>, ToolError>
+    ensures { IfOk result (λ v. IsPricedImageOf text.now vars_size v.items) }
+{
+    let program = program_of(alloc, text)?;
+    let head = priced_head(vars_size, &program)?;
+    image_with(alloc, &head, &program)
+}
+
+/// The header of a program whose budget is its cost.
+fn priced_head(vars_size: u16, program: &[Insn]) -> Result<Head, ToolError>
+    ensures head { IfOk result (λ h. (h ≡ program_head vars_size h.budget program.now) × (limit_fault h ≡ None)) }
+    ensures cost { IfOk result (λ h. IsLongest program.now h.budget) }
+{
+    let greatest = Head::new(vars_size, program.len(), GREATEST_BUDGET).map_err(header_error)?;
+    match shape_cost(&greatest, program) {
+        Ok(cost) => Head::new(vars_size, program.len(), cost).map_err(header_error),
+        Err(diagnosis) => Err(ToolError::Image(diagnosis)),
+    }
+}
+
+/// The program of a text.
+fn program_of(alloc: Global, text: &[u8]) -> Result<Vec<Insn>, ToolError>
+    ensures program { IfOk result (λ v. IsAssembled (lines_of text.now) v.items) }
+    ensures slots { IfOk result (λ v. IsTrue (is_program v.items)) }
+{
     let Ok(text) = str::from_utf8(text) else {
         return Err(ToolError::Text(AsmError::Faulty {
             mistake: Mistake::UnknownWord,
             line: 1,
         }));
     };
-    let program = assemble(alloc, text)?;
-    let head = Head::new(vars_size, program.len(), budget)?;
-    let slots = encode(alloc, &program)?;
+    Ok(assemble(alloc, text)?)
+}
+
+/// The image of a header and its program.
+fn image_with(alloc: Global, head: &Head, program: &[Insn]) -> Result<Vec<u8>, ToolError>
+    requires { IsTrue (is_program program.now) }
+    ensures { IfOk result (λ v. v.items ≡ head_bytes head.now ++ encoded program.now) }
+{
+    let slots = encode(alloc, program)?;
     let mut image = Vec::with_capacity(alloc, HEADER_SIZE)?;
     image.extend_from_slice(&head.bytes())?;
     image.extend_from_slice(&slots)?;
     Ok(image)
+}
+
+// A number of the header that is out of its limits.
+fn header_error(fault: Fault) -> ToolError {
+    ToolError::Image(Diagnosis {
+        fault,
+        cause: Cause::Header,
+    })
 }
 
 /// The listing of an image's program.
@@ -225,7 +461,19 @@ pub fn image_of(
 pub fn listing_of(alloc: Global, image: &[u8]) -> Result<String, ToolError>
     ensures { IfOk result (λ s. IsListingOf image.now (string_bytes s)) }
 {
-    let _head = head(image)?;
-    let program = decode(alloc, &image[HEADER_SIZE..])?;
+    let head = read_head(image)?;
+    let program = read_code(alloc, image, &head)?;
     Ok(disassemble(alloc, &program)?)
+}
+
+/// The listing of an image's program, each line behind the number of its slot.
+///
+/// # Errors
+/// As of `listing_of`.
+pub fn numbered_listing_of(alloc: Global, image: &[u8]) -> Result<String, ToolError>
+    ensures { IfOk result (λ s. IsNumberedListingOf image.now (string_bytes s)) }
+{
+    let head = read_head(image)?;
+    let program = read_code(alloc, image, &head)?;
+    Ok(numbered(alloc, &program)?)
 }

@@ -523,6 +523,24 @@ passing_refused vars code slot states insn ks p g e f =
     ∙ ap (is_typable vars (insn ∷ drop (slot + 1) code)) ds
     ∙ ap (types_on (is_typable vars (drop (slot + 1) code))) f
 
+at_end : (front : States) (s : Option (List Kind)) (rest : States) (slot : ℕ) → length front ≡ slot → state_at (front ++ (s ∷ rest)) slot ≡ s
+at_end [] s rest zero e = refl
+at_end [] s rest (suc slot) e = absurd (omega (arith, e))
+at_end (f ∷ front) s rest zero e = absurd (omega (arith, e))
+at_end (f ∷ front) s rest (suc slot) e = at_end front s rest slot (omega (arith, e))
+
+-- the kinds that the pass comes to a slot with
+pub passing_known : (vars : ℕ) (code : List Insn) (slot : ℕ) (states : States) (insn : Insn) (ks : List Kind) → Passing vars code slot states → slice_get code slot ≡ Some insn → state_at states slot ≡ Some ks
+    → state_at (forward vars code (beginning code)) slot ≡ Some ks
+passing_known vars code slot states insn ks p g e =
+    let s = stands_at vars code slot states insn p g in
+    let rest = states_on (forward vars (drop (slot + 1) code)) (passed vars insn (Some ks) (drop (slot + 1) states)) in
+    let whole : take slot states ++ (Some ks ∷ rest) ≡ forward vars code (beginning code) =
+    ap (λ l. take slot states ++ forward vars (insn ∷ drop (slot + 1) code) l) (sym (dropped_state states slot (Some ks) s.here e))
+    ∙ ap (λ l. take slot states ++ forward vars l (drop slot states)) (sym (dropped code slot insn g))
+    ∙ p.states_are in
+    ap (λ l. state_at l slot) (sym whole) ∙ at_end (take slot states) (Some ks) rest slot (length-take-le slot states (omega (arith, s.here)))
+
 pub passing_end : (vars : ℕ) (code : List Insn) (slot : ℕ) (states : States) → Passing vars code slot states → slot ≡ length code → (is_typable vars code (beginning code) ≡ true) × (states ≡ forward vars code (beginning code))
 passing_end vars code slot states p e =
     let none : drop slot code ≡ [] = ap (λ n. drop n code) e ∙ drop_all (length code) code (omega arith) in

@@ -37,7 +37,7 @@ abbrev pub states_on : (States → States) → Option States → States
 states_on rest None = []
 states_on rest (Some pending) = rest pending
 
--- the states of all slots, from these on
+-- the states of all slots, from these on; where a slot's demands aren't met, up to that slot alone
 abbrev pub forward : ℕ → List Insn → States → States
 forward vars [] states = []
 forward vars (insn ∷ code) [] = []

@@ -18,10 +18,12 @@ pub mod lowering;
 pub mod op;
 pub mod pass;
 pub mod refusal;
+pub mod untyped;
 pub mod verified;
 pub mod verifying;
 
 pub use op::Op;
 pub use refusal::Refusal;
+pub use untyped::Untyped;
 pub use verified::Verified;
 pub use verifying::verify;

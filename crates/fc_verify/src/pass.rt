@@ -9,9 +9,10 @@ ghost use Rattle.fc_kinds.specs.Transfer.{AreShallow, transfer};
 ghost use Rattle.fc_kinds.specs.Typing.{IsTypingOf, States, entry, state_at};
 ghost use Rattle.fc_kinds.specs.Ways.{skipped, ways_after};
 ghost use Rattle.fc_verify.specs.Runs.{IsTypedProgram, IsUntypedProgram};
-ghost use Rattle.fc_verify.specs.Stages.{IsTypingFault};
+ghost use Rattle.fc_verify.specs.Stages.{IsTypingFault, IsUntyped};
 ghost use Rattle.fc_verify.specs.Pass.{Stays, StayIn, beginning, forward, is_typable, joined_in, led, passed};
 
+use crate::untyped::Untyped;
 use fc_image::laws::shaped_programs_go_forward;
 use fc_isa::{Fault, Insn, Jump};
 use fc_kinds::laws::{
@@ -24,20 +25,22 @@ use fc_kinds::{ENTRY, Regs, after, enter, join, when};
 /// place for a state a slot.
 ///
 /// # Errors
-/// The first slot in order whose demands aren't met, with a rule, 20 to 27, that it breaks: the program has no typing.
+/// The first slot in order whose demands aren't met, with a rule, 20 to 27, that it breaks, and what is known of the registers
+/// before it: the program has no typing.
 pub fn typed(
     vars_size: u16,
     code: &[Insn],
     room: Vec<Option<Regs>>,
-) -> Result<Vec<Option<Regs>>, Fault>
+) -> Result<Vec<Option<Regs>>, Untyped>
     requires program { IsUntypedProgram code.now }
     requires empty { room.items ≡ [] }
     requires room { length code.now ≤ vec_capacity room }
     ensures typing { IfOk result (λ v. IsTypedProgram vars_size code.now v.items) }
     ensures typable { IfOk result (λ v. is_typable vars_size code.now (beginning code.now) ≡ true) }
-    ensures untyped { IfErr result (λ fault. (t : States) → IsTypingOf vars_size code.now t → ⊥) }
-    ensures untypable { IfErr result (λ fault. is_typable vars_size code.now (beginning code.now) ≡ false) }
-    ensures fault { IfErr result (IsTypingFault code.now) }
+    ensures untyped { IfErr result (λ u. (t : States) → IsTypingOf vars_size code.now t → ⊥) }
+    ensures untypable { IfErr result (λ u. is_typable vars_size code.now (beginning code.now) ≡ false) }
+    ensures fault { IfErr result (λ u. IsTypingFault code.now u.fault) }
+    ensures known { IfErr result (IsUntyped vars_size code.now) }
 {
     shaped_programs_go_forward();
     typed_within(vars_size, code, room)
@@ -51,7 +54,7 @@ fn typed_within(
     vars_size: u16,
     code: &[Insn],
     room: Vec<Option<Regs>>,
-) -> Result<Vec<Option<Regs>>, Fault>
+) -> Result<Vec<Option<Regs>>, Untyped>
     requires some { 1 ≤ length code.now }
     requires count { length code.now ≤ 512 }
     requires stay { StayIn code.now }
@@ -60,9 +63,10 @@ fn typed_within(
     requires room { length code.now ≤ vec_capacity room }
     ensures typing { IfOk result (λ v. IsTypingOf vars_size code.now v.items) }
     ensures typable { IfOk result (λ v. is_typable vars_size code.now (beginning code.now) ≡ true) }
-    ensures untyped { IfErr result (λ fault. (t : States) → IsTypingOf vars_size code.now t → ⊥) }
-    ensures untypable { IfErr result (λ fault. is_typable vars_size code.now (beginning code.now) ≡ false) }
-    ensures fault { IfErr result (IsTypingFault code.now) }
+    ensures untyped { IfErr result (λ u. (t : States) → IsTypingOf vars_size code.now t → ⊥) }
+    ensures untypable { IfErr result (λ u. is_typable vars_size code.now (beginning code.now) ≡ false) }
+    ensures fault { IfErr result (λ u. IsTypingFault code.now u.fault) }
+    ensures known { IfErr result (IsUntyped vars_size code.now) }
 {
     containment_is_an_order();
     joins_are_least();
@@ -97,15 +101,16 @@ fn first_state(slot: usize) -> Option<Regs>
 ///
 /// # Errors
 /// The first slot whose demands aren't met.
-fn pass_slots(vars_size: u16, code: &[Insn], states: &mut [Option<Regs>]) -> Result<(), Fault>
+fn pass_slots(vars_size: u16, code: &[Insn], states: &mut [Option<Regs>]) -> Result<(), Untyped>
     requires beginning { states.old ≡ beginning code.now }
     requires count { length code.now ≤ 512 }
     requires stay { StayIn code.now }
     requires insns { AllByRecursion IsInsn code.now }
     ensures typable { IfOk result (λ u. is_typable vars_size code.now (beginning code.now) ≡ true) }
     ensures states { IfOk result (λ u. states.new ≡ forward vars_size code.now (beginning code.now)) }
-    ensures untypable { IfErr result (λ fault. is_typable vars_size code.now (beginning code.now) ≡ false) }
-    ensures fault { IfErr result (IsTypingFault code.now) }
+    ensures untypable { IfErr result (λ u. is_typable vars_size code.now (beginning code.now) ≡ false) }
+    ensures fault { IfErr result (λ u. IsTypingFault code.now u.fault) }
+    ensures known { IfErr result (IsUntyped vars_size code.now) }
 {
     containment_is_an_order();
     joins_are_least();
@@ -131,15 +136,17 @@ fn pass(
     insn: &Insn,
     regs: &Regs,
     pending: &mut [Option<Regs>],
-) -> Result<(), Fault>
+) -> Result<(), Untyped>
     requires kinds { AreKinds regs.now }
     requires levels { AreShallow 1023 regs.now }
     requires stays { Stays (length pending.old) insn.now }
     requires insn { IsInsn insn.now }
     ensures passed { IfOk result (λ u. passed vars_size insn.now (Some regs.now) pending.old ≡ Some pending.new) }
-    ensures refused { IfErr result (λ fault. passed vars_size insn.now (Some regs.now) pending.old ≡ None) }
-    ensures rule { IfErr result (λ fault. (20 ≤ number_of fault.rule) × (number_of fault.rule ≤ 27)) }
-    ensures slot { IfErr result (λ fault. fault.slot ≡ slot) }
+    ensures refused { IfErr result (λ u. passed vars_size insn.now (Some regs.now) pending.old ≡ None) }
+    ensures rule { IfErr result (λ u. (20 ≤ number_of u.fault.rule) × (number_of u.fault.rule ≤ 27)) }
+    ensures slot { IfErr result (λ u. u.fault.slot ≡ slot) }
+    ensures known { IfErr result (λ u. u.known ≡ regs.now) }
+    ensures without { IfErr result (λ u. transfer vars_size insn.now regs.now ≡ None) }
 {
     let next = checked(vars_size, slot, *insn, regs)?;
     spread(*insn, regs, &next, pending);
@@ -150,19 +157,23 @@ fn pass(
 ///
 /// # Errors
 /// A demand that isn't met.
-fn checked(vars_size: u16, slot: usize, insn: Insn, regs: &Regs) -> Result<Regs, Fault>
+fn checked(vars_size: u16, slot: usize, insn: Insn, regs: &Regs) -> Result<Regs, Untyped>
     requires kinds { AreKinds regs.now }
     requires insn { IsInsn insn }
     ensures after { IfOk result (λ ks. transfer vars_size insn regs.now ≡ Some ks) }
     ensures kinds { IfOk result AreKinds }
-    ensures refused { IfErr result (λ fault. transfer vars_size insn regs.now ≡ None) }
-    ensures rule { IfErr result (λ fault. (20 ≤ number_of fault.rule) × (number_of fault.rule ≤ 27)) }
-    ensures slot { IfErr result (λ fault. fault.slot ≡ slot) }
+    ensures refused { IfErr result (λ u. transfer vars_size insn regs.now ≡ None) }
+    ensures rule { IfErr result (λ u. (20 ≤ number_of u.fault.rule) × (number_of u.fault.rule ≤ 27)) }
+    ensures slot { IfErr result (λ u. u.fault.slot ≡ slot) }
+    ensures known { IfErr result (λ u. u.known ≡ regs.now) }
 {
     effects_keep_kinds();
     match after(insn, regs, vars_size) {
         Ok(next) => Ok(next),
-        Err(rule) => Err(Fault { rule, slot }),
+        Err(rule) => Err(Untyped {
+            fault: Fault { rule, slot },
+            known: *regs,
+        }),
     }
 }
 

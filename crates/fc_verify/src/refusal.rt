@@ -1,4 +1,5 @@
 //! Why an image is refused.
+use crate::untyped::Untyped;
 use fc_isa::{DecodeError, Fault};
 use std::alloc::AllocError;
 use thiserror::Error;
@@ -22,6 +23,17 @@ impl From<Fault> for Refusal {
 
     fn from(fault: Fault) -> Self {
         Refusal::Broken(fault)
+    }
+}
+
+impl From<Untyped> for Refusal {
+    ghost use Rattle.std.specs.Prelude.{◌≡◌};
+    ghost use Rattle.fc_verify.specs.declared.refusal.Refusal.TheVariants.{Broken};
+
+    ghost from_gives = { λ u e. e ≡ Broken u.fault };
+
+    fn from(untyped: Untyped) -> Self {
+        Refusal::Broken(untyped.fault)
     }
 }
 

@@ -1,28 +1,32 @@
 //! The assembler's program: it parses its command line, and calls the service.
 #![tactic(auto)]
 
-use clap::{Arg, ArgMatches, Command, value_parser};
+use clap::{Arg, ArgAction, ArgMatches, Command, value_parser};
 use fc_cli::Status;
 use fc_cli::command_line::{VERSION, exit_code, parse, words};
-use fc_tools::tools::{check, image, list};
+use fc_cli::status::tell;
+use fc_help::Method;
+use fc_tools::asked::{Asked, AskedError};
+use fc_tools::budget::Budget;
+use fc_tools::tools::{check, expand, image, image_bytes, list, run as run_input, run_image};
 use std::alloc::{AllocError, Global};
-use std::io;
 use std::io::{BufReader, BufWriter, Read, Write};
 use std::process::ExitCode;
 use std::rt::Runtime;
+use std::{fs, io};
 
 /// What `--help` tells of how the commands are used and how they end.
 const STATUSES: &str = "\
 Example: a text with the lines `mov64 r0, 0` and `exit`
 
-  fcasm image --vars 0 --budget 2 < program.txt > program.img
+  fcasm image --vars 0 --budget auto < program.txt > program.img
   fcasm check < program.img
 
 Exit status: 0 where the work is done; 1 where a text or an image is refused; 2 where the
 command line is bad; 3 where reading or writing failed, or memory was refused.";
 
-// An option that takes a number and can't be left out.
-fn number<'a>(
+// An option that takes a value and can't be left out.
+fn wanted<'a>(
     alloc: Global,
     name: &'static str,
     value: &'static str,
@@ -38,31 +42,85 @@ fn number<'a>(
 fn image_command<'a>(alloc: Global) -> Result<Command<'a>, AllocError> {
     Command::new(alloc, "image")
         .about("Assemble a text to an image")
-        .arg(number(
+        .arg(wanted(
             alloc,
             "vars",
             "V",
             "The size of the variables: 0 to 256 bytes, a multiple of 8",
         )
         .value_parser(value_parser!(u16)))?
-        .arg(number(
+        .arg(wanted(
             alloc,
             "budget",
             "B",
-            "The most steps that a run may take: 1 to 65536",
+            "The most steps that a run may take: 1 to 65536, or `auto`, the program's cost",
+        ))
+}
+
+fn list_command<'a>(alloc: Global) -> Result<Command<'a>, AllocError> {
+    Command::new(alloc, "list")
+        .about("List the program of an image")
+        .arg(
+            Arg::new(alloc, "slots")
+                .long("slots")
+                .action(ArgAction::SetTrue)
+                .help("Put the number of its slot in front of each line"),
         )
-        .value_parser(value_parser!(u32)))
+}
+
+fn run_command<'a>(alloc: Global) -> Result<Command<'a>, AllocError> {
+    let image = Arg::new(alloc, "image").value_name("IMAGE").help(
+        "The image's file; standard input where it is `-` or not given",
+    );
+    let method = Arg::new(alloc, "method")
+        .long("method")
+        .value_name("METHOD")
+        .value_parser(["get", "post"].as_slice())
+        .help("What is asked; get where it is not given");
+    Command::new(alloc, "run")
+        .about("Run an image's program once, and tell what it answers")
+        .arg(image)?
+        .arg(method)?
+        .arg(hex_bytes(
+            alloc,
+            "payload",
+            "The request's payload in hex, 1024 bytes at most; none where it is not given",
+        ))?
+        .arg(hex_bytes(
+            alloc,
+            "query",
+            "The request's query in hex, 64 bytes at most; none where it is not given",
+        ))?
+        .arg(hex_bytes(
+            alloc,
+            "vars",
+            "The variables in hex, as many bytes as the image says; zeros where they are not given",
+        ))
+}
+
+// An option that takes bytes in hex.
+fn hex_bytes<'a>(alloc: Global, name: &'static str, help: &'static str) -> Arg<'a> {
+    Arg::new(alloc, name)
+        .long(name)
+        .value_name("HEX")
+        .help(help)
 }
 
 fn command<'a>(alloc: Global) -> Result<Command<'a>, AllocError> {
     Command::new(alloc, "fcasm")
         .version(VERSION)
-        .about("Assemble, list and check resource programs: from standard input to standard output")
+        .about(
+            "Assemble, list, check and run resource programs: from standard input to standard output",
+        )
         .after_help(STATUSES)
         .subcommand_required(true)
         .subcommand(image_command(alloc)?)?
-        .subcommand(Command::new(alloc, "list").about("List the program of an image"))?
-        .subcommand(Command::new(alloc, "check").about("Say whether an image is accepted"))
+        .subcommand(Command::new(alloc, "expand").about(
+            "Write a text as `image` assembles it: without labels, hexadecimal numbers, characters and texts",
+        ))?
+        .subcommand(list_command(alloc)?)?
+        .subcommand(Command::new(alloc, "check").about("Say whether an image is accepted"))?
+        .subcommand(run_command(alloc)?)
 }
 
 fn run<R: Runtime + AllocGlobal, E: Write>(rt: &R, err: &mut E) -> anyhow::Result<Status> {
@@ -87,8 +145,16 @@ fn obey<R: Runtime + AllocGlobal, E: Write>(
     let mut out = BufWriter::new(alloc, io::writer(rt))?;
     match matches.subcommand() {
         Some(("image", numbers)) => Ok(write_image(alloc, &mut input, &mut out, err, numbers)),
-        Some(("list", _)) => Ok(list(alloc, &mut input, &mut out, err)),
+        Some(("expand", _)) => Ok(expand(alloc, &mut input, &mut out, err)),
+        Some(("list", asked)) => Ok(list(
+            alloc,
+            &mut input,
+            &mut out,
+            err,
+            asked.get_flag("slots"),
+        )),
         Some(("check", _)) => Ok(check(alloc, &mut input, &mut out, err)),
+        Some(("run", asked)) => run_asked(rt, &mut input, &mut out, err, asked),
         _ => Ok(Status::Bad),
     }
 }
@@ -101,13 +167,64 @@ fn write_image<R: Read, W: Write, E: Write>(
     err: &mut E,
     numbers: &ArgMatches<'_>,
 ) -> Status {
-    match (
-        numbers.get_one::<u16>("vars"),
-        numbers.get_one::<u32>("budget"),
-    ) {
-        (Some(vars), Some(budget)) => image(alloc, input, out, err, vars, budget),
+    match (numbers.get_one::<u16>("vars"), numbers.get_str("budget")) {
+        (Some(vars), Some(budget)) => match budget.parse::<Budget>() {
+            Ok(budget) => image(alloc, input, out, err, vars, budget),
+            Err(error) => tell(err, &error, Status::Bad),
+        },
         _ => Status::Bad,
     }
+}
+
+// Runs the image that the command line names, as it asks.
+fn run_asked<R: Runtime + AllocGlobal, I: Read, W: Write, E: Write>(
+    rt: &R,
+    input: &mut I,
+    out: &mut W,
+    err: &mut E,
+    words: &ArgMatches<'_>,
+) -> anyhow::Result<Status> {
+    let asked = match asked_by(rt.alloc(), words) {
+        Ok(asked) => asked,
+        Err(error) => return Ok(tell(err, &error, error.status())),
+    };
+    match words.get_str("image") {
+        None | Some("-") => Ok(run_input(rt.alloc(), input, out, err, &asked)),
+        Some(path) => run_file(rt, path, out, err, &asked),
+    }
+}
+
+// What the command line asks a program.
+fn asked_by(alloc: Global, words: &ArgMatches<'_>) -> Result<Asked, AskedError> {
+    let method = match words.get_str("method") {
+        Some("post") => Method::Post,
+        _ => Method::Get,
+    };
+    let payload = words.get_str("payload").unwrap_or("");
+    let query = words.get_str("query").unwrap_or("");
+    Asked::new(alloc, method, payload, query, words.get_str("vars"))
+}
+
+// Runs the image of this file.
+fn run_file<R: Runtime + AllocGlobal, W: Write, E: Write>(
+    rt: &R,
+    path: &str,
+    out: &mut W,
+    err: &mut E,
+    asked: &Asked,
+) -> anyhow::Result<Status> {
+    match file_bytes(rt, path) {
+        Ok(image) => Ok(run_image(rt.alloc(), &image, out, err, asked)),
+        Err(error) => {
+            writeln!(err, "{path}: {error}")?;
+            Ok(Status::Failed)
+        }
+    }
+}
+
+fn file_bytes<R: Runtime + AllocGlobal>(rt: &R, path: &str) -> io::Result<Vec<u8>> {
+    let mut file = fs::open(rt, path)?;
+    image_bytes(rt.alloc(), &mut file)
 }
 
 fn main(rt: HostRuntime) -> ExitCode {

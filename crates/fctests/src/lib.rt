@@ -21,6 +21,8 @@ mod event_tests;
 #[cfg(test)]
 mod exchange_tests;
 #[cfg(test)]
+mod expand_tests;
+#[cfg(test)]
 mod failing_tests;
 #[cfg(test)]
 mod faulty;
@@ -57,6 +59,8 @@ mod play_tests;
 #[cfg(test)]
 mod post_tests;
 #[cfg(test)]
+mod refusal_tests;
+#[cfg(test)]
 mod replay_tests;
 #[cfg(test)]
 mod reply_tests;
@@ -64,6 +68,8 @@ mod reply_tests;
 mod request_tests;
 #[cfg(test)]
 mod response_tests;
+#[cfg(test)]
+mod run_tests;
 #[cfg(test)]
 mod scripted;
 #[cfg(test)]

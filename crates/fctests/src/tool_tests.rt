@@ -1,7 +1,10 @@
 // Texts and images through the tools, with what is written and told: the expected values are the format's rules.
 use crate::faulty::{Full, Unflushed};
-use crate::tooling::{Done, assembled, check_program, checked, listed, with_memory};
+use crate::tooling::{
+    Done, assembled, assembled_with, check_program, checked, listed, listed_with, with_memory,
+};
 use fc_cli::Status;
+use fc_tools::budget::Budget;
 use fc_tools::tools::{check, image, list};
 use std::alloc::Global;
 use std::io;
@@ -20,9 +23,9 @@ const MOV_0: [u8; 8] = [0xb7, 0, 0, 0, 0, 0, 0, 0];
 
 const EXIT: [u8; 8] = [0x95, 0, 0, 0, 0, 0, 0, 0];
 
-// The tool refuses, tells this, and writes nothing.
+// The tool refuses, tells this first, and writes nothing.
 fn is_refused<R: Abort>(rt: &R, done: &Done, told: &str) -> Result<(), Fail> {
-    assert!(rt; done.err.as_slice() == told.as_bytes(), "{told}");
+    assert!(rt; done.err.starts_with(told.as_bytes()), "{told}");
     assert!(rt;
         done.status == Status::Refused && done.out.is_empty(),
         "{told}"
@@ -109,6 +112,76 @@ fn a_wide_load_is_listed_as_one(rt: HostRuntime) -> Result<(), Fail> {
         image.as_slice(),
         "lddw r1, 4294967303\nstxdw r10, -8, r1\n",
     )
+}
+
+// The number is that of the line's first slot: a wide load has two.
+#[test]
+fn lines_are_listed_with_their_slots(rt: HostRuntime) -> Result<(), Fail> {
+    let text =
+        b"lddw r1, 4294967303\nmov64 r0, 0\nlddw r2, 1\nja 5\nja 4\nja 3\nja 2\nja 1\nja 0\nexit";
+    let image = assembled(rt.alloc(), text, 0, 1)?;
+    let done = listed_with(rt.alloc(), image.out.as_slice(), true)?;
+    assert!(rt; done.status == Status::Done && done.err.is_empty());
+    assert!(rt;
+        done.out.as_slice()
+            == b"0: lddw r1, 4294967303\n2: mov64 r0, 0\n3: lddw r2, 1\n5: ja 5\n6: ja 4\n7: ja 3\n8: ja 2\n9: ja 1\n10: ja 0\n11: exit\n".as_slice()
+    );
+    Ok(())
+}
+
+// Texts, and the budget that is the program's cost, in the image's bytes 8 and 9.
+static COSTS: [(&[u8], u8, u8); 4] = [
+    (b"exit", 1, 0),
+    // the longer of two ways
+    (
+        b"mov64 r0, 0\njeq r3, 0, 2\nmov64 r4, 1\nmov64 r4, 2\nexit",
+        5,
+        0,
+    ),
+    // a function of two steps, called twice
+    (b"callf 2\ncallf 1\nexit\nmov64 r0, 0\nexit", 7, 0),
+    // what the typing would refuse has a cost as well
+    (b"mov64 r0, r9\nexit", 2, 0),
+];
+
+#[test]
+fn a_budget_is_the_cost_where_it_is_asked_for(rt: HostRuntime) -> Result<(), Fail> {
+    for (text, low, high) in COSTS.iter().copied() {
+        let done = assembled_with(rt.alloc(), text, 0, Budget::Auto)?;
+        assert!(rt; done.status == Status::Done && done.err.is_empty());
+        assert!(rt; done.out.get(8..12) == Some([low, high, 0, 0].as_slice()));
+    }
+    Ok(())
+}
+
+// Texts whose cost is asked for, and what is told first.
+static UNPRICED: [(&[u8], u16, &str); 4] = [
+    (b"movq r1, 1", 7, "A1 line 1\n"),
+    (b"", 0, "V02 slot 0\n"),
+    (b"ja -1", 8, "V12 slot 0\n"),
+    (b"mov64 r0, 0\ncall 9\nexit", 8, "V17 slot 1\n"),
+];
+
+#[test]
+fn a_cost_is_told_of_no_misshapen_program(rt: HostRuntime) -> Result<(), Fail> {
+    for (text, vars_size, told) in UNPRICED.iter().copied() {
+        is_refused(
+            &rt,
+            &assembled_with(rt.alloc(), text, vars_size, Budget::Auto)?,
+            told,
+        )?;
+    }
+    Ok(())
+}
+
+// Words that are budgets, and words that aren't.
+#[test]
+fn a_budget_is_a_number_or_auto(rt: HostRuntime) {
+    assert!(rt; "auto".parse::<Budget>() == Ok(Budget::Auto));
+    assert!(rt; "65537".parse::<Budget>() == Ok(Budget::Steps(65537)));
+    for word in ["", "Auto", "4294967296", "0x10", "1 "] {
+        assert!(rt; word.parse::<Budget>().is_err(), "{word}");
+    }
 }
 
 // Headers alone, and what is told.
@@ -209,7 +282,11 @@ fn an_image_is_checked(rt: HostRuntime) -> Result<(), Fail> {
         let image = image_with(rt.alloc(), budget, slots)?;
         let done = checked(rt.alloc(), image.as_slice())?;
         assert!(rt; done.out.as_slice() == printed.as_bytes(), "{printed}");
-        assert!(rt; done.status == status && done.err.is_empty(), "{printed}");
+        assert!(rt; done.status == status, "{printed}");
+        assert!(rt;
+            done.err.is_empty() == (status == Status::Done),
+            "{printed}"
+        );
     }
     Ok(())
 }
@@ -321,7 +398,14 @@ fn a_text_without_end_is_refused(rt: HostRuntime) -> Result<(), Fail> {
     let alloc = rt.alloc();
     let mut out = Vec::new(alloc);
     let mut err = Vec::new(alloc);
-    let status = image(alloc, &mut io::repeat(b'\n'), &mut out, &mut err, 0, 1);
+    let status = image(
+        alloc,
+        &mut io::repeat(b'\n'),
+        &mut out,
+        &mut err,
+        0,
+        Budget::Steps(1),
+    );
     let done = with_memory(Done { status, out, err })?;
     assert!(rt; done.status == Status::Refused && done.out.is_empty());
     assert!(rt; done.err.as_slice() == b"the text has more than 1048576 bytes\n".as_slice());
@@ -343,8 +427,8 @@ fn a_failed_reader_is_status_3(rt: HostRuntime) -> Result<(), Fail> {
     let alloc = rt.alloc();
     let mut out = Vec::new(alloc);
     let mut err = Vec::new(alloc);
-    assert!(rt; image(alloc, &mut Torn, &mut out, &mut err, 0, 1) == Status::Failed);
-    assert!(rt; list(alloc, &mut Torn, &mut out, &mut err) == Status::Failed);
+    assert!(rt; image(alloc, &mut Torn, &mut out, &mut err, 0, Budget::Steps(1)) == Status::Failed);
+    assert!(rt; list(alloc, &mut Torn, &mut out, &mut err, false) == Status::Failed);
     assert!(rt; check(alloc, &mut Torn, &mut out, &mut err) == Status::Failed);
     assert!(rt;
         out.is_empty()
@@ -359,9 +443,18 @@ fn a_failed_writer_is_status_3(rt: HostRuntime) -> Result<(), Fail> {
     let alloc = rt.alloc();
     let mut err = Vec::new(alloc);
     let mut text: &[u8] = b"exit";
-    assert!(rt; image(alloc, &mut text, &mut Full(23), &mut err, 0, 1) == Status::Failed);
+    assert!(rt;
+        image(
+            alloc,
+            &mut text,
+            &mut Full(23),
+            &mut err,
+            0,
+            Budget::Steps(1)
+        ) == Status::Failed
+    );
     let mut input = IMAGE;
-    assert!(rt; list(alloc, &mut input, &mut Full(17), &mut err) == Status::Failed);
+    assert!(rt; list(alloc, &mut input, &mut Full(17), &mut err, false) == Status::Failed);
     let mut input = IMAGE;
     assert!(rt; check(alloc, &mut input, &mut Full(3), &mut err) == Status::Failed);
     assert!(rt;
@@ -376,9 +469,18 @@ fn a_failed_flush_is_status_3(rt: HostRuntime) -> Result<(), Fail> {
     let alloc = rt.alloc();
     let mut err = Vec::new(alloc);
     let mut text: &[u8] = b"exit";
-    assert!(rt; image(alloc, &mut text, &mut Unflushed, &mut err, 0, 1) == Status::Failed);
+    assert!(rt;
+        image(
+            alloc,
+            &mut text,
+            &mut Unflushed,
+            &mut err,
+            0,
+            Budget::Steps(1)
+        ) == Status::Failed
+    );
     let mut input = IMAGE;
-    assert!(rt; list(alloc, &mut input, &mut Unflushed, &mut err) == Status::Failed);
+    assert!(rt; list(alloc, &mut input, &mut Unflushed, &mut err, false) == Status::Failed);
     let mut input = IMAGE;
     assert!(rt; check(alloc, &mut input, &mut Unflushed, &mut err) == Status::Failed);
     Ok(())
@@ -389,7 +491,16 @@ fn a_mistake_that_is_not_told_is_status_3(rt: HostRuntime) -> Result<(), Fail> {
     let alloc = rt.alloc();
     let mut out = Vec::new(alloc);
     let mut text: &[u8] = b"movq";
-    assert!(rt; image(alloc, &mut text, &mut out, &mut Full(3), 0, 1) == Status::Failed);
+    assert!(rt;
+        image(
+            alloc,
+            &mut text,
+            &mut out,
+            &mut Full(3),
+            0,
+            Budget::Steps(1)
+        ) == Status::Failed
+    );
     assert!(rt; out.is_empty());
     Ok(())
 }

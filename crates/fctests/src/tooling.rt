@@ -1,5 +1,6 @@
 // The tools on bytes.
 use fc_cli::Status;
+use fc_tools::budget::Budget;
 use fc_tools::tools::{check, image, list};
 use std::alloc::{AllocError, Global};
 use std::process::Abort;
@@ -27,6 +28,15 @@ pub(crate) fn assembled(
     vars_size: u16,
     budget: u32,
 ) -> Result<Done, AllocError> {
+    assembled_with(alloc, text, vars_size, Budget::Steps(budget))
+}
+
+pub(crate) fn assembled_with(
+    alloc: Global,
+    text: &[u8],
+    vars_size: u16,
+    budget: Budget,
+) -> Result<Done, AllocError> {
     let mut out = Vec::new(alloc);
     let mut err = Vec::new(alloc);
     let mut input = text;
@@ -35,10 +45,18 @@ pub(crate) fn assembled(
 }
 
 pub(crate) fn listed(alloc: Global, image: &[u8]) -> Result<Done, AllocError> {
+    listed_with(alloc, image, false)
+}
+
+pub(crate) fn listed_with(
+    alloc: Global,
+    image: &[u8],
+    with_slots: bool,
+) -> Result<Done, AllocError> {
     let mut out = Vec::new(alloc);
     let mut err = Vec::new(alloc);
     let mut input = image;
-    let status = list(alloc, &mut input, &mut out, &mut err);
+    let status = list(alloc, &mut input, &mut out, &mut err, with_slots);
     with_memory(Done { status, out, err })
 }
 

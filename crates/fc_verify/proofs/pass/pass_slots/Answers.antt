@@ -1,12 +1,19 @@
-use Rattle.std.proofs.Common.{◌≡◌, ◌+◌, ◌≤◌, Some, None, length, sym, ap, ◌∙◌, subst, drop, take, ◌++◌, arith}
+use Rattle.std.proofs.Common.{Result, Ok, Err, ◌≡◌, ◌+◌, ◌≤◌, Some, None, length, sym, ap, ◌∙◌, subst, drop, take, ◌++◌, arith}
 use Rattle.std.proofs.lemmas.List.{length-take-le, drop_at}
 use Rattle.fc_verify.proofs.Levels.{AreLow, LevelRules, shallow_up, low_here, low_later, low_passed, beginning_low}
-use Rattle.std.specs.Prelude.{slice_get}
+use Rattle.std.specs.Prelude.{IfErr, slice_get}
 use Rattle.std.proofs.lemmas.Option.{slice_get-get_or}
+use Rattle.std.specs.Result.{IsErrAnd}
 use Rattle.fc_verify.specs.Pass.{Stays, passed}
-use Rattle.fc_verify.proofs.PassLaws.{KindRules, Passing, passing_start, stands_at, kinds_at, passing_some, passing_none}
+use Rattle.fc_verify.specs.Stages.{IsUntyped}
+use Rattle.fc_verify.proofs.PassLaws.{KindRules, Passing, passing_known, passing_start, stands_at, kinds_at, passing_some, passing_none}
 use Rattle.fc_verify.proofs.pass.pass_slots.Goals as goal
 use Rattle.fc_verify.proofs.pass.pass_slots.Goals.{in-Some+in_ok-pass, in_default}
+
+-- what is handed on as it is
+handed_on : {T E : Type 0} (r : Result T E) (e : E) (P : E → Type 0) → IsErrAnd r (λ x. x ≡ e) → P e → IfErr r P
+handed_on (Ok x) e P h p = absurd h
+handed_on (Err x) e P h p = subst P (sym h) p
 
 pub loop-slot-init : goal.loop-slot-init
 loop-slot-init c = record { low = subst (AreLow 0) (sym c.requires.beginning) (beginning_low c.args.code.now); passing = subst (Passing c.args.vars_size c.args.code.now 0) (sym c.requires.beginning) (passing_start c.args.vars_size c.args.code.now c.requires.stay c.requires.insns) }
@@ -74,3 +81,12 @@ pass-requires-clause-insn c =
     let l = c.loop-slot in
     let at : slice_get c.args.code.now l.slot ≡ Some c.index-code-slot.result = slice_get-get_or c.args.code.now l.slot c.index-code-slot.result c.loop-slot-test.true ∙ ap Some (sym c.index-code-slot.is) in
     (stands_at c.args.vars_size c.args.code.now l.slot l.states c.index-code-slot.result l.invariant.passing at).is_insn
+
+pub returns-in_err-pass-clause-known : goal.returns-in_err-pass-clause-known
+returns-in_err-pass-clause-known c =
+    let l = c.loop-slot in
+    let at : slice_get c.args.code.now l.slot ≡ Some c.index-code-slot.result = slice_get-get_or c.args.code.now l.slot c.index-code-slot.result c.loop-slot-test.true ∙ ap Some (sym c.index-code-slot.is) in
+    let e = c.in_err-pass.ensures in
+    let known = passing_known c.args.vars_size c.args.code.now l.slot l.states c.index-code-slot.result c.in-Some.regs l.invariant.passing at c.in-Some.is in
+    handed_on c.from_residual.result c.in_err-pass.field-0.0 (IsUntyped c.args.vars_size c.args.code.now) c.from_residual.ensures.1
+    (record { insn = c.index-code-slot.result; insn_is = rw e.slot at; known = rw (e.slot, e.known) known; refused = rw e.known e.without })

@@ -19,7 +19,7 @@ typed-requires-clause-program c =
 
 pub returns-in_err-states-clause-refused : goal.returns-in_err-states-clause-refused
 returns-in_err-states-clause-refused c =
-    let f = c.in_err-states.field-0.0 in
+    let f = c.in_err-states.field-0.0.fault in
     let e = c.in_err-states.ensures in
     err_is c.from_residual-in_err-states.result (Broken f) (IsRefusal c.args.image.now) c.from_residual-in_err-states.ensures.1
     (refused_typing c.args.image.now c.in_ok-head.head c.in_ok-code.code.items f c.in_ok-head.ensures.head c.in_ok-code.ensures.code

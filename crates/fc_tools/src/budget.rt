@@ -1,0 +1,33 @@
+//! The budget of an image, as it is asked for.
+ghost use Rattle.std.specs.Prelude.{◌≡◌};
+
+use std::str::FromStr;
+use thiserror::Error;
+
+/// The budget that an image is given.
+#[derive(Clone, Copy, Debug, PartialEq, Eq)]
+pub enum Budget {
+    /// So many steps.
+    Steps(u32),
+    /// The program's cost: the steps of its longest path.
+    Auto,
+}
+
+/// A text is no budget.
+#[derive(Clone, Copy, Debug, PartialEq, Eq, Drop, Error)]
+#[error("a budget is a number of steps up to 4294967295, or `auto`")]
+pub struct BudgetError;
+
+impl FromStr for Budget {
+    type Err = BudgetError;
+
+    fn from_str(text: &str) -> Result<Self, BudgetError> {
+        if text == "auto" {
+            return Ok(Budget::Auto);
+        }
+        match text.parse::<u32>() {
+            Ok(steps) => Ok(Budget::Steps(steps)),
+            Err(_) => Err(BudgetError),
+        }
+    }
+}

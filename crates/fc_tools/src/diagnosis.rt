@@ -1,0 +1,220 @@
+//! Why an image isn't accepted, with what shows that.
+ghost use Rattle.std.specs.Prelude.{IfErr, IfOk, IfSome, Some, None, length, true, ◌≡◌, ◌+◌, ◌*◌, ◌<◌, ◌≤◌, take, drop, slice_get};
+ghost use Rattle.fc_image.specs.Paths.{IsLongest, longest};
+ghost use Rattle.fc_image.specs.ShapeRules.{IsShaped, shape_fault};
+ghost use Rattle.fc_isa.specs.Encoding.{IsFirstFault};
+ghost use Rattle.fc_verify.specs.Accepted.{slots_of};
+ghost use Rattle.fc_verify.specs.Runs.{IsUntypedProgram};
+ghost use Rattle.fc_verify.specs.Stages.{IsCodeOf, IsHeadOf};
+ghost use Rattle.fc_tools.specs.Diagnosed.{IsAcceptable, IsRejection, IsShapeCause};
+
+use fc_image::laws::shape_fault_is_first;
+use fc_image::{HEADER_SIZE, Head, head, shape};
+use fc_isa::{DecodeError, Fault, Insn, Rule, decode};
+use fc_kinds::Regs;
+use fc_verify::Untyped;
+use fc_verify::pass::typed;
+use std::alloc::{AllocError, Global};
+use std::fmt;
+
+/// The greatest budget of an image.
+pub const GREATEST_BUDGET: u32 = 65_536;
+
+/// A broken rule of an image, with what shows that it is broken. It prints as its fault does, as `V16 slot 0`.
+#[derive(Clone, Copy)]
+pub struct Diagnosis {
+    /// The first rule that is broken, with its slot; where only the typing is missing, some rule from 20 to 27.
+    pub fault: Fault,
+    /// What shows it.
+    pub cause: Cause,
+}
+
+impl fmt::Display for Diagnosis {
+    ghost use Rattle.std.specs.Prelude.{Some};
+    ghost use Rattle.fc_isa.specs.Rules.{number_of, fault_text};
+
+    ghost output = { λ d. Some (fault_text (number_of d.fault.rule) d.fault.slot) };
+
+    fn fmt<W: fmt::Write>(&self, f: &mut fmt::Formatter<W>) -> fmt::Result {
+        write!(f, "{}", self.fault)
+    }
+}
+
+impl fmt::Debug for Diagnosis {
+    fn fmt<W: fmt::Write>(&self, f: &mut fmt::Formatter<W>) -> fmt::Result {
+        write!(f, "Diagnosis({:?})", self.fault)
+    }
+}
+
+/// What shows that a rule is broken.
+#[derive(Clone, Copy)]
+pub enum Cause {
+    /// The header.
+    Header,
+    /// The bytes of a slot that spells no instruction.
+    Slot([u8; 8]),
+    /// The slot's instruction, where it stands.
+    Flow(Insn),
+    /// The steps of the longest path, if no other rule of the control flow is broken, and the budget.
+    Cost { cost: Option<u32>, budget: u32 },
+    /// The slot's instruction, and what is known of the registers before it.
+    Typing { insn: Insn, known: Regs },
+}
+
+/// Why an image isn't accepted.
+#[derive(Clone, Copy)]
+pub enum Rejection {
+    /// It breaks a rule.
+    Broken(Diagnosis),
+    /// There was no memory to find that out.
+    NoMemory,
+}
+
+impl From<Diagnosis> for Rejection {
+    ghost use Rattle.std.specs.Prelude.{◌≡◌};
+    ghost use Rattle.fc_tools.specs.declared.diagnosis.Rejection.TheVariants.{Broken};
+
+    ghost from_gives = { λ d e. e ≡ Broken d };
+
+    fn from(diagnosis: Diagnosis) -> Self {
+        Rejection::Broken(diagnosis)
+    }
+}
+
+impl From<AllocError> for Rejection {
+    ghost use Rattle.std.specs.Prelude.{◌≡◌};
+    ghost use Rattle.fc_tools.specs.declared.diagnosis.Rejection.TheVariants.{NoMemory};
+
+    ghost from_gives = { λ _ e. e ≡ NoMemory };
+
+    fn from(_error: AllocError) -> Self {
+        Rejection::NoMemory
+    }
+}
+
+/// Judges an image as `verify` does.
+///
+/// # Errors
+/// The first rule that the image breaks, or a rule from 20 to 27 where only the typing is missing, with what shows it; or
+/// memory was refused.
+pub fn diagnose(alloc: Global, image: &[u8]) -> Result<(), Rejection>
+    ensures accepted { IfOk result (λ u. IsAcceptable image.now) }
+    ensures rejected { IfErr result (IsRejection image.now) }
+{
+    let head = read_head(image)?;
+    let room = Vec::with_capacity(alloc, head.count() as usize)?;
+    let code = read_code(alloc, image, &head)?;
+    shape_fault_is_first();
+    let _cost = shape_cost(&head, &code)?;
+    match typed(head.vars_size(), &code, room) {
+        Ok(_) => Ok(()),
+        Err(untyped) => Err(Rejection::Broken(typing(&code, &untyped))),
+    }
+}
+
+/// What the header says.
+///
+/// # Errors
+/// The least rule of the header, 1 to 5, that the image breaks.
+pub(crate) fn read_head(image: &[u8]) -> Result<Head, Rejection>
+    ensures head { IfOk result (IsHeadOf image.now) }
+    ensures rejected { IfErr result (IsRejection image.now) }
+{
+    match head(image) {
+        Ok(head) => Ok(head),
+        Err(fault) => Err(Rejection::Broken(Diagnosis {
+            fault,
+            cause: Cause::Header,
+        })),
+    }
+}
+
+/// The program that the slots spell.
+///
+/// # Errors
+/// The first slot that breaks a rule, 6 to 10, with its bytes; or memory was refused.
+pub(crate) fn read_code(alloc: Global, image: &[u8], head: &Head) -> Result<Vec<Insn>, Rejection>
+    requires { IsHeadOf image.now head.now }
+    ensures code { IfOk result (λ code. IsCodeOf image.now code.items) }
+    ensures rejected { IfErr result (IsRejection image.now) }
+{
+    match decode(alloc, &image[HEADER_SIZE..]) {
+        Ok(code) => Ok(code),
+        Err(DecodeError::Fault(fault)) => Err(Rejection::Broken(Diagnosis {
+            fault,
+            cause: Cause::Slot(slot_bytes(image, fault.slot)),
+        })),
+        Err(DecodeError::NoMemory) => Err(Rejection::NoMemory),
+    }
+}
+
+/// The bytes of a slot.
+fn slot_bytes(image: &[u8], slot: usize) -> [u8; 8]
+    requires { 16 + 8 * slot + 8 ≤ length image.now }
+    ensures { result ≡ take 8 (drop (16 + 8 * slot) image.now) }
+{
+    let mut bytes = [0; 8];
+    let start = HEADER_SIZE + 8 * slot;
+    bytes.copy_from_slice(&image[start..start + 8]);
+    bytes
+}
+
+/// The cost of a program: the greatest number of steps on any path to its exit.
+///
+/// # Errors
+/// The least rule of the control flow, 11 to 17, that a slot breaks, with what shows it.
+pub fn shape_cost(head: &Head, code: &[Insn]) -> Result<u32, Diagnosis>
+    requires { length code.now ≡ head.now.count }
+    ensures shape { IfOk result (λ cost. IsShaped code.now × IsLongest code.now cost × (cost ≤ head.now.budget)) }
+    ensures cost { IfOk result (λ cost. (shape_fault head.now.budget code.now ≡ None) × (cost ≡ longest code.now)) }
+    ensures fault { IfErr result (λ d. shape_fault head.now.budget code.now ≡ Some (d.fault.slot, d.fault.rule)) }
+    ensures cause { IfErr result (λ d. IsShapeCause head.now.budget code.now d.fault d.cause) }
+{
+    shape_fault_is_first();
+    match shape(head, code) {
+        Ok(cost) => Ok(cost),
+        Err(fault) => Err(Diagnosis {
+            fault,
+            cause: shape_cause(head, code, fault),
+        }),
+    }
+}
+
+/// What shows that a rule of the control flow is broken.
+fn shape_cause(head: &Head, code: &[Insn], fault: Fault) -> Cause
+    requires count { length code.now ≡ head.now.count }
+    requires slot { fault.slot < length code.now }
+    ensures { IsShapeCause head.now.budget code.now fault result }
+{
+    match fault.rule {
+        Rule::Cost => Cause::Cost {
+            cost: cost_of(head, code),
+            budget: head.budget(),
+        },
+        _ => Cause::Flow(code[fault.slot]),
+    }
+}
+
+/// The cost of a program that breaks no rule of the control flow but for the budget, if that is at most the greatest budget.
+fn cost_of(head: &Head, code: &[Insn]) -> Option<u32>
+    requires { length code.now ≡ head.now.count }
+    ensures { IfSome result (λ cost. cost ≡ longest code.now) }
+{
+    let greatest = Head::new(head.vars_size(), code.len(), GREATEST_BUDGET).ok()?;
+    shape(&greatest, code).ok()
+}
+
+/// What shows that a typing is missing.
+fn typing(code: &[Insn], untyped: &Untyped) -> Diagnosis
+    requires { untyped.now.fault.slot < length code.now }
+    ensures fault { result.fault ≡ untyped.now.fault }
+    ensures cause { (insn : Insn) → slice_get code.now untyped.now.fault.slot ≡ Some insn → result.cause ≡ Cause.Typing insn untyped.now.known }
+{
+    Diagnosis {
+        fault: untyped.fault,
+        cause: Cause::Typing {
+            insn: code[untyped.fault.slot],
+            known: untyped.known,
+        },
+    }
+}

@@ -1,0 +1,121 @@
+//! Why an image or a text is refused, in a few lines.
+use crate::diagnosis::{Cause, Diagnosis};
+use crate::form::BadForm;
+use crate::known::Known;
+use crate::numbered::listed;
+use crate::reads::{Reads, registers_read};
+use crate::rules::{correction, mistake_text, remedy, rule_text};
+use fc_asm::Mistake;
+use fc_isa::{Insn, Reg};
+use fc_kinds::Regs;
+use std::alloc::Global;
+use std::io;
+use std::io::Write;
+
+/// Writes why an image is refused: the rule, what shows that it is broken, and what to change, each on lines of its own.
+///
+/// # Errors
+/// Writing failed, or memory was refused.
+pub fn explain<W: Write>(alloc: Global, out: &mut W, diagnosis: &Diagnosis) -> io::Result<()> {
+    let rule = diagnosis.fault.rule;
+    writeln!(out, "rule: {}", rule_text(rule))?;
+    write_cause(alloc, out, diagnosis.fault.slot, &diagnosis.cause)?;
+    writeln!(out, "change: {}", remedy(rule))
+}
+
+/// Writes why a text is refused: what is wrong with the line, the line, if it is text, and what to change.
+///
+/// # Errors
+/// Writing failed.
+pub fn explain_line<W: Write>(
+    out: &mut W,
+    text: &[u8],
+    mistake: Mistake,
+    line: usize,
+) -> io::Result<()> {
+    writeln!(out, "rule: {}", mistake_text(mistake))?;
+    write_line(out, text, line)?;
+    writeln!(out, "change: {}", correction(mistake))
+}
+
+/// Writes why a text isn't expanded, as `explain_line` does.
+///
+/// # Errors
+/// Writing failed.
+pub fn explain_form<W: Write>(out: &mut W, text: &[u8], bad: BadForm) -> io::Result<()> {
+    writeln!(out, "rule: {}", bad.form.text())?;
+    write_line(out, text, bad.line)?;
+    writeln!(out, "change: {}", bad.form.correction())
+}
+
+fn write_line<W: Write>(out: &mut W, text: &[u8], line: usize) -> io::Result<()> {
+    match line_of(text, line) {
+        Some(code) => writeln!(out, "line {line}: {code}"),
+        None => Ok(()),
+    }
+}
+
+// The line of a text, counted from 1.
+fn line_of(text: &[u8], line: usize) -> Option<&str> {
+    let text = str::from_utf8(text).ok()?;
+    text.split('\n').nth(line.checked_sub(1)?)
+}
+
+fn write_cause<W: Write>(alloc: Global, out: &mut W, slot: usize, cause: &Cause) -> io::Result<()> {
+    match cause {
+        Cause::Header => Ok(()),
+        Cause::Slot(bytes) => write_bytes(out, slot, bytes),
+        Cause::Flow(insn) => write_insn(alloc, out, slot, *insn),
+        Cause::Cost { cost, budget } => write_cost(out, *cost, *budget),
+        Cause::Typing { insn, known } => {
+            write_insn(alloc, out, slot, *insn)?;
+            write_registers(out, *insn, known)
+        }
+    }
+}
+
+fn write_bytes<W: Write>(out: &mut W, slot: usize, bytes: &[u8; 8]) -> io::Result<()> {
+    write!(out, "slot {slot}: bytes")?;
+    for byte in bytes {
+        write!(out, " {byte:02x}")?;
+    }
+    writeln!(out)
+}
+
+fn write_insn<W: Write>(alloc: Global, out: &mut W, slot: usize, insn: Insn) -> io::Result<()> {
+    let listed = listed(alloc, insn)?;
+    writeln!(out, "slot {slot}: {}", listed.trim_end())
+}
+
+fn write_cost<W: Write>(out: &mut W, cost: Option<u32>, budget: u32) -> io::Result<()> {
+    match cost {
+        Some(cost) => writeln!(out, "cost: {cost} steps, with a budget of {budget}"),
+        None => writeln!(out, "cost: more than the budget of {budget} steps"),
+    }
+}
+
+// What is known of each register that the instruction reads.
+fn write_registers<W: Write>(out: &mut W, insn: Insn, known: &Regs) -> io::Result<()> {
+    match registers_read(insn) {
+        Reads::Nothing => Ok(()),
+        Reads::One(reg) => write_register(out, reg, known),
+        Reads::Two(first, second) => {
+            write_register(out, first, known)?;
+            write_second(out, first, second, known)
+        }
+    }
+}
+
+// A register that is read twice is told once.
+fn write_second<W: Write>(out: &mut W, first: Reg, second: Reg, known: &Regs) -> io::Result<()> {
+    if second == first {
+        Ok(())
+    } else {
+        write_register(out, second, known)
+    }
+}
+
+fn write_register<W: Write>(out: &mut W, reg: Reg, known: &Regs) -> io::Result<()> {
+    let number = reg.index();
+    writeln!(out, "r{number}: {}", Known(known[number]))
+}

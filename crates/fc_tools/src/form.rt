@@ -1,0 +1,70 @@
+//! What is wrong with a label, a number or a text of the assembler's text.
+use fc_asm::{AsmError, Mistake};
+use std::fmt;
+
+/// What is wrong with a line before it is assembled.
+#[derive(Clone, Copy, Debug, PartialEq, Eq)]
+pub enum Form {
+    /// A jump or `callf` to a label that no line has.
+    UnknownLabel,
+    /// A label that a line before has.
+    DoubleLabel,
+    /// A character that isn't one ASCII character between two `'`.
+    Character,
+    /// A text that isn't ASCII characters between two `"`.
+    Packed,
+    /// A text of more than eight characters.
+    LongPacked,
+    /// A hexadecimal number of more than 64 bits.
+    LongNumber,
+}
+
+impl Form {
+    /// The mistake that the line has.
+    pub fn mistake(self) -> Mistake {
+        match self {
+            Form::DoubleLabel => Mistake::UnknownWord,
+            Form::UnknownLabel | Form::Character | Form::Packed => Mistake::Operand,
+            Form::LongPacked | Form::LongNumber => Mistake::OutOfRange,
+        }
+    }
+
+    /// What is wrong, in words.
+    pub fn text(self) -> &'static str {
+        match self {
+            Form::UnknownLabel => "a jump or `callf` to a label that no line has",
+            Form::DoubleLabel => "a label that a line before has",
+            Form::Character => "a character is one ASCII character between two `'`",
+            Form::Packed => "a text is ASCII characters between two `\"`",
+            Form::LongPacked => "a text of more than eight characters",
+            Form::LongNumber => "a number of more than 64 bits",
+        }
+    }
+
+    /// What to change.
+    pub fn correction(self) -> &'static str {
+        match self {
+            Form::UnknownLabel => "write `NAME:` in front of the instruction that it is to lead to",
+            Form::DoubleLabel => "give each label a name of its own",
+            Form::Character => "write it as `'k'`, or as a number",
+            Form::Packed => "write it as `.text \"on\"`",
+            Form::LongPacked => "write it as several numbers of up to eight characters",
+            Form::LongNumber => "write at most 16 hexadecimal digits",
+        }
+    }
+}
+
+/// A line that has such a mistake, counted from 1. It prints as `A2 line 7`.
+#[derive(Clone, Copy, Debug, PartialEq, Eq)]
+pub struct BadForm {
+    pub form: Form,
+    pub line: usize,
+}
+
+impl fmt::Display for BadForm {
+    fn fmt<W: fmt::Write>(&self, f: &mut fmt::Formatter<W>) -> fmt::Result {
+        let mistake = self.form.mistake();
+        let line = self.line;
+        write!(f, "{}", AsmError::Faulty { mistake, line })
+    }
+}

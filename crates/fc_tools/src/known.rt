@@ -1,0 +1,61 @@
+//! What is known of a register, in words.
+use fc_kinds::Kind;
+use std::fmt;
+
+/// Where a stack frame ends, counted from its first byte: R10 points there.
+const FRAME_END: i64 = 256;
+
+/// What is known of a register: it prints as `a number from 0 to 1024`.
+#[derive(Clone, Copy)]
+pub struct Known(pub Kind);
+
+impl fmt::Display for Known {
+    fn fmt<W: fmt::Write>(&self, f: &mut fmt::Formatter<W>) -> fmt::Result {
+        match self.0 {
+            Kind::Unset => write!(f, "nothing"),
+            Kind::Num { lo, hi } => write_number(f, lo, hi),
+            Kind::Stack { level, lo, hi } => {
+                write_frame(f, level)?;
+                write!(f, ", at offset ")?;
+                write_ends(
+                    f,
+                    lo.saturating_sub(FRAME_END),
+                    hi.saturating_sub(FRAME_END),
+                )?;
+                write!(f, " from its end")
+            }
+            Kind::Req { lo, hi } => {
+                write!(f, "a pointer into the request, at offset ")?;
+                write_ends(f, lo, hi)
+            }
+            Kind::Vars { lo, hi } => {
+                write!(f, "a pointer into the variables, at offset ")?;
+                write_ends(f, lo, hi)
+            }
+        }
+    }
+}
+
+fn write_number<W: fmt::Write>(f: &mut fmt::Formatter<W>, lo: u64, hi: u64) -> fmt::Result {
+    match (lo, hi) {
+        (0, u64::MAX) => write!(f, "any number"),
+        (lo, hi) if lo == hi => write!(f, "the number {lo}"),
+        (lo, hi) => write!(f, "a number from {lo} to {hi}"),
+    }
+}
+
+fn write_frame<W: fmt::Write>(f: &mut fmt::Formatter<W>, level: u32) -> fmt::Result {
+    match level {
+        0 => write!(f, "a pointer into the stack frame"),
+        1 => write!(f, "a pointer into the caller's stack frame"),
+        calls => write!(f, "a pointer into the stack frame {calls} calls above"),
+    }
+}
+
+fn write_ends<W: fmt::Write>(f: &mut fmt::Formatter<W>, lo: i64, hi: i64) -> fmt::Result {
+    if lo == hi {
+        write!(f, "{lo}")
+    } else {
+        write!(f, "{lo} to {hi}")
+    }
+}

@@ -1,0 +1,53 @@
+//! Listings with the slots' numbers.
+ghost use Rattle.std.specs.Prelude.{IfOk, IsTrue, OnOk, string_bytes, ◌++◌, ◌≡◌};
+ghost use Rattle.fc_asm.specs.Listing.{line_of};
+ghost use Rattle.fc_isa.specs.Program.{is_program};
+ghost use Rattle.fc_tools.specs.Numbered.{numbered_from, numbered_line};
+
+use fc_asm::disassemble;
+use fc_isa::Insn;
+use std::alloc::{AllocError, Global};
+
+/// The listing of a program, each line behind the number of its first slot, as `3: exit`. A wide load has two slots.
+///
+/// # Errors
+/// Memory was refused.
+pub fn numbered(alloc: Global, program: &[Insn]) -> Result<String, AllocError>
+    ensures { IfOk result (λ s. string_bytes s ≡ numbered_from 0 program.now) }
+{
+    let mut text = String::new(alloc);
+    for (slot, insn) in program.iter().enumerate() {
+        push_numbered(alloc, &mut text, slot, *insn)?;
+    }
+    Ok(text)
+}
+
+/// Adds the line of a slot; the second slot of a wide load has none.
+fn push_numbered(
+    alloc: Global,
+    text: &mut String,
+    slot: usize,
+    insn: Insn,
+) -> Result<(), AllocError>
+    ensures { OnOk result (string_bytes text.new ≡ string_bytes text.old ++ numbered_line slot insn) }
+{
+    if matches!(insn, Insn::WideSecond) {
+        return Ok(());
+    }
+    let line = listed(alloc, insn)?;
+    write!(text, "{slot}: {line}")
+}
+
+/// The line of an instruction in a listing, its line feed included; the second slot of a wide load has none.
+///
+/// # Errors
+/// Memory was refused.
+pub fn listed(alloc: Global, insn: Insn) -> Result<String, AllocError>
+    ensures { IfOk result (λ s. string_bytes s ≡ line_of insn) }
+{
+    match insn {
+        Insn::WideSecond => Ok(String::new(alloc)),
+        Insn::LoadWide { .. } => disassemble(alloc, &[insn, Insn::WideSecond]),
+        _ => disassemble(alloc, &[insn]),
+    }
+}

@@ -1,0 +1,99 @@
+//! The rules in plain words, and what to change where one is broken.
+use fc_asm::Mistake;
+use fc_isa::Rule;
+
+/// What an image has done that breaks this rule.
+pub fn rule_text(rule: Rule) -> &'static str {
+    match rule {
+        Rule::Format =>
+            "under 16 bytes, no `FCB1` in front, or a length that isn't 16 + 8 times the count of slots",
+        Rule::SlotCount => "the count of slots isn't 1 to 512",
+        Rule::VarsSize => "the size of the variables isn't a multiple of 8 up to 256",
+        Rule::Budget => "the budget isn't 1 to 65536",
+        Rule::Reserved => "bytes 12 to 15 of the header aren't zero",
+        Rule::Opcode => "the opcode isn't known",
+        Rule::Register => "a register above r10",
+        Rule::FramePointer => "r10 is written",
+        Rule::Field => "a field that isn't used isn't zero, or one has a value that isn't allowed",
+        Rule::WideLoad => "a wide load without its second slot, or with a malformed one",
+        Rule::JumpTarget => "a jump or `callf` out of the program, or into a wide load",
+        Rule::BackwardJump => "a jump that doesn't go to a later slot",
+        Rule::Boundary =>
+            "a jump into another function, or a function whose last instruction isn't `exit`",
+        Rule::BackwardCall => "a `callf` that doesn't lead to a later slot",
+        Rule::FrameDepth =>
+            "calls that nest more than four frames, the first function's among them",
+        Rule::Cost => "the longest path is above the budget",
+        Rule::Helper => "a call of a helper that isn't 1 to 7",
+        Rule::UnsetRegister => "a register is read of which nothing is known",
+        Rule::OperandKind => "a pointer where a number is wanted, or the reverse",
+        Rule::Access => "an access that may lie outside its region",
+        Rule::RequestStore => "a store into the request",
+        Rule::PointerStore => "a pointer is stored",
+        Rule::ExitValue => "an `exit` where r0 may not be a number",
+        Rule::PointerStep =>
+            "a pointer moved by a number that may be above 65536, or further than 65536 away",
+        Rule::HelperArgument =>
+            "a helper gets another kind than it takes, or `reply_put` bytes that may lie outside their region",
+    }
+}
+
+/// What to change where this rule is broken.
+pub fn remedy(rule: Rule) -> &'static str {
+    match rule {
+        Rule::Format => "write the image by `fcasm image`, and hand it on whole",
+        Rule::SlotCount => "write 1 to 512 slots; a wide load takes two",
+        Rule::VarsSize => "give `--vars` a multiple of 8, at most 256",
+        Rule::Budget => "give `--budget` a number from 1 to 65536",
+        Rule::Reserved => "write the image by `fcasm image`",
+        Rule::Opcode => "write the program as a text for `fcasm image`",
+        Rule::Register => "name one of r0 to r10",
+        Rule::FramePointer => "write another register: r10 is the frame's end",
+        Rule::Field => "clear the field, or write the program as a text for `fcasm image`",
+        Rule::WideLoad => "put the high half of the value into a slot behind it, with nothing else",
+        Rule::JumpTarget =>
+            "count the offset from the slot behind the instruction; a wide load counts two",
+        Rule::BackwardJump => "there are no loops: write the turns out",
+        Rule::Boundary =>
+            "end each function with `exit`, and call a function where you would jump into it",
+        Rule::BackwardCall => "put a function behind all that call it: none calls itself",
+        Rule::FrameDepth => "put the text of an inner function in place of its call",
+        Rule::Cost =>
+            "give a greater budget, 65536 at most, as `--budget auto` does, or shorten the longest path; a function called twice costs twice",
+        Rule::Helper => "call one of the helpers 1 to 7",
+        Rule::UnsetRegister =>
+            "set it on each way that leads here; r1 to r5 are unset after each call, r0 and r6 to r9 at a function's start",
+        Rule::OperandKind =>
+            "keep numbers and pointers in registers of their own; `mov64`, `add64` and `sub64` alone take pointers",
+        Rule::Access =>
+            "compare the index first, so that its greatest value still lies in the region",
+        Rule::RequestStore => "store into the stack frame or the variables",
+        Rule::PointerStore => "store numbers; keep a pointer in r6 to r9",
+        Rule::ExitValue => "set r0 to a number on each way to the exit",
+        Rule::PointerStep => "bound the number first, by a jump or by `and64`",
+        Rule::HelperArgument =>
+            "keep numbers and pointers in registers of their own; bound r2, so that the greatest number of bytes lies in the region",
+    }
+}
+
+/// What is wrong with a line that has this mistake.
+pub fn mistake_text(mistake: Mistake) -> &'static str {
+    match mistake {
+        Mistake::UnknownWord => "the first word names no instruction, or the text isn't UTF-8",
+        Mistake::Operand =>
+            "too few operands or too many, or one of another sort: no register, no number, r10 where it would be written",
+        Mistake::OutOfRange => "a number out of its range, or a width that `movsx` doesn't have",
+    }
+}
+
+/// What to change in a line that has this mistake.
+pub fn correction(mistake: Mistake) -> &'static str {
+    match mistake {
+        Mistake::UnknownWord =>
+            "write an instruction's name first; a tab or a carriage return is part of a word",
+        Mistake::Operand =>
+            "give what the instruction takes, in its order: destination or base, source or offset, then the rest",
+        Mistake::OutOfRange =>
+            "offsets are -32768 to 32767, immediates -2147483648 to 2147483647, the number of `lddw` 0 to 18446744073709551615",
+    }
+}

@@ -1,0 +1,407 @@
+// What is told of refused images and texts: the rule, what shows that it is broken, and what to change. Each rule has a row.
+use crate::tooling::{Done, assembled, checked, listed};
+use fc_cli::Status;
+use std::process::Abort;
+use std::test::Fail;
+
+// The image is refused with this verdict, and these lines are told.
+fn is_refused_so<R: Abort>(rt: &R, done: &Done, verdict: &str, told: &str) -> Result<(), Fail> {
+    assert!(rt; done.status == Status::Refused, "{verdict}");
+    assert!(rt; done.out.as_slice() == verdict.as_bytes(), "{verdict}");
+    assert!(rt; done.err.as_slice() == told.as_bytes(), "{verdict}{told}");
+    Ok(())
+}
+
+// Images, the verdict, and what is told.
+static IMAGES: [(&[u8], &str, &str); 10] = [
+    (
+        b"FCB1",
+        "V01 slot 0\n",
+        "rule: under 16 bytes, no `FCB1` in front, or a length that isn't 16 + 8 times the count of slots\n\
+        change: write the image by `fcasm image`, and hand it on whole\n",
+    ),
+    (
+        b"FCB1\x00\x00\x00\x00\x01\x00\x00\x00\x00\x00\x00\x00",
+        "V02 slot 0\n",
+        "rule: the count of slots isn't 1 to 512\n\
+        change: write 1 to 512 slots; a wide load takes two\n",
+    ),
+    (
+        b"FCB1\x07\x00\x01\x00\x01\x00\x00\x00\x00\x00\x00\x00\x95\x00\x00\x00\x00\x00\x00\x00",
+        "V03 slot 0\n",
+        "rule: the size of the variables isn't a multiple of 8 up to 256\n\
+        change: give `--vars` a multiple of 8, at most 256\n",
+    ),
+    (
+        b"FCB1\x08\x00\x01\x00\x00\x00\x00\x00\x00\x00\x00\x00\x95\x00\x00\x00\x00\x00\x00\x00",
+        "V04 slot 0\n",
+        "rule: the budget isn't 1 to 65536\n\
+        change: give `--budget` a number from 1 to 65536\n",
+    ),
+    (
+        b"FCB1\x08\x00\x01\x00\x01\x00\x00\x00\x00\x01\x00\x00\x95\x00\x00\x00\x00\x00\x00\x00",
+        "V05 slot 0\n",
+        "rule: bytes 12 to 15 of the header aren't zero\n\
+        change: write the image by `fcasm image`\n",
+    ),
+    (
+        b"FCB1\x00\x00\x01\x00\x01\x00\x00\x00\x00\x00\x00\x00\x8d\x00\x00\x00\x00\x00\x00\xff",
+        "V06 slot 0\n",
+        "rule: the opcode isn't known\n\
+        slot 0: bytes 8d 00 00 00 00 00 00 ff\n\
+        change: write the program as a text for `fcasm image`\n",
+    ),
+    (
+        b"FCB1\x00\x00\x02\x00\x02\x00\x00\x00\x00\x00\x00\x00\x95\x00\x00\x00\x00\x00\x00\x00\xb7\x0b\x00\x00\x07\x00\x00\x00",
+        "V07 slot 1\n",
+        "rule: a register above r10\n\
+        slot 1: bytes b7 0b 00 00 07 00 00 00\n\
+        change: name one of r0 to r10\n",
+    ),
+    (
+        b"FCB1\x00\x00\x02\x00\x02\x00\x00\x00\x00\x00\x00\x00\x95\x00\x00\x00\x00\x00\x00\x00\xb7\x0a\x00\x00\x07\x00\x00\x00",
+        "V08 slot 1\n",
+        "rule: r10 is written\n\
+        slot 1: bytes b7 0a 00 00 07 00 00 00\n\
+        change: write another register: r10 is the frame's end\n",
+    ),
+    (
+        b"FCB1\x00\x00\x01\x00\x01\x00\x00\x00\x00\x00\x00\x00\x95\x01\x00\x00\x00\x00\x00\x00",
+        "V09 slot 0\n",
+        "rule: a field that isn't used isn't zero, or one has a value that isn't allowed\n\
+        slot 0: bytes 95 01 00 00 00 00 00 00\n\
+        change: clear the field, or write the program as a text for `fcasm image`\n",
+    ),
+    (
+        b"FCB1\x00\x00\x01\x00\x01\x00\x00\x00\x00\x00\x00\x00\x18\x00\x00\x00\x07\x00\x00\x00",
+        "V10 slot 0\n",
+        "rule: a wide load without its second slot, or with a malformed one\n\
+        slot 0: bytes 18 00 00 00 07 00 00 00\n\
+        change: put the high half of the value into a slot behind it, with nothing else\n",
+    ),
+];
+
+#[test]
+fn a_refused_image_is_explained(rt: HostRuntime) -> Result<(), Fail> {
+    for (image, verdict, told) in IMAGES.iter().copied() {
+        is_refused_so(&rt, &checked(rt.alloc(), image)?, verdict, told)?;
+    }
+    Ok(())
+}
+
+// Texts of programs whose control flow breaks a rule, with their budget, the verdict, and what is told.
+static FLOWS: [(&[u8], u32, &str, &str); 9] = [
+    (
+        b"mov64 r0, 0\nja 1\nexit",
+        3,
+        "V11 slot 1\n",
+        "rule: a jump or `callf` out of the program, or into a wide load\n\
+        slot 1: ja 1\n\
+        change: count the offset from the slot behind the instruction; a wide load counts two\n",
+    ),
+    (
+        b"mov64 r0, 0\njeq r0, 0, -2\nexit",
+        3,
+        "V12 slot 1\n",
+        "rule: a jump that doesn't go to a later slot\n\
+        slot 1: jeq r0, 0, -2\n\
+        change: there are no loops: write the turns out\n",
+    ),
+    (
+        b"lddw r0, 4294967296",
+        1,
+        "V13 slot 0\n",
+        "rule: a jump into another function, or a function whose last instruction isn't `exit`\n\
+        slot 0: lddw r0, 4294967296\n\
+        change: end each function with `exit`, and call a function where you would jump into it\n",
+    ),
+    (
+        b"callf -1\nexit",
+        2,
+        "V14 slot 0\n",
+        "rule: a `callf` that doesn't lead to a later slot\n\
+        slot 0: callf -1\n\
+        change: put a function behind all that call it: none calls itself\n",
+    ),
+    (
+        b"callf 1\nexit\ncallf 1\nexit\ncallf 1\nexit\ncallf 1\nexit\nmov64 r0, 0\nexit",
+        100,
+        "V15 slot 0\n",
+        "rule: calls that nest more than four frames, the first function's among them\n\
+        slot 0: callf 1\n\
+        change: put the text of an inner function in place of its call\n",
+    ),
+    // 4 for each call, and 2
+    (
+        b"callf 2\ncallf 1\nexit\nmov64 r6, 0\nmov64 r0, r6\nexit",
+        8,
+        "V16 slot 0\n",
+        "rule: the longest path is above the budget\n\
+        cost: 9 steps, with a budget of 8\n\
+        change: give a greater budget, 65536 at most, as `--budget auto` does, or shorten the longest path; a function called twice costs twice\n",
+    ),
+    (
+        b"mov64 r0, 0\ncall 8\nexit",
+        2,
+        "V16 slot 0\n",
+        "rule: the longest path is above the budget\n\
+        cost: more than the budget of 2 steps\n\
+        change: give a greater budget, 65536 at most, as `--budget auto` does, or shorten the longest path; a function called twice costs twice\n",
+    ),
+    (
+        b"mov64 r0, 0\ncall 8\nexit",
+        3,
+        "V17 slot 1\n",
+        "rule: a call of a helper that isn't 1 to 7\n\
+        slot 1: call 8\n\
+        change: call one of the helpers 1 to 7\n",
+    ),
+    (
+        b"ja32 2\nlddw r0, 1\nja 1\ncall 0\nexit",
+        5,
+        "V17 slot 4\n",
+        "rule: a call of a helper that isn't 1 to 7\n\
+        slot 4: call 0\n\
+        change: call one of the helpers 1 to 7\n",
+    ),
+];
+
+#[test]
+fn a_refused_control_flow_is_explained(rt: HostRuntime) -> Result<(), Fail> {
+    for (text, budget, verdict, told) in FLOWS.iter().copied() {
+        let image = assembled(rt.alloc(), text, 0, budget)?;
+        let done = checked(rt.alloc(), image.out.as_slice())?;
+        is_refused_so(&rt, &done, verdict, told)?;
+    }
+    Ok(())
+}
+
+// Texts of programs that have no typing, with the size of their variables, the verdict, and what is told.
+static UNTYPED: [(&[u8], u16, &str, &str); 16] = [
+    (
+        b"mov64 r0, r5\nexit",
+        0,
+        "V20 slot 0\n",
+        "rule: a register is read of which nothing is known\n\
+        slot 0: mov64 r0, r5\n\
+        r5: nothing\n\
+        change: set it on each way that leads here; r1 to r5 are unset after each call, r0 and r6 to r9 at a function's start\n",
+    ),
+    // behind a helper's call R1 is unset
+    (
+        b"call 1\njgt r0, r1, 0\nexit",
+        0,
+        "V20 slot 1\n",
+        "rule: a register is read of which nothing is known\n\
+        slot 1: jgt r0, r1, 0\n\
+        r0: a number from 0 to 1024\n\
+        r1: nothing\n\
+        change: set it on each way that leads here; r1 to r5 are unset after each call, r0 and r6 to r9 at a function's start\n",
+    ),
+    (
+        b"mov32 r4, r1\nexit",
+        0,
+        "V21 slot 0\n",
+        "rule: a pointer where a number is wanted, or the reverse\n\
+        slot 0: mov32 r4, r1\n\
+        r1: a pointer into the request, at offset 0\n\
+        change: keep numbers and pointers in registers of their own; `mov64`, `add64` and `sub64` alone take pointers\n",
+    ),
+    // a register that is read twice is told once
+    (
+        b"add64 r2, r2\nexit",
+        8,
+        "V21 slot 0\n",
+        "rule: a pointer where a number is wanted, or the reverse\n\
+        slot 0: add64 r2, r2\n\
+        r2: a pointer into the variables, at offset 0\n\
+        change: keep numbers and pointers in registers of their own; `mov64`, `add64` and `sub64` alone take pointers\n",
+    ),
+    (
+        b"lddw r3, 18446744073709551615\nneg64 r3\nldxb r0, r3, 0\nexit",
+        0,
+        "V21 slot 3\n",
+        "rule: a pointer where a number is wanted, or the reverse\n\
+        slot 3: ldxb r0, r3, 0\n\
+        r3: any number\n\
+        change: keep numbers and pointers in registers of their own; `mov64`, `add64` and `sub64` alone take pointers\n",
+    ),
+    (
+        b"mov64 r4, r1\nadd64 r4, r3\nldxb r0, r4, 80\nexit",
+        0,
+        "V22 slot 2\n",
+        "rule: an access that may lie outside its region\n\
+        slot 2: ldxb r0, r4, 80\n\
+        r4: a pointer into the request, at offset 0 to 1024\n\
+        change: compare the index first, so that its greatest value still lies in the region\n",
+    ),
+    (
+        b"add64 r2, 8\nldxdw r0, r2, 0\nexit",
+        8,
+        "V22 slot 1\n",
+        "rule: an access that may lie outside its region\n\
+        slot 1: ldxdw r0, r2, 0\n\
+        r2: a pointer into the variables, at offset 8\n\
+        change: compare the index first, so that its greatest value still lies in the region\n",
+    ),
+    // in a function, the end of its caller's frame; one call deeper, that of the caller's caller
+    (
+        b"mov64 r1, r10\ncallf 1\nexit\nldxb r0, r1, 0\nexit",
+        0,
+        "V22 slot 3\n",
+        "rule: an access that may lie outside its region\n\
+        slot 3: ldxb r0, r1, 0\n\
+        r1: a pointer into the caller's stack frame, at offset 0 from its end\n\
+        change: compare the index first, so that its greatest value still lies in the region\n",
+    ),
+    (
+        b"mov64 r1, r10\ncallf 1\nexit\ncallf 1\nexit\nstb r1, -257, 1\nexit",
+        0,
+        "V22 slot 5\n",
+        "rule: an access that may lie outside its region\n\
+        slot 5: stb r1, -257, 1\n\
+        r1: a pointer into the stack frame 2 calls above, at offset 0 from its end\n\
+        change: compare the index first, so that its greatest value still lies in the region\n",
+    ),
+    (
+        b"stb r1, 0, 7\nexit",
+        0,
+        "V23 slot 0\n",
+        "rule: a store into the request\n\
+        slot 0: stb r1, 0, 7\n\
+        r1: a pointer into the request, at offset 0\n\
+        change: store into the stack frame or the variables\n",
+    ),
+    (
+        b"mov64 r4, r10\nadd64 r4, -16\nstxdw r4, 8, r2\nexit",
+        0,
+        "V24 slot 2\n",
+        "rule: a pointer is stored\n\
+        slot 2: stxdw r4, 8, r2\n\
+        r4: a pointer into the stack frame, at offset -16 from its end\n\
+        r2: a pointer into the variables, at offset 0\n\
+        change: store numbers; keep a pointer in r6 to r9\n",
+    ),
+    (
+        b"exit",
+        0,
+        "V25 slot 0\n",
+        "rule: an `exit` where r0 may not be a number\n\
+        slot 0: exit\n\
+        r0: nothing\n\
+        change: set r0 to a number on each way to the exit\n",
+    ),
+    (
+        b"add64 r1, 65537\nexit",
+        0,
+        "V26 slot 0\n",
+        "rule: a pointer moved by a number that may be above 65536, or further than 65536 away\n\
+        slot 0: add64 r1, 65537\n\
+        r1: a pointer into the request, at offset 0\n\
+        change: bound the number first, by a jump or by `and64`\n",
+    ),
+    (
+        b"ldxw r4, r1, 80\nadd64 r1, r4\nexit",
+        0,
+        "V26 slot 1\n",
+        "rule: a pointer moved by a number that may be above 65536, or further than 65536 away\n\
+        slot 1: add64 r1, r4\n\
+        r1: a pointer into the request, at offset 0\n\
+        r4: a number from 0 to 4294967295\n\
+        change: bound the number first, by a jump or by `and64`\n",
+    ),
+    (
+        b"call 6\nexit",
+        0,
+        "V27 slot 0\n",
+        "rule: a helper gets another kind than it takes, or `reply_put` bytes that may lie outside their region\n\
+        slot 0: call 6\n\
+        r1: a pointer into the request, at offset 0\n\
+        change: keep numbers and pointers in registers of their own; bound r2, so that the greatest number of bytes lies in the region\n",
+    ),
+    (
+        b"mov64 r2, 1105\ncall 5\nexit",
+        0,
+        "V27 slot 1\n",
+        "rule: a helper gets another kind than it takes, or `reply_put` bytes that may lie outside their region\n\
+        slot 1: call 5\n\
+        r1: a pointer into the request, at offset 0\n\
+        r2: the number 1105\n\
+        change: keep numbers and pointers in registers of their own; bound r2, so that the greatest number of bytes lies in the region\n",
+    ),
+];
+
+#[test]
+fn a_missing_typing_is_explained(rt: HostRuntime) -> Result<(), Fail> {
+    for (text, vars_size, verdict, told) in UNTYPED.iter().copied() {
+        let image = assembled(rt.alloc(), text, vars_size, 100)?;
+        let done = checked(rt.alloc(), image.out.as_slice())?;
+        is_refused_so(&rt, &done, verdict, told)?;
+    }
+    Ok(())
+}
+
+// Texts with a mistake, or with a number of the header out of its limits, and what is told.
+static TEXTS: [(&[u8], u16, &str); 5] = [
+    (
+        b"mov64 r0, 0\n\tmovq r1, 1 ; no such word\nexit",
+        0,
+        "A1 line 2\n\
+        rule: the first word names no instruction, or the text isn't UTF-8\n\
+        line 2: \tmovq r1, 1 ; no such word\n\
+        change: write an instruction's name first; a tab or a carriage return is part of a word\n",
+    ),
+    (
+        b"exit\n\xff",
+        0,
+        "A1 line 1\n\
+        rule: the first word names no instruction, or the text isn't UTF-8\n\
+        change: write an instruction's name first; a tab or a carriage return is part of a word\n",
+    ),
+    (
+        b"mov64 r10, 1",
+        0,
+        "A2 line 1\n\
+        rule: too few operands or too many, or one of another sort: no register, no number, r10 where it would be written\n\
+        line 1: mov64 r10, 1\n\
+        change: give what the instruction takes, in its order: destination or base, source or offset, then the rest\n",
+    ),
+    (
+        b"\n\nmov64 r1, 2147483648\n",
+        0,
+        "A3 line 3\n\
+        rule: a number out of its range, or a width that `movsx` doesn't have\n\
+        line 3: mov64 r1, 2147483648\n\
+        change: offsets are -32768 to 32767, immediates -2147483648 to 2147483647, the number of `lddw` 0 to 18446744073709551615\n",
+    ),
+    (
+        b"exit",
+        7,
+        "V03 slot 0\n\
+        rule: the size of the variables isn't a multiple of 8 up to 256\n\
+        change: give `--vars` a multiple of 8, at most 256\n",
+    ),
+];
+
+#[test]
+fn a_refused_text_is_explained(rt: HostRuntime) -> Result<(), Fail> {
+    for (text, vars_size, told) in TEXTS.iter().copied() {
+        is_refused_so(&rt, &assembled(rt.alloc(), text, vars_size, 1)?, "", told)?;
+    }
+    Ok(())
+}
+
+#[test]
+fn an_image_that_is_not_listed_is_explained(rt: HostRuntime) -> Result<(), Fail> {
+    let image =
+        b"FCB1\x00\x00\x01\x00\x01\x00\x00\x00\x00\x00\x00\x00\x84\x01\x00\x00\x01\x00\x00\x00";
+    is_refused_so(
+        &rt,
+        &listed(rt.alloc(), image)?,
+        "",
+        "V09 slot 0\n\
+        rule: a field that isn't used isn't zero, or one has a value that isn't allowed\n\
+        slot 0: bytes 84 01 00 00 01 00 00 00\n\
+        change: clear the field, or write the program as a text for `fcasm image`\n",
+    )
+}
