@@ -2,7 +2,6 @@
 use clap::{Arg, Command, Error, value_parser};
 use fc_cli::command_line::VERSION;
 use std::alloc::Global;
-use std::net::Ipv4Addr;
 
 /// What `--help` tells of the lines of `fcd play` and of how it ends.
 pub const LINES: &str = "\
@@ -80,7 +79,6 @@ fn serve_command<'a>(alloc: Global) -> Result<Command<'a>, Error> {
     let bind = Arg::new(alloc, "bind")
         .long("bind")
         .value_name("A.B.C.D")
-        .value_parser(value_parser!(Ipv4Addr))
         .default_value("127.0.0.1")
         .help("The IPv4 address of this host that it listens at");
     let limit = Arg::new(alloc, "limit")

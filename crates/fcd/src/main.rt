@@ -80,12 +80,18 @@ fn serve_socket<R: Runtime + AllocGlobal + Threads + Wait + Net + Sync, E: Write
     err: &mut E,
     matches: &ArgMatches<'_>,
 ) -> anyhow::Result<Status> {
-    let (Some(ip), Some(port), Some(workers), Some(limit)) = (
-        matches.get_one::<Ipv4Addr>("bind"),
+    let (Some(port), Some(workers), Some(limit)) = (
         matches.get_one::<u16>("port"),
         matches.get_one::<u8>("workers"),
         matches.get_one::<u32>("limit"),
     ) else {
+        return Ok(Status::Bad);
+    };
+    let Some(ip) = matches.get_str("bind").and_then(ip_of) else {
+        writeln!(
+            err,
+            "error: `--bind` is to be an IPv4 address, as 127.0.0.1"
+        )?;
         return Ok(Status::Bad);
     };
     let told = matches.get_str("log") == Some("info");
@@ -101,6 +107,10 @@ fn serve_socket<R: Runtime + AllocGlobal + Threads + Wait + Net + Sync, E: Write
     };
     let extent = Extent { workers, limit };
     Ok(serve(rt, rt.alloc(), &log, err, listening, extent))
+}
+
+fn ip_of(text: &str) -> Option<Ipv4Addr> {
+    text.parse::<Ipv4Addr>().ok()
 }
 
 fn main(rt: HostRuntime) -> ExitCode {
