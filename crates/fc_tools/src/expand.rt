@@ -206,7 +206,7 @@ fn character(out: &mut Vec<u8>, more: &[u8], alloc: Global) -> Result<usize, Lin
     ensures { IfOk result (λ n. n ≤ length more.now + 1) }
 {
     match more {
-        [byte, b'\'', ..] if is_printed(*byte) => {
+        [byte, b'\'', after @ ..] if is_printed(*byte) && is_ended(after) => {
             push_number(out, alloc, u64::from(*byte))?;
             Ok(3)
         }
@@ -231,6 +231,9 @@ fn packed(out: &mut Vec<u8>, more: &[u8], alloc: Global) -> Result<usize, LineEr
     let Some(size) = text.iter().position(|byte| *byte == b'"') else {
         return Err(LineError::Form(Form::Packed));
     };
+    if !is_ended(&text[size + 1..]) {
+        return Err(LineError::Form(Form::Packed));
+    }
     push_number(out, alloc, packed_number(&text[..size])?)?;
     Ok(5 + spaces + 1 + size + 1)
 }
@@ -338,6 +341,14 @@ fn is_name(word: &[u8]) -> bool {
 
 fn is_name_byte(byte: u8) -> bool {
     byte == b'_' || byte.is_ascii_alphanumeric()
+}
+
+/// Whether nothing is left, or what is left begins with what ends a word.
+fn is_ended(rest: &[u8]) -> bool {
+    match rest {
+        [] => true,
+        [byte, ..] => ends_word(*byte),
+    }
 }
 
 /// The bytes up to a space, a comma or a comment.

@@ -9,9 +9,9 @@ pub enum Form {
     UnknownLabel,
     /// A label that a line before has.
     DoubleLabel,
-    /// A character that isn't one ASCII character between two `'`.
+    /// A character that isn't one ASCII character between two `'`, or something right behind it.
     Character,
-    /// A text that isn't ASCII characters between two `"`.
+    /// A text that isn't ASCII characters between two `"`, or something right behind it.
     Packed,
     /// A text of more than eight characters.
     LongPacked,
@@ -34,8 +34,10 @@ impl Form {
         match self {
             Form::UnknownLabel => "a jump or `callf` to a label that no line has",
             Form::DoubleLabel => "a label that a line before has",
-            Form::Character => "a character is one ASCII character between two `'`",
-            Form::Packed => "a text is ASCII characters between two `\"`",
+            Form::Character =>
+                "a character is one of printed ASCII, space to `~`, between two `'`, and ends its word",
+            Form::Packed =>
+                "a text is printed ASCII, space to `~`, between two `\"`, and ends its word",
             Form::LongPacked => "a text of more than eight characters",
             Form::LongNumber => "a number of more than 64 bits",
         }
@@ -46,8 +48,8 @@ impl Form {
         match self {
             Form::UnknownLabel => "write `NAME:` in front of the instruction that it is to lead to",
             Form::DoubleLabel => "give each label a name of its own",
-            Form::Character => "write it as `'k'`, or as a number",
-            Form::Packed => "write it as `.text \"on\"`",
+            Form::Character => "write it as `'k'`, and others as numbers",
+            Form::Packed => "write it as `.text \"on\"`, and other characters as a number",
             Form::LongPacked => "write it as several numbers of up to eight characters",
             Form::LongNumber => "write at most 16 hexadecimal digits",
         }

@@ -14,7 +14,7 @@ fn expanded(alloc: Global, text: &[u8]) -> Result<Done, AllocError> {
 }
 
 // Texts, and what they are expanded to.
-static EXPANDED: [(&[u8], &[u8]); 14] = [
+static EXPANDED: [(&[u8], &[u8]); 15] = [
     (b"", b""),
     (
         b"mov64 r0, 0 ; nothing\r\n\xff\nexit",
@@ -68,6 +68,11 @@ static EXPANDED: [(&[u8], &[u8]); 14] = [
         b"lddw r1,.text   \"a; b: c,\"\nlddw r1, .text\"\"",
         b"lddw r1,3198435595489655649\nlddw r1, 0",
     ),
+    // a comma or a comment right behind them
+    (
+        b"jeq r1, 'k',.text\"on\"; two\nmov64 r1, 'k';",
+        b"jeq r1, 107,28271; two\nmov64 r1, 107;",
+    ),
     (
         b"lddw r1, .text \"~~~~~~~~\"",
         b"lddw r1, 9114861777597660798",
@@ -85,7 +90,7 @@ fn a_text_is_expanded(rt: HostRuntime) -> Result<(), Fail> {
 }
 
 // Texts with a mistake in what is expanded, and what is told.
-static FAULTS: [(&[u8], &str); 9] = [
+static FAULTS: [(&[u8], &str); 13] = [
     (
         b"mov64 r0, 0\nja nowhere ; 'no'\nexit",
         "A2 line 2\n\
@@ -103,37 +108,66 @@ static FAULTS: [(&[u8], &str); 9] = [
     (
         b"mov64 r0, 'ab'",
         "A2 line 1\n\
-        rule: a character is one ASCII character between two `'`\n\
+        rule: a character is one of printed ASCII, space to `~`, between two `'`, and ends its word\n\
         line 1: mov64 r0, 'ab'\n\
-        change: write it as `'k'`, or as a number\n",
+        change: write it as `'k'`, and others as numbers\n",
     ),
     (
         b"mov64 r0, '\xc3\xa9'",
         "A2 line 1\n\
-        rule: a character is one ASCII character between two `'`\n\
+        rule: a character is one of printed ASCII, space to `~`, between two `'`, and ends its word\n\
         line 1: mov64 r0, '\u{e9}'\n\
-        change: write it as `'k'`, or as a number\n",
+        change: write it as `'k'`, and others as numbers\n",
     ),
     (
         b"exit\nlddw r0, .text \"on",
         "A2 line 2\n\
-        rule: a text is ASCII characters between two `\"`\n\
+        rule: a text is printed ASCII, space to `~`, between two `\"`, and ends its word\n\
         line 2: lddw r0, .text \"on\n\
-        change: write it as `.text \"on\"`\n",
+        change: write it as `.text \"on\"`, and other characters as a number\n",
     ),
     (
         b"lddw r0, .text on : ",
         "A2 line 1\n\
-        rule: a text is ASCII characters between two `\"`\n\
+        rule: a text is printed ASCII, space to `~`, between two `\"`, and ends its word\n\
         line 1: lddw r0, .text on : \n\
-        change: write it as `.text \"on\"`\n",
+        change: write it as `.text \"on\"`, and other characters as a number\n",
     ),
     (
         b"lddw r0, .text : ",
         "A2 line 1\n\
-        rule: a text is ASCII characters between two `\"`\n\
+        rule: a text is printed ASCII, space to `~`, between two `\"`, and ends its word\n\
         line 1: lddw r0, .text : \n\
-        change: write it as `.text \"on\"`\n",
+        change: write it as `.text \"on\"`, and other characters as a number\n",
+    ),
+    // what is glued to a character or a text makes no other number of it
+    (
+        b"mov64 r0, '1'2",
+        "A2 line 1\n\
+        rule: a character is one of printed ASCII, space to `~`, between two `'`, and ends its word\n\
+        line 1: mov64 r0, '1'2\n\
+        change: write it as `'k'`, and others as numbers\n",
+    ),
+    (
+        b"mov64 r0, '1''2'",
+        "A2 line 1\n\
+        rule: a character is one of printed ASCII, space to `~`, between two `'`, and ends its word\n\
+        line 1: mov64 r0, '1''2'\n\
+        change: write it as `'k'`, and others as numbers\n",
+    ),
+    (
+        b"exit\nlddw r0, .text \"on\"5",
+        "A2 line 2\n\
+        rule: a text is printed ASCII, space to `~`, between two `\"`, and ends its word\n\
+        line 2: lddw r0, .text \"on\"5\n\
+        change: write it as `.text \"on\"`, and other characters as a number\n",
+    ),
+    (
+        b"lddw r0, .text \"123456789\"'a'",
+        "A2 line 1\n\
+        rule: a text is printed ASCII, space to `~`, between two `\"`, and ends its word\n\
+        line 1: lddw r0, .text \"123456789\"'a'\n\
+        change: write it as `.text \"on\"`, and other characters as a number\n",
     ),
     (
         b"lddw r0, .text \"123456789\"",
