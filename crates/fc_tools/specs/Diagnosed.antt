@@ -1,9 +1,11 @@
 -- What is told of an image that isn't accepted.
-use Rattle.std.specs.Prelude.{◌≡◌, ℕ, ◌+◌, ◌*◌, List, take, drop, Some, None, slice_get, IfSome}
+use Rattle.std.specs.Prelude.{◌≡◌, ℕ, ◌+◌, ◌*◌, ◌≤◌, List, Option, take, drop, Some, None, slice_get}
 use Rattle.fc_isa.specs.declared.insn.Insn.{Insn}
 use Rattle.fc_isa.specs.declared.rule.Fault.{Fault}
+use Rattle.fc_isa.specs.Rules.{number_of}
 use Rattle.fc_image.specs.Head.{head_fault, stated}
 use Rattle.fc_image.specs.Paths.{longest}
+use Rattle.fc_image.specs.ShapeRules.{shape_fault}
 use Rattle.fc_kinds.specs.declared.kind.Kind.{Kind}
 use Rattle.fc_kinds.specs.Meaning.{Program}
 use Rattle.fc_kinds.specs.Transfer.{transfer}
@@ -14,15 +16,35 @@ use Rattle.fc_verify.specs.Pass.{beginning, forward}
 use Rattle.fc_verify.specs.Refusals.{IsFaultOf}
 use Rattle.fc_tools.specs.declared.diagnosis.Diagnosis.{Diagnosis}
 use Rattle.fc_tools.specs.declared.diagnosis.Cause.{Cause as CauseShown}
-use Rattle.fc_tools.specs.declared.diagnosis.Cause.TheVariants.{Header, Slot, Flow, Cost, Typing}
+use Rattle.fc_tools.specs.declared.diagnosis.Cause.TheVariants.{Header, Slot, Flow, Frames, Cost, Typing}
 use Rattle.fc_tools.specs.declared.diagnosis.Rejection.{Rejection}
 use Rattle.fc_tools.specs.declared.diagnosis.Rejection.TheVariants.{Broken, NoMemory}
 
+-- the rules, by their numbers, that each cause shows
+abbrev pub Shows : CauseShown → ℕ → Type 0
+Shows Header rule = (1 ≤ rule) × (rule ≤ 5)
+Shows (Slot bytes) rule = (6 ≤ rule) × (rule ≤ 10)
+Shows (Flow insn) rule = (11 ≤ rule) × (rule ≤ 17) × (rule ≡ 15 → ⊥) × (rule ≡ 16 → ⊥)
+Shows Frames rule = rule ≡ 15
+Shows (Cost cost budget) rule = rule ≡ 16
+Shows (Typing insn known) rule = (20 ≤ rule) × (rule ≤ 27)
+
+-- the longest path's steps are told exactly where the program breaks no rule of the control flow with the greatest budget
+abbrev pub IsCost : List Insn → Option ℕ → Type 0
+IsCost code (Some cost) = (shape_fault 65536 code ≡ None) × (cost ≡ longest code)
+IsCost code None = shape_fault 65536 code ≡ None → ⊥
+
+-- what a program of this budget shows of a fault of its control flow
+abbrev pub IsShapeShown : ℕ → List Insn → Fault → CauseShown → Type 0
+IsShapeShown budget code f (Flow insn) = slice_get code f.slot ≡ Some insn
+IsShapeShown budget code f Frames = Unit {0}
+IsShapeShown budget code f (Cost cost b) = IsCost code cost × (b ≡ budget)
+IsShapeShown budget code f other = ⊥
+
 -- what shows that a program's control flow breaks a rule
-abbrev pub IsShapeCause : ℕ → List Insn → Fault → CauseShown → Type 0
-IsShapeCause budget code f (Flow insn) = slice_get code f.slot ≡ Some insn
-IsShapeCause budget code f (Cost cost b) = IfSome cost (λ c. c ≡ longest code) × (b ≡ budget)
-IsShapeCause budget code f other = ⊥
+pub record IsShapeCause (budget : ℕ) (code : List Insn) (f : Fault) (cause : CauseShown) : Type 0 where
+  pub rule : Shows cause (number_of f.rule)
+  pub shown : IsShapeShown budget code f cause
 
 -- the pass comes to the slot's instruction with these kinds, and it has none after them
 pub record IsUntypedAt (image : List ℕ) (slot : ℕ) (insn : Insn) (known : List Kind) : Type 0 where
@@ -30,13 +52,19 @@ pub record IsUntypedAt (image : List ℕ) (slot : ℕ) (insn : Insn) (known : Li
   pub known_is : state_at (forward (stated image).vars_size (code_in image) (beginning (code_in image))) slot ≡ Some known
   pub refused : transfer (stated image).vars_size insn known ≡ None
 
+-- what an image shows of a fault
+abbrev pub IsShown : List ℕ → Fault → CauseShown → Type 0
+IsShown image f Header = Unit {0}
+IsShown image f (Slot bytes) = bytes ≡ take 8 (drop (16 + 8 * f.slot) image)
+IsShown image f (Flow insn) = slice_get (code_in image) f.slot ≡ Some insn
+IsShown image f Frames = Unit {0}
+IsShown image f (Cost cost budget) = IsCost (code_in image) cost × (budget ≡ (stated image).budget)
+IsShown image f (Typing insn known) = IsUntypedAt image f.slot insn known
+
 -- what shows that an image breaks a rule
-abbrev pub IsCauseOf : List ℕ → Fault → CauseShown → Type 0
-IsCauseOf image f Header = Unit {0}
-IsCauseOf image f (Slot bytes) = bytes ≡ take 8 (drop (16 + 8 * f.slot) image)
-IsCauseOf image f (Flow insn) = slice_get (code_in image) f.slot ≡ Some insn
-IsCauseOf image f (Cost cost budget) = IfSome cost (λ c. c ≡ longest (code_in image)) × (budget ≡ (stated image).budget)
-IsCauseOf image f (Typing insn known) = IsUntypedAt image f.slot insn known
+pub record IsCauseOf (image : List ℕ) (f : Fault) (cause : CauseShown) : Type 0 where
+  pub rule : Shows cause (number_of f.rule)
+  pub shown : IsShown image f cause
 
 -- the rule is one that a refusal may name, and it is shown
 pub record IsDiagnosisOf (image : List ℕ) (d : Diagnosis) : Type 0 where

@@ -15,7 +15,7 @@ pub enum Budget {
 
 /// A text is no budget.
 #[derive(Clone, Copy, Debug, PartialEq, Eq, Drop, Error)]
-#[error("a budget is a number of steps up to 4294967295, or `auto`")]
+#[error("a budget is 1 to 65536, or `auto`")]
 pub struct BudgetError;
 
 impl FromStr for Budget {

@@ -3,10 +3,11 @@ ghost use Rattle.std.specs.Prelude.{IfErr, IfOk, IfSome, Some, None, length, tru
 ghost use Rattle.fc_image.specs.Paths.{IsLongest, longest};
 ghost use Rattle.fc_image.specs.ShapeRules.{IsShaped, shape_fault};
 ghost use Rattle.fc_isa.specs.Encoding.{IsFirstFault};
+ghost use Rattle.fc_isa.specs.Rules.{number_of};
 ghost use Rattle.fc_verify.specs.Accepted.{slots_of};
 ghost use Rattle.fc_verify.specs.Runs.{IsUntypedProgram};
 ghost use Rattle.fc_verify.specs.Stages.{IsCodeOf, IsHeadOf};
-ghost use Rattle.fc_tools.specs.Diagnosed.{IsAcceptable, IsRejection, IsShapeCause};
+ghost use Rattle.fc_tools.specs.Diagnosed.{IsAcceptable, IsCost, IsRejection, IsShapeCause};
 
 use fc_image::laws::shape_fault_is_first;
 use fc_image::{HEADER_SIZE, Head, head, shape};
@@ -55,7 +56,10 @@ pub enum Cause {
     Slot([u8; 8]),
     /// The slot's instruction, where it stands.
     Flow(Insn),
-    /// The steps of the longest path, if no other rule of the control flow is broken, and the budget.
+    /// All calls of the program: its slot says nothing of them.
+    Frames,
+    /// The steps of the longest path, if these are at most the greatest budget and no other rule of the control flow is broken, and the
+    /// budget.
     Cost { cost: Option<u32>, budget: u32 },
     /// The slot's instruction, and what is known of the registers before it.
     Typing { insn: Insn, known: Regs },
@@ -184,6 +188,7 @@ pub fn shape_cost(head: &Head, code: &[Insn]) -> Result<u32, Diagnosis>
 fn shape_cause(head: &Head, code: &[Insn], fault: Fault) -> Cause
     requires count { length code.now ≡ head.now.count }
     requires slot { fault.slot < length code.now }
+    requires rule { (11 ≤ number_of fault.rule) × (number_of fault.rule ≤ 17) }
     ensures { IsShapeCause head.now.budget code.now fault result }
 {
     match fault.rule {
@@ -191,6 +196,7 @@ fn shape_cause(head: &Head, code: &[Insn], fault: Fault) -> Cause
             cost: cost_of(head, code),
             budget: head.budget(),
         },
+        Rule::FrameDepth => Cause::Frames,
         _ => Cause::Flow(code[fault.slot]),
     }
 }
@@ -198,10 +204,12 @@ fn shape_cause(head: &Head, code: &[Insn], fault: Fault) -> Cause
 /// The cost of a program that breaks no rule of the control flow but for the budget, if that is at most the greatest budget.
 fn cost_of(head: &Head, code: &[Insn]) -> Option<u32>
     requires { length code.now ≡ head.now.count }
-    ensures { IfSome result (λ cost. cost ≡ longest code.now) }
+    ensures { IsCost code.now result }
 {
-    let greatest = Head::new(head.vars_size(), code.len(), GREATEST_BUDGET).ok()?;
-    shape(&greatest, code).ok()
+    match Head::new(head.vars_size(), head.count() as usize, GREATEST_BUDGET) {
+        Ok(greatest) => shape(&greatest, code).ok(),
+        Err(_) => unreachable!(),
+    }
 }
 
 /// What shows that a typing is missing.

@@ -20,7 +20,7 @@ pub fn explain<W: Write>(alloc: Global, out: &mut W, diagnosis: &Diagnosis) -> i
     let rule = diagnosis.fault.rule;
     writeln!(out, "rule: {}", rule_text(rule))?;
     write_cause(alloc, out, diagnosis.fault.slot, &diagnosis.cause)?;
-    writeln!(out, "change: {}", remedy(rule))
+    writeln!(out, "change: {}", remedy(rule, &diagnosis.cause))
 }
 
 /// Writes why a text is refused: what is wrong with the line, the line, if it is text, and what to change.
@@ -63,7 +63,7 @@ fn line_of(text: &[u8], line: usize) -> Option<&str> {
 
 fn write_cause<W: Write>(alloc: Global, out: &mut W, slot: usize, cause: &Cause) -> io::Result<()> {
     match cause {
-        Cause::Header => Ok(()),
+        Cause::Header | Cause::Frames => Ok(()),
         Cause::Slot(bytes) => write_bytes(out, slot, bytes),
         Cause::Flow(insn) => write_insn(alloc, out, slot, *insn),
         Cause::Cost { cost, budget } => write_cost(out, *cost, *budget),

@@ -1,4 +1,5 @@
 //! The rules in plain words, and what to change where one is broken.
+use crate::diagnosis::{Cause, GREATEST_BUDGET};
 use fc_asm::Mistake;
 use fc_isa::Rule;
 
@@ -38,8 +39,16 @@ pub fn rule_text(rule: Rule) -> &'static str {
     }
 }
 
-/// What to change where this rule is broken.
-pub fn remedy(rule: Rule) -> &'static str {
+/// What to change where this rule is broken and this shows it: with the greatest budget there is none that would do.
+pub fn remedy(rule: Rule, cause: &Cause) -> &'static str {
+    match cause {
+        Cause::Cost { budget, .. } if *budget == GREATEST_BUDGET =>
+            "shorten the longest path; a function called twice costs twice",
+        _ => rule_remedy(rule),
+    }
+}
+
+fn rule_remedy(rule: Rule) -> &'static str {
     match rule {
         Rule::Format => "write the image by `fcasm image`, and hand it on whole",
         Rule::SlotCount => "write 1 to 512 slots; a wide load takes two",
@@ -52,7 +61,7 @@ pub fn remedy(rule: Rule) -> &'static str {
         Rule::Field => "clear the field, or write the program as a text for `fcasm image`",
         Rule::WideLoad => "put the high half of the value into a slot behind it, with nothing else",
         Rule::JumpTarget =>
-            "count the offset from the slot behind the instruction; a wide load counts two",
+            "name a label in front of an instruction, or count the offset from the slot behind the jump; a wide load counts two",
         Rule::BackwardJump => "there are no loops: write the turns out",
         Rule::Boundary =>
             "end each function with `exit`, and call a function where you would jump into it",
@@ -62,11 +71,11 @@ pub fn remedy(rule: Rule) -> &'static str {
             "give a greater budget, 65536 at most, as `--budget auto` does, or shorten the longest path; a function called twice costs twice",
         Rule::Helper => "call one of the helpers 1 to 7",
         Rule::UnsetRegister =>
-            "set it on each way that leads here; r1 to r5 are unset after each call, r0 and r6 to r9 at a function's start",
+            "set it on each way that leads here; r1 to r5 are unset after each call, r0 and r4 to r9 at the program's start, r0 and r6 to r9 at a function's",
         Rule::OperandKind =>
-            "keep numbers and pointers in registers of their own; `mov64`, `add64` and `sub64` alone take pointers",
+            "a load or store needs a pointer as its base; of arithmetic only `mov64`, `add64` and `sub64` take one; keep numbers and pointers in registers of their own",
         Rule::Access =>
-            "compare the index first, so that its greatest value still lies in the region",
+            "keep it in the region: the request's bytes 0 to 1103, a frame's -256 to -1, as many variables as `--vars` says; compare an index first, so that its greatest value lies in it",
         Rule::RequestStore => "store into the stack frame or the variables",
         Rule::PointerStore => "store numbers; keep a pointer in r6 to r9",
         Rule::ExitValue => "set r0 to a number on each way to the exit",
@@ -81,7 +90,7 @@ pub fn mistake_text(mistake: Mistake) -> &'static str {
     match mistake {
         Mistake::UnknownWord => "the first word names no instruction, or the text isn't UTF-8",
         Mistake::Operand =>
-            "too few operands or too many, or one of another sort: no register, no number, r10 where it would be written",
+            "too few operands or too many, or one of another sort: no register, no number, no label that a line has, r10 where it would be written",
         Mistake::OutOfRange => "a number out of its range, or a width that `movsx` doesn't have",
     }
 }
@@ -92,7 +101,7 @@ pub fn correction(mistake: Mistake) -> &'static str {
         Mistake::UnknownWord =>
             "write an instruction's name first; a tab or a carriage return is part of a word",
         Mistake::Operand =>
-            "give what the instruction takes, in its order: destination or base, source or offset, then the rest",
+            "give what the instruction takes, in its order: destination or base, source or offset, then the rest; a tab or a carriage return is part of a word; one `NAME:` a line, without a space before `:`",
         Mistake::OutOfRange =>
             "offsets are -32768 to 32767, immediates -2147483648 to 2147483647, the number of `lddw` 0 to 18446744073709551615",
     }

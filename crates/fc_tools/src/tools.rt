@@ -51,7 +51,7 @@ pub enum ToolError {
     #[error("{0}")]
     Image(Diagnosis),
     /// The variables that are given to a run have another size than the program's.
-    #[error("the variables have {given} bytes, and the program's {wanted}")]
+    #[error("`--vars` gives {given} bytes, and the image says {wanted}")]
     Variables { given: usize, wanted: u16 },
     /// Reading failed.
     #[error("standard input: {0}")]

@@ -4,7 +4,7 @@ use Rattle.fc_isa.specs.Encoding.{Spells, IsFirstFault, decoded_program, first_f
 use Rattle.fc_isa.specs.declared.decoding.DecodeError.TheVariants.{Fault}
 use Rattle.fc_verify.specs.Accepted.{slots_of}
 use Rattle.fc_verify.proofs.Judging.{code_found, refused_decode}
-use Rattle.fc_tools.proofs.Diagnosing.{whole_slot}
+use Rattle.fc_tools.proofs.Diagnosing.{slot_rule, whole_slot}
 use Rattle.fc_tools.proofs.diagnosis.read_code.Goals as goal
 
 whole : (image : List ℕ) → take (length image - 16) (drop 16 image) ≡ drop 16 image
@@ -33,4 +33,4 @@ returns-in-Err-Fault-clause-rejected c =
     let image = c.args.image.now in
     let f = c.in-Err-Fault.fault in
     let first : IsFirstFault (slots_of image) f.rule f.slot = subst (λ bytes. IsFirstFault bytes f.rule f.slot) (whole image) (rw c.in-Err-Fault.field-0-is at c.in-Err-Fault.ensures.fault) in
-    record { fault = refused_decode image c.args.head.now (Fault f) c.requires first; cause = c.slot_bytes.ensures }
+    record { fault = refused_decode image c.args.head.now (Fault f) c.requires first; cause = record { rule = slot_rule (slots_of image) f.slot f.rule first.broken; shown = c.slot_bytes.ensures } }
