@@ -79,6 +79,9 @@ fn run_command<'a>(alloc: Global) -> Result<Command<'a>, AllocError> {
         .help("What is asked; get where it is not given");
     Command::new(alloc, "run")
         .about("Run an image's program once, and tell what it answers")
+        .after_help(
+            "The reply is sent with a success alone; variables and notice count for a POST with a success alone.",
+        )
         .arg(image)?
         .arg(method)?
         .arg(hex_bytes(

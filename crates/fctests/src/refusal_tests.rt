@@ -1,6 +1,7 @@
 // What is told of refused images and texts: the rule, what shows that it is broken, and what to change. Each rule has a row.
 use crate::tooling::{Done, assembled, checked, listed};
 use fc_cli::Status;
+use std::alloc::{AllocError, Global};
 use std::process::Abort;
 use std::test::Fail;
 
@@ -97,7 +98,7 @@ static FLOWS: [(&[u8], u32, &str, &str); 9] = [
         "V11 slot 1\n",
         "rule: a jump or `callf` out of the program, or into a wide load\n\
         slot 1: ja 1\n\
-        change: count the offset from the slot behind the instruction; a wide load counts two\n",
+        change: name a label in front of an instruction, or count the offset from the slot behind the jump; a wide load counts two\n",
     ),
     (
         b"mov64 r0, 0\njeq r0, 0, -2\nexit",
@@ -128,7 +129,6 @@ static FLOWS: [(&[u8], u32, &str, &str); 9] = [
         100,
         "V15 slot 0\n",
         "rule: calls that nest more than four frames, the first function's among them\n\
-        slot 0: callf 1\n\
         change: put the text of an inner function in place of its call\n",
     ),
     // 4 for each call, and 2
@@ -176,6 +176,38 @@ fn a_refused_control_flow_is_explained(rt: HostRuntime) -> Result<(), Fail> {
     Ok(())
 }
 
+// Of 74,462 steps: 61 of the inner function, 62 * 60 + 2 of the outer, and 20 calls of that.
+fn dear_program(alloc: Global) -> Result<String, AllocError> {
+    let mut text = String::new(alloc);
+    for _call in 0..20 {
+        text.push_str("callf outer\n")?;
+    }
+    text.push_str("mov64 r0, 0\nexit\nouter:\n")?;
+    for _call in 0..60 {
+        text.push_str("callf inner\n")?;
+    }
+    text.push_str("mov64 r0, 0\nexit\ninner:\n")?;
+    for _step in 0..60 {
+        text.push_str("mov64 r0, 0\n")?;
+    }
+    text.push_str("exit\n")?;
+    Ok(text)
+}
+
+#[test]
+fn no_budget_is_greater_than_the_greatest(rt: HostRuntime) -> Result<(), Fail> {
+    let text = dear_program(rt.alloc())?;
+    let image = assembled(rt.alloc(), text.as_bytes(), 0, 65536)?;
+    is_refused_so(
+        &rt,
+        &checked(rt.alloc(), image.out.as_slice())?,
+        "V16 slot 0\n",
+        "rule: the longest path is above the budget\n\
+        cost: more than the budget of 65536 steps\n\
+        change: shorten the longest path; a function called twice costs twice\n",
+    )
+}
+
 // Texts of programs that have no typing, with the size of their variables, the verdict, and what is told.
 static UNTYPED: [(&[u8], u16, &str, &str); 16] = [
     (
@@ -185,7 +217,7 @@ static UNTYPED: [(&[u8], u16, &str, &str); 16] = [
         "rule: a register is read of which nothing is known\n\
         slot 0: mov64 r0, r5\n\
         r5: nothing\n\
-        change: set it on each way that leads here; r1 to r5 are unset after each call, r0 and r6 to r9 at a function's start\n",
+        change: set it on each way that leads here; r1 to r5 are unset after each call, r0 and r4 to r9 at the program's start, r0 and r6 to r9 at a function's\n",
     ),
     // behind a helper's call R1 is unset
     (
@@ -196,7 +228,7 @@ static UNTYPED: [(&[u8], u16, &str, &str); 16] = [
         slot 1: jgt r0, r1, 0\n\
         r0: a number from 0 to 1024\n\
         r1: nothing\n\
-        change: set it on each way that leads here; r1 to r5 are unset after each call, r0 and r6 to r9 at a function's start\n",
+        change: set it on each way that leads here; r1 to r5 are unset after each call, r0 and r4 to r9 at the program's start, r0 and r6 to r9 at a function's\n",
     ),
     (
         b"mov32 r4, r1\nexit",
@@ -205,7 +237,7 @@ static UNTYPED: [(&[u8], u16, &str, &str); 16] = [
         "rule: a pointer where a number is wanted, or the reverse\n\
         slot 0: mov32 r4, r1\n\
         r1: a pointer into the request, at offset 0\n\
-        change: keep numbers and pointers in registers of their own; `mov64`, `add64` and `sub64` alone take pointers\n",
+        change: a load or store needs a pointer as its base; of arithmetic only `mov64`, `add64` and `sub64` take one; keep numbers and pointers in registers of their own\n",
     ),
     // a register that is read twice is told once
     (
@@ -215,7 +247,7 @@ static UNTYPED: [(&[u8], u16, &str, &str); 16] = [
         "rule: a pointer where a number is wanted, or the reverse\n\
         slot 0: add64 r2, r2\n\
         r2: a pointer into the variables, at offset 0\n\
-        change: keep numbers and pointers in registers of their own; `mov64`, `add64` and `sub64` alone take pointers\n",
+        change: a load or store needs a pointer as its base; of arithmetic only `mov64`, `add64` and `sub64` take one; keep numbers and pointers in registers of their own\n",
     ),
     (
         b"lddw r3, 18446744073709551615\nneg64 r3\nldxb r0, r3, 0\nexit",
@@ -224,7 +256,7 @@ static UNTYPED: [(&[u8], u16, &str, &str); 16] = [
         "rule: a pointer where a number is wanted, or the reverse\n\
         slot 3: ldxb r0, r3, 0\n\
         r3: any number\n\
-        change: keep numbers and pointers in registers of their own; `mov64`, `add64` and `sub64` alone take pointers\n",
+        change: a load or store needs a pointer as its base; of arithmetic only `mov64`, `add64` and `sub64` take one; keep numbers and pointers in registers of their own\n",
     ),
     (
         b"mov64 r4, r1\nadd64 r4, r3\nldxb r0, r4, 80\nexit",
@@ -233,7 +265,7 @@ static UNTYPED: [(&[u8], u16, &str, &str); 16] = [
         "rule: an access that may lie outside its region\n\
         slot 2: ldxb r0, r4, 80\n\
         r4: a pointer into the request, at offset 0 to 1024\n\
-        change: compare the index first, so that its greatest value still lies in the region\n",
+        change: keep it in the region: the request's bytes 0 to 1103, a frame's -256 to -1, as many variables as `--vars` says; compare an index first, so that its greatest value lies in it\n",
     ),
     (
         b"add64 r2, 8\nldxdw r0, r2, 0\nexit",
@@ -242,7 +274,7 @@ static UNTYPED: [(&[u8], u16, &str, &str); 16] = [
         "rule: an access that may lie outside its region\n\
         slot 1: ldxdw r0, r2, 0\n\
         r2: a pointer into the variables, at offset 8\n\
-        change: compare the index first, so that its greatest value still lies in the region\n",
+        change: keep it in the region: the request's bytes 0 to 1103, a frame's -256 to -1, as many variables as `--vars` says; compare an index first, so that its greatest value lies in it\n",
     ),
     // in a function, the end of its caller's frame; one call deeper, that of the caller's caller
     (
@@ -252,7 +284,7 @@ static UNTYPED: [(&[u8], u16, &str, &str); 16] = [
         "rule: an access that may lie outside its region\n\
         slot 3: ldxb r0, r1, 0\n\
         r1: a pointer into the caller's stack frame, at offset 0 from its end\n\
-        change: compare the index first, so that its greatest value still lies in the region\n",
+        change: keep it in the region: the request's bytes 0 to 1103, a frame's -256 to -1, as many variables as `--vars` says; compare an index first, so that its greatest value lies in it\n",
     ),
     (
         b"mov64 r1, r10\ncallf 1\nexit\ncallf 1\nexit\nstb r1, -257, 1\nexit",
@@ -261,7 +293,7 @@ static UNTYPED: [(&[u8], u16, &str, &str); 16] = [
         "rule: an access that may lie outside its region\n\
         slot 5: stb r1, -257, 1\n\
         r1: a pointer into the stack frame 2 calls above, at offset 0 from its end\n\
-        change: compare the index first, so that its greatest value still lies in the region\n",
+        change: keep it in the region: the request's bytes 0 to 1103, a frame's -256 to -1, as many variables as `--vars` says; compare an index first, so that its greatest value lies in it\n",
     ),
     (
         b"stb r1, 0, 7\nexit",
@@ -362,9 +394,9 @@ static TEXTS: [(&[u8], u16, &str); 5] = [
         b"mov64 r10, 1",
         0,
         "A2 line 1\n\
-        rule: too few operands or too many, or one of another sort: no register, no number, r10 where it would be written\n\
+        rule: too few operands or too many, or one of another sort: no register, no number, no label that a line has, r10 where it would be written\n\
         line 1: mov64 r10, 1\n\
-        change: give what the instruction takes, in its order: destination or base, source or offset, then the rest\n",
+        change: give what the instruction takes, in its order: destination or base, source or offset, then the rest; a tab or a carriage return is part of a word; one `NAME:` a line, without a space before `:`\n",
     ),
     (
         b"\n\nmov64 r1, 2147483648\n",

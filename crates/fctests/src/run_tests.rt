@@ -161,7 +161,7 @@ fn variables_have_the_size_that_the_image_says(rt: HostRuntime) -> Result<(), Fa
     let done = ran(rt.alloc(), image.out.as_slice(), &words)?;
     assert!(rt; done.status == Status::Bad && done.out.is_empty());
     assert!(rt;
-        done.err.as_slice() == b"the variables have 7 bytes, and the program's 8\n".as_slice()
+        done.err.as_slice() == b"`--vars` gives 7 bytes, and the image says 8\n".as_slice()
     );
     Ok(())
 }
