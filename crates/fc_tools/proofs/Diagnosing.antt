@@ -11,13 +11,12 @@ use Rattle.fc_isa.specs.Encoding.{Fields, breaks, fault_at, fields_at, is_second
 use Rattle.fc_isa.specs.Rules.{number_of}
 use Rattle.fc_image.specs.Head.{Head, head_breaks, head_fault, stated}
 use Rattle.fc_image.specs.ShapeRules.{IsShapeFault, breaks_shape, shape_fault}
-use Rattle.fc_kinds.specs.Transfer.{transfer}
-use Rattle.fc_kinds.specs.Typing.{state_at}
-use Rattle.fc_verify.specs.Pass.{beginning, forward, is_typable}
+use Rattle.fc_verify.specs.Judged.{code_in}
+use Rattle.fc_verify.specs.Pass.{beginning, is_typable}
 use Rattle.fc_verify.specs.Stages.{IsHeadOf, IsCodeOf, IsTypingFault, IsUntyped}
 use Rattle.fc_verify.specs.declared.untyped.Untyped.{Untyped}
 use Rattle.fc_verify.proofs.Judging.{refused_shape, refused_typing}
-use Rattle.fc_tools.specs.Diagnosed.{IsCauseOf, IsCost, IsDiagnosisOf, IsShapeCause, IsShapeShown, IsShown, IsUntypedAt}
+use Rattle.fc_tools.specs.Diagnosed.{IsCauseOf, IsCost, IsDiagnosisOf, IsShapeCause, IsShapeShown, IsShown}
 use Rattle.fc_tools.specs.declared.diagnosis.Diagnosis.{Diagnosis}
 use Rattle.fc_tools.specs.declared.diagnosis.Cause.{Cause}
 use Rattle.fc_tools.specs.declared.diagnosis.Cause.TheVariants.{Header, Slot, Flow, Frames, Cost, Typing}
@@ -104,13 +103,9 @@ pub typing_diagnosis : (image : List ℕ) (head : Head) (code : List Insn) (u : 
     → d.fault ≡ u.fault → ((insn : Insn) → slice_get code u.fault.slot ≡ Some insn → d.cause ≡ Typing insn u.known) → IsDiagnosisOf image d
 typing_diagnosis image head code u d h k s t r n same cause =
     let fault = refused_typing image head code u.fault h k s t r in
-    let at : IsUntypedAt image u.fault.slot n.insn u.known = record {
-      insn_is = subst (λ c. slice_get c u.fault.slot ≡ Some n.insn) k.code_is n.insn_is;
-      known_is = subst (λ c. state_at (forward (stated image).vars_size c (beginning c)) u.fault.slot ≡ Some u.known) k.code_is
-          (subst (λ x. state_at (forward x.vars_size code (beginning code)) u.fault.slot ≡ Some u.known) h.stated_is n.known);
-      refused = subst (λ x. transfer x.vars_size n.insn u.known ≡ None) h.stated_is n.refused;
-    } in
-    let shown : IsCauseOf image u.fault (Typing n.insn u.known) = record { rule = (r.from, r.upto); shown = at } in
+    let there : slice_get (code_in image) u.fault.slot ≡ Some n.insn = subst (λ c. slice_get c u.fault.slot ≡ Some n.insn) k.code_is n.insn_is in
+    let at : IsUntyped (stated image).vars_size (code_in image) u = subst (λ x. IsUntyped x.vars_size (code_in image) u) h.stated_is (subst (λ c. IsUntyped head.vars_size c u) k.code_is n) in
+    let shown : IsCauseOf image u.fault (Typing n.insn u.known) = record { rule = (r.from, r.upto); shown = (there, at) } in
     record {
       fault = rw same fault;
       cause = rw (same, cause n.insn n.insn_is) shown;

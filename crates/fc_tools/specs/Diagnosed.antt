@@ -6,14 +6,11 @@ use Rattle.fc_isa.specs.Rules.{number_of}
 use Rattle.fc_image.specs.Head.{head_fault, stated}
 use Rattle.fc_image.specs.Paths.{longest}
 use Rattle.fc_image.specs.ShapeRules.{shape_fault}
-use Rattle.fc_kinds.specs.declared.kind.Kind.{Kind}
 use Rattle.fc_kinds.specs.Meaning.{Program}
-use Rattle.fc_kinds.specs.Transfer.{transfer}
-use Rattle.fc_kinds.specs.Typing.{state_at}
 use Rattle.fc_verify.specs.Accepted.{Accepts}
 use Rattle.fc_verify.specs.Judged.{judged, code_in}
-use Rattle.fc_verify.specs.Pass.{beginning, forward}
 use Rattle.fc_verify.specs.Refusals.{IsFaultOf}
+use Rattle.fc_verify.specs.Stages.{IsUntyped}
 use Rattle.fc_tools.specs.declared.diagnosis.Diagnosis.{Diagnosis}
 use Rattle.fc_tools.specs.declared.diagnosis.Cause.{Cause as CauseShown}
 use Rattle.fc_tools.specs.declared.diagnosis.Cause.TheVariants.{Header, Slot, Flow, Frames, Cost, Typing}
@@ -46,12 +43,6 @@ pub record IsShapeCause (budget : ℕ) (code : List Insn) (f : Fault) (cause : C
   pub rule : Shows cause (number_of f.rule)
   pub shown : IsShapeShown budget code f cause
 
--- the pass comes to the slot's instruction with these kinds, and it has none after them
-pub record IsUntypedAt (image : List ℕ) (slot : ℕ) (insn : Insn) (known : List Kind) : Type 0 where
-  pub insn_is : slice_get (code_in image) slot ≡ Some insn
-  pub known_is : state_at (forward (stated image).vars_size (code_in image) (beginning (code_in image))) slot ≡ Some known
-  pub refused : transfer (stated image).vars_size insn known ≡ None
-
 -- what an image shows of a fault
 abbrev pub IsShown : List ℕ → Fault → CauseShown → Type 0
 IsShown image f Header = Unit {0}
@@ -59,7 +50,8 @@ IsShown image f (Slot bytes) = bytes ≡ take 8 (drop (16 + 8 * f.slot) image)
 IsShown image f (Flow insn) = slice_get (code_in image) f.slot ≡ Some insn
 IsShown image f Frames = Unit {0}
 IsShown image f (Cost cost budget) = IsCost (code_in image) cost × (budget ≡ (stated image).budget)
-IsShown image f (Typing insn known) = IsUntypedAt image f.slot insn known
+IsShown image f (Typing insn known) =
+    (slice_get (code_in image) f.slot ≡ Some insn) × IsUntyped (stated image).vars_size (code_in image) (record { fault = f; known = known })
 
 -- what shows that an image breaks a rule
 pub record IsCauseOf (image : List ℕ) (f : Fault) (cause : CauseShown) : Type 0 where
