@@ -1,5 +1,5 @@
 //! Why an image isn't accepted, with what shows that.
-ghost use Rattle.std.specs.Prelude.{IfErr, IfOk, IfSome, Some, None, length, true, ◌≡◌, ◌+◌, ◌*◌, ◌<◌, ◌≤◌, take, drop, slice_get};
+ghost use Rattle.std.specs.Prelude.{IfErr, IfOk, Some, None, length, true, ◌≡◌, ◌+◌, ◌*◌, ◌<◌, ◌≤◌, take, drop, slice_get};
 ghost use Rattle.fc_image.specs.Paths.{IsLongest, longest};
 ghost use Rattle.fc_image.specs.ShapeRules.{IsShaped, shape_fault};
 ghost use Rattle.fc_isa.specs.Encoding.{IsFirstFault};
