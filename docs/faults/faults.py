@@ -1,5 +1,5 @@
 #!/usr/bin/env python3
-"""Runs the programs with closed streams, full disks, no descriptors, no threads, endless input and signals, and tells how each ends.
+"""Runs the programs with closed streams, full disks, no descriptors, no threads, no file, nobody to ask, endless input and signals, and tells how each ends.
 
 Run it at the top of the repository, behind `rt run` in crates/fcd, crates/fcasm, crates/fcreplay and crates/fcreq, which build what it runs:
 
@@ -43,15 +43,32 @@ TAKEN = f"UDP 127.0.0.1:{PORT}: Address already in use (os error 98)"
 NO_FILES = f"UDP 127.0.0.1:{PORT}: Too many open files (os error 24)"
 NO_THREADS = "no worker could be started: the receiving thread works all jobs off"
 NO_MEMORY = "standard input: out of memory"
+NOBODY = "UDP: Connection refused (os error 111)"
+NO_SOCKET = "UDP: Too many open files (os error 24)"
+NO_FILE = "missing.img: No such file or directory (os error 2)"
 LONG_TEXT = "the text has more than 1048576 bytes"
+LISTENING = f"listening on 127.0.0.1:{PORT}"
+
+# An address that no host has (RFC 5737), and what is told of a server that is to listen there.
+NOWHERE = "192.0.2.1"
+NOT_OURS = f"UDP {NOWHERE}:{PORT}: Cannot assign requested address (os error 99)"
+
+# A rule that is broken, and what is told of it beside.
+V01, V02 = "V01 slot 0", "V02 slot 0"
+WHY_V01 = """rule: under 16 bytes, no `FCB1` in front, or a length that isn't 16 + 8 times the count of slots
+change: write the image by `fcasm image`, and hand it on whole"""
+WHY_V02 = """rule: the count of slots isn't 1 to 512
+change: write 1 to 512 slots; a wide load takes two"""
 
 # Who writes something, and what it reads for that.
 WRITERS = [
     ("fcd play", LINE),
     ("fcd play --workers 2", LINE),
     ("fcasm image --vars 0 --budget 2", TEXT),
+    ("fcasm expand", TEXT),
     ("fcasm list", IMAGE),
     ("fcasm check", IMAGE),
+    ("fcasm run", IMAGE),
     ("fcreplay", EVENT),
 ]
 READERS = [command for command, _ in WRITERS] + [f"fcreq --port {PORT} get /r/1"]
@@ -125,7 +142,8 @@ def tell(name, ran, told, status, is_well=True):
     """Prints a line of the table. Returns whether all is as it should be."""
     is_well = is_well and ran.status == status and ran.told == (told and told + "\n")
     how = f"no end in {LIMIT} s" if ran.status is None else f"signal {-ran.status}" if ran.status < 0 else ran.status
-    said = f"`{ran.told.rstrip()}`" if ran.told else "nothing"
+    first, _, more = ran.told.rstrip().partition("\n")
+    said = f"`{first}`{' and more' if more else ''}" if ran.told else "nothing"
     print(f"| {name} | {said} | {how} | {ran.seconds:.2f} |{'' if is_well else f' WRONG: printed {ran.printed[:60]}, read {ran.read}'}", flush=True)
     return is_well
 
@@ -166,6 +184,8 @@ def limits(shim):
     assembled = "fcasm image --vars 0 --budget 2"
     return [
         Fault(f"fcd serve --port {PORT}", b"", NO_FILES, 3, preload=no_files),
+        Fault(f"fcd serve --port {PORT} --bind {NOWHERE}", b"", NOT_OURS, 3),
+        Fault(f"fcreq --port {PORT} get /r/1", b"", NO_SOCKET, 3, preload=no_files),
         Fault("fcd play --workers 2", LINE, NO_THREADS, 0, REPLY, no_threads),
         Fault("fcd play", longest, "", 0),
         Fault("fcd play", b"0" + longest, "line 1: bad", 2),
@@ -175,15 +195,34 @@ def limits(shim):
         Fault("fcd play", LINE + line, "line 2: bad", 2, REPLY, most=READ),
         Fault("fcd play < /dev/zero", b"", "line 1: bad", 2),
         Fault("fcd play --workers 2 < /dev/zero", b"", "line 1: bad", 2),
-        Fault(assembled, b"mov64 r0, 0\n" * 33_000, "V02 slot 0", 1),
-        Fault(assembled, text, "V02 slot 0", 1),
+        Fault(assembled, b"mov64 r0, 0\n" * 33_000, f"{V02}\n{WHY_V02}", 1),
+        Fault(assembled, text, f"{V02}\n{WHY_V02}", 1),
         Fault(assembled, b"\n" + text, LONG_TEXT, 1),
         Fault(f"{assembled} < /dev/zero", b"", LONG_TEXT, 1),
-        Fault("fcasm list < /dev/zero", b"", "V01 slot 0", 1),
-        Fault("fcasm check < /dev/zero", b"", "", 1, b"V01 slot 0\n"),
+        Fault("fcasm expand < /dev/zero", b"", LONG_TEXT, 1),
+        Fault("fcasm list < /dev/zero", b"", f"{V01}\n{WHY_V01}", 1),
+        Fault("fcasm check < /dev/zero", b"", WHY_V01, 1, f"{V01}\n".encode()),
+        Fault("fcasm run < /dev/zero", b"", WHY_V01, 1, f"{V01}\n".encode()),
+        Fault("fcasm run /dev/zero", b"", WHY_V01, 1, f"{V01}\n".encode()),
         Fault("fcreplay < /dev/zero", b"", NO_MEMORY, 3),
         Fault(f"fcreq --port {PORT} put /p/1 < /dev/zero", b"", NO_MEMORY, 3),
+        Fault(f"fcreq --port {PORT} put /p/1 -f /dev/zero", b"", "/dev/zero: out of memory", 3),
     ]
+
+
+def files():
+    """Faults of the files that a command line names."""
+    commands = ["fcasm run", f"fcreq --port {PORT} put /p/1 -f"]
+    faults = [Fault(f"{command} missing.img", b"", NO_FILE, 3) for command in commands]
+    faults += [Fault(f"{command} /", b"", "/: Is a directory (os error 21)", 3) for command in commands]
+    return faults
+
+
+def unheard():
+    """A client asks at a port where nobody listens."""
+    asked = f"fcreq --port {PORT} get /r/1"
+    faults = [Fault(command, b"", NOBODY, 3) for command in (asked, f"{asked} -N")]
+    return faults + [Fault(f"{asked} 2>{stream}", b"", "", 3) for stream in ("&-", "/dev/full")]
 
 
 def unread():
@@ -242,12 +281,19 @@ def asking(stream, told):
     return tell(f"`fcreq --port {PORT} get /r/1 {stream}`, answered", ran, told, 3, is_well)
 
 
+def untold():
+    """A server that can't say where it listens, or at its end how much it sent, answers all the same."""
+    server = serving("--log info --limit 1 2>/dev/full")
+    is_answered = answer() == RESET
+    return tell(f"`fcd serve --port {PORT} --log info --limit 1 2>/dev/full`, a ping", ended(server), "", 0, is_answered)
+
+
 def signalled(number):
     """A server is sent a signal."""
     server = serving("--log info")
     is_answered = answer() == RESET
     server.send_signal(number)
-    return tell(f"`fcd serve --port {PORT} --log info`, {number.name} behind a ping", ended(server), "", -number, is_answered)
+    return tell(f"`fcd serve --port {PORT} --log info`, {number.name} behind a ping", ended(server), LISTENING, -number, is_answered)
 
 
 def main():
@@ -256,9 +302,9 @@ def main():
         shim = f"{room}/shim.so"
         subprocess.run(["cc", "-shared", "-fPIC", "-O1", "-o", shim, f"{HERE}/shim.c"], check=True)
         print("| fault | told | status | s |\n| --- | --- | --- | --- |")
-        well = [tried(fault) for fault in streams() + limits(shim) if any(it in named(fault) for it in words)]
+        well = [tried(fault) for fault in streams() + limits(shim) + files() + unheard() if any(it in named(fault) for it in words)]
         if words == [""]:
-            well += [asking(">&-", NO_OUTPUT), asking("> /dev/full", FULL), unread(), taken(), without_threads(shim)]
+            well += [asking(">&-", NO_OUTPUT), asking("> /dev/full", FULL), unread(), taken(), untold(), without_threads(shim)]
             well += [signalled(signal.SIGTERM), signalled(signal.SIGINT)]
     return 0 if all(well) else 1
 
