@@ -10,7 +10,7 @@ use Rattle.coap_client.specs.declared.part.Part.{Part}
 use Rattle.coap_client.specs.Parts.{first_part}
 use Rattle.coap_client.specs.Requests.{part_request}
 use Rattle.coap_client.specs.Heard.{HasTakenResponse, IsTakenResponse}
-use Rattle.coap_client.specs.Fetching.{State, Out, AnswersIn, IsAnswerTo, IsStep, IsUnderWay, LeadsTo, after_reply, taken_ids, with_taken_id}
+use Rattle.coap_client.specs.Fetching.{State, Out, AnswersIn, IsAnswerTo, IsStepOf, IsFetching, LeadsTo, after_reply, taken_ids, with_taken_id}
 
 -- what came answers the request of a part
 pub answers_part : (went came : List ℕ → Type 0) (e : Errand) (part : Part) (id : ℕ) (earlier : List ℕ) (r : Request) (bytes : List ℕ) (m : Message) →
@@ -30,15 +30,15 @@ answers_part went came e part id earlier r bytes m a read c i k d =
 
 pub begins : (went came : List ℕ → Type 0) (e : Errand) (first : ℕ) (known : List ℕ) (part : Part) (body etag : List ℕ) →
     first < 65536 → part ≡ first_part e.method (length e.payload.now) → body ≡ [] → etag ≡ [] →
-    IsUnderWay went came e first known first known (Out part body etag)
+    IsFetching went came e first known first known (Out part body etag)
 begins went came e first known part body etag below p b t =
     record { replies = []; are = tt; leads = cc (p, b, t); id_is = omega (arith, below); earlier_is = refl }
 
 pub one_more : (went came : List ℕ → Type 0) (e : Errand) (first : ℕ) (known : List ℕ) (id : ℕ) (earlier : List ℕ) (part : Part) (body etag : List ℕ) (m : Message)
     (id' : ℕ) (earlier' : List ℕ) (next : State) →
-    IsUnderWay went came e first known id earlier (Out part body etag) → IsAnswerTo went came e id earlier part m →
+    IsFetching went came e first known id earlier (Out part body etag) → IsAnswerTo went came e id earlier part m →
     after_reply (length e.payload.now) m (Out part body etag) ≡ next → id' ≡ (id + 1) % 65536 → earlier' ≡ with_taken_id m earlier →
-    IsUnderWay went came e first known id' earlier' next
+    IsFetching went came e first known id' earlier' next
 one_more went came e first known id earlier part body etag m id' earlier' next u a n i k = record {
   replies = m ∷ u.replies;
   are = (
@@ -53,21 +53,21 @@ one_more went came e first known id earlier part body etag m id' earlier' next u
 }
 
 pub leads_to : (went came : List ℕ → Type 0) (e : Errand) (first : ℕ) (known : List ℕ) (id : ℕ) (earlier : List ℕ) (state : State) →
-    IsUnderWay went came e first known id earlier state → LeadsTo went came e first known state
+    IsFetching went came e first known id earlier state → LeadsTo went came e first known state
 leads_to went came e first known id earlier state u = record { replies = u.replies; are = u.are; leads = u.leads }
 
 -- an answer was taken
 pub taken : (went came : List ℕ → Type 0) (e : Errand) (first : ℕ) (known : List ℕ) (old new : Course) (m : Message) (step : Step) →
-    IsUnderWay went came e first known old.id old.earlier.items (Out old.part old.body.items old.etag.items) → IsAnswerTo went came e old.id old.earlier.items old.part m →
-    IsStep (length e.payload.now) m old new step →
-    IsUnderWay went came e first known new.id new.earlier.items (after_reply (length e.payload.now) m (Out old.part old.body.items old.etag.items))
+    IsFetching went came e first known old.id old.earlier.items (Out old.part old.body.items old.etag.items) → IsAnswerTo went came e old.id old.earlier.items old.part m →
+    IsStepOf (length e.payload.now) m old new step →
+    IsFetching went came e first known new.id new.earlier.items (after_reply (length e.payload.now) m (Out old.part old.body.items old.etag.items))
 taken went came e first known old new m step u a s =
     one_more went came e first known old.id old.earlier.items old.part old.body.items old.etag.items m new.id new.earlier.items _ u a refl s.id s.earlier
 
 -- what the answer leads to
 pub leads_on : (went came : List ℕ → Type 0) (e : Errand) (first : ℕ) (known : List ℕ) (old new : Course) (m : Message) (step : Step) (state : State) →
-    IsUnderWay went came e first known old.id old.earlier.items (Out old.part old.body.items old.etag.items) → IsAnswerTo went came e old.id old.earlier.items old.part m →
-    IsStep (length e.payload.now) m old new step → after_reply (length e.payload.now) m (Out old.part old.body.items old.etag.items) ≡ state →
-    IsUnderWay went came e first known new.id new.earlier.items state
+    IsFetching went came e first known old.id old.earlier.items (Out old.part old.body.items old.etag.items) → IsAnswerTo went came e old.id old.earlier.items old.part m →
+    IsStepOf (length e.payload.now) m old new step → after_reply (length e.payload.now) m (Out old.part old.body.items old.etag.items) ≡ state →
+    IsFetching went came e first known new.id new.earlier.items state
 leads_on went came e first known old new m step state u a s is =
-    subst (IsUnderWay went came e first known new.id new.earlier.items) is (taken went came e first known old new m step u a s)
+    subst (IsFetching went came e first known new.id new.earlier.items) is (taken went came e first known old new m step u a s)

@@ -89,7 +89,7 @@ IsFetched went came e first code body =
     LeadsTo went came e first [] (Ended code body) ⊎ LeadsToAgain went came e first (Ended code body)
 
 -- replies have led to this state, so that the next request has this id, and messages of these ids have answered
-pub record IsUnderWay (went came : List ℕ → Type 0) (e : Errand) (first : ℕ) (known : List ℕ) (id : ℕ) (earlier : List ℕ) (state : State) : Type 0 where
+pub record IsFetching (went came : List ℕ → Type 0) (e : Errand) (first : ℕ) (known : List ℕ) (id : ℕ) (earlier : List ℕ) (state : State) : Type 0 where
   pub replies : List Message
   pub are : AreReplies went came e first known replies
   pub leads : state_after e replies ≡ state
@@ -99,7 +99,7 @@ pub record IsUnderWay (went came : List ℕ → Type 0) (e : Errand) (first : �
 -- what one attempt comes to
 abbrev pub IsAttempt : (List ℕ → Type 0) → (List ℕ → Type 0) → Errand → ℕ → List ℕ → Attempt → Type 0
 IsAttempt went came e first known (attempt.Ended f) = LeadsTo went came e first known (Ended f.code.byte f.body.items)
-IsAttempt went came e first known (attempt.Outdated id earlier) = IsUnderWay went came e first known id earlier.items Outdated
+IsAttempt went came e first known (attempt.Outdated id earlier) = IsFetching went came e first known id earlier.items Outdated
 
 -- what an answer makes of a fetch under way: the next request is out, or it has ended, or the answer was outdated
 abbrev pub IsNow : State → Course → Step → Type 0
@@ -107,7 +107,7 @@ IsNow state c step.GoesOn = state ≡ Out c.part c.body.items c.etag.items
 IsNow state c (step.Ended code) = state ≡ Ended code.byte c.body.items
 IsNow state c step.Outdated = state ≡ Outdated
 
-pub record IsStep (count : ℕ) (m : Message) (old new : Course) (step : Step) : Type 0 where
+pub record IsStepOf (count : ℕ) (m : Message) (old new : Course) (step : Step) : Type 0 where
   pub now : IsNow (after_reply count m (Out old.part old.body.items old.etag.items)) new step
   pub id : new.id ≡ (old.id + 1) % 65536
   pub earlier : new.earlier.items ≡ with_taken_id m old.earlier.items

@@ -26,20 +26,20 @@ pub record IsSeparateTo (came : List ℕ → Type 0) (confirmable : Bool) (id : 
   pub awaited : confirmable ≡ true → IsAcknowledged came id
 
 -- a response in the acknowledgement, which only a confirmable request has
-pub record IsReplyTo (confirmable : Bool) (id : ℕ) (m : Message) : Type 0 where
+pub record IsPiggybacked (confirmable : Bool) (id : ℕ) (m : Message) : Type 0 where
   pub own : IsReply id m
   pub asked : confirmable ≡ true
 
 -- the message answers the request of this id, where separate responses of these ids came before
-abbrev pub Responds : (List ℕ → Type 0) → Bool → ℕ → List ℕ → Message → Type 0
-Responds came confirmable id earlier m = IsReplyTo confirmable id m ⊎ IsSeparateTo came confirmable id earlier m
+abbrev pub IsResponseFor : (List ℕ → Type 0) → Bool → ℕ → List ℕ → Message → Type 0
+IsResponseFor came confirmable id earlier m = IsPiggybacked confirmable id m ⊎ IsSeparateTo came confirmable id earlier m
 
 -- this request was sent, and a datagram came that spells the message, which answers it
 pub record IsResponseTo (went came : List ℕ → Type 0) (confirmable : Bool) (id : ℕ) (earlier request bytes : List ℕ) (m : Message) : Type 0 where
   pub asked : went request
   pub came_is : came bytes
   pub read_is : reading_of bytes ≡ Ok m
-  pub responds : Responds came confirmable id earlier m
+  pub responds : IsResponseFor came confirmable id earlier m
 
 -- and the message was acknowledged where it asks for that (RFC 7252, 4.2)
 pub record IsTakenResponse (went came : List ℕ → Type 0) (confirmable : Bool) (id : ℕ) (earlier request bytes : List ℕ) (m : Message) : Type 0 where
@@ -62,14 +62,14 @@ pub record IsSeparateAmong (earlier : List ℕ) (before : Bool) (m : Message) : 
 
 -- none of all
 pub record IsOther (confirmable : Bool) (id : ℕ) (m : Message) : Type 0 where
-  pub reply : IsReplyTo confirmable id m → ⊥
+  pub reply : IsPiggybacked confirmable id m → ⊥
   pub acknowledged : IsEmptyAcknowledgement id m → ⊥
   pub rejected : IsReset id m → ⊥
   pub separate : IsSeparate m → ⊥
 
 -- the request of this id is answered, acknowledged or rejected; or a response came in a message of its own, for the first time or again; or none of these
 abbrev pub IsHeardAs : Request → Message → Heard → Type 0
-IsHeardAs r m Reply = IsReplyTo r.confirmable r.id m
+IsHeardAs r m Reply = IsPiggybacked r.confirmable r.id m
 IsHeardAs r m Separate = IsSeparateAmong r.earlier.now false m
 IsHeardAs r m Repeat = IsSeparateAmong r.earlier.now true m
 IsHeardAs r m Acknowledged = IsEmptyAcknowledgement r.id m
@@ -89,9 +89,9 @@ Tells r bytes heard = IsReadAs bytes (λ m. IsHeardAs r m heard)
 
 -- what came answers a request, in its acknowledgement, or where that is awaited in a message of its own
 abbrev pub IsAwaited : Request → Bool → Message → Type 0
-IsAwaited r awaited m = IsReplyTo r.confirmable r.id m ⊎ ((awaited ≡ true) × IsSeparateAmong r.earlier.now false m)
+IsAwaited r awaited m = IsPiggybacked r.confirmable r.id m ⊎ ((awaited ≡ true) × IsSeparateAmong r.earlier.now false m)
 
-pub record IsHeard (came : List ℕ → Type 0) (r : Request) (awaited : Bool) (bytes : List ℕ) : Type 0 where
+pub record IsAwaitedAnswer (came : List ℕ → Type 0) (r : Request) (awaited : Bool) (bytes : List ℕ) : Type 0 where
   pub message : Message
   pub came_is : came bytes
   pub read_is : reading_of bytes ≡ Ok message
@@ -99,6 +99,6 @@ pub record IsHeard (came : List ℕ → Type 0) (r : Request) (awaited : Bool) (
 
 -- what listening comes to
 abbrev pub Hears : (List ℕ → Type 0) → Request → Bool → List ℕ → Listened → Type 0
-Hears came r awaited buffer (listened.Answer count) = (count ≤ length buffer) × IsHeard came r awaited (take count buffer)
+Hears came r awaited buffer (listened.Answer count) = (count ≤ length buffer) × IsAwaitedAnswer came r awaited (take count buffer)
 Hears came r awaited buffer listened.Acknowledged = IsAcknowledged came r.id
 Hears came r awaited buffer listened.Nothing = Unit {0}

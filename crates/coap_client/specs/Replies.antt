@@ -54,8 +54,8 @@ pub record IsReset (id : ℕ) (m : Message) : Type 0 where
   pub empty : m.code ≡ 0
 
 -- an option that may be ignored where it isn't known, or one of the two critical ones that a client knows of responses (RFC 7252, 5.4.1 and 5.4.6)
-abbrev pub is_known : ℕ → Bool
-is_known number = (number % 2 == 0) || ((number == option.BLOCK1) || (number == option.BLOCK2))
+abbrev pub is_known_option : ℕ → Bool
+is_known_option number = (number % 2 == 0) || ((number == option.BLOCK1) || (number == option.BLOCK2))
 
 -- at most one option of this number
 abbrev pub is_single : ℕ → Message → Bool
@@ -63,7 +63,7 @@ is_single number m = nat_le (length (values_in number m.options)) 1
 
 -- no critical option is unknown, or stands there again (RFC 7252, 5.4.1 and 5.4.5)
 abbrev pub is_understood : Message → Bool
-is_understood m = list_all (λ o. is_known o.0) m.options && (is_single option.BLOCK1 m && is_single option.BLOCK2 m)
+is_understood m = list_all (λ o. is_known_option o.0) m.options && (is_single option.BLOCK1 m && is_single option.BLOCK2 m)
 
 -- the class of success (RFC 7252, 5.9.1)
 abbrev pub is_success : ℕ → Bool

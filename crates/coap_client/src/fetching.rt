@@ -3,7 +3,7 @@ ghost use Rattle.std.specs.Prelude.{◌≡◌, ◌+◌, ◌++◌, ◌%◌, [], I
 ghost use Rattle.coap_client.specs.Requests.{IsPartOf};
 ghost use Rattle.coap_client.specs.Replies.{begins_exchange};
 ghost use Rattle.coap_client.specs.Joined.{SendsWhole};
-ghost use Rattle.coap_client.specs.Fetching.{IsAttempt, IsFetched, IsSameAnswer, IsStep, Out, going_on, with_taken_id};
+ghost use Rattle.coap_client.specs.Fetching.{IsAttempt, IsFetched, IsSameAnswer, IsStepOf, Out, going_on, with_taken_id};
 
 use crate::errand::Errand;
 use crate::hearing::{Request, ask};
@@ -174,7 +174,7 @@ impl Course {
     fn hear(&mut self, errand: &Errand<'_>, message: &Message<'_>) -> Result<Step, Fault>
         requires { IsPartOf errand.now self.old.part }
         ensures own { OnOk result (IsPartOf errand.now self.new.part) }
-        ensures step { IfOk result (IsStep (length errand.now.payload.now) message.now self.old self.new) }
+        ensures step { IfOk result (IsStepOf (length errand.now.payload.now) message.now self.old self.new) }
     {
         self.count(message)?;
         match next_of(errand, self.part, &self.etag, message) {

@@ -4,7 +4,7 @@ ghost use Rattle.coap_msg.specs.Wire.{message_bytes};
 ghost use Rattle.coap_msg.specs.Reading.{reading_of};
 ghost use Rattle.coap_msg.specs.Wire as wire;
 ghost use Rattle.coap_msg.specs.declared.types.MessageType.TheVariants.{Confirmable};
-ghost use Rattle.coap_client.specs.Heard.{Hears, HasTakenResponse, HasResponse, IsHeard, IsHeardAs, Tells};
+ghost use Rattle.coap_client.specs.Heard.{Hears, HasTakenResponse, HasResponse, IsAwaitedAnswer, IsHeardAs, Tells};
 ghost use Rattle.coap_client.specs.Replies.{is_taken};
 ghost use Rattle.coap_client.specs.Requests.{acknowledgement};
 
@@ -124,7 +124,7 @@ fn await_separate<P: Peer>(
     request: &Request<'_>,
     buffer: &mut [u8],
 ) -> Result<usize, Fault>
-    ensures { IfOk result (λ count. (count ≤ length buffer.new) × IsHeard P.came request.now true (take count buffer.new)) }
+    ensures { IfOk result (λ count. (count ≤ length buffer.new) × IsAwaitedAnswer P.came request.now true (take count buffer.new)) }
 {
     match listen(peer, request, true, buffer)? {
         Listened::Answer(count) => Ok(count),

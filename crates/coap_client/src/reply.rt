@@ -134,10 +134,10 @@ fn is_understood(message: &Message<'_>) -> bool
 }
 
 fn are_known(message: &Message<'_>) -> bool
-    ensures { result ≡ list_all (λ o. spec.is_known o.0) message.now.options }
+    ensures { result ≡ list_all (λ o. spec.is_known_option o.0) message.now.options }
 {
     for (number, _) in message.options() {
-        if !is_known(number) {
+        if !is_known_option(number) {
             return false;
         }
     }
@@ -145,8 +145,8 @@ fn are_known(message: &Message<'_>) -> bool
 }
 
 // Whether an option may be ignored where it isn't known, or is one of the critical ones that a client knows.
-fn is_known(number: u16) -> bool
-    ensures { result ≡ spec.is_known number }
+fn is_known_option(number: u16) -> bool
+    ensures { result ≡ spec.is_known_option number }
 {
     number % 2 == 0 || number == BLOCK1 || number == BLOCK2
 }

@@ -8,11 +8,11 @@ use Rattle.fc_fetch.specs.declared.printing.Shown.{Shown}
 use Rattle.fc_fetch.specs.declared.printing.Shown.TheVariants.{Hex, Text}
 
 -- no control character (Unicode, general category Cc), but a tab or a line feed
-abbrev pub is_plain : ℕ → Bool
-is_plain c = (c == 9) || ((c == 10) || (nat_le 32 c && not (nat_le 127 c && nat_le c 159)))
+abbrev pub is_shown_char : ℕ → Bool
+is_shown_char c = (c == 9) || ((c == 10) || (nat_le 32 c && not (nat_le 127 c && nat_le c 159)))
 
 abbrev pub is_text : List ℕ → Bool
-is_text bytes = is_utf8 bytes && list_all is_plain (chars bytes)
+is_text bytes = is_utf8 bytes && list_all is_shown_char (chars bytes)
 
 -- text as it is, where it is asked for, and all else in hex
 abbrev pub shown_bytes : Shown → List ℕ → List ℕ
@@ -20,6 +20,6 @@ shown_bytes Hex bytes = encode_lower bytes
 shown_bytes Text bytes = if is_text bytes then bytes else encode_lower bytes
 
 -- the text that is printed for the bytes, or none where they go in hex
-abbrev pub IsText : Shown → List ℕ → Option (Bor (List ℕ)) → Type 0
-IsText shown bytes None = shown_bytes shown bytes ≡ encode_lower bytes
-IsText shown bytes (Some text) = shown_bytes shown bytes ≡ text.now
+abbrev pub IsShownText : Shown → List ℕ → Option (Bor (List ℕ)) → Type 0
+IsShownText shown bytes None = shown_bytes shown bytes ≡ encode_lower bytes
+IsShownText shown bytes (Some text) = shown_bytes shown bytes ≡ text.now

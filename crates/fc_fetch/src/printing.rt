@@ -62,7 +62,7 @@ pub fn write_answer<W: Write>(
 
 // The bytes as text, where they are to be shown so and can be.
 fn text_of(shown: Shown, bytes: &[u8]) -> Option<&str>
-    ensures { spec.IsText shown bytes.now result }
+    ensures { spec.IsShownText shown bytes.now result }
 {
     match shown {
         Shown::Hex => None,
@@ -81,14 +81,14 @@ fn plain_text(bytes: &[u8]) -> Option<&str>
 }
 
 fn are_plain(text: &str) -> bool
-    ensures { result ≡ list_all spec.is_plain (chars text.now) }
+    ensures { result ≡ list_all spec.is_shown_char (chars text.now) }
 {
-    text.chars().all(is_plain)
+    text.chars().all(is_shown_char)
 }
 
 // Whether a character is no control character (Unicode, general category Cc), but a tab or a line feed.
-fn is_plain(character: char) -> bool
-    ensures { result ≡ spec.is_plain character }
+fn is_shown_char(character: char) -> bool
+    ensures { result ≡ spec.is_shown_char character }
 {
     match u32::from(character) {
         0x09 | 0x0a => true,
