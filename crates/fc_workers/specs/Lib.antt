@@ -1,4 +1,5 @@
 pub mod Answers
+pub mod Asked
 pub mod Counts
 pub mod Outgoing
 pub mod Work

@@ -41,8 +41,10 @@
 
 pub mod bench;
 pub mod blanks;
+pub mod calls;
 pub mod counted;
 pub mod dispatch;
+mod locked_shard;
 pub mod notify;
 pub mod pool;
 pub mod reserve;
@@ -57,6 +59,7 @@ pub mod workshop;
 
 pub use bench::Bench;
 pub use blanks::Blanks;
+pub use calls::ShardCall;
 pub use counted::Counted;
 pub use dispatch::{Dispatched, Dispatcher, Handover};
 pub use pool::{feed_workers, make_seats, run_workers};

@@ -11,18 +11,24 @@
 //!
 //! No type of that function's signature may name a ledger: it opens the server, splits the reserve into the tallies of its
 //! workers, runs them, merges their tallies, and closes the server.
-ghost use Rattle.std.specs.Prelude.{◌≡◌, ◌+◌, ◌*◌, ◌<◌, ◌≤◌, ◌%◌, map, slice_index, IfOk};
+ghost use Rattle.std.specs.Prelude.{◌≡◌, ◌+◌, ◌*◌, ◌-◌, ◌<◌, ◌≤◌, ◌%◌, map, slice_index, take, vec_len, IfOk};
 ghost use Rattle.coap_msg.specs.declared.types.Emission.{Emission as Emitted};
 ghost use Rattle.fc_core.specs.Answering.{emission_of, responded};
 ghost use Rattle.fc_core.specs.Contents.{IsOf};
 ghost use Rattle.fc_core.specs.Receiving.{emission_if};
-ghost use Rattle.fc_registry.specs.Slots.{last_serial};
+ghost use Rattle.fc_registry.specs.Shards.{shard_at};
+ghost use Rattle.fc_registry.specs.Slots.{IsOwned, Shard as Seen, last_serial};
+ghost use Rattle.fc_workers.specs.Asked.{IsSomeDoing};
 ghost use Rattle.fc_workers.specs.Counts.{no_changes, serials, sums};
 ghost use Rattle.fc_workers.specs.Answers.{AreTallied, IsSomeCommit, IsSomeInstall, IsSomeNote, IsSomeReceipt, IsSomeRemoval, IsSomeTaking, IsSomeTick, IsSomeTurn, commit_changes, install_changes, removal_changes, saturated};
 
 use crate::bench::Bench;
 use crate::blanks::Blanks;
-use crate::counted::Counted;
+use crate::calls::{
+    AdvanceIfQuiet, Change, Commit, Describe, GiveUp, Install, NextDue, Note, Remove, ShardCall,
+    Signal, Take, Tick,
+};
+use crate::locked_shard::LockedShard;
 use crate::reserve::Reserve;
 use crate::tallies::Tallies;
 use crate::tally::Tally;
@@ -32,62 +38,24 @@ use fc_heads::{HeadSeat, Heads};
 use fc_machine::Outcome;
 use fc_observe::{Ticked, Turn};
 use fc_registry::{
-    Committed, Job, Made, Noted, Notification, Receipt, Removal, Shard, SlotNumber, Taken, Ticket,
+    Committed, Job, Made, Noted, Notification, Receipt, Removal, SHARDS, Shard, SlotNumber, Taken,
+    Ticket, make_shards,
 };
 use fc_verify::Verified;
 use std::alloc::{AllocError, Global};
-use std::sync::ledger::{Blank, Ledger};
+use std::sync::ledger::Ledger;
 use std::sync::{Arc, Mutex, Wait};
 
-// Calls the shard of an index, 0 to 7, under its lock, and none of the others; with the tally of its changes where one is named.
-macro_rules! at_shard {
-    ($server:expr, $rt:expr, $index:expr, $shard:ident $(, $tally:ident in $tallies:expr)? => $call:expr) => {
-        match $index {
-            0 => at_shard!(@locked $rt, $server.shard0, $shard $(, $tally, $tallies.tally0)? => $call),
-            1 => at_shard!(@locked $rt, $server.shard1, $shard $(, $tally, $tallies.tally1)? => $call),
-            2 => at_shard!(@locked $rt, $server.shard2, $shard $(, $tally, $tallies.tally2)? => $call),
-            3 => at_shard!(@locked $rt, $server.shard3, $shard $(, $tally, $tallies.tally3)? => $call),
-            4 => at_shard!(@locked $rt, $server.shard4, $shard $(, $tally, $tallies.tally4)? => $call),
-            5 => at_shard!(@locked $rt, $server.shard5, $shard $(, $tally, $tallies.tally5)? => $call),
-            6 => at_shard!(@locked $rt, $server.shard6, $shard $(, $tally, $tallies.tally6)? => $call),
-            _ => at_shard!(@locked $rt, $server.shard7, $shard $(, $tally, $tallies.tally7)? => $call),
-        }
-    };
-    (@locked $rt:expr, $lock:expr, $shard:ident $(, $tally:ident, $counts:expr)? => $call:expr) => {{
-        let mut held = $lock.lock($rt);
-        let $shard = &mut held.counted;
-        $(let $tally = &mut $counts;)?
-        $call
-    }};
-}
-
-// The shard of an index beside its book, and the serial that each of its slots began with.
-#[derive(Drop)]
-struct ShardState<const INDEX: u8, L: Ledger> {
-    counted: Counted<L>,
-    first_serial: u64,
-    ghost index: { counted.shard.index ≡ INDEX },
-    ghost opened: { counted.opened ≡ 8 * first_serial },
-}
-
-// A shard of empty slots, each at the first serial, whose book is opened, behind a lock of its own; the tally has all its parts.
-fn open_shard<const INDEX: u8, L: Ledger>(
-    alloc: Global,
-    first_serial: u64,
-    blank: Blank,
-) -> Result<(Mutex<ShardState<INDEX, L>>, Tally<L>), AllocError>
-    requires index { INDEX < 8 }
-    requires serial { first_serial ≤ last_serial }
-    requires book { (blank.name ≡ L.name) × (blank.parts ≡ L.parts) × (0 < blank.parts) }
-    ensures { IfOk result (λ r. r.1 ≡ record { parts = blank.parts; changes = 0 }) }
+// Takes the last of some shards.
+fn last_of(shards: &mut Vec<Shard>) -> Shard
+    requires { 0 < vec_len shards.old }
+    ensures last { result ≡ shard_at shards.old.items (vec_len shards.old - 1) }
+    ensures others { shards.new.items ≡ take (vec_len shards.old - 1) shards.old.items }
 {
-    let shard = Shard::new(alloc, INDEX, first_serial)?;
-    let (counted, tally) = Counted::open(shard, blank);
-    let state = ShardState {
-        counted,
-        first_serial,
+    let Some(shard) = shards.pop() else {
+        unreachable!();
     };
-    Ok((Mutex::new(state), tally))
+    shard
 }
 
 // The reserve of tallies that have as many parts each, and count no change.
@@ -134,11 +102,10 @@ fn reserve_of<
 }
 
 // The index of the shard that owns a slot.
-fn shard_of(slot: SlotNumber) -> usize
+fn shard_of(slot: SlotNumber) -> u8
     ensures { (result ≡ slot % 8) × (slot < 64) × (result < 8) }
 {
-    let _below = slot.number();
-    slot.shard()
+    slot.number() % SHARDS
 }
 
 /// A server whose front and shards are behind a lock each: a call holds one of them, and no call two. Its head words are behind none. While a program runs or an image is
@@ -156,14 +123,14 @@ pub struct Locked<
 > {
     heads: Heads,
     front: Mutex<Front>,
-    shard0: Mutex<ShardState<0, L0>>,
-    shard1: Mutex<ShardState<1, L1>>,
-    shard2: Mutex<ShardState<2, L2>>,
-    shard3: Mutex<ShardState<3, L3>>,
-    shard4: Mutex<ShardState<4, L4>>,
-    shard5: Mutex<ShardState<5, L5>>,
-    shard6: Mutex<ShardState<6, L6>>,
-    shard7: Mutex<ShardState<7, L7>>,
+    shard0: LockedShard<0, L0>,
+    shard1: LockedShard<1, L1>,
+    shard2: LockedShard<2, L2>,
+    shard3: LockedShard<3, L3>,
+    shard4: LockedShard<4, L4>,
+    shard5: LockedShard<5, L5>,
+    shard6: LockedShard<6, L6>,
+    shard7: LockedShard<7, L7>,
 }
 
 /// The shards of a server that was closed, and of each the serial that its slots began with.
@@ -213,14 +180,23 @@ impl<
     {
         let (heads, _seat) = Heads::new(alloc)?;
         let front = Front::new(alloc, first_id)?;
-        let (shard0, tally0) = open_shard(alloc, first_serial, blanks.blank0)?;
-        let (shard1, tally1) = open_shard(alloc, first_serial, blanks.blank1)?;
-        let (shard2, tally2) = open_shard(alloc, first_serial, blanks.blank2)?;
-        let (shard3, tally3) = open_shard(alloc, first_serial, blanks.blank3)?;
-        let (shard4, tally4) = open_shard(alloc, first_serial, blanks.blank4)?;
-        let (shard5, tally5) = open_shard(alloc, first_serial, blanks.blank5)?;
-        let (shard6, tally6) = open_shard(alloc, first_serial, blanks.blank6)?;
-        let (shard7, tally7) = open_shard(alloc, first_serial, blanks.blank7)?;
+        let mut shards = make_shards(alloc, first_serial)?;
+        let shard7 = last_of(&mut shards);
+        let shard6 = last_of(&mut shards);
+        let shard5 = last_of(&mut shards);
+        let shard4 = last_of(&mut shards);
+        let shard3 = last_of(&mut shards);
+        let shard2 = last_of(&mut shards);
+        let shard1 = last_of(&mut shards);
+        let shard0 = last_of(&mut shards);
+        let (shard0, tally0) = LockedShard::new(shard0, first_serial, blanks.blank0);
+        let (shard1, tally1) = LockedShard::new(shard1, first_serial, blanks.blank1);
+        let (shard2, tally2) = LockedShard::new(shard2, first_serial, blanks.blank2);
+        let (shard3, tally3) = LockedShard::new(shard3, first_serial, blanks.blank3);
+        let (shard4, tally4) = LockedShard::new(shard4, first_serial, blanks.blank4);
+        let (shard5, tally5) = LockedShard::new(shard5, first_serial, blanks.blank5);
+        let (shard6, tally6) = LockedShard::new(shard6, first_serial, blanks.blank6);
+        let (shard7, tally7) = LockedShard::new(shard7, first_serial, blanks.blank7);
         let server = Locked {
             heads,
             front: Mutex::new(front),
@@ -239,19 +215,48 @@ impl<
         Ok((server, reserve))
     }
 
-    /// Calls this while it holds the lock of a shard, 0 to 7: so a test sees which other calls wait for that lock.
-    pub fn hold_shard<X, F: FnOnce() -> X, R: Wait>(&self, rt: &R, shard: u8, call: F) -> X
-        requires { F.pre call }
-        ensures { F.post call result }
+    /// Asks the shard of an index, 0 to 7, what changes no slot, under its lock and none of the others.
+    pub fn ask<C: ShardCall, R: Wait>(&self, rt: &R, index: u8, call: C) -> C::Answer
+        requires may { (shard : Seen) → (index < 8 → shard.index ≡ index) → C.may_ask call shard }
+        requires none { (answer : C.Answer) → C.changes answer ≡ 0 }
+        ensures { IsSomeDoing (C.does call) result }
     {
-        at_shard!(self, rt, shard, _counted => call())
+        match index {
+            0 => self.shard0.ask(rt, call),
+            1 => self.shard1.ask(rt, call),
+            2 => self.shard2.ask(rt, call),
+            3 => self.shard3.ask(rt, call),
+            4 => self.shard4.ask(rt, call),
+            5 => self.shard5.ask(rt, call),
+            6 => self.shard6.ask(rt, call),
+            _ => self.shard7.ask(rt, call),
+        }
     }
 
-    // Takes what a job finds in its slot.
-    fn take_at<R: Wait>(&self, rt: &R, job: &Job) -> Taken
-        ensures { IsSomeTaking job.now result }
+    // Asks the shard that owns a slot what may change the slot, under its lock and none of the others. The tallies count it.
+    fn change<C: Change, R: Wait>(
+        &self,
+        rt: &R,
+        slot: SlotNumber,
+        call: C,
+        tallies: &mut Tallies<L0, L1, L2, L3, L4, L5, L6, L7>,
+    ) -> C::Answer
+        requires { (shard : Seen) → IsOwned shard slot → C.may_ask call shard }
+        ensures does { IsSomeDoing (C.does call) result }
+        ensures changes { AreTallied (slice_index tallies.old.changes) (slice_index tallies.new.changes)
+            slot (C.changes result) }
+        ensures ended { tallies.new.ended ≡ tallies.old.ended }
     {
-        at_shard!(self, rt, shard_of(job.origin.slot), shard => shard.take(job))
+        match shard_of(slot) {
+            0 => self.shard0.change(rt, call, &mut tallies.tally0),
+            1 => self.shard1.change(rt, call, &mut tallies.tally1),
+            2 => self.shard2.change(rt, call, &mut tallies.tally2),
+            3 => self.shard3.change(rt, call, &mut tallies.tally3),
+            4 => self.shard4.change(rt, call, &mut tallies.tally4),
+            5 => self.shard5.change(rt, call, &mut tallies.tally5),
+            6 => self.shard6.change(rt, call, &mut tallies.tally6),
+            _ => self.shard7.change(rt, call, &mut tallies.tally7),
+        }
     }
 
     /// Closes the server, for a reserve that has all parts again: the serials of each shard have risen by the changes that
@@ -263,37 +268,21 @@ impl<
             × (reserve.old.parts ≡ L6.parts) × (reserve.old.parts ≡ L7.parts) }
         ensures { map serials result.shards ≡ sums (map (λ n. 8 * n) result.first_serials) reserve.old.changes }
     {
-        let state0 = self.shard0.into_inner();
-        let state1 = self.shard1.into_inner();
-        let state2 = self.shard2.into_inner();
-        let state3 = self.shard3.into_inner();
-        let state4 = self.shard4.into_inner();
-        let state5 = self.shard5.into_inner();
-        let state6 = self.shard6.into_inner();
-        let state7 = self.shard7.into_inner();
-        let first_serials = [
-            state0.first_serial,
-            state1.first_serial,
-            state2.first_serial,
-            state3.first_serial,
-            state4.first_serial,
-            state5.first_serial,
-            state6.first_serial,
-            state7.first_serial,
-        ];
-        let shards = [
-            state0.counted.close(&mut reserve.tally0),
-            state1.counted.close(&mut reserve.tally1),
-            state2.counted.close(&mut reserve.tally2),
-            state3.counted.close(&mut reserve.tally3),
-            state4.counted.close(&mut reserve.tally4),
-            state5.counted.close(&mut reserve.tally5),
-            state6.counted.close(&mut reserve.tally6),
-            state7.counted.close(&mut reserve.tally7),
-        ];
+        let (shard0, first0) = self.shard0.close(&mut reserve.tally0);
+        let (shard1, first1) = self.shard1.close(&mut reserve.tally1);
+        let (shard2, first2) = self.shard2.close(&mut reserve.tally2);
+        let (shard3, first3) = self.shard3.close(&mut reserve.tally3);
+        let (shard4, first4) = self.shard4.close(&mut reserve.tally4);
+        let (shard5, first5) = self.shard5.close(&mut reserve.tally5);
+        let (shard6, first6) = self.shard6.close(&mut reserve.tally6);
+        let (shard7, first7) = self.shard7.close(&mut reserve.tally7);
         Closed {
-            shards,
-            first_serials,
+            shards: [
+                shard0, shard1, shard2, shard3, shard4, shard5, shard6, shard7,
+            ],
+            first_serials: [
+                first0, first1, first2, first3, first4, first5, first6, first7,
+            ],
         }
     }
 }
@@ -345,25 +334,30 @@ impl<
         job: &Job,
         tallies: &mut Tallies<L0, L1, L2, L3, L4, L5, L6, L7>,
     ) -> Taken {
-        let taken = self.take_at(rt, job);
+        let taken = self.ask(rt, shard_of(job.origin.slot), Take { job });
         tallies.end_taking(&taken);
         taken
     }
 
     fn signal<R: Wait>(&self, rt: &R, shard: u8, endpoint: Endpoint, id: u16, reset: bool) {
-        at_shard!(self, rt, shard, counted => counted.signal(endpoint, id, reset));
+        let signal = Signal {
+            endpoint,
+            id,
+            reset,
+        };
+        self.ask(rt, shard, signal);
     }
 
     fn tick_shard<R: Wait>(&self, rt: &R, shard: u8, now: u64) -> Ticked {
-        at_shard!(self, rt, shard, counted => counted.tick(now))
+        self.ask(rt, shard, Tick { now })
     }
 
     fn advance_if_quiet<R: Wait>(&self, rt: &R, shard: u8, now: u64) -> bool {
-        at_shard!(self, rt, shard, counted => counted.advance_if_quiet(now))
+        self.ask(rt, shard, AdvanceIfQuiet { now })
     }
 
     fn next_due<R: Wait>(&self, rt: &R, shard: u8, now: u64) -> Option<Job> {
-        at_shard!(self, rt, shard, counted => counted.next_due(now))
+        self.ask(rt, shard, NextDue { now })
     }
 
     fn note<R: Wait>(
@@ -377,7 +371,14 @@ impl<
         tallies: &mut Tallies<L0, L1, L2, L3, L4, L5, L6, L7>,
     ) -> Noted {
         tallies.end_job();
-        at_shard!(self, rt, turn.slot % 8, shard => shard.note(turn, id, now, random, told))
+        let note = Note {
+            turn,
+            id,
+            now,
+            random,
+            told,
+        };
+        self.ask(rt, turn.slot % SHARDS, note)
     }
 
     fn give_up<R: Wait>(
@@ -388,7 +389,7 @@ impl<
         tallies: &mut Tallies<L0, L1, L2, L3, L4, L5, L6, L7>,
     ) {
         tallies.end_job();
-        at_shard!(self, rt, turn.slot % 8, shard => shard.give_up(turn, now));
+        self.ask(rt, turn.slot % SHARDS, GiveUp { turn, now });
     }
 
     fn commit<R: Wait>(
@@ -399,7 +400,12 @@ impl<
         ticket: &Ticket,
         tallies: &mut Tallies<L0, L1, L2, L3, L4, L5, L6, L7>,
     ) -> Committed {
-        at_shard!(self, rt, shard_of(ticket.origin().slot), shard, tally in tallies => shard.commit(now, outcome, ticket, tally))
+        let commit = Commit {
+            now,
+            outcome,
+            ticket,
+        };
+        self.change(rt, ticket.origin().slot, commit, tallies)
     }
 
     fn install<R: Wait>(
@@ -409,7 +415,7 @@ impl<
         program: Arc<Verified>,
         tallies: &mut Tallies<L0, L1, L2, L3, L4, L5, L6, L7>,
     ) -> Made {
-        at_shard!(self, rt, shard_of(job.origin.slot), shard, tally in tallies => shard.install(job, program, tally))
+        self.change(rt, job.origin.slot, Install { job, program }, tallies)
     }
 
     fn remove<R: Wait>(
@@ -418,11 +424,11 @@ impl<
         job: &Job,
         tallies: &mut Tallies<L0, L1, L2, L3, L4, L5, L6, L7>,
     ) -> Removal {
-        at_shard!(self, rt, shard_of(job.origin.slot), shard, tally in tallies => shard.remove(job, tally))
+        self.change(rt, job.origin.slot, Remove { job }, tallies)
     }
 
     fn receipt<R: Wait>(&self, rt: &R, job: &Job) -> Option<Receipt> {
-        at_shard!(self, rt, shard_of(job.origin.slot), shard => shard.receipt(job))
+        self.ask(rt, shard_of(job.origin.slot), Describe { job })
     }
 
     fn head_seat(&self) -> HeadSeat {

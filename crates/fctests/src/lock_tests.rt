@@ -4,8 +4,8 @@ ghost use Rattle.std.specs.Prelude.{◌≡◌};
 use crate::feeder::{Feeder, Request, datagram};
 use crate::overtaking_tests::{COUNTER, CREATED, Held, Replies, Reply, Seen, Trial, hold};
 use fc_jobs::Sent;
-use fc_registry::{Job, SlotNumber};
-use fc_workers::{Bench, Gate, Locked, Workshop, feed_workers, make_seats};
+use fc_registry::{Job, Shard, SlotNumber};
+use fc_workers::{Bench, Gate, Locked, ShardCall, Workshop, feed_workers, make_seats};
 use std::alloc::{AllocError, Global};
 use std::sync::Wait;
 use std::sync::ledger::Ledger;
@@ -18,9 +18,29 @@ const VALID: u8 = 0x43;
 
 const CONTENT: u8 = 0x45;
 
+// A call of a shard that asks it nothing, and calls this while the shard's lock is held.
+#[derive(Drop)]
+struct WhileHeld<F: Drop> {
+    call: F,
+}
+
+impl<X, F: FnOnce() -> X + Drop> ShardCall for WhileHeld<F> {
+    type Answer = X;
+
+    ghost may_ask = { λ held shard. F.pre held.call };
+
+    ghost does = { λ held before answer after. F.post held.call answer × (after ≡ before) };
+
+    fn call(self, shard: &mut Shard) -> X {
+        let _ = shard;
+        let WhileHeld { call } = self;
+        call()
+    }
+}
+
 // A bench of which a test can hold the lock of a shard.
 pub(crate) trait Locks: Bench {
-    fn hold<X, F: FnOnce() -> X, R: Wait>(&self, rt: &R, shard: u8, call: F) -> X
+    fn hold<X, F: FnOnce() -> X + Drop, R: Wait>(&self, rt: &R, shard: u8, call: F) -> X
         requires { F.pre call }
         ensures { F.post call result };
 }
@@ -35,8 +55,8 @@ impl<
     L6: Ledger,
     L7: Ledger,
 > Locks for Locked<L0, L1, L2, L3, L4, L5, L6, L7> {
-    fn hold<X, F: FnOnce() -> X, R: Wait>(&self, rt: &R, shard: u8, call: F) -> X {
-        self.hold_shard(rt, shard, call)
+    fn hold<X, F: FnOnce() -> X + Drop, R: Wait>(&self, rt: &R, shard: u8, call: F) -> X {
+        self.ask(rt, shard, WhileHeld { call })
     }
 }
 

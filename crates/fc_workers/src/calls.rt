@@ -1,0 +1,292 @@
+//! The calls of a shard: each is one question to the shard that it is handed, and what it does is said of the shard alone.
+ghost use Rattle.std.specs.Prelude.{◌≡◌, ℕ, ◌+◌, ⊤, if◌then◌else◌};
+ghost use Rattle.fc_registry.specs.Slots.{IsOwned, Shard as Seen, slot_in, with_slot};
+ghost use Rattle.fc_registry.specs.Changes.{after_changes};
+ghost use Rattle.fc_registry.specs.Calls.{CommitsTo, TakesAt, after_taking, install_in, receipt_at, remove_from};
+ghost use Rattle.fc_registry.specs.Notes.{NotesTo};
+ghost use Rattle.fc_registry.specs.Turns.{due_job};
+ghost use Rattle.fc_registry.specs.Watches.{after_due, after_given_up, after_tick, due_place, handed, is_quiet, late_place, signal_call, signalled, ticked_in};
+ghost use Rattle.fc_workers.specs.Answers.{commit_changes, install_changes, removal_changes};
+ghost use Rattle.fc_workers.specs.Counts.{HasEightSlots, serials};
+
+use coap_msg::Endpoint;
+use fc_machine::Outcome;
+use fc_observe::{Ticked, Turn};
+use fc_registry::{
+    Committed, Job, Made, Noted, Notification, Receipt, Removal, Shard, Taken, Ticket,
+};
+use fc_verify::Verified;
+use std::sync::Arc;
+
+/// A call of a shard, with all that it hands in. It keeps the shard's index, and its answer tells how much the serials of the
+/// shard's slots rise: that is what a tally counts.
+pub trait ShardCall {
+    /// What the shard answers.
+    type Answer;
+
+    // Which shards may be asked.
+    ghost may_ask: { Self → Seen → Type 0 } = { λ call shard. ⊤ };
+
+    // What a shard answers, and what it is after that.
+    ghost does: { Self → Seen → Self.Answer → Seen → Type 0 };
+
+    // How many changes of a slot an answer tells of.
+    ghost changes: { Self.Answer → ℕ } = { λ answer. 0 };
+
+    /// Asks the shard.
+    fn call(self, shard: &mut Shard) -> Self::Answer
+        requires eight { HasEightSlots shard.old }
+        requires may { may_ask self shard.old }
+        ensures does { does self shard.old result shard.new }
+        ensures index { shard.new.index ≡ shard.old.index }
+        ensures eight { HasEightSlots shard.new }
+        ensures risen { serials shard.new ≡ serials shard.old + changes result };
+}
+
+/// A call of a shard that may change a slot.
+pub trait Change: ShardCall {
+    /// Whether an answer tells of a change.
+    fn has_changed(answer: &Self::Answer) -> bool
+        ensures { Self.changes answer.now ≡ (if result then 1 else 0) };
+}
+
+/// Takes what a job finds in its slot, as [`Shard::take`] does.
+#[derive(Drop)]
+pub struct Take<'a> {
+    pub job: &'a Job,
+}
+
+impl<'a> ShardCall for Take<'a> {
+    type Answer = Taken;
+
+    ghost may_ask = { λ call shard. IsOwned shard call.job.now.origin.slot };
+
+    ghost does = { λ call before taken after. TakesAt call.job.now before taken × (after ≡ after_taking call.job.now before) };
+
+    fn call(self, shard: &mut Shard) -> Taken {
+        shard.take(self.job)
+    }
+}
+
+/// Commits a run, at a moment in milliseconds, as [`Shard::commit`] does.
+#[derive(Drop)]
+pub struct Commit<'a> {
+    pub now: u64,
+    pub outcome: &'a Outcome<'a>,
+    pub ticket: &'a Ticket,
+}
+
+impl<'a> ShardCall for Commit<'a> {
+    type Answer = Committed;
+
+    ghost may_ask = { λ call shard. IsOwned shard call.ticket.now.origin.slot };
+
+    ghost does = { λ call before committed after. CommitsTo call.outcome.now call.ticket.now before call.now committed after };
+
+    ghost changes = { commit_changes };
+
+    fn call(self, shard: &mut Shard) -> Committed {
+        shard.commit(self.now, self.outcome, self.ticket)
+    }
+}
+
+impl<'a> Change for Commit<'a> {
+    fn has_changed(answer: &Committed) -> bool
+        ensures { commit_changes answer.now ≡ (if result then 1 else 0) }
+    {
+        match answer {
+            Committed::Done(mark) => mark.changed(),
+            Committed::Overtaken | Committed::Ended | Committed::Stranger => false,
+        }
+    }
+}
+
+/// Installs a program in the slot of a job, as [`Shard::install`] does.
+#[derive(Drop)]
+pub struct Install<'a> {
+    pub job: &'a Job,
+    pub program: Arc<Verified>,
+}
+
+impl<'a> ShardCall for Install<'a> {
+    type Answer = Made;
+
+    ghost may_ask = { λ call shard. IsOwned shard call.job.now.origin.slot };
+
+    ghost does = { λ call before made after. let called = install_in (slot_in before call.job.now.origin.slot) call.program.value in
+        (made ≡ called.answer)
+        × (after ≡ with_slot before call.job.now.origin.slot (after_changes (slot_in before call.job.now.origin.slot) called.changes)) };
+
+    ghost changes = { install_changes };
+
+    fn call(self, shard: &mut Shard) -> Made {
+        let Install { job, program } = self;
+        shard.install(job.origin.slot, program)
+    }
+}
+
+impl<'a> Change for Install<'a> {
+    fn has_changed(answer: &Made) -> bool
+        ensures { install_changes answer.now ≡ (if result then 1 else 0) }
+    {
+        matches!(answer, Made::Raised { .. })
+    }
+}
+
+/// Removes the program of the slot of a job, as [`Shard::remove`] does.
+#[derive(Drop)]
+pub struct Remove<'a> {
+    pub job: &'a Job,
+}
+
+impl<'a> ShardCall for Remove<'a> {
+    type Answer = Removal;
+
+    ghost may_ask = { λ call shard. IsOwned shard call.job.now.origin.slot };
+
+    ghost does = { λ call before removal after. let called = remove_from (slot_in before call.job.now.origin.slot) in
+        (removal ≡ called.answer)
+        × (after ≡ with_slot before call.job.now.origin.slot (after_changes (slot_in before call.job.now.origin.slot) called.changes)) };
+
+    ghost changes = { removal_changes };
+
+    fn call(self, shard: &mut Shard) -> Removal {
+        shard.remove(self.job.origin.slot)
+    }
+}
+
+impl<'a> Change for Remove<'a> {
+    fn has_changed(answer: &Removal) -> bool
+        ensures { removal_changes answer.now ≡ (if result then 1 else 0) }
+    {
+        matches!(answer, Removal::Removed { .. })
+    }
+}
+
+/// Tells what the program in the slot of a job is, as [`Shard::receipt`] does.
+#[derive(Drop)]
+pub struct Describe<'a> {
+    pub job: &'a Job,
+}
+
+impl<'a> ShardCall for Describe<'a> {
+    type Answer = Option<Receipt>;
+
+    ghost may_ask = { λ call shard. IsOwned shard call.job.now.origin.slot };
+
+    ghost does = { λ call before receipt after. (receipt ≡ receipt_at (slot_in before call.job.now.origin.slot).present) × (after ≡ before) };
+
+    fn call(self, shard: &mut Shard) -> Option<Receipt> {
+        shard.receipt(self.job.origin.slot)
+    }
+}
+
+/// Hands a signal to the observers of every slot, as [`Shard::signal`] does.
+#[derive(Drop)]
+pub struct Signal {
+    pub endpoint: Endpoint,
+    pub id: u16,
+    pub reset: bool,
+}
+
+impl ShardCall for Signal {
+    type Answer = ();
+
+    ghost does = { λ call before answer after. after ≡ signalled (signal_call call.reset call.endpoint call.id) before };
+
+    fn call(self, shard: &mut Shard) {
+        shard.signal(self.endpoint, self.id, self.reset);
+    }
+}
+
+/// Sends the first notification that is late at a moment in milliseconds again, as [`Shard::tick`] does.
+#[derive(Drop)]
+pub struct Tick {
+    pub now: u64,
+}
+
+impl ShardCall for Tick {
+    type Answer = Ticked;
+
+    ghost does = { λ call before ticked after. let at = handed before call.now in
+        (ticked ≡ ticked_in (late_place at) at) × (after ≡ after_tick (late_place at) at) };
+
+    fn call(self, shard: &mut Shard) -> Ticked {
+        shard.tick(self.now)
+    }
+}
+
+/// Advances to a moment in milliseconds where nothing is late and nobody is due, as [`Shard::advance_if_quiet`] does.
+#[derive(Drop)]
+pub struct AdvanceIfQuiet {
+    pub now: u64,
+}
+
+impl ShardCall for AdvanceIfQuiet {
+    type Answer = bool;
+
+    ghost does = { λ call before quiet after. let at = handed before call.now in
+        (quiet ≡ is_quiet at) × (after ≡ (if quiet then at else before)) };
+
+    fn call(self, shard: &mut Shard) -> bool {
+        shard.advance_if_quiet(self.now)
+    }
+}
+
+/// Gives a turn to the first observer that is due at a moment in milliseconds, as [`Shard::next_due`] does.
+#[derive(Drop)]
+pub struct NextDue {
+    pub now: u64,
+}
+
+impl ShardCall for NextDue {
+    type Answer = Option<Job>;
+
+    ghost does = { λ call before job after. let at = handed before call.now in
+        (job ≡ due_job (due_place at) at) × (after ≡ after_due (due_place at) at) };
+
+    fn call(self, shard: &mut Shard) -> Option<Job> {
+        shard.next_due(self.now)
+    }
+}
+
+/// Notifies the observer of a turn, at a moment in milliseconds, as [`Shard::note`] does.
+#[derive(Drop)]
+pub struct Note<'a> {
+    pub turn: Turn,
+    pub id: u16,
+    pub now: u64,
+    pub random: u16,
+    pub told: &'a Notification<'a>,
+}
+
+impl<'a> ShardCall for Note<'a> {
+    type Answer = Noted;
+
+    ghost may_ask = { λ call shard. IsOwned shard call.turn.slot };
+
+    ghost does = { λ call before noted after. NotesTo call.told.now call.turn call.id call.random before call.now noted after };
+
+    fn call(self, shard: &mut Shard) -> Noted {
+        shard.note(self.turn, self.id, self.now, self.random, self.told)
+    }
+}
+
+/// Gives up a turn, at a moment in milliseconds, as [`Shard::give_up`] does.
+#[derive(Drop)]
+pub struct GiveUp {
+    pub turn: Turn,
+    pub now: u64,
+}
+
+impl ShardCall for GiveUp {
+    type Answer = ();
+
+    ghost may_ask = { λ call shard. IsOwned shard call.turn.slot };
+
+    ghost does = { λ call before answer after. after ≡ after_given_up call.turn (handed before call.now) };
+
+    fn call(self, shard: &mut Shard) {
+        shard.give_up(self.turn, self.now);
+    }
+}

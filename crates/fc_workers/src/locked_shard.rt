@@ -1,0 +1,89 @@
+//! A shard behind a lock.
+ghost use Rattle.std.specs.Prelude.{◌≡◌, ℕ, ◌+◌, ◌*◌, ◌<◌};
+ghost use Rattle.fc_registry.specs.Slots.{Shard as Seen};
+ghost use Rattle.fc_workers.specs.Asked.{IsSomeDoing};
+ghost use Rattle.fc_workers.specs.Counts.{HasEightSlots, counts, serials};
+
+use crate::calls::{Change, ShardCall};
+use crate::counted::Counted;
+use crate::tally::Tally;
+use fc_registry::Shard;
+use std::sync::ledger::{Blank, Ledger};
+use std::sync::{Mutex, Wait};
+
+// The shard of an index beside its book, and the serial that each of its slots began with.
+#[derive(Drop)]
+struct ShardState<const INDEX: u8, L: Ledger> {
+    counted: Counted<L>,
+    first_serial: u64,
+    ghost index: { counted.shard.index ≡ INDEX },
+    ghost opened: { counted.opened ≡ 8 * first_serial },
+}
+
+/// The shard of an index, 0 to 7, and its book, behind a lock of their own.
+#[derive(Drop)]
+pub(crate) struct LockedShard<const INDEX: u8, L: Ledger> {
+    state: Mutex<ShardState<INDEX, L>>,
+}
+
+impl<const INDEX: u8, L: Ledger> LockedShard<INDEX, L> {
+    /// Opens the book of a shard whose slots are each at the first serial, and puts it behind a lock. The tally has all parts of the book.
+    pub(crate) fn new(
+        shard: Shard,
+        first_serial: u64,
+        blank: Blank,
+    ) -> (LockedShard<INDEX, L>, Tally<L>)
+        requires index { shard.index ≡ INDEX }
+        requires slots { HasEightSlots shard }
+        requires serials { serials shard ≡ 8 * first_serial }
+        requires book { (blank.name ≡ L.name) × (blank.parts ≡ L.parts) × (0 < blank.parts) }
+        ensures { result.1 ≡ record { parts = blank.parts; changes = 0 } }
+    {
+        let (counted, tally) = Counted::open(shard, blank);
+        let state = ShardState {
+            counted,
+            first_serial,
+        };
+        let locked = LockedShard {
+            state: Mutex::new(state),
+        };
+        (locked, tally)
+    }
+
+    /// Asks the shard what changes no slot, while its lock is held.
+    pub(crate) fn ask<C: ShardCall, R: Wait>(&self, rt: &R, call: C) -> C::Answer
+        requires may { (shard : Seen) → shard.index ≡ INDEX → C.may_ask call shard }
+        requires none { (answer : C.Answer) → C.changes answer ≡ 0 }
+        ensures { IsSomeDoing (C.does call) result }
+    {
+        self.state.lock(rt).counted.ask(call)
+    }
+
+    /// Asks the shard what may change a slot, while its lock is held. The tally counts it.
+    pub(crate) fn change<C: Change, R: Wait>(
+        &self,
+        rt: &R,
+        call: C,
+        tally: &mut Tally<L>,
+    ) -> C::Answer
+        requires { (shard : Seen) → shard.index ≡ INDEX → C.may_ask call shard }
+        ensures does { IsSomeDoing (C.does call) result }
+        ensures tally { tally.new ≡ counts tally.old (C.changes result) }
+    {
+        self.state.lock(rt).counted.change(call, tally)
+    }
+
+    /// Closes the book, for the tally that has all its parts: the shard, whose serials have risen by the changes that were
+    /// counted, and the serial that its slots began with.
+    pub(crate) fn close(self, all: &mut Tally<L>) -> (Shard, u64)
+        requires { all.old.parts ≡ L.parts }
+        ensures risen { serials result.0 ≡ 8 * result.1 + all.old.changes }
+        ensures tally { all.new ≡ all.old }
+    {
+        let ShardState {
+            counted,
+            first_serial,
+        } = self.state.into_inner();
+        (counted.close(all), first_serial)
+    }
+}
