@@ -55,12 +55,27 @@ pub fn command<'a>(alloc: Global) -> Result<Command<'a>, Error> {
     )
 }
 
+// An option that takes a value.
+fn option<'a>(
+    alloc: Global,
+    name: &'static str,
+    value: &'static str,
+    help: &'static str,
+) -> Arg<'a> {
+    Arg::new(alloc, name)
+        .long(name)
+        .value_name(value)
+        .help(help)
+}
+
 fn play_command<'a>(alloc: Global) -> Result<Command<'a>, Error> {
-    let workers = Arg::new(alloc, "workers")
-        .long("workers")
-        .value_name("W")
-        .value_parser(value_parser!(u8).range(1..17))
-        .help("How many threads work jobs off: 1 to 16");
+    let workers = option(
+        alloc,
+        "workers",
+        "W",
+        "How many threads work jobs off: 1 to 16",
+    )
+    .value_parser(value_parser!(u8).range(1..17));
     Ok(
         Command::new(alloc, "play")
             .about("Play the lines of standard input")
@@ -70,47 +85,64 @@ fn play_command<'a>(alloc: Global) -> Result<Command<'a>, Error> {
 }
 
 fn serve_command<'a>(alloc: Global) -> Result<Command<'a>, Error> {
-    let port = Arg::new(alloc, "port")
-        .long("port")
-        .value_name("P")
-        .required(true)
-        .value_parser(value_parser!(u16).range(1..))
-        .help("The port, 1 to 65535");
-    let bind = Arg::new(alloc, "bind")
-        .long("bind")
-        .value_name("A.B.C.D")
-        .default_value("127.0.0.1")
-        .help("The IPv4 address of this host that it listens at");
-    let limit = Arg::new(alloc, "limit")
-        .long("limit")
-        .value_name("N")
-        .value_parser(value_parser!(u32))
-        .default_value("0")
-        .help("After how many datagrams it ends; 0 is never");
-    let log = Arg::new(alloc, "log")
-        .long("log")
-        .value_name("L")
-        .value_parser(["off", "info"].as_slice())
-        .default_value("off")
-        .help("Whether it says where it listens, and at its end how much was sent");
     Ok(
         Command::new(alloc, "serve")
             .about("Serve on UDP")
             .after_help(SERVING)
-            .arg(port)?
-            .arg(bind)?
+            .arg(port(alloc))?
+            .arg(bind(alloc))?
             .arg(dear_workers(alloc))?
-            .arg(limit)?
-            .arg(log)?,
+            .arg(limit(alloc))?
+            .arg(log(alloc))?,
     )
+}
+
+fn port<'a>(alloc: Global) -> Arg<'a> {
+    option(alloc, "port", "P", "The port, 1 to 65535")
+        .required(true)
+        .value_parser(value_parser!(u16).range(1..))
+}
+
+fn bind<'a>(alloc: Global) -> Arg<'a> {
+    option(
+        alloc,
+        "bind",
+        "A.B.C.D",
+        "The IPv4 address of this host that it listens at",
+    )
+    .default_value("127.0.0.1")
+}
+
+fn limit<'a>(alloc: Global) -> Arg<'a> {
+    option(
+        alloc,
+        "limit",
+        "N",
+        "After how many datagrams it ends; 0 is never",
+    )
+    .value_parser(value_parser!(u32))
+    .default_value("0")
+}
+
+fn log<'a>(alloc: Global) -> Arg<'a> {
+    option(
+        alloc,
+        "log",
+        "L",
+        "Whether it says where it listens, and at its end how much was sent",
+    )
+    .value_parser(["off", "info"].as_slice())
+    .default_value("off")
 }
 
 // By how many workers jobs are worked off that may take long.
 fn dear_workers<'a>(alloc: Global) -> Arg<'a> {
-    Arg::new(alloc, "workers")
-        .long("workers")
-        .value_name("W")
-        .value_parser(value_parser!(u8).range(1..17))
-        .default_value("2")
-        .help("How many threads run long programs, 1 to 16; with 1 the receiving thread does")
+    option(
+        alloc,
+        "workers",
+        "W",
+        "How many threads run long programs, 1 to 16; with 1 the receiving thread does",
+    )
+    .value_parser(value_parser!(u8).range(1..17))
+    .default_value("2")
 }
