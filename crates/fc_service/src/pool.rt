@@ -4,6 +4,7 @@ ghost use Rattle.fc_core.specs.Receiving.{heard};
 ghost use Rattle.fc_registry.specs.declared.job.Job.{Job};
 ghost use Rattle.fc_registry.specs.Slots.{last_serial};
 ghost use Rattle.fc_workers.specs.Answers.{IsSomeDelivery, IsSomeQuiet, IsSomeTick};
+ghost use Rattle.fc_workers.specs.Naming.{AreNamed};
 
 use crate::replies::Replies;
 use coap_msg::{Emission, Endpoint};
@@ -11,14 +12,13 @@ use fc_core::Heard;
 use fc_observe::Ticked;
 use fc_server::Begin;
 use fc_workers::{
-    Bench, Blanks, Dispatcher, Gate, Handover, Locked, Moments, Share, Wire, Workshop,
+    Bench, Blanks, Books, Dispatcher, Gate, Handover, Locked, Moments, Share, Wire, Workshop,
     feed_workers, make_seats,
 };
 use std::alloc::{AllocError, Global};
 use std::io::Write;
 use std::marker::Brand;
 use std::sync::Wait;
-use std::sync::ledger::Ledger;
 use std::thread::Threads;
 
 // Where a feeder has datagrams taken in, and observers notified: a server. (A method that is generic in its bench can't hand it on, since a
@@ -135,21 +135,12 @@ pub(crate) fn run_pool<
     requires { pool.now.begin.serial ≤ last_serial }
 {
     let blanks = Blanks::new(u64::from(pool.workers) + 2);
-    run_named::<Brand, Brand, Brand, Brand, Brand, Brand, Brand, Brand, R, W, M, E, X, F>(
-        rt, alloc, err, pool, feeder, blanks,
-    )
+    run_named::<Brand, R, W, M, E, X, F>(rt, alloc, err, pool, feeder, blanks)
 }
 
 // Runs a pool, with books of these names.
 fn run_named<
-    L0: Ledger + Send + Sync,
-    L1: Ledger + Send + Sync,
-    L2: Ledger + Send + Sync,
-    L3: Ledger + Send + Sync,
-    L4: Ledger + Send + Sync,
-    L5: Ledger + Send + Sync,
-    L6: Ledger + Send + Sync,
-    L7: Ledger + Send + Sync,
+    B: Books + Send + Sync,
     R: Threads + Wait + Sync,
     W: Wire + Sync,
     M: Moments + Sync,
@@ -166,21 +157,10 @@ fn run_named<
 ) -> Result<Fed<X>, AllocError>
     requires serial { pool.now.begin.serial ≤ last_serial }
     requires parts { blanks.parts ≡ pool.now.workers + 2 }
-    requires book0 { (blanks.blank0.name ≡ L0.name) × (blanks.parts ≡ L0.parts) }
-    requires book1 { (blanks.blank1.name ≡ L1.name) × (blanks.parts ≡ L1.parts) }
-    requires book2 { (blanks.blank2.name ≡ L2.name) × (blanks.parts ≡ L2.parts) }
-    requires book3 { (blanks.blank3.name ≡ L3.name) × (blanks.parts ≡ L3.parts) }
-    requires book4 { (blanks.blank4.name ≡ L4.name) × (blanks.parts ≡ L4.parts) }
-    requires book5 { (blanks.blank5.name ≡ L5.name) × (blanks.parts ≡ L5.parts) }
-    requires book6 { (blanks.blank6.name ≡ L6.name) × (blanks.parts ≡ L6.parts) }
-    requires book7 { (blanks.blank7.name ≡ L7.name) × (blanks.parts ≡ L7.parts) }
+    requires names { AreNamed blanks B.names }
+    requires books { blanks.parts ≡ B.parts }
 {
-    let (server, mut reserve) = Locked::<L0, L1, L2, L3, L4, L5, L6, L7>::new(
-        alloc,
-        pool.begin.serial,
-        pool.begin.id,
-        blanks,
-    )?;
+    let (server, mut reserve) = Locked::<B>::new(alloc, pool.begin.serial, pool.begin.id, blanks)?;
     let tallies = reserve.split_each(alloc, usize::from(pool.workers) + 1)?;
     run_at(rt, alloc, err, pool, &server, tallies, feeder)
 }

@@ -6,3 +6,4 @@ pub mod Work
 pub mod Steps
 pub mod Shares
 pub mod Dispatch
+pub mod Naming

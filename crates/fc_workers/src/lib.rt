@@ -41,6 +41,7 @@
 
 pub mod bench;
 pub mod blanks;
+pub mod books;
 pub mod calls;
 pub mod counted;
 pub mod dispatch;
@@ -59,6 +60,7 @@ pub mod workshop;
 
 pub use bench::Bench;
 pub use blanks::Blanks;
+pub use books::{BookOf, Books};
 pub use calls::ShardCall;
 pub use counted::Counted;
 pub use dispatch::{Dispatched, Dispatcher, Handover};

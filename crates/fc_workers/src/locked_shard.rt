@@ -4,17 +4,18 @@ ghost use Rattle.fc_registry.specs.Slots.{Shard as Seen};
 ghost use Rattle.fc_workers.specs.Asked.{IsSomeDoing};
 ghost use Rattle.fc_workers.specs.Counts.{HasEightSlots, counts, serials};
 
+use crate::books::{BookOf, Books};
 use crate::calls::{Change, ShardCall};
 use crate::counted::Counted;
 use crate::tally::Tally;
 use fc_registry::Shard;
-use std::sync::ledger::{Blank, Ledger};
+use std::sync::ledger::Blank;
 use std::sync::{Mutex, Wait};
 
 // The shard of an index beside its book, and the serial that each of its slots began with.
 #[derive(Drop)]
-struct ShardState<const INDEX: u8, L: Ledger> {
-    counted: Counted<L>,
+struct ShardState<const INDEX: u8, B: Books> {
+    counted: Counted<BookOf<B, INDEX>>,
     first_serial: u64,
     ghost index: { counted.shard.index ≡ INDEX },
     ghost opened: { counted.opened ≡ 8 * first_serial },
@@ -22,21 +23,21 @@ struct ShardState<const INDEX: u8, L: Ledger> {
 
 /// The shard of an index, 0 to 7, and its book, behind a lock of their own.
 #[derive(Drop)]
-pub(crate) struct LockedShard<const INDEX: u8, L: Ledger> {
-    state: Mutex<ShardState<INDEX, L>>,
+pub(crate) struct LockedShard<const INDEX: u8, B: Books> {
+    state: Mutex<ShardState<INDEX, B>>,
 }
 
-impl<const INDEX: u8, L: Ledger> LockedShard<INDEX, L> {
+impl<const INDEX: u8, B: Books> LockedShard<INDEX, B> {
     /// Opens the book of a shard whose slots are each at the first serial, and puts it behind a lock. The tally has all parts of the book.
     pub(crate) fn new(
         shard: Shard,
         first_serial: u64,
         blank: Blank,
-    ) -> (LockedShard<INDEX, L>, Tally<L>)
+    ) -> (LockedShard<INDEX, B>, Tally<BookOf<B, INDEX>>)
         requires index { shard.index ≡ INDEX }
         requires slots { HasEightSlots shard }
         requires serials { serials shard ≡ 8 * first_serial }
-        requires book { (blank.name ≡ L.name) × (blank.parts ≡ L.parts) × (0 < blank.parts) }
+        requires book { (blank.name ≡ B.names INDEX) × (blank.parts ≡ B.parts) × (0 < blank.parts) }
         ensures { result.1 ≡ record { parts = blank.parts; changes = 0 } }
     {
         let (counted, tally) = Counted::open(shard, blank);
@@ -64,7 +65,7 @@ impl<const INDEX: u8, L: Ledger> LockedShard<INDEX, L> {
         &self,
         rt: &R,
         call: C,
-        tally: &mut Tally<L>,
+        tally: &mut Tally<BookOf<B, INDEX>>,
     ) -> C::Answer
         requires { (shard : Seen) → shard.index ≡ INDEX → C.may_ask call shard }
         ensures does { IsSomeDoing (C.does call) result }
@@ -75,8 +76,8 @@ impl<const INDEX: u8, L: Ledger> LockedShard<INDEX, L> {
 
     /// Closes the book, for the tally that has all its parts: the shard, whose serials have risen by the changes that were
     /// counted, and the serial that its slots began with.
-    pub(crate) fn close(self, all: &mut Tally<L>) -> (Shard, u64)
-        requires { all.old.parts ≡ L.parts }
+    pub(crate) fn close(self, all: &mut Tally<BookOf<B, INDEX>>) -> (Shard, u64)
+        requires { all.old.parts ≡ B.parts }
         ensures risen { serials result.0 ≡ 8 * result.1 + all.old.changes }
         ensures tally { all.new ≡ all.old }
     {

@@ -3,47 +3,29 @@ ghost use Rattle.std.specs.Prelude.{◌≡◌, ◌+◌, ◌-◌, ◌<◌, ◌≤
 ghost use Rattle.fc_workers.specs.Answers.{saturated};
 ghost use Rattle.fc_workers.specs.Counts.{no_changes, no_tallies, sums};
 
+use crate::books::{BookOf, Books};
 use crate::tallies::Tallies;
 use crate::tally::Tally;
 use std::alloc::{AllocError, Global};
 use std::marker::Model;
-use std::sync::ledger::Ledger;
 
 /// The tallies of the parts that no worker has: as many parts of each of the eight books. A clause sees how many, the
 /// changes of shards 0 to 7 that were counted on them, and how many jobs were ended by the workers whose tallies were
 /// merged into it, up to 2^64 - 1.
 #[derive(Drop)]
-pub struct Reserve<
-    L0: Ledger,
-    L1: Ledger,
-    L2: Ledger,
-    L3: Ledger,
-    L4: Ledger,
-    L5: Ledger,
-    L6: Ledger,
-    L7: Ledger,
-> {
-    pub(crate) tally0: Tally<L0>,
-    pub(crate) tally1: Tally<L1>,
-    pub(crate) tally2: Tally<L2>,
-    pub(crate) tally3: Tally<L3>,
-    pub(crate) tally4: Tally<L4>,
-    pub(crate) tally5: Tally<L5>,
-    pub(crate) tally6: Tally<L6>,
-    pub(crate) tally7: Tally<L7>,
+pub struct Reserve<B: Books> {
+    pub(crate) tally0: Tally<BookOf<B, 0>>,
+    pub(crate) tally1: Tally<BookOf<B, 1>>,
+    pub(crate) tally2: Tally<BookOf<B, 2>>,
+    pub(crate) tally3: Tally<BookOf<B, 3>>,
+    pub(crate) tally4: Tally<BookOf<B, 4>>,
+    pub(crate) tally5: Tally<BookOf<B, 5>>,
+    pub(crate) tally6: Tally<BookOf<B, 6>>,
+    pub(crate) tally7: Tally<BookOf<B, 7>>,
     pub(crate) ended: u64,
 }
 
-impl<
-    L0: Ledger,
-    L1: Ledger,
-    L2: Ledger,
-    L3: Ledger,
-    L4: Ledger,
-    L5: Ledger,
-    L6: Ledger,
-    L7: Ledger,
-> Model for Reserve<L0, L1, L2, L3, L4, L5, L6, L7> {
+impl<B: Books> Model for Reserve<B> {
     ghost use Rattle.fc_workers.specs.Counts.{Reserve as Seen};
 
     ghost Value = { Seen };
@@ -63,18 +45,9 @@ impl<
         × (r.tally7.parts ≡ r.tally0.parts) };
 }
 
-impl<
-    L0: Ledger,
-    L1: Ledger,
-    L2: Ledger,
-    L3: Ledger,
-    L4: Ledger,
-    L5: Ledger,
-    L6: Ledger,
-    L7: Ledger,
-> Reserve<L0, L1, L2, L3, L4, L5, L6, L7> {
+impl<B: Books> Reserve<B> {
     /// The tallies of a worker: one part of each book. They are asked for before the first change, and a part is kept.
-    pub fn split(&mut self) -> Tallies<L0, L1, L2, L3, L4, L5, L6, L7>
+    pub fn split(&mut self) -> Tallies<B>
         requires parts { 1 < self.old.parts }
         requires changes { self.old.changes ≡ no_changes }
         ensures left { self.new ≡ record self.old { parts = self.old.parts - 1 } }
@@ -101,7 +74,7 @@ impl<
         &mut self,
         alloc: Global,
         workers: usize,
-    ) -> Result<Vec<Tallies<L0, L1, L2, L3, L4, L5, L6, L7>>, AllocError>
+    ) -> Result<Vec<Tallies<B>>, AllocError>
         requires parts { workers < self.old.parts }
         requires changes { self.old.changes ≡ no_changes }
         ensures left { IfOk result (λ v. self.new ≡ record self.old { parts = self.old.parts - workers }) }
@@ -115,7 +88,7 @@ impl<
     }
 
     /// Takes the tallies of a worker in.
-    pub fn merge(&mut self, worker: Tallies<L0, L1, L2, L3, L4, L5, L6, L7>)
+    pub fn merge(&mut self, worker: Tallies<B>)
         ensures { self.new ≡ record {
           parts = self.old.parts + 1;
           changes = sums self.old.changes worker.changes;
@@ -145,7 +118,7 @@ impl<
     }
 
     /// Takes the tallies of all these workers in.
-    pub fn merge_each(&mut self, mut workers: Vec<Tallies<L0, L1, L2, L3, L4, L5, L6, L7>>)
+    pub fn merge_each(&mut self, mut workers: Vec<Tallies<B>>)
         ensures { self.new.parts ≡ self.old.parts + vec_len workers }
     {
         while let Some(worker) = workers.pop() {

@@ -1,12 +1,12 @@
 //! A server behind nine locks: one of the front, and one of each shard. Its head words are behind none.
 //!
-//! Each shard's changes are counted in a ledger of its own, which a type stands for: so a server has eight type parameters, and a
-//! function that opens one is generic in them. Its caller gives it `Brand` for each, and picks in its `Invariants.antt` the
-//! name and the parts of each ledger, from the function's argument `blanks`:
+//! Each shard's changes are counted in a ledger of its own, which a type stands for. One type parameter names all eight
+//! ([`Books`](crate::books::Books)): a function that opens a server is generic in it. Its caller gives it `Brand`, and picks in
+//! its `Invariants.antt` the names and the parts of the ledgers, from the function's argument `blanks`:
 //!
 //! ```text
-//! abbrev pub ghosts-run-L0-Ledger : goal.ghosts-run-L0-Ledger
-//! ghosts-run-L0-Ledger g a = record { name = a.blanks.blank0.name; parts = a.blanks.parts }
+//! abbrev pub ghosts-run : goal.ghosts-run
+//! ghosts-run a = record { names = names_of a.blanks; parts = a.blanks.parts }
 //! ```
 //!
 //! No type of that function's signature may name a ledger: it opens the server, splits the reserve into the tallies of its
@@ -19,11 +19,13 @@ ghost use Rattle.fc_core.specs.Receiving.{emission_if};
 ghost use Rattle.fc_registry.specs.Shards.{shard_at};
 ghost use Rattle.fc_registry.specs.Slots.{IsOwned, Shard as Seen, last_serial};
 ghost use Rattle.fc_workers.specs.Asked.{IsSomeDoing};
+ghost use Rattle.fc_workers.specs.Naming.{AreNamed};
 ghost use Rattle.fc_workers.specs.Counts.{no_changes, serials, sums};
 ghost use Rattle.fc_workers.specs.Answers.{AreTallied, IsSomeCommit, IsSomeInstall, IsSomeNote, IsSomeReceipt, IsSomeRemoval, IsSomeTaking, IsSomeTick, IsSomeTurn, commit_changes, install_changes, removal_changes, saturated};
 
 use crate::bench::Bench;
 use crate::blanks::Blanks;
+use crate::books::{BookOf, Books};
 use crate::calls::{
     AdvanceIfQuiet, Change, Commit, Describe, GiveUp, Install, NextDue, Note, Remove, ShardCall,
     Signal, Take, Tick,
@@ -43,7 +45,6 @@ use fc_registry::{
 };
 use fc_verify::Verified;
 use std::alloc::{AllocError, Global};
-use std::sync::ledger::Ledger;
 use std::sync::{Arc, Mutex, Wait};
 
 // Takes the last of some shards.
@@ -59,25 +60,16 @@ fn last_of(shards: &mut Vec<Shard>) -> Shard
 }
 
 // The reserve of tallies that have as many parts each, and count no change.
-fn reserve_of<
-    L0: Ledger,
-    L1: Ledger,
-    L2: Ledger,
-    L3: Ledger,
-    L4: Ledger,
-    L5: Ledger,
-    L6: Ledger,
-    L7: Ledger,
->(
-    tally0: Tally<L0>,
-    tally1: Tally<L1>,
-    tally2: Tally<L2>,
-    tally3: Tally<L3>,
-    tally4: Tally<L4>,
-    tally5: Tally<L5>,
-    tally6: Tally<L6>,
-    tally7: Tally<L7>,
-) -> Reserve<L0, L1, L2, L3, L4, L5, L6, L7>
+fn reserve_of<B: Books>(
+    tally0: Tally<BookOf<B, 0>>,
+    tally1: Tally<BookOf<B, 1>>,
+    tally2: Tally<BookOf<B, 2>>,
+    tally3: Tally<BookOf<B, 3>>,
+    tally4: Tally<BookOf<B, 4>>,
+    tally5: Tally<BookOf<B, 5>>,
+    tally6: Tally<BookOf<B, 6>>,
+    tally7: Tally<BookOf<B, 7>>,
+) -> Reserve<B>
     requires some { tally0.changes ≡ 0 }
     requires tally1 { tally1 ≡ tally0 }
     requires tally2 { tally2 ≡ tally0 }
@@ -111,26 +103,17 @@ fn shard_of(slot: SlotNumber) -> u8
 /// A server whose front and shards are behind a lock each: a call holds one of them, and no call two. Its head words are behind none. While a program runs or an image is
 /// verified nobody has one.
 #[derive(Drop)]
-pub struct Locked<
-    L0: Ledger,
-    L1: Ledger,
-    L2: Ledger,
-    L3: Ledger,
-    L4: Ledger,
-    L5: Ledger,
-    L6: Ledger,
-    L7: Ledger,
-> {
+pub struct Locked<B: Books> {
     heads: Heads,
     front: Mutex<Front>,
-    shard0: LockedShard<0, L0>,
-    shard1: LockedShard<1, L1>,
-    shard2: LockedShard<2, L2>,
-    shard3: LockedShard<3, L3>,
-    shard4: LockedShard<4, L4>,
-    shard5: LockedShard<5, L5>,
-    shard6: LockedShard<6, L6>,
-    shard7: LockedShard<7, L7>,
+    shard0: LockedShard<0, B>,
+    shard1: LockedShard<1, B>,
+    shard2: LockedShard<2, B>,
+    shard3: LockedShard<3, B>,
+    shard4: LockedShard<4, B>,
+    shard5: LockedShard<5, B>,
+    shard6: LockedShard<6, B>,
+    shard7: LockedShard<7, B>,
 }
 
 /// The shards of a server that was closed, and of each the serial that its slots began with.
@@ -140,16 +123,7 @@ pub struct Closed {
     pub first_serials: [u64; 8],
 }
 
-impl<
-    L0: Ledger,
-    L1: Ledger,
-    L2: Ledger,
-    L3: Ledger,
-    L4: Ledger,
-    L5: Ledger,
-    L6: Ledger,
-    L7: Ledger,
-> Locked<L0, L1, L2, L3, L4, L5, L6, L7> {
+impl<B: Books> Locked<B> {
     /// A server that holds nothing, with slots 0 to 63 empty, each at the first serial, and that draws this message id
     /// first. It opens the books; the reserve has all their parts.
     ///
@@ -160,22 +134,10 @@ impl<
         first_serial: u64,
         first_id: u16,
         blanks: Blanks,
-    ) -> Result<
-        (
-            Locked<L0, L1, L2, L3, L4, L5, L6, L7>,
-            Reserve<L0, L1, L2, L3, L4, L5, L6, L7>,
-        ),
-        AllocError,
-    >
+    ) -> Result<(Locked<B>, Reserve<B>), AllocError>
         requires serial { first_serial ≤ last_serial }
-        requires book0 { (blanks.blank0.name ≡ L0.name) × (blanks.parts ≡ L0.parts) }
-        requires book1 { (blanks.blank1.name ≡ L1.name) × (blanks.parts ≡ L1.parts) }
-        requires book2 { (blanks.blank2.name ≡ L2.name) × (blanks.parts ≡ L2.parts) }
-        requires book3 { (blanks.blank3.name ≡ L3.name) × (blanks.parts ≡ L3.parts) }
-        requires book4 { (blanks.blank4.name ≡ L4.name) × (blanks.parts ≡ L4.parts) }
-        requires book5 { (blanks.blank5.name ≡ L5.name) × (blanks.parts ≡ L5.parts) }
-        requires book6 { (blanks.blank6.name ≡ L6.name) × (blanks.parts ≡ L6.parts) }
-        requires book7 { (blanks.blank7.name ≡ L7.name) × (blanks.parts ≡ L7.parts) }
+        requires names { AreNamed blanks B.names }
+        requires books { blanks.parts ≡ B.parts }
         ensures { IfOk result (λ r. r.1 ≡ record { parts = blanks.parts; changes = no_changes; ended = 0 }) }
     {
         let (heads, _seat) = Heads::new(alloc)?;
@@ -239,7 +201,7 @@ impl<
         rt: &R,
         slot: SlotNumber,
         call: C,
-        tallies: &mut Tallies<L0, L1, L2, L3, L4, L5, L6, L7>,
+        tallies: &mut Tallies<B>,
     ) -> C::Answer
         requires { (shard : Seen) → IsOwned shard slot → C.may_ask call shard }
         ensures does { IsSomeDoing (C.does call) result }
@@ -261,11 +223,8 @@ impl<
 
     /// Closes the server, for a reserve that has all parts again: the serials of each shard have risen by the changes that
     /// were counted.
-    pub fn close(self, reserve: &mut Reserve<L0, L1, L2, L3, L4, L5, L6, L7>) -> Closed
-        requires { (reserve.old.parts ≡ L0.parts) × (reserve.old.parts ≡ L1.parts)
-            × (reserve.old.parts ≡ L2.parts) × (reserve.old.parts ≡ L3.parts)
-            × (reserve.old.parts ≡ L4.parts) × (reserve.old.parts ≡ L5.parts)
-            × (reserve.old.parts ≡ L6.parts) × (reserve.old.parts ≡ L7.parts) }
+    pub fn close(self, reserve: &mut Reserve<B>) -> Closed
+        requires { reserve.old.parts ≡ B.parts }
         ensures { map serials result.shards ≡ sums (map (λ n. 8 * n) result.first_serials) reserve.old.changes }
     {
         let (shard0, first0) = self.shard0.close(&mut reserve.tally0);
@@ -287,17 +246,8 @@ impl<
     }
 }
 
-impl<
-    L0: Ledger,
-    L1: Ledger,
-    L2: Ledger,
-    L3: Ledger,
-    L4: Ledger,
-    L5: Ledger,
-    L6: Ledger,
-    L7: Ledger,
-> Bench for Locked<L0, L1, L2, L3, L4, L5, L6, L7> {
-    type Tallies = Tallies<L0, L1, L2, L3, L4, L5, L6, L7>;
+impl<B: Books> Bench for Locked<B> {
+    type Tallies = Tallies<B>;
 
     ghost changes = { λ t. slice_index t.changes };
 
@@ -328,12 +278,7 @@ impl<
         front.fresh_id(now)
     }
 
-    fn take<R: Wait>(
-        &self,
-        rt: &R,
-        job: &Job,
-        tallies: &mut Tallies<L0, L1, L2, L3, L4, L5, L6, L7>,
-    ) -> Taken {
+    fn take<R: Wait>(&self, rt: &R, job: &Job, tallies: &mut Tallies<B>) -> Taken {
         let taken = self.ask(rt, shard_of(job.origin.slot), Take { job });
         tallies.end_taking(&taken);
         taken
@@ -368,7 +313,7 @@ impl<
         now: u64,
         random: u16,
         told: &Notification<'_>,
-        tallies: &mut Tallies<L0, L1, L2, L3, L4, L5, L6, L7>,
+        tallies: &mut Tallies<B>,
     ) -> Noted {
         tallies.end_job();
         let note = Note {
@@ -381,13 +326,7 @@ impl<
         self.ask(rt, turn.slot % SHARDS, note)
     }
 
-    fn give_up<R: Wait>(
-        &self,
-        rt: &R,
-        turn: Turn,
-        now: u64,
-        tallies: &mut Tallies<L0, L1, L2, L3, L4, L5, L6, L7>,
-    ) {
+    fn give_up<R: Wait>(&self, rt: &R, turn: Turn, now: u64, tallies: &mut Tallies<B>) {
         tallies.end_job();
         self.ask(rt, turn.slot % SHARDS, GiveUp { turn, now });
     }
@@ -398,7 +337,7 @@ impl<
         now: u64,
         outcome: &Outcome<'_>,
         ticket: &Ticket,
-        tallies: &mut Tallies<L0, L1, L2, L3, L4, L5, L6, L7>,
+        tallies: &mut Tallies<B>,
     ) -> Committed {
         let commit = Commit {
             now,
@@ -413,17 +352,12 @@ impl<
         rt: &R,
         job: &Job,
         program: Arc<Verified>,
-        tallies: &mut Tallies<L0, L1, L2, L3, L4, L5, L6, L7>,
+        tallies: &mut Tallies<B>,
     ) -> Made {
         self.change(rt, job.origin.slot, Install { job, program }, tallies)
     }
 
-    fn remove<R: Wait>(
-        &self,
-        rt: &R,
-        job: &Job,
-        tallies: &mut Tallies<L0, L1, L2, L3, L4, L5, L6, L7>,
-    ) -> Removal {
+    fn remove<R: Wait>(&self, rt: &R, job: &Job, tallies: &mut Tallies<B>) -> Removal {
         self.change(rt, job.origin.slot, Remove { job }, tallies)
     }
 
@@ -450,7 +384,7 @@ impl<
         job: &Job,
         answer: &Answer,
         reply: &mut Emission,
-        tallies: &mut Tallies<L0, L1, L2, L3, L4, L5, L6, L7>,
+        tallies: &mut Tallies<B>,
     ) -> bool {
         tallies.end_job();
         let mut front = self.front.lock(rt);

@@ -2,45 +2,27 @@
 ghost use Rattle.std.specs.Prelude.{◌≡◌, ◌+◌, ◌<◌, slice_index};
 ghost use Rattle.fc_workers.specs.Answers.{ended_by, saturated};
 
+use crate::books::{BookOf, Books};
 use crate::tally::Tally;
 use fc_registry::Taken;
 use std::marker::Model;
-use std::sync::ledger::Ledger;
 
 /// What one worker changed in each of the eight shards, one part of each book, and how many jobs it ended, up to 2^64 - 1.
 /// A clause sees the changes of shards 0 to 7, and the jobs.
 #[derive(Drop)]
-pub struct Tallies<
-    L0: Ledger,
-    L1: Ledger,
-    L2: Ledger,
-    L3: Ledger,
-    L4: Ledger,
-    L5: Ledger,
-    L6: Ledger,
-    L7: Ledger,
-> {
-    pub(crate) tally0: Tally<L0>,
-    pub(crate) tally1: Tally<L1>,
-    pub(crate) tally2: Tally<L2>,
-    pub(crate) tally3: Tally<L3>,
-    pub(crate) tally4: Tally<L4>,
-    pub(crate) tally5: Tally<L5>,
-    pub(crate) tally6: Tally<L6>,
-    pub(crate) tally7: Tally<L7>,
+pub struct Tallies<B: Books> {
+    pub(crate) tally0: Tally<BookOf<B, 0>>,
+    pub(crate) tally1: Tally<BookOf<B, 1>>,
+    pub(crate) tally2: Tally<BookOf<B, 2>>,
+    pub(crate) tally3: Tally<BookOf<B, 3>>,
+    pub(crate) tally4: Tally<BookOf<B, 4>>,
+    pub(crate) tally5: Tally<BookOf<B, 5>>,
+    pub(crate) tally6: Tally<BookOf<B, 6>>,
+    pub(crate) tally7: Tally<BookOf<B, 7>>,
     pub(crate) ended: u64,
 }
 
-impl<
-    L0: Ledger,
-    L1: Ledger,
-    L2: Ledger,
-    L3: Ledger,
-    L4: Ledger,
-    L5: Ledger,
-    L6: Ledger,
-    L7: Ledger,
-> Model for Tallies<L0, L1, L2, L3, L4, L5, L6, L7> {
+impl<B: Books> Model for Tallies<B> {
     ghost use Rattle.fc_workers.specs.Counts.{Tallies as Seen};
 
     ghost Value = { Seen };
@@ -58,16 +40,7 @@ impl<
         × (t.tally7.parts ≡ 1) };
 }
 
-impl<
-    L0: Ledger,
-    L1: Ledger,
-    L2: Ledger,
-    L3: Ledger,
-    L4: Ledger,
-    L5: Ledger,
-    L6: Ledger,
-    L7: Ledger,
-> Tallies<L0, L1, L2, L3, L4, L5, L6, L7> {
+impl<B: Books> Tallies<B> {
     /// The changes of a shard, by its index, up to 2^64 - 1.
     pub fn shown(&self, shard: usize) -> u64
         requires { shard < 8 }

@@ -5,10 +5,9 @@ use crate::feeder::{Feeder, Request, datagram};
 use crate::overtaking_tests::{COUNTER, CREATED, Held, Replies, Reply, Seen, Trial, hold};
 use fc_jobs::Sent;
 use fc_registry::{Job, Shard, SlotNumber};
-use fc_workers::{Bench, Gate, Locked, ShardCall, Workshop, feed_workers, make_seats};
+use fc_workers::{Bench, Books, Gate, Locked, ShardCall, Workshop, feed_workers, make_seats};
 use std::alloc::{AllocError, Global};
 use std::sync::Wait;
-use std::sync::ledger::Ledger;
 use std::test::Fail;
 use std::thread::Threads;
 use std::time::Clock;
@@ -45,16 +44,7 @@ pub(crate) trait Locks: Bench {
         ensures { F.post call result };
 }
 
-impl<
-    L0: Ledger,
-    L1: Ledger,
-    L2: Ledger,
-    L3: Ledger,
-    L4: Ledger,
-    L5: Ledger,
-    L6: Ledger,
-    L7: Ledger,
-> Locks for Locked<L0, L1, L2, L3, L4, L5, L6, L7> {
+impl<B: Books> Locks for Locked<B> {
     fn hold<X, F: FnOnce() -> X + Drop, R: Wait>(&self, rt: &R, shard: u8, call: F) -> X {
         self.ask(rt, shard, WhileHeld { call })
     }

@@ -1,5 +1,6 @@
 // Jobs that overtake one another: in which order they are answered, and what the workers count.
 ghost use Rattle.std.specs.Prelude.{◌≡◌, ◌+◌, ◌<◌};
+ghost use Rattle.fc_workers.specs.Naming.{AreNamed};
 
 use crate::feeder::{Feeder, Request};
 use crate::job_tests::job;
@@ -10,11 +11,10 @@ use fc_jobs::Sent;
 use fc_registry::SlotNumber;
 use fc_verify::{Verified, verify};
 use fc_workers::{
-    Bench, Blanks, Gate, Locked, Moments, Share, Wire, Workshop, feed_workers, make_seats,
+    Bench, Blanks, Books, Gate, Locked, Moments, Share, Wire, Workshop, feed_workers, make_seats,
 };
 use std::alloc::{AllocError, Global};
 use std::marker::Brand;
-use std::sync::ledger::Ledger;
 use std::sync::{Arc, Mutex, Wait};
 use std::test::Fail;
 use std::thread;
@@ -405,23 +405,11 @@ pub(crate) fn hold<R: Threads + Wait + Clock + Sync>(
     trial: &Trial,
 ) -> anyhow::Result<Held<Seen, u64>> {
     let blanks = Blanks::new(u64::from(tallies) + 1);
-    hold_named::<Brand, Brand, Brand, Brand, Brand, Brand, Brand, Brand, R>(
-        rt, alloc, tallies, trial, blanks,
-    )
+    hold_named::<Brand, R>(rt, alloc, tallies, trial, blanks)
 }
 
 // Holds it with a server whose books have these names.
-fn hold_named<
-    L0: Ledger + Send + Sync,
-    L1: Ledger + Send + Sync,
-    L2: Ledger + Send + Sync,
-    L3: Ledger + Send + Sync,
-    L4: Ledger + Send + Sync,
-    L5: Ledger + Send + Sync,
-    L6: Ledger + Send + Sync,
-    L7: Ledger + Send + Sync,
-    R: Threads + Wait + Clock + Sync,
->(
+fn hold_named<B: Books + Send + Sync, R: Threads + Wait + Clock + Sync>(
     rt: &R,
     alloc: Global,
     tallies: u8,
@@ -429,16 +417,10 @@ fn hold_named<
     blanks: Blanks,
 ) -> anyhow::Result<Held<Seen, u64>>
     requires parts { blanks.parts ≡ tallies + 1 }
-    requires book0 { (blanks.blank0.name ≡ L0.name) × (blanks.parts ≡ L0.parts) }
-    requires book1 { (blanks.blank1.name ≡ L1.name) × (blanks.parts ≡ L1.parts) }
-    requires book2 { (blanks.blank2.name ≡ L2.name) × (blanks.parts ≡ L2.parts) }
-    requires book3 { (blanks.blank3.name ≡ L3.name) × (blanks.parts ≡ L3.parts) }
-    requires book4 { (blanks.blank4.name ≡ L4.name) × (blanks.parts ≡ L4.parts) }
-    requires book5 { (blanks.blank5.name ≡ L5.name) × (blanks.parts ≡ L5.parts) }
-    requires book6 { (blanks.blank6.name ≡ L6.name) × (blanks.parts ≡ L6.parts) }
-    requires book7 { (blanks.blank7.name ≡ L7.name) × (blanks.parts ≡ L7.parts) }
+    requires names { AreNamed blanks B.names }
+    requires books { blanks.parts ≡ B.parts }
 {
-    let (server, mut reserve) = Locked::<L0, L1, L2, L3, L4, L5, L6, L7>::new(alloc, 0, 0, blanks)?;
+    let (server, mut reserve) = Locked::<B>::new(alloc, 0, 0, blanks)?;
     let tallies = reserve.split_each(alloc, usize::from(tallies))?;
     let held = trial.hold(rt, alloc, &server, tallies)?;
     let mut changes = Vec::new(alloc);

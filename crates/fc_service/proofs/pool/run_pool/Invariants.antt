@@ -1,25 +1,5 @@
+use Rattle.fc_workers.specs.Naming.{names_of}
 use Rattle.fc_service.proofs.pool.run_pool.Given as goal
 
-abbrev pub ghosts-run_named-L0-Ledger : goal.ghosts-run_named-L0-Ledger
-ghosts-run_named-L0-Ledger g a = record { name = a.blanks.blank0.name; parts = a.blanks.parts }
-
-abbrev pub ghosts-run_named-L1-Ledger : goal.ghosts-run_named-L1-Ledger
-ghosts-run_named-L1-Ledger g a = record { name = a.blanks.blank1.name; parts = a.blanks.parts }
-
-abbrev pub ghosts-run_named-L2-Ledger : goal.ghosts-run_named-L2-Ledger
-ghosts-run_named-L2-Ledger g a = record { name = a.blanks.blank2.name; parts = a.blanks.parts }
-
-abbrev pub ghosts-run_named-L3-Ledger : goal.ghosts-run_named-L3-Ledger
-ghosts-run_named-L3-Ledger g a = record { name = a.blanks.blank3.name; parts = a.blanks.parts }
-
-abbrev pub ghosts-run_named-L4-Ledger : goal.ghosts-run_named-L4-Ledger
-ghosts-run_named-L4-Ledger g a = record { name = a.blanks.blank4.name; parts = a.blanks.parts }
-
-abbrev pub ghosts-run_named-L5-Ledger : goal.ghosts-run_named-L5-Ledger
-ghosts-run_named-L5-Ledger g a = record { name = a.blanks.blank5.name; parts = a.blanks.parts }
-
-abbrev pub ghosts-run_named-L6-Ledger : goal.ghosts-run_named-L6-Ledger
-ghosts-run_named-L6-Ledger g a = record { name = a.blanks.blank6.name; parts = a.blanks.parts }
-
-abbrev pub ghosts-run_named-L7-Ledger : goal.ghosts-run_named-L7-Ledger
-ghosts-run_named-L7-Ledger g a = record { name = a.blanks.blank7.name; parts = a.blanks.parts }
+abbrev pub ghosts-run_named : goal.ghosts-run_named
+ghosts-run_named g a = record { names = names_of a.blanks; parts = a.blanks.parts }
