@@ -1,9 +1,10 @@
 //! Pools: a new server behind its locks, workers at it, and who feeds them with datagrams.
-ghost use Rattle.std.specs.Prelude.{◌≡◌, ◌+◌, ◌<◌, ◌≤◌, vec_len};
+ghost use Rattle.std.specs.Prelude.{◌≡◌, ◌+◌, ◌<◌, ◌≤◌, vec_len, IfOk};
 ghost use Rattle.fc_core.specs.Receiving.{heard};
 ghost use Rattle.fc_registry.specs.declared.job.Job.{Job};
 ghost use Rattle.fc_registry.specs.Slots.{last_serial};
 ghost use Rattle.fc_workers.specs.Answers.{IsSomeDelivery, IsSomeQuiet, IsSomeTick};
+ghost use Rattle.fc_workers.specs.Closing.{HasCountedAll};
 ghost use Rattle.fc_workers.specs.Naming.{AreNamed};
 
 use crate::replies::Replies;
@@ -12,8 +13,8 @@ use fc_core::Heard;
 use fc_observe::Ticked;
 use fc_server::Begin;
 use fc_workers::{
-    Bench, Blanks, Books, Dispatcher, Gate, Handover, Locked, Moments, Share, Wire, Workshop,
-    feed_workers, make_seats,
+    Bench, Blanks, Books, Closed, Dispatcher, Gate, Handover, Locked, Moments, Reserve, Share,
+    Tallies, Wire, Workshop, feed_workers, make_seats,
 };
 use std::alloc::{AllocError, Global};
 use std::io::Write;
@@ -21,11 +22,11 @@ use std::marker::Brand;
 use std::sync::Wait;
 use std::thread::Threads;
 
-// Where a feeder has datagrams taken in, and observers notified: a server. (A method that is generic in its bench can't hand it on, since a
-// bench's tallies cross threads; it can hand on this.)
-pub(crate) trait Intake {
-    // Takes a datagram in, at a moment in milliseconds. Its reply is written over another; its job is worked off, here or by a worker; its signal goes to each
-    // shard.
+/// Where a feeder has datagrams taken in, and observers notified: a server. (A method that is generic in its bench can't hand it on, since a
+/// bench's tallies cross threads; it can hand on this.)
+pub trait Intake {
+    /// Takes a datagram in, at a moment in milliseconds. Its reply is written over another; its job is worked off, here or by a worker; its signal goes to each
+    /// shard.
     fn hear<R: Wait>(
         &mut self,
         rt: &R,
@@ -36,18 +37,18 @@ pub(crate) trait Intake {
     ) -> Heard
         ensures { (job : Job) × IsSomeDelivery now from bytes.now (heard result job reply.new) };
 
-    // Has time pass, to a moment in milliseconds.
+    /// Has time pass, to a moment in milliseconds.
     fn tick<R: Wait>(&mut self, rt: &R, now: u64);
 
-    // Has a shard, 0 to 7, tell what it sends again at a moment in milliseconds.
+    /// Has a shard, 0 to 7, tell what it sends again at a moment in milliseconds.
     fn resend<R: Wait>(&mut self, rt: &R, shard: u8, now: u64) -> Ticked
         ensures { IsSomeTick now result };
 
-    // Advances a shard, 0 to 7, to a moment in milliseconds where nothing is late and nobody is due. Tells whether it did.
+    /// Advances a shard, 0 to 7, to a moment in milliseconds where nothing is late and nobody is due. Tells whether it did.
     fn advance_if_quiet<R: Wait>(&mut self, rt: &R, shard: u8, now: u64) -> bool
         ensures { IsSomeQuiet now result };
 
-    // Has the observer of a shard, 0 to 7, notified that is due first at a moment in milliseconds, here or by a worker. Tells whether there was one.
+    /// Has the observer of a shard, 0 to 7, notified that is due first at a moment in milliseconds, here or by a worker. Tells whether there was one.
     fn notify<R: Wait>(&mut self, rt: &R, shard: u8, now: u64) -> bool;
 }
 
@@ -80,27 +81,44 @@ impl<'a, B: Bench, G: Gate, W: Wire, M: Moments> Intake for Dispatcher<'a, B, G,
     }
 }
 
-// Who has datagrams taken in by a server.
-pub(crate) trait Feeder<X> {
-    // Feeds to the end.
+/// Who has datagrams taken in by a server.
+pub trait Feeder<X> {
+    /// Feeds to the end.
     fn feed<N: Intake, R: Wait>(self, rt: &R, intake: &mut N) -> X;
 }
 
-// What a feeder gave, and the replies to the jobs that it had worked off.
+/// What a feeder gave, the replies to the jobs that it had worked off, and what the server came to.
 #[derive(Drop)]
-pub(crate) struct Fed<X: Drop> {
-    pub(crate) given: X,
-    pub(crate) replies: Replies,
+pub struct Fed<X: Drop> {
+    pub given: X,
+    pub replies: Replies,
+    pub closed: Closed,
 }
 
-// How many workers there are, 1 to 16, and which jobs go to them; what their server begins with, where the replies of jobs go, and what moment it is.
+// A server whose workers haven't begun.
 #[derive(Drop)]
-pub(crate) struct Pool<'a, W: Wire, M: Moments> {
-    pub(crate) workers: u8,
-    pub(crate) handover: Handover,
-    pub(crate) begin: Begin,
-    pub(crate) wire: &'a W,
-    pub(crate) moments: &'a M,
+struct Begun<B: Books> {
+    server: Locked<B>,
+    reserve: Reserve<B>,
+    tallies: Vec<Tallies<B>>,
+}
+
+// What a feeder gave, and the shares of the workers and of who fed them.
+#[derive(Drop)]
+struct Ended<X: Drop, T: Drop> {
+    given: X,
+    own: Share<T>,
+    shares: Vec<Share<T>>,
+}
+
+/// How many workers there are, 1 to 16, and which jobs go to them; what their server begins with, where the replies of jobs go, and what moment it is.
+#[derive(Drop)]
+pub struct Pool<'a, W: Wire, M: Moments> {
+    pub workers: u8,
+    pub handover: Handover,
+    pub begin: Begin,
+    pub wire: &'a W,
+    pub moments: &'a M,
 }
 
 // No job is held up.
@@ -114,11 +132,13 @@ impl Gate for Open {
     }
 }
 
-// Makes a server of empty slots, and runs its workers, each in a thread of its own, beside a feeder in the caller's, until all
-// have come to their end. Where no thread can be made for a worker, the feeder's thread works all jobs off, and `err` is told.
-//
-// Errors: there was no memory for the server, the workers or their shares.
-pub(crate) fn run_pool<
+/// Makes a server of empty slots, and runs its workers, each in a thread of its own, beside a feeder in the caller's, until all
+/// have come to their end. Then it closes the server: the serials of each shard have risen by just what was counted. Where no thread can be made
+/// for a worker, the feeder's thread works all jobs off, and `err` is told.
+///
+/// # Errors
+/// There was no memory for the server, the workers or their shares.
+pub fn run_pool<
     R: Threads + Wait + Sync,
     W: Wire + Sync,
     M: Moments + Sync,
@@ -133,6 +153,7 @@ pub(crate) fn run_pool<
     feeder: F,
 ) -> Result<Fed<X>, AllocError>
     requires { pool.now.begin.serial ≤ last_serial }
+    ensures { IfOk result (λ fed. HasCountedAll fed.closed) }
 {
     let blanks = Blanks::new(u64::from(pool.workers) + 2);
     run_named::<Brand, R, W, M, E, X, F>(rt, alloc, err, pool, feeder, blanks)
@@ -159,13 +180,62 @@ fn run_named<
     requires parts { blanks.parts ≡ pool.now.workers + 2 }
     requires names { AreNamed blanks B.names }
     requires books { blanks.parts ≡ B.parts }
+    ensures { IfOk result (λ fed. HasCountedAll fed.closed) }
 {
-    let (server, mut reserve) = Locked::<B>::new(alloc, pool.begin.serial, pool.begin.id, blanks)?;
-    let tallies = reserve.split_each(alloc, usize::from(pool.workers) + 1)?;
-    run_at(rt, alloc, err, pool, &server, tallies, feeder)
+    let Begun {
+        server,
+        reserve,
+        tallies,
+    } = begin::<B>(alloc, pool.begin, pool.workers, blanks)?;
+    let ended = run_at(rt, alloc, err, pool, &server, tallies, feeder)?;
+    Ok(close(server, reserve, ended))
 }
 
-// Runs a worker for each of the tallies but the last at a bench, and the feeder with that.
+// A new server, the tallies of its workers and of who feeds them, and the parts of its books that are left.
+fn begin<B: Books>(
+    alloc: Global,
+    begin: Begin,
+    workers: u8,
+    blanks: Blanks,
+) -> Result<Begun<B>, AllocError>
+    requires serial { begin.serial ≤ last_serial }
+    requires parts { blanks.parts ≡ workers + 2 }
+    requires names { AreNamed blanks B.names }
+    requires books { blanks.parts ≡ B.parts }
+    ensures some { IfOk result (λ b. 0 < vec_len b.tallies) }
+    ensures parts { IfOk result (λ b. b.reserve.parts + vec_len b.tallies ≡ B.parts) }
+{
+    let (server, mut reserve) = Locked::<B>::new(alloc, begin.serial, begin.id, blanks)?;
+    let tallies = reserve.split_each(alloc, usize::from(workers) + 1)?;
+    Ok(Begun {
+        server,
+        reserve,
+        tallies,
+    })
+}
+
+// Closes a server whose workers have come to their end, for the reserve that their tallies were split from.
+fn close<B: Books, X: Drop>(
+    server: Locked<B>,
+    mut reserve: Reserve<B>,
+    ended: Ended<X, Tallies<B>>,
+) -> Fed<X>
+    requires { reserve.parts + vec_len ended.shares + 1 ≡ B.parts }
+    ensures { HasCountedAll result.closed }
+{
+    let Ended { given, own, shares } = ended;
+    let replies = Replies::of(&shares).plus(Replies::by(&own));
+    reserve.merge(own.tallies);
+    reserve.merge_each(shares);
+    let closed = server.close(&mut reserve);
+    Fed {
+        given,
+        replies,
+        closed,
+    }
+}
+
+// Runs a worker for each of the tallies but the last at a bench, and the feeder with that. There is a share for each of the tallies.
 fn run_at<
     B: Bench + Sync,
     R: Threads + Wait + Sync,
@@ -182,10 +252,11 @@ fn run_at<
     bench: &B,
     tallies: Vec<B::Tallies>,
     feeder: F,
-) -> Result<Fed<X>, AllocError>
+) -> Result<Ended<X, B::Tallies>, AllocError>
 where
     B::Tallies: Send,
     requires { 0 < vec_len tallies }
+    ensures { IfOk result (λ ended. vec_len ended.shares + 1 ≡ vec_len tallies) }
 {
     let (jobs, sent, mut seats) = make_seats(alloc, tallies)?;
     let Some(own) = seats.pop() else {
@@ -200,7 +271,7 @@ where
     };
     let (workshop, channel) = (&workshop, &jobs);
     let handover = pool.handover;
-    let ((given, share), shares) = feed_workers(
+    let ((given, own), shares) = feed_workers(
         rt,
         workshop,
         channel,
@@ -219,10 +290,10 @@ where
             (given, dispatcher.close())
         },
     );
-    let shares = shares?;
-    Ok(Fed {
+    Ok(Ended {
         given,
-        replies: Replies::of(&shares).plus(Replies::by(&share)),
+        own,
+        shares: shares?,
     })
 }
 

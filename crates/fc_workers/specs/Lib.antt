@@ -1,5 +1,6 @@
 pub mod Answers
 pub mod Asked
+pub mod Closing
 pub mod Counts
 pub mod Outgoing
 pub mod Work

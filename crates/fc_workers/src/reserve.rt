@@ -1,9 +1,10 @@
 //! The parts of the books that no worker has.
-ghost use Rattle.std.specs.Prelude.{◌≡◌, ◌+◌, ◌-◌, ◌<◌, ◌≤◌, replicate, slice_index, vec_len, IfOk};
+ghost use Rattle.std.specs.Prelude.{◌≡◌, ◌+◌, ◌-◌, ◌<◌, ◌≤◌, map, replicate, vec_len, IfOk};
 ghost use Rattle.fc_workers.specs.Answers.{saturated};
 ghost use Rattle.fc_workers.specs.Counts.{no_changes, no_tallies, sums};
 
 use crate::books::{BookOf, Books};
+use crate::share::Share;
 use crate::tallies::Tallies;
 use crate::tally::Tally;
 use std::alloc::{AllocError, Global};
@@ -78,6 +79,7 @@ impl<B: Books> Reserve<B> {
         requires parts { workers < self.old.parts }
         requires changes { self.old.changes ≡ no_changes }
         ensures left { IfOk result (λ v. self.new ≡ record self.old { parts = self.old.parts - workers }) }
+        ensures count { IfOk result (λ v. vec_len v ≡ workers) }
         ensures given { IfOk result (λ v. v.items ≡ replicate workers no_tallies) }
     {
         let mut each = Vec::new(alloc);
@@ -118,29 +120,28 @@ impl<B: Books> Reserve<B> {
     }
 
     /// Takes the tallies of all these workers in.
-    pub fn merge_each(&mut self, mut workers: Vec<Tallies<B>>)
+    pub fn merge_each(&mut self, mut workers: Vec<Share<Tallies<B>>>)
         ensures { self.new.parts ≡ self.old.parts + vec_len workers }
     {
         while let Some(worker) = workers.pop() {
-            self.merge(worker);
+            self.merge(worker.tallies);
         }
     }
 
-    /// The changes of a shard, by its index, up to 2^64 - 1.
-    pub fn shown(&self, shard: usize) -> u64
-        requires { shard < 8 }
-        ensures { result ≡ saturated (slice_index self.now.changes shard) }
+    /// The changes of shards 0 to 7, each up to 2^64 - 1.
+    pub fn shown_each(&self) -> [u64; 8]
+        ensures { result ≡ map saturated self.now.changes }
     {
-        match shard {
-            0 => self.tally0.shown(),
-            1 => self.tally1.shown(),
-            2 => self.tally2.shown(),
-            3 => self.tally3.shown(),
-            4 => self.tally4.shown(),
-            5 => self.tally5.shown(),
-            6 => self.tally6.shown(),
-            _ => self.tally7.shown(),
-        }
+        [
+            self.tally0.shown(),
+            self.tally1.shown(),
+            self.tally2.shown(),
+            self.tally3.shown(),
+            self.tally4.shown(),
+            self.tally5.shown(),
+            self.tally6.shown(),
+            self.tally7.shown(),
+        ]
     }
 
     /// How many jobs were ended, up to 2^64 - 1.

@@ -30,6 +30,7 @@ use crate::calls::{
     AdvanceIfQuiet, Change, Commit, Describe, GiveUp, Install, NextDue, Note, Remove, ShardCall,
     Signal, Take, Tick,
 };
+use crate::closed::Closed;
 use crate::locked_shard::LockedShard;
 use crate::reserve::Reserve;
 use crate::tallies::Tallies;
@@ -114,13 +115,6 @@ pub struct Locked<B: Books> {
     shard5: LockedShard<5, B>,
     shard6: LockedShard<6, B>,
     shard7: LockedShard<7, B>,
-}
-
-/// The shards of a server that was closed, and of each the serial that its slots began with.
-#[derive(Drop)]
-pub struct Closed {
-    pub shards: [Shard; 8],
-    pub first_serials: [u64; 8],
 }
 
 impl<B: Books> Locked<B> {
@@ -222,10 +216,11 @@ impl<B: Books> Locked<B> {
     }
 
     /// Closes the server, for a reserve that has all parts again: the serials of each shard have risen by the changes that
-    /// were counted.
+    /// were counted, which are shown.
     pub fn close(self, reserve: &mut Reserve<B>) -> Closed
         requires { reserve.old.parts ≡ B.parts }
-        ensures { map serials result.shards ≡ sums (map (λ n. 8 * n) result.first_serials) reserve.old.changes }
+        ensures risen { map serials result.shards ≡ sums (map (λ n. 8 * n) result.first_serials) reserve.old.changes }
+        ensures shown { result.changes ≡ map saturated reserve.old.changes }
     {
         let (shard0, first0) = self.shard0.close(&mut reserve.tally0);
         let (shard1, first1) = self.shard1.close(&mut reserve.tally1);
@@ -242,6 +237,7 @@ impl<B: Books> Locked<B> {
             first_serials: [
                 first0, first1, first2, first3, first4, first5, first6, first7,
             ],
+            changes: reserve.shown_each(),
         }
     }
 }

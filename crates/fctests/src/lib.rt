@@ -57,6 +57,8 @@ mod overtaking_tests;
 #[cfg(test)]
 mod play_tests;
 #[cfg(test)]
+mod pool_tests;
+#[cfg(test)]
 mod post_tests;
 #[cfg(test)]
 mod refusal_tests;

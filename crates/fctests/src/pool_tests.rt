@@ -1,0 +1,54 @@
+//! Pools: what a server comes to when its workers have come to their end.
+use crate::feeder::{PEER, Request, datagram};
+use crate::overtaking_tests::{COUNTER, Replies};
+use fc_core::front::blank_emission;
+use fc_registry::SlotNumber;
+use fc_server::Begin;
+use fc_service::pool::{Feeder, Intake, Pool, run_pool};
+use fc_workers::Handover;
+use std::alloc::{AllocError, Global};
+use std::sync::Wait;
+use std::test::Fail;
+
+// The counter is installed in slots 1 and 9, which shard 1 owns, in slot 2, and in slot 9 again.
+#[derive(Drop)]
+struct Installs {
+    alloc: Global,
+}
+
+impl Feeder<Result<(), AllocError>> for Installs {
+    fn feed<N: Intake, R: Wait>(self, rt: &R, intake: &mut N) -> Result<(), AllocError> {
+        let mut reply = blank_emission();
+        for (id, slot) in [(0, 1), (1, 9), (2, 2), (3, 9)] {
+            let slot = SlotNumber::new(slot);
+            let bytes = datagram(self.alloc, Request::Put(COUNTER), id, slot)?;
+            let _heard = intake.hear(rt, 0, PEER, &bytes, &mut reply);
+        }
+        Ok(())
+    }
+}
+
+// Each install is counted once, whichever worker it was, and the serials of its slot's shard have risen by as many.
+#[test]
+fn a_pool_counts_the_changes_of_each_shard(rt: HostRuntime) -> Result<(), Fail> {
+    let replies = Replies::new();
+    let pool = Pool {
+        workers: 2,
+        handover: Handover::Every,
+        begin: Begin { serial: 7, id: 0 },
+        wire: &replies,
+        moments: &replies,
+    };
+    let mut err = Vec::new(rt.alloc());
+    let installs = Installs { alloc: rt.alloc() };
+    let fed = run_pool(&rt, rt.alloc(), &mut err, &pool, installs)?;
+    fed.given?;
+    assert!(rt; fed.closed.changes == [0, 3, 1, 0, 0, 0, 0, 0]);
+    assert!(rt; fed.closed.first_serials == [7; 8]);
+    let [_, shard1, shard2, ..] = &fed.closed.shards;
+    assert_eq!(rt; shard1.serial(SlotNumber::new(1)), 8);
+    assert_eq!(rt; shard1.serial(SlotNumber::new(9)), 9);
+    assert_eq!(rt; shard1.serial(SlotNumber::new(17)), 7);
+    assert_eq!(rt; shard2.serial(SlotNumber::new(2)), 8);
+    Ok(())
+}
