@@ -146,18 +146,24 @@ fn obey<R: Runtime + AllocGlobal, E: Write>(
     };
     let mut input = BufReader::new(alloc, rt.reader())?;
     let mut out = BufWriter::new(alloc, io::writer(rt))?;
+    carry_out(rt, &mut input, &mut out, err, &matches)
+}
+
+// Carries out the command that the command line names.
+fn carry_out<R: Runtime + AllocGlobal, I: Read, W: Write, E: Write>(
+    rt: &R,
+    input: &mut I,
+    out: &mut W,
+    err: &mut E,
+    matches: &ArgMatches<'_>,
+) -> anyhow::Result<Status> {
+    let alloc = rt.alloc();
     match matches.subcommand() {
-        Some(("image", numbers)) => Ok(write_image(alloc, &mut input, &mut out, err, numbers)),
-        Some(("expand", _)) => Ok(expand(alloc, &mut input, &mut out, err)),
-        Some(("list", asked)) => Ok(list(
-            alloc,
-            &mut input,
-            &mut out,
-            err,
-            asked.get_flag("slots"),
-        )),
-        Some(("check", _)) => Ok(check(alloc, &mut input, &mut out, err)),
-        Some(("run", asked)) => run_asked(rt, &mut input, &mut out, err, asked),
+        Some(("image", numbers)) => Ok(write_image(alloc, input, out, err, numbers)),
+        Some(("expand", _)) => Ok(expand(alloc, input, out, err)),
+        Some(("list", asked)) => Ok(list(alloc, input, out, err, asked.get_flag("slots"))),
+        Some(("check", _)) => Ok(check(alloc, input, out, err)),
+        Some(("run", asked)) => run_asked(rt, input, out, err, asked),
         _ => Ok(Status::Bad),
     }
 }
