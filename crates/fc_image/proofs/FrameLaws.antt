@@ -6,7 +6,7 @@ use Rattle.std.proofs.lemmas.Bool.Decides.{nat_tests}
 use Rattle.std.proofs.lemmas.List.{get_or-drop, get_or_past}
 use Rattle.fc_isa.specs.declared.insn.Insn.{Insn}
 use Rattle.fc_isa.specs.declared.insn.Insn.TheVariants.{Alu, Neg, SignExtend, End, LoadWide, WideSecond, Load, StoreImm, Store, JumpAlways, JumpAlwaysLong, JumpIf, CallHelper, CallLocal, Exit}
-use Rattle.fc_isa.specs.declared.rule.Rule.TheVariants.{JumpTarget, BackwardJump, Boundary, FrameDepth}
+use Rattle.fc_isa.specs.declared.rule.Rule.TheVariants.{JumpTarget, BackwardJump, Boundary}
 use Rattle.fc_isa.specs.Program.{is_program}
 use Rattle.fc_image.specs.Flow.{target, landing, Goes, flow, flow_of, flow_at}
 use Rattle.fc_image.specs.Functions.{is_at, calls, is_called, is_start, starts_within, depths, frames}
@@ -210,12 +210,8 @@ nearer code slot (StoreImm size base offset imm) s p g = step_next code slot _ _
 nearer code slot (Store size base offset src) s p g = step_next code slot _ _ g (cost_there code slot (Store size base offset src) s g) (s.each Boundary slot (Store size base offset src) g)
 nearer code slot (CallHelper number) s p g = step_next code slot _ _ g (cost_there code slot (CallHelper number) s g) (s.each Boundary slot (CallHelper number) g)
 
--- ---- at most four frames
+-- ---- the first frame, and those that calls add
 
-at_most : (code : List Insn) → nat_lt 4 (frames code) ≡ false → frames_at code 0 ≤ 3
+pub first_and_added : (code : List Insn) → frames code ≡ 1 + frames_at code 0
 unfolding frames
-at_most code e = let le : frames code ≤ 4 = grind (arith, nat_tests, e) in omega (arith, le)
-
-pub few_frames : (code : List Insn) → IsShaped code → frames_at code 0 ≤ 3
-few_frames [] s = let e = past_frames [] 0 (omega arith) in omega (arith, e)
-few_frames (insn ∷ code) s = at_most (insn ∷ code) (s.each FrameDepth 0 insn refl)
+first_and_added code = refl

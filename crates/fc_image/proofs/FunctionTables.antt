@@ -119,20 +119,20 @@ next_rest flags table starts next h =
 
 pub depth_more : (code : List Insn) (flags : List Bool) (table : List ℕ) (slot value : ℕ) (insn : Insn) → slice_get code slot ≡ Some insn → slot < length table
     → (slot + 1 < length table → get_or flags (slot + 1) false ≡ is_start code (slot + 1))
-    → ((k : ℕ) → suc slot ≤ k → get_or table k 0 ≡ min 5 (get_or (depths (is_start code) 0 code) k 0))
-    → value ≡ min 5 (max (frames_called insn (drop (slot + 1) table)) (if get_or flags (slot + 1) false then 0 else get_or table (slot + 1) 0))
-    → (k : ℕ) → slot ≤ k → get_or (set table slot value) k 0 ≡ min 5 (get_or (depths (is_start code) 0 code) k 0)
+    → ((k : ℕ) → suc slot ≤ k → get_or table k 0 ≡ min 9 (get_or (depths (is_start code) 0 code) k 0))
+    → value ≡ min 9 (max (frames_called insn (drop (slot + 1) table)) (if get_or flags (slot + 1) false then 0 else get_or table (slot + 1) 0))
+    → (k : ℕ) → slot ≤ k → get_or (set table slot value) k 0 ≡ min 9 (get_or (depths (is_start code) 0 code) k 0)
 depth_more code flags table slot value insn stands lt flag known is =
     let whole = depths (is_start code) 0 code in
     let n : slot + 1 ≡ suc slot = omega arith in
     let m : slot + 1 ≡ suc slot + 0 = omega arith in
-    let capped = rest_capped 5 table whole slot known in
+    let capped = rest_capped 9 table whole slot known in
     let starts = is_start code (slot + 1) in
     let rest : (if get_or flags (slot + 1) false then 0 else get_or table (slot + 1) 0) ≡ rest_of starts (drop (suc slot) table) =
     next_rest flags table starts (slot + 1) flag ∙ ap (unless starts) (ap (λ k. get_or table k 0) m ∙ sym (get_or-drop (suc slot) table 0 0)) in
-    one_more 5 table whole slot value lt known
-    (is ∙ ap (λ k. min 5 (max (frames_called insn (drop k table)) (if get_or flags (slot + 1) false then 0 else get_or table (slot + 1) 0))) n
-    ∙ ap (λ r. min 5 (max (frames_called insn (drop (suc slot) table)) r)) rest
-    ∙ max_capped 5 (frames_called insn (drop (suc slot) table)) (rest_of starts (drop (suc slot) table)) (frames_called insn (drop (suc slot) whole)) (rest_of starts (drop (suc slot) whole))
-    (called_capped 5 insn (drop (suc slot) table) (drop (suc slot) whole) capped) (rest_is_capped 5 starts (drop (suc slot) table) (drop (suc slot) whole) capped)
-    ∙ ap (min 5) (sym (depth_is (is_start code) code slot insn stands)))
+    one_more 9 table whole slot value lt known
+    (is ∙ ap (λ k. min 9 (max (frames_called insn (drop k table)) (if get_or flags (slot + 1) false then 0 else get_or table (slot + 1) 0))) n
+    ∙ ap (λ r. min 9 (max (frames_called insn (drop (suc slot) table)) r)) rest
+    ∙ max_capped 9 (frames_called insn (drop (suc slot) table)) (rest_of starts (drop (suc slot) table)) (frames_called insn (drop (suc slot) whole)) (rest_of starts (drop (suc slot) whole))
+    (called_capped 9 insn (drop (suc slot) table) (drop (suc slot) whole) capped) (rest_is_capped 9 starts (drop (suc slot) table) (drop (suc slot) whole) capped)
+    ∙ ap (min 9) (sym (depth_is (is_start code) code slot insn stands)))

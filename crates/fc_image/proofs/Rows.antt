@@ -1,5 +1,5 @@
 -- Worked programs: what the rules of the control flow say of each; and the numbers that a header may have.
-use Rattle.std.proofs.Common.{◌≡◌, ℕ, true, false, [], ◌∷◌, Some, None, refl}
+use Rattle.std.proofs.Common.{◌≡◌, List, ℕ, true, false, [], ◌∷◌, Some, None, refl}
 use Rattle.std.specs.Prelude.{pos, negsuc}
 use Rattle.fc_isa.specs.declared.insn.Insn.{Insn}
 use Rattle.fc_isa.specs.declared.insn.Insn.TheVariants.{Alu, LoadWide, WideSecond, JumpAlways, JumpIf, CallHelper, CallLocal, Exit}
@@ -8,10 +8,16 @@ use Rattle.fc_isa.specs.declared.insn.Relation.TheVariants.{Gt}
 use Rattle.fc_isa.specs.declared.insn.Width.TheVariants.{W64}
 use Rattle.fc_isa.specs.declared.insn.Operand.TheVariants.{Imm}
 use Rattle.fc_isa.specs.declared.rule.Rule.TheVariants.{JumpTarget, BackwardJump, Boundary, BackwardCall, FrameDepth, Cost, Helper}
-use Rattle.fc_image.specs.Head.{is_bad_size, is_bad_count, is_bad_budget}
+use Rattle.fc_isa.specs.declared.version.ImageVersion.{ImageVersion}
+use Rattle.fc_isa.specs.declared.version.ImageVersion.TheVariants.{One, Two}
+use Rattle.fc_image.specs.Head.{Head, is_bad_size, is_bad_count, is_bad_budget}
 use Rattle.fc_image.specs.Functions.{is_start, frames}
 use Rattle.fc_image.specs.Paths.{costs, longest}
 use Rattle.fc_image.specs.ShapeRules.{breaks_shape, is_helper, shape_fault}
+
+-- a header of this version and budget
+abbrev head : ImageVersion → ℕ → Head
+head version budget = record { version = version; vars_size = 0; count = 1; budget = budget }
 
 abbrev mov : Insn
 mov = Alu Mov W64 0 (Imm (pos 0))
@@ -32,53 +38,65 @@ callee_counts_twice : longest (CallLocal (pos 2) ∷ CallLocal (pos 1) ∷ Exit 
 unfolding longest costs
 callee_counts_twice = refl
 
-twice_is_above_six : shape_fault 6 (CallLocal (pos 2) ∷ CallLocal (pos 1) ∷ Exit ∷ mov ∷ Exit ∷ []) ≡ Some (0, Cost)
+twice_is_above_six : shape_fault (head One 6) (CallLocal (pos 2) ∷ CallLocal (pos 1) ∷ Exit ∷ mov ∷ Exit ∷ []) ≡ Some (0, Cost)
 unfolding shape_fault breaks_shape longest costs is_start frames
 twice_is_above_six = refl
 
-four_frames : shape_fault 8 (caller ∷ Exit ∷ caller ∷ Exit ∷ caller ∷ Exit ∷ mov ∷ Exit ∷ []) ≡ None
+four_frames : shape_fault (head One 8) (caller ∷ Exit ∷ caller ∷ Exit ∷ caller ∷ Exit ∷ mov ∷ Exit ∷ []) ≡ None
 unfolding shape_fault breaks_shape longest costs is_start frames
 four_frames = refl
 
-five_frames : shape_fault 10 (caller ∷ Exit ∷ caller ∷ Exit ∷ caller ∷ Exit ∷ caller ∷ Exit ∷ mov ∷ Exit ∷ []) ≡ Some (0, FrameDepth)
+five_frames : shape_fault (head One 10) (caller ∷ Exit ∷ caller ∷ Exit ∷ caller ∷ Exit ∷ caller ∷ Exit ∷ mov ∷ Exit ∷ []) ≡ Some (0, FrameDepth)
 unfolding shape_fault breaks_shape longest costs is_start frames
 five_frames = refl
 
-call_back : shape_fault 8 (caller ∷ Exit ∷ CallLocal (negsuc 2) ∷ Exit ∷ []) ≡ Some (2, BackwardCall)
+-- the second version allows eight frames
+five_frames_in_two : shape_fault (head Two 10) (caller ∷ Exit ∷ caller ∷ Exit ∷ caller ∷ Exit ∷ caller ∷ Exit ∷ mov ∷ Exit ∷ []) ≡ None
+unfolding shape_fault breaks_shape longest costs is_start frames
+five_frames_in_two = refl
+
+eight_calls : List Insn
+eight_calls = caller ∷ Exit ∷ caller ∷ Exit ∷ caller ∷ Exit ∷ caller ∷ Exit ∷ caller ∷ Exit ∷ caller ∷ Exit ∷ caller ∷ Exit ∷ mov ∷ Exit ∷ []
+
+eight_frames : (shape_fault (head Two 16) eight_calls ≡ None) × (shape_fault (head Two 18) (caller ∷ Exit ∷ eight_calls) ≡ Some (0, FrameDepth))
+unfolding shape_fault breaks_shape longest costs is_start frames eight_calls
+eight_frames = (refl, refl)
+
+call_back : shape_fault (head One 8) (caller ∷ Exit ∷ CallLocal (negsuc 2) ∷ Exit ∷ []) ≡ Some (2, BackwardCall)
 unfolding shape_fault breaks_shape longest costs is_start frames
 call_back = refl
 
 -- the start that a call back makes ends the function before it
-call_back_ends_a_function : shape_fault 8 (mov ∷ CallLocal (negsuc 0) ∷ Exit ∷ []) ≡ Some (0, Boundary)
+call_back_ends_a_function : shape_fault (head One 8) (mov ∷ CallLocal (negsuc 0) ∷ Exit ∷ []) ≡ Some (0, Boundary)
 unfolding shape_fault breaks_shape longest costs is_start frames
 call_back_ends_a_function = refl
 
-jump_into_a_wide_load : shape_fault 8 (JumpAlways (pos 1) ∷ LoadWide 0 7 ∷ WideSecond ∷ Exit ∷ []) ≡ Some (0, JumpTarget)
+jump_into_a_wide_load : shape_fault (head One 8) (JumpAlways (pos 1) ∷ LoadWide 0 7 ∷ WideSecond ∷ Exit ∷ []) ≡ Some (0, JumpTarget)
 unfolding shape_fault breaks_shape longest costs is_start frames
 jump_into_a_wide_load = refl
 
-jump_below_zero : shape_fault 8 (JumpAlways (negsuc 1) ∷ Exit ∷ []) ≡ Some (0, JumpTarget)
+jump_below_zero : shape_fault (head One 8) (JumpAlways (negsuc 1) ∷ Exit ∷ []) ≡ Some (0, JumpTarget)
 unfolding shape_fault breaks_shape longest costs is_start frames
 jump_below_zero = refl
 
-jump_to_itself : shape_fault 8 (JumpAlways (negsuc 0) ∷ Exit ∷ []) ≡ Some (0, BackwardJump)
+jump_to_itself : shape_fault (head One 8) (JumpAlways (negsuc 0) ∷ Exit ∷ []) ≡ Some (0, BackwardJump)
 unfolding shape_fault breaks_shape longest costs is_start frames
 jump_to_itself = refl
 
-jump_out_of_its_function : shape_fault 8 (caller ∷ JumpAlways (pos 1) ∷ mov ∷ Exit ∷ []) ≡ Some (1, Boundary)
+jump_out_of_its_function : shape_fault (head One 8) (caller ∷ JumpAlways (pos 1) ∷ mov ∷ Exit ∷ []) ≡ Some (1, Boundary)
 unfolding shape_fault breaks_shape longest costs is_start frames
 jump_out_of_its_function = refl
 
-end_in_a_wide_load : shape_fault 8 (mov ∷ LoadWide 0 7 ∷ WideSecond ∷ []) ≡ Some (1, Boundary)
+end_in_a_wide_load : shape_fault (head One 8) (mov ∷ LoadWide 0 7 ∷ WideSecond ∷ []) ≡ Some (1, Boundary)
 unfolding shape_fault breaks_shape longest costs is_start frames
 end_in_a_wide_load = refl
 
-no_helper_eight : shape_fault 8 (CallHelper (pos 8) ∷ mov ∷ Exit ∷ []) ≡ Some (0, Helper)
+no_helper_eight : shape_fault (head One 8) (CallHelper (pos 8) ∷ mov ∷ Exit ∷ []) ≡ Some (0, Helper)
 unfolding shape_fault breaks_shape longest costs is_start frames
 no_helper_eight = refl
 
 -- the cost is told before the helper
-cost_before_helper : shape_fault 2 (CallHelper (pos 8) ∷ mov ∷ Exit ∷ []) ≡ Some (0, Cost)
+cost_before_helper : shape_fault (head One 2) (CallHelper (pos 8) ∷ mov ∷ Exit ∷ []) ≡ Some (0, Cost)
 unfolding shape_fault breaks_shape longest costs is_start frames
 cost_before_helper = refl
 
@@ -91,8 +109,9 @@ helpers_are_seven = (refl, refl, refl, refl, refl)
 sizes_are_words : (is_bad_size 0 ≡ false) × (is_bad_size 4 ≡ true) × (is_bad_size 8 ≡ false) × (is_bad_size 12 ≡ true) × (is_bad_size 250 ≡ true) × (is_bad_size 256 ≡ false) × (is_bad_size 264 ≡ true)
 sizes_are_words = (refl, refl, refl, refl, refl, refl, refl)
 
-ends_of_counts : (is_bad_count 0 ≡ true) × (is_bad_count 1 ≡ false) × (is_bad_count 512 ≡ false) × (is_bad_count 513 ≡ true)
-ends_of_counts = (refl, refl, refl, refl)
+ends_of_counts : (is_bad_count One 0 ≡ true) × (is_bad_count One 1 ≡ false) × (is_bad_count One 512 ≡ false) × (is_bad_count One 513 ≡ true)
+    × (is_bad_count Two 0 ≡ true) × (is_bad_count Two 1024 ≡ false) × (is_bad_count Two 1025 ≡ true)
+ends_of_counts = (refl, refl, refl, refl, refl, refl, refl)
 
 ends_of_budgets : (is_bad_budget 0 ≡ true) × (is_bad_budget 1 ≡ false) × (is_bad_budget 65536 ≡ false) × (is_bad_budget 65537 ≡ true)
 ends_of_budgets = (refl, refl, refl, refl)

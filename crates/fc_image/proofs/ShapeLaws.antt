@@ -7,8 +7,10 @@ use Rattle.fc_isa.specs.declared.rule.Rule.{Rule}
 use Rattle.fc_isa.specs.declared.rule.Rule.TheVariants.{JumpTarget, BackwardJump, Boundary, BackwardCall, FrameDepth, Cost, Helper}
 use Rattle.std.specs.List.{AllByRecursion}
 use Rattle.fc_isa.specs.Rules.{number_of}
+use Rattle.fc_image.specs.Functions.{frames}
+use Rattle.fc_image.specs.Head.{Head, frames_allowed}
 use Rattle.fc_image.specs.Paths.{longest}
-use Rattle.fc_image.specs.ShapeRules.{breaks_flow, breaks_shape, KeepsBudget, IsShapeFault, KeepsRule, least, or_next, first_broken, flow_rules, shape_fault}
+use Rattle.fc_image.specs.ShapeRules.{breaks_flow, breaks_shape, KeepsLimits, IsShapeFault, KeepsRule, least, or_next, first_broken, flow_rules, shape_fault}
 use Rattle.fc_image.proofs.CostTable.{drop_at}
 
 -- ---- the least slot
@@ -94,161 +96,169 @@ least_is test from (i ∷ code) (suc index) slot insn e g t b =
     ∙ least_is test (from + 1) code index slot insn (omega (arith, e)) g t (λ k j lt h. let m : from + 1 + k ≡ from + suc k = omega arith in ap (λ x. test x j) m ∙ b (suc k) j (omega arith) h)
 
 -- the slot breaks the rule, and no slot before it does
-record Breaks (budget : ℕ) (code : List Insn) (rule : Rule) (slot : ℕ) : Type 0 where
+record Breaks (head : Head) (code : List Insn) (rule : Rule) (slot : ℕ) : Type 0 where
   pub insn : Insn
   pub stands : slice_get code slot ≡ Some insn
-  pub broken : breaks_shape budget code slot insn rule ≡ true
-  pub slots_before : (k : ℕ) (i : Insn) → k < slot → slice_get code k ≡ Some i → breaks_shape budget code k i rule ≡ false
+  pub broken : breaks_shape head code slot insn rule ≡ true
+  pub slots_before : (k : ℕ) (i : Insn) → k < slot → slice_get code k ≡ Some i → breaks_shape head code k i rule ≡ false
 
-pub rule_kept : (budget : ℕ) (code : List Insn) (rule : Rule) → least (λ slot insn. breaks_shape budget code slot insn rule) 0 code ≡ None → KeepsRule budget code rule
-rule_kept budget code rule e = record {
+pub rule_kept : (head : Head) (code : List Insn) (rule : Rule) → least (λ slot insn. breaks_shape head code slot insn rule) 0 code ≡ None → KeepsRule head code rule
+rule_kept head code rule e = record {
   each = λ k i g.
       let n : 0 + k ≡ k = omega arith in
-      subst (λ x. breaks_shape budget code x i rule ≡ false) n ((least_none (λ slot insn. breaks_shape budget code slot insn rule) 0 code e).each k i g);
+      subst (λ x. breaks_shape head code x i rule ≡ false) n ((least_none (λ slot insn. breaks_shape head code slot insn rule) 0 code e).each k i g);
 }
 
-kept_rule : (budget : ℕ) (code : List Insn) (rule : Rule) → KeepsRule budget code rule → least (λ slot insn. breaks_shape budget code slot insn rule) 0 code ≡ None
-kept_rule budget code rule h = none_least (λ slot insn. breaks_shape budget code slot insn rule) 0 code
-    (record { each = λ k i g. let n : k ≡ 0 + k = omega arith in subst (λ x. breaks_shape budget code x i rule ≡ false) n (h.each k i g) })
+kept_rule : (head : Head) (code : List Insn) (rule : Rule) → KeepsRule head code rule → least (λ slot insn. breaks_shape head code slot insn rule) 0 code ≡ None
+kept_rule head code rule h = none_least (λ slot insn. breaks_shape head code slot insn rule) 0 code
+    (record { each = λ k i g. let n : k ≡ 0 + k = omega arith in subst (λ x. breaks_shape head code x i rule ≡ false) n (h.each k i g) })
 
-rule_broken : (budget : ℕ) (code : List Insn) (rule : Rule) (slot : ℕ) → least (λ slot insn. breaks_shape budget code slot insn rule) 0 code ≡ Some slot → Breaks budget code rule slot
-rule_broken budget code rule slot e =
-    let r = least_some (λ slot insn. breaks_shape budget code slot insn rule) 0 code slot e in
+rule_broken : (head : Head) (code : List Insn) (rule : Rule) (slot : ℕ) → least (λ slot insn. breaks_shape head code slot insn rule) 0 code ≡ Some slot → Breaks head code rule slot
+rule_broken head code rule slot e =
+    let r = least_some (λ slot insn. breaks_shape head code slot insn rule) 0 code slot e in
     let same : r.index ≡ slot = omega (arith, r.slot_is) in
     record {
       insn = r.insn;
       stands = subst (λ k. slice_get code k ≡ Some r.insn) same r.stands;
       broken = r.passes;
-      slots_before = λ k i lt g. let n : 0 + k ≡ k = omega arith in subst (λ x. breaks_shape budget code x i rule ≡ false) n (r.before k i (omega (arith, same)) g);
+      slots_before = λ k i lt g. let n : 0 + k ≡ k = omega arith in subst (λ x. breaks_shape head code x i rule ≡ false) n (r.before k i (omega (arith, same)) g);
     }
 
-all_keep : (budget : ℕ) (code : List Insn) (rules : List Rule) → first_broken budget code rules ≡ None → AllByRecursion (KeepsRule budget code) rules
-all_keep budget code [] e = tt
-all_keep budget code (rule ∷ rules) e = go (least (λ slot insn. breaks_shape budget code slot insn rule) 0 code) refl e (all_keep budget code rules)
+all_keep : (head : Head) (code : List Insn) (rules : List Rule) → first_broken head code rules ≡ None → AllByRecursion (KeepsRule head code) rules
+all_keep head code [] e = tt
+all_keep head code (rule ∷ rules) e = go (least (λ slot insn. breaks_shape head code slot insn rule) 0 code) refl e (all_keep head code rules)
   where
-    go : (o : Option ℕ) → least (λ slot insn. breaks_shape budget code slot insn rule) 0 code ≡ o → or_next o rule (first_broken budget code rules) ≡ None
-        → (first_broken budget code rules ≡ None → AllByRecursion (KeepsRule budget code) rules) → AllByRecursion (KeepsRule budget code) (rule ∷ rules)
+    go : (o : Option ℕ) → least (λ slot insn. breaks_shape head code slot insn rule) 0 code ≡ o → or_next o rule (first_broken head code rules) ≡ None
+        → (first_broken head code rules ≡ None → AllByRecursion (KeepsRule head code) rules) → AllByRecursion (KeepsRule head code) (rule ∷ rules)
     go (Some slot) f g rest = absurd (cc g)
-    go None f g rest = (rule_kept budget code rule f, rest g)
+    go None f g rest = (rule_kept head code rule f, rest g)
 
-kept_all : (budget : ℕ) (code : List Insn) (rules : List Rule) → ((rule : Rule) → KeepsRule budget code rule) → first_broken budget code rules ≡ None
-kept_all budget code [] h = refl
-kept_all budget code (rule ∷ rules) h = ap (λ o. or_next o rule (first_broken budget code rules)) (kept_rule budget code rule (h rule)) ∙ kept_all budget code rules h
+kept_all : (head : Head) (code : List Insn) (rules : List Rule) → ((rule : Rule) → KeepsRule head code rule) → first_broken head code rules ≡ None
+kept_all head code [] h = refl
+kept_all head code (rule ∷ rules) h = ap (λ o. or_next o rule (first_broken head code rules)) (kept_rule head code rule (h rule)) ∙ kept_all head code rules h
 
 -- the first broken of these rules, and those before it
-record FirstBreaks (budget : ℕ) (code : List Insn) (rules : List Rule) (slot : ℕ) (rule : Rule) : Type 0 where
+record FirstBreaks (head : Head) (code : List Insn) (rules : List Rule) (slot : ℕ) (rule : Rule) : Type 0 where
   before : List Rule
   after : List Rule
   order : rules ≡ before ++ (rule ∷ after)
-  kept : AllByRecursion (KeepsRule budget code) before
-  breaks : Breaks budget code rule slot
+  kept : AllByRecursion (KeepsRule head code) before
+  breaks : Breaks head code rule slot
 
-first_breaks : (budget : ℕ) (code : List Insn) (rules : List Rule) (slot : ℕ) (rule : Rule) → first_broken budget code rules ≡ Some (slot, rule) → FirstBreaks budget code rules slot rule
-first_breaks budget code [] slot rule e = absurd (cc e)
-first_breaks budget code (r ∷ rules) slot rule e = go (least (λ slot insn. breaks_shape budget code slot insn r) 0 code) refl e (first_breaks budget code rules slot rule)
+first_breaks : (head : Head) (code : List Insn) (rules : List Rule) (slot : ℕ) (rule : Rule) → first_broken head code rules ≡ Some (slot, rule) → FirstBreaks head code rules slot rule
+first_breaks head code [] slot rule e = absurd (cc e)
+first_breaks head code (r ∷ rules) slot rule e = go (least (λ slot insn. breaks_shape head code slot insn r) 0 code) refl e (first_breaks head code rules slot rule)
   where
-    go : (o : Option ℕ) → least (λ slot insn. breaks_shape budget code slot insn r) 0 code ≡ o → or_next o r (first_broken budget code rules) ≡ Some (slot, rule)
-        → (first_broken budget code rules ≡ Some (slot, rule) → FirstBreaks budget code rules slot rule) → FirstBreaks budget code (r ∷ rules) slot rule
+    go : (o : Option ℕ) → least (λ slot insn. breaks_shape head code slot insn r) 0 code ≡ o → or_next o r (first_broken head code rules) ≡ Some (slot, rule)
+        → (first_broken head code rules ≡ Some (slot, rule) → FirstBreaks head code rules slot rule) → FirstBreaks head code (r ∷ rules) slot rule
     go (Some s) f g rest =
         let same : ◌≡◌ {A = ℕ × Rule} (s, r) (slot, rule) = cc g in
         let slots : s ≡ slot = ap (λ (p : ℕ × Rule). p.0) same in
         let is : r ≡ rule = ap (λ (p : ℕ × Rule). p.1) same in
-        record { before = []; after = rules; order = ap (λ x. x ∷ rules) is; kept = tt; breaks = subst (λ x. Breaks budget code x slot) is (subst (Breaks budget code r) slots (rule_broken budget code r s f)) }
+        record { before = []; after = rules; order = ap (λ x. x ∷ rules) is; kept = tt; breaks = subst (λ x. Breaks head code x slot) is (subst (Breaks head code r) slots (rule_broken head code r s f)) }
     go None f g rest =
         let h = rest g in
-        record { before = r ∷ h.before; after = h.after; order = ap (λ x. r ∷ x) h.order; kept = (rule_kept budget code r f, h.kept); breaks = h.breaks }
+        record { before = r ∷ h.before; after = h.after; order = ap (λ x. r ∷ x) h.order; kept = (rule_kept head code r f, h.kept); breaks = h.breaks }
 
-first_is : (budget : ℕ) (code : List Insn) (before after : List Rule) (slot : ℕ) (rule : Rule) → AllByRecursion (KeepsRule budget code) before → least (λ slot insn. breaks_shape budget code slot insn rule) 0 code ≡ Some slot
-    → first_broken budget code (before ++ (rule ∷ after)) ≡ Some (slot, rule)
-first_is budget code [] after slot rule h e = ap (λ o. or_next o rule (first_broken budget code after)) e
-first_is budget code (r ∷ before) after slot rule h e =
-    ap (λ o. or_next o r (first_broken budget code (before ++ (rule ∷ after)))) (kept_rule budget code r h.0) ∙ first_is budget code before after slot rule h.1 e
+first_is : (head : Head) (code : List Insn) (before after : List Rule) (slot : ℕ) (rule : Rule) → AllByRecursion (KeepsRule head code) before → least (λ slot insn. breaks_shape head code slot insn rule) 0 code ≡ Some slot
+    → first_broken head code (before ++ (rule ∷ after)) ≡ Some (slot, rule)
+first_is head code [] after slot rule h e = ap (λ o. or_next o rule (first_broken head code after)) e
+first_is head code (r ∷ before) after slot rule h e =
+    ap (λ o. or_next o r (first_broken head code (before ++ (rule ∷ after)))) (kept_rule head code r h.0) ∙ first_is head code before after slot rule h.1 e
 
-pub fault_is : (budget : ℕ) (code : List Insn) (slot : ℕ) (rule : Rule) → shape_fault budget code ≡ Some (slot, rule) → IsShapeFault budget code slot rule
+pub fault_is : (head : Head) (code : List Insn) (slot : ℕ) (rule : Rule) → shape_fault head code ≡ Some (slot, rule) → IsShapeFault head code slot rule
 unfolding shape_fault
-fault_is budget code slot rule e =
-    let f = first_breaks budget code flow_rules slot rule e in
+fault_is head code slot rule e =
+    let f = first_breaks head code flow_rules slot rule e in
     record { before = f.before; after = f.after; order = f.order; kept = f.kept; insn = f.breaks.insn; stands = f.breaks.stands; broken = f.breaks.broken; slots_before = f.breaks.slots_before }
 
-pub is_fault : (budget : ℕ) (code : List Insn) (slot : ℕ) (rule : Rule) → IsShapeFault budget code slot rule → shape_fault budget code ≡ Some (slot, rule)
+pub is_fault : (head : Head) (code : List Insn) (slot : ℕ) (rule : Rule) → IsShapeFault head code slot rule → shape_fault head code ≡ Some (slot, rule)
 unfolding shape_fault
-is_fault budget code slot rule f =
-    let test = λ (slot : ℕ) (insn : Insn). breaks_shape budget code slot insn rule in
+is_fault head code slot rule f =
+    let test = λ (slot : ℕ) (insn : Insn). breaks_shape head code slot insn rule in
     let n : slot ≡ 0 + slot = omega arith in
-    ap (first_broken budget code) f.order
-    ∙ first_is budget code f.before f.after slot rule f.kept
-    (least_is test 0 code slot slot f.insn n f.stands f.broken (λ k i lt g. let m : k ≡ 0 + k = omega arith in subst (λ x. breaks_shape budget code x i rule ≡ false) m (f.slots_before k i lt g)))
+    ap (first_broken head code) f.order
+    ∙ first_is head code f.before f.after slot rule f.kept
+    (least_is test 0 code slot slot f.insn n f.stands f.broken (λ k i lt g. let m : k ≡ 0 + k = omega arith in subst (λ x. breaks_shape head code x i rule ≡ false) m (f.slots_before k i lt g)))
 
 -- a rule that isn't of the control flow is broken by no slot
-kept_by_all : (budget : ℕ) (code : List Insn) → AllByRecursion (KeepsRule budget code) flow_rules → (rule : Rule) → KeepsRule budget code rule
+kept_by_all : (head : Head) (code : List Insn) → AllByRecursion (KeepsRule head code) flow_rules → (rule : Rule) → KeepsRule head code rule
 unfolding breaks_shape
-kept_by_all budget code h JumpTarget = h.0
-kept_by_all budget code h BackwardJump = h.1.0
-kept_by_all budget code h Boundary = h.1.1.0
-kept_by_all budget code h BackwardCall = h.1.1.1.0
-kept_by_all budget code h FrameDepth = h.1.1.1.1.0
-kept_by_all budget code h Cost = h.1.1.1.1.1.0
-kept_by_all budget code h Helper = h.1.1.1.1.1.1.0
-kept_by_all budget code h _ = record { each = λ k i g. refl }
+kept_by_all head code h JumpTarget = h.0
+kept_by_all head code h BackwardJump = h.1.0
+kept_by_all head code h Boundary = h.1.1.0
+kept_by_all head code h BackwardCall = h.1.1.1.0
+kept_by_all head code h FrameDepth = h.1.1.1.1.0
+kept_by_all head code h Cost = h.1.1.1.1.1.0
+kept_by_all head code h Helper = h.1.1.1.1.1.1.0
+kept_by_all head code h _ = record { each = λ k i g. refl }
 
-flow_kept : (budget : ℕ) (code : List Insn) (rule : Rule) → KeepsRule budget code rule → (slot : ℕ) (insn : Insn) → slice_get code slot ≡ Some insn → breaks_flow code slot insn rule ≡ false
+flow_kept : (head : Head) (code : List Insn) (rule : Rule) → KeepsRule head code rule → (slot : ℕ) (insn : Insn) → slice_get code slot ≡ Some insn → breaks_flow code slot insn rule ≡ false
 unfolding breaks_shape
-flow_kept budget code Cost h slot insn g = refl
-flow_kept budget code JumpTarget h slot insn g = h.each slot insn g
-flow_kept budget code BackwardJump h slot insn g = h.each slot insn g
-flow_kept budget code Boundary h slot insn g = h.each slot insn g
-flow_kept budget code BackwardCall h slot insn g = h.each slot insn g
-flow_kept budget code FrameDepth h slot insn g = h.each slot insn g
-flow_kept budget code Helper h slot insn g = h.each slot insn g
-flow_kept budget code _ h slot insn g = refl
+flow_kept head code Cost h slot insn g = refl
+flow_kept head code JumpTarget h slot insn g = h.each slot insn g
+flow_kept head code BackwardJump h slot insn g = h.each slot insn g
+flow_kept head code Boundary h slot insn g = h.each slot insn g
+flow_kept head code BackwardCall h slot insn g = h.each slot insn g
+flow_kept head code FrameDepth h slot insn g = refl
+flow_kept head code Helper h slot insn g = h.each slot insn g
+flow_kept head code _ h slot insn g = refl
 
 first_insn : (code : List Insn) → 0 < length code → (insn : Insn) × (slice_get code 0 ≡ Some insn)
 first_insn [] h = absurd (omega arith)
 first_insn (insn ∷ code) h = (insn, refl)
 
-within_budget : (budget : ℕ) (code : List Insn) → 0 < length code → KeepsRule budget code Cost → longest code ≤ budget
+within_budget : (head : Head) (code : List Insn) → 0 < length code → KeepsRule head code Cost → longest code ≤ head.budget
 unfolding breaks_shape
-within_budget budget code some h = let i = first_insn code some in let e : nat_lt budget (longest code) ≡ false = h.each 0 i.0 i.1 in grind (arith, nat_tests, e)
+within_budget head code some h = let i = first_insn code some in let e : nat_lt head.budget (longest code) ≡ false = h.each 0 i.0 i.1 in grind (arith, nat_tests, e)
 
--- a program with no fault is shaped, and its longest path within the budget
-pub faultless : (budget : ℕ) (code : List Insn) → shape_fault budget code ≡ None → (0 < length code) → KeepsBudget budget code
+frames_within : (head : Head) (code : List Insn) → 0 < length code → KeepsRule head code FrameDepth → frames code ≤ frames_allowed head.version
+unfolding breaks_shape
+frames_within head code some h =
+    let i = first_insn code some in
+    let e : nat_lt (frames_allowed head.version) (frames code) ≡ false = h.each 0 i.0 i.1 in
+    grind (arith, nat_tests, e)
+
+-- a program with no fault is shaped, and its frames and its longest path are within what the header allows
+pub faultless : (head : Head) (code : List Insn) → shape_fault head code ≡ None → (0 < length code) → KeepsLimits head code
 unfolding shape_fault
-faultless budget code e some =
-    let all = kept_by_all budget code (all_keep budget code flow_rules e) in
+faultless head code e some =
+    let all = kept_by_all head code (all_keep head code flow_rules e) in
     record {
-      shaped = record { each = λ rule slot insn g. flow_kept budget code rule (all rule) slot insn g };
-      within = within_budget budget code some (all Cost);
+      shaped = record { each = λ rule slot insn g. flow_kept head code rule (all rule) slot insn g };
+      frames = frames_within head code some (all FrameDepth);
+      within = within_budget head code some (all Cost);
     }
 
-cost_kept : (budget : ℕ) (code : List Insn) (slot : ℕ) → longest code ≤ budget → ((slot == 0) && nat_lt budget (longest code)) ≡ false
-cost_kept budget code slot le = go (slot == 0) (nat_lt budget (longest code)) (grind (arith, nat_tests))
+not_above : (n most slot : ℕ) → n ≤ most → ((slot == 0) && nat_lt most n) ≡ false
+not_above n most slot le = go (slot == 0) (nat_lt most n) (grind (arith, nat_tests))
   where
     go : (a b : Bool) → b ≡ false → (a && b) ≡ false
     go true b e = e
     go false b e = refl
 
-all_kept : (budget : ℕ) (code : List Insn) → KeepsBudget budget code → (rule : Rule) → KeepsRule budget code rule
+all_kept : (head : Head) (code : List Insn) → KeepsLimits head code → (rule : Rule) → KeepsRule head code rule
 unfolding breaks_shape
-all_kept budget code k Cost = record { each = λ slot insn g. cost_kept budget code slot k.within }
-all_kept budget code k JumpTarget = record { each = k.shaped.each JumpTarget }
-all_kept budget code k BackwardJump = record { each = k.shaped.each BackwardJump }
-all_kept budget code k Boundary = record { each = k.shaped.each Boundary }
-all_kept budget code k BackwardCall = record { each = k.shaped.each BackwardCall }
-all_kept budget code k FrameDepth = record { each = k.shaped.each FrameDepth }
-all_kept budget code k Helper = record { each = k.shaped.each Helper }
-all_kept budget code k _ = record { each = λ slot insn g. refl }
+all_kept head code k Cost = record { each = λ slot insn g. not_above (longest code) head.budget slot k.within }
+all_kept head code k JumpTarget = record { each = k.shaped.each JumpTarget }
+all_kept head code k BackwardJump = record { each = k.shaped.each BackwardJump }
+all_kept head code k Boundary = record { each = k.shaped.each Boundary }
+all_kept head code k BackwardCall = record { each = k.shaped.each BackwardCall }
+all_kept head code k FrameDepth = record { each = λ slot insn g. not_above (frames code) (frames_allowed head.version) slot k.frames }
+all_kept head code k Helper = record { each = k.shaped.each Helper }
+all_kept head code k _ = record { each = λ slot insn g. refl }
 
-pub no_fault : (budget : ℕ) (code : List Insn) → KeepsBudget budget code → shape_fault budget code ≡ None
+pub no_fault : (head : Head) (code : List Insn) → KeepsLimits head code → shape_fault head code ≡ None
 unfolding shape_fault
-no_fault budget code k = kept_all budget code flow_rules (all_kept budget code k)
+no_fault head code k = kept_all head code flow_rules (all_kept head code k)
 
 -- ---- the rules of a shape have numbers below 20
 
-low_from : (budget : ℕ) (code : List Insn) (rules : List Rule) (slot : ℕ) (rule : Rule) → AllByRecursion (λ r. number_of r < 20) rules → first_broken budget code rules ≡ Some (slot, rule) → number_of rule < 20
-low_from budget code [] slot rule h e = absurd (cc e)
-low_from budget code (r ∷ rules) slot rule h e = go (least (λ slot insn. breaks_shape budget code slot insn r) 0 code) e (low_from budget code rules slot rule h.1)
+low_from : (head : Head) (code : List Insn) (rules : List Rule) (slot : ℕ) (rule : Rule) → AllByRecursion (λ r. number_of r < 20) rules → first_broken head code rules ≡ Some (slot, rule) → number_of rule < 20
+low_from head code [] slot rule h e = absurd (cc e)
+low_from head code (r ∷ rules) slot rule h e = go (least (λ slot insn. breaks_shape head code slot insn r) 0 code) e (low_from head code rules slot rule h.1)
   where
-    go : (o : Option ℕ) → or_next o r (first_broken budget code rules) ≡ Some (slot, rule) → (first_broken budget code rules ≡ Some (slot, rule) → number_of rule < 20) → number_of rule < 20
+    go : (o : Option ℕ) → or_next o r (first_broken head code rules) ≡ Some (slot, rule) → (first_broken head code rules ≡ Some (slot, rule) → number_of rule < 20) → number_of rule < 20
     go (Some s) g rest =
         let same : ◌≡◌ {A = ℕ × Rule} (s, r) (slot, rule) = cc g in
         subst (λ x. number_of x < 20) (ap (λ (p : ℕ × Rule). p.1) same) h.0
@@ -257,6 +267,6 @@ low_from budget code (r ∷ rules) slot rule h e = go (least (λ slot insn. brea
 low_rules : AllByRecursion (λ r. number_of r < 20) flow_rules
 low_rules = (omega arith, (omega arith, (omega arith, (omega arith, (omega arith, (omega arith, (omega arith, tt)))))))
 
-pub fault_low : (budget : ℕ) (code : List Insn) (slot : ℕ) (rule : Rule) → shape_fault budget code ≡ Some (slot, rule) → number_of rule < 20
+pub fault_low : (head : Head) (code : List Insn) (slot : ℕ) (rule : Rule) → shape_fault head code ≡ Some (slot, rule) → number_of rule < 20
 unfolding shape_fault
-fault_low budget code slot rule e = low_from budget code flow_rules slot rule low_rules e
+fault_low head code slot rule e = low_from head code flow_rules slot rule low_rules e

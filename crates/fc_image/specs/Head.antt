@@ -3,28 +3,42 @@ use Rattle.std.specs.Prelude.{◌≡◌, ℕ, ◌+◌, ◌*◌, ◌%◌, ◌≤�
 use Rattle.std.specs.Int.{w16, w32, from_le_bytes, to_le_bytes}
 use Rattle.fc_isa.specs.declared.rule.Rule.{Rule}
 use Rattle.fc_isa.specs.declared.rule.Rule.TheVariants.{Format, SlotCount, VarsSize, Budget, Reserved}
+use Rattle.fc_isa.specs.declared.version.ImageVersion.{ImageVersion}
+use Rattle.fc_isa.specs.declared.version.ImageVersion.TheVariants.{One, Two}
 
--- the size of the variables in bytes, the count of slots, and the budget of steps
+-- the most slots of a program, and the most stack frames that its calls nest
+abbrev pub slots_allowed : ImageVersion → ℕ
+slots_allowed One = 512
+slots_allowed Two = 1024
+
+abbrev pub frames_allowed : ImageVersion → ℕ
+frames_allowed One = 4
+frames_allowed Two = 8
+
+-- the version of the format, the size of the variables in bytes, the count of slots, and the budget of steps
 pub record Head : Type 0 where
+  pub version : ImageVersion
   pub vars_size : ℕ
   pub count : ℕ
   pub budget : ℕ
 
 abbrev pub head_of : ℕ → ℕ → ℕ → Head
-head_of vars_size count budget = record { vars_size = vars_size; count = count; budget = budget }
+head_of vars_size count budget = record { version = One; vars_size = vars_size; count = count; budget = budget }
 
--- the limits of these numbers
+-- the limits of these numbers; the first version is the only one that is read
 pub record IsHead (h : Head) : Type 0 where
+  pub version : h.version ≡ One
   pub vars : h.vars_size ≤ 256
   pub words : h.vars_size % 8 ≡ 0
   pub some : 1 ≤ h.count
-  pub count : h.count ≤ 512
+  pub count : h.count ≤ slots_allowed h.version
   pub steps : 1 ≤ h.budget
   pub budget : h.budget ≤ 65536
 
 -- the numbers that stand in a header: after the magic two bytes each for variables and slots, four for the budget
 abbrev pub stated : List ℕ → Head
 stated image = record {
+  version = One;
   vars_size = from_le_bytes w16 (take 2 (drop 4 image));
   count = from_le_bytes w16 (take 2 (drop 6 image));
   budget = from_le_bytes w32 (take 4 (drop 8 image));
@@ -39,9 +53,10 @@ is_word a b c d bytes =
 abbrev pub has_magic : List ℕ → Bool
 has_magic image = is_word 70 67 66 49 image
 
--- the count of slots is 1 to 512, the variables are up to 256 bytes in words of eight, the budget is 1 to 65536: what breaks that
-abbrev pub is_bad_count : ℕ → Bool
-is_bad_count count = (count == 0) || nat_lt 512 count
+-- the count of slots is 1 to what the version allows, the variables are up to 256 bytes in words of eight, the budget is 1 to 65536:
+-- what breaks that
+abbrev pub is_bad_count : ImageVersion → ℕ → Bool
+is_bad_count version count = (count == 0) || nat_lt (slots_allowed version) count
 
 abbrev pub is_bad_size : ℕ → Bool
 is_bad_size size = nat_lt 256 size || not (size % 8 == 0)
@@ -52,13 +67,13 @@ is_bad_budget budget = (budget == 0) || nat_lt 65536 budget
 -- the least rule that these numbers break
 abbrev pub limit_fault : Head → Option Rule
 limit_fault h =
-    if is_bad_count h.count then Some SlotCount else (if is_bad_size h.vars_size then Some VarsSize else (
+    if is_bad_count h.version h.count then Some SlotCount else (if is_bad_size h.vars_size then Some VarsSize else (
     if is_bad_budget h.budget then Some Budget else None))
 
 -- an image breaks a rule of the header
 unfoldable pub head_breaks : List ℕ → Rule → Bool
 head_breaks image Format = not ((nat_le 16 (length image) && has_magic image) && (length image == 16 + 8 * (stated image).count))
-head_breaks image SlotCount = is_bad_count (stated image).count
+head_breaks image SlotCount = is_bad_count (stated image).version (stated image).count
 head_breaks image VarsSize = is_bad_size (stated image).vars_size
 head_breaks image Budget = is_bad_budget (stated image).budget
 head_breaks image Reserved = not (is_word 0 0 0 0 (drop 12 image))

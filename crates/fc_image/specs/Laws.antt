@@ -5,7 +5,8 @@ use Rattle.fc_isa.specs.declared.rule.Rule.{Rule}
 use Rattle.fc_isa.specs.Rules.{number_of}
 use Rattle.fc_isa.specs.Program.{is_program}
 use Rattle.fc_image.specs.Flow.{Flow, Halts, Goes, Forks, Enters, IsForward, flow}
-use Rattle.fc_image.specs.Functions.{is_start, depths}
+use Rattle.fc_image.specs.Functions.{is_start, depths, frames}
+use Rattle.fc_image.specs.Head.{Head}
 use Rattle.fc_image.specs.Paths.{costs}
 use Rattle.fc_image.specs.ShapeRules.{IsShapeFault, IsShaped, shape_fault}
 
@@ -18,17 +19,17 @@ ShapedProgramsGoForward =
 -- the fault that is found is the least slot that breaks the first rule that is broken; it is found; its rule is below 20
 abbrev pub ShapeFaultIsFirst : Type 0
 ShapeFaultIsFirst =
-    (budget : ℕ) (code : List Insn) (slot : ℕ) (rule : Rule) → shape_fault budget code ≡ Some (slot, rule)
-    → IsShapeFault budget code slot rule
+    (head : Head) (code : List Insn) (slot : ℕ) (rule : Rule) → shape_fault head code ≡ Some (slot, rule)
+    → IsShapeFault head code slot rule
 
 abbrev pub FirstShapeFaultIsFound : Type 0
 FirstShapeFaultIsFound =
-    (budget : ℕ) (code : List Insn) (slot : ℕ) (rule : Rule) → IsShapeFault budget code slot rule
-    → shape_fault budget code ≡ Some (slot, rule)
+    (head : Head) (code : List Insn) (slot : ℕ) (rule : Rule) → IsShapeFault head code slot rule
+    → shape_fault head code ≡ Some (slot, rule)
 
 abbrev pub ShapeFaultIsLow : Type 0
 ShapeFaultIsLow =
-    (budget : ℕ) (code : List Insn) (slot : ℕ) (rule : Rule) → shape_fault budget code ≡ Some (slot, rule)
+    (head : Head) (code : List Insn) (slot : ℕ) (rule : Rule) → shape_fault head code ≡ Some (slot, rule)
     → number_of rule < 20
 
 -- ---- what is left of a run
@@ -54,11 +55,12 @@ LeadsNearer code slot (Enters start next) =
     (cost_at code start + cost_at code next < cost_at code slot) × (frames_at code start < frames_at code slot)
     × (frames_at code next ≤ frames_at code slot)
 
--- each step of a shaped program leads nearer to its end, and calls add at most three frames
+-- each step of a shaped program leads nearer to its end
 abbrev pub ShapedProgramsGoOn : Type 0
 ShapedProgramsGoOn =
     (code : List Insn) (slot : ℕ) (insn : Insn) → IsShaped code → is_program code ≡ true → slice_get code slot ≡ Some insn
     → LeadsNearer code slot (flow slot insn)
 
-abbrev pub ShapedProgramsHaveFewFrames : Type 0
-ShapedProgramsHaveFewFrames = (code : List Insn) → IsShaped code → frames_at code 0 ≤ 3
+-- the frames of a program are its first and those that calls add
+abbrev pub FramesBeginWithOne : Type 0
+FramesBeginWithOne = (code : List Insn) → frames code ≡ 1 + frames_at code 0

@@ -9,6 +9,7 @@ use Rattle.fc_isa.specs.declared.rule.Rule.TheVariants.{JumpTarget, BackwardJump
 use Rattle.fc_isa.specs.Program.{is_wide_second}
 use Rattle.fc_image.specs.Flow.{jump_offset, call_offset, target}
 use Rattle.fc_image.specs.Functions.{with_offset, starts_within, is_open_end, frames}
+use Rattle.fc_image.specs.Head.{Head, frames_allowed}
 use Rattle.fc_image.specs.Paths.{longest}
 
 abbrev pub is_instruction : Option Insn → Bool
@@ -38,7 +39,7 @@ calls_no_helper (CallHelper number) = not (is_helper number)
 calls_no_helper other = false
 
 -- what a slot breaks: its target is no instruction of the program; a jump or a call isn't to a later slot; a jump leaves its
--- function, or the function's last instruction is no exit; slot 0 has more than four frames; a helper doesn't exist
+-- function, or the function's last instruction is no exit; a helper doesn't exist
 abbrev pub breaks_flow : List Insn → ℕ → Insn → Rule → Bool
 breaks_flow code slot insn JumpTarget =
     with_offset (jump_offset insn) (λ o. not (is_place code (target slot o)))
@@ -46,42 +47,43 @@ breaks_flow code slot insn JumpTarget =
 breaks_flow code slot insn BackwardJump = with_offset (jump_offset insn) (λ o. not (is_later slot (target slot o)))
 breaks_flow code slot insn Boundary = with_offset (jump_offset insn) (λ o. leaves code slot (target slot o)) || is_open_end code slot insn
 breaks_flow code slot insn BackwardCall = with_offset (call_offset insn) (λ o. not (is_later slot (target slot o)))
-breaks_flow code slot insn FrameDepth = (slot == 0) && nat_lt 4 (frames code)
 breaks_flow code slot insn Helper = calls_no_helper insn
 breaks_flow code slot insn other = false
 
--- and the longest path has more steps than the budget
-unfoldable pub breaks_shape : ℕ → List Insn → ℕ → Insn → Rule → Bool
-breaks_shape budget code slot insn Cost = (slot == 0) && nat_lt budget (longest code)
-breaks_shape budget code slot insn rule = breaks_flow code slot insn rule
+-- and slot 0 has more frames than the header's version allows, or the longest path has more steps than its budget
+unfoldable pub breaks_shape : Head → List Insn → ℕ → Insn → Rule → Bool
+breaks_shape head code slot insn FrameDepth = (slot == 0) && nat_lt (frames_allowed head.version) (frames code)
+breaks_shape head code slot insn Cost = (slot == 0) && nat_lt head.budget (longest code)
+breaks_shape head code slot insn rule = breaks_flow code slot insn rule
 
 -- no slot breaks a rule of the control flow
 pub record IsShaped (code : List Insn) : Type 0 where
   pub each : (rule : Rule) (slot : ℕ) (insn : Insn) → slice_get code slot ≡ Some insn → breaks_flow code slot insn rule ≡ false
 
--- it is shaped, and its longest path is within the budget
-pub record KeepsBudget (budget : ℕ) (code : List Insn) : Type 0 where
+-- it is shaped, and its frames and its longest path are within what the header allows
+pub record KeepsLimits (head : Head) (code : List Insn) : Type 0 where
   pub shaped : IsShaped code
-  pub within : longest code ≤ budget
+  pub frames : frames code ≤ frames_allowed head.version
+  pub within : longest code ≤ head.budget
 
 -- no slot breaks a rule
-pub record KeepsRule (budget : ℕ) (code : List Insn) (rule : Rule) : Type 0 where
-  pub each : (slot : ℕ) (insn : Insn) → slice_get code slot ≡ Some insn → breaks_shape budget code slot insn rule ≡ false
+pub record KeepsRule (head : Head) (code : List Insn) (rule : Rule) : Type 0 where
+  pub each : (slot : ℕ) (insn : Insn) → slice_get code slot ≡ Some insn → breaks_shape head code slot insn rule ≡ false
 
 -- the rules in their order: each is judged at all slots before the next
 abbrev pub flow_rules : List Rule
 flow_rules = JumpTarget ∷ BackwardJump ∷ Boundary ∷ BackwardCall ∷ FrameDepth ∷ Cost ∷ Helper ∷ []
 
 -- the rules before this one are kept, and this is the least slot that breaks it
-pub record IsShapeFault (budget : ℕ) (code : List Insn) (slot : ℕ) (rule : Rule) : Type 0 where
+pub record IsShapeFault (head : Head) (code : List Insn) (slot : ℕ) (rule : Rule) : Type 0 where
   pub before : List Rule
   pub after : List Rule
   pub order : flow_rules ≡ before ++ (rule ∷ after)
-  pub kept : AllByRecursion (KeepsRule budget code) before
+  pub kept : AllByRecursion (KeepsRule head code) before
   pub insn : Insn
   pub stands : slice_get code slot ≡ Some insn
-  pub broken : breaks_shape budget code slot insn rule ≡ true
-  pub slots_before : (k : ℕ) (i : Insn) → k < slot → slice_get code k ≡ Some i → breaks_shape budget code k i rule ≡ false
+  pub broken : breaks_shape head code slot insn rule ≡ true
+  pub slots_before : (k : ℕ) (i : Insn) → k < slot → slice_get code k ≡ Some i → breaks_shape head code k i rule ≡ false
 
 -- ---- the same as a function
 
@@ -95,13 +97,13 @@ or_next (Some slot) rule more = Some (slot, rule)
 or_next None rule more = more
 
 -- the first of these rules that some slot breaks, with the least such slot
-abbrev pub first_broken : ℕ → List Insn → List Rule → Option (ℕ × Rule)
-first_broken budget code [] = None
-first_broken budget code (rule ∷ rules) =
-    or_next (least (λ slot insn. breaks_shape budget code slot insn rule) 0 code) rule (first_broken budget code rules)
+abbrev pub first_broken : Head → List Insn → List Rule → Option (ℕ × Rule)
+first_broken head code [] = None
+first_broken head code (rule ∷ rules) =
+    or_next (least (λ slot insn. breaks_shape head code slot insn rule) 0 code) rule (first_broken head code rules)
 
-unfoldable pub shape_fault : ℕ → List Insn → Option (ℕ × Rule)
-shape_fault budget code = first_broken budget code flow_rules
+unfoldable pub shape_fault : Head → List Insn → Option (ℕ × Rule)
+shape_fault head code = first_broken head code flow_rules
 
 -- a fault or none, as a slot and a rule say
 abbrev pub IsSame : Option (ℕ × Rule) → Option Fault → Type 0

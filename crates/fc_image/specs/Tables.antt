@@ -3,26 +3,26 @@ use Rattle.std.specs.Prelude.{◌≡◌, ℕ, zero, suc, ◌+◌, ◌<◌, ◌||
 use Rattle.fc_isa.specs.declared.insn.Insn.{Insn}
 use Rattle.fc_image.specs.Functions.{calls, frames_called, is_start}
 
--- a flag for each of 512 slots: a function starts there
+-- a flag for each of 1,024 slots: a function starts there
 pub record AreStarts (code : List Insn) (flags : List Bool) : Type 0 where
-  pub each : (place : ℕ) → place < 512 → slice_index_or flags place false ≡ is_start code place
+  pub each : (place : ℕ) → place < 1024 → slice_index_or flags place false ≡ is_start code place
 
 -- how many functions start below a slot
 abbrev pub starts_below : List Insn → ℕ → ℕ
 starts_below code zero = 0
 starts_below code (suc slot) = starts_below code slot + (if is_start code slot then 1 else 0)
 
--- a number for each of 512 slots: how many functions start up to it
+-- a number for each of 1,024 slots: how many functions start up to it
 pub record AreCounts (code : List Insn) (counts : List ℕ) : Type 0 where
-  pub each : (slot : ℕ) → slot < 512 → slice_index counts slot ≡ starts_below code (slot + 1)
+  pub each : (slot : ℕ) → slot < 1024 → slice_index counts slot ≡ starts_below code (slot + 1)
 
 -- the flags with that of the function which an instruction calls
 abbrev pub IsMarked : ℕ → Insn → List Bool → List Bool → Type 0
 IsMarked slot insn old new =
-    (place : ℕ) → place < 512 → slice_index_or new place false ≡ (calls slot insn place || slice_index_or old place false)
+    (place : ℕ) → place < 1024 → slice_index_or new place false ≡ (calls slot insn place || slice_index_or old place false)
 
--- the frames that calls add from a slot to the end of its function, up to 5, given those of the later slots
+-- the frames that calls add from a slot to the end of its function, up to 9, given those of the later slots
 abbrev pub frames_from : List ℕ → List Bool → ℕ → Insn → ℕ
 frames_from depths flags slot insn =
-    min 5 (max (frames_called insn (drop (slot + 1) depths))
+    min 9 (max (frames_called insn (drop (slot + 1) depths))
     (if slice_index_or flags (slot + 1) false then 0 else slice_index depths (slot + 1)))

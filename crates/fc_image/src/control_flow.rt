@@ -2,7 +2,8 @@
 ghost use Rattle.std.specs.Prelude.{IfErr, IfOk, List, MatchOption, None, Some, drop, false, length, not, slice_get, true, ℕ, ◌+◌, ◌-◌, ◌<◌, ◌||◌, ◌≡◌, ◌≤◌};
 ghost use Rattle.fc_isa.specs.declared.insn.Insn.{Insn as Instruction};
 ghost use Rattle.fc_image.specs.Flow.{call_offset, jump_offset, target};
-ghost use Rattle.fc_image.specs.Functions.{with_offset};
+ghost use Rattle.fc_image.specs.Functions.{frames, with_offset};
+ghost use Rattle.fc_image.specs.Head.{frames_allowed};
 ghost use Rattle.fc_image.specs.Judged.{AreTables};
 ghost use Rattle.fc_image.specs.Paths.{IsLongest, longest};
 ghost use Rattle.fc_image.specs.ShapeRules.{IsSame, IsShaped, breaks_shape, calls_no_helper, shape_fault, first_broken, is_later, is_place, least, leaves};
@@ -21,14 +22,15 @@ use fc_isa::{Fault, Insn, Rule};
 #[tactic(auto, unfolding(crate::specs::ShapeRules::shape_fault))]
 pub fn shape(head: &Head, code: &[Insn]) -> Result<u32, Fault>
     requires { length code.now ≡ head.now.count }
-    ensures shape { IfOk result (λ cost. IsShaped code.now × IsLongest code.now cost × (cost ≤ head.now.budget)) }
-    ensures cost { IfOk result (λ cost. (shape_fault head.now.budget code.now ≡ None) × (cost ≡ longest code.now)) }
-    ensures fault { IfErr result (λ f. shape_fault head.now.budget code.now ≡ Some (f.slot, f.rule)) }
+    ensures shape { IfOk result (λ cost. IsShaped code.now × (frames code.now ≤ frames_allowed head.now.version) × IsLongest code.now cost × (cost ≤ head.now.budget)) }
+    ensures cost { IfOk result (λ cost. (shape_fault head.now code.now ≡ None) × (cost ≡ longest code.now)) }
+    ensures fault { IfErr result (λ f. shape_fault head.now code.now ≡ Some (f.slot, f.rule)) }
 {
-    // The checker learns from this call how many slots there are at most.
+    // The checker learns from these calls how many slots there are at most, and how many steps.
     let _slots = head.count();
+    let _steps = head.budget();
     let tables = Tables::of(code);
-    match first_broken(code, &tables, head.budget(), &FLOW_RULES) {
+    match first_broken(code, &tables, head, &FLOW_RULES) {
         Some(fault) => Err(fault),
         None => Ok(tables.cost),
     }
@@ -46,14 +48,13 @@ const FLOW_RULES: [Rule; 7] = [
 ];
 
 /// The first of the rules that a slot breaks, with the least slot that breaks it.
-fn first_broken(code: &[Insn], tables: &Tables, budget: u32, rules: &[Rule]) -> Option<Fault>
+fn first_broken(code: &[Insn], tables: &Tables, head: &Head, rules: &[Rule]) -> Option<Fault>
     requires tables { AreTables code.now tables.now }
-    requires count { length code.now ≤ 512 }
-    requires budget { budget ≤ 65536 }
-    ensures { IsSame (first_broken budget code.now rules.now) result }
+    requires count { length code.now ≤ 1024 }
+    ensures { IsSame (first_broken head.now code.now rules.now) result }
 {
     for rule in rules {
-        if let Some(slot) = least(code, tables, budget, *rule) {
+        if let Some(slot) = least(code, tables, head, *rule) {
             return Some(Fault { rule: *rule, slot });
         }
     }
@@ -61,14 +62,13 @@ fn first_broken(code: &[Insn], tables: &Tables, budget: u32, rules: &[Rule]) -> 
 }
 
 /// The least slot that breaks a rule.
-fn least(code: &[Insn], tables: &Tables, budget: u32, rule: Rule) -> Option<usize>
+fn least(code: &[Insn], tables: &Tables, head: &Head, rule: Rule) -> Option<usize>
     requires tables { AreTables code.now tables.now }
-    requires count { length code.now ≤ 512 }
-    requires budget { budget ≤ 65536 }
-    ensures { result ≡ least (λ slot insn. breaks_shape budget code.now slot insn rule) 0 code.now }
+    requires count { length code.now ≤ 1024 }
+    ensures { result ≡ least (λ slot insn. breaks_shape head.now code.now slot insn rule) 0 code.now }
 {
     for (slot, insn) in code.iter().enumerate() {
-        if breaks(code, tables, budget, slot, insn, rule) {
+        if breaks(code, tables, head, slot, insn, rule) {
             return Some(slot);
         }
     }
@@ -77,12 +77,11 @@ fn least(code: &[Insn], tables: &Tables, budget: u32, rule: Rule) -> Option<usiz
 
 /// Whether a slot breaks a rule.
 #[tactic(auto, unfolding(crate::specs::ShapeRules::breaks_shape))]
-fn breaks(code: &[Insn], tables: &Tables, budget: u32, slot: usize, insn: &Insn, rule: Rule) -> bool
+fn breaks(code: &[Insn], tables: &Tables, head: &Head, slot: usize, insn: &Insn, rule: Rule) -> bool
     requires tables { AreTables code.now tables.now }
-    requires count { length code.now ≤ 512 }
+    requires count { length code.now ≤ 1024 }
     requires slot { slot < length code.now }
-    requires budget { budget ≤ 65536 }
-    ensures { result ≡ breaks_shape budget code.now slot insn.now rule }
+    ensures { result ≡ breaks_shape head.now code.now slot insn.now rule }
 {
     match rule {
         Rule::JumpTarget => is_astray(code, slot, jump_offset(insn))
@@ -91,8 +90,8 @@ fn breaks(code: &[Insn], tables: &Tables, budget: u32, slot: usize, insn: &Insn,
         Rule::Boundary => leaves(code, tables, slot, jump_offset(insn))
             || is_open_end(code, &tables.starts, slot, insn),
         Rule::BackwardCall => is_back(slot, call_offset(insn)),
-        Rule::FrameDepth => slot == 0 && tables.frames > 4,
-        Rule::Cost => slot == 0 && tables.cost > budget,
+        Rule::FrameDepth => slot == 0 && tables.frames > head.frames(),
+        Rule::Cost => slot == 0 && tables.cost > head.budget(),
         Rule::Helper => calls_no_helper(insn),
         _ => false,
     }
@@ -100,7 +99,7 @@ fn breaks(code: &[Insn], tables: &Tables, budget: u32, slot: usize, insn: &Insn,
 
 /// Whether no instruction of the program stands at an offset's target.
 fn is_astray(code: &[Insn], slot: usize, offset: Option<i32>) -> bool
-    requires { slot < 512 }
+    requires { slot < 1024 }
     ensures { result ≡ with_offset offset (λ o. not (is_place code.now (target slot o))) }
 {
     match offset {
@@ -120,7 +119,7 @@ fn is_place(code: &[Insn], place: Option<usize>) -> bool
 
 /// Whether an offset's target isn't a later slot.
 fn is_back(slot: usize, offset: Option<i32>) -> bool
-    requires { slot < 512 }
+    requires { slot < 1024 }
     ensures { result ≡ with_offset offset (λ o. not (is_later slot (target slot o))) }
 {
     match offset {
@@ -141,8 +140,8 @@ fn is_later(slot: usize, place: Option<usize>) -> bool
 /// Whether a jump of this offset leaves its function.
 fn leaves(code: &[Insn], tables: &Tables, slot: usize, offset: Option<i32>) -> bool
     requires tables { AreTables code.now tables.now }
-    requires count { length code.now ≤ 512 }
-    requires slot { slot < 512 }
+    requires count { length code.now ≤ 1024 }
+    requires slot { slot < 1024 }
     ensures { result ≡ with_offset offset (λ o. leaves code.now slot (target slot o)) }
 {
     match offset {
@@ -153,8 +152,8 @@ fn leaves(code: &[Insn], tables: &Tables, slot: usize, offset: Option<i32>) -> b
 
 fn crosses_to(code: &[Insn], tables: &Tables, slot: usize, place: Option<usize>) -> bool
     requires tables { AreTables code.now tables.now }
-    requires count { length code.now ≤ 512 }
-    requires slot { slot < 512 }
+    requires count { length code.now ≤ 1024 }
+    requires slot { slot < 1024 }
     ensures { result ≡ leaves code.now slot place }
 {
     match place {

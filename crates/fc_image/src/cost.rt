@@ -11,7 +11,7 @@ const TOO_MANY: u32 = 65_537;
 
 /// The steps of the longest path from slot 0, or 65,537 where it has more.
 pub(crate) fn longest_cost(code: &[Insn]) -> u32
-    requires { length code.now ≤ 512 }
+    requires { length code.now ≤ 1024 }
     ensures { result ≡ min 65537 (longest code.now) }
 {
     let mut costs = [0; SLOTS];
@@ -25,7 +25,7 @@ pub(crate) fn longest_cost(code: &[Insn]) -> u32
 
 /// The steps of the longest path from a slot, given those of the later slots.
 fn steps(costs: &[u32; SLOTS], slot: usize, insn: &Insn) -> u32
-    requires slot { slot < 512 }
+    requires slot { slot < 1024 }
     requires capped { (k : ℕ) → slice_index costs.now k ≤ 65537 }
     ensures { result ≡ cost_of insn.now (drop (slot + 1) costs.now) }
 {
@@ -46,7 +46,7 @@ fn steps(costs: &[u32; SLOTS], slot: usize, insn: &Insn) -> u32
 
 /// The cost at an offset from the next slot, 0 where the offset is negative.
 fn cost_at(costs: &[u32; SLOTS], slot: usize, offset: i32) -> u32
-    requires slot { slot < 512 }
+    requires slot { slot < 1024 }
     requires capped { (k : ℕ) → slice_index costs.now k ≤ 65537 }
     ensures cost { result ≡ at_offset (drop (slot + 1) costs.now) offset }
     ensures capped { result ≤ 65537 }

@@ -29,7 +29,7 @@ pub(crate) fn call_offset(insn: &Insn) -> Option<i32>
 
 /// The slot after this one, plus the offset: `None` where that is below 0.
 pub(crate) fn target(slot: usize, offset: i32) -> Option<usize>
-    requires { slot < 512 }
+    requires { slot < 1024 }
     ensures { result ≡ target slot offset }
 {
     let at = slot as i64 + 1 + offset as i64;

@@ -8,12 +8,12 @@ use crate::flow::{call_offset, target};
 use crate::table::SLOTS;
 use fc_isa::Insn;
 
-/// One frame more than a program may have: frames are counted up to it.
-const TOO_DEEP: u8 = 5;
+/// One frame more than any program may have: frames are counted up to it.
+const TOO_DEEP: u8 = 9;
 
 /// Which slots start a function.
 pub(crate) fn starts(code: &[Insn]) -> [bool; SLOTS]
-    requires { length code.now ≤ 512 }
+    requires { length code.now ≤ 1024 }
     ensures { AreStarts code.now result }
 {
     let mut starts = [false; SLOTS];
@@ -28,7 +28,7 @@ pub(crate) fn starts(code: &[Insn]) -> [bool; SLOTS]
 
 /// Marks the function that an instruction calls, where it starts at a slot of a program.
 fn mark(starts: &mut [bool; SLOTS], slot: usize, insn: &Insn)
-    requires { slot < 512 }
+    requires { slot < 1024 }
     ensures { IsMarked slot insn.now starts.old starts.new }
 {
     if let Some(offset) = call_offset(insn)
@@ -59,7 +59,7 @@ pub(crate) fn starts_counted(code: &[Insn], starts: &[bool; SLOTS]) -> [u16; SLO
 pub(crate) fn crosses(code: &[Insn], counts: &[u16; SLOTS], slot: usize, place: usize) -> bool
     requires counts { AreCounts code.now counts.now }
     requires later { slot ≤ place }
-    requires within { place < 512 }
+    requires within { place < 1024 }
     ensures { result ≡ starts_within code.now slot (place - slot) }
 {
     counts[slot] < counts[place]
@@ -68,8 +68,8 @@ pub(crate) fn crosses(code: &[Insn], counts: &[u16; SLOTS], slot: usize, place: 
 /// Whether an instruction is the last of its function, and no exit.
 pub(crate) fn is_open_end(code: &[Insn], starts: &[bool; SLOTS], slot: usize, insn: &Insn) -> bool
     requires starts { AreStarts code.now starts.now }
-    requires count { length code.now ≤ 512 }
-    requires slot { slot < 512 }
+    requires count { length code.now ≤ 1024 }
+    requires slot { slot < 1024 }
     ensures { result ≡ is_open_end code.now slot insn.now }
 {
     let next = slot + slots_taken(insn);
@@ -92,12 +92,12 @@ fn may_end(insn: &Insn) -> bool
     matches!(insn, Insn::Exit | Insn::WideSecond)
 }
 
-/// The most stack frames that the calls in a program's text nest, those that no path reaches among them, or 5 where they
+/// The most stack frames that the calls in a program's text nest, those that no path reaches among them, or 9 where they
 /// nest more.
 pub(crate) fn deepest(code: &[Insn], starts: &[bool; SLOTS]) -> u8
     requires starts { AreStarts code.now starts.now }
-    requires count { length code.now ≤ 512 }
-    ensures { result ≡ min 5 (frames code.now) }
+    requires count { length code.now ≤ 1024 }
+    ensures { result ≡ min 9 (frames code.now) }
 {
     let mut depths = [0; SLOTS];
     let mut slot = code.len();
@@ -108,10 +108,10 @@ pub(crate) fn deepest(code: &[Insn], starts: &[bool; SLOTS]) -> u8
     (1 + depths[0]).min(TOO_DEEP)
 }
 
-/// The frames that calls add from a slot to the end of its function, up to 5, given those of the later slots.
+/// The frames that calls add from a slot to the end of its function, up to 9, given those of the later slots.
 fn depth(depths: &[u8; SLOTS], starts: &[bool; SLOTS], slot: usize, insn: &Insn) -> u8
-    requires slot { slot < 512 }
-    requires capped { (k : ℕ) → slice_index depths.now k ≤ 5 }
+    requires slot { slot < 1024 }
+    requires capped { (k : ℕ) → slice_index depths.now k ≤ 9 }
     ensures { result ≡ frames_from depths.now starts.now slot insn.now }
 {
     let rest = if at_start(starts, slot + 1) {
@@ -136,8 +136,8 @@ fn at(depths: &[u8; SLOTS], place: usize) -> u8
 
 /// The frames of the function that an instruction calls.
 fn called(depths: &[u8; SLOTS], slot: usize, insn: &Insn) -> u8
-    requires slot { slot < 512 }
-    requires capped { (k : ℕ) → slice_index depths.now k ≤ 5 }
+    requires slot { slot < 1024 }
+    requires capped { (k : ℕ) → slice_index depths.now k ≤ 9 }
     ensures frames { result ≡ frames_called insn.now (drop (slot + 1) depths.now) }
 {
     match insn {
@@ -148,10 +148,10 @@ fn called(depths: &[u8; SLOTS], slot: usize, insn: &Insn) -> u8
 
 /// The depth at an offset from the next slot, 0 where the offset is negative.
 fn at_offset(depths: &[u8; SLOTS], slot: usize, offset: i32) -> u8
-    requires slot { slot < 512 }
-    requires capped { (k : ℕ) → slice_index depths.now k ≤ 5 }
+    requires slot { slot < 1024 }
+    requires capped { (k : ℕ) → slice_index depths.now k ≤ 9 }
     ensures depth { result ≡ at_offset (drop (slot + 1) depths.now) offset }
-    ensures capped { result ≤ 5 }
+    ensures capped { result ≤ 9 }
 {
     match target(slot, offset) {
         Some(place) if place > slot => at(depths, place),

@@ -4,7 +4,7 @@ ghost use Rattle.fc_image.specs.Head.{KeepsHead, head_breaks, head_fault, is_wor
 ghost use Rattle.fc_isa.specs.declared.rule.Rule.{Rule};
 
 use crate::limits::{Head, is_bad_budget, is_bad_count, is_bad_size};
-use fc_isa::{Fault, Rule};
+use fc_isa::{Fault, ImageVersion, Rule};
 
 /// The size of a header in bytes: an image's slots stand behind it.
 pub const HEADER_SIZE: usize = 16;
@@ -20,7 +20,12 @@ pub fn head(image: &[u8]) -> Result<Head, Fault>
 {
     match fault(image) {
         Some(rule) => Err(Fault { rule, slot: 0 }),
-        None => Ok(Head::of(vars_size(image), count(image), budget(image))),
+        None => Ok(Head::of(
+            ImageVersion::One,
+            vars_size(image),
+            count(image),
+            budget(image),
+        )),
     }
 }
 
@@ -54,13 +59,13 @@ fn breaks_format(image: &[u8]) -> bool
         || image.len() != HEADER_SIZE + 8 * count(image) as usize
 }
 
-/// The count of slots isn't 1 to 512.
+/// The count of slots isn't 1 to what the version allows.
 #[tactic(auto, unfolding(crate::specs::Head::head_breaks))]
 fn breaks_slot_count(image: &[u8]) -> bool
     requires { 16 ≤ length image.now }
     ensures { result ≡ head_breaks image.now Rule.SlotCount }
 {
-    is_bad_count(count(image) as usize)
+    is_bad_count(ImageVersion::One, count(image) as usize)
 }
 
 /// The variables aren't up to 256 bytes in words of eight.

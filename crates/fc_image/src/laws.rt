@@ -3,9 +3,9 @@ ghost use Rattle.std.specs.Prelude.{List, None, [], drop, length, map, ℕ, ◌*
 ghost use Rattle.fc_isa.specs.Rules.{number_of};
 ghost use Rattle.fc_isa.specs.declared.insn.Insn.{Insn};
 ghost use Rattle.fc_image.specs.Head.{Head, IsHead, KeepsHead, head_bytes, head_fault, head_rules, stated};
-ghost use Rattle.fc_image.specs.Laws.{FirstShapeFaultIsFound, ShapeFaultIsFirst, ShapeFaultIsLow, ShapedProgramsGoForward, ShapedProgramsGoOn, ShapedProgramsHaveFewFrames};
+ghost use Rattle.fc_image.specs.Laws.{FirstShapeFaultIsFound, ShapeFaultIsFirst, ShapeFaultIsLow, ShapedProgramsGoForward, ShapedProgramsGoOn, FramesBeginWithOne};
 ghost use Rattle.fc_image.specs.Paths.{IsLongest, longest};
-ghost use Rattle.fc_image.specs.ShapeRules.{IsShaped, KeepsBudget, flow_rules, shape_fault};
+ghost use Rattle.fc_image.specs.ShapeRules.{IsShaped, KeepsLimits, flow_rules, shape_fault};
 
 /// An image whose header breaks no rule is the header and its slots, with numbers within their limits.
 pub fn faultless_head_is_kept(image: &[u8])
@@ -27,11 +27,11 @@ pub fn shaped_programs_go_forward()
     ensures { ShapedProgramsGoForward }
 {}
 
-/// In a program that keeps the rules of the control flow each step leads nearer to its end, and calls add at most three frames
-/// to the first.
+/// In a program that keeps the rules of the control flow each step leads nearer to its end; its frames are the first and those
+/// that calls add.
 pub fn shaped_programs_go_on()
     ensures nearer { ShapedProgramsGoOn }
-    ensures frames { ShapedProgramsHaveFewFrames }
+    ensures frames { FramesBeginWithOne }
 {}
 
 /// The fault of a program's shape is the least slot that breaks the first rule that is broken, one below 20.
@@ -41,10 +41,10 @@ pub fn shape_fault_is_first()
     ensures low { ShapeFaultIsLow }
 {}
 
-/// There is none exactly where the rules are kept and the longest path is within the budget.
+/// There is none exactly where the rules are kept, and the frames and the longest path are within what the header allows.
 pub fn faultless_shape_is_kept()
-    ensures kept { (budget : ℕ) (code : List Insn) → 0 < length code → shape_fault budget code ≡ None → KeepsBudget budget code }
-    ensures only_kept { (budget : ℕ) (code : List Insn) → KeepsBudget budget code → shape_fault budget code ≡ None }
+    ensures kept { (head : Head) (code : List Insn) → 0 < length code → shape_fault head code ≡ None → KeepsLimits head code }
+    ensures only_kept { (head : Head) (code : List Insn) → KeepsLimits head code → shape_fault head code ≡ None }
 {}
 
 /// The bytes of a header, with its slots behind them, are an image that says the header's numbers.

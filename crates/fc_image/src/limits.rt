@@ -1,13 +1,37 @@
 //! What an image's header says, and the limits of its numbers.
-ghost use Rattle.std.specs.Prelude.{◌≡◌};
-ghost use Rattle.fc_image.specs.Head.{is_bad_budget, is_bad_count, is_bad_size, limit_fault};
+ghost use Rattle.std.specs.Prelude.{◌≡◌, ◌≤◌};
+ghost use Rattle.fc_isa.specs.declared.version.ImageVersion.TheVariants.{One};
+ghost use Rattle.fc_image.specs.Head.{frames_allowed, is_bad_budget, is_bad_count, is_bad_size, limit_fault, slots_allowed};
 
-use fc_isa::{Fault, Rule};
+use fc_isa::{Fault, ImageVersion, Rule};
 use std::marker::Model;
 
-/// What an image's header says of its program. A clause sees the three numbers, which are within their limits.
+/// The most slots of a program of a version.
+fn slots_allowed(version: ImageVersion) -> usize
+    ensures is { result ≡ slots_allowed version }
+    ensures few { result ≤ 1024 }
+{
+    match version {
+        ImageVersion::One => 512,
+        ImageVersion::Two => 1024,
+    }
+}
+
+/// The most stack frames that the calls of a program of a version nest.
+fn frames_allowed(version: ImageVersion) -> u8
+    ensures is { result ≡ frames_allowed version }
+    ensures few { result ≤ 8 }
+{
+    match version {
+        ImageVersion::One => 4,
+        ImageVersion::Two => 8,
+    }
+}
+
+/// What an image's header says of its program. A clause sees the version and three numbers, which are within its limits.
 #[derive(Clone, Copy, PartialEq, Eq)]
 pub struct Head {
+    version: ImageVersion,
     vars_size: u16,
     count: u16,
     budget: u32,
@@ -18,16 +42,16 @@ impl Model for Head {
 
     ghost Value = { Stated };
 
-    ghost view = { λ h. record { vars_size = h.vars_size; count = h.count; budget = h.budget } };
+    ghost view = { λ h. record { version = h.version; vars_size = h.vars_size; count = h.count; budget = h.budget } };
 
-    ghost invariant = { λ h. IsHead (record { vars_size = h.vars_size; count = h.count; budget = h.budget }) };
+    ghost invariant = { λ h. IsHead (record { version = h.version; vars_size = h.vars_size; count = h.count; budget = h.budget }) };
 
-    ghost inverse = { λ h. record { vars_size = h.vars_size; count = h.count; budget = h.budget } };
+    ghost inverse = { λ h. record { version = h.version; vars_size = h.vars_size; count = h.count; budget = h.budget } };
 }
 
 impl Head {
     ghost use Rattle.std.specs.Prelude.{IfErr, IfOk, None, Some, ◌%◌, ◌≡◌, ◌≤◌};
-    ghost use Rattle.fc_image.specs.Head.{IsHead, head_bytes, head_of, limit_fault};
+    ghost use Rattle.fc_image.specs.Head.{IsHead, frames_allowed, head_bytes, head_of, limit_fault, slots_allowed};
 
     /// The header of these numbers: the size of the variables in bytes, the count of slots, and the budget of steps.
     ///
@@ -39,20 +63,30 @@ impl Head {
     {
         match broken_limit(vars_size, count, budget) {
             Some(rule) => Err(Fault { rule, slot: 0 }),
-            None => Ok(Head::of(vars_size, count as u16, budget)),
+            None => Ok(Head::of(ImageVersion::One, vars_size, count as u16, budget)),
         }
     }
 
     /// The header of numbers within their limits.
-    pub(crate) fn of(vars_size: u16, count: u16, budget: u32) -> Self
-        requires { IsHead (record { vars_size = vars_size; count = count; budget = budget }) }
-        ensures { result ≡ record { vars_size = vars_size; count = count; budget = budget } }
+    pub(crate) fn of(version: ImageVersion, vars_size: u16, count: u16, budget: u32) -> Self
+        requires { IsHead (record { version = version; vars_size = vars_size; count = count; budget = budget }) }
+        ensures { result ≡ record { version = version; vars_size = vars_size; count = count; budget = budget } }
     {
         Head {
+            version,
             vars_size,
             count,
             budget,
         }
+    }
+
+    /// The same header with another budget.
+    pub fn with_budget(&self, budget: u32) -> Self
+        requires some { 1 ≤ budget }
+        requires limit { budget ≤ 65536 }
+        ensures { result ≡ record self.now { budget = budget } }
+    {
+        Head { budget, ..*self }
     }
 
     /// The sixteen bytes that an image of this header begins with.
@@ -68,6 +102,21 @@ impl Head {
         ]
     }
 
+    /// The version of its format.
+    pub fn version(&self) -> ImageVersion
+        ensures { result ≡ self.now.version }
+    {
+        self.version
+    }
+
+    /// The most stack frames that the program's calls nest.
+    pub fn frames(&self) -> u8
+        ensures value { result ≡ frames_allowed self.now.version }
+        ensures limit { result ≤ 8 }
+    {
+        frames_allowed(self.version)
+    }
+
     /// The size of the variables in bytes.
     pub fn vars_size(&self) -> u16
         ensures value { result ≡ self.now.vars_size }
@@ -80,9 +129,12 @@ impl Head {
     /// The count of slots.
     pub fn count(&self) -> u16
         ensures value { result ≡ self.now.count }
+        ensures allowed { result ≤ slots_allowed self.now.version }
         ensures some { 1 ≤ result }
-        ensures limit { result ≤ 512 }
+        ensures limit { result ≤ 1024 }
     {
+        // The checker learns from this call how many there are at most.
+        let _most = slots_allowed(self.version);
         self.count
     }
 
@@ -98,9 +150,9 @@ impl Head {
 
 /// The least rule that these numbers break.
 fn broken_limit(vars_size: u16, count: usize, budget: u32) -> Option<Rule>
-    ensures { result ≡ limit_fault (record { vars_size = vars_size; count = count; budget = budget }) }
+    ensures { result ≡ limit_fault (record { version = One; vars_size = vars_size; count = count; budget = budget }) }
 {
-    if is_bad_count(count) {
+    if is_bad_count(ImageVersion::One, count) {
         Some(Rule::SlotCount)
     } else if is_bad_size(vars_size) {
         Some(Rule::VarsSize)
@@ -111,11 +163,11 @@ fn broken_limit(vars_size: u16, count: usize, budget: u32) -> Option<Rule>
     }
 }
 
-/// The count of slots isn't 1 to 512.
-pub(crate) fn is_bad_count(count: usize) -> bool
-    ensures { result ≡ is_bad_count count }
+/// The count of slots isn't 1 to what the version allows.
+pub(crate) fn is_bad_count(version: ImageVersion, count: usize) -> bool
+    ensures { result ≡ is_bad_count version count }
 {
-    count == 0 || count > 512
+    count == 0 || count > slots_allowed(version)
 }
 
 /// The variables aren't up to 256 bytes in words of eight.

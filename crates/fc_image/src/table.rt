@@ -6,8 +6,8 @@ use crate::cost::longest_cost;
 use crate::functions::{deepest, starts, starts_counted};
 use fc_isa::Insn;
 
-/// The most slots of a program.
-pub(crate) const SLOTS: usize = 512;
+/// The most slots of any program.
+pub(crate) const SLOTS: usize = 1024;
 
 /// The facts of a whole program that its slots are judged by.
 #[derive(Drop)]
@@ -16,7 +16,7 @@ pub(crate) struct Tables {
     pub(crate) starts: [bool; SLOTS],
     /// How many functions start up to each slot.
     pub(crate) counts: [u16; SLOTS],
-    /// The most stack frames that calls nest, up to 5.
+    /// The most stack frames that calls nest, up to 9.
     pub(crate) frames: u8,
     /// The steps of the longest path, up to 65,537.
     pub(crate) cost: u32,
@@ -25,7 +25,7 @@ pub(crate) struct Tables {
 impl Tables {
     /// The tables of a program.
     pub(crate) fn of(code: &[Insn]) -> Self
-        requires { length code.now ≤ 512 }
+        requires { length code.now ≤ 1024 }
         ensures { AreTables code.now result }
     {
         let starts = starts(code);

@@ -21,6 +21,7 @@ mod program;
 pub mod rule;
 pub mod shape;
 mod table;
+pub mod version;
 
 pub use decoding::{DecodeError, decode};
 pub use encoding::encode;
@@ -32,3 +33,4 @@ pub use program::is_program;
 pub use rule::{Fault, Rule};
 pub use shape::{Shape, Source, Uses};
 pub use table::SHAPES;
+pub use version::ImageVersion;

@@ -32,15 +32,15 @@ unfolding fault_at
 whole_slot bytes slot count rule n e = grind (arith, n, e)
 
 -- a slot of the shape's fault is one of the program
-pub fault_within : (budget : ℕ) (code : List Insn) (slot : ℕ) (rule : Rule) → IsShapeFault budget code slot rule → slot < length code
-fault_within budget code slot rule f = slice_get_within code slot f.insn f.stands
+pub fault_within : (head : Head) (code : List Insn) (slot : ℕ) (rule : Rule) → IsShapeFault head code slot rule → slot < length code
+fault_within head code slot rule f = slice_get_within code slot f.insn f.stands
 
-cause_in_image : (image : List ℕ) (head : Head) (code : List Insn) (f : Fault) (cause : Cause) → IsHeadOf image head → IsCodeOf image code → IsShapeShown head.budget code f cause → IsShown image f cause
+cause_in_image : (image : List ℕ) (head : Head) (code : List Insn) (f : Fault) (cause : Cause) → IsHeadOf image head → IsCodeOf image code → IsShapeShown head code f cause → IsShown image f cause
 cause_in_image image head code f Header h k s = absurd s
 cause_in_image image head code f (Slot bytes) h k s = absurd s
 cause_in_image image head code f (Flow insn) h k s = subst (λ c. slice_get c f.slot ≡ Some insn) k.code_is s
 cause_in_image image head code f Frames h k s = tt
-cause_in_image image head code f (Cost cost budget) h k s = (subst (λ c. IsCost c cost) k.code_is s.0, s.1 ∙ ap (λ x. x.budget) h.stated_is)
+cause_in_image image head code f (Cost cost budget) h k s = (subst (λ x. IsCost x (code_in image) cost) h.stated_is (subst (λ c. IsCost head c cost) k.code_is s.0), s.1 ∙ ap (λ x. x.budget) h.stated_is)
 cause_in_image image head code f (Typing insn known) h k s = absurd s
 
 -- ---- which rules are broken where
@@ -80,25 +80,25 @@ unfolding fault_at
 slot_rule bytes slot rule e =
     subst (IsWithin 6 10) e (slot_if (is_whole bytes slot) (is_second bytes slot) (nat_lt (8 * slot) (length bytes)) (fields_at bytes slot) (whole_fields_at bytes (slot + 1)))
 
-pub flow_rule : (budget : ℕ) (code : List Insn) (slot : ℕ) (insn : Insn) (rule : Rule) → breaks_shape budget code slot insn rule ≡ true → (11 ≤ number_of rule) × (number_of rule ≤ 17)
+pub flow_rule : (head : Head) (code : List Insn) (slot : ℕ) (insn : Insn) (rule : Rule) → breaks_shape head code slot insn rule ≡ true → (11 ≤ number_of rule) × (number_of rule ≤ 17)
 unfolding breaks_shape
-flow_rule budget code slot insn JumpTarget e = (omega arith, omega arith)
-flow_rule budget code slot insn BackwardJump e = (omega arith, omega arith)
-flow_rule budget code slot insn Boundary e = (omega arith, omega arith)
-flow_rule budget code slot insn BackwardCall e = (omega arith, omega arith)
-flow_rule budget code slot insn FrameDepth e = (omega arith, omega arith)
-flow_rule budget code slot insn CostRule e = (omega arith, omega arith)
-flow_rule budget code slot insn Helper e = (omega arith, omega arith)
-flow_rule budget code slot insn other e = absurd (cc e)
+flow_rule head code slot insn JumpTarget e = (omega arith, omega arith)
+flow_rule head code slot insn BackwardJump e = (omega arith, omega arith)
+flow_rule head code slot insn Boundary e = (omega arith, omega arith)
+flow_rule head code slot insn BackwardCall e = (omega arith, omega arith)
+flow_rule head code slot insn FrameDepth e = (omega arith, omega arith)
+flow_rule head code slot insn CostRule e = (omega arith, omega arith)
+flow_rule head code slot insn Helper e = (omega arith, omega arith)
+flow_rule head code slot insn other e = absurd (cc e)
 
-pub shape_diagnosis : (image : List ℕ) (head : Head) (code : List Insn) (d : Diagnosis) → IsHeadOf image head → IsCodeOf image code → shape_fault head.budget code ≡ Some (d.fault.slot, d.fault.rule)
-    → number_of d.fault.rule < 20 → IsShapeCause head.budget code d.fault d.cause → IsDiagnosisOf image d
+pub shape_diagnosis : (image : List ℕ) (head : Head) (code : List Insn) (d : Diagnosis) → IsHeadOf image head → IsCodeOf image code → shape_fault head code ≡ Some (d.fault.slot, d.fault.rule)
+    → number_of d.fault.rule < 20 → IsShapeCause head code d.fault d.cause → IsDiagnosisOf image d
 shape_diagnosis image head code d h k s low c = record {
   fault = refused_shape image head code d.fault h k s low;
   cause = record { rule = c.rule; shown = cause_in_image image head code d.fault d.cause h k c.shown };
 }
 
-pub typing_diagnosis : (image : List ℕ) (head : Head) (code : List Insn) (u : Untyped) (d : Diagnosis) → IsHeadOf image head → IsCodeOf image code → shape_fault head.budget code ≡ None
+pub typing_diagnosis : (image : List ℕ) (head : Head) (code : List Insn) (u : Untyped) (d : Diagnosis) → IsHeadOf image head → IsCodeOf image code → shape_fault head code ≡ None
     → is_typable head.vars_size code (beginning code) ≡ false → IsTypingFault code u.fault → IsUntyped head.vars_size code u
     → d.fault ≡ u.fault → ((insn : Insn) → slice_get code u.fault.slot ≡ Some insn → d.cause ≡ Typing insn u.known) → IsDiagnosisOf image d
 typing_diagnosis image head code u d h k s t r n same cause =

@@ -3,7 +3,7 @@ use Rattle.std.specs.Prelude.{◌≡◌, ℕ, ◌+◌, ◌*◌, ◌≤◌, List,
 use Rattle.fc_isa.specs.declared.insn.Insn.{Insn}
 use Rattle.fc_isa.specs.declared.rule.Fault.{Fault}
 use Rattle.fc_isa.specs.Rules.{number_of}
-use Rattle.fc_image.specs.Head.{head_fault, stated}
+use Rattle.fc_image.specs.Head.{Head, head_fault, stated}
 use Rattle.fc_image.specs.Paths.{longest}
 use Rattle.fc_image.specs.ShapeRules.{shape_fault}
 use Rattle.fc_kinds.specs.Meaning.{Program}
@@ -26,22 +26,26 @@ Shows Frames rule = rule ≡ 15
 Shows (Cost cost budget) rule = rule ≡ 16
 Shows (Typing insn known) rule = (20 ≤ rule) × (rule ≤ 27)
 
--- the longest path's steps are told exactly where the program breaks no rule of the control flow with the greatest budget
-abbrev pub IsCost : List Insn → Option ℕ → Type 0
-IsCost code (Some cost) = (shape_fault 65536 code ≡ None) × (cost ≡ longest code)
-IsCost code None = shape_fault 65536 code ≡ None → ⊥
+-- a header with the greatest budget
+abbrev pub at_most : Head → Head
+at_most head = record head { budget = 65536 }
 
--- what a program of this budget shows of a fault of its control flow
-abbrev pub IsShapeShown : ℕ → List Insn → Fault → CauseShown → Type 0
-IsShapeShown budget code f (Flow insn) = slice_get code f.slot ≡ Some insn
-IsShapeShown budget code f Frames = Unit {0}
-IsShapeShown budget code f (Cost cost b) = IsCost code cost × (b ≡ budget)
-IsShapeShown budget code f other = ⊥
+-- the longest path's steps are told exactly where the program breaks no rule of the control flow with the greatest budget
+abbrev pub IsCost : Head → List Insn → Option ℕ → Type 0
+IsCost head code (Some cost) = (shape_fault (at_most head) code ≡ None) × (cost ≡ longest code)
+IsCost head code None = shape_fault (at_most head) code ≡ None → ⊥
+
+-- what a program of this header shows of a fault of its control flow
+abbrev pub IsShapeShown : Head → List Insn → Fault → CauseShown → Type 0
+IsShapeShown head code f (Flow insn) = slice_get code f.slot ≡ Some insn
+IsShapeShown head code f Frames = Unit {0}
+IsShapeShown head code f (Cost cost b) = IsCost head code cost × (b ≡ head.budget)
+IsShapeShown head code f other = ⊥
 
 -- what shows that a program's control flow breaks a rule
-pub record IsShapeCause (budget : ℕ) (code : List Insn) (f : Fault) (cause : CauseShown) : Type 0 where
+pub record IsShapeCause (head : Head) (code : List Insn) (f : Fault) (cause : CauseShown) : Type 0 where
   pub rule : Shows cause (number_of f.rule)
-  pub shown : IsShapeShown budget code f cause
+  pub shown : IsShapeShown head code f cause
 
 -- what an image shows of a fault
 abbrev pub IsShown : List ℕ → Fault → CauseShown → Type 0
@@ -49,7 +53,7 @@ IsShown image f Header = Unit {0}
 IsShown image f (Slot bytes) = bytes ≡ take 8 (drop (16 + 8 * f.slot) image)
 IsShown image f (Flow insn) = slice_get (code_in image) f.slot ≡ Some insn
 IsShown image f Frames = Unit {0}
-IsShown image f (Cost cost budget) = IsCost (code_in image) cost × (budget ≡ (stated image).budget)
+IsShown image f (Cost cost budget) = IsCost (stated image) (code_in image) cost × (budget ≡ (stated image).budget)
 IsShown image f (Typing insn known) =
     (slice_get (code_in image) f.slot ≡ Some insn) × IsUntyped (stated image).vars_size (code_in image) (record { fault = f; known = known })
 

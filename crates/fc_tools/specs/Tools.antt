@@ -2,6 +2,7 @@
 use Rattle.std.specs.Prelude.{◌≡◌, ℕ, ◌++◌, List, length, drop, None}
 use Rattle.fc_isa.specs.declared.insn.Insn.{Insn}
 use Rattle.fc_isa.specs.Encoding.{Spells, encoded}
+use Rattle.fc_isa.specs.declared.version.ImageVersion.TheVariants.{One}
 use Rattle.fc_image.specs.Head.{head_bytes, head_fault, limit_fault, Head}
 use Rattle.fc_image.specs.Paths.{IsLongest}
 use Rattle.fc_asm.specs.Syntax.{lines_of}
@@ -11,7 +12,7 @@ use Rattle.fc_tools.specs.Numbered.{numbered_from}
 
 -- the header of a program
 abbrev pub program_head : ℕ → ℕ → List Insn → Head
-program_head vars_size budget program = record { vars_size = vars_size; count = length program; budget = budget }
+program_head vars_size budget program = record { version = One; vars_size = vars_size; count = length program; budget = budget }
 
 -- the text is assembled to a program, and the image is its header and its slots
 pub record IsImageOf (text : List ℕ) (vars_size budget : ℕ) (image : List ℕ) : Type 0 where

@@ -1,5 +1,7 @@
 //! Why an image isn't accepted, with what shows that.
 ghost use Rattle.std.specs.Prelude.{IfErr, IfOk, Some, None, length, true, ◌≡◌, ◌+◌, ◌*◌, ◌<◌, ◌≤◌, take, drop, slice_get};
+ghost use Rattle.fc_image.specs.Functions.{frames};
+ghost use Rattle.fc_image.specs.Head.{frames_allowed};
 ghost use Rattle.fc_image.specs.Paths.{IsLongest, longest};
 ghost use Rattle.fc_image.specs.ShapeRules.{IsShaped, shape_fault};
 ghost use Rattle.fc_isa.specs.Encoding.{IsFirstFault};
@@ -169,10 +171,10 @@ fn slot_bytes(image: &[u8], slot: usize) -> [u8; 8]
 /// The least rule of the control flow, 11 to 17, that a slot breaks, with what shows it.
 pub fn shape_cost(head: &Head, code: &[Insn]) -> Result<u32, Diagnosis>
     requires { length code.now ≡ head.now.count }
-    ensures shape { IfOk result (λ cost. IsShaped code.now × IsLongest code.now cost × (cost ≤ head.now.budget)) }
-    ensures cost { IfOk result (λ cost. (shape_fault head.now.budget code.now ≡ None) × (cost ≡ longest code.now)) }
-    ensures fault { IfErr result (λ d. shape_fault head.now.budget code.now ≡ Some (d.fault.slot, d.fault.rule)) }
-    ensures cause { IfErr result (λ d. IsShapeCause head.now.budget code.now d.fault d.cause) }
+    ensures shape { IfOk result (λ cost. IsShaped code.now × (frames code.now ≤ frames_allowed head.now.version) × IsLongest code.now cost × (cost ≤ head.now.budget)) }
+    ensures cost { IfOk result (λ cost. (shape_fault head.now code.now ≡ None) × (cost ≡ longest code.now)) }
+    ensures fault { IfErr result (λ d. shape_fault head.now code.now ≡ Some (d.fault.slot, d.fault.rule)) }
+    ensures cause { IfErr result (λ d. IsShapeCause head.now code.now d.fault d.cause) }
 {
     shape_fault_is_first();
     match shape(head, code) {
@@ -189,7 +191,7 @@ fn shape_cause(head: &Head, code: &[Insn], fault: Fault) -> Cause
     requires count { length code.now ≡ head.now.count }
     requires slot { fault.slot < length code.now }
     requires rule { (11 ≤ number_of fault.rule) × (number_of fault.rule ≤ 17) }
-    ensures { IsShapeCause head.now.budget code.now fault result }
+    ensures { IsShapeCause head.now code.now fault result }
 {
     match fault.rule {
         Rule::Cost => Cause::Cost {
@@ -204,12 +206,9 @@ fn shape_cause(head: &Head, code: &[Insn], fault: Fault) -> Cause
 /// The cost of a program that breaks no rule of the control flow but for the budget, if that is at most the greatest budget.
 fn cost_of(head: &Head, code: &[Insn]) -> Option<u32>
     requires { length code.now ≡ head.now.count }
-    ensures { IsCost code.now result }
+    ensures { IsCost head.now code.now result }
 {
-    match Head::new(head.vars_size(), head.count() as usize, GREATEST_BUDGET) {
-        Ok(greatest) => shape(&greatest, code).ok(),
-        Err(_) => unreachable!(),
-    }
+    shape(&head.with_budget(GREATEST_BUDGET), code).ok()
 }
 
 /// What shows that a typing is missing.

@@ -13,7 +13,10 @@ use Rattle.fc_isa.specs.Encoding.{Spells, IsDecodeError, first_fault, decoded_pr
 use Rattle.fc_isa.specs.Program.{IsInsn}
 use Rattle.fc_isa.specs.Rules.{number_of}
 use Rattle.fc_isa.proofs.Slots.{length-insns_below}
-use Rattle.fc_image.specs.Head.{Head, head_fault, stated}
+use Rattle.fc_isa.specs.declared.version.ImageVersion.{ImageVersion}
+use Rattle.fc_isa.specs.declared.version.ImageVersion.TheVariants.{One, Two}
+use Rattle.fc_image.specs.Functions.{frames}
+use Rattle.fc_image.specs.Head.{Head, head_fault, stated, slots_allowed, frames_allowed}
 use Rattle.fc_image.specs.Paths.{longest}
 use Rattle.fc_image.specs.ShapeRules.{IsShaped, shape_fault}
 use Rattle.fc_verify.specs.declared.refusal.Refusal.{Refusal}
@@ -41,15 +44,15 @@ pub judged_slots : (image : List ℕ) (rule : Rule) (slot : ℕ) → head_fault 
 unfolding judged
 judged_slots image rule slot e f = rw (e, f) refl
 
-pub judged_shape : (image : List ℕ) (rule : Rule) (slot : ℕ) → head_fault image ≡ None → first_fault (slots_of image) ≡ None → shape_fault (stated image).budget (code_in image) ≡ Some (slot, rule) → judged image ≡ Breaks rule slot
+pub judged_shape : (image : List ℕ) (rule : Rule) (slot : ℕ) → head_fault image ≡ None → first_fault (slots_of image) ≡ None → shape_fault (stated image) (code_in image) ≡ Some (slot, rule) → judged image ≡ Breaks rule slot
 unfolding judged
 judged_shape image rule slot e f s = rw (e, f, s) refl
 
-pub judged_untypable : (image : List ℕ) → head_fault image ≡ None → first_fault (slots_of image) ≡ None → shape_fault (stated image).budget (code_in image) ≡ None → types image ≡ false → judged image ≡ Untypable
+pub judged_untypable : (image : List ℕ) → head_fault image ≡ None → first_fault (slots_of image) ≡ None → shape_fault (stated image) (code_in image) ≡ None → types image ≡ false → judged image ≡ Untypable
 unfolding judged
 judged_untypable image e f s t = rw (e, f, s, t) refl
 
-pub judged_accepts : (image : List ℕ) → head_fault image ≡ None → first_fault (slots_of image) ≡ None → shape_fault (stated image).budget (code_in image) ≡ None → types image ≡ true → judged image ≡ Accepts (program_in image)
+pub judged_accepts : (image : List ℕ) → head_fault image ≡ None → first_fault (slots_of image) ≡ None → shape_fault (stated image) (code_in image) ≡ None → types image ≡ true → judged image ≡ Accepts (program_in image)
 unfolding judged
 judged_accepts image e f s t = rw (e, f, s, t) refl
 
@@ -88,38 +91,45 @@ refused_decode image head NoRoom h d = h.fault
 insn_there : (code : List Insn) (slot : ℕ) (insn : Insn) → All IsInsn code → slice_get code slot ≡ Some insn → IsInsn insn
 insn_there code slot insn h e = subst IsInsn (get_or_from_slice_get code slot insn insn e) (h slot insn (slice_get_within code slot insn e))
 
-pub untyped_program : (bytes : List ℕ) (code : List Insn) → 1 ≤ length code → length code ≤ 512 → Spells bytes code → IsShaped code → IsUntypedProgram code
-untyped_program bytes code some few s shaped = record {
+pub untyped_program : (bytes : List ℕ) (code : List Insn) → 1 ≤ length code → length code ≤ 1024 → Spells bytes code → IsShaped code → frames code ≤ 4 → IsUntypedProgram code
+untyped_program bytes code some few s shaped nested = record {
   some = some;
   few = few;
   insns = λ slot insn e. insn_there code slot insn s.insns e;
   whole = s.whole;
   shaped = shaped;
+  frames = nested;
 }
 
-pub untyped_of : (image : List ℕ) (head : Head) (code : List Insn) → IsHeadOf image head → IsCodeOf image code → IsShaped code → IsUntypedProgram code
-untyped_of image head code h k s =
+few_slots : (version : ImageVersion) (n : ℕ) → n ≤ slots_allowed version → n ≤ 1024
+few_slots One n le = omega (arith, le)
+few_slots Two n le = omega (arith, le)
+
+pub untyped_of : (image : List ℕ) (head : Head) (code : List Insn) → IsHeadOf image head → IsCodeOf image code → IsShaped code → frames code ≤ frames_allowed head.version → IsUntypedProgram code
+untyped_of image head code h k s nested =
     let c = ap (λ x. x.count) h.stated_is in
-    untyped_program (slots_of image) code (omega (arith, h.limits.some, c, k.count)) (omega (arith, h.limits.count, c, k.count)) k.spelled s
+    let few = few_slots head.version head.count h.limits.count in
+    untyped_program (slots_of image) code (omega (arith, h.limits.some, c, k.count)) (omega (arith, few, c, k.count)) k.spelled s
+    (subst (λ v. frames code ≤ frames_allowed v) h.limits.version nested)
 
 -- the shape's fault of the program in the image, and its typing's judgement
-pub shape_of : (image : List ℕ) (head : Head) (code : List Insn) (o : Option (ℕ × Rule)) → IsHeadOf image head → IsCodeOf image code → shape_fault head.budget code ≡ o → shape_fault (stated image).budget (code_in image) ≡ o
-shape_of image head code o h k e = ap (λ x. shape_fault x.budget (code_in image)) (sym h.stated_is) ∙ ap (shape_fault head.budget) (sym k.code_is) ∙ e
+pub shape_of : (image : List ℕ) (head : Head) (code : List Insn) (o : Option (ℕ × Rule)) → IsHeadOf image head → IsCodeOf image code → shape_fault head code ≡ o → shape_fault (stated image) (code_in image) ≡ o
+shape_of image head code o h k e = ap (λ x. shape_fault x (code_in image)) (sym h.stated_is) ∙ ap (shape_fault head) (sym k.code_is) ∙ e
 
 pub types_of : (image : List ℕ) (head : Head) (code : List Insn) (b : Bool) → IsHeadOf image head → IsCodeOf image code → is_typable head.vars_size code (beginning code) ≡ b → types image ≡ b
 types_of image head code b h k e =
     ap (λ x. is_typable x.vars_size (code_in image) (beginning (code_in image))) (sym h.stated_is) ∙ ap (λ x. is_typable head.vars_size x (beginning x)) (sym k.code_is) ∙ e
 
-pub refused_shape : (image : List ℕ) (head : Head) (code : List Insn) (f : Fault) → IsHeadOf image head → IsCodeOf image code → shape_fault head.budget code ≡ Some (f.slot, f.rule) → number_of f.rule < 20 → IsRefusal image (Broken f)
+pub refused_shape : (image : List ℕ) (head : Head) (code : List Insn) (f : Fault) → IsHeadOf image head → IsCodeOf image code → shape_fault head code ≡ Some (f.slot, f.rule) → number_of f.rule < 20 → IsRefusal image (Broken f)
 refused_shape image head code f h k e low =
     fault_of image (Breaks f.rule f.slot) f (judged_shape image f.rule f.slot h.fault k.fault (shape_of image head code (Some (f.slot, f.rule)) h k e)) (refl, refl, low)
 
-pub refused_typing : (image : List ℕ) (head : Head) (code : List Insn) (f : Fault) → IsHeadOf image head → IsCodeOf image code → shape_fault head.budget code ≡ None → is_typable head.vars_size code (beginning code) ≡ false → IsTypingFault code f → IsRefusal image (Broken f)
+pub refused_typing : (image : List ℕ) (head : Head) (code : List Insn) (f : Fault) → IsHeadOf image head → IsCodeOf image code → shape_fault head code ≡ None → is_typable head.vars_size code (beginning code) ≡ false → IsTypingFault code f → IsRefusal image (Broken f)
 refused_typing image head code f h k s t r =
     fault_of image Untypable f (judged_untypable image h.fault k.fault (shape_of image head code None h k s) (types_of image head code false h k t))
     (r.from, r.upto, omega (arith, r.within, k.count))
 
-pub accepts_is : (image : List ℕ) (head : Head) (code : List Insn) (cost : ℕ) → IsHeadOf image head → IsCodeOf image code → shape_fault head.budget code ≡ None → cost ≡ longest code → is_typable head.vars_size code (beginning code) ≡ true
+pub accepts_is : (image : List ℕ) (head : Head) (code : List Insn) (cost : ℕ) → IsHeadOf image head → IsCodeOf image code → shape_fault head code ≡ None → cost ≡ longest code → is_typable head.vars_size code (beginning code) ≡ true
     → judged image ≡ Accepts (program code head.vars_size head.budget cost)
 accepts_is image head code cost h k s l t =
     judged_accepts image h.fault k.fault (shape_of image head code None h k s) (types_of image head code true h k t)

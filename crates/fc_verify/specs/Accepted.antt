@@ -2,7 +2,8 @@
 use Rattle.std.specs.Prelude.{◌≡◌, ℕ, ◌≤◌, List, drop, Some, None, ◌⊎◌}
 use Rattle.fc_isa.specs.declared.rule.Rule.{Rule}
 use Rattle.fc_isa.specs.Encoding.{Spells, IsFirstFault}
-use Rattle.fc_image.specs.Head.{head_fault, stated}
+use Rattle.fc_image.specs.Functions.{frames}
+use Rattle.fc_image.specs.Head.{head_fault, stated, frames_allowed}
 use Rattle.fc_image.specs.Paths.{IsLongest}
 use Rattle.fc_image.specs.ShapeRules.{IsShapeFault, IsShaped}
 use Rattle.fc_kinds.specs.Meaning.{Program}
@@ -19,10 +20,11 @@ pub record IsProgramOf (image : List ℕ) (p : Program) : Type 0 where
   pub vars_size : p.vars_size ≡ (stated image).vars_size
   pub budget : p.budget ≡ (stated image).budget
 
--- its shape is kept too, and its longest path is within the budget
+-- its shape is kept too, its frames are as many as the version allows at most, and its longest path is within the budget
 pub record IsShapely (image : List ℕ) (p : Program) : Type 0 where
   pub program : IsProgramOf image p
   pub shape : IsShaped p.code
+  pub frames : frames p.code ≤ frames_allowed (stated image).version
   pub cost : IsLongest p.code p.cost
   pub within : p.cost ≤ p.budget
 
@@ -36,7 +38,7 @@ pub record IsAccepted (image : List ℕ) (p : Program) : Type 0 where
 pub record BreaksShape (image : List ℕ) (rule : Rule) (slot : ℕ) : Type 0 where
   pub p : Program
   pub program : IsProgramOf image p
-  pub fault : IsShapeFault p.budget p.code slot rule
+  pub fault : IsShapeFault (stated image) p.code slot rule
 
 -- a slot breaks a rule of the encoding
 pub record BreaksSlot (image : List ℕ) (rule : Rule) (slot : ℕ) : Type 0 where

@@ -33,7 +33,7 @@ by_shape None image = by_typing (is_typable (stated image).vars_size (code_in im
 
 abbrev pub by_slots : Option (ℕ × Rule) → List ℕ → Judgement
 by_slots (Some (slot, rule)) image = Breaks rule slot
-by_slots None image = by_shape (shape_fault (stated image).budget (code_in image)) image
+by_slots None image = by_shape (shape_fault (stated image) (code_in image)) image
 
 abbrev pub by_head : Option Rule → List ℕ → Judgement
 by_head (Some rule) image = Breaks rule 0

@@ -56,7 +56,7 @@ fn typed_within(
     room: Vec<Option<Regs>>,
 ) -> Result<Vec<Option<Regs>>, Untyped>
     requires some { 1 ≤ length code.now }
-    requires count { length code.now ≤ 512 }
+    requires count { length code.now ≤ 1024 }
     requires stay { StayIn code.now }
     requires insns { AllByRecursion IsInsn code.now }
     requires empty { room.items ≡ [] }
@@ -103,7 +103,7 @@ fn first_state(slot: usize) -> Option<Regs>
 /// The first slot whose demands aren't met.
 fn pass_slots(vars_size: u16, code: &[Insn], states: &mut [Option<Regs>]) -> Result<(), Untyped>
     requires beginning { states.old ≡ beginning code.now }
-    requires count { length code.now ≤ 512 }
+    requires count { length code.now ≤ 1024 }
     requires stay { StayIn code.now }
     requires insns { AllByRecursion IsInsn code.now }
     ensures typable { IfOk result (λ u. is_typable vars_size code.now (beginning code.now) ≡ true) }

@@ -9,8 +9,8 @@ pub loop-slot-init : goal.loop-slot-init
 loop-slot-init c = record {
   len = search rules;
   slot = omega arith;
-  capped = λ k. let e = zero_at 512 k in omega (arith, e);
-  known = λ k le. let e = zero_at 512 k in let f = past_end (costs c.args.code.now) k (omega (arith, length-costs c.args.code.now, le)) in omega (arith, e, f);
+  capped = λ k. let e = zero_at 1024 k in omega (arith, e);
+  known = λ k le. let e = zero_at 1024 k in let f = past_end (costs c.args.code.now) k (omega (arith, length-costs c.args.code.now, le)) in omega (arith, e, f);
 }
 
 value_is : (value steps cost : ℕ) → value ≡ min steps 65537 → steps ≡ cost → value ≡ min 65537 cost

@@ -4,7 +4,7 @@ use Rattle.fc_image.proofs.cost.longest_cost.Given as goal
 
 abbrev pub invariant-loop-slot : goal.invariant-loop-slot
 invariant-loop-slot l = record {
-  len : length l.costs ≡ 512;
+  len : length l.costs ≡ 1024;
   slot : l.slot ≤ length l.code;
   capped : (k : ℕ) → get_or l.costs k 0 ≤ 65537;
   known : (k : ℕ) → l.slot ≤ k → get_or l.costs k 0 ≡ min 65537 (get_or (costs l.code) k 0);

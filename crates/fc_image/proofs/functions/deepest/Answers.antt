@@ -10,9 +10,9 @@ pub loop-slot-init : goal.loop-slot-init
 loop-slot-init c = record {
   len = search rules;
   slot = omega arith;
-  capped = λ k. let e = zero_at 512 k in omega (arith, e);
+  capped = λ k. let e = zero_at 1024 k in omega (arith, e);
   known = λ k le.
-      let e = zero_at 512 k in
+      let e = zero_at 1024 k in
       let f = past_end (depths (is_start c.args.code.now) 0 c.args.code.now) k (omega (arith, length-depths (is_start c.args.code.now) 0 c.args.code.now, le)) in
       omega (arith, e, f);
 }
@@ -26,7 +26,7 @@ loop-slot-preserved c =
     record {
       len = search rules;
       slot = omega arith;
-      capped = top_kept 5 c.loop-slot.depths slot c.depth.result (omega (arith, l.len, l.slot, c.requires.count)) l.capped (omega (arith, c.depth.ensures));
+      capped = top_kept 9 c.loop-slot.depths slot c.depth.result (omega (arith, l.len, l.slot, c.requires.count)) l.capped (omega (arith, c.depth.ensures));
       known = depth_more c.args.code.now c.args.starts.now c.loop-slot.depths slot c.depth.result insn stands (omega (arith, l.len, l.slot, c.requires.count))
           (λ lt. c.requires.starts.each (slot + 1) (omega (arith, l.len, lt))) (λ k le. l.known k (omega (arith, le))) c.depth.ensures;
     }

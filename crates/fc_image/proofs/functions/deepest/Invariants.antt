@@ -4,10 +4,10 @@ use Rattle.fc_image.proofs.functions.deepest.Given as goal
 
 abbrev pub invariant-loop-slot : goal.invariant-loop-slot
 invariant-loop-slot l = record {
-  len : length l.depths ≡ 512;
+  len : length l.depths ≡ 1024;
   slot : l.slot ≤ length l.code;
-  capped : (k : ℕ) → get_or l.depths k 0 ≤ 5;
-  known : (k : ℕ) → l.slot ≤ k → get_or l.depths k 0 ≡ min 5 (get_or (depths (is_start l.code) 0 l.code) k 0);
+  capped : (k : ℕ) → get_or l.depths k 0 ≤ 9;
+  known : (k : ℕ) → l.slot ≤ k → get_or l.depths k 0 ≡ min 9 (get_or (depths (is_start l.code) 0 l.code) k 0);
 }
 
 abbrev pub decreases-loop-slot : goal.decreases-loop-slot

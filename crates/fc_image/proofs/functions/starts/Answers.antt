@@ -13,11 +13,11 @@ none_at zero k = refl
 none_at (suc n) zero = refl
 none_at (suc n) (suc k) = none_at n k
 
-first_alone : (place : ℕ) → get_or (true ∷ replicate 511 false) place false ≡ (place == 0)
+first_alone : (place : ℕ) → get_or (true ∷ replicate 1023 false) place false ≡ (place == 0)
 first_alone zero = refl
-first_alone (suc k) = none_at 511 k ∙ grind (arith, nat_tests)
+first_alone (suc k) = none_at 1023 k ∙ grind (arith, nat_tests)
 
-begins : (code : List Insn) (place : ℕ) → get_or (true ∷ replicate 511 false) place false ≡ (is_called (length code) (drop (length code) code) place || (place == 0))
+begins : (code : List Insn) (place : ℕ) → get_or (true ∷ replicate 1023 false) place false ≡ (is_called (length code) (drop (length code) code) place || (place == 0))
 begins code place = first_alone place ∙ ap (λ c. is_called (length code) c place || (place == 0)) (sym (drop_all (length code) code (omega arith)))
 
 pub loop-slot-init : goal.loop-slot-init

@@ -12,11 +12,12 @@ returns-in_err-_cost-clause-rejected c =
     let broken = rw c.deref.ensures.value at e.fault in
     err_of c.from_residual-in_err-_cost.result (Broken d) (IsRejection c.args.image.now) c.from_residual-in_err-_cost.ensures.1
     (shape_diagnosis c.args.image.now c.in_ok-head.head c.in_ok-code.code.items d c.in_ok-head.ensures.head c.in_ok-code.ensures.code broken
-    (c.shape_fault_is_first.ensures.low c.in_ok-head.head.budget c.in_ok-code.code.items d.fault.slot d.fault.rule broken) (rw c.deref.ensures.value at e.cause))
+    (c.shape_fault_is_first.ensures.low c.in_ok-head.head c.in_ok-code.code.items d.fault.slot d.fault.rule broken) (rw c.deref.ensures.value at e.cause))
 
 pub typed-requires-clause-program : goal.typed-requires-clause-program
 typed-requires-clause-program c =
-    rw c.deref-2.ensures.value (untyped_of c.args.image.now c.in_ok-head.head c.in_ok-code.code.items c.in_ok-head.ensures.head c.in_ok-code.ensures.code (rw c.deref.ensures.value at c.in_ok-_cost.ensures.shape.0))
+    let s = rw c.deref.ensures.value at c.in_ok-_cost.ensures.shape in
+    rw c.deref-2.ensures.value (untyped_of c.args.image.now c.in_ok-head.head c.in_ok-code.code.items c.in_ok-head.ensures.head c.in_ok-code.ensures.code s.0 s.1)
 
 pub returns-in-Ok-clause-accepted : goal.returns-in-Ok-clause-accepted
 returns-in-Ok-clause-accepted c =

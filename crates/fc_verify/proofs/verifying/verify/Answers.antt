@@ -11,11 +11,12 @@ returns-in_err-cost-clause-refused c =
     let broken = rw c.deref.ensures.value at c.in_err-cost.ensures.fault in
     err_is c.from_residual-in_err-cost.result (Broken f) (IsRefusal c.args.image.now) c.from_residual-in_err-cost.ensures.1
     (refused_shape c.args.image.now c.in_ok-head.head c.in_ok-code.code.items f c.in_ok-head.ensures.head c.in_ok-code.ensures.code broken
-    (c.shape_fault_is_first.ensures.low c.in_ok-head.head.budget c.in_ok-code.code.items f.slot f.rule broken))
+    (c.shape_fault_is_first.ensures.low c.in_ok-head.head c.in_ok-code.code.items f.slot f.rule broken))
 
 pub typed-requires-clause-program : goal.typed-requires-clause-program
 typed-requires-clause-program c =
-    rw c.deref-2.ensures.value (untyped_of c.args.image.now c.in_ok-head.head c.in_ok-code.code.items c.in_ok-head.ensures.head c.in_ok-code.ensures.code (rw c.deref.ensures.value at c.in_ok-cost.ensures.shape.0))
+    let s = rw c.deref.ensures.value at c.in_ok-cost.ensures.shape in
+    rw c.deref-2.ensures.value (untyped_of c.args.image.now c.in_ok-head.head c.in_ok-code.code.items c.in_ok-head.ensures.head c.in_ok-code.ensures.code s.0 s.1)
 
 pub returns-in_err-states-clause-refused : goal.returns-in_err-states-clause-refused
 returns-in_err-states-clause-refused c =
