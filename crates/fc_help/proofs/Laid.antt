@@ -1,11 +1,11 @@
 -- A request's region has its size, and query and payload stand in it.
 use Rattle.std.proofs.Common.{◌≡◌, ℕ, ◌-◌, ◌≤◌, List, ◌++◌, length, take, refl, sym, ap, ◌∙◌, arith, append_assoc}
 use Rattle.std.specs.Prelude.{replicate, Option}
-use Rattle.std.proofs.lemmas.List.{length-append, length-replicate}
+use Rattle.std.proofs.lemmas.List.{length-append, length-replicate, length-take-le}
 use Rattle.std.proofs.Math.Seq.{drop-append_seam, take-append_seam}
 use Rattle.fc_help.specs.declared.request.Method.{Method}
 use Rattle.fc_help.specs.Request.{Request}
-use Rattle.fc_help.specs.Region.{FitsRegion, IsLaidOut, region_head, padded, region_of, part_at, read_from}
+use Rattle.fc_help.specs.Region.{FitsRegion, IsLaidOut, region_head, padded, region_of, readings_region, part_at, read_from}
 
 padded_size : (size : ℕ) (bytes : List ℕ) → length bytes ≤ size → length (padded size bytes) ≡ size
 padded_size size bytes h =
@@ -23,6 +23,21 @@ region_size r fits =
     let d = padded_size 1024 r.payload fits.payload in
     let e = length-append (region_head r) (padded 64 r.query ++ padded 1024 r.payload) in
     omega (arith, a, b, c, d, e)
+
+pub readings_size : (bytes : List ℕ) → length (readings_region bytes) ≡ 64
+unfolding readings_region
+readings_size bytes =
+    let zeros : List ℕ = replicate 64 0 in
+    let a = length-append bytes zeros in
+    let b : length zeros ≡ 64 = refl in
+    length-take-le 64 (bytes ++ zeros) (omega (arith, a, b))
+
+-- 64 bytes of readings are found as they are
+pub readings_whole : (bytes : List ℕ) → length bytes ≡ 64 → readings_region bytes ≡ bytes
+unfolding readings_region
+readings_whole bytes e =
+    let zeros : List ℕ = replicate 64 0 in
+    ap (λ n. take n (bytes ++ zeros)) (sym e) ∙ take-append_seam bytes zeros
 
 -- a part in the middle of bytes
 part : (before bytes after : List ℕ) → part_at (before ++ (bytes ++ after)) (length before) (length bytes) ≡ bytes

@@ -1,4 +1,4 @@
--- The request as a program finds it in memory: 1,104 bytes.
+-- The request as a program finds it in memory: 1,104 bytes. And the readings: 64.
 use Rattle.std.specs.Prelude.{◌≡◌, ℕ, ◌-◌, ◌≤◌, List, ◌∷◌, ◌++◌, length, take, drop, replicate, slice_index, Option, Some, None}
 use Rattle.std.specs.Int.{w16, to_le_bytes}
 use Rattle.fc_help.specs.declared.request.Method.{Method}
@@ -34,6 +34,14 @@ region_head r =
 -- then 64 bytes for the query, and 1,024 for the payload
 unfoldable pub region_of : Request → List ℕ
 region_of r = region_head r ++ (padded 64 r.query ++ padded 1024 r.payload)
+
+-- readings of zeros
+abbrev pub no_readings : List ℕ
+no_readings = replicate 64 0
+
+-- the readings as a program finds them: 64 bytes, whatever was handed in
+unfoldable pub readings_region : List ℕ → List ℕ
+readings_region bytes = take 64 (bytes ++ replicate 64 0)
 
 -- a request whose query and payload fit into its region
 pub record FitsRegion (r : Request) : Type 0 where

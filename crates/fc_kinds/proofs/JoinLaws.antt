@@ -4,7 +4,7 @@ use Rattle.std.specs.Int.{int_min, int_max}
 use Rattle.std.proofs.lemmas.Int.{ints, clamps}
 use Rattle.std.proofs.lemmas.Bool.Decides.{nat_tests}
 use Rattle.fc_kinds.specs.declared.kind.Kind.{Kind}
-use Rattle.fc_kinds.specs.declared.kind.Kind.TheVariants.{Unset, Num, Stack, Req, Vars}
+use Rattle.fc_kinds.specs.declared.kind.Kind.TheVariants.{Unset, Num, Stack, Req, Vars, Dev}
 use Rattle.fc_kinds.specs.Kinds.{kind_at, KindWithin, Within}
 use Rattle.fc_kinds.specs.Lattice.{join_kind, joined, IsKind, AreKinds, IsNear}
 
@@ -21,6 +21,7 @@ join_left (Num lo hi) (Num lo' hi') = (omega arith, omega arith)
 join_left (Stack l lo hi) (Stack l' lo' hi') = stack_left (l == l') l lo hi l' lo' hi' refl
 join_left (Req lo hi) (Req lo' hi') = (omega (arith, ints, clamps), omega (arith, ints, clamps))
 join_left (Vars lo hi) (Vars lo' hi') = (omega (arith, ints, clamps), omega (arith, ints, clamps))
+join_left (Dev lo hi) (Dev lo' hi') = (omega (arith, ints, clamps), omega (arith, ints, clamps))
 join_left _ _ = tt
 
 join_right : (a b : Kind) → KindWithin b (join_kind a b)
@@ -28,6 +29,7 @@ join_right (Num lo hi) (Num lo' hi') = (omega arith, omega arith)
 join_right (Stack l lo hi) (Stack l' lo' hi') = stack_right (l == l') l lo hi l' lo' hi' refl
 join_right (Req lo hi) (Req lo' hi') = (omega (arith, ints, clamps), omega (arith, ints, clamps))
 join_right (Vars lo hi) (Vars lo' hi') = (omega (arith, ints, clamps), omega (arith, ints, clamps))
+join_right (Dev lo hi) (Dev lo' hi') = (omega (arith, ints, clamps), omega (arith, ints, clamps))
 join_right _ _ = tt
 
 stack_least : (t : Bool) (l lo hi l' lo' hi' m lo'' hi'' : _) → (l == l') ≡ t → KindWithin (Stack l lo hi) (Stack m lo'' hi'') → KindWithin (Stack l' lo' hi') (Stack m lo'' hi'')
@@ -41,6 +43,7 @@ join_least (Num lo hi) (Num lo' hi') (Num lo'' hi'') p q = (omega (arith, p, q),
 join_least (Stack l lo hi) (Stack l' lo' hi') (Stack m lo'' hi'') p q = stack_least (l == l') l lo hi l' lo' hi' m lo'' hi'' refl p q
 join_least (Req lo hi) (Req lo' hi') (Req lo'' hi'') p q = (omega (arith, ints, clamps, p, q), omega (arith, ints, clamps, p, q))
 join_least (Vars lo hi) (Vars lo' hi') (Vars lo'' hi'') p q = (omega (arith, ints, clamps, p, q), omega (arith, ints, clamps, p, q))
+join_least (Dev lo hi) (Dev lo' hi') (Dev lo'' hi'') p q = (omega (arith, ints, clamps, p, q), omega (arith, ints, clamps, p, q))
 join_least _ _ _ p q = absurd (assumption (p, q))
 
 join_unset : (a : Kind) → join_kind a Unset ≡ Unset
@@ -49,6 +52,7 @@ join_unset (Num lo hi) = refl
 join_unset (Stack l lo hi) = refl
 join_unset (Req lo hi) = refl
 join_unset (Vars lo hi) = refl
+join_unset (Dev lo hi) = refl
 
 pub joined_at : (ks ls : List Kind) (r : ℕ) → kind_at (joined ks ls) r ≡ join_kind (kind_at ks r) (kind_at ls r)
 joined_at [] ls r = refl
@@ -82,6 +86,7 @@ join_is (Stack l lo hi) (Stack l' lo' hi') p q = go (l == l')
     go false = tt
 join_is (Req lo hi) (Req lo' hi') p q = near_join lo hi lo' hi' p q
 join_is (Vars lo hi) (Vars lo' hi') p q = near_join lo hi lo' hi' p q
+join_is (Dev lo hi) (Dev lo' hi') p q = near_join lo hi lo' hi' p q
 join_is _ _ p q = tt
 
 pub joined_kinds : (ks ls : List Kind) → AreKinds ks → AreKinds ls → AreKinds (joined ks ls)

@@ -17,7 +17,7 @@ use Rattle.fc_help.specs.Helpers.{helper_of, signature_of}
 use Rattle.fc_kinds.specs.declared.interval.Interval.{Interval}
 use Rattle.fc_kinds.specs.Intervals.{all, alu_interval, extended_values, refined}
 use Rattle.fc_kinds.specs.declared.kind.Kind.{Kind}
-use Rattle.fc_kinds.specs.declared.kind.Kind.TheVariants.{Unset, Num, Stack, Req, Vars}
+use Rattle.fc_kinds.specs.declared.kind.Kind.TheVariants.{Unset, Num, Stack, Req, Vars, Dev}
 use Rattle.fc_kinds.specs.Values.{with_some}
 use Rattle.fc_kinds.specs.Kinds.{kind_at}
 use Rattle.fc_kinds.specs.Lattice.{join_kind, joined}
@@ -43,6 +43,7 @@ by_form_low top (Num lo hi) f g h p q = p _
 by_form_low top (Stack level lo hi) f g h p q = q (Stack level) lo hi (λ l m. h)
 by_form_low top (Req lo hi) f g h p q = q Req lo hi (λ l m. tt)
 by_form_low top (Vars lo hi) f g h p q = q Vars lo hi (λ l m. tt)
+by_form_low top (Dev lo hi) f g h p q = q Dev lo hi (λ l m. tt)
 
 number_low : (top : ℕ) (k : Kind) (f : Interval → Interval) → IsLow top (on_number k (λ s. Some (num (f s))))
 number_low top Unset f = tt
@@ -50,6 +51,7 @@ number_low top (Num lo hi) f = tt
 number_low top (Stack level lo hi) f = tt
 number_low top (Req lo hi) f = tt
 number_low top (Vars lo hi) f = tt
+number_low top (Dev lo hi) f = tt
 
 plain_low : (top : ℕ) (op : AluOp) (width : Width) (a b : Kind) → IsLow top (on_number a (numbers op width b))
 plain_low top op width Unset b = tt
@@ -57,6 +59,7 @@ plain_low top op width (Num lo hi) b = number_low top b (alu_interval op width _
 plain_low top op width (Stack level lo hi) b = tt
 plain_low top op width (Req lo hi) b = tt
 plain_low top op width (Vars lo hi) b = tt
+plain_low top op width (Dev lo hi) b = tt
 
 near_low : (top : ℕ) (form : ℤ → ℤ → Kind) (lo hi : ℤ) → IsForm top form → IsLow top (near form lo hi)
 near_low top form lo hi h = go (int_le (negsuc 65535) lo && int_le hi (pos 65536))
@@ -147,6 +150,7 @@ raised_shallow top (Num lo hi) h = tt
 raised_shallow top (Stack level lo hi) h = omega (arith, h)
 raised_shallow top (Req lo hi) h = tt
 raised_shallow top (Vars lo hi) h = tt
+raised_shallow top (Dev lo hi) h = tt
 
 enter_shallow : (top : ℕ) (ks : List Kind) → AreShallow top ks → AreShallow (top + 1) (enter ks)
 enter_shallow top ks h = record { each = each }
@@ -224,6 +228,7 @@ higher_each top (Num lo hi) h = tt
 higher_each top (Stack level lo hi) h = omega (arith, h)
 higher_each top (Req lo hi) h = tt
 higher_each top (Vars lo hi) h = tt
+higher_each top (Dev lo hi) h = tt
 
 higher : (top : ℕ) (ks : List Kind) → AreShallow top ks → AreShallow (top + 1) ks
 higher top ks h = record { each = λ r. higher_each top (kind_at ks r) (h.each r) }
@@ -274,6 +279,7 @@ join_shallow top (Stack l lo hi) (Stack l' lo' hi') p q = go (l == l')
     go false = tt
 join_shallow top (Req lo hi) (Req lo' hi') p q = tt
 join_shallow top (Vars lo hi) (Vars lo' hi') p q = tt
+join_shallow top (Dev lo hi) (Dev lo' hi') p q = tt
 join_shallow top _ _ p q = tt
 
 pub joined_shallow : (top : ℕ) (a b : List Kind) → AreShallow top a → AreShallow top b → AreShallow top (joined a b)

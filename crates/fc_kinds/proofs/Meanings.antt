@@ -24,11 +24,11 @@ use Rattle.fc_help.specs.declared.request.Method.TheVariants.{Get, Post}
 use Rattle.fc_help.specs.declared.helper.Helper.{Helper}
 use Rattle.fc_help.specs.declared.helper.Helper.TheVariants.{PayloadLen, PayloadByte, VarGet, VarPut, ReplyPut, ReplyByte, Notify}
 use Rattle.fc_help.specs.Request.{Request, request_with}
-use Rattle.fc_help.specs.Region.{region_of}
-use Rattle.fc_kinds.specs.Values.{Value, Number, Pointer, Unset, Frame, Asked, Variables, value_at}
+use Rattle.fc_help.specs.Region.{region_of, readings_region}
+use Rattle.fc_kinds.specs.Values.{Value, Number, Pointer, Unset, Frame, Asked, Variables, Readings, value_at}
 use Rattle.fc_kinds.specs.Operations.{result_of}
-use Rattle.fc_kinds.specs.Execution.{Config, act, helped, loaded_number, start, step}
-use Rattle.fc_kinds.specs.Meaning.{Meaning, input_with, meant, reply_code}
+use Rattle.fc_kinds.specs.Execution.{Config, act, helped, loaded_number, step}
+use Rattle.fc_kinds.specs.Meaning.{Meaning, input_with, meant, reply_code, start}
 use Rattle.fc_kinds.proofs.Rows.{operations}
 
 abbrev says : List ℕ → Request
@@ -188,7 +188,7 @@ words = 1 ∷ 2 ∷ 3 ∷ 4 ∷ 5 ∷ 6 ∷ 7 ∷ 8 ∷ 255 ∷ 255 ∷ 255 ∷ 
 -- a run that has added so many bytes to its reply, with these in R1 and R2, and in R6
 abbrev before : Method → ℕ → Value → Value → Config
 before method added a b =
-    record (start (request_with method 1 None [] (7 ∷ 128 ∷ [])) words) {
+    record (start (input_with (request_with method 1 None [] (7 ∷ 128 ∷ [])) words)) {
       regs = Unset ∷ a ∷ b ∷ Number 3 ∷ Number 4 ∷ Number 5 ∷ Number 6 ∷ Pointer Asked (pos 0) ∷ Number 8 ∷ Number 9 ∷ Pointer (Frame 0) (pos 256) ∷ [];
       reply = replicate added 1;
     }
@@ -318,13 +318,20 @@ exits_answer_a_number : (is_some (leaving (Number 3)) ≡ true) × (is_some (lea
 unfolding act
 exits_answer_a_number = (refl, refl, refl)
 
--- four frames at most
+-- eight frames at most
 abbrev calling_from : ℕ → Option Config
 calling_from callers = act (CallLocal (pos 0)) (record (before Post 0 Unset Unset) { callers = replicate callers (record { place = 3; kept = [] }) })
 
-frames_are_four : (is_some (calling_from 2) ≡ true) × (is_some (calling_from 3) ≡ false)
+frames_are_eight : (is_some (calling_from 6) ≡ true) × (is_some (calling_from 7) ≡ false)
 unfolding act
-frames_are_four = (refl, refl)
+frames_are_eight = (refl, refl)
+
+-- the readings may be read, to their last byte, and not written
+readings_are_read : (goes (Load (Unsigned DoubleWord) 6 1 (pos 0)) (Pointer Readings (pos 56)) (Number 3) ≡ true) × (goes (Load (Unsigned DoubleWord) 6 1 (pos 0)) (Pointer Readings (pos 57)) (Number 3) ≡ false)
+    × (goes (Store DoubleWord 1 (pos 0) 2) (Pointer Readings (pos 0)) (Number 3) ≡ false) × (goes (StoreImm Byte 1 (pos 0) (pos 0)) (Pointer Readings (pos 0)) (Number 3) ≡ false)
+    × (answer ReplyPut (Pointer Readings (pos 0)) (Number 64) ≡ Some (Number 1)) × (answer ReplyPut (Pointer Readings (pos 1)) (Number 64) ≡ None)
+unfolding act helped readings_region
+readings_are_read = (refl, refl, refl, refl, refl, refl)
 
 -- ---- the request's region
 

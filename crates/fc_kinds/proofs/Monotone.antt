@@ -17,7 +17,7 @@ use Rattle.fc_kinds.specs.Intervals.{interval, all, IntervalWithin, alu_interval
 use Rattle.fc_kinds.proofs.IntervalsGrow.{alu_interval_grows, sign_extended_grows}
 use Rattle.fc_kinds.proofs.IntervalsProper.{alu_interval_proper, sign_extended_proper}
 use Rattle.fc_kinds.specs.declared.kind.Kind.{Kind}
-use Rattle.fc_kinds.specs.declared.kind.Kind.TheVariants.{Unset, Num, Stack, Req, Vars}
+use Rattle.fc_kinds.specs.declared.kind.Kind.TheVariants.{Unset, Num, Stack, Req, Vars, Dev}
 use Rattle.fc_kinds.specs.Kinds.{KindWithin, Within}
 use Rattle.fc_kinds.specs.Lattice.{IsNear, IsKind}
 use Rattle.fc_kinds.specs.Transfer.{num, by_form, no_pointer, on_number, is_number, operand_kind, small, distance, near, numbers, forth, back, set, alu_kind, ordered_interval, inside, may_read, may_write}
@@ -42,6 +42,9 @@ req_form = record { within = λ lo hi lo' hi' p q. (p, q); is = λ lo hi p. p }
 vars_form : IsForm Vars
 vars_form = record { within = λ lo hi lo' hi' p q. (p, q); is = λ lo hi p. p }
 
+dev_form : IsForm Dev
+dev_form = record { within = λ lo hi lo' hi' p q. (p, q); is = λ lo hi p. p }
+
 abbrev pub Numbers : (Interval → Option Kind) → (Interval → Option Kind) → Type 0
 Numbers f f' = (s s' : Interval) → s.lo ≤ s.hi → IntervalWithin s s' → KindFollows (f s) (f' s')
 
@@ -55,6 +58,7 @@ by_form_follows (Stack level lo hi) (Stack level' lo' hi') f f' g g' p w n q =
     subst (λ l. KindFollows (g (Stack level) lo hi) (g' (Stack l) lo' hi')) w.0 (q (Stack level) lo hi lo' hi' (stack_form level) p w.1 w.2)
 by_form_follows (Req lo hi) (Req lo' hi') f f' g g' p w n q = q Req lo hi lo' hi' req_form p w.0 w.1
 by_form_follows (Vars lo hi) (Vars lo' hi') f f' g g' p w n q = q Vars lo hi lo' hi' vars_form p w.0 w.1
+by_form_follows (Dev lo hi) (Dev lo' hi') f f' g g' p w n q = q Dev lo hi lo' hi' dev_form p w.0 w.1
 by_form_follows _ _ f f' g g' p w n q = absurd w
 
 no_pointers : Pointers no_pointer no_pointer
@@ -89,6 +93,7 @@ distance_follows (Reg r) (Num lo hi) (Num lo' hi') p w = small_follows (interval
 distance_follows (Reg r) b (Stack l lo hi) p w = tt
 distance_follows (Reg r) b (Req lo hi) p w = tt
 distance_follows (Reg r) b (Vars lo hi) p w = tt
+distance_follows (Reg r) b (Dev lo hi) p w = tt
 distance_follows (Reg r) _ (Num lo' hi') p w = absurd w
 
 is_near : (lo hi : ℤ) → lo ≤ℤ hi → (int_le (negsuc 65535) lo && int_le hi (pos 65536)) ≡ true → IsNear lo hi
@@ -160,6 +165,7 @@ may_read_follows vars n f k (Num lo' hi') w e = absurd (cc e)
 may_read_follows vars n f (Stack l lo hi) (Stack l' lo' hi') w e = inside_follows 256 n f lo hi lo' hi' w.1 w.2 e
 may_read_follows vars n f (Req lo hi) (Req lo' hi') w e = inside_follows 1104 n f lo hi lo' hi' w.0 w.1 e
 may_read_follows vars n f (Vars lo hi) (Vars lo' hi') w e = inside_follows vars n f lo hi lo' hi' w.0 w.1 e
+may_read_follows vars n f (Dev lo hi) (Dev lo' hi') w e = inside_follows 64 n f lo hi lo' hi' w.0 w.1 e
 may_read_follows vars n f _ _ w e = absurd w
 
 inside_fewer : (region n m : ℕ) (lo hi lo' hi' : ℤ) → lo' ≤ℤ lo → hi ≤ℤ hi' → n ≤ m → inside region m (pos 0) lo' hi' ≡ true → inside region n (pos 0) lo hi ≡ true
@@ -173,12 +179,14 @@ fewer_follow vars n m k (Num lo' hi') w r e = absurd (cc e)
 fewer_follow vars n m (Stack l lo hi) (Stack l' lo' hi') w r e = inside_fewer 256 n m lo hi lo' hi' w.1 w.2 r e
 fewer_follow vars n m (Req lo hi) (Req lo' hi') w r e = inside_fewer 1104 n m lo hi lo' hi' w.0 w.1 r e
 fewer_follow vars n m (Vars lo hi) (Vars lo' hi') w r e = inside_fewer vars n m lo hi lo' hi' w.0 w.1 r e
+fewer_follow vars n m (Dev lo hi) (Dev lo' hi') w r e = inside_fewer 64 n m lo hi lo' hi' w.0 w.1 r e
 fewer_follow vars n m _ _ w r e = absurd w
 
 pub may_write_follows : (vars n : ℕ) (f : ℤ) (k k' : Kind) → KindWithin k k' → may_write vars n f k' ≡ true → may_write vars n f k ≡ true
 may_write_follows vars n f k Unset w e = absurd (cc e)
 may_write_follows vars n f k (Num lo' hi') w e = absurd (cc e)
 may_write_follows vars n f k (Req lo' hi') w e = absurd (cc e)
+may_write_follows vars n f k (Dev lo' hi') w e = absurd (cc e)
 may_write_follows vars n f (Stack l lo hi) (Stack l' lo' hi') w e = inside_follows 256 n f lo hi lo' hi' w.1 w.2 e
 may_write_follows vars n f (Vars lo hi) (Vars lo' hi') w e = inside_follows vars n f lo hi lo' hi' w.0 w.1 e
 may_write_follows vars n f _ _ w e = absurd w
@@ -189,6 +197,7 @@ is_number_follows (Num lo hi) (Num lo' hi') w e = refl
 is_number_follows k (Stack l lo hi) w e = absurd (cc e)
 is_number_follows k (Req lo hi) w e = absurd (cc e)
 is_number_follows k (Vars lo hi) w e = absurd (cc e)
+is_number_follows k (Dev lo hi) w e = absurd (cc e)
 is_number_follows _ (Num lo' hi') w e = absurd w
 
 pub where_follows : (t t' : Bool) (k : Kind) → IsKind k → (t' ≡ true → t ≡ true) → KindWithin k k → KindFollows (if t then Some k else None) (if t' then Some k else None)

@@ -15,8 +15,8 @@ use Rattle.fc_kinds.specs.declared.interval.Interval.{Interval}
 use Rattle.fc_kinds.specs.Intervals.{interval, Inside, alu_interval}
 use Rattle.fc_kinds.proofs.IntervalsSound.{alu_interval_sound}
 use Rattle.fc_kinds.specs.declared.kind.Kind.{Kind}
-use Rattle.fc_kinds.specs.declared.kind.Kind.TheVariants.{Unset, Num, Stack, Req, Vars}
-use Rattle.fc_kinds.specs.Values.{Region, Frame, Asked, Variables, Value, Number, Pointer}
+use Rattle.fc_kinds.specs.declared.kind.Kind.TheVariants.{Unset, Num, Stack, Req, Vars, Dev}
+use Rattle.fc_kinds.specs.Values.{Region, Frame, Asked, Variables, Readings, Value, Number, Pointer}
 use Rattle.fc_kinds.specs.Kinds.{Contains}
 use Rattle.fc_kinds.specs.Transfer.{immediate, num, by_form, no_pointer, on_number, small, distance, near, numbers, forth, back, moved, alu_kind}
 use Rattle.fc_kinds.specs.Operations.{by_value, no_step, with_number, moved_forth, moved_back, copied, result_of}
@@ -43,6 +43,7 @@ by_form_gives depth (Num lo hi) (Number m) f g f' g' c n p = n (interval lo hi) 
 by_form_gives depth (Stack level lo hi) (Pointer (Frame i) o) f g f' g' c n p = p (Stack level) lo hi (Frame i) o (record { contains = λ lo' hi' o' q r. (c.0, q, r) }) c.1 c.2
 by_form_gives depth (Req lo hi) (Pointer Asked o) f g f' g' c n p = p Req lo hi Asked o (record { contains = λ lo' hi' o' q r. (q, r) }) c.0 c.1
 by_form_gives depth (Vars lo hi) (Pointer Variables o) f g f' g' c n p = p Vars lo hi Variables o (record { contains = λ lo' hi' o' q r. (q, r) }) c.0 c.1
+by_form_gives depth (Dev lo hi) (Pointer Readings o) f g f' g' c n p = p Dev lo hi Readings o (record { contains = λ lo' hi' o' q r. (q, r) }) c.0 c.1
 by_form_gives depth _ _ f g f' g' c n p = absurd c
 
 no_pointers_give : (depth : ℕ) → PointersGive depth no_pointer no_step
@@ -82,6 +83,7 @@ distance_gives depth (Reg r) (Num lo hi) (Number n) own c = small_gives (interva
 distance_gives depth (Reg r) (Stack l lo hi) y own c = tt
 distance_gives depth (Reg r) (Req lo hi) y own c = tt
 distance_gives depth (Reg r) (Vars lo hi) y own c = tt
+distance_gives depth (Reg r) (Dev lo hi) y own c = tt
 distance_gives depth (Reg r) (Num lo hi) _ own c = absurd c
 
 near_gives : (depth : ℕ) (form : ℤ → ℤ → Kind) (lo hi : ℤ) (region : Region) (o : ℤ) → IsFormOf depth form region → lo ≤ℤ o → o ≤ℤ hi → Gives depth (near form lo hi) (Some (Pointer region o))

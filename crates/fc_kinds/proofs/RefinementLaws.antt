@@ -11,7 +11,7 @@ use Rattle.fc_kinds.specs.declared.interval.Interval.{Interval}
 use Rattle.fc_kinds.specs.Intervals.{interval, IntervalWithin, refined}
 use Rattle.fc_kinds.proofs.IntervalsRefined.{refined_narrower, refined_proper}
 use Rattle.fc_kinds.specs.declared.kind.Kind.{Kind}
-use Rattle.fc_kinds.specs.declared.kind.Kind.TheVariants.{Unset, Num, Stack, Req, Vars}
+use Rattle.fc_kinds.specs.declared.kind.Kind.TheVariants.{Unset, Num, Stack, Req, Vars, Dev}
 use Rattle.fc_kinds.specs.Kinds.{kind_at, KindWithin, Within}
 use Rattle.fc_kinds.specs.Values.{with_some}
 use Rattle.fc_kinds.specs.Transfer.{num, is_number, operand_kind}
@@ -63,10 +63,12 @@ numbers_refined relation j ks ks' k l Unset l' left right a w p q u v s t = absu
 numbers_refined relation j ks ks' k l (Stack m lo hi) l' left right a w p q u v s t = absurd (cc s)
 numbers_refined relation j ks ks' k l (Req lo hi) l' left right a w p q u v s t = absurd (cc s)
 numbers_refined relation j ks ks' k l (Vars lo hi) l' left right a w p q u v s t = absurd (cc s)
+numbers_refined relation j ks ks' k l (Dev lo hi) l' left right a w p q u v s t = absurd (cc s)
 numbers_refined relation j ks ks' k l (Num lo hi) Unset left right a w p q u v s t = absurd (cc t)
 numbers_refined relation j ks ks' k l (Num lo hi) (Stack m lo' hi') left right a w p q u v s t = absurd (cc t)
 numbers_refined relation j ks ks' k l (Num lo hi) (Req lo' hi') left right a w p q u v s t = absurd (cc t)
 numbers_refined relation j ks ks' k l (Num lo hi) (Vars lo' hi') left right a w p q u v s t = absurd (cc t)
+numbers_refined relation j ks ks' k l (Num lo hi) (Dev lo' hi') left right a w p q u v s t = absurd (cc t)
 numbers_refined relation j ks ks' _ _ (Num lo hi) (Num lo' hi') left right a w p q u v s t = absurd (assumption (u, v))
 
 pub when_follows : (j : Jump) (taken : Bool) (ks ks' : List Kind) → IsReg j.left → IsOperand j.right → AreKinds ks → Within ks ks' → is_number (kind_at ks' j.left) ≡ true → is_number (operand_kind W64 j.right ks') ≡ true → WayFollows (when j taken ks) (when j taken ks')

@@ -19,7 +19,7 @@ use Rattle.fc_isa.specs.declared.insn.Relation.TheVariants.{Eq, Gt, Ge, Set, Ne,
 use Rattle.fc_isa.specs.declared.insn.Insn.{Insn}
 use Rattle.fc_isa.specs.declared.insn.Insn.TheVariants.{Alu, Neg, SignExtend, End, LoadWide, Load, StoreImm, Store, WideSecond, JumpAlways, JumpAlwaysLong, JumpIf, CallHelper, CallLocal, Exit}
 use Rattle.fc_kinds.specs.declared.kind.Kind.{Kind}
-use Rattle.fc_kinds.specs.declared.kind.Kind.TheVariants.{Unset, Num, Stack, Req, Vars}
+use Rattle.fc_kinds.specs.declared.kind.Kind.TheVariants.{Unset, Num, Stack, Req, Vars, Dev}
 use Rattle.fc_kinds.specs.Kinds.{kind_at}
 use Rattle.fc_kinds.specs.Intervals.{interval_of, alu_interval, extended_values, refined}
 use Rattle.fc_kinds.specs.Lattice.{join_kind}
@@ -142,6 +142,14 @@ rows_helpers : (helps (pos 1) Unset Unset ≡ Some (Num 0 1024)) × (helps (pos 
     × (helps (pos 7) Unset Unset ≡ Some (Num 0 0)) × (helps (pos 0) (Num 1 1) (Num 1 1) ≡ None) × (helps (pos 8) (Num 1 1) (Num 1 1) ≡ None) × (helps (negsuc 0) (Num 1 1) (Num 1 1) ≡ None)
 unfolding transfer
 rows_helpers = (refl, refl, refl, refl, refl, refl, refl, refl, refl, refl, refl, refl)
+
+-- the readings: 64 bytes that may be read and not written
+rows_readings : (leaves (Load (Unsigned DoubleWord) 0 1 (pos 56)) Unset (Dev (pos 0) (pos 0)) ≡ Some all64) × (leaves (Load (Unsigned DoubleWord) 0 1 (pos 57)) Unset (Dev (pos 0) (pos 0)) ≡ None)
+    × (is_met (leaves (StoreImm Byte 1 (pos 0) (pos 1)) Unset (Dev (pos 0) (pos 0))) ≡ 0) × (is_met (leaves (Store Byte 1 (pos 0) 0) (Num 1 1) (Dev (pos 0) (pos 0))) ≡ 0)
+    × (helps (pos 5) (Dev (pos 0) (pos 0)) (Num 0 64) ≡ Some (Num 0 1)) × (helps (pos 5) (Dev (pos 1) (pos 1)) (Num 0 64) ≡ None)
+    × (both Mov W64 Unset (Dev (pos 1) (pos 2)) ≡ Some (Dev (pos 1) (pos 2))) × (both Add W64 (Dev (pos 0) (pos 0)) (Num 0 65536) ≡ Some (Dev (pos 0) (pos 65536))) × (join_kind (Dev (pos 0) (pos 0)) (Req (pos 0) (pos 0)) ≡ Unset)
+unfolding transfer alu_kind
+rows_readings = (refl, refl, refl, refl, refl, refl, refl, refl, refl)
 
 -- no bytes may begin at a region's end
 rows_reply_put : (helps (pos 5) (Vars (pos 8) (pos 8)) (Num 0 0) ≡ Some (Num 0 1)) × (helps (pos 5) (Vars (pos 8) (pos 8)) (Num 0 1) ≡ None) × (helps (pos 5) (Req (pos 80) (pos 80)) (Num 0 1024) ≡ Some (Num 0 1))

@@ -16,7 +16,7 @@ use Rattle.fc_kinds.specs.declared.interval.Interval.{Interval}
 use Rattle.fc_kinds.specs.Intervals.{interval, Inside, opposite, refined}
 use Rattle.fc_kinds.proofs.IntervalsRefined.{Leaves, refined_leaves}
 use Rattle.fc_kinds.specs.declared.kind.Kind.{Kind}
-use Rattle.fc_kinds.specs.declared.kind.Kind.TheVariants.{Unset, Num, Stack, Req, Vars}
+use Rattle.fc_kinds.specs.declared.kind.Kind.TheVariants.{Unset, Num, Stack, Req, Vars, Dev}
 use Rattle.fc_kinds.specs.Values.{Value, Number, value_at, with_some}
 use Rattle.fc_kinds.specs.Kinds.{kind_at, Contains, Holds}
 use Rattle.fc_kinds.specs.Transfer.{num, operand_kind}
@@ -80,9 +80,11 @@ numbers_keep depth j taken ks vs (Num lo hi) Unset x y e f t c d h = record { ki
 numbers_keep depth j taken ks vs (Num lo hi) (Stack m lo' hi') x y e f t c d h = absurd d
 numbers_keep depth j taken ks vs (Num lo hi) (Req lo' hi') x y e f t c d h = absurd d
 numbers_keep depth j taken ks vs (Num lo hi) (Vars lo' hi') x y e f t c d h = absurd d
+numbers_keep depth j taken ks vs (Num lo hi) (Dev lo' hi') x y e f t c d h = absurd d
 numbers_keep depth j taken ks vs (Stack m lo hi) l x y e f t c d h = absurd c
 numbers_keep depth j taken ks vs (Req lo hi) l x y e f t c d h = absurd c
 numbers_keep depth j taken ks vs (Vars lo hi) l x y e f t c d h = absurd c
+numbers_keep depth j taken ks vs (Dev lo hi) l x y e f t c d h = absurd c
 
 pub operand_contains : (depth : ℕ) (o : Operand) (ks : List Kind) (vs : List Value) → Holds depth ks vs → Contains depth (operand_kind W64 o ks) (operand_value W64 o vs)
 operand_contains depth (Imm k) ks vs h = (omega arith, omega arith)

@@ -12,7 +12,7 @@ use Rattle.fc_isa.specs.declared.insn.Insn.{Insn}
 use Rattle.fc_isa.specs.declared.insn.Insn.TheVariants.{Alu, Neg, SignExtend, End, LoadWide, WideSecond, Load, StoreImm, Store, JumpAlways, JumpAlwaysLong, JumpIf, CallHelper, CallLocal, Exit}
 use Rattle.fc_isa.specs.Program.{IsInsn}
 use Rattle.fc_kinds.specs.declared.kind.Kind.{Kind}
-use Rattle.fc_kinds.specs.declared.kind.Kind.TheVariants.{Unset, Num, Stack, Req, Vars}
+use Rattle.fc_kinds.specs.declared.kind.Kind.TheVariants.{Unset, Num, Stack, Req, Vars, Dev}
 use Rattle.fc_kinds.specs.Kinds.{kind_at, KindWithin, Within}
 use Rattle.fc_kinds.specs.Transfer.{num, is_number, operand_kind, alu_kind, may_read, bytes_loaded, loaded_interval, size_of, put_kind, where_met, after_call, returned, are_bytes, are_arguments, helped_kinds, raised, enter, transfer}
 use Rattle.fc_kinds.specs.Values.{with_some}
@@ -120,6 +120,7 @@ raised_within (Num lo hi) (Num lo' hi') w = w
 raised_within (Stack l lo hi) (Stack l' lo' hi') w = (ap (λ n. n + 1) w.0, w.1, w.2)
 raised_within (Req lo hi) (Req lo' hi') w = w
 raised_within (Vars lo hi) (Vars lo' hi') w = w
+raised_within (Dev lo hi) (Dev lo' hi') w = w
 raised_within _ _ w = absurd (assumption w)
 
 raised_is : (k : Kind) → IsKind k → IsKind (raised k)
@@ -128,6 +129,7 @@ raised_is (Num lo hi) i = i
 raised_is (Stack l lo hi) i = i
 raised_is (Req lo hi) i = i
 raised_is (Vars lo hi) i = i
+raised_is (Dev lo hi) i = i
 
 -- what a call hands on grows with the caller's kinds
 pub enter_within : (ks ks' : List Kind) → Within ks ks' → Within (enter ks) (enter ks')
@@ -148,6 +150,7 @@ count_follows vars p p' c Unset v w e = absurd (cc e)
 count_follows vars p p' c (Stack l lo hi) v w e = absurd (cc e)
 count_follows vars p p' c (Req lo hi) v w e = absurd (cc e)
 count_follows vars p p' c (Vars lo hi) v w e = absurd (cc e)
+count_follows vars p p' c (Dev lo hi) v w e = absurd (cc e)
 count_follows vars p p' _ (Num lo' hi') v w e = absurd w
 
 arguments_follow : (vars : ℕ) (arguments : Arguments) (ks ks' : List Kind) → Within ks ks' → are_arguments vars arguments ks' ≡ true → are_arguments vars arguments ks ≡ true

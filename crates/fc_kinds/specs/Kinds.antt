@@ -1,8 +1,8 @@
 -- Kinds: what is known of a register's value, and which values a kind contains.
 use Rattle.std.specs.Prelude.{◌≡◌, ℕ, ◌+◌, ◌≤◌, ◌≤ℤ◌, List, slice_index_or}
 use Rattle.fc_kinds.specs.declared.kind.Kind.{Kind}
-use Rattle.fc_kinds.specs.declared.kind.Kind.TheVariants.{Unset, Num, Stack, Req, Vars}
-use Rattle.fc_kinds.specs.Values.{Value, Number, Pointer, Frame, Asked, Variables, value_at}
+use Rattle.fc_kinds.specs.declared.kind.Kind.TheVariants.{Unset, Num, Stack, Req, Vars, Dev}
+use Rattle.fc_kinds.specs.Values.{Value, Number, Pointer, Frame, Asked, Variables, Readings, value_at}
 
 abbrev pub kind_at : List Kind → ℕ → Kind
 kind_at kinds r = slice_index_or kinds r Unset
@@ -14,6 +14,7 @@ Contains depth (Num lo hi) (Number n) = (lo ≤ n) × (n ≤ hi)
 Contains depth (Stack level lo hi) (Pointer (Frame k) o) = (k + level ≡ depth) × (lo ≤ℤ o) × (o ≤ℤ hi)
 Contains depth (Req lo hi) (Pointer Asked o) = (lo ≤ℤ o) × (o ≤ℤ hi)
 Contains depth (Vars lo hi) (Pointer Variables o) = (lo ≤ℤ o) × (o ≤ℤ hi)
+Contains depth (Dev lo hi) (Pointer Readings o) = (lo ≤ℤ o) × (o ≤ℤ hi)
 Contains depth _ _ = ⊥
 
 -- the registers' kinds contain their values
@@ -27,6 +28,7 @@ KindWithin (Num lo hi) (Num lo' hi') = (lo' ≤ lo) × (hi ≤ hi')
 KindWithin (Stack level lo hi) (Stack level' lo' hi') = (level ≡ level') × (lo' ≤ℤ lo) × (hi ≤ℤ hi')
 KindWithin (Req lo hi) (Req lo' hi') = (lo' ≤ℤ lo) × (hi ≤ℤ hi')
 KindWithin (Vars lo hi) (Vars lo' hi') = (lo' ≤ℤ lo) × (hi ≤ℤ hi')
+KindWithin (Dev lo hi) (Dev lo' hi') = (lo' ≤ℤ lo) × (hi ≤ℤ hi')
 KindWithin _ _ = ⊥
 
 -- a state is contained in another, register by register

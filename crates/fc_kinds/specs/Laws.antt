@@ -81,10 +81,10 @@ EffectsContainTheStep =
     (vars : ℕ) (insn : Insn) (c : Config) (ks : List Kind) (handed : List Way) → StaysInFunction insn → IsInsn insn
     → IsConfig vars c → Holds (depth c) ks c.regs → ways vars insn ks ≡ Some handed → StepsAlong vars (act insn c) c handed
 
--- with fewer than four frames a local call has a step
+-- with fewer than eight frames a local call has a step
 abbrev pub CallsContainTheStep : Type 0
 CallsContainTheStep =
-    (vars : ℕ) (offset : ℤ) (c : Config) (ks : List Kind) → pos 0 ≤ℤ offset → depth c < 3 → IsConfig vars c
+    (vars : ℕ) (offset : ℤ) (c : Config) (ks : List Kind) → pos 0 ≤ℤ offset → depth c < 7 → IsConfig vars c
     → Holds (depth c) ks c.regs → StepsTo (IsEntered vars offset ks c) (act (CallLocal offset) c)
 
 -- an exit whose demands are met, with a caller that waits, has a step

@@ -25,7 +25,7 @@ use Rattle.fc_alu.specs.Arithmetic.{bytes_in}
 use Rattle.fc_kinds.specs.declared.interval.Interval.{Interval}
 use Rattle.fc_kinds.specs.Intervals.{interval, all, alu_interval, extended_values}
 use Rattle.fc_kinds.specs.declared.kind.Kind.{Kind}
-use Rattle.fc_kinds.specs.declared.kind.Kind.TheVariants.{Unset, Num, Stack, Req, Vars}
+use Rattle.fc_kinds.specs.declared.kind.Kind.TheVariants.{Unset, Num, Stack, Req, Vars, Dev}
 use Rattle.fc_kinds.specs.Values.{with_some}
 use Rattle.fc_kinds.specs.Kinds.{kind_at}
 
@@ -39,6 +39,7 @@ by_form (Num lo hi) number pointer = number (interval lo hi)
 by_form (Stack level lo hi) number pointer = pointer (Stack level) lo hi
 by_form (Req lo hi) number pointer = pointer Req lo hi
 by_form (Vars lo hi) number pointer = pointer Vars lo hi
+by_form (Dev lo hi) number pointer = pointer Dev lo hi
 
 abbrev pub no_pointer : {A : Type 0} → (ℤ → ℤ → Kind) → ℤ → ℤ → Option A
 no_pointer form lo hi = None
@@ -129,6 +130,7 @@ abbrev pub may_read : ℕ → ℕ → ℤ → Kind → Bool
 may_read vars n f (Stack level lo hi) = inside 256 n f lo hi
 may_read vars n f (Req lo hi) = inside 1104 n f lo hi
 may_read vars n f (Vars lo hi) = inside vars n f lo hi
+may_read vars n f (Dev lo hi) = inside 64 n f lo hi
 may_read vars n f other = false
 
 abbrev pub may_write : ℕ → ℕ → ℤ → Kind → Bool

@@ -67,6 +67,15 @@ fn added(operand: Operand, a: Kind, b: Kind) -> Result<Kind, Rule>
                 Err(Rule::PointerStep)
             }
         }
+        Kind::Dev { lo, hi } => {
+            let (least, most) = distance(operand, b)?;
+            let (lo, hi) = (plus(lo, least), plus(hi, most));
+            if is_near(lo, hi) {
+                Ok(Kind::Dev { lo, hi })
+            } else {
+                Err(Rule::PointerStep)
+            }
+        }
     }
 }
 
@@ -108,6 +117,15 @@ fn subtracted(operand: Operand, a: Kind, b: Kind) -> Result<Kind, Rule>
                 Err(Rule::PointerStep)
             }
         }
+        Kind::Dev { lo, hi } => {
+            let (least, most) = distance(operand, b)?;
+            let (lo, hi) = (minus(lo, most), minus(hi, least));
+            if is_near(lo, hi) {
+                Ok(Kind::Dev { lo, hi })
+            } else {
+                Err(Rule::PointerStep)
+            }
+        }
     }
 }
 
@@ -124,6 +142,7 @@ fn moved(width: Width, b: Kind) -> Result<Kind, Rule>
         (Width::W64, Kind::Stack { .. }) => Ok(b),
         (Width::W64, Kind::Req { .. }) => Ok(b),
         (Width::W64, Kind::Vars { .. }) => Ok(b),
+        (Width::W64, Kind::Dev { .. }) => Ok(b),
         (Width::W32, Kind::Num { lo, hi }) => {
             let s = Interval { lo, hi };
             Ok(num(alu_interval(AluOp::Mov, Width::W32, s, s)))

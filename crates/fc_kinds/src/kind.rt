@@ -13,6 +13,8 @@ pub enum Kind {
     Req { lo: i64, hi: i64 },
     /// A pointer into the variables.
     Vars { lo: i64, hi: i64 },
+    /// A pointer into the readings.
+    Dev { lo: i64, hi: i64 },
 }
 
 /// The kinds of the eleven registers.

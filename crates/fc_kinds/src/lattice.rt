@@ -41,6 +41,10 @@ fn join_kind(a: Kind, b: Kind) -> Kind
             lo: lo.min(low),
             hi: hi.max(high),
         },
+        (Kind::Dev { lo, hi }, Kind::Dev { lo: low, hi: high }) => Kind::Dev {
+            lo: lo.min(low),
+            hi: hi.max(high),
+        },
         _ => Kind::Unset,
     }
 }

@@ -56,7 +56,7 @@ fn loaded_interval(loaded: LoadType) -> Interval
 /// A store of an immediate at a base register's address and an offset.
 ///
 /// # Errors
-/// The base is no pointer, the bytes don't lie in its region, or that is the request.
+/// The base is no pointer, the bytes don't lie in its region, or that is the request or the readings.
 #[tactic(auto, unfolding(crate::specs::Transfer::transfer))]
 pub(crate) fn store_imm(
     size: Size,

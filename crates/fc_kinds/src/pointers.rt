@@ -13,6 +13,9 @@ const FRAME: u16 = 256;
 /// The bytes of the request's region.
 const REQUEST: u16 = 1104;
 
+/// The bytes of the readings.
+const READINGS: u16 = 64;
+
 /// How far an operand moves a pointer, at least and at most.
 ///
 /// # Errors
@@ -120,6 +123,7 @@ pub(crate) fn may_read(vars_size: u16, bytes: u16, offset: i16, kind: Kind) -> b
         Kind::Stack { lo, hi, .. } => inside(FRAME, bytes, offset, lo, hi),
         Kind::Req { lo, hi } => inside(REQUEST, bytes, offset, lo, hi),
         Kind::Vars { lo, hi } => inside(vars_size, bytes, offset, lo, hi),
+        Kind::Dev { lo, hi } => inside(READINGS, bytes, offset, lo, hi),
         Kind::Unset | Kind::Num { .. } => false,
     }
 }
@@ -132,11 +136,12 @@ pub(crate) fn may_write(vars_size: u16, bytes: u16, offset: i16, kind: Kind) -> 
     match kind {
         Kind::Stack { lo, hi, .. } => inside(FRAME, bytes, offset, lo, hi),
         Kind::Vars { lo, hi } => inside(vars_size, bytes, offset, lo, hi),
-        Kind::Unset | Kind::Num { .. } | Kind::Req { .. } => false,
+        Kind::Unset | Kind::Num { .. } | Kind::Req { .. } | Kind::Dev { .. } => false,
     }
 }
 
-/// Why an access through this kind is refused: it is no pointer, it may lie outside its region, or it would write the request.
+/// Why an access through this kind is refused: it is no pointer, it may lie outside its region, or it would write the request or
+/// the readings.
 pub(crate) fn access_fault(vars_size: u16, bytes: u16, offset: i16, kind: Kind) -> Rule
     requires { IsKind kind }
     ensures { (20 ≤ number_of result) × (number_of result ≤ 27) }

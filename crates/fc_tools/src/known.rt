@@ -32,6 +32,10 @@ impl fmt::Display for Known {
                 write!(f, "a pointer into the variables, at offset ")?;
                 write_ends(f, lo, hi)
             }
+            Kind::Dev { lo, hi } => {
+                write!(f, "a pointer into the readings, at offset ")?;
+                write_ends(f, lo, hi)
+            }
         }
     }
 }

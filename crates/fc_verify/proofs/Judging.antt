@@ -91,7 +91,7 @@ refused_decode image head NoRoom h d = h.fault
 insn_there : (code : List Insn) (slot : ℕ) (insn : Insn) → All IsInsn code → slice_get code slot ≡ Some insn → IsInsn insn
 insn_there code slot insn h e = subst IsInsn (get_or_from_slice_get code slot insn insn e) (h slot insn (slice_get_within code slot insn e))
 
-pub untyped_program : (bytes : List ℕ) (code : List Insn) → 1 ≤ length code → length code ≤ 1024 → Spells bytes code → IsShaped code → frames code ≤ 4 → IsUntypedProgram code
+pub untyped_program : (bytes : List ℕ) (code : List Insn) → 1 ≤ length code → length code ≤ 1024 → Spells bytes code → IsShaped code → frames code ≤ 8 → IsUntypedProgram code
 untyped_program bytes code some few s shaped nested = record {
   some = some;
   few = few;
@@ -105,12 +105,16 @@ few_slots : (version : ImageVersion) (n : ℕ) → n ≤ slots_allowed version �
 few_slots One n le = omega (arith, le)
 few_slots Two n le = omega (arith, le)
 
+few_frames : (version : ImageVersion) (n : ℕ) → n ≤ frames_allowed version → n ≤ 8
+few_frames One n le = omega (arith, le)
+few_frames Two n le = omega (arith, le)
+
 pub untyped_of : (image : List ℕ) (head : Head) (code : List Insn) → IsHeadOf image head → IsCodeOf image code → IsShaped code → frames code ≤ frames_allowed head.version → IsUntypedProgram code
 untyped_of image head code h k s nested =
     let c = ap (λ x. x.count) h.stated_is in
     let few = few_slots head.version head.count h.limits.count in
     untyped_program (slots_of image) code (omega (arith, h.limits.some, c, k.count)) (omega (arith, few, c, k.count)) k.spelled s
-    (subst (λ v. frames code ≤ frames_allowed v) h.limits.version nested)
+    (few_frames head.version (frames code) nested)
 
 -- the shape's fault of the program in the image, and its typing's judgement
 pub shape_of : (image : List ℕ) (head : Head) (code : List Insn) (o : Option (ℕ × Rule)) → IsHeadOf image head → IsCodeOf image code → shape_fault head code ≡ o → shape_fault (stated image) (code_in image) ≡ o

@@ -3,7 +3,7 @@ use Rattle.std.proofs.Common.{◌≡◌, ℕ, ◌+◌, ◌<◌, ◌≤◌, Optio
 use Rattle.std.proofs.lemmas.Bool.{cases_eq, cases_lt}
 use Rattle.fc_isa.specs.declared.insn.Insn.{Insn}
 use Rattle.fc_kinds.specs.declared.kind.Kind.{Kind}
-use Rattle.fc_kinds.specs.declared.kind.Kind.TheVariants.{Unset, Num, Stack, Req, Vars}
+use Rattle.fc_kinds.specs.declared.kind.Kind.TheVariants.{Unset, Num, Stack, Req, Vars, Dev}
 use Rattle.fc_kinds.specs.Kinds.{kind_at}
 use Rattle.fc_kinds.specs.Lattice.{joined}
 use Rattle.fc_kinds.specs.Laws.{WaysRaiseByOne}
@@ -48,6 +48,7 @@ kind_up n m (Num lo hi) le h = tt
 kind_up n m (Stack level lo hi) le h = omega (arith, le, h)
 kind_up n m (Req lo hi) le h = tt
 kind_up n m (Vars lo hi) le h = tt
+kind_up n m (Dev lo hi) le h = tt
 
 pub shallow_up : (n m : ℕ) (ks : List Kind) → n ≤ m → AreShallow n ks → AreShallow m ks
 shallow_up n m ks le h = record { each = λ r. kind_up n m (kind_at ks r) le (h.each r) }
