@@ -47,11 +47,11 @@ own_row ran t slot v c after given w =
       after_is = w.1.after_is ∙ ap (λ (o : CommitOutcome). after_changes slot (commits o t slot.serial v).changes) is;
     }
 
-pub commit_row : (ran : Ran) (t : Ticket) (slot : Slot) (v : ObserverList) (c : Committed) (after : Slot) → ran.program ≡ t.found.program → ran.input.request ≡ t.request → ran.input.vars ≡ t.found.vars → HasGiven slot t → t.turn ≡ None → IsCommit ran t slot v c after → IsRow t slot v c after
-commit_row ran t slot v Stranger after p r vars given none w = absurd (w.stranger (record { asked = none; run = record { program = p; request = r; vars = vars; found = given.serial } }))
-commit_row ran t slot v (Done m) after p r vars given none w = own_row ran t slot v (Done m) after given w
-commit_row ran t slot v Overtaken after p r vars given none w = own_row ran t slot v Overtaken after given w
-commit_row ran t slot v Ended after p r vars given none w = own_row ran t slot v Ended after given w
+pub commit_row : (ran : Ran) (t : Ticket) (slot : Slot) (v : ObserverList) (c : Committed) (after : Slot) → ran.program ≡ t.found.program → ran.input.request ≡ t.request → ran.input.vars ≡ t.found.vars → ran.input.readings ≡ t.readings → HasGiven slot t → t.turn ≡ None → IsCommit ran t slot v c after → IsRow t slot v c after
+commit_row ran t slot v Stranger after p r vars readings given none w = absurd (w.stranger (record { asked = none; run = record { program = p; request = r; vars = vars; readings = readings; found = given.serial } }))
+commit_row ran t slot v (Done m) after p r vars readings given none w = own_row ran t slot v (Done m) after given w
+commit_row ran t slot v Overtaken after p r vars readings given none w = own_row ran t slot v Overtaken after given w
+commit_row ran t slot v Ended after p r vars readings given none w = own_row ran t slot v Ended after given w
 
 -- a commit that writes is at the ticket's serial
 writes_same : (w same below : Bool) → outcome_by w same below ≡ Writes → same ≡ true

@@ -270,13 +270,13 @@ request_fits (Run request) f = record { query = f.0; payload = f.1 }
 request_fits other f = record { query = omega arith; payload = omega arith }
 
 -- what a slot that fits gives to a job within its limits is an input of its program
-pub is_input : (job : Job) (p : Present) (request : Request) → AskWithin job.ask → request ≡ request_of job.ask → FitsPresent p → IsInput p.program (input_with request p.vars)
-is_input job p request within is fits = record { fits = subst FitsRegion (sym is) (request_fits job.ask within); vars = fits.vars }
+pub is_input : (job : Job) (p : Present) (request : Request) (readings : List ℕ) → AskWithin job.ask → request ≡ request_of job.ask → FitsPresent p → IsInput p.program (input_with request p.vars readings)
+is_input job p request readings within is fits = record { fits = subst FitsRegion (sym is) (request_fits job.ask within); vars = fits.vars }
 
 written_fits : (job : Job) (slot : Slot) (t : Ticket) → AskWithin job.ask → IsTicketOf job slot t → slot.present ≡ Some t.found → FitsSlot slot.present → FitsSlot (with_vars (meaning_at t).vars slot.present)
 written_fits job slot t within own e fits =
     let found : FitsPresent t.found = subst FitsSlot e fits in
-    let runs = found.safe.runs.run (input_of t) (is_input job t.found t.request within own.request found) in
+    let runs = found.safe.runs.run (input_of t) (is_input job t.found t.request t.readings within own.request found) in
     let here : FitsPresent (record t.found { vars = (meaning_at t).vars }) = record { safe = found.safe; vars = runs.vars } in
     subst (λ (p : Option Present). FitsSlot (with_vars (meaning_at t).vars p)) (sym e) here
 

@@ -559,7 +559,13 @@ fn run_and_commit(
     ensures shard { (common : Common) →
         shard.new ≡ shard_moved (commit_move shard.old common count ticket.now now) ticket.now.origin.slot shard.old }
 {
-    let outcome = run(frame, ticket.program(), ticket.request(), ticket.vars());
+    let outcome = run(
+        frame,
+        ticket.program(),
+        ticket.request(),
+        ticket.vars(),
+        ticket.readings(),
+    );
     let committed = shard.commit(now, &outcome, ticket);
     Stage::committed(count, &outcome, ticket, committed)
 }
@@ -581,7 +587,13 @@ fn note(
 {
     let noted = match found {
         Some(ticket) => {
-            let outcome = run(frame, ticket.program(), ticket.request(), ticket.vars());
+            let outcome = run(
+                frame,
+                ticket.program(),
+                ticket.request(),
+                ticket.vars(),
+                ticket.readings(),
+            );
             shard.note(turn, id, now, random, &Notification::Ran(&outcome, ticket))
         }
         None => shard.note(turn, id, now, random, &Notification::Gone),

@@ -24,7 +24,7 @@ use Rattle.fc_help.specs.declared.request.Method.TheVariants.{Get, Post}
 use Rattle.fc_help.specs.declared.helper.Helper.{Helper}
 use Rattle.fc_help.specs.declared.helper.Helper.TheVariants.{PayloadLen, PayloadByte, VarGet, VarPut, ReplyPut, ReplyByte, Notify}
 use Rattle.fc_help.specs.Request.{Request, request_with}
-use Rattle.fc_help.specs.Region.{region_of, readings_region}
+use Rattle.fc_help.specs.Region.{region_of, no_readings, readings_region}
 use Rattle.fc_kinds.specs.Values.{Value, Number, Pointer, Unset, Frame, Asked, Variables, Readings, value_at}
 use Rattle.fc_kinds.specs.Operations.{result_of}
 use Rattle.fc_kinds.specs.Execution.{Config, act, helped, loaded_number, step}
@@ -36,7 +36,7 @@ says payload = request_with Post 1 None [] payload
 
 -- what it means to a POST of this payload, with a word of variables
 abbrev means : List Insn → List ℕ → List ℕ → Meaning
-means code payload vars = meant (record { code = code; vars_size = 8; budget = 16; cost = 16 }) (input_with (says payload) vars)
+means code payload vars = meant (record { code = code; vars_size = 8; budget = 16; cost = 16 }) (input_with (says payload) vars no_readings)
 
 abbrev set : ℕ → ℤ → Insn
 set r k = Alu Mov W64 r (Imm k)
@@ -188,7 +188,7 @@ words = 1 ∷ 2 ∷ 3 ∷ 4 ∷ 5 ∷ 6 ∷ 7 ∷ 8 ∷ 255 ∷ 255 ∷ 255 ∷ 
 -- a run that has added so many bytes to its reply, with these in R1 and R2, and in R6
 abbrev before : Method → ℕ → Value → Value → Config
 before method added a b =
-    record (start (input_with (request_with method 1 None [] (7 ∷ 128 ∷ [])) words)) {
+    record (start (input_with (request_with method 1 None [] (7 ∷ 128 ∷ [])) words no_readings)) {
       regs = Unset ∷ a ∷ b ∷ Number 3 ∷ Number 4 ∷ Number 5 ∷ Number 6 ∷ Pointer Asked (pos 0) ∷ Number 8 ∷ Number 9 ∷ Pointer (Frame 0) (pos 256) ∷ [];
       reply = replicate added 1;
     }

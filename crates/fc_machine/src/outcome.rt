@@ -4,7 +4,7 @@ ghost use Rattle.fc_help.specs.Helpers.{room_of};
 ghost use Rattle.fc_kinds.specs.Meaning.{is_reply_code};
 ghost use Rattle.fc_machine.specs.Ran.{meaning_of};
 
-use fc_help::{Request, Vars};
+use fc_help::{Readings, Request, Vars};
 use fc_kinds::laws::reply_codes_are_known;
 use fc_verify::Verified;
 use std::marker::Model;
@@ -15,6 +15,7 @@ pub struct Outcome<'a> {
     pub(crate) program: &'a Verified,
     pub(crate) request: &'a Request,
     pub(crate) found: &'a Vars,
+    pub(crate) readings: &'a Readings,
     pub(crate) code: u8,
     pub(crate) reply: &'a [u8],
     pub(crate) after: &'a [u8],
@@ -27,9 +28,9 @@ impl<'a> Model for Outcome<'a> {
 
     ghost Value = { Ran };
 
-    ghost view = { λ o. ran o.program.now o.request.now o.found.now };
+    ghost view = { λ o. ran o.program.now o.request.now o.found.now o.readings.now };
 
-    ghost invariant = { λ o. IsOutcome (ran o.program.now o.request.now o.found.now) o.code o.reply.now o.after.now o.notice o.steps };
+    ghost invariant = { λ o. IsOutcome (ran o.program.now o.request.now o.found.now o.readings.now) o.code o.reply.now o.after.now o.notice o.steps };
 }
 
 impl<'a> Outcome<'a> {
@@ -52,6 +53,13 @@ impl<'a> Outcome<'a> {
         ensures { result.now ≡ self.now.input.vars }
     {
         self.found
+    }
+
+    /// The readings that it was handed.
+    pub fn readings(&self) -> &'a Readings
+        ensures { result.now ≡ self.now.input.readings }
+    {
+        self.readings
     }
 
     /// The reply's code, of class 2, 4 or 5: its method's success, 4.00, 4.03, 4.04 or 5.00.

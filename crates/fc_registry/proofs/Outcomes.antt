@@ -10,7 +10,7 @@ use Rattle.fc_registry.specs.Calls.{HasGiven, IsRunOf, ComesTo, outcome, outcome
 
 -- an outcome of the ticket's program, request and variables is the ticket's run
 pub own_run : (ran : Ran) (t : Ticket) (serial : ℕ) → IsRunOf ran t serial → ran ≡ run_of t
-own_run ran t serial own = λ i. record { program = own.program i; input = record { request = own.request i; vars = own.vars i } }
+own_run ran t serial own = λ i. record { program = own.program i; input = record { request = own.request i; readings = own.readings i; vars = own.vars i } }
 
 decided : (t : Ticket) (slot : Slot) (w same below : Bool) → wants t ≡ w → (slot.serial == t.serial) ≡ same → nat_lt slot.serial last_serial ≡ below → outcome t slot ≡ outcome_by w same below
 decided t slot w same below e f g = λ i. outcome_by (e i) (f i) (g i)

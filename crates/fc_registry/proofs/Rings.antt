@@ -38,9 +38,9 @@ entry_is slot c p is link =
     record {
       serial_is = refl;
       before = link.before ∙ ap (λ (q : Present). q.vars) same;
-      after = subst (λ (q : Present). c.after ≡ (meant q.program (input_with c.request q.vars)).vars) same link.after;
+      after = subst (λ (q : Present). c.after ≡ (meant q.program (input_with c.request q.vars c.readings)).vars) same link.after;
       post = link.post;
-      class = subst (λ (q : Present). code_class (meant q.program (input_with c.request q.vars)).code ≡ 2) same link.class;
+      class = subst (λ (q : Present). code_class (meant q.program (input_with c.request q.vars c.readings)).code ≡ 2) same link.class;
     }
 
 abbrev with_after : Present → Commit → Present

@@ -2,6 +2,7 @@
 use Rattle.std.specs.Prelude.{◌≡◌, ℕ, ◌+◌, ◌/◌, ◌==◌, ◌&&◌, ◌<◌, ◌≤◌, Bool, true, false, if◌then◌else◌, nat_lt, List, [], ◌∷◌, ◌++◌, Option, Some, None, is_none, is_some, max}
 use Rattle.coap_msg.specs.Codes.{code}
 use Rattle.coap_opts.specs.Values.{Place}
+use Rattle.fc_help.specs.Region.{no_readings}
 use Rattle.fc_help.specs.Request.{Request, no_request}
 use Rattle.fc_help.specs.declared.request.Method.{Method}
 use Rattle.fc_help.specs.declared.request.Method.TheVariants.{Get, Post}
@@ -41,7 +42,7 @@ request_of other = no_request
 
 -- a ticket of what a slot holds at a serial
 abbrev pub ticket_of : Job → ℕ → Present → Ticket
-ticket_of job serial found = record { origin = job.origin; turn = job.turn; token = job.token; request = request_of job.ask; block = job.block; observe = job.observe; serial = serial; found = found }
+ticket_of job serial found = record { origin = job.origin; turn = job.turn; token = job.token; request = request_of job.ask; block = job.block; observe = job.observe; serial = serial; found = found; readings = no_readings }
 
 -- a taking gives a ticket of what the slot holds, where there is memory for it; an empty slot asks for none
 abbrev pub taking : Bool → Job → ℕ → Option Present → Taken
@@ -151,9 +152,9 @@ is_post Post = true
 abbrev pub wants_by : Ran → Bool
 wants_by ran = is_post ran.input.request.method && (code_class (meaning_of ran).code == 2)
 
--- what a ticket's run is given: its request, and the variables that its taking found
+-- what a ticket's run is given: its request, the variables that its taking found, and the readings that were handed in there
 abbrev pub input_of : Ticket → Input
-input_of t = input_with t.request t.found.vars
+input_of t = input_with t.request t.found.vars t.readings
 
 abbrev pub run_of : Ticket → Ran
 run_of t = record { program = t.found.program; input = input_of t }
@@ -243,7 +244,7 @@ mark_of t serial changed observed = record { origin = t.origin; found = t.serial
 
 -- a commit that writes leaves just the variables that the run means, and gives its notice
 abbrev pub commit_of : Ticket → Commit
-commit_of t = record { request = t.request; before = t.found.vars; after = (meaning_at t).vars; notice = (meaning_at t).notice }
+commit_of t = record { request = t.request; readings = t.readings; before = t.found.vars; after = (meaning_at t).vars; notice = (meaning_at t).notice }
 
 -- the commit at a slot of this serial and with these observers
 abbrev pub commits : CommitOutcome → Ticket → ℕ → ObserverList → Called Committed
@@ -257,11 +258,12 @@ abbrev pub commit_calls : Committed → ℕ → Ticket → List ObserverCall
 commit_calls (Done m) now t = if m.changed then [] else observe_calls now t
 commit_calls other now t = []
 
--- the outcome is of the ticket's program, request and variables, and the ticket's serial isn't above the slot's
+-- the outcome is of the ticket's program, request, variables and readings, and the ticket's serial isn't above the slot's
 pub record IsRunOf (ran : Ran) (t : Ticket) (serial : ℕ) : Type 0 where
   pub program : ran.program ≡ t.found.program
   pub request : ran.input.request ≡ t.request
   pub vars : ran.input.vars ≡ t.found.vars
+  pub readings : ran.input.readings ≡ t.readings
   pub found : t.serial ≤ serial
 
 -- the ticket is no turn's, and the outcome is of it

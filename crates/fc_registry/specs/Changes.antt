@@ -6,9 +6,10 @@ use Rattle.circular_buffer.specs.Buffer.{keep_last}
 use Rattle.fc_registry.specs.declared.ring.Entry.{Entry}
 use Rattle.fc_registry.specs.Slots.{Slot, Present}
 
--- a commit: the request that it answered, the variables that it found and left, and whether the run gave a notice
+-- a commit: the request that it answered, the readings of its taking, the variables that it found and left, and whether the run gave a notice
 pub record Commit : Type 0 where
   pub request : Request
+  pub readings : List ℕ
   pub before : List ℕ
   pub after : List ℕ
   pub notice : Bool
@@ -21,7 +22,7 @@ pub data Change : Type 0 where
 
 -- a commit as the slot remembers it
 abbrev pub entry_of : ℕ → Commit → Entry
-entry_of serial commit = record { serial = serial; request = commit.request; before = commit.before; after = commit.after }
+entry_of serial commit = record { serial = serial; request = commit.request; readings = commit.readings; before = commit.before; after = commit.after }
 
 abbrev pub with_vars : List ℕ → Option Present → Option Present
 with_vars vars None = None

@@ -16,10 +16,10 @@ pub record IsLink (slot : Slot) (c : Commit) : Type 0 where
   pub found : Present
   pub present : slot.present ≡ Some found
   pub before : c.before ≡ found.vars
-  pub after : c.after ≡ (meant found.program (input_with c.request found.vars)).vars
-  pub notice : c.notice ≡ (meant found.program (input_with c.request found.vars)).notice
+  pub after : c.after ≡ (meant found.program (input_with c.request found.vars c.readings)).vars
+  pub notice : c.notice ≡ (meant found.program (input_with c.request found.vars c.readings)).notice
   pub post : c.request.method ≡ Post
-  pub class : code_class (meant found.program (input_with c.request found.vars)).code ≡ 2
+  pub class : code_class (meant found.program (input_with c.request found.vars c.readings)).code ≡ 2
 
 -- each commit in a list of changes, the newest first, is a link: it begins with what the changes before it left
 abbrev pub IsChain : Slot → List Change → Type 0
@@ -33,9 +33,9 @@ IsChain first (Removed ∷ cs) = IsChain first cs
 pub record IsEntry (p : Program) (serial : ℕ) (vars : List ℕ) (e : Entry) : Type 0 where
   pub serial_is : e.serial ≡ serial
   pub before : e.before ≡ vars
-  pub after : e.after ≡ (meant p (input_with e.request vars)).vars
+  pub after : e.after ≡ (meant p (input_with e.request vars e.readings)).vars
   pub post : e.request.method ≡ Post
-  pub class : code_class (meant p (input_with e.request vars)).code ≡ 2
+  pub class : code_class (meant p (input_with e.request vars e.readings)).code ≡ 2
 
 -- entries of consecutive serials, the oldest first: each begins with what the one before it left
 abbrev pub AreEntries : Program → ℕ → List ℕ → List Entry → Type 0

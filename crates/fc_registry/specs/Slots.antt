@@ -58,8 +58,8 @@ slot_in shard n = slice_index_or shard.slots (n / 8) (new_slot 0)
 abbrev pub with_slot : Shard → ℕ → Slot → Shard
 with_slot shard n slot = record shard { slots = slice_set shard.slots (n / 8) slot }
 
--- what a taking found: the serial of the slot, and its program with version and variables; and its request with its token, the
--- block of the reply that it asks, and the value of its Observe option. That of a turn has its number
+-- what a taking found: the serial of the slot, and its program with version and variables, and the readings; and its request with its
+-- token, the block of the reply that it asks, and the value of its Observe option. That of a turn has its number
 pub record Ticket : Type 0 where
   pub origin : Origin
   pub turn : Option ℕ
@@ -69,6 +69,7 @@ pub record Ticket : Type 0 where
   pub observe : Option ℕ
   pub serial : ℕ
   pub found : Present
+  pub readings : List ℕ
 
 -- what a commit leaves, for the answer to spend: the serial found, the serial at the commit, whether the slot changed, and whether
 -- the client of its request observes it from now on

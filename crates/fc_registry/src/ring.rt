@@ -3,18 +3,20 @@ ghost use Rattle.std.specs.Prelude.{◌≡◌, [], ◌∷◌, ◌++◌, IfOk};
 ghost use Rattle.circular_buffer.specs.Buffer.{keep_last};
 
 use circular_buffer::HeapCircularBuffer;
-use fc_help::{Request, Vars};
+use fc_help::{Readings, Request, Vars};
 use std::alloc::{AllocError, Global};
 use std::marker::Model;
 
 /// How many commits a slot remembers.
 pub const RING: usize = 8;
 
-/// A commit: the slot's serial after it, the request that it answered, and the variables that it found and left.
+/// A commit: the slot's serial after it, the request that it answered, the readings of its taking, and the variables that it found
+/// and left.
 #[derive(Drop)]
 pub struct Entry {
     pub serial: u64,
     pub request: Request,
+    pub readings: Readings,
     pub before: Vars,
     pub after: Vars,
 }

@@ -22,7 +22,7 @@ use crate::slot_number::{SHARDS, SlotNumber};
 use crate::ticket::{Mark, Ticket, is_run_of};
 use crate::turn::next_turn;
 use coap_msg::{Endpoint, Token};
-use fc_help::{Method, Request, Vars};
+use fc_help::{Method, NO_READINGS, Request, Vars};
 use fc_machine::Outcome;
 use fc_observe::{Observers, Ticked, Turn};
 use fc_verify::Verified;
@@ -479,6 +479,7 @@ fn find(job: &Job, slot: &SlotState) -> Taken
             program,
             version: body.version,
             vars: body.vars.copy(),
+            readings: NO_READINGS,
         }),
         Err(_) => Taken::Refused,
     }
@@ -559,7 +560,7 @@ fn receipt_in(slot: &SlotState) -> Option<Receipt>
     }
 }
 
-// Whether the ticket is no turn's, the outcome is of its program, request and variables, and its serial isn't above the slot's.
+// Whether the ticket is no turn's, the outcome is of its program, request, variables and readings, and its serial isn't above the slot's.
 fn is_own(outcome: &Outcome<'_>, ticket: &Ticket, slot: &SlotState) -> bool
     ensures own { IsTrue result ↔ IsOwn outcome.now ticket.now (as_seen slot.now) }
     ensures run { IsTrue result → outcome.now ≡ run_of ticket.now }
@@ -667,6 +668,7 @@ fn write(slot: &mut SlotState, outcome: &Outcome<'_>, ticket: &Ticket) -> Mark
     slot.ring.push(Entry {
         serial: slot.serial,
         request: outcome.request().copy(),
+        readings: *outcome.readings(),
         before: outcome.found().copy(),
         after: vars_after(outcome),
     });

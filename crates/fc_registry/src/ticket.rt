@@ -5,7 +5,7 @@ ghost use Rattle.fc_registry.specs.Calls.{IsRunOf, run_of};
 use crate::job::Origin;
 use coap_msg::Token;
 use coap_opts::Block;
-use fc_help::{Request, Vars};
+use fc_help::{Readings, Request, Vars, are_same_readings};
 use fc_machine::Outcome;
 use fc_verify::Verified;
 use std::marker::Model;
@@ -25,6 +25,7 @@ pub struct Ticket {
     pub(crate) program: Arc<Verified>,
     pub(crate) version: u64,
     pub(crate) vars: Vars,
+    pub(crate) readings: Readings,
 }
 
 impl Model for Ticket {
@@ -43,6 +44,7 @@ impl Model for Ticket {
       observe = t.observe;
       serial = t.serial;
       found = record { program = t.program.value; version = t.version; vars = t.vars };
+      readings = t.readings;
     } };
 
     ghost invariant = { λ t. length t.vars ≡ t.program.value.vars_size };
@@ -112,9 +114,16 @@ impl Ticket {
     {
         &self.vars
     }
+
+    /// The readings that were handed in at the taking.
+    pub fn readings(&self) -> &Readings
+        ensures { result.now ≡ self.now.readings }
+    {
+        &self.readings
+    }
 }
 
-// Whether an outcome is of a ticket's program, request and variables, and the ticket's serial isn't above this one.
+// Whether an outcome is of a ticket's program, request, variables and readings, and the ticket's serial isn't above this one.
 pub(crate) fn is_run_of(outcome: &Outcome<'_>, ticket: &Ticket, serial: u64) -> bool
     ensures of { IsTrue result ↔ IsRunOf outcome.now ticket.now serial }
     ensures run { IsTrue result → outcome.now ≡ run_of ticket.now }
@@ -122,6 +131,7 @@ pub(crate) fn is_run_of(outcome: &Outcome<'_>, ticket: &Ticket, serial: u64) -> 
     outcome.program().is(ticket.program())
         && outcome.request().is(ticket.request())
         && outcome.found().is(ticket.vars())
+        && are_same_readings(outcome.readings(), ticket.readings())
         && ticket.serial() <= serial
 }
 

@@ -42,7 +42,7 @@ use Rattle.fc_server.proofs.ShardEvents.{shard_agrees, shard_brings, shard_sends
 
 found_means : (j : Job) (slot : Slot) (p : Option Present) → AskWithin j.ask → FitsSlot p → FoundMeans j slot.serial p
 found_means j slot None within fits = tt
-found_means j slot (Some p) within fits = record { run = fits.safe.runs.run _ (is_input j p _ within refl fits); longest = fits.safe.longest; cost = fits.safe.runs.cost }
+found_means j slot (Some p) within fits = record { run = fits.safe.runs.run _ (is_input j p _ _ within refl fits); longest = fits.safe.longest; cost = fits.safe.runs.cost }
 
 finds_by : (x : Scene) (st : Stage) → AskWithin x.job.ask → FitsSlot x.slot.present → FindsMeaning x st
 finds_by x (ToTake n) within fits = found_means x.job x.slot x.slot.present within fits

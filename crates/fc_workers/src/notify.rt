@@ -58,7 +58,13 @@ impl<'a, B: Bench, G: Gate, W: Wire, M: Moments> Workshop<'a, B, G, W, M> {
         };
         match &found {
             Some(ticket) => {
-                let outcome = run(frame, ticket.program(), ticket.request(), ticket.vars());
+                let outcome = run(
+                    frame,
+                    ticket.program(),
+                    ticket.request(),
+                    ticket.vars(),
+                    ticket.readings(),
+                );
                 self.note(rt, turn, id, &Notification::Ran(&outcome, ticket), share)
             }
             None => self.note(rt, turn, id, &Notification::Gone, share),

@@ -127,7 +127,13 @@ impl<'a, B: Bench, G: Gate, W: Wire, M: Moments> Workshop<'a, B, G, W, M> {
         ensures step { IsStep B.changes job.now (ToCommit count ticket.now) result share.old share.new }
         ensures ended { B.ended share.new.tallies ≡ B.ended share.old.tallies }
     {
-        let outcome = run(frame, ticket.program(), ticket.request(), ticket.vars());
+        let outcome = run(
+            frame,
+            ticket.program(),
+            ticket.request(),
+            ticket.vars(),
+            ticket.readings(),
+        );
         let now = self.moments.now(rt);
         let committed = self
             .bench

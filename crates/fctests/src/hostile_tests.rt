@@ -1,7 +1,7 @@
 // Hostile bytes: a datagram that was cut, and an image each of whose bytes was changed. What is printed was worked out by hand.
 use crate::play_tests::plays;
 use fc_cli::Status;
-use fc_help::{Method, Request, Vars};
+use fc_help::{Method, NO_READINGS, Request, Vars};
 use fc_machine::{Frame, run};
 use fc_verify::{Refusal, Verified, verify};
 use std::alloc::AllocError;
@@ -65,7 +65,7 @@ fn ends_in_time(frame: &mut Frame, program: &Verified, payload: &[u8; 1024], siz
         payload.get(..size).unwrap_or(b""),
     );
     let found = Vars::zeros(program.vars_size());
-    run(frame, program, &request, &found).steps() <= program.budget()
+    run(frame, program, &request, &found, &NO_READINGS).steps() <= program.budget()
 }
 
 // Verifies an image, and runs it, where it is accepted, on no payload and on the largest.

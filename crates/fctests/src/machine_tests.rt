@@ -1,7 +1,7 @@
 // Runs of a POST: what they give follows from the tables of instructions, helpers and the request, worked out by hand.
 use crate::tooling::assembled;
 use fc_cli::Status;
-use fc_help::{Method, Request, Vars};
+use fc_help::{Method, NO_READINGS, Request, Vars};
 use fc_machine::{Frame, run};
 use fc_verify::verify;
 use std::process::Abort;
@@ -32,7 +32,7 @@ fn check_post<R: Abort + AllocGlobal>(
     let request = Request::new(Method::Post, 5, None, b"", b"");
     let found = Vars::of(found);
     let mut frame = Frame::new(alloc)?;
-    let outcome = run(&mut frame, &program, &request, &found);
+    let outcome = run(&mut frame, &program, &request, &found, &NO_READINGS);
     assert!(rt; outcome.code() == 0x44);
     assert!(rt; outcome.reply() == wanted.reply);
     assert!(rt; outcome.after() == wanted.after);

@@ -21,7 +21,7 @@ row c =
     let made = c.run-outcome.ensures.made in
     let w = c.commit-committed.ensures in
     commit_row c.run-outcome.result c.args.ticket.now (slot_in c.args.shard.now n) (watch_at c.args.shard.now (n / 8)) c.commit-committed.result w.after
-    (ap (λ (r : Ran). r.program) made ∙ c.program.ensures) (ap (λ (r : Ran). r.input.request) made ∙ c.request.ensures) (ap (λ (r : Ran). r.input.vars) made ∙ c.vars.ensures.vars)
+    (ap (λ (r : Ran). r.program) made ∙ c.program.ensures) (ap (λ (r : Ran). r.input.request) made ∙ c.request.ensures) (ap (λ (r : Ran). r.input.vars) made ∙ c.vars.ensures.vars) (ap (λ (r : Ran). r.input.readings) made ∙ c.readings.ensures)
     c.requires.given c.requires.asked w.commit
 
 pub returns-clause-stage : goal.returns-clause-stage

@@ -1,24 +1,20 @@
 use Rattle.std.proofs.Common.{◌≡◌, refl, sym, ap, ◌∙◌, rules, arith, length}
 use Rattle.fc_kinds.specs.Meaning.{input_with, start}
-use Rattle.std.specs.Prelude.{replicate}
 use Rattle.fc_help.specs.Helpers.{room_of}
-use Rattle.fc_help.specs.Region.{no_readings, readings_region}
+use Rattle.fc_help.proofs.Laid.{readings_whole}
 use Rattle.fc_machine.specs.Array.{StandBeside}
 use Rattle.fc_machine.specs.Steps.{spliced}
 use Rattle.fc_machine.proofs.Beginning.{start_stands}
 use Rattle.fc_machine.proofs.begin.begin.Goals as goal
-
-no_readings_there : readings_region no_readings ≡ replicate 64 0
-unfolding readings_region
-no_readings_there = refl
 
 pub returns-clause-stands : goal.returns-clause-stands
 returns-clause-stands c =
     let q = c.args.request.now in
     let len : length c.args.state.now.memory ≡ 3472 = search rules in
     let seven : length c.args.state.now.callers ≡ 7 = search rules in
+    let whole : length c.args.readings.now ≡ 64 = search rules in
     let count : length c.payload.result.now ≡ length q.payload = ap length c.payload.ensures.payload in
-    let beside : StandBeside (start (input_with q c.args.found.now)) _ = record {
+    let beside : StandBeside (start (input_with q c.args.found.now c.args.readings.now)) _ = record {
       depth = refl;
       shallow = omega arith;
       places = seven;
@@ -31,5 +27,5 @@ returns-clause-stands c =
       room = c.room_of.ensures ∙ ap room_of c.method.ensures;
       fits = c.region.ensures.fits;
     } in
-    start_stands (input_with q c.args.found.now) c.args.state.now.memory c.clear-2.new.memory c.put.new.memory c.put-2.new.memory _ (length c.payload.result.now) len beside c.requires count refl
-    c.clear-2.ensures (c.put.ensures ∙ ap (spliced c.clear-2.new.memory 2048) c.region.ensures.region) (c.put-2.ensures ∙ ap (spliced c.put.new.memory 3152) c.as_slice-2.ensures) (c.clear-3.ensures ∙ ap (spliced c.put-2.new.memory 3408) (sym no_readings_there))
+    start_stands (input_with q c.args.found.now c.args.readings.now) c.args.state.now.memory c.clear-2.new.memory c.put.new.memory c.put-2.new.memory _ (length c.payload.result.now) len beside c.requires count refl
+    c.clear-2.ensures (c.put.ensures ∙ ap (spliced c.clear-2.new.memory 2048) c.region.ensures.region) (c.put-2.ensures ∙ ap (spliced c.put.new.memory 3152) c.as_slice-2.ensures) (c.put-3.ensures ∙ ap (spliced c.put-2.new.memory 3408) (sym (readings_whole c.args.readings.now whole)))
