@@ -57,7 +57,7 @@ taken_apart own turn Refused is = is
 
 pub row_apart : (e : Event) (job : Job) (slot : Slot) (ws : Around) (turn : Turn) (s : Stage) → IsToldOf turn s → IsToldOf turn (row e (at job slot ws s)).stage
 row_apart (Lose k) job slot ws turn s w = tt
-row_apart (Take k memory) job slot ws turn (ToTell own turns.ToTake) w = taken_apart own turn _ w
+row_apart (Take k memory readings) job slot ws turn (ToTell own turns.ToTake) w = taken_apart own turn _ w
 row_apart (Fresh k now) job slot ws turn (ToTell own (turns.ToDraw found)) w = w
 row_apart (Note k now random) job slot ws turn (ToTell own (turns.ToNote found id)) w = tt
 row_apart (GiveUp k now) job slot ws turn (ToTell own needs) w = tt

@@ -11,7 +11,7 @@ use Rattle.fc_registry.specs.declared.job.Job.{Job}
 use Rattle.fc_registry.specs.declared.commit.CommitOutcome.{CommitOutcome}
 use Rattle.fc_registry.specs.declared.commit.CommitOutcome.TheVariants.{Writes, Keeps, Overtakes, Ends}
 use Rattle.fc_registry.specs.Slots.{Slot, Present, Ticket, last_serial}
-use Rattle.fc_registry.specs.Calls.{clear_by, outcome, put_by, receipt_of, taking}
+use Rattle.fc_registry.specs.Calls.{clear_by, outcome, put_by, receipt_of, taking, readings_if}
 use Rattle.fc_core.specs.declared.event.Event.{Event}
 use Rattle.fc_core.specs.declared.event.Event.TheVariants.{Peek, Take, Commit, Install, Remove, Receipt, Raise, Answer, Lose, Fresh, Note, GiveUp}
 use Rattle.fc_core.specs.declared.stage.Stage.{Stage}
@@ -37,10 +37,10 @@ abbrev raises : Stage → ℕ
 raises (ToRaise word content) = 1
 raises other = 0
 
-taking_raises : (memory : Bool) (job : Job) (slot : Slot) (n : ℕ) (p : Option Present) → 0 ≡ raises (took n (taking memory job slot.serial p))
-taking_raises memory job slot n None = refl
-taking_raises true job slot n (Some p) = refl
-taking_raises false job slot n (Some p) = refl
+taking_raises : (kept : Option (List ℕ)) (job : Job) (slot : Slot) (n : ℕ) (p : Option Present) → 0 ≡ raises (took n (taking kept job slot.serial p))
+taking_raises kept job slot n None = refl
+taking_raises (Some readings) job slot n (Some p) = refl
+taking_raises None job slot n (Some p) = refl
 
 retaken_raises : (n : ℕ) (b : Bool) → 0 ≡ raises (if b then ToTake n else ToAnswer Unavailable)
 retaken_raises n true = refl
@@ -107,8 +107,8 @@ row_raises : (e : Event) (k : ℕ) (job : Job) (slot : Slot) (ws : Around) (s : 
 row_raises (Peek j n) k job slot ws s named e = peek_makes n (at job slot ws s) s ∙ peek_raises n (at job slot ws s) s (needs_none job.origin.slot n s e)
 row_raises (Remove j) k job slot ws ToRemove named e = clear_raises (nat_lt slot.serial last_serial) slot.serial slot.present
 row_raises (Receipt j) k job slot ws ToDescribe named e = refl
-row_raises (Take j memory) k job slot ws (ToTake n) named e = taking_raises memory job slot n slot.present
-row_raises (Take j memory) k job slot ws (ToTell turn turns.ToTake) named e = after_turn (λ st. 0 ≡ raises st) (λ turn needs. refl) refl memory turn (at job slot ws (ToTell turn turns.ToTake))
+row_raises (Take j memory readings) k job slot ws (ToTake n) named e = taking_raises (readings_if memory readings) job slot n slot.present
+row_raises (Take j memory readings) k job slot ws (ToTell turn turns.ToTake) named e = after_turn (λ st. 0 ≡ raises st) (λ turn needs. refl) refl (readings_if memory readings) turn (at job slot ws (ToTell turn turns.ToTake))
 row_raises (Commit j now) k job slot ws (ToCommit n t) named e = committed_raises n t now ws (outcome t slot)
 row_raises (Install j memory) k job slot ws ToInstall named e = verified_raises memory (at job slot ws ToInstall)
 row_raises (Raise j) k job slot ws (ToRaise word content) named e = refl
@@ -165,8 +165,8 @@ row_changes (Peek k i) job slot ws ToMatch n f = first_change (row (Peek k i) (a
 row_changes (Peek k i) job slot ws (ToList seen) n f = first_change (row (Peek k i) (at job slot ws (ToList seen))).stage n 0 f (peek_raises i (at job slot ws (ToList seen)) (ToList seen) refl)
 row_changes (Remove k) job slot ws ToRemove n f = first_change (row (Remove k) (at job slot ws ToRemove)).stage n (length (row (Remove k) (at job slot ws ToRemove)).changes) f (row_raises (Remove k) k job slot ws ToRemove refl refl)
 row_changes (Receipt k) job slot ws ToDescribe n f = omega (arith, f)
-row_changes (Take k memory) job slot ws (ToTake c) n f = first_change (row (Take k memory) (at job slot ws (ToTake c))).stage n 0 f (row_raises (Take k memory) k job slot ws (ToTake c) refl refl)
-row_changes (Take k memory) job slot ws (ToTell turn turns.ToTake) n f = after_turn (λ st. FitsChanges (n + 0) st) (λ turn needs. omega (arith, f)) (omega (arith, f)) memory turn (at job slot ws (ToTell turn turns.ToTake))
+row_changes (Take k memory readings) job slot ws (ToTake c) n f = first_change (row (Take k memory readings) (at job slot ws (ToTake c))).stage n 0 f (row_raises (Take k memory readings) k job slot ws (ToTake c) refl refl)
+row_changes (Take k memory readings) job slot ws (ToTell turn turns.ToTake) n f = after_turn (λ st. FitsChanges (n + 0) st) (λ turn needs. omega (arith, f)) (omega (arith, f)) (readings_if memory readings) turn (at job slot ws (ToTell turn turns.ToTake))
 row_changes (Commit k now) job slot ws (ToCommit c t) n f = first_change (row (Commit k now) (at job slot ws (ToCommit c t))).stage n (length (row (Commit k now) (at job slot ws (ToCommit c t))).changes) f (row_raises (Commit k now) k job slot ws (ToCommit c t) refl refl)
 row_changes (Install k memory) job slot ws ToInstall n f = first_change (row (Install k memory) (at job slot ws ToInstall)).stage n (length (row (Install k memory) (at job slot ws ToInstall)).changes) f (row_raises (Install k memory) k job slot ws ToInstall refl refl)
 row_changes (Raise k) job slot ws (ToRaise word content) n f = omega (arith, f)
@@ -178,7 +178,7 @@ row_changes (Lose k) job slot ws s n f = omega (arith, one_change s n f)
 row_changes other job slot ws s n f = no_change s n f
 
 gone_changes : (e : Event) (job : Job) (slot : Slot) (ws : Around) (n : ℕ) → n + length (row e (at job slot ws Gone)).changes ≡ n
-gone_changes (Take k memory) job slot ws n = omega arith
+gone_changes (Take k memory readings) job slot ws n = omega arith
 gone_changes other job slot ws n = omega arith
 
 first_none : (ask : Ask) (serials : List ℕ) → FitsChanges 0 (first_by ask serials)
@@ -227,7 +227,7 @@ named_stray : (e : Event) (own k : ℕ) → names e ≡ Some k → is_stray_at e
 named_stray (Peek j n) own k e = refl
 named_stray (Remove j) own k e = refl
 named_stray (Receipt j) own k e = refl
-named_stray (Take j memory) own k e = refl
+named_stray (Take j memory readings) own k e = refl
 named_stray (Commit j now) own k e = refl
 named_stray (Install j memory) own k e = refl
 named_stray (Raise j) own k e = refl

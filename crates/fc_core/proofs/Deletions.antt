@@ -10,7 +10,7 @@ use Rattle.fc_registry.specs.declared.commit.CommitOutcome.{CommitOutcome}
 use Rattle.fc_registry.specs.declared.commit.CommitOutcome.TheVariants.{Writes, Keeps, Overtakes, Ends}
 use Rattle.fc_registry.specs.Slots.{Slot, Present, Ticket, last_serial}
 use Rattle.fc_registry.specs.Changes.{after_changes}
-use Rattle.fc_registry.specs.Calls.{clear_by, outcome, put_by, receipt_at, receipt_of, taking}
+use Rattle.fc_registry.specs.Calls.{clear_by, outcome, put_by, receipt_at, receipt_of, taking, readings_if}
 use Rattle.fc_core.specs.declared.event.Event.{Event}
 use Rattle.fc_core.specs.declared.event.Event.TheVariants.{Peek, Take, Commit, Install, Remove, Receipt, Raise, Answer, Lose, Fresh, Note, GiveUp}
 use Rattle.fc_core.specs.declared.stage.Stage.{Stage}
@@ -33,10 +33,10 @@ at job slot ws stage = record { job = job; slot = slot; around = ws; stage = sta
 abbrev IsEmptied : Slot → Stage → Type 0
 IsEmptied slot s = answer_at s ≡ Some Deleted → slot.present ≡ None
 
-took_empties : (slot : Slot) (memory : Bool) (job : Job) (serial n : ℕ) (p : Option Present) → IsEmptied slot (took n (taking memory job serial p))
-took_empties slot memory job serial n None e = absurd (cc e)
-took_empties slot true job serial n (Some p) e = absurd (cc e)
-took_empties slot false job serial n (Some p) e = absurd (cc e)
+took_empties : (slot : Slot) (kept : Option (List ℕ)) (job : Job) (serial n : ℕ) (p : Option Present) → IsEmptied slot (took n (taking kept job serial p))
+took_empties slot kept job serial n None e = absurd (cc e)
+took_empties slot (Some readings) job serial n (Some p) e = absurd (cc e)
+took_empties slot None job serial n (Some p) e = absurd (cc e)
 
 retaken_empties : (slot : Slot) (n : ℕ) (b : Bool) → IsEmptied slot (if b then ToTake n else ToAnswer Unavailable)
 retaken_empties slot n true e = absurd (cc e)
@@ -87,8 +87,8 @@ next_empties slot true word seen e = listed_empties slot (nat_lt (length (seen.i
 next_empties slot false word seen e = absurd (cc e)
 
 row_empties : (e : Event) (job : Job) (slot : Slot) (ws : Around) (s : Stage) → answer_at (row e (at job slot ws s)).stage ≡ Some Deleted → (answer_at s ≡ Some Deleted) ⊎ ((after_changes slot (row e (at job slot ws s)).changes).present ≡ None)
-row_empties (Take k memory) job slot ws (ToTake n) e = inr (took_empties slot memory job slot.serial n slot.present e)
-row_empties (Take k memory) job slot ws (ToTell turn turns.ToTake) e = absurd (after_turn (λ st. answer_at st ≡ Some Deleted → ⊥) (λ turn needs e. cc e) (λ e. cc e) memory turn (at job slot ws (ToTell turn turns.ToTake)) e)
+row_empties (Take k memory readings) job slot ws (ToTake n) e = inr (took_empties slot (readings_if memory readings) job slot.serial n slot.present e)
+row_empties (Take k memory readings) job slot ws (ToTell turn turns.ToTake) e = absurd (after_turn (λ st. answer_at st ≡ Some Deleted → ⊥) (λ turn needs e. cc e) (λ e. cc e) (readings_if memory readings) turn (at job slot ws (ToTell turn turns.ToTake)) e)
 row_empties (Commit k now) job slot ws (ToCommit n t) e = inr (committed_empties (after_changes slot (committed (outcome t slot) n t now ws).changes) n t now ws (outcome t slot) e)
 row_empties (Install k memory) job slot ws ToInstall e = inr (verified_empties (after_changes slot (verified memory (at job slot ws ToInstall)).changes) memory (at job slot ws ToInstall) e)
 row_empties (Remove k) job slot ws ToRemove e = inr (clear_empties slot (nat_lt slot.serial last_serial) slot.present refl e)

@@ -1,11 +1,11 @@
 -- A job is answered at most once, and one that has ended stays so.
-use Rattle.std.proofs.Common.{◌≡◌, ℕ, ◌+◌, ◌≤◌, List, [], ◌∷◌, ◌++◌, Bool, true, false, Option, Some, refl, sym, ap, ◌∙◌, subst, arith, if◌then◌else◌}
+use Rattle.std.proofs.Common.{◌≡◌, ℕ, ◌+◌, ◌≤◌, List, [], ◌∷◌, ◌++◌, Bool, true, false, Option, Some, None, refl, sym, ap, ◌∙◌, subst, arith, if◌then◌else◌}
 use Rattle.coap_msg.specs.declared.types.Emission.{Emission}
 use Rattle.fc_registry.specs.declared.job.Ask.{Ask}
 use Rattle.fc_registry.specs.declared.job.Job.{Job}
 use Rattle.fc_registry.specs.Slots.{Slot, Present}
 use Rattle.fc_registry.specs.Changes.{Change}
-use Rattle.fc_registry.specs.Calls.{taking}
+use Rattle.fc_registry.specs.Calls.{taking, readings_if}
 use Rattle.fc_core.specs.declared.event.Event.{Event}
 use Rattle.fc_core.specs.declared.event.Event.TheVariants.{Peek, Take, Commit, Install, Remove, Receipt, Raise, Answer, Lose, Fresh, Note, GiveUp}
 use Rattle.fc_core.specs.declared.stage.Stage.{Stage}
@@ -48,8 +48,8 @@ never_yet Gone n is = omega arith
 never_yet other n is = is
 
 row_answers : (e : Event) (job : Job) (slot : Slot) (ws : Around) (s : Stage) (n : ℕ) → FitsAnswers n s → FitsAnswers (if is_answered e s then n + 1 else n) (row e (at job slot ws s)).stage
-row_answers (Take k memory) job slot ws (ToTake count) n f = never_yet (row (Take k memory) (at job slot ws (ToTake count))).stage n f
-row_answers (Take k memory) job slot ws (ToTell turn turns.ToTake) n f = after_turn (λ st. FitsAnswers n st) (λ turn needs. f) (omega (arith, f)) memory turn (at job slot ws (ToTell turn turns.ToTake))
+row_answers (Take k memory readings) job slot ws (ToTake count) n f = never_yet (row (Take k memory readings) (at job slot ws (ToTake count))).stage n f
+row_answers (Take k memory readings) job slot ws (ToTell turn turns.ToTake) n f = after_turn (λ st. FitsAnswers n st) (λ turn needs. f) (omega (arith, f)) (readings_if memory readings) turn (at job slot ws (ToTell turn turns.ToTake))
 row_answers (Commit k now) job slot ws (ToCommit count t) n f = never_yet (row (Commit k now) (at job slot ws (ToCommit count t))).stage n f
 row_answers (Install k memory) job slot ws ToInstall n f = never_yet (row (Install k memory) (at job slot ws ToInstall)).stage n f
 row_answers (Raise k) job slot ws (ToRaise word content) n f = f
@@ -128,10 +128,10 @@ raise_keeps s k word o content is = named_stage (did (Raise k) o) s k (is_here s
 
 -- ---- memory
 
-pub take_refused : (s : Seen) (k count : ℕ) (o : Option Emission) (p : Present) → stage s k ≡ ToTake count → (slot_at s (slot_of s k)).present ≡ Some p → stage (and_then (did (Take k false) o) s) k ≡ ToAnswer Unavailable
-take_refused s k count o p is holds = named_stage (did (Take k false) o) s k (is_here s k (ToTake count) is (λ e. absurd (cc e))) refl
-    ∙ (ap (λ (x : Stage). (row (Take k false) (at (job s k) (slot_at s (slot_of s k)) (around s (slot_of s k)) x)).stage) is
-    ∙ ap (λ (x : Option Present). took count (taking false (job s k) (slot_at s (slot_of s k)).serial x)) holds)
+pub take_refused : (s : Seen) (k count : ℕ) (readings : List ℕ) (o : Option Emission) (p : Present) → stage s k ≡ ToTake count → (slot_at s (slot_of s k)).present ≡ Some p → stage (and_then (did (Take k false readings) o) s) k ≡ ToAnswer Unavailable
+take_refused s k count readings o p is holds = named_stage (did (Take k false readings) o) s k (is_here s k (ToTake count) is (λ e. absurd (cc e))) refl
+    ∙ (ap (λ (x : Stage). (row (Take k false readings) (at (job s k) (slot_at s (slot_of s k)) (around s (slot_of s k)) x)).stage) is
+    ∙ ap (λ (x : Option Present). took count (taking None (job s k) (slot_at s (slot_of s k)).serial x)) holds)
 
 pub install_refused : (s : Seen) (k : ℕ) (o : Option Emission) → stage s k ≡ ToInstall → stage (and_then (did (Install k false) o) s) k ≡ ToAnswer Unavailable
 install_refused s k o is = named_stage (did (Install k false) o) s k (is_here s k ToInstall is (λ e. absurd (cc e))) refl
@@ -145,8 +145,8 @@ IsSettled Gone = Unit {0}
 IsSettled other = ⊥
 
 row_settled : (e : Event) (job : Job) (slot : Slot) (ws : Around) (s : Stage) → IsSettled s → IsSettled (row e (at job slot ws s)).stage
-row_settled (Take k memory) job slot ws (ToTake count) f = absurd f
-row_settled (Take k memory) job slot ws (ToTell turn turns.ToTake) f = absurd f
+row_settled (Take k memory readings) job slot ws (ToTake count) f = absurd f
+row_settled (Take k memory readings) job slot ws (ToTell turn turns.ToTake) f = absurd f
 row_settled (Commit k now) job slot ws (ToCommit count t) f = absurd f
 row_settled (Install k memory) job slot ws ToInstall f = absurd f
 row_settled (Raise k) job slot ws (ToRaise word content) f = tt
@@ -162,9 +162,9 @@ row_settled (Lose k) job slot ws s f = tt
 row_settled other job slot ws s f = f
 
 settled_given : (e : Event) (job : Job) (slot : Slot) (ws : Around) (cs : List Change) (s : Stage) → IsSettled s → gives e (at job slot ws s) cs ≡ []
-settled_given (Take k true) job slot ws cs (ToTake count) f = absurd f
-settled_given (Take k true) job slot ws cs (ToTell turn turns.ToTake) f = absurd f
-settled_given (Take k false) job slot ws cs s f = refl
+settled_given (Take k true readings) job slot ws cs (ToTake count) f = absurd f
+settled_given (Take k true readings) job slot ws cs (ToTell turn turns.ToTake) f = absurd f
+settled_given (Take k false readings) job slot ws cs s f = refl
 settled_given other job slot ws cs s f = refl
 
 none_more : (b : Bool) (new ts : List Taking) → new ≡ [] → (if b then new ++ ts else ts) ≡ ts

@@ -21,7 +21,7 @@ use Rattle.fc_registry.specs.Slots.{Slot, Present, Ticket, last_serial}
 use Rattle.fc_registry.specs.Changes.{Change, Installed, Committed, Removed, changed, after_changes, with_vars}
 use Rattle.fc_registry.specs.Record.{IsChain, IsLink, code_class}
 use Rattle.fc_registry.specs.declared.receipt.Receipt.{Receipt as Facts}
-use Rattle.fc_registry.specs.Calls.{HasGiven, clear_by, commit_of, input_of, is_post, meaning_at, outcome, outcome_by, put_by, receipt_at, receipt_of, request_of, taking, wants, is_out_at, turn_taking}
+use Rattle.fc_registry.specs.Calls.{HasGiven, clear_by, commit_of, input_of, is_post, meaning_at, outcome, outcome_by, put_by, receipt_at, receipt_of, request_of, taking, wants, is_out_at, turn_taking, readings_if}
 use Rattle.fc_core.specs.declared.event.Event.{Event}
 use Rattle.fc_core.specs.declared.event.Event.TheVariants.{Peek, Take, Commit as Commits, Install, Remove, Receipt, Raise, Answer, Lose, Fresh, Note, GiveUp}
 use Rattle.fc_core.specs.declared.stage.Stage.{Stage}
@@ -104,16 +104,16 @@ first_turn_fits job slot (Some number) is = (refl, is, tt)
 pub first_fits : (job : Job) (slot : Slot) → FitsStage job slot (first_stage job)
 first_fits job slot = first_turn_fits job slot job.turn refl
 
-took_fits : (memory : Bool) (job : Job) (slot : Slot) (n : ℕ) (p : Option Present) → slot.present ≡ p → n < 8 → job.turn ≡ None → FitsStage job slot (took n (taking memory job slot.serial p))
-took_fits memory job slot n None e lt none = tt
-took_fits true job slot n (Some p) e lt none = (omega arith, record { origin = refl; turn = refl; request = refl; given = record { serial = omega arith; present = λ _. e } }, none)
-took_fits false job slot n (Some p) e lt none = tt
+took_fits : (kept : Option (List ℕ)) (job : Job) (slot : Slot) (n : ℕ) (p : Option Present) → slot.present ≡ p → n < 8 → job.turn ≡ None → FitsStage job slot (took n (taking kept job slot.serial p))
+took_fits kept job slot n None e lt none = tt
+took_fits (Some readings) job slot n (Some p) e lt none = (omega arith, record { origin = refl; turn = refl; request = refl; given = record { serial = omega arith; present = λ _. e } }, none)
+took_fits None job slot n (Some p) e lt none = tt
 
-turn_fits : (memory : Bool) (job : Job) (slot : Slot) (turn : Turn) (out : Bool) (p : Option Present) → slot.present ≡ p → turn.slot ≡ job.origin.slot → job.turn ≡ Some turn.number → FitsStage job slot (turn_took turn (turn_taking out memory job slot.serial p))
-turn_fits memory job slot turn false p e own number = tt
-turn_fits memory job slot turn true None e own number = (own, number, tt)
-turn_fits true job slot turn true (Some p) e own number = (own, number, record { origin = refl; turn = refl; request = refl; given = record { serial = omega arith; present = λ _. e } })
-turn_fits false job slot turn true (Some p) e own number = (own, number, tt)
+turn_fits : (kept : Option (List ℕ)) (job : Job) (slot : Slot) (turn : Turn) (out : Bool) (p : Option Present) → slot.present ≡ p → turn.slot ≡ job.origin.slot → job.turn ≡ Some turn.number → FitsStage job slot (turn_took turn (turn_taking out kept job slot.serial p))
+turn_fits kept job slot turn false p e own number = tt
+turn_fits kept job slot turn true None e own number = (own, number, tt)
+turn_fits (Some readings) job slot turn true (Some p) e own number = (own, number, record { origin = refl; turn = refl; request = refl; given = record { serial = omega arith; present = λ _. e } })
+turn_fits None job slot turn true (Some p) e own number = (own, number, tt)
 
 retaken_fits : (job : Job) (slot : Slot) (n : ℕ) (b : Bool) → job.turn ≡ None → nat_lt n 8 ≡ b → FitsStage job slot (if b then ToTake n else ToAnswer Unavailable)
 retaken_fits job slot n true none e = (ltb-true n 8 e, none)
@@ -179,8 +179,8 @@ row_fits (Peek k n) job slot ws (ToList seen) f = next_fits job slot (n == lengt
 row_fits (Remove k) job slot ws ToRemove f = clear_fits job slot (nat_lt slot.serial last_serial) slot.serial slot.present
 row_fits (Receipt k) job slot ws ToDescribe f = told_fits job slot (receipt_at slot.present)
 row_fits (Lose k) job slot ws s f = tt
-row_fits (Take k memory) job slot ws (ToTake n) f = took_fits memory job slot n slot.present refl f.0 f.1
-row_fits (Take k memory) job slot ws (ToTell turn turns.ToTake) f = turn_fits memory job slot turn (is_out_at turn ws.moment ws.watch) slot.present refl f.0 f.1
+row_fits (Take k memory readings) job slot ws (ToTake n) f = took_fits (readings_if memory readings) job slot n slot.present refl f.0 f.1
+row_fits (Take k memory readings) job slot ws (ToTell turn turns.ToTake) f = turn_fits (readings_if memory readings) job slot turn (is_out_at turn ws.moment ws.watch) slot.present refl f.0 f.1
 row_fits (Commits k now) job slot ws (ToCommit n t) f = committed_fits job slot n t (outcome t slot) now ws f.1.origin f.2
 row_fits (Install k memory) job slot ws ToInstall f = verified_fits memory (at job slot ws ToInstall)
 row_fits (Raise k) job slot ws (ToRaise word content) f = f
@@ -254,8 +254,8 @@ row_chain (Remove k) job first cs ws ToRemove f chain = clear_chain first cs (na
 row_chain (Receipt k) job first cs ws ToDescribe f chain = chain
 row_chain (Commits k now) job first cs ws (ToCommit n t) f chain = commit_chain first cs n t now ws (outcome t (after_changes first cs)) refl f.1.given chain
 row_chain (Install k memory) job first cs ws ToInstall f chain = verified_chain memory first cs (at job (after_changes first cs) ws ToInstall) chain
-row_chain (Take k memory) job first cs ws (ToTake n) f chain = chain
-row_chain (Take k memory) job first cs ws (ToTell turn turns.ToTake) f chain = chain
+row_chain (Take k memory readings) job first cs ws (ToTake n) f chain = chain
+row_chain (Take k memory readings) job first cs ws (ToTell turn turns.ToTake) f chain = chain
 row_chain (Raise k) job first cs ws (ToRaise word content) f chain = chain
 row_chain (Answer k now) job first cs ws (ToAnswer content) f chain = chain
 row_chain (Fresh k now) job first cs ws (ToTell turn (turns.ToDraw found)) f chain = chain
@@ -311,8 +311,8 @@ row_safe (Remove k) job slot ws ToRemove within f safe fits = clear_safe slot (n
 row_safe (Receipt k) job slot ws ToDescribe within f safe fits = fits
 row_safe (Commits k now) job slot ws (ToCommit n t) within f safe fits = commit_safe job slot n t now ws (outcome t slot) refl within f.1 fits
 row_safe (Install k memory) job slot ws ToInstall within f safe fits = verified_safe memory (at job slot ws ToInstall) safe fits
-row_safe (Take k memory) job slot ws (ToTake n) within f safe fits = fits
-row_safe (Take k memory) job slot ws (ToTell turn turns.ToTake) within f safe fits = fits
+row_safe (Take k memory readings) job slot ws (ToTake n) within f safe fits = fits
+row_safe (Take k memory readings) job slot ws (ToTell turn turns.ToTake) within f safe fits = fits
 row_safe (Raise k) job slot ws (ToRaise word content) within f safe fits = fits
 row_safe (Answer k now) job slot ws (ToAnswer content) within f safe fits = fits
 row_safe (Fresh k now) job slot ws (ToTell turn (turns.ToDraw found)) within f safe fits = fits

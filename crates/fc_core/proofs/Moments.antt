@@ -59,8 +59,8 @@ verified_hands false s = refl
 row_handed : (e : Event) (job : Job) (slot : Slot) (ws : Around) (st : Stage) (m : ℕ) (ms : List ℕ) → m ≡ greatest ms → handed (row e (at job slot ws st)).hands m ≡ greatest (row_moment e st ++ ms)
 row_handed (Commit k now) job slot ws (ToCommit n t) m ms is = ap (λ (o : Option ℕ). handed o m) (committed_hands n t now ws (outcome t slot)) ∙ ap (λ (x : ℕ). max x now) is
 row_handed (Install k memory) job slot ws ToInstall m ms is = ap (λ (o : Option ℕ). handed o m) (verified_hands memory (at job slot ws ToInstall)) ∙ is
-row_handed (Take k memory) job slot ws (ToTake n) m ms is = is
-row_handed (Take k memory) job slot ws (ToTell turn turns.ToTake) m ms is = is
+row_handed (Take k memory readings) job slot ws (ToTake n) m ms is = is
+row_handed (Take k memory readings) job slot ws (ToTell turn turns.ToTake) m ms is = is
 row_handed (Raise k) job slot ws (ToRaise word content) m ms is = is
 row_handed (Answer k now) job slot ws (ToAnswer content) m ms is = is
 row_handed (Fresh k now) job slot ws (ToTell turn (turns.ToDraw found)) m ms is = is

@@ -9,7 +9,7 @@ use Rattle.fc_registry.specs.declared.commit.CommitOutcome.{CommitOutcome}
 use Rattle.fc_registry.specs.declared.commit.CommitOutcome.TheVariants.{Writes, Keeps, Overtakes, Ends}
 use Rattle.fc_registry.specs.Slots.{Slot, Present, Ticket, last_serial, new_slot}
 use Rattle.fc_registry.specs.Changes.{after_changes, with_vars}
-use Rattle.fc_registry.specs.Calls.{clear_by, commit_of, outcome, put_by, receipt_of, taking}
+use Rattle.fc_registry.specs.Calls.{clear_by, commit_of, outcome, put_by, receipt_of, taking, readings_if}
 use Rattle.fc_core.specs.declared.event.Event.{Event}
 use Rattle.fc_core.specs.declared.event.Event.TheVariants.{Peek, Take, Commit as Commits, Install, Remove, Receipt, Raise, Answer, Lose, Fresh, Note, GiveUp}
 use Rattle.fc_core.specs.declared.stage.Stage.{Stage}
@@ -41,10 +41,10 @@ same_publishes : (slot : Slot) (s : Stage) → PublishesAt slot s s
 same_publishes slot (ToRaise word content) = inl refl
 same_publishes slot other = tt
 
-took_publishes : (after : Slot) (old : Stage) (memory : Bool) (job : Job) (serial n : ℕ) (p : Option Present) → PublishesAt after old (took n (taking memory job serial p))
-took_publishes after old memory job serial n None = tt
-took_publishes after old true job serial n (Some p) = tt
-took_publishes after old false job serial n (Some p) = tt
+took_publishes : (after : Slot) (old : Stage) (kept : Option (List ℕ)) (job : Job) (serial n : ℕ) (p : Option Present) → PublishesAt after old (took n (taking kept job serial p))
+took_publishes after old kept job serial n None = tt
+took_publishes after old (Some readings) job serial n (Some p) = tt
+took_publishes after old None job serial n (Some p) = tt
 
 retaken_publishes : (after : Slot) (old : Stage) (n : ℕ) (b : Bool) → PublishesAt after old (if b then ToTake n else ToAnswer Unavailable)
 retaken_publishes after old n true = tt
@@ -98,8 +98,8 @@ row_publishes : (e : Event) (job : Job) (slot : Slot) (ws : Around) (s : Stage) 
 row_publishes (Commits k now) job slot ws (ToCommit n t) f = committed_publishes job slot n t now ws (outcome t slot) refl f
 row_publishes (Install k memory) job slot ws ToInstall f = verified_publishes memory (at job slot ws ToInstall)
 row_publishes (Remove k) job slot ws ToRemove f = clear_publishes slot (nat_lt slot.serial last_serial) slot.present
-row_publishes (Take k memory) job slot ws (ToTake n) f = took_publishes slot (ToTake n) memory job slot.serial n slot.present
-row_publishes (Take k memory) job slot ws (ToTell turn turns.ToTake) f = after_turn (PublishesAt slot (ToTell turn turns.ToTake)) (λ turn needs. tt) tt memory turn (at job slot ws (ToTell turn turns.ToTake))
+row_publishes (Take k memory readings) job slot ws (ToTake n) f = took_publishes slot (ToTake n) (readings_if memory readings) job slot.serial n slot.present
+row_publishes (Take k memory readings) job slot ws (ToTell turn turns.ToTake) f = after_turn (PublishesAt slot (ToTell turn turns.ToTake)) (λ turn needs. tt) tt (readings_if memory readings) turn (at job slot ws (ToTell turn turns.ToTake))
 row_publishes (Receipt k) job slot ws ToDescribe f = tt
 row_publishes (Peek k n) job slot ws ToMatch f = own_publishes slot ToMatch (n == job.origin.slot) (word_at ws.common.words n) job.etags.items
 row_publishes (Peek k n) job slot ws (ToList seen) f = next_publishes slot (ToList seen) (n == length seen.items) (word_at ws.common.words n) seen

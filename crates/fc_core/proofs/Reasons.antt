@@ -14,7 +14,7 @@ use Rattle.fc_registry.specs.declared.job.Job.{Job}
 use Rattle.fc_registry.specs.declared.commit.CommitOutcome.{CommitOutcome}
 use Rattle.fc_registry.specs.declared.commit.CommitOutcome.TheVariants.{Writes, Keeps, Overtakes, Ends}
 use Rattle.fc_registry.specs.Slots.{Slot, Present, Ticket, last_serial}
-use Rattle.fc_registry.specs.Calls.{is_observed, clear_by, outcome, outcome_by, put_by, receipt_at, receipt_of, taking, wants}
+use Rattle.fc_registry.specs.Calls.{is_observed, clear_by, outcome, outcome_by, put_by, receipt_at, receipt_of, taking, wants, readings_if}
 use Rattle.fc_core.specs.declared.event.Event.{Event}
 use Rattle.fc_core.specs.declared.event.Event.TheVariants.{Peek, Take, Commit, Install, Remove, Receipt, Raise, Answer, Lose, Fresh, Note, GiveUp}
 use Rattle.fc_core.specs.declared.stage.Stage.{Stage}
@@ -51,10 +51,10 @@ module _ (k : ℕ) (job : Job) (slot : Slot) (ws : Around) (taken : ℕ) where
   so : (e : Event) (s : Stage) (c d : Content) → Why e s c → Some c ≡ Some d → Why e s d
   so e s c d why is = let same : c ≡ d = cc is in subst (Why e s) same why
 
-  taking_why : (memory : Bool) (n : ℕ) (p : Option Present) (c : Content) → slot.present ≡ p → Answered (Take k memory) (ToTake n) (took n (taking memory job slot.serial p)) c
-  taking_why memory n None c is e = so (Take k memory) (ToTake n) Missing c (NothingTaken memory n refl refl is) e
-  taking_why true n (Some p) c is e = absurd (cc)
-  taking_why false n (Some p) c is e = so (Take k false) (ToTake n) Unavailable c (NoTicket n p refl refl is) e
+  taking_why : (memory : Bool) (readings : List ℕ) (n : ℕ) (p : Option Present) (c : Content) → slot.present ≡ p → Answered (Take k memory readings) (ToTake n) (took n (taking (readings_if memory readings) job slot.serial p)) c
+  taking_why memory readings n None c is e = so (Take k memory readings) (ToTake n) Missing c (NothingTaken memory readings n refl refl is) e
+  taking_why true readings n (Some p) c is e = absurd (cc)
+  taking_why false readings n (Some p) c is e = so (Take k false readings) (ToTake n) Unavailable c (NoTicket n readings p refl refl is) e
 
   outcome_overtakes : (w same below : Bool) → outcome_by w same below ≡ Overtakes → (w ≡ true) × (same ≡ false)
   outcome_overtakes false same below e = absurd (cc)
@@ -180,9 +180,9 @@ row_why (Remove j) k job slot ws ToRemove taken c named f e = let same : j ≡ k
 row_why (Remove j) k job slot ws other taken c named f e = inl e
 row_why (Receipt j) k job slot ws ToDescribe taken c named f e = let same : j ≡ k = cc named in inr (subst (λ (i : ℕ). IsCause (Receipt i) k job slot ws.common.words ToDescribe taken c) (sym same) (told_why k job slot ws taken slot.present c refl e))
 row_why (Receipt j) k job slot ws other taken c named f e = inl e
-row_why (Take j memory) k job slot ws (ToTake n) taken c named f e = let same : j ≡ k = cc named in inr (subst (λ (i : ℕ). IsCause (Take i memory) k job slot ws.common.words (ToTake n) taken c) (sym same) (taking_why k job slot ws taken memory n slot.present c refl e))
-row_why (Take j memory) k job slot ws (ToTell turn turns.ToTake) taken c named f e = absurd (after_turn (λ st. answer_at st ≡ Some c → ⊥) (λ turn needs e. cc e) (λ e. cc e) memory turn (at job slot ws (ToTell turn turns.ToTake)) e)
-row_why (Take j memory) k job slot ws other taken c named f e = inl e
+row_why (Take j memory readings) k job slot ws (ToTake n) taken c named f e = let same : j ≡ k = cc named in inr (subst (λ (i : ℕ). IsCause (Take i memory readings) k job slot ws.common.words (ToTake n) taken c) (sym same) (taking_why k job slot ws taken memory readings n slot.present c refl e))
+row_why (Take j memory readings) k job slot ws (ToTell turn turns.ToTake) taken c named f e = absurd (after_turn (λ st. answer_at st ≡ Some c → ⊥) (λ turn needs e. cc e) (λ e. cc e) (readings_if memory readings) turn (at job slot ws (ToTell turn turns.ToTake)) e)
+row_why (Take j memory readings) k job slot ws other taken c named f e = inl e
 row_why (Commit j now) k job slot ws (ToCommit n t) taken c named f e = let same : j ≡ k = cc named in inr (subst (λ (i : ℕ). IsCause (Commit i now) k job slot ws.common.words (ToCommit n t) taken c) (sym same) (committed_why k job slot ws taken now n t (outcome t slot) c f.0 f.1 refl e))
 row_why (Commit j now) k job slot ws other taken c named f e = inl e
 row_why (Install j memory) k job slot ws ToInstall taken c named f e = let same : j ≡ k = cc named in inr (subst (λ (i : ℕ). IsCause (Install i memory) k job slot ws.common.words ToInstall taken c) (sym same) (verified_why k job slot ws taken memory c e))
@@ -227,7 +227,7 @@ unfolding seen
 answers_have_causes h r k c e = why_by h r k c (task_at (and_then r (seen h)).tasks k) (becomes r (seen h) k) e
 
 -- a taking that finds no program answers so
-pub empty_misses : (s : Seen) (k count : ℕ) (memory : Bool) (o : Option Emission) → stage s k ≡ ToTake count → (slot_at s (slot_of s k)).present ≡ None → stage (and_then (did (Take k memory) o) s) k ≡ ToAnswer Missing
-empty_misses s k count memory o is empty = named_stage (did (Take k memory) o) s k (is_here s k (ToTake count) is (λ e. absurd (cc e))) refl
-    ∙ (ap (λ (x : Stage). (row (Take k memory) (at (job s k) (slot_at s (slot_of s k)) (around s (slot_of s k)) x)).stage) is
-    ∙ ap (λ (x : Option Present). took count (taking memory (job s k) (slot_at s (slot_of s k)).serial x)) empty)
+pub empty_misses : (s : Seen) (k count : ℕ) (memory : Bool) (readings : List ℕ) (o : Option Emission) → stage s k ≡ ToTake count → (slot_at s (slot_of s k)).present ≡ None → stage (and_then (did (Take k memory readings) o) s) k ≡ ToAnswer Missing
+empty_misses s k count memory readings o is empty = named_stage (did (Take k memory readings) o) s k (is_here s k (ToTake count) is (λ e. absurd (cc e))) refl
+    ∙ (ap (λ (x : Stage). (row (Take k memory readings) (at (job s k) (slot_at s (slot_of s k)) (around s (slot_of s k)) x)).stage) is
+    ∙ ap (λ (x : Option Present). took count (taking (readings_if memory readings) (job s k) (slot_at s (slot_of s k)).serial x)) empty)

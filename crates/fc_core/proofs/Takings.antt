@@ -16,7 +16,7 @@ use Rattle.fc_registry.specs.declared.commit.CommitOutcome.TheVariants.{Writes, 
 use Rattle.fc_registry.specs.Slots.{Slot, Present, Ticket, last_serial}
 use Rattle.fc_registry.specs.Changes.{Change}
 use Rattle.fc_registry.specs.declared.receipt.Receipt.{Receipt as Facts}
-use Rattle.fc_registry.specs.Calls.{is_observed, clear_by, meaning_at, outcome, outcome_by, put_by, is_out_at, receipt_at, receipt_of, taking, turn_taking, wants}
+use Rattle.fc_registry.specs.Calls.{is_observed, clear_by, meaning_at, outcome, outcome_by, put_by, is_out_at, receipt_at, receipt_of, taking, turn_taking, wants, readings_if}
 use Rattle.fc_core.specs.declared.event.Event.{Event}
 use Rattle.fc_core.specs.declared.event.Event.TheVariants.{Peek, Take, Commit, Install, Remove, Receipt, Raise, Answer, Lose, Fresh, Note, GiveUp}
 use Rattle.fc_core.specs.declared.stage.Stage.{Stage}
@@ -83,19 +83,19 @@ at_most_eight Gone ts f = f
 abbrev at : Job → Slot → Around → Stage → Scene
 at job slot ws stage = record { job = job; slot = slot; around = ws; stage = stage }
 
-taking_took : (memory : Bool) (k : ℕ) (job : Job) (slot : Slot) (cs : List Change) (ws : Around) (n : ℕ) (ts : List Taking) (p : Option Present) → slot.present ≡ p → length ts ≡ n → n < 8 → Took (gives (Take k memory) (at job (record slot { present = p }) ws (ToTake n)) cs ++ ts) (took n (taking memory job slot.serial p))
-taking_took true k job slot cs ws n ts None e is lt = (omega arith, tt)
-taking_took false k job slot cs ws n ts None e is lt = (omega arith, tt)
-taking_took true k job slot cs ws n ts (Some p) e is lt = (omega arith, omega arith, refl)
-taking_took false k job slot cs ws n ts (Some p) e is lt = (omega arith, tt)
+taking_took : (memory : Bool) (readings : List ℕ) (k : ℕ) (job : Job) (slot : Slot) (cs : List Change) (ws : Around) (n : ℕ) (ts : List Taking) (p : Option Present) → slot.present ≡ p → length ts ≡ n → n < 8 → Took (gives (Take k memory readings) (at job (record slot { present = p }) ws (ToTake n)) cs ++ ts) (took n (taking (readings_if memory readings) job slot.serial p))
+taking_took true readings k job slot cs ws n ts None e is lt = (omega arith, tt)
+taking_took false readings k job slot cs ws n ts None e is lt = (omega arith, tt)
+taking_took true readings k job slot cs ws n ts (Some p) e is lt = (omega arith, omega arith, refl)
+taking_took false readings k job slot cs ws n ts (Some p) e is lt = (omega arith, tt)
 
 -- the taking of a turn, with memory and without
-turn_taking_took : (out : Bool) (turn : Turn) (job : Job) (serial : ℕ) (cs : List Change) (ts : List Taking) (p : Option Present) → length ts ≡ 0 → Took (finds_if out job serial p cs ++ ts) (turn_took turn (turn_taking out true job serial p))
-turn_taking_took false turn job serial cs ts p none = omega (arith, none)
-turn_taking_took true turn job serial cs ts None none = none
-turn_taking_took true turn job serial cs ts (Some p) none = (omega (arith, none), refl)
+turn_taking_took : (out : Bool) (readings : List ℕ) (turn : Turn) (job : Job) (serial : ℕ) (cs : List Change) (ts : List Taking) (p : Option Present) → length ts ≡ 0 → Took (finds_if out job readings serial p cs ++ ts) (turn_took turn (turn_taking out (Some readings) job serial p))
+turn_taking_took false readings turn job serial cs ts p none = omega (arith, none)
+turn_taking_took true readings turn job serial cs ts None none = none
+turn_taking_took true readings turn job serial cs ts (Some p) none = (omega (arith, none), refl)
 
-refused_took : (out : Bool) (turn : Turn) (job : Job) (serial : ℕ) (ts : List Taking) (p : Option Present) → length ts ≡ 0 → Took ts (turn_took turn (turn_taking out false job serial p))
+refused_took : (out : Bool) (turn : Turn) (job : Job) (serial : ℕ) (ts : List Taking) (p : Option Present) → length ts ≡ 0 → Took ts (turn_took turn (turn_taking out None job serial p))
 refused_took false turn job serial ts p none = omega (arith, none)
 refused_took true turn job serial ts None none = none
 refused_took true turn job serial ts (Some p) none = none
@@ -161,11 +161,11 @@ row_took (Peek k n) job slot cs ws ToMatch ts f = own_took (n == job.origin.slot
 row_took (Peek k n) job slot cs ws (ToList seen) ts f = next_took (n == length seen.items) (word_at ws.common.words n) seen ts f
 row_took (Remove k) job slot cs ws ToRemove ts f = clear_took (nat_lt slot.serial last_serial) slot.serial slot.present ts f
 row_took (Receipt k) job slot cs ws ToDescribe ts f = told_took (receipt_at slot.present) ts f
-row_took (Take k memory) job slot cs ws (ToTake n) ts f = taking_took memory k job slot cs ws n ts slot.present refl f.0 f.1
-row_took (Take k true) job slot cs ws (ToTell turn turns.ToTake) ts f = turn_taking_took (is_out_at turn ws.moment ws.watch) turn job slot.serial cs ts slot.present f
-row_took (Take k false) job slot cs ws (ToTell turn turns.ToTake) ts f = refused_took (is_out_at turn ws.moment ws.watch) turn job slot.serial ts slot.present f
-row_took (Take k true) job slot cs ws other ts f = f
-row_took (Take k false) job slot cs ws other ts f = f
+row_took (Take k memory readings) job slot cs ws (ToTake n) ts f = taking_took memory readings k job slot cs ws n ts slot.present refl f.0 f.1
+row_took (Take k true readings) job slot cs ws (ToTell turn turns.ToTake) ts f = turn_taking_took (is_out_at turn ws.moment ws.watch) readings turn job slot.serial cs ts slot.present f
+row_took (Take k false readings) job slot cs ws (ToTell turn turns.ToTake) ts f = refused_took (is_out_at turn ws.moment ws.watch) turn job slot.serial ts slot.present f
+row_took (Take k true readings) job slot cs ws other ts f = f
+row_took (Take k false readings) job slot cs ws other ts f = f
 row_took (Commit k now) job slot cs ws (ToCommit n t) ts f = committed_took n ts t now ws (outcome t slot) f.0 f.1 f.2
 row_took (Install k memory) job slot cs ws ToInstall ts f = verified_took memory (at job slot ws ToInstall) ts f
 row_took (Raise k) job slot cs ws (ToRaise word content) ts f = f
@@ -178,8 +178,8 @@ row_took other job slot cs ws s ts f = f
 
 -- nothing is given to a job that is gone
 gone_given : (e : Event) (job : Job) (slot : Slot) (ws : Around) (cs : List Change) → gives e (at job slot ws Gone) cs ≡ []
-gone_given (Take k true) job slot ws cs = refl
-gone_given (Take k false) job slot ws cs = refl
+gone_given (Take k true readings) job slot ws cs = refl
+gone_given (Take k false readings) job slot ws cs = refl
 gone_given other job slot ws cs = refl
 
 first_took : (ask : Ask) (serials : List ℕ) → Took [] (first_by ask serials)

@@ -1,5 +1,5 @@
 -- Where the taking of a turn leaves its job: it is still to tell, or gone.
-use Rattle.std.proofs.Common.{Bool}
+use Rattle.std.proofs.Common.{ℕ, List, Option}
 use Rattle.fc_observe.specs.declared.entry.Turn.{Turn}
 use Rattle.fc_registry.specs.declared.shard.Taken.{Taken}
 use Rattle.fc_registry.specs.declared.shard.Taken.TheVariants.{Given, Missing, Stale, Refused}
@@ -15,5 +15,5 @@ told_or_gone P told gone turn Missing = told turn _
 told_or_gone P told gone turn Stale = gone
 told_or_gone P told gone turn Refused = told turn _
 
-pub after_turn : (P : Stage → Type 0) → ((turn : Turn) (needs : TurnStage) → P (ToTell turn needs)) → P Gone → (memory : Bool) (turn : Turn) (x : Scene) → P (turn_taken memory turn x).stage
-after_turn P told gone memory turn x = told_or_gone P told gone turn _
+pub after_turn : (P : Stage → Type 0) → ((turn : Turn) (needs : TurnStage) → P (ToTell turn needs)) → P Gone → (kept : Option (List ℕ)) (turn : Turn) (x : Scene) → P (turn_taken kept turn x).stage
+after_turn P told gone kept turn x = told_or_gone P told gone turn _

@@ -15,7 +15,7 @@ use Rattle.fc_observe.proofs.Hearing.{more_turns}
 use Rattle.fc_observe.proofs.Lasting.{HasMissed, missed_begin, missed_last}
 use Rattle.fc_registry.specs.declared.job.Job.{Job}
 use Rattle.fc_registry.specs.declared.job.Opening.{Opening}
-use Rattle.fc_registry.specs.Calls.{is_out_at, miss_calls, turn_of, turn_taking}
+use Rattle.fc_registry.specs.Calls.{is_out_at, miss_calls, turn_of, turn_taking, readings_if}
 use Rattle.fc_registry.specs.Slots.{Present, Slot, Ticket}
 use Rattle.fc_registry.specs.Turns.{job_of_turn, turn_job}
 use Rattle.fc_registry.proofs.Noticed.{noticed_within}
@@ -100,11 +100,11 @@ module _ (n : ℕ) (calls : List ObserverCall) (serial : ℕ) (turn : Turn) (mom
   abbrev out : Bool
   out = is_out_at turn moment (observers n calls)
 
-  taking_knows : (b memory : Bool) (p : Option Present) → is_some (entry_out turn (at_moment moment (observers n calls))) ≡ b → turn.number < (observers n calls).turns → noticed_for turn.number n calls ≤ serial → Knows n ((miss_calls b turn p ++ Advance moment ∷ []) ++ calls) serial (turn_took turn (turn_taking b memory job serial p))
-  taking_knows false memory p is lt le = tt
-  taking_knows true memory None is lt le = (turns_last n turn.number (Miss turn ∷ Advance moment ∷ []) calls lt, missed_begin turn n (Advance moment ∷ calls) is)
-  taking_knows true true (Some p) is lt le = (lt, le)
-  taking_knows true false (Some p) is lt le = (lt, le)
+  taking_knows : (b : Bool) (kept : Option (List ℕ)) (p : Option Present) → is_some (entry_out turn (at_moment moment (observers n calls))) ≡ b → turn.number < (observers n calls).turns → noticed_for turn.number n calls ≤ serial → Knows n ((miss_calls b turn p ++ Advance moment ∷ []) ++ calls) serial (turn_took turn (turn_taking b kept job serial p))
+  taking_knows false kept p is lt le = tt
+  taking_knows true kept None is lt le = (turns_last n turn.number (Miss turn ∷ Advance moment ∷ []) calls lt, missed_begin turn n (Advance moment ∷ calls) is)
+  taking_knows true (Some readings) (Some p) is lt le = (lt, le)
+  taking_knows true None (Some p) is lt le = (lt, le)
 
 drawn_knows : (n : ℕ) (calls : List ObserverCall) (serial : ℕ) (turn : Turn) (found : Option Ticket) (free : Option ℕ) → KnowsFound n calls turn found → KnowsTurn n calls serial turn (with_id found free)
 drawn_knows n calls serial turn found (Some id) w = w
@@ -116,7 +116,7 @@ module _ (n : ℕ) (calls : List ObserverCall) (common : Common) (moment : ℕ) 
 
   row_knows : (e : Event) (job : Job) (slot : Slot) (turn : Turn) (s : Stage) → IsToldOf turn s → Knows n calls slot.serial s → Knows n ((row e (at job slot ws s)).calls ++ calls) slot.serial (row e (at job slot ws s)).stage
   row_knows (Lose k) job slot turn s own w = tt
-  row_knows (Take k memory) job slot turn (ToTell mine turns.ToTake) own w = taking_knows n calls slot.serial mine moment job (is_out_at mine moment (observers n calls)) memory slot.present refl w.0 w.1
+  row_knows (Take k memory readings) job slot turn (ToTell mine turns.ToTake) own w = taking_knows n calls slot.serial mine moment job (is_out_at mine moment (observers n calls)) (readings_if memory readings) slot.present refl w.0 w.1
   row_knows (Fresh k now) job slot turn (ToTell mine (turns.ToDraw found)) own w = (w.0, drawn_knows n calls slot.serial mine found (common.free now) w.1)
   row_knows (Note k now random) job slot turn (ToTell mine (turns.ToNote found id)) own w = tt
   row_knows (GiveUp k now) job slot turn (ToTell mine needs) own w = tt

@@ -15,7 +15,7 @@ use Rattle.fc_observe.specs.Observers.{ObserverList, at_moment, entry_out, next_
 use Rattle.fc_observe.specs.Views.{Interest, interest_of}
 use Rattle.fc_registry.specs.declared.job.Job.{Job}
 use Rattle.fc_registry.specs.declared.job.Opening.{Opening}
-use Rattle.fc_registry.specs.Calls.{is_out_at, meaning_at, turn_of, turn_taking}
+use Rattle.fc_registry.specs.Calls.{is_out_at, meaning_at, turn_of, turn_taking, readings_if}
 use Rattle.fc_registry.specs.Slots.{Present, Slot, Ticket}
 use Rattle.fc_registry.specs.Turns.{first_block, job_of_turn, turn_job}
 use Rattle.fc_core.specs.declared.event.Event.{Event}
@@ -90,11 +90,11 @@ HasBlock j (ToTell turn (turns.ToDraw found)) = IsBlockOf j found
 HasBlock j (ToTell turn (turns.ToNote found id)) = IsBlockOf j found
 HasBlock j other = Unit {0}
 
-taken_block : (own : Turn) (out memory : Bool) (j : Job) (serial : ℕ) (p : Option Present) → HasBlock j (turn_took own (turn_taking out memory j serial p))
-taken_block own false memory j serial p = tt
-taken_block own true memory j serial None = tt
-taken_block own true true j serial (Some p) = refl
-taken_block own true false j serial (Some p) = tt
+taken_block : (own : Turn) (out : Bool) (kept : Option (List ℕ)) (j : Job) (serial : ℕ) (p : Option Present) → HasBlock j (turn_took own (turn_taking out kept j serial p))
+taken_block own false kept j serial p = tt
+taken_block own true kept j serial None = tt
+taken_block own true (Some readings) j serial (Some p) = refl
+taken_block own true None j serial (Some p) = tt
 
 drawn_block : (own : Turn) (j : Job) (found : Option Ticket) (free : Option ℕ) → IsBlockOf j found → HasBlock j (ToTell own (with_id found free))
 drawn_block own j found (Some id) w = w
@@ -102,7 +102,7 @@ drawn_block own j found None w = w
 
 row_block : (e : Event) (j : Job) (slot : Slot) (ws : Around) (turn : Turn) (s : Stage) → IsToldOf turn s → HasBlock j s → HasBlock j (row e (at j slot ws s)).stage
 row_block (Lose k) j slot ws turn s own w = tt
-row_block (Take k memory) j slot ws turn (ToTell mine turns.ToTake) own w = taken_block mine (is_out_at mine ws.moment ws.watch) memory j slot.serial slot.present
+row_block (Take k memory readings) j slot ws turn (ToTell mine turns.ToTake) own w = taken_block mine (is_out_at mine ws.moment ws.watch) (readings_if memory readings) j slot.serial slot.present
 row_block (Fresh k now) j slot ws turn (ToTell mine (turns.ToDraw found)) own w = drawn_block mine j found (ws.common.free now) w
 row_block (Note k now random) j slot ws turn (ToTell mine (turns.ToNote found id)) own w = tt
 row_block (GiveUp k now) j slot ws turn (ToTell mine needs) own w = tt

@@ -5,7 +5,7 @@ use Rattle.fc_observe.specs.Calls.{ObserverCall}
 use Rattle.fc_observe.specs.Observers.{ObserverList}
 use Rattle.fc_registry.specs.declared.job.Job.{Job}
 use Rattle.fc_registry.specs.declared.shard.Taken.{Taken}
-use Rattle.fc_registry.specs.Calls.{TakesAt, after_taking, is_out_at, taking_at, taking_by, taking_calls, taking_calls_by, turn_calls, turn_of, turn_taking}
+use Rattle.fc_registry.specs.Calls.{TakesAt, after_taking, is_out_at, taking_at, taking_by, taking_calls, taking_calls_by, turn_calls, turn_of, turn_taking, readings_if}
 use Rattle.fc_registry.specs.Slots.{Present, Shard, Slot, slot_in}
 use Rattle.fc_registry.specs.Watches.{watch_at, with_calls}
 use Rattle.fc_core.specs.declared.stage.Stage.{Stage}
@@ -18,17 +18,18 @@ use Rattle.fc_core.proofs.Rejections.{same_slot}
 use Rattle.std.proofs.Common.{subst}
 
 -- the answer tells whether there was memory
-had : (out memory : Bool) (job : Job) (serial : ℕ) (p : Option Present) → turn_taking out memory job serial p ≡ turn_taking out (had_memory (turn_taking out memory job serial p)) job serial p
-had false memory job serial p = refl
-had true memory job serial None = refl
-had true true job serial (Some p) = refl
-had true false job serial (Some p) = refl
+had : (out memory : Bool) (readings : List ℕ) (job : Job) (serial : ℕ) (p : Option Present)
+    → let x = turn_taking out (readings_if memory readings) job serial p in x ≡ turn_taking out (readings_if (had_memory x) readings) job serial p
+had false memory readings job serial p = refl
+had true memory readings job serial None = refl
+had true true readings job serial (Some p) = refl
+had true false readings job serial (Some p) = refl
 
-without : (out memory : Bool) (job : Job) (serial : ℕ) (p : Option Present) → without_memory (turn_taking out memory job serial p) ≡ turn_taking out false job serial p
-without false memory job serial p = refl
-without true memory job serial None = refl
-without true true job serial (Some p) = refl
-without true false job serial (Some p) = refl
+without : (out : Bool) (kept : Option (List ℕ)) (job : Job) (serial : ℕ) (p : Option Present) → without_memory (turn_taking out kept job serial p) ≡ turn_taking out None job serial p
+without false kept job serial p = refl
+without true kept job serial None = refl
+without true (Some readings) job serial (Some p) = refl
+without true None job serial (Some p) = refl
 
 is_to_take : (st : Stage) (turn : Turn) → turn_to_take st ≡ Some turn → st ≡ ToTell turn turns.ToTake
 is_to_take (ToTell own turns.ToTake) turn e = let same : own ≡ turn = cc e in ap (λ (t : Turn). ToTell t turns.ToTake) same
@@ -56,29 +57,29 @@ module _ (shard : Shard) (task : Task) (turn : Turn) (to_take : turn_to_take tas
   turn_is : turn_of task.job turn.number ≡ turn
   turn_is = λ i. record { slot = sym told.0 i; number = turn.number }
 
-  taking_is : (memory : Bool) → taking_at memory task.job slot shard.now w ≡ turn_taking out memory task.job slot.serial slot.present
-  taking_is memory = ap (λ (o : Option ℕ). taking_by o memory task.job slot shard.now w) told.1 ∙ ap (λ (t : Turn). turn_taking (is_out_at t shard.now w) memory task.job slot.serial slot.present) turn_is
+  taking_is : (kept : Option (List ℕ)) → taking_at kept task.job slot shard.now w ≡ turn_taking out kept task.job slot.serial slot.present
+  taking_is kept = ap (λ (o : Option ℕ). taking_by o kept task.job slot shard.now w) told.1 ∙ ap (λ (t : Turn). turn_taking (is_out_at t shard.now w) kept task.job slot.serial slot.present) turn_is
 
   calls_are : taking_calls task.job slot shard.now w ≡ turn_calls turn shard.now slot.present w
   calls_are = ap (λ (o : Option ℕ). taking_calls_by o task.job slot shard.now w) told.1 ∙ ap (λ (t : Turn). turn_calls t shard.now slot.present w) turn_is
 
-  row_is : (memory : Bool) (common : Common) → task_moved task (at_take memory (scene_of shard common task) (ToTell turn turns.ToTake)) ≡ task_moved task (at_take memory (scene_of shard common task) task.stage)
-  row_is memory common = ap (λ (st : Stage). task_moved task (at_take memory (scene_of shard common task) st)) (sym is)
+  row_is : (kept : Option (List ℕ)) (common : Common) → task_moved task (at_take kept (scene_of shard common task) (ToTell turn turns.ToTake)) ≡ task_moved task (at_take kept (scene_of shard common task) task.stage)
+  row_is kept common = ap (λ (st : Stage). task_moved task (at_take kept (scene_of shard common task) st)) (sym is)
 
-  pub turn_takes : (x : Taken) → TakesAt task.job shard x → (common : Common) → record { job = task.job; stage = turn_took turn x } ≡ task_moved task (at_take (had_memory x) (scene_of shard common task) task.stage)
-  turn_takes x takes common =
-      let taken : x ≡ turn_taking out takes.0 task.job slot.serial slot.present = takes.1 ∙ taking_is takes.0 in
-      let settled : x ≡ turn_taking out (had_memory x) task.job slot.serial slot.present = taken ∙ (had out takes.0 task.job slot.serial slot.present ∙ ap (λ (y : Taken). turn_taking out (had_memory y) task.job slot.serial slot.present) (sym taken)) in
-      ap (λ (y : Taken). record { job = task.job; stage = turn_took turn y }) settled ∙ row_is (had_memory x) common
+  pub turn_takes : (readings : List ℕ) (x : Taken) → TakesAt task.job readings shard x → (common : Common) → record { job = task.job; stage = turn_took turn x } ≡ task_moved task (at_take (readings_if (had_memory x) readings) (scene_of shard common task) task.stage)
+  turn_takes readings x takes common =
+      let taken : x ≡ turn_taking out (readings_if takes.0 readings) task.job slot.serial slot.present = takes.1 ∙ taking_is (readings_if takes.0 readings) in
+      let settled : x ≡ turn_taking out (readings_if (had_memory x) readings) task.job slot.serial slot.present = taken ∙ (had out takes.0 readings task.job slot.serial slot.present ∙ ap (λ (y : Taken). turn_taking out (readings_if (had_memory y) readings) task.job slot.serial slot.present) (sym taken)) in
+      ap (λ (y : Taken). record { job = task.job; stage = turn_took turn y }) settled ∙ row_is (readings_if (had_memory x) readings) common
 
-  pub turn_takes_without : (x : Taken) → TakesAt task.job shard x → (common : Common) → record { job = task.job; stage = turn_took turn (without_memory x) } ≡ task_moved task (at_take false (scene_of shard common task) task.stage)
-  turn_takes_without x takes common =
-      let taken : x ≡ turn_taking out takes.0 task.job slot.serial slot.present = takes.1 ∙ taking_is takes.0 in
-      ap (λ (y : Taken). record { job = task.job; stage = turn_took turn y }) (ap without_memory taken ∙ without out takes.0 task.job slot.serial slot.present) ∙ row_is false common
+  pub turn_takes_without : (readings : List ℕ) (x : Taken) → TakesAt task.job readings shard x → (common : Common) → record { job = task.job; stage = turn_took turn (without_memory x) } ≡ task_moved task (at_take None (scene_of shard common task) task.stage)
+  turn_takes_without readings x takes common =
+      let taken : x ≡ turn_taking out (readings_if takes.0 readings) task.job slot.serial slot.present = takes.1 ∙ taking_is (readings_if takes.0 readings) in
+      ap (λ (y : Taken). record { job = task.job; stage = turn_took turn y }) (ap without_memory taken ∙ without out (readings_if takes.0 readings) task.job slot.serial slot.present) ∙ row_is None common
 
-  pub turn_calls_at : (memory : Bool) (new : Shard) → new ≡ after_taking task.job shard → (common : Common) → new ≡ shard_after (at_take memory (scene_of shard common task) task.stage) task shard
-  turn_calls_at memory new after common =
+  pub turn_calls_at : (kept : Option (List ℕ)) (new : Shard) → new ≡ after_taking task.job shard → (common : Common) → new ≡ shard_after (at_take kept (scene_of shard common task) task.stage) task shard
+  turn_calls_at kept new after common =
       after
       ∙ (ap (λ (cs : List ObserverCall). with_calls cs n shard) calls_are
       ∙ (ap (with_calls (turn_calls turn shard.now slot.present w) n) (sym (same_slot shard n))
-      ∙ ap (λ (st : Stage). shard_after (at_take memory (scene_of shard common task) st) task shard) (sym is)))
+      ∙ ap (λ (st : Stage). shard_after (at_take kept (scene_of shard common task) st) task shard) (sym is)))

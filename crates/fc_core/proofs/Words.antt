@@ -53,8 +53,8 @@ raise_by e other = None
 row_raises : (e : Event) (job : Job) (slot : Slot) (ws : Around) (st : Stage) → (row e (at job slot ws st)).raises ≡ raise_by e st
 row_raises (Commit k now) job slot ws (ToCommit n t) = committed_raises n t now ws (outcome t slot)
 row_raises (Install k memory) job slot ws ToInstall = verified_raises memory (at job slot ws ToInstall)
-row_raises (Take k memory) job slot ws (ToTake n) = refl
-row_raises (Take k memory) job slot ws (ToTell turn turns.ToTake) = refl
+row_raises (Take k memory readings) job slot ws (ToTake n) = refl
+row_raises (Take k memory readings) job slot ws (ToTell turn turns.ToTake) = refl
 row_raises (Raise k) job slot ws (ToRaise word content) = refl
 row_raises (Answer k now) job slot ws (ToAnswer content) = refl
 row_raises (Fresh k now) job slot ws (ToTell turn (turns.ToDraw found)) = refl
@@ -124,7 +124,7 @@ module _ (e : Event) (s : Seen) (k n : ℕ) (lt : n < length s.words) where
 word_after : (e : Event) (s : Seen) (n : ℕ) → n < length s.words → word_at (words_seen (names e) e s) n ≡ max (word_at s.words n) (greatest (words_raised n e s))
 word_after (Raise k) s n lt = by_raise (Raise k) s k n lt ∙ ap (λ (l : List ℕ). max (word_at s.words n) (greatest l)) (to_raise (slot_of s k == n) k (stage s k))
 word_after (Peek k i) s n lt = by_none (Peek k i) s k n lt refl
-word_after (Take k memory) s n lt = by_none (Take k memory) s k n lt refl
+word_after (Take k memory readings) s n lt = by_none (Take k memory readings) s k n lt refl
 word_after (Commit k now) s n lt = by_none (Commit k now) s k n lt refl
 word_after (Install k memory) s n lt = by_none (Install k memory) s k n lt refl
 word_after (Remove k) s n lt = by_none (Remove k) s k n lt refl

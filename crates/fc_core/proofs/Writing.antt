@@ -68,22 +68,22 @@ all_later : (r : Entry) (s : Seen) (k : ℕ) (ts : List Taking) → HasCome s k 
 all_later r s k [] come w = tt
 all_later r s k (t ∷ ts) come w = (later_since r s k t come w.0, all_later r s k ts come w.1)
 
-found_since : (s : Seen) (k : ℕ) (p : Option Present) (ts : List Taking) → Each (IsSince s k) ts → Each (IsSince s k) (finds (job s k) (slot_at s (slot_of s k)).serial p (s.changes (slot_of s k)) ++ ts)
-found_since s k None ts w = w
-found_since s k (Some found) ts w = (record { since = []; is = refl; serial = refl }, w)
+found_since : (s : Seen) (k : ℕ) (readings : List ℕ) (p : Option Present) (ts : List Taking) → Each (IsSince s k) ts → Each (IsSince s k) (finds (job s k) readings (slot_at s (slot_of s k)).serial p (s.changes (slot_of s k)) ++ ts)
+found_since s k readings None ts w = w
+found_since s k readings (Some found) ts w = (record { since = []; is = refl; serial = refl }, w)
 
-found_since_if : (s : Seen) (k : ℕ) (out : Bool) (ts : List Taking) → Each (IsSince s k) ts → Each (IsSince s k) (finds_if out (job s k) (slot_at s (slot_of s k)).serial (slot_at s (slot_of s k)).present (s.changes (slot_of s k)) ++ ts)
-found_since_if s k true ts w = found_since s k (slot_at s (slot_of s k)).present ts w
-found_since_if s k false ts w = w
+found_since_if : (s : Seen) (k : ℕ) (readings : List ℕ) (out : Bool) (ts : List Taking) → Each (IsSince s k) ts → Each (IsSince s k) (finds_if out (job s k) readings (slot_at s (slot_of s k)).serial (slot_at s (slot_of s k)).present (s.changes (slot_of s k)) ++ ts)
+found_since_if s k readings true ts w = found_since s k readings (slot_at s (slot_of s k)).present ts w
+found_since_if s k readings false ts w = w
 
-at_since : (s : Seen) (k : ℕ) (at : Stage) (ts : List Taking) → Each (IsSince s k) ts → Each (IsSince s k) (gives_at (scene s k) at (s.changes (slot_of s k)) ++ ts)
-at_since s k (ToTake n) ts w = found_since s k (slot_at s (slot_of s k)).present ts w
-at_since s k (ToTell turn turns.ToTake) ts w = found_since_if s k (is_out_at turn (around s (slot_of s k)).moment (watch s (slot_of s k))) ts w
-at_since s k other ts w = w
+at_since : (s : Seen) (k : ℕ) (readings : List ℕ) (at : Stage) (ts : List Taking) → Each (IsSince s k) ts → Each (IsSince s k) (gives_at readings (scene s k) at (s.changes (slot_of s k)) ++ ts)
+at_since s k readings (ToTake n) ts w = found_since s k readings (slot_at s (slot_of s k)).present ts w
+at_since s k readings (ToTell turn turns.ToTake) ts w = found_since_if s k readings (is_out_at turn (around s (slot_of s k)).moment (watch s (slot_of s k))) ts w
+at_since s k readings other ts w = w
 
 given_since : (s : Seen) (k : ℕ) (e : Event) (ts : List Taking) → Each (IsSince s k) ts → Each (IsSince s k) (more e s k ts)
-given_since s k (Take j true) ts w = at_since s k (stage s k) ts w
-given_since s k (Take j false) ts w = w
+given_since s k (Take j true readings) ts w = at_since s k readings (stage s k) ts w
+given_since s k (Take j false readings) ts w = w
 given_since s k other ts w = w
 
 since_if : (s : Seen) (k : ℕ) (e : Event) (ts : List Taking) (b : Bool) → Each (IsSince s k) ts → Each (IsSince s k) (if b then more e s k ts else ts)

@@ -26,7 +26,7 @@ use Rattle.fc_core.specs.Stages.{image_of, names}
 -- job's answer 5.03: memory was refused for a ticket or an install, the slot changed under the eighth ticket, or the slot is
 -- at its last serial and is to change
 pub data IsUnavailable (e : Event) (k : ℕ) (j : Job) (slot : Slot) (at : Stage) (taken : ℕ) : Type 0 where
-  NoTicket : (count : ℕ) (p : Present) (event : e ≡ Take k false) (is : at ≡ ToTake count) (found : slot.present ≡ Some p) → IsUnavailable e k j slot at taken
+  NoTicket : (count : ℕ) (readings : List ℕ) (p : Present) (event : e ≡ Take k false readings) (is : at ≡ ToTake count) (found : slot.present ≡ Some p) → IsUnavailable e k j slot at taken
   NoMemory : (event : e ≡ Install k false) (is : at ≡ ToInstall) → IsUnavailable e k j slot at taken
   Overtaken : (now count : ℕ) (t : Ticket) (event : e ≡ Commit k now) (is : at ≡ ToCommit count t) (wants : wants t ≡ true) (other : slot.serial ≡ t.serial → ⊥) (eighth : taken ≡ 8) → IsUnavailable e k j slot at taken
   LastCommit : (now count : ℕ) (t : Ticket) (event : e ≡ Commit k now) (is : at ≡ ToCommit count t) (wants : wants t ≡ true) (last : 9223372036854775807 ≤ slot.serial) → IsUnavailable e k j slot at taken
@@ -35,7 +35,7 @@ pub data IsUnavailable (e : Event) (k : ℕ) (j : Job) (slot : Slot) (at : Stage
 
 -- it makes the answer 4.04: the job's taking finds the slot empty, or there is nothing to describe
 pub data IsMissing (e : Event) (k : ℕ) (slot : Slot) (at : Stage) : Type 0 where
-  NothingTaken : (memory : Bool) (count : ℕ) (event : e ≡ Take k memory) (is : at ≡ ToTake count) (empty : slot.present ≡ None) → IsMissing e k slot at
+  NothingTaken : (memory : Bool) (readings : List ℕ) (count : ℕ) (event : e ≡ Take k memory readings) (is : at ≡ ToTake count) (empty : slot.present ≡ None) → IsMissing e k slot at
   NothingDescribed : (event : e ≡ Receipt k) (is : at ≡ ToDescribe) (empty : slot.present ≡ None) → IsMissing e k slot at
 
 -- it installs a program: the receipt is the program's and has the slot's new serial as its version, and the program is

@@ -25,8 +25,8 @@ needs_word own n other = false
 -- the job that the event names, which is of slot own, isn't at the stage that the event needs
 abbrev pub is_stray_at : Event → ℕ → Stage → Bool
 is_stray_at (Peek k n) own at = not (needs_word own n at)
-is_stray_at (Take k memory) own (ToTake count) = false
-is_stray_at (Take k memory) own (ToTell turn turns.ToTake) = false
+is_stray_at (Take k memory readings) own (ToTake count) = false
+is_stray_at (Take k memory readings) own (ToTell turn turns.ToTake) = false
 is_stray_at (Commit k now) own (ToCommit count t) = false
 is_stray_at (Install k memory) own ToInstall = false
 is_stray_at (Remove k) own ToRemove = false
@@ -82,24 +82,24 @@ pub record Taking : Type 0 where
   pub ticket : Ticket
   pub changes : List Change
 
--- a ticket of what the slot holds, if it holds a program
-abbrev pub finds : Job → ℕ → Option Present → List Change → List Taking
-finds j serial None changes = []
-finds j serial (Some found) changes = record { ticket = ticket_of j serial found; changes = changes } ∷ []
+-- a ticket of what the slot holds, if it holds a program, with the readings that are handed in
+abbrev pub finds : Job → List ℕ → ℕ → Option Present → List Change → List Taking
+finds j readings serial None changes = []
+finds j readings serial (Some found) changes = record { ticket = ticket_of j readings serial found; changes = changes } ∷ []
 
 -- a turn that is out no longer takes none
-abbrev pub finds_if : Bool → Job → ℕ → Option Present → List Change → List Taking
-finds_if true j serial present changes = finds j serial present changes
-finds_if false j serial present changes = []
+abbrev pub finds_if : Bool → Job → List ℕ → ℕ → Option Present → List Change → List Taking
+finds_if true j readings serial present changes = finds j readings serial present changes
+finds_if false j readings serial present changes = []
 
-abbrev pub gives_at : Scene → Stage → List Change → List Taking
-gives_at s (ToTake count) changes = finds s.job s.slot.serial s.slot.present changes
-gives_at s (ToTell turn turns.ToTake) changes = finds_if (is_out_at turn s.around.moment s.around.watch) s.job s.slot.serial s.slot.present changes
-gives_at s other changes = []
+abbrev pub gives_at : List ℕ → Scene → Stage → List Change → List Taking
+gives_at readings s (ToTake count) changes = finds s.job readings s.slot.serial s.slot.present changes
+gives_at readings s (ToTell turn turns.ToTake) changes = finds_if (is_out_at turn s.around.moment s.around.watch) s.job readings s.slot.serial s.slot.present changes
+gives_at readings s other changes = []
 
 -- what an event gives to the job that it names: a taking at its stage gives a ticket, where there is memory for it
 abbrev pub gives : Event → Scene → List Change → List Taking
-gives (Take k true) s changes = gives_at s s.stage changes
+gives (Take k true readings) s changes = gives_at readings s s.stage changes
 gives other s changes = []
 
 -- the takings that gave a ticket to the job of this number, the newest first

@@ -1,5 +1,5 @@
 -- What each event may emit: exactly this, and nothing else. And what a taking finds has a meaning.
-use Rattle.std.specs.Prelude.{◌≡◌, ℕ, ◌+◌, ◌*◌, ◌≤◌, Bool, true, false, Option, Some, None, max}
+use Rattle.std.specs.Prelude.{◌≡◌, ℕ, ◌+◌, ◌*◌, ◌≤◌, Bool, true, false, List, Option, Some, None, max}
 use Rattle.coap_msg.specs.declared.types.Emission.{Emission}
 use Rattle.fc_image.specs.Paths.{IsLongest}
 use Rattle.fc_kinds.specs.Meaning.{IsRun}
@@ -76,19 +76,19 @@ pub record IsMeant (t : Ticket) : Type 0 where
   pub longest : IsLongest t.found.program.code t.found.program.cost
   pub cost : t.found.program.cost ≤ t.found.program.budget
 
--- what a job finds in its slot at this serial, if it is a program, has a meaning for the job's request
-abbrev pub FoundMeans : Job → ℕ → Option Present → Type 0
-FoundMeans j serial None = Unit {0}
-FoundMeans j serial (Some found) = IsMeant (ticket_of j serial found)
+-- what a job finds in its slot at this serial, if it is a program, has a meaning for the job's request and these readings
+abbrev pub FoundMeans : Job → List ℕ → ℕ → Option Present → Type 0
+FoundMeans j readings serial None = Unit {0}
+FoundMeans j readings serial (Some found) = IsMeant (ticket_of j readings serial found)
 
-abbrev pub FindsMeaning : Scene → Stage → Type 0
-FindsMeaning s (ToTake count) = FoundMeans s.job s.slot.serial s.slot.present
-FindsMeaning s (ToTell turn turns.ToTake) = FoundMeans s.job s.slot.serial s.slot.present
-FindsMeaning s other = Unit {0}
+abbrev pub FindsMeaning : List ℕ → Scene → Stage → Type 0
+FindsMeaning readings s (ToTake count) = FoundMeans s.job readings s.slot.serial s.slot.present
+FindsMeaning readings s (ToTell turn turns.ToTake) = FoundMeans s.job readings s.slot.serial s.slot.present
+FindsMeaning readings s other = Unit {0}
 
 -- a taking at its stage that finds a program finds one with a meaning, whether or not there is memory for a ticket
 abbrev pub TakesMeaning : Seen → Event → Type 0
-TakesMeaning s (Take k memory) = FindsMeaning (scene s k) (stage s k)
+TakesMeaning s (Take k memory readings) = FindsMeaning readings (scene s k) (stage s k)
 TakesMeaning s other = Unit {0}
 
 abbrev pub AllMean : History → Type 0

@@ -24,7 +24,7 @@ use Rattle.fc_registry.specs.Changes.{Change, Committed as Wrote, after_changes}
 use Rattle.fc_registry.specs.Watches.{watch_at, with_calls}
 use Rattle.fc_registry.specs.declared.commit.CommitOutcome.{CommitOutcome}
 use Rattle.fc_registry.specs.declared.commit.CommitOutcome.TheVariants.{Writes, Keeps, Overtakes, Ends}
-use Rattle.fc_registry.specs.Calls.{taking, install_in, remove_from, receipt_at, receipt_of, outcome, commit_of, is_observed, is_out_at, meaning_at, observe_calls, turn_calls, turn_of, turn_taking}
+use Rattle.fc_registry.specs.Calls.{taking, install_in, remove_from, receipt_at, receipt_of, outcome, commit_of, is_observed, is_out_at, meaning_at, observe_calls, readings_if, turn_calls, turn_of, turn_taking}
 use Rattle.fc_registry.specs.Notes.{note_at, note_calls}
 use Rattle.fc_core.specs.Contents.{Content, Ran, run_answer, Missing as Misses, Unavailable, Made as Makes, Rejected, Untyped, Valid, Deleted, Described, Listed}
 use Rattle.fc_core.specs.Heads.{head_word, is_match, published, serial_in, word_at}
@@ -39,7 +39,7 @@ use Rattle.fc_core.specs.declared.stage.Task.{Task}
 -- the job that an event names
 abbrev pub names : Event → Option ℕ
 names (Peek job slot) = Some job
-names (Take job memory) = Some job
+names (Take job memory readings) = Some job
 names (Commit job now) = Some job
 names (Install job memory) = Some job
 names (Remove job) = Some job
@@ -202,11 +202,11 @@ moves stage = record { stage = stage; changes = []; calls = []; hands = None; ra
 abbrev pub moves_by : Stage → List Change → Move
 moves_by stage changes = record { stage = stage; changes = changes; calls = []; hands = None; raises = None }
 
-abbrev pub taken : Bool → ℕ → Scene → Move
-taken memory count s = moves (took count (taking memory s.job s.slot.serial s.slot.present))
+abbrev pub taken : Option (List ℕ) → ℕ → Scene → Move
+taken kept count s = moves (took count (taking kept s.job s.slot.serial s.slot.present))
 
-abbrev pub turn_taken : Bool → Turn → Scene → Move
-turn_taken memory turn s = record (moves (turn_took turn (turn_taking (is_out_at turn s.around.moment s.around.watch) memory s.job s.slot.serial s.slot.present))) {
+abbrev pub turn_taken : Option (List ℕ) → Turn → Scene → Move
+turn_taken kept turn s = record (moves (turn_took turn (turn_taking (is_out_at turn s.around.moment s.around.watch) kept s.job s.slot.serial s.slot.present))) {
   calls = turn_calls turn s.around.moment s.slot.present s.around.watch;
 }
 
@@ -246,10 +246,10 @@ at_peek n s ToMatch = moves (peeked_own (n == s.job.origin.slot) (word_at s.arou
 at_peek n s (ToList seen) = moves (peeked_next (n == length seen.items) (word_at s.around.common.words n) seen)
 at_peek n s other = moves other
 
-abbrev pub at_take : Bool → Scene → Stage → Move
-at_take memory s (ToTake count) = taken memory count s
-at_take memory s (ToTell turn turns.ToTake) = turn_taken memory turn s
-at_take memory s other = moves other
+abbrev pub at_take : Option (List ℕ) → Scene → Stage → Move
+at_take kept s (ToTake count) = taken kept count s
+at_take kept s (ToTell turn turns.ToTake) = turn_taken kept turn s
+at_take kept s other = moves other
 
 abbrev pub at_commit : ℕ → Scene → Stage → Move
 at_commit now s (ToCommit count t) = committed (outcome t s.slot) count t now s.around
@@ -301,7 +301,7 @@ at_give_up now s other = moves other
 
 abbrev pub row : Event → Scene → Move
 row (Peek job n) s = at_peek n s s.stage
-row (Take job memory) s = at_take memory s s.stage
+row (Take job memory readings) s = at_take (readings_if memory readings) s s.stage
 row (Commit job now) s = at_commit now s s.stage
 row (Install job memory) s = at_install memory s s.stage
 row (Remove job) s = at_remove s s.stage

@@ -42,9 +42,9 @@ pub fn deleted_slots_are_empty()
 
 /// A taking at its stage that finds the slot empty makes the answer 4.04 (Not Found), whether or not there is memory.
 pub fn empty_slots_are_missing()
-    ensures { (s : Seen) (k count : ℕ) (memory : Bool) (o : Option Emission) → stage s k ≡ ToTake count
+    ensures { (s : Seen) (k count : ℕ) (memory : Bool) (readings : List ℕ) (o : Option Emission) → stage s k ≡ ToTake count
         → (slot_at s (slot_of s k)).present ≡ None
-        → stage (and_then (did (Take k memory) o) s) k ≡ ToAnswer Missing }
+        → stage (and_then (did (Take k memory readings) o) s) k ≡ ToAnswer Missing }
 {}
 
 /// The front's moment is the greatest of those that deliveries, ticks, and at their stage answers and turns that draw a message id handed

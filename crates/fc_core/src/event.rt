@@ -1,5 +1,6 @@
 //! Events: all that can happen to a server.
 use coap_msg::Endpoint;
+use fc_help::Readings;
 
 /// What happens to a server. Jobs are numbered from 0 in the order in which they come, and shards from 0 to 7; moments
 /// are in milliseconds.
@@ -18,10 +19,11 @@ pub enum Event<'a> {
         job: usize,
         slot: u8,
     },
-    /// A job takes a ticket; memory for it is there or refused.
+    /// A job takes a ticket, with the readings of this moment; memory for it is there or refused.
     Take {
         job: usize,
         memory: bool,
+        readings: Readings,
     },
     /// A job has run its ticket's program, and commits.
     Commit {

@@ -78,9 +78,9 @@ pub fn raises_keep_the_answer()
 /// A job that is refused the memory for a ticket or an install answers 5.03 (Service Unavailable), and a job that stands
 /// at its answer takes no ticket later.
 pub fn refused_memory_ends_a_job()
-    ensures take { (s : Seen) (k count : ℕ) (o : Option Emission) (p : Present) → stage s k ≡ ToTake count
+    ensures take { (s : Seen) (k count : ℕ) (readings : List ℕ) (o : Option Emission) (p : Present) → stage s k ≡ ToTake count
         → (slot_at s (slot_of s k)).present ≡ Some p
-        → stage (and_then (did (Take k false) o) s) k ≡ ToAnswer Unavailable }
+        → stage (and_then (did (Take k false readings) o) s) k ≡ ToAnswer Unavailable }
     ensures install { (s : Seen) (k : ℕ) (o : Option Emission) → stage s k ≡ ToInstall
         → stage (and_then (did (Install k false) o) s) k ≡ ToAnswer Unavailable }
     ensures later { (h : History) (rs : List Entry) (k : ℕ) (content : Content)

@@ -8,7 +8,7 @@ ghost use Rattle.fc_core.specs.Ends.{refused};
 ghost use Rattle.fc_core.specs.Fits.{FitsStage, HasListed, HasNext, TellsOwn};
 ghost use Rattle.fc_core.specs.Heads.{word_at};
 ghost use Rattle.fc_core.specs.Sound.{AllSafe};
-ghost use Rattle.fc_registry.specs.Calls.{HasGiven, receipt_of};
+ghost use Rattle.fc_registry.specs.Calls.{HasGiven, readings_if, receipt_of};
 ghost use Rattle.fc_registry.specs.Notes.{note_at, note_calls};
 ghost use Rattle.fc_registry.specs.Watches.{handed, watch_at, with_calls};
 ghost use Rattle.fc_core.specs.Stages as rows;
@@ -20,6 +20,7 @@ use crate::heads::{Heads, WORDS, head_word, is_present, serial_in};
 use crate::stage::{Stage, Task, TurnStage};
 use arrayvec::ArrayVec;
 use coap_msg::Emission;
+use fc_help::{NO_READINGS, Readings};
 use fc_isa::Fault;
 use fc_machine::{Frame, Outcome, run};
 use fc_observe::Turn;
@@ -248,21 +249,21 @@ impl Task {
         }
     }
 
-    /// Takes its slot at its shard. Tells whether there was memory: where there was none a request is answered 5.03, and a turn is
+    /// Takes its slot at its shard, with these readings. Tells whether there was memory: where there was none a request is answered 5.03, and a turn is
     /// still to take.
-    pub fn take(&mut self, shard: &mut Shard) -> bool
+    pub fn take(&mut self, shard: &mut Shard, readings: &Readings) -> bool
         requires owned { IsOwned shard.old self.old.job.origin.slot }
         requires fits { FitsStage self.old.job (slot_in shard.old self.old.job.origin.slot) self.old.stage }
-        ensures task { TaskMoves (at_take result) shard.old self.old self.new }
-        ensures shard { ShardMoves (at_take result) shard.old self.old shard.new }
+        ensures task { TaskMoves (at_take (readings_if result readings.now)) shard.old self.old self.new }
+        ensures shard { ShardMoves (at_take (readings_if result readings.now)) shard.old self.old shard.new }
     {
         if let Some(turn) = turn_to_take(&self.stage) {
-            return self.take_turn(turn, shard);
+            return self.take_turn(turn, shard, readings);
         }
         let Stage::ToTake(count) = self.stage else {
             return true;
         };
-        match shard.take(&self.job) {
+        match shard.take(&self.job, readings) {
             Taken::Given(ticket) => {
                 self.stage = Stage::ToCommit(count + 1, ticket);
                 true
@@ -276,14 +277,14 @@ impl Task {
     }
 
     // Takes its turn.
-    fn take_turn(&mut self, turn: Turn, shard: &mut Shard) -> bool
+    fn take_turn(&mut self, turn: Turn, shard: &mut Shard, readings: &Readings) -> bool
         requires owned { IsOwned shard.old self.old.job.origin.slot }
         requires fits { FitsStage self.old.job (slot_in shard.old self.old.job.origin.slot) self.old.stage }
         requires turn { turn_to_take self.old.stage ≡ Some turn }
-        ensures task { TaskMoves (at_take result) shard.old self.old self.new }
-        ensures shard { ShardMoves (at_take result) shard.old self.old shard.new }
+        ensures task { TaskMoves (at_take (readings_if result readings.now)) shard.old self.old self.new }
+        ensures shard { ShardMoves (at_take (readings_if result readings.now)) shard.old self.old shard.new }
     {
-        let taken = shard.take(&self.job);
+        let taken = shard.take(&self.job, readings);
         let memory = had_memory(&taken);
         self.stage = Stage::turn_took(turn, taken);
         memory
@@ -293,13 +294,13 @@ impl Task {
     pub fn refuse_take(&mut self, shard: &mut Shard)
         requires owned { IsOwned shard.old self.old.job.origin.slot }
         requires fits { FitsStage self.old.job (slot_in shard.old self.old.job.origin.slot) self.old.stage }
-        ensures task { TaskMoves (at_take false) shard.old self.old self.new }
-        ensures shard { ShardMoves (at_take false) shard.old self.old shard.new }
+        ensures task { TaskMoves (at_take None) shard.old self.old self.new }
+        ensures shard { ShardMoves (at_take None) shard.old self.old shard.new }
     {
         if let Some(turn) = turn_to_take(&self.stage) {
             self.refuse_turn(turn, shard);
         } else if let Stage::ToTake(count) = self.stage {
-            self.stage = Stage::took(count, without_memory(shard.take(&self.job)));
+            self.stage = Stage::took(count, without_memory(shard.take(&self.job, &NO_READINGS)));
         }
     }
 
@@ -308,10 +309,10 @@ impl Task {
         requires owned { IsOwned shard.old self.old.job.origin.slot }
         requires fits { FitsStage self.old.job (slot_in shard.old self.old.job.origin.slot) self.old.stage }
         requires turn { turn_to_take self.old.stage ≡ Some turn }
-        ensures task { TaskMoves (at_take false) shard.old self.old self.new }
-        ensures shard { ShardMoves (at_take false) shard.old self.old shard.new }
+        ensures task { TaskMoves (at_take None) shard.old self.old self.new }
+        ensures shard { ShardMoves (at_take None) shard.old self.old shard.new }
     {
-        self.stage = Stage::turn_took(turn, without_memory(shard.take(&self.job)));
+        self.stage = Stage::turn_took(turn, without_memory(shard.take(&self.job, &NO_READINGS)));
     }
 
     /// Runs its ticket's program, and commits at its shard, at a moment in milliseconds.

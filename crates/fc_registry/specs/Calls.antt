@@ -2,7 +2,6 @@
 use Rattle.std.specs.Prelude.{◌≡◌, ℕ, ◌+◌, ◌/◌, ◌==◌, ◌&&◌, ◌<◌, ◌≤◌, Bool, true, false, if◌then◌else◌, nat_lt, List, [], ◌∷◌, ◌++◌, Option, Some, None, is_none, is_some, max}
 use Rattle.coap_msg.specs.Codes.{code}
 use Rattle.coap_opts.specs.Values.{Place}
-use Rattle.fc_help.specs.Region.{no_readings}
 use Rattle.fc_help.specs.Request.{Request, no_request}
 use Rattle.fc_help.specs.declared.request.Method.{Method}
 use Rattle.fc_help.specs.declared.request.Method.TheVariants.{Get, Post}
@@ -40,24 +39,29 @@ abbrev pub request_of : Ask → Request
 request_of (Run request) = request
 request_of other = no_request
 
--- a ticket of what a slot holds at a serial
-abbrev pub ticket_of : Job → ℕ → Present → Ticket
-ticket_of job serial found = record { origin = job.origin; turn = job.turn; token = job.token; request = request_of job.ask; block = job.block; observe = job.observe; serial = serial; found = found; readings = no_readings }
+-- a ticket of what a slot holds at a serial, with the readings that are handed in
+abbrev pub ticket_of : Job → List ℕ → ℕ → Present → Ticket
+ticket_of job readings serial found = record { origin = job.origin; turn = job.turn; token = job.token; request = request_of job.ask; block = job.block; observe = job.observe; serial = serial; found = found; readings = readings }
+
+-- the readings that a ticket is to keep, where there is memory for one
+abbrev pub readings_if : Bool → List ℕ → Option (List ℕ)
+readings_if true readings = Some readings
+readings_if false readings = None
 
 -- a taking gives a ticket of what the slot holds, where there is memory for it; an empty slot asks for none
-abbrev pub taking : Bool → Job → ℕ → Option Present → Taken
-taking memory job serial None = Missing
-taking true job serial (Some found) = Given (ticket_of job serial found)
-taking false job serial (Some found) = Refused
+abbrev pub taking : Option (List ℕ) → Job → ℕ → Option Present → Taken
+taking kept job serial None = Missing
+taking (Some readings) job serial (Some found) = Given (ticket_of job readings serial found)
+taking None job serial (Some found) = Refused
 
 -- the turn of this number of the observers of a job's slot
 abbrev pub turn_of : Job → ℕ → Turn
 turn_of job number = record { slot = job.origin.slot; number = number }
 
 -- a turn that is out no longer is stale, whatever the slot holds
-abbrev pub turn_taking : Bool → Bool → Job → ℕ → Option Present → Taken
-turn_taking true memory job serial present = taking memory job serial present
-turn_taking false memory job serial present = Stale
+abbrev pub turn_taking : Bool → Option (List ℕ) → Job → ℕ → Option Present → Taken
+turn_taking true kept job serial present = taking kept job serial present
+turn_taking false kept job serial present = Stale
 
 -- one that is out and finds the slot empty is missing
 abbrev pub miss_calls : Bool → Turn → Option Present → List ObserverCall
@@ -73,34 +77,34 @@ abbrev pub turn_calls : Turn → ℕ → Option Present → ObserverList → Lis
 turn_calls turn at present w = miss_calls (is_out_at turn at w) turn present ++ Advance at ∷ []
 
 -- what a request's job takes, or that of the turn of a number, of a slot with these observers, at a moment
-abbrev pub taking_by : Option ℕ → Bool → Job → Slot → ℕ → ObserverList → Taken
-taking_by None memory job slot at w = taking memory job slot.serial slot.present
-taking_by (Some number) memory job slot at w = turn_taking (is_out_at (turn_of job number) at w) memory job slot.serial slot.present
+abbrev pub taking_by : Option ℕ → Option (List ℕ) → Job → Slot → ℕ → ObserverList → Taken
+taking_by None kept job slot at w = taking kept job slot.serial slot.present
+taking_by (Some number) kept job slot at w = turn_taking (is_out_at (turn_of job number) at w) kept job slot.serial slot.present
 
 -- what it calls on them, the newest first
 abbrev pub taking_calls_by : Option ℕ → Job → Slot → ℕ → ObserverList → List ObserverCall
 taking_calls_by None job slot at w = []
 taking_calls_by (Some number) job slot at w = turn_calls (turn_of job number) at slot.present w
 
-abbrev pub taking_at : Bool → Job → Slot → ℕ → ObserverList → Taken
-taking_at memory job slot at w = taking_by job.turn memory job slot at w
+abbrev pub taking_at : Option (List ℕ) → Job → Slot → ℕ → ObserverList → Taken
+taking_at kept job slot at w = taking_by job.turn kept job slot at w
 
 abbrev pub taking_calls : Job → Slot → ℕ → ObserverList → List ObserverCall
 taking_calls job slot at w = taking_calls_by job.turn job slot at w
 
 -- memory was there, or it was refused
-abbrev pub IsFinding : Job → Slot → Taken → Type 0
-IsFinding job slot taken = (memory : Bool) × (taken ≡ taking memory job slot.serial slot.present)
+abbrev pub IsFinding : Job → List ℕ → Slot → Taken → Type 0
+IsFinding job readings slot taken = (memory : Bool) × (taken ≡ taking (readings_if memory readings) job slot.serial slot.present)
 
-abbrev pub IsTurnTaking : Turn → ℕ → ObserverList → Job → Slot → Taken → Type 0
-IsTurnTaking turn at w job slot taken = (memory : Bool) × (taken ≡ turn_taking (is_out_at turn at w) memory job slot.serial slot.present)
+abbrev pub IsTurnTaking : Turn → ℕ → ObserverList → Job → List ℕ → Slot → Taken → Type 0
+IsTurnTaking turn at w job readings slot taken = (memory : Bool) × (taken ≡ turn_taking (is_out_at turn at w) (readings_if memory readings) job slot.serial slot.present)
 
-abbrev pub IsTaking : Job → Slot → ℕ → ObserverList → Taken → Type 0
-IsTaking job slot at w taken = (memory : Bool) × (taken ≡ taking_at memory job slot at w)
+abbrev pub IsTaking : Job → List ℕ → Slot → ℕ → ObserverList → Taken → Type 0
+IsTaking job readings slot at w taken = (memory : Bool) × (taken ≡ taking_at (readings_if memory readings) job slot at w)
 
--- a taking at a shard: of the job's slot and its observers
-abbrev pub TakesAt : Job → Shard → Taken → Type 0
-TakesAt job shard taken = IsTaking job (slot_in shard job.origin.slot) shard.now (watch_at shard (job.origin.slot / 8)) taken
+-- a taking at a shard, with these readings: of the job's slot and its observers
+abbrev pub TakesAt : Job → List ℕ → Shard → Taken → Type 0
+TakesAt job readings shard taken = IsTaking job readings (slot_in shard job.origin.slot) shard.now (watch_at shard (job.origin.slot / 8)) taken
 
 -- the shard after it
 abbrev pub after_taking : Job → Shard → Shard

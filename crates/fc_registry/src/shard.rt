@@ -22,7 +22,7 @@ use crate::slot_number::{SHARDS, SlotNumber};
 use crate::ticket::{Mark, Ticket, is_run_of};
 use crate::turn::next_turn;
 use coap_msg::{Endpoint, Token};
-use fc_help::{Method, NO_READINGS, Request, Vars};
+use fc_help::{Method, Readings, Request, Vars};
 use fc_machine::Outcome;
 use fc_observe::{Observers, Ticked, Turn};
 use fc_verify::Verified;
@@ -125,16 +125,16 @@ impl Shard {
         })
     }
 
-    /// Takes what a job finds in its slot. Only a handle of the program asks for memory. A turn that is out no longer is stale, which
+    /// Takes what a job finds in its slot, and keeps the readings that are handed in. Only a handle of the program asks for memory. A turn that is out no longer is stale, which
     /// is looked at first, at the shard's moment; one that finds its slot empty keeps that. A request's taking changes nothing.
-    pub fn take(&mut self, job: &Job) -> Taken
+    pub fn take(&mut self, job: &Job, readings: &Readings) -> Taken
         requires { IsOwned self.old job.now.origin.slot }
-        ensures taken { TakesAt job.now self.old result }
+        ensures taken { TakesAt job.now readings.now self.old result }
         ensures after { self.new ≡ after_taking job.now self.old }
     {
         let place = job.origin.slot.place();
         match job.turn {
-            None => find(job, &self.slots[place]),
+            None => find(job, readings, &self.slots[place]),
             Some(number) => {
                 let slot = job.origin.slot.number();
                 let watch = &mut self.watches[place];
@@ -143,6 +143,7 @@ impl Shard {
                     self.now,
                     Turn { slot, number },
                     job,
+                    readings,
                     &self.slots[place],
                 )
             }
@@ -446,8 +447,15 @@ fn vars_of(slot: &SlotState) -> &[u8]
 }
 
 // What a turn finds in a slot, at its shard's moment.
-fn take_turn(watch: &mut Observers, now: u64, turn: Turn, job: &Job, slot: &SlotState) -> Taken
-    ensures taken { IsTurnTaking turn now watch.old job.now (as_seen slot.now) result }
+fn take_turn(
+    watch: &mut Observers,
+    now: u64,
+    turn: Turn,
+    job: &Job,
+    readings: &Readings,
+    slot: &SlotState,
+) -> Taken
+    ensures taken { IsTurnTaking turn now watch.old job.now readings.now (as_seen slot.now) result }
     ensures watch { watch.new ≡ after_calls (turn_calls turn now (as_seen slot.now).present watch.old) watch.old }
 {
     watch.advance(now);
@@ -457,12 +465,12 @@ fn take_turn(watch: &mut Observers, now: u64, turn: Turn, job: &Job, slot: &Slot
     if slot.body.is_none() {
         watch.miss(turn);
     }
-    find(job, slot)
+    find(job, readings, slot)
 }
 
 // What a job finds in a slot.
-fn find(job: &Job, slot: &SlotState) -> Taken
-    ensures { IsFinding job.now (as_seen slot.now) result }
+fn find(job: &Job, readings: &Readings, slot: &SlotState) -> Taken
+    ensures { IsFinding job.now readings.now (as_seen slot.now) result }
 {
     let Some(body) = &slot.body else {
         return Taken::Missing;
@@ -479,7 +487,7 @@ fn find(job: &Job, slot: &SlotState) -> Taken
             program,
             version: body.version,
             vars: body.vars.copy(),
-            readings: NO_READINGS,
+            readings: *readings,
         }),
         Err(_) => Taken::Refused,
     }

@@ -6,6 +6,7 @@ use Rattle.hex.specs.Hex.{decode_of}
 use Rattle.fc_core.specs.declared.event.Event.{Event}
 use Rattle.fc_core.specs.declared.event.Event.TheVariants.{Deliver, Peek, Take, Commit, Install, Remove, Receipt, Raise, Answer, Due, Fresh, Note, GiveUp, Signal, Tick, ShardTick, Lose}
 use Rattle.coap_msg.specs.declared.types.Endpoint.{Endpoint}
+use Rattle.fc_help.specs.Region.{no_readings}
 use Rattle.fc_registry.specs.Slots.{last_serial}
 use Rattle.fc_server.specs.declared.server.Begin.{Begin}
 use Rattle.fc_lines.specs.Fields.{space, IsNumber}
@@ -74,7 +75,8 @@ abbrev pub IsEventOf : Bytes → List Bytes → Event → Type 0
 IsEventOf name parts (Deliver now endpoint sent) =
     IsForm name parts (codes "Deliver") 3 × HasMoment parts now × HasEndpoint parts endpoint × HasData (name ∷ parts) sent.now
 IsEventOf name parts (Peek job slot) = IsForm name parts (codes "Peek") 2 × HasJob parts job × HasNumber parts (codes "slot") 256 slot
-IsEventOf name parts (Take job memory) = IsForm name parts (codes "Take") 2 × HasJob parts job × HasFlag parts (codes "memory") memory
+IsEventOf name parts (Take job memory readings) =
+    IsForm name parts (codes "Take") 2 × HasJob parts job × HasFlag parts (codes "memory") memory × (readings ≡ no_readings)
 IsEventOf name parts (Commit job now) = IsForm name parts (codes "Commit") 2 × HasJob parts job × HasMoment parts now
 IsEventOf name parts (Install job memory) = IsForm name parts (codes "Install") 2 × HasJob parts job × HasFlag parts (codes "memory") memory
 IsEventOf name parts (Remove job) = IsForm name parts (codes "Remove") 1 × HasJob parts job

@@ -4,6 +4,7 @@ ghost use Rattle.fc_registry.specs.Slots.{last_serial};
 ghost use Rattle.fc_replay.specs.Listed.{HasData, HasEndpoint, HasFlag, HasNumber, HasPart, AreOfEvent, IsBeginOf, SaysBegin, IsEventOf, equals, line_words, texts};
 
 use coap_msg::Endpoint;
+use fc_help::NO_READINGS;
 use fc_lines::emission::endpoint;
 use fc_lines::hexadecimal::decode;
 use fc_lines::line::{LineError, byte, number};
@@ -257,6 +258,7 @@ fn of_job<'a>(name: &str, parts: &[&str], job: usize) -> Option<Event<'a>>
         "Take" => Some(Event::Take {
             job,
             memory: flag(parts, "memory")?,
+            readings: NO_READINGS,
         }),
         "Commit" => Some(Event::Commit {
             job,

@@ -64,8 +64,8 @@ module _ (rest : List Task) {h : History} {old : ServerState} {task : Task} {new
   does_on e out is d = serves_on h e old (rest ++ task ∷ []) out new (rest ++ later ∷ [])
       (does_done e (length rest) is old new (rest ++ task ∷ []) (rest ++ later ∷ []) task later out (sym (seam rest task)) (sym (set-append_seam rest task [] later)) d) v
 
-  pub took_on : (memory : Bool) → Does (Take (length rest) memory) old task new later None → Serves (next h (Take (length rest) memory) None) new (rest ++ later ∷ [])
-  took_on memory d = does_on (Take (length rest) memory) None (refl, refl, refl) d
+  pub took_on : (memory : Bool) (readings : List ℕ) → Does (Take (length rest) memory readings) old task new later None → Serves (next h (Take (length rest) memory readings) None) new (rest ++ later ∷ [])
+  took_on memory readings d = does_on (Take (length rest) memory readings) None (refl, refl, refl) d
 
   pub peeked_on : (n : ℕ) → Does (Peek (length rest) n) old task new later None → Serves (next h (Peek (length rest) n) None) new (rest ++ later ∷ [])
   peeked_on n d = does_on (Peek (length rest) n) None (refl, refl, refl) d

@@ -40,17 +40,17 @@ use Rattle.fc_server.proofs.ShardEvents.{shard_agrees, shard_brings, shard_sends
 
 -- ---- what a taking finds has a meaning
 
-found_means : (j : Job) (slot : Slot) (p : Option Present) → AskWithin j.ask → FitsSlot p → FoundMeans j slot.serial p
-found_means j slot None within fits = tt
-found_means j slot (Some p) within fits = record { run = fits.safe.runs.run _ (is_input j p _ _ within refl fits); longest = fits.safe.longest; cost = fits.safe.runs.cost }
+found_means : (j : Job) (readings : List ℕ) (slot : Slot) (p : Option Present) → AskWithin j.ask → FitsSlot p → FoundMeans j readings slot.serial p
+found_means j readings slot None within fits = tt
+found_means j readings slot (Some p) within fits = record { run = fits.safe.runs.run _ (is_input j p _ _ within refl fits); longest = fits.safe.longest; cost = fits.safe.runs.cost }
 
-finds_by : (x : Scene) (st : Stage) → AskWithin x.job.ask → FitsSlot x.slot.present → FindsMeaning x st
-finds_by x (ToTake n) within fits = found_means x.job x.slot x.slot.present within fits
-finds_by x (ToTell turn turns.ToTake) within fits = found_means x.job x.slot x.slot.present within fits
-finds_by x other within fits = tt
+finds_by : (readings : List ℕ) (x : Scene) (st : Stage) → AskWithin x.job.ask → FitsSlot x.slot.present → FindsMeaning readings x st
+finds_by readings x (ToTake n) within fits = found_means x.job readings x.slot x.slot.present within fits
+finds_by readings x (ToTell turn turns.ToTake) within fits = found_means x.job readings x.slot x.slot.present within fits
+finds_by readings x other within fits = tt
 
 takes_mean : (e : Event) (s : Seen) → IsSound s → IsSafelySeen s → TakesMeaning s e
-takes_mean (Take k memory) s a f = finds_by (scene s k) (stage s k) (a.within k).1 (f.slots (job s k).origin.slot)
+takes_mean (Take k memory readings) s a f = finds_by readings (scene s k) (stage s k) (a.within k).1 (f.slots (job s k).origin.slot)
 takes_mean other s a f = tt
 
 -- ---- the front

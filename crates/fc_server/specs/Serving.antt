@@ -4,6 +4,7 @@ use Rattle.std.specs.Prelude.{◌≡◌, ℕ, zero, suc, Bool, true, false, List
 use Rattle.std.specs.Borrow.{Bor}
 use Rattle.coap_msg.specs.declared.types.Emission.{Emission}
 use Rattle.coap_msg.specs.declared.types.Endpoint.{Endpoint}
+use Rattle.fc_help.specs.Region.{no_readings}
 use Rattle.fc_registry.specs.declared.job.Ask.{Ask}
 use Rattle.fc_registry.specs.declared.job.Ask.TheVariants.{Run, Install as Installs, Remove as Removes, Describe, Discover}
 use Rattle.fc_core.specs.declared.event.Event.{Event}
@@ -37,7 +38,7 @@ peeked_below k (suc n) h = next (peeked_below k n h) (Peek k n) None
 -- the events of a job of this number, which is of this slot, that is worked off at once
 abbrev pub worked : Ask → ℕ → ℕ → Bool → ℕ → Option Emission → History → History
 worked (Run request) slot k memory now out h =
-    next (next (next (next (next h (Peek k slot) None) (Take k memory) None) (Commit k now) None) (Raise k) None) (Answer k now) out
+    next (next (next (next (next h (Peek k slot) None) (Take k memory no_readings) None) (Commit k now) None) (Raise k) None) (Answer k now) out
 worked (Installs image) slot k memory now out h = next (next (next h (Install k memory) None) (Raise k) None) (Answer k now) out
 worked Removes slot k memory now out h = next (next (next h (Remove k) None) (Raise k) None) (Answer k now) out
 worked Describe slot k memory now out h = next (next h (Receipt k) None) (Answer k now) out
@@ -94,7 +95,7 @@ TicksShard shard now old new out = (h : History) → (tasks : List Task) → Ser
 
 -- the events of the job of this number, which is a turn that is worked off at once: where no message id is free it is given up
 abbrev pub turned : ℕ → Bool → ℕ → ℕ → Option Emission → History → History
-turned k memory now random out h = next (next (next (next h (Take k memory) None) (Fresh k now) None) (Note k now random) out) (GiveUp k now) None
+turned k memory now random out h = next (next (next (next h (Take k memory no_readings) None) (Fresh k now) None) (Note k now random) out) (GiveUp k now) None
 
 -- a turn of this number was worked off
 pub record Turned (h : History) (k now random : ℕ) (new : ServerState) (out : Option Emission) : Type 0 where

@@ -17,6 +17,7 @@ ghost use Rattle.fc_server.specs.Serving.{IsSignalled};
 use crate::server::Server;
 use coap_msg::{Emission, Endpoint};
 use fc_core::{Heard, Task};
+use fc_help::NO_READINGS;
 use fc_observe::Ticked;
 use fc_registry::{Ask, SHARDS, SLOTS};
 use std::alloc::{AllocError, Global};
@@ -209,7 +210,7 @@ fn tell(server: &mut Server, now: u64, random: u16, task: &mut Task) -> Notified
     ensures turns { Turns now random server.old task.old server.new (notification_in result) }
     ensures given { is_given result ≡ true }
 {
-    server.take(task);
+    server.take(&NO_READINGS, task);
     server.fresh(now, task);
     let starved = task.needs_id();
     let sent = server.note(now, random, task);
@@ -255,7 +256,7 @@ fn run(server: &mut Server, now: u64, task: &mut Task, reply: &mut Emission) -> 
 {
     let slot = task.job.origin.slot.number();
     server.peek(task, slot);
-    server.take(task);
+    server.take(&NO_READINGS, task);
     server.commit(now, task);
     server.raise(task);
     server.respond(now, task, reply)

@@ -1,5 +1,5 @@
 //! The front, the shards and the machine, and one call an event.
-ghost use Rattle.std.specs.Prelude.{◌≡◌, ℕ, ◌<◌, ◌≤◌, if◌then◌else◌, [], false, length, slice_set, IfOk};
+ghost use Rattle.std.specs.Prelude.{◌≡◌, ℕ, List, ◌<◌, ◌≤◌, if◌then◌else◌, [], false, length, slice_set, IfOk};
 ghost use Rattle.fc_registry.specs.Shards.{first_shards, shard_at};
 ghost use Rattle.fc_registry.specs.Slots.{last_serial};
 ghost use Rattle.fc_registry.specs.Watches.{handed, is_quiet, signal_call, signalled};
@@ -14,6 +14,7 @@ ghost use Rattle.fc_server.specs.Steps.{shard_asked, shard_resent, shard_ticked,
 use coap_msg::{Emission, Endpoint};
 use fc_core::front::blank_emission;
 use fc_core::{Delivered, Front, Heads, Heard, Responded, Task};
+use fc_help::Readings;
 use fc_machine::Frame;
 use fc_observe::Ticked;
 use fc_registry::{Job, Shard, make_shards};
@@ -171,18 +172,18 @@ impl Server {
         task.describe(&self.shards[task.job.origin.slot.shard()]);
     }
 
-    /// A task takes its slot. Tells whether there was memory.
-    pub fn take(&mut self, task: &mut Task) -> bool
+    /// A task takes its slot, with these readings. Tells whether there was memory.
+    pub fn take(&mut self, readings: &Readings, task: &mut Task) -> bool
         requires { AtWork self.old task.old }
-        ensures { (k : ℕ) → Does (Event.Take k result) self.old task.old self.new task.new None }
+        ensures { (k : ℕ) → Does (Event.Take k result readings.now) self.old task.old self.new task.new None }
     {
-        task.take(&mut self.shards[task.job.origin.slot.shard()])
+        task.take(&mut self.shards[task.job.origin.slot.shard()], readings)
     }
 
     /// A task takes its slot without memory.
     pub fn refuse_take(&mut self, task: &mut Task)
         requires { AtWork self.old task.old }
-        ensures { (k : ℕ) → Does (Event.Take k false) self.old task.old self.new task.new None }
+        ensures { (k : ℕ) (readings : List ℕ) → Does (Event.Take k false readings) self.old task.old self.new task.new None }
     {
         task.refuse_take(&mut self.shards[task.job.origin.slot.shard()]);
     }

@@ -27,7 +27,7 @@ use Rattle.arrayvec.specs.ArrayVec.{ArrayVec}
 use Rattle.fc_registry.specs.declared.commit.Committed.{Committed}
 use Rattle.fc_registry.specs.declared.commit.Committed.TheVariants.{Done, Overtaken, Ended, Stranger}
 use Rattle.fc_registry.specs.Slots.{Present, Slot, Ticket}
-use Rattle.fc_registry.specs.Calls.{is_out_at, receipt_of, run_of, taking, taking_by as taking_of_job, turn_of, turn_taking}
+use Rattle.fc_registry.specs.Calls.{is_out_at, readings_if, receipt_of, run_of, taking, taking_by as taking_of_job, turn_of, turn_taking}
 use Rattle.fc_core.specs.declared.stage.Stage.{Stage}
 use Rattle.fc_core.specs.declared.stage.Stage.TheVariants.{ToMatch, ToTake, ToCommit, ToInstall, ToRemove, ToDescribe, ToList, ToRaise, ToAnswer}
 use Rattle.fc_core.specs.Contents.{Content, IsOf, Listed, Unavailable}
@@ -35,7 +35,7 @@ use Rattle.fc_core.specs.Heads.{head_word, is_match}
 use Rattle.fc_core.specs.Ends.{refused, refused_by}
 use Rattle.fc_core.specs.Stages.{asked_stage, first_by, image_of, listed, matched, matched_by, run_content, removed, told, took, after_commit, made, takings}
 use Rattle.fc_workers.specs.declared.share.Share.{Share}
-use Rattle.fc_workers.specs.Answers.{AreTallied, commit_changes, ended_by, install_changes, removal_changes, saturated, IsSomeTaking, IsSomeCommit, IsSomeInstall, IsSomeReceipt, IsSomeRemoval}
+use Rattle.fc_workers.specs.Answers.{AreTallied, commit_changes, ended_by, install_changes, removal_changes, saturated, IsTaken, IsSomeCommit, IsSomeInstall, IsSomeReceipt, IsSomeRemoval}
 use Rattle.fc_workers.specs.Steps.{Follows, IsReady, IsStep, ListsOn, taken_at}
 use Rattle.fc_workers.specs.Work.{Call, Takes, Commits, Installs, Refuses, Removes, Describes, Looks, Raises, AreCalls, IsCallAt, IsWorkedOff, HasCounted, next_stage, stage_after, change_by, overtaking_by, refusal_by, taking_by, total}
 
@@ -65,32 +65,32 @@ one_tallied before after n k rises = subst (λ (x : ℕ). AreTallied before afte
 -- ---- where a call leads to
 
 -- a ticket is of the job that took it
-taking_follows : (memory : Bool) (job : Job) (n serial : ℕ) (p : Option Present) → n < takings → Follows job (ToTake n) 1 (took n (taking memory job serial p))
-taking_follows memory job n serial None less = record { ready = tt; fewer = omega (arith, less); few = omega (arith, less) }
-taking_follows true job n serial (Some p) less = record { ready = (omega (arith, less), refl); fewer = omega (arith, less); few = omega (arith, less) }
-taking_follows false job n serial (Some p) less = record { ready = tt; fewer = omega (arith, less); few = omega (arith, less) }
+taking_follows : (kept : Option (List ℕ)) (job : Job) (n serial : ℕ) (p : Option Present) → n < takings → Follows job (ToTake n) 1 (took n (taking kept job serial p))
+taking_follows kept job n serial None less = record { ready = tt; fewer = omega (arith, less); few = omega (arith, less) }
+taking_follows (Some readings) job n serial (Some p) less = record { ready = (omega (arith, less), refl); fewer = omega (arith, less); few = omega (arith, less) }
+taking_follows None job n serial (Some p) less = record { ready = tt; fewer = omega (arith, less); few = omega (arith, less) }
 
-turn_follows : (out memory : Bool) (job : Job) (n serial : ℕ) (p : Option Present) → n < takings → Follows job (ToTake n) 1 (took n (turn_taking out memory job serial p))
-turn_follows true memory job n serial p less = taking_follows memory job n serial p less
-turn_follows false memory job n serial p less = record { ready = tt; fewer = omega (arith, less); few = omega (arith, less) }
+turn_follows : (out : Bool) (kept : Option (List ℕ)) (job : Job) (n serial : ℕ) (p : Option Present) → n < takings → Follows job (ToTake n) 1 (took n (turn_taking out kept job serial p))
+turn_follows true kept job n serial p less = taking_follows kept job n serial p less
+turn_follows false kept job n serial p less = record { ready = tt; fewer = omega (arith, less); few = omega (arith, less) }
 
-by_turn_follows : (turn : Option ℕ) (memory : Bool) (job : Job) (n : ℕ) (slot : Slot) (now : ℕ) (w : ObserverList) → n < takings → Follows job (ToTake n) 1 (took n (taking_of_job turn memory job slot now w))
-by_turn_follows None memory job n slot now w less = taking_follows memory job n slot.serial slot.present less
-by_turn_follows (Some number) memory job n slot now w less = turn_follows (is_out_at (turn_of job number) now w) memory job n slot.serial slot.present less
+by_turn_follows : (turn : Option ℕ) (kept : Option (List ℕ)) (job : Job) (n : ℕ) (slot : Slot) (now : ℕ) (w : ObserverList) → n < takings → Follows job (ToTake n) 1 (took n (taking_of_job turn kept job slot now w))
+by_turn_follows None kept job n slot now w less = taking_follows kept job n slot.serial slot.present less
+by_turn_follows (Some number) kept job n slot now w less = turn_follows (is_out_at (turn_of job number) now w) kept job n slot.serial slot.present less
 
-took_follows : (job : Job) (n : ℕ) (x : Taken) → n < takings → IsSomeTaking job x → Follows job (ToTake n) 1 (took n x)
-took_follows job n x less is = subst (λ (x : Taken). Follows job (ToTake n) 1 (took n x)) (sym is.taking.1) (by_turn_follows job.turn is.taking.0 job n is.slot is.now is.watch less)
+took_follows : (job : Job) (n : ℕ) (x : Taken) → n < takings → IsTaken job x → Follows job (ToTake n) 1 (took n x)
+took_follows job n x less is = subst (λ (x : Taken). Follows job (ToTake n) 1 (took n x)) (sym is.1.taking.1) (by_turn_follows job.turn (readings_if is.1.taking.0 is.0) job n is.1.slot is.1.now is.1.watch less)
 
 -- a request's taking is never stale
-finding_ends : (memory : Bool) (job : Job) (serial ended : ℕ) (p : Option Present) → ended_by (taking memory job serial p) ended ≡ ended
-finding_ends memory job serial ended None = refl
-finding_ends true job serial ended (Some p) = refl
-finding_ends false job serial ended (Some p) = refl
+finding_ends : (kept : Option (List ℕ)) (job : Job) (serial ended : ℕ) (p : Option Present) → ended_by (taking kept job serial p) ended ≡ ended
+finding_ends kept job serial ended None = refl
+finding_ends (Some readings) job serial ended (Some p) = refl
+finding_ends None job serial ended (Some p) = refl
 
-pub asked_ends : (job : Job) (x : Taken) (ended : ℕ) → job.turn ≡ None → IsSomeTaking job x → ended_by x ended ≡ ended
+pub asked_ends : (job : Job) (x : Taken) (ended : ℕ) → job.turn ≡ None → IsTaken job x → ended_by x ended ≡ ended
 asked_ends job x ended none is =
-    let found : x ≡ taking is.taking.0 job is.slot.serial is.slot.present = is.taking.1 ∙ ap (λ (o : Option ℕ). taking_of_job o is.taking.0 job is.slot is.now is.watch) none in
-    ap (λ (y : Taken). ended_by y ended) found ∙ finding_ends is.taking.0 job is.slot.serial ended is.slot.present
+    let found : x ≡ taking (readings_if is.1.taking.0 is.0) job is.1.slot.serial is.1.slot.present = is.1.taking.1 ∙ ap (λ (o : Option ℕ). taking_of_job o (readings_if is.1.taking.0 is.0) job is.1.slot is.1.now is.1.watch) none in
+    ap (λ (y : Taken). ended_by y ended) found ∙ finding_ends (readings_if is.1.taking.0 is.0) job is.1.slot.serial ended is.1.slot.present
 
 retaken_follows : (job : Job) (n : ℕ) (t : Ticket) (b : Bool) → nat_lt n takings ≡ b → n ≤ takings → Follows job (ToCommit n t) 0 (if b then ToTake n else ToAnswer Unavailable)
 retaken_follows job n t true e le = record { ready = ltb-true n takings e; fewer = omega arith; few = omega arith }
@@ -138,7 +138,7 @@ module _ {T : Type 0} (changes : T → ℕ → ℕ) (job : Job) where
   is_step : (old : Stage) {new next : Stage} {before after counted : Share T} → new ≡ next → after ≡ counted → IsStep changes job old next before counted → IsStep changes job old new before after
   is_step old {new} {next} {before} {after} {counted} e c s = subst (λ (x : Stage). IsStep changes job old x before after) (sym e) (subst (λ (p : Share T). IsStep changes job old next before p) (sym c) s)
 
-  pub took_step : (n : ℕ) (x : Taken) (p : Share T) (tallies : T) {next : Stage} {after : Share T} → n < takings → IsSomeTaking job x → ((shard : ℕ) → shard < 8 → changes tallies shard ≡ changes p.tallies shard) → next ≡ took n x → after ≡ record p { tallies = tallies; refusals = saturated (p.refusals + refusal_by (Takes x)) } → IsStep changes job (ToTake n) next p after
+  pub took_step : (n : ℕ) (x : Taken) (p : Share T) (tallies : T) {next : Stage} {after : Share T} → n < takings → IsTaken job x → ((shard : ℕ) → shard < 8 → changes tallies shard ≡ changes p.tallies shard) → next ≡ took n x → after ≡ record p { tallies = tallies; refusals = saturated (p.refusals + refusal_by (Takes x)) } → IsStep changes job (ToTake n) next p after
   took_step n x p tallies less is same e c = is_step (ToTake n) e c (record {
     call = Takes x;
     is = is;

@@ -50,12 +50,16 @@ pub record IsSomeAnswer (now : ℕ) (job : Job) (content : Content) (sent : Opti
   pub answers : AnswersIn (advanced front now) job content answered
   pub sent_is : sent ≡ emission_of answered
 
--- a taking of the job at some slot, with some observers, at some moment answers this
-pub record IsSomeTaking (job : Job) (taken : Taken) : Type 0 where
+-- a taking of the job with these readings, at some slot, with some observers, at some moment answers this
+pub record IsSomeTaking (job : Job) (readings : List ℕ) (taken : Taken) : Type 0 where
   pub slot : Slot
   pub now : ℕ
   pub watch : ObserverList
-  pub taking : IsTaking job slot now watch taken
+  pub taking : IsTaking job readings slot now watch taken
+
+-- with some readings
+abbrev pub IsTaken : Job → Taken → Type 0
+IsTaken job taken = (readings : List ℕ) × IsSomeTaking job readings taken
 
 -- some shard gives this turn at a moment, or none
 pub record IsSomeTurn (now : ℕ) (job : Option Job) : Type 0 where

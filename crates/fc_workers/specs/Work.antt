@@ -23,7 +23,7 @@ use Rattle.fc_core.specs.declared.stage.Stage.TheVariants.{ToMatch, ToTake, ToCo
 use Rattle.fc_core.specs.Contents.{Content, IsOf}
 use Rattle.fc_core.specs.Ends.{refused}
 use Rattle.fc_core.specs.Stages.{asked_stage, image_of, listed, matched, took, told, after_commit, made, removed, takings}
-use Rattle.fc_workers.specs.Answers.{IsSomeTaking, IsSomeCommit, IsSomeInstall, IsSomeReceipt, IsSomeRemoval, AreTallied, HasRisen, commit_changes, install_changes, removal_changes}
+use Rattle.fc_workers.specs.Answers.{IsTaken, IsSomeCommit, IsSomeInstall, IsSomeReceipt, IsSomeRemoval, AreTallied, HasRisen, commit_changes, install_changes, removal_changes}
 use Rattle.fc_workers.specs.Outgoing.{GivesAnswer, IsTurnReply, with_reply}
 use Rattle.fc_workers.specs.declared.share.Share.{Share}
 
@@ -57,7 +57,7 @@ next_stage job stage call = stage
 -- the call is the one that the stage needs, and its answer is true of some slot; what a look at a head word tells may be any
 abbrev pub IsCallAt : Job → Stage → Call → Type 0
 IsCallAt job ToMatch (Looks word) = Unit {0}
-IsCallAt job (ToTake n) (Takes taken) = IsSomeTaking job taken
+IsCallAt job (ToTake n) (Takes taken) = IsTaken job taken
 IsCallAt job (ToCommit n t) (Commits committed) = IsSomeCommit (run_of t) t committed
 IsCallAt job ToInstall (Installs p answer) = (judged (image_of job.ask) ≡ Accepts p) × IsSomeInstall p answer
 IsCallAt job ToInstall (Refuses refusal) = IsRefusal (image_of job.ask) refusal
@@ -139,7 +139,7 @@ pub record IsRequestWorked {T : Type 0} (changes : T → ℕ → ℕ) (IsMoment 
 -- a turn's job was worked off, and this goes out for it, or nothing: it took once, and what it found is told. It changes no slot
 pub record IsTurnWorked {T : Type 0} (changes : T → ℕ → ℕ) (IsMoment : ℕ → Type 0) (job : Job) (turn : Turn) (before after : Share T) (reply : Option Emission) : Type 0 where
   pub taken : Taken
-  pub taking : IsSomeTaking job taken
+  pub taking : IsTaken job taken
   pub told : IsTurnReply IsMoment turn taken reply
   pub kept : IsQuiet changes before after
 

@@ -9,6 +9,7 @@ ghost use Rattle.fc_workers.specs.Answers.{AreTallied, IsSomeAnswer, IsSomeCommi
 use coap_msg::{Emission, Endpoint};
 use fc_core::{Answer, Heard};
 use fc_heads::HeadSeat;
+use fc_help::Readings;
 use fc_machine::Outcome;
 use fc_observe::{Ticked, Turn};
 use fc_registry::{
@@ -56,9 +57,16 @@ pub trait Bench {
     fn fresh_id<R: Wait>(&self, rt: &R, now: u64) -> Option<u16>
         ensures { IsSomeDraw now result };
 
-    /// Takes what a job finds in its slot, as [`Shard::take`](fc_registry::Shard::take) does. A turn that is stale ends by that.
-    fn take<R: Wait>(&self, rt: &R, job: &Job, tallies: &mut Self::Tallies) -> Taken
-        ensures taken { IsSomeTaking job.now result }
+    /// Takes what a job finds in its slot, with these readings, as [`Shard::take`](fc_registry::Shard::take) does. A turn that is stale
+    /// ends by that.
+    fn take<R: Wait>(
+        &self,
+        rt: &R,
+        job: &Job,
+        readings: &Readings,
+        tallies: &mut Self::Tallies,
+    ) -> Taken
+        ensures taken { IsSomeTaking job.now readings.now result }
         ensures changes { (shard : ℕ) → shard < 8 →
             changes tallies.new shard ≡ changes tallies.old shard }
         ensures ended { ended tallies.new ≡ ended_by result (ended tallies.old) };

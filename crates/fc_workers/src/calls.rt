@@ -10,6 +10,7 @@ ghost use Rattle.fc_workers.specs.Answers.{commit_changes, install_changes, remo
 ghost use Rattle.fc_workers.specs.Counts.{HasEightSlots, serials};
 
 use coap_msg::Endpoint;
+use fc_help::Readings;
 use fc_machine::Outcome;
 use fc_observe::{Ticked, Turn};
 use fc_registry::{
@@ -50,10 +51,11 @@ pub trait Change: ShardCall {
         ensures { Self.changes answer.now ≡ (if result then 1 else 0) };
 }
 
-/// Takes what a job finds in its slot, as [`Shard::take`] does.
+/// Takes what a job finds in its slot, with these readings, as [`Shard::take`] does.
 #[derive(Drop)]
 pub struct Take<'a> {
     pub job: &'a Job,
+    pub readings: &'a Readings,
 }
 
 impl<'a> ShardCall for Take<'a> {
@@ -61,10 +63,10 @@ impl<'a> ShardCall for Take<'a> {
 
     ghost may_ask = { λ call shard. IsOwned shard call.job.now.origin.slot };
 
-    ghost does = { λ call before taken after. TakesAt call.job.now before taken × (after ≡ after_taking call.job.now before) };
+    ghost does = { λ call before taken after. TakesAt call.job.now call.readings.now before taken × (after ≡ after_taking call.job.now before) };
 
     fn call(self, shard: &mut Shard) -> Taken {
-        shard.take(self.job)
+        shard.take(self.job, self.readings)
     }
 }
 

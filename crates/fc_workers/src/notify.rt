@@ -8,6 +8,7 @@ use crate::bench::Bench;
 use crate::share::Share;
 use crate::workshop::{Gate, Moments, Wire, Workshop};
 use coap_msg::Emission;
+use fc_help::NO_READINGS;
 use fc_machine::{Frame, run};
 use fc_observe::Turn;
 use fc_registry::{Job, Noted, Notification, Taken, Ticket};
@@ -29,7 +30,7 @@ impl<'a, B: Bench, G: Gate, W: Wire, M: Moments> Workshop<'a, B, G, W, M> {
         ensures worked { IsTurnWorked B.changes M.is_moment job.now turn share.old share.new result }
         ensures ended { B.ended share.new.tallies ≡ saturated (B.ended share.old.tallies + 1) }
     {
-        let taken = self.bench.take(rt, job, &mut share.tallies);
+        let taken = self.bench.take(rt, job, &NO_READINGS, &mut share.tallies);
         share.count_taking(&taken);
         match taken {
             Taken::Given(ticket) => self.tell(rt, frame, turn, Some(ticket), share),

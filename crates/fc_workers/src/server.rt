@@ -38,6 +38,7 @@ use crate::tally::Tally;
 use coap_msg::{Emission, Endpoint};
 use fc_core::{Answer, Front, Heard, Responded};
 use fc_heads::{HeadSeat, Heads};
+use fc_help::Readings;
 use fc_machine::Outcome;
 use fc_observe::{Ticked, Turn};
 use fc_registry::{
@@ -274,8 +275,14 @@ impl<B: Books> Bench for Locked<B> {
         front.fresh_id(now)
     }
 
-    fn take<R: Wait>(&self, rt: &R, job: &Job, tallies: &mut Tallies<B>) -> Taken {
-        let taken = self.ask(rt, shard_of(job.origin.slot), Take { job });
+    fn take<R: Wait>(
+        &self,
+        rt: &R,
+        job: &Job,
+        readings: &Readings,
+        tallies: &mut Tallies<B>,
+    ) -> Taken {
+        let taken = self.ask(rt, shard_of(job.origin.slot), Take { job, readings });
         tallies.end_taking(&taken);
         taken
     }

@@ -16,6 +16,7 @@ use fc_core::heads::WORDS;
 use fc_core::task::image;
 use fc_core::{Answer, Stage};
 use fc_heads::HeadSeat;
+use fc_help::NO_READINGS;
 use fc_machine::{Frame, run};
 use fc_registry::{Job, Receipt, SlotNumber, Ticket};
 use fc_verify::{Refusal, Verified, verify};
@@ -108,7 +109,7 @@ impl<'a, B: Bench, G: Gate, W: Wire, M: Moments> Workshop<'a, B, G, W, M> {
         ensures step { IsStep B.changes job.now (ToTake count) result share.old share.new }
         ensures ended { B.ended share.new.tallies ≡ B.ended share.old.tallies }
     {
-        let taken = self.bench.take(rt, job, &mut share.tallies);
+        let taken = self.bench.take(rt, job, &NO_READINGS, &mut share.tallies);
         share.count_taking(&taken);
         Stage::took(count, taken)
     }

@@ -11,6 +11,7 @@ ghost use Rattle.fc_world.specs.Parts.{parts};
 
 use coap_msg::{Emission, Endpoint};
 use fc_core::{Delivered, Event, Task};
+use fc_help::Readings;
 use fc_observe::Ticked;
 use fc_registry::SHARDS;
 use fc_server::{Begin, Server};
@@ -84,17 +85,17 @@ impl State {
         }
     }
 
-    fn take(&mut self, job: usize, memory: bool) -> Result<(), AllocError>
+    fn take(&mut self, job: usize, memory: bool, readings: &Readings) -> Result<(), AllocError>
         requires job { job < length self.old.tasks.items }
         requires work { AtWork self.old.server (task_at self.old.tasks.items job) }
-        ensures { OnOk result (Done (Event.Take job memory) (parts self.old) None (parts self.new)) }
+        ensures { OnOk result (Done (Event.Take job memory readings.now) (parts self.old) None (parts self.new)) }
     {
         let task = &mut self.tasks[job];
         if !memory {
             self.server.refuse_take(task);
             return Ok(());
         }
-        if self.server.take(task) {
+        if self.server.take(readings, task) {
             Ok(())
         } else {
             Err(AllocError)
@@ -242,8 +243,12 @@ impl State {
         ensures { IfOk result (λ o. Steps event.now (parts self.old) o (parts self.new)) }
     {
         match *event {
-            Event::Take { job: _, memory } => {
-                self.take(job, memory)?;
+            Event::Take {
+                job: _,
+                memory,
+                readings,
+            } => {
+                self.take(job, memory, &readings)?;
                 Ok(None)
             }
             Event::Commit { job: _, now } => {

@@ -1,6 +1,7 @@
 // Lists of events: the expected bytes are those of the protocol, worked out by hand.
 use coap_msg::{Emission, Endpoint};
 use fc_core::Front;
+use fc_help::NO_READINGS;
 use fc_world::{Event, run_world};
 use std::alloc::{AllocError, Global};
 use std::process::Abort;
@@ -74,6 +75,7 @@ fn a_program_answers(rt: HostRuntime) {
         Event::Take {
             job: 1,
             memory: true,
+            readings: NO_READINGS,
         },
         Event::Commit { job: 1, now: 1 },
         Event::Answer { job: 1, now: 1 },
@@ -103,6 +105,7 @@ fn an_install_without_memory_changes_nothing(rt: HostRuntime) {
         Event::Take {
             job: 2,
             memory: true,
+            readings: NO_READINGS,
         },
         Event::Commit { job: 2, now: 2 },
         Event::Answer { job: 2, now: 2 },
@@ -154,6 +157,7 @@ fn a_taking_without_memory_is_unavailable(rt: HostRuntime) {
         Event::Take {
             job: 1,
             memory: false,
+            readings: NO_READINGS,
         },
         Event::Answer { job: 1, now: 1 },
     ];
@@ -167,6 +171,7 @@ fn check_answered_at<R: Abort + AllocGlobal>(rt: &R, now: u64, wanted: &[&[u8]])
         Event::Take {
             job: 1,
             memory: true,
+            readings: NO_READINGS,
         },
         Event::Commit { job: 1, now: 1 },
         Event::Answer { job: 1, now },
@@ -192,6 +197,7 @@ fn strays_send_nothing(rt: HostRuntime) {
         Event::Take {
             job: 1,
             memory: true,
+            readings: NO_READINGS,
         },
         Event::Commit { job: 1, now: 1 },
         Event::Answer { job: 1, now: 1 },
@@ -218,6 +224,7 @@ fn turns_come_as_jobs(rt: HostRuntime) {
         Event::Take {
             job: 1,
             memory: true,
+            readings: NO_READINGS,
         },
         Event::Commit { job: 1, now: 1 },
         Event::Answer { job: 1, now: 1 },
@@ -240,10 +247,12 @@ fn turns_come_as_jobs(rt: HostRuntime) {
         Event::Take {
             job: 3,
             memory: false,
+            readings: NO_READINGS,
         },
         Event::Take {
             job: 3,
             memory: true,
+            readings: NO_READINGS,
         },
         Event::GiveUp { job: 3, now: 3 },
         Event::Due { shard: 0, now: 3 },
@@ -256,6 +265,7 @@ fn turns_come_as_jobs(rt: HostRuntime) {
         Event::Take {
             job: 5,
             memory: true,
+            readings: NO_READINGS,
         },
         Event::Commit { job: 5, now: 4 },
         Event::Answer { job: 5, now: 4 },
@@ -281,6 +291,7 @@ fn copies_of_an_answered_request_get_its_bytes(rt: HostRuntime) {
         Event::Take {
             job: 1,
             memory: true,
+            readings: NO_READINGS,
         },
         ASKED,
         Event::Commit { job: 1, now: 1 },

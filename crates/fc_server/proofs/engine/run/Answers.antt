@@ -17,27 +17,27 @@ pub commit-requires : goal.commit-requires
 commit-requires c =
     let rest = c.requires.rest in
     let peeked = peeked_on rest c.requires.serves c.number-slot.result (c.peek.ensures (length rest)) in
-    at_work rest (took_on rest peeked c.take.result (c.take.ensures (length rest)))
+    at_work rest (took_on rest peeked c.take.result _ (c.take.ensures (length rest)))
 
 pub raise-requires : goal.raise-requires
 raise-requires c =
     let rest = c.requires.rest in
     let peeked = peeked_on rest c.requires.serves c.number-slot.result (c.peek.ensures (length rest)) in
-    let took = took_on rest peeked c.take.result (c.take.ensures (length rest)) in
+    let took = took_on rest peeked c.take.result _ (c.take.ensures (length rest)) in
     at_work rest (committed_on rest took c.args.now (c.commit.ensures (length rest)))
 
 pub respond-requires : goal.respond-requires
 respond-requires c =
     let rest = c.requires.rest in
     let peeked = peeked_on rest c.requires.serves c.number-slot.result (c.peek.ensures (length rest)) in
-    let took = took_on rest peeked c.take.result (c.take.ensures (length rest)) in
+    let took = took_on rest peeked c.take.result _ (c.take.ensures (length rest)) in
     let committed = committed_on rest took c.args.now (c.commit.ensures (length rest)) in
     at_work rest (raised_on rest committed (c.raise.ensures (length rest)))
 
 pub returns : goal.returns
 returns c = λ request h rest v.
     let peeked = peeked_on rest v c.number-slot.result (c.peek.ensures (length rest)) in
-    let took = took_on rest peeked c.take.result (c.take.ensures (length rest)) in
+    let took = took_on rest peeked c.take.result _ (c.take.ensures (length rest)) in
     let committed = committed_on rest took c.args.now (c.commit.ensures (length rest)) in
     let raised = raised_on rest committed (c.raise.ensures (length rest)) in
     let done = answered_on rest raised c.args.now (emission_if c.respond.result c.respond.new.reply) c.respond.ensures in

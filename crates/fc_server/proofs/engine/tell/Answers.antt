@@ -7,24 +7,24 @@ use Rattle.fc_server.proofs.engine.tell.Goals as goal
 pub fresh-requires : goal.fresh-requires
 fresh-requires c =
     let rest = c.requires.rest in
-    at_work rest (took_on rest c.requires.serves c.take.result (c.take.ensures (length rest)))
+    at_work rest (took_on rest c.requires.serves c.take.result _ (c.take.ensures (length rest)))
 
 pub note-sent-requires : goal.note-sent-requires
 note-sent-requires c =
     let rest = c.requires.rest in
-    let took = took_on rest c.requires.serves c.take.result (c.take.ensures (length rest)) in
+    let took = took_on rest c.requires.serves c.take.result _ (c.take.ensures (length rest)) in
     at_work rest (drew_on rest took c.args.now c.fresh.ensures)
 
 pub give_up-requires : goal.give_up-requires
 give_up-requires c =
     let rest = c.requires.rest in
-    let took = took_on rest c.requires.serves c.take.result (c.take.ensures (length rest)) in
+    let took = took_on rest c.requires.serves c.take.result _ (c.take.ensures (length rest)) in
     let drew = drew_on rest took c.args.now c.fresh.ensures in
     at_work rest (noted_on rest drew c.args.now c.args.random c.note-sent.result (c.note-sent.ensures (length rest)))
 
 pub returns-clause-turns : goal.returns-clause-turns
 returns-clause-turns c = λ h rest v.
-    let took = took_on rest v c.take.result (c.take.ensures (length rest)) in
+    let took = took_on rest v c.take.result _ (c.take.ensures (length rest)) in
     let drew = drew_on rest took c.args.now c.fresh.ensures in
     let noted = noted_on rest drew c.args.now c.args.random c.note-sent.result (c.note-sent.ensures (length rest)) in
     let up = given_up_on rest noted c.args.now (c.give_up.ensures (length rest)) in

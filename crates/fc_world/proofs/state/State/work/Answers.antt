@@ -6,7 +6,7 @@ use Rattle.fc_world.proofs.Dispatch.{retold}
 use Rattle.fc_world.proofs.state.State.work.Goals as goal
 
 pub returns-in_ok-take-in-Take : goal.returns-in_ok-take-in-Take
-returns-in_ok-take-in-Take c = retold c.args.event.now (λ j. Take j c.in-Take.memory) _ c.args.job (λ j. refl) c.in-Take.is c.requires.named (parts c.args.self.now) (parts c.take.new.self) None (goes_on (Take c.args.job c.in-Take.memory) (parts c.args.self.now) (parts c.take.new.self) None c.in_ok-take-in-Take.ensures)
+returns-in_ok-take-in-Take c = retold c.args.event.now (λ j. Take j c.in-Take.memory c.in-Take.readings) _ c.args.job (λ j. refl) c.in-Take.is c.requires.named (parts c.args.self.now) (parts c.take.new.self) None (goes_on (Take c.args.job c.in-Take.memory c.in-Take.readings) (parts c.args.self.now) (parts c.take.new.self) None c.in_ok-take-in-Take.ensures)
 
 pub returns-in-Commit : goal.returns-in-Commit
 returns-in-Commit c = retold c.args.event.now (λ j. Commit j c.in-Commit.now) _ c.args.job (λ j. refl) c.in-Commit.is c.requires.named (parts c.args.self.now) (parts c.commit.new.self) None (goes_on (Commit c.args.job c.in-Commit.now) (parts c.args.self.now) (parts c.commit.new.self) None c.commit.ensures)
