@@ -28,6 +28,7 @@ use Rattle.fc_help.specs.Region.{region_of, no_readings, readings_region}
 use Rattle.fc_kinds.specs.Values.{Value, Number, Pointer, Unset, Frame, Asked, Variables, Readings, value_at}
 use Rattle.fc_kinds.specs.Operations.{result_of}
 use Rattle.fc_kinds.specs.Execution.{Config, act, helped, loaded_number, step}
+use Rattle.fc_isa.specs.declared.version.ImageVersion.TheVariants.{One, Two}
 use Rattle.fc_kinds.specs.Meaning.{Meaning, input_with, meant, reply_code, start}
 use Rattle.fc_kinds.proofs.Rows.{operations}
 
@@ -36,7 +37,7 @@ says payload = request_with Post 1 None [] payload
 
 -- what it means to a POST of this payload, with a word of variables
 abbrev means : List Insn → List ℕ → List ℕ → Meaning
-means code payload vars = meant (record { code = code; vars_size = 8; budget = 16; cost = 16 }) (input_with (says payload) vars no_readings)
+means code payload vars = meant (record { version = One; code = code; vars_size = 8; budget = 16; cost = 16 }) (input_with (says payload) vars no_readings)
 
 abbrev set : ℕ → ℤ → Insn
 set r k = Alu Mov W64 r (Imm k)
@@ -188,7 +189,7 @@ words = 1 ∷ 2 ∷ 3 ∷ 4 ∷ 5 ∷ 6 ∷ 7 ∷ 8 ∷ 255 ∷ 255 ∷ 255 ∷ 
 -- a run that has added so many bytes to its reply, with these in R1 and R2, and in R6
 abbrev before : Method → ℕ → Value → Value → Config
 before method added a b =
-    record (start (input_with (request_with method 1 None [] (7 ∷ 128 ∷ [])) words no_readings)) {
+    record (start One (input_with (request_with method 1 None [] (7 ∷ 128 ∷ [])) words no_readings)) {
       regs = Unset ∷ a ∷ b ∷ Number 3 ∷ Number 4 ∷ Number 5 ∷ Number 6 ∷ Pointer Asked (pos 0) ∷ Number 8 ∷ Number 9 ∷ Pointer (Frame 0) (pos 256) ∷ [];
       reply = replicate added 1;
     }
@@ -332,6 +333,10 @@ readings_are_read : (goes (Load (Unsigned DoubleWord) 6 1 (pos 0)) (Pointer Read
     × (answer ReplyPut (Pointer Readings (pos 0)) (Number 64) ≡ Some (Number 1)) × (answer ReplyPut (Pointer Readings (pos 1)) (Number 64) ≡ None)
 unfolding act helped readings_region
 readings_are_read = (refl, refl, refl, refl, refl, refl)
+
+-- the second version starts with the readings in R4
+fourth_register : (value_at (start One (input_with (request_with Get 0 None [] []) [] [])).regs 4 ≡ Unset) × (value_at (start Two (input_with (request_with Get 0 None [] []) [] [])).regs 4 ≡ Pointer Readings (pos 0))
+fourth_register = (refl, refl)
 
 -- ---- the request's region
 

@@ -1,15 +1,22 @@
 -- Typings: kinds for slots of a program, such that what each instruction hands on is contained in its successors'.
 use Rattle.std.specs.Prelude.{◌≡◌, ℕ, ◌+◌, pos, List, [], ◌∷◌, Option, Some, None, slice_get, slice_index_or}
 use Rattle.fc_isa.specs.declared.insn.Insn.{Insn}
+use Rattle.fc_isa.specs.declared.version.ImageVersion.{ImageVersion}
+use Rattle.fc_isa.specs.declared.version.ImageVersion.TheVariants.{One, Two}
 use Rattle.fc_kinds.specs.declared.kind.Kind.{Kind}
-use Rattle.fc_kinds.specs.declared.kind.Kind.TheVariants.{Unset, Num, Stack, Req, Vars}
+use Rattle.fc_kinds.specs.declared.kind.Kind.TheVariants.{Unset, Num, Stack, Req, Vars, Dev}
 use Rattle.fc_kinds.specs.Kinds.{Within}
 use Rattle.fc_kinds.specs.Ways.{Way, ways}
 
+-- what is known of R4 at a program's entry
+abbrev pub fourth_kind : ImageVersion → Kind
+fourth_kind One = Unset
+fourth_kind Two = Dev (pos 0) (pos 0)
+
 -- the kinds at a program's entry
-abbrev pub entry : List Kind
-entry =
-    Unset ∷ Req (pos 0) (pos 0) ∷ Vars (pos 0) (pos 0) ∷ Num 0 1024 ∷ Unset ∷ Unset ∷ Unset ∷ Unset ∷ Unset ∷ Unset
+abbrev pub entry : ImageVersion → List Kind
+entry version =
+    Unset ∷ Req (pos 0) (pos 0) ∷ Vars (pos 0) (pos 0) ∷ Num 0 1024 ∷ fourth_kind version ∷ Unset ∷ Unset ∷ Unset ∷ Unset ∷ Unset
     ∷ Stack 0 (pos 256) (pos 256) ∷ []
 
 -- a state for each slot, or none
@@ -36,9 +43,10 @@ pub record IsWellTypedAt (vars : ℕ) (states : States) (slot : ℕ) (insn : Ins
   pub ways_are : ways vars insn kinds ≡ Some handed
   pub lead : AllLead states slot handed
 
--- the states are a typing of the program, whose variables have this size; a slot without a state is never reached
-pub record IsTypingOf (vars : ℕ) (code : List Insn) (states : States) : Type 0 where
-  pub entered : Leads states 0 entry
+-- the states are a typing of the program, whose image has this version and whose variables have this size; a slot without a state is
+-- never reached
+pub record IsTypingOf (version : ImageVersion) (vars : ℕ) (code : List Insn) (states : States) : Type 0 where
+  pub entered : Leads states 0 (entry version)
   pub each :
       (slot : ℕ) (insn : Insn) (kinds : List Kind) → slice_get code slot ≡ Some insn → state_at states slot ≡ Some kinds
       → IsWellTypedAt vars states slot insn kinds

@@ -1,4 +1,8 @@
 //! Kinds of register values.
+ghost use Rattle.std.specs.Prelude.{◌≡◌};
+ghost use Rattle.fc_kinds.specs.Typing.{entry};
+
+use fc_isa::ImageVersion;
 
 /// What is known of a register's value.
 #[derive(Clone, Copy, PartialEq, Eq)]
@@ -20,22 +24,31 @@ pub enum Kind {
 /// The kinds of the eleven registers.
 pub type Regs = [Kind; 11];
 
-/// The kinds at a program's entry: R1 points to the request, R2 to the variables, R3 is the payload's length,
-/// and R10 points behind the stack frame of 256 bytes.
-pub const ENTRY: Regs = [
-    Kind::Unset,
-    Kind::Req { lo: 0, hi: 0 },
-    Kind::Vars { lo: 0, hi: 0 },
-    Kind::Num { lo: 0, hi: 1024 },
-    Kind::Unset,
-    Kind::Unset,
-    Kind::Unset,
-    Kind::Unset,
-    Kind::Unset,
-    Kind::Unset,
-    Kind::Stack {
-        level: 0,
-        lo: 256,
-        hi: 256,
-    },
-];
+/// The kinds at the entry of a program of this version: R1 points to the request, R2 to the variables, R3 is the payload's
+/// length, and R10 points behind the stack frame of 256 bytes. In the second version R4 points to the readings.
+pub fn entry(version: ImageVersion) -> Regs
+    ensures { result ≡ entry version }
+{
+    let unset = Kind::Unset;
+    let readings = match version {
+        ImageVersion::One => Kind::Unset,
+        ImageVersion::Two => Kind::Dev { lo: 0, hi: 0 },
+    };
+    [
+        unset,
+        Kind::Req { lo: 0, hi: 0 },
+        Kind::Vars { lo: 0, hi: 0 },
+        Kind::Num { lo: 0, hi: 1024 },
+        readings,
+        unset,
+        unset,
+        unset,
+        unset,
+        unset,
+        Kind::Stack {
+            level: 0,
+            lo: 256,
+            hi: 256,
+        },
+    ]
+}

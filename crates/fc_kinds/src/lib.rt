@@ -26,7 +26,7 @@ pub mod refinement;
 pub mod transfer;
 
 pub use calls::enter;
-pub use kind::{ENTRY, Kind, Regs};
+pub use kind::{Kind, Regs, entry};
 pub use lattice::join;
 pub use refinement::when;
 pub use transfer::after;

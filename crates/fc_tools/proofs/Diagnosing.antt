@@ -99,12 +99,12 @@ shape_diagnosis image head code d h k s low c = record {
 }
 
 pub typing_diagnosis : (image : List ℕ) (head : Head) (code : List Insn) (u : Untyped) (d : Diagnosis) → IsHeadOf image head → IsCodeOf image code → shape_fault head code ≡ None
-    → is_typable head.vars_size code (beginning code) ≡ false → IsTypingFault code u.fault → IsUntyped head.vars_size code u
+    → is_typable head.vars_size code (beginning head.version code) ≡ false → IsTypingFault code u.fault → IsUntyped head.version head.vars_size code u
     → d.fault ≡ u.fault → ((insn : Insn) → slice_get code u.fault.slot ≡ Some insn → d.cause ≡ Typing insn u.known) → IsDiagnosisOf image d
 typing_diagnosis image head code u d h k s t r n same cause =
     let fault = refused_typing image head code u.fault h k s t r in
     let there : slice_get (code_in image) u.fault.slot ≡ Some n.insn = subst (λ c. slice_get c u.fault.slot ≡ Some n.insn) k.code_is n.insn_is in
-    let at : IsUntyped (stated image).vars_size (code_in image) u = subst (λ x. IsUntyped x.vars_size (code_in image) u) h.stated_is (subst (λ c. IsUntyped head.vars_size c u) k.code_is n) in
+    let at : IsUntyped (stated image).version (stated image).vars_size (code_in image) u = subst (λ x. IsUntyped x.version x.vars_size (code_in image) u) h.stated_is (subst (λ c. IsUntyped head.version head.vars_size c u) k.code_is n) in
     let shown : IsCauseOf image u.fault (Typing n.insn u.known) = record { rule = (r.from, r.upto); shown = (there, at) } in
     record {
       fault = rw same fault;

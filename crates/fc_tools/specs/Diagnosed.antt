@@ -55,7 +55,7 @@ IsShown image f (Flow insn) = slice_get (code_in image) f.slot ≡ Some insn
 IsShown image f Frames = Unit {0}
 IsShown image f (Cost cost budget) = IsCost (stated image) (code_in image) cost × (budget ≡ (stated image).budget)
 IsShown image f (Typing insn known) =
-    (slice_get (code_in image) f.slot ≡ Some insn) × IsUntyped (stated image).vars_size (code_in image) (record { fault = f; known = known })
+    (slice_get (code_in image) f.slot ≡ Some insn) × IsUntyped (stated image).version (stated image).vars_size (code_in image) (record { fault = f; known = known })
 
 -- what shows that an image breaks a rule
 pub record IsCauseOf (image : List ℕ) (f : Fault) (cause : CauseShown) : Type 0 where

@@ -112,7 +112,7 @@ pub fn diagnose(alloc: Global, image: &[u8]) -> Result<(), Rejection>
     let code = read_code(alloc, image, &head)?;
     shape_fault_is_first();
     let _cost = shape_cost(&head, &code)?;
-    match typed(head.vars_size(), &code, room) {
+    match typed(head.version(), head.vars_size(), &code, room) {
         Ok(_) => Ok(()),
         Err(untyped) => Err(Rejection::Broken(typing(&code, &untyped))),
     }

@@ -2,13 +2,15 @@
 use Rattle.std.proofs.Common.{◌≡◌, ℕ, ◌+◌, ◌<◌, ◌≤◌, Option, Some, None, List, [], ◌∷◌, length, drop, refl, sym, ap, ◌∙◌, subst, inl, inr, arith, zero, suc, get_or-set_same, get_or-set_other}
 use Rattle.std.proofs.lemmas.Bool.{cases_eq, cases_lt}
 use Rattle.fc_isa.specs.declared.insn.Insn.{Insn}
+use Rattle.fc_isa.specs.declared.version.ImageVersion.{ImageVersion}
+use Rattle.fc_isa.specs.declared.version.ImageVersion.TheVariants.{One, Two}
 use Rattle.fc_kinds.specs.declared.kind.Kind.{Kind}
 use Rattle.fc_kinds.specs.declared.kind.Kind.TheVariants.{Unset, Num, Stack, Req, Vars, Dev}
 use Rattle.fc_kinds.specs.Kinds.{kind_at}
 use Rattle.fc_kinds.specs.Lattice.{joined}
 use Rattle.fc_kinds.specs.Laws.{WaysRaiseByOne}
 use Rattle.fc_kinds.specs.Transfer.{IsShallow, AreShallow}
-use Rattle.fc_kinds.specs.Typing.{States, state_at, entry}
+use Rattle.fc_kinds.specs.Typing.{States, state_at, entry, fourth_kind}
 use Rattle.fc_kinds.specs.Values.{with_some}
 use Rattle.fc_kinds.specs.Ways.{Way, ways, AllShallow}
 use Rattle.fc_verify.specs.Pass.{joined_in, led, passed, beginning}
@@ -79,15 +81,19 @@ low_passed laws slot vars insn states next ks lt e p f =
     let q = subst (AreLow slot) (dropped_state states slot (Some ks) lt e) p in
     passed_low laws slot vars insn ks (drop (slot + 1) states) next (q.each 0 ks refl) (tail_low slot (Some ks) (drop (slot + 1) states) q) f
 
-entry_shallow : AreShallow 0 entry
-entry_shallow = record { each = each }
+fourth_shallow : (version : ImageVersion) → IsShallow 0 (fourth_kind version)
+fourth_shallow One = tt
+fourth_shallow Two = tt
+
+entry_shallow : (version : ImageVersion) → AreShallow 0 (entry version)
+entry_shallow version = record { each = each }
   where
-    each : (r : ℕ) → IsShallow 0 (kind_at entry r)
+    each : (r : ℕ) → IsShallow 0 (kind_at (entry version) r)
     each zero = tt
     each (suc zero) = tt
     each (suc (suc zero)) = tt
     each (suc (suc (suc zero))) = tt
-    each (suc (suc (suc (suc zero)))) = tt
+    each (suc (suc (suc (suc zero)))) = fourth_shallow version
     each (suc (suc (suc (suc (suc zero))))) = tt
     each (suc (suc (suc (suc (suc (suc zero)))))) = tt
     each (suc (suc (suc (suc (suc (suc (suc zero))))))) = tt
@@ -96,10 +102,10 @@ entry_shallow = record { each = each }
     each (suc (suc (suc (suc (suc (suc (suc (suc (suc (suc zero)))))))))) = omega arith
     each (suc (suc (suc (suc (suc (suc (suc (suc (suc (suc (suc r))))))))))) = tt
 
-pub beginning_low : (code : List Insn) → AreLow 0 (beginning code)
-beginning_low [] = record { each = λ slot ks e. absurd (cc e) }
-beginning_low (insn ∷ code) = record { each = go }
+pub beginning_low : (version : ImageVersion) (code : List Insn) → AreLow 0 (beginning version code)
+beginning_low version [] = record { each = λ slot ks e. absurd (cc e) }
+beginning_low version (insn ∷ code) = record { each = go }
   where
-    go : (slot : ℕ) (ks : List Kind) → state_at (beginning (insn ∷ code)) slot ≡ Some ks → AreShallow 0 ks
-    go zero ks e = subst (AreShallow 0) (cc e) entry_shallow
+    go : (slot : ℕ) (ks : List Kind) → state_at (beginning version (insn ∷ code)) slot ≡ Some ks → AreShallow 0 ks
+    go zero ks e = subst (AreShallow 0) (cc e) (entry_shallow version)
     go (suc slot) ks e = absurd (cc (e, none_at code slot))

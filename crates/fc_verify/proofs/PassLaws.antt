@@ -7,6 +7,8 @@ use Rattle.std.proofs.lemmas.Bool.{cases_eq, cases_lt}
 use Rattle.std.proofs.lemmas.List.{take_more, length-take-le, length-drop, length-append, take_at, drop_at, take_all, drop_all, take-append-drop, append-nil}
 use Rattle.std.proofs.lemmas.Option.{slice_get_within, get_or_from_slice_get}
 use Rattle.fc_isa.specs.declared.insn.Insn.{Insn}
+use Rattle.fc_isa.specs.declared.version.ImageVersion.{ImageVersion}
+use Rattle.fc_isa.specs.declared.version.ImageVersion.TheVariants.{One, Two}
 use Rattle.fc_isa.specs.declared.insn.Insn.TheVariants.{Alu, Neg, SignExtend, End, LoadWide, WideSecond, Load, StoreImm, Store, JumpAlways, JumpAlwaysLong, JumpIf, CallHelper, CallLocal, Exit}
 use Rattle.fc_isa.specs.Program.{IsInsn}
 use Rattle.fc_kinds.specs.declared.kind.Kind.{Kind}
@@ -16,7 +18,7 @@ use Rattle.fc_kinds.specs.Laws.{AreNarrowerWays, WaysAreMonotone}
 use Rattle.fc_kinds.specs.Values.{with_some}
 use Rattle.fc_kinds.specs.Refinement.{when}
 use Rattle.fc_kinds.specs.Transfer.{transfer}
-use Rattle.fc_kinds.specs.Typing.{States, state_at, Leads, entry}
+use Rattle.fc_kinds.specs.Typing.{States, state_at, Leads, entry, fourth_kind}
 use Rattle.fc_kinds.specs.Ways.{Way, way_where, skipped, ways_after, ways, IsAmong, AreAmong, AreHeld}
 use Rattle.fc_kinds.specs.Typing.{AllLead, IsWellTypedAt, IsTypingOf}
 use Rattle.fc_verify.specs.Pass.{joined_in, led, passed, types_on, is_typable, states_on, forward, beginning, AreProper, Stays, StayIn}
@@ -265,19 +267,19 @@ forward_final laws vars (insn ∷ code) (s ∷ pending) n h t = go (passed vars 
         let p = passes laws vars insn s pending next (subst (λ k. Stays k insn) (omega (arith, n)) h.0) e in
         final_step laws vars insn code s pending next (forward vars code next) p (rest next (omega (arith, p.count, n)) h.1 t')
 
-beginning_length : (code : List Insn) → length (beginning code) ≡ length code
-beginning_length [] = refl
-beginning_length (insn ∷ code) = ap suc (nones code)
+beginning_length : (version : ImageVersion) (code : List Insn) → length (beginning version code) ≡ length code
+beginning_length version [] = refl
+beginning_length version (insn ∷ code) = ap suc (nones code)
   where
     nones : (code : List Insn) → length (map {A = Insn} {B = Option (List Kind)} (λ i. None) code) ≡ length code
     nones [] = refl
     nones (i ∷ code) = ap suc (nones code)
 
 -- the forward states of a typable program are a typing
-forward_typing : KindRules → (vars : ℕ) (insn : Insn) (code : List Insn) → StayIn (insn ∷ code) → is_typable vars (insn ∷ code) (beginning (insn ∷ code)) ≡ true → IsTypingOf vars (insn ∷ code) (forward vars (insn ∷ code) (beginning (insn ∷ code)))
-forward_typing laws vars insn code h t =
-    let f = forward_final laws vars (insn ∷ code) (beginning (insn ∷ code)) (beginning_length (insn ∷ code)) h t in
-    record { entered = f.within.each 0 entry refl; each = f.each }
+forward_typing : KindRules → (version : ImageVersion) (vars : ℕ) (insn : Insn) (code : List Insn) → StayIn (insn ∷ code) → is_typable vars (insn ∷ code) (beginning version (insn ∷ code)) ≡ true → IsTypingOf version vars (insn ∷ code) (forward vars (insn ∷ code) (beginning version (insn ∷ code)))
+forward_typing laws version vars insn code h t =
+    let f = forward_final laws vars (insn ∷ code) (beginning version (insn ∷ code)) (beginning_length version (insn ∷ code)) h t in
+    record { entered = f.within.each 0 (entry version) refl; each = f.each }
 
 met_proper : KindRules → (states : States) (slot : ℕ) (kinds : List Kind) → AreProper states → AreKinds kinds → AreProper (met states slot kinds)
 met_proper laws states slot kinds p a = record {
@@ -372,8 +374,12 @@ none_at [] slot = refl
 none_at (insn ∷ code) zero = refl
 none_at (insn ∷ code) (suc slot) = none_at code slot
 
-entry_kinds : AreKinds entry
-entry_kinds = record { count = refl; each = λ r. each_is entry (tt, (grind (arith, ints), (grind (arith, ints), (omega arith, (tt, (tt, (tt, (tt, (tt, (tt, (grind (arith, ints), tt))))))))))) r }
+fourth_is : (version : ImageVersion) → IsKind (fourth_kind version)
+fourth_is One = tt
+fourth_is Two = grind (arith, ints)
+
+entry_kinds : (version : ImageVersion) → AreKinds (entry version)
+entry_kinds version = record { count = refl; each = λ r. each_is (entry version) (tt, (grind (arith, ints), (grind (arith, ints), (omega arith, (fourth_is version, (tt, (tt, (tt, (tt, (tt, (grind (arith, ints), tt))))))))))) r }
   where
     EachIs : List Kind → Type 0
     EachIs [] = Unit {0}
@@ -384,25 +390,25 @@ entry_kinds = record { count = refl; each = λ r. each_is entry (tt, (grind (ari
     each_is (k ∷ ks) h zero = h.0
     each_is (k ∷ ks) h (suc r) = each_is ks h.1 r
 
-beginning_within : (code : List Insn) (states : States) → Leads states 0 entry → AreWithin (beginning code) states
-beginning_within [] states l = record { each = λ slot ks e. absurd (cc e) }
-beginning_within (insn ∷ code) states l = record { each = go }
+beginning_within : (version : ImageVersion) (code : List Insn) (states : States) → Leads states 0 (entry version) → AreWithin (beginning version code) states
+beginning_within version [] states l = record { each = λ slot ks e. absurd (cc e) }
+beginning_within version (insn ∷ code) states l = record { each = go }
   where
-    go : (slot : ℕ) (ks : List Kind) → state_at (beginning (insn ∷ code)) slot ≡ Some ks → Leads states slot ks
+    go : (slot : ℕ) (ks : List Kind) → state_at (beginning version (insn ∷ code)) slot ≡ Some ks → Leads states slot ks
     go zero ks e = subst (Leads states 0) (cc e) l
     go (suc slot) ks e = absurd (cc (e, none_at code slot))
 
-beginning_proper : (code : List Insn) → AreProper (beginning code)
-beginning_proper [] = record { each = λ slot ks e. absurd (cc e) }
-beginning_proper (insn ∷ code) = record { each = go }
+beginning_proper : (version : ImageVersion) (code : List Insn) → AreProper (beginning version code)
+beginning_proper version [] = record { each = λ slot ks e. absurd (cc e) }
+beginning_proper version (insn ∷ code) = record { each = go }
   where
-    go : (slot : ℕ) (ks : List Kind) → state_at (beginning (insn ∷ code)) slot ≡ Some ks → AreKinds ks
-    go zero ks e = subst AreKinds (cc e) entry_kinds
+    go : (slot : ℕ) (ks : List Kind) → state_at (beginning version (insn ∷ code)) slot ≡ Some ks → AreKinds ks
+    go zero ks e = subst AreKinds (cc e) (entry_kinds version)
     go (suc slot) ks e = absurd (cc (e, none_at code slot))
 
 -- a program that isn't typable has no typing at all
-pub no_typing : KindRules → (vars : ℕ) (code : List Insn) → AllByRecursion IsInsn code → is_typable vars code (beginning code) ≡ false → (states : States) → IsTypingOf vars code states → ⊥
-no_typing laws vars code i f states t = cc (f, typable_from laws vars code (beginning code) states i (record { each = t.each }) (beginning_within code states t.entered) (beginning_proper code))
+pub no_typing : KindRules → (version : ImageVersion) (vars : ℕ) (code : List Insn) → AllByRecursion IsInsn code → is_typable vars code (beginning version code) ≡ false → (states : States) → IsTypingOf version vars code states → ⊥
+no_typing laws version vars code i f states t = cc (f, typable_from laws vars code (beginning version code) states i (record { each = t.each }) (beginning_within version code states t.entered) (beginning_proper version code))
 
 passed_proper : KindRules → (vars : ℕ) (insn : Insn) (ks : List Kind) (pending next : States) → IsInsn insn → AreKinds ks → AreProper pending → passed vars insn (Some ks) pending ≡ Some next → AreProper next
 passed_proper laws vars insn ks pending next i a p e = go (ways vars insn ks) refl e
@@ -421,16 +427,16 @@ passed_length vars insn ks pending next e = go (ways vars insn ks) e
     go (Some handed) e' = let same : led pending handed ≡ next = cc e' in ap length (sym same) ∙ led_length pending handed
 
 -- the pass stands at a slot
-pub record Passing (vars : ℕ) (code : List Insn) (slot : ℕ) (states : States) : Type 0 where
+pub record Passing (version : ImageVersion) (vars : ℕ) (code : List Insn) (slot : ℕ) (states : States) : Type 0 where
   pub count : length states ≡ length code
-  pub states_are : take slot states ++ forward vars (drop slot code) (drop slot states) ≡ forward vars code (beginning code)
-  pub typable_is : is_typable vars (drop slot code) (drop slot states) ≡ is_typable vars code (beginning code)
+  pub states_are : take slot states ++ forward vars (drop slot code) (drop slot states) ≡ forward vars code (beginning version code)
+  pub typable_is : is_typable vars (drop slot code) (drop slot states) ≡ is_typable vars code (beginning version code)
   pub stay : StayIn (drop slot code)
   pub insns : AllByRecursion IsInsn (drop slot code)
   pub proper : AreProper (drop slot states)
 
-pub passing_start : (vars : ℕ) (code : List Insn) → StayIn code → AllByRecursion IsInsn code → Passing vars code 0 (beginning code)
-passing_start vars code s i = record { count = beginning_length code; states_are = refl; typable_is = refl; stay = s; insns = i; proper = beginning_proper code }
+pub passing_start : (version : ImageVersion) (vars : ℕ) (code : List Insn) → StayIn code → AllByRecursion IsInsn code → Passing version vars code 0 (beginning version code)
+passing_start version vars code s i = record { count = beginning_length version code; states_are = refl; typable_is = refl; stay = s; insns = i; proper = beginning_proper version code }
 
 dropped : (code : List Insn) (slot : ℕ) (insn : Insn) → slice_get code slot ≡ Some insn → drop slot code ≡ insn ∷ drop (slot + 1) code
 dropped code slot insn g =
@@ -452,27 +458,27 @@ pub record Stands (vars : ℕ) (code : List Insn) (slot : ℕ) (states : States)
   pub stays : Stays (length (drop (slot + 1) states)) insn
   pub is_insn : IsInsn insn
 
-pub stands_at : (vars : ℕ) (code : List Insn) (slot : ℕ) (states : States) (insn : Insn) → Passing vars code slot states → slice_get code slot ≡ Some insn → Stands vars code slot states insn
-stands_at vars code slot states insn p g =
+pub stands_at : (version : ImageVersion) (vars : ℕ) (code : List Insn) (slot : ℕ) (states : States) (insn : Insn) → Passing version vars code slot states → slice_get code slot ≡ Some insn → Stands vars code slot states insn
+stands_at version vars code slot states insn p g =
     let d = dropped code slot insn g in
     let lt : slot < length states = rw p.count (slice_get_within code slot insn g) in
     let s : StayIn (insn ∷ drop (slot + 1) code) = subst StayIn d p.stay in
     let i : AllByRecursion IsInsn (insn ∷ drop (slot + 1) code) = subst (AllByRecursion IsInsn) d p.insns in
     record { here = lt; stays = subst (λ n. Stays n insn) (length-drop (slot + 1) code ∙ ap (λ n. n - (slot + 1)) (sym p.count) ∙ sym (length-drop (slot + 1) states)) s.0; is_insn = i.0 }
 
-pub kinds_at : (vars : ℕ) (code : List Insn) (slot : ℕ) (states : States) (ks : List Kind) → Passing vars code slot states → slot < length states → state_at states slot ≡ Some ks → AreKinds ks
-kinds_at vars code slot states ks p lt e = (subst AreProper (dropped_state states slot (Some ks) lt e) p.proper).each 0 ks refl
+pub kinds_at : (version : ImageVersion) (vars : ℕ) (code : List Insn) (slot : ℕ) (states : States) (ks : List Kind) → Passing version vars code slot states → slot < length states → state_at states slot ≡ Some ks → AreKinds ks
+kinds_at version vars code slot states ks p lt e = (subst AreProper (dropped_state states slot (Some ks) lt e) p.proper).each 0 ks refl
 
 -- the pass goes on at the next slot
-goes_on : (vars : ℕ) (code : List Insn) (slot : ℕ) (states : States) (insn : Insn) (s : Option (List Kind)) (behind : States) → Passing vars code slot states → slice_get code slot ≡ Some insn → slot < length states → state_at states slot ≡ s
-    → passed vars insn s (drop (slot + 1) states) ≡ Some behind → length behind ≡ length (drop (slot + 1) states) → AreProper behind → Passing vars code (slot + 1) (take (slot + 1) states ++ behind)
-goes_on vars code slot states insn s behind p g lt e f len proper =
+goes_on : (version : ImageVersion) (vars : ℕ) (code : List Insn) (slot : ℕ) (states : States) (insn : Insn) (s : Option (List Kind)) (behind : States) → Passing version vars code slot states → slice_get code slot ≡ Some insn → slot < length states → state_at states slot ≡ s
+    → passed vars insn s (drop (slot + 1) states) ≡ Some behind → length behind ≡ length (drop (slot + 1) states) → AreProper behind → Passing version vars code (slot + 1) (take (slot + 1) states ++ behind)
+goes_on version vars code slot states insn s behind p g lt e f len proper =
     let d = dropped code slot insn g in
     let ds = dropped_state states slot s lt e in
     let at : length (take (slot + 1) states) ≡ slot + 1 = length-take-le (slot + 1) states (omega (arith, lt)) in
     let front : take (slot + 1) (take (slot + 1) states ++ behind) ≡ take (slot + 1) states = take_at (take (slot + 1) states) behind (slot + 1) at in
     let back : drop (slot + 1) (take (slot + 1) states ++ behind) ≡ behind = drop_at (take (slot + 1) states) behind (slot + 1) at in
-    let whole : take (slot + 1) states ++ forward vars (drop (slot + 1) code) behind ≡ forward vars code (beginning code) =
+    let whole : take (slot + 1) states ++ forward vars (drop (slot + 1) code) behind ≡ forward vars code (beginning version code) =
     ap (λ n. take n states ++ forward vars (drop (slot + 1) code) behind) (add-one slot)
     ∙ taken states slot (forward vars (drop (slot + 1) code) behind) lt
     ∙ ap (λ x. take slot states ++ (x ∷ forward vars (drop (slot + 1) code) behind)) e
@@ -480,7 +486,7 @@ goes_on vars code slot states insn s behind p g lt e f len proper =
     ∙ ap (λ l. take slot states ++ forward vars (insn ∷ drop (slot + 1) code) l) (sym ds)
     ∙ ap (λ l. take slot states ++ forward vars l (drop slot states)) (sym d)
     ∙ p.states_are in
-    let same : is_typable vars (drop (slot + 1) code) behind ≡ is_typable vars code (beginning code) =
+    let same : is_typable vars (drop (slot + 1) code) behind ≡ is_typable vars code (beginning version code) =
     ap (types_on (is_typable vars (drop (slot + 1) code))) (sym f)
     ∙ ap (is_typable vars (insn ∷ drop (slot + 1) code)) (sym ds)
     ∙ ap (λ l. is_typable vars l (drop slot states)) (sym d)
@@ -496,26 +502,26 @@ goes_on vars code slot states insn s behind p g lt e f len proper =
       proper = rw back proper;
     }
 
-pub passing_some : KindRules → (vars : ℕ) (code : List Insn) (slot : ℕ) (states : States) (insn : Insn) (ks : List Kind) (behind : States) → Passing vars code slot states → slice_get code slot ≡ Some insn → state_at states slot ≡ Some ks
-    → passed vars insn (Some ks) (drop (slot + 1) states) ≡ Some behind → Passing vars code (slot + 1) (take (slot + 1) states ++ behind)
-passing_some laws vars code slot states insn ks behind p g e f =
-    let s = stands_at vars code slot states insn p g in
-    let a = kinds_at vars code slot states ks p s.here e in
+pub passing_some : KindRules → (version : ImageVersion) (vars : ℕ) (code : List Insn) (slot : ℕ) (states : States) (insn : Insn) (ks : List Kind) (behind : States) → Passing version vars code slot states → slice_get code slot ≡ Some insn → state_at states slot ≡ Some ks
+    → passed vars insn (Some ks) (drop (slot + 1) states) ≡ Some behind → Passing version vars code (slot + 1) (take (slot + 1) states ++ behind)
+passing_some laws version vars code slot states insn ks behind p g e f =
+    let s = stands_at version vars code slot states insn p g in
+    let a = kinds_at version vars code slot states ks p s.here e in
     let ds = dropped_state states slot (Some ks) s.here e in
-    goes_on vars code slot states insn (Some ks) behind p g s.here e f (passed_length vars insn ks (drop (slot + 1) states) behind f)
+    goes_on version vars code slot states insn (Some ks) behind p g s.here e f (passed_length vars insn ks (drop (slot + 1) states) behind f)
     (passed_proper laws vars insn ks (drop (slot + 1) states) behind s.is_insn a (tail_proper (Some ks) (drop (slot + 1) states) (subst AreProper ds p.proper)) f)
 
-pub passing_none : (vars : ℕ) (code : List Insn) (slot : ℕ) (states : States) (insn : Insn) → Passing vars code slot states → slice_get code slot ≡ Some insn → state_at states slot ≡ None → Passing vars code (slot + 1) states
-passing_none vars code slot states insn p g e =
-    let s = stands_at vars code slot states insn p g in
+pub passing_none : (version : ImageVersion) (vars : ℕ) (code : List Insn) (slot : ℕ) (states : States) (insn : Insn) → Passing version vars code slot states → slice_get code slot ≡ Some insn → state_at states slot ≡ None → Passing version vars code (slot + 1) states
+passing_none version vars code slot states insn p g e =
+    let s = stands_at version vars code slot states insn p g in
     let ds = dropped_state states slot None s.here e in
-    subst (Passing vars code (slot + 1)) (take-append-drop (slot + 1) states)
-    (goes_on vars code slot states insn None (drop (slot + 1) states) p g s.here e refl refl (tail_proper None (drop (slot + 1) states) (subst AreProper ds p.proper)))
+    subst (Passing version vars code (slot + 1)) (take-append-drop (slot + 1) states)
+    (goes_on version vars code slot states insn None (drop (slot + 1) states) p g s.here e refl refl (tail_proper None (drop (slot + 1) states) (subst AreProper ds p.proper)))
 
 -- a demand that isn't met
-pub passing_refused : (vars : ℕ) (code : List Insn) (slot : ℕ) (states : States) (insn : Insn) (ks : List Kind) → Passing vars code slot states → slice_get code slot ≡ Some insn → state_at states slot ≡ Some ks → passed vars insn (Some ks) (drop (slot + 1) states) ≡ None → is_typable vars code (beginning code) ≡ false
-passing_refused vars code slot states insn ks p g e f =
-    let s = stands_at vars code slot states insn p g in
+pub passing_refused : (version : ImageVersion) (vars : ℕ) (code : List Insn) (slot : ℕ) (states : States) (insn : Insn) (ks : List Kind) → Passing version vars code slot states → slice_get code slot ≡ Some insn → state_at states slot ≡ Some ks → passed vars insn (Some ks) (drop (slot + 1) states) ≡ None → is_typable vars code (beginning version code) ≡ false
+passing_refused version vars code slot states insn ks p g e f =
+    let s = stands_at version vars code slot states insn p g in
     let d = dropped code slot insn g in
     let ds = dropped_state states slot (Some ks) s.here e in
     sym p.typable_is
@@ -530,19 +536,19 @@ at_end (f ∷ front) s rest zero e = absurd (omega (arith, e))
 at_end (f ∷ front) s rest (suc slot) e = at_end front s rest slot (omega (arith, e))
 
 -- the kinds that the pass comes to a slot with
-pub passing_known : (vars : ℕ) (code : List Insn) (slot : ℕ) (states : States) (insn : Insn) (ks : List Kind) → Passing vars code slot states → slice_get code slot ≡ Some insn → state_at states slot ≡ Some ks
-    → state_at (forward vars code (beginning code)) slot ≡ Some ks
-passing_known vars code slot states insn ks p g e =
-    let s = stands_at vars code slot states insn p g in
+pub passing_known : (version : ImageVersion) (vars : ℕ) (code : List Insn) (slot : ℕ) (states : States) (insn : Insn) (ks : List Kind) → Passing version vars code slot states → slice_get code slot ≡ Some insn → state_at states slot ≡ Some ks
+    → state_at (forward vars code (beginning version code)) slot ≡ Some ks
+passing_known version vars code slot states insn ks p g e =
+    let s = stands_at version vars code slot states insn p g in
     let rest = states_on (forward vars (drop (slot + 1) code)) (passed vars insn (Some ks) (drop (slot + 1) states)) in
-    let whole : take slot states ++ (Some ks ∷ rest) ≡ forward vars code (beginning code) =
+    let whole : take slot states ++ (Some ks ∷ rest) ≡ forward vars code (beginning version code) =
     ap (λ l. take slot states ++ forward vars (insn ∷ drop (slot + 1) code) l) (sym (dropped_state states slot (Some ks) s.here e))
     ∙ ap (λ l. take slot states ++ forward vars l (drop slot states)) (sym (dropped code slot insn g))
     ∙ p.states_are in
     ap (λ l. state_at l slot) (sym whole) ∙ at_end (take slot states) (Some ks) rest slot (length-take-le slot states (omega (arith, s.here)))
 
-pub passing_end : (vars : ℕ) (code : List Insn) (slot : ℕ) (states : States) → Passing vars code slot states → slot ≡ length code → (is_typable vars code (beginning code) ≡ true) × (states ≡ forward vars code (beginning code))
-passing_end vars code slot states p e =
+pub passing_end : (version : ImageVersion) (vars : ℕ) (code : List Insn) (slot : ℕ) (states : States) → Passing version vars code slot states → slot ≡ length code → (is_typable vars code (beginning version code) ≡ true) × (states ≡ forward vars code (beginning version code))
+passing_end version vars code slot states p e =
     let none : drop slot code ≡ [] = ap (λ n. drop n code) e ∙ drop_all (length code) code (omega arith) in
     let done : take slot states ≡ states = ap (λ n. take n states) (e ∙ sym p.count) ∙ take_all (length states) states (omega arith) in (
       sym p.typable_is ∙ ap (λ l. is_typable vars l (drop slot states)) none,
@@ -550,27 +556,27 @@ passing_end vars code slot states p e =
     )
 
 -- the first states, one by one
-first_state : (code : List Insn) → 0 < length code → take 1 (beginning code) ≡ Some entry ∷ []
-first_state [] h = absurd (omega arith)
-first_state (insn ∷ code) h = refl
+first_state : (version : ImageVersion) (code : List Insn) → 0 < length code → take 1 (beginning version code) ≡ Some (entry version) ∷ []
+first_state version [] h = absurd (omega arith)
+first_state version (insn ∷ code) h = refl
 
-later_state : (code : List Insn) (slot : ℕ) → 0 < slot → slot < length code → take (slot + 1) (beginning code) ≡ take slot (beginning code) ++ (None ∷ [])
-later_state code slot h lt = take_more (beginning code) slot None (omega (arith, lt, beginning_length code)) ∙ ap (λ x. take slot (beginning code) ++ (x ∷ [])) (none_there code slot h)
+later_state : (version : ImageVersion) (code : List Insn) (slot : ℕ) → 0 < slot → slot < length code → take (slot + 1) (beginning version code) ≡ take slot (beginning version code) ++ (None ∷ [])
+later_state version code slot h lt = take_more (beginning version code) slot None (omega (arith, lt, beginning_length version code)) ∙ ap (λ x. take slot (beginning version code) ++ (x ∷ [])) (none_there code slot h)
   where
-    none_there : (code : List Insn) (slot : ℕ) → 0 < slot → state_at (beginning code) slot ≡ None
+    none_there : (code : List Insn) (slot : ℕ) → 0 < slot → state_at (beginning version code) slot ≡ None
     none_there [] slot h = refl
     none_there (insn ∷ code) zero h = absurd (omega arith)
     none_there (insn ∷ code) (suc slot) h = none_at code slot
 
-all_states : (code : List Insn) (slot : ℕ) → slot ≡ length code → take slot (beginning code) ≡ beginning code
-all_states code slot e = take_all slot (beginning code) (omega (arith, e, beginning_length code))
+all_states : (version : ImageVersion) (code : List Insn) (slot : ℕ) → slot ≡ length code → take slot (beginning version code) ≡ beginning version code
+all_states version code slot e = take_all slot (beginning version code) (omega (arith, e, beginning_length version code))
 
 -- the forward states of a typable program are a typing, and no other program has one
-pub typing_of : KindRules → (vars : ℕ) (code : List Insn) (states : States) → 1 ≤ length code → StayIn code → is_typable vars code (beginning code) ≡ true → states ≡ forward vars code (beginning code) → IsTypingOf vars code states
-typing_of laws vars [] states n s t e = absurd (omega arith)
-typing_of laws vars (insn ∷ code) states n s t e = subst (IsTypingOf vars (insn ∷ code)) (sym e) (forward_typing laws vars insn code s t)
+pub typing_of : KindRules → (version : ImageVersion) (vars : ℕ) (code : List Insn) (states : States) → 1 ≤ length code → StayIn code → is_typable vars code (beginning version code) ≡ true → states ≡ forward vars code (beginning version code) → IsTypingOf version vars code states
+typing_of laws version vars [] states n s t e = absurd (omega arith)
+typing_of laws version vars (insn ∷ code) states n s t e = subst (IsTypingOf version vars (insn ∷ code)) (sym e) (forward_typing laws version vars insn code s t)
 
-pub first_states_more : (code : List Insn) (slot : ℕ) (s : Option (List Kind)) → slot < length code → (slot ≡ 0 → s ≡ Some entry) → (1 ≤ slot → s ≡ None) → take slot (beginning code) ++ (s ∷ []) ≡ take (slot + 1) (beginning code)
-first_states_more code zero s lt f g = ap (λ x. x ∷ []) (f refl) ∙ sym (first_state code lt)
-first_states_more code (suc slot) s lt f g =
-    ap (λ x. take (suc slot) (beginning code) ++ (x ∷ [])) (g (omega arith)) ∙ sym (later_state code (suc slot) (omega arith) lt)
+pub first_states_more : (version : ImageVersion) (code : List Insn) (slot : ℕ) (s : Option (List Kind)) → slot < length code → (slot ≡ 0 → s ≡ Some (entry version)) → (1 ≤ slot → s ≡ None) → take slot (beginning version code) ++ (s ∷ []) ≡ take (slot + 1) (beginning version code)
+first_states_more version code zero s lt f g = ap (λ x. x ∷ []) (f refl) ∙ sym (first_state version code lt)
+first_states_more version code (suc slot) s lt f g =
+    ap (λ x. take (suc slot) (beginning version code) ++ (x ∷ [])) (g (omega arith)) ∙ sym (later_state version code (suc slot) (omega arith) lt)

@@ -13,6 +13,8 @@ use Rattle.fc_kinds.specs.Intervals.{interval_of, alu_interval, refined}
 use Rattle.fc_kinds.specs.Transfer.{transfer, alu_kind}
 use Rattle.fc_kinds.specs.Refinement.{when}
 use Rattle.fc_kinds.specs.Ways.{ways}
+use Rattle.fc_isa.specs.declared.version.ImageVersion.{ImageVersion}
+use Rattle.fc_isa.specs.declared.version.ImageVersion.TheVariants.{One, Two}
 use Rattle.fc_verify.specs.Pass.{is_typable, beginning}
 use Rattle.fc_image.specs.Paths.{costs, longest}
 
@@ -22,14 +24,14 @@ zero_and_exit = Alu Mov W64 0 (Imm (pos 0)) ∷ Exit ∷ []
 abbrev never : Width → List Insn
 never width = LoadWide 5 18446744073709551615 ∷ WideSecond ∷ JumpIf (record { width = width; relation = Gt; left = 3; right = Reg 5; offset = pos 1 }) ∷ Alu Mov W64 0 (Imm (pos 0)) ∷ Exit ∷ []
 
-first_row : (is_typable 0 (never W64) (beginning (never W64)) ≡ true) × (is_typable 0 (never W32) (beginning (never W32)) ≡ false) × (longest (never W64) ≡ 4)
+first_row : (is_typable 0 (never W64) (beginning One (never W64)) ≡ true) × (is_typable 0 (never W32) (beginning One (never W32)) ≡ false) × (longest (never W64) ≡ 4)
 unfolding transfer when alu_kind interval_of alu_interval refined ways costs longest
 first_row = (refl, refl, refl)
 
 abbrev byte : ℤ → List Insn
 byte offset = StoreImm Byte 10 offset (pos 0) ∷ Alu Mov W64 0 (Imm (pos 0)) ∷ Exit ∷ []
 
-second_row : (is_typable 0 (byte (negsuc 255)) (beginning (byte (negsuc 255))) ≡ true) × (is_typable 0 (byte (negsuc 256)) (beginning (byte (negsuc 256))) ≡ false) × (is_typable 0 (byte (pos 0)) (beginning (byte (pos 0))) ≡ false)
+second_row : (is_typable 0 (byte (negsuc 255)) (beginning One (byte (negsuc 255))) ≡ true) × (is_typable 0 (byte (negsuc 256)) (beginning One (byte (negsuc 256))) ≡ false) × (is_typable 0 (byte (pos 0)) (beginning One (byte (pos 0))) ≡ false)
 unfolding transfer when alu_kind interval_of alu_interval refined ways costs longest
 second_row = (refl, refl, refl)
 
@@ -37,7 +39,7 @@ abbrev start : Insn → List Insn
 start insn = insn ∷ Alu Mov W64 0 (Imm (pos 0)) ∷ Exit ∷ []
 
 abbrev is_accepted : Insn → Bool
-is_accepted insn = is_typable 0 (start insn) (beginning (start insn))
+is_accepted insn = is_typable 0 (start insn) (beginning One (start insn))
 
 third_row : (is_accepted (StoreImm Byte 1 (pos 0) (pos 0)) ≡ false) × (is_accepted (Store DoubleWord 10 (negsuc 7) 1) ≡ false) × (is_accepted (Alu Add W64 1 (Imm (pos 65536))) ≡ true) × (is_accepted (Alu Add W64 1 (Imm (pos 65537))) ≡ false) × (is_accepted (Alu Mov W32 4 (Reg 1)) ≡ false)
 unfolding transfer when alu_kind interval_of alu_interval refined ways costs longest
@@ -47,21 +49,21 @@ abbrev joins : Insn → List Insn
 joins last = Alu Mov W64 6 (Reg 1) ∷ JumpIf (record { width = W64; relation = Eq; left = 3; right = Imm (pos 0); offset = pos 1 }) ∷ Alu Mov W64 6 (Imm (pos 0)) ∷ last ∷ Exit ∷ []
 
 -- R6 joins to unset
-thirteenth : (is_typable 0 (joins (Alu Mov W64 0 (Imm (pos 0)))) (beginning (joins (Alu Mov W64 0 (Imm (pos 0))))) ≡ true) × (is_typable 0 (joins (Alu Mov W64 0 (Reg 6))) (beginning (joins (Alu Mov W64 0 (Reg 6)))) ≡ false) × (longest (joins (Alu Mov W64 0 (Imm (pos 0)))) ≡ 5)
+thirteenth : (is_typable 0 (joins (Alu Mov W64 0 (Imm (pos 0)))) (beginning One (joins (Alu Mov W64 0 (Imm (pos 0))))) ≡ true) × (is_typable 0 (joins (Alu Mov W64 0 (Reg 6))) (beginning One (joins (Alu Mov W64 0 (Reg 6)))) ≡ false) × (longest (joins (Alu Mov W64 0 (Imm (pos 0)))) ≡ 5)
 unfolding transfer when alu_kind interval_of alu_interval refined ways costs longest
 thirteenth = (refl, refl, refl)
 
 abbrev payload : ℤ → List Insn
 payload offset = Alu Mov W64 4 (Reg 1) ∷ Alu Add W64 4 (Reg 3) ∷ Load (Unsigned Byte) 0 4 offset ∷ Exit ∷ []
 
-fifth : (is_typable 0 (payload (pos 80)) (beginning (payload (pos 80))) ≡ false) × (is_typable 0 (payload (pos 79)) (beginning (payload (pos 79))) ≡ true)
+fifth : (is_typable 0 (payload (pos 80)) (beginning One (payload (pos 80))) ≡ false) × (is_typable 0 (payload (pos 79)) (beginning One (payload (pos 79))) ≡ true)
 unfolding transfer when alu_kind interval_of alu_interval refined ways costs longest
 fifth = (refl, refl)
 
 -- ---- calls
 
 abbrev types : List Insn → Bool
-types code = is_typable 8 code (beginning code)
+types code = is_typable 8 code (beginning One code)
 
 abbrev fixed : ℕ → ℤ → Insn
 fixed r k = Alu Mov W64 r (Imm k)
@@ -109,3 +111,14 @@ frames_of offset = moves 1 10 ∷ CallLocal (pos 1) ∷ Exit ∷ StoreImm Byte 1
 frames_are_apart : (types (frames_of (negsuc 255)) ≡ true) × (types (frames_of (negsuc 256)) ≡ false) × (types (frames_of (pos 0)) ≡ false)
 unfolding transfer when alu_kind interval_of alu_interval refined ways costs longest
 frames_are_apart = (refl, refl, refl)
+
+-- in the second version R4 points to the readings, which may be read; in the first it is unset
+abbrev reads_at : ℤ → List Insn
+reads_at offset = Load (Unsigned DoubleWord) 0 4 offset ∷ Exit ∷ []
+
+abbrev types_in : ImageVersion → List Insn → Bool
+types_in version code = is_typable 0 code (beginning version code)
+
+readings_are_read : (types_in Two (reads_at (pos 56)) ≡ true) × (types_in Two (reads_at (pos 57)) ≡ false) × (types_in One (reads_at (pos 56)) ≡ false) × (types_in Two (StoreImm Byte 4 (pos 0) (pos 1) ∷ reads_at (pos 0)) ≡ false)
+unfolding transfer when alu_kind interval_of alu_interval refined ways costs longest
+readings_are_read = (refl, refl, refl, refl)

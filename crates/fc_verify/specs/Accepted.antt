@@ -16,6 +16,7 @@ slots_of image = drop 16 image
 -- the image keeps the header's rules, and its slots spell this program
 pub record IsProgramOf (image : List ℕ) (p : Program) : Type 0 where
   pub head : head_fault image ≡ None
+  pub version : p.version ≡ (stated image).version
   pub code : Spells (slots_of image) p.code
   pub vars_size : p.vars_size ≡ (stated image).vars_size
   pub budget : p.budget ≡ (stated image).budget
@@ -32,7 +33,7 @@ pub record IsShapely (image : List ℕ) (p : Program) : Type 0 where
 pub record IsAccepted (image : List ℕ) (p : Program) : Type 0 where
   pub shapely : IsShapely image p
   pub states : States
-  pub typing : IsTypingOf p.vars_size p.code states
+  pub typing : IsTypingOf p.version p.vars_size p.code states
 
 -- the program's shape breaks a rule, and this one first
 pub record BreaksShape (image : List ℕ) (rule : Rule) (slot : ℕ) : Type 0 where
@@ -54,7 +55,7 @@ pub record BreaksHead (image : List ℕ) (rule : Rule) (slot : ℕ) : Type 0 whe
 pub record IsUntypable (image : List ℕ) : Type 0 where
   pub p : Program
   pub shapely : IsShapely image p
-  pub untyped : (states : States) → IsTypingOf p.vars_size p.code states → ⊥
+  pub untyped : (states : States) → IsTypingOf p.version p.vars_size p.code states → ⊥
 
 -- what is to be said of an image: the program that it is accepted as, the rule that it breaks first with its slot,
 -- or that only the typing is missing

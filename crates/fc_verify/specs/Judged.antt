@@ -17,6 +17,7 @@ code_in image = decoded_program (slots_of image)
 -- the program of an image whose header and slots are right
 abbrev pub program_in : List ℕ → Program
 program_in image = record {
+  version = (stated image).version;
   code = code_in image;
   vars_size = (stated image).vars_size;
   budget = (stated image).budget;
@@ -29,7 +30,7 @@ by_typing false image = Untypable
 
 abbrev pub by_shape : Option (ℕ × Rule) → List ℕ → Judgement
 by_shape (Some (slot, rule)) image = Breaks rule slot
-by_shape None image = by_typing (is_typable (stated image).vars_size (code_in image) (beginning (code_in image))) image
+by_shape None image = by_typing (is_typable (stated image).vars_size (code_in image) (beginning (stated image).version (code_in image))) image
 
 abbrev pub by_slots : Option (ℕ × Rule) → List ℕ → Judgement
 by_slots (Some (slot, rule)) image = Breaks rule slot

@@ -1,6 +1,7 @@
 -- The least states of a program's slots, computed slot by slot from its entry on. Each slot's predecessors come earlier.
 use Rattle.std.specs.Prelude.{◌≡◌, ℕ, ◌<◌, ℤ, pos, ◌≤ℤ◌, Bool, true, false, List, [], ◌∷◌, length, map, Option, Some, None, slice_set}
 use Rattle.fc_isa.specs.declared.insn.Insn.{Insn}
+use Rattle.fc_isa.specs.declared.version.ImageVersion.{ImageVersion}
 use Rattle.fc_isa.specs.declared.insn.Insn.TheVariants.{LoadWide, WideSecond, JumpAlways, JumpAlwaysLong, JumpIf, CallLocal, Exit}
 use Rattle.fc_kinds.specs.declared.kind.Kind.{Kind}
 use Rattle.fc_kinds.specs.Lattice.{AreKinds, joined}
@@ -44,9 +45,9 @@ forward vars (insn ∷ code) [] = []
 forward vars (insn ∷ code) (s ∷ pending) = s ∷ states_on (forward vars code) (passed vars insn s pending)
 
 -- at first the entry alone has a state
-abbrev pub beginning : List Insn → States
-beginning [] = []
-beginning (insn ∷ code) = Some entry ∷ map (λ i. None) code
+abbrev pub beginning : ImageVersion → List Insn → States
+beginning version [] = []
+beginning version (insn ∷ code) = Some (entry version) ∷ map (λ i. None) code
 
 -- the kinds of each state hold some values
 pub record AreProper (states : States) : Type 0 where

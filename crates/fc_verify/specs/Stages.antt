@@ -1,6 +1,7 @@
 -- What the steps of a verification find of an image, one after the other.
 use Rattle.std.specs.Prelude.{◌≡◌, ℕ, ◌+◌, ◌*◌, ◌<◌, ◌≤◌, List, length, None, Some, slice_get}
 use Rattle.fc_isa.specs.declared.insn.Insn.{Insn}
+use Rattle.fc_isa.specs.declared.version.ImageVersion.{ImageVersion}
 use Rattle.fc_isa.specs.declared.rule.Fault.{Fault}
 use Rattle.fc_isa.specs.Encoding.{Spells, first_fault}
 use Rattle.fc_isa.specs.Rules.{number_of}
@@ -33,8 +34,8 @@ pub record IsTypingFault (code : List Insn) (f : Fault) : Type 0 where
   pub within : f.slot < length code
 
 -- the pass comes to the slot with these kinds, and its instruction has none after them
-pub record IsUntyped (vars : ℕ) (code : List Insn) (u : Untyped) : Type 0 where
+pub record IsUntyped (version : ImageVersion) (vars : ℕ) (code : List Insn) (u : Untyped) : Type 0 where
   pub insn : Insn
   pub insn_is : slice_get code u.fault.slot ≡ Some insn
-  pub known : state_at (forward vars code (beginning code)) u.fault.slot ≡ Some u.known
+  pub known : state_at (forward vars code (beginning version code)) u.fault.slot ≡ Some u.known
   pub refused : transfer vars insn u.known ≡ None

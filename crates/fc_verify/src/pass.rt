@@ -14,20 +14,21 @@ ghost use Rattle.fc_verify.specs.Pass.{Stays, StayIn, beginning, forward, is_typ
 
 use crate::untyped::Untyped;
 use fc_image::laws::shaped_programs_go_forward;
-use fc_isa::{Fault, Insn, Jump};
+use fc_isa::{Fault, ImageVersion, Insn, Jump};
 use fc_kinds::laws::{
     containment_is_an_order, effects_keep_kinds, joins_are_least, ways_are_monotone,
     ways_raise_by_one,
 };
-use fc_kinds::{ENTRY, Regs, after, enter, join, when};
+use fc_kinds::{Regs, after, enter, entry, join, when};
 
-/// Finds a typing of a program that keeps its shape, whose variables have this many bytes; `room` has
+/// Finds a typing of a program that keeps its shape, of an image of this version, whose variables have this many bytes; `room` has
 /// place for a state a slot.
 ///
 /// # Errors
 /// The first slot in order whose demands aren't met, with a rule, 20 to 27, that it breaks, and what is known of the registers
 /// before it: the program has no typing.
 pub fn typed(
+    version: ImageVersion,
     vars_size: u16,
     code: &[Insn],
     room: Vec<Option<Regs>>,
@@ -35,15 +36,15 @@ pub fn typed(
     requires program { IsUntypedProgram code.now }
     requires empty { room.items ≡ [] }
     requires room { length code.now ≤ vec_capacity room }
-    ensures typing { IfOk result (λ v. IsTypedProgram vars_size code.now v.items) }
-    ensures typable { IfOk result (λ v. is_typable vars_size code.now (beginning code.now) ≡ true) }
-    ensures untyped { IfErr result (λ u. (t : States) → IsTypingOf vars_size code.now t → ⊥) }
-    ensures untypable { IfErr result (λ u. is_typable vars_size code.now (beginning code.now) ≡ false) }
+    ensures typing { IfOk result (λ v. IsTypedProgram version vars_size code.now v.items) }
+    ensures typable { IfOk result (λ v. is_typable vars_size code.now (beginning version code.now) ≡ true) }
+    ensures untyped { IfErr result (λ u. (t : States) → IsTypingOf version vars_size code.now t → ⊥) }
+    ensures untypable { IfErr result (λ u. is_typable vars_size code.now (beginning version code.now) ≡ false) }
     ensures fault { IfErr result (λ u. IsTypingFault code.now u.fault) }
-    ensures known { IfErr result (IsUntyped vars_size code.now) }
+    ensures known { IfErr result (IsUntyped version vars_size code.now) }
 {
     shaped_programs_go_forward();
-    typed_within(vars_size, code, room)
+    typed_within(version, vars_size, code, room)
 }
 
 /// Finds a typing of a program whose instructions lead to its later slots.
@@ -51,6 +52,7 @@ pub fn typed(
 /// # Errors
 /// The first slot in order whose demands aren't met: the program has no typing.
 fn typed_within(
+    version: ImageVersion,
     vars_size: u16,
     code: &[Insn],
     room: Vec<Option<Regs>>,
@@ -61,56 +63,65 @@ fn typed_within(
     requires insns { AllByRecursion IsInsn code.now }
     requires empty { room.items ≡ [] }
     requires room { length code.now ≤ vec_capacity room }
-    ensures typing { IfOk result (λ v. IsTypingOf vars_size code.now v.items) }
-    ensures typable { IfOk result (λ v. is_typable vars_size code.now (beginning code.now) ≡ true) }
-    ensures untyped { IfErr result (λ u. (t : States) → IsTypingOf vars_size code.now t → ⊥) }
-    ensures untypable { IfErr result (λ u. is_typable vars_size code.now (beginning code.now) ≡ false) }
+    ensures typing { IfOk result (λ v. IsTypingOf version vars_size code.now v.items) }
+    ensures typable { IfOk result (λ v. is_typable vars_size code.now (beginning version code.now) ≡ true) }
+    ensures untyped { IfErr result (λ u. (t : States) → IsTypingOf version vars_size code.now t → ⊥) }
+    ensures untypable { IfErr result (λ u. is_typable vars_size code.now (beginning version code.now) ≡ false) }
     ensures fault { IfErr result (λ u. IsTypingFault code.now u.fault) }
-    ensures known { IfErr result (IsUntyped vars_size code.now) }
+    ensures known { IfErr result (IsUntyped version vars_size code.now) }
 {
     containment_is_an_order();
     joins_are_least();
     ways_are_monotone();
-    let mut states = first_states(code, room);
-    pass_slots(vars_size, code, &mut states)?;
+    let mut states = first_states(version, code, room);
+    pass_slots(version, vars_size, code, &mut states)?;
     Ok(states)
 }
 
 /// At first the entry alone has a state.
-fn first_states(code: &[Insn], room: Vec<Option<Regs>>) -> Vec<Option<Regs>>
+fn first_states(version: ImageVersion, code: &[Insn], room: Vec<Option<Regs>>) -> Vec<Option<Regs>>
     requires empty { room.items ≡ [] }
     requires room { length code.now ≤ vec_capacity room }
-    ensures { result.items ≡ beginning code.now }
+    ensures { result.items ≡ beginning version code.now }
 {
     let mut states = room;
     for slot in 0..code.len() {
-        states.push_reserved(first_state(slot));
+        states.push_reserved(first_state(version, slot));
     }
     states
 }
 
 /// The first state of a slot: the entry's at slot 0, else none.
-fn first_state(slot: usize) -> Option<Regs>
-    ensures first { slot ≡ 0 → result ≡ Some entry }
+fn first_state(version: ImageVersion, slot: usize) -> Option<Regs>
+    ensures first { slot ≡ 0 → result ≡ Some (entry version) }
     ensures later { 1 ≤ slot → result ≡ None }
 {
-    if slot == 0 { Some(ENTRY) } else { None }
+    if slot == 0 {
+        Some(entry(version))
+    } else {
+        None
+    }
 }
 
 /// Passes all slots in order.
 ///
 /// # Errors
 /// The first slot whose demands aren't met.
-fn pass_slots(vars_size: u16, code: &[Insn], states: &mut [Option<Regs>]) -> Result<(), Untyped>
-    requires beginning { states.old ≡ beginning code.now }
+fn pass_slots(
+    version: ImageVersion,
+    vars_size: u16,
+    code: &[Insn],
+    states: &mut [Option<Regs>],
+) -> Result<(), Untyped>
+    requires beginning { states.old ≡ beginning version code.now }
     requires count { length code.now ≤ 1024 }
     requires stay { StayIn code.now }
     requires insns { AllByRecursion IsInsn code.now }
-    ensures typable { IfOk result (λ u. is_typable vars_size code.now (beginning code.now) ≡ true) }
-    ensures states { IfOk result (λ u. states.new ≡ forward vars_size code.now (beginning code.now)) }
-    ensures untypable { IfErr result (λ u. is_typable vars_size code.now (beginning code.now) ≡ false) }
+    ensures typable { IfOk result (λ u. is_typable vars_size code.now (beginning version code.now) ≡ true) }
+    ensures states { IfOk result (λ u. states.new ≡ forward vars_size code.now (beginning version code.now)) }
+    ensures untypable { IfErr result (λ u. is_typable vars_size code.now (beginning version code.now) ≡ false) }
     ensures fault { IfErr result (λ u. IsTypingFault code.now u.fault) }
-    ensures known { IfErr result (IsUntyped vars_size code.now) }
+    ensures known { IfErr result (IsUntyped version vars_size code.now) }
 {
     containment_is_an_order();
     joins_are_least();

@@ -34,7 +34,7 @@ pub fn verify(alloc: Global, image: &[u8]) -> Result<Verified, Refusal>
     let code = read_code(alloc, image, &head)?;
     shape_fault_is_first();
     let cost = shape(&head, &code)?;
-    let states = typed(head.vars_size(), &code, room)?;
+    let states = typed(head.version(), head.vars_size(), &code, room)?;
     let ops = lower(&code, ops);
     Ok(Verified::new(&head, code, ops, slots, cost, &states))
 }

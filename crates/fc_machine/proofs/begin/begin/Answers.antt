@@ -8,13 +8,13 @@ use Rattle.fc_machine.proofs.Beginning.{start_stands}
 use Rattle.fc_machine.proofs.begin.begin.Goals as goal
 
 pub returns-clause-stands : goal.returns-clause-stands
-returns-clause-stands c =
+returns-clause-stands c = λ version.
     let q = c.args.request.now in
     let len : length c.args.state.now.memory ≡ 3472 = search rules in
     let seven : length c.args.state.now.callers ≡ 7 = search rules in
     let whole : length c.args.readings.now ≡ 64 = search rules in
     let count : length c.payload.result.now ≡ length q.payload = ap length c.payload.ensures.payload in
-    let beside : StandBeside (start (input_with q c.args.found.now c.args.readings.now)) _ = record {
+    let beside : StandBeside (start version (input_with q c.args.found.now c.args.readings.now)) _ = record {
       depth = refl;
       shallow = omega arith;
       places = seven;
@@ -27,5 +27,5 @@ returns-clause-stands c =
       room = c.room_of.ensures ∙ ap room_of c.method.ensures;
       fits = c.region.ensures.fits;
     } in
-    start_stands (input_with q c.args.found.now c.args.readings.now) c.args.state.now.memory c.clear-2.new.memory c.put.new.memory c.put-2.new.memory _ (length c.payload.result.now) len beside c.requires count refl
+    start_stands version (input_with q c.args.found.now c.args.readings.now) c.args.state.now.memory c.clear-2.new.memory c.put.new.memory c.put-2.new.memory _ (length c.payload.result.now) len beside c.requires count refl
     c.clear-2.ensures (c.put.ensures ∙ ap (spliced c.clear-2.new.memory 2048) c.region.ensures.region) (c.put-2.ensures ∙ ap (spliced c.put.new.memory 3152) c.as_slice-2.ensures) (c.put-3.ensures ∙ ap (spliced c.put-2.new.memory 3408) (sym (readings_whole c.args.readings.now whole)))

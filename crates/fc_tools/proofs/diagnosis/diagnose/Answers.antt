@@ -22,9 +22,9 @@ typed-requires-clause-program c =
 pub returns-in-Ok-clause-accepted : goal.returns-in-Ok-clause-accepted
 returns-in-Ok-clause-accepted c =
     let s = c.in_ok-_cost.ensures.cost in (
-      program_of c.in_ok-code.code.items c.in_ok-head.head.vars_size c.in_ok-head.head.budget c.in_ok-_cost._cost,
+      program_of c.in_ok-head.head.version c.in_ok-code.code.items c.in_ok-head.head.vars_size c.in_ok-head.head.budget c.in_ok-_cost._cost,
       accepts_is c.args.image.now c.in_ok-head.head c.in_ok-code.code.items c.in_ok-_cost._cost c.in_ok-head.ensures.head c.in_ok-code.ensures.code
-          (rw c.deref.ensures.value at s.0) (rw c.deref.ensures.value at s.1) (rw (c.deref-2.ensures.value, c.vars_size.ensures.value) at c.in-Ok.ensures.typable),
+          (rw c.deref.ensures.value at s.0) (rw c.deref.ensures.value at s.1) (rw (c.deref-2.ensures.value, c.vars_size.ensures.value, c.version.ensures) at c.in-Ok.ensures.typable),
     )
 
 pub returns-clause-rejected : goal.returns-clause-rejected
@@ -32,5 +32,5 @@ returns-clause-rejected c =
     let e = c.in-Err.ensures in
     let code = c.in_ok-code.code.items in
     typing_diagnosis c.args.image.now c.in_ok-head.head code c.in-Err.untyped c.typing.result c.in_ok-head.ensures.head c.in_ok-code.ensures.code
-    (rw c.deref.ensures.value at c.in_ok-_cost.ensures.cost.0) (rw (c.deref-2.ensures.value, c.vars_size.ensures.value) at e.untypable) (rw c.deref-2.ensures.value at e.fault)
-    (rw (c.deref-2.ensures.value, c.vars_size.ensures.value) at e.known) c.typing.ensures.fault (rw c.deref-in-Err.ensures.value at c.typing.ensures.cause)
+    (rw c.deref.ensures.value at c.in_ok-_cost.ensures.cost.0) (rw (c.deref-2.ensures.value, c.vars_size.ensures.value, c.version.ensures) at e.untypable) (rw c.deref-2.ensures.value at e.fault)
+    (rw (c.deref-2.ensures.value, c.vars_size.ensures.value, c.version.ensures) at e.known) c.typing.ensures.fault (rw c.deref-in-Err.ensures.value at c.typing.ensures.cause)

@@ -5,7 +5,7 @@ use Rattle.fc_verify.proofs.pass.first_states.Given as goal
 
 abbrev pub invariant-loop-slot : goal.invariant-loop-slot
 invariant-loop-slot l = record {
-  done : l.states.items ≡ take l.slot (beginning l.code);
+  done : l.states.items ≡ take l.slot (beginning l.version l.code);
   count : vec_len l.states ≡ l.slot;
   room : length l.code ≤ vec_capacity l.states;
 }

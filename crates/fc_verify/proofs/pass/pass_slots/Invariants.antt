@@ -5,6 +5,6 @@ use Rattle.fc_verify.proofs.pass.pass_slots.Given as goal
 
 abbrev pub invariant-loop-slot : goal.invariant-loop-slot
 invariant-loop-slot l = record {
-  passing : Passing l.vars_size l.code l.slot l.states;
+  passing : Passing l.fn.version l.vars_size l.code l.slot l.states;
   low : AreLow l.slot (drop l.slot l.states);
 }

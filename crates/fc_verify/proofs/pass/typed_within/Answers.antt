@@ -17,7 +17,7 @@ returns-in_err-pass_slots-clause-untyped c =
       kinds = c.joins_are_least.ensures.kinds;
       monotone = c.ways_are_monotone.ensures;
     } in
-    let no : (t : States) → IsTypingOf c.args.vars_size c.args.code.now t → ⊥ = no_typing laws c.args.vars_size c.args.code.now c.requires.insns c.in_err-pass_slots.ensures.untypable in
+    let no : (t : States) → IsTypingOf c.args.version c.args.vars_size c.args.code.now t → ⊥ = no_typing laws c.args.version c.args.vars_size c.args.code.now c.requires.insns c.in_err-pass_slots.ensures.untypable in
     search (rules, no)
 
 pub returns-clause-typing : goal.returns-clause-typing
@@ -33,5 +33,5 @@ returns-clause-typing c =
     } in
     let e = c.in_ok-pass_slots.ensures in
     let len : length c.pass_slots.new.states ≡ c.first_states-states.result.len = search rules in
-    subst (IsTypingOf c.args.vars_size c.args.code.now) (sym (take_at c.pass_slots.new.states (drop (length c.pass_slots.new.states) c.first_states-states.result.items) c.first_states-states.result.len len))
-    (typing_of laws c.args.vars_size c.args.code.now c.pass_slots.new.states c.requires.some c.requires.stay e.typable e.states)
+    subst (IsTypingOf c.args.version c.args.vars_size c.args.code.now) (sym (take_at c.pass_slots.new.states (drop (length c.pass_slots.new.states) c.first_states-states.result.items) c.first_states-states.result.len len))
+    (typing_of laws c.args.version c.args.vars_size c.args.code.now c.pass_slots.new.states c.requires.some c.requires.stay e.typable e.states)

@@ -24,11 +24,11 @@ returns-in_err-states-clause-refused c =
     let e = c.in_err-states.ensures in
     err_is c.from_residual-in_err-states.result (Broken f) (IsRefusal c.args.image.now) c.from_residual-in_err-states.ensures.1
     (refused_typing c.args.image.now c.in_ok-head.head c.in_ok-code.code.items f c.in_ok-head.ensures.head c.in_ok-code.ensures.code
-    (rw c.deref.ensures.value at c.in_ok-cost.ensures.cost.0) (rw (c.deref-2.ensures.value, c.vars_size.ensures.value) at e.untypable) (rw c.deref-2.ensures.value at e.fault))
+    (rw c.deref.ensures.value at c.in_ok-cost.ensures.cost.0) (rw (c.deref-2.ensures.value, c.vars_size.ensures.value, c.version.ensures) at e.untypable) (rw c.deref-2.ensures.value at e.fault))
 
 pub returns-clause-judged : goal.returns-clause-judged
 returns-clause-judged c =
     let s = c.in_ok-cost.ensures.cost in
     accepts_is c.args.image.now c.in_ok-head.head c.in_ok-code.code.items c.in_ok-cost.cost c.in_ok-head.ensures.head c.in_ok-code.ensures.code
-    (rw c.deref.ensures.value at s.0) (rw c.deref.ensures.value at s.1) (rw (c.deref-2.ensures.value, c.vars_size.ensures.value) at c.in_ok-states.ensures.typable)
+    (rw c.deref.ensures.value at s.0) (rw c.deref.ensures.value at s.1) (rw (c.deref-2.ensures.value, c.vars_size.ensures.value, c.version.ensures) at c.in_ok-states.ensures.typable)
     ∙ ap Accepts (sym c.new.ensures.program)
