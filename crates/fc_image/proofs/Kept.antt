@@ -36,5 +36,5 @@ head_kept image h =
     let budget = budget_tells (stated image).budget p.3 in
     record {
       size = size_tells (has_magic image) (length image) (16 + 8 * (stated image).count) p.0;
-      head = record { version = refl; vars = vars.0; words = vars.1; some = count.0; count = count.1; steps = budget.0; budget = budget.1 };
+      head = record { vars = vars.0; words = vars.1; some = count.0; count = count.1; steps = budget.0; budget = budget.1 };
     }

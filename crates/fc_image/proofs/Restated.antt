@@ -1,11 +1,11 @@
 -- A header that is read is written again as it stood.
-use Rattle.std.proofs.Common.{Fits, ◌≡◌, ℕ, zero, suc, ◌+◌, ◌*◌, ◌<◌, ◌≤◌, ◌==◌, ◌&&◌, not, Bool, true, false, List, [], ◌∷◌, ◌++◌, None, length, drop, refl, sym, subst, ap, ◌∙◌, arith, nat_le}
+use Rattle.std.proofs.Common.{Fits, ◌≡◌, ℕ, zero, suc, ◌+◌, ◌*◌, ◌<◌, ◌≤◌, ◌==◌, ◌&&◌, ◌||◌, not, Bool, true, false, List, [], ◌∷◌, ◌++◌, None, length, drop, refl, sym, subst, ap, ◌∙◌, arith, nat_le}
 use Rattle.std.specs.Int.{w8, w16, w32, from_le_bytes, to_le_bytes}
 use Rattle.std.specs.Prelude.{get_or}
 use Rattle.std.proofs.lemmas.Bool.Decides.{nat_tests}
 use Rattle.std.proofs.lemmas.Nat.{le_bytes_2, le_bytes_4}
 use Rattle.fc_isa.specs.declared.rule.Rule.TheVariants.{Format, SlotCount, VarsSize, Budget, Reserved}
-use Rattle.fc_image.specs.Head.{head_breaks, head_bytes, head_fault, stated, has_magic, is_word}
+use Rattle.fc_image.specs.Head.{digit_of, head_breaks, head_bytes, head_fault, stated, has_magic, is_word, version_of}
 use Rattle.fc_image.proofs.Kept.{none_of_five}
 
 -- the first four of these bytes, and the rest
@@ -55,8 +55,22 @@ four_bytes x y z w hx hy hz hw (suc (suc (suc zero))) = hw
 four_bytes x y z w hx hy hz hw (suc (suc (suc (suc i)))) = omega arith
 
 -- the header around the bytes of its numbers, and what stands behind it
-joined : (size count budget rest : List ℕ) → List ℕ
-joined size count budget rest = (70 ∷ 67 ∷ 66 ∷ 49 ∷ (size ++ (count ++ (budget ++ (0 ∷ 0 ∷ 0 ∷ 0 ∷ []))))) ++ rest
+joined : (digit : ℕ) (size count budget rest : List ℕ) → List ℕ
+joined digit size count budget rest = (70 ∷ 67 ∷ 66 ∷ digit ∷ (size ++ (count ++ (budget ++ (0 ∷ 0 ∷ 0 ∷ 0 ∷ []))))) ++ rest
+
+-- the magic names a version, and is that version's
+magic_tells : (a b c d : ℕ) → ((((a == 70) && (b == 67)) && ((c == 66) && (d == 49))) || (((a == 70) && (b == 67)) && ((c == 66) && (d == 50)))) ≡ true → (a ≡ 70) × (b ≡ 67) × (c ≡ 66) × (digit_of (version_of d) ≡ d)
+magic_tells a b c d m = go (((a == 70) && (b == 67)) && ((c == 66) && (d == 49))) refl m
+  where
+    first : d ≡ 49 → digit_of (version_of d) ≡ d
+    first e = subst (λ x. digit_of (version_of x) ≡ x) (sym e) refl
+
+    second : d ≡ 50 → digit_of (version_of d) ≡ d
+    second e = subst (λ x. digit_of (version_of x) ≡ x) (sym e) refl
+
+    go : (one : Bool) → (((a == 70) && (b == 67)) && ((c == 66) && (d == 49))) ≡ one → (one || (((a == 70) && (b == 67)) && ((c == 66) && (d == 50)))) ≡ true → (a ≡ 70) × (b ≡ 67) × (c ≡ 66) × (digit_of (version_of d) ≡ d)
+    go true e m = let w = word_tells a b c d 70 67 66 49 e in (w.0, w.1, w.2, first w.3)
+    go false e m = let w = word_tells a b c d 70 67 66 50 m in (w.0, w.1, w.2, second w.3)
 
 -- sixteen bytes that begin with the magic, and end with four zeros
 record Restated (image : List ℕ) : Type 0 where
@@ -66,17 +80,19 @@ words_restated : (a b c d s t u v w x y z e f g h : ℕ) (rest : List ℕ) → R
 unfolding joined
 words_restated a b c d s t u v w x y z e f g h rest = record {
   says = λ bytes m o.
-      let magic = word_tells a b c d 70 67 66 49 m in
+      let magic = magic_tells a b c d m in
       let zeros = word_tells e f g h 0 0 0 0 o in
       let each = bytes.each in
+      let said = digit_of (version_of d) in
       let size_said = to_le_bytes w16 (from_le_bytes w16 (s ∷ t ∷ [])) in
       let count_said = to_le_bytes w16 (from_le_bytes w16 (u ∷ v ∷ [])) in
       let size : size_said ≡ s ∷ t ∷ [] = le_bytes_2 (s ∷ t ∷ []) _ refl (two_bytes s t (each 4) (each 5)) refl in
       let count : count_said ≡ u ∷ v ∷ [] = le_bytes_2 (u ∷ v ∷ []) _ refl (two_bytes u v (each 6) (each 7)) refl in
       let budget : to_le_bytes w32 (from_le_bytes w32 (w ∷ x ∷ y ∷ z ∷ [])) ≡ w ∷ x ∷ y ∷ z ∷ [] = le_bytes_4 (w ∷ x ∷ y ∷ z ∷ []) _ refl (four_bytes w x y z (each 8) (each 9) (each 10) (each 11)) refl in
-      let fixed : a ∷ b ∷ c ∷ d ∷ s ∷ t ∷ u ∷ v ∷ w ∷ x ∷ y ∷ z ∷ e ∷ f ∷ g ∷ h ∷ rest ≡ joined (s ∷ t ∷ []) (u ∷ v ∷ []) (w ∷ x ∷ y ∷ z ∷ []) rest
-      = rw (magic.0, magic.1, magic.2, magic.3, zeros.0, zeros.1, zeros.2, zeros.3) refl in
-      fixed ∙ (ap (λ i. joined i (u ∷ v ∷ []) (w ∷ x ∷ y ∷ z ∷ []) rest) (sym size) ∙ (ap (λ i. joined size_said i (w ∷ x ∷ y ∷ z ∷ []) rest) (sym count) ∙ ap (λ i. joined size_said count_said i rest) (sym budget)));
+      let fixed : a ∷ b ∷ c ∷ d ∷ s ∷ t ∷ u ∷ v ∷ w ∷ x ∷ y ∷ z ∷ e ∷ f ∷ g ∷ h ∷ rest ≡ joined d (s ∷ t ∷ []) (u ∷ v ∷ []) (w ∷ x ∷ y ∷ z ∷ []) rest
+      = rw (magic.0, magic.1, magic.2, zeros.0, zeros.1, zeros.2, zeros.3) refl in
+      fixed ∙ (ap (λ i. joined i (s ∷ t ∷ []) (u ∷ v ∷ []) (w ∷ x ∷ y ∷ z ∷ []) rest) (sym magic.3) ∙ (ap (λ i. joined said i (u ∷ v ∷ []) (w ∷ x ∷ y ∷ z ∷ []) rest) (sym size)
+      ∙ (ap (λ i. joined said size_said i (w ∷ x ∷ y ∷ z ∷ []) rest) (sym count) ∙ ap (λ i. joined said size_said count_said i rest) (sym budget))));
 }
 
 restated : (image : List ℕ) → 16 ≤ length image → Restated image

@@ -22,12 +22,11 @@ pub record Head : Type 0 where
   pub count : ℕ
   pub budget : ℕ
 
-abbrev pub head_of : ℕ → ℕ → ℕ → Head
-head_of vars_size count budget = record { version = One; vars_size = vars_size; count = count; budget = budget }
+abbrev pub head_of : ℕ → ℕ → ℕ → ImageVersion → Head
+head_of vars_size count budget version = record { version = version; vars_size = vars_size; count = count; budget = budget }
 
--- the limits of these numbers; the first version is the only one that is read
+-- the limits of these numbers
 pub record IsHead (h : Head) : Type 0 where
-  pub version : h.version ≡ One
   pub vars : h.vars_size ≤ 256
   pub words : h.vars_size % 8 ≡ 0
   pub some : 1 ≤ h.count
@@ -35,10 +34,18 @@ pub record IsHead (h : Head) : Type 0 where
   pub steps : 1 ≤ h.budget
   pub budget : h.budget ≤ 65536
 
--- the numbers that stand in a header: after the magic two bytes each for variables and slots, four for the budget
+-- the last byte of the magic, `FCB1` or `FCB2`, and the version that it names
+abbrev pub digit_of : ImageVersion → ℕ
+digit_of One = 49
+digit_of Two = 50
+
+abbrev pub version_of : ℕ → ImageVersion
+version_of digit = if digit == 50 then Two else One
+
+-- the version and the numbers that stand in a header: after the magic two bytes each for variables and slots, four for the budget
 abbrev pub stated : List ℕ → Head
 stated image = record {
-  version = One;
+  version = version_of (slice_index image 3);
   vars_size = from_le_bytes w16 (take 2 (drop 4 image));
   count = from_le_bytes w16 (take 2 (drop 6 image));
   budget = from_le_bytes w32 (take 4 (drop 8 image));
@@ -49,9 +56,9 @@ abbrev pub is_word : ℕ → ℕ → ℕ → ℕ → List ℕ → Bool
 is_word a b c d bytes =
     ((slice_index bytes 0 == a) && (slice_index bytes 1 == b)) && ((slice_index bytes 2 == c) && (slice_index bytes 3 == d))
 
--- an image begins with the magic bytes `FCB1`
+-- an image begins with the magic bytes `FCB1` or `FCB2`
 abbrev pub has_magic : List ℕ → Bool
-has_magic image = is_word 70 67 66 49 image
+has_magic image = is_word 70 67 66 49 image || is_word 70 67 66 50 image
 
 -- the count of slots is 1 to what the version allows, the variables are up to 256 bytes in words of eight, the budget is 1 to 65536:
 -- what breaks that
@@ -90,7 +97,7 @@ head_fault image = find (head_breaks image) head_rules
 -- the sixteen bytes that say these numbers: the magic, the numbers, four zeros
 abbrev pub head_bytes : Head → List ℕ
 head_bytes h =
-    70 ∷ 67 ∷ 66 ∷ 49 ∷ (to_le_bytes w16 h.vars_size ++ (to_le_bytes w16 h.count ++ (to_le_bytes w32 h.budget ++ (0 ∷ 0 ∷ 0 ∷ 0 ∷ []))))
+    70 ∷ 67 ∷ 66 ∷ digit_of h.version ∷ (to_le_bytes w16 h.vars_size ++ (to_le_bytes w16 h.count ++ (to_le_bytes w32 h.budget ++ (0 ∷ 0 ∷ 0 ∷ 0 ∷ []))))
 
 -- what an image keeps whose header breaks no rule: it is the header and its slots, and the numbers are within their limits
 pub record KeepsHead (image : List ℕ) : Type 0 where

@@ -21,7 +21,7 @@ pub fn head(image: &[u8]) -> Result<Head, Fault>
     match fault(image) {
         Some(rule) => Err(Fault { rule, slot: 0 }),
         None => Ok(Head::of(
-            ImageVersion::One,
+            version(image),
             vars_size(image),
             count(image),
             budget(image),
@@ -48,14 +48,14 @@ fn fault(image: &[u8]) -> Option<Rule>
     }
 }
 
-/// The image isn't a header with this magic and its slots.
+/// The image isn't a header with the magic of a version and its slots.
 #[tactic(auto, unfolding(crate::specs::Head::head_breaks))]
 fn breaks_format(image: &[u8]) -> bool
     ensures value { result ≡ head_breaks image.now Rule.Format }
     ensures header { result ≡ false → 16 ≤ length image.now }
 {
     image.len() < HEADER_SIZE
-        || !is_word(image, *b"FCB1")
+        || !(is_word(image, *b"FCB1") || is_word(image, *b"FCB2"))
         || image.len() != HEADER_SIZE + 8 * count(image) as usize
 }
 
@@ -65,7 +65,7 @@ fn breaks_slot_count(image: &[u8]) -> bool
     requires { 16 ≤ length image.now }
     ensures { result ≡ head_breaks image.now Rule.SlotCount }
 {
-    is_bad_count(ImageVersion::One, count(image) as usize)
+    is_bad_count(version(image), count(image) as usize)
 }
 
 /// The variables aren't up to 256 bytes in words of eight.
@@ -101,6 +101,18 @@ fn is_word(bytes: &[u8], word: [u8; 4]) -> bool
     ensures { result ≡ is_word (slice_index word 0) (slice_index word 1) (slice_index word 2) (slice_index word 3) bytes.now }
 {
     (bytes[0] == word[0] && bytes[1] == word[1]) && (bytes[2] == word[2] && bytes[3] == word[3])
+}
+
+/// The version that the magic names.
+fn version(image: &[u8]) -> ImageVersion
+    requires { 4 ≤ length image.now }
+    ensures { result ≡ (stated image.now).version }
+{
+    if image[3] == b'2' {
+        ImageVersion::Two
+    } else {
+        ImageVersion::One
+    }
 }
 
 /// The size of the variables, as the header says it.

@@ -2,11 +2,11 @@
 //!
 //! ```rust
 //! use fc_image::Head;
-//! use fc_isa::Fault;
+//! use fc_isa::{Fault, ImageVersion};
 //!
 //! /// The header of a program of two slots, with no variables, that may take two steps.
 //! fn header() -> Result<[u8; 16], Fault> {
-//!     Ok(Head::new(0, 2, 2)?.bytes())
+//!     Ok(Head::new(0, 2, 2, ImageVersion::One)?.bytes())
 //! }
 //! ```
 #![tactic(auto)]

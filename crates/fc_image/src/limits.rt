@@ -1,6 +1,5 @@
 //! What an image's header says, and the limits of its numbers.
 ghost use Rattle.std.specs.Prelude.{◌≡◌, ◌≤◌};
-ghost use Rattle.fc_isa.specs.declared.version.ImageVersion.TheVariants.{One};
 ghost use Rattle.fc_image.specs.Head.{frames_allowed, is_bad_budget, is_bad_count, is_bad_size, limit_fault, slots_allowed};
 
 use fc_isa::{Fault, ImageVersion, Rule};
@@ -53,17 +52,23 @@ impl Head {
     ghost use Rattle.std.specs.Prelude.{IfErr, IfOk, None, Some, ◌%◌, ◌≡◌, ◌≤◌};
     ghost use Rattle.fc_image.specs.Head.{IsHead, frames_allowed, head_bytes, head_of, limit_fault, slots_allowed};
 
-    /// The header of these numbers: the size of the variables in bytes, the count of slots, and the budget of steps.
+    /// The header of these numbers: the size of the variables in bytes, the count of slots, and the budget of steps; and of this
+    /// version.
     ///
     /// # Errors
     /// The least rule, 2 to 4, that a number breaks, at slot 0.
-    pub fn new(vars_size: u16, count: usize, budget: u32) -> Result<Self, Fault>
-        ensures head { IfOk result (λ h. (h ≡ head_of vars_size count budget) × (limit_fault (head_of vars_size count budget) ≡ None)) }
-        ensures fault { IfErr result (λ f. (limit_fault (head_of vars_size count budget) ≡ Some f.rule) × (f.slot ≡ 0)) }
+    pub fn new(
+        vars_size: u16,
+        count: usize,
+        budget: u32,
+        version: ImageVersion,
+    ) -> Result<Self, Fault>
+        ensures head { IfOk result (λ h. (h ≡ head_of vars_size count budget version) × (limit_fault (head_of vars_size count budget version) ≡ None)) }
+        ensures fault { IfErr result (λ f. (limit_fault (head_of vars_size count budget version) ≡ Some f.rule) × (f.slot ≡ 0)) }
     {
-        match broken_limit(vars_size, count, budget) {
+        match broken_limit(version, vars_size, count, budget) {
             Some(rule) => Err(Fault { rule, slot: 0 }),
-            None => Ok(Head::of(ImageVersion::One, vars_size, count as u16, budget)),
+            None => Ok(Head::of(version, vars_size, count as u16, budget)),
         }
     }
 
@@ -93,11 +98,15 @@ impl Head {
     pub fn bytes(&self) -> [u8; 16]
         ensures { result ≡ head_bytes self.now }
     {
+        let digit = match self.version {
+            ImageVersion::One => b'1',
+            ImageVersion::Two => b'2',
+        };
         let size = self.vars_size.to_le_bytes();
         let count = self.count.to_le_bytes();
         let budget = self.budget.to_le_bytes();
         [
-            b'F', b'C', b'B', b'1', size[0], size[1], count[0], count[1], budget[0], budget[1],
+            b'F', b'C', b'B', digit, size[0], size[1], count[0], count[1], budget[0], budget[1],
             budget[2], budget[3], 0, 0, 0, 0,
         ]
     }
@@ -149,10 +158,10 @@ impl Head {
 }
 
 /// The least rule that these numbers break.
-fn broken_limit(vars_size: u16, count: usize, budget: u32) -> Option<Rule>
-    ensures { result ≡ limit_fault (record { version = One; vars_size = vars_size; count = count; budget = budget }) }
+fn broken_limit(version: ImageVersion, vars_size: u16, count: usize, budget: u32) -> Option<Rule>
+    ensures { result ≡ limit_fault (record { version = version; vars_size = vars_size; count = count; budget = budget }) }
 {
-    if is_bad_count(ImageVersion::One, count) {
+    if is_bad_count(version, count) {
         Some(Rule::SlotCount)
     } else if is_bad_size(vars_size) {
         Some(Rule::VarsSize)

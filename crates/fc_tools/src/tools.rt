@@ -22,7 +22,7 @@ use crate::running::report;
 use fc_asm::{AsmError, Mistake, assemble, disassemble};
 use fc_cli::status::{Status, tell};
 use fc_image::{HEADER_SIZE, Head};
-use fc_isa::{Fault, Insn, encode};
+use fc_isa::{Fault, ImageVersion, Insn, encode};
 use fc_verify::{Refusal, verify};
 use std::alloc::{AllocError, Global};
 use std::io;
@@ -391,7 +391,9 @@ pub fn image_of(
     ensures { IfOk result (λ v. IsImageOf text.now vars_size budget v.items) }
 {
     let program = program_of(alloc, text)?;
-    let head = Head::new(vars_size, program.len(), budget).map_err(header_error)?;
+    let head = Head::new(vars_size, program.len(), budget, ImageVersion::One).map_err(
+        header_error,
+    )?;
     image_with(alloc, &head, &program)
 }
 
@@ -413,9 +415,13 @@ fn priced_head(vars_size: u16, program: &[Insn]) -> Result<Head, ToolError>
     ensures head { IfOk result (λ h. (h ≡ program_head vars_size h.budget program.now) × (limit_fault h ≡ None)) }
     ensures cost { IfOk result (λ h. IsLongest program.now h.budget) }
 {
-    let greatest = Head::new(vars_size, program.len(), GREATEST_BUDGET).map_err(header_error)?;
+    let greatest = Head::new(vars_size, program.len(), GREATEST_BUDGET, ImageVersion::One).map_err(
+        header_error,
+    )?;
     match shape_cost(&greatest, program) {
-        Ok(cost) => Head::new(vars_size, program.len(), cost).map_err(header_error),
+        Ok(cost) => Head::new(vars_size, program.len(), cost, ImageVersion::One).map_err(
+            header_error,
+        ),
         Err(diagnosis) => Err(ToolError::Image(diagnosis)),
     }
 }

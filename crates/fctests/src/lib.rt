@@ -86,3 +86,5 @@ mod tool_tests;
 mod tooling;
 #[cfg(test)]
 mod transfer_tests;
+#[cfg(test)]
+mod version_tests;
