@@ -45,20 +45,20 @@ record IsBehind (before : List ℕ) (b : Place) (bytes body : List ℕ) : Type 0
   starts : (b.number * block_size b.szx == length before) ≡ true
   long : HasLength b.more (block_size b.szx) (length bytes)
   joined : body ≡ before ++ bytes
-  within : length body ≤ 4112
+  within : length body ≤ 8208
 
 behind_from : (before : List ℕ) (b : Place) (bytes body : List ℕ) → body_behind (Some before) b bytes ≡ IsWhole body → IsBehind before b bytes body
 behind_from before b bytes body e =
     let w = checks (b.number * block_size b.szx == length before) (has_length b.more (block_size b.szx) (length bytes)) (body_with before bytes) body e in
-    let x = extends (nat_lt 4112 (length before + length bytes)) (before ++ bytes) body w.2 in
-    let le = ltb-false 4112 (length before + length bytes) x.0 in
-    record { starts = w.0; long = long_from b.more (block_size b.szx) (length bytes) w.1; joined = sym x.1; within = subst (λ (l : List ℕ). length l ≤ 4112) x.1 (omega (arith, le, length-append before bytes)) }
+    let x = extends (nat_lt 8208 (length before + length bytes)) (before ++ bytes) body w.2 in
+    let le = ltb-false 8208 (length before + length bytes) x.0 in
+    record { starts = w.0; long = long_from b.more (block_size b.szx) (length bytes) w.1; joined = sym x.1; within = subst (λ (l : List ℕ). length l ≤ 8208) x.1 (omega (arith, le, length-append before bytes)) }
 
 behind_to : (before : List ℕ) (b : Place) (bytes body : List ℕ) → IsBehind before b bytes body → body_behind (Some before) b bytes ≡ IsWhole body
 behind_to before b bytes body h =
     let l = long_to b.more (block_size b.szx) (length bytes) h.long in
-    let le = subst (λ (l : List ℕ). length l ≤ 4112) h.joined h.within in
-    let w : nat_lt 4112 (length before + length bytes) ≡ false = le-ltb 4112 (length before + length bytes) (omega (arith, le, length-append before bytes)) in
+    let le = subst (λ (l : List ℕ). length l ≤ 8208) h.joined h.within in
+    let w : nat_lt 8208 (length before + length bytes) ≡ false = le-ltb 8208 (length before + length bytes) (omega (arith, le, length-append before bytes)) in
     (λ i. checked_by (h.starts i) (l i) (extended_by (w i) (before ++ bytes))) ∙ ap IsWhole (sym h.joined)
 
 -- ---- what is before it
@@ -145,22 +145,22 @@ never_checked false long over sum e = cc
 never_behind : (full : Bool) (o : Option (List ℕ)) (b : Place) (bytes : List ℕ) → unless_full full (body_behind o b bytes) ≡ Continues → ⊥
 never_behind true o b bytes e = cc
 never_behind false None b bytes e = cc
-never_behind false (Some before) b bytes e = never_checked (b.number * block_size b.szx == length before) (has_length b.more (block_size b.szx) (length bytes)) (nat_lt 4112 (length before + length bytes)) (before ++ bytes) e
+never_behind false (Some before) b bytes e = never_checked (b.number * block_size b.szx == length before) (has_length b.more (block_size b.szx) (length bytes)) (nat_lt 8208 (length before + length bytes)) (before ++ bytes) e
 
 -- a body is never said to go on before it is seen whether more is to come
 pub never_continues : (held : List Transfer) (to : Endpoint) (n : ℕ) (b : Place) (bytes : List ℕ) → body_among held to n b bytes ≡ Continues → ⊥
 never_continues held to n b bytes e = never_behind (is_full b.number (length (others to n held))) (before_of b.number (find (is_transfer_of to n) held)) b bytes e
 
--- ---- at most 4,112 bytes
+-- ---- at most 8,208 bytes
 
-pub most_bytes : (held : List Transfer) (now : ℕ) (to : Endpoint) (n : ℕ) (block : Option Place) (bytes body : List ℕ) → add_of held now to n block bytes ≡ IsWhole body → length body ≤ 4112
+pub most_bytes : (held : List Transfer) (now : ℕ) (to : Endpoint) (n : ℕ) (block : Option Place) (bytes body : List ℕ) → add_of held now to n block bytes ≡ IsWhole body → length body ≤ 8208
 most_bytes held now to n None bytes body e =
-    let x = extends (nat_lt 4112 (length {A = ℕ} [] + length bytes)) bytes body e in
-    let le = ltb-false 4112 (length {A = ℕ} [] + length bytes) x.0 in
-    subst (λ (l : List ℕ). length l ≤ 4112) x.1 (omega (arith, le))
+    let x = extends (nat_lt 8208 (length {A = ℕ} [] + length bytes)) bytes body e in
+    let le = ltb-false 8208 (length {A = ℕ} [] + length bytes) x.0 in
+    subst (λ (l : List ℕ). length l ≤ 8208) x.1 (omega (arith, le))
 most_bytes held now to n (Some b) bytes body e =
     let w = whole_from b.more (body_among (live now held) to n b bytes) body e in
     (fits_from (λ before. Unit {0}) (live now held) to n b bytes body (λ before is. tt) w.1).within
 
-pub bound_reached : (bytes : List ℕ) → length bytes ≤ 4112 → body_with [] bytes ≡ IsWhole bytes
-bound_reached bytes le = let w : nat_lt 4112 (length {A = ℕ} [] + length bytes) ≡ false = le-ltb 4112 (length {A = ℕ} [] + length bytes) (omega (arith, le)) in ap (λ (over : Bool). extended_by over bytes) w
+pub bound_reached : (bytes : List ℕ) → length bytes ≤ 8208 → body_with [] bytes ≡ IsWhole bytes
+bound_reached bytes le = let w : nat_lt 8208 (length {A = ℕ} [] + length bytes) ≡ false = le-ltb 8208 (length {A = ℕ} [] + length bytes) (omega (arith, le)) in ap (λ (over : Bool). extended_by over bytes) w

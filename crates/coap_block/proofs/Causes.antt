@@ -40,17 +40,17 @@ fits_cause : (h : List Addition) (a : Addition) (b : Place) (body : List ℕ) �
 fits_cause h a b body r fits true is = subst (HasCause h a b) (sym ((added_continues h a b r).1 (is, (body, fits)))) tt
 fits_cause h a b body r fits false is = subst (HasCause h a b) (sym ((added_whole h a b body r).1 (is, fits))) tt
 
-sum_cause : (h : List Addition) (a : Addition) (b : Place) (before : List ℕ) → RisesTo a.at h → BeginsBehind h a b before → HasLength b.more (block_size b.szx) (length a.payload) → (over : Bool) → nat_lt 4112 (length before + length a.payload) ≡ over → HasCause h a b (added h a b)
+sum_cause : (h : List Addition) (a : Addition) (b : Place) (before : List ℕ) → RisesTo a.at h → BeginsBehind h a b before → HasLength b.more (block_size b.szx) (length a.payload) → (over : Bool) → nat_lt 8208 (length before + length a.payload) ≡ over → HasCause h a b (added h a b)
 sum_cause h a b before r begins long true is =
-    let w : HasLargeSum h a b = record { before = before; begins = begins; long = long; large = ltb-true 4112 (length before + length a.payload) is } in
+    let w : HasLargeSum h a b = record { before = before; begins = begins; long = long; large = ltb-true 8208 (length before + length a.payload) is } in
     subst (HasCause h a b) (sym (large h a b r w)) w
 sum_cause h a b before r begins long false is =
-    let le = ltb-false 4112 (length before + length a.payload) is in
+    let le = ltb-false 8208 (length before + length a.payload) is in
     let fits : FitsBehind h a b (before ++ a.payload) = record { before = before; begins = begins; long = long; joined = refl; within = omega (arith, le, length-append before a.payload) } in
     fits_cause h a b (before ++ a.payload) r fits b.more refl
 
 length_cause : (h : List Addition) (a : Addition) (b : Place) (before : List ℕ) → RisesTo a.at h → BeginsBehind h a b before → (long : Bool) → has_length b.more (block_size b.szx) (length a.payload) ≡ long → HasCause h a b (added h a b)
-length_cause h a b before r begins true is = sum_cause h a b before r begins (long_from b.more (block_size b.szx) (length a.payload) is) (nat_lt 4112 (length before + length a.payload)) refl
+length_cause h a b before r begins true is = sum_cause h a b before r begins (long_from b.more (block_size b.szx) (length a.payload) is) (nat_lt 8208 (length before + length a.payload)) refl
 length_cause h a b before r begins false is =
     let w : HasWrongLength h a b = record { before = before; begins = begins; wrong = λ long. let same : true ≡ false = sym (long_to b.more (block_size b.szx) (length a.payload) long) ∙ is in absurd (cc same) } in
     subst (HasCause h a b) (sym (bad_length h a b r w)) w

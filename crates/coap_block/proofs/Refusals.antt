@@ -48,11 +48,11 @@ wrong_length h a b before r w never =
     let l = length_is_no b.more (block_size b.szx) (length a.payload) (has_length b.more (block_size b.szx) (length a.payload)) refl never in
     refused h a b IsBadLength (λ body e. cc e) ((λ i. unless_full (x.room i) (body_behind (x.is i) b a.payload)) ∙ (λ i. checked_by (x.starts i) (l i) (body_with before a.payload)))
 
-pub too_large : (h : List Addition) (a : Addition) (b : Place) (before : List ℕ) → RisesTo a.at h → BeginsBehind h a b before → HasLength b.more (block_size b.szx) (length a.payload) → 4112 < length before + length a.payload → block_added (transfers h) a.at a.endpoint a.slot b a.payload ≡ IsTooLarge
+pub too_large : (h : List Addition) (a : Addition) (b : Place) (before : List ℕ) → RisesTo a.at h → BeginsBehind h a b before → HasLength b.more (block_size b.szx) (length a.payload) → 8208 < length before + length a.payload → block_added (transfers h) a.at a.endpoint a.slot b a.payload ≡ IsTooLarge
 too_large h a b before r w long over =
     let x = begun h a b before r w in
     let l = long_to b.more (block_size b.szx) (length a.payload) long in
-    let o = lt-ltb 4112 (length before + length a.payload) over in
+    let o = lt-ltb 8208 (length before + length a.payload) over in
     refused h a b IsTooLarge (λ body e. cc e) ((λ i. unless_full (x.room i) (body_behind (x.is i) b a.payload)) ∙ (λ i. checked_by (x.starts i) (l i) (extended_by (o i) (before ++ a.payload))))
 
 -- ---- one that doesn't

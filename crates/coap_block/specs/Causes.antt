@@ -19,9 +19,9 @@ pub record HasWrongLength (h : List Addition) (a : Addition) (b : Place) : Type 
   pub begins : BeginsBehind h a b before
   pub wrong : HasLength b.more (block_size b.szx) (length a.payload) → ⊥
 
--- it begins there and has that length, and the sum is above 4,112 bytes
+-- it begins there and has that length, and the sum is above 8,208 bytes
 pub record HasLargeSum (h : List Addition) (a : Addition) (b : Place) : Type 0 where
   pub before : List ℕ
   pub begins : BeginsBehind h a b before
   pub long : HasLength b.more (block_size b.szx) (length a.payload)
-  pub large : 4112 < length before + length a.payload
+  pub large : 8208 < length before + length a.payload

@@ -53,13 +53,13 @@ abbrev pub HasLength : Bool → ℕ → ℕ → Type 0
 HasLength true size bytes = bytes ≡ size
 HasLength false size bytes = bytes ≤ size
 
--- a block that fits, and the body with it: the payloads before it and its own, joined, of at most 4,112 bytes
+-- a block that fits, and the body with it: the payloads before it and its own, joined, of at most 8,208 bytes
 pub record Fits (UnderWay : List ℕ → Type 0) (rest : ℕ) (b : Place) (payload body : List ℕ) : Type 0 where
   pub before : List ℕ
   pub begins : Begins UnderWay rest b before
   pub long : HasLength b.more (block_size b.szx) (length payload)
   pub joined : body ≡ before ++ payload
-  pub within : length body ≤ 4112
+  pub within : length body ≤ 8208
 
 -- a transfer is under way for less than a window after a block that fits and has more to come; what isn't its block leaves it
 pub record Continued (now : ℕ) (UnderWay : List ℕ → Type 0) (rest at : ℕ) (b : Place) (payload body : List ℕ) : Type 0 where

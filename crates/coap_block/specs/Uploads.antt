@@ -50,13 +50,13 @@ abbrev pub has_length : Bool → ℕ → ℕ → Bool
 has_length true size bytes = bytes == size
 has_length false size bytes = not (nat_lt size bytes)
 
--- a body with more bytes behind it, of at most 4,112 in all
+-- a body with more bytes behind it, of at most 8,208 in all
 abbrev pub extended_by : Bool → List ℕ → Add
 extended_by true body = IsTooLarge
 extended_by false body = IsWhole body
 
 abbrev pub body_with : List ℕ → List ℕ → Add
-body_with before bytes = extended_by (nat_lt 4112 (length before + length bytes)) (before ++ bytes)
+body_with before bytes = extended_by (nat_lt 8208 (length before + length bytes)) (before ++ bytes)
 
 -- the checks of where it begins and of its length, in this order, and then of the sum
 abbrev pub checked_by : Bool → Bool → Add → Add

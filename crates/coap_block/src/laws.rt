@@ -31,7 +31,7 @@ pub fn blocks_that_fit_are_joined()
 {}
 
 /// Each refusal has its cause, and they come in this order: a start where 16 others are under way; a block that doesn't begin where
-/// those before it end; a payload that hasn't the length of its block; a sum above 4,112 bytes.
+/// those before it end; a payload that hasn't the length of its block; a sum above 8,208 bytes.
 pub fn refusals_have_causes()
     ensures full { (h : List Addition) (a : Addition) (b : Place) → b.number ≡ 0 → 16 ≤ others_at a h →
         block_added (transfers h) a.at a.endpoint a.slot b a.payload ≡ IsFull }
@@ -43,7 +43,7 @@ pub fn refusals_have_causes()
         block_added (transfers h) a.at a.endpoint a.slot b a.payload ≡ IsBadLength }
     ensures sum { (h : List Addition) (a : Addition) (b : Place) (before : List ℕ) → RisesTo a.at h →
         BeginsBehind h a b before → HasLength b.more (block_size b.szx) (length a.payload) →
-        4112 < length before + length a.payload →
+        8208 < length before + length a.payload →
         block_added (transfers h) a.at a.endpoint a.slot b a.payload ≡ IsTooLarge }
 {}
 
@@ -64,13 +64,13 @@ pub fn transfers_have_one_key()
     ensures { (h : List Addition) (to : Endpoint) (n : ℕ) → length (filter (is_transfer_of to n) (transfers h)) ≤ 1 }
 {}
 
-/// A body has at most 4,112 bytes; without a block a payload is whole up to there.
+/// A body has at most 8,208 bytes; without a block a payload is whole up to there.
 pub fn bodies_are_bounded()
     ensures most { (held : List Transfer) (now : ℕ) (to : Endpoint) (n : ℕ) (block : Option Place)
         (bytes body : List ℕ) →
-        add_of held now to n block bytes ≡ IsWhole body → length body ≤ 4112 }
+        add_of held now to n block bytes ≡ IsWhole body → length body ≤ 8208 }
     ensures without { (held : List Transfer) (now : ℕ) (to : Endpoint) (n : ℕ) (bytes : List ℕ) →
-        ((add_of held now to n None bytes ≡ IsWhole bytes) ↔ (length bytes ≤ 4112)) }
+        ((add_of held now to n None bytes ≡ IsWhole bytes) ↔ (length bytes ≤ 8208)) }
 {}
 
 /// A block leaves the transfers of other endpoints and slots as they are; time alone ends them.

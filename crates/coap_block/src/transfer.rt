@@ -6,7 +6,7 @@ use arrayvec::ArrayVec;
 use coap_msg::{Endpoint, WINDOW};
 
 /// The most bytes of a body.
-pub const BODY: usize = 4112;
+pub const BODY: usize = 8208;
 
 /// The bytes of a body.
 pub type Body = ArrayVec<u8, BODY>;

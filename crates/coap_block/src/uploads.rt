@@ -24,7 +24,7 @@ pub enum Added {
     Incomplete,
     /// Its payload hasn't just its block's size, where more is to come, or has more than that: 4.00 (Bad Request).
     BadLength,
-    /// The body has more than 4,112 bytes: 4.13 (Request Entity Too Large).
+    /// The body has more than 8,208 bytes: 4.13 (Request Entity Too Large).
     TooLarge,
     /// It begins a transfer where 16 others are under way: 5.03 (Service Unavailable).
     Full,
@@ -65,7 +65,7 @@ impl Uploads {
     /// stay.
     ///
     /// The first of these that holds refuses a block: a start where 16 others are under way; a beginning that isn't the sum of
-    /// the payloads before it; a payload of a wrong length; a body above 4,112 bytes.
+    /// the payloads before it; a payload of a wrong length; a body above 8,208 bytes.
     pub fn add(
         &mut self,
         now: u64,

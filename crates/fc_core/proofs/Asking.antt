@@ -171,7 +171,7 @@ whole_is false bytes body e = cc e
 -- without a block the body is the payload
 body_is : (f : FrontState) (to : Endpoint) (r : Asked) (body : List ℕ) → r.block1 ≡ None → add_in f to r ≡ IsWhole body → body ≡ r.payload
 body_is f to r body none e =
-    whole_is (nat_lt 4112 (0 + length r.payload)) r.payload body (subst (λ (b : Option Place). add_of f.transfers f.now to (slot_asked r.action) b r.payload ≡ IsWhole body) none e)
+    whole_is (nat_lt 8208 (0 + length r.payload)) r.payload body (subst (λ (b : Option Place). add_of f.transfers f.now to (slot_asked r.action) b r.payload ≡ IsWhole body) none e)
 
 pub puts : (r : Entry) (s : Seen) (from : Endpoint) (m : Message) (j : Job) (n : ℕ) → n < 64 → BringsJob r s from m j → Requests m 3 (program_path n) → block_in option.BLOCK1 m ≡ None → j.ask ≡ Install (record { items = m.payload })
 puts r s from m j n lt b q none =
@@ -341,7 +341,7 @@ payload_whole : (s : Seen) (now : ℕ) (to : Endpoint) (m : Message) (q : Asked)
 payload_whole s now to m q none short =
     let front = front_at s now in
     ap (λ (b : Option Place). received_added (add_of front.transfers front.now to (slot_asked q.action) b q.payload) m q) none
-    ∙ ap (λ (b : Bool). received_added (extended_by b q.payload) m q) (le-ltb 4112 (0 + length q.payload) (omega (arith, short)))
+    ∙ ap (λ (b : Bool). received_added (extended_by b q.payload) m q) (le-ltb 8208 (0 + length q.payload) (omega (arith, short)))
 
 comes_by : (e : Event) (s : Seen) (m : Message) (q : Asked) → Asks s e m q → q.block1 ≡ None → length q.payload ≤ 1024 → (r : Entry) → r.event ≡ e → (from : Endpoint) × (j : Job) × BringsJob r s from m j
 comes_by (Deliver now to bytes) s m q w none short r is =

@@ -23,7 +23,7 @@ use coap_block::laws::{
 
 /// Blocks are joined (RFC 7959, 2.5). A new request with a block is carried out exactly where the block is the last and fits
 /// behind those that its endpoint sent for its slot: the body is their payloads since block number 0, joined, and its own. It is
-/// answered 2.31 (Continue) with its Block1 exactly where it fits so and more are to come. A body has at most 4,112 bytes, and
+/// answered 2.31 (Continue) with its Block1 exactly where it fits so and more are to come. A body has at most 8,208 bytes, and
 /// at most 16 transfers are held. The moments of what is added never fall.
 pub fn blocks_are_joined()
     ensures whole { (h : History) (now : ℕ) (to : Endpoint) (m : Message) (r : Asked) (b : Place)
@@ -36,7 +36,7 @@ pub fn blocks_are_joined()
         ↔ ((b.more ≡ true)
         × ((body : List ℕ) × FitsBehind (seen h).additions (addition_at (seen h) now to r) b body))) }
     ensures most { (h : History) (now : ℕ) (to : Endpoint) (m : Message) (r : Asked) (body : List ℕ) →
-        asked_at (seen h) now to m r ≡ Opened m r body → length body ≤ 4112 }
+        asked_at (seen h) now to m r ≡ Opened m r body → length body ≤ 8208 }
     ensures few { (h : History) → length (transfers (seen h).additions) ≤ 16 }
     ensures rises { (h : History) → RisesTo (seen h).moment (seen h).additions }
 {
@@ -74,7 +74,7 @@ pub fn blocks_that_fit_are_answered()
 /// A block that doesn't fit is answered at once, by the code of its one cause (RFC 7959, 2.9): 5.03 (Service Unavailable), whose byte is
 /// 163, exactly where it has number 0 and 16 other transfers are under way; 4.08 (Request Entity Incomplete), 136, where it has another
 /// number and doesn't begin where those before it end; 4.00 (Bad Request), 128, where its payload hasn't the length of its block; and
-/// 4.13 (Request Entity Too Large), 141, where the sum is above 4,112 bytes. It brings no job. Nothing else is answered at once but
+/// 4.13 (Request Entity Too Large), 141, where the sum is above 8,208 bytes. It brings no job. Nothing else is answered at once but
 /// 2.31 (Continue), 95.
 pub fn refused_blocks_have_causes()
     ensures full { (h : History) (now : ℕ) (to : Endpoint) (m : Message) (r : Asked) (b : Place) →

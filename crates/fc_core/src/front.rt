@@ -558,7 +558,7 @@ fn write_job(
     body: &[u8],
 )
     requires request { IsWithinLimits (asked_by request.now) }
-    requires body { length body.now ≤ 4112 }
+    requires body { length body.now ≤ 8208 }
     ensures { job.new ≡ job_of opening endpoint message.now (asked_by request.now) body.now }
 {
     job.origin = Origin {
@@ -625,7 +625,7 @@ fn slot_asked(action: Action) -> u8
 
 fn write_ask(ask: &mut Ask, request: &Request<'_>, body: &[u8])
     requires request { IsWithinLimits (asked_by request.now) }
-    requires body { length body.now ≤ 4112 }
+    requires body { length body.now ≤ 8208 }
     ensures { ask.new ≡ ask_by request.now.action (asked_by request.now) body.now }
 {
     match request.action {
@@ -659,14 +659,14 @@ fn write_run_anew(ask: &mut Ask, method: Method, slot: u8, request: &Request<'_>
 }
 
 fn write_image(ask: &mut Ask, image: &[u8])
-    requires { length image.now ≤ 4112 }
+    requires { length image.now ≤ 8208 }
     ensures { ask.new ≡ Ask.Install (record { items = image.now }) }
 {
     *ask = Ask::Install(image_of(image));
 }
 
 fn image_of(bytes: &[u8]) -> Body
-    requires { length bytes.now ≤ 4112 }
+    requires { length bytes.now ≤ 8208 }
     ensures { result.items ≡ bytes.now }
 {
     let mut image = Body::new();

@@ -123,10 +123,10 @@ fn the_largest_image_goes_by_blocks(rt: HostRuntime) -> Result<(), Fail> {
     check_pieces(&rt, &LARGEST, &LARGEST_TOLD)
 }
 
-// Seventeen bytes in the last block are too many, and end the transfer.
+// Eight blocks of 1,024 bytes and one of 16 are the most: seventeen bytes in the last are too many, and end the transfer.
 #[test]
 fn a_larger_body_is_too_large(rt: HostRuntime) -> Result<(), Fail> {
-    static SENT: [Piece; 12] = [
+    static SENT: [Piece; 20] = [
         ("0 1 40030001b1700130d1030eff", 1),
         ("00", 1024),
         ("\n0 1 40030002b1700130d1031eff", 1),
@@ -135,9 +135,17 @@ fn a_larger_body_is_too_large(rt: HostRuntime) -> Result<(), Fail> {
         ("00", 1024),
         ("\n0 1 40030004b1700130d1033eff", 1),
         ("00", 1024),
-        ("\n0 1 40030005b1700130d10346ff", 1),
+        ("\n0 1 40030005b1700130d1034eff", 1),
+        ("00", 1024),
+        ("\n0 1 40030006b1700130d1035eff", 1),
+        ("00", 1024),
+        ("\n0 1 40030007b1700130d1036eff", 1),
+        ("00", 1024),
+        ("\n0 1 40030008b1700130d1037eff", 1),
+        ("00", 1024),
+        ("\n0 1 40030009b1700130d10386ff", 1),
         ("00", 17),
-        ("\n0 1 40030006b1700130d10346ff", 1),
+        ("\n0 1 4003000ab1700130d10386ff", 1),
         ("00", 16),
     ];
     static TOLD: [Piece; 1] = [(
@@ -145,11 +153,60 @@ fn a_larger_body_is_too_large(rt: HostRuntime) -> Result<(), Fail> {
          1 605f0002d10e1e\n\
          1 605f0003d10e2e\n\
          1 605f0004d10e3e\n\
-         1 608d0005\n\
-         1 60880006\n",
+         1 605f0005d10e4e\n\
+         1 605f0006d10e5e\n\
+         1 605f0007d10e6e\n\
+         1 605f0008d10e7e\n\
+         1 608d0009\n\
+         1 6088000a\n",
         1,
     )];
     check_pieces(&rt, &SENT, &TOLD)
+}
+
+// An image of the second version of 1,024 slots, 8,208 bytes, in eight blocks of 1,024 and one of 16.
+static LARGEST_IN_TWO: [Piece; 17] = [
+    (
+        "0 1 40030001b1700130d1030eff46434232000000040004000000000000",
+        1,
+    ),
+    ("b700000000000000", 126),
+    ("\n0 1 40030002b1700130d1031eff", 1),
+    ("b700000000000000", 128),
+    ("\n0 1 40030003b1700130d1032eff", 1),
+    ("b700000000000000", 128),
+    ("\n0 1 40030004b1700130d1033eff", 1),
+    ("b700000000000000", 128),
+    ("\n0 1 40030005b1700130d1034eff", 1),
+    ("b700000000000000", 128),
+    ("\n0 1 40030006b1700130d1035eff", 1),
+    ("b700000000000000", 128),
+    ("\n0 1 40030007b1700130d1036eff", 1),
+    ("b700000000000000", 128),
+    ("\n0 1 40030008b1700130d1037eff", 1),
+    ("b700000000000000", 128),
+    (
+        "\n0 1 40030009b1700130d10386ffb7000000000000009500000000000000",
+        1,
+    ),
+];
+
+static LARGEST_IN_TWO_TOLD: [Piece; 1] = [(
+    "1 605f0001d10e0e\n\
+     1 605f0002d10e1e\n\
+     1 605f0003d10e2e\n\
+     1 605f0004d10e3e\n\
+     1 605f0005d10e4e\n\
+     1 605f0006d10e5e\n\
+     1 605f0007d10e6e\n\
+     1 605f0008d10e7e\n\
+     1 60410009d10e86ff76657273696f6e3d3120636f73743d31303234206275646765743d3130323420766172733d30\n",
+    1,
+)];
+
+#[test]
+fn the_largest_image_of_the_second_version_goes_by_blocks(rt: HostRuntime) -> Result<(), Fail> {
+    check_pieces(&rt, &LARGEST_IN_TWO, &LARGEST_IN_TWO_TOLD)
 }
 
 // A program that replies 1,100 bytes of its request: the method 1, and zeros. Without Block2 the first 1,024 come; block 1 has the

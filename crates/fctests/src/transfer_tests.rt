@@ -67,20 +67,28 @@ fn check_step(rt: &impl Abort, uploads: &mut Uploads, step: Step) {
     );
 }
 
-// Four blocks of 1,024 bytes and a last one of 16, which is the most; with 17 the transfer is gone.
-static BOUND: [Step; 12] = [
+// Eight blocks of 1,024 bytes and a last one of 16, which is the most; with 17 the transfer is gone.
+static BOUND: [Step; 20] = [
     (0, 1, 2, Some(b"\x0e"), 1024, Answer::Continue),
     (1, 1, 2, Some(b"\x1e"), 1024, Answer::Continue),
     (2, 1, 2, Some(b"\x2e"), 1024, Answer::Continue),
     (3, 1, 2, Some(b"\x3e"), 1024, Answer::Continue),
-    (4, 1, 2, Some(b"\x46"), 16, Answer::Whole(4112)),
-    (5, 1, 2, Some(b"\x46"), 16, Answer::Incomplete),
-    (6, 1, 2, Some(b"\x0e"), 1024, Answer::Continue),
-    (7, 1, 2, Some(b"\x1e"), 1024, Answer::Continue),
-    (8, 1, 2, Some(b"\x2e"), 1024, Answer::Continue),
-    (9, 1, 2, Some(b"\x3e"), 1024, Answer::Continue),
-    (10, 1, 2, Some(b"\x46"), 17, Answer::TooLarge),
-    (11, 1, 2, Some(b"\x46"), 16, Answer::Incomplete),
+    (4, 1, 2, Some(b"\x4e"), 1024, Answer::Continue),
+    (5, 1, 2, Some(b"\x5e"), 1024, Answer::Continue),
+    (6, 1, 2, Some(b"\x6e"), 1024, Answer::Continue),
+    (7, 1, 2, Some(b"\x7e"), 1024, Answer::Continue),
+    (8, 1, 2, Some(b"\x86"), 16, Answer::Whole(8208)),
+    (9, 1, 2, Some(b"\x86"), 16, Answer::Incomplete),
+    (10, 1, 2, Some(b"\x0e"), 1024, Answer::Continue),
+    (11, 1, 2, Some(b"\x1e"), 1024, Answer::Continue),
+    (12, 1, 2, Some(b"\x2e"), 1024, Answer::Continue),
+    (13, 1, 2, Some(b"\x3e"), 1024, Answer::Continue),
+    (14, 1, 2, Some(b"\x4e"), 1024, Answer::Continue),
+    (15, 1, 2, Some(b"\x5e"), 1024, Answer::Continue),
+    (16, 1, 2, Some(b"\x6e"), 1024, Answer::Continue),
+    (17, 1, 2, Some(b"\x7e"), 1024, Answer::Continue),
+    (18, 1, 2, Some(b"\x86"), 17, Answer::TooLarge),
+    (19, 1, 2, Some(b"\x86"), 16, Answer::Incomplete),
 ];
 
 static ORDER: [Step; 26] = [
