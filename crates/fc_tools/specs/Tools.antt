@@ -2,7 +2,7 @@
 use Rattle.std.specs.Prelude.{◌≡◌, ℕ, ◌++◌, List, length, drop, None}
 use Rattle.fc_isa.specs.declared.insn.Insn.{Insn}
 use Rattle.fc_isa.specs.Encoding.{Spells, encoded}
-use Rattle.fc_isa.specs.declared.version.ImageVersion.TheVariants.{One}
+use Rattle.fc_isa.specs.declared.version.ImageVersion.{ImageVersion}
 use Rattle.fc_image.specs.Head.{head_bytes, head_fault, limit_fault, Head}
 use Rattle.fc_image.specs.Paths.{IsLongest}
 use Rattle.fc_asm.specs.Syntax.{lines_of}
@@ -11,20 +11,20 @@ use Rattle.fc_asm.specs.Listing.{listing}
 use Rattle.fc_tools.specs.Numbered.{numbered_from}
 
 -- the header of a program
-abbrev pub program_head : ℕ → ℕ → List Insn → Head
-program_head vars_size budget program = record { version = One; vars_size = vars_size; count = length program; budget = budget }
+abbrev pub program_head : ℕ → ℕ → ImageVersion → List Insn → Head
+program_head vars_size budget version program = record { version = version; vars_size = vars_size; count = length program; budget = budget }
 
 -- the text is assembled to a program, and the image is its header and its slots
-pub record IsImageOf (text : List ℕ) (vars_size budget : ℕ) (image : List ℕ) : Type 0 where
+pub record IsImageOf (text : List ℕ) (vars_size budget : ℕ) (version : ImageVersion) (image : List ℕ) : Type 0 where
   pub program : List Insn
   pub assembled : IsAssembled (lines_of text) program
-  pub limits : limit_fault (program_head vars_size budget program) ≡ None
-  pub bytes_are : image ≡ head_bytes (program_head vars_size budget program) ++ encoded program
+  pub limits : limit_fault (program_head vars_size budget version program) ≡ None
+  pub bytes_are : image ≡ head_bytes (program_head vars_size budget version program) ++ encoded program
 
 -- the image's budget is the steps of the program's longest path
-pub record IsPricedImageOf (text : List ℕ) (vars_size : ℕ) (image : List ℕ) : Type 0 where
+pub record IsPricedImageOf (text : List ℕ) (vars_size : ℕ) (version : ImageVersion) (image : List ℕ) : Type 0 where
   pub budget : ℕ
-  pub image_is : IsImageOf text vars_size budget image
+  pub image_is : IsImageOf text vars_size budget version image
   pub cost : IsLongest image_is.program budget
 
 -- the image's slots spell a program, and the text is its listing

@@ -32,7 +32,7 @@ use thiserror::Error;
 /// The most bytes of an image whose length fits its count: a header, and 65,535 slots of eight bytes.
 const LONGEST_IMAGE: u64 = 16 + 8 * 65_535;
 
-/// The most bytes of a text. The longest listing has 16,384: 512 lines of 32 bytes.
+/// The most bytes of a text. The longest listing has 32,768: 1,024 lines of 32 bytes.
 const LONGEST_TEXT: u64 = 1_048_576;
 
 /// Why a tool has no result.
@@ -102,7 +102,8 @@ impl From<Rejection> for ToolError {
     }
 }
 
-/// Reads a text, expands and assembles it, and writes the image with this size of the variables, in bytes, and this budget of steps.
+/// Reads a text, expands and assembles it, and writes the image of this version with this size of the variables, in bytes, and this
+/// budget of steps.
 /// It ends `Done` where the image is written; `Refused` where the text has more than 1,048,576 bytes or a mistake, or else a number of the header is
 /// out of its limits, or the control flow breaks a rule where the budget is to be the cost; `Failed` where reading or writing failed, or there was no memory. `err` is told why: after a line with the mistake or
 /// the rule come those of `explain_line` or `explain`.
@@ -113,12 +114,13 @@ pub fn image<R: Read, W: Write, E: Write>(
     err: &mut E,
     vars_size: u16,
     budget: Budget,
+    version: ImageVersion,
 ) -> Status {
     let text = match read_text(alloc, input) {
         Ok(text) => text,
         Err(error) => return tell(err, &error, error.status()),
     };
-    match write_image(alloc, &text, out, vars_size, budget) {
+    match write_image(alloc, &text, out, vars_size, budget, version) {
         Ok(()) => Status::Done,
         Err(error) => tell_whole(alloc, err, &error, &text),
     }
@@ -281,11 +283,12 @@ fn write_image<W: Write>(
     out: &mut W,
     vars_size: u16,
     budget: Budget,
+    version: ImageVersion,
 ) -> Result<(), ToolError> {
     let text = expand_text(alloc, text)?;
     let image = match budget {
-        Budget::Steps(steps) => image_of(alloc, &text, vars_size, steps)?,
-        Budget::Auto => priced_image_of(alloc, &text, vars_size)?,
+        Budget::Steps(steps) => image_of(alloc, &text, vars_size, steps, version)?,
+        Budget::Auto => priced_image_of(alloc, &text, vars_size, version)?,
     };
     write_whole(out, &image)
 }
@@ -387,13 +390,12 @@ pub fn image_of(
     text: &[u8],
     vars_size: u16,
     budget: u32,
+    version: ImageVersion,
 ) -> Result<Vec<u8>, ToolError>
-    ensures { IfOk result (λ v. IsImageOf text.now vars_size budget v.items) }
+    ensures { IfOk result (λ v. IsImageOf text.now vars_size budget version v.items) }
 {
     let program = program_of(alloc, text)?;
-    let head = Head::new(vars_size, program.len(), budget, ImageVersion::One).map_err(
-        header_error,
-    )?;
+    let head = Head::new(vars_size, program.len(), budget, version).map_err(header_error)?;
     image_with(alloc, &head, &program)
 }
 
@@ -402,26 +404,29 @@ pub fn image_of(
 /// # Errors
 /// As of `image_of`; and after the header's rules the first rule of the control flow, 11 to 17, that the program breaks with the
 /// greatest budget.
-pub fn priced_image_of(alloc: Global, text: &[u8], vars_size: u16) -> Result<Vec<u8>, ToolError>
-    ensures { IfOk result (λ v. IsPricedImageOf text.now vars_size v.items) }
+pub fn priced_image_of(
+    alloc: Global,
+    text: &[u8],
+    vars_size: u16,
+    version: ImageVersion,
+) -> Result<Vec<u8>, ToolError>
+    ensures { IfOk result (λ v. IsPricedImageOf text.now vars_size version v.items) }
 {
     let program = program_of(alloc, text)?;
-    let head = priced_head(vars_size, &program)?;
+    let head = priced_head(vars_size, &program, version)?;
     image_with(alloc, &head, &program)
 }
 
 /// The header of a program whose budget is its cost.
-fn priced_head(vars_size: u16, program: &[Insn]) -> Result<Head, ToolError>
-    ensures head { IfOk result (λ h. (h ≡ program_head vars_size h.budget program.now) × (limit_fault h ≡ None)) }
+fn priced_head(vars_size: u16, program: &[Insn], version: ImageVersion) -> Result<Head, ToolError>
+    ensures head { IfOk result (λ h. (h ≡ program_head vars_size h.budget version program.now) × (limit_fault h ≡ None)) }
     ensures cost { IfOk result (λ h. IsLongest program.now h.budget) }
 {
-    let greatest = Head::new(vars_size, program.len(), GREATEST_BUDGET, ImageVersion::One).map_err(
+    let greatest = Head::new(vars_size, program.len(), GREATEST_BUDGET, version).map_err(
         header_error,
     )?;
     match shape_cost(&greatest, program) {
-        Ok(cost) => Head::new(vars_size, program.len(), cost, ImageVersion::One).map_err(
-            header_error,
-        ),
+        Ok(cost) => Head::new(vars_size, program.len(), cost, version).map_err(header_error),
         Err(diagnosis) => Err(ToolError::Image(diagnosis)),
     }
 }

@@ -6,6 +6,7 @@ use fc_cli::Status;
 use fc_cli::command_line::{VERSION, exit_code, parse, words};
 use fc_cli::status::tell;
 use fc_help::Method;
+use fc_isa::ImageVersion;
 use fc_tools::asked::{Asked, AskedError};
 use fc_tools::budget::Budget;
 use fc_tools::tools::{check, expand, image, image_bytes, list, run as run_input, run_image};
@@ -40,6 +41,11 @@ fn wanted<'a>(
 }
 
 fn image_command<'a>(alloc: Global) -> Result<Command<'a>, AllocError> {
+    let format = Arg::new(alloc, "format")
+        .long("format")
+        .value_name("F")
+        .value_parser(["1", "2"].as_slice())
+        .help("The version of the image; 1 where it is not given");
     Command::new(alloc, "image")
         .about("Assemble a text to an image")
         .arg(wanted(
@@ -54,7 +60,8 @@ fn image_command<'a>(alloc: Global) -> Result<Command<'a>, AllocError> {
             "budget",
             "B",
             "The most steps that a run may take: 1 to 65536, or `auto`, the program's cost",
-        ))
+        ))?
+        .arg(format)
 }
 
 fn list_command<'a>(alloc: Global) -> Result<Command<'a>, AllocError> {
@@ -176,9 +183,13 @@ fn write_image<R: Read, W: Write, E: Write>(
     err: &mut E,
     numbers: &ArgMatches<'_>,
 ) -> Status {
+    let version = match numbers.get_str("format") {
+        Some("2") => ImageVersion::Two,
+        _ => ImageVersion::One,
+    };
     match (numbers.get_one::<u16>("vars"), numbers.get_str("budget")) {
         (Some(vars), Some(budget)) => match budget.parse::<Budget>() {
-            Ok(budget) => image(alloc, input, out, err, vars, budget),
+            Ok(budget) => image(alloc, input, out, err, vars, budget, version),
             Err(error) => tell(err, &error, Status::Bad),
         },
         _ => Status::Bad,

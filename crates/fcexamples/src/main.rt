@@ -4,6 +4,7 @@
 use clap::{Arg, Command, Error};
 use fc_cli::Status;
 use fc_cli::command_line::{VERSION, exit_code, parse, words};
+use fc_isa::ImageVersion;
 use fc_service::play::play;
 use fc_tools::tools::{check, image_of};
 use std::alloc::Global;
@@ -97,7 +98,13 @@ fn show<R: Files + AllocGlobal, W: Write, E: Write>(
 ) -> anyhow::Result<Status> {
     let alloc = rt.alloc();
     let text = fs::read(rt, format!(in alloc; "{folder}/{}", example.file)?)?;
-    let image = image_of(alloc, &text, example.vars_size, example.budget)?;
+    let image = image_of(
+        alloc,
+        &text,
+        example.vars_size,
+        example.budget,
+        ImageVersion::One,
+    )?;
     write!(out, "{}: ", example.file)?;
     let judged = check(alloc, &mut image.as_slice(), out, err);
     if judged != Status::Done {

@@ -4,6 +4,7 @@ use crate::tooling::{
     Done, assembled, assembled_with, check_program, checked, listed, listed_with, with_memory,
 };
 use fc_cli::Status;
+use fc_isa::ImageVersion;
 use fc_tools::budget::Budget;
 use fc_tools::tools::{check, image, list};
 use std::alloc::Global;
@@ -61,6 +62,22 @@ fn a_text_becomes_an_image(rt: HostRuntime) -> Result<(), Fail> {
     let done = assembled(rt.alloc(), b"mov64 r0, 69\nexit\n", 0, 2)?;
     assert!(rt; done.out.as_slice() == IMAGE);
     assert!(rt; done.status == Status::Done && done.err.is_empty());
+    Ok(())
+}
+
+#[test]
+fn a_text_becomes_an_image_of_the_second_version(rt: HostRuntime) -> Result<(), Fail> {
+    let alloc = rt.alloc();
+    let text = b"ldxdw r0, r4, 56\nexit\n";
+    let first = assembled_with(alloc, text, 0, Budget::Auto, ImageVersion::One)?;
+    let second = assembled_with(alloc, text, 0, Budget::Auto, ImageVersion::Two)?;
+    assert!(rt; first.out.starts_with(b"FCB1") && second.out.starts_with(b"FCB2"));
+    assert!(rt; first.out[4..] == second.out[4..]);
+    assert!(rt; checked(alloc, first.out.as_slice())?.out.as_slice() == b"V20 slot 0\n".as_slice());
+    assert!(rt;
+        checked(alloc, second.out.as_slice())?.out.as_slice()
+            == b"accepted cost 2 budget 2\n".as_slice()
+    );
     Ok(())
 }
 
@@ -147,7 +164,7 @@ static COSTS: [(&[u8], u8, u8); 4] = [
 #[test]
 fn a_budget_is_the_cost_where_it_is_asked_for(rt: HostRuntime) -> Result<(), Fail> {
     for (text, low, high) in COSTS.iter().copied() {
-        let done = assembled_with(rt.alloc(), text, 0, Budget::Auto)?;
+        let done = assembled_with(rt.alloc(), text, 0, Budget::Auto, ImageVersion::One)?;
         assert!(rt; done.status == Status::Done && done.err.is_empty());
         assert!(rt; done.out.get(8..12) == Some([low, high, 0, 0].as_slice()));
     }
@@ -167,7 +184,7 @@ fn a_cost_is_told_of_no_misshapen_program(rt: HostRuntime) -> Result<(), Fail> {
     for (text, vars_size, told) in UNPRICED.iter().copied() {
         is_refused(
             &rt,
-            &assembled_with(rt.alloc(), text, vars_size, Budget::Auto)?,
+            &assembled_with(rt.alloc(), text, vars_size, Budget::Auto, ImageVersion::One)?,
             told,
         )?;
     }
@@ -405,6 +422,7 @@ fn a_text_without_end_is_refused(rt: HostRuntime) -> Result<(), Fail> {
         &mut err,
         0,
         Budget::Steps(1),
+        ImageVersion::One,
     );
     let done = with_memory(Done { status, out, err })?;
     assert!(rt; done.status == Status::Refused && done.out.is_empty());
@@ -427,7 +445,17 @@ fn a_failed_reader_is_status_3(rt: HostRuntime) -> Result<(), Fail> {
     let alloc = rt.alloc();
     let mut out = Vec::new(alloc);
     let mut err = Vec::new(alloc);
-    assert!(rt; image(alloc, &mut Torn, &mut out, &mut err, 0, Budget::Steps(1)) == Status::Failed);
+    assert!(rt;
+        image(
+            alloc,
+            &mut Torn,
+            &mut out,
+            &mut err,
+            0,
+            Budget::Steps(1),
+            ImageVersion::One
+        ) == Status::Failed
+    );
     assert!(rt; list(alloc, &mut Torn, &mut out, &mut err, false) == Status::Failed);
     assert!(rt; check(alloc, &mut Torn, &mut out, &mut err) == Status::Failed);
     assert!(rt;
@@ -450,7 +478,8 @@ fn a_failed_writer_is_status_3(rt: HostRuntime) -> Result<(), Fail> {
             &mut Full(23),
             &mut err,
             0,
-            Budget::Steps(1)
+            Budget::Steps(1),
+            ImageVersion::One
         ) == Status::Failed
     );
     let mut input = IMAGE;
@@ -476,7 +505,8 @@ fn a_failed_flush_is_status_3(rt: HostRuntime) -> Result<(), Fail> {
             &mut Unflushed,
             &mut err,
             0,
-            Budget::Steps(1)
+            Budget::Steps(1),
+            ImageVersion::One
         ) == Status::Failed
     );
     let mut input = IMAGE;
@@ -498,7 +528,8 @@ fn a_mistake_that_is_not_told_is_status_3(rt: HostRuntime) -> Result<(), Fail> {
             &mut out,
             &mut Full(3),
             0,
-            Budget::Steps(1)
+            Budget::Steps(1),
+            ImageVersion::One
         ) == Status::Failed
     );
     assert!(rt; out.is_empty());

@@ -1,5 +1,6 @@
 // The tools on bytes.
 use fc_cli::Status;
+use fc_isa::ImageVersion;
 use fc_tools::budget::Budget;
 use fc_tools::tools::{check, image, list};
 use std::alloc::{AllocError, Global};
@@ -28,7 +29,13 @@ pub(crate) fn assembled(
     vars_size: u16,
     budget: u32,
 ) -> Result<Done, AllocError> {
-    assembled_with(alloc, text, vars_size, Budget::Steps(budget))
+    assembled_with(
+        alloc,
+        text,
+        vars_size,
+        Budget::Steps(budget),
+        ImageVersion::One,
+    )
 }
 
 pub(crate) fn assembled_with(
@@ -36,11 +43,14 @@ pub(crate) fn assembled_with(
     text: &[u8],
     vars_size: u16,
     budget: Budget,
+    version: ImageVersion,
 ) -> Result<Done, AllocError> {
     let mut out = Vec::new(alloc);
     let mut err = Vec::new(alloc);
     let mut input = text;
-    let status = image(alloc, &mut input, &mut out, &mut err, vars_size, budget);
+    let status = image(
+        alloc, &mut input, &mut out, &mut err, vars_size, budget, version,
+    );
     with_memory(Done { status, out, err })
 }
 
