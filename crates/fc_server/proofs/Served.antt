@@ -189,25 +189,25 @@ IsJobless (Brings job) = ⊥
 IsJobless (Signals id reset) = ⊥
 IsJobless other = Unit {0}
 
-heard_jobless : (h : History) (k now : ℕ) (to : Endpoint) (b : Bor (List ℕ)) (new : ServerState) (out : Option Emission) (d : Delivered) → IsJobless d → Delivers h (Deliver now to b) new out → Heard h k now to b d new out
-heard_jobless h k now to b new out (Brings job) none w = absurd none
-heard_jobless h k now to b new out (Signals id reset) none w = absurd none
-heard_jobless h k now to b new out other none w = w
+heard_jobless : (readings : List ℕ) (h : History) (k now : ℕ) (to : Endpoint) (b : Bor (List ℕ)) (new : ServerState) (out : Option Emission) (d : Delivered) → IsJobless d → Delivers h (Deliver now to b) new out → Heard readings h k now to b d new out
+heard_jobless readings h k now to b new out (Brings job) none w = absurd none
+heard_jobless readings h k now to b new out (Signals id reset) none w = absurd none
+heard_jobless readings h k now to b new out other none w = w
 
 -- a delivery that brings no job
-pub heard_on : (now : ℕ) (to : Endpoint) (b : Bor (List ℕ)) (old new : ServerState) (d : Delivered) (out : Option Emission) → IsJobless d → out ≡ sent_by d → delivered (advanced old.front now) to b.now ≡ d → new.front ≡ after_delivered (advanced old.front now) to b.now → new.shards ≡ old.shards → new.words ≡ old.words → Hears now to b (delivered (advanced old.front now) to b.now) old new out
-heard_on now to b old new d out none emits is front shards words h tasks v =
+pub heard_on : (readings : List ℕ) (now : ℕ) (to : Endpoint) (b : Bor (List ℕ)) (old new : ServerState) (d : Delivered) (out : Option Emission) → IsJobless d → out ≡ sent_by d → delivered (advanced old.front now) to b.now ≡ d → new.front ≡ after_delivered (advanced old.front now) to b.now → new.shards ≡ old.shards → new.words ≡ old.words → Hears readings now to b (delivered (advanced old.front now) to b.now) old new out
+heard_on readings now to b old new d out none emits is front shards words h tasks v =
     let serves = subst (λ (o : Option Emission). Serves (next h (Deliver now to b) o) new (tasks ++ map new_task (jobs_by d))) (sym emits) (delivered_on now to b old new d is front shards words h tasks v) in
-    subst (λ (y : Delivered). Heard h (length tasks) now to b y new out) (sym is) (heard_jobless h (length tasks) now to b new out d none (record { tasks = tasks ++ map new_task (jobs_by d); serves = serves }))
+    subst (λ (y : Delivered). Heard readings h (length tasks) now to b y new out) (sym is) (heard_jobless readings h (length tasks) now to b new out d none (record { tasks = tasks ++ map new_task (jobs_by d); serves = serves }))
 
 -- a server that heard a datagram is one that some history leaves
-heard_served : (h : History) (k now : ℕ) (to : Endpoint) (b : Bor (List ℕ)) (new : ServerState) (out : Option Emission) (d : Delivered) → Heard h k now to b d new out → IsReachable new
-heard_served h k now to b new out (Brings job) w = record { history = worked job.ask job.origin.slot k w.memory now out (next h (Deliver now to b) None); tasks = w.tasks; serves = w.serves }
-heard_served h k now to b new out (Signals id reset) w = record { history = signalled_below to id reset 8 (next h (Deliver now to b) None); tasks = w.1.tasks; serves = w.1.serves }
-heard_served h k now to b new out other w = record { history = next h (Deliver now to b) out; tasks = w.tasks; serves = w.serves }
+heard_served : (readings : List ℕ) (h : History) (k now : ℕ) (to : Endpoint) (b : Bor (List ℕ)) (new : ServerState) (out : Option Emission) (d : Delivered) → Heard readings h k now to b d new out → IsReachable new
+heard_served readings h k now to b new out (Brings job) w = record { history = worked readings job.ask job.origin.slot k w.memory now out (next h (Deliver now to b) None); tasks = w.tasks; serves = w.serves }
+heard_served readings h k now to b new out (Signals id reset) w = record { history = signalled_below to id reset 8 (next h (Deliver now to b) None); tasks = w.1.tasks; serves = w.1.serves }
+heard_served readings h k now to b new out other w = record { history = next h (Deliver now to b) out; tasks = w.tasks; serves = w.serves }
 
-pub still_served : (now : ℕ) (to : Endpoint) (b : Bor (List ℕ)) (d : Delivered) (old new : ServerState) (out : Option Emission) → IsReachable old → Hears now to b d old new out → IsReachable new
-still_served now to b d old new out s hears = heard_served s.history (length s.tasks) now to b new out d (hears s.history s.tasks s.serves)
+pub still_served : (readings : List ℕ) (now : ℕ) (to : Endpoint) (b : Bor (List ℕ)) (d : Delivered) (old new : ServerState) (out : Option Emission) → IsReachable old → Hears readings now to b d old new out → IsReachable new
+still_served readings now to b d old new out s hears = heard_served readings s.history (length s.tasks) now to b new out d (hears s.history s.tasks s.serves)
 
 -- ---- a tick
 
@@ -222,9 +222,9 @@ passed_served now old new s passes = record { history = next s.history (Tick now
 pub resent_served : (shard now : ℕ) (old new : ServerState) (out : Option Emission) → IsReachable old → TicksShard shard now old new out → IsReachable new
 resent_served shard now old new out s resends = record { history = next s.history (ShardTick shard now) out; tasks = s.tasks; serves = resends s.history s.tasks s.serves }
 
-asked_served : (b : Bool) (h : History) (k now random : ℕ) (new : ServerState) (out : Option Emission) → TurnGiven b h k now random new out → IsReachable new
-asked_served false h k now random new out w = record { history = h; tasks = w.1.tasks; serves = w.1.serves }
-asked_served true h k now random new out w = record { history = turned k w.memory now random out h; tasks = w.tasks; serves = w.serves }
+asked_served : (b : Bool) (readings : List ℕ) (h : History) (k now random : ℕ) (new : ServerState) (out : Option Emission) → TurnGiven b readings h k now random new out → IsReachable new
+asked_served false readings h k now random new out w = record { history = h; tasks = w.1.tasks; serves = w.1.serves }
+asked_served true readings h k now random new out w = record { history = turned readings k w.memory now random out h; tasks = w.tasks; serves = w.serves }
 
-pub notified_served : (shard now random : ℕ) (old new : ServerState) (given : Bool) (out : Option Emission) → IsReachable old → AsksForTurn shard now random old new given out → IsReachable new
-notified_served shard now random old new given out s notifies = asked_served given (next s.history (Due shard now) None) (length s.tasks) now random new out (notifies.asked s.history s.tasks s.serves)
+pub notified_served : (readings : List ℕ) (shard now random : ℕ) (old new : ServerState) (given : Bool) (out : Option Emission) → IsReachable old → AsksForTurn readings shard now random old new given out → IsReachable new
+notified_served readings shard now random old new given out s notifies = asked_served given readings (next s.history (Due shard now) None) (length s.tasks) now random new out (notifies.asked s.history s.tasks s.serves)

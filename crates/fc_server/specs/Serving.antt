@@ -4,7 +4,6 @@ use Rattle.std.specs.Prelude.{◌≡◌, ℕ, zero, suc, Bool, true, false, List
 use Rattle.std.specs.Borrow.{Bor}
 use Rattle.coap_msg.specs.declared.types.Emission.{Emission}
 use Rattle.coap_msg.specs.declared.types.Endpoint.{Endpoint}
-use Rattle.fc_help.specs.Region.{no_readings}
 use Rattle.fc_registry.specs.declared.job.Ask.{Ask}
 use Rattle.fc_registry.specs.declared.job.Ask.TheVariants.{Run, Install as Installs, Remove as Removes, Describe, Discover}
 use Rattle.fc_core.specs.declared.event.Event.{Event}
@@ -35,20 +34,20 @@ abbrev pub peeked_below : ℕ → ℕ → History → History
 peeked_below k zero h = h
 peeked_below k (suc n) h = next (peeked_below k n h) (Peek k n) None
 
--- the events of a job of this number, which is of this slot, that is worked off at once
-abbrev pub worked : Ask → ℕ → ℕ → Bool → ℕ → Option Emission → History → History
-worked (Run request) slot k memory now out h =
-    next (next (next (next (next h (Peek k slot) None) (Take k memory no_readings) None) (Commit k now) None) (Raise k) None) (Answer k now) out
-worked (Installs image) slot k memory now out h = next (next (next h (Install k memory) None) (Raise k) None) (Answer k now) out
-worked Removes slot k memory now out h = next (next (next h (Remove k) None) (Raise k) None) (Answer k now) out
-worked Describe slot k memory now out h = next (next h (Receipt k) None) (Answer k now) out
-worked Discover slot k memory now out h = next (peeked_below k 64 h) (Answer k now) out
+-- the events of a job of this number, which is of this slot, that is worked off at once; its taking is handed these readings
+abbrev pub worked : List ℕ → Ask → ℕ → ℕ → Bool → ℕ → Option Emission → History → History
+worked readings (Run request) slot k memory now out h =
+    next (next (next (next (next h (Peek k slot) None) (Take k memory readings) None) (Commit k now) None) (Raise k) None) (Answer k now) out
+worked readings (Installs image) slot k memory now out h = next (next (next h (Install k memory) None) (Raise k) None) (Answer k now) out
+worked readings Removes slot k memory now out h = next (next (next h (Remove k) None) (Raise k) None) (Answer k now) out
+worked readings Describe slot k memory now out h = next (next h (Receipt k) None) (Answer k now) out
+worked readings Discover slot k memory now out h = next (peeked_below k 64 h) (Answer k now) out
 
 -- a job of this number was worked off
-pub record Worked (h : History) (k : ℕ) (ask : Ask) (slot now : ℕ) (new : ServerState) (out : Option Emission) : Type 0 where
+pub record Worked (readings : List ℕ) (h : History) (k : ℕ) (ask : Ask) (slot now : ℕ) (new : ServerState) (out : Option Emission) : Type 0 where
   pub memory : Bool
   pub tasks : List Task
-  pub serves : Serves (worked ask slot k memory now out h) new tasks
+  pub serves : Serves (worked readings ask slot k memory now out h) new tasks
 
 -- an event that brings no job
 pub record Delivers (h : History) (e : Event) (new : ServerState) (out : Option Emission) : Type 0 where
@@ -71,14 +70,14 @@ IsSignalled to id reset old new = (h : History) → (tasks : List Task) → Serv
 
 -- a delivery that brings a job: its delivery, and then the job is worked off; one that brings a signal: its delivery, and then each
 -- shard gets it; any other: its delivery
-abbrev pub Heard : History → ℕ → ℕ → Endpoint → Bor (List ℕ) → Delivered → ServerState → Option Emission → Type 0
-Heard h k now to bytes (Brings job) new out = Worked (next h (Deliver now to bytes) None) k job.ask job.origin.slot now new out
-Heard h k now to bytes (Signals id reset) new out = (out ≡ None) × Signalled (next h (Deliver now to bytes) None) to id reset new
-Heard h k now to bytes other new out = Delivers h (Deliver now to bytes) new out
+abbrev pub Heard : List ℕ → History → ℕ → ℕ → Endpoint → Bor (List ℕ) → Delivered → ServerState → Option Emission → Type 0
+Heard readings h k now to bytes (Brings job) new out = Worked readings (next h (Deliver now to bytes) None) k job.ask job.origin.slot now new out
+Heard readings h k now to bytes (Signals id reset) new out = (out ≡ None) × Signalled (next h (Deliver now to bytes) None) to id reset new
+Heard readings h k now to bytes other new out = Delivers h (Deliver now to bytes) new out
 
 -- whatever the history so far; the job has the next number
-abbrev pub Hears : ℕ → Endpoint → Bor (List ℕ) → Delivered → ServerState → ServerState → Option Emission → Type 0
-Hears now to bytes brings old new out = (h : History) → (tasks : List Task) → Serves h old tasks → Heard h (length tasks) now to bytes brings new out
+abbrev pub Hears : List ℕ → ℕ → Endpoint → Bor (List ℕ) → Delivered → ServerState → ServerState → Option Emission → Type 0
+Hears readings now to bytes brings old new out = (h : History) → (tasks : List Task) → Serves h old tasks → Heard readings h (length tasks) now to bytes brings new out
 
 -- the history leaves this server, with some jobs
 pub record Reaches (h : History) (new : ServerState) : Type 0 where
@@ -94,31 +93,31 @@ abbrev pub TicksShard : ℕ → ℕ → ServerState → ServerState → Option E
 TicksShard shard now old new out = (h : History) → (tasks : List Task) → Serves h old tasks → Serves (next h (ShardTick shard now) out) new tasks
 
 -- the events of the job of this number, which is a turn that is worked off at once: where no message id is free it is given up
-abbrev pub turned : ℕ → Bool → ℕ → ℕ → Option Emission → History → History
-turned k memory now random out h = next (next (next (next h (Take k memory no_readings) None) (Fresh k now) None) (Note k now random) out) (GiveUp k now) None
+abbrev pub turned : List ℕ → ℕ → Bool → ℕ → ℕ → Option Emission → History → History
+turned readings k memory now random out h = next (next (next (next h (Take k memory readings) None) (Fresh k now) None) (Note k now random) out) (GiveUp k now) None
 
 -- a turn of this number was worked off
-pub record Turned (h : History) (k now random : ℕ) (new : ServerState) (out : Option Emission) : Type 0 where
+pub record Turned (readings : List ℕ) (h : History) (k now random : ℕ) (new : ServerState) (out : Option Emission) : Type 0 where
   pub memory : Bool
   pub tasks : List Task
-  pub serves : Serves (turned k memory now random out h) new tasks
+  pub serves : Serves (turned readings k memory now random out h) new tasks
 
 -- a shard was asked for a turn: it gave none, or one that was worked off
-abbrev pub TurnGiven : Bool → History → ℕ → ℕ → ℕ → ServerState → Option Emission → Type 0
-TurnGiven false h k now random new out = (out ≡ None) × Reaches h new
-TurnGiven true h k now random new out = Turned h k now random new out
+abbrev pub TurnGiven : Bool → List ℕ → History → ℕ → ℕ → ℕ → ServerState → Option Emission → Type 0
+TurnGiven false readings h k now random new out = (out ≡ None) × Reaches h new
+TurnGiven true readings h k now random new out = Turned readings h k now random new out
 
 -- whatever the history so far; the turn has the next number
-pub record AsksForTurn (shard now random : ℕ) (old new : ServerState) (given : Bool) (out : Option Emission) : Type 0 where
-  pub asked : (h : History) (tasks : List Task) → Serves h old tasks → TurnGiven given (next h (Due shard now) None) (length tasks) now random new out
+pub record AsksForTurn (readings : List ℕ) (shard now random : ℕ) (old new : ServerState) (given : Bool) (out : Option Emission) : Type 0 where
+  pub asked : (h : History) (tasks : List Task) → Serves h old tasks → TurnGiven given readings (next h (Due shard now) None) (length tasks) now random new out
 
 -- the turn at work is the last job that came
-abbrev pub Turns : ℕ → ℕ → ServerState → Task → ServerState → Option Emission → Type 0
-Turns now random old task new out = (h : History) → (rest : List Task) → Serves h old (rest ++ task ∷ []) → Turned h (length rest) now random new out
+abbrev pub Turns : List ℕ → ℕ → ℕ → ServerState → Task → ServerState → Option Emission → Type 0
+Turns readings now random old task new out = (h : History) → (rest : List Task) → Serves h old (rest ++ task ∷ []) → Turned readings h (length rest) now random new out
 
 -- the job at work is the last that came
-abbrev pub WorksOff : Ask → ℕ → ServerState → Task → ServerState → Option Emission → Type 0
-WorksOff ask now old task new out = (h : History) → (rest : List Task) → Serves h old (rest ++ task ∷ []) → Worked h (length rest) ask task.job.origin.slot now new out
+abbrev pub WorksOff : List ℕ → Ask → ℕ → ServerState → Task → ServerState → Option Emission → Type 0
+WorksOff readings ask now old task new out = (h : History) → (rest : List Task) → Serves h old (rest ++ task ∷ []) → Worked readings h (length rest) ask task.job.origin.slot now new out
 
 -- some history leaves this server with this job, which is not yet worked off
 pub record IsBegun (s : ServerState) (task : Task) : Type 0 where

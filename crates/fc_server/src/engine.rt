@@ -1,5 +1,5 @@
 //! A server on one thread: each datagram that it hears is worked off to its answer.
-ghost use Rattle.std.specs.Prelude.{◌≡◌, ℕ, ◌<◌, ◌≤◌, [], true, None, IfOk, MatchBool};
+ghost use Rattle.std.specs.Prelude.{◌≡◌, ℕ, ◌<◌, ◌≤◌, List, [], true, None, IfOk, MatchBool};
 ghost use Rattle.arrayvec.specs.ArrayVec.{ArrayVec};
 ghost use Rattle.fc_help.specs.Request.{Request};
 ghost use Rattle.fc_registry.specs.declared.job.Ask.{Ask};
@@ -17,7 +17,7 @@ ghost use Rattle.fc_server.specs.Serving.{IsSignalled};
 use crate::server::Server;
 use coap_msg::{Emission, Endpoint};
 use fc_core::{Heard, Task};
-use fc_help::NO_READINGS;
+use fc_help::Readings;
 use fc_observe::Ticked;
 use fc_registry::{Ask, SHARDS, SLOTS};
 use std::alloc::{AllocError, Global};
@@ -58,7 +58,7 @@ impl Engine {
         })
     }
 
-    /// Takes in a datagram from an endpoint at a moment in milliseconds, works off the job that it brings, and writes
+    /// Takes in a datagram from an endpoint at a moment in milliseconds, works off the job that it brings, whose taking is handed these readings, and writes
     /// what is to be sent over another emission. Tells whether anything is. What it does is a list of events: Deliver, and where it
     /// brings a job that runs a program Peek of its slot, Take, Commit, Raise and Answer; one that installs Install, Raise and
     /// Answer; one that removes Remove, Raise and Answer; one that describes Receipt and Answer; one that lists what is there
@@ -70,9 +70,10 @@ impl Engine {
         now: u64,
         endpoint: Endpoint,
         bytes: &[u8],
+        readings: &Readings,
         reply: &mut Emission,
     ) -> bool
-        ensures { Hears now endpoint bytes.entry (delivered (advanced self.old.front now) endpoint bytes.now)
+        ensures { Hears readings.now now endpoint bytes.entry (delivered (advanced self.old.front now) endpoint bytes.now)
             self.old self.new (emission_if result reply.new) }
     {
         hear(
@@ -82,6 +83,7 @@ impl Engine {
             now,
             endpoint,
             bytes,
+            readings,
             reply,
         )
     }
@@ -113,12 +115,19 @@ impl Engine {
     }
 
     /// Asks a shard, 0 to 7, for the turn of an observer that is due at a moment in milliseconds, and works it off: the events Due, and,
-    /// where it brings a turn, Take, Fresh, Note and GiveUp of it. The random word says how long a confirmable notification is waited for.
-    pub fn notify(&mut self, shard: u8, now: u64, random: u16) -> Notified
+    /// where it brings a turn, Take with these readings, Fresh, Note and GiveUp of it. The random word says how long a confirmable notification is waited for.
+    pub fn notify(&mut self, shard: u8, now: u64, readings: &Readings, random: u16) -> Notified
         requires { shard < 8 }
-        ensures { AsksForTurn shard now random self.old self.new (is_given result) (notification_in result) }
+        ensures { AsksForTurn readings.now shard now random self.old self.new (is_given result) (notification_in result) }
     {
-        notify(&mut self.server, &mut self.task, shard, now, random)
+        notify(
+            &mut self.server,
+            &mut self.task,
+            shard,
+            now,
+            readings,
+            random,
+        )
     }
 }
 
@@ -142,10 +151,11 @@ fn hear(
     now: u64,
     endpoint: Endpoint,
     bytes: &[u8],
+    readings: &Readings,
     reply: &mut Emission,
 ) -> bool
     requires { IsReachable server.old }
-    ensures { Hears now endpoint bytes.entry (delivered (advanced server.old.front now) endpoint bytes.now)
+    ensures { Hears readings.now now endpoint bytes.entry (delivered (advanced server.old.front now) endpoint bytes.now)
         server.old server.new (emission_if result reply.new) }
 {
     match server.hear(now, endpoint, bytes, &mut task.job, reply) {
@@ -157,7 +167,7 @@ fn hear(
         }
         Heard::Job => {
             task.begin();
-            work_off(server, alloc, now, task, reply)
+            work_off(server, alloc, now, task, readings, reply)
         }
     }
 }
@@ -189,28 +199,41 @@ fn advance_if_quiet(server: &mut Server, shard: u8, now: u64) -> bool
     server.advance_if_quiet(shard, now)
 }
 
-fn notify(server: &mut Server, task: &mut Task, shard: u8, now: u64, random: u16) -> Notified
+fn notify(
+    server: &mut Server,
+    task: &mut Task,
+    shard: u8,
+    now: u64,
+    readings: &Readings,
+    random: u16,
+) -> Notified
     requires shard { shard < 8 }
     requires reachable { IsReachable server.old }
-    ensures { AsksForTurn shard now random server.old server.new (is_given result) (notification_in result) }
+    ensures { AsksForTurn readings.now shard now random server.old server.new (is_given result) (notification_in result) }
 {
     match server.due(shard, now) {
         None => Notified::Nobody,
         Some(job) => {
             task.job = job;
             task.begin();
-            tell(server, now, random, task)
+            tell(server, now, readings, random, task)
         }
     }
 }
 
 // Works a turn off, which a shard has just given.
-fn tell(server: &mut Server, now: u64, random: u16, task: &mut Task) -> Notified
+fn tell(
+    server: &mut Server,
+    now: u64,
+    readings: &Readings,
+    random: u16,
+    task: &mut Task,
+) -> Notified
     requires { IsBegun server.old task.old }
-    ensures turns { Turns now random server.old task.old server.new (notification_in result) }
+    ensures turns { Turns readings.now now random server.old task.old server.new (notification_in result) }
     ensures given { is_given result ≡ true }
 {
-    server.take(&NO_READINGS, task);
+    server.take(readings, task);
     server.fresh(now, task);
     let starved = task.needs_id();
     let sent = server.note(now, random, task);
@@ -236,13 +259,14 @@ fn work_off(
     alloc: Global,
     now: u64,
     task: &mut Task,
+    readings: &Readings,
     reply: &mut Emission,
 ) -> bool
     requires { IsBegun server.old task.old }
-    ensures { WorksOff task.old.job.ask now server.old task.old server.new (emission_if result reply.new) }
+    ensures { WorksOff readings.now task.old.job.ask now server.old task.old server.new (emission_if result reply.new) }
 {
     match &task.job.ask {
-        Ask::Run(_) => run(server, now, task, reply),
+        Ask::Run(_) => run(server, now, task, readings, reply),
         Ask::Install(_) => install(server, alloc, now, task, reply),
         Ask::Remove => remove(server, now, task, reply),
         Ask::Describe => describe(server, now, task, reply),
@@ -250,13 +274,19 @@ fn work_off(
     }
 }
 
-fn run(server: &mut Server, now: u64, task: &mut Task, reply: &mut Emission) -> bool
+fn run(
+    server: &mut Server,
+    now: u64,
+    task: &mut Task,
+    readings: &Readings,
+    reply: &mut Emission,
+) -> bool
     requires { IsBegun server.old task.old }
-    ensures { (request : Request) → WorksOff (Ask.Run request) now server.old task.old server.new (emission_if result reply.new) }
+    ensures { (request : Request) → WorksOff readings.now (Ask.Run request) now server.old task.old server.new (emission_if result reply.new) }
 {
     let slot = task.job.origin.slot.number();
     server.peek(task, slot);
-    server.take(&NO_READINGS, task);
+    server.take(readings, task);
     server.commit(now, task);
     server.raise(task);
     server.respond(now, task, reply)
@@ -270,7 +300,7 @@ fn install(
     reply: &mut Emission,
 ) -> bool
     requires { IsBegun server.old task.old }
-    ensures { (image : ArrayVec ℕ) → WorksOff (Ask.Install image) now server.old task.old server.new (emission_if result reply.new) }
+    ensures { (image : ArrayVec ℕ) (readings : List ℕ) → WorksOff readings (Ask.Install image) now server.old task.old server.new (emission_if result reply.new) }
 {
     server.install(alloc, task);
     server.raise(task);
@@ -279,7 +309,7 @@ fn install(
 
 fn remove(server: &mut Server, now: u64, task: &mut Task, reply: &mut Emission) -> bool
     requires { IsBegun server.old task.old }
-    ensures { WorksOff Ask.Remove now server.old task.old server.new (emission_if result reply.new) }
+    ensures { (readings : List ℕ) → WorksOff readings Ask.Remove now server.old task.old server.new (emission_if result reply.new) }
 {
     server.remove(task);
     server.raise(task);
@@ -288,7 +318,7 @@ fn remove(server: &mut Server, now: u64, task: &mut Task, reply: &mut Emission) 
 
 fn describe(server: &mut Server, now: u64, task: &mut Task, reply: &mut Emission) -> bool
     requires { IsBegun server.old task.old }
-    ensures { WorksOff Ask.Describe now server.old task.old server.new (emission_if result reply.new) }
+    ensures { (readings : List ℕ) → WorksOff readings Ask.Describe now server.old task.old server.new (emission_if result reply.new) }
 {
     server.describe(task);
     server.respond(now, task, reply)
@@ -296,7 +326,7 @@ fn describe(server: &mut Server, now: u64, task: &mut Task, reply: &mut Emission
 
 fn discover(server: &mut Server, now: u64, task: &mut Task, reply: &mut Emission) -> bool
     requires { IsBegun server.old task.old }
-    ensures { WorksOff Ask.Discover now server.old task.old server.new (emission_if result reply.new) }
+    ensures { (readings : List ℕ) → WorksOff readings Ask.Discover now server.old task.old server.new (emission_if result reply.new) }
 {
     for slot in 0..SLOTS {
         server.peek(task, slot);

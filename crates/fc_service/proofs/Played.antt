@@ -6,6 +6,7 @@ use Rattle.std.specs.Io.KnownBytes.{Appends}
 use Rattle.std.proofs.lemmas.List.{append-nil}
 use Rattle.coap_msg.specs.declared.types.Emission.{Emission}
 use Rattle.fc_core.specs.History.{Begins}
+use Rattle.fc_help.specs.Region.{no_readings}
 use Rattle.fc_lines.specs.declared.line.Line.{Line}
 use Rattle.fc_lines.specs.Lines.{IsLine}
 use Rattle.fc_server.specs.Serving.{Serves}
@@ -23,8 +24,8 @@ pub starts : (serial id : ℕ) (had before : Option (List ℕ)) (first : ServerS
 starts serial id had before first begins = record { lines = []; first = first; begins = begins; played = refl; read = refl; printed = nothing_appended before }
 
 -- a line that was read, carried out, and settled
-pub line_played : (text : List ℕ) (line : Line) (now : ℕ) (old mid new : ServerState) (a b c : Option (List ℕ)) → IsLine text line → now ≡ moment_of line → ((sent : Option Emission) × IsCarriedOut line old sent mid × Appends a b (output_of sent)) → ((steps : List SettlingStep) × AreSteps now 0 steps mid new × Appends b c (printed_steps steps)) → (p : PlayedLine) × (p.text ≡ text) × IsPlayed p old new × Appends a c (output_by p)
-line_played text line now old mid new a b c says at w x = (record { text = text; line = line; sent = w.0; steps = x.0 }, refl, record { says = says; answered = mid; carried_out = w.1; settled = subst (λ (n : ℕ). AreSteps n 0 x.0 mid new) at x.1 }, appended a b c (output_of w.0) (printed_steps x.0) w.2 x.2)
+pub line_played : (text : List ℕ) (line : Line) (now : ℕ) (old mid new : ServerState) (a b c : Option (List ℕ)) → IsLine text line → now ≡ moment_of line → ((sent : Option Emission) × IsCarriedOut line old sent mid × Appends a b (output_of sent)) → ((steps : List SettlingStep) × AreSteps now 0 no_readings steps mid new × Appends b c (printed_steps steps)) → (p : PlayedLine) × (p.text ≡ text) × IsPlayed p old new × Appends a c (output_by p)
+line_played text line now old mid new a b c says at w x = (record { text = text; line = line; sent = w.0; steps = x.0 }, refl, record { says = says; answered = mid; carried_out = w.1; settled = subst (λ (n : ℕ). AreSteps n 0 no_readings x.0 mid new) at x.1 }, appended a b c (output_of w.0) (printed_steps x.0) w.2 x.2)
 
 -- what a reader gives next
 pub next_text : {X E : Type 0} (bytes : X → List ℕ) (byte : ℕ) (had left : Option (List ℕ)) {r : Option (Result X E)} (x : X) {text : List ℕ} → text ≡ bytes x → byte ≡ 10 → r ≡ Some (Ok x) → YieldsKnownPiece bytes (first_piece byte) byte had r left → IsNextText text had left

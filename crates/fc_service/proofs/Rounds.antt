@@ -6,6 +6,7 @@ use Rattle.std.specs.Borrow.{Bor}
 use Rattle.coap_msg.specs.declared.types.Emission.{Emission}
 use Rattle.coap_msg.specs.declared.types.Endpoint.{Endpoint}
 use Rattle.fc_core.specs.History.{Begins}
+use Rattle.fc_help.specs.Region.{no_readings}
 use Rattle.fc_core.specs.Exchanges.{advanced}
 use Rattle.fc_core.specs.Receiving.{delivered, emission_if}
 use Rattle.fc_server.specs.Serving.{Hears, Passes, Serves}
@@ -30,31 +31,31 @@ pub counts_none : (r : Replies) → CountsMore 0 r r
 counts_none r = omega arith
 
 -- steps whose emissions are counted
-abbrev pub Settled : ℕ → ℕ → ServerState → ServerState → Replies → Replies → Type 0
-Settled now random old new a b = (steps : List SettlingStep) × AreSteps now random steps old new × CountsMore (length (sent_in_steps steps)) a b
+abbrev pub Settled : ℕ → ℕ → List ℕ → ServerState → ServerState → Replies → Replies → Type 0
+Settled now random readings old new a b = (steps : List SettlingStep) × AreSteps now random readings steps old new × CountsMore (length (sent_in_steps steps)) a b
 
-settled_more : (now random : ℕ) (old mid new : ServerState) (a b c : Replies) (xs ys : List SettlingStep) (n : ℕ) → AreSteps now random ys old mid → CountsMore (length (sent_in_steps ys)) a b → AreSteps now random xs mid new → length (sent_in_steps xs) ≡ n → CountsMore n b c → Settled now random old new a c
-settled_more now random old mid new a b c xs ys n w v x e more =
+settled_more : (now random : ℕ) (readings : List ℕ) (old mid new : ServerState) (a b c : Replies) (xs ys : List SettlingStep) (n : ℕ) → AreSteps now random readings ys old mid → CountsMore (length (sent_in_steps ys)) a b → AreSteps now random readings xs mid new → length (sent_in_steps xs) ≡ n → CountsMore n b c → Settled now random readings old new a c
+settled_more now random readings old mid new a b c xs ys n w v x e more =
     let all : length (sent_in_steps (xs ++ ys)) ≡ length (sent_in_steps ys) + n = ap (λ (l : List Emission). length l) (sent_joined xs ys) ∙ (length-append (sent_in_steps ys) (sent_in_steps xs) ∙ ap (λ (k : ℕ). length (sent_in_steps ys) + k) e) in
-    (xs ++ ys, joined now random old mid new xs ys x w, subst (λ (k : ℕ). CountsMore k a c) (sym all) (counts_then (length (sent_in_steps ys)) n a b c v more))
+    (xs ++ ys, joined now random readings old mid new xs ys x w, subst (λ (k : ℕ). CountsMore k a c) (sym all) (counts_then (length (sent_in_steps ys)) n a b c v more))
 
 -- after steps that sent one emission more, which was counted
-pub settles_one : (now random : ℕ) (old mid new : ServerState) (a b c : Replies) (e : Emission) (out : Bool) → Settled now random old mid a b → ((steps : List SettlingStep) × AreSteps now random steps mid new × (sent_in_steps steps ≡ e ∷ [])) → c ≡ counted (Some out) b → Settled now random old new a c
-settles_one now random old mid new a b c e out w x is = settled_more now random old mid new a b c x.0 w.0 1 w.1 w.2 x.1 (ap (λ (l : List Emission). length l) x.2) (subst (λ (r : Replies). CountsMore 1 b r) (sym is) (counts_one (Some out) e b))
+pub settles_one : (now random : ℕ) (readings : List ℕ) (old mid new : ServerState) (a b c : Replies) (e : Emission) (out : Bool) → Settled now random readings old mid a b → ((steps : List SettlingStep) × AreSteps now random readings steps mid new × (sent_in_steps steps ≡ e ∷ [])) → c ≡ counted (Some out) b → Settled now random readings old new a c
+settles_one now random readings old mid new a b c e out w x is = settled_more now random readings old mid new a b c x.0 w.0 1 w.1 w.2 x.1 (ap (λ (l : List Emission). length l) x.2) (subst (λ (r : Replies). CountsMore 1 b r) (sym is) (counts_one (Some out) e b))
 
 -- and after those that sent nothing
-pub settles_nothing : (now random : ℕ) (old mid new : ServerState) (a b : Replies) → Settled now random old mid a b → ((steps : List SettlingStep) × AreSteps now random steps mid new × (sent_in_steps steps ≡ [])) → Settled now random old new a b
-settles_nothing now random old mid new a b w x = settled_more now random old mid new a b b x.0 w.0 0 w.1 w.2 x.1 (ap (λ (l : List Emission). length l) x.2) (counts_none b)
+pub settles_nothing : (now random : ℕ) (readings : List ℕ) (old mid new : ServerState) (a b : Replies) → Settled now random readings old mid a b → ((steps : List SettlingStep) × AreSteps now random readings steps mid new × (sent_in_steps steps ≡ [])) → Settled now random readings old new a b
+settles_nothing now random readings old mid new a b w x = settled_more now random readings old mid new a b b x.0 w.0 0 w.1 w.2 x.1 (ap (λ (l : List Emission). length l) x.2) (counts_none b)
 
-pub no_steps : (now random : ℕ) (s : ServerState) (r : Replies) → Settled now random s s r r
-no_steps now random s r = ([], refl, counts_none r)
+pub no_steps : (now random : ℕ) (readings : List ℕ) (s : ServerState) (r : Replies) → Settled now random readings s s r r
+no_steps now random readings s r = ([], refl, counts_none r)
 
 -- ---- rounds
 
 pub no_rounds : (serial id : ℕ) (first : ServerState) (r : Replies) → Serves (Begins serial id) first [] → r ≡ no_replies → HaveServed serial id first r
 no_rounds serial id first r begins none = record { rounds = []; first = first; begins = begins; served = refl; counted = ap (λ (x : Replies). saturated (x.sent + x.failed)) none }
 
-pub one_round : (serial id now : ℕ) (received : Reception) (sent : Option Emission) (old mid new : ServerState) (a b c : Replies) → HaveServed serial id old a → IsReceived now received old sent mid → CountsMore (length (option_to_list sent)) a b → Settled now (now % 65536) mid new b c → HaveServed serial id new c
+pub one_round : (serial id now : ℕ) (received : Reception) (sent : Option Emission) (old mid new : ServerState) (a b c : Replies) → HaveServed serial id old a → IsReceived now received old sent mid → CountsMore (length (option_to_list sent)) a b → Settled now (now % 65536) no_readings mid new b c → HaveServed serial id new c
 one_round serial id now received sent old mid new a b c h is v x = record {
   rounds = record { received = received; now = now; sent = sent; steps = x.0 } ∷ h.rounds;
   first = h.first;
@@ -64,14 +65,14 @@ one_round serial id now received sent old mid new a b c h is v x = record {
 }
 
 -- one round more, of a datagram: its reply, if it has one, is counted
-pub heard_round : (serial id now : ℕ) (from : Endpoint) (bytes : Bor (List ℕ)) (out : Option Bool) (reply : Emission) (old heard mid new : ServerState) (a b c : Replies) → HaveServed serial id old a → Hears now from bytes (delivered (advanced old.front now) from bytes.now) old heard (emission_if (is_some out) reply) → mid ≡ heard → b ≡ counted out a → Settled now (now % 65536) mid new b c → HaveServed serial id new c
+pub heard_round : (serial id now : ℕ) (from : Endpoint) (bytes : Bor (List ℕ)) (out : Option Bool) (reply : Emission) (old heard mid new : ServerState) (a b c : Replies) → HaveServed serial id old a → Hears no_readings now from bytes (delivered (advanced old.front now) from bytes.now) old heard (emission_if (is_some out) reply) → mid ≡ heard → b ≡ counted out a → Settled now (now % 65536) no_readings mid new b c → HaveServed serial id new c
 heard_round serial id now from bytes out reply old heard mid new a b c h is same counts x =
     one_round serial id now (Datagram from bytes.now) (emission_if (is_some out) reply) old mid new a b c h
-    (record { borrow = bytes; bytes_are = refl; heard = subst (λ (s : ServerState). Hears now from bytes (delivered (advanced old.front now) from bytes.now) old s (emission_if (is_some out) reply)) (sym same) is })
+    (record { borrow = bytes; bytes_are = refl; heard = subst (λ (s : ServerState). Hears no_readings now from bytes (delivered (advanced old.front now) from bytes.now) old s (emission_if (is_some out) reply)) (sym same) is })
     (subst (λ (r : Replies). CountsMore (length (option_to_list (emission_if (is_some out) reply))) a r) (sym counts) (counts_one out reply a)) x
 
 -- and of a moment
-pub passed_round : (serial id now : ℕ) (old passed mid new : ServerState) (a b c : Replies) → HaveServed serial id old a → Passes now old passed → mid ≡ passed → b ≡ a → Settled now (now % 65536) mid new b c → HaveServed serial id new c
+pub passed_round : (serial id now : ℕ) (old passed mid new : ServerState) (a b c : Replies) → HaveServed serial id old a → Passes now old passed → mid ≡ passed → b ≡ a → Settled now (now % 65536) no_readings mid new b c → HaveServed serial id new c
 passed_round serial id now old passed mid new a b c h is same kept x =
     one_round serial id now Nothing None old mid new a b c h
     (record { nothing = refl; passed = subst (λ (s : ServerState). Passes now old s) (sym same) is })

@@ -8,6 +8,7 @@ use Rattle.coap_msg.specs.declared.types.Emission.{Emission}
 use Rattle.fc_core.specs.Exchanges.{advanced}
 use Rattle.fc_core.specs.History.{Begins}
 use Rattle.fc_core.specs.Receiving.{delivered}
+use Rattle.fc_help.specs.Region.{no_readings}
 use Rattle.fc_server.specs.Serving.{Hears, Passes, Serves}
 use Rattle.fc_server.specs.States.{ServerState}
 use Rattle.fc_lines.specs.declared.line.Line.{Line}
@@ -25,7 +26,7 @@ output_of (Some emission) = printed emission
 pub record IsHeard (now : ℕ) (from : Endpoint) (bytes : List ℕ) (old : ServerState) (sent : Option Emission) (new : ServerState) : Type 0 where
   pub borrow : Bor (List ℕ)
   pub bytes_are : borrow.now ≡ bytes
-  pub heard : Hears now from borrow (delivered (advanced old.front now) from bytes) old new sent
+  pub heard : Hears no_readings now from borrow (delivered (advanced old.front now) from bytes) old new sent
 
 -- time passed, whatever the history so far, and nothing was sent
 pub record IsPassed (now : ℕ) (old : ServerState) (sent : Option Emission) (new : ServerState) : Type 0 where
@@ -59,7 +60,7 @@ pub record IsPlayed (p : PlayedLine) (old new : ServerState) : Type 0 where
   pub says : IsLine p.text p.line
   pub answered : ServerState
   pub carried_out : IsCarriedOut p.line old p.sent answered
-  pub settled : AreSteps (moment_of p.line) 0 p.steps answered new
+  pub settled : AreSteps (moment_of p.line) 0 no_readings p.steps answered new
 
 -- lines that were played one after the other, the newest first
 abbrev pub ArePlayed : List PlayedLine → ServerState → ServerState → Type 0

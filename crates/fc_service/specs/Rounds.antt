@@ -4,6 +4,7 @@ use Rattle.std.specs.Option.{option_to_list}
 use Rattle.coap_msg.specs.declared.types.Emission.{Emission}
 use Rattle.coap_msg.specs.declared.types.Endpoint.{Endpoint}
 use Rattle.fc_core.specs.History.{Begins}
+use Rattle.fc_help.specs.Region.{no_readings}
 use Rattle.fc_server.specs.Serving.{Serves}
 use Rattle.fc_server.specs.States.{ServerState}
 use Rattle.fc_workers.specs.Answers.{saturated}
@@ -31,7 +32,7 @@ IsReceived now Nothing old sent new = IsPassed now old sent new
 pub record IsRound (r : Round) (old new : ServerState) : Type 0 where
   pub answered : ServerState
   pub carried_out : IsReceived r.now r.received old r.sent answered
-  pub settled : AreSteps r.now (r.now % 65536) r.steps answered new
+  pub settled : AreSteps r.now (r.now % 65536) no_readings r.steps answered new
 
 -- rounds one after the other, the newest first
 abbrev pub AreRounds : List Round → ServerState → ServerState → Type 0

@@ -15,15 +15,15 @@ abbrev pub sent_in_step : SettlingStep → Option Emission
 sent_in_step (Resent shard sent) = sent
 sent_in_step (Notified shard given sent) = sent
 
--- at a moment, with this random word
-abbrev pub IsStep : ℕ → ℕ → SettlingStep → ServerState → ServerState → Type 0
-IsStep now random (Resent shard sent) old new = TicksShard shard now old new sent
-IsStep now random (Notified shard given sent) old new = AsksForTurn shard now random old new given sent
+-- at a moment, with this random word and these readings
+abbrev pub IsStep : ℕ → ℕ → List ℕ → SettlingStep → ServerState → ServerState → Type 0
+IsStep now random readings (Resent shard sent) old new = TicksShard shard now old new sent
+IsStep now random readings (Notified shard given sent) old new = AsksForTurn readings shard now random old new given sent
 
 -- steps that were taken one after the other, the newest first
-abbrev pub AreSteps : ℕ → ℕ → List SettlingStep → ServerState → ServerState → Type 0
-AreSteps now random [] old new = new ≡ old
-AreSteps now random (step ∷ steps) old new = (mid : ServerState) × IsStep now random step mid new × AreSteps now random steps old mid
+abbrev pub AreSteps : ℕ → ℕ → List ℕ → List SettlingStep → ServerState → ServerState → Type 0
+AreSteps now random readings [] old new = new ≡ old
+AreSteps now random readings (step ∷ steps) old new = (mid : ServerState) × IsStep now random readings step mid new × AreSteps now random readings steps old mid
 
 -- what they sent, the oldest first
 abbrev pub sent_in_steps : List SettlingStep → List Emission

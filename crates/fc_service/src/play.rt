@@ -4,6 +4,7 @@ ghost use Rattle.std.specs.Io.KnownBytes.{Appends};
 ghost use Rattle.coap_msg.specs.declared.types.Emission.{Emission as Sent};
 ghost use Rattle.fc_registry.specs.Slots.{last_serial};
 ghost use Rattle.fc_core.specs.Receiving.{emission_if};
+ghost use Rattle.fc_help.specs.Region.{no_readings};
 ghost use Rattle.fc_cli.specs.declared.status.Status.TheVariants.{Done};
 ghost use Rattle.fc_service.specs.Playing.{output_by, output_of, moment_of, IsCarriedOut, IsPlayed, IsPlayedOut, PlayedLine};
 ghost use Rattle.fc_service.specs.Settling.{AreSteps, SettlingStep, printed_steps};
@@ -13,6 +14,7 @@ use coap_msg::Emission;
 use fc_cli::status::{Status, tell};
 use fc_cli::stop::Stop;
 use fc_core::front::blank_emission;
+use fc_help::NO_READINGS;
 use fc_lines::emission::{endpoint, print};
 use fc_lines::line::{Line, LineError, parse};
 use fc_server::Engine;
@@ -105,7 +107,7 @@ fn carry_out<W: Write>(
             Ok(())
         }
         Line::Deliver { now, peer, bytes } => {
-            let sent = engine.hear(alloc, *now, endpoint(*peer), bytes, reply);
+            let sent = engine.hear(alloc, *now, endpoint(*peer), bytes, &NO_READINGS, reply);
             print_if(out, sent, reply)
         }
     }
@@ -122,12 +124,12 @@ pub(crate) fn moment(line: &Line) -> u64
 
 // Prints what is sent again, and what observers are told, at a moment in milliseconds.
 fn settle<W: Write>(engine: &mut Engine, now: u64, out: &mut W) -> io::Result<()>
-    ensures { (steps : List SettlingStep) × AreSteps now 0 steps engine.old engine.new
+    ensures { (steps : List SettlingStep) × AreSteps now 0 no_readings steps engine.old engine.new
         × OnOk result (Appends (W.contents out.old) (W.contents out.new) (printed_steps steps)) }
 {
     let mut settling = Settling::new();
     for _ in 0..STEPS {
-        match settling.next(engine, now, 0) {
+        match settling.next(engine, now, &NO_READINGS, 0) {
             Some(emission) => print(out, &emission)?,
             None => break,
         }

@@ -3,6 +3,7 @@ ghost use Rattle.std.specs.Prelude.{◌≡◌, ◌<◌, ◌≤◌, ◌%◌, ◌�
 ghost use Rattle.fc_core.specs.Exchanges.{advanced};
 ghost use Rattle.fc_core.specs.Receiving.{delivered, emission_if};
 ghost use Rattle.fc_registry.specs.Slots.{last_serial};
+ghost use Rattle.fc_help.specs.Region.{no_readings};
 ghost use Rattle.fc_server.specs.Serving.{Hears};
 ghost use Rattle.fc_service.specs.Rounds.{CountsMore, HasServed};
 ghost use Rattle.fc_service.specs.Settling.{AreSteps, SettlingStep, sent_in_steps};
@@ -19,6 +20,7 @@ use fc_cli::clock::clock_id;
 use fc_cli::status::{Status, tell};
 use fc_core::Heard;
 use fc_core::front::blank_emission;
+use fc_help::NO_READINGS;
 use fc_server::engine::Notified;
 use fc_server::{Begin, Engine};
 use fc_workers::{Handover, Moments};
@@ -283,13 +285,13 @@ impl<'a, S: Source, K: Sink, M: Moments> Receiver<'a, S, K, M> {
 
 // Sends what is late again, and notifies the observers that are due, at a moment in milliseconds, whose low bits are the random word.
 fn settle<K: Sink>(engine: &mut Engine, now: u64, sink: &K, replies: &mut Replies)
-    ensures { (steps : List SettlingStep) × AreSteps now (now % 65536) steps engine.old engine.new
+    ensures { (steps : List SettlingStep) × AreSteps now (now % 65536) no_readings steps engine.old engine.new
         × CountsMore (length (sent_in_steps steps)) replies.old replies.new }
 {
     let random = (now % 0x1_0000) as u16;
     let mut settling = Settling::new();
     for _ in 0..STEPS {
-        match settling.next(engine, now, random) {
+        match settling.next(engine, now, &NO_READINGS, random) {
             Some(emission) => replies.count_if_any(Some(sink.send(&emission))),
             None => return,
         }
@@ -306,10 +308,10 @@ fn answer<K: Sink>(
     reply: &mut Emission,
     sink: &K,
 ) -> Option<bool>
-    ensures { Hears now from bytes.entry (delivered (advanced engine.old.front now) from bytes.now)
+    ensures { Hears no_readings now from bytes.entry (delivered (advanced engine.old.front now) from bytes.now)
         engine.old engine.new (emission_if (is_some result) reply.new) }
 {
-    if engine.hear(alloc, now, from, bytes, reply) {
+    if engine.hear(alloc, now, from, bytes, &NO_READINGS, reply) {
         Some(sink.send(reply))
     } else {
         None

@@ -7,6 +7,7 @@ ghost use Rattle.std.specs.Option.{option_to_list};
 ghost use Rattle.fc_service.specs.Settling.{AreSteps, IsStep, SettlingStep, sent_in_step, sent_in_steps};
 
 use coap_msg::Emission;
+use fc_help::Readings;
 use fc_observe::Ticked;
 use fc_registry::SHARDS;
 use fc_server::Engine;
@@ -34,21 +35,27 @@ impl Settling {
     }
 
     /// The next that is to be sent at a moment in milliseconds, shard after shard; none where nothing is left, or no message id is free.
-    /// The random word says how long a confirmable notification is waited for.
-    pub(crate) fn next(&mut self, engine: &mut Engine, now: u64, random: u16) -> Option<Emission>
-        ensures { (steps : List SettlingStep) × AreSteps now random steps engine.old engine.new
+    /// A taking is handed these readings. The random word says how long a confirmable notification is waited for.
+    pub(crate) fn next(
+        &mut self,
+        engine: &mut Engine,
+        now: u64,
+        readings: &Readings,
+        random: u16,
+    ) -> Option<Emission>
+        ensures { (steps : List SettlingStep) × AreSteps now random readings.now steps engine.old engine.new
             × (sent_in_steps steps ≡ option_to_list result) }
     {
         self.skip_quiet(engine, now);
         if self.shard >= SHARDS {
             return None;
         }
-        self.next_sent(engine, now, random)
+        self.next_sent(engine, now, readings, random)
     }
 
     // Passes the shards that have nothing to do at a moment, up to one that has. Most have nothing, and no room is made for what they would send.
     fn skip_quiet(&mut self, engine: &mut Engine, now: u64)
-        ensures { (random : ℕ) → (steps : List SettlingStep) × AreSteps now random steps engine.old engine.new × (sent_in_steps steps ≡ []) }
+        ensures { (random : ℕ) (readings : List ℕ) → (steps : List SettlingStep) × AreSteps now random readings steps engine.old engine.new × (sent_in_steps steps ≡ []) }
     {
         'quiet: while self.shard < SHARDS
             && !self.notifies
@@ -60,15 +67,21 @@ impl Settling {
 
     // The next that is to be sent, as `next` finds it, shard after shard.
     #[inline(never)]
-    fn next_sent(&mut self, engine: &mut Engine, now: u64, random: u16) -> Option<Emission>
-        ensures { (steps : List SettlingStep) × AreSteps now random steps engine.old engine.new
+    fn next_sent(
+        &mut self,
+        engine: &mut Engine,
+        now: u64,
+        readings: &Readings,
+        random: u16,
+    ) -> Option<Emission>
+        ensures { (steps : List SettlingStep) × AreSteps now random readings.now steps engine.old engine.new
             × (sent_in_steps steps ≡ option_to_list result) }
     {
         for _ in 0..STEPS {
             if self.shard >= SHARDS {
                 return None;
             }
-            match self.step(engine, now, random) {
+            match self.step(engine, now, readings, random) {
                 Some(emission) => return Some(emission),
                 None => {}
             }
@@ -77,12 +90,18 @@ impl Settling {
     }
 
     // Asks the shard that it is at.
-    fn step(&mut self, engine: &mut Engine, now: u64, random: u16) -> Option<Emission>
+    fn step(
+        &mut self,
+        engine: &mut Engine,
+        now: u64,
+        readings: &Readings,
+        random: u16,
+    ) -> Option<Emission>
         requires { self.old.shard < 8 }
-        ensures { (step : SettlingStep) × IsStep now random step engine.old engine.new × (sent_in_step step ≡ result) }
+        ensures { (step : SettlingStep) × IsStep now random readings.now step engine.old engine.new × (sent_in_step step ≡ result) }
     {
         if self.notifies {
-            return self.notify(engine, now, random);
+            return self.notify(engine, now, readings, random);
         }
         if engine.advance_if_quiet(self.shard, now) {
             self.pass();
@@ -101,11 +120,17 @@ impl Settling {
     }
 
     // Has the first observer of its shard that is due notified, or goes on to the next shard; where no message id is free, to the end.
-    fn notify(&mut self, engine: &mut Engine, now: u64, random: u16) -> Option<Emission>
+    fn notify(
+        &mut self,
+        engine: &mut Engine,
+        now: u64,
+        readings: &Readings,
+        random: u16,
+    ) -> Option<Emission>
         requires { self.old.shard < 8 }
-        ensures { (given : Bool) × AsksForTurn self.old.shard now random engine.old engine.new given result }
+        ensures { (given : Bool) × AsksForTurn readings.now self.old.shard now random engine.old engine.new given result }
     {
-        let notified = engine.notify(self.shard, now, random);
+        let notified = engine.notify(self.shard, now, readings, random);
         self.notified(notified)
     }
 

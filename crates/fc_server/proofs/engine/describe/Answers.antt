@@ -11,6 +11,6 @@ respond-requires c =
     at_work rest (described_on rest c.requires.serves (c.describe.ensures (length rest)))
 
 pub returns : goal.returns
-returns c = λ h rest v.
+returns c = λ readings h rest v.
     let described = described_on rest v (c.describe.ensures (length rest)) in
     record { memory = true; tasks = rest ++ c.respond.new.task ∷ []; serves = answered_on rest described c.args.now _ c.respond.ensures }

@@ -27,14 +27,14 @@ returns-in-Nothing c =
     let e = c.hear.ensures in
     let job = c.hear.new.job in
     let is = ap (λ (r : Hearing). heard r job c.hear.new.reply) c.in-Nothing.is in
-    heard_on c.args.now c.args.endpoint c.args.bytes c.args.server.now c.hear.new.self (heard c.hear.result job c.hear.new.reply) None (subst IsJobless (sym is) tt) (sym (ap sent_by is)) (sym e.delivered) e.front e.shards e.words
+    heard_on c.args.readings.now c.args.now c.args.endpoint c.args.bytes c.args.server.now c.hear.new.self (heard c.hear.result job c.hear.new.reply) None (subst IsJobless (sym is) tt) (sym (ap sent_by is)) (sym e.delivered) e.front e.shards e.words
 
 pub returns-in-Reply : goal.returns-in-Reply
 returns-in-Reply c =
     let e = c.hear.ensures in
     let job = c.hear.new.job in
     let is = ap (λ (r : Hearing). heard r job c.hear.new.reply) c.in-Reply.is in
-    heard_on c.args.now c.args.endpoint c.args.bytes c.args.server.now c.hear.new.self (heard c.hear.result job c.hear.new.reply) _ (subst IsJobless (sym is) tt) (sym (ap sent_by is)) (sym e.delivered) e.front e.shards e.words
+    heard_on c.args.readings.now c.args.now c.args.endpoint c.args.bytes c.args.server.now c.hear.new.self (heard c.hear.result job c.hear.new.reply) _ (subst IsJobless (sym is) tt) (sym (ap sent_by is)) (sym e.delivered) e.front e.shards e.words
 
 pub returns-in-Job : goal.returns-in-Job
 returns-in-Job c = λ h tasks v.
@@ -44,7 +44,7 @@ returns-in-Job c = λ h tasks v.
     let event = Deliver c.args.now c.args.endpoint c.args.bytes in
     let serves = delivered_on c.args.now c.args.endpoint c.args.bytes c.args.server.now c.hear.new.self (Brings job) is e.front e.shards e.words h tasks v in
     let worked = c.work_off.ensures (next h event None) tasks (subst (λ (t : Task). Serves (next h event None) c.hear.new.self (tasks ++ t ∷ [])) (sym c.begin.ensures) serves) in
-    subst (λ (y : Delivered). Heard h (length tasks) c.args.now c.args.endpoint c.args.bytes y c.work_off.new.server (emission_if c.work_off.result c.work_off.new.reply)) (sym is) (subst (λ (t : Task). Worked (next h event None) (length tasks) t.job.ask t.job.origin.slot c.args.now c.work_off.new.server (emission_if c.work_off.result c.work_off.new.reply)) c.begin.ensures worked)
+    subst (λ (y : Delivered). Heard c.args.readings.now h (length tasks) c.args.now c.args.endpoint c.args.bytes y c.work_off.new.server (emission_if c.work_off.result c.work_off.new.reply)) (sym is) (subst (λ (t : Task). Worked c.args.readings.now (next h event None) (length tasks) t.job.ask t.job.origin.slot c.args.now c.work_off.new.server (emission_if c.work_off.result c.work_off.new.reply)) c.begin.ensures worked)
 
 pub signal-requires : goal.signal-requires
 signal-requires c =
@@ -62,5 +62,5 @@ returns-in-Signal c = λ h tasks v.
     let is = sym e.delivered ∙ ap (λ (r : Hearing). heard r c.hear.new.job c.hear.new.reply) c.in-Signal.is in
     let event = Deliver c.args.now c.args.endpoint c.args.bytes in
     let serves = delivered_on c.args.now c.args.endpoint c.args.bytes c.args.server.now c.hear.new.self (Signals c.in-Signal.mid c.in-Signal.reset) is e.front e.shards e.words h tasks v in
-    subst (λ (y : Delivered). Heard h (length tasks) c.args.now c.args.endpoint c.args.bytes y c.signal.new.server None) (sym is)
+    subst (λ (y : Delivered). Heard c.args.readings.now h (length tasks) c.args.now c.args.endpoint c.args.bytes y c.signal.new.server None) (sym is)
     (refl, record { tasks = tasks ++ []; serves = c.signal.ensures (next h event None) (tasks ++ []) serves })

@@ -38,6 +38,6 @@ returns-in-Some c =
       asked = λ h tasks v.
           let brought = asked_on c.args.shard c.requires.shard c.args.server.now c.due.new.self e.front e.words h tasks v c.args.now (Some c.in-Some.job) e.shards (sym c.in-Some.is ∙ e.job) in
           let began = subst (λ (t : Task). Serves (next h (Due c.args.shard c.args.now) None) c.due.new.self (tasks ++ t ∷ [])) (sym c.begin.ensures) brought in
-          subst (λ (b : Bool). TurnGiven b (next h (Due c.args.shard c.args.now) None) (length tasks) c.args.now c.args.random c.tell.new.server (notification_in c.tell.result)) (sym c.tell.ensures.given)
+          subst (λ (b : Bool). TurnGiven b c.args.readings.now (next h (Due c.args.shard c.args.now) None) (length tasks) c.args.now c.args.random c.tell.new.server (notification_in c.tell.result)) (sym c.tell.ensures.given)
           (c.tell.ensures.turns (next h (Due c.args.shard c.args.now) None) tasks began);
     }

@@ -17,7 +17,7 @@ respond-requires c =
     at_work rest (raised_on rest removed (c.raise.ensures (length rest)))
 
 pub returns : goal.returns
-returns c = λ h rest v.
+returns c = λ readings h rest v.
     let removed = removed_on rest v (c.remove.ensures (length rest)) in
     let raised = raised_on rest removed (c.raise.ensures (length rest)) in
     record { memory = true; tasks = rest ++ c.respond.new.task ∷ []; serves = answered_on rest raised c.args.now _ c.respond.ensures }

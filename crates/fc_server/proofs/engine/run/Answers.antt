@@ -45,5 +45,5 @@ returns c = λ request h rest v.
     record {
       memory = c.take.result;
       tasks = all;
-      serves = subst (λ (n : ℕ). Serves (worked (Run request) n (length rest) c.take.result c.args.now (emission_if c.respond.result c.respond.new.reply) h) c.respond.new.self all) c.number-slot.ensures.number done;
+      serves = subst (λ (n : ℕ). Serves (worked c.args.readings.now (Run request) n (length rest) c.take.result c.args.now (emission_if c.respond.result c.respond.new.reply) h) c.respond.new.self all) c.number-slot.ensures.number done;
     }

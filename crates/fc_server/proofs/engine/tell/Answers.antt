@@ -28,4 +28,4 @@ returns-clause-turns c = λ h rest v.
     let drew = drew_on rest took c.args.now c.fresh.ensures in
     let noted = noted_on rest drew c.args.now c.args.random c.note-sent.result (c.note-sent.ensures (length rest)) in
     let up = given_up_on rest noted c.args.now (c.give_up.ensures (length rest)) in
-    subst (λ (out : Option Emission). Turned h (length rest) c.args.now c.args.random c.give_up.new.self out) (sym c.told.ensures.sent) (record { memory = c.take.result; tasks = rest ++ c.give_up.new.task ∷ []; serves = up })
+    subst (λ (out : Option Emission). Turned c.args.readings.now h (length rest) c.args.now c.args.random c.give_up.new.self out) (sym c.told.ensures.sent) (record { memory = c.take.result; tasks = rest ++ c.give_up.new.task ∷ []; serves = up })
