@@ -7,11 +7,11 @@ use Rattle.std.proofs.lemmas.Str.Parse.{digit_from_value}
 use Rattle.std.specs.Str.{IsUtf8}
 use Rattle.std.proofs.lemmas.Str.{IsUtf8-from_ascii}
 use Rattle.std.proofs.lemmas.Fmt.{IsAscii-from_digits}
-use Rattle.hex.specs.Hex.{decode_of}
-use Rattle.fc_lines.specs.Fields.{space, dash, IsUnspaced, IsNumber, IsNoNumber, AreFields, HasNoFields}
-use Rattle.fc_lines.specs.Lines.{IsDelivery, IsTick, IsLine, IsNoLine}
+use Rattle.hex.specs.Hex.{decode_of, decode_sized}
+use Rattle.fc_lines.specs.Fields.{space, dash, device, IsUnspaced, IsNumber, IsNoNumber, AreFields, HasNoFields}
+use Rattle.fc_lines.specs.Lines.{IsDelivery, IsDevice, IsTick, IsLine, IsNoLine}
 use Rattle.fc_lines.specs.declared.line.Line.{Line}
-use Rattle.fc_lines.specs.declared.line.Line.TheVariants.{Deliver, Tick}
+use Rattle.fc_lines.specs.declared.line.Line.TheVariants.{Deliver, Device, Tick}
 
 -- the same text, cut at its first space
 pub record AreSame (a b a' b' : List ℕ) : Type 0 where
@@ -67,11 +67,21 @@ number_unspaced text n h = digits_unspaced text h.digits.1
 dash_unspaced : IsUnspaced dash
 dash_unspaced = All-cons (λ y. y ≢ space) 45 [] (λ e. absurd (omega arith)) (All-nil (λ y. y ≢ space))
 
+device_unspaced : IsUnspaced device
+device_unspaced = All-cons (λ y. y ≢ space) 100 (101 ∷ 118 ∷ []) (λ e. absurd (omega arith))
+    (All-cons (λ y. y ≢ space) 101 (118 ∷ []) (λ e. absurd (omega arith)) (All-cons (λ y. y ≢ space) 118 [] (λ e. absurd (omega arith)) (All-nil (λ y. y ≢ space))))
+
+device_no_number : (n : ℕ) → IsNumber device n → ⊥
+device_no_number n h = let d = h.digits.1.0 in absurd (omega (arith, d))
+
 delivery_fields : (text : List ℕ) (now peer : ℕ) (bytes : List ℕ) (d : IsDelivery text now peer bytes) → AreFields text d.first d.second d.third
 delivery_fields text now peer bytes d = record { text_is = d.text_is; first_unspaced = number_unspaced _ _ d.now_is; second_unspaced = number_unspaced _ _ d.peer_is }
 
 tick_fields : (text : List ℕ) (now : ℕ) (t : IsTick text now) → AreFields text t.first dash dash
 tick_fields text now t = record { text_is = t.text_is; first_unspaced = number_unspaced _ _ t.now_is; second_unspaced = dash_unspaced }
+
+device_fields : (text : List ℕ) (now : ℕ) (readings : List ℕ) (d : IsDevice text now readings) → AreFields text d.first device d.third
+device_fields text now readings d = record { text_is = d.text_is; first_unspaced = number_unspaced _ _ d.now_is; second_unspaced = device_unspaced }
 
 -- no fields, no line
 pub no_fields : (text : List ℕ) → HasNoFields text → IsNoLine text
@@ -80,6 +90,7 @@ no_fields text h = record { none = go }
     go : (line : Line) → IsLine text line → ⊥
     go (Deliver now peer bytes) d = h.none _ _ _ (delivery_fields _ _ _ _ d)
     go (Tick now) t = h.none _ _ _ (tick_fields _ _ t)
+    go (Device now readings) d = h.none _ _ _ (device_fields _ _ _ d)
 
 -- no moment, no line
 pub no_moment : (text a b c : List ℕ) → AreFields text a b c → IsNoNumber a (2 ^ 64) → IsNoLine text
@@ -90,10 +101,12 @@ no_moment text a b c f h = record { none = go }
         h.none now d.now_fits (subst (λ x. IsNumber x now) (fields_fit text a b c _ _ _ f (delivery_fields _ _ _ _ d)).first_is d.now_is)
     go (Tick now) t =
         h.none now t.now_fits (subst (λ x. IsNumber x now) (fields_fit text a b c _ _ _ f (tick_fields _ _ t)).first_is t.now_is)
+    go (Device now readings) d =
+        h.none now d.now_fits (subst (λ x. IsNumber x now) (fields_fit text a b c _ _ _ f (device_fields _ _ _ d)).first_is d.now_is)
 
--- where they aren't two dashes: no peer or no bytes, no line
-pub no_peer : (text a b c : List ℕ) → AreFields text a b c → ((b ≡ dash) × (c ≡ dash) → ⊥) → IsNoNumber b 256 → IsNoLine text
-no_peer text a b c f other h = record { none = go }
+-- where they aren't two dashes, nor `dev` stands first: no peer or no bytes, no line
+pub no_peer : (text a b c : List ℕ) → AreFields text a b c → ((b ≡ dash) × (c ≡ dash) → ⊥) → (b ≡ device → ⊥) → IsNoNumber b 256 → IsNoLine text
+no_peer text a b c f other none h = record { none = go }
   where
     go : (line : Line) → IsLine text line → ⊥
     go (Deliver now peer bytes) d =
@@ -101,9 +114,10 @@ no_peer text a b c f other h = record { none = go }
     go (Tick now) t =
         let fit = fields_fit text a b c _ _ _ f (tick_fields _ _ t) in
         other (sym fit.second_is, sym fit.third_is)
+    go (Device now readings) d = none (sym (fields_fit text a b c _ _ _ f (device_fields _ _ _ d)).second_is)
 
-pub no_bytes : (text a b c : List ℕ) → AreFields text a b c → ((b ≡ dash) × (c ≡ dash) → ⊥) → ((bytes : List ℕ) → decode_of c ≡ Ok bytes → ⊥) → IsNoLine text
-no_bytes text a b c f other h = record { none = go }
+pub no_bytes : (text a b c : List ℕ) → AreFields text a b c → ((b ≡ dash) × (c ≡ dash) → ⊥) → (b ≡ device → ⊥) → ((bytes : List ℕ) → decode_of c ≡ Ok bytes → ⊥) → IsNoLine text
+no_bytes text a b c f other none h = record { none = go }
   where
     go : (line : Line) → IsLine text line → ⊥
     go (Deliver now peer bytes) d =
@@ -111,6 +125,18 @@ no_bytes text a b c f other h = record { none = go }
     go (Tick now) t =
         let fit = fields_fit text a b c _ _ _ f (tick_fields _ _ t) in
         other (sym fit.second_is, sym fit.third_is)
+    go (Device now readings) d = none (sym (fields_fit text a b c _ _ _ f (device_fields _ _ _ d)).second_is)
+
+-- behind `dev`: no readings, no line
+pub no_readings : (text a b c : List ℕ) → AreFields text a b c → b ≡ device → ((readings : List ℕ) → decode_sized c 64 ≡ Ok readings → ⊥) → IsNoLine text
+no_readings text a b c f is h = record { none = go }
+  where
+    go : (line : Line) → IsLine text line → ⊥
+    go (Deliver now peer bytes) d =
+        device_no_number peer (subst (λ x. IsNumber x peer) ((fields_fit text a b c _ _ _ f (delivery_fields _ _ _ _ d)).second_is ∙ is) d.peer_is)
+    go (Tick now) t = let e = (fields_fit text a b c _ _ _ f (tick_fields _ _ t)).second_is ∙ is in absurd (let n = e in cc)
+    go (Device now readings) d =
+        h readings (ap (λ x. decode_sized x 64) (sym (fields_fit text a b c _ _ _ f (device_fields _ _ _ d)).third_is) ∙ d.readings_are)
 
 -- a number is text in UTF-8
 pub no_text : (text : List ℕ) (limit : ℕ) → (IsUtf8 text → ⊥) → IsNoNumber text limit

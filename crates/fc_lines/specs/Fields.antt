@@ -8,6 +8,10 @@ space = 32
 abbrev pub dash : List ℕ
 dash = 45 ∷ []
 
+-- `dev`
+abbrev pub device : List ℕ
+device = 100 ∷ 101 ∷ 118 ∷ []
+
 -- no byte of it is a space
 abbrev pub IsUnspaced : List ℕ → Type 0
 IsUnspaced text = All (λ b. b ≢ space) text

@@ -1,9 +1,9 @@
 -- What a line says.
 use Rattle.std.specs.Prelude.{◌≡◌, ℕ, ◌<◌, ◌^◌, List, Ok}
-use Rattle.hex.specs.Hex.{decode_of}
-use Rattle.fc_lines.specs.Fields.{dash, spaced, IsNumber}
+use Rattle.hex.specs.Hex.{decode_of, decode_sized}
+use Rattle.fc_lines.specs.Fields.{dash, device, spaced, IsNumber}
 use Rattle.fc_lines.specs.declared.line.Line.{Line}
-use Rattle.fc_lines.specs.declared.line.Line.TheVariants.{Deliver, Tick}
+use Rattle.fc_lines.specs.declared.line.Line.TheVariants.{Deliver, Device, Tick}
 
 -- `now peer hex`: a datagram, by hex digits of either case
 pub record IsDelivery (text : List ℕ) (now peer : ℕ) (bytes : List ℕ) : Type 0 where
@@ -24,10 +24,20 @@ pub record IsTick (text : List ℕ) (now : ℕ) : Type 0 where
   pub now_is : IsNumber first now
   pub now_fits : now < 2 ^ 64
 
+-- `now dev hex`: the device's readings, by 128 hex digits
+pub record IsDevice (text : List ℕ) (now : ℕ) (readings : List ℕ) : Type 0 where
+  pub first : List ℕ
+  pub third : List ℕ
+  pub text_is : text ≡ spaced first device third
+  pub now_is : IsNumber first now
+  pub now_fits : now < 2 ^ 64
+  pub readings_are : decode_sized third 64 ≡ Ok readings
+
 -- a line, without its line feed, says this
 abbrev pub IsLine : List ℕ → Line → Type 0
 IsLine text (Deliver now peer bytes) = IsDelivery text now peer bytes.items
 IsLine text (Tick now) = IsTick text now
+IsLine text (Device now readings) = IsDevice text now readings
 
 -- a line says nothing
 pub record IsNoLine (text : List ℕ) : Type 0 where

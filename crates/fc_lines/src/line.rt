@@ -1,6 +1,7 @@
 //! The lines that are played.
-ghost use Rattle.std.specs.Prelude.{◌≡◌, ◌↔◌, ◌∷◌, ◌++◌, ◌^◌, MatchOption, IfOk, IsTrue};
-ghost use Rattle.fc_lines.specs.Fields.{space, dash, IsNumber, IsNoNumber, IsUnspaced, AreFields, HasNoFields};
+ghost use Rattle.std.specs.Prelude.{◌≡◌, ◌↔◌, ◌∷◌, ◌++◌, ◌^◌, ℕ, List, MatchOption, IfOk, IsTrue};
+ghost use Rattle.hex.specs.Hex.{decode_sized};
+ghost use Rattle.fc_lines.specs.Fields.{space, dash, device, IsNumber, IsNoNumber, IsUnspaced, AreFields, HasNoFields};
 ghost use Rattle.fc_lines.specs.Lines.{IsLine, IsNoLine};
 ghost use Rattle.fc_lines.specs.declared.line.LineError.TheVariants.{Bad};
 
@@ -15,12 +16,14 @@ pub enum Line {
     Deliver { now: u64, peer: u8, bytes: Vec<u8> },
     /// Time passes, to a moment in milliseconds.
     Tick { now: u64 },
+    /// The device's readings are these, from a moment in milliseconds on.
+    Device { now: u64, readings: [u8; 64] },
 }
 
 /// Why a line isn't read.
 #[derive(Clone, Copy, Debug, PartialEq, Eq, Error)]
 pub enum LineError {
-    /// It is neither `now peer hex` nor `now - -`.
+    /// It is neither `now peer hex` nor `now - -` nor `now dev hex`.
     #[error("bad")]
     Bad,
     /// There was no memory for its datagram.
@@ -28,10 +31,10 @@ pub enum LineError {
     NoMemory,
 }
 
-/// Reads a line, without its line feed: `now peer hex`, or `now - -`.
+/// Reads a line, without its line feed: `now peer hex`, `now - -`, or `now dev hex` with 128 hex digits.
 ///
 /// # Errors
-/// It is neither of the two, or there was no memory for its datagram.
+/// It is none of the three, or there was no memory for its datagram.
 pub fn parse(alloc: Global, text: &[u8]) -> Result<Line, LineError>
     ensures line { IfOk result (IsLine text.now) }
     ensures bad { result ≡ Err Bad → IsNoLine text.now }
@@ -45,11 +48,35 @@ pub fn parse(alloc: Global, text: &[u8]) -> Result<Line, LineError>
     if are_dashes(peer, digits) {
         return Ok(Line::Tick { now });
     }
+    if is_device(peer) {
+        return match readings(digits) {
+            Some(readings) => Ok(Line::Device { now, readings }),
+            None => Err(LineError::Bad),
+        };
+    }
     let Some(peer) = byte(peer) else {
         return Err(LineError::Bad);
     };
     let bytes = decode(alloc, digits)?;
     Ok(Line::Deliver { now, peer, bytes })
+}
+
+fn is_device(second: &[u8]) -> bool
+    ensures { IsTrue result ↔ (second.now ≡ device) }
+{
+    second == b"dev".as_slice()
+}
+
+// The 64 bytes that 128 hex digits of either case spell.
+fn readings(digits: &[u8]) -> Option<[u8; 64]>
+    ensures { MatchOption result ((bytes : List ℕ) → decode_sized digits.now 64 ≡ Ok bytes → ⊥)
+        (λ readings. decode_sized digits.now 64 ≡ Ok readings) }
+{
+    let mut readings = [0; 64];
+    match hex::decode_to_slice(digits, &mut readings) {
+        Ok(()) => Some(readings),
+        Err(_) => None,
+    }
 }
 
 // The three fields that single spaces part; the third may have more spaces.

@@ -25,7 +25,7 @@ pub record Round : Type 0 where
   pub steps : List SettlingStep
 
 abbrev pub IsReceived : ℕ → Reception → ServerState → Option Emission → ServerState → Type 0
-IsReceived now (Datagram from bytes) old sent new = IsHeard now from bytes old sent new
+IsReceived now (Datagram from bytes) old sent new = IsHeard no_readings now from bytes old sent new
 IsReceived now Nothing old sent new = IsPassed now old sent new
 
 -- what was received was carried out; then what was late was sent again, and observers were notified, by the low bits of the moment

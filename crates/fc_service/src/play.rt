@@ -4,9 +4,8 @@ ghost use Rattle.std.specs.Io.KnownBytes.{Appends};
 ghost use Rattle.coap_msg.specs.declared.types.Emission.{Emission as Sent};
 ghost use Rattle.fc_registry.specs.Slots.{last_serial};
 ghost use Rattle.fc_core.specs.Receiving.{emission_if};
-ghost use Rattle.fc_help.specs.Region.{no_readings};
 ghost use Rattle.fc_cli.specs.declared.status.Status.TheVariants.{Done};
-ghost use Rattle.fc_service.specs.Playing.{output_by, output_of, moment_of, IsCarriedOut, IsPlayed, IsPlayedOut, PlayedLine};
+ghost use Rattle.fc_service.specs.Playing.{output_by, output_of, moment_of, readings_after, IsCarriedOut, IsPlayed, IsPlayedOut, PlayedLine};
 ghost use Rattle.fc_service.specs.Settling.{AreSteps, SettlingStep, printed_steps};
 
 use crate::settle::{STEPS, Settling};
@@ -14,7 +13,7 @@ use coap_msg::Emission;
 use fc_cli::status::{Status, tell};
 use fc_cli::stop::Stop;
 use fc_core::front::blank_emission;
-use fc_help::NO_READINGS;
+use fc_help::{NO_READINGS, Readings};
 use fc_lines::emission::{endpoint, print};
 use fc_lines::line::{Line, LineError, parse};
 use fc_server::Engine;
@@ -56,37 +55,62 @@ fn play_lines<R: BufRead + Drop, W: Write>(
 {
     let mut engine = Engine::new(alloc, first_serial, first_id)?;
     let mut reply = blank_emission();
+    let mut readings = NO_READINGS;
     let mut number = 0u64;
     for text in input.split(alloc, b'\n') {
         number = number.saturating_add(1);
         match text {
-            Ok(text) => play_line(alloc, &mut engine, &mut reply, &text, number, out)?,
+            Ok(text) => play_line(
+                alloc,
+                &mut engine,
+                &mut reply,
+                &mut readings,
+                &text,
+                number,
+                out,
+            )?,
             Err(error) => return Err(Stop::at_line(error, number)),
         }
     }
     Ok(())
 }
 
-// Reads the line of this number, and carries it out.
+// Reads the line of this number, and carries it out, with the readings so far or those that it says.
 fn play_line<W: Write>(
     alloc: Global,
     engine: &mut Engine,
     reply: &mut Emission,
+    readings: &mut Readings,
     text: &[u8],
     number: u64,
     out: &mut W,
 ) -> Result<(), Stop>
     ensures { OnOk result ((p : PlayedLine) × (p.text ≡ text.now) × IsPlayed p engine.old engine.new
+        × (p.readings ≡ readings.new) × (readings.new ≡ readings_after p.line readings.old)
         × Appends (W.contents out.old) (W.contents out.new) (output_by p)) }
 {
     match parse(alloc, text) {
         Ok(line) => {
-            carry_out(alloc, engine, reply, &line, out)?;
-            settle(engine, moment(&line), out)?;
+            read(&line, readings);
+            carry_out(alloc, engine, reply, readings, &line, out)?;
+            settle(engine, moment(&line), readings, out)?;
             Ok(())
         }
         Err(LineError::Bad) => Err(Stop::BadLine(number)),
         Err(LineError::NoMemory) => Err(Stop::Memory(AllocError)),
+    }
+}
+
+// The readings from a line on.
+fn read(line: &Line, readings: &mut Readings)
+    ensures { readings.new ≡ readings_after line.now readings.old }
+{
+    match line {
+        Line::Device {
+            readings: given,
+            ..
+        } => *readings = *given,
+        Line::Tick { .. } | Line::Deliver { .. } => {}
     }
 }
 
@@ -95,19 +119,20 @@ fn carry_out<W: Write>(
     alloc: Global,
     engine: &mut Engine,
     reply: &mut Emission,
+    readings: &Readings,
     line: &Line,
     out: &mut W,
 ) -> io::Result<()>
-    ensures { (sent : Option Sent) × IsCarriedOut line.now engine.old sent engine.new
+    ensures { (sent : Option Sent) × IsCarriedOut readings.now line.now engine.old sent engine.new
         × OnOk result (Appends (W.contents out.old) (W.contents out.new) (output_of sent)) }
 {
     match line {
-        Line::Tick { now } => {
+        Line::Tick { now } | Line::Device { now, .. } => {
             engine.tick(*now);
             Ok(())
         }
         Line::Deliver { now, peer, bytes } => {
-            let sent = engine.hear(alloc, *now, endpoint(*peer), bytes, &NO_READINGS, reply);
+            let sent = engine.hear(alloc, *now, endpoint(*peer), bytes, readings, reply);
             print_if(out, sent, reply)
         }
     }
@@ -118,18 +143,23 @@ pub(crate) fn moment(line: &Line) -> u64
     ensures { result ≡ moment_of line.now }
 {
     match line {
-        Line::Tick { now } | Line::Deliver { now, .. } => *now,
+        Line::Tick { now } | Line::Deliver { now, .. } | Line::Device { now, .. } => *now,
     }
 }
 
 // Prints what is sent again, and what observers are told, at a moment in milliseconds.
-fn settle<W: Write>(engine: &mut Engine, now: u64, out: &mut W) -> io::Result<()>
-    ensures { (steps : List SettlingStep) × AreSteps now 0 no_readings steps engine.old engine.new
+fn settle<W: Write>(
+    engine: &mut Engine,
+    now: u64,
+    readings: &Readings,
+    out: &mut W,
+) -> io::Result<()>
+    ensures { (steps : List SettlingStep) × AreSteps now 0 readings.now steps engine.old engine.new
         × OnOk result (Appends (W.contents out.old) (W.contents out.new) (printed_steps steps)) }
 {
     let mut settling = Settling::new();
     for _ in 0..STEPS {
-        match settling.next(engine, now, &NO_READINGS, 0) {
+        match settling.next(engine, now, readings, 0) {
             Some(emission) => print(out, &emission)?,
             None => break,
         }

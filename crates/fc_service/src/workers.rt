@@ -158,7 +158,7 @@ impl<'a, 'b, N: Intake> Desk<'a, 'b, N> {
             × OnOk result (Appends (W.contents out.old) (W.contents out.new) (output_of emission)) }
     {
         match line {
-            Line::Tick { now } => {
+            Line::Tick { now } | Line::Device { now, .. } => {
                 self.intake.tick(rt, *now);
                 Ok(())
             }

@@ -1,5 +1,7 @@
 // Images of the second version: the expected bytes are worked out by hand.
 use crate::post_tests::check_played;
+use fc_cli::Status;
+use fc_service::play::play;
 use std::process::Abort;
 use std::test::Fail;
 
@@ -47,6 +49,27 @@ fn readings_are_replied(rt: HostRuntime) -> Result<(), Fail> {
         "1 60410001ff76657273696f6e3d3120636f73743d35206275646765743d3520766172733d30\n\
          1 6145500071480000000000000001ff0000\n\
          1 60800002ff56323020736c6f742030\n",
+    );
+    Ok(())
+}
+
+// The same with readings of `aa bb` and zeros, which a line sets. Workers hand zeros in so far.
+#[test]
+fn readings_of_a_line_are_replied(rt: HostRuntime) -> Result<(), Fail> {
+    let alloc = rt.alloc();
+    let mut out = Vec::new(alloc);
+    let mut err = Vec::new(alloc);
+    let lines =
+        "0 1 40030001b1700132ff46434232000005000500000000000000bf41000000000000b7020000020000008500000005000000b7000000000000009500000000000000\n\
+         0 dev aabb0000000000000000000000000000000000000000000000000000000000000000000000000000000000000000000000000000000000000000000000000000\n\
+         0 1 4101500071b1720132\n";
+    let status = play(alloc, lines.as_bytes(), &mut out, &mut err, 0, 0);
+    assert!(rt;
+        status == Status::Done
+            && out.as_slice()
+                == "1 60410001ff76657273696f6e3d3120636f73743d35206275646765743d3520766172733d30\n\
+                     1 6145500071480000000000000001ffaabb\n"
+                    .as_bytes()
     );
     Ok(())
 }

@@ -1,6 +1,5 @@
 use Rattle.std.proofs.Common.{◌∙◌, ap, Result, Ok, Err, OnOk, IsErr}
 use Rattle.std.specs.Option.{option_to_list}
-use Rattle.fc_help.specs.Region.{no_readings}
 use Rattle.fc_service.proofs.Steps.{joined_steps, then_nothing, then_printed}
 use Rattle.fc_service.proofs.play.settle.Goals as goal
 
@@ -11,11 +10,11 @@ failed (Err x) P e = tt
 
 pub returns-in_err-print-in-Some : goal.returns-in_err-print-in-Some
 returns-in_err-print-in-Some g c =
-    let x = joined_steps c.args.now 0 no_readings c.args.engine.now c.loop.engine c.next.new.engine (c.loop.invariant.0, c.loop.invariant.1) (c.next.ensures.0, c.next.ensures.1) in
+    let x = joined_steps c.args.now 0 c.args.readings.now c.args.engine.now c.loop.engine c.next.new.engine (c.loop.invariant.0, c.loop.invariant.1) (c.next.ensures.0, c.next.ensures.1) in
     (x.0, x.1, failed c.from_residual.result _ c.from_residual.ensures.0)
 
 pub loop-preserved : goal.loop-preserved
-loop-preserved g c = then_printed c.args.now no_readings c.args.engine.now c.loop.engine c.next.new.engine _ _ _ c.in-Some.emission c.loop.invariant (c.next.ensures.0, c.next.ensures.1, c.next.ensures.2 ∙ ap option_to_list c.in-Some.is) c.in_ok-print-in-Some.ensures
+loop-preserved g c = then_printed c.args.now c.args.readings.now c.args.engine.now c.loop.engine c.next.new.engine _ _ _ c.in-Some.emission c.loop.invariant (c.next.ensures.0, c.next.ensures.1, c.next.ensures.2 ∙ ap option_to_list c.in-Some.is) c.in_ok-print-in-Some.ensures
 
 pub returns-in-None : goal.returns-in-None
-returns-in-None g c = then_nothing c.args.now no_readings c.args.engine.now c.loop.engine c.next.new.engine _ _ c.loop.invariant (c.next.ensures.0, c.next.ensures.1, c.next.ensures.2 ∙ ap option_to_list c.in-None.is)
+returns-in-None g c = then_nothing c.args.now c.args.readings.now c.args.engine.now c.loop.engine c.next.new.engine _ _ c.loop.invariant (c.next.ensures.0, c.next.ensures.1, c.next.ensures.2 ∙ ap option_to_list c.in-None.is)
