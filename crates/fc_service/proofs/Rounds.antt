@@ -6,12 +6,12 @@ use Rattle.std.specs.Borrow.{Bor}
 use Rattle.coap_msg.specs.declared.types.Emission.{Emission}
 use Rattle.coap_msg.specs.declared.types.Endpoint.{Endpoint}
 use Rattle.fc_core.specs.History.{Begins}
-use Rattle.fc_help.specs.Region.{no_readings}
 use Rattle.fc_core.specs.Exchanges.{advanced}
 use Rattle.fc_core.specs.Receiving.{delivered, emission_if}
 use Rattle.fc_server.specs.Serving.{Hears, Passes, Serves}
 use Rattle.fc_server.specs.States.{ServerState}
 use Rattle.fc_workers.specs.Answers.{saturated}
+use Rattle.fc_service.specs.Clocks.{clock_readings}
 use Rattle.fc_service.specs.declared.replies.Replies.{Replies}
 use Rattle.fc_service.proofs.Steps.{joined, sent_joined}
 use Rattle.fc_service.specs.Counting.{counted, no_replies}
@@ -55,7 +55,7 @@ no_steps now random readings s r = ([], refl, counts_none r)
 pub no_rounds : (serial id : ℕ) (first : ServerState) (r : Replies) → Serves (Begins serial id) first [] → r ≡ no_replies → HaveServed serial id first r
 no_rounds serial id first r begins none = record { rounds = []; first = first; begins = begins; served = refl; counted = ap (λ (x : Replies). saturated (x.sent + x.failed)) none }
 
-pub one_round : (serial id now : ℕ) (received : Reception) (sent : Option Emission) (old mid new : ServerState) (a b c : Replies) → HaveServed serial id old a → IsReceived now received old sent mid → CountsMore (length (option_to_list sent)) a b → Settled now (now % 65536) no_readings mid new b c → HaveServed serial id new c
+pub one_round : (serial id now : ℕ) (received : Reception) (sent : Option Emission) (old mid new : ServerState) (a b c : Replies) → HaveServed serial id old a → IsReceived now received old sent mid → CountsMore (length (option_to_list sent)) a b → Settled now (now % 65536) (clock_readings now) mid new b c → HaveServed serial id new c
 one_round serial id now received sent old mid new a b c h is v x = record {
   rounds = record { received = received; now = now; sent = sent; steps = x.0 } ∷ h.rounds;
   first = h.first;
@@ -65,14 +65,14 @@ one_round serial id now received sent old mid new a b c h is v x = record {
 }
 
 -- one round more, of a datagram: its reply, if it has one, is counted
-pub heard_round : (serial id now : ℕ) (from : Endpoint) (bytes : Bor (List ℕ)) (out : Option Bool) (reply : Emission) (old heard mid new : ServerState) (a b c : Replies) → HaveServed serial id old a → Hears no_readings now from bytes (delivered (advanced old.front now) from bytes.now) old heard (emission_if (is_some out) reply) → mid ≡ heard → b ≡ counted out a → Settled now (now % 65536) no_readings mid new b c → HaveServed serial id new c
+pub heard_round : (serial id now : ℕ) (from : Endpoint) (bytes : Bor (List ℕ)) (out : Option Bool) (reply : Emission) (old heard mid new : ServerState) (a b c : Replies) → HaveServed serial id old a → Hears (clock_readings now) now from bytes (delivered (advanced old.front now) from bytes.now) old heard (emission_if (is_some out) reply) → mid ≡ heard → b ≡ counted out a → Settled now (now % 65536) (clock_readings now) mid new b c → HaveServed serial id new c
 heard_round serial id now from bytes out reply old heard mid new a b c h is same counts x =
     one_round serial id now (Datagram from bytes.now) (emission_if (is_some out) reply) old mid new a b c h
-    (record { borrow = bytes; bytes_are = refl; heard = subst (λ (s : ServerState). Hears no_readings now from bytes (delivered (advanced old.front now) from bytes.now) old s (emission_if (is_some out) reply)) (sym same) is })
+    (record { borrow = bytes; bytes_are = refl; heard = subst (λ (s : ServerState). Hears (clock_readings now) now from bytes (delivered (advanced old.front now) from bytes.now) old s (emission_if (is_some out) reply)) (sym same) is })
     (subst (λ (r : Replies). CountsMore (length (option_to_list (emission_if (is_some out) reply))) a r) (sym counts) (counts_one out reply a)) x
 
 -- and of a moment
-pub passed_round : (serial id now : ℕ) (old passed mid new : ServerState) (a b c : Replies) → HaveServed serial id old a → Passes now old passed → mid ≡ passed → b ≡ a → Settled now (now % 65536) no_readings mid new b c → HaveServed serial id new c
+pub passed_round : (serial id now : ℕ) (old passed mid new : ServerState) (a b c : Replies) → HaveServed serial id old a → Passes now old passed → mid ≡ passed → b ≡ a → Settled now (now % 65536) (clock_readings now) mid new b c → HaveServed serial id new c
 passed_round serial id now old passed mid new a b c h is same kept x =
     one_round serial id now Nothing None old mid new a b c h
     (record { nothing = refl; passed = subst (λ (s : ServerState). Passes now old s) (sym same) is })

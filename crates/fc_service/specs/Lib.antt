@@ -1,3 +1,4 @@
+pub mod Clocks
 pub mod Counting
 pub mod Playing
 pub mod Settling

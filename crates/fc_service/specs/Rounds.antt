@@ -4,11 +4,11 @@ use Rattle.std.specs.Option.{option_to_list}
 use Rattle.coap_msg.specs.declared.types.Emission.{Emission}
 use Rattle.coap_msg.specs.declared.types.Endpoint.{Endpoint}
 use Rattle.fc_core.specs.History.{Begins}
-use Rattle.fc_help.specs.Region.{no_readings}
 use Rattle.fc_server.specs.Serving.{Serves}
 use Rattle.fc_server.specs.States.{ServerState}
 use Rattle.fc_workers.specs.Answers.{saturated}
 use Rattle.fc_service.specs.declared.replies.Replies.{Replies}
+use Rattle.fc_service.specs.Clocks.{clock_readings}
 use Rattle.fc_service.specs.Playing.{IsHeard, IsPassed}
 use Rattle.fc_service.specs.Settling.{AreSteps, SettlingStep, sent_in_steps}
 
@@ -25,14 +25,14 @@ pub record Round : Type 0 where
   pub steps : List SettlingStep
 
 abbrev pub IsReceived : ℕ → Reception → ServerState → Option Emission → ServerState → Type 0
-IsReceived now (Datagram from bytes) old sent new = IsHeard no_readings now from bytes old sent new
+IsReceived now (Datagram from bytes) old sent new = IsHeard (clock_readings now) now from bytes old sent new
 IsReceived now Nothing old sent new = IsPassed now old sent new
 
 -- what was received was carried out; then what was late was sent again, and observers were notified, by the low bits of the moment
 pub record IsRound (r : Round) (old new : ServerState) : Type 0 where
   pub answered : ServerState
   pub carried_out : IsReceived r.now r.received old r.sent answered
-  pub settled : AreSteps r.now (r.now % 65536) no_readings r.steps answered new
+  pub settled : AreSteps r.now (r.now % 65536) (clock_readings r.now) r.steps answered new
 
 -- rounds one after the other, the newest first
 abbrev pub AreRounds : List Round → ServerState → ServerState → Type 0

@@ -7,8 +7,8 @@ use std::alloc::Global;
 pub const LINES: &str = "\
 A line is `now peer hex`, parted by single spaces: the moment in milliseconds, the last
 number of the peer's address 127.0.0.peer (0 to 255), and the datagram in hex digits.
-A line `now - -` says that time passes. Each datagram that is sent is printed as
-`peer hex`. The line `0 1 40000001` is answered by `1 70000001`.
+A line `now - -` says that time passes, and `now dev hex`, with 128 digits, what programs read of
+the device from then on. Each datagram that is sent is printed as `peer hex`. The line `0 1 40000001` is answered by `1 70000001`.
 
 After each line observers are notified of changes, and notifications that weren't acknowledged
 are sent again.
@@ -27,7 +27,8 @@ programs and remove them.
 
 One thread receives datagrams, and runs the programs that take less than 6,000 instructions;
 W others run those that may take more. With `--workers 1` there are no others: the one thread
-runs all. After each datagram observers are notified.
+runs all. After each datagram observers are notified. Programs of the second version read the
+milliseconds since the start, in eight bytes, the least first.
 
 After N datagrams the server ends, where N isn't 0. With `--log info` standard error is told
 `listening on ADDRESS:PORT` once it receives, and at its end `sent S failed F`, how many replies

@@ -13,8 +13,8 @@ use fc_core::Heard;
 use fc_observe::Ticked;
 use fc_server::Begin;
 use fc_workers::{
-    Bench, Blanks, Books, Closed, Dispatcher, Gate, Handover, Locked, Moments, Reserve, Share,
-    Tallies, Wire, Workshop, feed_workers, make_seats,
+    Bench, Blanks, Books, Closed, Device, Dispatcher, Gate, Handover, Locked, Moments, Reserve,
+    Share, Tallies, Wire, Workshop, feed_workers, make_seats,
 };
 use std::alloc::{AllocError, Global};
 use std::io::Write;
@@ -97,8 +97,8 @@ pub struct Fed<X: Drop> {
 
 // A server whose workers haven't begun.
 #[derive(Drop)]
-struct Begun<B: Books> {
-    server: Locked<B>,
+struct Begun<'a, B: Books, D: Device> {
+    server: Locked<'a, B, D>,
     reserve: Reserve<B>,
     tallies: Vec<Tallies<B>>,
 }
@@ -111,14 +111,16 @@ struct Ended<X: Drop, T: Drop> {
     shares: Vec<Share<T>>,
 }
 
-/// How many workers there are, 1 to 16, and which jobs go to them; what their server begins with, where the replies of jobs go, and what moment it is.
+/// How many workers there are, 1 to 16, and which jobs go to them; what their server begins with, where the replies of jobs go, what moment it is,
+/// and the device whose readings programs find.
 #[derive(Drop)]
-pub struct Pool<'a, W: Wire, M: Moments> {
+pub struct Pool<'a, W: Wire, M: Moments, D: Device> {
     pub workers: u8,
     pub handover: Handover,
     pub begin: Begin,
     pub wire: &'a W,
     pub moments: &'a M,
+    pub device: &'a D,
 }
 
 // No job is held up.
@@ -142,6 +144,7 @@ pub fn run_pool<
     R: Threads + Wait + Sync,
     W: Wire + Sync,
     M: Moments + Sync,
+    D: Device + Sync,
     E: Write,
     X: Drop,
     F: Feeder<X> + Drop,
@@ -149,14 +152,14 @@ pub fn run_pool<
     rt: &R,
     alloc: Global,
     err: &mut E,
-    pool: &Pool<'_, W, M>,
+    pool: &Pool<'_, W, M, D>,
     feeder: F,
 ) -> Result<Fed<X>, AllocError>
     requires { pool.now.begin.serial ≤ last_serial }
     ensures { IfOk result (λ fed. HasCountedAll fed.closed) }
 {
     let blanks = Blanks::new(u64::from(pool.workers) + 2);
-    run_named::<Brand, R, W, M, E, X, F>(rt, alloc, err, pool, feeder, blanks)
+    run_named::<Brand, R, W, M, D, E, X, F>(rt, alloc, err, pool, feeder, blanks)
 }
 
 // Runs a pool, with books of these names.
@@ -165,6 +168,7 @@ fn run_named<
     R: Threads + Wait + Sync,
     W: Wire + Sync,
     M: Moments + Sync,
+    D: Device + Sync,
     E: Write,
     X: Drop,
     F: Feeder<X> + Drop,
@@ -172,7 +176,7 @@ fn run_named<
     rt: &R,
     alloc: Global,
     err: &mut E,
-    pool: &Pool<'_, W, M>,
+    pool: &Pool<'_, W, M, D>,
     feeder: F,
     blanks: Blanks,
 ) -> Result<Fed<X>, AllocError>
@@ -186,18 +190,19 @@ fn run_named<
         server,
         reserve,
         tallies,
-    } = begin::<B>(alloc, pool.begin, pool.workers, blanks)?;
+    } = begin::<B, D>(alloc, pool.begin, pool.workers, pool.device, blanks)?;
     let ended = run_at(rt, alloc, err, pool, &server, tallies, feeder)?;
     Ok(close(server, reserve, ended))
 }
 
 // A new server, the tallies of its workers and of who feeds them, and the parts of its books that are left.
-fn begin<B: Books>(
+fn begin<'a, B: Books, D: Device>(
     alloc: Global,
     begin: Begin,
     workers: u8,
+    device: &'a D,
     blanks: Blanks,
-) -> Result<Begun<B>, AllocError>
+) -> Result<Begun<'a, B, D>, AllocError>
     requires serial { begin.serial ≤ last_serial }
     requires parts { blanks.parts ≡ workers + 2 }
     requires names { AreNamed blanks B.names }
@@ -205,7 +210,7 @@ fn begin<B: Books>(
     ensures some { IfOk result (λ b. 0 < vec_len b.tallies) }
     ensures parts { IfOk result (λ b. b.reserve.parts + vec_len b.tallies ≡ B.parts) }
 {
-    let (server, mut reserve) = Locked::<B>::new(alloc, begin.serial, begin.id, blanks)?;
+    let (server, mut reserve) = Locked::<B, D>::new(alloc, begin.serial, begin.id, device, blanks)?;
     let tallies = reserve.split_each(alloc, usize::from(workers) + 1)?;
     Ok(Begun {
         server,
@@ -215,8 +220,8 @@ fn begin<B: Books>(
 }
 
 // Closes a server whose workers have come to their end, for the reserve that their tallies were split from.
-fn close<B: Books, X: Drop>(
-    server: Locked<B>,
+fn close<B: Books, D: Device, X: Drop>(
+    server: Locked<'_, B, D>,
     mut reserve: Reserve<B>,
     ended: Ended<X, Tallies<B>>,
 ) -> Fed<X>
@@ -241,6 +246,7 @@ fn run_at<
     R: Threads + Wait + Sync,
     W: Wire + Sync,
     M: Moments + Sync,
+    D: Device + Sync,
     E: Write,
     X: Drop,
     F: Feeder<X> + Drop,
@@ -248,7 +254,7 @@ fn run_at<
     rt: &R,
     alloc: Global,
     err: &mut E,
-    pool: &Pool<'_, W, M>,
+    pool: &Pool<'_, W, M, D>,
     bench: &B,
     tallies: Vec<B::Tallies>,
     feeder: F,

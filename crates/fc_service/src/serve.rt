@@ -3,13 +3,13 @@ ghost use Rattle.std.specs.Prelude.{◌≡◌, ◌<◌, ◌≤◌, ◌%◌, ◌�
 ghost use Rattle.fc_core.specs.Exchanges.{advanced};
 ghost use Rattle.fc_core.specs.Receiving.{delivered, emission_if};
 ghost use Rattle.fc_registry.specs.Slots.{last_serial};
-ghost use Rattle.fc_help.specs.Region.{no_readings};
 ghost use Rattle.fc_server.specs.Serving.{Hears};
+ghost use Rattle.fc_service.specs.Clocks.{clock_readings};
 ghost use Rattle.fc_service.specs.Rounds.{CountsMore, HasServed};
 ghost use Rattle.fc_service.specs.Settling.{AreSteps, SettlingStep, sent_in_steps};
 ghost use Rattle.fc_cli.specs.declared.status.Status.TheVariants.{Done, Failed};
 
-use crate::clock::Elapsed;
+use crate::clock::{ClockDevice, Elapsed, clock_readings};
 use crate::pool::{Feeder, Intake, Pool, run_pool};
 use crate::replies::Replies;
 use crate::settle::{STEPS, Settling};
@@ -20,7 +20,6 @@ use fc_cli::clock::clock_id;
 use fc_cli::status::{Status, tell};
 use fc_core::Heard;
 use fc_core::front::blank_emission;
-use fc_help::NO_READINGS;
 use fc_server::engine::Notified;
 use fc_server::{Begin, Engine};
 use fc_workers::{Handover, Moments};
@@ -149,6 +148,7 @@ fn serve_to_end<R: Threads + Wait + Clock + Sync, E: Write, S: Source, K: Sink +
         begin,
         wire: &Replying { sink },
         moments: &moments,
+        device: &ClockDevice { moments: &moments },
     };
     let fed = run_pool(rt, alloc, err, &pool, receiver)?;
     Ok(fed.given.plus(fed.replies))
@@ -246,8 +246,7 @@ fn notify<N: Intake, R: Wait>(rt: &R, intake: &mut N, shard: u8, now: u64) -> No
 }
 
 impl<'a, S: Source, K: Sink, M: Moments> Receiver<'a, S, K, M> {
-    // Works each datagram off on this thread, before the next is received: the replies, each counted once. What it does is a list of events of
-    // one server, round after round.
+    // Works each datagram off on this thread, before the next is received: the replies, each counted once.
     fn serve_alone<R: Wait>(
         self,
         rt: &R,
@@ -285,13 +284,14 @@ impl<'a, S: Source, K: Sink, M: Moments> Receiver<'a, S, K, M> {
 
 // Sends what is late again, and notifies the observers that are due, at a moment in milliseconds, whose low bits are the random word.
 fn settle<K: Sink>(engine: &mut Engine, now: u64, sink: &K, replies: &mut Replies)
-    ensures { (steps : List SettlingStep) × AreSteps now (now % 65536) no_readings steps engine.old engine.new
+    ensures { (steps : List SettlingStep) × AreSteps now (now % 65536) (clock_readings now) steps engine.old engine.new
         × CountsMore (length (sent_in_steps steps)) replies.old replies.new }
 {
     let random = (now % 0x1_0000) as u16;
+    let readings = clock_readings(now);
     let mut settling = Settling::new();
     for _ in 0..STEPS {
-        match settling.next(engine, now, &NO_READINGS, random) {
+        match settling.next(engine, now, &readings, random) {
             Some(emission) => replies.count_if_any(Some(sink.send(&emission))),
             None => return,
         }
@@ -308,10 +308,10 @@ fn answer<K: Sink>(
     reply: &mut Emission,
     sink: &K,
 ) -> Option<bool>
-    ensures { Hears no_readings now from bytes.entry (delivered (advanced engine.old.front now) from bytes.now)
+    ensures { Hears (clock_readings now) now from bytes.entry (delivered (advanced engine.old.front now) from bytes.now)
         engine.old engine.new (emission_if (is_some result) reply.new) }
 {
-    if engine.hear(alloc, now, from, bytes, &NO_READINGS, reply) {
+    if engine.hear(alloc, now, from, bytes, &clock_readings(now), reply) {
         Some(sink.send(reply))
     } else {
         None

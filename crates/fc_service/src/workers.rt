@@ -13,11 +13,12 @@ use fc_cli::status::{Status, tell};
 use fc_cli::stop::Stop;
 use fc_core::Heard;
 use fc_core::front::blank_emission;
+use fc_help::{NO_READINGS, Readings};
 use fc_lines::emission::{endpoint, print};
 use fc_lines::line::{Line, LineError, parse};
 use fc_server::Begin;
 use fc_server::engine::Notified;
-use fc_workers::{Handover, Moments, Wire};
+use fc_workers::{Device, Handover, Moments, Wire};
 use std::alloc::{AllocError, Global};
 use std::io;
 use std::io::{BufRead, Write};
@@ -25,11 +26,12 @@ use std::sync::atomic::{AtomicU64, Ordering};
 use std::sync::{Condvar, Mutex, Wait};
 use std::thread::Threads;
 
-// Whether a worker is at a line's job, and what it has sent.
+// Whether a worker is at a line's job, what it has sent, and the readings that takings are handed.
 #[derive(Drop)]
 struct Work {
     busy: bool,
     reply: Option<Emission>,
+    readings: Readings,
 }
 
 // Where the player waits for the worker that has a line's job. The moment is that of the line.
@@ -45,12 +47,19 @@ impl Board {
         let work = Work {
             busy: false,
             reply: None,
+            readings: NO_READINGS,
         };
         Board {
             work: Mutex::new(work),
             done: Condvar::new(),
             now: AtomicU64::new(0),
         }
+    }
+
+    // Has the takings from now on handed these readings.
+    fn set<R: Wait>(&self, rt: &R, readings: Readings) {
+        let mut work = self.work.lock(rt);
+        work.readings = readings;
     }
 
     // Says that a job of this moment is about to be sent.
@@ -96,6 +105,13 @@ impl Moments for Board {
     fn random<R: Wait>(&self, rt: &R) -> u16 {
         let _ = rt;
         0
+    }
+}
+
+impl Device for Board {
+    fn readings<R: Wait>(&self, rt: &R) -> Readings {
+        let work = self.work.lock(rt);
+        work.readings
     }
 }
 
@@ -158,7 +174,12 @@ impl<'a, 'b, N: Intake> Desk<'a, 'b, N> {
             × OnOk result (Appends (W.contents out.old) (W.contents out.new) (output_of emission)) }
     {
         match line {
-            Line::Tick { now } | Line::Device { now, .. } => {
+            Line::Tick { now } => {
+                self.intake.tick(rt, *now);
+                Ok(())
+            }
+            Line::Device { now, readings } => {
+                self.board.set(rt, *readings);
                 self.intake.tick(rt, *now);
                 Ok(())
             }
@@ -284,6 +305,7 @@ fn play_in_pool<R: Threads + Wait + Sync, I: BufRead + Drop, W: Write, E: Write>
         begin,
         wire: &board,
         moments: &board,
+        device: &board,
     };
     let player = Player {
         alloc,

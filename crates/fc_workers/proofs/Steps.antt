@@ -35,14 +35,14 @@ use Rattle.fc_core.specs.Heads.{head_word, is_match}
 use Rattle.fc_core.specs.Ends.{refused, refused_by}
 use Rattle.fc_core.specs.Stages.{asked_stage, first_by, image_of, listed, matched, matched_by, run_content, removed, told, took, after_commit, made, takings}
 use Rattle.fc_workers.specs.declared.share.Share.{Share}
-use Rattle.fc_workers.specs.Answers.{AreTallied, commit_changes, ended_by, install_changes, removal_changes, saturated, IsTaken, IsSomeCommit, IsSomeInstall, IsSomeReceipt, IsSomeRemoval}
+use Rattle.fc_workers.specs.Answers.{AreTallied, commit_changes, ended_by, install_changes, removal_changes, saturated, IsTakingWith, IsSomeCommit, IsSomeInstall, IsSomeReceipt, IsSomeRemoval}
 use Rattle.fc_workers.specs.Steps.{Follows, IsReady, IsStep, ListsOn, taken_at}
 use Rattle.fc_workers.specs.Work.{Call, Takes, Commits, Installs, Refuses, Removes, Describes, Looks, Raises, AreCalls, IsCallAt, IsWorkedOff, HasCounted, next_stage, stage_after, change_by, overtaking_by, refusal_by, taking_by, total}
 
 -- the calls so far, and where they led the job
-pub record Walked {T : Type 0} (changes : T → ℕ → ℕ) (job : Job) (stage : Stage) (before now : Share T) : Type 0 where
+pub record Walked {T : Type 0} (changes : T → ℕ → ℕ) (AreReadings : List ℕ → Type 0) (job : Job) (stage : Stage) (before now : Share T) : Type 0 where
   pub calls : List Call
-  pub are : AreCalls job calls
+  pub are : AreCalls AreReadings job calls
   pub stands : stage ≡ stage_after job calls
   pub ready : IsReady job stage
   pub few : total taking_by calls ≤ taken_at stage
@@ -78,8 +78,8 @@ by_turn_follows : (turn : Option ℕ) (kept : Option (List ℕ)) (job : Job) (n 
 by_turn_follows None kept job n slot now w less = taking_follows kept job n slot.serial slot.present less
 by_turn_follows (Some number) kept job n slot now w less = turn_follows (is_out_at (turn_of job number) now w) kept job n slot.serial slot.present less
 
-took_follows : (job : Job) (n : ℕ) (x : Taken) → n < takings → IsTaken job x → Follows job (ToTake n) 1 (took n x)
-took_follows job n x less is = subst (λ (x : Taken). Follows job (ToTake n) 1 (took n x)) (sym is.1.taking.1) (by_turn_follows job.turn (readings_if is.1.taking.0 is.0) job n is.1.slot is.1.now is.1.watch less)
+took_follows : (AreReadings : List ℕ → Type 0) (job : Job) (n : ℕ) (x : Taken) → n < takings → IsTakingWith AreReadings job x → Follows job (ToTake n) 1 (took n x)
+took_follows AreReadings job n x less is = subst (λ (x : Taken). Follows job (ToTake n) 1 (took n x)) (sym is.2.taking.1) (by_turn_follows job.turn (readings_if is.2.taking.0 is.0) job n is.2.slot is.2.now is.2.watch less)
 
 -- a request's taking is never stale
 finding_ends : (kept : Option (List ℕ)) (job : Job) (serial ended : ℕ) (p : Option Present) → ended_by (taking kept job serial p) ended ≡ ended
@@ -87,10 +87,10 @@ finding_ends kept job serial ended None = refl
 finding_ends (Some readings) job serial ended (Some p) = refl
 finding_ends None job serial ended (Some p) = refl
 
-pub asked_ends : (job : Job) (x : Taken) (ended : ℕ) → job.turn ≡ None → IsTaken job x → ended_by x ended ≡ ended
-asked_ends job x ended none is =
-    let found : x ≡ taking (readings_if is.1.taking.0 is.0) job is.1.slot.serial is.1.slot.present = is.1.taking.1 ∙ ap (λ (o : Option ℕ). taking_of_job o (readings_if is.1.taking.0 is.0) job is.1.slot is.1.now is.1.watch) none in
-    ap (λ (y : Taken). ended_by y ended) found ∙ finding_ends (readings_if is.1.taking.0 is.0) job is.1.slot.serial ended is.1.slot.present
+pub asked_ends : (AreReadings : List ℕ → Type 0) (job : Job) (x : Taken) (ended : ℕ) → job.turn ≡ None → IsTakingWith AreReadings job x → ended_by x ended ≡ ended
+asked_ends AreReadings job x ended none is =
+    let found : x ≡ taking (readings_if is.2.taking.0 is.0) job is.2.slot.serial is.2.slot.present = is.2.taking.1 ∙ ap (λ (o : Option ℕ). taking_of_job o (readings_if is.2.taking.0 is.0) job is.2.slot is.2.now is.2.watch) none in
+    ap (λ (y : Taken). ended_by y ended) found ∙ finding_ends (readings_if is.2.taking.0 is.0) job is.2.slot.serial ended is.2.slot.present
 
 retaken_follows : (job : Job) (n : ℕ) (t : Ticket) (b : Bool) → nat_lt n takings ≡ b → n ≤ takings → Follows job (ToCommit n t) 0 (if b then ToTake n else ToAnswer Unavailable)
 retaken_follows job n t true e le = record { ready = ltb-true n takings e; fewer = omega arith; few = omega arith }
@@ -133,21 +133,21 @@ rejected_follows job f false = record { ready = tt; fewer = omega arith; few = o
 
 -- ---- a step of each stage
 
-module _ {T : Type 0} (changes : T → ℕ → ℕ) (job : Job) where
+module _ {T : Type 0} (changes : T → ℕ → ℕ) (AreReadings : List ℕ → Type 0) (job : Job) where
   -- a step to a stage and a share that are these
-  is_step : (old : Stage) {new next : Stage} {before after counted : Share T} → new ≡ next → after ≡ counted → IsStep changes job old next before counted → IsStep changes job old new before after
-  is_step old {new} {next} {before} {after} {counted} e c s = subst (λ (x : Stage). IsStep changes job old x before after) (sym e) (subst (λ (p : Share T). IsStep changes job old next before p) (sym c) s)
+  is_step : (old : Stage) {new next : Stage} {before after counted : Share T} → new ≡ next → after ≡ counted → IsStep changes AreReadings job old next before counted → IsStep changes AreReadings job old new before after
+  is_step old {new} {next} {before} {after} {counted} e c s = subst (λ (x : Stage). IsStep changes AreReadings job old x before after) (sym e) (subst (λ (p : Share T). IsStep changes AreReadings job old next before p) (sym c) s)
 
-  pub took_step : (n : ℕ) (x : Taken) (p : Share T) (tallies : T) {next : Stage} {after : Share T} → n < takings → IsTaken job x → ((shard : ℕ) → shard < 8 → changes tallies shard ≡ changes p.tallies shard) → next ≡ took n x → after ≡ record p { tallies = tallies; refusals = saturated (p.refusals + refusal_by (Takes x)) } → IsStep changes job (ToTake n) next p after
+  pub took_step : (n : ℕ) (x : Taken) (p : Share T) (tallies : T) {next : Stage} {after : Share T} → n < takings → IsTakingWith AreReadings job x → ((shard : ℕ) → shard < 8 → changes tallies shard ≡ changes p.tallies shard) → next ≡ took n x → after ≡ record p { tallies = tallies; refusals = saturated (p.refusals + refusal_by (Takes x)) } → IsStep changes AreReadings job (ToTake n) next p after
   took_step n x p tallies less is same e c = is_step (ToTake n) e c (record {
     call = Takes x;
     is = is;
     next = refl;
-    follows = took_follows job n x less is;
+    follows = took_follows AreReadings job n x less is;
     counted = record { tallies = λ shard lt. same shard lt ∙ same_tallies (changes p.tallies) job.origin.slot shard lt; refusals = omega arith; overtakings = omega arith; got = refl; sent = refl; failed = refl };
   })
 
-  pub commit_step : (n : ℕ) (t : Ticket) (x : Committed) (p : Share T) (tallies : T) {next : Stage} {after : Share T} → IsReady job (ToCommit n t) → IsSomeCommit (run_of t) t x → AreTallied (changes p.tallies) (changes tallies) t.origin.slot (commit_changes x) → next ≡ after_commit n t x → after ≡ record p { tallies = tallies; overtakings = saturated (p.overtakings + overtaking_by (Commits x)) } → IsStep changes job (ToCommit n t) next p after
+  pub commit_step : (n : ℕ) (t : Ticket) (x : Committed) (p : Share T) (tallies : T) {next : Stage} {after : Share T} → IsReady job (ToCommit n t) → IsSomeCommit (run_of t) t x → AreTallied (changes p.tallies) (changes tallies) t.origin.slot (commit_changes x) → next ≡ after_commit n t x → after ≡ record p { tallies = tallies; overtakings = saturated (p.overtakings + overtaking_by (Commits x)) } → IsStep changes AreReadings job (ToCommit n t) next p after
   commit_step n t x p tallies ready is rises e c = is_step (ToCommit n t) e c (record {
     call = Commits x;
     is = is;
@@ -163,7 +163,7 @@ module _ {T : Type 0} (changes : T → ℕ → ℕ) (job : Job) where
     };
   })
 
-  pub install_step : (program : Program) (x : Made) (p : Share T) (tallies : T) {next : Stage} → judged (image_of job.ask) ≡ Accepts program → IsSomeInstall program x → AreTallied (changes p.tallies) (changes tallies) job.origin.slot (install_changes x) → next ≡ made (receipt_of program 0) x → IsStep changes job ToInstall next p (record p { tallies = tallies })
+  pub install_step : (program : Program) (x : Made) (p : Share T) (tallies : T) {next : Stage} → judged (image_of job.ask) ≡ Accepts program → IsSomeInstall program x → AreTallied (changes p.tallies) (changes tallies) job.origin.slot (install_changes x) → next ≡ made (receipt_of program 0) x → IsStep changes AreReadings job ToInstall next p (record p { tallies = tallies })
   install_step program x p tallies accepted is rises e = is_step ToInstall e refl (record {
     call = Installs program x;
     is = (accepted, is);
@@ -172,7 +172,7 @@ module _ {T : Type 0} (changes : T → ℕ → ℕ) (job : Job) where
     counted = record { tallies = one_tallied (changes p.tallies) (changes tallies) job.origin.slot (install_changes x) rises; refusals = omega arith; overtakings = omega arith; got = refl; sent = refl; failed = refl };
   })
 
-  pub remove_step : (x : Removal) (p : Share T) (tallies : T) {next : Stage} → IsSomeRemoval x → AreTallied (changes p.tallies) (changes tallies) job.origin.slot (removal_changes x) → next ≡ removed x → IsStep changes job ToRemove next p (record p { tallies = tallies })
+  pub remove_step : (x : Removal) (p : Share T) (tallies : T) {next : Stage} → IsSomeRemoval x → AreTallied (changes p.tallies) (changes tallies) job.origin.slot (removal_changes x) → next ≡ removed x → IsStep changes AreReadings job ToRemove next p (record p { tallies = tallies })
   remove_step x p tallies is rises e = is_step ToRemove e refl (record {
     call = Removes x;
     is = is;
@@ -192,13 +192,13 @@ module _ {T : Type 0} (changes : T → ℕ → ℕ) (job : Job) where
     failed = refl;
   }
 
-  pub describe_step : (x : Option Receipt) (p : Share T) {next : Stage} → IsSomeReceipt x → next ≡ ToAnswer (told x) → IsStep changes job ToDescribe next p p
+  pub describe_step : (x : Option Receipt) (p : Share T) {next : Stage} → IsSomeReceipt x → next ≡ ToAnswer (told x) → IsStep changes AreReadings job ToDescribe next p p
   describe_step x p is e = is_step ToDescribe e refl (record { call = Describes x; is = is; next = refl; follows = told_follows job x; counted = unchanged (Describes x) p refl refl refl })
 
-  pub match_step : (word : ℕ) (p : Share T) {next : Stage} → next ≡ matched word job.etags.items → IsStep changes job ToMatch next p p
+  pub match_step : (word : ℕ) (p : Share T) {next : Stage} → next ≡ matched word job.etags.items → IsStep changes AreReadings job ToMatch next p p
   match_step word p e = is_step ToMatch e refl (record { call = Looks word; is = tt; next = refl; follows = matched_follows job (is_match word job.etags.items) word; counted = unchanged (Looks word) p refl refl refl })
 
-  pub list_step : (seen : ArrayVec ℕ) (word : ℕ) (p : Share T) {next : Stage} → length seen.items < 64 → next ≡ listed (seen.items ++ word ∷ []) → IsStep changes job (ToList seen) next p p
+  pub list_step : (seen : ArrayVec ℕ) (word : ℕ) (p : Share T) {next : Stage} → length seen.items < 64 → next ≡ listed (seen.items ++ word ∷ []) → IsStep changes AreReadings job (ToList seen) next p p
   list_step seen word p lt e = is_step (ToList seen) e refl (record {
     call = Looks word;
     is = tt;
@@ -208,7 +208,7 @@ module _ {T : Type 0} (changes : T → ℕ → ℕ) (job : Job) where
   })
 
   -- an image that breaks a rule
-  pub reject_step : (f : Fault) (p : Share T) {next : Stage} → IsRefusal (image_of job.ask) (Broken f) → next ≡ ToAnswer (refused (Broken f)) → IsStep changes job ToInstall next p p
+  pub reject_step : (f : Fault) (p : Share T) {next : Stage} → IsRefusal (image_of job.ask) (Broken f) → next ≡ ToAnswer (refused (Broken f)) → IsStep changes AreReadings job ToInstall next p p
   reject_step f p is e = is_step ToInstall e refl (record {
     call = Refuses (Broken f);
     is = is;
@@ -218,7 +218,7 @@ module _ {T : Type 0} (changes : T → ℕ → ℕ) (job : Job) where
   })
 
   -- memory that was refused
-  pub refuse_step : (p : Share T) {next : Stage} {after : Share T} → IsRefusal (image_of job.ask) NoMemory → next ≡ ToAnswer Unavailable → after ≡ record p { refusals = saturated (p.refusals + 1) } → IsStep changes job ToInstall next p after
+  pub refuse_step : (p : Share T) {next : Stage} {after : Share T} → IsRefusal (image_of job.ask) NoMemory → next ≡ ToAnswer Unavailable → after ≡ record p { refusals = saturated (p.refusals + 1) } → IsStep changes AreReadings job ToInstall next p after
   refuse_step p is e c = is_step ToInstall e c (record {
     call = Refuses NoMemory;
     is = is;
@@ -227,7 +227,7 @@ module _ {T : Type 0} (changes : T → ℕ → ℕ) (job : Job) where
     counted = record { tallies = same_tallies (changes p.tallies) job.origin.slot; refusals = omega arith; overtakings = omega arith; got = refl; sent = refl; failed = refl };
   })
 
-  pub raise_step : (word : ℕ) (content : Content) (p : Share T) → IsOf job content → IsStep changes job (ToRaise word content) (ToAnswer content) p p
+  pub raise_step : (word : ℕ) (content : Content) (p : Share T) → IsOf job content → IsStep changes AreReadings job (ToRaise word content) (ToAnswer content) p p
   raise_step word content p own = record {
     call = Raises;
     is = tt;
@@ -236,9 +236,9 @@ module _ {T : Type 0} (changes : T → ℕ → ℕ) (job : Job) where
     counted = record { tallies = same_tallies (changes p.tallies) job.origin.slot; refusals = omega arith; overtakings = omega arith; got = refl; sent = refl; failed = refl };
   }
 
--- an outcome of the ticket's program, request and variables is that of its run
-pub is_run : (r : Ran) (t : Ticket) (p : Program) (request : Request) (vars : List ℕ) → r ≡ ran p request vars → p ≡ t.found.program → request ≡ t.request → vars ≡ t.found.vars → r ≡ run_of t
-is_run r t p request vars e by for on = e ∙ λ i. ran (by i) (for i) (on i)
+-- an outcome of the ticket's program, request, variables and readings is that of its run
+pub is_run : (r : Ran) (t : Ticket) (p : Program) (request : Request) (vars readings : List ℕ) → r ≡ ran p request vars readings → p ≡ t.found.program → request ≡ t.request → vars ≡ t.found.vars → readings ≡ t.readings → r ≡ run_of t
+is_run r t p request vars readings e by for on with_them = e ∙ λ i. ran (by i) (for i) (on i) (with_them i)
 
 -- ---- the calls so far
 
@@ -250,27 +250,27 @@ first_ready job Remove serials = tt
 first_ready job Describe serials = tt
 first_ready job Discover serials = omega arith
 
-no_calls : (job : Job) → AreCalls job []
+no_calls : (AreReadings : List ℕ → Type 0) (job : Job) → AreCalls AreReadings job []
 unfolding AreCalls
-no_calls job = tt
+no_calls AreReadings job = tt
 
 at_first : (job : Job) → asked_stage job ≡ stage_after job []
 unfolding stage_after
 at_first job = refl
 
-pub sets_out : {T : Type 0} (changes : T → ℕ → ℕ) (job : Job) (p : Share T) → Walked changes job (asked_stage job) p p
-sets_out changes job p = record {
+pub sets_out : {T : Type 0} (changes : T → ℕ → ℕ) (AreReadings : List ℕ → Type 0) (job : Job) (p : Share T) → Walked changes AreReadings job (asked_stage job) p p
+sets_out changes AreReadings job p = record {
   calls = [];
-  are = no_calls job;
+  are = no_calls AreReadings job;
   stands = at_first job;
   ready = first_ready job job.ask job.etags.items;
   few = omega arith;
   counted = record { tallies = same_tallies (changes p.tallies) job.origin.slot; refusals = omega arith; overtakings = omega arith; got = refl; sent = refl; failed = refl };
 }
 
-more_calls : (job : Job) (calls : List Call) (call : Call) → AreCalls job calls → IsCallAt job (stage_after job calls) call → AreCalls job (call ∷ calls)
+more_calls : (AreReadings : List ℕ → Type 0) (job : Job) (calls : List Call) (call : Call) → AreCalls AreReadings job calls → IsCallAt AreReadings job (stage_after job calls) call → AreCalls AreReadings job (call ∷ calls)
 unfolding AreCalls
-more_calls job calls call are is = (are, is)
+more_calls AreReadings job calls call are is = (are, is)
 
 at_next : (job : Job) (calls : List Call) (call : Call) → next_stage job (stage_after job calls) call ≡ stage_after job (call ∷ calls)
 unfolding stage_after
@@ -291,20 +291,20 @@ counts_on changes n calls call before now after c d = record {
 }
 
 -- one more step, from a stage that is this one
-pub walks_on : {T : Type 0} (changes : T → ℕ → ℕ) (job : Job) {stage at next : Stage} {before now after : Share T} → stage ≡ at → Walked changes job stage before now → IsStep changes job at next now after → Walked changes job next before after
-walks_on changes job {stage} {at} {next} {before} {now} {after} e w s =
+pub walks_on : {T : Type 0} (changes : T → ℕ → ℕ) (AreReadings : List ℕ → Type 0) (job : Job) {stage at next : Stage} {before now after : Share T} → stage ≡ at → Walked changes AreReadings job stage before now → IsStep changes AreReadings job at next now after → Walked changes AreReadings job next before after
+walks_on changes AreReadings job {stage} {at} {next} {before} {now} {after} e w s =
     let here = sym e ∙ w.stands in
     record {
       calls = s.call ∷ w.calls;
-      are = more_calls job w.calls s.call w.are (subst (λ (x : Stage). IsCallAt job x s.call) here s.is);
+      are = more_calls AreReadings job w.calls s.call w.are (subst (λ (x : Stage). IsCallAt AreReadings job x s.call) here s.is);
       stands = s.next ∙ (ap (λ (x : Stage). next_stage job x s.call) here ∙ at_next job w.calls s.call);
       ready = s.follows.ready;
       few = omega (arith, subst (λ (x : Stage). total taking_by w.calls ≤ taken_at x) e w.few, s.follows.few);
       counted = counts_on changes job.origin.slot w.calls s.call before now after w.counted s.counted;
     }
 
-pub arrives : {T : Type 0} (changes : T → ℕ → ℕ) (job : Job) (stage : Stage) (content : Content) (before now : Share T) → stage ≡ ToAnswer content → Walked changes job stage before now → IsWorkedOff changes job content before now
-arrives changes job stage content before now e w = record {
+pub arrives : {T : Type 0} (changes : T → ℕ → ℕ) (AreReadings : List ℕ → Type 0) (job : Job) (stage : Stage) (content : Content) (before now : Share T) → stage ≡ ToAnswer content → Walked changes AreReadings job stage before now → IsWorkedOff changes AreReadings job content before now
+arrives changes AreReadings job stage content before now e w = record {
   calls = w.calls;
   are = w.are;
   ends = sym w.stands ∙ e;
@@ -314,14 +314,14 @@ arrives changes job stage content before now e w = record {
 }
 
 -- a look at each head word that is left
-walks_list : {T : Type 0} (changes : T → ℕ → ℕ) (job : Job) (seen : ArrayVec ℕ) (more : List ℕ) {stage : Stage} {before now : Share T} → stage ≡ ToList seen → 0 < length more → length (seen.items ++ more) ≡ 64 → Walked changes job stage before now → Walked changes job (ToAnswer (Listed (seen.items ++ more))) before now
-walks_list changes job seen [] at some all w = absurd (omega (arith, some))
-walks_list changes job seen (word ∷ []) {stage} {before} {now} at some all w =
+walks_list : {T : Type 0} (changes : T → ℕ → ℕ) (AreReadings : List ℕ → Type 0) (job : Job) (seen : ArrayVec ℕ) (more : List ℕ) {stage : Stage} {before now : Share T} → stage ≡ ToList seen → 0 < length more → length (seen.items ++ more) ≡ 64 → Walked changes AreReadings job stage before now → Walked changes AreReadings job (ToAnswer (Listed (seen.items ++ more))) before now
+walks_list changes AreReadings job seen [] at some all w = absurd (omega (arith, some))
+walks_list changes AreReadings job seen (word ∷ []) {stage} {before} {now} at some all w =
     let lt : length seen.items < 64 = subst (λ (s : Stage). IsReady job s) at w.ready in
     let words = seen.items ++ word ∷ [] in
     let last : nat_lt (length words) 64 ≡ false = le-ltb (length words) 64 (omega (arith, all)) in
-    walks_on changes job at w (list_step changes job seen word now lt (sym (ap (λ (b : Bool). if b then ToList (record { items = words }) else ToAnswer (Listed words)) last)))
-walks_list changes job seen (word ∷ next ∷ more) {stage} {before} {now} at some all w =
+    walks_on changes AreReadings job at w (list_step changes AreReadings job seen word now lt (sym (ap (λ (b : Bool). if b then ToList (record { items = words }) else ToAnswer (Listed words)) last)))
+walks_list changes AreReadings job seen (word ∷ next ∷ more) {stage} {before} {now} at some all w =
     let lt : length seen.items < 64 = subst (λ (s : Stage). IsReady job s) at w.ready in
     let words = seen.items ++ word ∷ [] in
     let on : ArrayVec ℕ = record { items = words } in
@@ -329,8 +329,8 @@ walks_list changes job seen (word ∷ next ∷ more) {stage} {before} {now} at s
     let full : length (words ++ next ∷ more) ≡ 64 = ap length same ∙ all in
     let long = length-append words (next ∷ more) in
     let yet : nat_lt (length words) 64 ≡ true = lt-ltb (length words) 64 (omega (arith, full, long)) in
-    let step = walks_on changes job at w (list_step changes job seen word now {next = ToList on} lt (sym (ap (λ (b : Bool). if b then ToList on else ToAnswer (Listed words)) yet))) in
-    subst (λ (ws : List ℕ). Walked changes job (ToAnswer (Listed ws)) before now) same (walks_list changes job on (next ∷ more) refl (omega arith) full step)
+    let step = walks_on changes AreReadings job at w (list_step changes AreReadings job seen word now {next = ToList on} lt (sym (ap (λ (b : Bool). if b then ToList on else ToAnswer (Listed words)) yet))) in
+    subst (λ (ws : List ℕ). Walked changes AreReadings job (ToAnswer (Listed ws)) before now) same (walks_list changes AreReadings job on (next ∷ more) refl (omega arith) full step)
 
-pub lists_on : {T : Type 0} (changes : T → ℕ → ℕ) (job : Job) (seen : ArrayVec ℕ) (words : List ℕ) {stage : Stage} {before now : Share T} → stage ≡ ToList seen → ListsOn seen.items words → Walked changes job stage before now → Walked changes job (ToAnswer (Listed words)) before now
-lists_on changes job seen words {stage} {before} {now} at lists w = subst (λ (ws : List ℕ). Walked changes job (ToAnswer (Listed ws)) before now) (sym lists.are) (walks_list changes job seen lists.more at lists.some (sym (ap length lists.are) ∙ lists.all) w)
+pub lists_on : {T : Type 0} (changes : T → ℕ → ℕ) (AreReadings : List ℕ → Type 0) (job : Job) (seen : ArrayVec ℕ) (words : List ℕ) {stage : Stage} {before now : Share T} → stage ≡ ToList seen → ListsOn seen.items words → Walked changes AreReadings job stage before now → Walked changes AreReadings job (ToAnswer (Listed words)) before now
+lists_on changes AreReadings job seen words {stage} {before} {now} at lists w = subst (λ (ws : List ℕ). Walked changes AreReadings job (ToAnswer (Listed ws)) before now) (sym lists.are) (walks_list changes AreReadings job seen lists.more at lists.some (sym (ap length lists.are) ∙ lists.all) w)

@@ -57,9 +57,9 @@ pub record IsSomeTaking (job : Job) (readings : List ℕ) (taken : Taken) : Type
   pub watch : ObserverList
   pub taking : IsTaking job readings slot now watch taken
 
--- with some readings
-abbrev pub IsTaken : Job → Taken → Type 0
-IsTaken job taken = (readings : List ℕ) × IsSomeTaking job readings taken
+-- with readings that were given
+abbrev pub IsTakingWith : (AreReadings : List ℕ → Type 0) → Job → Taken → Type 0
+IsTakingWith AreReadings job taken = (readings : List ℕ) × AreReadings readings × IsSomeTaking job readings taken
 
 -- some shard gives this turn at a moment, or none
 pub record IsSomeTurn (now : ℕ) (job : Option Job) : Type 0 where

@@ -35,7 +35,7 @@ MayGo Every job = Unit {0}
 MayGo (Dear least) job = 0 < least → IsDear least job
 MayGo Never job = ⊥
 
-module _ {T : Type 0} (changes : T → ℕ → ℕ) (ended : T → ℕ) (IsMoment : ℕ → Type 0) where
+module _ {T : Type 0} (changes : T → ℕ → ℕ) (ended : T → ℕ) (AreReadings : List ℕ → Type 0) (IsMoment : ℕ → Type 0) where
   -- a job was sent to the workers, under the next number
   pub record IsHandedOver (job : Job) (before after : Dispatched T) : Type 0 where
     pub sent : after.sent ≡ with_sent before.sent job
@@ -44,7 +44,7 @@ module _ {T : Type 0} (changes : T → ℕ → ℕ) (ended : T → ℕ) (IsMomen
   -- a job was worked off here, and ended; its reply is counted
   pub record IsWorkedHere (job : Job) (before after : Dispatched T) : Type 0 where
     pub sent : after.sent ≡ before.sent
-    pub worked : IsReplied changes IsMoment job before.share after.share
+    pub worked : IsReplied changes AreReadings IsMoment job before.share after.share
     pub ends : ended after.share.tallies ≡ saturated (ended before.share.tallies + 1)
 
   -- it went to the workers, where it may, or was worked off here

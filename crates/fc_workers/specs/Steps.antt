@@ -49,9 +49,9 @@ pub record Follows (job : Job) (old : Stage) (takes : ℕ) (new : Stage) : Type 
   pub few : taken_at old + takes ≤ taken_at new
 
 -- a call, and the stage and the share that it leaves
-pub record IsStep {T : Type 0} (changes : T → ℕ → ℕ) (job : Job) (old new : Stage) (before after : Share T) : Type 0 where
+pub record IsStep {T : Type 0} (changes : T → ℕ → ℕ) (AreReadings : List ℕ → Type 0) (job : Job) (old new : Stage) (before after : Share T) : Type 0 where
   pub call : Call
-  pub is : IsCallAt job old call
+  pub is : IsCallAt AreReadings job old call
   pub next : new ≡ next_stage job old call
   pub follows : Follows job old (taking_by call) new
   pub counted : HasCounted changes job.origin.slot (call ∷ []) before after

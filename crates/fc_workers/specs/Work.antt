@@ -23,7 +23,7 @@ use Rattle.fc_core.specs.declared.stage.Stage.TheVariants.{ToMatch, ToTake, ToCo
 use Rattle.fc_core.specs.Contents.{Content, IsOf}
 use Rattle.fc_core.specs.Ends.{refused}
 use Rattle.fc_core.specs.Stages.{asked_stage, image_of, listed, matched, took, told, after_commit, made, removed, takings}
-use Rattle.fc_workers.specs.Answers.{IsTaken, IsSomeCommit, IsSomeInstall, IsSomeReceipt, IsSomeRemoval, AreTallied, HasRisen, commit_changes, install_changes, removal_changes}
+use Rattle.fc_workers.specs.Answers.{IsTakingWith, IsSomeCommit, IsSomeInstall, IsSomeReceipt, IsSomeRemoval, AreTallied, HasRisen, commit_changes, install_changes, removal_changes}
 use Rattle.fc_workers.specs.Outgoing.{GivesAnswer, IsTurnReply, with_reply}
 use Rattle.fc_workers.specs.declared.share.Share.{Share}
 
@@ -55,17 +55,17 @@ next_stage job (ToRaise word content) Raises = ToAnswer content
 next_stage job stage call = stage
 
 -- the call is the one that the stage needs, and its answer is true of some slot; what a look at a head word tells may be any
-abbrev pub IsCallAt : Job → Stage → Call → Type 0
-IsCallAt job ToMatch (Looks word) = Unit {0}
-IsCallAt job (ToTake n) (Takes taken) = IsTaken job taken
-IsCallAt job (ToCommit n t) (Commits committed) = IsSomeCommit (run_of t) t committed
-IsCallAt job ToInstall (Installs p answer) = (judged (image_of job.ask) ≡ Accepts p) × IsSomeInstall p answer
-IsCallAt job ToInstall (Refuses refusal) = IsRefusal (image_of job.ask) refusal
-IsCallAt job ToRemove (Removes removal) = IsSomeRemoval removal
-IsCallAt job ToDescribe (Describes receipt) = IsSomeReceipt receipt
-IsCallAt job (ToList seen) (Looks word) = Unit {0}
-IsCallAt job (ToRaise word content) Raises = Unit {0}
-IsCallAt job stage call = ⊥
+abbrev pub IsCallAt : (AreReadings : List ℕ → Type 0) → Job → Stage → Call → Type 0
+IsCallAt AreReadings job ToMatch (Looks word) = Unit {0}
+IsCallAt AreReadings job (ToTake n) (Takes taken) = IsTakingWith AreReadings job taken
+IsCallAt AreReadings job (ToCommit n t) (Commits committed) = IsSomeCommit (run_of t) t committed
+IsCallAt AreReadings job ToInstall (Installs p answer) = (judged (image_of job.ask) ≡ Accepts p) × IsSomeInstall p answer
+IsCallAt AreReadings job ToInstall (Refuses refusal) = IsRefusal (image_of job.ask) refusal
+IsCallAt AreReadings job ToRemove (Removes removal) = IsSomeRemoval removal
+IsCallAt AreReadings job ToDescribe (Describes receipt) = IsSomeReceipt receipt
+IsCallAt AreReadings job (ToList seen) (Looks word) = Unit {0}
+IsCallAt AreReadings job (ToRaise word content) Raises = Unit {0}
+IsCallAt AreReadings job stage call = ⊥
 
 -- the stage that these calls leave a job at
 unfoldable pub stage_after : Job → List Call → Stage
@@ -73,9 +73,9 @@ stage_after job [] = asked_stage job
 stage_after job (call ∷ calls) = next_stage job (stage_after job calls) call
 
 -- each is the call that the stage needs where the ones before it have led
-unfoldable pub AreCalls : Job → List Call → Type 0
-AreCalls job [] = Unit {0}
-AreCalls job (call ∷ calls) = AreCalls job calls × IsCallAt job (stage_after job calls) call
+unfoldable pub AreCalls : (AreReadings : List ℕ → Type 0) → Job → List Call → Type 0
+AreCalls AreReadings job [] = Unit {0}
+AreCalls AreReadings job (call ∷ calls) = AreCalls AreReadings job calls × IsCallAt AreReadings job (stage_after job calls) call
 
 -- ---- what is counted of them
 
@@ -115,9 +115,9 @@ pub record HasCounted {T : Type 0} (changes : T → ℕ → ℕ) (n : ℕ) (call
   pub failed : after.failed ≡ before.failed
 
 -- a job's calls, from its first stage to this answer
-pub record IsWorkedOff {T : Type 0} (changes : T → ℕ → ℕ) (job : Job) (content : Content) (before after : Share T) : Type 0 where
+pub record IsWorkedOff {T : Type 0} (changes : T → ℕ → ℕ) (AreReadings : List ℕ → Type 0) (job : Job) (content : Content) (before after : Share T) : Type 0 where
   pub calls : List Call
-  pub are : AreCalls job calls
+  pub are : AreCalls AreReadings job calls
   pub ends : stage_after job calls ≡ ToAnswer content
   pub few : total taking_by calls ≤ takings
   pub own : IsOf job content
@@ -131,30 +131,30 @@ pub record IsQuiet {T : Type 0} (changes : T → ℕ → ℕ) (before after : Sh
   pub failed : after.failed ≡ before.failed
 
 -- a request's job was worked off to some answer, and this goes out for it, or nothing
-pub record IsRequestWorked {T : Type 0} (changes : T → ℕ → ℕ) (IsMoment : ℕ → Type 0) (job : Job) (before after : Share T) (reply : Option Emission) : Type 0 where
+pub record IsRequestWorked {T : Type 0} (changes : T → ℕ → ℕ) (AreReadings : List ℕ → Type 0) (IsMoment : ℕ → Type 0) (job : Job) (before after : Share T) (reply : Option Emission) : Type 0 where
   pub content : Content
-  pub worked : IsWorkedOff changes job content before after
+  pub worked : IsWorkedOff changes AreReadings job content before after
   pub answered : GivesAnswer IsMoment job content reply
 
 -- a turn's job was worked off, and this goes out for it, or nothing: it took once, and what it found is told. It changes no slot
-pub record IsTurnWorked {T : Type 0} (changes : T → ℕ → ℕ) (IsMoment : ℕ → Type 0) (job : Job) (turn : Turn) (before after : Share T) (reply : Option Emission) : Type 0 where
+pub record IsTurnWorked {T : Type 0} (changes : T → ℕ → ℕ) (AreReadings : List ℕ → Type 0) (IsMoment : ℕ → Type 0) (job : Job) (turn : Turn) (before after : Share T) (reply : Option Emission) : Type 0 where
   pub taken : Taken
-  pub taking : IsTaken job taken
+  pub taking : IsTakingWith AreReadings job taken
   pub told : IsTurnReply IsMoment turn taken reply
   pub kept : IsQuiet changes before after
 
-abbrev pub IsWorkedAs : {T : Type 0} → (T → ℕ → ℕ) → (IsMoment : ℕ → Type 0) → Option ℕ → Job → Share T → Share T → Option Emission → Type 0
-IsWorkedAs changes IsMoment None job before after reply = IsRequestWorked changes IsMoment job before after reply
-IsWorkedAs changes IsMoment (Some number) job before after reply = IsTurnWorked changes IsMoment job (turn_of job number) before after reply
+abbrev pub IsWorkedAs : {T : Type 0} → (T → ℕ → ℕ) → (AreReadings : List ℕ → Type 0) → (IsMoment : ℕ → Type 0) → Option ℕ → Job → Share T → Share T → Option Emission → Type 0
+IsWorkedAs changes AreReadings IsMoment None job before after reply = IsRequestWorked changes AreReadings IsMoment job before after reply
+IsWorkedAs changes AreReadings IsMoment (Some number) job before after reply = IsTurnWorked changes AreReadings IsMoment job (turn_of job number) before after reply
 
 -- a job was worked off, a request's or a turn's
-abbrev pub IsWorked : {T : Type 0} → (T → ℕ → ℕ) → (IsMoment : ℕ → Type 0) → Job → Share T → Share T → Option Emission → Type 0
-IsWorked changes IsMoment job before after reply = IsWorkedAs changes IsMoment job.turn job before after reply
+abbrev pub IsWorked : {T : Type 0} → (T → ℕ → ℕ) → (AreReadings : List ℕ → Type 0) → (IsMoment : ℕ → Type 0) → Job → Share T → Share T → Option Emission → Type 0
+IsWorked changes AreReadings IsMoment job before after reply = IsWorkedAs changes AreReadings IsMoment job.turn job before after reply
 
 -- a job was worked off, and the share has counted whether its reply went out
-pub record IsReplied {T : Type 0} (changes : T → ℕ → ℕ) (IsMoment : ℕ → Type 0) (job : Job) (before after : Share T) : Type 0 where
+pub record IsReplied {T : Type 0} (changes : T → ℕ → ℕ) (AreReadings : List ℕ → Type 0) (IsMoment : ℕ → Type 0) (job : Job) (before after : Share T) : Type 0 where
   pub reply : Option Emission
   pub out : Bool
   pub share : Share T
-  pub worked : IsWorked changes IsMoment job before share reply
+  pub worked : IsWorked changes AreReadings IsMoment job before share reply
   pub counted : after ≡ with_reply reply out share

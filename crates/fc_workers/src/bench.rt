@@ -1,5 +1,5 @@
 //! What workers work at.
-ghost use Rattle.std.specs.Prelude.{◌≡◌, ℕ, ◌+◌, ◌<◌, ◌≤◌};
+ghost use Rattle.std.specs.Prelude.{◌≡◌, ℕ, ◌+◌, ◌<◌, ◌≤◌, ⊤, List};
 ghost use Rattle.atomic_table.specs.Seated.{TableId};
 ghost use Rattle.fc_core.specs.Contents.{IsOf};
 ghost use Rattle.fc_core.specs.Receiving.{emission_if, heard};
@@ -37,6 +37,9 @@ pub trait Bench {
     // Which head words it has.
     ghost heads: { Self → TableId };
 
+    // Which readings it gives. It says of readings that a call gave them.
+    ghost are_readings: { List ℕ → Type 0 } = { λ _. ⊤ };
+
     /// Takes a datagram in, at a moment in milliseconds, as [`Front::hear`](fc_core::Front::hear) does: the job that it brings, or the
     /// reply, is written over another.
     fn hear<R: Wait>(
@@ -56,6 +59,10 @@ pub trait Bench {
     /// A message id of the server's own, at a moment in milliseconds, as [`Front::fresh_id`](fc_core::Front::fresh_id) gives it.
     fn fresh_id<R: Wait>(&self, rt: &R, now: u64) -> Option<u16>
         ensures { IsSomeDraw now result };
+
+    /// The readings of the device.
+    fn readings<R: Wait>(&self, rt: &R) -> Readings
+        ensures { are_readings result };
 
     /// Takes what a job finds in its slot, with these readings, as [`Shard::take`](fc_registry::Shard::take) does. A turn that is stale
     /// ends by that.

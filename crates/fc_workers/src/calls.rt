@@ -20,7 +20,7 @@ use fc_verify::Verified;
 use std::sync::Arc;
 
 /// A call of a shard, with all that it hands in. It keeps the shard's index, and its answer tells how much the serials of the
-/// shard's slots rise: that is what a tally counts.
+/// shard's slots rise, which is what a tally counts. Where that is 0, no slot changes.
 pub trait ShardCall {
     /// What the shard answers.
     type Answer;
@@ -40,12 +40,13 @@ pub trait ShardCall {
         requires may { may_ask self shard.old }
         ensures does { does self shard.old result shard.new }
         ensures index { shard.new.index ≡ shard.old.index }
+        ensures kept { changes result ≡ 0 → shard.new.slots ≡ shard.old.slots }
         ensures eight { HasEightSlots shard.new }
         ensures risen { serials shard.new ≡ serials shard.old + changes result };
 }
 
 /// A call of a shard that may change a slot.
-pub trait Change: ShardCall {
+pub(crate) trait Change: ShardCall {
     /// Whether an answer tells of a change.
     fn has_changed(answer: &Self::Answer) -> bool
         ensures { Self.changes answer.now ≡ (if result then 1 else 0) };

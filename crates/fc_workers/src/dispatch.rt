@@ -105,7 +105,7 @@ impl<'a, B: Bench, G: Gate, W: Wire, M: Moments> Dispatcher<'a, B, G, W, M> {
         bytes: &[u8],
         reply: &mut Emission,
     ) -> Heard
-        ensures taken_in { IsTakenIn B.changes B.ended M.is_moment self.old.handover now from bytes.now result reply.new self.old.done self.new.done }
+        ensures taken_in { IsTakenIn B.changes B.ended B.are_readings M.is_moment self.old.handover now from bytes.now result reply.new self.old.done self.new.done }
         ensures handover { self.new.handover ≡ self.old.handover }
     {
         let heard = self
@@ -141,7 +141,7 @@ impl<'a, B: Bench, G: Gate, W: Wire, M: Moments> Dispatcher<'a, B, G, W, M> {
 
     /// Asks a shard, 0 to 7, for the turn of the observer that is due first at a moment in milliseconds, and dispatches it. Tells whether there was one.
     pub fn notify<R: Wait>(&mut self, rt: &R, shard: u8, now: u64) -> bool
-        ensures asked { IsTurnAsked B.changes B.ended M.is_moment self.old.handover now result self.old.done self.new.done }
+        ensures asked { IsTurnAsked B.changes B.ended B.are_readings M.is_moment self.old.handover now result self.old.done self.new.done }
         ensures handover { self.new.handover ≡ self.old.handover }
     {
         match self.workshop.bench.next_due(rt, shard, now) {
@@ -156,7 +156,7 @@ impl<'a, B: Bench, G: Gate, W: Wire, M: Moments> Dispatcher<'a, B, G, W, M> {
 
     // Sends its job to the workers, or works it off.
     fn dispatch<R: Wait>(&mut self, rt: &R)
-        ensures dispatched { IsDispatched B.changes B.ended M.is_moment self.old.handover self.old.job self.old.done self.new.done }
+        ensures dispatched { IsDispatched B.changes B.ended B.are_readings M.is_moment self.old.handover self.old.job self.old.done self.new.done }
         ensures handover { self.new.handover ≡ self.old.handover }
     {
         let handed = self.hand_over(rt);
@@ -199,7 +199,7 @@ impl<'a, B: Bench, G: Gate, W: Wire, M: Moments> Dispatcher<'a, B, G, W, M> {
 
     // Works its job off.
     fn work<R: Wait>(&mut self, rt: &R)
-        ensures worked { IsWorkedHere B.changes B.ended M.is_moment self.old.job self.old.done self.new.done }
+        ensures worked { IsWorkedHere B.changes B.ended B.are_readings M.is_moment self.old.job self.old.done self.new.done }
         ensures handover { self.new.handover ≡ self.old.handover }
     {
         let done = &mut self.done;

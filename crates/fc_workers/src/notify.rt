@@ -8,7 +8,6 @@ use crate::bench::Bench;
 use crate::share::Share;
 use crate::workshop::{Gate, Moments, Wire, Workshop};
 use coap_msg::Emission;
-use fc_help::NO_READINGS;
 use fc_machine::{Frame, run};
 use fc_observe::Turn;
 use fc_registry::{Job, Noted, Notification, Taken, Ticket};
@@ -27,10 +26,11 @@ impl<'a, B: Bench, G: Gate, W: Wire, M: Moments> Workshop<'a, B, G, W, M> {
         share: &mut Share<B::Tallies>,
     ) -> Option<Emission>
         requires { turn.slot < 64 }
-        ensures worked { IsTurnWorked B.changes M.is_moment job.now turn share.old share.new result }
+        ensures worked { IsTurnWorked B.changes B.are_readings M.is_moment job.now turn share.old share.new result }
         ensures ended { B.ended share.new.tallies ≡ saturated (B.ended share.old.tallies + 1) }
     {
-        let taken = self.bench.take(rt, job, &NO_READINGS, &mut share.tallies);
+        let readings = self.bench.readings(rt);
+        let taken = self.bench.take(rt, job, &readings, &mut share.tallies);
         share.count_taking(&taken);
         match taken {
             Taken::Given(ticket) => self.tell(rt, frame, turn, Some(ticket), share),

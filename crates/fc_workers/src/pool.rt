@@ -74,14 +74,14 @@ pub fn run_workers<
 where
     B::Tallies: Send,
     requires { All (λ s. s.got.channel ≡ jobs.now) seats.items }
-    ensures { IfOk result (λ v. AreSharesOf B.changes B.ended M.is_moment seats.items v.items) }
+    ensures { IfOk result (λ v. AreSharesOf B.changes B.ended B.are_readings M.is_moment seats.items v.items) }
 {
     thread::map_vec(
         rt,
         seats,
         &|seat: Seat<B::Tallies>| -> Share<B::Tallies>
             requires { seat.got.channel ≡ jobs.now }
-            ensures { IsShareOf B.changes B.ended M.is_moment seat result }
+            ensures { IsShareOf B.changes B.ended B.are_readings M.is_moment seat result }
         { worker(rt, workshop, jobs, seat) },
     )
 }
@@ -94,7 +94,7 @@ struct SharesOf<B: Bench, M: Moments> {
 }
 
 impl<B: Bench, M: Moments> Promise<Result<Vec<Share<B::Tallies>>, AllocError>> for SharesOf<B, M> {
-    ghost kept_by = { λ p r. IfOk r (λ v. AreSharesOf B.changes B.ended M.is_moment p.seats.value.items v.items) };
+    ghost kept_by = { λ p r. IfOk r (λ v. AreSharesOf B.changes B.ended B.are_readings M.is_moment p.seats.value.items v.items) };
 }
 
 /// Runs a worker at each seat, as `run_workers` does, and beside them a feeder, in the caller's own thread: what the feeder
@@ -124,7 +124,7 @@ where
     requires seats { All (λ s. s.got.channel ≡ jobs.now) seats.items }
     requires feed { F.IsAlwaysCallable feed }
     ensures fed { (has_workers : Bool) × F.post feed has_workers result.0 }
-    ensures shares { IfOk result.1 (λ v. AreSharesOf B.changes B.ended M.is_moment seats.items v.items) }
+    ensures shares { IfOk result.1 (λ v. AreSharesOf B.changes B.ended B.are_readings M.is_moment seats.items v.items) }
 {
     thread::scope(
         thread::scope_env(),
@@ -132,7 +132,7 @@ where
         move |scope| -> (X, Result<Vec<Share<B::Tallies>>, AllocError>)
             requires { All (λ s. s.got.channel ≡ jobs.now) seats.items × F.IsAlwaysCallable feed }
             ensures { ((has_workers : Bool) × F.post feed has_workers result.0)
-                × IfOk result.1 (λ v. AreSharesOf B.changes B.ended M.is_moment seats.items v.items) }
+                × IfOk result.1 (λ v. AreSharesOf B.changes B.ended B.are_readings M.is_moment seats.items v.items) }
         {
             let has_seats = !seats.is_empty();
             let promise = SharesOf::<B, M> {
@@ -143,7 +143,7 @@ where
                 promise,
                 move || -> Result<Vec<Share<B::Tallies>>, AllocError>
                     requires { All (λ s. s.got.channel ≡ jobs.now) seats.items }
-                    ensures { IfOk result (λ v. AreSharesOf B.changes B.ended M.is_moment seats.items v.items) }
+                    ensures { IfOk result (λ v. AreSharesOf B.changes B.ended B.are_readings M.is_moment seats.items v.items) }
                 {
                     let shares = run_workers(rt, workshop, jobs, seats);
                     jobs.dismiss(rt);

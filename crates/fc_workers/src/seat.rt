@@ -52,7 +52,7 @@ pub fn worker<B: Bench, G: Gate, W: Wire, M: Moments, R: Wait>(
     seat: Seat<B::Tallies>,
 ) -> Share<B::Tallies>
     requires { seat.got.channel ≡ jobs.now }
-    ensures { IsShareOf B.changes B.ended M.is_moment seat result }
+    ensures { IsShareOf B.changes B.ended B.are_readings M.is_moment seat result }
 {
     let Seat {
         got,
@@ -82,7 +82,7 @@ impl<'a, B: Bench, G: Gate, W: Wire, M: Moments> Workshop<'a, B, G, W, M> {
     )
         requires { tools.old.heads.table ≡ B.heads self.now.bench.now }
         ensures heads { tools.new.heads.table ≡ tools.old.heads.table }
-        ensures worked { IsReplied B.changes M.is_moment job.now share.old share.new }
+        ensures worked { IsReplied B.changes B.are_readings M.is_moment job.now share.old share.new }
         ensures ended { B.ended share.new.tallies ≡ saturated (B.ended share.old.tallies + 1) }
         ensures got { share.new.got ≡ share.old.got }
     {
@@ -104,7 +104,7 @@ impl<'a, B: Bench, G: Gate, W: Wire, M: Moments> Workshop<'a, B, G, W, M> {
     ) -> bool
         requires { tools.old.heads.table ≡ B.heads self.now.bench.now }
         ensures heads { tools.new.heads.table ≡ tools.old.heads.table }
-        ensures worked { IsWorked B.changes M.is_moment job.now share.old share.new (emission_if result tools.new.reply) }
+        ensures worked { IsWorked B.changes B.are_readings M.is_moment job.now share.old share.new (emission_if result tools.new.reply) }
         ensures ended { B.ended share.new.tallies ≡ saturated (B.ended share.old.tallies + 1) }
         ensures got { share.new.got ≡ share.old.got }
     {
@@ -130,7 +130,7 @@ impl<'a, B: Bench, G: Gate, W: Wire, M: Moments> Workshop<'a, B, G, W, M> {
         requires asked { job.now.turn ≡ None }
         requires heads { tools.old.heads.table ≡ B.heads self.now.bench.now }
         ensures heads { tools.new.heads.table ≡ tools.old.heads.table }
-        ensures worked { IsRequestWorked B.changes M.is_moment job.now share.old share.new (emission_if result tools.new.reply) }
+        ensures worked { IsRequestWorked B.changes B.are_readings M.is_moment job.now share.old share.new (emission_if result tools.new.reply) }
         ensures ended { B.ended share.new.tallies ≡ saturated (B.ended share.old.tallies + 1) }
         ensures got { share.new.got ≡ share.old.got }
     {

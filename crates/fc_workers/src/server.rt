@@ -31,6 +31,7 @@ use crate::calls::{
     Signal, Take, Tick,
 };
 use crate::closed::Closed;
+use crate::device::Device;
 use crate::locked_shard::LockedShard;
 use crate::reserve::Reserve;
 use crate::tallies::Tallies;
@@ -103,9 +104,10 @@ fn shard_of(slot: SlotNumber) -> u8
 }
 
 /// A server whose front and shards are behind a lock each: a call holds one of them, and no call two. Its head words are behind none. While a program runs or an image is
-/// verified nobody has one.
+/// verified nobody has one. Its device is behind none of them.
 #[derive(Drop)]
-pub struct Locked<B: Books> {
+pub struct Locked<'a, B: Books, D: Device> {
+    device: &'a D,
     heads: Heads,
     front: Mutex<Front>,
     shard0: LockedShard<0, B>,
@@ -118,9 +120,9 @@ pub struct Locked<B: Books> {
     shard7: LockedShard<7, B>,
 }
 
-impl<B: Books> Locked<B> {
+impl<'a, B: Books, D: Device> Locked<'a, B, D> {
     /// A server that holds nothing, with slots 0 to 63 empty, each at the first serial, and that draws this message id
-    /// first. It opens the books; the reserve has all their parts.
+    /// first. Its programs find this device's readings. It opens the books; the reserve has all their parts.
     ///
     /// # Errors
     /// There was no memory for it.
@@ -128,8 +130,9 @@ impl<B: Books> Locked<B> {
         alloc: Global,
         first_serial: u64,
         first_id: u16,
+        device: &'a D,
         blanks: Blanks,
-    ) -> Result<(Locked<B>, Reserve<B>), AllocError>
+    ) -> Result<(Locked<'a, B, D>, Reserve<B>), AllocError>
         requires serial { first_serial ≤ last_serial }
         requires names { AreNamed blanks B.names }
         requires books { blanks.parts ≡ B.parts }
@@ -155,6 +158,7 @@ impl<B: Books> Locked<B> {
         let (shard6, tally6) = LockedShard::new(shard6, first_serial, blanks.blank6);
         let (shard7, tally7) = LockedShard::new(shard7, first_serial, blanks.blank7);
         let server = Locked {
+            device,
             heads,
             front: Mutex::new(front),
             shard0,
@@ -243,7 +247,9 @@ impl<B: Books> Locked<B> {
     }
 }
 
-impl<B: Books> Bench for Locked<B> {
+impl<'a, B: Books, D: Device> Bench for Locked<'a, B, D> {
+    ghost are_readings = { D.are_readings };
+
     type Tallies = Tallies<B>;
 
     ghost changes = { λ t. slice_index t.changes };
@@ -273,6 +279,10 @@ impl<B: Books> Bench for Locked<B> {
     fn fresh_id<R: Wait>(&self, rt: &R, now: u64) -> Option<u16> {
         let mut front = self.front.lock(rt);
         front.fresh_id(now)
+    }
+
+    fn readings<R: Wait>(&self, rt: &R) -> Readings {
+        self.device.readings(rt)
     }
 
     fn take<R: Wait>(

@@ -16,7 +16,6 @@ use fc_core::heads::WORDS;
 use fc_core::task::image;
 use fc_core::{Answer, Stage};
 use fc_heads::HeadSeat;
-use fc_help::NO_READINGS;
 use fc_machine::{Frame, run};
 use fc_registry::{Job, Receipt, SlotNumber, Ticket};
 use fc_verify::{Refusal, Verified, verify};
@@ -40,7 +39,7 @@ impl<'a, B: Bench, G: Gate, W: Wire, M: Moments> Workshop<'a, B, G, W, M> {
         requires asked { job.now.turn ≡ None }
         requires heads { tools.old.heads.table ≡ B.heads self.now.bench.now }
         ensures heads { tools.new.heads.table ≡ tools.old.heads.table }
-        ensures worked { IsWorkedOff B.changes job.now result share.old share.new }
+        ensures worked { IsWorkedOff B.changes B.are_readings job.now result share.old share.new }
         ensures ended { B.ended share.new.tallies ≡ B.ended share.old.tallies }
     {
         let mut stage = Stage::asked(job);
@@ -95,7 +94,7 @@ impl<'a, B: Bench, G: Gate, W: Wire, M: Moments> Workshop<'a, B, G, W, M> {
     // Removes the program of the job's slot.
     #[inline(never)]
     fn remove<R: Wait>(&self, rt: &R, job: &Job, share: &mut Share<B::Tallies>) -> Stage
-        ensures step { IsStep B.changes job.now ToRemove result share.old share.new }
+        ensures step { IsStep B.changes B.are_readings job.now ToRemove result share.old share.new }
         ensures ended { B.ended share.new.tallies ≡ B.ended share.old.tallies }
     {
         let removal = self.bench.remove(rt, job, &mut share.tallies);
@@ -106,10 +105,11 @@ impl<'a, B: Bench, G: Gate, W: Wire, M: Moments> Workshop<'a, B, G, W, M> {
     fn take<R: Wait>(&self, rt: &R, job: &Job, count: u8, share: &mut Share<B::Tallies>) -> Stage
         requires ready { IsReady job.now (ToTake count) }
         requires asked { job.now.turn ≡ None }
-        ensures step { IsStep B.changes job.now (ToTake count) result share.old share.new }
+        ensures step { IsStep B.changes B.are_readings job.now (ToTake count) result share.old share.new }
         ensures ended { B.ended share.new.tallies ≡ B.ended share.old.tallies }
     {
-        let taken = self.bench.take(rt, job, &NO_READINGS, &mut share.tallies);
+        let readings = self.bench.readings(rt);
+        let taken = self.bench.take(rt, job, &readings, &mut share.tallies);
         share.count_taking(&taken);
         Stage::took(count, taken)
     }
@@ -125,7 +125,7 @@ impl<'a, B: Bench, G: Gate, W: Wire, M: Moments> Workshop<'a, B, G, W, M> {
         share: &mut Share<B::Tallies>,
     ) -> Stage
         requires { IsReady job.now (ToCommit count ticket.now) }
-        ensures step { IsStep B.changes job.now (ToCommit count ticket.now) result share.old share.new }
+        ensures step { IsStep B.changes B.are_readings job.now (ToCommit count ticket.now) result share.old share.new }
         ensures ended { B.ended share.new.tallies ≡ B.ended share.old.tallies }
     {
         let outcome = run(
@@ -146,7 +146,7 @@ impl<'a, B: Bench, G: Gate, W: Wire, M: Moments> Workshop<'a, B, G, W, M> {
     // Verifies the job's image, and installs the program.
     #[inline(never)]
     fn install<R: Wait>(&self, rt: &R, job: &Job, share: &mut Share<B::Tallies>) -> Stage
-        ensures step { IsStep B.changes job.now ToInstall result share.old share.new }
+        ensures step { IsStep B.changes B.are_readings job.now ToInstall result share.old share.new }
         ensures ended { B.ended share.new.tallies ≡ B.ended share.old.tallies }
     {
         match verify(self.alloc, image(&job.ask)) {
@@ -169,7 +169,7 @@ impl<'a, B: Bench, G: Gate, W: Wire, M: Moments> Workshop<'a, B, G, W, M> {
     ) -> Stage
         requires accepted { IsAccepted (image_of job.now.ask) program }
         requires judged { judged (image_of job.now.ask) ≡ Accepts program }
-        ensures step { IsStep B.changes job.now ToInstall result share.old share.new }
+        ensures step { IsStep B.changes B.are_readings job.now ToInstall result share.old share.new }
         ensures ended { B.ended share.new.tallies ≡ B.ended share.old.tallies }
     {
         let receipt = Receipt::of(&program, 0);

@@ -17,6 +17,8 @@ mod client_tests;
 #[cfg(test)]
 mod command_tests;
 #[cfg(test)]
+mod counted_tests;
+#[cfg(test)]
 mod event_tests;
 #[cfg(test)]
 mod exchange_tests;

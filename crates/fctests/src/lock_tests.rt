@@ -5,7 +5,9 @@ use crate::feeder::{Feeder, Request, datagram};
 use crate::overtaking_tests::{COUNTER, CREATED, Held, Replies, Reply, Seen, Trial, hold};
 use fc_jobs::Sent;
 use fc_registry::{Job, Shard, SlotNumber};
-use fc_workers::{Bench, Books, Gate, Locked, ShardCall, Workshop, feed_workers, make_seats};
+use fc_workers::{
+    Bench, Books, Device, Gate, Locked, ShardCall, Workshop, feed_workers, make_seats,
+};
 use std::alloc::{AllocError, Global};
 use std::sync::Wait;
 use std::test::Fail;
@@ -44,7 +46,7 @@ pub(crate) trait Locks: Bench {
         ensures { F.post call result };
 }
 
-impl<B: Books> Locks for Locked<B> {
+impl<'a, B: Books, D: Device> Locks for Locked<'a, B, D> {
     fn hold<X, F: FnOnce() -> X + Drop, R: Wait>(&self, rt: &R, shard: u8, call: F) -> X {
         self.ask(rt, shard, WhileHeld { call })
     }

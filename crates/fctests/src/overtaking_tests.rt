@@ -7,14 +7,17 @@ use crate::job_tests::job;
 use crate::lock_tests::{Locks, ShardHeld};
 use arrayvec::ArrayVec;
 use coap_msg::Emission;
+use fc_help::{NO_READINGS, Readings};
 use fc_jobs::Sent;
 use fc_registry::SlotNumber;
 use fc_verify::{Verified, verify};
 use fc_workers::{
-    Bench, Blanks, Books, Gate, Locked, Moments, Share, Wire, Workshop, feed_workers, make_seats,
+    Bench, Blanks, Books, Device, Gate, Locked, Moments, Share, Wire, Workshop, feed_workers,
+    make_seats,
 };
 use std::alloc::{AllocError, Global};
 use std::marker::Brand;
+use std::sync::atomic::{AtomicUsize, Ordering};
 use std::sync::{Arc, Mutex, Wait};
 use std::test::Fail;
 use std::thread;
@@ -37,6 +40,8 @@ const UNAVAILABLE: u8 = 0xa3;
 pub(crate) struct Held<X: Drop, T: Drop> {
     pub(crate) given: X,
     pub(crate) tallies: Vec<T>,
+    // how often the device was read
+    pub(crate) readings: usize,
 }
 
 // How many times a thread looks, once a millisecond, for what another one is to do.
@@ -102,7 +107,11 @@ impl Replies {
             replies,
             overtakings,
         };
-        Ok(Held { given, tallies })
+        Ok(Held {
+            given,
+            tallies,
+            readings: 0,
+        })
     }
 }
 
@@ -397,6 +406,28 @@ impl Trial {
     }
 }
 
+// A device that has no sensor. It counts how often it is read.
+#[derive(Drop)]
+pub(crate) struct Bare {
+    reads: AtomicUsize,
+}
+
+impl Bare {
+    pub(crate) fn new() -> Bare {
+        Bare {
+            reads: AtomicUsize::new(0),
+        }
+    }
+}
+
+impl Device for Bare {
+    fn readings<R: Wait>(&self, rt: &R) -> Readings {
+        let _ = rt;
+        let _before = self.reads.fetch_add(1, Ordering::SeqCst);
+        NO_READINGS
+    }
+}
+
 // Holds a trial with a new server of empty slots and so many tallies: how many changes of shard 0 each of them counted.
 pub(crate) fn hold<R: Threads + Wait + Clock + Sync>(
     rt: &R,
@@ -420,7 +451,8 @@ fn hold_named<B: Books + Send + Sync, R: Threads + Wait + Clock + Sync>(
     requires names { AreNamed blanks B.names }
     requires books { blanks.parts ≡ B.parts }
 {
-    let (server, mut reserve) = Locked::<B>::new(alloc, 0, 0, blanks)?;
+    let device = Bare::new();
+    let (server, mut reserve) = Locked::<B, Bare>::new(alloc, 0, 0, &device, blanks)?;
     let tallies = reserve.split_each(alloc, usize::from(tallies))?;
     let held = trial.hold(rt, alloc, &server, tallies)?;
     let mut changes = Vec::new(alloc);
@@ -430,12 +462,13 @@ fn hold_named<B: Books + Send + Sync, R: Threads + Wait + Clock + Sync>(
     Ok(Held {
         given: held.given,
         tallies: changes,
+        readings: device.reads.load(Ordering::SeqCst),
     })
 }
 
 #[test]
 fn two_workers_run_at_once(rt: HostRuntime) -> Result<(), Fail> {
-    let Held { given, tallies } = hold(&rt, rt.alloc(), 2, &Trial::TwoAtOnce(TwoAtOnce))?;
+    let Held { given, tallies, .. } = hold(&rt, rt.alloc(), 2, &Trial::TwoAtOnce(TwoAtOnce))?;
     let Seen {
         replies,
         overtakings,
@@ -465,7 +498,11 @@ fn overtaken_runs_are_run_again(rt: HostRuntime) -> Result<(), Fail> {
         every: 15,
         runs: 1,
     };
-    let Held { given, tallies } = hold(&rt, rt.alloc(), 2, &Trial::Overtaken(overtaken))?;
+    let Held {
+        given,
+        tallies,
+        readings,
+    } = hold(&rt, rt.alloc(), 2, &Trial::Overtaken(overtaken))?;
     let Seen {
         replies,
         overtakings,
@@ -477,6 +514,8 @@ fn overtaken_runs_are_run_again(rt: HostRuntime) -> Result<(), Fail> {
     assert!(rt; replies.iter().all(|it| it.code == CHANGED));
     assert_eq!(rt; overtakings, 7);
     assert!(rt; tallies.as_slice() == [100, 8].as_slice());
+    // one reading of the device for each taking, of which seven were overtaken
+    assert_eq!(rt; readings, 107);
     Ok(())
 }
 
@@ -487,7 +526,11 @@ fn eight_overtakings_end_a_job(rt: HostRuntime) -> Result<(), Fail> {
         every: 1,
         runs: 8,
     };
-    let Held { given, tallies } = hold(&rt, rt.alloc(), 2, &Trial::Overtaken(overtaken))?;
+    let Held {
+        given,
+        tallies,
+        readings,
+    } = hold(&rt, rt.alloc(), 2, &Trial::Overtaken(overtaken))?;
     let Seen {
         replies,
         overtakings,
@@ -502,5 +545,6 @@ fn eight_overtakings_end_a_job(rt: HostRuntime) -> Result<(), Fail> {
     assert!(rt; replies.as_slice() == wanted.as_slice());
     assert_eq!(rt; overtakings, 8);
     assert!(rt; tallies.as_slice() == [0, 9].as_slice());
+    assert_eq!(rt; readings, 8);
     Ok(())
 }

@@ -1,6 +1,6 @@
 //! Pools: what a server comes to when its workers have come to their end.
 use crate::feeder::{PEER, Request, datagram};
-use crate::overtaking_tests::{COUNTER, Replies};
+use crate::overtaking_tests::{Bare, COUNTER, Replies};
 use fc_core::front::blank_emission;
 use fc_registry::SlotNumber;
 use fc_server::Begin;
@@ -38,6 +38,7 @@ fn a_pool_counts_the_changes_of_each_shard(rt: HostRuntime) -> Result<(), Fail> 
         begin: Begin { serial: 7, id: 0 },
         wire: &replies,
         moments: &replies,
+        device: &Bare::new(),
     };
     let mut err = Vec::new(rt.alloc());
     let installs = Installs { alloc: rt.alloc() };

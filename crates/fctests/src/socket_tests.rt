@@ -475,3 +475,75 @@ fn eight_clients_count_right(rt: HostRuntime) -> Result<(), Fail> {
     check_logged(&rt, memory, "sent 978 failed 0");
     Ok(())
 }
+
+// An image of the second version that replies all of its readings: `mov64 r1, r4`, `mov64 r2, 64`, `call 5`, `mov64 r0, 0`, `exit`.
+static READER: [u8; 56] = [
+    0x46, 0x43, 0x42, 0x32, 0x00, 0x00, 0x05, 0x00, 0x05, 0x00, 0x00, 0x00, 0x00, 0x00, 0x00, 0x00,
+    0xbf, 0x41, 0x00, 0x00, 0x00, 0x00, 0x00, 0x00, 0xb7, 0x02, 0x00, 0x00, 0x40, 0x00, 0x00, 0x00,
+    0x85, 0x00, 0x00, 0x00, 0x05, 0x00, 0x00, 0x00, 0xb7, 0x00, 0x00, 0x00, 0x00, 0x00, 0x00, 0x00,
+    0x95, 0x00, 0x00, 0x00, 0x00, 0x00, 0x00, 0x00,
+];
+
+// The readings that `GET /r/0` is answered with: those 64 bytes behind the head, the token, the ETag and the payload marker.
+fn readings_of(client: &UdpSocket, server: SocketAddrV4, id: u8) -> io::Result<[u8; 64]> {
+    client.send_to(&[0x40, 0x01, 0x00, id, 0xb1, b'r', 0x01, b'0'], server)?;
+    let mut answer = [0; 128];
+    let (count, _from) = client.recv_from(&mut answer)?;
+    let mut readings = [0; 64];
+    if let Some(bytes) = answer[..count].strip_prefix(b"\x60\x45\x00")
+        && let Some(place) = bytes.get(11..75)
+    {
+        readings.copy_from_slice(place);
+    }
+    Ok(readings)
+}
+
+// Has the program installed, and asks it after 300 ms.
+fn ask_for_readings<R: Abort + Net + Clock + AllocGlobal>(rt: &R, port: u16) -> Result<(), Fail> {
+    let server = SocketAddrV4::new(Ipv4Addr::LOCALHOST, port);
+    // version=1 cost=5 budget=5 vars=0
+    let receipt = "2.01\n76657273696f6e3d3120636f73743d35206275646765743d3520766172733d30\n";
+    check_asked(
+        rt,
+        port,
+        Method::Put,
+        "/p/0",
+        &READER,
+        Status::Done,
+        receipt,
+    );
+    let client = open(rt, at_port(0))?;
+    client.set_read_timeout(Some(Duration::from_secs(5)))?;
+    thread::sleep(rt, Duration::from_millis(300));
+    let readings = readings_of(&client, server, 9)?;
+    let [low, high, others @ ..] = &readings;
+    let moment = u16::from_le_bytes([*low, *high]);
+    assert!(rt; moment >= 300, "{moment}");
+    assert!(rt; others.iter().all(|byte| *byte == 0));
+    Ok(())
+}
+
+// A device that has a clock alone reads the milliseconds since the server began, the least byte first, and zeros.
+fn check_clock<R: Abort + AllocGlobal + Threads + Wait + Clock + Net + Sync>(
+    rt: &R,
+    workers: u8,
+) -> Result<(), Fail> {
+    let alloc = rt.alloc();
+    let socket = open(rt, at_port(0))?;
+    let port = socket.local_addr()?.port();
+    let extent = Extent { workers, limit: 2 };
+    let ((status, _memory), asked) = thread::join(
+        rt,
+        || serve_logged(rt, alloc, &socket, extent),
+        || ask_for_readings(rt, port),
+    );
+    asked?;
+    assert!(rt; status == Status::Done);
+    Ok(())
+}
+
+#[test]
+fn a_server_s_readings_are_its_clock(rt: HostRuntime) -> Result<(), Fail> {
+    check_clock(&rt, 1)?;
+    check_clock(&rt, 2)
+}

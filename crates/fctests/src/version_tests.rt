@@ -1,8 +1,5 @@
 // Images of the second version: the expected bytes are worked out by hand.
 use crate::post_tests::check_played;
-use fc_cli::Status;
-use fc_service::play::play;
-use std::process::Abort;
 use std::test::Fail;
 
 // Slot 0 is read from the readings' last eight bytes on: `ldxdw r0, r4, 56` and `exit`. The first version finds R4 unset; a byte
@@ -53,23 +50,16 @@ fn readings_are_replied(rt: HostRuntime) -> Result<(), Fail> {
     Ok(())
 }
 
-// The same with readings of `aa bb` and zeros, which a line sets. Workers hand zeros in so far.
+// The same with readings of `aa bb` and zeros, which a line sets.
 #[test]
 fn readings_of_a_line_are_replied(rt: HostRuntime) -> Result<(), Fail> {
-    let alloc = rt.alloc();
-    let mut out = Vec::new(alloc);
-    let mut err = Vec::new(alloc);
-    let lines =
+    check_played(
+        &rt,
         "0 1 40030001b1700132ff46434232000005000500000000000000bf41000000000000b7020000020000008500000005000000b7000000000000009500000000000000\n\
          0 dev aabb0000000000000000000000000000000000000000000000000000000000000000000000000000000000000000000000000000000000000000000000000000\n\
-         0 1 4101500071b1720132\n";
-    let status = play(alloc, lines.as_bytes(), &mut out, &mut err, 0, 0);
-    assert!(rt;
-        status == Status::Done
-            && out.as_slice()
-                == "1 60410001ff76657273696f6e3d3120636f73743d35206275646765743d3520766172733d30\n\
-                     1 6145500071480000000000000001ffaabb\n"
-                    .as_bytes()
+         0 1 4101500071b1720132\n",
+        "1 60410001ff76657273696f6e3d3120636f73743d35206275646765743d3520766172733d30\n\
+         1 6145500071480000000000000001ffaabb\n",
     );
     Ok(())
 }

@@ -3,4 +3,4 @@ use Rattle.fc_workers.specs.Shares.{HasEnded}
 use Rattle.fc_workers.proofs.seat.worker.Given as goal
 
 abbrev pub invariant-loop : goal.invariant-loop
-invariant-loop g l = (goal.iterator-loop g).can_next l.iterator' × (goal.iterator-loop g).is_finite l.iterator' × (l.share.got.channel ≡ l.jobs) × (l.tools.heads.table ≡ l.initial.tools.heads.table) × HasEnded g.B.Bench.changes g.B.Bench.ended g.M.Moments.is_moment l.initial.share l.share
+invariant-loop g l = (goal.iterator-loop g).can_next l.iterator' × (goal.iterator-loop g).is_finite l.iterator' × (l.share.got.channel ≡ l.jobs) × (l.tools.heads.table ≡ l.initial.tools.heads.table) × HasEnded g.B.Bench.changes g.B.Bench.ended g.B.Bench.are_readings g.M.Moments.is_moment l.initial.share l.share

@@ -4,7 +4,7 @@ use Rattle.fc_workers.proofs.Steps.{Walked}
 use Rattle.fc_workers.proofs.workshop.Workshop.work_off.Given as goal
 
 abbrev pub invariant-calls : goal.invariant-calls
-invariant-calls g l = (l.tools.heads.table ≡ l.initial.tools.heads.table) × Walked g.B.Bench.changes l.job l.stage l.initial.share l.share × (g.B.Bench.ended l.share.tallies ≡ g.B.Bench.ended l.initial.share.tallies)
+invariant-calls g l = (l.tools.heads.table ≡ l.initial.tools.heads.table) × Walked g.B.Bench.changes g.B.Bench.are_readings l.job l.stage l.initial.share l.share × (g.B.Bench.ended l.share.tallies ≡ g.B.Bench.ended l.initial.share.tallies)
 
 abbrev pub decreases-calls : goal.decreases-calls
 decreases-calls g l = calls_left l.stage

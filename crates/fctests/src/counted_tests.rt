@@ -1,0 +1,77 @@
+// A shard beside a book of its own: what its calls count.
+ghost use Rattle.std.specs.Prelude.{◌≡◌, ◌<◌};
+
+use crate::job_tests::job;
+use crate::overtaking_tests::COUNTER;
+use fc_help::{Method, NO_READINGS, Request};
+use fc_machine::{Frame, run};
+use fc_registry::{Ask, Committed, Job, Shard, SlotNumber, Taken};
+use fc_verify::verify;
+use fc_workers::calls::Take;
+use fc_workers::{Counted, Tally};
+use std::alloc::Global;
+use std::marker::Brand;
+use std::sync::Arc;
+use std::sync::ledger::{Blank, Ledger};
+use std::test::Fail;
+
+// A POST of slot 3, which shard 3 owns.
+fn post() -> Job
+    ensures { result.origin.slot ≡ 3 }
+{
+    let mut post = job(0);
+    post.origin.slot = SlotNumber::new(3);
+    post.ask = Ask::Run(Request::new(Method::Post, 3, None, &[], &[]));
+    post
+}
+
+// Takes what the job finds, and commits its run: whether the commit is of serial 8.
+fn commit<L: Ledger>(
+    alloc: Global,
+    counted: &mut Counted<L>,
+    tally: &mut Tally<L>,
+    job: &Job,
+) -> Result<bool, Fail>
+    requires index { counted.old.shard.index ≡ 3 }
+    requires slot { job.now.origin.slot ≡ 3 }
+    ensures { counted.new.shard.index ≡ 3 }
+{
+    let readings = &NO_READINGS;
+    let Taken::Given(ticket) = counted.ask(Take { job, readings }) else {
+        return Ok(false);
+    };
+    let mut frame = Frame::new(alloc)?;
+    let (program, request) = (ticket.program(), ticket.request());
+    let outcome = run(&mut frame, program, request, ticket.vars(), readings);
+    if ticket.origin().slot == SlotNumber::new(3) {
+        match counted.commit(0, &outcome, &ticket, tally) {
+            Committed::Done(mark) => return Ok(mark.spend() == 8),
+            Committed::Overtaken | Committed::Ended | Committed::Stranger => {}
+        }
+    }
+    Ok(false)
+}
+
+// An install, a commit and a removal, and a removal of nothing: the slot's serial at the end, and how many changes the tally shows.
+fn change<L: Ledger>(alloc: Global, blank: Blank) -> Result<(u64, u64), Fail>
+    requires name { blank.name ≡ L.name }
+    requires parts { (blank.parts ≡ L.parts) × (0 < blank.parts) }
+{
+    let shard = Shard::new(alloc, 3, 7)?;
+    let (mut counted, mut tally) = Counted::<L>::open(shard, blank);
+    let job = post();
+    let program = Arc::new(alloc, verify(alloc, COUNTER).map_err(|_| "accepted")?)?;
+    let _made = counted.install(&job, program, &mut tally);
+    let has_run = commit(alloc, &mut counted, &mut tally, &job)?;
+    let _removal = counted.remove(&job, &mut tally);
+    let _removal = counted.remove(&job, &mut tally);
+    let shown = if has_run { tally.shown() } else { 0 };
+    Ok((counted.shard().serial(SlotNumber::new(3)), shown))
+}
+
+#[test]
+fn each_change_is_counted_once(rt: HostRuntime) -> Result<(), Fail> {
+    let blank = Blank::new(1);
+    assert!(rt; change::<Brand>(rt.alloc(), blank)? == (10, 3));
+    Ok(())
+}
