@@ -55,10 +55,10 @@ NOT_OURS = f"UDP {NOWHERE}:{PORT}: Cannot assign requested address (os error 99)
 
 # A rule that is broken, and what is told of it beside.
 V01, V02 = "V01 slot 0", "V02 slot 0"
-WHY_V01 = """rule: under 16 bytes, no `FCB1` in front, or a length that isn't 16 + 8 times the count of slots
+WHY_V01 = """rule: under 16 bytes, no `FCB1` or `FCB2` in front, or a length that isn't 16 + 8 times the count of slots
 change: write the image by `fcasm image`, and hand it on whole"""
-WHY_V02 = """rule: the count of slots isn't 1 to 512
-change: write 1 to 512 slots; a wide load takes two"""
+WHY_V02 = """rule: the count of slots isn't 1 to 512, or in the second version 1 to 1024
+change: write 1 to 512 slots, in the second version 1024 at most; a wide load takes two"""
 
 # Who writes something, and what it reads for that.
 WRITERS = [

@@ -67,8 +67,8 @@ fn is_device(second: &[u8]) -> bool
     second == b"dev".as_slice()
 }
 
-// The 64 bytes that 128 hex digits of either case spell.
-fn readings(digits: &[u8]) -> Option<[u8; 64]>
+/// The device's readings, 64 bytes, by 128 hex digits of either case.
+pub fn readings(digits: &[u8]) -> Option<[u8; 64]>
     ensures { MatchOption result ((bytes : List ℕ) → decode_sized digits.now 64 ≡ Ok bytes → ⊥)
         (λ readings. decode_sized digits.now 64 ≡ Ok readings) }
 {

@@ -1,8 +1,8 @@
 -- Events as lines of text.
-use Rattle.std.specs.Prelude.{◌≡◌, ◌==◌, ℕ, ◌<◌, ◌≤◌, ◌^◌, List, ◌∷◌, ◌++◌, Bool, true, false, length, map, Option, Ok, codes}
+use Rattle.std.specs.Prelude.{◌≡◌, ◌⊎◌, ◌==◌, ℕ, ◌<◌, ◌≤◌, ◌^◌, List, ◌∷◌, ◌++◌, Bool, true, false, length, map, Option, Ok, codes}
 use Rattle.std.specs.Borrow.{Bor}
 use Rattle.std.specs.List.{Contains, slice_split}
-use Rattle.hex.specs.Hex.{decode_of}
+use Rattle.hex.specs.Hex.{decode_of, decode_sized}
 use Rattle.fc_core.specs.declared.event.Event.{Event}
 use Rattle.fc_core.specs.declared.event.Event.TheVariants.{Deliver, Peek, Take, Commit, Install, Remove, Receipt, Raise, Answer, Due, Fresh, Note, GiveUp, Signal, Tick, ShardTick, Lose}
 use Rattle.coap_msg.specs.declared.types.Endpoint.{Endpoint}
@@ -38,12 +38,12 @@ pub record HasNumber (parts : List Bytes) (key : Bytes) (limit n : ℕ) : Type 0
   pub below : n < limit
 
 -- a part is 0 or 1
-abbrev pub digit_of : Bool → Bytes
-digit_of false = codes "0"
-digit_of true = codes "1"
+abbrev pub flag_digit : Bool → Bytes
+flag_digit false = codes "0"
+flag_digit true = codes "1"
 
 abbrev pub HasFlag : List Bytes → Bytes → Bool → Type 0
-HasFlag parts key flag = HasPart parts key (digit_of flag)
+HasFlag parts key flag = HasPart parts key (flag_digit flag)
 
 abbrev pub HasJob : List Bytes → ℕ → Type 0
 HasJob parts job = HasNumber parts (codes "job") (2 ^ 64) job
@@ -66,6 +66,16 @@ pub record HasData (words : List Bytes) (bytes : List ℕ) : Type 0 where
   pub part : HasPart words (codes "data") digits
   pub bytes_are : decode_of digits ≡ Ok bytes
 
+-- beside a taking's job and memory one part more is `readings=hex`, with 128 hex digits, or there is none and they are zeros
+pub record AreSpelled (parts : List Bytes) (readings : List ℕ) : Type 0 where
+  pub digits : Bytes
+  pub part : HasPart parts (codes "readings") digits
+  pub bytes_are : decode_sized digits 64 ≡ Ok readings
+  pub count : length parts ≡ 3
+
+abbrev pub HasReadings : List Bytes → List ℕ → Type 0
+HasReadings parts readings = AreSpelled parts readings ⊎ ((length parts ≡ 2) × (readings ≡ no_readings))
+
 -- a name with so many parts
 abbrev pub IsForm : Bytes → List Bytes → Bytes → ℕ → Type 0
 IsForm name parts wanted count = (name ≡ wanted) × (length parts ≡ count)
@@ -76,7 +86,7 @@ IsEventOf name parts (Deliver now endpoint sent) =
     IsForm name parts (codes "Deliver") 3 × HasMoment parts now × HasEndpoint parts endpoint × HasData (name ∷ parts) sent.now
 IsEventOf name parts (Peek job slot) = IsForm name parts (codes "Peek") 2 × HasJob parts job × HasNumber parts (codes "slot") 256 slot
 IsEventOf name parts (Take job memory readings) =
-    IsForm name parts (codes "Take") 2 × HasJob parts job × HasFlag parts (codes "memory") memory × (readings ≡ no_readings)
+    (name ≡ codes "Take") × HasJob parts job × HasFlag parts (codes "memory") memory × HasReadings parts readings
 IsEventOf name parts (Commit job now) = IsForm name parts (codes "Commit") 2 × HasJob parts job × HasMoment parts now
 IsEventOf name parts (Install job memory) = IsForm name parts (codes "Install") 2 × HasJob parts job × HasFlag parts (codes "memory") memory
 IsEventOf name parts (Remove job) = IsForm name parts (codes "Remove") 1 × HasJob parts job

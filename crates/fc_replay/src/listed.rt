@@ -7,7 +7,7 @@ use coap_msg::Endpoint;
 use fc_help::NO_READINGS;
 use fc_lines::emission::endpoint;
 use fc_lines::hexadecimal::decode;
-use fc_lines::line::{LineError, byte, number};
+use fc_lines::line::{LineError, byte, number, readings};
 use fc_registry::LAST_SERIAL;
 use fc_server::Begin;
 use fc_world::Event;
@@ -299,6 +299,11 @@ fn with_three<'a>(name: &str, parts: &[&str], datagram: &'a Option<Vec<u8>>) -> 
             }),
             None => None,
         },
+        "Take" => Some(Event::Take {
+            job: index(parts, "job")?,
+            memory: flag(parts, "memory")?,
+            readings: readings(value(parts, "readings")?.as_bytes())?,
+        }),
         "Note" => Some(Event::Note {
             job: index(parts, "job")?,
             now: long(parts, "now")?,

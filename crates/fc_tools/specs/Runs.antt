@@ -1,8 +1,9 @@
 -- What a program is asked in a run, and what is told of it.
-use Rattle.std.specs.Prelude.{◌≡◌, ℕ, Bool, true, false, List, [], ◌∷◌, ◌++◌, Option, Some, None, Ok, codes, replicate}
+use Rattle.std.specs.Prelude.{◌≡◌, ◌≤◌, ℕ, length, Bool, true, false, List, [], ◌∷◌, ◌++◌, Option, Some, None, Ok, codes, replicate}
 use Rattle.std.specs.Fmt.{decimal}
 use Rattle.hex.specs.Hex.{decode_of, encode_lower}
 use Rattle.coap_msg.specs.Codes.{code_text}
+use Rattle.fc_help.specs.Region.{padded}
 use Rattle.fc_help.specs.Request.{Request, request_with}
 use Rattle.fc_help.specs.declared.request.Method.{Method}
 use Rattle.fc_kinds.specs.Meaning.{Meaning}
@@ -12,6 +13,13 @@ pub record IsAskedBy (method : Method) (payload query : List ℕ) (r : Request) 
   pub payload_is : decode_of payload ≡ Ok r.payload
   pub query_is : decode_of query ≡ Ok r.query
   pub rest : r ≡ request_with method 0 None r.query r.payload
+
+-- the digits spell how the readings begin, and zeros follow
+pub record SpellReadings (digits readings : List ℕ) : Type 0 where
+  pub bytes : List ℕ
+  pub bytes_are : decode_of digits ≡ Ok bytes
+  pub few : length bytes ≤ 64
+  pub readings_are : readings ≡ padded 64 bytes
 
 -- bytes by hex digits, or `-` where there are none
 abbrev pub hex_or_dash : List ℕ → List ℕ

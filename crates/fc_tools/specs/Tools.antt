@@ -1,8 +1,9 @@
 -- What the tools make of a text and of an image.
-use Rattle.std.specs.Prelude.{◌≡◌, ℕ, ◌++◌, List, length, drop, None}
+use Rattle.std.specs.Prelude.{◌≡◌, ℕ, ◌++◌, List, length, drop, codes, Option, Some, None}
 use Rattle.fc_isa.specs.declared.insn.Insn.{Insn}
 use Rattle.fc_isa.specs.Encoding.{Spells, encoded}
 use Rattle.fc_isa.specs.declared.version.ImageVersion.{ImageVersion}
+use Rattle.fc_isa.specs.declared.version.ImageVersion.TheVariants.{One, Two}
 use Rattle.fc_image.specs.Head.{head_bytes, head_fault, limit_fault, Head}
 use Rattle.fc_image.specs.Paths.{IsLongest}
 use Rattle.fc_asm.specs.Syntax.{lines_of}
@@ -13,6 +14,13 @@ use Rattle.fc_tools.specs.Numbered.{numbered_from}
 -- the header of a program
 abbrev pub program_head : ℕ → ℕ → ImageVersion → List Insn → Head
 program_head vars_size budget version program = record { version = version; vars_size = vars_size; count = length program; budget = budget }
+
+-- the version that a word names, or none; where there is no word, it is the first
+abbrev pub NamesVersion : Option (List ℕ) → ImageVersion → Type 0
+NamesVersion None One = Unit {0}
+NamesVersion (Some word) One = word ≡ codes "1"
+NamesVersion (Some word) Two = word ≡ codes "2"
+NamesVersion word version = ⊥
 
 -- the text is assembled to a program, and the image is its header and its slots
 pub record IsImageOf (text : List ℕ) (vars_size budget : ℕ) (version : ImageVersion) (image : List ℕ) : Type 0 where

@@ -1,24 +1,28 @@
 //! What a program is asked in a run, by hex digits.
 ghost use Rattle.std.specs.Prelude.{IfOk, None, length, option_copied, ◌≡◌, ◌≤◌};
 ghost use Rattle.hex.specs.Hex.{decode_of};
-ghost use Rattle.fc_tools.specs.Runs.{AreHex, IsAskedBy};
+ghost use Rattle.fc_help.specs.Region.{no_readings, padded};
+ghost use Rattle.fc_tools.specs.Runs.{AreHex, IsAskedBy, SpellReadings};
 
 use fc_cli::Status;
+use fc_help::readings::READINGS;
 use fc_help::request::{PAYLOAD, QUERY};
 use fc_help::vars::VARS;
-use fc_help::{Method, Request, Vars};
+use fc_help::{Method, NO_READINGS, Readings, Request, Vars};
 use hex::FromHexError;
 use std::alloc::Global;
 use std::fmt;
 use thiserror::Error;
 
-/// What a program is asked, and the variables that it finds.
+/// What a program is asked, and the variables and the readings that it finds.
 #[derive(Drop)]
 pub struct Asked {
     /// A GET or POST of slot 0, whose payload has no Content-Format.
     pub request: Request,
     /// The variables; zeros where they aren't given.
     pub vars: Option<Vars>,
+    /// The readings of the device.
+    pub readings: Readings,
 }
 
 /// What is given by hex digits.
@@ -27,6 +31,7 @@ pub enum Part {
     Payload,
     Query,
     Variables,
+    Readings,
 }
 
 impl fmt::Display for Part {
@@ -35,6 +40,7 @@ impl fmt::Display for Part {
             Part::Payload => "the payload's",
             Part::Query => "the query's",
             Part::Variables => "the variables'",
+            Part::Readings => "the readings'",
         })
     }
 }
@@ -64,7 +70,8 @@ impl AskedError {
 }
 
 impl Asked {
-    /// A GET or POST of slot 0 with this payload and query, and these variables, if they are given: hex digits of either case.
+    /// A GET or POST of slot 0 with this payload and query, and these variables, if they are given: hex digits of either case. The
+    /// readings are zeros.
     ///
     /// # Errors
     /// One of them isn't hex digits, or has more bytes than a request (payload 1,024, query 64) or a program (variables 256) may
@@ -78,6 +85,7 @@ impl Asked {
     ) -> Result<Asked, AskedError>
         ensures request { IfOk result (λ a. IsAskedBy method payload.now query.now a.request) }
         ensures vars { IfOk result (λ a. AreHex (option_copied vars.entry) a.vars) }
+        ensures readings { IfOk result (λ a. a.readings ≡ no_readings) }
     {
         let payload = bytes(alloc, Part::Payload, payload, PAYLOAD)?;
         let query = bytes(alloc, Part::Query, query, QUERY)?;
@@ -85,8 +93,39 @@ impl Asked {
         Ok(Asked {
             request: Request::new(method, 0, None, &query, &payload),
             vars,
+            readings: NO_READINGS,
         })
     }
+
+    /// The same, but these hex digits of either case spell how the readings begin: 64 bytes at most, and zeros after them.
+    ///
+    /// # Errors
+    /// They aren't hex digits, or spell more bytes; or memory was refused.
+    pub fn with_readings(self, alloc: Global, digits: &str) -> Result<Asked, AskedError>
+        ensures spelled { IfOk result (λ a. SpellReadings digits.now a.readings) }
+        ensures rest { IfOk result (λ a. a ≡ record self { readings = a.readings }) }
+    {
+        let readings = readings(alloc, digits)?;
+        Ok(Asked { readings, ..self })
+    }
+}
+
+/// The readings that hex digits spell.
+fn readings(alloc: Global, digits: &str) -> Result<Readings, AskedError>
+    ensures { IfOk result (SpellReadings digits.now) }
+{
+    let bytes = bytes(alloc, Part::Readings, digits, READINGS)?;
+    Ok(padded(&bytes))
+}
+
+/// Readings that begin with these bytes, and have zeros behind them.
+fn padded(bytes: &[u8]) -> Readings
+    requires { length bytes.now ≤ 64 }
+    ensures { result ≡ padded 64 bytes.now }
+{
+    let mut readings = NO_READINGS;
+    readings[..bytes.len()].copy_from_slice(bytes);
+    readings
 }
 
 /// The variables, if they are given.

@@ -14,3 +14,4 @@ pub mod reads;
 pub mod rules;
 pub mod running;
 pub mod tools;
+pub mod version;

@@ -7,8 +7,8 @@ use fc_isa::Rule;
 pub fn rule_text(rule: Rule) -> &'static str {
     match rule {
         Rule::Format =>
-            "under 16 bytes, no `FCB1` in front, or a length that isn't 16 + 8 times the count of slots",
-        Rule::SlotCount => "the count of slots isn't 1 to 512",
+            "under 16 bytes, no `FCB1` or `FCB2` in front, or a length that isn't 16 + 8 times the count of slots",
+        Rule::SlotCount => "the count of slots isn't 1 to 512, or in the second version 1 to 1024",
         Rule::VarsSize => "the size of the variables isn't a multiple of 8 up to 256",
         Rule::Budget => "the budget isn't 1 to 65536",
         Rule::Reserved => "bytes 12 to 15 of the header aren't zero",
@@ -23,13 +23,13 @@ pub fn rule_text(rule: Rule) -> &'static str {
             "a jump into another function, or a function whose last instruction isn't `exit`",
         Rule::BackwardCall => "a `callf` that doesn't lead to a later slot",
         Rule::FrameDepth =>
-            "calls that nest more than four frames, the first function's among them",
+            "calls that nest more than four frames, or in the second version eight, the first function's among them",
         Rule::Cost => "the longest path is above the budget",
         Rule::Helper => "a call of a helper that isn't 1 to 7",
         Rule::UnsetRegister => "a register is read of which nothing is known",
         Rule::OperandKind => "a pointer where a number is wanted, or the reverse",
         Rule::Access => "an access that may lie outside its region",
-        Rule::RequestStore => "a store into the request",
+        Rule::RequestStore => "a store into the request or the readings",
         Rule::PointerStore => "a pointer is stored",
         Rule::ExitValue => "an `exit` where r0 may not be a number",
         Rule::PointerStep =>
@@ -51,7 +51,8 @@ pub fn remedy(rule: Rule, cause: &Cause) -> &'static str {
 fn rule_remedy(rule: Rule) -> &'static str {
     match rule {
         Rule::Format => "write the image by `fcasm image`, and hand it on whole",
-        Rule::SlotCount => "write 1 to 512 slots; a wide load takes two",
+        Rule::SlotCount =>
+            "write 1 to 512 slots, in the second version 1024 at most; a wide load takes two",
         Rule::VarsSize => "give `--vars` a multiple of 8, at most 256",
         Rule::Budget => "give `--budget` a number from 1 to 65536",
         Rule::Reserved => "write the image by `fcasm image`",
@@ -71,11 +72,11 @@ fn rule_remedy(rule: Rule) -> &'static str {
             "give a greater budget, 65536 at most, as `--budget auto` does, or shorten the longest path; a function called twice costs twice",
         Rule::Helper => "call one of the helpers 1 to 7",
         Rule::UnsetRegister =>
-            "set it on each way that leads here; r1 to r5 are unset after each call, r0 and r4 to r9 at the program's start, r0 and r6 to r9 at a function's",
+            "set it on each way that leads here; r1 to r5 are unset after each call, r0, r4 (in the first version) and r5 to r9 at the program's start, r0 and r6 to r9 at a function's",
         Rule::OperandKind =>
             "a load or store needs a pointer as its base; of arithmetic only `mov64`, `add64` and `sub64` take one; keep numbers and pointers in registers of their own",
         Rule::Access =>
-            "keep it in the region: the request's bytes 0 to 1103, a frame's -256 to -1, as many variables as `--vars` says; compare an index first, so that its greatest value lies in it",
+            "keep it in the region: the request's bytes 0 to 1103, the readings' 0 to 63, a frame's -256 to -1, as many variables as `--vars` says; compare an index first, so that its greatest value lies in it",
         Rule::RequestStore => "store into the stack frame or the variables",
         Rule::PointerStore => "store numbers; keep a pointer in r6 to r9",
         Rule::ExitValue => "set r0 to a number on each way to the exit",

@@ -1,28 +1,27 @@
 //! Running a program once, as the server does.
 ghost use Rattle.std.specs.Prelude.{IfOk, length, string_bytes, ◌≡◌};
-ghost use Rattle.fc_help.specs.Region.{no_readings};
 ghost use Rattle.fc_machine.specs.Ran.{meaning_of, ran};
 ghost use Rattle.fc_tools.specs.Runs.{found_by, hex_or_dash, report_text};
 
 use crate::asked::Asked;
 use crate::tools::ToolError;
 use coap_msg::Code;
-use fc_help::{NO_READINGS, Vars};
+use fc_help::Vars;
 use fc_machine::{Frame, Outcome, run};
 use fc_verify::Verified;
 use std::alloc::{AllocError, Global};
 
-/// Runs a program once, with readings of zeros, and tells what came of it in lines: the reply's code, the reply and the variables after in hex digits, or
+/// Runs a program once, and tells what came of it in lines: the reply's code, the reply and the variables after in hex digits, or
 /// `-` where there are none, the steps, and whether a notice was given.
 ///
 /// # Errors
 /// The variables that are given have another size than the program's; or memory was refused.
 pub fn report(alloc: Global, program: &Verified, asked: &Asked) -> Result<String, ToolError>
-    ensures { IfOk result (λ s. string_bytes s ≡ report_text (meaning_of (ran program.now asked.now.request (found_by program.now.vars_size asked.now.vars) no_readings))) }
+    ensures { IfOk result (λ s. string_bytes s ≡ report_text (meaning_of (ran program.now asked.now.request (found_by program.now.vars_size asked.now.vars) asked.now.readings))) }
 {
     let found = variables(program, &asked.vars)?;
     let mut frame = Frame::new(alloc)?;
-    let outcome = run(&mut frame, program, &asked.request, &found, &NO_READINGS);
+    let outcome = run(&mut frame, program, &asked.request, &found, &asked.readings);
     Ok(outcome_text(alloc, &outcome)?)
 }
 

@@ -6,10 +6,10 @@ use fc_cli::Status;
 use fc_cli::command_line::{VERSION, exit_code, parse, words};
 use fc_cli::status::tell;
 use fc_help::Method;
-use fc_isa::ImageVersion;
 use fc_tools::asked::{Asked, AskedError};
 use fc_tools::budget::Budget;
 use fc_tools::tools::{check, expand, image, image_bytes, list, run as run_input, run_image};
+use fc_tools::version::version_named;
 use std::alloc::{AllocError, Global};
 use std::io::{BufReader, BufWriter, Read, Write};
 use std::process::ExitCode;
@@ -105,6 +105,11 @@ fn run_command<'a>(alloc: Global) -> Result<Command<'a>, AllocError> {
             alloc,
             "vars",
             "The variables in hex, as many bytes as the image says; zeros where they are not given",
+        ))?
+        .arg(hex_bytes(
+            alloc,
+            "readings",
+            "The device's readings in hex, 64 bytes at most; zeros after them",
         ))
 }
 
@@ -183,12 +188,13 @@ fn write_image<R: Read, W: Write, E: Write>(
     err: &mut E,
     numbers: &ArgMatches<'_>,
 ) -> Status {
-    let version = match numbers.get_str("format") {
-        Some("2") => ImageVersion::Two,
-        _ => ImageVersion::One,
-    };
-    match (numbers.get_one::<u16>("vars"), numbers.get_str("budget")) {
-        (Some(vars), Some(budget)) => match budget.parse::<Budget>() {
+    let version = version_named(numbers.get_str("format"));
+    match (
+        version,
+        numbers.get_one::<u16>("vars"),
+        numbers.get_str("budget"),
+    ) {
+        (Some(version), Some(vars), Some(budget)) => match budget.parse::<Budget>() {
             Ok(budget) => image(alloc, input, out, err, vars, budget, version),
             Err(error) => tell(err, &error, Status::Bad),
         },
@@ -222,7 +228,8 @@ fn asked_by(alloc: Global, words: &ArgMatches<'_>) -> Result<Asked, AskedError> 
     };
     let payload = words.get_str("payload").unwrap_or("");
     let query = words.get_str("query").unwrap_or("");
-    Asked::new(alloc, method, payload, query, words.get_str("vars"))
+    let readings = words.get_str("readings").unwrap_or("");
+    Asked::new(alloc, method, payload, query, words.get_str("vars"))?.with_readings(alloc, readings)
 }
 
 // Runs the image of this file.

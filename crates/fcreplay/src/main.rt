@@ -19,6 +19,9 @@ An event is its name and its parts in any order, parted by single spaces:
   Take job=0 memory=1
   Commit job=0 now=5
 
+A Take may have `readings=` with 128 hex digits, what its program reads of the device; else they
+are zeros.
+
 A first line `Begin serial=S id=I` has empty slots begin at serial S, 0 to 2^63 - 1, and the
 server draw message id I, 0 to 65535, first; else both are 0. Jobs are numbered from 0 in the
 order of their coming; moments are in milliseconds. For each event `none` is printed, or the

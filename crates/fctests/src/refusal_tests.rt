@@ -18,14 +18,14 @@ static IMAGES: [(&[u8], &str, &str); 10] = [
     (
         b"FCB1",
         "V01 slot 0\n",
-        "rule: under 16 bytes, no `FCB1` in front, or a length that isn't 16 + 8 times the count of slots\n\
+        "rule: under 16 bytes, no `FCB1` or `FCB2` in front, or a length that isn't 16 + 8 times the count of slots\n\
         change: write the image by `fcasm image`, and hand it on whole\n",
     ),
     (
         b"FCB1\x00\x00\x00\x00\x01\x00\x00\x00\x00\x00\x00\x00",
         "V02 slot 0\n",
-        "rule: the count of slots isn't 1 to 512\n\
-        change: write 1 to 512 slots; a wide load takes two\n",
+        "rule: the count of slots isn't 1 to 512, or in the second version 1 to 1024\n\
+        change: write 1 to 512 slots, in the second version 1024 at most; a wide load takes two\n",
     ),
     (
         b"FCB1\x07\x00\x01\x00\x01\x00\x00\x00\x00\x00\x00\x00\x95\x00\x00\x00\x00\x00\x00\x00",
@@ -128,7 +128,7 @@ static FLOWS: [(&[u8], u32, &str, &str); 9] = [
         b"callf 1\nexit\ncallf 1\nexit\ncallf 1\nexit\ncallf 1\nexit\nmov64 r0, 0\nexit",
         100,
         "V15 slot 0\n",
-        "rule: calls that nest more than four frames, the first function's among them\n\
+        "rule: calls that nest more than four frames, or in the second version eight, the first function's among them\n\
         change: put the text of an inner function in place of its call\n",
     ),
     // 4 for each call, and 2
@@ -217,7 +217,7 @@ static UNTYPED: [(&[u8], u16, &str, &str); 16] = [
         "rule: a register is read of which nothing is known\n\
         slot 0: mov64 r0, r5\n\
         r5: nothing\n\
-        change: set it on each way that leads here; r1 to r5 are unset after each call, r0 and r4 to r9 at the program's start, r0 and r6 to r9 at a function's\n",
+        change: set it on each way that leads here; r1 to r5 are unset after each call, r0, r4 (in the first version) and r5 to r9 at the program's start, r0 and r6 to r9 at a function's\n",
     ),
     // behind a helper's call R1 is unset
     (
@@ -228,7 +228,7 @@ static UNTYPED: [(&[u8], u16, &str, &str); 16] = [
         slot 1: jgt r0, r1, 0\n\
         r0: a number from 0 to 1024\n\
         r1: nothing\n\
-        change: set it on each way that leads here; r1 to r5 are unset after each call, r0 and r4 to r9 at the program's start, r0 and r6 to r9 at a function's\n",
+        change: set it on each way that leads here; r1 to r5 are unset after each call, r0, r4 (in the first version) and r5 to r9 at the program's start, r0 and r6 to r9 at a function's\n",
     ),
     (
         b"mov32 r4, r1\nexit",
@@ -265,7 +265,7 @@ static UNTYPED: [(&[u8], u16, &str, &str); 16] = [
         "rule: an access that may lie outside its region\n\
         slot 2: ldxb r0, r4, 80\n\
         r4: a pointer into the request, at offset 0 to 1024\n\
-        change: keep it in the region: the request's bytes 0 to 1103, a frame's -256 to -1, as many variables as `--vars` says; compare an index first, so that its greatest value lies in it\n",
+        change: keep it in the region: the request's bytes 0 to 1103, the readings' 0 to 63, a frame's -256 to -1, as many variables as `--vars` says; compare an index first, so that its greatest value lies in it\n",
     ),
     (
         b"add64 r2, 8\nldxdw r0, r2, 0\nexit",
@@ -274,7 +274,7 @@ static UNTYPED: [(&[u8], u16, &str, &str); 16] = [
         "rule: an access that may lie outside its region\n\
         slot 1: ldxdw r0, r2, 0\n\
         r2: a pointer into the variables, at offset 8\n\
-        change: keep it in the region: the request's bytes 0 to 1103, a frame's -256 to -1, as many variables as `--vars` says; compare an index first, so that its greatest value lies in it\n",
+        change: keep it in the region: the request's bytes 0 to 1103, the readings' 0 to 63, a frame's -256 to -1, as many variables as `--vars` says; compare an index first, so that its greatest value lies in it\n",
     ),
     // in a function, the end of its caller's frame; one call deeper, that of the caller's caller
     (
@@ -284,7 +284,7 @@ static UNTYPED: [(&[u8], u16, &str, &str); 16] = [
         "rule: an access that may lie outside its region\n\
         slot 3: ldxb r0, r1, 0\n\
         r1: a pointer into the caller's stack frame, at offset 0 from its end\n\
-        change: keep it in the region: the request's bytes 0 to 1103, a frame's -256 to -1, as many variables as `--vars` says; compare an index first, so that its greatest value lies in it\n",
+        change: keep it in the region: the request's bytes 0 to 1103, the readings' 0 to 63, a frame's -256 to -1, as many variables as `--vars` says; compare an index first, so that its greatest value lies in it\n",
     ),
     (
         b"mov64 r1, r10\ncallf 1\nexit\ncallf 1\nexit\nstb r1, -257, 1\nexit",
@@ -293,13 +293,13 @@ static UNTYPED: [(&[u8], u16, &str, &str); 16] = [
         "rule: an access that may lie outside its region\n\
         slot 5: stb r1, -257, 1\n\
         r1: a pointer into the stack frame 2 calls above, at offset 0 from its end\n\
-        change: keep it in the region: the request's bytes 0 to 1103, a frame's -256 to -1, as many variables as `--vars` says; compare an index first, so that its greatest value lies in it\n",
+        change: keep it in the region: the request's bytes 0 to 1103, the readings' 0 to 63, a frame's -256 to -1, as many variables as `--vars` says; compare an index first, so that its greatest value lies in it\n",
     ),
     (
         b"stb r1, 0, 7\nexit",
         0,
         "V23 slot 0\n",
-        "rule: a store into the request\n\
+        "rule: a store into the request or the readings\n\
         slot 0: stb r1, 0, 7\n\
         r1: a pointer into the request, at offset 0\n\
         change: store into the stack frame or the variables\n",

@@ -48,7 +48,7 @@ fn events_have_their_parts_in_any_order(rt: HostRuntime) {
     );
 }
 
-static BAD_LINES: [&str; 16] = [
+static BAD_LINES: [&str; 18] = [
     "",
     "Tick",
     "tick now=1",
@@ -60,6 +60,8 @@ static BAD_LINES: [&str; 16] = [
     "Take job=0 memory=2",
     "Take job=0",
     "Take job=0 job=1",
+    "Take job=0 memory=1 readings=aabb",
+    "Take job=0 memory=1 memory=1",
     "Commit job=+1 now=1",
     "Note job=1 now=0 random=65536",
     "Deliver now=0 ep=256 data=",
@@ -164,6 +166,56 @@ fn the_eighth_overtaking_is_unavailable(rt: HostRuntime) {
             b"",
         ))
     );
+}
+
+// An image of the second version whose reply is the first two bytes of the readings.
+const READER: &str = "46434232000005000500000000000000bf41000000000000b702000002000000\
+    8500000005000000b7000000000000009500000000000000";
+
+// 60 bytes of zeros: the readings behind the first four.
+const REST: &str = "000000000000000000000000000000000000000000000000000000000000\
+    000000000000000000000000000000000000000000000000000000000000";
+
+// A POST that is overtaken answers with the readings of its last taking; the one that overtook it found zeros.
+#[test]
+fn the_last_taking_s_readings_are_answered(rt: HostRuntime) {
+    let (image, rest) = (READER, REST);
+    let list = format!(in rt.alloc();
+        "Deliver now=0 ep=1 data=4103200072b1700132ff{image}\n\
+         Install job=0 memory=1\n\
+         Raise job=0\n\
+         Answer job=0 now=0\n\
+         Deliver now=1 ep=1 data=4102500172b1720132\n\
+         Deliver now=1 ep=2 data=4102500272b1720132\n\
+         Take job=1 memory=1 readings=aabb0000{rest}\n\
+         Take job=2 memory=1\n\
+         Commit job=2 now=2\n\
+         Commit job=1 now=3\n\
+         Take readings=CCdd0000{rest} memory=1 job=1\n\
+         Commit job=1 now=4\n\
+         Raise job=2\n\
+         Answer job=2 now=5\n\
+         Raise job=1\n\
+         Answer job=1 now=5\n"
+    );
+    let printed = "none\n\
+         none\n\
+         none\n\
+         1 6141200072ff76657273696f6e3d3120636f73743d35206275646765743d3520766172733d30\n\
+         none\n\
+         none\n\
+         none\n\
+         none\n\
+         none\n\
+         none\n\
+         none\n\
+         none\n\
+         none\n\
+         2 6144500272ff0000\n\
+         none\n\
+         1 6144500172ffccdd\n\
+         slot 2 serial 3 version 1 vars -\n";
+    assert!(rt; list.is_ok_and(|list| replays(rt.alloc(), &list, Status::Done, printed, "")));
 }
 
 // A version that was taken and then replaced isn't committed to.

@@ -178,6 +178,36 @@ fn a_failed_report_is_status_3(rt: HostRuntime) -> Result<(), Fail> {
     Ok(())
 }
 
+// The readings begin with what is given, and have zeros behind it: `mov64 r1, r4`, `mov64 r2, 4`, `call 5`, `mov64 r0, 0`, `exit`.
+#[test]
+fn a_run_finds_the_readings_that_are_given(rt: HostRuntime) -> Result<(), Fail> {
+    let alloc = rt.alloc();
+    let image =
+        b"FCB2\x00\x00\x05\x00\x05\x00\x00\x00\x00\x00\x00\x00\xbf\x41\x00\x00\x00\x00\x00\x00\xb7\x02\x00\x00\x04\x00\x00\x00\x85\x00\x00\x00\x05\x00\x00\x00\xb7\x00\x00\x00\x00\x00\x00\x00\x95\x00\x00\x00\x00\x00\x00\x00";
+    let asked = Asked::new(alloc, Method::Get, "", "", None)?.with_readings(alloc, "aABb01")?;
+    let mut out = Vec::new(alloc);
+    let mut err = Vec::new(alloc);
+    let mut input = image.as_slice();
+    assert!(rt; run(alloc, &mut input, &mut out, &mut err, &asked) == Status::Done);
+    let told = b"code 2.05\nreply aabb0100\nvars -\nsteps 5\nnotice no\n";
+    assert!(rt; out.as_slice() == told.as_slice());
+    Ok(())
+}
+
+#[test]
+fn readings_have_a_limit(rt: HostRuntime) -> Result<(), Fail> {
+    let alloc = rt.alloc();
+    let (most, more) = (zeros(alloc, 64)?, zeros(alloc, 65)?);
+    let asked = Asked::new(alloc, Method::Get, "", "", None)?;
+    let asked = asked.with_readings(alloc, &most)?;
+    let told = fault(asked.with_readings(alloc, &more)).ok_or("asked")?;
+    assert!(rt; told.to_string(alloc)?.as_str() == "the readings' bytes are more than 64");
+    let asked = Asked::new(alloc, Method::Get, "", "", None)?;
+    let told = fault(asked.with_readings(alloc, "0")).ok_or("asked")?;
+    assert!(rt; told == AskedError::NoHex(Part::Readings));
+    Ok(())
+}
+
 // So many bytes, each zero, by hex digits.
 fn zeros(alloc: Global, count: u16) -> Result<String, AllocError> {
     let mut digits = String::new(alloc);

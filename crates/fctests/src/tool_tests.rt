@@ -7,6 +7,7 @@ use fc_cli::Status;
 use fc_isa::ImageVersion;
 use fc_tools::budget::Budget;
 use fc_tools::tools::{check, image, list};
+use fc_tools::version::version_named;
 use std::alloc::Global;
 use std::io;
 use std::io::{ErrorKind, Read};
@@ -381,7 +382,7 @@ fn a_program_is_checked(rt: HostRuntime) -> Result<(), Fail> {
     Ok(())
 }
 
-// The most slots that a program has are an image of 4,112 bytes.
+// The most slots that a program of the first version has are an image of 4,112 bytes.
 #[test]
 fn the_longest_program_is_accepted(rt: HostRuntime) -> Result<(), Fail> {
     let mut text = Vec::new(rt.alloc());
@@ -534,4 +535,13 @@ fn a_mistake_that_is_not_told_is_status_3(rt: HostRuntime) -> Result<(), Fail> {
     );
     assert!(rt; out.is_empty());
     Ok(())
+}
+
+#[test]
+fn words_name_versions(rt: HostRuntime) {
+    assert!(rt; version_named(None) == Some(ImageVersion::One));
+    assert!(rt; version_named(Some("1")) == Some(ImageVersion::One));
+    assert!(rt; version_named(Some("2")) == Some(ImageVersion::Two));
+    assert!(rt; version_named(Some("3")).is_none());
+    assert!(rt; version_named(Some("")).is_none());
 }
