@@ -3,9 +3,9 @@ use Rattle.std.proofs.Common.{◌≡◌, ℕ, ◌+◌, ◌≤◌, List, [], ◌�
 use Rattle.coap_msg.specs.declared.types.Emission.{Emission}
 use Rattle.fc_registry.specs.declared.job.Ask.{Ask}
 use Rattle.fc_registry.specs.declared.job.Job.{Job}
-use Rattle.fc_registry.specs.Slots.{Slot, Present}
+use Rattle.fc_registry.specs.Slots.{Slot, Present, Ticket}
 use Rattle.fc_registry.specs.Changes.{Change}
-use Rattle.fc_registry.specs.Calls.{taking, readings_if}
+use Rattle.fc_registry.specs.Calls.{commit_of, run_of, taking, ticket_of, readings_if}
 use Rattle.fc_core.specs.declared.event.Event.{Event}
 use Rattle.fc_core.specs.declared.event.Event.TheVariants.{Peek, Take, Commit, Install, Remove, Receipt, Raise, Answer, Lose, Fresh, Note, GiveUp}
 use Rattle.fc_core.specs.declared.stage.Stage.{Stage}
@@ -132,6 +132,17 @@ pub take_refused : (s : Seen) (k count : ℕ) (readings : List ℕ) (o : Option 
 take_refused s k count readings o p is holds = named_stage (did (Take k false readings) o) s k (is_here s k (ToTake count) is (λ e. absurd (cc e))) refl
     ∙ (ap (λ (x : Stage). (row (Take k false readings) (at (job s k) (slot_at s (slot_of s k)) (around s (slot_of s k)) x)).stage) is
     ∙ ap (λ (x : Option Present). took count (taking None (job s k) (slot_at s (slot_of s k)).serial x)) holds)
+
+-- a taking with memory keeps the readings that it is handed
+pub take_keeps : (s : Seen) (k count : ℕ) (readings : List ℕ) (o : Option Emission) (p : Present) → stage s k ≡ ToTake count → (slot_at s (slot_of s k)).present ≡ Some p → (t : Ticket) × (stage (and_then (did (Take k true readings) o) s) k ≡ ToCommit (count + 1) t) × ((run_of t).input.readings ≡ readings) × ((commit_of t).readings ≡ readings)
+take_keeps s k count readings o p is holds = (
+  ticket_of (job s k) readings (slot_at s (slot_of s k)).serial p,
+  named_stage (did (Take k true readings) o) s k (is_here s k (ToTake count) is (λ e. absurd (cc e))) refl
+      ∙ (ap (λ (x : Stage). (row (Take k true readings) (at (job s k) (slot_at s (slot_of s k)) (around s (slot_of s k)) x)).stage) is
+      ∙ ap (λ (x : Option Present). took count (taking (Some readings) (job s k) (slot_at s (slot_of s k)).serial x)) holds),
+  refl,
+  refl,
+)
 
 pub install_refused : (s : Seen) (k : ℕ) (o : Option Emission) → stage s k ≡ ToInstall → stage (and_then (did (Install k false) o) s) k ≡ ToAnswer Unavailable
 install_refused s k o is = named_stage (did (Install k false) o) s k (is_here s k ToInstall is (λ e. absurd (cc e))) refl

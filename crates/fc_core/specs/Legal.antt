@@ -69,7 +69,7 @@ abbrev pub IsLegal : History → Type 0
 IsLegal (Begins serial id) = Unit {0}
 IsLegal (Then h r) = Emits (seen h) r.event r.emitted × IsLegal h
 
--- a ticket's program has a meaning for its request and the variables that were found: the run reaches its exit, in at most
+-- a ticket's program has a meaning for its request, and the variables and readings that were found: the run reaches its exit, in at most
 -- the steps of the longest path, which are at most the budget
 pub record IsMeant (t : Ticket) : Type 0 where
   pub run : IsRun t.found.program (input_of t)

@@ -2,13 +2,14 @@
 ghost use Rattle.coap_msg.specs.declared.types.Emission.{Emission};
 ghost use Rattle.fc_core.specs.Contents.{Content, Ran, RunAnswer, Unavailable};
 ghost use Rattle.fc_core.specs.declared.event.Event.TheVariants.{Take, Commit, Install, Raise, Answer, Lose};
-ghost use Rattle.fc_core.specs.declared.stage.Stage.TheVariants.{ToTake, ToInstall, ToRaise, ToAnswer, Gone};
+ghost use Rattle.fc_core.specs.declared.stage.Stage.TheVariants.{ToTake, ToCommit, ToInstall, ToRaise, ToAnswer, Gone};
 ghost use Rattle.fc_core.specs.History.{Entry, History, Then, Seen, seen, and_then, did, job, slot_at, stage};
 ghost use Rattle.fc_core.specs.Laws.{HasCome, IsOfNewest, IsOvertaken, TakesAgain, answer_at, answers_of, is_stray, later, slot_of, takings_of};
-ghost use Rattle.fc_registry.specs.Slots.{Present};
+ghost use Rattle.fc_registry.specs.Calls.{commit_of, run_of};
+ghost use Rattle.fc_registry.specs.Slots.{Present, Ticket};
 ghost use Rattle.fc_core.specs.Legal.{Emits};
 ghost use Rattle.fc_core.specs.Stages.{names};
-ghost use Rattle.std.specs.Prelude.{ℕ, ◌<◌, ◌≤◌, List, None, Option, Some, false, length, true, ◌≡◌};
+ghost use Rattle.std.specs.Prelude.{ℕ, ◌+◌, ◌<◌, ◌≤◌, List, None, Option, Some, false, length, true, ◌≡◌};
 
 /// An event that comes when its job isn't at the stage that the event needs changes nothing that can be asked of a
 /// history, and emits nothing; nor does an event of what isn't served.
@@ -46,11 +47,19 @@ pub fn takings_are_few()
 {}
 
 /// The answer of a run is of the last ticket that its job took: its code is what the ticket's program means for the
-/// request and the variables that were found, its block is the one that was asked of the reply that it means, and its serial is the
+/// request, the variables and the readings that were found, its block is the one that was asked of the reply that it means, and its serial is the
 /// one that was found.
 pub fn answers_are_of_the_last_taking()
     ensures { (h : History) (k : ℕ) (run : RunAnswer) → answer_at (stage (seen h) k) ≡ Some (Ran run)
         → IsOfNewest (takings_of h k) run }
+{}
+
+/// A taking keeps the readings that are handed in at it, whatever an earlier taking was handed: its run finds them, and its commit has them.
+pub fn takings_keep_their_readings()
+    ensures { (s : Seen) (k count : ℕ) (readings : List ℕ) (o : Option Emission) (p : Present) → stage s k ≡ ToTake count
+        → (slot_at s (slot_of s k)).present ≡ Some p
+        → (t : Ticket) × (stage (and_then (did (Take k true readings) o) s) k ≡ ToCommit (count + 1) t)
+        × ((run_of t).input.readings ≡ readings) × ((commit_of t).readings ≡ readings) }
 {}
 
 /// A job is answered at most once, and is gone then.

@@ -38,7 +38,7 @@ pub fn turns_stand_apart()
 {}
 
 /// What a turn notifies its observer of is the last ticket that it took, and it took no other: the code that the ticket's program means
-/// for the request and the variables that were found, a 2.05 Content with the reply that it means, cut as the request asks, and the
+/// for the request, the variables and the readings that were found, a 2.05 Content with the reply that it means, cut as the request asks, and the
 /// serial found as its ETag and sequence number. A turn that found its slot empty notifies of a bare 4.04 (Not Found).
 /// A turn asks for no block but the first, so that a run that means a 2.05 Content is told as one.
 pub fn notifications_are_of_the_last_taking()

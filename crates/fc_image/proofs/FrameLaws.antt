@@ -1,4 +1,4 @@
--- Each step of a shaped program leads nearer to its end, and its calls add at most three frames.
+-- Each step of a shaped program leads nearer to its end, and its calls add no more frames than its header allows.
 use Rattle.std.proofs.Common.{◌≡◌, ℕ, zero, suc, ◌+◌, ◌-◌, ◌<◌, ◌≤◌, ◌==◌, ◌||◌, ◌&&◌, not, nat_lt, Bool, true, false, ℤ, List, [], ◌∷◌, length, drop, Option, Some, None, get_or, inl, inr, refl, sym, ap, ◌∙◌, subst, arith}
 use Rattle.std.specs.Prelude.{slice_get}
 use Rattle.std.proofs.lemmas.Bool.{cases_lt}

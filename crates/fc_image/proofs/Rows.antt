@@ -1,6 +1,6 @@
 -- Worked programs: what the rules of the control flow say of each; and the numbers that a header may have.
 use Rattle.std.proofs.Common.{◌≡◌, List, ℕ, true, false, [], ◌∷◌, Some, None, refl}
-use Rattle.std.specs.Prelude.{pos, negsuc}
+use Rattle.std.specs.Prelude.{pos, negsuc, take}
 use Rattle.fc_isa.specs.declared.insn.Insn.{Insn}
 use Rattle.fc_isa.specs.declared.insn.Insn.TheVariants.{Alu, LoadWide, WideSecond, JumpAlways, JumpIf, CallHelper, CallLocal, Exit}
 use Rattle.fc_isa.specs.declared.insn.AluOp.TheVariants.{Mov}
@@ -10,7 +10,7 @@ use Rattle.fc_isa.specs.declared.insn.Operand.TheVariants.{Imm}
 use Rattle.fc_isa.specs.declared.rule.Rule.TheVariants.{JumpTarget, BackwardJump, Boundary, BackwardCall, FrameDepth, Cost, Helper}
 use Rattle.fc_isa.specs.declared.version.ImageVersion.{ImageVersion}
 use Rattle.fc_isa.specs.declared.version.ImageVersion.TheVariants.{One, Two}
-use Rattle.fc_image.specs.Head.{Head, is_bad_size, is_bad_count, is_bad_budget}
+use Rattle.fc_image.specs.Head.{Head, has_magic, head_bytes, is_bad_size, is_bad_count, is_bad_budget, stated}
 use Rattle.fc_image.specs.Functions.{is_start, frames}
 use Rattle.fc_image.specs.Paths.{costs, longest}
 use Rattle.fc_image.specs.ShapeRules.{breaks_shape, is_helper, shape_fault}
@@ -115,3 +115,15 @@ ends_of_counts = (refl, refl, refl, refl, refl, refl, refl)
 
 ends_of_budgets : (is_bad_budget 0 ≡ true) × (is_bad_budget 1 ≡ false) × (is_bad_budget 65536 ≡ false) × (is_bad_budget 65537 ≡ true)
 ends_of_budgets = (refl, refl, refl, refl)
+
+-- ---- the magic
+
+-- `FCB1` and `FCB2`, and neither `FCB0` nor `FCB3`
+magics : (has_magic (70 ∷ 67 ∷ 66 ∷ 49 ∷ []) ≡ true) × (has_magic (70 ∷ 67 ∷ 66 ∷ 50 ∷ []) ≡ true) × (has_magic (70 ∷ 67 ∷ 66 ∷ 48 ∷ []) ≡ false) × (has_magic (70 ∷ 67 ∷ 66 ∷ 51 ∷ []) ≡ false)
+magics = (refl, refl, refl, refl)
+
+magics_name_versions : ((stated (70 ∷ 67 ∷ 66 ∷ 49 ∷ [])).version ≡ One) × ((stated (70 ∷ 67 ∷ 66 ∷ 50 ∷ [])).version ≡ Two)
+magics_name_versions = (refl, refl)
+
+versions_have_magics : (take 4 (head_bytes (head One 1)) ≡ 70 ∷ 67 ∷ 66 ∷ 49 ∷ []) × (take 4 (head_bytes (head Two 1)) ≡ 70 ∷ 67 ∷ 66 ∷ 50 ∷ [])
+versions_have_magics = (refl, refl)

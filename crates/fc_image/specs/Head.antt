@@ -6,7 +6,7 @@ use Rattle.fc_isa.specs.declared.rule.Rule.TheVariants.{Format, SlotCount, VarsS
 use Rattle.fc_isa.specs.declared.version.ImageVersion.{ImageVersion}
 use Rattle.fc_isa.specs.declared.version.ImageVersion.TheVariants.{One, Two}
 
--- the most slots of a program, and the most stack frames that its calls nest
+-- the most slots that a program may have, and the most stack frames that its calls may nest
 abbrev pub slots_allowed : ImageVersion → ℕ
 slots_allowed One = 512
 slots_allowed Two = 1024

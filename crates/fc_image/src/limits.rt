@@ -16,7 +16,7 @@ fn slots_allowed(version: ImageVersion) -> usize
     }
 }
 
-/// The most stack frames that the calls of a program of a version nest.
+/// The most stack frames that the calls of a program of a version may nest.
 fn frames_allowed(version: ImageVersion) -> u8
     ensures is { result ≡ frames_allowed version }
     ensures few { result ≤ 8 }
@@ -118,7 +118,7 @@ impl Head {
         self.version
     }
 
-    /// The most stack frames that the program's calls nest.
+    /// The most stack frames that the program's calls may nest.
     pub fn frames(&self) -> u8
         ensures value { result ≡ frames_allowed self.now.version }
         ensures limit { result ≤ 8 }

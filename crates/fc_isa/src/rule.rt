@@ -35,7 +35,7 @@ pub enum Rule {
     Boundary,
     /// 14: a local call of a function that isn't later.
     BackwardCall,
-    /// 15: more than four stack frames.
+    /// 15: more than four stack frames, in the second version eight.
     FrameDepth,
     /// 16: the greatest number of steps is above the budget.
     Cost,

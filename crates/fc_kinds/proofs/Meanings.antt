@@ -338,6 +338,14 @@ readings_are_read = (refl, refl, refl, refl, refl, refl)
 fourth_register : (value_at (start One (input_with (request_with Get 0 None [] []) [] [])).regs 4 ≡ Unset) × (value_at (start Two (input_with (request_with Get 0 None [] []) [] [])).regs 4 ≡ Pointer Readings (pos 0))
 fourth_register = (refl, refl)
 
+-- two bytes of the readings are the reply
+abbrev reads : List Insn
+reads = copy 1 4 ∷ set 2 (pos 2) ∷ CallHelper (pos 5) ∷ set 0 (pos 0) ∷ Exit ∷ []
+
+readings_are_replied : meant (record { version = Two; code = reads; vars_size = 0; budget = 5; cost = 5 }) (input_with (says []) [] (170 ∷ 187 ∷ [])) ≡ result 5 (170 ∷ 187 ∷ []) []
+unfolding meant step act helped result_of computed_at computed readings_region
+readings_are_replied = refl
+
 -- ---- the request's region
 
 abbrev asked_with : Option ℕ → List ℕ

@@ -63,7 +63,7 @@ pub fn effects_contain_the_step()
     ensures { EffectsContainTheStep }
 {}
 
-/// Where the kinds contain the registers' values, and there are fewer than four frames, a local call has a step: into its
+/// Where the kinds contain the registers' values, and there are fewer than eight frames, a local call has a step: into its
 /// function, with what it hands on; its caller waits.
 pub fn calls_contain_the_step()
     ensures { CallsContainTheStep }

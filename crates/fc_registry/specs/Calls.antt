@@ -166,7 +166,7 @@ run_of t = record { program = t.found.program; input = input_of t }
 abbrev pub wants : Ticket → Bool
 wants t = wants_by (run_of t)
 
--- what the ticket's program means for its request and the variables that were found
+-- what the ticket's program means for its request, and the variables and readings that were found
 abbrev pub meaning_at : Ticket → Meaning
 meaning_at t = meaning_of (run_of t)
 

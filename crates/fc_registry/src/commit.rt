@@ -23,6 +23,6 @@ pub enum Committed {
     Overtaken,
     /// The run wanted to write, and the slot's serials are at their end.
     Ended,
-    /// The outcome isn't of the ticket's program, request and variables, or the ticket's serial is above the slot's.
+    /// The outcome isn't of the ticket's program, request, variables and readings, or the ticket's serial is above the slot's.
     Stranger,
 }

@@ -1,5 +1,6 @@
 //! What the slots promise of their changes: each function is a law, and its contract says it.
-ghost use Rattle.fc_registry.specs.Changes.{Change, after_changes};
+ghost use Rattle.circular_buffer.specs.Buffer.{keep_last};
+ghost use Rattle.fc_registry.specs.Changes.{Change, Commit, Committed, after_changes, changed};
 ghost use Rattle.fc_registry.specs.Laws.{FollowsInstall, noticed_serial};
 ghost use Rattle.fc_observe.specs.declared.observers.Ticked.TheVariants.{Quiet};
 ghost use Rattle.fc_registry.specs.Slots.{Present, Shard, Slot, Ticket, new_slot};
@@ -7,7 +8,7 @@ ghost use Rattle.fc_registry.specs.Turns.{due_job};
 ghost use Rattle.fc_registry.specs.Watches.{after_due, after_tick, due_place, is_quiet, late_place, ticked_in};
 ghost use Rattle.fc_registry.specs.declared.commit.CommitOutcome.{CommitOutcome};
 ghost use Rattle.fc_registry.specs.Calls.{HasGiven, ComesTo, outcome};
-ghost use Rattle.std.specs.Prelude.{List, None, Some, length, true, ℕ, ◌+◌, ◌≤◌, ◌≡◌};
+ghost use Rattle.std.specs.Prelude.{List, [], None, Some, length, true, ℕ, ◌∷◌, ◌++◌, ◌+◌, ◌≤◌, ◌≡◌};
 
 /// A slot's serial counts its changes, from its first serial on.
 pub fn serials_count_changes()
@@ -28,6 +29,12 @@ pub fn noticed_serials_are_of_notices()
 pub fn versions_are_installs()
     ensures { (serial : ℕ) (cs : List Change) (p : Present) →
         (after_changes (new_slot serial) cs).present ≡ Some p → FollowsInstall serial cs p }
+{}
+
+/// A commit adds one entry to its slot's ring, which keeps eight: its serial, its request, the readings of its taking, and the variables before it and after.
+pub fn entries_are_of_their_commits()
+    ensures { (slot : Slot) (c : Commit) → (changed slot (Committed c)).ring
+        ≡ keep_last 8 (slot.ring ++ record { serial = slot.serial + 1; request = c.request; readings = c.readings; before = c.before; after = c.after } ∷ []) }
 {}
 
 /// What the commit of a ticket comes to at the slot that gave it is decided by the ticket's serial: the slot has changed

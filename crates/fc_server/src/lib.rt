@@ -6,10 +6,11 @@
 //! ```rust
 //! use coap_msg::{Emission, Endpoint};
 //! use fc_core::front::blank_emission;
+//! use fc_help::NO_READINGS;
 //! use fc_server::Engine;
 //! use std::alloc::Global;
 //!
-//! /// What a datagram is answered, after its job was worked off.
+//! /// What a datagram is answered, after its job was worked off with readings of zeros.
 //! fn reply(
 //!     alloc: Global,
 //!     engine: &mut Engine,
@@ -18,7 +19,7 @@
 //!     bytes: &[u8],
 //! ) -> Option<Emission> {
 //!     let mut reply = blank_emission();
-//!     if engine.hear(alloc, now, from, bytes, &mut reply) {
+//!     if engine.hear(alloc, now, from, bytes, &NO_READINGS, &mut reply) {
 //!         Some(reply)
 //!     } else {
 //!         None

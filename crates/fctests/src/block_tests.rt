@@ -209,6 +209,69 @@ fn the_largest_image_of_the_second_version_goes_by_blocks(rt: HostRuntime) -> Re
     check_pieces(&rt, &LARGEST_IN_TWO, &LARGEST_IN_TWO_TOLD)
 }
 
+// The first version has 512 slots at most, however its image comes: 1,024 are refused, and so is a byte behind 512.
+#[test]
+fn an_image_of_the_first_version_stays_small(rt: HostRuntime) -> Result<(), Fail> {
+    static SENT: [Piece; 26] = [
+        (
+            "0 1 40030001b1700130d1030eff46434231000000040004000000000000",
+            1,
+        ),
+        ("b700000000000000", 126),
+        ("\n0 1 40030002b1700130d1031eff", 1),
+        ("b700000000000000", 128),
+        ("\n0 1 40030003b1700130d1032eff", 1),
+        ("b700000000000000", 128),
+        ("\n0 1 40030004b1700130d1033eff", 1),
+        ("b700000000000000", 128),
+        ("\n0 1 40030005b1700130d1034eff", 1),
+        ("b700000000000000", 128),
+        ("\n0 1 40030006b1700130d1035eff", 1),
+        ("b700000000000000", 128),
+        ("\n0 1 40030007b1700130d1036eff", 1),
+        ("b700000000000000", 128),
+        ("\n0 1 40030008b1700130d1037eff", 1),
+        ("b700000000000000", 128),
+        (
+            "\n0 1 40030009b1700130d10386ffb7000000000000009500000000000000",
+            1,
+        ),
+        (
+            "\n0 1 4003000ab1700130d1030eff46434231000000020002000000000000",
+            1,
+        ),
+        ("b700000000000000", 126),
+        ("\n0 1 4003000bb1700130d1031eff", 1),
+        ("b700000000000000", 128),
+        ("\n0 1 4003000cb1700130d1032eff", 1),
+        ("b700000000000000", 128),
+        ("\n0 1 4003000db1700130d1033eff", 1),
+        ("b700000000000000", 128),
+        (
+            "\n0 1 4003000eb1700130d10346ffb700000000000000950000000000000000",
+            1,
+        ),
+    ];
+    static TOLD: [Piece; 1] = [(
+        "1 605f0001d10e0e\n\
+         1 605f0002d10e1e\n\
+         1 605f0003d10e2e\n\
+         1 605f0004d10e3e\n\
+         1 605f0005d10e4e\n\
+         1 605f0006d10e5e\n\
+         1 605f0007d10e6e\n\
+         1 605f0008d10e7e\n\
+         1 60800009ff56303220736c6f742030\n\
+         1 605f000ad10e0e\n\
+         1 605f000bd10e1e\n\
+         1 605f000cd10e2e\n\
+         1 605f000dd10e3e\n\
+         1 6080000eff56303120736c6f742030\n",
+        1,
+    )];
+    check_pieces(&rt, &SENT, &TOLD)
+}
+
 // A program that replies 1,100 bytes of its request: the method 1, and zeros. Without Block2 the first 1,024 come; block 1 has the
 // other 76, whether or not the request says that more follow, and block 2 would begin past the end. Blocks of 16 bytes are many.
 #[test]
