@@ -13,7 +13,7 @@ use Rattle.fc_kinds.specs.declared.interval.Interval.{Interval}
 use Rattle.fc_kinds.specs.Intervals.{all, IsInterval, clipped, multiplied, divided, bits_needed, merged, shifted_left, shifted_right, shifted_signed, interval_of, alu_interval, extended_interval, extended_values}
 use Rattle.fc_kinds.proofs.IntervalsGrow.{div_grows, needed_least, pow_up, clipped_proper}
 
-all_proper : (w : ℕ) → IsInterval w (all w)
+pub all_proper : (w : ℕ) → IsInterval w (all w)
 all_proper w = let p = pow_pos w in (omega arith, omega (arith, p))
 
 merged_proper : (w : ℕ) (a b : Interval) → IsInterval w a → IsInterval w b → IsInterval w (merged w a b)

@@ -151,3 +151,35 @@ refined_proper Sgt a b p q m n e = proper_both true a b p q e (λ t. (m, n))
 refined_proper Sge a b p q m n e = proper_both true a b p q e (λ t. (m, n))
 refined_proper Slt a b p q m n e = proper_both true a b p q e (λ t. (m, n))
 refined_proper Sle a b p q m n e = proper_both true a b p q e (λ t. (m, n))
+
+-- ---- and within those before
+
+abbrev pub AreInside : Interval → Interval → Interval → Interval → Type 0
+AreInside p q a b = IntervalWithin p a × IntervalWithin q b
+
+inside_both : (t : Bool) (a b c d p q : Interval) → both t c d ≡ Some (p, q) → (t ≡ true → AreInside c d a b) → AreInside p q a b
+inside_both false a b c d p q e f = absurd (cc e)
+inside_both true a b c d p q e f =
+    let same : ◌≡◌ {A = Interval × Interval} (c, d) (p, q) = cc e in
+    subst (λ (k : Interval × Interval). AreInside k.0 k.1 a b) same (f refl)
+
+exchange_inside : (o : Option (Interval × Interval)) (a b p q : Interval) → exchanged o ≡ Some (p, q) → (o ≡ Some (q, p) → AreInside q p b a) → AreInside p q a b
+exchange_inside None a b p q e f = absurd (cc e)
+exchange_inside (Some k) a b p q e f =
+    let same : ◌≡◌ {A = Interval × Interval} (k.1, k.0) (p, q) = cc e in
+    let r = f (ap (λ (j : Interval × Interval). Some (j.1, j.0)) same) in
+    (r.1, r.0)
+
+pub refined_inside : (r : Relation) (a b p q : Interval) → refined r a b ≡ Some (p, q) → AreInside p q a b
+unfolding refined
+refined_inside Eq a b p q e = inside_both _ a b _ _ p q e (λ t. grind (arith, nat_tests, t))
+refined_inside Gt a b p q e = inside_both _ a b _ _ p q e (λ t. grind (arith, nat_tests, t))
+refined_inside Ge a b p q e = inside_both _ a b _ _ p q e (λ t. grind (arith, nat_tests, t))
+refined_inside Ne a b p q e = inside_both _ a b _ _ p q e (λ t. grind (arith, nat_tests))
+refined_inside Lt a b p q e = exchange_inside (above b a) a b p q e (λ f. inside_both _ b a _ _ q p f (λ t. grind (arith, nat_tests, t)))
+refined_inside Le a b p q e = exchange_inside (above_equal b a) a b p q e (λ f. inside_both _ b a _ _ q p f (λ t. grind (arith, nat_tests, t)))
+refined_inside Set a b p q e = inside_both true a b a b p q e (λ t. ((omega arith, omega arith), (omega arith, omega arith)))
+refined_inside Sgt a b p q e = inside_both true a b a b p q e (λ t. ((omega arith, omega arith), (omega arith, omega arith)))
+refined_inside Sge a b p q e = inside_both true a b a b p q e (λ t. ((omega arith, omega arith), (omega arith, omega arith)))
+refined_inside Slt a b p q e = inside_both true a b a b p q e (λ t. ((omega arith, omega arith), (omega arith, omega arith)))
+refined_inside Sle a b p q e = inside_both true a b a b p q e (λ t. ((omega arith, omega arith), (omega arith, omega arith)))

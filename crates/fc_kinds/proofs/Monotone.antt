@@ -11,11 +11,14 @@ use Rattle.fc_isa.specs.declared.insn.Operand.TheVariants.{Imm, Reg}
 use Rattle.fc_isa.specs.declared.insn.ByteOrder.{ByteOrder}
 use Rattle.fc_isa.specs.declared.insn.ByteOrder.TheVariants.{Little, Big, Swapped}
 use Rattle.fc_isa.specs.declared.insn.SwapWidth.{SwapWidth}
+use Rattle.fc_isa.specs.declared.insn.SwapWidth.TheVariants.{S16, S32, S64}
+use Rattle.fc_isa.specs.declared.insn.SignExtension.{SignExtension}
+use Rattle.fc_isa.specs.declared.insn.SignExtension.TheVariants.{Byte, HalfWord, Word}
 use Rattle.fc_alu.specs.Words.{bits_of}
 use Rattle.fc_kinds.specs.declared.interval.Interval.{Interval}
-use Rattle.fc_kinds.specs.Intervals.{interval, all, IntervalWithin, alu_interval, extended_values}
+use Rattle.fc_kinds.specs.Intervals.{interval, all, IsInterval, IntervalWithin, alu_interval, extended_values}
 use Rattle.fc_kinds.proofs.IntervalsGrow.{alu_interval_grows, sign_extended_grows}
-use Rattle.fc_kinds.proofs.IntervalsProper.{alu_interval_proper, sign_extended_proper}
+use Rattle.fc_kinds.proofs.IntervalsProper.{all_proper, alu_interval_proper}
 use Rattle.fc_kinds.specs.declared.kind.Kind.{Kind}
 use Rattle.fc_kinds.specs.declared.kind.Kind.TheVariants.{Unset, Num, Stack, Req, Vars, Dev}
 use Rattle.fc_kinds.specs.Kinds.{KindWithin, Within}
@@ -46,7 +49,12 @@ dev_form : IsForm Dev
 dev_form = record { within = λ lo hi lo' hi' p q. (p, q); is = λ lo hi p. p }
 
 abbrev pub Numbers : (Interval → Option Kind) → (Interval → Option Kind) → Type 0
-Numbers f f' = (s s' : Interval) → s.lo ≤ s.hi → IntervalWithin s s' → KindFollows (f s) (f' s')
+Numbers f f' = (s s' : Interval) → IsInterval 64 s → IntervalWithin s s' → KindFollows (f s) (f' s')
+
+-- a number of either width has 64 bits
+low : (width : Width) (s : Interval) → IsInterval (bits_of width) s → IsKind (num s)
+low W32 s i = (i.0, omega (arith, i.1))
+low W64 s i = i
 
 abbrev pub Pointers : ((ℤ → ℤ → Kind) → ℤ → ℤ → Option Kind) → ((ℤ → ℤ → Kind) → ℤ → ℤ → Option Kind) → Type 0
 Pointers g g' = (form : ℤ → ℤ → Kind) (lo hi lo' hi' : ℤ) → IsForm form → IsNear lo hi → lo' ≤ℤ lo → hi ≤ℤ hi' → KindFollows (g form lo hi) (g' form lo' hi')
@@ -69,7 +77,7 @@ on_number_follows k k' f f' p w n = by_form_follows k k' f f' no_pointer no_poin
 
 numbers_follow : (op : AluOp) (width : Width) (b b' : Kind) → IsKind b → KindWithin b b' → Numbers (numbers op width b) (numbers op width b')
 numbers_follow op width b b' p w s s' q v = on_number_follows b b' (λ t. Some (num (alu_interval op width s t))) (λ t. Some (num (alu_interval op width s' t))) p w
-    (λ t t' r u. (alu_interval_grows op width s t s' t' q r v u, (alu_interval_proper op width s t q r).0))
+    (λ t t' r u. (alu_interval_grows op width s t s' t' q.0 r.0 v u, low width (alu_interval op width s t) (alu_interval_proper op width s t q.0 r.0)))
 
 -- how far pointers are moved
 abbrev FarFollows : Option (ℤ × ℤ) → Option (ℤ × ℤ) → Type 0
@@ -89,7 +97,7 @@ small_follows s s' p w = go (nat_le s'.hi 65536) refl
 distance_follows : (o : Operand) (b b' : Kind) → IsKind b → KindWithin b b' → FarFollows (distance o b) (distance o b')
 distance_follows (Imm k) b b' p w = (omega (arith, ints), omega (arith, ints), omega (arith, ints))
 distance_follows (Reg r) b Unset p w = tt
-distance_follows (Reg r) (Num lo hi) (Num lo' hi') p w = small_follows (interval lo hi) (interval lo' hi') p w
+distance_follows (Reg r) (Num lo hi) (Num lo' hi') p w = small_follows (interval lo hi) (interval lo' hi') p.0 w
 distance_follows (Reg r) b (Stack l lo hi) p w = tt
 distance_follows (Reg r) b (Req lo hi) p w = tt
 distance_follows (Reg r) b (Vars lo hi) p w = tt
@@ -126,7 +134,7 @@ set_follows b b' p w = by_form_follows b b' (λ s. Some (num s)) (λ s. Some (nu
 
 moved_follows : (b b' : Kind) → IsKind b → KindWithin b b' → KindFollows (on_number b (λ t. Some (num (alu_interval Mov W32 t t)))) (on_number b' (λ t. Some (num (alu_interval Mov W32 t t))))
 moved_follows b b' p w = on_number_follows b b' (λ t. Some (num (alu_interval Mov W32 t t))) (λ t. Some (num (alu_interval Mov W32 t t))) p w
-    (λ t t' q v. (alu_interval_grows Mov W32 t t t' t' q q v v, (alu_interval_proper Mov W32 t t q q).0))
+    (λ t t' q v. (alu_interval_grows Mov W32 t t t' t' q.0 q.0 v v, low W32 (alu_interval Mov W32 t t) (alu_interval_proper Mov W32 t t q.0 q.0)))
 
 plain_follows : (op : AluOp) (width : Width) (a b a' b' : Kind) → IsKind a → IsKind b → KindWithin a a' → KindWithin b b' → KindFollows (on_number a (numbers op width b)) (on_number a' (numbers op width b'))
 plain_follows op width a b a' b' p q v w = on_number_follows a a' (numbers op width b) (numbers op width b') p v (numbers_follow op width b b' q w)
@@ -208,15 +216,29 @@ where_follows false true k p f w = absurd (cc (f refl))
 -- ---- the other forms of arithmetic
 
 pub neg_follows : (width : Width) (a a' : Kind) → IsKind a → KindWithin a a' → KindFollows (on_number a (λ s. Some (num (all (bits_of width))))) (on_number a' (λ s. Some (num (all (bits_of width)))))
-neg_follows width a a' p w = on_number_follows a a' (λ s. Some (num (all (bits_of width)))) (λ s. Some (num (all (bits_of width)))) p w (λ s s' q v. ((omega arith, omega arith), omega arith))
+neg_follows width a a' p w = on_number_follows a a' (λ s. Some (num (all (bits_of width)))) (λ s. Some (num (all (bits_of width)))) p w (λ s s' q v. ((omega arith, omega arith), low width (all (bits_of width)) (all_proper (bits_of width))))
+
+extended_low : (e : SignExtension) (s : Interval) → IsInterval 64 s → IsKind (num (extended_values e s))
+unfolding extended_values
+extended_low (Byte W32) s l = grind (arith, nat_tests, l)
+extended_low (Byte W64) s l = grind (arith, nat_tests, l)
+extended_low (HalfWord W32) s l = grind (arith, nat_tests, l)
+extended_low (HalfWord W64) s l = grind (arith, nat_tests, l)
+extended_low Word s l = grind (arith, nat_tests, l)
 
 pub extended_follows : (e : _) (a a' : Kind) → IsKind a → KindWithin a a' → KindFollows (on_number a (λ s. Some (num (extended_values e s)))) (on_number a' (λ s. Some (num (extended_values e s))))
-extended_follows e a a' p w = on_number_follows a a' (λ s. Some (num (extended_values e s))) (λ s. Some (num (extended_values e s))) p w (λ s s' q v. (sign_extended_grows e s s' v, sign_extended_proper e s q))
+extended_follows e a a' p w = on_number_follows a a' (λ s. Some (num (extended_values e s))) (λ s. Some (num (extended_values e s))) p w (λ s s' q v. (sign_extended_grows e s s' v, extended_low e s q))
 
-ordered_grows : (order : ByteOrder) (width : SwapWidth) (s s' : Interval) → s.lo ≤ s.hi → IntervalWithin s s' → KindWithin (num (ordered_interval order width s)) (num (ordered_interval order width s')) × ((ordered_interval order width s).lo ≤ (ordered_interval order width s).hi)
-ordered_grows Little width s s' p w = grind (arith, nat_tests, p, w)
-ordered_grows Big width s s' p w = ((omega arith, omega arith), omega arith)
-ordered_grows Swapped width s s' p w = ((omega arith, omega arith), omega arith)
+ordered_grows : (order : ByteOrder) (width : SwapWidth) (s s' : Interval) → IsInterval 64 s → IntervalWithin s s' → KindWithin (num (ordered_interval order width s)) (num (ordered_interval order width s')) × IsKind (num (ordered_interval order width s))
+ordered_grows Little S16 s s' p w = grind (arith, nat_tests, p, w)
+ordered_grows Little S32 s s' p w = grind (arith, nat_tests, p, w)
+ordered_grows Little S64 s s' p w = grind (arith, nat_tests, p, w)
+ordered_grows Big S16 s s' p w = ((omega arith, omega arith), omega arith)
+ordered_grows Big S32 s s' p w = ((omega arith, omega arith), omega arith)
+ordered_grows Big S64 s s' p w = ((omega arith, omega arith), omega arith)
+ordered_grows Swapped S16 s s' p w = ((omega arith, omega arith), omega arith)
+ordered_grows Swapped S32 s s' p w = ((omega arith, omega arith), omega arith)
+ordered_grows Swapped S64 s s' p w = ((omega arith, omega arith), omega arith)
 
 pub ordered_follows : (order : ByteOrder) (width : SwapWidth) (a a' : Kind) → IsKind a → KindWithin a a' → KindFollows (on_number a (λ s. Some (num (ordered_interval order width s)))) (on_number a' (λ s. Some (num (ordered_interval order width s))))
 ordered_follows order width a a' p w = on_number_follows a a' (λ s. Some (num (ordered_interval order width s))) (λ s. Some (num (ordered_interval order width s))) p w (λ s s' q v. ordered_grows order width s s' q v)

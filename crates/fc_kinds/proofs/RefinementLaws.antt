@@ -1,5 +1,5 @@
 -- What is known on a way grows with what is known before.
-use Rattle.std.proofs.Common.{◌≡◌, ◌≤◌, Bool, true, false, if◌then◌else◌, Option, Some, None, List, length, refl, sym, subst, arith, length-set}
+use Rattle.std.proofs.Common.{◌≡◌, Bool, true, false, if◌then◌else◌, Option, Some, None, List, length, refl, sym, subst, arith, length-set}
 use Rattle.std.specs.Prelude.{slice_set}
 use Rattle.fc_isa.specs.declared.insn.Width.TheVariants.{W64}
 use Rattle.fc_isa.specs.declared.insn.Operand.{Operand}
@@ -9,7 +9,7 @@ use Rattle.fc_isa.specs.declared.insn.Relation.{Relation}
 use Rattle.fc_isa.specs.Program.{IsReg, IsOperand}
 use Rattle.fc_kinds.specs.declared.interval.Interval.{Interval}
 use Rattle.fc_kinds.specs.Intervals.{interval, IntervalWithin, refined}
-use Rattle.fc_kinds.proofs.IntervalsRefined.{refined_narrower, refined_proper}
+use Rattle.fc_kinds.proofs.IntervalsRefined.{refined_narrower, refined_proper, refined_inside}
 use Rattle.fc_kinds.specs.declared.kind.Kind.{Kind}
 use Rattle.fc_kinds.specs.declared.kind.Kind.TheVariants.{Unset, Num, Stack, Req, Vars, Dev}
 use Rattle.fc_kinds.specs.Kinds.{kind_at, KindWithin, Within}
@@ -31,7 +31,7 @@ right_within : (o : Operand) (ks ks' : List Kind) (s s' : Interval) → IsOperan
 right_within (Imm k) ks ks' s s' i len v w = w
 right_within (Reg r) ks ks' s s' i len v w = within_put ks ks' r (num s) (num s') (omega (arith, i, len)) v w
 
-right_kinds : (o : Operand) (ks : List Kind) (s : Interval) → IsOperand o → s.lo ≤ s.hi → AreKinds ks → AreKinds (put_right o ks s)
+right_kinds : (o : Operand) (ks : List Kind) (s : Interval) → IsOperand o → IsKind (num s) → AreKinds ks → AreKinds (put_right o ks s)
 right_kinds (Imm k) ks s i p a = a
 right_kinds (Reg r) ks s i p a = kinds_put ks r (num s) i p a
 
@@ -40,19 +40,21 @@ both_within j ks ks' p p' l r a u v w =
     right_within j.right (slice_set ks j.left (num p.0)) (slice_set ks' j.left (num p'.0)) p.1 p'.1 r (simp length-set a.count) v
     (within_put ks ks' j.left (num p.0) (num p'.0) (omega (arith, l, a.count)) u w)
 
-both_kinds : (j : Jump) (ks : List Kind) (p : Interval × Interval) → IsReg j.left → IsOperand j.right → AreKinds ks → (p.0.lo ≤ p.0.hi) × (p.1.lo ≤ p.1.hi) → AreKinds (put_both j ks p)
+both_kinds : (j : Jump) (ks : List Kind) (p : Interval × Interval) → IsReg j.left → IsOperand j.right → AreKinds ks → IsKind (num p.0) × IsKind (num p.1) → AreKinds (put_both j ks p)
 both_kinds j ks p l r a q = right_kinds j.right (slice_set ks j.left (num p.0)) p.1 r q.1 (kinds_put ks j.left (num p.0) l q.0 a)
 
-refined_follows : (relation : Relation) (j : Jump) (ks ks' : List Kind) (a b a' b' : Interval) → IsReg j.left → IsOperand j.right → AreKinds ks → Within ks ks' → a.lo ≤ a.hi → b.lo ≤ b.hi → IntervalWithin a a' → IntervalWithin b b'
+refined_follows : (relation : Relation) (j : Jump) (ks ks' : List Kind) (a b a' b' : Interval) → IsReg j.left → IsOperand j.right → AreKinds ks → Within ks ks' → IsKind (num a) → IsKind (num b) → IntervalWithin a a' → IntervalWithin b b'
     → WayFollows (with_some (refined relation a b) (λ pair. Some (put_both j ks pair))) (with_some (refined relation a' b') (λ pair. Some (put_both j ks' pair)))
 refined_follows relation j ks ks' a b a' b' l r k w m n h i = go (refined relation a b) refl
   where
     go : (o : Option (Interval × Interval)) → refined relation a b ≡ o → WayFollows (with_some o (λ pair. Some (put_both j ks pair))) (with_some (refined relation a' b') (λ pair. Some (put_both j ks' pair)))
     go None e = tt
     go (Some (p, q)) e =
-        let f = refined_narrower relation a b a' b' p q m n e h i in
+        let f = refined_narrower relation a b a' b' p q m.0 n.0 e h i in
+        let r' = refined_proper relation a b p q m.0 n.0 e in
+        let v = refined_inside relation a b p q e in
         subst (λ o. WayFollows (Some (put_both j ks (p, q))) (with_some o (λ pair. Some (put_both j ks' pair)))) (sym f.is)
-        (both_within j ks ks' (p, q) f.pair l r k f.left f.right w, both_kinds j ks (p, q) l r k (refined_proper relation a b p q m n e))
+        (both_within j ks ks' (p, q) f.pair l r k f.left f.right w, both_kinds j ks (p, q) l r k ((r'.0, omega (arith, v.0, m.1)), (r'.1, omega (arith, v.1, n.1))))
 
 numbers_refined : (relation : Relation) (j : Jump) (ks ks' : List Kind) (k l k' l' : Kind) → IsReg j.left → IsOperand j.right → AreKinds ks → Within ks ks' → IsKind k → IsKind l → KindWithin k k' → KindWithin l l'
     → is_number k' ≡ true → is_number l' ≡ true
@@ -78,4 +80,4 @@ when_follows j taken ks ks' l r a w s t = go (refines j)
     go : (b : Bool) → WayFollows (if b then both_numbers (kind_at ks j.left) (operand_kind W64 j.right ks) (λ a b. with_some (refined (relation_of taken j) a b) (λ pair. Some (put_both j ks pair))) ks else Some ks)
         (if b then both_numbers (kind_at ks' j.left) (operand_kind W64 j.right ks') (λ a b. with_some (refined (relation_of taken j) a b) (λ pair. Some (put_both j ks' pair))) ks' else Some ks')
     go false = (w, a)
-    go true = numbers_refined (relation_of taken j) j ks ks' (kind_at ks j.left) (operand_kind W64 j.right ks) (kind_at ks' j.left) (operand_kind W64 j.right ks') l r a w (a.each j.left) (operand_is W64 j.right ks a) (w.each j.left) (operand_within W64 j.right ks ks' w) s t
+    go true = numbers_refined (relation_of taken j) j ks ks' (kind_at ks j.left) (operand_kind W64 j.right ks) (kind_at ks' j.left) (operand_kind W64 j.right ks') l r a w (a.each j.left) (operand_is W64 j.right ks r a) (w.each j.left) (operand_within W64 j.right ks ks' w) s t

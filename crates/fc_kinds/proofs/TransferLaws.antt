@@ -1,16 +1,17 @@
 -- Where the wider kinds meet the demands the narrower do, and their effect is narrower.
-use Rattle.std.proofs.Common.{◌≡◌, ℕ, zero, suc, ◌+◌, ◌<◌, ◌&&◌, Bool, true, false, Option, Some, None, List, [], ◌∷◌, length, refl, sym, ap, subst, arith, length-set, inl, inr, get_or-set_same, get_or-set_other}
+use Rattle.std.proofs.Common.{◌≡◌, ℕ, zero, suc, ◌+◌, ◌^◌, ◌<◌, ◌&&◌, Bool, true, false, Option, Some, None, List, [], ◌∷◌, length, refl, sym, ap, subst, arith, length-set, inl, inr, get_or-set_same, get_or-set_other}
 use Rattle.std.specs.Prelude.{slice_set}
 use Rattle.std.proofs.lemmas.Bool.{cases_eq}
 use Rattle.std.proofs.lemmas.Int.{ints}
 use Rattle.fc_isa.specs.declared.insn.Width.{Width}
+use Rattle.fc_isa.specs.declared.insn.Width.TheVariants.{W32, W64}
 use Rattle.fc_isa.specs.declared.insn.Operand.{Operand}
 use Rattle.fc_isa.specs.declared.insn.Operand.TheVariants.{Imm, Reg}
 use Rattle.fc_isa.specs.declared.insn.LoadType.TheVariants.{Unsigned, SignedByte, SignedHalfWord, SignedWord}
 use Rattle.fc_isa.specs.declared.insn.Size.TheVariants.{Byte, HalfWord, Word, DoubleWord}
 use Rattle.fc_isa.specs.declared.insn.Insn.{Insn}
 use Rattle.fc_isa.specs.declared.insn.Insn.TheVariants.{Alu, Neg, SignExtend, End, LoadWide, WideSecond, Load, StoreImm, Store, JumpAlways, JumpAlwaysLong, JumpIf, CallHelper, CallLocal, Exit}
-use Rattle.fc_isa.specs.Program.{IsInsn}
+use Rattle.fc_isa.specs.Program.{IsOperand, IsInsn}
 use Rattle.fc_kinds.specs.declared.kind.Kind.{Kind}
 use Rattle.fc_kinds.specs.declared.kind.Kind.TheVariants.{Unset, Num, Stack, Req, Vars, Dev}
 use Rattle.fc_kinds.specs.Kinds.{kind_at, KindWithin, Within}
@@ -18,6 +19,7 @@ use Rattle.fc_kinds.specs.Transfer.{num, is_number, operand_kind, alu_kind, may_
 use Rattle.fc_kinds.specs.Values.{with_some}
 use Rattle.fc_kinds.specs.Intervals.{all}
 use Rattle.fc_help.specs.declared.helper.Helper.{Helper}
+use Rattle.fc_help.specs.declared.helper.Helper.TheVariants.{PayloadLen, PayloadByte, VarGet, VarPut, ReplyPut, ReplyByte, Notify}
 use Rattle.fc_help.specs.declared.helper.Arguments.{Arguments}
 use Rattle.fc_help.specs.declared.helper.Arguments.TheVariants.{NoArgument, OneNumber, TwoNumbers, Bytes}
 use Rattle.fc_help.specs.Helpers.{helper_of, signature_of}
@@ -66,9 +68,10 @@ true_both : (a b : Bool) → a ≡ true → b ≡ true → (a && b) ≡ true
 true_both true b e f = f
 true_both false b e f = absurd (cc e)
 
-pub operand_is : (width : Width) (o : Operand) (ks : List Kind) → AreKinds ks → IsKind (operand_kind width o ks)
-operand_is width (Imm k) ks a = omega arith
-operand_is width (Reg r) ks a = a.each r
+pub operand_is : (width : Width) (o : Operand) (ks : List Kind) → IsOperand o → AreKinds ks → IsKind (operand_kind width o ks)
+operand_is W32 (Imm k) ks i a = (omega arith, omega (arith, ints, i))
+operand_is W64 (Imm k) ks i a = (omega arith, omega (arith, ints, i))
+operand_is width (Reg r) ks i a = a.each r
 
 loaded_is : (l : _) → IsKind (num (loaded_interval l))
 loaded_is (Unsigned Byte) = omega arith
@@ -161,22 +164,31 @@ arguments_follow vars TwoNumbers ks ks' w e =
     true_both (is_number (kind_at ks 1)) (is_number (kind_at ks 2)) (is_number_follows (kind_at ks 1) (kind_at ks' 1) (w.each 1) b.0) (is_number_follows (kind_at ks 2) (kind_at ks' 2) (w.each 2) b.1)
 arguments_follow vars Bytes ks ks' w e = count_follows vars (kind_at ks 1) (kind_at ks' 1) (kind_at ks 2) (kind_at ks' 2) (w.each 1) (w.each 2) e
 
+most_low : (h : Helper) → (signature_of h).most < 2 ^ 64
+most_low PayloadLen = omega arith
+most_low PayloadByte = omega arith
+most_low VarGet = omega arith
+most_low VarPut = omega arith
+most_low ReplyPut = omega arith
+most_low ReplyByte = omega arith
+most_low Notify = omega arith
+
 helper_meets : (vars : ℕ) (o : Option Helper) (ks ks' after' : List Kind) → AreKinds ks → Within ks ks' → with_some o (helped_kinds vars ks') ≡ Some after' → Meets (with_some o (helped_kinds vars ks)) (with_some o (helped_kinds vars ks')) after'
 helper_meets vars None ks ks' after' a w e = absurd (cc e)
 helper_meets vars (Some h) ks ks' after' a w e =
     let most = Num 0 (signature_of h).most in
     where_meets (after_call most ks) (after_call most ks') after' (are_arguments vars (signature_of h).arguments ks) (are_arguments vars (signature_of h).arguments ks')
-    (call_kinds most ks (omega arith) a) (call_within most most ks ks' (omega arith, omega arith) w) (arguments_follow vars (signature_of h).arguments ks ks' w) e
+    (call_kinds most ks (omega arith, most_low h) a) (call_within most most ks ks' (omega arith, omega arith) w) (arguments_follow vars (signature_of h).arguments ks ks' w) e
 
 pub transfer_meets : (vars : ℕ) (insn : Insn) (ks ks' after' : List Kind) → IsInsn insn → AreKinds ks → Within ks ks' → transfer vars insn ks' ≡ Some after' → Meets (transfer vars insn ks) (transfer vars insn ks') after'
 unfolding transfer
 transfer_meets vars (Alu op width dst operand) ks ks' after' i a w e =
     put_meets ks ks' after' dst (alu_kind op width operand (kind_at ks dst) (operand_kind width operand ks)) (alu_kind op width operand (kind_at ks' dst) (operand_kind width operand ks')) i.0 a w
-    (alu_follows op width operand (kind_at ks dst) (operand_kind width operand ks) (kind_at ks' dst) (operand_kind width operand ks') (a.each dst) (operand_is width operand ks a) (w.each dst) (operand_within width operand ks ks' w)) e
+    (alu_follows op width operand (kind_at ks dst) (operand_kind width operand ks) (kind_at ks' dst) (operand_kind width operand ks') (a.each dst) (operand_is width operand ks i.1 a) (w.each dst) (operand_within width operand ks ks' w)) e
 transfer_meets vars (Neg width dst) ks ks' after' i a w e = put_meets ks ks' after' dst _ _ i a w (neg_follows width (kind_at ks dst) (kind_at ks' dst) (a.each dst) (w.each dst)) e
 transfer_meets vars (SignExtend extension dst src) ks ks' after' i a w e = put_meets ks ks' after' dst _ _ i.0 a w (extended_follows extension (kind_at ks src) (kind_at ks' src) (a.each src) (w.each src)) e
 transfer_meets vars (End order width dst) ks ks' after' i a w e = put_meets ks ks' after' dst _ _ i a w (ordered_follows order width (kind_at ks dst) (kind_at ks' dst) (a.each dst) (w.each dst)) e
-transfer_meets vars (LoadWide dst value) ks ks' after' i a w e = put_meets ks ks' after' dst (Some (Num value value)) (Some (Num value value)) i.0 a w ((omega arith, omega arith), omega arith) e
+transfer_meets vars (LoadWide dst value) ks ks' after' i a w e = put_meets ks ks' after' dst (Some (Num value value)) (Some (Num value value)) i.0 a w ((omega arith, omega arith), (omega arith, i.1)) e
 transfer_meets vars WideSecond ks ks' after' i a w e = absurd (cc e)
 transfer_meets vars (Load loaded dst base offset) ks ks' after' i a w e =
     put_meets ks ks' after' dst _ _ i.0 a w

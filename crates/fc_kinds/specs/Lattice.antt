@@ -1,5 +1,5 @@
 -- Kinds as a lattice: joins, and the kinds that hold some value.
-use Rattle.std.specs.Prelude.{◌≡◌, ℕ, ◌≤◌, ◌==◌, if◌then◌else◌, min, max, ℤ, pos, negsuc, ◌≤ℤ◌, List, [], ◌∷◌, length}
+use Rattle.std.specs.Prelude.{◌≡◌, ℕ, ◌≤◌, ◌<◌, ◌^◌, ◌==◌, if◌then◌else◌, min, max, ℤ, pos, negsuc, ◌≤ℤ◌, List, [], ◌∷◌, length}
 use Rattle.std.specs.Int.{int_min, int_max}
 use Rattle.fc_kinds.specs.declared.kind.Kind.{Kind}
 use Rattle.fc_kinds.specs.declared.kind.Kind.TheVariants.{Unset, Num, Stack, Req, Vars, Dev}
@@ -23,10 +23,10 @@ joined kinds others = []
 abbrev pub IsNear : ℤ → ℤ → Type 0
 IsNear lo hi = (lo ≤ℤ hi) × (negsuc 65535 ≤ℤ lo) × (hi ≤ℤ pos 65536)
 
--- it holds some value of its form
+-- it holds some value of its form; a number has 64 bits
 abbrev pub IsKind : Kind → Type 0
 IsKind Unset = Unit {0}
-IsKind (Num lo hi) = lo ≤ hi
+IsKind (Num lo hi) = (lo ≤ hi) × (hi < 2 ^ 64)
 IsKind (Stack level lo hi) = IsNear lo hi
 IsKind (Req lo hi) = IsNear lo hi
 IsKind (Vars lo hi) = IsNear lo hi
