@@ -8,7 +8,8 @@ use Rattle.fc_isa.specs.declared.insn.Insn.{Insn}
 use Rattle.fc_isa.specs.declared.insn.Insn.TheVariants.{Alu, Neg, SignExtend, End, LoadWide, WideSecond, Load, StoreImm, Store, JumpAlways, JumpAlwaysLong, JumpIf, CallHelper, CallLocal, Exit}
 use Rattle.fc_isa.specs.declared.rule.Rule.TheVariants.{JumpTarget, BackwardJump, Boundary}
 use Rattle.fc_isa.specs.Program.{is_program}
-use Rattle.fc_image.specs.Flow.{target, landing, Goes, flow, flow_of, flow_at}
+use Rattle.fc_isa.specs.Flow.{target, landing, Goes, flow}
+use Rattle.fc_image.specs.Flow.{flow_of, flow_at}
 use Rattle.fc_image.specs.Functions.{is_at, calls, is_called, is_start, starts_within, depths, frames}
 use Rattle.fc_image.specs.Laws.{frames_at, IsNearer, LeadsNearer}
 use Rattle.fc_image.specs.ShapeRules.{is_place, is_instruction, is_later, leaves, IsShaped}

@@ -8,7 +8,8 @@ use Rattle.std.proofs.lemmas.Option.{slice_get_within}
 use Rattle.fc_isa.specs.declared.insn.Insn.{Insn}
 use Rattle.fc_isa.specs.declared.insn.Insn.TheVariants.{Alu, Neg, SignExtend, End, LoadWide, WideSecond, Load, StoreImm, Store, JumpAlways, JumpAlwaysLong, JumpIf, CallHelper, CallLocal, Exit}
 use Rattle.fc_isa.specs.declared.rule.Rule.TheVariants.{JumpTarget, BackwardJump, Boundary, BackwardCall}
-use Rattle.fc_image.specs.Flow.{IsLater, IsForward, target, landing, Flow, Halts, Goes, Forks, Enters, flow, flow_of, flow_at}
+use Rattle.fc_isa.specs.Flow.{target, landing, Flow, Halts, Goes, Forks, Enters, flow}
+use Rattle.fc_image.specs.Flow.{IsLater, IsForward, flow_of, flow_at}
 use Rattle.fc_image.specs.Functions.{is_start}
 use Rattle.fc_image.specs.Paths.{GoesOn, IsPath, IsLongest, at_offset, cost_of, costs, longest}
 use Rattle.fc_image.specs.Laws.{cost_at}

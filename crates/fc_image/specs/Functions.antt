@@ -2,7 +2,7 @@
 use Rattle.std.specs.Prelude.{ℕ, zero, suc, ◌+◌, ◌==◌, ◌||◌, ◌&&◌, not, nat_lt, Bool, true, false, if◌then◌else◌, max, ℤ, List, [], ◌∷◌, length, Option, Some, None, slice_index}
 use Rattle.fc_isa.specs.declared.insn.Insn.{Insn}
 use Rattle.fc_isa.specs.declared.insn.Insn.TheVariants.{LoadWide, WideSecond, CallLocal, Exit}
-use Rattle.fc_image.specs.Flow.{call_offset, target}
+use Rattle.fc_isa.specs.Flow.{call_offset, target}
 use Rattle.fc_image.specs.Paths.{at_offset}
 
 abbrev pub with_offset : Option ℤ → (ℤ → Bool) → Bool

@@ -4,7 +4,8 @@ use Rattle.fc_isa.specs.declared.insn.Insn.{Insn}
 use Rattle.fc_isa.specs.declared.rule.Rule.{Rule}
 use Rattle.fc_isa.specs.Rules.{number_of}
 use Rattle.fc_isa.specs.Program.{is_program}
-use Rattle.fc_image.specs.Flow.{Flow, Halts, Goes, Forks, Enters, IsForward, flow}
+use Rattle.fc_isa.specs.Flow.{Flow, Halts, Goes, Forks, Enters, flow}
+use Rattle.fc_image.specs.Flow.{IsForward}
 use Rattle.fc_image.specs.Functions.{is_start, depths, frames}
 use Rattle.fc_image.specs.Head.{Head}
 use Rattle.fc_image.specs.Paths.{costs}

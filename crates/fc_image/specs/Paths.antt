@@ -2,7 +2,8 @@
 use Rattle.std.specs.Prelude.{◌≡◌, ℕ, zero, suc, ◌+◌, ◌≤◌, ◌⊎◌, max, ℤ, pos, negsuc, List, [], ◌∷◌, Option, Some, None, slice_index}
 use Rattle.fc_isa.specs.declared.insn.Insn.{Insn}
 use Rattle.fc_isa.specs.declared.insn.Insn.TheVariants.{LoadWide, WideSecond, JumpAlways, JumpAlwaysLong, JumpIf, CallLocal, Exit}
-use Rattle.fc_image.specs.Flow.{Flow, Halts, Goes, Forks, Enters, flow_at}
+use Rattle.fc_isa.specs.Flow.{Flow, Halts, Goes, Forks, Enters}
+use Rattle.fc_image.specs.Flow.{flow_at}
 
 -- an exit goes back to the return place of the last call that goes on; it ends the path where there is none
 abbrev pub Returns : (ℕ → List ℕ → Type 0) → ℕ → List ℕ → Type 0

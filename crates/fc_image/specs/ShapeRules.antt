@@ -7,7 +7,7 @@ use Rattle.fc_isa.specs.declared.rule.Rule.{Rule}
 use Rattle.fc_isa.specs.declared.rule.Fault.{Fault}
 use Rattle.fc_isa.specs.declared.rule.Rule.TheVariants.{JumpTarget, BackwardJump, Boundary, BackwardCall, FrameDepth, Cost, Helper}
 use Rattle.fc_isa.specs.Program.{is_wide_second}
-use Rattle.fc_image.specs.Flow.{jump_offset, call_offset, target}
+use Rattle.fc_isa.specs.Flow.{jump_offset, call_offset, target}
 use Rattle.fc_image.specs.Functions.{with_offset, starts_within, is_open_end, frames}
 use Rattle.fc_image.specs.Head.{Head, frames_allowed}
 use Rattle.fc_image.specs.Paths.{longest}

@@ -1,7 +1,7 @@
 //! The shape of a program: the rules of its control flow, in their order.
 ghost use Rattle.std.specs.Prelude.{IfErr, IfOk, List, MatchOption, None, Some, drop, false, length, not, slice_get, true, ℕ, ◌+◌, ◌-◌, ◌<◌, ◌||◌, ◌≡◌, ◌≤◌};
 ghost use Rattle.fc_isa.specs.declared.insn.Insn.{Insn as Instruction};
-ghost use Rattle.fc_image.specs.Flow.{call_offset, jump_offset, target};
+ghost use Rattle.fc_isa.specs.Flow.{call_offset, jump_offset, target};
 ghost use Rattle.fc_image.specs.Functions.{frames, with_offset};
 ghost use Rattle.fc_image.specs.Head.{frames_allowed};
 ghost use Rattle.fc_image.specs.Judged.{AreTables};

@@ -1,7 +1,7 @@
 //! Where jumps and calls lead.
 ghost use Rattle.std.specs.Prelude.{ℤ, Some, None, ◌≡◌, ◌<◌, ◌≤◌};
 ghost use Rattle.std.specs.Option.{option_map_or};
-ghost use Rattle.fc_image.specs.Flow.{call_offset, jump_offset, target};
+ghost use Rattle.fc_isa.specs.Flow.{call_offset, jump_offset, target};
 
 use fc_isa::Insn;
 

@@ -2,3 +2,4 @@ pub mod Rules
 pub mod Program
 pub mod Shapes
 pub mod Encoding
+pub mod Flow
