@@ -1,5 +1,5 @@
 -- Only a local call raises the levels of stack frames, and by one.
-use Rattle.std.proofs.Common.{◌≡◌, ℕ, zero, suc, ◌+◌, ◌==◌, ◌&&◌, Bool, true, false, if◌then◌else◌, ℤ, negsuc, pos, ◌+ℤ◌, ◌-ℤ◌, int_le, Option, Some, None, List, [], ◌∷◌, ◌++◌, refl, sym, subst, arith}
+use Rattle.std.proofs.Common.{◌≡◌, ℕ, zero, suc, ◌+◌, ◌==◌, ◌&&◌, Bool, true, false, if◌then◌else◌, ℤ, negsuc, pos, ◌+ℤ◌, ◌-ℤ◌, int_le, Option, Some, None, List, [], ◌∷◌, ◌++◌, sym, subst, arith}
 use Rattle.std.specs.Prelude.{slice_set}
 use Rattle.std.specs.Int.{int_min, int_max}
 use Rattle.fc_isa.specs.declared.insn.Width.{Width}
@@ -11,6 +11,7 @@ use Rattle.fc_isa.specs.declared.insn.Operand.TheVariants.{Imm, Reg}
 use Rattle.fc_isa.specs.declared.insn.Jump.{Jump}
 use Rattle.fc_isa.specs.declared.insn.Insn.{Insn}
 use Rattle.fc_isa.specs.declared.insn.Insn.TheVariants.{Alu, Neg, SignExtend, End, LoadWide, WideSecond, Load, StoreImm, Store, JumpAlways, JumpAlwaysLong, JumpIf, CallHelper, CallLocal, Exit}
+use Rattle.fc_isa.specs.Flow.{Flow, Halts, Goes, Forks, Enters, flow}
 use Rattle.fc_alu.specs.Words.{bits_of}
 use Rattle.fc_help.specs.declared.helper.Helper.{Helper}
 use Rattle.fc_help.specs.Helpers.{helper_of, signature_of}
@@ -23,7 +24,7 @@ use Rattle.fc_kinds.specs.Kinds.{kind_at}
 use Rattle.fc_kinds.specs.Lattice.{join_kind, joined}
 use Rattle.fc_kinds.specs.Transfer.{num, by_form, on_number, operand_kind, distance, near, numbers, forth, back, moved, alu_kind, ordered_interval, bytes_loaded, loaded_interval, may_read, put_kind, where_met, after_call, returned, are_arguments, helped_kinds, raised, IsShallow, AreShallow, enter, transfer}
 use Rattle.fc_kinds.specs.Refinement.{put_right, put_both, relation_of, refines, both_numbers, when}
-use Rattle.fc_kinds.specs.Ways.{Way, way_where, skipped, ways_after, AllShallow, ways}
+use Rattle.fc_kinds.specs.Ways.{Way, way_where, kinds_when, ways_along, ways_after, AllShallow}
 use Rattle.fc_kinds.proofs.JoinLaws.{joined_at}
 
 -- ---- one kind
@@ -233,40 +234,28 @@ higher_each top (Dev lo hi) h = tt
 higher : (top : ℕ) (ks : List Kind) → AreShallow top ks → AreShallow (top + 1) ks
 higher top ks h = record { each = λ r. higher_each top (kind_at ks r) (h.each r) }
 
-where_shallow : (top skip : ℕ) (o : Option (List Kind)) → AreLow top o → AllShallow (top + 1) (way_where skip o)
-where_shallow top skip None h = tt
-where_shallow top skip (Some ks) h = (higher top ks h, tt)
+where_shallow : (top target : ℕ) (o : Option (List Kind)) → AreLow top o → AllShallow (top + 1) (way_where target o)
+where_shallow top target None h = tt
+where_shallow top target (Some ks) h = (higher top ks h, tt)
 
 both_shallow : (top : ℕ) (ws vs : List Way) → AllShallow top ws → AllShallow top vs → AllShallow top (ws ++ vs)
 both_shallow top [] vs p q = q
 both_shallow top (w ∷ ws) vs p q = (p.0, both_shallow top ws vs p.1 q)
 
-after_shallow : (top : ℕ) (insn : Insn) (before after : List Kind) → AreShallow top before → AreShallow top after → AllShallow (top + 1) (ways_after insn before after)
-after_shallow top (LoadWide dst value) before after p q = (higher top after q, tt)
-after_shallow top (JumpAlways offset) before after p q = (higher top after q, tt)
-after_shallow top (JumpAlwaysLong offset) before after p q = (higher top after q, tt)
-after_shallow top (JumpIf j) before after p q =
-    both_shallow (top + 1) (way_where (skipped j.offset) (when j true after)) (way_where 0 (when j false after))
-    (where_shallow top (skipped j.offset) (when j true after) (when_low top j true after q)) (where_shallow top 0 (when j false after) (when_low top j false after q))
-after_shallow top (CallLocal offset) before after p q = (enter_shallow top before p, (higher top after q, tt))
-after_shallow top Exit before after p q = tt
-after_shallow top WideSecond before after p q = tt
-after_shallow top (Alu op width dst operand) before after p q = (higher top after q, tt)
-after_shallow top (Neg width dst) before after p q = (higher top after q, tt)
-after_shallow top (SignExtend extension dst src) before after p q = (higher top after q, tt)
-after_shallow top (End order width dst) before after p q = (higher top after q, tt)
-after_shallow top (Load loaded dst base offset) before after p q = (higher top after q, tt)
-after_shallow top (StoreImm size base offset imm) before after p q = (higher top after q, tt)
-after_shallow top (Store size base offset src) before after p q = (higher top after q, tt)
-after_shallow top (CallHelper number) before after p q = (higher top after q, tt)
+taken_low : (top : ℕ) (taken : Bool) (insn : Insn) (ks : List Kind) → AreShallow top ks → AreLow top (kinds_when taken insn ks)
+taken_low top taken (JumpIf j) ks h = when_low top j taken ks h
+taken_low top taken insn ks h = h
 
-pub ways_shallow : (top vars : ℕ) (insn : Insn) (ks : List Kind) (handed : List Way) → AreShallow top ks → ways vars insn ks ≡ Some handed → AllShallow (top + 1) handed
-unfolding ways
-ways_shallow top vars insn ks handed h e = go (transfer vars insn ks) refl e
-  where
-    go : (o : Option (List Kind)) → transfer vars insn ks ≡ o → with_some o (λ after. Some (ways_after insn ks after)) ≡ Some handed → AllShallow (top + 1) handed
-    go None f g = absurd (cc g)
-    go (Some after) f g = subst (AllShallow (top + 1)) (cc g) (after_shallow top insn ks after h (transfer_shallow top vars insn ks after h f))
+along_shallow : (top : ℕ) (f : Flow) (insn : Insn) (before after : List Kind) → AreShallow top before → AreShallow top after → AllShallow (top + 1) (ways_along f insn before after)
+along_shallow top Halts insn before after p q = tt
+along_shallow top (Goes next) insn before after p q = (higher top after q, tt)
+along_shallow top (Forks taken next) insn before after p q =
+    both_shallow (top + 1) (way_where taken (kinds_when true insn after)) (way_where next (kinds_when false insn after))
+    (where_shallow top taken (kinds_when true insn after) (taken_low top true insn after q)) (where_shallow top next (kinds_when false insn after) (taken_low top false insn after q))
+along_shallow top (Enters start next) insn before after p q = (enter_shallow top before p, (higher top after q, tt))
+
+pub ways_shallow : (top vars slot : ℕ) (insn : Insn) (ks after : List Kind) → AreShallow top ks → transfer vars insn ks ≡ Some after → AllShallow (top + 1) (ways_after slot insn ks after)
+ways_shallow top vars slot insn ks after h e = along_shallow top (flow slot insn) insn ks after h (transfer_shallow top vars insn ks after h e)
 
 -- ---- joins
 

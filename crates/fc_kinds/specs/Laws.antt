@@ -1,5 +1,5 @@
 -- The laws of kinds, and what they say of one state, way or list of ways beside another.
-use Rattle.std.specs.Prelude.{◌≡◌, ℕ, ◌+◌, ◌<◌, ◌^◌, Bool, true, ℤ, pos, ◌≤ℤ◌, List, ◌∷◌, length, Option, Some, None}
+use Rattle.std.specs.Prelude.{◌≡◌, ℕ, ◌+◌, ◌<◌, ◌^◌, Bool, true, ℤ, List, ◌∷◌, length, Option, Some, None}
 use Rattle.fc_isa.specs.declared.insn.Width.TheVariants.{W64}
 use Rattle.fc_isa.specs.declared.insn.Jump.{Jump}
 use Rattle.fc_isa.specs.declared.insn.Insn.{Insn}
@@ -13,7 +13,7 @@ use Rattle.fc_kinds.specs.Transfer.{AreShallow, is_number, operand_kind, transfe
 use Rattle.fc_kinds.specs.Refinement.{when}
 use Rattle.fc_kinds.specs.Operations.{operand_value}
 use Rattle.fc_kinds.specs.Lattice.{AreKinds}
-use Rattle.fc_kinds.specs.Ways.{Way, ways, AllShallow, AreAmong, AreHeld}
+use Rattle.fc_kinds.specs.Ways.{ways_after, AllShallow}
 use Rattle.fc_kinds.specs.Execution.{Caller, Config, act, depth}
 use Rattle.fc_kinds.specs.Soundness.{IsConfig, StaysInFunction, StepsAlong, Waits, IsEntered, IsLeft, StepsTo}
 
@@ -27,11 +27,6 @@ abbrev pub IsNarrowerWay : Option (List Kind) → Option (List Kind) → Type 0
 IsNarrowerWay None wider = Unit {0}
 IsNarrowerWay (Some kinds) None = ⊥
 IsNarrowerWay (Some kinds) (Some wider) = Within kinds wider × AreKinds kinds
-
--- there are ways, and each is among the others and holds some values
-abbrev pub AreNarrowerWays : Option (List Way) → List Way → Type 0
-AreNarrowerWays None wider = ⊥
-AreNarrowerWays (Some handed) wider = AreAmong handed wider × AreHeld handed
 
 -- the operands of a conditional jump are these numbers of 64 bits
 pub record TakesNumbers (j : Jump) (values : List Value) (x y : ℕ) : Type 0 where
@@ -63,35 +58,30 @@ RefinementIsMonotone =
     (j : Jump) (taken : Bool) (ks wider : List Kind) → IsInsn (JumpIf j) → AreKinds ks → Within ks wider
     → ComparesNumbers j wider → IsNarrowerWay (when j taken ks) (when j taken wider)
 
--- the ways from narrower kinds are among those from wider ones
-abbrev pub WaysAreMonotone : Type 0
-WaysAreMonotone =
-    (vars : ℕ) (insn : Insn) (ks wider : List Kind) (handed : List Way) → IsInsn insn → AreKinds ks → Within ks wider
-    → ways vars insn wider ≡ Some handed → AreNarrowerWays (ways vars insn ks) handed
-
 -- on an instruction's ways stack frames are at most one level further above
 abbrev pub WaysRaiseByOne : Type 0
 WaysRaiseByOne =
-    (top vars : ℕ) (insn : Insn) (ks : List Kind) (handed : List Way) → AreShallow top ks → ways vars insn ks ≡ Some handed
-    → AllShallow (top + 1) handed
+    (top vars slot : ℕ) (insn : Insn) (ks after : List Kind) → AreShallow top ks → transfer vars insn ks ≡ Some after
+    → AllShallow (top + 1) (ways_after slot insn ks after)
 
 -- at kinds that contain the registers' values an instruction whose demands are met has a step, along some of its ways
 abbrev pub EffectsContainTheStep : Type 0
 EffectsContainTheStep =
-    (vars : ℕ) (insn : Insn) (c : Config) (ks : List Kind) (handed : List Way) → StaysInFunction insn → IsInsn insn
-    → IsConfig vars c → Holds (depth c) ks c.regs → ways vars insn ks ≡ Some handed → StepsAlong vars (act insn c) c handed
+    (vars : ℕ) (insn : Insn) (c : Config) (ks after : List Kind) → StaysInFunction insn → IsInsn insn → IsConfig vars c
+    → Holds (depth c) ks c.regs → transfer vars insn ks ≡ Some after
+    → StepsAlong vars (act insn c) c (ways_after c.place insn ks after)
 
 -- with fewer than eight frames a local call has a step
 abbrev pub CallsContainTheStep : Type 0
 CallsContainTheStep =
-    (vars : ℕ) (offset : ℤ) (c : Config) (ks : List Kind) → pos 0 ≤ℤ offset → depth c < 7 → IsConfig vars c
-    → Holds (depth c) ks c.regs → StepsTo (IsEntered vars offset ks c) (act (CallLocal offset) c)
+    (vars : ℕ) (offset : ℤ) (c : Config) (ks : List Kind) → depth c < 7 → IsConfig vars c → Holds (depth c) ks c.regs
+    → StepsTo (IsEntered vars offset ks c) (act (CallLocal offset) c)
 
 -- an exit whose demands are met, with a caller that waits, has a step
 abbrev pub ExitsContainTheStep : Type 0
 ExitsContainTheStep =
-    (vars : ℕ) (c : Config) (w : Caller) (callers : List Caller) (ks handed : List Kind) (after : List Way)
-    → c.callers ≡ w ∷ callers → IsConfig vars c → Holds (depth c) ks c.regs → ways vars Exit ks ≡ Some after → Waits (length callers) handed w.kept
+    (vars : ℕ) (c : Config) (w : Caller) (callers : List Caller) (ks handed after : List Kind) → c.callers ≡ w ∷ callers
+    → IsConfig vars c → Holds (depth c) ks c.regs → transfer vars Exit ks ≡ Some after → Waits (length callers) handed w.kept
     → StepsTo (IsLeft vars w callers handed c) (act Exit c)
 
 -- the way that a conditional jump takes is open where the kinds contain the values, and its kinds contain them

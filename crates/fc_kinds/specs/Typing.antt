@@ -1,12 +1,13 @@
 -- Typings: kinds for slots of a program, such that what each instruction hands on is contained in its successors'.
-use Rattle.std.specs.Prelude.{◌≡◌, ℕ, ◌+◌, pos, List, [], ◌∷◌, Option, Some, None, slice_get, slice_index_or}
+use Rattle.std.specs.Prelude.{◌≡◌, ℕ, pos, List, [], ◌∷◌, Option, Some, None, slice_get, slice_index_or}
 use Rattle.fc_isa.specs.declared.insn.Insn.{Insn}
 use Rattle.fc_isa.specs.declared.version.ImageVersion.{ImageVersion}
 use Rattle.fc_isa.specs.declared.version.ImageVersion.TheVariants.{One, Two}
 use Rattle.fc_kinds.specs.declared.kind.Kind.{Kind}
 use Rattle.fc_kinds.specs.declared.kind.Kind.TheVariants.{Unset, Num, Stack, Req, Vars, Dev}
 use Rattle.fc_kinds.specs.Kinds.{Within}
-use Rattle.fc_kinds.specs.Ways.{Way, ways}
+use Rattle.fc_kinds.specs.Transfer.{transfer}
+use Rattle.fc_kinds.specs.Ways.{Way, ways_after}
 
 -- what is known of R4 at a program's entry
 abbrev pub fourth_kind : ImageVersion → Kind
@@ -33,15 +34,15 @@ pub record Leads (states : States) (slot : ℕ) (kinds : List Kind) : Type 0 whe
   pub within : Within kinds state
 
 -- the kinds on each way are contained in the state of the slot that it leads to
-abbrev pub AllLead : States → ℕ → List Way → Type 0
-AllLead states slot [] = Unit {0}
-AllLead states slot (w ∷ ws) = Leads states (slot + 1 + w.skip) w.kinds × AllLead states slot ws
+abbrev pub AllLead : States → List Way → Type 0
+AllLead states [] = Unit {0}
+AllLead states (w ∷ ws) = Leads states w.target w.kinds × AllLead states ws
 
 -- at a slot with these kinds the instruction's demands are met, and each of its ways leads to a state that contains it
 pub record IsWellTypedAt (vars : ℕ) (states : States) (slot : ℕ) (insn : Insn) (kinds : List Kind) : Type 0 where
-  pub handed : List Way
-  pub ways_are : ways vars insn kinds ≡ Some handed
-  pub lead : AllLead states slot handed
+  pub after : List Kind
+  pub effect : transfer vars insn kinds ≡ Some after
+  pub lead : AllLead states (ways_after slot insn kinds after)
 
 -- the states are a typing of the program, whose image has this version and whose variables have this size; a slot without a state is
 -- never reached

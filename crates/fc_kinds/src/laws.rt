@@ -5,7 +5,7 @@ ghost use Rattle.fc_isa.specs.declared.insn.Insn.{Insn};
 ghost use Rattle.fc_help.specs.declared.request.Method.{Method};
 ghost use Rattle.fc_kinds.specs.Kinds.{Holds, Within};
 ghost use Rattle.fc_kinds.specs.Lattice.{AreKinds, joined};
-ghost use Rattle.fc_kinds.specs.Laws.{CallsContainTheStep, EffectsAreMonotone, EffectsContainTheStep, ExitsContainTheStep, RefinementIsMonotone, RefinementKeepsWhatTakesTheWay, WaysAreMonotone, WaysRaiseByOne};
+ghost use Rattle.fc_kinds.specs.Laws.{CallsContainTheStep, EffectsAreMonotone, EffectsContainTheStep, ExitsContainTheStep, RefinementIsMonotone, RefinementKeepsWhatTakesTheWay, WaysRaiseByOne};
 ghost use Rattle.fc_kinds.specs.Meaning.{Input, Meaning, Means, Program, is_reply_code, reply_code};
 ghost use Rattle.fc_kinds.specs.Transfer.{AreShallow, enter, transfer};
 ghost use Rattle.fc_kinds.specs.Values.{Value};
@@ -44,11 +44,6 @@ pub fn refinement_is_monotone()
 /// What a local call hands on grows with its caller's kinds.
 pub fn entering_is_monotone()
     ensures { (ks wider : List What) → Within ks wider → Within (enter ks) (enter wider) }
-{}
-
-/// The ways from narrower kinds are among those from wider ones.
-pub fn ways_are_monotone()
-    ensures { WaysAreMonotone }
 {}
 
 /// On an instruction's ways stack frames are at most one level further above than before it, and a join raises none.

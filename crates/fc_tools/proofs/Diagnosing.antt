@@ -12,7 +12,7 @@ use Rattle.fc_isa.specs.Rules.{number_of}
 use Rattle.fc_image.specs.Head.{Head, head_breaks, head_fault, stated}
 use Rattle.fc_image.specs.ShapeRules.{IsShapeFault, breaks_shape, shape_fault}
 use Rattle.fc_verify.specs.Judged.{code_in}
-use Rattle.fc_verify.specs.Pass.{beginning, is_typable}
+use Rattle.fc_verify.specs.Pass.{is_typable}
 use Rattle.fc_verify.specs.Stages.{IsHeadOf, IsCodeOf, IsTypingFault, IsUntyped}
 use Rattle.fc_verify.specs.declared.untyped.Untyped.{Untyped}
 use Rattle.fc_verify.proofs.Judging.{refused_shape, refused_typing}
@@ -99,7 +99,7 @@ shape_diagnosis image head code d h k s low c = record {
 }
 
 pub typing_diagnosis : (image : List ℕ) (head : Head) (code : List Insn) (u : Untyped) (d : Diagnosis) → IsHeadOf image head → IsCodeOf image code → shape_fault head code ≡ None
-    → is_typable head.vars_size code (beginning head.version code) ≡ false → IsTypingFault code u.fault → IsUntyped head.version head.vars_size code u
+    → is_typable head.version head.vars_size code ≡ false → IsTypingFault code u.fault → IsUntyped head.version head.vars_size code u
     → d.fault ≡ u.fault → ((insn : Insn) → slice_get code u.fault.slot ≡ Some insn → d.cause ≡ Typing insn u.known) → IsDiagnosisOf image d
 typing_diagnosis image head code u d h k s t r n same cause =
     let fault = refused_typing image head code u.fault h k s t r in

@@ -23,7 +23,7 @@ use Rattle.fc_verify.specs.declared.refusal.Refusal.{Refusal}
 use Rattle.fc_verify.specs.declared.refusal.Refusal.TheVariants.{Broken}
 use Rattle.fc_verify.specs.Accepted.{Judgement, Accepts, Breaks, Untypable, slots_of}
 use Rattle.fc_verify.specs.Judged.{code_in, program_in, judged}
-use Rattle.fc_verify.specs.Pass.{beginning, is_typable}
+use Rattle.fc_verify.specs.Pass.{is_typable}
 use Rattle.fc_verify.specs.Refusals.{IsFaultOf, IsRefusal, refusal_of}
 use Rattle.fc_verify.specs.Runs.{IsUntypedProgram}
 use Rattle.fc_verify.specs.Stages.{IsHeadOf, IsCodeOf, IsTypingFault}
@@ -34,7 +34,7 @@ use Rattle.fc_verify.proofs.LowHead.{head_rule_low}
 
 -- the typing's judgement of the program in an image
 abbrev pub types : List ℕ → Bool
-types image = is_typable (stated image).vars_size (code_in image) (beginning (stated image).version (code_in image))
+types image = is_typable (stated image).version (stated image).vars_size (code_in image)
 
 pub judged_head : (image : List ℕ) (rule : Rule) → head_fault image ≡ Some rule → judged image ≡ Breaks rule 0
 unfolding judged
@@ -120,20 +120,20 @@ untyped_of image head code h k s nested =
 pub shape_of : (image : List ℕ) (head : Head) (code : List Insn) (o : Option (ℕ × Rule)) → IsHeadOf image head → IsCodeOf image code → shape_fault head code ≡ o → shape_fault (stated image) (code_in image) ≡ o
 shape_of image head code o h k e = ap (λ x. shape_fault x (code_in image)) (sym h.stated_is) ∙ ap (shape_fault head) (sym k.code_is) ∙ e
 
-pub types_of : (image : List ℕ) (head : Head) (code : List Insn) (b : Bool) → IsHeadOf image head → IsCodeOf image code → is_typable head.vars_size code (beginning head.version code) ≡ b → types image ≡ b
+pub types_of : (image : List ℕ) (head : Head) (code : List Insn) (b : Bool) → IsHeadOf image head → IsCodeOf image code → is_typable head.version head.vars_size code ≡ b → types image ≡ b
 types_of image head code b h k e =
-    ap (λ x. is_typable x.vars_size (code_in image) (beginning x.version (code_in image))) (sym h.stated_is) ∙ ap (λ x. is_typable head.vars_size x (beginning head.version x)) (sym k.code_is) ∙ e
+    ap (λ x. is_typable x.version x.vars_size (code_in image)) (sym h.stated_is) ∙ ap (λ x. is_typable head.version head.vars_size x) (sym k.code_is) ∙ e
 
 pub refused_shape : (image : List ℕ) (head : Head) (code : List Insn) (f : Fault) → IsHeadOf image head → IsCodeOf image code → shape_fault head code ≡ Some (f.slot, f.rule) → number_of f.rule < 20 → IsRefusal image (Broken f)
 refused_shape image head code f h k e low =
     fault_of image (Breaks f.rule f.slot) f (judged_shape image f.rule f.slot h.fault k.fault (shape_of image head code (Some (f.slot, f.rule)) h k e)) (refl, refl, low)
 
-pub refused_typing : (image : List ℕ) (head : Head) (code : List Insn) (f : Fault) → IsHeadOf image head → IsCodeOf image code → shape_fault head code ≡ None → is_typable head.vars_size code (beginning head.version code) ≡ false → IsTypingFault code f → IsRefusal image (Broken f)
+pub refused_typing : (image : List ℕ) (head : Head) (code : List Insn) (f : Fault) → IsHeadOf image head → IsCodeOf image code → shape_fault head code ≡ None → is_typable head.version head.vars_size code ≡ false → IsTypingFault code f → IsRefusal image (Broken f)
 refused_typing image head code f h k s t r =
     fault_of image Untypable f (judged_untypable image h.fault k.fault (shape_of image head code None h k s) (types_of image head code false h k t))
     (r.from, r.upto, omega (arith, r.within, k.count))
 
-pub accepts_is : (image : List ℕ) (head : Head) (code : List Insn) (cost : ℕ) → IsHeadOf image head → IsCodeOf image code → shape_fault head code ≡ None → cost ≡ longest code → is_typable head.vars_size code (beginning head.version code) ≡ true
+pub accepts_is : (image : List ℕ) (head : Head) (code : List Insn) (cost : ℕ) → IsHeadOf image head → IsCodeOf image code → shape_fault head code ≡ None → cost ≡ longest code → is_typable head.version head.vars_size code ≡ true
     → judged image ≡ Accepts (program head.version code head.vars_size head.budget cost)
 accepts_is image head code cost h k s l t =
     judged_accepts image h.fault k.fault (shape_of image head code None h k s) (types_of image head code true h k t)

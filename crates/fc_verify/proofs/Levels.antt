@@ -1,48 +1,21 @@
 -- The levels of stack frames in a pass: at most as many as slots are passed.
-use Rattle.std.proofs.Common.{◌≡◌, ℕ, ◌+◌, ◌<◌, ◌≤◌, Option, Some, None, List, [], ◌∷◌, length, drop, refl, sym, ap, ◌∙◌, subst, inl, inr, arith, zero, suc, get_or-set_same, get_or-set_other}
-use Rattle.std.proofs.lemmas.Bool.{cases_eq, cases_lt}
+use Rattle.std.proofs.Common.{ℕ, ◌+◌, ◌≤◌, List, [], ◌∷◌, subst, arith, zero, suc}
 use Rattle.fc_isa.specs.declared.insn.Insn.{Insn}
 use Rattle.fc_isa.specs.declared.version.ImageVersion.{ImageVersion}
 use Rattle.fc_isa.specs.declared.version.ImageVersion.TheVariants.{One, Two}
 use Rattle.fc_kinds.specs.declared.kind.Kind.{Kind}
 use Rattle.fc_kinds.specs.declared.kind.Kind.TheVariants.{Unset, Num, Stack, Req, Vars, Dev}
 use Rattle.fc_kinds.specs.Kinds.{kind_at}
-use Rattle.fc_kinds.specs.Lattice.{joined}
-use Rattle.fc_kinds.specs.Laws.{WaysRaiseByOne}
 use Rattle.fc_kinds.specs.Transfer.{IsShallow, AreShallow}
-use Rattle.fc_kinds.specs.Typing.{States, state_at, entry, fourth_kind}
-use Rattle.fc_kinds.specs.Values.{with_some}
-use Rattle.fc_kinds.specs.Ways.{Way, ways, AllShallow}
-use Rattle.fc_verify.specs.Pass.{joined_in, led, passed, beginning}
-use Rattle.fc_verify.proofs.PassLaws.{met, set_past, none_at, dropped_state}
+use Rattle.fc_kinds.specs.Typing.{States, entry, fourth_kind}
+use Rattle.fc_kinds.specs.Ways.{Way, AllShallow, ways_after}
+use Rattle.fc_kinds.proofs.Levels.{ways_shallow, joined_shallow}
+use Rattle.fc_verify.specs.Pass.{beginning}
+use Rattle.fc_verify.proofs.PassLaws.{AllStates, AllWays, Passes, first_all, led_all}
 
 -- no state has a stack frame more than so many levels above
-pub record AreLow (top : ℕ) (states : States) : Type 0 where
-  pub each : (slot : ℕ) (kinds : List Kind) → state_at states slot ≡ Some kinds → AreShallow top kinds
-
--- what the layer below says of levels
-pub record LevelRules : Type 0 where
-  pub ways : WaysRaiseByOne
-  pub join : (top : ℕ) (a b : List Kind) → AreShallow top a → AreShallow top b → AreShallow top (joined a b)
-
-met_low : LevelRules → (top : ℕ) (states : States) (slot : ℕ) (kinds : List Kind) → AreLow top states → AreShallow top kinds → AreLow top (met states slot kinds)
-met_low laws top states slot kinds p a = record {
-  each = λ k new e. elim (cases_lt slot (length states)) [
-    | inl lt ↦ elim (cases_eq k slot) [
-      | inl same ↦ go (state_at states slot) refl new (sym (get_or-set_same states slot (joined_in (state_at states slot) kinds) None lt) ∙ subst (λ j. state_at (met states slot kinds) j ≡ Some new) same e)
-      | inr other ↦ p.each k new (sym (get_or-set_other states slot k (joined_in (state_at states slot) kinds) None other) ∙ e)
-    ]
-    | inr ge ↦ p.each k new (ap (λ l. state_at l k) (sym (set_past states slot (joined_in (state_at states slot) kinds) ge)) ∙ e)
-  ];
-}
-  where
-    go : (o : Option (List Kind)) → state_at states slot ≡ o → (new : List Kind) → joined_in o kinds ≡ Some new → AreShallow top new
-    go None e new f = subst (AreShallow top) (cc f) a
-    go (Some old) e new f = let is : joined old kinds ≡ new = cc f in subst (AreShallow top) is (laws.join top old kinds (p.each slot old e) a)
-
-led_low : LevelRules → (top : ℕ) (states : States) (ws : List Way) → AreLow top states → AllShallow top ws → AreLow top (led states ws)
-led_low laws top states [] p a = p
-led_low laws top states (w ∷ ws) p a = led_low laws top (met states w.skip w.kinds) ws (met_low laws top states w.skip w.kinds p a.0) a.1
+abbrev pub AreLow : ℕ → States → Type 0
+AreLow top states = AllStates (λ k ks. AreShallow top ks) states
 
 kind_up : (n m : ℕ) (k : Kind) → n ≤ m → IsShallow n k → IsShallow m k
 kind_up n m Unset le h = tt
@@ -55,31 +28,19 @@ kind_up n m (Dev lo hi) le h = tt
 pub shallow_up : (n m : ℕ) (ks : List Kind) → n ≤ m → AreShallow n ks → AreShallow m ks
 shallow_up n m ks le h = record { each = λ r. kind_up n m (kind_at ks r) le (h.each r) }
 
-low_up : (n m : ℕ) (states : States) → n ≤ m → AreLow n states → AreLow m states
-low_up n m states le h = record { each = λ slot ks e. shallow_up n m ks le (h.each slot ks e) }
+pub low_up : (n m : ℕ) (states : States) → n ≤ m → AreLow n states → AreLow m states
+low_up n m states le h slot ks e = shallow_up n m ks le (h slot ks e)
 
-passed_low : LevelRules → (top vars : ℕ) (insn : Insn) (ks : List Kind) (pending next : States) → AreShallow top ks → AreLow top pending → passed vars insn (Some ks) pending ≡ Some next → AreLow (top + 1) next
-passed_low laws top vars insn ks pending next a p e = go (ways vars insn ks) refl e
-  where
-    go : (o : Option (List Way)) → ways vars insn ks ≡ o → with_some o (λ handed. Some (led pending handed)) ≡ Some next → AreLow (top + 1) next
-    go None f e' = absurd (cc e')
-    go (Some handed) f e' = subst (AreLow (top + 1)) (cc e') (led_low laws (top + 1) pending handed (low_up top (top + 1) pending (omega arith) p) (laws.ways top vars insn ks handed a f))
+all_shallow : (top : ℕ) (ws : List Way) → AllShallow top ws → AllWays (λ t ks. AreShallow top ks) ws
+all_shallow top [] h = tt
+all_shallow top (w ∷ ws) h = (h.0, all_shallow top ws h.1)
 
-tail_low : (top : ℕ) (s : Option (List Kind)) (pending : States) → AreLow top (s ∷ pending) → AreLow top pending
-tail_low top s pending p = record { each = λ slot ks e. p.each (suc slot) ks e }
-
--- the state of a slot, and those of the later ones
-pub low_here : (top slot : ℕ) (states : States) (ks : List Kind) → slot < length states → state_at states slot ≡ Some ks → AreLow top (drop slot states) → AreShallow top ks
-low_here top slot states ks lt e p = (subst (AreLow top) (dropped_state states slot (Some ks) lt e) p).each 0 ks refl
-
-pub low_later : (top slot : ℕ) (states : States) (s : Option (List Kind)) → slot < length states → state_at states slot ≡ s → AreLow top (drop slot states) → AreLow (top + 1) (drop (slot + 1) states)
-low_later top slot states s lt e p =
-    low_up top (top + 1) (drop (slot + 1) states) (omega arith) (tail_low top s (drop (slot + 1) states) (subst (AreLow top) (dropped_state states slot s lt e) p))
-
-pub low_passed : LevelRules → (slot vars : ℕ) (insn : Insn) (states next : States) (ks : List Kind) → slot < length states → state_at states slot ≡ Some ks → AreLow slot (drop slot states) → passed vars insn (Some ks) (drop (slot + 1) states) ≡ Some next → AreLow (slot + 1) next
-low_passed laws slot vars insn states next ks lt e p f =
-    let q = subst (AreLow slot) (dropped_state states slot (Some ks) lt e) p in
-    passed_low laws slot vars insn ks (drop (slot + 1) states) next (q.each 0 ks refl) (tail_low slot (Some ks) (drop (slot + 1) states) q) f
+-- passing a slot raises the levels by one at most
+pub low_passed : (top vars slot : ℕ) (insn : Insn) (kinds : List Kind) (states next : States) → AreShallow top kinds → AreLow top states → Passes vars slot insn kinds states next → AreLow (top + 1) next
+low_passed top vars slot insn kinds states next a low p =
+    subst (AreLow (top + 1)) p.is
+    (led_all (λ k ks. AreShallow (top + 1) ks) states (ways_after slot insn kinds p.after) (λ k x y. joined_shallow (top + 1) x y) (low_up top (top + 1) states (omega arith) low)
+    (all_shallow (top + 1) (ways_after slot insn kinds p.after) (ways_shallow top vars slot insn kinds p.after a p.effect)))
 
 fourth_shallow : (version : ImageVersion) → IsShallow 0 (fourth_kind version)
 fourth_shallow One = tt
@@ -103,9 +64,4 @@ entry_shallow version = record { each = each }
     each (suc (suc (suc (suc (suc (suc (suc (suc (suc (suc (suc r))))))))))) = tt
 
 pub beginning_low : (version : ImageVersion) (code : List Insn) → AreLow 0 (beginning version code)
-beginning_low version [] = record { each = λ slot ks e. absurd (cc e) }
-beginning_low version (insn ∷ code) = record { each = go }
-  where
-    go : (slot : ℕ) (ks : List Kind) → state_at (beginning version (insn ∷ code)) slot ≡ Some ks → AreShallow 0 ks
-    go zero ks e = subst (AreShallow 0) (cc e) (entry_shallow version)
-    go (suc slot) ks e = absurd (cc (e, none_at code slot))
+beginning_low version code = first_all version (λ k ks. AreShallow 0 ks) code (entry_shallow version)

@@ -8,7 +8,7 @@ use Rattle.fc_image.specs.Paths.{longest}
 use Rattle.fc_image.specs.ShapeRules.{shape_fault}
 use Rattle.fc_kinds.specs.Meaning.{Program}
 use Rattle.fc_verify.specs.Accepted.{Judgement, Accepts, Breaks, Untypable, slots_of}
-use Rattle.fc_verify.specs.Pass.{beginning, is_typable}
+use Rattle.fc_verify.specs.Pass.{is_typable}
 
 -- the program that an image's slots spell, where they spell one
 abbrev pub code_in : List ℕ → List Insn
@@ -30,7 +30,7 @@ by_typing false image = Untypable
 
 abbrev pub by_shape : Option (ℕ × Rule) → List ℕ → Judgement
 by_shape (Some (slot, rule)) image = Breaks rule slot
-by_shape None image = by_typing (is_typable (stated image).vars_size (code_in image) (beginning (stated image).version (code_in image))) image
+by_shape None image = by_typing (is_typable (stated image).version (stated image).vars_size (code_in image)) image
 
 abbrev pub by_slots : Option (ℕ × Rule) → List ℕ → Judgement
 by_slots (Some (slot, rule)) image = Breaks rule slot

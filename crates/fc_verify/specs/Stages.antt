@@ -1,5 +1,5 @@
 -- What the steps of a verification find of an image, one after the other.
-use Rattle.std.specs.Prelude.{◌≡◌, ℕ, ◌+◌, ◌*◌, ◌<◌, ◌≤◌, List, length, None, Some, slice_get}
+use Rattle.std.specs.Prelude.{◌≡◌, ℕ, ◌+◌, ◌*◌, ◌<◌, ◌≤◌, List, length, take, None, Some, slice_get}
 use Rattle.fc_isa.specs.declared.insn.Insn.{Insn}
 use Rattle.fc_isa.specs.declared.version.ImageVersion.{ImageVersion}
 use Rattle.fc_isa.specs.declared.rule.Fault.{Fault}
@@ -8,9 +8,9 @@ use Rattle.fc_isa.specs.Rules.{number_of}
 use Rattle.fc_image.specs.Head.{Head, IsHead, head_fault, stated}
 use Rattle.fc_verify.specs.Accepted.{slots_of}
 use Rattle.fc_kinds.specs.Transfer.{transfer}
-use Rattle.fc_kinds.specs.Typing.{state_at}
+use Rattle.fc_kinds.specs.Typing.{States, state_at}
 use Rattle.fc_verify.specs.Judged.{code_in}
-use Rattle.fc_verify.specs.Pass.{beginning, forward}
+use Rattle.fc_verify.specs.Pass.{beginning, pass_from}
 use Rattle.fc_verify.specs.declared.untyped.Untyped.{Untyped}
 
 -- the header breaks no rule, and says this
@@ -37,5 +37,7 @@ pub record IsTypingFault (code : List Insn) (f : Fault) : Type 0 where
 pub record IsUntyped (version : ImageVersion) (vars : ℕ) (code : List Insn) (u : Untyped) : Type 0 where
   pub insn : Insn
   pub insn_is : slice_get code u.fault.slot ≡ Some insn
-  pub known : state_at (forward vars code (beginning version code)) u.fault.slot ≡ Some u.known
+  pub states : States
+  pub passed : pass_from vars 0 (take u.fault.slot code) (beginning version code) ≡ Some states
+  pub known : state_at states u.fault.slot ≡ Some u.known
   pub refused : transfer vars insn u.known ≡ None

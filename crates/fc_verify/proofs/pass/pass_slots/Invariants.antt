@@ -1,4 +1,3 @@
-use Rattle.std.proofs.Common.{drop}
 use Rattle.fc_verify.proofs.PassLaws.{Passing}
 use Rattle.fc_verify.proofs.Levels.{AreLow}
 use Rattle.fc_verify.proofs.pass.pass_slots.Given as goal
@@ -6,5 +5,5 @@ use Rattle.fc_verify.proofs.pass.pass_slots.Given as goal
 abbrev pub invariant-loop-slot : goal.invariant-loop-slot
 invariant-loop-slot l = record {
   passing : Passing l.fn.version l.vars_size l.code l.slot l.states;
-  low : AreLow l.slot (drop l.slot l.states);
+  low : AreLow l.slot l.states;
 }
