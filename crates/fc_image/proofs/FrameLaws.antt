@@ -1,5 +1,5 @@
 -- Each step of a shaped program leads nearer to its end, and its calls add no more frames than its header allows.
-use Rattle.std.proofs.Common.{◌≡◌, ℕ, zero, suc, ◌+◌, ◌-◌, ◌<◌, ◌≤◌, ◌==◌, ◌||◌, ◌&&◌, not, nat_lt, Bool, true, false, ℤ, List, [], ◌∷◌, length, drop, Option, Some, None, get_or, inl, inr, refl, sym, ap, ◌∙◌, subst, arith}
+use Rattle.std.proofs.Common.{◌≡◌, ℕ, zero, suc, ◌+◌, ◌-◌, ◌<◌, ◌≤◌, ◌==◌, ◌||◌, ◌&&◌, not, nat_lt, min, max, Bool, true, false, ℤ, List, [], ◌∷◌, length, drop, Option, Some, None, get_or, inl, inr, refl, sym, ap, ◌∙◌, subst, arith}
 use Rattle.std.specs.Prelude.{slice_get}
 use Rattle.std.proofs.lemmas.Bool.{cases_lt}
 use Rattle.std.proofs.lemmas.Bool.Decides.{nat_tests}
@@ -12,13 +12,13 @@ use Rattle.fc_isa.specs.Flow.{target, landing, Goes, flow}
 use Rattle.fc_image.specs.Flow.{flow_of, flow_at}
 use Rattle.fc_image.specs.Functions.{is_at, calls, is_called, is_start, starts_within, depths, frames}
 use Rattle.fc_image.specs.Laws.{frames_at, IsNearer, LeadsNearer}
-use Rattle.fc_image.specs.ShapeRules.{is_place, is_instruction, is_later, leaves, IsShaped}
+use Rattle.fc_image.specs.ShapeRules.{is_place, is_instruction, is_later, leaves, IsShapedBy, IsShaped}
 use Rattle.fc_image.proofs.FunctionTables.{length-depths, depth_is, rest_of}
 use Rattle.fc_image.proofs.PathLaws.{Known, known, offset_lands, not_true, first_false, second_false, placed}
 
 -- ---- the frames of a slot, by those of later ones
 
-stay_frames : (code : List Insn) (slot : ℕ) (insn : Insn) → slice_get code slot ≡ Some insn → is_start code (slot + 1) ≡ false → frames_at code (slot + 1) ≤ frames_at code slot
+pub stay_frames : (code : List Insn) (slot : ℕ) (insn : Insn) → slice_get code slot ≡ Some insn → is_start code (slot + 1) ≡ false → frames_at code (slot + 1) ≤ frames_at code slot
 stay_frames code slot insn g s =
     let table = depths (is_start code) 0 code in
     let is = depth_is (is_start code) code slot insn g in
@@ -27,7 +27,7 @@ stay_frames code slot insn g s =
     let next : get_or (drop (suc slot) table) 0 0 ≡ get_or table (slot + 1) 0 = get_or-drop (suc slot) table 0 0 ∙ ap (λ k. get_or table k 0) n in
     omega (arith, is, rest, next)
 
-call_frames : (code : List Insn) (slot : ℕ) (o : ℤ) → slice_get code slot ≡ Some (CallLocal o) → slot < landing slot o → frames_at code (landing slot o) < frames_at code slot
+pub call_frames : (code : List Insn) (slot : ℕ) (o : ℤ) → slice_get code slot ≡ Some (CallLocal o) → slot < landing slot o → frames_at code (landing slot o) < frames_at code slot
 call_frames code slot o g lt =
     let table = depths (is_start code) 0 code in
     let is = depth_is (is_start code) code slot (CallLocal o) g in
@@ -58,7 +58,7 @@ within_frames code slot (suc n) e =
 
 -- ---- a jump stays in its function
 
-jump_frames : (code : List Insn) (slot : ℕ) (o : ℤ) → not (is_place code (target slot o)) ≡ false → not (is_later slot (target slot o)) ≡ false → leaves code slot (target slot o) ≡ false → frames_at code (landing slot o) ≤ frames_at code slot
+pub jump_frames : (code : List Insn) (slot : ℕ) (o : ℤ) → not (is_place code (target slot o)) ≡ false → not (is_later slot (target slot o)) ≡ false → leaves code slot (target slot o) ≡ false → frames_at code (landing slot o) ≤ frames_at code slot
 jump_frames code slot o p l e = go (target slot o) refl (not_true (is_place code (target slot o)) p) (not_true (is_later slot (target slot o)) l) e
   where
     test : (a b : ℕ) → nat_lt a b ≡ true → a < b
@@ -76,10 +76,13 @@ jump_frames code slot o p l e = go (target slot o) refl (not_true (is_place code
     go (Some t) k f g h =
         let in_code : is_instruction (slice_get code t) ≡ true = rw k at f in
         let later : nat_lt slot t ≡ true = rw k at g in
-        let stays : (nat_lt t (length code) && starts_within code slot (t - slot)) ≡ false = rw k at h in
+        let lt = test slot t later in
+        let low : min slot t ≡ slot = omega (arith, lt) in
+        let far : max slot t - slot ≡ t - slot = omega (arith, lt) in
+        let crossed : (nat_lt t (length code) && starts_within code (min slot t) (max slot t - min slot t)) ≡ false = rw k at h in
+        let stays : (nat_lt t (length code) && starts_within code slot (t - slot)) ≡ false = rw (low, far) at crossed in
         let at_t : landing slot o ≡ t = rw k refl in
         let none = only (nat_lt t (length code)) (starts_within code slot (t - slot)) (tested t (length code) (placed code t in_code)) stays in
-        let lt = test slot t later in
         let z : slot + (t - slot) ≡ landing slot o = omega (arith, at_t, lt) in
         subst (λ k. frames_at code k ≤ frames_at code slot) z (within_frames code slot (t - slot) none)
 
@@ -127,9 +130,9 @@ called_by slot (insn ∷ code) place e = go (calls slot insn place) refl e (call
         let z : slot + 1 + c.at ≡ slot + suc c.at = omega arith in
         record { at = suc c.at; offset = c.offset; stands = c.stands; aims = subst (λ k. target k c.offset ≡ Some place) z c.aims }
 
-no_half : (code : List Insn) (place : ℕ) → IsShaped code → slice_get code (suc place) ≡ Some WideSecond → is_start code (suc place) ≡ false
+pub no_half : (allowed : Bool) (code : List Insn) (place : ℕ) → IsShapedBy allowed code → slice_get code (suc place) ≡ Some WideSecond → is_start code (suc place) ≡ false
 unfolding is_start
-no_half code place s g = go (is_called 0 code (suc place)) refl
+no_half allowed code place s g = go (is_called 0 code (suc place)) refl
   where
     not_zero : (n : ℕ) → (suc n == 0) ≡ false
     not_zero n = grind (arith, nat_tests)
@@ -145,7 +148,7 @@ no_half code place s g = go (is_called 0 code (suc place)) refl
         absurd (cc bad)
 
 -- behind a wide load stands its second half
-second_half : (code : List Insn) (slot dst value : ℕ) → is_program code ≡ true → slice_get code slot ≡ Some (LoadWide dst value) → slice_get code (suc slot) ≡ Some WideSecond
+pub second_half : (code : List Insn) (slot dst value : ℕ) → is_program code ≡ true → slice_get code slot ≡ Some (LoadWide dst value) → slice_get code (suc slot) ≡ Some WideSecond
 second_half [] slot dst value p e = absurd (cc e)
 second_half (LoadWide d v ∷ WideSecond ∷ rest) zero dst value p e = refl
 second_half (LoadWide d v ∷ WideSecond ∷ rest) (suc zero) dst value p e = absurd (cc e)
@@ -194,7 +197,7 @@ nearer code slot (LoadWide dst value) s p g =
     let half = second_half code slot dst value p g in
     let z : suc slot ≡ slot + 1 = omega arith in
     let y : slot + 1 + 1 ≡ slot + 2 = omega arith in
-    let first : is_start code (slot + 1) ≡ false = ap (is_start code) (sym z) ∙ no_half code slot s half in
+    let first : is_start code (slot + 1) ≡ false = ap (is_start code) (sym z) ∙ no_half false code slot s half in
     let last : is_start code (slot + 1 + 1) ≡ false = ap (is_start code) y ∙ second_false _ _ (s.each Boundary slot (LoadWide dst value) g) in
     let a = stay_frames code slot (LoadWide dst value) g first in
     let b = stay_frames code (slot + 1) WideSecond (subst (λ n. slice_get code n ≡ Some WideSecond) z half) last in

@@ -7,3 +7,5 @@ pub mod ShapeLaws
 pub mod PathLaws
 pub mod FrameLaws
 mod Rows
+mod LoopForm
+mod LoopLaws

@@ -41,7 +41,7 @@ nat_lt_true : (a b : ℕ) → nat_lt a b ≡ true → a < b
 nat_lt_true a b e = grind (arith, nat_tests, e)
 
 -- where an offset has a target that is an instruction and later, it lands there
-lands : (code : List Insn) (slot : ℕ) (o : ℤ) → not (is_place code (target slot o)) ≡ false → not (is_later slot (target slot o)) ≡ false → IsLater (length code) slot (landing slot o)
+pub lands : (code : List Insn) (slot : ℕ) (o : ℤ) → not (is_place code (target slot o)) ≡ false → not (is_later slot (target slot o)) ≡ false → IsLater (length code) slot (landing slot o)
 lands code slot o p l = go (target slot o) refl (not_true (is_place code (target slot o)) p) (not_true (is_later slot (target slot o)) l)
   where
     go : (t : Option ℕ) → target slot o ≡ t → is_place code (target slot o) ≡ true → is_later slot (target slot o) ≡ true → IsLater (length code) slot (landing slot o)
@@ -53,7 +53,7 @@ lands code slot o p l = go (target slot o) refl (not_true (is_place code (target
         (omega (arith, at_t, nat_lt_true slot t later), omega (arith, at_t, placed code t in_code))
 
 -- an instruction that may not end its function has a next one in the program
-goes_on : (code : List Insn) (slot next : ℕ) (starts : Bool) → slot < next → (not (nat_lt next (length code)) || starts) ≡ false → IsLater (length code) slot next
+pub goes_on : (code : List Insn) (slot next : ℕ) (starts : Bool) → slot < next → (not (nat_lt next (length code)) || starts) ≡ false → IsLater (length code) slot next
 goes_on code slot next starts lt e =
     let t = not_true (nat_lt next (length code)) (first_false (not (nat_lt next (length code))) starts e) in
     (lt, grind (arith, nat_tests, t))

@@ -193,7 +193,7 @@ kept_by_all head code h Cost = h.1.1.1.1.1.0
 kept_by_all head code h Helper = h.1.1.1.1.1.1.0
 kept_by_all head code h _ = record { each = λ k i g. refl }
 
-flow_kept : (head : Head) (code : List Insn) (rule : Rule) → KeepsRule head code rule → (slot : ℕ) (insn : Insn) → slice_get code slot ≡ Some insn → breaks_flow code slot insn rule ≡ false
+flow_kept : (head : Head) (code : List Insn) (rule : Rule) → KeepsRule head code rule → (slot : ℕ) (insn : Insn) → slice_get code slot ≡ Some insn → breaks_flow false code slot insn rule ≡ false
 unfolding breaks_shape
 flow_kept head code Cost h slot insn g = refl
 flow_kept head code JumpTarget h slot insn g = h.each slot insn g

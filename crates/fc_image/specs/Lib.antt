@@ -2,7 +2,9 @@ pub mod Head
 pub mod Flow
 pub mod Paths
 pub mod Functions
+pub mod Loops
 pub mod ShapeRules
 pub mod Tables
 pub mod Judged
 pub mod Laws
+pub mod LoopLaws

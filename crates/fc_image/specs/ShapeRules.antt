@@ -1,5 +1,5 @@
 -- The rules of a program's control flow.
-use Rattle.std.specs.Prelude.{◌≡◌, ℕ, ◌+◌, ◌-◌, ◌<◌, ◌≤◌, ◌==◌, ◌||◌, ◌&&◌, not, nat_lt, nat_le, Bool, true, false, if◌then◌else◌, ℤ, pos, negsuc, List, [], ◌∷◌, ◌++◌, length, Option, Some, None, MatchOption, slice_get}
+use Rattle.std.specs.Prelude.{◌≡◌, ℕ, ◌+◌, ◌-◌, ◌<◌, ◌≤◌, ◌==◌, ◌||◌, ◌&&◌, not, nat_lt, nat_le, Bool, true, false, if◌then◌else◌, min, max, ℤ, pos, negsuc, List, [], ◌∷◌, ◌++◌, length, Option, Some, None, MatchOption, slice_get}
 use Rattle.std.specs.List.{AllByRecursion}
 use Rattle.fc_isa.specs.declared.insn.Insn.{Insn}
 use Rattle.fc_isa.specs.declared.insn.Insn.TheVariants.{CallHelper}
@@ -10,6 +10,7 @@ use Rattle.fc_isa.specs.Program.{is_wide_second}
 use Rattle.fc_isa.specs.Flow.{jump_offset, call_offset, target}
 use Rattle.fc_image.specs.Functions.{with_offset, starts_within, is_open_end, frames}
 use Rattle.fc_image.specs.Head.{Head, frames_allowed}
+use Rattle.fc_image.specs.Loops.{is_undisturbed, loop_if}
 use Rattle.fc_image.specs.Paths.{longest}
 
 abbrev pub is_instruction : Option Insn → Bool
@@ -25,10 +26,18 @@ abbrev pub is_later : ℕ → Option ℕ → Bool
 is_later slot None = false
 is_later slot (Some t) = nat_lt slot t
 
--- a function starts after the slot, up to its target in the program
+-- a jump that doesn't lead to a later slot
+abbrev pub leads_back : ℕ → Insn → Bool
+leads_back slot insn = with_offset (jump_offset insn) (λ o. not (is_later slot (target slot o)))
+
+-- and isn't that of a counted loop, where loops are allowed
+abbrev pub breaks_back : Bool → List Insn → ℕ → Insn → Bool
+breaks_back allowed code slot insn = not (is_undisturbed code (loop_if allowed code slot insn)) && leads_back slot insn
+
+-- a function starts after the first of two slots, up to the other; the target is in the program
 abbrev pub leaves : List Insn → ℕ → Option ℕ → Bool
 leaves code slot None = false
-leaves code slot (Some t) = nat_lt t (length code) && starts_within code slot (t - slot)
+leaves code slot (Some t) = nat_lt t (length code) && starts_within code (min slot t) (max slot t - min slot t)
 
 abbrev pub is_helper : ℤ → Bool
 is_helper (pos n) = nat_le 1 n && nat_le n 7
@@ -40,25 +49,30 @@ calls_no_helper other = false
 
 -- what a slot breaks: its target is no instruction of the program; a jump or a call isn't to a later slot; a jump leaves its
 -- function, or the function's last instruction is no exit; a helper doesn't exist
-abbrev pub breaks_flow : List Insn → ℕ → Insn → Rule → Bool
-breaks_flow code slot insn JumpTarget =
+abbrev pub breaks_flow : Bool → List Insn → ℕ → Insn → Rule → Bool
+breaks_flow allowed code slot insn JumpTarget =
     with_offset (jump_offset insn) (λ o. not (is_place code (target slot o)))
     || with_offset (call_offset insn) (λ o. not (is_place code (target slot o)))
-breaks_flow code slot insn BackwardJump = with_offset (jump_offset insn) (λ o. not (is_later slot (target slot o)))
-breaks_flow code slot insn Boundary = with_offset (jump_offset insn) (λ o. leaves code slot (target slot o)) || is_open_end code slot insn
-breaks_flow code slot insn BackwardCall = with_offset (call_offset insn) (λ o. not (is_later slot (target slot o)))
-breaks_flow code slot insn Helper = calls_no_helper insn
-breaks_flow code slot insn other = false
+breaks_flow allowed code slot insn BackwardJump = breaks_back allowed code slot insn
+breaks_flow allowed code slot insn Boundary = with_offset (jump_offset insn) (λ o. leaves code slot (target slot o)) || is_open_end code slot insn
+breaks_flow allowed code slot insn BackwardCall = with_offset (call_offset insn) (λ o. not (is_later slot (target slot o)))
+breaks_flow allowed code slot insn Helper = calls_no_helper insn
+breaks_flow allowed code slot insn other = false
 
 -- and slot 0 has more frames than the header's version allows, or the longest path has more steps than its budget
 unfoldable pub breaks_shape : Head → List Insn → ℕ → Insn → Rule → Bool
 breaks_shape head code slot insn FrameDepth = (slot == 0) && nat_lt (frames_allowed head.version) (frames code)
 breaks_shape head code slot insn Cost = (slot == 0) && nat_lt head.budget (longest code)
-breaks_shape head code slot insn rule = breaks_flow code slot insn rule
+breaks_shape head code slot insn rule = breaks_flow false code slot insn rule
 
--- no slot breaks a rule of the control flow
-pub record IsShaped (code : List Insn) : Type 0 where
-  pub each : (rule : Rule) (slot : ℕ) (insn : Insn) → slice_get code slot ≡ Some insn → breaks_flow code slot insn rule ≡ false
+-- no slot breaks a rule of the control flow, where counted loops are allowed, or aren't
+pub record IsShapedBy (allowed : Bool) (code : List Insn) : Type 0 where
+  pub each :
+      (rule : Rule) (slot : ℕ) (insn : Insn) → slice_get code slot ≡ Some insn → breaks_flow allowed code slot insn rule ≡ false
+
+-- where they aren't
+abbrev pub IsShaped : List Insn → Type 0
+IsShaped code = IsShapedBy false code
 
 -- it is shaped, and its frames and its longest path are within what the header allows
 pub record KeepsLimits (head : Head) (code : List Insn) : Type 0 where

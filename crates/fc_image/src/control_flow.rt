@@ -158,8 +158,7 @@ fn crosses_to(code: &[Insn], tables: &Tables, slot: usize, place: Option<usize>)
 {
     match place {
         Some(place) => place < code.len()
-            && slot <= place
-            && crosses(code, &tables.counts, slot, place),
+            && crosses(code, &tables.counts, slot.min(place), slot.max(place)),
         None => false,
     }
 }

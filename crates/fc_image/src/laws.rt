@@ -4,6 +4,7 @@ ghost use Rattle.fc_isa.specs.Rules.{number_of};
 ghost use Rattle.fc_isa.specs.declared.insn.Insn.{Insn};
 ghost use Rattle.fc_image.specs.Head.{Head, IsHead, KeepsHead, head_bytes, head_fault, head_rules, stated};
 ghost use Rattle.fc_image.specs.Laws.{FirstShapeFaultIsFound, ShapeFaultIsFirst, ShapeFaultIsLow, ShapedProgramsGoForward, ShapedProgramsGoOn, FramesBeginWithOne};
+ghost use Rattle.fc_image.specs.LoopLaws.{ShapedLoopsAreLoops};
 ghost use Rattle.fc_image.specs.Paths.{IsLongest, longest};
 ghost use Rattle.fc_image.specs.ShapeRules.{IsShaped, KeepsLimits, flow_rules, shape_fault};
 
@@ -32,6 +33,12 @@ pub fn shaped_programs_go_forward()
 pub fn shaped_programs_go_on()
     ensures nearer { ShapedProgramsGoOn }
     ensures frames { FramesBeginWithOne }
+{}
+
+/// The loops of a program that keeps the rules of the control flow are nested or apart, a path comes into each by its head and
+/// leaves it by its jump, and each counts up to its bound.
+pub fn shaped_loops_are_loops()
+    ensures { ShapedLoopsAreLoops }
 {}
 
 /// The fault of a program's shape is the least slot that breaks the first rule that is broken, one below 20.

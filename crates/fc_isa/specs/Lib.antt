@@ -3,3 +3,4 @@ pub mod Program
 pub mod Shapes
 pub mod Encoding
 pub mod Flow
+pub mod Writes

@@ -1,0 +1,169 @@
+-- What the form of counted loops says of a program: of its typing, of its paths, and of its counters.
+use Rattle.std.specs.Prelude.{◌≡◌, ◌≢◌, ◌⊎◌, ℕ, suc, ◌+◌, ◌<◌, ◌≤◌, Bool, true, false, pos, List, length, Some, None, slice_get}
+use Rattle.fc_isa.specs.declared.insn.Width.TheVariants.{W64}
+use Rattle.fc_isa.specs.declared.insn.AluOp.TheVariants.{Add}
+use Rattle.fc_isa.specs.declared.insn.Relation.TheVariants.{Lt}
+use Rattle.fc_isa.specs.declared.insn.Operand.TheVariants.{Imm}
+use Rattle.fc_isa.specs.declared.insn.Jump.{Jump}
+use Rattle.fc_isa.specs.declared.insn.Insn.{Insn}
+use Rattle.fc_isa.specs.declared.insn.Insn.TheVariants.{Alu, JumpIf, Exit}
+use Rattle.fc_isa.specs.Flow.{Flow, Halts, Goes, Forks, Enters, flow}
+use Rattle.fc_isa.specs.Program.{IsInsn, is_program}
+use Rattle.fc_isa.specs.Writes.{writes}
+use Rattle.fc_image.specs.Flow.{IsLater, IsForward, flow_at}
+use Rattle.fc_image.specs.Functions.{frames}
+use Rattle.fc_image.specs.Laws.{frames_at}
+use Rattle.fc_image.specs.Loops.{Loop, is_written, has_call, begins, ends, loops_of}
+use Rattle.fc_image.specs.ShapeRules.{IsShapedBy}
+
+-- a flow leads to a slot within its function
+abbrev pub LeadsTo : Flow → ℕ → Type 0
+LeadsTo Halts t = ⊥
+LeadsTo (Goes next) t = t ≡ next
+LeadsTo (Forks taken next) t = (t ≡ taken) ⊎ (t ≡ next)
+LeadsTo (Enters start next) t = t ≡ next
+
+-- or calls the function there
+abbrev pub Calls : Flow → ℕ → Type 0
+Calls (Enters start next) t = t ≡ start
+Calls f t = ⊥
+
+-- the jump back: `jlt counter, bound`
+pub record JumpsBack (code : List Insn) (l : Loop) : Type 0 where
+  pub jump : Jump
+  pub stands : slice_get code l.last ≡ Some (JumpIf jump)
+  pub width : jump.width ≡ W64
+  pub relation : jump.relation ≡ Lt
+  pub left : jump.left ≡ l.counter
+  pub right : jump.right ≡ Imm (pos l.bound)
+
+-- ---- of typings
+
+pub record IsLoop (code : List Insn) (l : Loop) : Type 0 where
+  pub order : l.head < l.last
+  pub within : l.last < length code
+  pub counter : l.counter < 10
+  pub some : 1 ≤ l.bound
+  pub few : l.bound ≤ 1024
+  pub jumps : JumpsBack code l
+  pub counts : is_written code l l.counter ≡ true
+  -- a way into the body from a slot before leads to the head, or comes from the body
+  pub closed :
+      (k t : ℕ) (insn : Insn) → slice_get code k ≡ Some insn → LeadsTo (flow k insn) t → k < t → l.head < t → t ≤ l.last
+      → l.head ≤ k
+  -- no function starts within
+  pub whole : (k t : ℕ) (insn : Insn) → slice_get code k ≡ Some insn → Calls (flow k insn) t → l.head < t → t ≤ l.last → ⊥
+
+-- the jump back of a loop
+pub record IsBack (loops : List Loop) (slot t : ℕ) : Type 0 where
+  pub index : ℕ
+  pub loop : Loop
+  pub among : slice_get loops index ≡ Some loop
+  pub last : slot ≡ loop.last
+  pub head : t ≡ loop.head
+
+-- each slot that a flow leads to is later, but that of a loop's jump back; and in the program
+abbrev pub IsOnward : ℕ → List Loop → ℕ → Flow → Type 0
+IsOnward count loops slot Halts = Unit {0}
+IsOnward count loops slot (Goes next) = IsLater count slot next
+IsOnward count loops slot (Forks taken next) = (IsLater count slot taken ⊎ IsBack loops slot taken) × IsLater count slot next
+IsOnward count loops slot (Enters start next) = IsLater count slot start × IsLater count slot next
+
+-- the loops of a program: nested or apart, and there is no other way back
+pub record AreLoops (code : List Insn) (loops : List Loop) : Type 0 where
+  pub each : (i : ℕ) (l : Loop) → slice_get loops i ≡ Some l → IsLoop code l
+  pub one : (i : ℕ) (l : Loop) → slice_get loops i ≡ Some l → begins loops l.head ≡ Some l
+  -- an inner body writes nothing that the outer doesn't
+  pub inner :
+      (i k : ℕ) (l m : Loop) (r : ℕ) → slice_get loops i ≡ Some l → slice_get loops k ≡ Some m → l.head < m.head → m.head ≤ l.last
+      → is_written code m r ≡ true → is_written code l r ≡ true
+  pub calls :
+      (i k : ℕ) (l m : Loop) → slice_get loops i ≡ Some l → slice_get loops k ≡ Some m → l.head < m.head → m.head ≤ l.last
+      → has_call code m ≡ true → has_call code l ≡ true
+  pub onward :
+      (slot : ℕ) (insn : Insn) → slice_get code slot ≡ Some insn → IsOnward (length code) loops slot (flow slot insn)
+
+-- ---- of paths
+
+pub record AreBodies (code : List Insn) (loops : List Loop) : Type 0 where
+  pub order : (i : ℕ) (l : Loop) → slice_get loops i ≡ Some l → l.head < l.last
+  pub jumps : (i : ℕ) (l : Loop) → slice_get loops i ≡ Some l → flow_at code l.last ≡ Some (Forks l.head (l.last + 1))
+  pub after : (i : ℕ) (l : Loop) → slice_get loops i ≡ Some l → l.last + 1 < length code
+  -- no two begin together, or end together; they are nested or apart
+  pub first : (i : ℕ) (l : Loop) → slice_get loops i ≡ Some l → begins loops l.head ≡ Some l
+  pub last : (i : ℕ) (l : Loop) → slice_get loops i ≡ Some l → ends loops l.last ≡ Some l
+  pub nested :
+      (i k : ℕ) (l m : Loop) → slice_get loops i ≡ Some l → slice_get loops k ≡ Some m → l.head < m.head → m.head ≤ l.last
+      → m.last < l.last
+  -- there is no other way back, or into a body but by its head, or out of it but by its jump
+  pub onward :
+      (slot : ℕ) (insn : Insn) → slice_get code slot ≡ Some insn → ends loops slot ≡ None
+      → IsForward (length code) slot (flow slot insn)
+  pub closed :
+      (i k t : ℕ) (l : Loop) (f : Flow) → slice_get loops i ≡ Some l → flow_at code k ≡ Some f → LeadsTo f t → k < t
+      → l.head < t → t ≤ l.last → l.head ≤ k
+  pub stays :
+      (i k t : ℕ) (l : Loop) (f : Flow) → slice_get loops i ≡ Some l → flow_at code k ≡ Some f → ends loops k ≡ None
+      → LeadsTo f t → l.head ≤ k → k ≤ l.last → t ≤ l.last
+  pub whole :
+      (i k t : ℕ) (l : Loop) (f : Flow) → slice_get loops i ≡ Some l → flow_at code k ≡ Some f → Calls f t → l.head < t
+      → t ≤ l.last → ⊥
+  -- no exit is in a body
+  pub exits :
+      (i k : ℕ) (l : Loop) → slice_get loops i ≡ Some l → l.head ≤ k → k ≤ l.last → slice_get code k ≡ Some Exit → ⊥
+  pub starts : (i : ℕ) (l : Loop) → slice_get loops i ≡ Some l → flow_at code l.head ≡ Some Halts → ⊥
+  pub goes :
+      (i k t : ℕ) (l : Loop) (f : Flow) → slice_get loops i ≡ Some l → flow_at code k ≡ Some f → LeadsTo f t → l.head < t
+      → t ≤ l.last → flow_at code t ≡ Some Halts → ⊥
+
+-- ---- of counters
+
+pub record IsCounter (code : List Insn) (l : Loop) : Type 0 where
+  pub step : 1 ≤ l.step
+  pub low : l.step < 4294967296
+  pub few : l.bound ≤ 1024
+  pub counter : l.counter < 10
+  pub jumps : JumpsBack code l
+  pub add :
+      (slot : ℕ) (insn : Insn) → suc slot ≡ l.last → slice_get code slot ≡ Some insn
+      → insn ≡ Alu Add W64 l.counter (Imm (pos l.step))
+  pub keeps :
+      (slot : ℕ) (insn : Insn) → l.head ≤ slot → slot ≤ l.last → suc slot ≢ l.last → slice_get code slot ≡ Some insn
+      → writes insn l.counter ≡ false
+
+pub record AreCounters (code : List Insn) (loops : List Loop) : Type 0 where
+  pub each : (i : ℕ) (l : Loop) → slice_get loops i ≡ Some l → IsCounter code l
+  -- the addition alone leads to a jump back
+  pub only :
+      (i k : ℕ) (l : Loop) (f : Flow) → slice_get loops i ≡ Some l → flow_at code k ≡ Some f → LeadsTo f l.last
+      → suc k ≡ l.last
+  pub then :
+      (i k t : ℕ) (l : Loop) (f : Flow) → slice_get loops i ≡ Some l → flow_at code k ≡ Some f → LeadsTo f t
+      → suc k ≡ l.last → t ≡ l.last
+
+-- ---- of frames
+
+-- the frames are the first and those that calls add; from each slot to a later one no more are needed, and a call's function
+-- needs one fewer
+pub record FramesFall (code : List Insn) : Type 0 where
+  pub first : frames code ≡ 1 + frames_at code 0
+  pub later :
+      (slot t : ℕ) (insn : Insn) → slice_get code slot ≡ Some insn → LeadsTo (flow slot insn) t → slot < t
+      → frames_at code t ≤ frames_at code slot
+  pub enters :
+      (slot t : ℕ) (insn : Insn) → slice_get code slot ≡ Some insn → Calls (flow slot insn) t
+      → frames_at code t < frames_at code slot
+
+-- ---- the law
+
+-- the loops of a program that keeps the rules of the control flow
+pub record HasLoops (code : List Insn) (loops : List Loop) : Type 0 where
+  pub typing : AreLoops code loops
+  pub paths : AreBodies code loops
+  pub counters : AreCounters code loops
+  pub frames : FramesFall code
+
+abbrev pub ShapedLoopsAreLoops : Type 0
+ShapedLoopsAreLoops =
+    (allowed : Bool) (code : List Insn) → ((slot : ℕ) (insn : Insn) → slice_get code slot ≡ Some insn → IsInsn insn)
+    → is_program code ≡ true → IsShapedBy allowed code → HasLoops code (loops_of allowed code)
