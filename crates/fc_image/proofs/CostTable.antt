@@ -1,23 +1,15 @@
 -- The table of costs, filled from the last slot back.
-use Rattle.std.proofs.Common.{◌≡◌, ℕ, zero, suc, ◌+◌, ◌<◌, ◌≤◌, min, set, get_or-set_same, get_or-set_other, replicate, List, [], ◌∷◌, length, drop, Some, get_or, inl, inr, refl, sym, ap, ◌∙◌, subst, arith, ℤ, pos, negsuc}
-use Rattle.std.specs.Prelude.{slice_get}
-use Rattle.std.proofs.lemmas.Bool.{cases_eq}
+use Rattle.std.proofs.Common.{◌≡◌, ℕ, zero, suc, ◌+◌, ◌-◌, ◌*◌, ◌<◌, ◌≤◌, nat_lt, Bool, true, false, if◌then◌else◌, min, set, get_or-set_same, get_or-set_other, replicate, Option, List, [], ◌∷◌, length, drop, Some, None, get_or, inl, inr, refl, sym, ap, ◌∙◌, subst, arith, ℤ, pos, negsuc}
+use Rattle.std.specs.Prelude.{slice_get, slice_index}
+use Rattle.std.proofs.lemmas.Bool.{cases_eq, cases_lt}
 use Rattle.std.proofs.lemmas.List.{get_or-drop}
 use Rattle.fc_isa.specs.declared.insn.Insn.{Insn}
-use Rattle.fc_isa.specs.declared.insn.Insn.TheVariants.{Alu, Neg, SignExtend, End, LoadWide, WideSecond, Load, StoreImm, Store, JumpAlways, JumpAlwaysLong, JumpIf, CallHelper, CallLocal, Exit}
-use Rattle.fc_image.specs.Paths.{at_offset, cost_of, costs}
-
--- the costs of a program's rest are the rest of its costs
-pub costs-drop : (code : List Insn) (k : ℕ) → costs (drop k code) ≡ drop k (costs code)
-unfolding costs
-costs-drop code zero = refl
-costs-drop [] (suc k) = refl
-costs-drop (insn ∷ code) (suc k) = costs-drop code k
-
-pub length-costs : (code : List Insn) → length (costs code) ≡ length code
-unfolding costs
-length-costs [] = refl
-length-costs (insn ∷ code) = ap suc (length-costs code)
+use Rattle.fc_isa.specs.Flow.{Flow, Halts, Goes, Forks, Enters, flow}
+use Rattle.fc_image.specs.Functions.{at_offset}
+use Rattle.fc_image.specs.declared.loops.Loop.{Loop}
+use Rattle.fc_image.specs.Loops.{begins, ends}
+use Rattle.fc_image.specs.Paths.{turns, along, own_cost, looped, later, cost_of, costs}
+use Rattle.fc_image.proofs.Costs.{cost_here, less_one}
 
 pub drop_at : (code : List Insn) (slot : ℕ) (insn : Insn) → slice_get code slot ≡ Some insn → drop slot code ≡ insn ∷ drop (suc slot) code
 drop_at [] slot insn e = absurd (cc e)
@@ -30,12 +22,10 @@ first_of [] ys (suc k) c e = absurd (cc e)
 first_of (x ∷ xs) ys zero c e = cc e
 first_of (x ∷ xs) ys (suc k) c e = first_of xs ys k c e
 
--- a slot's cost is that of its instruction, by the costs of the later slots
-pub cost_is : (code : List Insn) (slot : ℕ) (insn : Insn) → slice_get code slot ≡ Some insn → get_or (costs code) slot 0 ≡ cost_of insn (drop (suc slot) (costs code))
+pub length-costs : (loops : List Loop) (first : ℕ) (code : List Insn) → length (costs loops first code) ≡ length code
 unfolding costs
-cost_is code slot insn e =
-    let first : drop slot (costs code) ≡ cost_of insn (costs (drop (suc slot) code)) ∷ costs (drop (suc slot) code) = sym (costs-drop code slot) ∙ ap costs (drop_at code slot insn e) in
-    first_of (costs code) (costs (drop (suc slot) code)) slot (cost_of insn (costs (drop (suc slot) code))) first ∙ ap (cost_of insn) (costs-drop code (suc slot))
+length-costs loops first [] = refl
+length-costs loops first (insn ∷ code) = ap suc (length-costs loops (suc first) code)
 
 -- ---- the table, each cost up to a limit
 
@@ -46,25 +36,38 @@ pub at_capped : (cap : ℕ) (xs ys : List ℕ) (o : ℤ) → AreCapped cap xs ys
 at_capped cap xs ys (pos n) h = h n
 at_capped cap xs ys (negsuc n) h = omega arith
 
-next_capped : (cap : ℕ) (xs ys : List ℕ) (k : ℕ) → AreCapped cap xs ys → min cap (1 + get_or xs k 0) ≡ min cap (1 + get_or ys k 0)
-next_capped cap xs ys k h = let e = h k in omega (arith, e)
+later_capped : (cap slot : ℕ) (xs ys : List ℕ) (t : ℕ) → AreCapped cap xs ys → later xs slot t ≡ min cap (later ys slot t)
+later_capped cap slot xs ys t h = go (nat_lt slot t)
+  where
+    go : (b : Bool) → (if b then slice_index xs (t - suc slot) else 0) ≡ min cap (if b then slice_index ys (t - suc slot) else 0)
+    go true = h (t - suc slot)
+    go false = omega arith
 
-pub cost_capped : (cap : ℕ) (insn : Insn) (xs ys : List ℕ) → AreCapped cap xs ys → min cap (cost_of insn xs) ≡ min cap (cost_of insn ys)
-cost_capped cap Exit xs ys h = refl
-cost_capped cap WideSecond xs ys h = refl
-cost_capped cap (JumpAlways offset) xs ys h = let e = at_capped cap xs ys offset h in omega (arith, e)
-cost_capped cap (JumpAlwaysLong offset) xs ys h = let e = at_capped cap xs ys offset h in omega (arith, e)
-cost_capped cap (JumpIf j) xs ys h = let e = at_capped cap xs ys j.offset h in let f = h 0 in omega (arith, e, f)
-cost_capped cap (CallLocal offset) xs ys h = let e = at_capped cap xs ys offset h in let f = h 0 in omega (arith, e, f)
-cost_capped cap (LoadWide dst value) xs ys h = next_capped cap xs ys 1 h
-cost_capped cap (Alu op width dst operand) xs ys h = next_capped cap xs ys 0 h
-cost_capped cap (Neg width dst) xs ys h = next_capped cap xs ys 0 h
-cost_capped cap (SignExtend extension dst src) xs ys h = next_capped cap xs ys 0 h
-cost_capped cap (End order width dst) xs ys h = next_capped cap xs ys 0 h
-cost_capped cap (Load loaded dst base offset) xs ys h = next_capped cap xs ys 0 h
-cost_capped cap (StoreImm size base offset imm) xs ys h = next_capped cap xs ys 0 h
-cost_capped cap (Store size base offset src) xs ys h = next_capped cap xs ys 0 h
-cost_capped cap (CallHelper number) xs ys h = next_capped cap xs ys 0 h
+along_capped : (cap : ℕ) (at to : ℕ → ℕ) (f : Flow) → ((t : ℕ) → at t ≡ min cap (to t)) → min cap (along at f) ≡ min cap (along to f)
+along_capped cap at to Halts h = refl
+along_capped cap at to (Goes next) h = let e = h next in omega (arith, e)
+along_capped cap at to (Forks taken next) h = let e = h taken in let f = h next in omega (arith, e, f)
+along_capped cap at to (Enters start next) h = let e = h start in let f = h next in omega (arith, e, f)
+
+own_capped : (cap : ℕ) (at to : ℕ → ℕ) (o : Option Loop) (f : Flow) → ((t : ℕ) → at t ≡ min cap (to t)) → min cap (own_cost at o f) ≡ min cap (own_cost to o f)
+own_capped cap at to None f h = along_capped cap at to f h
+own_capped cap at to (Some l) f h = refl
+
+turns_capped : (cap k a b x y : ℕ) → 1 ≤ k → min cap a ≡ min cap b → x ≡ min cap y → min cap (k * a + x) ≡ min cap (k * b + y)
+turns_capped cap k a b x y some e f = elim (cases_lt a cap) [
+  | inl lt ↦ let same : a ≡ b = omega (arith, e, lt) in let m : k * a ≡ k * b = ap (λ n. k * n) same in omega (arith, m, f)
+  | inr ge ↦ let p = less_one k a some in let q = less_one k b some in omega (arith, e, ge, p, q)
+]
+
+looped_capped : (cap : ℕ) (at to : ℕ → ℕ) (o : Option Loop) (a b : ℕ) → ((t : ℕ) → at t ≡ min cap (to t)) → min cap a ≡ min cap b → min cap (looped at o a) ≡ min cap (looped to o b)
+looped_capped cap at to None a b h e = e
+looped_capped cap at to (Some l) a b h e = turns_capped cap (turns l) a b (at (l.last + 1)) (to (l.last + 1)) (omega arith) e (h (l.last + 1))
+
+pub cost_capped : (cap : ℕ) (loops : List Loop) (slot : ℕ) (insn : Insn) (xs ys : List ℕ) → AreCapped cap xs ys → min cap (cost_of loops slot insn xs) ≡ min cap (cost_of loops slot insn ys)
+cost_capped cap loops slot insn xs ys h =
+    let at = later_capped cap slot xs ys in
+    looped_capped cap (later xs slot) (later ys slot) (begins loops slot) (own_cost (later xs slot) (ends loops slot) (flow slot insn)) (own_cost (later ys slot) (ends loops slot) (flow slot insn)) (λ t. at t h)
+    (own_capped cap (later xs slot) (later ys slot) (ends loops slot) (flow slot insn) (λ t. at t h))
 
 -- one slot more, before the others
 pub one_more : (cap : ℕ) (table whole : List ℕ) (slot value : ℕ) → slot < length table → ((k : ℕ) → suc slot ≤ k → get_or table k 0 ≡ min cap (get_or whole k 0))
@@ -86,12 +89,15 @@ pub rest_capped : (cap : ℕ) (table whole : List ℕ) (slot : ℕ) → ((k : �
 rest_capped cap table whole slot known k =
     get_or-drop (suc slot) table k 0 ∙ known (suc slot + k) (omega arith) ∙ ap (min cap) (sym (get_or-drop (suc slot) whole k 0))
 
-pub cost_more : (code : List Insn) (table : List ℕ) (slot value : ℕ) (insn : Insn) → slice_get code slot ≡ Some insn → slot < length table
-    → ((k : ℕ) → suc slot ≤ k → get_or table k 0 ≡ min 65537 (get_or (costs code) k 0)) → value ≡ min 65537 (cost_of insn (drop (suc slot) table))
-    → (k : ℕ) → slot ≤ k → get_or (set table slot value) k 0 ≡ min 65537 (get_or (costs code) k 0)
-cost_more code table slot value insn stands lt known is =
-    one_more 65537 table (costs code) slot value lt known
-    (is ∙ cost_capped 65537 insn (drop (suc slot) table) (drop (suc slot) (costs code)) (rest_capped 65537 table (costs code) slot known) ∙ ap (min 65537) (sym (cost_is code slot insn stands)))
+pub cost_more : (code : List Insn) (loops : List Loop) (table : List ℕ) (slot value : ℕ) (insn : Insn) → slice_get code slot ≡ Some insn → slot < length table
+    → ((k : ℕ) → suc slot ≤ k → get_or table k 0 ≡ min 65537 (get_or (costs loops 0 code) k 0)) → value ≡ min 65537 (cost_of loops slot insn (drop (suc slot) table))
+    → (k : ℕ) → slot ≤ k → get_or (set table slot value) k 0 ≡ min 65537 (get_or (costs loops 0 code) k 0)
+cost_more code loops table slot value insn stands lt known is =
+    let z : 0 + slot ≡ slot = omega arith in
+    let whole = costs loops 0 code in
+    one_more 65537 table whole slot value lt known
+    (is ∙ cost_capped 65537 loops slot insn (drop (suc slot) table) (drop (suc slot) whole) (rest_capped 65537 table whole slot known)
+    ∙ ap (λ n. min 65537 (cost_of loops n insn (drop (suc slot) whole))) (sym z) ∙ ap (min 65537) (sym (cost_here loops 0 code slot insn stands)))
 
 pub zero_at : (n k : ℕ) → get_or {A = ℕ} (replicate n 0) k 0 ≡ zero
 zero_at zero k = refl

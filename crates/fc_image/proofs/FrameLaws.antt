@@ -8,13 +8,15 @@ use Rattle.fc_isa.specs.declared.insn.Insn.{Insn}
 use Rattle.fc_isa.specs.declared.insn.Insn.TheVariants.{Alu, Neg, SignExtend, End, LoadWide, WideSecond, Load, StoreImm, Store, JumpAlways, JumpAlwaysLong, JumpIf, CallHelper, CallLocal, Exit}
 use Rattle.fc_isa.specs.declared.rule.Rule.TheVariants.{JumpTarget, BackwardJump, Boundary}
 use Rattle.fc_isa.specs.Program.{is_program}
-use Rattle.fc_isa.specs.Flow.{target, landing, Goes, flow}
-use Rattle.fc_image.specs.Flow.{flow_of, flow_at}
+use Rattle.fc_isa.specs.Flow.{target, landing, Flow, Goes, flow}
+use Rattle.fc_image.specs.Flow.{IsForward}
 use Rattle.fc_image.specs.Functions.{is_at, calls, is_called, is_start, starts_within, depths, frames}
-use Rattle.fc_image.specs.Laws.{frames_at, IsNearer, LeadsNearer}
+use Rattle.fc_image.specs.Laws.{cost_at, frames_at, IsNearer, LeadsNearer}
+use Rattle.fc_image.specs.Paths.{along}
 use Rattle.fc_image.specs.ShapeRules.{is_place, is_instruction, is_later, leaves, IsShapedBy, IsShaped}
 use Rattle.fc_image.proofs.FunctionTables.{length-depths, depth_is, rest_of}
-use Rattle.fc_image.proofs.PathLaws.{Known, known, offset_lands, not_true, first_false, second_false, placed}
+use Rattle.fc_image.proofs.PathLaws.{offset_lands, not_true, first_false, second_false, placed, forward}
+use Rattle.fc_image.proofs.Straight.{cost_along}
 
 -- ---- the frames of a slot, by those of later ones
 
@@ -164,9 +166,13 @@ second_half (i ∷ rest) (suc slot) dst value p e = second_half rest slot dst va
 next_frames : (code : List Insn) (slot : ℕ) (insn : Insn) (a : Bool) → slice_get code slot ≡ Some insn → (a || is_start code (slot + 1)) ≡ false → frames_at code (slot + 1) ≤ frames_at code slot
 next_frames code slot insn a g e = stay_frames code slot insn g (second_false a (is_start code (slot + 1)) e)
 
+-- what is known of a slot of a shaped program
+record Known (code : List Insn) (slot : ℕ) (f : Flow) : Type 0 where
+  forward : IsForward (length code) slot f
+  cost : cost_at code slot ≡ along (cost_at code) f
+
 cost_there : (code : List Insn) (slot : ℕ) (insn : Insn) → IsShaped code → slice_get code slot ≡ Some insn → Known code slot (flow slot insn)
-unfolding flow_at
-cost_there code slot insn s g = known code slot (flow slot insn) s (ap (flow_of slot) g)
+cost_there code slot insn s g = record { forward = forward code slot insn s g; cost = cost_along code slot insn s g }
 
 step_next : (code : List Insn) (slot : ℕ) (insn : Insn) (a : Bool) → slice_get code slot ≡ Some insn → Known code slot (Goes (slot + 1)) → (a || is_start code (slot + 1)) ≡ false → IsNearer code slot (slot + 1)
 step_next code slot insn a g k e = let c = k.cost in (omega (arith, c), next_frames code slot insn a g e)

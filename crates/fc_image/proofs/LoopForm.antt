@@ -15,7 +15,8 @@ use Rattle.fc_isa.specs.declared.insn.Insn.{Insn}
 use Rattle.fc_isa.specs.declared.insn.Insn.TheVariants.{Alu, JumpIf}
 use Rattle.fc_isa.specs.declared.rule.Rule.TheVariants.{BackwardJump}
 use Rattle.fc_isa.specs.Flow.{target, landing}
-use Rattle.fc_image.specs.Loops.{Loop, bound_of, step_of, loop_by, loop_at, is_in, crosses, spoils, disturbs, some_slot, is_undisturbed, loop_if, and_loop, loops_from, loops_of, begins, ends}
+use Rattle.fc_image.specs.declared.loops.Loop.{Loop}
+use Rattle.fc_image.specs.Loops.{bound_of, step_of, loop_by, loop_at, is_in, crosses, spoils, disturbs, some_slot, is_undisturbed, loop_if, and_loop, loops_from, loops_of, begins, ends}
 use Rattle.fc_image.specs.ShapeRules.{leads_back, breaks_back, IsShapedBy}
 
 -- ---- a jump back
@@ -39,15 +40,15 @@ step_is (Some (Alu Add W64 dst (Imm (pos k)))) r c e = go ((dst == r) && nat_le 
     go false f g = absurd (cc g)
 step_is o r c e = absurd (cc e)
 
-record IsLoopBy (slot : ℕ) (j : Jump) (b s : Option ℕ) (l : Loop) : Type 0 where
-  bound : b ≡ Some l.bound
-  step : s ≡ Some l.step
-  last : slot ≡ l.last
-  lands : landing slot j.offset ≡ l.head
-  left : j.left ≡ l.counter
-  order : l.head < l.last
+pub record IsLoopBy (slot : ℕ) (j : Jump) (b s : Option ℕ) (l : Loop) : Type 0 where
+  pub bound : b ≡ Some l.bound
+  pub step : s ≡ Some l.step
+  pub last : slot ≡ l.last
+  pub lands : landing slot j.offset ≡ l.head
+  pub left : j.left ≡ l.counter
+  pub order : l.head < l.last
 
-loop_by_is : (slot : ℕ) (j : Jump) (b s : Option ℕ) (l : Loop) → loop_by slot j b s ≡ Some l → IsLoopBy slot j b s l
+pub loop_by_is : (slot : ℕ) (j : Jump) (b s : Option ℕ) (l : Loop) → loop_by slot j b s ≡ Some l → IsLoopBy slot j b s l
 loop_by_is slot j (Some n) (Some c) l e = go (nat_lt (landing slot j.offset) slot) refl e
   where
     made : Loop
@@ -103,7 +104,7 @@ jump_of allowed code slot j l stands e is =
       is = subst (λ k. loop_if allowed code k (JumpIf j) ≡ Some l) r.last is;
     }
 
-if_at : (allowed : Bool) (code : List Insn) (slot : ℕ) (insn : Insn) (l : Loop) → loop_if allowed code slot insn ≡ Some l → loop_at code slot insn ≡ Some l
+pub if_at : (allowed : Bool) (code : List Insn) (slot : ℕ) (insn : Insn) (l : Loop) → loop_if allowed code slot insn ≡ Some l → loop_at code slot insn ≡ Some l
 if_at false code slot insn l e = absurd (cc e)
 if_at true code slot insn l e = e
 

@@ -18,7 +18,8 @@ use Rattle.fc_isa.specs.Writes.{is_call, writes}
 use Rattle.fc_image.specs.Flow.{IsLater, IsForward, flow_of, flow_at}
 use Rattle.fc_image.specs.Functions.{with_offset, calls, is_called, is_start, starts_within, slots_taken, may_end, is_open_end}
 use Rattle.fc_image.specs.Laws.{frames_at}
-use Rattle.fc_image.specs.Loops.{Loop, is_in, is_exit, crosses, spoils, is_undisturbed, loop_if, loops_of, ends, some_insn, body, is_written, has_call}
+use Rattle.fc_image.specs.declared.loops.Loop.{Loop}
+use Rattle.fc_image.specs.Loops.{is_in, is_exit, crosses, spoils, is_undisturbed, loop_if, loops_of, ends, some_insn, body, is_written, has_call}
 use Rattle.fc_image.specs.LoopLaws.{LeadsTo, Calls, JumpsBack, IsLoop, IsBack, IsOnward, AreLoops, AreBodies, IsCounter, AreCounters, ShapedLoopsAreLoops}
 use Rattle.fc_image.specs.ShapeRules.{is_instruction, is_place, is_later, leaves, leads_back, IsShapedBy}
 use Rattle.fc_image.proofs.PathLaws.{not_true, first_false, second_false, placed, lands, goes_on}
@@ -422,7 +423,7 @@ forward_by count loops slot (Enters start next) n o = o
 last_not : (allowed : Bool) (code : List Insn) (slot i : ℕ) (l : Loop) → ends (loops_of allowed code) slot ≡ None → slice_get (loops_of allowed code) i ≡ Some l → slot ≢ l.last
 last_not allowed code slot i l e g same = absurd (cc (e, subst (λ n. ends (loops_of allowed code) n ≡ Some l) (sym same) (ends_last allowed code i l g)))
 
-bodies : (allowed : Bool) (code : List Insn) → is_program code ≡ true → IsShapedBy allowed code → AreBodies code (loops_of allowed code)
+pub bodies : (allowed : Bool) (code : List Insn) → is_program code ≡ true → IsShapedBy allowed code → AreBodies code (loops_of allowed code)
 bodies allowed code p s = record {
   order = λ i l g. (has_jump allowed code i l g).order;
   jumps = λ i l g. let j = has_jump allowed code i l g in insn_flow code l.last (JumpIf j.jump) j.stands ∙ ap (λ t. Some (Forks t (l.last + 1))) j.lands;

@@ -12,7 +12,8 @@ use Rattle.fc_isa.specs.declared.version.ImageVersion.{ImageVersion}
 use Rattle.fc_isa.specs.declared.version.ImageVersion.TheVariants.{One, Two}
 use Rattle.fc_image.specs.Head.{Head, has_magic, head_bytes, is_bad_size, is_bad_count, is_bad_budget, stated}
 use Rattle.fc_image.specs.Functions.{is_start, frames}
-use Rattle.fc_image.specs.Paths.{costs, longest}
+use Rattle.fc_image.specs.Loops.{loops_of}
+use Rattle.fc_image.specs.Paths.{costs, cost_in, longest}
 use Rattle.fc_image.specs.ShapeRules.{breaks_shape, is_helper, shape_fault}
 
 -- a header of this version and budget
@@ -30,74 +31,74 @@ caller = CallLocal (pos 1)
 
 -- a way that is taken is shorter than the one that goes on
 branch_costs_five : longest (jgt 4 ∷ mov ∷ mov ∷ mov ∷ Exit ∷ mov ∷ Exit ∷ []) ≡ 5
-unfolding longest costs
+unfolding longest cost_in loops_of costs
 branch_costs_five = refl
 
 -- a function that is called twice is counted twice
 callee_counts_twice : longest (CallLocal (pos 2) ∷ CallLocal (pos 1) ∷ Exit ∷ mov ∷ Exit ∷ []) ≡ 7
-unfolding longest costs
+unfolding longest cost_in loops_of costs
 callee_counts_twice = refl
 
 twice_is_above_six : shape_fault (head One 6) (CallLocal (pos 2) ∷ CallLocal (pos 1) ∷ Exit ∷ mov ∷ Exit ∷ []) ≡ Some (0, Cost)
-unfolding shape_fault breaks_shape longest costs is_start frames
+unfolding shape_fault breaks_shape longest cost_in loops_of costs is_start frames
 twice_is_above_six = refl
 
 four_frames : shape_fault (head One 8) (caller ∷ Exit ∷ caller ∷ Exit ∷ caller ∷ Exit ∷ mov ∷ Exit ∷ []) ≡ None
-unfolding shape_fault breaks_shape longest costs is_start frames
+unfolding shape_fault breaks_shape longest cost_in loops_of costs is_start frames
 four_frames = refl
 
 five_frames : shape_fault (head One 10) (caller ∷ Exit ∷ caller ∷ Exit ∷ caller ∷ Exit ∷ caller ∷ Exit ∷ mov ∷ Exit ∷ []) ≡ Some (0, FrameDepth)
-unfolding shape_fault breaks_shape longest costs is_start frames
+unfolding shape_fault breaks_shape longest cost_in loops_of costs is_start frames
 five_frames = refl
 
 -- the second version allows eight frames
 five_frames_in_two : shape_fault (head Two 10) (caller ∷ Exit ∷ caller ∷ Exit ∷ caller ∷ Exit ∷ caller ∷ Exit ∷ mov ∷ Exit ∷ []) ≡ None
-unfolding shape_fault breaks_shape longest costs is_start frames
+unfolding shape_fault breaks_shape longest cost_in loops_of costs is_start frames
 five_frames_in_two = refl
 
 eight_calls : List Insn
 eight_calls = caller ∷ Exit ∷ caller ∷ Exit ∷ caller ∷ Exit ∷ caller ∷ Exit ∷ caller ∷ Exit ∷ caller ∷ Exit ∷ caller ∷ Exit ∷ mov ∷ Exit ∷ []
 
 eight_frames : (shape_fault (head Two 16) eight_calls ≡ None) × (shape_fault (head Two 18) (caller ∷ Exit ∷ eight_calls) ≡ Some (0, FrameDepth))
-unfolding shape_fault breaks_shape longest costs is_start frames eight_calls
+unfolding shape_fault breaks_shape longest cost_in loops_of costs is_start frames eight_calls
 eight_frames = (refl, refl)
 
 call_back : shape_fault (head One 8) (caller ∷ Exit ∷ CallLocal (negsuc 2) ∷ Exit ∷ []) ≡ Some (2, BackwardCall)
-unfolding shape_fault breaks_shape longest costs is_start frames
+unfolding shape_fault breaks_shape longest cost_in loops_of costs is_start frames
 call_back = refl
 
 -- the start that a call back makes ends the function before it
 call_back_ends_a_function : shape_fault (head One 8) (mov ∷ CallLocal (negsuc 0) ∷ Exit ∷ []) ≡ Some (0, Boundary)
-unfolding shape_fault breaks_shape longest costs is_start frames
+unfolding shape_fault breaks_shape longest cost_in loops_of costs is_start frames
 call_back_ends_a_function = refl
 
 jump_into_a_wide_load : shape_fault (head One 8) (JumpAlways (pos 1) ∷ LoadWide 0 7 ∷ WideSecond ∷ Exit ∷ []) ≡ Some (0, JumpTarget)
-unfolding shape_fault breaks_shape longest costs is_start frames
+unfolding shape_fault breaks_shape longest cost_in loops_of costs is_start frames
 jump_into_a_wide_load = refl
 
 jump_below_zero : shape_fault (head One 8) (JumpAlways (negsuc 1) ∷ Exit ∷ []) ≡ Some (0, JumpTarget)
-unfolding shape_fault breaks_shape longest costs is_start frames
+unfolding shape_fault breaks_shape longest cost_in loops_of costs is_start frames
 jump_below_zero = refl
 
 jump_to_itself : shape_fault (head One 8) (JumpAlways (negsuc 0) ∷ Exit ∷ []) ≡ Some (0, BackwardJump)
-unfolding shape_fault breaks_shape longest costs is_start frames
+unfolding shape_fault breaks_shape longest cost_in loops_of costs is_start frames
 jump_to_itself = refl
 
 jump_out_of_its_function : shape_fault (head One 8) (caller ∷ JumpAlways (pos 1) ∷ mov ∷ Exit ∷ []) ≡ Some (1, Boundary)
-unfolding shape_fault breaks_shape longest costs is_start frames
+unfolding shape_fault breaks_shape longest cost_in loops_of costs is_start frames
 jump_out_of_its_function = refl
 
 end_in_a_wide_load : shape_fault (head One 8) (mov ∷ LoadWide 0 7 ∷ WideSecond ∷ []) ≡ Some (1, Boundary)
-unfolding shape_fault breaks_shape longest costs is_start frames
+unfolding shape_fault breaks_shape longest cost_in loops_of costs is_start frames
 end_in_a_wide_load = refl
 
 no_helper_eight : shape_fault (head One 8) (CallHelper (pos 8) ∷ mov ∷ Exit ∷ []) ≡ Some (0, Helper)
-unfolding shape_fault breaks_shape longest costs is_start frames
+unfolding shape_fault breaks_shape longest cost_in loops_of costs is_start frames
 no_helper_eight = refl
 
 -- the cost is told before the helper
 cost_before_helper : shape_fault (head One 2) (CallHelper (pos 8) ∷ mov ∷ Exit ∷ []) ≡ Some (0, Cost)
-unfolding shape_fault breaks_shape longest costs is_start frames
+unfolding shape_fault breaks_shape longest cost_in loops_of costs is_start frames
 cost_before_helper = refl
 
 -- ---- the helpers' numbers, and the header's limits

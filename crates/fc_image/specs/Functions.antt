@@ -1,9 +1,8 @@
 -- The functions of a program, and how many stack frames their calls need.
-use Rattle.std.specs.Prelude.{ℕ, zero, suc, ◌+◌, ◌==◌, ◌||◌, ◌&&◌, not, nat_lt, Bool, true, false, if◌then◌else◌, max, ℤ, List, [], ◌∷◌, length, Option, Some, None, slice_index}
+use Rattle.std.specs.Prelude.{ℕ, zero, suc, ◌+◌, ◌==◌, ◌||◌, ◌&&◌, not, nat_lt, Bool, true, false, if◌then◌else◌, max, ℤ, pos, negsuc, List, [], ◌∷◌, length, Option, Some, None, slice_index}
 use Rattle.fc_isa.specs.declared.insn.Insn.{Insn}
 use Rattle.fc_isa.specs.declared.insn.Insn.TheVariants.{LoadWide, WideSecond, CallLocal, Exit}
 use Rattle.fc_isa.specs.Flow.{call_offset, target}
-use Rattle.fc_image.specs.Paths.{at_offset}
 
 abbrev pub with_offset : Option ℤ → (ℤ → Bool) → Bool
 with_offset None test = false
@@ -47,6 +46,11 @@ is_open_end code slot insn =
     not (may_end insn) && (not (nat_lt (slot + slots_taken insn) (length code)) || is_start code (slot + slots_taken insn))
 
 -- ---- frames
+
+-- what a table has at an offset from the next slot, from which it begins
+abbrev pub at_offset : List ℕ → ℤ → ℕ
+at_offset after (pos n) = slice_index after n
+at_offset after (negsuc n) = 0
 
 -- the frames of the function that an instruction calls, given the depths from the next slot on
 abbrev pub frames_called : Insn → List ℕ → ℕ

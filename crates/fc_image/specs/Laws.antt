@@ -1,5 +1,5 @@
 -- The laws of a program's shape.
-use Rattle.std.specs.Prelude.{◌≡◌, ℕ, ◌<◌, ◌≤◌, ◌+◌, true, List, length, Some, slice_get, slice_index}
+use Rattle.std.specs.Prelude.{◌≡◌, ℕ, ◌<◌, ◌≤◌, ◌+◌, true, false, List, length, Some, slice_get, slice_index}
 use Rattle.fc_isa.specs.declared.insn.Insn.{Insn}
 use Rattle.fc_isa.specs.declared.rule.Rule.{Rule}
 use Rattle.fc_isa.specs.Rules.{number_of}
@@ -8,7 +8,8 @@ use Rattle.fc_isa.specs.Flow.{Flow, Halts, Goes, Forks, Enters, flow}
 use Rattle.fc_image.specs.Flow.{IsForward}
 use Rattle.fc_image.specs.Functions.{is_start, depths, frames}
 use Rattle.fc_image.specs.Head.{Head}
-use Rattle.fc_image.specs.Paths.{costs}
+use Rattle.fc_image.specs.Loops.{loops_of}
+use Rattle.fc_image.specs.Paths.{cost_in}
 use Rattle.fc_image.specs.ShapeRules.{IsShapeFault, IsShaped, shape_fault}
 
 -- in a shaped program each instruction leads to later slots of the program
@@ -37,7 +38,7 @@ ShapeFaultIsLow =
 
 -- the steps of the longest path from a slot to its function's exit
 abbrev pub cost_at : List Insn → ℕ → ℕ
-cost_at code slot = slice_index (costs code) slot
+cost_at code slot = cost_in code (loops_of false code) slot
 
 -- the most frames that calls add from a slot to the end of its function
 abbrev pub frames_at : List Insn → ℕ → ℕ

@@ -1,8 +1,8 @@
 pub mod Head
 pub mod Flow
-pub mod Paths
 pub mod Functions
 pub mod Loops
+pub mod Paths
 pub mod ShapeRules
 pub mod Tables
 pub mod Judged

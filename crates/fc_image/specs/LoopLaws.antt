@@ -13,7 +13,9 @@ use Rattle.fc_isa.specs.Writes.{writes}
 use Rattle.fc_image.specs.Flow.{IsLater, IsForward, flow_at}
 use Rattle.fc_image.specs.Functions.{frames}
 use Rattle.fc_image.specs.Laws.{frames_at}
-use Rattle.fc_image.specs.Loops.{Loop, is_written, has_call, begins, ends, loops_of}
+use Rattle.fc_image.specs.declared.loops.Loop.{Loop}
+use Rattle.fc_image.specs.Loops.{is_written, has_call, begins, ends, loops_of}
+use Rattle.fc_image.specs.Paths.{IsLongestIn, cost_in}
 use Rattle.fc_image.specs.ShapeRules.{IsShapedBy}
 
 -- a flow leads to a slot within its function
@@ -167,3 +169,8 @@ abbrev pub ShapedLoopsAreLoops : Type 0
 ShapedLoopsAreLoops =
     (allowed : Bool) (code : List Insn) → ((slot : ℕ) (insn : Insn) → slice_get code slot ≡ Some insn → IsInsn insn)
     → is_program code ≡ true → IsShapedBy allowed code → HasLoops code (loops_of allowed code)
+
+abbrev pub LoopsHaveLongestPaths : Type 0
+LoopsHaveLongestPaths =
+    (allowed : Bool) (code : List Insn) → 0 < length code → is_program code ≡ true → IsShapedBy allowed code
+    → IsLongestIn code (loops_of allowed code) (cost_in code (loops_of allowed code) 0)

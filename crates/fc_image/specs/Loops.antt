@@ -13,14 +13,7 @@ use Rattle.fc_isa.specs.declared.insn.Insn.TheVariants.{Alu, JumpIf, Exit}
 use Rattle.fc_isa.specs.Flow.{jump_offset, target, landing}
 use Rattle.fc_isa.specs.Writes.{is_call, writes}
 use Rattle.fc_image.specs.Functions.{with_offset}
-
--- a counted loop: its body are the slots from `head` to `last`; it counts in a register, below a bound, by a step
-pub record Loop : Type 0 where
-  pub head : ℕ
-  pub last : ℕ
-  pub counter : ℕ
-  pub bound : ℕ
-  pub step : ℕ
+use Rattle.fc_image.specs.declared.loops.Loop.{Loop}
 
 -- the bound of a jump where its register is below an immediate of 1 to 1,024
 abbrev pub bound_of : Width → Relation → Operand → Option ℕ

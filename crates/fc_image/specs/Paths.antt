@@ -1,58 +1,124 @@
--- Paths through a program, and the steps of its longest one.
-use Rattle.std.specs.Prelude.{◌≡◌, ℕ, zero, suc, ◌+◌, ◌≤◌, ◌⊎◌, max, ℤ, pos, negsuc, List, [], ◌∷◌, Option, Some, None, slice_index}
+-- Paths through a program with counted loops, and the steps of its longest one.
+use Rattle.std.specs.Prelude.{◌≡◌, ℕ, zero, suc, ◌+◌, ◌-◌, ◌*◌, ◌/◌, ◌≤◌, ◌⊎◌, nat_lt, if◌then◌else◌, false, max, List, [], ◌∷◌, Option, Some, None, slice_index}
 use Rattle.fc_isa.specs.declared.insn.Insn.{Insn}
-use Rattle.fc_isa.specs.declared.insn.Insn.TheVariants.{LoadWide, WideSecond, JumpAlways, JumpAlwaysLong, JumpIf, CallLocal, Exit}
-use Rattle.fc_isa.specs.Flow.{Flow, Halts, Goes, Forks, Enters}
+use Rattle.fc_isa.specs.Flow.{Flow, Halts, Goes, Forks, Enters, flow}
 use Rattle.fc_image.specs.Flow.{flow_at}
+use Rattle.fc_image.specs.declared.loops.Loop.{Loop}
+use Rattle.fc_image.specs.Loops.{loops_of, begins, ends}
+
+-- how often a path goes through a body, each time that it comes to its head from outside
+abbrev pub turns : Loop → ℕ
+turns l = 1 + (l.bound - 1) / l.step
+
+-- what is behind a place of a path: a call's return place, or a loop with the turns after this one
+pub data Behind : Type 0 where
+  Return : (place : ℕ) → Behind
+  Turns : (loop : Loop) (left : ℕ) → Behind
+
+-- a path comes to a slot: where a loop begins there, it is in its first turn
+abbrev pub opened_at : Option Loop → List Behind → List Behind
+opened_at None behind = behind
+opened_at (Some l) behind = Turns l (turns l - 1) ∷ behind
+
+abbrev pub opened : List Loop → ℕ → List Behind → List Behind
+opened loops slot behind = opened_at (begins loops slot) behind
+
+abbrev pub Comes : List Loop → (ℕ → List Behind → Type 0) → ℕ → List Behind → Type 0
+Comes loops Path slot behind = Path slot (opened loops slot behind)
 
 -- an exit goes back to the return place of the last call that goes on; it ends the path where there is none
-abbrev pub Returns : (ℕ → List ℕ → Type 0) → ℕ → List ℕ → Type 0
-Returns Path n [] = n ≡ 0
-Returns Path n (place ∷ returns) = Path place returns
+abbrev pub Returns : List Loop → (ℕ → List Behind → Type 0) → ℕ → List Behind → Type 0
+Returns loops Path n [] = n ≡ 0
+Returns loops Path n (Return place ∷ behind) = Comes loops Path place behind
+Returns loops Path n (Turns l left ∷ behind) = ⊥
+
+-- a jump back goes on with the next turn, and behind the loop after the last
+abbrev pub Repeats : List Loop → (ℕ → List Behind → Type 0) → ℕ → List Behind → Type 0
+Repeats loops Path slot (Turns l (suc left) ∷ behind) = (slot ≡ l.last) × Path l.head (Turns l left ∷ behind)
+Repeats loops Path slot (Turns l zero ∷ behind) = (slot ≡ l.last) × Comes loops Path (l.last + 1) behind
+Repeats loops Path slot other = ⊥
+
+abbrev pub Follows : List Loop → (ℕ → List Behind → Type 0) → ℕ → List Behind → Option Flow → Type 0
+Follows loops Path n behind None = ⊥
+Follows loops Path n behind (Some Halts) = Returns loops Path n behind
+Follows loops Path n behind (Some (Goes next)) = Comes loops Path next behind
+Follows loops Path n behind (Some (Forks taken next)) = Comes loops Path taken behind ⊎ Comes loops Path next behind
+Follows loops Path n behind (Some (Enters start next)) = Comes loops Path start (Return next ∷ behind)
 
 -- where a path with n steps left goes on
-abbrev pub GoesOn : (ℕ → List ℕ → Type 0) → ℕ → List ℕ → Option Flow → Type 0
-GoesOn Path n returns None = ⊥
-GoesOn Path n returns (Some Halts) = Returns Path n returns
-GoesOn Path n returns (Some (Goes next)) = Path next returns
-GoesOn Path n returns (Some (Forks taken next)) = Path taken returns ⊎ Path next returns
-GoesOn Path n returns (Some (Enters start next)) = Path start (next ∷ returns)
+abbrev pub GoesOn : List Insn → List Loop → (ℕ → List Behind → Type 0) → ℕ → ℕ → List Behind → Option Loop → Type 0
+GoesOn code loops Path n slot behind None = Follows loops Path n behind (flow_at code slot)
+GoesOn code loops Path n slot behind (Some l) = Repeats loops Path slot behind
 
--- a path of this many steps leads from a slot to the program's exit, with these return places; each instruction is one step
-unfoldable pub IsPath : List Insn → ℕ → ℕ → List ℕ → Type 0
-IsPath code zero slot returns = ⊥
-IsPath code (suc n) slot returns = GoesOn (IsPath code n) n returns (flow_at code slot)
+-- a path of this many steps leads from a slot to the program's exit, with this behind it; each instruction is one step
+unfoldable pub IsPath : List Insn → List Loop → ℕ → ℕ → List Behind → Type 0
+IsPath code loops zero slot behind = ⊥
+IsPath code loops (suc n) slot behind = GoesOn code loops (IsPath code loops n) n slot behind (ends loops slot)
 
 -- the greatest number of steps on any path from slot 0
-pub record IsLongest (code : List Insn) (steps : ℕ) : Type 0 where
-  pub path : IsPath code steps 0 []
-  pub greatest : (n : ℕ) → IsPath code n 0 [] → n ≤ steps
+pub record IsLongestIn (code : List Insn) (loops : List Loop) (steps : ℕ) : Type 0 where
+  pub path : IsPath code loops steps 0 (opened loops 0 [])
+  pub greatest : (n : ℕ) → IsPath code loops n 0 (opened loops 0 []) → n ≤ steps
 
--- ---- the same as a function, where jumps and calls lead to later slots
+-- where no loops are allowed
+abbrev pub IsLongest : List Insn → ℕ → Type 0
+IsLongest code steps = IsLongestIn code (loops_of false code) steps
 
--- the cost at an offset from the next slot, given the costs from the next slot on
-abbrev pub at_offset : List ℕ → ℤ → ℕ
-at_offset after (pos n) = slice_index after n
-at_offset after (negsuc n) = 0
+-- ---- the same as a function, from the last slot back
 
--- 1 at an exit; else 1 more than what follows: the greater of two ways, or a callee's cost and that of the next slot
-abbrev pub cost_of : Insn → List ℕ → ℕ
-cost_of Exit after = 1
-cost_of WideSecond after = 1
-cost_of (JumpAlways offset) after = 1 + at_offset after offset
-cost_of (JumpAlwaysLong offset) after = 1 + at_offset after offset
-cost_of (JumpIf j) after = 1 + max (at_offset after j.offset) (slice_index after 0)
-cost_of (CallLocal offset) after = 1 + (at_offset after offset + slice_index after 0)
-cost_of (LoadWide dst value) after = 1 + slice_index after 1
-cost_of other after = 1 + slice_index after 0
+-- the steps from an instruction on, to the end of its body or function
+abbrev pub along : (ℕ → ℕ) → Flow → ℕ
+along at Halts = 1
+along at (Goes next) = 1 + at next
+along at (Forks taken next) = 1 + max (at taken) (at next)
+along at (Enters start next) = 1 + (at start + at next)
 
-abbrev pub cost_and : Insn → List ℕ → List ℕ
-cost_and insn after = cost_of insn after ∷ after
+-- a jump back is the end of its body
+abbrev pub own_cost : (ℕ → ℕ) → Option Loop → Flow → ℕ
+own_cost at None f = along at f
+own_cost at (Some l) f = 1
 
--- the cost of each slot
-unfoldable pub costs : List Insn → List ℕ
-costs [] = []
-costs (insn ∷ code) = cost_and insn (costs code)
+-- at a head it is that of all turns, and what comes behind the loop
+abbrev pub looped : (ℕ → ℕ) → Option Loop → ℕ → ℕ
+looped at None own = own
+looped at (Some l) own = turns l * own + at (l.last + 1)
+
+-- the cost at a later slot, given the costs from the next slot on
+abbrev pub later : List ℕ → ℕ → ℕ → ℕ
+later after slot t = if nat_lt slot t then slice_index after (t - suc slot) else 0
+
+abbrev pub own_of : List Loop → ℕ → Insn → List ℕ → ℕ
+own_of loops slot insn after = own_cost (later after slot) (ends loops slot) (flow slot insn)
+
+abbrev pub cost_of : List Loop → ℕ → Insn → List ℕ → ℕ
+cost_of loops slot insn after = looped (later after slot) (begins loops slot) (own_of loops slot insn after)
+
+abbrev pub cost_and : List Loop → ℕ → Insn → List ℕ → List ℕ
+cost_and loops slot insn after = cost_of loops slot insn after ∷ after
+
+-- the cost of each slot from this one on
+unfoldable pub costs : List Loop → ℕ → List Insn → List ℕ
+costs loops slot [] = []
+costs loops slot (insn ∷ code) = cost_and loops slot insn (costs loops (suc slot) code)
+
+unfoldable pub cost_in : List Insn → List Loop → ℕ → ℕ
+cost_in code loops slot = slice_index (costs loops 0 code) slot
 
 unfoldable pub longest : List Insn → ℕ
-longest code = slice_index (costs code) 0
+longest code = cost_in code (loops_of false code) 0
+
+-- ---- what is left of a path
+
+-- a slot's own cost
+abbrev pub own_by : (ℕ → ℕ) → Option Loop → Option Flow → ℕ
+own_by at o None = 0
+own_by at o (Some f) = own_cost at o f
+
+abbrev pub own : List Insn → List Loop → ℕ → ℕ
+own code loops slot = own_by (cost_in code loops) (ends loops slot) (flow_at code slot)
+
+-- behind a place, at most: of each open loop the turns after this one, and what comes behind it
+abbrev pub left : List Insn → List Loop → List Behind → ℕ
+left code loops [] = 0
+left code loops (Return place ∷ behind) = cost_in code loops place + left code loops behind
+left code loops (Turns l k ∷ behind) = k * own code loops l.head + cost_in code loops (l.last + 1) + left code loops behind

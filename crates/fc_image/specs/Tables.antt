@@ -1,6 +1,7 @@
 -- The tables that a program's control flow is judged by.
-use Rattle.std.specs.Prelude.{◌≡◌, ℕ, zero, suc, ◌+◌, ◌<◌, ◌||◌, Bool, false, if◌then◌else◌, min, max, List, drop, slice_index, slice_index_or}
+use Rattle.std.specs.Prelude.{◌≡◌, ℕ, zero, suc, ◌+◌, ◌<◌, ◌||◌, Bool, false, if◌then◌else◌, min, max, List, drop, slice_index, slice_index_or, slice_set, Option, Some, None, ◌≤◌}
 use Rattle.fc_isa.specs.declared.insn.Insn.{Insn}
+use Rattle.fc_image.specs.declared.loops.Loop.{Loop}
 use Rattle.fc_image.specs.Functions.{calls, frames_called, is_start}
 
 -- a flag for each of 1,024 slots: a function starts there
@@ -15,6 +16,23 @@ starts_below code (suc slot) = starts_below code slot + (if is_start code slot t
 -- a number for each of 1,024 slots: how many functions start up to it
 pub record AreCounts (code : List Insn) (counts : List ℕ) : Type 0 where
   pub each : (slot : ℕ) → slot < 1024 → slice_index counts slot ≡ starts_below code (slot + 1)
+
+-- a loop that ends at a slot of so many, with a bound and a step as the form has them
+pub record IsLow (count : ℕ) (l : Loop) : Type 0 where
+  pub order : l.head < l.last
+  pub last : l.last ≤ count
+  pub some : 1 ≤ l.bound
+  pub few : l.bound ≤ 1024
+  pub step : 1 ≤ l.step
+
+abbrev pub AreLow : ℕ → Option Loop → Type 0
+AreLow count None = Unit {0}
+AreLow count (Some l) = IsLow count l
+
+-- the loops by their heads, with one more
+abbrev pub headed : List (Option Loop) → Option Loop → List (Option Loop)
+headed heads None = heads
+headed heads (Some l) = slice_set heads l.head (Some l)
 
 -- the flags with that of the function which an instruction calls
 abbrev pub IsMarked : ℕ → Insn → List Bool → List Bool → Type 0

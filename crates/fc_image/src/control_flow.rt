@@ -6,11 +6,12 @@ ghost use Rattle.fc_image.specs.Functions.{frames, with_offset};
 ghost use Rattle.fc_image.specs.Head.{frames_allowed};
 ghost use Rattle.fc_image.specs.Judged.{AreTables};
 ghost use Rattle.fc_image.specs.Paths.{IsLongest, longest};
-ghost use Rattle.fc_image.specs.ShapeRules.{IsSame, IsShaped, breaks_shape, calls_no_helper, shape_fault, first_broken, is_later, is_place, least, leaves};
+ghost use Rattle.fc_image.specs.ShapeRules.{IsSame, IsShaped, breaks_back, breaks_shape, calls_no_helper, shape_fault, first_broken, is_later, is_place, least, leaves};
 
 use crate::flow::{call_offset, jump_offset, target};
 use crate::functions::{crosses, is_open_end};
 use crate::limits::Head;
+use crate::loops::is_counted;
 use crate::table::Tables;
 use fc_isa::{Fault, Insn, Rule};
 
@@ -86,7 +87,7 @@ fn breaks(code: &[Insn], tables: &Tables, head: &Head, slot: usize, insn: &Insn,
     match rule {
         Rule::JumpTarget => is_astray(code, slot, jump_offset(insn))
             || is_astray(code, slot, call_offset(insn)),
-        Rule::BackwardJump => is_back(slot, jump_offset(insn)),
+        Rule::BackwardJump => breaks_back(false, code, slot, insn),
         Rule::Boundary => leaves(code, tables, slot, jump_offset(insn))
             || is_open_end(code, &tables.starts, slot, insn),
         Rule::BackwardCall => is_back(slot, call_offset(insn)),
@@ -115,6 +116,15 @@ fn is_place(code: &[Insn], place: Option<usize>) -> bool
         Some(place) => place < code.len() && !matches!(code[place], Insn::WideSecond),
         None => false,
     }
+}
+
+/// Whether a jump doesn't lead to a later slot, and isn't that of a counted loop, where loops are allowed.
+fn breaks_back(allowed: bool, code: &[Insn], slot: usize, insn: &Insn) -> bool
+    requires count { length code.now ≤ 1024 }
+    requires slot { slot < length code.now }
+    ensures { result ≡ breaks_back allowed code.now slot insn.now }
+{
+    !(allowed && is_counted(code, slot, insn)) && is_back(slot, jump_offset(insn))
 }
 
 /// Whether an offset's target isn't a later slot.

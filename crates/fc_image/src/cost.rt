@@ -1,42 +1,88 @@
 //! The steps of a program's longest path.
-ghost use Rattle.std.specs.Prelude.{ℕ, List, Some, None, drop, length, min, slice_index, ◌+◌, ◌≡◌, ◌≤◌, ◌<◌};
-ghost use Rattle.fc_image.specs.Paths.{at_offset, cost_of, costs, longest};
+ghost use Rattle.std.specs.Prelude.{ℕ, List, Some, None, drop, false, length, min, slice_index, ◌+◌, ◌≡◌, ◌≤◌, ◌<◌};
+ghost use Rattle.fc_isa.specs.Flow.{flow, landing};
+ghost use Rattle.fc_image.specs.Loops.{loop_if, loops_of};
+ghost use Rattle.fc_image.specs.Paths.{along, cost_in, later, looped, own_cost, turns};
+ghost use Rattle.fc_image.specs.Tables.{AreLow, IsLow, headed};
 
 use crate::flow::target;
+use crate::loops::{Loop, loop_at};
 use crate::table::SLOTS;
 use fc_isa::Insn;
 
 /// More steps than any budget allows: costs are counted up to it.
 const TOO_MANY: u32 = 65_537;
 
-/// The steps of the longest path from slot 0, or 65,537 where it has more.
-pub(crate) fn longest_cost(code: &[Insn]) -> u32
+/// The steps of the longest path from slot 0, or 65,537 where it has more. Counted loops are allowed, or aren't.
+pub(crate) fn longest_cost(code: &[Insn], allowed: bool) -> u32
     requires { length code.now ≤ 1024 }
-    ensures { result ≡ min 65537 (longest code.now) }
+    ensures { result ≡ min 65537 (cost_in code.now (loops_of allowed code.now) 0) }
 {
     let mut costs = [0; SLOTS];
+    let mut heads = [None; SLOTS];
     let mut slot = code.len();
     while slot > 0 {
         slot -= 1;
-        costs[slot] = steps(&costs, slot, &code[slot]).min(TOO_MANY);
+        let insn = &code[slot];
+        let ending = loop_if(allowed, code, slot, insn);
+        put_head(&mut heads, &ending);
+        let own = own_steps(&costs, slot, &ending, insn);
+        costs[slot] = steps(&costs, slot, &heads[slot], own).min(TOO_MANY);
     }
     costs[0]
 }
 
-/// The steps of the longest path from a slot, given those of the later slots.
-fn steps(costs: &[u32; SLOTS], slot: usize, insn: &Insn) -> u32
+/// The loop whose jump back an instruction is, where loops are allowed.
+fn loop_if(allowed: bool, code: &[Insn], slot: usize, insn: &Insn) -> Option<Loop>
+    requires count { length code.now ≤ 1024 }
+    requires slot { slot < length code.now }
+    ensures counted { result ≡ loop_if allowed code.now slot insn.now }
+    ensures low { AreLow slot result }
+{
+    if allowed {
+        loop_at(code, slot, insn)
+    } else {
+        None
+    }
+}
+
+/// Keeps a loop by its head.
+fn put_head(heads: &mut [Option<Loop>; SLOTS], ending: &Option<Loop>)
+    requires { AreLow 1024 ending.now }
+    ensures { heads.new ≡ headed heads.old ending.now }
+{
+    if let Some(counted) = ending {
+        heads[counted.head] = Some(*counted);
+    }
+}
+
+/// The steps from an instruction on to the end of its body, or function, given the costs of the later slots.
+fn own_steps(costs: &[u32; SLOTS], slot: usize, ending: &Option<Loop>, insn: &Insn) -> u32
     requires slot { slot < 1024 }
     requires capped { (k : ℕ) → slice_index costs.now k ≤ 65537 }
-    ensures { result ≡ cost_of insn.now (drop (slot + 1) costs.now) }
+    ensures steps { result ≡ own_cost (later (drop (slot + 1) costs.now) slot) ending.now (flow slot insn.now) }
+    ensures few { result ≤ 131075 }
 {
-    let next = at(costs, slot + 1);
+    match ending {
+        Some(_) => 1,
+        None => steps_along(costs, slot, insn),
+    }
+}
+
+fn steps_along(costs: &[u32; SLOTS], slot: usize, insn: &Insn) -> u32
+    requires slot { slot < 1024 }
+    requires capped { (k : ℕ) → slice_index costs.now k ≤ 65537 }
+    ensures steps { result ≡ along (later (drop (slot + 1) costs.now) slot) (flow slot insn.now) }
+    ensures few { result ≤ 131075 }
+{
+    let next = at(costs, slot, slot + 1);
     match insn {
         Insn::Exit | Insn::WideSecond => 1,
-        Insn::JumpAlways { offset } => 1 + cost_at(costs, slot, *offset as i32),
-        Insn::JumpAlwaysLong { offset } => 1 + cost_at(costs, slot, *offset),
-        Insn::JumpIf(jump) => 1 + cost_at(costs, slot, jump.offset as i32).max(next),
-        Insn::CallLocal { offset } => 1 + (cost_at(costs, slot, *offset) + next),
-        Insn::LoadWide { .. } => 1 + at(costs, slot + 2),
+        Insn::JumpAlways { offset } => 1 + at(costs, slot, landing(slot, *offset as i32)),
+        Insn::JumpAlwaysLong { offset } => 1 + at(costs, slot, landing(slot, *offset)),
+        Insn::JumpIf(jump) => 1 + at(costs, slot, landing(slot, jump.offset as i32)).max(next),
+        Insn::CallLocal { offset } => 1 + (at(costs, slot, landing(slot, *offset)) + next),
+        Insn::LoadWide { .. } => 1 + at(costs, slot, slot + 2),
         Insn::Alu { .. } | Insn::Neg { .. } | Insn::SignExtend { .. } | Insn::End { .. } => 1
             + next,
         Insn::Load { .. } | Insn::StoreImm { .. } | Insn::Store { .. } => 1 + next,
@@ -44,23 +90,45 @@ fn steps(costs: &[u32; SLOTS], slot: usize, insn: &Insn) -> u32
     }
 }
 
-/// The cost at an offset from the next slot, 0 where the offset is negative.
-fn cost_at(costs: &[u32; SLOTS], slot: usize, offset: i32) -> u32
+/// The steps where a path comes to a slot: at a loop's head those of all turns, and what comes behind the loop.
+fn steps(costs: &[u32; SLOTS], slot: usize, beginning: &Option<Loop>, own: u32) -> u32
     requires slot { slot < 1024 }
     requires capped { (k : ℕ) → slice_index costs.now k ≤ 65537 }
-    ensures cost { result ≡ at_offset (drop (slot + 1) costs.now) offset }
-    ensures capped { result ≤ 65537 }
+    requires few { own ≤ 131075 }
+    requires low { AreLow 1024 beginning.now }
+    ensures { result ≡ looped (later (drop (slot + 1) costs.now) slot) beginning.now own }
 {
-    match target(slot, offset) {
-        Some(place) if place > slot => at(costs, place),
-        _ => 0,
+    match beginning {
+        Some(counted) => turns(counted) * own + at(costs, slot, counted.last + 1),
+        None => own,
     }
 }
 
-fn at(costs: &[u32; SLOTS], place: usize) -> u32
+/// How often a path goes through a body.
+fn turns(counted: &Loop) -> u32
+    requires { IsLow 1024 counted.now }
+    ensures turns { result ≡ turns counted.now }
+    ensures few { result ≤ 1024 }
+{
+    1 + (counted.bound - 1) / counted.step
+}
+
+/// The slot that an offset leads to.
+fn landing(slot: usize, offset: i32) -> usize
+    requires { slot < 1024 }
+    ensures { result ≡ landing slot offset }
+{
+    target(slot, offset).unwrap_or(slot)
+}
+
+/// The cost at a later slot, or 0.
+fn at(costs: &[u32; SLOTS], slot: usize, place: usize) -> u32
     requires { (k : ℕ) → slice_index costs.now k ≤ 65537 }
-    ensures cost { result ≡ slice_index costs.now place }
+    ensures cost { result ≡ later (drop (slot + 1) costs.now) slot place }
     ensures capped { result ≤ 65537 }
 {
+    if place <= slot {
+        return 0;
+    }
     costs.get(place).copied().unwrap_or(0)
 }

@@ -4,7 +4,7 @@ ghost use Rattle.fc_isa.specs.Rules.{number_of};
 ghost use Rattle.fc_isa.specs.declared.insn.Insn.{Insn};
 ghost use Rattle.fc_image.specs.Head.{Head, IsHead, KeepsHead, head_bytes, head_fault, head_rules, stated};
 ghost use Rattle.fc_image.specs.Laws.{FirstShapeFaultIsFound, ShapeFaultIsFirst, ShapeFaultIsLow, ShapedProgramsGoForward, ShapedProgramsGoOn, FramesBeginWithOne};
-ghost use Rattle.fc_image.specs.LoopLaws.{ShapedLoopsAreLoops};
+ghost use Rattle.fc_image.specs.LoopLaws.{LoopsHaveLongestPaths, ShapedLoopsAreLoops};
 ghost use Rattle.fc_image.specs.Paths.{IsLongest, longest};
 ghost use Rattle.fc_image.specs.ShapeRules.{IsShaped, KeepsLimits, flow_rules, shape_fault};
 
@@ -39,6 +39,12 @@ pub fn shaped_programs_go_on()
 /// leaves it by its jump, and each counts up to its bound.
 pub fn shaped_loops_are_loops()
     ensures { ShapedLoopsAreLoops }
+{}
+
+/// A program with counted loops that keeps the rules of the control flow has a longest path, through each body as often as its
+/// loop turns.
+pub fn longest_path_turns()
+    ensures { LoopsHaveLongestPaths }
 {}
 
 /// The fault of a program's shape is the least slot that breaks the first rule that is broken, one below 20.

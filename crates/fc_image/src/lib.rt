@@ -18,6 +18,7 @@ mod functions;
 pub mod header;
 pub mod laws;
 pub mod limits;
+pub mod loops;
 mod table;
 
 pub use control_flow::shape;

@@ -35,7 +35,7 @@ impl Tables {
             starts,
             counts,
             frames,
-            cost: longest_cost(code),
+            cost: longest_cost(code, false),
         }
     }
 }

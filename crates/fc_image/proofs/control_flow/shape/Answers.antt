@@ -1,7 +1,7 @@
 use Rattle.std.proofs.Common.{◌≡◌, None, sym, subst, arith}
 use Rattle.fc_image.specs.Paths.{IsLongest, longest}
-use Rattle.fc_image.specs.ShapeRules.{KeepsLimits, shape_fault}
-use Rattle.fc_image.proofs.PathLaws.{longest_is}
+use Rattle.fc_image.specs.ShapeRules.{shape_fault, KeepsLimits}
+use Rattle.fc_image.proofs.Straight.{longest_is}
 use Rattle.fc_image.proofs.ShapeLaws.{faultless}
 use Rattle.fc_image.proofs.control_flow.shape.Goals as goal
 
