@@ -56,7 +56,7 @@ FitsStage job slot other = Unit {0}
 -- a program whose every run has a meaning, and whose cost is that of its longest path
 pub record IsSafe (p : Program) : Type 0 where
   pub runs : IsRunnable p
-  pub longest : IsLongest p.code p.cost
+  pub longest : IsLongest p.version p.code p.cost
 
 -- a program in a slot is safe, and its variables have its size
 pub record FitsPresent (p : Present) : Type 0 where

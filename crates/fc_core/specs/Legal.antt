@@ -73,7 +73,7 @@ IsLegal (Then h r) = Emits (seen h) r.event r.emitted × IsLegal h
 -- the steps of the longest path, which are at most the budget
 pub record IsMeant (t : Ticket) : Type 0 where
   pub run : IsRun t.found.program (input_of t)
-  pub longest : IsLongest t.found.program.code t.found.program.cost
+  pub longest : IsLongest t.found.program.version t.found.program.code t.found.program.cost
   pub cost : t.found.program.cost ≤ t.found.program.budget
 
 -- what a job finds in its slot at this serial, if it is a program, has a meaning for the job's request and these readings

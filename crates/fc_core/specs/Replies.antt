@@ -22,7 +22,7 @@ abbrev pub link_format : List (ℕ × List ℕ)
 link_format = (option.CONTENT_FORMAT, 40 ∷ []) ∷ []
 
 -- what a job's response is, by its answer: 2.01 Created, 2.02 Deleted, 2.03 Valid, 2.04 Changed, 2.05 Content, 4.00 Bad Request,
--- 4.04 Not Found, 5.03 Service Unavailable. A refusal by typing names any rule from 20 to 27, and any slot
+-- 4.04 Not Found, 5.03 Service Unavailable. A refusal by typing names any rule from 20 to 28, and any slot
 abbrev pub Says : Job → Content → Response → Type 0
 Says j (Ran run) r = r ≡ ran_response run.code run.cut run.serial run.observed
 Says j Missing r = r ≡ bare (code 4 4)
@@ -30,7 +30,7 @@ Says j Unavailable r = r ≡ bare (code 5 3)
 Says j (Made receipt true) r = r ≡ made_response (code 2 1) j receipt
 Says j (Made receipt false) r = r ≡ made_response (code 2 4) j receipt
 Says j (Rejected rule slot) r = r ≡ text (code 4 0) (fault_text (number_of rule) slot)
-Says j Untyped r = (number : ℕ) × (slot : ℕ) × (20 ≤ number) × (number ≤ 27) × (r ≡ text (code 4 0) (fault_text number slot))
+Says j Untyped r = (number : ℕ) × (slot : ℕ) × (20 ≤ number) × (number ≤ 28) × (r ≡ text (code 4 0) (fault_text number slot))
 Says j (Valid serial) r = r ≡ record { code = code 2 3; options = etag serial; payload = [] }
 Says j Deleted r = r ≡ bare (code 2 2)
 Says j (Described receipt) r = r ≡ content [] (cut_for j.block (receipt_text receipt))

@@ -13,7 +13,7 @@ use Rattle.fc_image.specs.Flow.{IsForward}
 use Rattle.fc_image.specs.Functions.{is_at, calls, is_called, is_start, starts_within, depths, frames}
 use Rattle.fc_image.specs.Laws.{cost_at, frames_at, IsNearer, LeadsNearer}
 use Rattle.fc_image.specs.Paths.{along}
-use Rattle.fc_image.specs.ShapeRules.{is_place, is_instruction, is_later, leaves, IsShapedBy, IsShaped}
+use Rattle.fc_image.specs.ShapeRules.{is_place, is_instruction, is_later, leaves, IsShapedBy}
 use Rattle.fc_image.proofs.FunctionTables.{length-depths, depth_is, rest_of}
 use Rattle.fc_image.proofs.PathLaws.{offset_lands, not_true, first_false, second_false, placed, forward}
 use Rattle.fc_image.proofs.Straight.{cost_along}
@@ -171,13 +171,13 @@ record Known (code : List Insn) (slot : ℕ) (f : Flow) : Type 0 where
   forward : IsForward (length code) slot f
   cost : cost_at code slot ≡ along (cost_at code) f
 
-cost_there : (code : List Insn) (slot : ℕ) (insn : Insn) → IsShaped code → slice_get code slot ≡ Some insn → Known code slot (flow slot insn)
+cost_there : (code : List Insn) (slot : ℕ) (insn : Insn) → IsShapedBy false code → slice_get code slot ≡ Some insn → Known code slot (flow slot insn)
 cost_there code slot insn s g = record { forward = forward code slot insn s g; cost = cost_along code slot insn s g }
 
 step_next : (code : List Insn) (slot : ℕ) (insn : Insn) (a : Bool) → slice_get code slot ≡ Some insn → Known code slot (Goes (slot + 1)) → (a || is_start code (slot + 1)) ≡ false → IsNearer code slot (slot + 1)
 step_next code slot insn a g k e = let c = k.cost in (omega (arith, c), next_frames code slot insn a g e)
 
-pub nearer : (code : List Insn) (slot : ℕ) (insn : Insn) → IsShaped code → is_program code ≡ true → slice_get code slot ≡ Some insn → LeadsNearer code slot (flow slot insn)
+pub nearer : (code : List Insn) (slot : ℕ) (insn : Insn) → IsShapedBy false code → is_program code ≡ true → slice_get code slot ≡ Some insn → LeadsNearer code slot (flow slot insn)
 nearer code slot (JumpAlways o) s p g =
     let k = cost_there code slot (JumpAlways o) s g in
     let c = k.cost in

@@ -9,7 +9,7 @@ use Rattle.fc_isa.specs.declared.insn.Insn.{Insn}
 use Rattle.fc_isa.specs.declared.insn.Insn.TheVariants.{JumpIf}
 use Rattle.fc_image.specs.declared.loops.Loop.{Loop}
 use Rattle.fc_image.specs.Loops.{bound_of, step_of, loop_at, loop_if, and_loop, loops_from, loops_of, begins, ends}
-use Rattle.fc_image.specs.Tables.{IsLow, AreLow, headed}
+use Rattle.fc_image.specs.Tables.{IsLow, AreLow, AreHeads, headed}
 use Rattle.fc_image.proofs.CostTable.{drop_at}
 use Rattle.fc_image.proofs.LoopForm.{bound_is, step_is, loop_by_is, if_at}
 
@@ -113,13 +113,13 @@ ends_here allowed code slot insn e = ends_from allowed code slot slot (omega ari
 
 -- ---- the table
 
--- a loop that there is for each of 1,024 slots where one begins, of those that end from a slot on
-pub record AreHeads (allowed : Bool) (code : List Insn) (slot : ℕ) (heads : List (Option Loop)) : Type 0 where
+-- a place for each of 1,024 slots: the loop that begins there, of those that end from a slot on
+pub record AreHeadsFrom (allowed : Bool) (code : List Insn) (slot : ℕ) (heads : List (Option Loop)) : Type 0 where
   pub count : length heads ≡ 1024
   pub each : (h : ℕ) → h < 1024 → get_or heads h None ≡ begins (From allowed code slot) h
   pub low : (h : ℕ) → AreLow 1024 (get_or heads h None)
 
-pub heads_more : (allowed : Bool) (code : List Insn) (slot : ℕ) (insn : Insn) (heads : List (Option Loop)) → slot < 1024 → slice_get code slot ≡ Some insn → AreHeads allowed code (suc slot) heads → AreHeads allowed code slot (headed heads (loop_if allowed code slot insn))
+pub heads_more : (allowed : Bool) (code : List Insn) (slot : ℕ) (insn : Insn) (heads : List (Option Loop)) → slot < 1024 → slice_get code slot ≡ Some insn → AreHeadsFrom allowed code (suc slot) heads → AreHeadsFrom allowed code slot (headed heads (loop_if allowed code slot insn))
 heads_more allowed code slot insn heads few stands t = go (loop_if allowed code slot insn) refl
   where
     rest : List Loop
@@ -128,7 +128,7 @@ heads_more allowed code slot insn heads few stands t = go (loop_if allowed code 
     is : From allowed code slot ≡ and_loop (loop_if allowed code slot insn) rest
     is = from_here allowed code slot insn stands
 
-    go : (o : Option Loop) → loop_if allowed code slot insn ≡ o → AreHeads allowed code slot (headed heads o)
+    go : (o : Option Loop) → loop_if allowed code slot insn ≡ o → AreHeadsFrom allowed code slot (headed heads o)
     go None e = record { count = t.count; each = λ h lt. t.each h lt ∙ ap (λ l. begins l h) (sym (is ∙ ap (λ o. and_loop o rest) e)); low = t.low }
     go (Some l) e =
         let x = here allowed code slot insn l e in
@@ -154,16 +154,22 @@ heads_more allowed code slot insn heads few stands t = go (loop_if allowed code 
           ];
         }
 
--- the loop that begins at a slot, when it is come to
-pub head_is : (allowed : Bool) (code : List Insn) (slot : ℕ) (heads : List (Option Loop)) → slot < 1024 → AreHeads allowed code slot heads → get_or heads slot None ≡ begins (loops_of allowed code) slot
-head_is allowed code slot heads few t = t.each slot few ∙ sym (begins_from allowed code slot slot (omega arith))
+-- of all
+pub heads_are : (allowed : Bool) (code : List Insn) (heads : List (Option Loop)) → AreHeadsFrom allowed code 0 heads → AreHeads (loops_of allowed code) heads
+heads_are allowed code heads t = record { count = t.count; each = λ h lt. t.each h lt ∙ sym (begins_from allowed code 0 h (omega arith)); low = t.low }
+
+-- what stands for a table's members past the end doesn't count
+pub default_in : (xs : List (Option Loop)) (i : ℕ) (d e : Option Loop) → i < length xs → get_or xs i d ≡ get_or xs i e
+default_in [] i d e lt = absurd (omega (arith, lt))
+default_in (x ∷ xs) zero d e lt = refl
+default_in (x ∷ xs) (suc i) d e lt = default_in xs i d e (omega (arith, lt))
 
 pub none_in : (n h : ℕ) → get_or {A = Option Loop} (replicate n None) h None ≡ None
 none_in zero h = refl
 none_in (suc n) zero = refl
 none_in (suc n) (suc h) = none_in n h
 
-pub heads_first : (allowed : Bool) (code : List Insn) (heads : List (Option Loop)) (slot : ℕ) → length code ≤ slot → length heads ≡ 1024 → ((h : ℕ) → get_or heads h None ≡ None) → AreHeads allowed code slot heads
+pub heads_first : (allowed : Bool) (code : List Insn) (heads : List (Option Loop)) (slot : ℕ) → length code ≤ slot → length heads ≡ 1024 → ((h : ℕ) → get_or heads h None ≡ None) → AreHeadsFrom allowed code slot heads
 heads_first allowed code heads slot ge size none = record {
   count = size;
   each = λ h lt. none h ∙ ap (λ l. begins l h) (sym (empty_from allowed code slot ge));

@@ -2,7 +2,7 @@ pub mod Kept
 pub mod Written
 pub mod Restated
 pub mod CostTable
-mod HeadTable
+pub mod HeadTable
 pub mod FunctionTables
 pub mod ShapeLaws
 pub mod PathLaws
@@ -11,5 +11,5 @@ pub mod Attained
 pub mod Straight
 pub mod FrameLaws
 mod Rows
-mod LoopForm
+pub mod LoopForm
 mod LoopLaws

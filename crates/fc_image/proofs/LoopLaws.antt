@@ -22,6 +22,12 @@ use Rattle.fc_image.specs.declared.loops.Loop.{Loop}
 use Rattle.fc_image.specs.Loops.{is_in, is_exit, crosses, spoils, is_undisturbed, loop_if, loops_of, ends, some_insn, body, is_written, has_call}
 use Rattle.fc_image.specs.LoopLaws.{LeadsTo, Calls, JumpsBack, IsLoop, IsBack, IsOnward, AreLoops, AreBodies, IsCounter, AreCounters, ShapedLoopsAreLoops}
 use Rattle.fc_image.specs.ShapeRules.{is_instruction, is_place, is_later, leaves, leads_back, IsShapedBy}
+use Rattle.fc_isa.specs.declared.version.ImageVersion.{ImageVersion}
+use Rattle.fc_image.specs.Head.{loops_allowed}
+use Rattle.fc_image.specs.Loops.{loops_in}
+use Rattle.fc_image.specs.Paths.{IsLongest, longest}
+use Rattle.fc_image.specs.ShapeRules.{IsShaped}
+use Rattle.fc_image.proofs.Attained.{longest_in}
 use Rattle.fc_image.proofs.PathLaws.{not_true, first_false, second_false, placed, lands, goes_on}
 use Rattle.fc_image.proofs.FrameLaws.{second_half, no_half, stay_frames, call_frames, jump_frames, first_and_added}
 use Rattle.fc_image.proofs.LoopForm.{IsJump, has_jump, is_among, loop_last, calm, IsAside, aside, nested, begins_first, ends_last}
@@ -536,3 +542,9 @@ has_loops allowed code n p s = record {
     enters = λ slot t insn g h. frames_enter allowed code slot t insn s g h;
   };
 }
+
+-- ---- the longest path
+
+pub longest_is : (version : ImageVersion) (code : List Insn) → 0 < length code → is_program code ≡ true → IsShaped version code → IsLongest version code (longest version code)
+unfolding longest
+longest_is version code some p s = longest_in code (loops_in version code) some (bodies (loops_allowed version) code p s)

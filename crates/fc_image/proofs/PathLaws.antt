@@ -10,7 +10,7 @@ use Rattle.fc_isa.specs.declared.rule.Rule.TheVariants.{JumpTarget, BackwardJump
 use Rattle.fc_isa.specs.Flow.{target, landing, flow}
 use Rattle.fc_image.specs.Flow.{IsLater, IsForward}
 use Rattle.fc_image.specs.Functions.{at_offset, is_start}
-use Rattle.fc_image.specs.ShapeRules.{is_instruction, is_place, is_later, IsShaped}
+use Rattle.fc_image.specs.ShapeRules.{is_instruction, is_place, is_later, IsShapedBy}
 
 -- ---- where a shaped program's instructions lead
 
@@ -54,7 +54,7 @@ goes_on code slot next starts lt e =
     let t = not_true (nat_lt next (length code)) (first_false (not (nat_lt next (length code))) starts e) in
     (lt, grind (arith, nat_tests, t))
 
-pub forward : (code : List Insn) (slot : ℕ) (insn : Insn) → IsShaped code → slice_get code slot ≡ Some insn → IsForward (length code) slot (flow slot insn)
+pub forward : (code : List Insn) (slot : ℕ) (insn : Insn) → IsShapedBy false code → slice_get code slot ≡ Some insn → IsForward (length code) slot (flow slot insn)
 forward code slot (JumpAlways o) s e = lands code slot o (first_false _ false (s.each JumpTarget slot (JumpAlways o) e)) (s.each BackwardJump slot (JumpAlways o) e)
 forward code slot (JumpAlwaysLong o) s e = lands code slot o (first_false _ false (s.each JumpTarget slot (JumpAlwaysLong o) e)) (s.each BackwardJump slot (JumpAlwaysLong o) e)
 forward code slot (JumpIf j) s e = (

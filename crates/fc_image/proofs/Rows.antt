@@ -30,12 +30,12 @@ abbrev caller : Insn
 caller = CallLocal (pos 1)
 
 -- a way that is taken is shorter than the one that goes on
-branch_costs_five : longest (jgt 4 ∷ mov ∷ mov ∷ mov ∷ Exit ∷ mov ∷ Exit ∷ []) ≡ 5
+branch_costs_five : longest One (jgt 4 ∷ mov ∷ mov ∷ mov ∷ Exit ∷ mov ∷ Exit ∷ []) ≡ 5
 unfolding longest cost_in loops_of costs
 branch_costs_five = refl
 
 -- a function that is called twice is counted twice
-callee_counts_twice : longest (CallLocal (pos 2) ∷ CallLocal (pos 1) ∷ Exit ∷ mov ∷ Exit ∷ []) ≡ 7
+callee_counts_twice : longest One (CallLocal (pos 2) ∷ CallLocal (pos 1) ∷ Exit ∷ mov ∷ Exit ∷ []) ≡ 7
 unfolding longest cost_in loops_of costs
 callee_counts_twice = refl
 

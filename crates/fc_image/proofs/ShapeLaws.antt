@@ -8,7 +8,7 @@ use Rattle.fc_isa.specs.declared.rule.Rule.TheVariants.{JumpTarget, BackwardJump
 use Rattle.std.specs.List.{AllByRecursion}
 use Rattle.fc_isa.specs.Rules.{number_of}
 use Rattle.fc_image.specs.Functions.{frames}
-use Rattle.fc_image.specs.Head.{Head, frames_allowed}
+use Rattle.fc_image.specs.Head.{Head, frames_allowed, loops_allowed}
 use Rattle.fc_image.specs.Paths.{longest}
 use Rattle.fc_image.specs.ShapeRules.{breaks_flow, breaks_shape, KeepsLimits, IsShapeFault, KeepsRule, least, or_next, first_broken, flow_rules, shape_fault}
 use Rattle.fc_image.proofs.CostTable.{drop_at}
@@ -193,7 +193,7 @@ kept_by_all head code h Cost = h.1.1.1.1.1.0
 kept_by_all head code h Helper = h.1.1.1.1.1.1.0
 kept_by_all head code h _ = record { each = λ k i g. refl }
 
-flow_kept : (head : Head) (code : List Insn) (rule : Rule) → KeepsRule head code rule → (slot : ℕ) (insn : Insn) → slice_get code slot ≡ Some insn → breaks_flow false code slot insn rule ≡ false
+flow_kept : (head : Head) (code : List Insn) (rule : Rule) → KeepsRule head code rule → (slot : ℕ) (insn : Insn) → slice_get code slot ≡ Some insn → breaks_flow (loops_allowed head.version) code slot insn rule ≡ false
 unfolding breaks_shape
 flow_kept head code Cost h slot insn g = refl
 flow_kept head code JumpTarget h slot insn g = h.each slot insn g
@@ -208,9 +208,9 @@ first_insn : (code : List Insn) → 0 < length code → (insn : Insn) × (slice_
 first_insn [] h = absurd (omega arith)
 first_insn (insn ∷ code) h = (insn, refl)
 
-within_budget : (head : Head) (code : List Insn) → 0 < length code → KeepsRule head code Cost → longest code ≤ head.budget
+within_budget : (head : Head) (code : List Insn) → 0 < length code → KeepsRule head code Cost → longest head.version code ≤ head.budget
 unfolding breaks_shape
-within_budget head code some h = let i = first_insn code some in let e : nat_lt head.budget (longest code) ≡ false = h.each 0 i.0 i.1 in grind (arith, nat_tests, e)
+within_budget head code some h = let i = first_insn code some in let e : nat_lt head.budget (longest head.version code) ≡ false = h.each 0 i.0 i.1 in grind (arith, nat_tests, e)
 
 frames_within : (head : Head) (code : List Insn) → 0 < length code → KeepsRule head code FrameDepth → frames code ≤ frames_allowed head.version
 unfolding breaks_shape
@@ -239,7 +239,7 @@ not_above n most slot le = go (slot == 0) (nat_lt most n) (grind (arith, nat_tes
 
 all_kept : (head : Head) (code : List Insn) → KeepsLimits head code → (rule : Rule) → KeepsRule head code rule
 unfolding breaks_shape
-all_kept head code k Cost = record { each = λ slot insn g. not_above (longest code) head.budget slot k.within }
+all_kept head code k Cost = record { each = λ slot insn g. not_above (longest head.version code) head.budget slot k.within }
 all_kept head code k JumpTarget = record { each = k.shaped.each JumpTarget }
 all_kept head code k BackwardJump = record { each = k.shaped.each BackwardJump }
 all_kept head code k Boundary = record { each = k.shaped.each Boundary }

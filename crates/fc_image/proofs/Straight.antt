@@ -1,5 +1,5 @@
 -- A shaped program without loops: its bodies are none, and its costs fall from slot to slot.
-use Rattle.std.proofs.Common.{◌≡◌, ℕ, suc, ◌<◌, false, Some, None, List, [], ◌∷◌, length, refl, sym, ap, ◌∙◌, subst}
+use Rattle.std.proofs.Common.{◌≡◌, ℕ, suc, false, Some, None, List, [], ◌∷◌, length, refl, sym, ap, ◌∙◌, subst}
 use Rattle.std.specs.Prelude.{slice_get}
 use Rattle.std.proofs.lemmas.Option.{slice_get_within}
 use Rattle.fc_isa.specs.declared.insn.Insn.{Insn}
@@ -8,9 +8,8 @@ use Rattle.fc_image.specs.Flow.{flow_at}
 use Rattle.fc_image.specs.Laws.{cost_at}
 use Rattle.fc_image.specs.LoopLaws.{AreBodies}
 use Rattle.fc_image.specs.Loops.{loops_from, loops_of, begins, ends}
-use Rattle.fc_image.specs.Paths.{along, looped, own_by, own, cost_in, IsLongestIn, longest}
-use Rattle.fc_image.specs.ShapeRules.{IsShaped}
-use Rattle.fc_image.proofs.Attained.{longest_in}
+use Rattle.fc_image.specs.Paths.{along, looped, own_by, own, cost_in}
+use Rattle.fc_image.specs.ShapeRules.{IsShapedBy}
 use Rattle.fc_image.proofs.Costs.{cost_is, flow_here}
 use Rattle.fc_image.proofs.PathLaws.{forward}
 
@@ -23,7 +22,7 @@ pub no_loops : (code : List Insn) → loops_of false code ≡ []
 unfolding loops_of
 no_loops code = none_from code 0 code
 
-no_bodies : (code : List Insn) → IsShaped code → AreBodies code []
+no_bodies : (code : List Insn) → IsShapedBy false code → AreBodies code []
 no_bodies code s = record {
   order = λ i l g. absurd (cc g);
   jumps = λ i l g. absurd (cc g);
@@ -40,11 +39,11 @@ no_bodies code s = record {
   goes = λ i k t l f g e h from upto z. absurd (cc g);
 }
 
-pub bodies_of : (code : List Insn) → IsShaped code → AreBodies code (loops_of false code)
+pub bodies_of : (code : List Insn) → IsShapedBy false code → AreBodies code (loops_of false code)
 bodies_of code s = subst (AreBodies code) (sym (no_loops code)) (no_bodies code s)
 
 -- the cost of a slot, by the costs of the slots that it leads to
-pub cost_along : (code : List Insn) (slot : ℕ) (insn : Insn) → IsShaped code → slice_get code slot ≡ Some insn → cost_at code slot ≡ along (cost_at code) (flow slot insn)
+pub cost_along : (code : List Insn) (slot : ℕ) (insn : Insn) → IsShapedBy false code → slice_get code slot ≡ Some insn → cost_at code slot ≡ along (cost_at code) (flow slot insn)
 cost_along code slot insn s g =
     let loops = loops_of false code in
     let none = no_loops code in
@@ -54,7 +53,3 @@ cost_along code slot insn s g =
     ∙ ap (λ o. looped (cost_in code loops) o (own code loops slot)) begin
     ∙ ap (λ o. own_by (cost_in code loops) o (flow_at code slot)) end
     ∙ ap (own_by (cost_in code loops) None) (flow_here code slot insn g)
-
-pub longest_is : (code : List Insn) → 0 < length code → IsShaped code → IsLongestIn code (loops_of false code) (longest code)
-unfolding longest
-longest_is code some s = longest_in code (loops_of false code) some (bodies_of code s)

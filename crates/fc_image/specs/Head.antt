@@ -15,6 +15,11 @@ abbrev pub frames_allowed : ImageVersion → ℕ
 frames_allowed One = 4
 frames_allowed Two = 8
 
+-- the versions whose programs may have counted loops: none so far
+abbrev pub loops_allowed : ImageVersion → Bool
+loops_allowed One = false
+loops_allowed Two = false
+
 -- the version of the format, the size of the variables in bytes, the count of slots, and the budget of steps
 pub record Head : Type 0 where
   pub version : ImageVersion

@@ -10,12 +10,12 @@ use Rattle.fc_image.specs.Functions.{is_start, depths, frames}
 use Rattle.fc_image.specs.Head.{Head}
 use Rattle.fc_image.specs.Loops.{loops_of}
 use Rattle.fc_image.specs.Paths.{cost_in}
-use Rattle.fc_image.specs.ShapeRules.{IsShapeFault, IsShaped, shape_fault}
+use Rattle.fc_image.specs.ShapeRules.{IsShapeFault, IsShapedBy, shape_fault}
 
--- in a shaped program each instruction leads to later slots of the program
+-- in a shaped program without loops each instruction leads to later slots of the program
 abbrev pub ShapedProgramsGoForward : Type 0
 ShapedProgramsGoForward =
-    (code : List Insn) (slot : ℕ) (insn : Insn) → IsShaped code → slice_get code slot ≡ Some insn
+    (code : List Insn) (slot : ℕ) (insn : Insn) → IsShapedBy false code → slice_get code slot ≡ Some insn
     → IsForward (length code) slot (flow slot insn)
 
 -- the fault that is found is the least slot that breaks the first rule that is broken; it is found; its rule is below 20
@@ -57,10 +57,10 @@ LeadsNearer code slot (Enters start next) =
     (cost_at code start + cost_at code next < cost_at code slot) × (frames_at code start < frames_at code slot)
     × (frames_at code next ≤ frames_at code slot)
 
--- each step of a shaped program leads nearer to its end
+-- each step of a shaped program without loops leads nearer to its end
 abbrev pub ShapedProgramsGoOn : Type 0
 ShapedProgramsGoOn =
-    (code : List Insn) (slot : ℕ) (insn : Insn) → IsShaped code → is_program code ≡ true → slice_get code slot ≡ Some insn
+    (code : List Insn) (slot : ℕ) (insn : Insn) → IsShapedBy false code → is_program code ≡ true → slice_get code slot ≡ Some insn
     → LeadsNearer code slot (flow slot insn)
 
 -- the frames of a program are its first and those that calls add

@@ -10,9 +10,11 @@ use Rattle.fc_isa.specs.declared.insn.Operand.TheVariants.{Imm}
 use Rattle.fc_isa.specs.declared.insn.Jump.{Jump}
 use Rattle.fc_isa.specs.declared.insn.Insn.{Insn}
 use Rattle.fc_isa.specs.declared.insn.Insn.TheVariants.{Alu, JumpIf, Exit}
+use Rattle.fc_isa.specs.declared.version.ImageVersion.{ImageVersion}
 use Rattle.fc_isa.specs.Flow.{jump_offset, target, landing}
 use Rattle.fc_isa.specs.Writes.{is_call, writes}
 use Rattle.fc_image.specs.Functions.{with_offset}
+use Rattle.fc_image.specs.Head.{loops_allowed}
 use Rattle.fc_image.specs.declared.loops.Loop.{Loop}
 
 -- the bound of a jump where its register is below an immediate of 1 to 1,024
@@ -85,6 +87,10 @@ loops_from allowed code slot (insn ∷ rest) = and_loop (loop_if allowed code sl
 
 unfoldable pub loops_of : Bool → List Insn → List Loop
 loops_of allowed code = loops_from allowed code 0 code
+
+-- those of a program of an image's version
+abbrev pub loops_in : ImageVersion → List Insn → List Loop
+loops_in version code = loops_of (loops_allowed version) code
 
 -- the loop that begins at a slot, and the one whose jump back stands there
 abbrev pub begins : List Loop → ℕ → Option Loop

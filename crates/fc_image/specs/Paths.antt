@@ -1,10 +1,11 @@
 -- Paths through a program with counted loops, and the steps of its longest one.
-use Rattle.std.specs.Prelude.{◌≡◌, ℕ, zero, suc, ◌+◌, ◌-◌, ◌*◌, ◌/◌, ◌≤◌, ◌⊎◌, nat_lt, if◌then◌else◌, false, max, List, [], ◌∷◌, Option, Some, None, slice_index}
+use Rattle.std.specs.Prelude.{◌≡◌, ℕ, zero, suc, ◌+◌, ◌-◌, ◌*◌, ◌/◌, ◌≤◌, ◌⊎◌, nat_lt, if◌then◌else◌, max, List, [], ◌∷◌, Option, Some, None, slice_index}
 use Rattle.fc_isa.specs.declared.insn.Insn.{Insn}
+use Rattle.fc_isa.specs.declared.version.ImageVersion.{ImageVersion}
 use Rattle.fc_isa.specs.Flow.{Flow, Halts, Goes, Forks, Enters, flow}
 use Rattle.fc_image.specs.Flow.{flow_at}
 use Rattle.fc_image.specs.declared.loops.Loop.{Loop}
-use Rattle.fc_image.specs.Loops.{loops_of, begins, ends}
+use Rattle.fc_image.specs.Loops.{loops_in, begins, ends}
 
 -- how often a path goes through a body, each time that it comes to its head from outside
 abbrev pub turns : Loop → ℕ
@@ -60,9 +61,9 @@ pub record IsLongestIn (code : List Insn) (loops : List Loop) (steps : ℕ) : Ty
   pub path : IsPath code loops steps 0 (opened loops 0 [])
   pub greatest : (n : ℕ) → IsPath code loops n 0 (opened loops 0 []) → n ≤ steps
 
--- where no loops are allowed
-abbrev pub IsLongest : List Insn → ℕ → Type 0
-IsLongest code steps = IsLongestIn code (loops_of false code) steps
+-- through the loops that a version of the format allows
+abbrev pub IsLongest : ImageVersion → List Insn → ℕ → Type 0
+IsLongest version code steps = IsLongestIn code (loops_in version code) steps
 
 -- ---- the same as a function, from the last slot back
 
@@ -104,8 +105,8 @@ costs loops slot (insn ∷ code) = cost_and loops slot insn (costs loops (suc sl
 unfoldable pub cost_in : List Insn → List Loop → ℕ → ℕ
 cost_in code loops slot = slice_index (costs loops 0 code) slot
 
-unfoldable pub longest : List Insn → ℕ
-longest code = cost_in code (loops_of false code) 0
+unfoldable pub longest : ImageVersion → List Insn → ℕ
+longest version code = cost_in code (loops_in version code) 0
 
 -- ---- what is left of a path
 

@@ -3,13 +3,14 @@ use Rattle.std.specs.Prelude.{◌≡◌, ℕ, ◌+◌, ◌-◌, ◌<◌, ◌≤�
 use Rattle.std.specs.List.{AllByRecursion}
 use Rattle.fc_isa.specs.declared.insn.Insn.{Insn}
 use Rattle.fc_isa.specs.declared.insn.Insn.TheVariants.{CallHelper}
+use Rattle.fc_isa.specs.declared.version.ImageVersion.{ImageVersion}
 use Rattle.fc_isa.specs.declared.rule.Rule.{Rule}
 use Rattle.fc_isa.specs.declared.rule.Fault.{Fault}
 use Rattle.fc_isa.specs.declared.rule.Rule.TheVariants.{JumpTarget, BackwardJump, Boundary, BackwardCall, FrameDepth, Cost, Helper}
 use Rattle.fc_isa.specs.Program.{is_wide_second}
 use Rattle.fc_isa.specs.Flow.{jump_offset, call_offset, target}
 use Rattle.fc_image.specs.Functions.{with_offset, starts_within, is_open_end, frames}
-use Rattle.fc_image.specs.Head.{Head, frames_allowed}
+use Rattle.fc_image.specs.Head.{Head, frames_allowed, loops_allowed}
 use Rattle.fc_image.specs.Loops.{is_undisturbed, loop_if}
 use Rattle.fc_image.specs.Paths.{longest}
 
@@ -62,23 +63,23 @@ breaks_flow allowed code slot insn other = false
 -- and slot 0 has more frames than the header's version allows, or the longest path has more steps than its budget
 unfoldable pub breaks_shape : Head → List Insn → ℕ → Insn → Rule → Bool
 breaks_shape head code slot insn FrameDepth = (slot == 0) && nat_lt (frames_allowed head.version) (frames code)
-breaks_shape head code slot insn Cost = (slot == 0) && nat_lt head.budget (longest code)
-breaks_shape head code slot insn rule = breaks_flow false code slot insn rule
+breaks_shape head code slot insn Cost = (slot == 0) && nat_lt head.budget (longest head.version code)
+breaks_shape head code slot insn rule = breaks_flow (loops_allowed head.version) code slot insn rule
 
 -- no slot breaks a rule of the control flow, where counted loops are allowed, or aren't
 pub record IsShapedBy (allowed : Bool) (code : List Insn) : Type 0 where
   pub each :
       (rule : Rule) (slot : ℕ) (insn : Insn) → slice_get code slot ≡ Some insn → breaks_flow allowed code slot insn rule ≡ false
 
--- where they aren't
-abbrev pub IsShaped : List Insn → Type 0
-IsShaped code = IsShapedBy false code
+-- where they are allowed as a version of the format says
+abbrev pub IsShaped : ImageVersion → List Insn → Type 0
+IsShaped version code = IsShapedBy (loops_allowed version) code
 
 -- it is shaped, and its frames and its longest path are within what the header allows
 pub record KeepsLimits (head : Head) (code : List Insn) : Type 0 where
-  pub shaped : IsShaped code
+  pub shaped : IsShaped head.version code
   pub frames : frames code ≤ frames_allowed head.version
-  pub within : longest code ≤ head.budget
+  pub within : longest head.version code ≤ head.budget
 
 -- no slot breaks a rule
 pub record KeepsRule (head : Head) (code : List Insn) (rule : Rule) : Type 0 where

@@ -1,8 +1,9 @@
 -- The tables that a program's control flow is judged by.
-use Rattle.std.specs.Prelude.{◌≡◌, ℕ, zero, suc, ◌+◌, ◌<◌, ◌||◌, Bool, false, if◌then◌else◌, min, max, List, drop, slice_index, slice_index_or, slice_set, Option, Some, None, ◌≤◌}
+use Rattle.std.specs.Prelude.{◌≡◌, ℕ, zero, suc, ◌+◌, ◌<◌, ◌||◌, Bool, false, if◌then◌else◌, min, max, List, length, drop, slice_index, slice_index_or, slice_set, Option, Some, None, ◌≤◌}
 use Rattle.fc_isa.specs.declared.insn.Insn.{Insn}
 use Rattle.fc_image.specs.declared.loops.Loop.{Loop}
 use Rattle.fc_image.specs.Functions.{calls, frames_called, is_start}
+use Rattle.fc_image.specs.Loops.{begins}
 
 -- a flag for each of 1,024 slots: a function starts there
 pub record AreStarts (code : List Insn) (flags : List Bool) : Type 0 where
@@ -28,6 +29,12 @@ pub record IsLow (count : ℕ) (l : Loop) : Type 0 where
 abbrev pub AreLow : ℕ → Option Loop → Type 0
 AreLow count None = Unit {0}
 AreLow count (Some l) = IsLow count l
+
+-- a place for each of 1,024 slots: the loop that begins there
+pub record AreHeads (loops : List Loop) (heads : List (Option Loop)) : Type 0 where
+  pub count : length heads ≡ 1024
+  pub each : (slot : ℕ) → slot < 1024 → slice_index_or heads slot None ≡ begins loops slot
+  pub low : (slot : ℕ) → AreLow 1024 (slice_index_or heads slot None)
 
 -- the loops by their heads, with one more
 abbrev pub headed : List (Option Loop) → Option Loop → List (Option Loop)

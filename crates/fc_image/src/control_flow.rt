@@ -2,17 +2,19 @@
 ghost use Rattle.std.specs.Prelude.{IfErr, IfOk, List, MatchOption, None, Some, drop, false, length, not, slice_get, true, ℕ, ◌+◌, ◌-◌, ◌<◌, ◌||◌, ◌≡◌, ◌≤◌};
 ghost use Rattle.fc_isa.specs.declared.insn.Insn.{Insn as Instruction};
 ghost use Rattle.fc_isa.specs.Flow.{call_offset, jump_offset, target};
+ghost use Rattle.fc_isa.specs.Program.{is_program};
 ghost use Rattle.fc_image.specs.Functions.{frames, with_offset};
 ghost use Rattle.fc_image.specs.Head.{frames_allowed};
 ghost use Rattle.fc_image.specs.Judged.{AreTables};
 ghost use Rattle.fc_image.specs.Paths.{IsLongest, longest};
+ghost use Rattle.fc_image.specs.Tables.{AreCounts};
 ghost use Rattle.fc_image.specs.ShapeRules.{IsSame, IsShaped, breaks_back, breaks_shape, calls_no_helper, shape_fault, first_broken, is_later, is_place, least, leaves};
 
 use crate::flow::{call_offset, jump_offset, target};
 use crate::functions::{crosses, is_open_end};
-use crate::limits::Head;
+use crate::limits::{Head, loops_allowed};
 use crate::loops::is_counted;
-use crate::table::Tables;
+use crate::table::{SLOTS, Tables};
 use fc_isa::{Fault, Insn, Rule};
 
 /// Checks the control flow of a program of the header's count of slots, and gives its cost: the greatest number of steps on
@@ -22,15 +24,16 @@ use fc_isa::{Fault, Insn, Rule};
 /// The least rule, 11 to 17, that a slot breaks, with the least slot that breaks it.
 #[tactic(auto, unfolding(crate::specs::ShapeRules::shape_fault))]
 pub fn shape(head: &Head, code: &[Insn]) -> Result<u32, Fault>
-    requires { length code.now ≡ head.now.count }
-    ensures shape { IfOk result (λ cost. IsShaped code.now × (frames code.now ≤ frames_allowed head.now.version) × IsLongest code.now cost × (cost ≤ head.now.budget)) }
-    ensures cost { IfOk result (λ cost. (shape_fault head.now code.now ≡ None) × (cost ≡ longest code.now)) }
+    requires count { length code.now ≡ head.now.count }
+    requires whole { is_program code.now ≡ true }
+    ensures shape { IfOk result (λ cost. IsShaped head.now.version code.now × (frames code.now ≤ frames_allowed head.now.version) × IsLongest head.now.version code.now cost × (cost ≤ head.now.budget)) }
+    ensures cost { IfOk result (λ cost. (shape_fault head.now code.now ≡ None) × (cost ≡ longest head.now.version code.now)) }
     ensures fault { IfErr result (λ f. shape_fault head.now code.now ≡ Some (f.slot, f.rule)) }
 {
     // The checker learns from these calls how many slots there are at most, and how many steps.
     let _slots = head.count();
     let _steps = head.budget();
-    let tables = Tables::of(code);
+    let tables = Tables::of(head.version(), code);
     match first_broken(code, &tables, head, &FLOW_RULES) {
         Some(fault) => Err(fault),
         None => Ok(tables.cost),
@@ -50,7 +53,7 @@ const FLOW_RULES: [Rule; 7] = [
 
 /// The first of the rules that a slot breaks, with the least slot that breaks it.
 fn first_broken(code: &[Insn], tables: &Tables, head: &Head, rules: &[Rule]) -> Option<Fault>
-    requires tables { AreTables code.now tables.now }
+    requires tables { AreTables head.now.version code.now tables.now }
     requires count { length code.now ≤ 1024 }
     ensures { IsSame (first_broken head.now code.now rules.now) result }
 {
@@ -64,7 +67,7 @@ fn first_broken(code: &[Insn], tables: &Tables, head: &Head, rules: &[Rule]) -> 
 
 /// The least slot that breaks a rule.
 fn least(code: &[Insn], tables: &Tables, head: &Head, rule: Rule) -> Option<usize>
-    requires tables { AreTables code.now tables.now }
+    requires tables { AreTables head.now.version code.now tables.now }
     requires count { length code.now ≤ 1024 }
     ensures { result ≡ least (λ slot insn. breaks_shape head.now code.now slot insn rule) 0 code.now }
 {
@@ -79,7 +82,7 @@ fn least(code: &[Insn], tables: &Tables, head: &Head, rule: Rule) -> Option<usiz
 /// Whether a slot breaks a rule.
 #[tactic(auto, unfolding(crate::specs::ShapeRules::breaks_shape))]
 fn breaks(code: &[Insn], tables: &Tables, head: &Head, slot: usize, insn: &Insn, rule: Rule) -> bool
-    requires tables { AreTables code.now tables.now }
+    requires tables { AreTables head.now.version code.now tables.now }
     requires count { length code.now ≤ 1024 }
     requires slot { slot < length code.now }
     ensures { result ≡ breaks_shape head.now code.now slot insn.now rule }
@@ -87,8 +90,8 @@ fn breaks(code: &[Insn], tables: &Tables, head: &Head, slot: usize, insn: &Insn,
     match rule {
         Rule::JumpTarget => is_astray(code, slot, jump_offset(insn))
             || is_astray(code, slot, call_offset(insn)),
-        Rule::BackwardJump => breaks_back(false, code, slot, insn),
-        Rule::Boundary => leaves(code, tables, slot, jump_offset(insn))
+        Rule::BackwardJump => breaks_back(loops_allowed(head.version()), code, slot, insn),
+        Rule::Boundary => leaves(code, &tables.counts, slot, jump_offset(insn))
             || is_open_end(code, &tables.starts, slot, insn),
         Rule::BackwardCall => is_back(slot, call_offset(insn)),
         Rule::FrameDepth => slot == 0 && tables.frames > head.frames(),
@@ -148,27 +151,27 @@ fn is_later(slot: usize, place: Option<usize>) -> bool
 }
 
 /// Whether a jump of this offset leaves its function.
-fn leaves(code: &[Insn], tables: &Tables, slot: usize, offset: Option<i32>) -> bool
-    requires tables { AreTables code.now tables.now }
+fn leaves(code: &[Insn], counts: &[u16; SLOTS], slot: usize, offset: Option<i32>) -> bool
+    requires counts { AreCounts code.now counts.now }
     requires count { length code.now ≤ 1024 }
     requires slot { slot < 1024 }
     ensures { result ≡ with_offset offset (λ o. leaves code.now slot (target slot o)) }
 {
     match offset {
-        Some(offset) => crosses_to(code, tables, slot, target(slot, offset)),
+        Some(offset) => crosses_to(code, counts, slot, target(slot, offset)),
         None => false,
     }
 }
 
-fn crosses_to(code: &[Insn], tables: &Tables, slot: usize, place: Option<usize>) -> bool
-    requires tables { AreTables code.now tables.now }
+fn crosses_to(code: &[Insn], counts: &[u16; SLOTS], slot: usize, place: Option<usize>) -> bool
+    requires counts { AreCounts code.now counts.now }
     requires count { length code.now ≤ 1024 }
     requires slot { slot < 1024 }
     ensures { result ≡ leaves code.now slot place }
 {
     match place {
         Some(place) => place < code.len()
-            && crosses(code, &tables.counts, slot.min(place), slot.max(place)),
+            && crosses(code, counts, slot.min(place), slot.max(place)),
         None => false,
     }
 }

@@ -1,59 +1,36 @@
 //! The steps of a program's longest path.
 ghost use Rattle.std.specs.Prelude.{ℕ, List, Some, None, drop, false, length, min, slice_index, ◌+◌, ◌≡◌, ◌≤◌, ◌<◌};
 ghost use Rattle.fc_isa.specs.Flow.{flow, landing};
-ghost use Rattle.fc_image.specs.Loops.{loop_if, loops_of};
+ghost use Rattle.fc_image.specs.Loops.{loops_of};
 ghost use Rattle.fc_image.specs.Paths.{along, cost_in, later, looped, own_cost, turns};
-ghost use Rattle.fc_image.specs.Tables.{AreLow, IsLow, headed};
+ghost use Rattle.fc_image.specs.Tables.{AreHeads, AreLow, IsLow};
 
 use crate::flow::target;
-use crate::loops::{Loop, loop_at};
+use crate::head_table::loop_if;
+use crate::loops::Loop;
 use crate::table::SLOTS;
 use fc_isa::Insn;
 
 /// More steps than any budget allows: costs are counted up to it.
 const TOO_MANY: u32 = 65_537;
 
-/// The steps of the longest path from slot 0, or 65,537 where it has more. Counted loops are allowed, or aren't.
-pub(crate) fn longest_cost(code: &[Insn], allowed: bool) -> u32
-    requires { length code.now ≤ 1024 }
+/// The steps of the longest path from slot 0, or 65,537 where it has more, by the loops that begin at each slot. Counted loops are
+/// allowed, or aren't.
+pub(crate) fn longest_cost(code: &[Insn], heads: &[Option<Loop>; SLOTS], allowed: bool) -> u32
+    requires count { length code.now ≤ 1024 }
+    requires heads { AreHeads (loops_of allowed code.now) heads.now }
     ensures { result ≡ min 65537 (cost_in code.now (loops_of allowed code.now) 0) }
 {
     let mut costs = [0; SLOTS];
-    let mut heads = [None; SLOTS];
     let mut slot = code.len();
     while slot > 0 {
         slot -= 1;
         let insn = &code[slot];
         let ending = loop_if(allowed, code, slot, insn);
-        put_head(&mut heads, &ending);
         let own = own_steps(&costs, slot, &ending, insn);
         costs[slot] = steps(&costs, slot, &heads[slot], own).min(TOO_MANY);
     }
     costs[0]
-}
-
-/// The loop whose jump back an instruction is, where loops are allowed.
-fn loop_if(allowed: bool, code: &[Insn], slot: usize, insn: &Insn) -> Option<Loop>
-    requires count { length code.now ≤ 1024 }
-    requires slot { slot < length code.now }
-    ensures counted { result ≡ loop_if allowed code.now slot insn.now }
-    ensures low { AreLow slot result }
-{
-    if allowed {
-        loop_at(code, slot, insn)
-    } else {
-        None
-    }
-}
-
-/// Keeps a loop by its head.
-fn put_head(heads: &mut [Option<Loop>; SLOTS], ending: &Option<Loop>)
-    requires { AreLow 1024 ending.now }
-    ensures { heads.new ≡ headed heads.old ending.now }
-{
-    if let Some(counted) = ending {
-        heads[counted.head] = Some(*counted);
-    }
 }
 
 /// The steps from an instruction on to the end of its body, or function, given the costs of the later slots.

@@ -1,7 +1,9 @@
 //! What headers and the shape of a program say, for the crates above: each function is a law, and its contract says it.
-ghost use Rattle.std.specs.Prelude.{List, None, [], drop, length, map, ℕ, ◌*◌, ◌++◌, ◌<◌, ◌≡◌, ◌∷◌};
+ghost use Rattle.std.specs.Prelude.{List, None, [], drop, length, map, true, ℕ, ◌*◌, ◌++◌, ◌<◌, ◌≡◌, ◌∷◌};
 ghost use Rattle.fc_isa.specs.Rules.{number_of};
 ghost use Rattle.fc_isa.specs.declared.insn.Insn.{Insn};
+ghost use Rattle.fc_isa.specs.declared.version.ImageVersion.{ImageVersion};
+ghost use Rattle.fc_isa.specs.Program.{is_program};
 ghost use Rattle.fc_image.specs.Head.{Head, IsHead, KeepsHead, head_bytes, head_fault, head_rules, stated};
 ghost use Rattle.fc_image.specs.Laws.{FirstShapeFaultIsFound, ShapeFaultIsFirst, ShapeFaultIsLow, ShapedProgramsGoForward, ShapedProgramsGoOn, FramesBeginWithOne};
 ghost use Rattle.fc_image.specs.LoopLaws.{LoopsHaveLongestPaths, ShapedLoopsAreLoops};
@@ -20,15 +22,15 @@ pub fn read_head_is_written(image: &[u8])
 
 /// A program that keeps the rules of the control flow has a longest path, and `longest` is its number of steps.
 pub fn longest_is_longest()
-    ensures { (code : List Insn) → 0 < length code → IsShaped code → IsLongest code (longest code) }
+    ensures { (version : ImageVersion) (code : List Insn) → 0 < length code → is_program code ≡ true → IsShaped version code → IsLongest version code (longest version code) }
 {}
 
-/// In a program that keeps the rules of the control flow each instruction leads to later slots of the program.
+/// In a program without loops that keeps the rules of the control flow each instruction leads to later slots of the program.
 pub fn shaped_programs_go_forward()
     ensures { ShapedProgramsGoForward }
 {}
 
-/// In a program that keeps the rules of the control flow each step leads nearer to its end; its frames are the first and those
+/// In a program without loops that keeps the rules of the control flow each step leads nearer to its end; its frames are the first and those
 /// that calls add.
 pub fn shaped_programs_go_on()
     ensures nearer { ShapedProgramsGoOn }

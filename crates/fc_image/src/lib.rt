@@ -15,12 +15,15 @@ pub mod control_flow;
 mod cost;
 mod flow;
 mod functions;
+pub mod head_table;
 pub mod header;
 pub mod laws;
 pub mod limits;
 pub mod loops;
-mod table;
+pub mod table;
 
 pub use control_flow::shape;
+pub use head_table::heads;
 pub use header::{HEADER_SIZE, head};
 pub use limits::Head;
+pub use table::SLOTS;

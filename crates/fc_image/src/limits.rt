@@ -1,6 +1,6 @@
 //! What an image's header says, and the limits of its numbers.
 ghost use Rattle.std.specs.Prelude.{◌≡◌, ◌≤◌};
-ghost use Rattle.fc_image.specs.Head.{frames_allowed, is_bad_budget, is_bad_count, is_bad_size, limit_fault, slots_allowed};
+ghost use Rattle.fc_image.specs.Head.{frames_allowed, is_bad_budget, is_bad_count, is_bad_size, limit_fault, loops_allowed, slots_allowed};
 
 use fc_isa::{Fault, ImageVersion, Rule};
 use std::marker::Model;
@@ -24,6 +24,15 @@ fn frames_allowed(version: ImageVersion) -> u8
     match version {
         ImageVersion::One => 4,
         ImageVersion::Two => 8,
+    }
+}
+
+/// Whether the programs of a version may have counted loops.
+pub fn loops_allowed(version: ImageVersion) -> bool
+    ensures { result ≡ loops_allowed version }
+{
+    match version {
+        ImageVersion::One | ImageVersion::Two => false,
     }
 }
 

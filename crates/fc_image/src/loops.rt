@@ -127,7 +127,7 @@ fn spoils(counted: &Loop, slot: usize, insn: &Insn) -> bool
     ensures { result ≡ spoils counted.now slot insn.now }
 {
     is_in(counted, slot)
-        && (writes(insn, counted.counter) && slot + 1 != counted.last || is_exit(insn))
+        && (writes(insn, counted.counter.index()) && slot + 1 != counted.last || is_exit(insn))
 }
 
 fn is_exit(insn: &Insn) -> bool
@@ -157,23 +157,23 @@ fn crosses_to(counted: &Loop, slot: usize, place: Option<usize>) -> bool
 }
 
 /// Whether an instruction writes a register: a call writes R0 to R5.
-fn writes(insn: &Insn, reg: Reg) -> bool
-    ensures { result ≡ writes insn.now reg }
+pub fn writes(insn: &Insn, register: usize) -> bool
+    ensures { result ≡ writes insn.now register }
 {
-    is_that(computes(insn), reg) || is_call(insn) && reg.number() <= 5
+    is_that(computes(insn), register) || is_call(insn) && register <= 5
 }
 
-fn is_that(dst: Option<Target>, reg: Reg) -> bool
-    ensures { result ≡ is_that dst reg }
+fn is_that(dst: Option<Target>, register: usize) -> bool
+    ensures { result ≡ is_that dst register }
 {
     match dst {
-        Some(dst) => dst.number() == reg.number(),
+        Some(dst) => dst.index() == register,
         None => false,
     }
 }
 
 /// The register that an instruction computes.
-fn computes(insn: &Insn) -> Option<Target>
+pub fn computes(insn: &Insn) -> Option<Target>
     ensures { result ≡ computes insn.now }
 {
     match insn {
@@ -183,7 +183,8 @@ fn computes(insn: &Insn) -> Option<Target>
     }
 }
 
-fn is_call(insn: &Insn) -> bool
+/// Whether an instruction calls a helper, or a function of the program.
+pub fn is_call(insn: &Insn) -> bool
     ensures { result ≡ is_call insn.now }
 {
     matches!(insn, Insn::CallHelper { .. } | Insn::CallLocal { .. })

@@ -4,10 +4,12 @@ ghost use Rattle.fc_image.specs.Judged.{AreTables};
 
 use crate::cost::longest_cost;
 use crate::functions::{deepest, starts, starts_counted};
-use fc_isa::Insn;
+use crate::head_table::heads;
+use crate::limits::loops_allowed;
+use fc_isa::{ImageVersion, Insn};
 
 /// The most slots of any program.
-pub(crate) const SLOTS: usize = 1024;
+pub const SLOTS: usize = 1024;
 
 /// The facts of a whole program that its slots are judged by.
 #[derive(Drop)]
@@ -23,19 +25,20 @@ pub(crate) struct Tables {
 }
 
 impl Tables {
-    /// The tables of a program.
-    pub(crate) fn of(code: &[Insn]) -> Self
+    /// The tables of a program of a version.
+    pub(crate) fn of(version: ImageVersion, code: &[Insn]) -> Self
         requires { length code.now ≤ 1024 }
-        ensures { AreTables code.now result }
+        ensures { AreTables version code.now result }
     {
         let starts = starts(code);
         let counts = starts_counted(code, &starts);
         let frames = deepest(code, &starts);
+        let heads = heads(version, code);
         Tables {
             starts,
             counts,
             frames,
-            cost: longest_cost(code, false),
+            cost: longest_cost(code, &heads, loops_allowed(version)),
         }
     }
 }

@@ -2,7 +2,7 @@
 use Rattle.std.specs.Prelude.{ℕ, ◌/◌, ◌%◌, ◌++◌, List, codes}
 use Rattle.std.specs.Fmt.{decimal}
 use Rattle.fc_isa.specs.declared.rule.Rule.{Rule}
-use Rattle.fc_isa.specs.declared.rule.Rule.TheVariants.{Format, SlotCount, VarsSize, Budget, Reserved, Opcode, Register, FramePointer, Field, WideLoad, JumpTarget, BackwardJump, Boundary, BackwardCall, FrameDepth, Cost, Helper, UnsetRegister, OperandKind, Access, RequestStore, PointerStore, ExitValue, PointerStep, HelperArgument}
+use Rattle.fc_isa.specs.declared.rule.Rule.TheVariants.{Format, SlotCount, VarsSize, Budget, Reserved, Opcode, Register, FramePointer, Field, WideLoad, JumpTarget, BackwardJump, Boundary, BackwardCall, FrameDepth, Cost, Helper, UnsetRegister, OperandKind, Access, RequestStore, PointerStore, ExitValue, PointerStep, HelperArgument, LoopState}
 
 abbrev pub number_of : Rule → ℕ
 number_of Format = 1
@@ -30,6 +30,7 @@ number_of PointerStore = 24
 number_of ExitValue = 25
 number_of PointerStep = 26
 number_of HelperArgument = 27
+number_of LoopState = 28
 
 -- `V`, the number by two digits, ` slot ` and the slot
 abbrev pub fault_text : ℕ → ℕ → List ℕ

@@ -4,7 +4,7 @@ ghost use Rattle.fc_isa.specs.Rules.{number_of, fault_text};
 
 use std::fmt;
 
-/// A rule that an image broke. Its number is 1 to 17 or 20 to 27, and a refusal prints it as `V` and two digits.
+/// A rule that an image broke. Its number is 1 to 17 or 20 to 28, and a refusal prints it as `V` and two digits.
 #[derive(Clone, Copy, Debug, PartialEq, Eq)]
 pub enum Rule {
     /// 1: under 16 bytes, another magic, or a length that isn't that of the header and the slots.
@@ -57,6 +57,8 @@ pub enum Rule {
     PointerStep,
     /// 27: a helper's argument is of the wrong kind or range.
     HelperArgument,
+    /// 28: a loop's counter that may not enter below the bound, or a pointer written in a loop's body.
+    LoopState,
 }
 
 impl Rule {
@@ -90,6 +92,7 @@ impl Rule {
             Rule::ExitValue => 25,
             Rule::PointerStep => 26,
             Rule::HelperArgument => 27,
+            Rule::LoopState => 28,
         }
     }
 }

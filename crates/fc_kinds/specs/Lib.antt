@@ -1,6 +1,6 @@
 pub mod Values
 pub mod Kinds
-pub mod Typing
+pub mod Entry
 pub mod Intervals
 pub mod Lattice
 pub mod Transfer

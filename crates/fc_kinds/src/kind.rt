@@ -1,6 +1,6 @@
 //! Kinds of register values.
 ghost use Rattle.std.specs.Prelude.{◌≡◌};
-ghost use Rattle.fc_kinds.specs.Typing.{entry};
+ghost use Rattle.fc_kinds.specs.Entry.{entry};
 
 use fc_isa::ImageVersion;
 

@@ -24,7 +24,7 @@ Shows (Slot bytes) rule = (6 ≤ rule) × (rule ≤ 10)
 Shows (Flow insn) rule = (11 ≤ rule) × (rule ≤ 17) × (rule ≡ 15 → ⊥) × (rule ≡ 16 → ⊥)
 Shows Frames rule = rule ≡ 15
 Shows (Cost cost budget) rule = rule ≡ 16
-Shows (Typing insn known) rule = (20 ≤ rule) × (rule ≤ 27)
+Shows (Typing insn known) rule = (20 ≤ rule) × (rule ≤ 28)
 
 -- a header with the greatest budget
 abbrev pub at_most : Head → Head
@@ -32,7 +32,7 @@ at_most head = record head { budget = 65536 }
 
 -- the longest path's steps are told exactly where the program breaks no rule of the control flow with the greatest budget
 abbrev pub IsCost : Head → List Insn → Option ℕ → Type 0
-IsCost head code (Some cost) = (shape_fault (at_most head) code ≡ None) × (cost ≡ longest code)
+IsCost head code (Some cost) = (shape_fault (at_most head) code ≡ None) × (cost ≡ longest head.version code)
 IsCost head code None = shape_fault (at_most head) code ≡ None → ⊥
 
 -- what a program of this header shows of a fault of its control flow

@@ -33,7 +33,7 @@ pub record IsImageOf (text : List ℕ) (vars_size budget : ℕ) (version : Image
 pub record IsPricedImageOf (text : List ℕ) (vars_size : ℕ) (version : ImageVersion) (image : List ℕ) : Type 0 where
   pub budget : ℕ
   pub image_is : IsImageOf text vars_size budget version image
-  pub cost : IsLongest image_is.program budget
+  pub cost : IsLongest version image_is.program budget
 
 -- the image's slots spell a program, and the text is its listing
 pub record IsListingOf (image text : List ℕ) : Type 0 where

@@ -5,6 +5,7 @@ ghost use Rattle.fc_image.specs.Head.{frames_allowed};
 ghost use Rattle.fc_image.specs.Paths.{IsLongest, longest};
 ghost use Rattle.fc_image.specs.ShapeRules.{IsShaped, shape_fault};
 ghost use Rattle.fc_isa.specs.Encoding.{IsFirstFault};
+ghost use Rattle.fc_isa.specs.Program.{is_program};
 ghost use Rattle.fc_isa.specs.Rules.{number_of};
 ghost use Rattle.fc_verify.specs.Accepted.{slots_of};
 ghost use Rattle.fc_verify.specs.Runs.{IsUntypedProgram};
@@ -26,7 +27,7 @@ pub const GREATEST_BUDGET: u32 = 65_536;
 /// A broken rule of an image, with what shows that it is broken. It prints as its fault does, as `V16 slot 0`.
 #[derive(Clone, Copy)]
 pub struct Diagnosis {
-    /// The first rule that is broken, with its slot; where only the typing is missing, some rule from 20 to 27.
+    /// The first rule that is broken, with its slot; where only the typing is missing, some rule from 20 to 28.
     pub fault: Fault,
     /// What shows it.
     pub cause: Cause,
@@ -101,7 +102,7 @@ impl From<AllocError> for Rejection {
 /// Judges an image as `verify` does.
 ///
 /// # Errors
-/// The first rule that the image breaks, or a rule from 20 to 27 where only the typing is missing, with what shows it; or
+/// The first rule that the image breaks, or a rule from 20 to 28 where only the typing is missing, with what shows it; or
 /// memory was refused.
 pub fn diagnose(alloc: Global, image: &[u8]) -> Result<(), Rejection>
     ensures accepted { IfOk result (λ u. IsAcceptable image.now) }
@@ -170,9 +171,10 @@ fn slot_bytes(image: &[u8], slot: usize) -> [u8; 8]
 /// # Errors
 /// The least rule of the control flow, 11 to 17, that a slot breaks, with what shows it.
 pub fn shape_cost(head: &Head, code: &[Insn]) -> Result<u32, Diagnosis>
-    requires { length code.now ≡ head.now.count }
-    ensures shape { IfOk result (λ cost. IsShaped code.now × (frames code.now ≤ frames_allowed head.now.version) × IsLongest code.now cost × (cost ≤ head.now.budget)) }
-    ensures cost { IfOk result (λ cost. (shape_fault head.now code.now ≡ None) × (cost ≡ longest code.now)) }
+    requires count { length code.now ≡ head.now.count }
+    requires whole { is_program code.now ≡ true }
+    ensures shape { IfOk result (λ cost. IsShaped head.now.version code.now × (frames code.now ≤ frames_allowed head.now.version) × IsLongest head.now.version code.now cost × (cost ≤ head.now.budget)) }
+    ensures cost { IfOk result (λ cost. (shape_fault head.now code.now ≡ None) × (cost ≡ longest head.now.version code.now)) }
     ensures fault { IfErr result (λ d. shape_fault head.now code.now ≡ Some (d.fault.slot, d.fault.rule)) }
     ensures cause { IfErr result (λ d. IsShapeCause head.now code.now d.fault d.cause) }
 {
@@ -189,6 +191,7 @@ pub fn shape_cost(head: &Head, code: &[Insn]) -> Result<u32, Diagnosis>
 /// What shows that a rule of the control flow is broken.
 fn shape_cause(head: &Head, code: &[Insn], fault: Fault) -> Cause
     requires count { length code.now ≡ head.now.count }
+    requires whole { is_program code.now ≡ true }
     requires slot { fault.slot < length code.now }
     requires rule { (11 ≤ number_of fault.rule) × (number_of fault.rule ≤ 17) }
     ensures { IsShapeCause head.now code.now fault result }
@@ -205,7 +208,8 @@ fn shape_cause(head: &Head, code: &[Insn], fault: Fault) -> Cause
 
 /// The cost of a program that breaks no rule of the control flow but for the budget, if that is at most the greatest budget.
 fn cost_of(head: &Head, code: &[Insn]) -> Option<u32>
-    requires { length code.now ≡ head.now.count }
+    requires count { length code.now ≡ head.now.count }
+    requires whole { is_program code.now ≡ true }
     ensures { IsCost head.now code.now result }
 {
     shape(&head.with_budget(GREATEST_BUDGET), code).ok()

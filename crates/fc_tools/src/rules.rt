@@ -36,6 +36,8 @@ pub fn rule_text(rule: Rule) -> &'static str {
             "a pointer moved by a number that may be above 65536, or further than 65536 away",
         Rule::HelperArgument =>
             "a helper gets another kind than it takes, or `reply_put` bytes that may lie outside their region",
+        Rule::LoopState =>
+            "a loop's counter that may not begin below the bound, or a pointer written in a loop's body",
     }
 }
 
@@ -83,6 +85,8 @@ fn rule_remedy(rule: Rule) -> &'static str {
         Rule::PointerStep => "bound the number first, by a jump or by `and64`",
         Rule::HelperArgument =>
             "keep numbers and pointers in registers of their own; bound r2, so that the greatest number of bytes lies in the region",
+        Rule::LoopState =>
+            "set the counter to a number below the bound before the loop; write numbers alone in its body, and pointers before it",
     }
 }
 

@@ -1,5 +1,5 @@
 //! Assembling, listing and checking images: the bodies of `fcasm`.
-ghost use Rattle.std.specs.Prelude.{IfOk, IsTrue, None, string_bytes, ◌++◌, ◌≡◌};
+ghost use Rattle.std.specs.Prelude.{IfOk, IsTrue, None, string_bytes, true, ◌++◌, ◌≡◌};
 ghost use Rattle.fc_asm.specs.Assembled.{IsAssembled};
 ghost use Rattle.fc_asm.specs.Syntax.{lines_of};
 ghost use Rattle.fc_image.specs.Head.{head_bytes, limit_fault};
@@ -419,8 +419,9 @@ pub fn priced_image_of(
 
 /// The header of a program whose budget is its cost.
 fn priced_head(vars_size: u16, program: &[Insn], version: ImageVersion) -> Result<Head, ToolError>
+    requires { is_program program.now ≡ true }
     ensures head { IfOk result (λ h. (h ≡ program_head vars_size h.budget version program.now) × (limit_fault h ≡ None)) }
-    ensures cost { IfOk result (λ h. IsLongest program.now h.budget) }
+    ensures cost { IfOk result (λ h. IsLongest version program.now h.budget) }
 {
     let greatest = Head::new(vars_size, program.len(), GREATEST_BUDGET, version).map_err(
         header_error,

@@ -91,8 +91,8 @@ refused_decode image head NoRoom h d = h.fault
 insn_there : (code : List Insn) (slot : ℕ) (insn : Insn) → All IsInsn code → slice_get code slot ≡ Some insn → IsInsn insn
 insn_there code slot insn h e = subst IsInsn (get_or_from_slice_get code slot insn insn e) (h slot insn (slice_get_within code slot insn e))
 
-pub untyped_program : (bytes : List ℕ) (code : List Insn) → 1 ≤ length code → length code ≤ 1024 → Spells bytes code → IsShaped code → frames code ≤ 8 → IsUntypedProgram code
-untyped_program bytes code some few s shaped nested = record {
+pub untyped_program : (version : ImageVersion) (bytes : List ℕ) (code : List Insn) → 1 ≤ length code → length code ≤ 1024 → Spells bytes code → IsShaped version code → frames code ≤ 8 → IsUntypedProgram version code
+untyped_program version bytes code some few s shaped nested = record {
   some = some;
   few = few;
   insns = λ slot insn e. insn_there code slot insn s.insns e;
@@ -109,11 +109,11 @@ few_frames : (version : ImageVersion) (n : ℕ) → n ≤ frames_allowed version
 few_frames One n le = omega (arith, le)
 few_frames Two n le = omega (arith, le)
 
-pub untyped_of : (image : List ℕ) (head : Head) (code : List Insn) → IsHeadOf image head → IsCodeOf image code → IsShaped code → frames code ≤ frames_allowed head.version → IsUntypedProgram code
+pub untyped_of : (image : List ℕ) (head : Head) (code : List Insn) → IsHeadOf image head → IsCodeOf image code → IsShaped head.version code → frames code ≤ frames_allowed head.version → IsUntypedProgram head.version code
 untyped_of image head code h k s nested =
     let c = ap (λ x. x.count) h.stated_is in
     let few = few_slots head.version head.count h.limits.count in
-    untyped_program (slots_of image) code (omega (arith, h.limits.some, c, k.count)) (omega (arith, few, c, k.count)) k.spelled s
+    untyped_program head.version (slots_of image) code (omega (arith, h.limits.some, c, k.count)) (omega (arith, few, c, k.count)) k.spelled s
     (few_frames head.version (frames code) nested)
 
 -- the shape's fault of the program in the image, and its typing's judgement
@@ -133,10 +133,10 @@ refused_typing image head code f h k s t r =
     fault_of image Untypable f (judged_untypable image h.fault k.fault (shape_of image head code None h k s) (types_of image head code false h k t))
     (r.from, r.upto, omega (arith, r.within, k.count))
 
-pub accepts_is : (image : List ℕ) (head : Head) (code : List Insn) (cost : ℕ) → IsHeadOf image head → IsCodeOf image code → shape_fault head code ≡ None → cost ≡ longest code → is_typable head.version head.vars_size code ≡ true
+pub accepts_is : (image : List ℕ) (head : Head) (code : List Insn) (cost : ℕ) → IsHeadOf image head → IsCodeOf image code → shape_fault head code ≡ None → cost ≡ longest head.version code → is_typable head.version head.vars_size code ≡ true
     → judged image ≡ Accepts (program head.version code head.vars_size head.budget cost)
 accepts_is image head code cost h k s l t =
     judged_accepts image h.fault k.fault (shape_of image head code None h k s) (types_of image head code true h k t)
-    ∙ ap (λ x. Accepts (program x.version (code_in image) x.vars_size x.budget (longest (code_in image)))) (sym h.stated_is)
-    ∙ ap (λ x. Accepts (program head.version x head.vars_size head.budget (longest x))) (sym k.code_is)
+    ∙ ap (λ x. Accepts (program x.version (code_in image) x.vars_size x.budget (longest x.version (code_in image)))) (sym h.stated_is)
+    ∙ ap (λ x. Accepts (program head.version x head.vars_size head.budget (longest head.version x))) (sym k.code_is)
     ∙ ap (λ x. Accepts (program head.version code head.vars_size head.budget x)) (sym l)

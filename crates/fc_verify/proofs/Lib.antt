@@ -1,6 +1,12 @@
 pub mod LowHead
+pub mod Rules
+pub mod Heads
+pub mod Narrow
+pub mod Bodies
 pub mod PassLaws
+pub mod Passing
 pub mod Levels
+pub mod Table
 pub mod RunLaws
 pub mod Judging
 pub mod Right

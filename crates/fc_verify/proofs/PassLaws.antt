@@ -1,31 +1,43 @@
--- The pass over the slots: where each demand is met the states that it leaves are a typing, and else there is none.
-use Rattle.std.proofs.Common.{◌≡◌, ◌≢◌, ℕ, zero, suc, ◌+◌, ◌<◌, ◌≤◌, true, false, Bool, Option, Some, None, List, [], ◌∷◌, ◌++◌, length, map, take, refl, sym, ap, ◌∙◌, subst, inl, inr, arith, length-set, get_or-set_same, get_or-set_other}
+-- The pass over the slots: what it leaves is a typing, and where it leaves nothing there is none.
+use Rattle.std.proofs.Common.{◌≡◌, ◌≢◌, ◌⊎◌, ℕ, zero, suc, ◌+◌, ◌<◌, ◌≤◌, ◌&&◌, ◌||◌, not, nat_lt, nat_eq, true, false, Bool, if◌then◌else◌, Option, Some, None, List, [], ◌∷◌, ◌++◌, length, map, refl, sym, ap, ◌∙◌, subst, inl, inr, arith, length-set, get_or-set_same, get_or-set_other}
 use Rattle.std.specs.Prelude.{is_some, slice_get, slice_set}
 use Rattle.std.proofs.lemmas.Int.{ints}
 use Rattle.std.proofs.lemmas.Bool.{cases_eq, cases_lt}
-use Rattle.std.proofs.lemmas.List.{take_more, take_all}
+use Rattle.std.proofs.lemmas.Bool.Decides.{nat_tests}
 use Rattle.std.proofs.lemmas.Option.{slice_get_within}
 use Rattle.fc_isa.specs.declared.insn.Insn.{Insn}
 use Rattle.fc_isa.specs.declared.version.ImageVersion.{ImageVersion}
 use Rattle.fc_isa.specs.declared.version.ImageVersion.TheVariants.{One, Two}
 use Rattle.fc_isa.specs.declared.insn.Insn.TheVariants.{JumpIf}
-use Rattle.fc_isa.specs.Flow.{Flow, Halts, Goes, Forks, Enters, flow}
 use Rattle.fc_isa.specs.Program.{IsInsn}
-use Rattle.fc_image.specs.Flow.{IsLater, IsForward}
+use Rattle.fc_isa.specs.Flow.{Flow, Halts, Goes, Forks, Enters, flow}
+use Rattle.fc_image.specs.Flow.{IsLater}
 use Rattle.fc_kinds.specs.declared.kind.Kind.{Kind}
-use Rattle.fc_kinds.specs.Kinds.{kind_at, Within}
-use Rattle.fc_kinds.specs.Lattice.{IsKind, AreKinds, joined}
+use Rattle.fc_kinds.specs.Kinds.{kind_at, KindWithin, Within}
+use Rattle.fc_kinds.specs.Lattice.{IsKind, AreKinds, join_kind, joined}
 use Rattle.fc_kinds.specs.Values.{with_some}
-use Rattle.fc_kinds.specs.Transfer.{transfer, enter}
+use Rattle.fc_kinds.specs.Transfer.{transfer, enter, is_number}
 use Rattle.fc_kinds.specs.Refinement.{when}
-use Rattle.fc_kinds.specs.Typing.{States, state_at, Leads, entry, fourth_kind, AllLead, IsWellTypedAt, IsTypingOf}
-use Rattle.fc_kinds.specs.Ways.{Way, way_where, kinds_when, ways_along, ways_after}
-use Rattle.fc_kinds.proofs.KindLaws.{within_same, within_then, set_past}
-use Rattle.fc_kinds.proofs.JoinLaws.{joined_left, joined_right, joined_least, joined_kinds}
+use Rattle.fc_kinds.specs.Entry.{entry, fourth_kind}
+use Rattle.fc_verify.specs.Typing.{States, state_at, Leads}
+use Rattle.fc_kinds.proofs.KindLaws.{within_same, within_then, kind_within_same, set_past}
+use Rattle.fc_kinds.proofs.JoinLaws.{joined_left, joined_right, joined_least, joined_at, joined_kinds}
+use Rattle.fc_kinds.proofs.Monotone.{is_number_follows}
 use Rattle.fc_kinds.proofs.TransferLaws.{transfer_meets, enter_within, enter_kinds}
 use Rattle.fc_kinds.proofs.RefinementLaws.{when_follows, WayFollows}
 use Rattle.fc_kinds.proofs.WayLaws.{are_numbers, AreNumbers}
-use Rattle.fc_verify.specs.Pass.{joined_in, met, led, passed_with, passed, pass_from, beginning, pass, is_typable}
+use Rattle.fc_image.specs.declared.loops.Loop.{Loop}
+use Rattle.fc_image.specs.Loops.{is_in, begins, loops_in}
+use Rattle.fc_verify.specs.Heads.{IsLoopOf, IsHeadState, settled, gives_number, is_inside}
+use Rattle.fc_isa.specs.Writes.{computes}
+use Rattle.fc_kinds.specs.Ways.{Way, way_where, kinds_when, ways_along, ways_after}
+use Rattle.fc_verify.specs.Typing.{AllLead, IsWellTypedAt, IsTypingWith, IsTypingOf}
+use Rattle.fc_verify.specs.Stages.{Fails, Unmet, NoNumber, Stops, AtInsn, AtHead, AtEntry}
+use Rattle.fc_verify.specs.Pass.{joined_in, met, led, handed_on, met_by, passed_by, passed_with, passed, pass_from, beginning, pass_with, pass, is_typable}
+use Rattle.fc_image.specs.LoopLaws.{LeadsTo, Calls, IsLoop, IsBack, IsOnward, AreLoops}
+use Rattle.fc_verify.proofs.Rules.{IsUnder, IsSound}
+use Rattle.fc_verify.proofs.Heads.{settles, least, inner_under, body_keeps, back}
+use Rattle.fc_verify.proofs.Narrow.{way_inside}
 
 -- ---- states
 
@@ -50,7 +62,7 @@ are_within_then : (a b c : States) → AreWithin a b → AreWithin b c → AreWi
 are_within_then a b c p q = record { each = λ slot kinds e. leads_then b c slot kinds (p.each slot kinds e) q }
 
 -- a slot's state is another's, where it isn't the one that is set
-set_other : (states : States) (slot k : ℕ) (s : Option (List Kind)) → k ≢ slot → state_at (slice_set states slot s) k ≡ state_at states k
+pub set_other : (states : States) (slot k : ℕ) (s : Option (List Kind)) → k ≢ slot → state_at (slice_set states slot s) k ≡ state_at states k
 set_other states slot k s n = get_or-set_other states slot k s None n
 
 met_other : (states : States) (slot k : ℕ) (kinds : List Kind) → k ≢ slot → state_at (met states slot kinds) k ≡ state_at states k
@@ -70,13 +82,8 @@ met_leads states slot kinds lt = go (state_at states slot) (met_here states slot
     go (Some state) e = record { state = joined state kinds; state_is = e; within = joined_right state kinds }
 
 -- what holds of each state and of the kinds that are met holds of each state after, where joins keep it
-abbrev pub AllStates : (ℕ → List Kind → Type 0) → States → Type 0
-AllStates P states = (k : ℕ) (ks : List Kind) → state_at states k ≡ Some ks → P k ks
-
-abbrev pub Joins : (ℕ → List Kind → Type 0) → Type 0
-Joins P = (k : ℕ) (a b : List Kind) → P k a → P k b → P k (joined a b)
-
-met_all : (P : ℕ → List Kind → Type 0) (states : States) (slot : ℕ) (kinds : List Kind) → Joins P → AllStates P states → P slot kinds → AllStates P (met states slot kinds)
+met_all : (P : ℕ → List Kind → Type 0) (states : States) (slot : ℕ) (kinds : List Kind) → ((k : ℕ) (a b : List Kind) → P k a → P k b → P k (joined a b))
+    → ((k : ℕ) (ks : List Kind) → state_at states k ≡ Some ks → P k ks) → P slot kinds → (k : ℕ) (ks : List Kind) → state_at (met states slot kinds) k ≡ Some ks → P k ks
 met_all P states slot kinds j h p k ks e =
     elim (cases_eq k slot) [
       | inl same ↦ elim (cases_lt slot (length states)) [
@@ -122,7 +129,7 @@ lead_all : (states : States) (ws : List Way) → AllLead states ws → AllWays (
 lead_all states [] a = tt
 lead_all states (w ∷ ws) a = (a.0, lead_all states ws a.1)
 
-all_then : (P Q : ℕ → List Kind → Type 0) (ws : List Way) → ((t : ℕ) (ks : List Kind) → P t ks → Q t ks) → AllWays P ws → AllWays Q ws
+pub all_then : (P Q : ℕ → List Kind → Type 0) (ws : List Way) → ((t : ℕ) (ks : List Kind) → P t ks → Q t ks) → AllWays P ws → AllWays Q ws
 all_then P Q [] f a = tt
 all_then P Q (w ∷ ws) f a = (f w.target w.kinds a.0, all_then P Q ws f a.1)
 
@@ -139,7 +146,7 @@ all_parts P [] vs a = (tt, a)
 all_parts P (w ∷ ws) vs a = let r = all_parts P ws vs a.1 in ((a.0, r.0), r.1)
 
 -- the same, by the form of the flow
-abbrev WaysBy : (ℕ → List Kind → Type 0) → Flow → Insn → List Kind → List Kind → Type 0
+abbrev pub WaysBy : (ℕ → List Kind → Type 0) → Flow → Insn → List Kind → List Kind → Type 0
 WaysBy P Halts insn before after = Unit {0}
 WaysBy P (Goes next) insn before after = P next after
 WaysBy P (Forks taken next) insn before after =
@@ -154,7 +161,7 @@ where_all : (P : ℕ → List Kind → Type 0) (t : ℕ) (o : Option (List Kind)
 where_all P t None a k e = absurd (cc e)
 where_all P t (Some x) a k e = subst (P t) (cc e) a.0
 
-all_from : (P : ℕ → List Kind → Type 0) (f : Flow) (insn : Insn) (before after : List Kind) → WaysBy P f insn before after → AllWays P (ways_along f insn before after)
+pub all_from : (P : ℕ → List Kind → Type 0) (f : Flow) (insn : Insn) (before after : List Kind) → WaysBy P f insn before after → AllWays P (ways_along f insn before after)
 all_from P Halts insn before after h = tt
 all_from P (Goes next) insn before after h = (h, tt)
 all_from P (Forks taken next) insn before after h =
@@ -171,154 +178,465 @@ all_to P (Enters start next) insn before after a = (a.0, a.1.0)
 
 -- ---- what ways hand on
 
-pub led_length : (states : States) (ws : List Way) → length (led states ws) ≡ length states
-led_length states [] = refl
-led_length states (w ∷ ws) = led_length (met states w.target w.kinds) ws ∙ length-set states w.target _
+abbrev one_led : ℕ → States → Way → States
+one_led slot states w = if nat_lt slot w.target then met states w.target w.kinds else states
 
-led_grows : (states : States) (ws : List Way) → AreWithin states (led states ws)
-led_grows states [] = are_within_same states
-led_grows states (w ∷ ws) = are_within_then states (met states w.target w.kinds) (led states (w ∷ ws)) (met_grows states w.target w.kinds) (led_grows (met states w.target w.kinds) ws)
-
--- each way's kinds are contained in the state that they lead to
-led_brings : (states : States) (ws : List Way) → AllWays (λ t ks. t < length states) ws → AllWays (Leads (led states ws)) ws
-led_brings states [] h = tt
-led_brings states (w ∷ ws) h =
-    let next = met states w.target w.kinds in
-    let size : length states ≡ length next = sym (length-set states w.target _) in (
-      leads_then next (led next ws) w.target w.kinds (met_leads states w.target w.kinds h.0) (led_grows next ws),
-      led_brings next ws (subst (λ n. AllWays (λ t ks. t < n) ws) size h.1),
-    )
-
--- a slot that no way leads to keeps its state
-led_keeps : (states : States) (slot : ℕ) (ws : List Way) → AllWays (λ t ks. slot < t) ws → state_at (led states ws) slot ≡ state_at states slot
-led_keeps states slot [] h = refl
-led_keeps states slot (w ∷ ws) h = let lt = h.0 in led_keeps (met states w.target w.kinds) slot ws h.1 ∙ met_other states w.target slot w.kinds (λ same. absurd (omega (arith, same, lt)))
-
--- what holds of each state and on each way holds of each state after, where joins keep it
-pub led_all : (P : ℕ → List Kind → Type 0) (states : States) (ws : List Way) → Joins P → AllStates P states → AllWays P ws → AllStates P (led states ws)
-led_all P states [] j h a = h
-led_all P states (w ∷ ws) j h a = led_all P (met states w.target w.kinds) ws j (met_all P states w.target w.kinds j h a.0) a.1
-
--- ---- one slot
-
--- it leads to later slots of the program
-later_ways : (count slot : ℕ) (f : Flow) (insn : Insn) (before after : List Kind) → IsForward count slot f → WaysBy (λ t ks. IsLater count slot t) f insn before after
-later_ways count slot Halts insn before after h = tt
-later_ways count slot (Goes next) insn before after h = h
-later_ways count slot (Forks taken next) insn before after h = (λ k e. h.0, λ k e. h.1)
-later_ways count slot (Enters start next) insn before after h = h
-
--- wider kinds take the same way of a fork
-record Narrows (wide : Option (List Kind)) (k : List Kind) : Type 0 where
-  wider : List Kind
-  is : wide ≡ Some wider
-  within : Within k wider
-  kinds : AreKinds k
-
-narrow_when : (taken : Bool) (insn : Insn) (after wide k : List Kind) → IsInsn insn → AreKinds after → AreNumbers insn wide → Within after wide → kinds_when taken insn after ≡ Some k → Narrows (kinds_when taken insn wide) k
-narrow_when taken (JumpIf j) after wide k n a m w e = go (when j taken wide) (subst (λ o. WayFollows o (when j taken wide)) e (when_follows j taken after wide n.0 n.1 a w m.0 m.1))
+pub led_length : (slot : ℕ) (states : States) (ws : List Way) → length (led slot states ws) ≡ length states
+led_length slot states [] = refl
+led_length slot states (w ∷ ws) = led_length slot (one_led slot states w) ws ∙ go (nat_lt slot w.target)
   where
-    go : (o : Option (List Kind)) → WayFollows (Some k) o → Narrows o k
-    go None h = absurd h
-    go (Some x) h = record { wider = x; is = refl; within = h.0; kinds = h.1 }
-narrow_when taken insn after wide k n a m w e = record { wider = wide; is = refl; within = subst (λ x. Within x wide) (cc e) w; kinds = subst AreKinds (cc e) a }
+    go : (b : Bool) → length (if b then met states w.target w.kinds else states) ≡ length states
+    go true = length-set states w.target _
+    go false = refl
 
--- the kinds on each way hold some values
-proper_ways : (f : Flow) (insn : Insn) (before after : List Kind) → IsInsn insn → AreNumbers insn after → AreKinds before → AreKinds after → WaysBy (λ t ks. AreKinds ks) f insn before after
-proper_ways Halts insn before after n m a b = tt
-proper_ways (Goes next) insn before after n m a b = b
-proper_ways (Forks taken next) insn before after n m a b =
-    (λ k e. (narrow_when true insn after after k n b m (within_same after) e).kinds, λ k e. (narrow_when false insn after after k n b m (within_same after) e).kinds)
-proper_ways (Enters start next) insn before after n m a b = (enter_kinds before a, b)
+led_keeps : (slot k : ℕ) (states : States) (ws : List Way) → k ≤ slot → state_at (led slot states ws) k ≡ state_at states k
+led_keeps slot k states [] le = refl
+led_keeps slot k states (w ∷ ws) le = led_keeps slot k (one_led slot states w) ws le ∙ go (nat_lt slot w.target) refl
+  where
+    go : (b : Bool) → nat_lt slot w.target ≡ b → state_at (if b then met states w.target w.kinds else states) k ≡ state_at states k
+    go true e = let lt : slot < w.target = grind (arith, nat_tests, e) in met_other states w.target k w.kinds (λ same. absurd (omega (arith, same, lt, le)))
+    go false e = refl
 
-effect_kinds : (vars : ℕ) (insn : Insn) (ks after : List Kind) → IsInsn insn → AreKinds ks → transfer vars insn ks ≡ Some after → AreKinds after
+led_grows : (slot : ℕ) (states : States) (ws : List Way) → AreWithin states (led slot states ws)
+led_grows slot states [] = are_within_same states
+led_grows slot states (w ∷ ws) = are_within_then states (one_led slot states w) (led slot (one_led slot states w) ws) (go (nat_lt slot w.target)) (led_grows slot (one_led slot states w) ws)
+  where
+    go : (b : Bool) → AreWithin states (if b then met states w.target w.kinds else states)
+    go true = met_grows states w.target w.kinds
+    go false = are_within_same states
+
+led_brings : (slot : ℕ) (states : States) (ws : List Way) → AllWays (λ t ks. t < length states) ws → AllWays (λ t ks. slot < t → Leads (led slot states ws) t ks) ws
+led_brings slot states [] h = tt
+led_brings slot states (w ∷ ws) h =
+    let next = one_led slot states w in (
+      λ lt. leads_then next (led slot next ws) w.target w.kinds (go (nat_lt slot w.target) refl lt) (led_grows slot next ws),
+      led_brings slot next ws (all_then (λ t ks. t < length states) (λ t ks. t < length next) ws (λ t ks l. subst (λ n. t < n) (sym (size (nat_lt slot w.target))) l) h.1),
+    )
+  where
+    size : (b : Bool) → length (if b then met states w.target w.kinds else states) ≡ length states
+    size true = length-set states w.target _
+    size false = refl
+
+    go : (b : Bool) → nat_lt slot w.target ≡ b → slot < w.target → Leads (if b then met states w.target w.kinds else states) w.target w.kinds
+    go true e lt = met_leads states w.target w.kinds h.0
+    go false e lt = absurd (grind (arith, nat_tests, e, lt))
+
+pub led_all : (P : ℕ → List Kind → Type 0) (slot : ℕ) (states : States) (ws : List Way) → ((k : ℕ) (a b : List Kind) → P k a → P k b → P k (joined a b))
+    → ((k : ℕ) (ks : List Kind) → state_at states k ≡ Some ks → P k ks) → AllWays (λ t ks. slot < t → P t ks) ws → (k : ℕ) (ks : List Kind) → state_at (led slot states ws) k ≡ Some ks → P k ks
+led_all P slot states [] j h a k ks e = h k ks e
+led_all P slot states (w ∷ ws) j h a k ks e = led_all P slot (one_led slot states w) ws j (go (nat_lt slot w.target) refl) a.1 k ks e
+  where
+    go : (b : Bool) → nat_lt slot w.target ≡ b → (k : ℕ) (ks : List Kind) → state_at (if b then met states w.target w.kinds else states) k ≡ Some ks → P k ks
+    go true e = met_all P states w.target w.kinds j h (a.0 (grind (arith, nat_tests, e)))
+    go false e = h
+
+-- ---- kinds that hold values
+
+pub effect_kinds : (vars : ℕ) (insn : Insn) (ks after : List Kind) → IsInsn insn → AreKinds ks → transfer vars insn ks ≡ Some after → AreKinds after
 effect_kinds vars insn ks after i a e =
     let m = transfer_meets vars insn ks ks after i a (within_same ks) e in
     let same : m.after ≡ after = cc (m.is, e) in
     subst AreKinds same m.kinds
 
--- what passing a slot with a state gives
-pub record Passes (vars slot : ℕ) (insn : Insn) (kinds : List Kind) (states next : States) : Type 0 where
-  pub after : List Kind
-  pub effect : transfer vars insn kinds ≡ Some after
-  pub is : led states (ways_after slot insn kinds after) ≡ next
-
-pub passes : (vars slot : ℕ) (insn : Insn) (kinds : List Kind) (states next : States) → passed_with vars slot insn (Some kinds) states ≡ Some next → Passes vars slot insn kinds states next
-passes vars slot insn kinds states next e = go (transfer vars insn kinds) refl e
+way_kinds : (taken : Bool) (insn : Insn) (ks k : List Kind) → IsInsn insn → AreKinds ks → AreNumbers insn ks → kinds_when taken insn ks ≡ Some k → AreKinds k
+way_kinds taken (JumpIf j) ks k n a m e = go (when j taken ks) (subst (λ o. WayFollows o (when j taken ks)) e (when_follows j taken ks ks n.0 n.1 a (within_same ks) m.0 m.1))
   where
-    go : (o : Option (List Kind)) → transfer vars insn kinds ≡ o → with_some o (λ after. Some (led states (ways_after slot insn kinds after))) ≡ Some next → Passes vars slot insn kinds states next
-    go None t f = absurd (cc f)
-    go (Some after) t f = record { after = after; effect = t; is = cc f }
+    go : (o : Option (List Kind)) → WayFollows (Some k) o → AreKinds k
+    go None h = absurd h
+    go (Some x) h = h.1
+way_kinds taken insn ks k n a m e = subst AreKinds (cc e) a
 
-abbrev pub AreProper : States → Type 0
-AreProper states = AllStates (λ k ks. AreKinds ks) states
+fourth_is : (version : ImageVersion) → IsKind (fourth_kind version)
+fourth_is One = tt
+fourth_is Two = grind (arith, ints)
 
-passed_proper : (vars slot : ℕ) (insn : Insn) (kinds : List Kind) (states next : States) → IsInsn insn → AreKinds kinds → AreProper states → Passes vars slot insn kinds states next → AreProper next
-passed_proper vars slot insn kinds states next n a s p =
-    let b = effect_kinds vars insn kinds p.after n a p.effect in
-    subst AreProper p.is (led_all (λ k ks. AreKinds ks) states (ways_after slot insn kinds p.after) (λ k x y. joined_kinds x y) s
-    (all_from (λ t ks. AreKinds ks) (flow slot insn) insn kinds p.after (proper_ways (flow slot insn) insn kinds p.after n (are_numbers vars insn kinds p.after p.effect) a b)))
+pub entry_kinds : (version : ImageVersion) → AreKinds (entry version)
+entry_kinds version = record { count = refl; each = λ r. each_is (entry version) (tt, (grind (arith, ints), (grind (arith, ints), (omega arith, (fourth_is version, (tt, (tt, (tt, (tt, (tt, (grind (arith, ints), tt))))))))))) r }
+  where
+    EachIs : List Kind → Type 0
+    EachIs [] = Unit {0}
+    EachIs (k ∷ ks) = IsKind k × EachIs ks
+
+    each_is : (ks : List Kind) → EachIs ks → (r : ℕ) → IsKind (kind_at ks r)
+    each_is [] h r = tt
+    each_is (k ∷ ks) h zero = h.0
+    each_is (k ∷ ks) h (suc r) = each_is ks h.1 r
+
+-- ---- shape
+
+pub begins_is : (loops : List Loop) (slot : ℕ) (l : Loop) → begins loops slot ≡ Some l → (i : ℕ) × (slice_get loops i ≡ Some l) × (l.head ≡ slot)
+begins_is [] slot l e = absurd (cc e)
+begins_is (m ∷ loops) slot l e = go (begins_is loops slot l) (nat_eq m.head slot) refl e
+  where
+    go : (begins loops slot ≡ Some l → (i : ℕ) × (slice_get loops i ≡ Some l) × (l.head ≡ slot)) → (b : Bool) → nat_eq m.head slot ≡ b → (if b then Some m else begins loops slot) ≡ Some l → (i : ℕ) × (slice_get (m ∷ loops) i ≡ Some l) × (l.head ≡ slot)
+    go ih true f g = let same : m ≡ l = cc g in let at : m.head ≡ slot = grind (arith, nat_tests, f) in (0, ap Some same, subst (λ x. x.head ≡ slot) same at)
+    go ih false f g = let r = ih g in (suc r.0, r.1, r.2)
+
+pub inside_is : (loops : List Loop) (i slot : ℕ) (l : Loop) → slice_get loops i ≡ Some l → l.head ≤ slot → slot ≤ l.last → is_inside loops slot ≡ true
+inside_is [] i slot l e a b = absurd (cc e)
+inside_is (m ∷ loops) zero slot l e a b =
+    let same : m ≡ l = cc e in
+    let t : is_in l slot ≡ true = grind (arith, nat_tests, a, b) in
+    ap (λ x. x || is_inside loops slot) (subst (λ x. is_in x slot ≡ true) (sym same) t)
+inside_is (m ∷ loops) (suc i) slot l e a b = either (is_in m slot) (inside_is loops i slot l e a b)
+  where
+    either : (x : Bool) → is_inside loops slot ≡ true → (x || is_inside loops slot) ≡ true
+    either true h = refl
+    either false h = h
+
+pub sound_of : (code : List Insn) (l : Loop) → IsLoop code l → IsSound l
+sound_of code l i = record { counter = i.counter; some = i.some; few = i.few }
+
+-- a flow's slots are slots of the program
+flow_below : (P : ℕ → List Kind → Type 0) (count : ℕ) (loops : List Loop) (slot : ℕ) (f : Flow) (insn : Insn) (before after : List Kind)
+    → ((i : ℕ) (l : Loop) → slice_get loops i ≡ Some l → l.head < count) → IsOnward count loops slot f → ((t : ℕ) (ks : List Kind) → t < count → P t ks) → WaysBy P f insn before after
+flow_below P count loops slot Halts insn before after h o p = tt
+flow_below P count loops slot (Goes next) insn before after h o p = p next after o.1
+flow_below P count loops slot (Forks taken next) insn before after h o p = (λ k e. p taken k (go o.0), λ k e. p next k o.1.1)
+  where
+    go : IsLater count slot taken ⊎ IsBack loops slot taken → taken < count
+    go (inl l) = l.1
+    go (inr b) = subst (λ t. t < count) (sym b.head) (h b.index b.loop b.among)
+flow_below P count loops slot (Enters start next) insn before after h o p = (p start (enter before) o.0.1, p next after o.1.1)
 
 -- ---- soundness: what the pass keeps
 
-abbrev pub AreForward : List Insn → Type 0
-AreForward code = (slot : ℕ) (insn : Insn) → slice_get code slot ≡ Some insn → IsForward (length code) slot (flow slot insn)
+-- the loop's head was passed, and these kinds are under its kinds
+record IsFound (slot : ℕ) (states : States) (l : Loop) (ks : List Kind) : Type 0 where
+  passed : l.head < slot
+  head : List Kind
+  is : state_at states l.head ≡ Some head
+  under : IsUnder l head ks
 
-record Sound (version : ImageVersion) (vars : ℕ) (code : List Insn) (slot : ℕ) (states : States) : Type 0 where
+record Inner (loops : List Loop) (slot : ℕ) (states : States) (k : ℕ) (ks : List Kind) : Type 0 where
+  fit : AreKinds ks
+  found : (i : ℕ) (l : Loop) → slice_get loops i ≡ Some l → l.head < k → k ≤ l.last → IsFound slot states l ks
+
+record Sound (version : ImageVersion) (vars : ℕ) (code : List Insn) (loops : List Loop) (slot : ℕ) (states : States) : Type 0 where
   count : length states ≡ length code
   entered : Leads states 0 (entry version)
-  done : (k : ℕ) (insn : Insn) (ks : List Kind) → k < slot → slice_get code k ≡ Some insn → state_at states k ≡ Some ks → IsWellTypedAt vars states k insn ks
+  inner : (k : ℕ) (ks : List Kind) → state_at states k ≡ Some ks → Inner loops slot states k ks
+  done : (k : ℕ) (insn : Insn) (ks : List Kind) → k < slot → slice_get code k ≡ Some insn → state_at states k ≡ Some ks → IsWellTypedAt vars loops states k insn ks
+  heads : (i : ℕ) (l : Loop) (ks : List Kind) → slice_get loops i ≡ Some l → l.head < slot → state_at states l.head ≡ Some ks → IsHeadState code l ks
+
+-- one kind is contained where two are joined, or by way of another
+join_under : (a b c : Kind) → KindWithin a c → KindWithin b c → KindWithin (join_kind a b) c
+join_under a b c p q =
+    let w = joined_least (a ∷ []) (b ∷ []) (c ∷ []) (record { each = one a c p }) (record { each = one b c q }) in w.each 0
+  where
+    one : (x y : Kind) → KindWithin x y → (r : ℕ) → KindWithin (kind_at (x ∷ []) r) (kind_at (y ∷ []) r)
+    one x y h zero = h
+    one x y h (suc r) = tt
+
+then_within : (a b c : Kind) → KindWithin a b → KindWithin b c → KindWithin a c
+then_within a b c p q =
+    let w = within_then (a ∷ []) (b ∷ []) (c ∷ []) (record { each = one a b p }) (record { each = one b c q }) in w.each 0
+  where
+    one : (x y : Kind) → KindWithin x y → (r : ℕ) → KindWithin (kind_at (x ∷ []) r) (kind_at (y ∷ []) r)
+    one x y h zero = h
+    one x y h (suc r) = tt
+
+under_join : (l : Loop) (head a b : List Kind) → IsUnder l head a → IsUnder l head b → IsUnder l head (joined a b)
+under_join l head a b p q = record { each = λ r n. subst (λ k. KindWithin k (kind_at head r)) (sym (joined_at a b r)) (join_under (kind_at a r) (kind_at b r) (kind_at head r) (p.each r n) (q.each r n)) }
+
+inner_join : (loops : List Loop) (slot : ℕ) (states : States) (k : ℕ) (a b : List Kind) → Inner loops slot states k a → Inner loops slot states k b → Inner loops slot states k (joined a b)
+inner_join loops slot states k a b p q = record {
+  fit = joined_kinds a b p.fit q.fit;
+  found = λ i l g lt le.
+      let x = p.found i l g lt le in
+      let y = q.found i l g lt le in
+      let same : y.head ≡ x.head = cc (x.is, y.is) in
+      record { passed = x.passed; head = x.head; is = x.is; under = under_join l x.head a b x.under (subst (λ h. IsUnder l h b) same y.under) };
+}
+
+under_same : (l : Loop) (ks : List Kind) → IsUnder l ks ks
+under_same l ks = record { each = λ r n. kind_within_same (kind_at ks r) }
+
+under_then : (l : Loop) (head a b : List Kind) → Within a b → IsUnder l head b → IsUnder l head a
+under_then l head a b w u = record { each = λ r n. then_within (kind_at a r) (kind_at b r) (kind_at head r) (w.each r) (u.each r n) }
+
+-- the kinds that a slot is passed with
+pub record Passed (vars : ℕ) (code : List Insn) (loops : List Loop) (slot : ℕ) (insn : Insn) (found kinds after : List Kind) : Type 0 where
+  pub settled_is : settled code (begins loops slot) found ≡ Some kinds
+  pub effect : transfer vars insn kinds ≡ Some after
+  pub number : is_inside loops slot ≡ true → gives_number (computes insn) after ≡ true
+
+pub passed_parts : (vars : ℕ) (code : List Insn) (loops : List Loop) (slot : ℕ) (insn : Insn) (found : List Kind) (states next : States) → passed_with vars code loops slot insn (Some found) states ≡ Some next
+    → (kinds : List Kind) × (after : List Kind) × Passed vars code loops slot insn found kinds after × (led slot (slice_set states slot (Some kinds)) (ways_after slot insn kinds after) ≡ next)
+passed_parts vars code loops slot insn found states next e = one (settled code (begins loops slot) found) refl e
+  where
+    Parts : Type 0
+    Parts = (kinds : List Kind) × (after : List Kind) × Passed vars code loops slot insn found kinds after × (led slot (slice_set states slot (Some kinds)) (ways_after slot insn kinds after) ≡ next)
+
+    three : (kinds after : List Kind) (b c : Bool) → is_inside loops slot ≡ b → gives_number (computes insn) after ≡ c → settled code (begins loops slot) found ≡ Some kinds → transfer vars insn kinds ≡ Some after
+        → (if b && not c then None else Some (led slot (slice_set states slot (Some kinds)) (ways_after slot insn kinds after))) ≡ Some next → Parts
+    three kinds after true true p q s t g = (kinds, after, record { settled_is = s; effect = t; number = λ h. q }, cc g)
+    three kinds after true false p q s t g = absurd (cc g)
+    three kinds after false c p q s t g = (kinds, after, record { settled_is = s; effect = t; number = λ h. absurd (cc (h, p)) }, cc g)
+
+    two : (kinds : List Kind) (o : Option (List Kind)) → transfer vars insn kinds ≡ o → settled code (begins loops slot) found ≡ Some kinds
+        → with_some o (λ after. handed_on (is_inside loops slot) slot insn kinds after states) ≡ Some next → Parts
+    two kinds None t s g = absurd (cc g)
+    two kinds (Some after) t s g = three kinds after (is_inside loops slot) (gives_number (computes insn) after) refl refl s t g
+
+    one : (o : Option (List Kind)) → settled code (begins loops slot) found ≡ o → with_some o (λ kinds. with_some (transfer vars insn kinds) (λ after. handed_on (is_inside loops slot) slot insn kinds after states)) ≡ Some next → Parts
+    one None s g = absurd (cc g)
+    one (Some kinds) s g = two kinds (transfer vars insn kinds) refl s g
+
+-- where the pass stops it leaves nothing
+pub stopped : (vars : ℕ) (code : List Insn) (beginning : Option Loop) (inside : Bool) (slot : ℕ) (insn : Insn) (found known : List Kind) (states : States) → Stops vars code beginning inside insn found known → passed_by vars code beginning inside slot insn found states ≡ None
+stopped vars code beginning inside slot insn found known states (AtHead l b e k t) = ap (λ o. with_some o (λ kinds. met_by vars inside slot insn kinds states)) e
+stopped vars code beginning inside slot insn found known states (AtEntry e k) = ap (λ o. with_some o (λ kinds. met_by vars inside slot insn kinds states)) e
+stopped vars code beginning inside slot insn found known states (AtInsn e f) = ap (λ o. with_some o (λ kinds. met_by vars inside slot insn kinds states)) e ∙ fails f
+  where
+    fails : Fails vars inside insn known → met_by vars inside slot insn known states ≡ None
+    fails (Unmet n) = ap (λ o. with_some o (λ after. handed_on inside slot insn known after states)) n
+    fails (NoNumber after t i g) =
+        ap (λ o. with_some o (λ after. handed_on inside slot insn known after states)) t
+        ∙ ap (λ b. if b && not (gives_number (computes insn) after) then None else Some (led slot (slice_set states slot (Some known)) (ways_after slot insn known after))) i
+        ∙ ap (λ b. if not b then None else Some (led slot (slice_set states slot (Some known)) (ways_after slot insn known after))) g
+
+-- the settled kinds
+pub record IsSettled (code : List Insn) (loops : List Loop) (slot : ℕ) (found kinds : List Kind) : Type 0 where
+  pub fit : AreKinds kinds
+  pub within : Within found kinds
+  pub head : (l : Loop) → begins loops slot ≡ Some l → IsHeadState code l kinds
+
+pub settled_now : (code : List Insn) (loops : List Loop) (slot : ℕ) (found kinds : List Kind) → AreLoops code loops → AreKinds found → settled code (begins loops slot) found ≡ Some kinds → IsSettled code loops slot found kinds
+unfolding settled
+settled_now code loops slot found kinds a f e = go (begins loops slot) refl e
+  where
+    go : (o : Option Loop) → begins loops slot ≡ o → settled code o found ≡ Some kinds → IsSettled code loops slot found kinds
+    go None b g = let same : found ≡ kinds = cc g in subst (IsSettled code loops slot found) same (record { fit = f; within = within_same found; head = λ l h. absurd (cc (h, b)) })
+    go (Some m) b g =
+        let at = begins_is loops slot m b in
+        let s = settles code m found kinds (sound_of code m (a.each at.0 m at.1)) f g in
+        record { fit = s.kinds; within = s.within; head = λ l h. let same : m ≡ l = cc (b, h) in subst (λ x. IsHeadState code x kinds) same s.head }
+
+pub settled_fit : (code : List Insn) (o : Option Loop) (found kinds : List Kind) → IsLoopOf code o → AreKinds found → settled code o found ≡ Some kinds → AreKinds kinds
+unfolding settled
+settled_fit code None found kinds l f e = let same : found ≡ kinds = cc e in subst AreKinds same f
+settled_fit code (Some m) found kinds l f e = (settles code m found kinds (sound_of code m l) f e).kinds
+
+-- and under the heads round it
+settled_under : (code : List Insn) (loops : List Loop) (slot : ℕ) (found kinds head : List Kind) (i : ℕ) (l : Loop) → AreLoops code loops → AreKinds found → settled code (begins loops slot) found ≡ Some kinds
+    → slice_get loops i ≡ Some l → l.head < slot → slot ≤ l.last → IsHeadState code l head → IsUnder l head found → IsUnder l head kinds
+unfolding settled
+settled_under code loops slot found kinds head i l a f e g lt le h u = go (begins loops slot) refl e
+  where
+    go : (o : Option Loop) → begins loops slot ≡ o → settled code o found ≡ Some kinds → IsUnder l head kinds
+    go None b s = let same : found ≡ kinds = cc s in subst (IsUnder l head) same u
+    go (Some m) b s =
+        let at = begins_is loops slot m b in
+        let k = a.each at.0 m at.1 in
+        let inside : l.head < m.head = omega (arith, lt, at.2) in
+        let before : m.head ≤ l.last = omega (arith, le, at.2) in
+        inner_under code l m head found kinds (sound_of code m k) h f u s
+        (λ r w. a.inner i at.0 l m r g at.1 inside before w) (λ c. a.calls i at.0 l m g at.1 inside before c) k.counts
+
+-- ---- one slot
+
+by_flow : (P : ℕ → List Kind → Type 0) (f : Flow) (insn : Insn) (before after : List Kind) → ((t : ℕ) → LeadsTo f t → P t after)
+    → ((taken : Bool) (t : ℕ) (k : List Kind) → LeadsTo f t → kinds_when taken insn after ≡ Some k → P t k) → ((t : ℕ) → Calls f t → P t (enter before)) → WaysBy P f insn before after
+by_flow P Halts insn before after h w c = tt
+by_flow P (Goes next) insn before after h w c = h next refl
+by_flow P (Forks taken next) insn before after h w c = (λ k e. w true taken k (inl refl) e, λ k e. w false next k (inr refl) e)
+by_flow P (Enters start next) insn before after h w c = (c start refl, h next refl)
+
+abbrev HeadsIn : List Insn → List Loop → ℕ → States → Type 0
+HeadsIn code loops slot states = (i : ℕ) (l : Loop) (ks : List Kind) → slice_get loops i ≡ Some l → l.head < slot → state_at states l.head ≡ Some ks → IsHeadState code l ks
+
+-- the head of a loop that has the slot in its body
+head_at : (loops : List Loop) (slot : ℕ) (base : States) (kinds : List Kind) → state_at base slot ≡ Some kinds → Inner loops (suc slot) base slot kinds → (i : ℕ) (l : Loop) → slice_get loops i ≡ Some l → l.head ≤ slot → slot ≤ l.last
+    → IsFound (suc slot) base l kinds
+head_at loops slot base kinds here n i l g from le = elim (cases_lt l.head slot) [
+  | inl lt ↦ n.found i l g lt le
+  | inr ge ↦ let same : slot ≡ l.head = omega (arith, from, ge) in record { passed = omega (arith, from); head = kinds; is = subst (λ k. state_at base k ≡ Some kinds) same here; under = under_same l kinds }
+]
+
+-- after the instruction they are under the head still
+after_under : (vars : ℕ) (code : List Insn) (loops : List Loop) (slot : ℕ) (insn : Insn) (found kinds after : List Kind) (base : States) → IsInsn insn → slice_get code slot ≡ Some insn
+    → Passed vars code loops slot insn found kinds after → AreKinds kinds → HeadsIn code loops (suc slot) base → (i : ℕ) (l : Loop) → slice_get loops i ≡ Some l → l.head ≤ slot → slot ≤ l.last → (h : IsFound (suc slot) base l kinds) → IsUnder l h.head after
+after_under vars code loops slot insn found kinds after base n stands p f heads i l g from le h =
+    body_keeps vars code l slot insn h.head kinds after from le stands n (heads i l h.head g h.passed h.is) f (effect_kinds vars insn kinds after n f p.effect) h.under p.effect
+    (p.number (inside_is loops i slot l g from le))
+
+ways_inner : (vars : ℕ) (code : List Insn) (loops : List Loop) (slot : ℕ) (insn : Insn) (found kinds after : List Kind) (base : States) → AreLoops code loops → IsInsn insn → slice_get code slot ≡ Some insn
+    → Passed vars code loops slot insn found kinds after → AreKinds kinds → state_at base slot ≡ Some kinds → Inner loops (suc slot) base slot kinds → HeadsIn code loops (suc slot) base
+    → WaysBy (λ t ks. slot < t → Inner loops (suc slot) base t ks) (flow slot insn) insn kinds after
+ways_inner vars code loops slot insn found kinds after base a n stands p f here inner heads =
+    by_flow (λ t ks. slot < t → Inner loops (suc slot) base t ks) (flow slot insn) insn kinds after
+    (λ t leads. on t after leads fit (within_same after))
+    (λ taken t k leads e. on t k leads (way_kinds taken insn after k n fit (are_numbers vars insn kinds after p.effect) e) (way_inside taken insn after k n fit e))
+    (λ t calls later. record { fit = enter_kinds kinds f; found = λ i l g lt le. absurd ((a.each i l g).whole slot t insn stands calls lt le) })
+  where
+    fit : AreKinds after
+    fit = effect_kinds vars insn kinds after n f p.effect
+
+    on : (t : ℕ) (ks : List Kind) → LeadsTo (flow slot insn) t → AreKinds ks → Within ks after → slot < t → Inner loops (suc slot) base t ks
+    on t ks leads k w later = record {
+      fit = k;
+      found = λ i l g lt le.
+          let from = (a.each i l g).closed slot t insn stands leads later lt le in
+          let upto : slot ≤ l.last = omega (arith, later, le) in
+          let h = head_at loops slot base kinds here inner i l g from upto in
+          let u = after_under vars code loops slot insn found kinds after base n stands p f heads i l g from upto h in
+          record { passed = h.passed; head = h.head; is = h.is; under = under_then l h.head ks after w u };
+    }
 
 lead_grow : (states next : States) (ws : List Way) → AreWithin states next → AllLead states ws → AllLead next ws
 lead_grow states next [] w a = tt
 lead_grow states next (v ∷ ws) w a = (leads_then states next v.target v.kinds a.0 w, lead_grow states next ws w a.1)
 
-sound_none : (version : ImageVersion) (vars : ℕ) (code : List Insn) (slot : ℕ) (states : States) → Sound version vars code slot states → state_at states slot ≡ None → Sound version vars code (suc slot) states
-sound_none version vars code slot states s e = record {
+inner_more : (loops : List Loop) (slot k : ℕ) (states next : States) (ks : List Kind) → ((j : ℕ) → j < slot → state_at next j ≡ state_at states j) → Inner loops slot states k ks → Inner loops (suc slot) next k ks
+inner_more loops slot k states next ks same n = record {
+  fit = n.fit;
+  found = λ i l g lt le. let o = n.found i l g lt le in record { passed = let b = o.passed in omega (arith, b); head = o.head; is = same l.head o.passed ∙ o.is; under = o.under };
+}
+
+sound_none : (version : ImageVersion) (vars : ℕ) (code : List Insn) (loops : List Loop) (slot : ℕ) (states : States) → Sound version vars code loops slot states → state_at states slot ≡ None → Sound version vars code loops (suc slot) states
+sound_none version vars code loops slot states s e = record {
   count = s.count;
   entered = s.entered;
+  inner = λ k ks f. inner_more loops slot k states states ks (λ j lt. refl) (s.inner k ks f);
   done = λ k insn ks lt g f. elim (cases_lt k slot) [
     | inl before ↦ s.done k insn ks before g f
     | inr ge ↦ let same : k ≡ slot = omega (arith, lt, ge) in absurd (cc (e, subst (λ j. state_at states j ≡ Some ks) same f))
   ];
+  heads = λ i l ks g lt f. elim (cases_lt l.head slot) [
+    | inl before ↦ s.heads i l ks g before f
+    | inr ge ↦ let same : l.head ≡ slot = omega (arith, lt, ge) in absurd (cc (e, subst (λ j. state_at states j ≡ Some ks) same f))
+  ];
 }
 
-sound_some : (version : ImageVersion) (vars : ℕ) (code : List Insn) (slot : ℕ) (insn : Insn) (states : States) (kinds after : List Kind) → AreForward code → slice_get code slot ≡ Some insn → Sound version vars code slot states → state_at states slot ≡ Some kinds
-    → transfer vars insn kinds ≡ Some after → Sound version vars code (suc slot) (led states (ways_after slot insn kinds after))
-sound_some version vars code slot insn states kinds after a stands s e t =
+-- the jump back of a loop leads to kinds that its head contains
+back_leads : (vars : ℕ) (code : List Insn) (loops : List Loop) (slot : ℕ) (insn : Insn) (found kinds after : List Kind) (base : States) → AreLoops code loops → IsInsn insn → slice_get code slot ≡ Some insn
+    → Passed vars code loops slot insn found kinds after → AreKinds kinds → Inner loops (suc slot) base slot kinds → HeadsIn code loops (suc slot) base
+    → (t : ℕ) → IsBack loops slot t → (k : List Kind) → kinds_when true insn after ≡ Some k → (head : List Kind) × (state_at base t ≡ Some head) × Within k head
+back_leads vars code loops slot insn found kinds after base a n stands p f inner heads t b k e =
+    let l = b.loop in
+    let is = a.each b.index l b.among in
+    let j = is.jumps in
+    let last = b.last in
+    let same : insn ≡ JumpIf j.jump = cc (stands, subst (λ i. slice_get code i ≡ Some (JumpIf j.jump)) (sym last) j.stands) in
+    let lt : l.head < slot = let o = is.order in omega (arith, o, last) in
+    let upto : slot ≤ l.last = omega (arith, last) in
+    let from : l.head ≤ slot = omega (arith, lt) in
+    let h = inner.found b.index l b.among lt upto in
+    let u = after_under vars code loops slot insn found kinds after base n stands p f heads b.index l b.among from upto h in
+    let numbers : AreNumbers (JumpIf j.jump) after = subst (λ i. AreNumbers i after) same (are_numbers vars insn kinds after p.effect) in
+    let counts : is_number (kind_at after l.counter) ≡ true = subst (λ r. is_number (kind_at after r) ≡ true) j.left numbers.0 in
+    let taken : when j.jump true after ≡ Some k = subst (λ i. kinds_when true i after ≡ Some k) same e in (
+      h.head,
+      subst (λ i. state_at base i ≡ Some h.head) (sym b.head) h.is,
+      back code l j.jump h.head after k (sound_of code l is) (heads b.index l h.head b.among h.passed h.is) (effect_kinds vars insn kinds after n f p.effect) u counts j.width j.relation j.left j.right taken
+          (way_inside true insn after k n (effect_kinds vars insn kinds after n f p.effect) e),
+    )
+
+-- each way leads to a state that contains it
+ways_lead : (next : States) (count : ℕ) (loops : List Loop) (slot : ℕ) (f : Flow) (insn : Insn) (before after : List Kind) → IsOnward count loops slot f → WaysBy (λ t ks. slot < t → Leads next t ks) f insn before after
+    → ((t : ℕ) → IsBack loops slot t → (k : List Kind) → kinds_when true insn after ≡ Some k → Leads next t k) → WaysBy (Leads next) f insn before after
+ways_lead next count loops slot Halts insn before after o w b = tt
+ways_lead next count loops slot (Goes n) insn before after o w b = w o.0
+ways_lead next count loops slot (Forks taken n) insn before after o w b = (λ k e. go k e o.0, λ k e. w.1 k e o.1.0)
+  where
+    go : (k : List Kind) → kinds_when true insn after ≡ Some k → IsLater count slot taken ⊎ IsBack loops slot taken → Leads next taken k
+    go k e (inl l) = w.0 k e l.0
+    go k e (inr h) = b taken h k e
+ways_lead next count loops slot (Enters start n) insn before after o w b = (w.0 o.0.0, w.1 o.1.0)
+
+sound_some : (version : ImageVersion) (vars : ℕ) (code : List Insn) (loops : List Loop) (slot : ℕ) (insn : Insn) (states : States) (found kinds after : List Kind) → AreLoops code loops → IsInsn insn → slice_get code slot ≡ Some insn
+    → Sound version vars code loops slot states → state_at states slot ≡ Some found → Passed vars code loops slot insn found kinds after
+    → Sound version vars code loops (suc slot) (led slot (slice_set states slot (Some kinds)) (ways_after slot insn kinds after))
+sound_some version vars code loops slot insn states found kinds after a n stands s e p =
     let ws = ways_after slot insn kinds after in
-    let next = led states ws in
-    let later : AllWays (λ t ks. IsLater (length code) slot t) ws =
-    all_from (λ t ks. IsLater (length code) slot t) (flow slot insn) insn kinds after (later_ways (length code) slot (flow slot insn) insn kinds after (a slot insn stands)) in
+    let base = slice_set states slot (Some kinds) in
+    let next = led slot base ws in
+    let there = slice_get_within code slot insn stands in
     let size = s.count in
-    let below : AllWays (λ t ks. t < length states) ws = all_then (λ t ks. IsLater (length code) slot t) (λ t ks. t < length states) ws (λ t ks l. omega (arith, l.1, size)) later in
-    let keeps : (k : ℕ) → k ≤ slot → state_at next k ≡ state_at states k =
-    λ k le. led_keeps states k ws (all_then (λ t ks. IsLater (length code) slot t) (λ t ks. k < t) ws (λ t ks l. omega (arith, l.0, le)) later) in
-    let grows = led_grows states ws in
+    let lt : slot < length states = omega (arith, there, size) in
+    let base_size : length base ≡ length code = length-set states slot (Some kinds) ∙ size in
+    let here : state_at base slot ≡ Some kinds = get_or-set_same states slot (Some kinds) None lt in
+    let other : (k : ℕ) → k ≢ slot → state_at base k ≡ state_at states k = λ k d. set_other states slot k (Some kinds) d in
+    let was = s.inner slot found e in
+    let set = settled_now code loops slot found kinds a was.fit p.settled_is in
+    let earlier : (k : ℕ) → k < slot → state_at base k ≡ state_at states k = λ k b. other k (λ same. absurd (omega (arith, b, same))) in
+    let heads : HeadsIn code loops (suc slot) base = λ i l ks g b f. elim (cases_lt l.head slot) [
+      | inl before ↦ s.heads i l ks g before (sym (earlier l.head before) ∙ f)
+      | inr ge ↦
+          let same : l.head ≡ slot = omega (arith, b, ge) in
+          let k : kinds ≡ ks = cc (here, subst (λ j. state_at base j ≡ Some ks) same f) in
+          subst (IsHeadState code l) k (set.head l (subst (λ j. begins loops j ≡ Some l) same (a.one i l g)))
+    ] in
+    let settled_in : Inner loops (suc slot) base slot kinds = record {
+      fit = set.fit;
+      found = λ i l g b le.
+          let o = was.found i l g b le in
+          record { passed = omega (arith, b); head = o.head; is = earlier l.head b ∙ o.is; under = settled_under code loops slot found kinds o.head i l a was.fit p.settled_is g b le (s.heads i l o.head g o.passed o.is) o.under };
+    } in
+    let inner : (k : ℕ) (ks : List Kind) → state_at base k ≡ Some ks → Inner loops (suc slot) base k ks = λ k ks f. elim (cases_eq k slot) [
+      | inl same ↦
+          let is : kinds ≡ ks = cc (here, subst (λ j. state_at base j ≡ Some ks) same f) in
+          subst (λ j. Inner loops (suc slot) base j ks) (sym same) (subst (Inner loops (suc slot) base slot) is settled_in)
+      | inr d ↦ inner_more loops slot k states base ks earlier (s.inner k ks (sym (other k d) ∙ f))
+    ] in
+    let onward = a.onward slot insn stands in
+    let ways : AllWays (λ t ks. slot < t → Inner loops (suc slot) base t ks) ws =
+    all_from (λ t ks. slot < t → Inner loops (suc slot) base t ks) (flow slot insn) insn kinds after
+    (ways_inner vars code loops slot insn found kinds after base a n stands p set.fit here settled_in heads) in
+    let below : AllWays (λ t ks. t < length base) ws =
+    all_from (λ t ks. t < length base) (flow slot insn) insn kinds after
+    (flow_below (λ t ks. t < length base) (length code) loops slot (flow slot insn) insn kinds after (λ i l g. let x = a.each i l g in let o = x.order in let w = x.within in omega (arith, o, w)) onward
+    (λ t ks b. omega (arith, b, base_size))) in
+    let brought : WaysBy (λ t ks. slot < t → Leads next t ks) (flow slot insn) insn kinds after =
+    all_to (λ t ks. slot < t → Leads next t ks) (flow slot insn) insn kinds after (led_brings slot base ws below) in
+    let keeps : (k : ℕ) → k ≤ slot → state_at next k ≡ state_at base k = λ k b. led_keeps slot k base ws b in
+    let grows : AreWithin states next = are_within_then states base next
+    (record {
+      each = λ k ks f. elim (cases_eq k slot) [
+        | inl same ↦
+            let is : found ≡ ks = cc (e, subst (λ j. state_at states j ≡ Some ks) same f) in
+            subst (λ j. Leads base j ks) (sym same) (record { state = kinds; state_is = here; within = subst (λ x. Within x kinds) is set.within })
+        | inr d ↦ leads_same base k ks (other k d ∙ f)
+      ];
+    })
+    (led_grows slot base ws) in
+    let lead : WaysBy (Leads next) (flow slot insn) insn kinds after =
+    ways_lead next (length code) loops slot (flow slot insn) insn kinds after onward brought (λ t b k f.
+    let r = back_leads vars code loops slot insn found kinds after base a n stands p set.fit settled_in heads t b k f in
+    let bl = a.each b.index b.loop b.among in
+    let le : t ≤ slot = let o = bl.order in let x = b.last in let y = b.head in omega (arith, o, x, y) in
+    record { state = r.0; state_is = keeps t le ∙ r.1; within = r.2 }) in
     record {
-      count = led_length states ws ∙ size;
+      count = led_length slot base ws ∙ base_size;
       entered = leads_then states next 0 (entry version) s.entered grows;
+      inner = λ k ks f.
+          let i = led_all (Inner loops (suc slot) base) slot base ws (λ j x y u v. inner_join loops (suc slot) base j x y u v) inner ways k ks f in
+          record { fit = i.fit; found = λ j l g b le. let o = i.found j l g b le in record { passed = o.passed; head = o.head; is = (let q = o.passed in keeps l.head (omega (arith, q))) ∙ o.is; under = o.under } };
       done = λ k i ks b g f. elim (cases_lt k slot) [
         | inl before ↦
-            let o = s.done k i ks before g (sym (keeps k (omega (arith, before))) ∙ f) in
-            record { after = o.after; effect = o.effect; lead = lead_grow states next (ways_after k i ks o.after) grows o.lead }
+            let o = s.done k i ks before g (sym (earlier k before) ∙ (sym (keeps k (omega (arith, before))) ∙ f)) in
+            record { after = o.after; effect = o.effect; lead = lead_grow states next (ways_after k i ks o.after) grows o.lead; number = λ h. o.number h }
         | inr ge ↦
             let same : k ≡ slot = omega (arith, b, ge) in
-            let is : kinds ≡ ks = cc (e, sym (keeps slot (omega arith)) ∙ subst (λ j. state_at next j ≡ Some ks) same f) in
+            let is : kinds ≡ ks = cc (here, sym (keeps slot (omega arith)) ∙ subst (λ j. state_at next j ≡ Some ks) same f) in
             let it : insn ≡ i = cc (stands, subst (λ j. slice_get code j ≡ Some i) same g) in
-            let now : IsWellTypedAt vars next slot insn kinds = record { after = after; effect = t; lead = all_lead next ws (led_brings states ws below) } in
-            subst (λ j. IsWellTypedAt vars next j i ks) (sym same) (subst (λ x. IsWellTypedAt vars next slot x ks) it (subst (IsWellTypedAt vars next slot insn) is now))
+            let now : IsWellTypedAt vars loops next slot insn kinds =
+            record { after = after; effect = p.effect; lead = all_lead next ws (all_from (Leads next) (flow slot insn) insn kinds after lead); number = p.number } in
+            subst (λ j. IsWellTypedAt vars loops next j i ks) (sym same) (subst (λ x. IsWellTypedAt vars loops next slot x ks) it (subst (IsWellTypedAt vars loops next slot insn) is now))
       ];
+      heads = λ i l ks g b f. heads i l ks g b (sym (keeps l.head (omega (arith, b))) ∙ f);
     }
 
-sound_step : (version : ImageVersion) (vars : ℕ) (code : List Insn) (slot : ℕ) (insn : Insn) (states next : States) → AreForward code → slice_get code slot ≡ Some insn → Sound version vars code slot states → passed vars slot insn states ≡ Some next → Sound version vars code (suc slot) next
-sound_step version vars code slot insn states next a stands s e = go (state_at states slot) refl e
+sound_step : (version : ImageVersion) (vars : ℕ) (code : List Insn) (loops : List Loop) (slot : ℕ) (insn : Insn) (states next : States) → AreLoops code loops → IsInsn insn → slice_get code slot ≡ Some insn → Sound version vars code loops slot states
+    → passed vars code loops slot insn states ≡ Some next → Sound version vars code loops (suc slot) next
+sound_step version vars code loops slot insn states next a n stands s e = go (state_at states slot) refl e
   where
-    go : (o : Option (List Kind)) → state_at states slot ≡ o → passed_with vars slot insn o states ≡ Some next → Sound version vars code (suc slot) next
-    go None f g = let same : states ≡ next = cc g in subst (Sound version vars code (suc slot)) same (sound_none version vars code slot states s f)
-    go (Some kinds) f g =
-        let p = passes vars slot insn kinds states next g in
-        subst (Sound version vars code (suc slot)) p.is (sound_some version vars code slot insn states kinds p.after a stands s f p.effect)
+    go : (o : Option (List Kind)) → state_at states slot ≡ o → passed_with vars code loops slot insn o states ≡ Some next → Sound version vars code loops (suc slot) next
+    go None f g = let same : states ≡ next = cc g in subst (Sound version vars code loops (suc slot)) same (sound_none version vars code loops slot states s f)
+    go (Some found) f g =
+        let r = passed_parts vars code loops slot insn found states next g in
+        subst (Sound version vars code loops (suc slot)) r.3 (sound_some version vars code loops slot insn states found r.0 r.1 a n stands s f r.2)
 
 -- all slots
 abbrev AreFrom : List Insn → ℕ → List Insn → Type 0
@@ -331,26 +649,27 @@ from_next code slot insn rest h =
       λ k i e. let m : slot + suc k ≡ slot + 1 + k = omega arith in subst (λ j. slice_get code j ≡ Some i) m (h (suc k) i e),
     )
 
-from_first : (code : List Insn) → AreFrom code 0 code
-from_first code k insn e = let z : k ≡ 0 + k = omega arith in subst (λ j. slice_get code j ≡ Some insn) z e
+abbrev AreInsns : List Insn → Type 0
+AreInsns code = (slot : ℕ) (insn : Insn) → slice_get code slot ≡ Some insn → IsInsn insn
 
-sound_from : (version : ImageVersion) (vars : ℕ) (code : List Insn) (slot : ℕ) (rest : List Insn) (states last : States) → AreForward code → AreFrom code slot rest → length code ≡ slot + length rest → Sound version vars code slot states
-    → pass_from vars slot rest states ≡ Some last → Sound version vars code (length code) last
+sound_from : (version : ImageVersion) (vars : ℕ) (code : List Insn) (loops : List Loop) (slot : ℕ) (rest : List Insn) (states last : States) → AreLoops code loops → AreInsns code → AreFrom code slot rest → length code ≡ slot + length rest
+    → Sound version vars code loops slot states → pass_from vars code loops slot rest states ≡ Some last → Sound version vars code loops (length code) last
 unfolding pass_from
-sound_from version vars code slot [] states last a at len s e =
+sound_from version vars code loops slot [] states last a n at len s e =
     let same : states ≡ last = cc e in
     let end : slot ≡ length code = omega (arith, len) in
-    subst (Sound version vars code (length code)) same (subst (λ k. Sound version vars code k states) end s)
-sound_from version vars code slot (insn ∷ rest) states last a at len s e =
+    subst (Sound version vars code loops (length code)) same (subst (λ k. Sound version vars code loops k states) end s)
+sound_from version vars code loops slot (insn ∷ rest) states last a n at len s e =
     let f = from_next code slot insn rest at in
-    go f.0 (λ next t g. sound_from version vars code (slot + 1) rest next last a f.1 (omega (arith, len)) t g) (passed vars slot insn states) refl e
+    go (λ next t g. sound_from version vars code loops (slot + 1) rest next last a n f.1 (omega (arith, len)) t g) (passed vars code loops slot insn states) refl e
   where
-    go : slice_get code slot ≡ Some insn → ((next : States) → Sound version vars code (slot + 1) next → pass_from vars (slot + 1) rest next ≡ Some last → Sound version vars code (length code) last)
-        → (o : Option States) → passed vars slot insn states ≡ o → with_some o (pass_from vars (slot + 1) rest) ≡ Some last → Sound version vars code (length code) last
-    go here ih None f g = absurd (cc g)
-    go here ih (Some next) f g =
+    go : ((next : States) → Sound version vars code loops (slot + 1) next → pass_from vars code loops (slot + 1) rest next ≡ Some last → Sound version vars code loops (length code) last)
+        → (o : Option States) → passed vars code loops slot insn states ≡ o → with_some o (pass_from vars code loops (slot + 1) rest) ≡ Some last → Sound version vars code loops (length code) last
+    go ih None f g = absurd (cc g)
+    go ih (Some next) f g =
+        let h = from_next code slot insn rest at in
         let m : suc slot ≡ slot + 1 = omega arith in
-        ih next (subst (λ k. Sound version vars code k next) m (sound_step version vars code slot insn states next a here s f)) g
+        ih next (subst (λ k. Sound version vars code loops k next) m (sound_step version vars code loops slot insn states next a (n slot insn h.0) h.0 s f)) g
 
 -- ---- at first
 
@@ -359,50 +678,61 @@ none_at [] slot = refl
 none_at (insn ∷ code) zero = refl
 none_at (insn ∷ code) (suc slot) = none_at code slot
 
-nones : (code : List Insn) → length (map {A = Insn} {B = Option (List Kind)} (λ i. None) code) ≡ length code
+pub nones : (code : List Insn) → length (map {A = Insn} {B = Option (List Kind)} (λ i. None) code) ≡ length code
 nones [] = refl
 nones (i ∷ code) = ap suc (nones code)
 
-beginning_length : (version : ImageVersion) (code : List Insn) → length (beginning version code) ≡ length code
-beginning_length version [] = refl
-beginning_length version (insn ∷ code) = ap suc (nones code)
+pub first_is : (version : ImageVersion) (code : List Insn) (k : ℕ) (ks : List Kind) → state_at (beginning version code) k ≡ Some ks → (k ≡ 0) × (entry version ≡ ks)
+first_is version [] k ks e = absurd (cc e)
+first_is version (insn ∷ code) zero ks e = (refl, cc e)
+first_is version (insn ∷ code) (suc k) ks e = absurd (cc (e, none_at code k))
 
--- what holds of the entry holds of each state
-pub first_all : (version : ImageVersion) (P : ℕ → List Kind → Type 0) (code : List Insn) → P 0 (entry version) → AllStates P (beginning version code)
-first_all version P [] p k ks e = absurd (cc e)
-first_all version P (insn ∷ code) p zero ks e = subst (P 0) (cc e) p
-first_all version P (insn ∷ code) p (suc k) ks e = absurd (cc (e, none_at code k))
+sound_first : (version : ImageVersion) (vars : ℕ) (code : List Insn) (loops : List Loop) → 0 < length code → Sound version vars code loops 0 (beginning version code)
+sound_first version vars [] loops some = absurd (omega (arith, some))
+sound_first version vars (insn ∷ code) loops some = record {
+  count = ap suc (nones code);
+  entered = leads_same (beginning version (insn ∷ code)) 0 (entry version) refl;
+  inner = λ k ks e. let f = first_is version (insn ∷ code) k ks e in record { fit = subst AreKinds f.1 (entry_kinds version); found = λ i l g lt le. absurd (omega (arith, lt, f.0)) };
+  done = λ k i ks lt g e. absurd (omega (arith, lt));
+  heads = λ i l ks g lt e. absurd (omega (arith, lt));
+}
 
-fourth_is : (version : ImageVersion) → IsKind (fourth_kind version)
-fourth_is One = tt
-fourth_is Two = grind (arith, ints)
-
-entry_kinds : (version : ImageVersion) → AreKinds (entry version)
-entry_kinds version = record { count = refl; each = λ r. each_is (entry version) (tt, (grind (arith, ints), (grind (arith, ints), (omega arith, (fourth_is version, (tt, (tt, (tt, (tt, (tt, (grind (arith, ints), tt))))))))))) r }
-  where
-    EachIs : List Kind → Type 0
-    EachIs [] = Unit {0}
-    EachIs (k ∷ ks) = IsKind k × EachIs ks
-
-    each_is : (ks : List Kind) → EachIs ks → (r : ℕ) → IsKind (kind_at ks r)
-    each_is [] h r = tt
-    each_is (k ∷ ks) h zero = h.0
-    each_is (k ∷ ks) h (suc r) = each_is ks h.1 r
-
--- the states that the pass leaves are a typing
-pub typing_of : (version : ImageVersion) (vars : ℕ) (code : List Insn) (states : States) → 0 < length code → AreForward code → pass version vars code ≡ Some states → IsTypingOf version vars code states
-typing_of version vars [] states some a e = absurd (omega (arith, some))
-typing_of version vars (insn ∷ code) states some a e =
-    let all = insn ∷ code in
-    let s = sound_from version vars all 0 all (beginning version all) states a (from_first all) (omega arith)
-    (record { count = beginning_length version all; entered = leads_same (beginning version all) 0 (entry version) refl; done = λ k i ks lt g f. absurd (omega (arith, lt)) }) e in
-    record { entered = s.entered; each = λ slot i ks g f. s.done slot i ks (slice_get_within all slot i g) g f }
+sound_typing : (version : ImageVersion) (vars : ℕ) (code : List Insn) (loops : List Loop) (states : States) → AreLoops code loops → Sound version vars code loops (length code) states → IsTypingWith version vars code loops states
+sound_typing version vars code loops states a s = record {
+  entered = s.entered;
+  each = λ slot insn ks g e. s.done slot insn ks (slice_get_within code slot insn g) g e;
+  heads = λ i l ks g e. let x = a.each i l g in s.heads i l ks g (let o = x.order in let w = x.within in omega (arith, o, w)) e;
+}
 
 -- ---- exactness: the states stay within every typing
 
 record Bounded (typing states : States) : Type 0 where
   within : AreWithin states typing
-  proper : AreProper states
+  fit : (k : ℕ) (ks : List Kind) → state_at states k ≡ Some ks → AreKinds ks
+
+narrow_when : (typing : States) (b : Bool) (t : ℕ) (insn : Insn) (after wide k : List Kind) → IsInsn insn → AreKinds after → AreNumbers insn wide → Within after wide → kinds_when b insn after ≡ Some k
+    → ((x : List Kind) → kinds_when b insn wide ≡ Some x → Leads typing t x) → Leads typing t k
+narrow_when typing b t (JumpIf j) after wide k n a m w e l = go (when j b wide) refl (subst (λ o. WayFollows o (when j b wide)) e (when_follows j b after wide n.0 n.1 a w m.0 m.1))
+  where
+    go : (o : Option (List Kind)) → when j b wide ≡ o → WayFollows (Some k) o → Leads typing t k
+    go None f h = absurd h
+    go (Some x) f h = leads_wider typing t k x h.0 (l x f)
+narrow_when typing b t insn after wide k n a m w e l = subst (Leads typing t) (cc e) (leads_wider typing t after wide w (l wide refl))
+
+pub set_all : (states : States) (slot : ℕ) (kinds : List Kind) (P : ℕ → List Kind → Type 0) → P slot kinds → ((k : ℕ) (ks : List Kind) → state_at states k ≡ Some ks → P k ks) → (k : ℕ) (ks : List Kind) → state_at (slice_set states slot (Some kinds)) k ≡ Some ks → P k ks
+set_all states slot kinds P p h k ks e =
+    elim (cases_eq k slot) [
+      | inl same ↦ elim (cases_lt slot (length states)) [
+        | inl lt ↦ subst (λ i. P i ks) (sym same) (let is : kinds ≡ ks = cc (get_or-set_same states slot (Some kinds) None lt, subst (λ i. state_at (slice_set states slot (Some kinds)) i ≡ Some ks) same e) in subst (P slot) is p)
+        | inr ge ↦ h k ks (ap (λ s. state_at s k) (sym (set_past states slot (Some kinds) ge)) ∙ e)
+      ]
+      | inr d ↦ h k ks (sym (set_other states slot k (Some kinds) d) ∙ e)
+    ]
+
+allowed : (b c : Bool) → (b ≡ true → c ≡ true) → (b && not c) ≡ false
+allowed false c h = refl
+allowed true true h = refl
+allowed true false h = absurd (cc (h refl))
 
 -- ways from narrower kinds lead where those from wider ones do
 ways_narrow : (typing : States) (f : Flow) (insn : Insn) (ks wider after wide : List Kind) → IsInsn insn → AreKinds after → AreNumbers insn wide → Within ks wider → Within after wide
@@ -412,158 +742,115 @@ ways_narrow typing (Goes next) insn ks wider after wide n a m v w h = leads_wide
 ways_narrow typing (Forks taken next) insn ks wider after wide n a m v w h = (λ k e. go true taken k e h.0, λ k e. go false next k e h.1)
   where
     go : (b : Bool) (t : ℕ) (k : List Kind) → kinds_when b insn after ≡ Some k → ((x : List Kind) → kinds_when b insn wide ≡ Some x → Leads typing t x) → Leads typing t k
-    go b t k e l = let r = narrow_when b insn after wide k n a m w e in leads_wider typing t k r.wider r.within (l r.wider r.is)
+    go b t k e l = narrow_when typing b t insn after wide k n a m w e l
 ways_narrow typing (Enters start next) insn ks wider after wide n a m v w h = (leads_wider typing start (enter ks) (enter wider) (enter_within ks wider v) h.0, leads_wider typing next after wide w h.1)
 
-bounded_some : (version : ImageVersion) (vars : ℕ) (code : List Insn) (slot : ℕ) (insn : Insn) (states typing : States) (kinds : List Kind) → IsInsn insn → slice_get code slot ≡ Some insn → IsTypingOf version vars code typing → Bounded typing states
-    → state_at states slot ≡ Some kinds → (next : States) × (passed_with vars slot insn (Some kinds) states ≡ Some next) × Bounded typing next
-bounded_some version vars code slot insn states typing kinds n stands t b e =
-    let there = b.within.each slot kinds e in
-    let a = b.proper slot kinds e in
+pub fit_ways : (vars slot : ℕ) (f : Flow) (insn : Insn) (ks after : List Kind) → IsInsn insn → AreNumbers insn after → AreKinds ks → AreKinds after → WaysBy (λ t k. slot < t → AreKinds k) f insn ks after
+fit_ways vars slot f insn ks after n m a b = by_flow (λ t k. slot < t → AreKinds k) f insn ks after (λ t l lt. b) (λ taken t k l e lt. way_kinds taken insn after k n b m e) (λ t c lt. enter_kinds ks a)
+
+led_within : (typing : States) (slot : ℕ) (states : States) (ws : List Way) → AreWithin states typing → AllWays (Leads typing) ws → AreWithin (led slot states ws) typing
+led_within typing slot states ws w a = record { each = led_all (Leads typing) slot states ws (leads_join typing) w.each (all_then (Leads typing) (λ t ks. slot < t → Leads typing t ks) ws (λ t ks l lt. l) a) }
+
+-- the kinds that a slot settles to are within the typing's
+record SettlesWithin (code : List Insn) (loops : List Loop) (slot : ℕ) (found wider : List Kind) : Type 0 where
+  kinds : List Kind
+  is : settled code (begins loops slot) found ≡ Some kinds
+  within : Within kinds wider
+  fit : AreKinds kinds
+
+settles_within : (code : List Insn) (loops : List Loop) (slot : ℕ) (found wider : List Kind) → AreLoops code loops → AreKinds found → Within found wider
+    → ((i : ℕ) (l : Loop) → slice_get loops i ≡ Some l → l.head ≡ slot → IsHeadState code l wider) → SettlesWithin code loops slot found wider
+unfolding settled
+settles_within code loops slot found wider a f w h = go (begins loops slot) refl
+  where
+    go : (o : Option Loop) → begins loops slot ≡ o → SettlesWithin code loops slot found wider
+    go None b = record { kinds = found; is = rw b refl; within = w; fit = f }
+    go (Some l) b =
+        let at = begins_is loops slot l b in
+        let is = sound_of code l (a.each at.0 l at.1) in
+        let r = least code l found wider is f w (h at.0 l at.1 at.2) in
+        record { kinds = r.kinds; is = rw b r.is; within = r.within; fit = (settles code l found r.kinds is f r.is).kinds }
+
+gives_narrow : (o : Option ℕ) (after wide : List Kind) → Within after wide → gives_number o wide ≡ true → gives_number o after ≡ true
+gives_narrow None after wide w e = refl
+gives_narrow (Some dst) after wide w e = is_number_follows (kind_at after dst) (kind_at wide dst) (w.each dst) e
+
+bounded_some : (version : ImageVersion) (vars : ℕ) (code : List Insn) (loops : List Loop) (slot : ℕ) (insn : Insn) (states typing : States) (found : List Kind) → AreLoops code loops → IsInsn insn → slice_get code slot ≡ Some insn → IsTypingWith version vars code loops typing
+    → Bounded typing states → state_at states slot ≡ Some found → (next : States) × (passed_with vars code loops slot insn (Some found) states ≡ Some next) × Bounded typing next
+bounded_some version vars code loops slot insn states typing found a n stands t b e =
+    let there = b.within.each slot found e in
+    let s = settles_within code loops slot found there.state a (b.fit slot found e) there.within (λ i l g same. t.heads i l there.state g (subst (λ k. state_at typing k ≡ Some there.state) (sym same) there.state_is)) in
     let typed = t.each slot insn there.state stands there.state_is in
-    let m = transfer_meets vars insn kinds there.state typed.after n a there.within typed.effect in
-    let ws = ways_after slot insn kinds m.after in
-    let next = led states ws in
-    let is : passed_with vars slot insn (Some kinds) states ≡ Some next = ap (λ o. with_some o (λ after. Some (led states (ways_after slot insn kinds after)))) m.is in
+    let m = transfer_meets vars insn s.kinds there.state typed.after n s.fit s.within typed.effect in
+    let fit = effect_kinds vars insn s.kinds m.after n s.fit m.is in
+    let ws = ways_after slot insn s.kinds m.after in
+    let base = slice_set states slot (Some s.kinds) in
     let lead : AllWays (Leads typing) ws =
-    all_from (Leads typing) (flow slot insn) insn kinds m.after
-    (ways_narrow typing (flow slot insn) insn kinds there.state m.after typed.after n m.kinds (are_numbers vars insn there.state typed.after typed.effect) there.within m.within
-    (all_to (Leads typing) (flow slot insn) insn there.state typed.after (lead_all typing (ways_after slot insn there.state typed.after) typed.lead))) in (
-      next,
-      is,
+    all_from (Leads typing) (flow slot insn) insn s.kinds m.after
+    (ways_narrow typing (flow slot insn) insn s.kinds there.state m.after typed.after n fit (are_numbers vars insn there.state typed.after typed.effect) s.within m.within
+    (all_to (Leads typing) (flow slot insn) insn there.state typed.after (lead_all typing (ways_after slot insn there.state typed.after) typed.lead))) in
+    let in_base : (P : ℕ → List Kind → Type 0) → P slot s.kinds → ((k : ℕ) (ks : List Kind) → state_at states k ≡ Some ks → P k ks) → (k : ℕ) (ks : List Kind) → state_at base k ≡ Some ks → P k ks =
+    set_all states slot s.kinds in
+    let within : AreWithin base typing = record { each = in_base (Leads typing) (record { state = there.state; state_is = there.state_is; within = s.within }) b.within.each } in
+    let number : (is_inside loops slot && not (gives_number (computes insn) m.after)) ≡ false =
+    allowed (is_inside loops slot) (gives_number (computes insn) m.after) (λ h. gives_narrow (computes insn) m.after typed.after m.within (typed.number h)) in (
+      led slot base ws,
+      rw (s.is, m.is, number) refl,
       record {
-        within = record { each = led_all (Leads typing) states ws (leads_join typing) b.within.each lead };
-        proper = passed_proper vars slot insn kinds states next n a b.proper (passes vars slot insn kinds states next is);
+        within = led_within typing slot base ws within lead;
+        fit = led_all (λ k ks. AreKinds ks) slot base ws (λ k x y p q. joined_kinds x y p q) (in_base (λ k ks. AreKinds ks) s.fit b.fit)
+            (all_from (λ t ks. slot < t → AreKinds ks) (flow slot insn) insn s.kinds m.after (fit_ways vars slot (flow slot insn) insn s.kinds m.after n (are_numbers vars insn s.kinds m.after m.is) s.fit fit));
       },
     )
 
-abbrev pub AreInsns : List Insn → Type 0
-AreInsns code = (slot : ℕ) (insn : Insn) → slice_get code slot ≡ Some insn → IsInsn insn
-
-bounded_from : (version : ImageVersion) (vars : ℕ) (code : List Insn) (slot : ℕ) (rest : List Insn) (states typing : States) → AreInsns code → AreFrom code slot rest → IsTypingOf version vars code typing → Bounded typing states → pass_from vars slot rest states ≡ None → ⊥
+bounded_from : (version : ImageVersion) (vars : ℕ) (code : List Insn) (loops : List Loop) (slot : ℕ) (rest : List Insn) (states typing : States) → AreLoops code loops → AreInsns code → AreFrom code slot rest → IsTypingWith version vars code loops typing
+    → Bounded typing states → pass_from vars code loops slot rest states ≡ None → ⊥
 unfolding pass_from
-bounded_from version vars code slot [] states typing n at t b e = absurd (cc e)
-bounded_from version vars code slot (insn ∷ rest) states typing n at t b e =
+bounded_from version vars code loops slot [] states typing a n at t b e = absurd (cc e)
+bounded_from version vars code loops slot (insn ∷ rest) states typing a n at t b e =
     let h = from_next code slot insn rest at in
-    go (λ next c g. bounded_from version vars code (slot + 1) rest next typing n h.1 t c g) (n slot insn h.0) h.0 (state_at states slot) refl e
+    go (λ next c g. bounded_from version vars code loops (slot + 1) rest next typing a n h.1 t c g) (bounded_some version vars code loops slot insn states typing) (n slot insn h.0) h.0 (state_at states slot) refl e
   where
-    go : ((next : States) → Bounded typing next → pass_from vars (slot + 1) rest next ≡ None → ⊥) → IsInsn insn → slice_get code slot ≡ Some insn
-        → (o : Option (List Kind)) → state_at states slot ≡ o → with_some (passed_with vars slot insn o states) (pass_from vars (slot + 1) rest) ≡ None → ⊥
-    go ih i stands None f g = ih states b g
-    go ih i stands (Some kinds) f g =
-        let r = bounded_some version vars code slot insn states typing kinds i stands t b f in
+    go : ((next : States) → Bounded typing next → pass_from vars code loops (slot + 1) rest next ≡ None → ⊥)
+        → ((found : List Kind) → AreLoops code loops → IsInsn insn → slice_get code slot ≡ Some insn → IsTypingWith version vars code loops typing → Bounded typing states → state_at states slot ≡ Some found
+        → (next : States) × (passed_with vars code loops slot insn (Some found) states ≡ Some next) × Bounded typing next)
+        → IsInsn insn → slice_get code slot ≡ Some insn
+        → (o : Option (List Kind)) → state_at states slot ≡ o → with_some (passed_with vars code loops slot insn o states) (pass_from vars code loops (slot + 1) rest) ≡ None → ⊥
+    go ih some i stands None f g = ih states b g
+    go ih some i stands (Some found) f g =
+        let r = some found a i stands t b f in
         ih r.0 r.2 (rw r.1 at g)
 
--- where the pass leaves nothing there is no typing
-pub no_typing : (version : ImageVersion) (vars : ℕ) (code : List Insn) → AreInsns code → pass version vars code ≡ None → (typing : States) → IsTypingOf version vars code typing → ⊥
-no_typing version vars code n e typing t =
-    bounded_from version vars code 0 code (beginning version code) typing n (from_first code) t
-    (record { within = record { each = first_all version (Leads typing) code t.entered }; proper = first_all version (λ k ks. AreKinds ks) code (entry_kinds version) }) e
+-- what the pass leaves is a typing, and where it leaves nothing there is none
+abbrev pub IsExact : ImageVersion → ℕ → List Insn → List Loop → Option States → Type 0
+IsExact version vars code loops (Some states) = IsTypingWith version vars code loops states
+IsExact version vars code loops None = (t : States) → IsTypingWith version vars code loops t → ⊥
+
+pub exact : (version : ImageVersion) (vars : ℕ) (code : List Insn) (loops : List Loop) → 0 < length code → AreInsns code → AreLoops code loops → IsExact version vars code loops (pass_with version vars code loops)
+exact version vars code loops some n a = go (pass_with version vars code loops) refl
+  where
+    all : AreFrom code 0 code
+    all k insn e = let z : k ≡ 0 + k = omega arith in subst (λ j. slice_get code j ≡ Some insn) z e
+
+    go : (o : Option States) → pass_with version vars code loops ≡ o → IsExact version vars code loops o
+    go None e = λ t typing. bounded_from version vars code loops 0 code (beginning version code) t a n all typing (record {
+      within = record { each = λ k ks f. let x = first_is version code k ks f in subst (λ j. Leads t j ks) (sym x.0) (subst (Leads t 0) x.1 typing.entered) };
+      fit = λ k ks f. subst AreKinds (first_is version code k ks f).1 (entry_kinds version);
+    }) e
+    go (Some last) e = sound_typing version vars code loops last a (sound_from version vars code loops 0 code (beginning version code) last a n all (omega arith) (sound_first version vars code loops some) e)
 
 -- ---- the two answers
 
-pub typed_states : (version : ImageVersion) (vars : ℕ) (code : List Insn) → 0 < length code → AreForward code → is_typable version vars code ≡ true → (states : States) × IsTypingOf version vars code states
-typed_states version vars code some a t = go (pass version vars code) refl t
+pub typed_states : (version : ImageVersion) (vars : ℕ) (code : List Insn) → 0 < length code → AreInsns code → AreLoops code (loops_in version code) → is_typable version vars code ≡ true → (states : States) × IsTypingOf version vars code states
+typed_states version vars code some n a t = go (pass version vars code) (exact version vars code (loops_in version code) some n a) t
   where
-    go : (o : Option States) → pass version vars code ≡ o → is_some o ≡ true → (states : States) × IsTypingOf version vars code states
+    go : (o : Option States) → IsExact version vars code (loops_in version code) o → is_some o ≡ true → (states : States) × IsTypingOf version vars code states
     go None e f = absurd (cc f)
-    go (Some states) e f = (states, typing_of version vars code states some a e)
+    go (Some states) e f = (states, e)
 
-pub untypable : (version : ImageVersion) (vars : ℕ) (code : List Insn) → AreInsns code → is_typable version vars code ≡ false → (typing : States) → IsTypingOf version vars code typing → ⊥
-untypable version vars code n t = go (pass version vars code) refl t
+pub untypable : (version : ImageVersion) (vars : ℕ) (code : List Insn) → 0 < length code → AreInsns code → AreLoops code (loops_in version code) → is_typable version vars code ≡ false → (typing : States) → IsTypingOf version vars code typing → ⊥
+untypable version vars code some n a t = go (pass version vars code) (exact version vars code (loops_in version code) some n a) t
   where
-    go : (o : Option States) → pass version vars code ≡ o → is_some o ≡ false → (typing : States) → IsTypingOf version vars code typing → ⊥
-    go None e f = no_typing version vars code n e
+    go : (o : Option States) → IsExact version vars code (loops_in version code) o → is_some o ≡ false → (typing : States) → IsTypingOf version vars code typing → ⊥
+    go None e f = e
     go (Some states) e f = absurd (cc f)
-
--- ---- the pass on its way
-
--- the slots before this one were passed
-pub record Passing (version : ImageVersion) (vars : ℕ) (code : List Insn) (slot : ℕ) (states : States) : Type 0 where
-  pub count : length states ≡ length code
-  pub passed_is : pass_from vars 0 (take slot code) (beginning version code) ≡ Some states
-  pub proper : AreProper states
-
-pub passing_start : (version : ImageVersion) (vars : ℕ) (code : List Insn) → Passing version vars code 0 (beginning version code)
-unfolding pass_from
-passing_start version vars code = record { count = beginning_length version code; passed_is = refl; proper = first_all version (λ k ks. AreKinds ks) code (entry_kinds version) }
-
-one_slot : (o : Option States) → with_some o (λ states. Some states) ≡ o
-one_slot None = refl
-one_slot (Some states) = refl
-
-pass_more : (vars from : ℕ) (code : List Insn) (n : ℕ) (insn : Insn) (states : States) → slice_get code n ≡ Some insn
-    → pass_from vars from (take (suc n) code) states ≡ with_some (pass_from vars from (take n code) states) (passed vars (from + n) insn)
-unfolding pass_from
-pass_more vars from [] n insn states e = absurd (cc e)
-pass_more vars from (x ∷ code) zero insn states e =
-    let same : x ≡ insn = cc e in
-    let at : from ≡ from + 0 = omega arith in
-    one_slot (passed vars from x states) ∙ ap (λ i. passed vars from i states) same ∙ ap (λ k. passed vars k insn states) at
-pass_more vars from (x ∷ code) (suc n) insn states e = go (λ s. pass_more vars (from + 1) code n insn s e) (passed vars from x states)
-  where
-    go : ((s : States) → pass_from vars (from + 1) (take (suc n) code) s ≡ with_some (pass_from vars (from + 1) (take n code) s) (passed vars (from + 1 + n) insn))
-        → (o : Option States) → with_some o (pass_from vars (from + 1) (take (suc n) code)) ≡ with_some (with_some o (pass_from vars (from + 1) (take n code))) (passed vars (from + suc n) insn)
-    go ih None = refl
-    go ih (Some s) = let at : from + 1 + n ≡ from + suc n = omega arith in ih s ∙ ap (λ k. with_some (pass_from vars (from + 1) (take n code) s) (passed vars k insn)) at
-
-pass_none : (vars from : ℕ) (code : List Insn) (n : ℕ) (states : States) → pass_from vars from (take n code) states ≡ None → pass_from vars from code states ≡ None
-unfolding pass_from
-pass_none vars from code zero states e = absurd (cc e)
-pass_none vars from [] (suc n) states e = absurd (cc e)
-pass_none vars from (x ∷ code) (suc n) states e = go (λ s. pass_none vars (from + 1) code n s) (passed vars from x states) e
-  where
-    go : ((s : States) → pass_from vars (from + 1) (take n code) s ≡ None → pass_from vars (from + 1) code s ≡ None)
-        → (o : Option States) → with_some o (pass_from vars (from + 1) (take n code)) ≡ None → with_some o (pass_from vars (from + 1) code) ≡ None
-    go ih None g = refl
-    go ih (Some s) g = ih s g
-
--- the pass of one slot more
-pass_next : (version : ImageVersion) (vars : ℕ) (code : List Insn) (slot : ℕ) (states : States) (insn : Insn) → Passing version vars code slot states → slice_get code slot ≡ Some insn → pass_from vars 0 (take (slot + 1) code) (beginning version code) ≡ passed vars slot insn states
-pass_next version vars code slot states insn p g =
-    let m : slot + 1 ≡ suc slot = omega arith in
-    let z : 0 + slot ≡ slot = omega arith in
-    ap (λ n. pass_from vars 0 (take n code) (beginning version code)) m ∙ pass_more vars 0 code slot insn (beginning version code) g
-    ∙ ap (λ o. with_some o (passed vars (0 + slot) insn)) p.passed_is ∙ ap (λ k. passed vars k insn states) z
-
-pub passing_some : (version : ImageVersion) (vars : ℕ) (code : List Insn) (slot : ℕ) (states next : States) (insn : Insn) (kinds : List Kind) → IsInsn insn → Passing version vars code slot states → slice_get code slot ≡ Some insn → state_at states slot ≡ Some kinds
-    → passed_with vars slot insn (Some kinds) states ≡ Some next → Passing version vars code (slot + 1) next
-passing_some version vars code slot states next insn kinds n p g e f =
-    let r = passes vars slot insn kinds states next f in
-    record {
-      count = ap length (sym r.is) ∙ led_length states (ways_after slot insn kinds r.after) ∙ p.count;
-      passed_is = pass_next version vars code slot states insn p g ∙ ap (λ o. passed_with vars slot insn o states) e ∙ f;
-      proper = passed_proper vars slot insn kinds states next n (p.proper slot kinds e) p.proper r;
-    }
-
-pub passing_none : (version : ImageVersion) (vars : ℕ) (code : List Insn) (slot : ℕ) (states : States) (insn : Insn) → Passing version vars code slot states → slice_get code slot ≡ Some insn → state_at states slot ≡ None → Passing version vars code (slot + 1) states
-passing_none version vars code slot states insn p g e =
-    record { count = p.count; passed_is = pass_next version vars code slot states insn p g ∙ ap (λ o. passed_with vars slot insn o states) e; proper = p.proper }
-
--- a demand that isn't met
-pub passing_refused : (version : ImageVersion) (vars : ℕ) (code : List Insn) (slot : ℕ) (states : States) (insn : Insn) (kinds : List Kind) → Passing version vars code slot states → slice_get code slot ≡ Some insn → state_at states slot ≡ Some kinds
-    → transfer vars insn kinds ≡ None → pass version vars code ≡ None
-passing_refused version vars code slot states insn kinds p g e f =
-    let none : passed vars slot insn states ≡ None = ap (λ o. passed_with vars slot insn o states) e ∙ ap (λ o. with_some o (λ after. Some (led states (ways_after slot insn kinds after)))) f in
-    pass_none vars 0 code (slot + 1) (beginning version code) (pass_next version vars code slot states insn p g ∙ none)
-
-pub passing_end : (version : ImageVersion) (vars : ℕ) (code : List Insn) (slot : ℕ) (states : States) → Passing version vars code slot states → length code ≤ slot → pass version vars code ≡ Some states
-passing_end version vars code slot states p e = ap (λ l. pass_from vars 0 l (beginning version code)) (sym (take_all slot code e)) ∙ p.passed_is
-
--- the first states, one by one
-first_state : (version : ImageVersion) (code : List Insn) → 0 < length code → take 1 (beginning version code) ≡ Some (entry version) ∷ []
-first_state version [] h = absurd (omega arith)
-first_state version (insn ∷ code) h = refl
-
-later_state : (version : ImageVersion) (code : List Insn) (slot : ℕ) → 0 < slot → slot < length code → take (slot + 1) (beginning version code) ≡ take slot (beginning version code) ++ (None ∷ [])
-later_state version code slot h lt = take_more (beginning version code) slot None (omega (arith, lt, beginning_length version code)) ∙ ap (λ x. take slot (beginning version code) ++ (x ∷ [])) (none_there code slot h)
-  where
-    none_there : (code : List Insn) (slot : ℕ) → 0 < slot → state_at (beginning version code) slot ≡ None
-    none_there [] slot h = refl
-    none_there (insn ∷ code) zero h = absurd (omega arith)
-    none_there (insn ∷ code) (suc slot) h = none_at code slot
-
-pub first_states_more : (version : ImageVersion) (code : List Insn) (slot : ℕ) (s : Option (List Kind)) → slot < length code → (slot ≡ 0 → s ≡ Some (entry version)) → (1 ≤ slot → s ≡ None) → take slot (beginning version code) ++ (s ∷ []) ≡ take (slot + 1) (beginning version code)
-first_states_more version code zero s lt f g = ap (λ x. x ∷ []) (f refl) ∙ sym (first_state version code lt)
-first_states_more version code (suc slot) s lt f g =
-    ap (λ x. take (suc slot) (beginning version code) ++ (x ∷ [])) (g (omega arith)) ∙ sym (later_state version code (suc slot) (omega arith) lt)

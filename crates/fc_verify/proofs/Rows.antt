@@ -14,6 +14,7 @@ use Rattle.fc_kinds.specs.Transfer.{transfer, alu_kind}
 use Rattle.fc_kinds.specs.Refinement.{when}
 use Rattle.fc_isa.specs.declared.version.ImageVersion.{ImageVersion}
 use Rattle.fc_isa.specs.declared.version.ImageVersion.TheVariants.{One, Two}
+use Rattle.fc_verify.specs.Heads.{settled}
 use Rattle.fc_verify.specs.Pass.{pass_from, is_typable}
 use Rattle.fc_image.specs.Loops.{loops_of}
 use Rattle.fc_image.specs.Paths.{costs, cost_in, longest}
@@ -24,15 +25,15 @@ zero_and_exit = Alu Mov W64 0 (Imm (pos 0)) ∷ Exit ∷ []
 abbrev never : Width → List Insn
 never width = LoadWide 5 18446744073709551615 ∷ WideSecond ∷ JumpIf (record { width = width; relation = Gt; left = 3; right = Reg 5; offset = pos 1 }) ∷ Alu Mov W64 0 (Imm (pos 0)) ∷ Exit ∷ []
 
-first_row : (is_typable One 0 (never W64) ≡ true) × (is_typable One 0 (never W32) ≡ false) × (longest (never W64) ≡ 4)
-unfolding transfer when alu_kind interval_of alu_interval refined pass_from costs cost_in loops_of longest
+first_row : (is_typable One 0 (never W64) ≡ true) × (is_typable One 0 (never W32) ≡ false) × (longest One (never W64) ≡ 4)
+unfolding transfer when alu_kind interval_of alu_interval refined settled pass_from costs cost_in loops_of longest
 first_row = (refl, refl, refl)
 
 abbrev byte : ℤ → List Insn
 byte offset = StoreImm Byte 10 offset (pos 0) ∷ Alu Mov W64 0 (Imm (pos 0)) ∷ Exit ∷ []
 
 second_row : (is_typable One 0 (byte (negsuc 255)) ≡ true) × (is_typable One 0 (byte (negsuc 256)) ≡ false) × (is_typable One 0 (byte (pos 0)) ≡ false)
-unfolding transfer when alu_kind interval_of alu_interval refined pass_from costs cost_in loops_of longest
+unfolding transfer when alu_kind interval_of alu_interval refined settled pass_from costs cost_in loops_of longest
 second_row = (refl, refl, refl)
 
 abbrev start : Insn → List Insn
@@ -42,22 +43,22 @@ abbrev is_accepted : Insn → Bool
 is_accepted insn = is_typable One 0 (start insn)
 
 third_row : (is_accepted (StoreImm Byte 1 (pos 0) (pos 0)) ≡ false) × (is_accepted (Store DoubleWord 10 (negsuc 7) 1) ≡ false) × (is_accepted (Alu Add W64 1 (Imm (pos 65536))) ≡ true) × (is_accepted (Alu Add W64 1 (Imm (pos 65537))) ≡ false) × (is_accepted (Alu Mov W32 4 (Reg 1)) ≡ false)
-unfolding transfer when alu_kind interval_of alu_interval refined pass_from costs cost_in loops_of longest
+unfolding transfer when alu_kind interval_of alu_interval refined settled pass_from costs cost_in loops_of longest
 third_row = (refl, refl, refl, refl, refl)
 
 abbrev joins : Insn → List Insn
 joins last = Alu Mov W64 6 (Reg 1) ∷ JumpIf (record { width = W64; relation = Eq; left = 3; right = Imm (pos 0); offset = pos 1 }) ∷ Alu Mov W64 6 (Imm (pos 0)) ∷ last ∷ Exit ∷ []
 
 -- R6 joins to unset
-thirteenth : (is_typable One 0 (joins (Alu Mov W64 0 (Imm (pos 0)))) ≡ true) × (is_typable One 0 (joins (Alu Mov W64 0 (Reg 6))) ≡ false) × (longest (joins (Alu Mov W64 0 (Imm (pos 0)))) ≡ 5)
-unfolding transfer when alu_kind interval_of alu_interval refined pass_from costs cost_in loops_of longest
+thirteenth : (is_typable One 0 (joins (Alu Mov W64 0 (Imm (pos 0)))) ≡ true) × (is_typable One 0 (joins (Alu Mov W64 0 (Reg 6))) ≡ false) × (longest One (joins (Alu Mov W64 0 (Imm (pos 0)))) ≡ 5)
+unfolding transfer when alu_kind interval_of alu_interval refined settled pass_from costs cost_in loops_of longest
 thirteenth = (refl, refl, refl)
 
 abbrev payload : ℤ → List Insn
 payload offset = Alu Mov W64 4 (Reg 1) ∷ Alu Add W64 4 (Reg 3) ∷ Load (Unsigned Byte) 0 4 offset ∷ Exit ∷ []
 
 fifth : (is_typable One 0 (payload (pos 80)) ≡ false) × (is_typable One 0 (payload (pos 79)) ≡ true)
-unfolding transfer when alu_kind interval_of alu_interval refined pass_from costs cost_in loops_of longest
+unfolding transfer when alu_kind interval_of alu_interval refined settled pass_from costs cost_in loops_of longest
 fifth = (refl, refl)
 
 -- ---- calls
@@ -75,8 +76,8 @@ moves r q = Alu Mov W64 r (Reg q)
 abbrev counter : List Insn
 counter = fixed 1 (pos 0) ∷ CallHelper (pos 3) ∷ Alu Add W64 0 (Imm (pos 1)) ∷ moves 2 0 ∷ fixed 1 (pos 0) ∷ CallHelper (pos 4) ∷ CallHelper (pos 7) ∷ fixed 0 (pos 0) ∷ Exit ∷ []
 
-counter_row : (types counter ≡ true) × (longest counter ≡ 9)
-unfolding transfer when alu_kind interval_of alu_interval refined pass_from costs cost_in loops_of longest
+counter_row : (types counter ≡ true) × (longest One counter ≡ 9)
+unfolding transfer when alu_kind interval_of alu_interval refined settled pass_from costs cost_in loops_of longest
 counter_row = (refl, refl)
 
 -- a program that sets R1 and R6, calls a function of these instructions, and then has these
@@ -85,7 +86,7 @@ calling body = fixed 1 (pos 1) ∷ fixed 6 (pos 6) ∷ CallLocal (pos 2) ∷ mov
 
 -- the function finds R1, but not R6 or R0, and an exit of it wants a number too
 functions_find : (types (calling (moves 0 1 ∷ Exit ∷ [])) ≡ true) × (types (calling (moves 0 6 ∷ Exit ∷ [])) ≡ false) × (types (calling (Exit ∷ [])) ≡ false) × (types (calling (moves 0 10 ∷ Exit ∷ [])) ≡ false)
-unfolding transfer when alu_kind interval_of alu_interval refined pass_from costs cost_in loops_of longest
+unfolding transfer when alu_kind interval_of alu_interval refined settled pass_from costs cost_in loops_of longest
 functions_find = (refl, refl, refl, refl)
 
 -- after a call R1 is unset, and R6 is kept
@@ -93,15 +94,15 @@ abbrev after : ℕ → List Insn
 after r = fixed 1 (pos 1) ∷ fixed 6 (pos 6) ∷ CallLocal (pos 2) ∷ moves 0 r ∷ Exit ∷ fixed 0 (pos 0) ∷ Exit ∷ []
 
 calls_keep : (types (after 6) ≡ true) × (types (after 1) ≡ false) × (types (after 0) ≡ true)
-unfolding transfer when alu_kind interval_of alu_interval refined pass_from costs cost_in loops_of longest
+unfolding transfer when alu_kind interval_of alu_interval refined settled pass_from costs cost_in loops_of longest
 calls_keep = (refl, refl, refl)
 
 -- a function called twice finds what both calls hand on: two numbers, or a number and a pointer
 abbrev twice : Insn → List Insn
 twice second = fixed 1 (pos 1) ∷ CallLocal (pos 3) ∷ second ∷ CallLocal (pos 1) ∷ Exit ∷ moves 0 1 ∷ Exit ∷ []
 
-callers_are_joined : (types (twice (fixed 1 (pos 2))) ≡ true) × (types (twice (moves 1 10)) ≡ false) × (longest (twice (fixed 1 (pos 2))) ≡ 9)
-unfolding transfer when alu_kind interval_of alu_interval refined pass_from costs cost_in loops_of longest
+callers_are_joined : (types (twice (fixed 1 (pos 2))) ≡ true) × (types (twice (moves 1 10)) ≡ false) × (longest One (twice (fixed 1 (pos 2))) ≡ 9)
+unfolding transfer when alu_kind interval_of alu_interval refined settled pass_from costs cost_in loops_of longest
 callers_are_joined = (refl, refl, refl)
 
 -- a function may write to its caller's frame, which is one level above its own
@@ -109,7 +110,7 @@ abbrev frames_of : ℤ → List Insn
 frames_of offset = moves 1 10 ∷ CallLocal (pos 1) ∷ Exit ∷ StoreImm Byte 1 offset (pos 0) ∷ StoreImm Byte 10 (negsuc 255) (pos 0) ∷ fixed 0 (pos 0) ∷ Exit ∷ []
 
 frames_are_apart : (types (frames_of (negsuc 255)) ≡ true) × (types (frames_of (negsuc 256)) ≡ false) × (types (frames_of (pos 0)) ≡ false)
-unfolding transfer when alu_kind interval_of alu_interval refined pass_from costs cost_in loops_of longest
+unfolding transfer when alu_kind interval_of alu_interval refined settled pass_from costs cost_in loops_of longest
 frames_are_apart = (refl, refl, refl)
 
 -- in the second version R4 points to the readings, which may be read; in the first it is unset
@@ -120,5 +121,5 @@ abbrev types_in : ImageVersion → List Insn → Bool
 types_in version code = is_typable version 0 code
 
 readings_are_read : (types_in Two (reads_at (pos 56)) ≡ true) × (types_in Two (reads_at (pos 57)) ≡ false) × (types_in One (reads_at (pos 56)) ≡ false) × (types_in Two (StoreImm Byte 4 (pos 0) (pos 1) ∷ reads_at (pos 0)) ≡ false)
-unfolding transfer when alu_kind interval_of alu_interval refined pass_from costs cost_in loops_of longest
+unfolding transfer when alu_kind interval_of alu_interval refined settled pass_from costs cost_in loops_of longest
 readings_are_read = (refl, refl, refl, refl)

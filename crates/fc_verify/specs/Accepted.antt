@@ -7,7 +7,7 @@ use Rattle.fc_image.specs.Head.{head_fault, stated, frames_allowed}
 use Rattle.fc_image.specs.Paths.{IsLongest}
 use Rattle.fc_image.specs.ShapeRules.{IsShapeFault, IsShaped}
 use Rattle.fc_kinds.specs.Meaning.{Program}
-use Rattle.fc_kinds.specs.Typing.{States, IsTypingOf}
+use Rattle.fc_verify.specs.Typing.{States, IsTypingOf}
 
 -- the slots of an image: what stands behind its header
 abbrev pub slots_of : List ℕ → List ℕ
@@ -24,9 +24,9 @@ pub record IsProgramOf (image : List ℕ) (p : Program) : Type 0 where
 -- its shape is kept too, its frames are as many as the version allows at most, and its longest path is within the budget
 pub record IsShapely (image : List ℕ) (p : Program) : Type 0 where
   pub program : IsProgramOf image p
-  pub shape : IsShaped p.code
+  pub shape : IsShaped p.version p.code
   pub frames : frames p.code ≤ frames_allowed (stated image).version
-  pub cost : IsLongest p.code p.cost
+  pub cost : IsLongest p.version p.code p.cost
   pub within : p.cost ≤ p.budget
 
 -- an accepted image: some typing exists besides

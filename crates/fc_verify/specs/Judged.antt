@@ -21,7 +21,7 @@ program_in image = record {
   code = code_in image;
   vars_size = (stated image).vars_size;
   budget = (stated image).budget;
-  cost = longest (code_in image);
+  cost = longest (stated image).version (code_in image);
 }
 
 abbrev pub by_typing : Bool → List ℕ → Judgement

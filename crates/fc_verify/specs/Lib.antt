@@ -1,3 +1,5 @@
+pub mod Heads
+pub mod Typing
 pub mod Accepted
 pub mod Pass
 pub mod Judged

@@ -1,4 +1,4 @@
--- What a refusal may say: the first broken rule, one below 20, and its slot; but where only the typing is missing any rule from 20 to 27,
+-- What a refusal may say: the first broken rule, one below 20, and its slot; but where only the typing is missing any rule from 20 to 28,
 -- and any slot of the program.
 use Rattle.std.specs.Prelude.{◌≡◌, ℕ, ◌<◌, ◌≤◌, List, None}
 use Rattle.fc_isa.specs.declared.rule.Fault.{Fault}
@@ -14,7 +14,7 @@ use Rattle.fc_verify.specs.Judged.{judged}
 abbrev pub IsFaultOf : List ℕ → Judgement → Fault → Type 0
 IsFaultOf image (Accepts p) f = ⊥
 IsFaultOf image (Breaks rule slot) f = (f.rule ≡ rule) × (f.slot ≡ slot) × (number_of rule < 20)
-IsFaultOf image Untypable f = (20 ≤ number_of f.rule) × (number_of f.rule ≤ 27) × (f.slot < (stated image).count)
+IsFaultOf image Untypable f = (20 ≤ number_of f.rule) × (number_of f.rule ≤ 28) × (f.slot < (stated image).count)
 
 -- want of memory is told only of an image whose header is right
 abbrev pub IsRefusal : List ℕ → Refusal → Type 0

@@ -18,6 +18,7 @@ pub mod lowering;
 pub mod op;
 pub mod pass;
 pub mod refusal;
+mod settling;
 pub mod untyped;
 pub mod verified;
 pub mod verifying;

@@ -1,21 +1,32 @@
-//! The pass over the slots of a program that finds each one's kinds, by joins.
-ghost use Rattle.std.specs.Prelude.{IfErr, IfOk, None, Some, [], false, length, true, ℕ, ◌<◌, ◌≡◌, ◌≤◌};
+//! The pass over the slots of a program that finds each one's kinds, by joins; a slot where a counted loop begins is settled when the pass
+//! comes to it.
+ghost use Rattle.std.specs.Prelude.{Bool, IfErr, IfOk, List, None, Some, [], false, length, true, ℕ, ◌<◌, ◌≡◌, ◌≤◌};
 ghost use Rattle.std.specs.Vec.{vec_capacity};
 ghost use Rattle.fc_isa.specs.Flow.{flow, landing};
 ghost use Rattle.fc_isa.specs.Program.{IsInsn};
 ghost use Rattle.fc_isa.specs.Rules.{number_of};
-ghost use Rattle.fc_image.specs.Flow.{IsForward};
+ghost use Rattle.fc_isa.specs.declared.insn.Insn.{Insn as Instruction};
+ghost use Rattle.fc_isa.specs.declared.rule.Rule.TheVariants.{LoopState};
+ghost use Rattle.fc_image.specs.declared.loops.Loop.{Loop as Counted};
+ghost use Rattle.fc_image.specs.LoopLaws.{AreLoops};
+ghost use Rattle.fc_image.specs.Loops.{loops_in};
+ghost use Rattle.fc_image.specs.Tables.{AreHeads};
+ghost use Rattle.fc_kinds.specs.Entry.{entry};
 ghost use Rattle.fc_kinds.specs.Lattice.{AreKinds};
 ghost use Rattle.fc_kinds.specs.Transfer.{AreShallow, transfer};
-ghost use Rattle.fc_kinds.specs.Typing.{IsTypingOf, States, entry};
 ghost use Rattle.fc_kinds.specs.Ways.{ways_after};
+ghost use Rattle.fc_verify.specs.Heads.{IsLoopOf, covers, is_inside, settled};
 ghost use Rattle.fc_verify.specs.Runs.{IsTypedProgram, IsUntypedProgram};
-ghost use Rattle.fc_verify.specs.Stages.{IsTypingFault, IsUntyped};
-ghost use Rattle.fc_verify.specs.Pass.{beginning, is_typable, led, met, pass, passed_with};
+ghost use Rattle.fc_verify.specs.Stages.{Fails, IsTypingFault, IsUntyped, Stops};
+ghost use Rattle.fc_verify.specs.Pass.{IsWithin, beginning, is_typable, led, met, met_by, met_later, pass, passed_by};
+ghost use Rattle.fc_verify.specs.Typing.{IsTypingOf, States};
 
+use crate::settling::{formed, gives_number, settled};
 use crate::untyped::Untyped;
-use fc_image::laws::shaped_programs_go_forward;
-use fc_isa::{Fault, ImageVersion, Insn, Jump};
+use fc_image::laws::shaped_loops_are_loops;
+use fc_image::loops::Loop;
+use fc_image::{SLOTS, heads};
+use fc_isa::{Fault, ImageVersion, Insn, Jump, Rule};
 use fc_kinds::laws::effects_keep_kinds;
 use fc_kinds::{Regs, after, enter, entry, join, when};
 
@@ -23,7 +34,7 @@ use fc_kinds::{Regs, after, enter, entry, join, when};
 /// place for a state a slot.
 ///
 /// # Errors
-/// The first slot in order whose demands aren't met, with a rule, 20 to 27, that it breaks, and what is known of the registers
+/// The first slot in order whose demands aren't met, with a rule, 20 to 28, that it breaks, and what is known of the registers
 /// before it: the program has no typing.
 pub fn typed(
     version: ImageVersion,
@@ -31,7 +42,7 @@ pub fn typed(
     code: &[Insn],
     room: Vec<Option<Regs>>,
 ) -> Result<Vec<Option<Regs>>, Untyped>
-    requires program { IsUntypedProgram code.now }
+    requires program { IsUntypedProgram version code.now }
     requires empty { room.items ≡ [] }
     requires room { length code.now ≤ vec_capacity room }
     ensures typing { IfOk result (λ v. IsTypedProgram version vars_size code.now v.items) }
@@ -41,7 +52,7 @@ pub fn typed(
     ensures fault { IfErr result (λ u. IsTypingFault code.now u.fault) }
     ensures known { IfErr result (IsUntyped version vars_size code.now) }
 {
-    shaped_programs_go_forward();
+    shaped_loops_are_loops();
     let mut states = first_states(version, code, room);
     pass_slots(version, vars_size, code, &mut states)?;
     Ok(states)
@@ -83,45 +94,178 @@ fn pass_slots(
     states: &mut [Option<Regs>],
 ) -> Result<(), Untyped>
     requires beginning { states.old ≡ beginning version code.now }
-    requires program { IsUntypedProgram code.now }
+    requires program { IsUntypedProgram version code.now }
     ensures passed { IfOk result (λ u. pass version vars_size code.now ≡ Some states.new) }
     ensures refused { IfErr result (λ u. pass version vars_size code.now ≡ None) }
     ensures fault { IfErr result (λ u. IsTypingFault code.now u.fault) }
     ensures known { IfErr result (IsUntyped version vars_size code.now) }
 {
-    shaped_programs_go_forward();
+    shaped_loops_are_loops();
+    let heads = heads(version, code);
     for (slot, insn) in code.iter().enumerate() {
         if let Some(regs) = states[slot] {
-            pass(vars_size, slot, insn, &regs, states)?;
+            let inside = is_inside(&heads, slot);
+            pass(
+                vars_size,
+                code,
+                slot,
+                insn,
+                &heads[slot],
+                inside,
+                &regs,
+                states,
+            )?;
         }
     }
     Ok(())
 }
 
-/// Passes a slot that has a state: its demands are met, and what its ways hand on is joined to the states that they lead to.
+/// Whether a slot is in the body of a loop, by the loop that begins at each slot.
+fn is_inside(heads: &[Option<Loop>; SLOTS], slot: usize) -> bool
+    requires { slot < 1024 }
+    ensures { (code : List Instruction) (loops : List Counted) → AreLoops code loops → AreHeads loops heads.now → result ≡ is_inside loops slot }
+{
+    for head in 0..slot + 1 {
+        if covers(&heads[head], slot) {
+            return true;
+        }
+    }
+    false
+}
+
+fn covers(beginning: &Option<Loop>, slot: usize) -> bool
+    ensures { result ≡ covers beginning.now slot }
+{
+    match beginning {
+        Some(counted) => counted.head <= slot && slot <= counted.last,
+        None => false,
+    }
+}
+
+/// Passes a slot that has a state: where a loop begins it is settled, its demands are met, and what its ways hand on is joined to the
+/// states of the later slots that they lead to.
 ///
 /// # Errors
-/// A demand that isn't met.
+/// A counter that doesn't enter below its bound, or a demand that isn't met.
 fn pass(
     vars_size: u16,
+    code: &[Insn],
     slot: usize,
     insn: &Insn,
+    beginning: &Option<Loop>,
+    inside: bool,
     regs: &Regs,
     states: &mut [Option<Regs>],
 ) -> Result<(), Untyped>
+    requires counted { IsLoopOf code.now beginning.now }
     requires kinds { AreKinds regs.now }
     requires levels { AreShallow 1023 regs.now }
     requires slot { slot < 1024 }
-    requires forward { IsForward (length states.old) slot (flow slot insn.now) }
+    requires here { slot < length states.old }
+    requires within { IsWithin (length states.old) (flow slot insn.now) }
     requires insn { IsInsn insn.now }
-    ensures passed { IfOk result (λ u. passed_with vars_size slot insn.now (Some regs.now) states.old ≡ Some states.new) }
-    ensures rule { IfErr result (λ u. (20 ≤ number_of u.fault.rule) × (number_of u.fault.rule ≤ 27)) }
+    ensures passed { IfOk result (λ u. passed_by vars_size code.now beginning.now inside slot insn.now regs.now states.old ≡ Some states.new) }
+    ensures rule { IfErr result (λ u. (20 ≤ number_of u.fault.rule) × (number_of u.fault.rule ≤ 28)) }
     ensures slot { IfErr result (λ u. u.fault.slot ≡ slot) }
-    ensures known { IfErr result (λ u. u.known ≡ regs.now) }
-    ensures without { IfErr result (λ u. transfer vars_size insn.now regs.now ≡ None) }
+    ensures stops { IfErr result (λ u. Stops vars_size code.now beginning.now inside insn.now regs.now u.known) }
 {
-    let next = checked(vars_size, slot, *insn, regs)?;
-    spread(slot, *insn, regs, &next, states);
+    match settled(code, beginning, regs) {
+        Some(kinds) => meet_demands(vars_size, slot, insn, inside, &kinds, states),
+        None => Err(unentered(vars_size, code, slot, insn, beginning, regs)),
+    }
+}
+
+/// What is wrong at a slot that settles to no kinds, since the counter of the loop that begins there doesn't enter below the bound.
+fn unentered(
+    vars_size: u16,
+    code: &[Insn],
+    slot: usize,
+    insn: &Insn,
+    beginning: &Option<Loop>,
+    regs: &Regs,
+) -> Untyped
+    requires counted { IsLoopOf code.now beginning.now }
+    requires outside { settled code.now beginning.now regs.now ≡ None }
+    requires kinds { AreKinds regs.now }
+    requires insn { IsInsn insn.now }
+    ensures rule { (20 ≤ number_of result.fault.rule) × (number_of result.fault.rule ≤ 28) }
+    ensures slot { result.fault.slot ≡ slot }
+    ensures stops { (inside : Bool) → Stops vars_size code.now beginning.now inside insn.now regs.now result.known }
+{
+    match beginning {
+        Some(counted) => at_head(vars_size, code, slot, insn, counted, regs),
+        None => against_loop(slot, regs),
+    }
+}
+
+/// A demand of a loop's first instruction that isn't met in its turns, or else that its counter doesn't enter below the bound.
+fn at_head(
+    vars_size: u16,
+    code: &[Insn],
+    slot: usize,
+    insn: &Insn,
+    counted: &Loop,
+    regs: &Regs,
+) -> Untyped
+    requires counted { IsLoopOf code.now (Some counted.now) }
+    requires outside { settled code.now (Some counted.now) regs.now ≡ None }
+    requires kinds { AreKinds regs.now }
+    requires insn { IsInsn insn.now }
+    ensures rule { (20 ≤ number_of result.fault.rule) × (number_of result.fault.rule ≤ 28) }
+    ensures slot { result.fault.slot ≡ slot }
+    ensures stops { (inside : Bool) → Stops vars_size code.now (Some counted.now) inside insn.now regs.now result.known }
+{
+    match checked(vars_size, slot, *insn, &formed(code, counted, regs)) {
+        Ok(_) => against_loop(slot, regs),
+        Err(untyped) => untyped,
+    }
+}
+
+/// That a slot breaks the rule of loops.
+fn against_loop(slot: usize, known: &Regs) -> Untyped
+    ensures rule { result.fault.rule ≡ LoopState }
+    ensures slot { result.fault.slot ≡ slot }
+    ensures known { result.known ≡ known.now }
+{
+    Untyped {
+        fault: Fault {
+            rule: Rule::LoopState,
+            slot,
+        },
+        known: *known,
+    }
+}
+
+/// Meets the demands of a slot that settled to these kinds, and joins what its ways hand on.
+///
+/// # Errors
+/// A demand that isn't met, or in a loop's body a register that is given no number.
+fn meet_demands(
+    vars_size: u16,
+    slot: usize,
+    insn: &Insn,
+    inside: bool,
+    kinds: &Regs,
+    states: &mut [Option<Regs>],
+) -> Result<(), Untyped>
+    requires kinds { AreKinds kinds.now }
+    requires levels { AreShallow 1023 kinds.now }
+    requires slot { slot < 1024 }
+    requires here { slot < length states.old }
+    requires within { IsWithin (length states.old) (flow slot insn.now) }
+    requires insn { IsInsn insn.now }
+    ensures passed { IfOk result (λ u. met_by vars_size inside slot insn.now kinds.now states.old ≡ Some states.new) }
+    ensures rule { IfErr result (λ u. (20 ≤ number_of u.fault.rule) × (number_of u.fault.rule ≤ 28)) }
+    ensures slot { IfErr result (λ u. u.fault.slot ≡ slot) }
+    ensures known { IfErr result (λ u. u.known ≡ kinds.now) }
+    ensures fails { IfErr result (λ u. Fails vars_size inside insn.now kinds.now) }
+{
+    let next = checked(vars_size, slot, *insn, kinds)?;
+    if inside && !gives_number(insn, &next) {
+        return Err(against_loop(slot, kinds));
+    }
+    states[slot] = Some(*kinds);
+    spread(slot, *insn, kinds, &next, states);
     Ok(())
 }
 
@@ -149,30 +293,30 @@ fn checked(vars_size: u16, slot: usize, insn: Insn, regs: &Regs) -> Result<Regs,
     }
 }
 
-/// Joins what an instruction's ways hand on to the states that they lead to.
+/// Joins what an instruction's ways hand on to the states of the later slots that they lead to.
 fn spread(slot: usize, insn: Insn, before: &Regs, after: &Regs, states: &mut [Option<Regs>])
     requires kinds { AreKinds after.now }
     requires levels { AreShallow 1023 before.now }
     requires slot { slot < 1024 }
-    requires forward { IsForward (length states.old) slot (flow slot insn) }
-    ensures { states.new ≡ led states.old (ways_after slot insn before.now after.now) }
+    requires within { IsWithin (length states.old) (flow slot insn) }
+    ensures { states.new ≡ led slot states.old (ways_after slot insn before.now after.now) }
 {
     match insn {
-        Insn::LoadWide { .. } => lead(states, slot + 2, after),
-        Insn::JumpAlways { offset } => lead(states, landing(slot, offset as i32), after),
-        Insn::JumpAlwaysLong { offset } => lead(states, landing(slot, offset), after),
+        Insn::LoadWide { .. } => lead(slot, states, slot + 2, after),
+        Insn::JumpAlways { offset } => lead(slot, states, landing(slot, offset as i32), after),
+        Insn::JumpAlwaysLong { offset } => lead(slot, states, landing(slot, offset), after),
         Insn::JumpIf(jump) => branch(slot, &jump, before, after, states),
         Insn::Exit | Insn::WideSecond => {}
         Insn::CallLocal { offset } => {
-            lead(states, landing(slot, offset), &enter(before));
-            lead(states, slot + 1, after);
+            lead(slot, states, landing(slot, offset), &enter(before));
+            lead(slot, states, slot + 1, after);
         }
-        Insn::CallHelper { .. } => lead(states, slot + 1, after),
+        Insn::CallHelper { .. } => lead(slot, states, slot + 1, after),
         Insn::Alu { .. } | Insn::Neg { .. } | Insn::SignExtend { .. } | Insn::End { .. } => {
-            lead(states, slot + 1, after);
+            lead(slot, states, slot + 1, after);
         }
         Insn::Load { .. } | Insn::StoreImm { .. } | Insn::Store { .. } => {
-            lead(states, slot + 1, after);
+            lead(slot, states, slot + 1, after);
         }
     }
 }
@@ -181,14 +325,14 @@ fn spread(slot: usize, insn: Insn, before: &Regs, after: &Regs, states: &mut [Op
 fn branch(slot: usize, jump: &Jump, before: &Regs, after: &Regs, states: &mut [Option<Regs>])
     requires kinds { AreKinds after.now }
     requires slot { slot < 1024 }
-    requires forward { IsForward (length states.old) slot (flow slot (Insn.JumpIf jump.now)) }
-    ensures { states.new ≡ led states.old (ways_after slot (Insn.JumpIf jump.now) before.now after.now) }
+    requires within { IsWithin (length states.old) (flow slot (Insn.JumpIf jump.now)) }
+    ensures { states.new ≡ led slot states.old (ways_after slot (Insn.JumpIf jump.now) before.now after.now) }
 {
     if let Some(taken) = when(jump, true, after) {
-        lead(states, landing(slot, jump.offset as i32), &taken);
+        lead(slot, states, landing(slot, jump.offset as i32), &taken);
     }
     if let Some(past) = when(jump, false, after) {
-        lead(states, slot + 1, &past);
+        lead(slot, states, slot + 1, &past);
     }
 }
 
@@ -201,8 +345,18 @@ fn landing(slot: usize, offset: i32) -> usize
     if at >= 0 { at as usize } else { slot }
 }
 
+/// Joins kinds to the state of a slot that is later.
+fn lead(from: usize, states: &mut [Option<Regs>], slot: usize, regs: &Regs)
+    requires { slot < length states.old }
+    ensures { states.new ≡ met_later from states.old slot regs.now }
+{
+    if slot > from {
+        meet(states, slot, regs);
+    }
+}
+
 /// Joins kinds to a slot's state.
-fn lead(states: &mut [Option<Regs>], slot: usize, regs: &Regs)
+fn meet(states: &mut [Option<Regs>], slot: usize, regs: &Regs)
     requires { slot < length states.old }
     ensures { states.new ≡ met states.old slot regs.now }
 {

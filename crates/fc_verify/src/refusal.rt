@@ -7,7 +7,7 @@ use thiserror::Error;
 /// Why an image is refused. Nothing is kept of it.
 #[derive(Clone, Copy, Debug, PartialEq, Eq, Error)]
 pub enum Refusal {
-    /// The first rule that it breaks, with its slot; where only the typing is missing, some rule from 20 to 27.
+    /// The first rule that it breaks, with its slot; where only the typing is missing, some rule from 20 to 28.
     #[error("{0}")]
     Broken(Fault),
     /// There was no memory for the program.

@@ -5,8 +5,9 @@ use fc_kinds::Regs;
 /// The first slot whose demands aren't met, and the registers there.
 #[derive(Clone, Copy)]
 pub struct Untyped {
-    /// A rule, 20 to 27, that the slot's instruction breaks.
+    /// A rule, 20 to 28, that the slot breaks.
     pub fault: Fault,
-    /// What is known of each register before that instruction.
+    /// What is known of each register before the slot's instruction: where a loop begins, what that is in each of its turns, but what
+    /// enters the loop where its counter doesn't enter below the bound.
     pub known: Regs,
 }

@@ -19,7 +19,7 @@ use std::alloc::Global;
 /// Verifies an image: the sixteen bytes of its header, and its slots of eight bytes each.
 ///
 /// # Errors
-/// The first rule that the image breaks, with its slot, or some rule from 20 to 27 and a slot of the program where only the
+/// The first rule that the image breaks, with its slot, or some rule from 20 to 28 and a slot of the program where only the
 /// typing is missing; or that memory was refused, which comes before all but the header's rules.
 pub fn verify(alloc: Global, image: &[u8]) -> Result<Verified, Refusal>
     ensures accepted { IfOk result (IsAccepted image.now) }
@@ -35,7 +35,7 @@ pub fn verify(alloc: Global, image: &[u8]) -> Result<Verified, Refusal>
     shape_fault_is_first();
     let cost = shape(&head, &code)?;
     let states = typed(head.version(), head.vars_size(), &code, room)?;
-    let ops = lower(&code, ops);
+    let ops = lower(head.version(), &code, ops);
     Ok(Verified::new(&head, code, ops, slots, cost, &states))
 }
 

@@ -1,4 +1,4 @@
-use Rattle.std.proofs.Common.{◌≡◌, ◌+◌, ◌-◌, ◌<◌, ℕ, zero, suc, Bool, List, [], ◌∷◌, length, drop, get_or, min, Option, Some, None, refl, sym, ap, ◌∙◌, subst, arith, rules}
+use Rattle.std.proofs.Common.{◌≡◌, ◌+◌, ◌-◌, ◌<◌, ℕ, suc, Bool, List, drop, min, Option, Some, None, sym, ap, ◌∙◌, subst, arith, rules}
 use Rattle.std.specs.Prelude.{slice_get}
 use Rattle.std.proofs.lemmas.Option.{slice_get-get_or}
 use Rattle.fc_isa.specs.declared.insn.Insn.{Insn}
@@ -6,9 +6,9 @@ use Rattle.fc_isa.specs.Flow.{flow}
 use Rattle.fc_image.specs.declared.loops.Loop.{Loop}
 use Rattle.fc_image.specs.Loops.{begins, loop_if, loops_of}
 use Rattle.fc_image.specs.Paths.{later, looped, own_cost, costs, cost_of, cost_in}
-use Rattle.fc_image.specs.Tables.{AreLow, headed}
+use Rattle.fc_image.specs.Tables.{AreLow}
 use Rattle.fc_image.proofs.CostTable.{length-costs, cost_more, top_kept, zero_at, past_end}
-use Rattle.fc_image.proofs.HeadTable.{AreHeads, heads_first, heads_more, head_is, ends_here, none_in}
+use Rattle.fc_image.proofs.HeadTable.{default_in, ends_here}
 use Rattle.fc_image.proofs.cost.longest_cost.Goals as goal
 
 pub loop-slot-init : goal.loop-slot-init
@@ -17,30 +17,16 @@ loop-slot-init c = record {
   slot = omega arith;
   capped = λ k. let e = zero_at 1024 k in omega (arith, e);
   known = λ k le. let e = zero_at 1024 k in let f = past_end (costs (loops_of c.args.allowed c.args.code.now) 0 c.args.code.now) k (omega (arith, length-costs (loops_of c.args.allowed c.args.code.now) 0 c.args.code.now, le)) in omega (arith, e, f);
-  heads = heads_first c.args.allowed c.args.code.now _ _ (omega arith) (search rules) (none_in 1024);
 }
-
--- within a table what stands for its members past the end doesn't count
-any_default : (xs : List (Option Loop)) (i : ℕ) (d e : Option Loop) → i < length xs → get_or xs i d ≡ get_or xs i e
-any_default [] i d e lt = absurd (omega (arith, lt))
-any_default (x ∷ xs) zero d e lt = refl
-any_default (x ∷ xs) (suc i) d e lt = any_default xs i d e (omega (arith, lt))
-
--- the loops by their heads, with the one that ends at the slot
-heads_now : (allowed : Bool) (code : List Insn) (at slot : ℕ) (insn : Insn) (heads new : List (Option Loop)) (ending : Option Loop) → at ≡ suc slot → slot < 1024 → slice_get code slot ≡ Some insn → AreHeads allowed code at heads → new ≡ headed heads ending → ending ≡ loop_if allowed code slot insn → AreHeads allowed code slot new
-heads_now allowed code at slot insn heads new ending e few stands t is f =
-    let more = heads_more allowed code slot insn heads few stands (subst (λ n. AreHeads allowed code n heads) e t) in
-    subst (AreHeads allowed code slot) (sym (is ∙ ap (headed heads) f)) more
 
 pub steps-requires-clause-low : goal.steps-requires-clause-low
 steps-requires-clause-low c =
     let slot = c.loop-slot.slot - 1 in
     let l = c.loop-slot.invariant in
-    let insn = c.index-code-slot.result in
-    let stands : slice_get c.args.code.now slot ≡ Some insn = slice_get-get_or c.args.code.now slot insn (omega (arith, l.slot)) ∙ ap Some (sym c.index-code-slot.is) in
-    let t = heads_now c.args.allowed c.args.code.now c.loop-slot.slot slot insn c.loop-slot.heads c.put_head.new.heads c.loop_if-ending.result (omega arith) (omega arith) stands l.heads c.put_head.ensures c.loop_if-ending.ensures.counted in
-    let size = t.count in
-    subst (AreLow 1024) (any_default c.put_head.new.heads slot None c.index-heads-slot.result (omega (arith, size))) (t.low slot)
+    let h = c.requires.heads in
+    let size = h.count in
+    let count = c.requires.count in
+    subst (AreLow 1024) (default_in c.args.heads.now slot None c.index-heads-slot.result (omega (arith, size, count, l.slot, c.loop-slot-test.true))) (h.low slot)
 
 value_is : (value steps cost : ℕ) → value ≡ min steps 65537 → steps ≡ cost → value ≡ min 65537 cost
 value_is value steps cost e f = omega (arith, e, f)
@@ -62,9 +48,11 @@ loop-slot-preserved c =
     let code = c.args.code.now in
     let insn = c.index-code-slot.result in
     let stands : slice_get code slot ≡ Some insn = slice_get-get_or code slot insn (omega (arith, l.slot)) ∙ ap Some (sym c.index-code-slot.is) in
-    let t = heads_now c.args.allowed code c.loop-slot.slot slot insn c.loop-slot.heads c.put_head.new.heads c.loop_if-ending.result (omega arith) (omega arith) stands l.heads c.put_head.ensures c.loop_if-ending.ensures.counted in
-    let size = t.count in
-    let beginning = any_default c.put_head.new.heads slot c.index-heads-slot.result None (omega (arith, size)) ∙ head_is c.args.allowed code slot c.put_head.new.heads (omega arith) t in
+    let h = c.requires.heads in
+    let size = h.count in
+    let count = c.requires.count in
+    let few : slot < 1024 = omega (arith, count, l.slot, c.loop-slot-test.true) in
+    let beginning = default_in c.args.heads.now slot c.index-heads-slot.result None (omega (arith, size, few)) ∙ h.each slot few in
     record {
       len = search rules;
       slot = omega arith;
@@ -72,7 +60,6 @@ loop-slot-preserved c =
       known = cost_more code (loops_of c.args.allowed code) c.loop-slot.costs slot c.min.result insn stands (omega arith) (λ k le. l.known k (omega (arith, le)))
           (value_is c.min.result c.steps.result (cost_of (loops_of c.args.allowed code) slot insn (drop (suc slot) c.loop-slot.costs)) c.min.ensures
           (cost_now c.args.allowed code slot insn c.loop-slot.costs _ c.loop_if-ending.result c.own_steps-own.result c.steps.result stands beginning c.loop_if-ending.ensures.counted c.own_steps-own.ensures.steps c.steps.ensures));
-      heads = t;
     }
 
 pub returns : goal.returns

@@ -1,4 +1,4 @@
-use Rattle.fc_image.proofs.Straight.{longest_is}
+use Rattle.fc_image.proofs.LoopLaws.{longest_is}
 use Rattle.fc_image.proofs.laws.longest_is_longest.Goals as goal
 
 pub returns : goal.returns

@@ -17,7 +17,7 @@ returns-in_err-_cost-clause-rejected c =
 pub typed-requires-clause-program : goal.typed-requires-clause-program
 typed-requires-clause-program c =
     let s = rw c.deref.ensures.value at c.in_ok-_cost.ensures.shape in
-    rw c.deref-2.ensures.value (untyped_of c.args.image.now c.in_ok-head.head c.in_ok-code.code.items c.in_ok-head.ensures.head c.in_ok-code.ensures.code s.0 s.1)
+    rw (c.deref-2.ensures.value, c.version.ensures) (untyped_of c.args.image.now c.in_ok-head.head c.in_ok-code.code.items c.in_ok-head.ensures.head c.in_ok-code.ensures.code s.0 s.1)
 
 pub returns-in-Ok-clause-accepted : goal.returns-in-Ok-clause-accepted
 returns-in-Ok-clause-accepted c =

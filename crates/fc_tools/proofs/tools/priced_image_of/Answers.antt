@@ -12,7 +12,7 @@ use Rattle.fc_tools.proofs.tools.priced_image_of.Goals as goal
 
 priced : (text image : List ℕ) (vars : ℕ) (version : ImageVersion) (program : List Insn) (h : Head) → IsAssembled (lines_of text) program
     → h ≡ program_head vars h.budget version program → limit_fault h ≡ None
-    → IsLongest program h.budget → image ≡ head_bytes h ++ encoded program → IsPricedImageOf text vars version image
+    → IsLongest version program h.budget → image ≡ head_bytes h ++ encoded program → IsPricedImageOf text vars version image
 priced text image vars version program h assembled is limits cost bytes = record {
   budget = h.budget;
   image_is = record {

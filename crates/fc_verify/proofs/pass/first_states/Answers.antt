@@ -1,5 +1,5 @@
 use Rattle.std.proofs.Common.{rules, ap, ◌∙◌, ◌++◌, [], ◌∷◌}
-use Rattle.fc_verify.proofs.PassLaws.{first_states_more}
+use Rattle.fc_verify.proofs.Passing.{first_states_more}
 use Rattle.fc_verify.proofs.pass.first_states.Goals as goal
 
 pub loop-slot-preserved : goal.loop-slot-preserved

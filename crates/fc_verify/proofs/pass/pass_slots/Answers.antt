@@ -1,12 +1,24 @@
-use Rattle.std.proofs.Common.{Result, Ok, Err, ◌≡◌, ◌+◌, ◌≤◌, Some, sym, ap, ◌∙◌, subst, arith}
+use Rattle.std.proofs.Common.{Result, Ok, Err, ◌≡◌, ℕ, ◌+◌, ◌<◌, ◌≤◌, Bool, List, Option, Some, None, get_or, sym, ap, ◌∙◌, subst, arith}
 use Rattle.std.specs.Prelude.{IfErr, slice_get}
 use Rattle.std.proofs.lemmas.Option.{slice_get-get_or}
 use Rattle.std.specs.Result.{IsErrAnd}
+use Rattle.fc_isa.specs.declared.insn.Insn.{Insn}
 use Rattle.fc_isa.specs.Flow.{flow}
-use Rattle.fc_image.specs.Flow.{IsForward}
-use Rattle.fc_verify.specs.Stages.{IsUntyped}
+use Rattle.fc_image.specs.Head.{loops_allowed}
+use Rattle.fc_image.specs.Loops.{begins, loops_in}
+use Rattle.fc_image.specs.LoopLaws.{AreLoops}
+use Rattle.fc_image.specs.declared.loops.Loop.{Loop}
+use Rattle.fc_image.specs.Tables.{AreHeads}
+use Rattle.fc_image.proofs.HeadTable.{default_in}
+use Rattle.fc_kinds.specs.declared.kind.Kind.{Kind}
+use Rattle.fc_verify.specs.Typing.{States}
+use Rattle.fc_verify.specs.Heads.{IsLoopOf, is_inside}
+use Rattle.fc_verify.specs.Pass.{IsWithin, passed_by, passed_with}
+use Rattle.fc_verify.specs.Stages.{IsUntyped, Stops}
 use Rattle.fc_verify.proofs.Levels.{AreLow, shallow_up, low_up, low_passed, beginning_low}
-use Rattle.fc_verify.proofs.PassLaws.{Passing, passes, passing_start, passing_some, passing_none, passing_refused}
+use Rattle.fc_verify.proofs.PassLaws.{stopped}
+use Rattle.fc_verify.proofs.Passing.{Passing, passing_start, passing_some, passing_none, passing_refused}
+use Rattle.fc_verify.proofs.Table.{loop_is, within_is}
 use Rattle.fc_verify.proofs.pass.pass_slots.Goals as goal
 use Rattle.fc_verify.proofs.pass.pass_slots.Goals.{in-Some+in_ok-pass, in_default}
 
@@ -15,10 +27,31 @@ handed_on : {T E : Type 0} (r : Result T E) (e : E) (P : E → Type 0) → IsErr
 handed_on (Ok x) e P h p = absurd h
 handed_on (Err x) e P h p = subst P (sym h) p
 
+-- what the table holds at a slot
+begins_there : (loops : List Loop) (heads : List (Option Loop)) (slot : ℕ) (o : Option Loop) → AreHeads loops heads → slot < 1024 → get_or heads slot o ≡ begins loops slot
+begins_there loops heads slot o h lt = let size = h.count in default_in heads slot o None (omega (arith, size, lt)) ∙ h.each slot lt
+
+-- by the loop that the table holds, and by whether the slot was found in a body
+with_loops : (vars : ℕ) (code : List Insn) (loops : List Loop) (slot : ℕ) (insn : Insn) (found : List Kind) (states : States) (o : Option Loop) (inside : Bool) (r : Option States) → o ≡ begins loops slot
+    → inside ≡ is_inside loops slot → passed_by vars code o inside slot insn found states ≡ r → passed_with vars code loops slot insn (Some found) states ≡ r
+with_loops vars code loops slot insn found states o inside r e f g =
+    ap (λ x. passed_by vars code x (is_inside loops slot) slot insn found states) (sym e) ∙ ap (λ b. passed_by vars code o b slot insn found states) (sym f) ∙ g
+
 pub loop-slot-init : goal.loop-slot-init
 loop-slot-init c =
+    let version = c.args.version in
     let code = c.args.code.now in
-    record { passing = subst (Passing c.args.version c.args.vars_size code 0) (sym c.requires.beginning) (passing_start c.args.version c.args.vars_size code); low = subst (AreLow 0) (sym c.requires.beginning) (beginning_low c.args.version code) }
+    let loops = loops_in version code in
+    record { passing = subst (Passing version c.args.vars_size code loops 0) (sym c.requires.beginning) (passing_start version c.args.vars_size code loops); low = subst (AreLow 0) (sym c.requires.beginning) (beginning_low version code) }
+
+pub pass-requires-clause-counted : goal.pass-requires-clause-counted
+pass-requires-clause-counted c =
+    let p = c.requires.program in
+    let version = c.args.version in
+    let code = c.args.code.now in
+    let loops : AreLoops code (loops_in version code) = (c.shaped_loops_are_loops.ensures (loops_allowed version) code p.insns p.whole p.shaped).typing in
+    let few : c.loop-slot.slot < 1024 = omega (arith, p.few, c.loop-slot-test.true) in
+    subst (IsLoopOf code) (sym (begins_there (loops_in version code) c.heads-heads.result c.loop-slot.slot c.index-heads-slot.result c.heads-heads.ensures few)) (loop_is code (loops_in version code) c.loop-slot.slot loops)
 
 pub pass-requires-clause-kinds : goal.pass-requires-clause-kinds
 pass-requires-clause-kinds c = let l = c.loop-slot in l.invariant.passing.proper l.slot c.in-Some.regs c.in-Some.is
@@ -29,11 +62,16 @@ pass-requires-clause-levels c =
     let few : l.slot ≤ 1023 = omega (arith, c.requires.program.few, c.loop-slot-test.true) in
     shallow_up l.slot 1023 c.in-Some.regs few (l.invariant.low l.slot c.in-Some.regs c.in-Some.is)
 
-pub pass-requires-clause-forward : goal.pass-requires-clause-forward
-pass-requires-clause-forward c =
+pub pass-requires-clause-within : goal.pass-requires-clause-within
+pass-requires-clause-within c =
     let l = c.loop-slot in
-    let at : slice_get c.args.code.now l.slot ≡ Some c.index-code-slot.result = slice_get-get_or c.args.code.now l.slot c.index-code-slot.result c.loop-slot-test.true ∙ ap Some (sym c.index-code-slot.is) in
-    subst (λ n. IsForward n l.slot (flow l.slot c.index-code-slot.result)) (sym l.invariant.passing.count) (c.shaped_programs_go_forward.ensures c.args.code.now l.slot c.index-code-slot.result c.requires.program.shaped at)
+    let p = c.requires.program in
+    let version = c.args.version in
+    let code = c.args.code.now in
+    let insn = c.index-code-slot.result in
+    let at : slice_get code l.slot ≡ Some insn = slice_get-get_or code l.slot insn c.loop-slot-test.true ∙ ap Some (sym c.index-code-slot.is) in
+    let loops : AreLoops code (loops_in version code) = (c.shaped_loops_are_loops.ensures (loops_allowed version) code p.insns p.whole p.shaped).typing in
+    subst (λ n. IsWithin n (flow l.slot insn)) (sym l.invariant.passing.count) (within_is code (loops_in version code) l.slot (flow l.slot insn) loops (loops.onward l.slot insn at))
 
 pub pass-requires-clause-insn : goal.pass-requires-clause-insn
 pass-requires-clause-insn c =
@@ -44,21 +82,29 @@ pass-requires-clause-insn c =
 pub loop-slot-preserved : goal.loop-slot-preserved
 loop-slot-preserved c =
     let l = c.loop-slot in
+    let version = c.args.version in
     let vars = c.args.vars_size in
+    let code = c.args.code.now in
+    let all = loops_in version code in
+    let program = c.requires.program in
+    let loops : AreLoops code all = (c.shaped_loops_are_loops.ensures (loops_allowed version) code program.insns program.whole program.shaped).typing in
+    let few : l.slot < 1024 = omega (arith, program.few, c.loop-slot-test.true) in
     let insn = c.index-code-slot.result in
-    let at : slice_get c.args.code.now l.slot ≡ Some insn = slice_get-get_or c.args.code.now l.slot insn c.loop-slot-test.true ∙ ap Some (sym c.index-code-slot.is) in
+    let at : slice_get code l.slot ≡ Some insn = slice_get-get_or code l.slot insn c.loop-slot-test.true ∙ ap Some (sym c.index-code-slot.is) in
     let p = l.invariant.passing in
     elim c.match-states-slot.branch [
       | in-Some+in_ok-pass w ↦
           let ks = w.in-Some.regs in
           let next = w.pass.new.states in
-          let passed = w.in_ok-pass.ensures.passed in
-          let now = passing_some c.args.version vars c.args.code.now l.slot l.states next insn ks (c.requires.program.insns l.slot insn at) p at w.in-Some.is passed in
-          let low = low_passed l.slot vars l.slot insn ks l.states next (l.invariant.low l.slot ks w.in-Some.is) l.invariant.low (passes vars l.slot insn ks l.states next passed) in
-          record { passing = subst (Passing c.args.version vars c.args.code.now (l.slot + 1)) (sym w.states-is) now; low = subst (AreLow (l.slot + 1)) (sym w.states-is) low }
+          let begin = begins_there all c.heads-heads.result l.slot w.index-heads-slot.result c.heads-heads.ensures few in
+          let inside = w.is_inside-inside.ensures code all loops c.heads-heads.ensures in
+          let passed = with_loops vars code all l.slot insn ks l.states _ _ (Some next) begin inside w.in_ok-pass.ensures.passed in
+          let now = passing_some version vars code all l.slot l.states next insn ks loops (program.insns l.slot insn at) p at w.in-Some.is passed in
+          let low = low_passed l.slot vars code all l.slot insn ks l.states next l.invariant.low w.in-Some.is passed in
+          record { passing = subst (Passing version vars code all (l.slot + 1)) (sym w.states-is) now; low = subst (AreLow (l.slot + 1)) (sym w.states-is) low }
       | in_default w ↦
           record {
-            passing = subst (Passing c.args.version vars c.args.code.now (l.slot + 1)) (sym w.states-is) (passing_none c.args.version vars c.args.code.now l.slot l.states insn p at w.in_default.is);
+            passing = subst (Passing version vars code all (l.slot + 1)) (sym w.states-is) (passing_none version vars code all l.slot l.states insn p at w.in_default.is);
             low = subst (AreLow (l.slot + 1)) (sym w.states-is) (low_up l.slot (l.slot + 1) l.states (omega arith) l.invariant.low);
           }
     ]
@@ -66,16 +112,40 @@ loop-slot-preserved c =
 pub returns-in_err-pass-clause-refused : goal.returns-in_err-pass-clause-refused
 returns-in_err-pass-clause-refused c =
     let l = c.loop-slot in
-    let at : slice_get c.args.code.now l.slot ≡ Some c.index-code-slot.result = slice_get-get_or c.args.code.now l.slot c.index-code-slot.result c.loop-slot-test.true ∙ ap Some (sym c.index-code-slot.is) in
+    let version = c.args.version in
+    let vars = c.args.vars_size in
+    let code = c.args.code.now in
+    let all = loops_in version code in
+    let program = c.requires.program in
+    let loops : AreLoops code all = (c.shaped_loops_are_loops.ensures (loops_allowed version) code program.insns program.whole program.shaped).typing in
+    let few : l.slot < 1024 = omega (arith, program.few, c.loop-slot-test.true) in
+    let insn = c.index-code-slot.result in
+    let at : slice_get code l.slot ≡ Some insn = slice_get-get_or code l.slot insn c.loop-slot-test.true ∙ ap Some (sym c.index-code-slot.is) in
+    let begin = begins_there all c.heads-heads.result l.slot c.index-heads-slot.result c.heads-heads.ensures few in
+    let inside = c.is_inside-inside.ensures code all loops c.heads-heads.ensures in
+    let none = stopped vars code _ c.is_inside-inside.result l.slot insn c.in-Some.regs c.in_err-pass.field-0.0.known l.states c.in_err-pass.ensures.stops in
     handed_on c.from_residual.result c.in_err-pass.field-0.0 _ c.from_residual.ensures.1
-    (passing_refused c.args.version c.args.vars_size c.args.code.now l.slot l.states c.index-code-slot.result c.in-Some.regs l.invariant.passing at c.in-Some.is c.in_err-pass.ensures.without)
+    (passing_refused version vars code all l.slot l.states insn c.in-Some.regs l.invariant.passing at c.in-Some.is (with_loops vars code all l.slot insn c.in-Some.regs l.states _ _ None begin inside none))
 
 pub returns-in_err-pass-clause-known : goal.returns-in_err-pass-clause-known
 returns-in_err-pass-clause-known c =
     let l = c.loop-slot in
-    let at : slice_get c.args.code.now l.slot ≡ Some c.index-code-slot.result = slice_get-get_or c.args.code.now l.slot c.index-code-slot.result c.loop-slot-test.true ∙ ap Some (sym c.index-code-slot.is) in
+    let version = c.args.version in
+    let vars = c.args.vars_size in
+    let code = c.args.code.now in
+    let all = loops_in version code in
+    let program = c.requires.program in
+    let loops : AreLoops code all = (c.shaped_loops_are_loops.ensures (loops_allowed version) code program.insns program.whole program.shaped).typing in
+    let few : l.slot < 1024 = omega (arith, program.few, c.loop-slot-test.true) in
+    let insn = c.index-code-slot.result in
+    let at : slice_get code l.slot ≡ Some insn = slice_get-get_or code l.slot insn c.loop-slot-test.true ∙ ap Some (sym c.index-code-slot.is) in
+    let begin = begins_there all c.heads-heads.result l.slot c.index-heads-slot.result c.heads-heads.ensures few in
+    let inside = c.is_inside-inside.ensures code all loops c.heads-heads.ensures in
     let e = c.in_err-pass.ensures in
     let passed = l.invariant.passing.passed_is in
     let is = c.in-Some.is in
-    handed_on c.from_residual.result c.in_err-pass.field-0.0 (IsUntyped c.args.version c.args.vars_size c.args.code.now) c.from_residual.ensures.1
-    (record { insn = c.index-code-slot.result; insn_is = rw e.slot at; states = l.states; passed = rw e.slot passed; known = rw (e.slot, e.known) is; refused = rw e.known e.without })
+    let known = c.in_err-pass.field-0.0.known in
+    let stops : Stops vars code (begins all l.slot) (is_inside all l.slot) insn c.in-Some.regs known =
+    subst (λ o. Stops vars code o (is_inside all l.slot) insn c.in-Some.regs known) begin (subst (λ b. Stops vars code (get_or c.heads-heads.result l.slot c.index-heads-slot.result) b insn c.in-Some.regs known) inside e.stops) in
+    handed_on c.from_residual.result c.in_err-pass.field-0.0 (IsUntyped version vars code) c.from_residual.ensures.1
+    (record { insn = insn; insn_is = rw e.slot at; states = l.states; passed = rw e.slot passed; found = c.in-Some.regs; found_is = rw e.slot is; stops = rw e.slot stops })

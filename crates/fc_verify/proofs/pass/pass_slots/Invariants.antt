@@ -1,9 +1,10 @@
-use Rattle.fc_verify.proofs.PassLaws.{Passing}
+use Rattle.fc_image.specs.Loops.{loops_in}
+use Rattle.fc_verify.proofs.Passing.{Passing}
 use Rattle.fc_verify.proofs.Levels.{AreLow}
 use Rattle.fc_verify.proofs.pass.pass_slots.Given as goal
 
 abbrev pub invariant-loop-slot : goal.invariant-loop-slot
 invariant-loop-slot l = record {
-  passing : Passing l.fn.version l.vars_size l.code l.slot l.states;
+  passing : Passing l.fn.version l.vars_size l.code (loops_in l.fn.version l.code) l.slot l.states;
   low : AreLow l.slot l.states;
 }

@@ -16,7 +16,7 @@ returns-in_err-cost-clause-refused c =
 pub typed-requires-clause-program : goal.typed-requires-clause-program
 typed-requires-clause-program c =
     let s = rw c.deref.ensures.value at c.in_ok-cost.ensures.shape in
-    rw c.deref-2.ensures.value (untyped_of c.args.image.now c.in_ok-head.head c.in_ok-code.code.items c.in_ok-head.ensures.head c.in_ok-code.ensures.code s.0 s.1)
+    rw (c.deref-2.ensures.value, c.version.ensures) (untyped_of c.args.image.now c.in_ok-head.head c.in_ok-code.code.items c.in_ok-head.ensures.head c.in_ok-code.ensures.code s.0 s.1)
 
 pub returns-in_err-states-clause-refused : goal.returns-in_err-states-clause-refused
 returns-in_err-states-clause-refused c =

@@ -1,0 +1,49 @@
+//! The loops of a program, by the slots where they begin.
+ghost use Rattle.std.specs.Prelude.{None, length, ◌<◌, ◌≡◌, ◌≤◌};
+ghost use Rattle.fc_image.specs.Loops.{loop_if, loops_in};
+ghost use Rattle.fc_image.specs.Tables.{AreHeads, AreLow, headed};
+
+use crate::limits::loops_allowed;
+use crate::loops::{Loop, loop_at};
+use crate::table::SLOTS;
+use fc_isa::{ImageVersion, Insn};
+
+/// The loop that begins at each slot of a program of a version.
+pub fn heads(version: ImageVersion, code: &[Insn]) -> [Option<Loop>; SLOTS]
+    requires { length code.now ≤ 1024 }
+    ensures { AreHeads (loops_in version code.now) result }
+{
+    let allowed = loops_allowed(version);
+    let mut heads = [None; SLOTS];
+    let mut slot = code.len();
+    while slot > 0 {
+        slot -= 1;
+        let ending = loop_if(allowed, code, slot, &code[slot]);
+        put_head(&mut heads, &ending);
+    }
+    heads
+}
+
+/// The loop whose jump back an instruction is, where loops are allowed.
+pub(crate) fn loop_if(allowed: bool, code: &[Insn], slot: usize, insn: &Insn) -> Option<Loop>
+    requires count { length code.now ≤ 1024 }
+    requires slot { slot < length code.now }
+    ensures counted { result ≡ loop_if allowed code.now slot insn.now }
+    ensures low { AreLow slot result }
+{
+    if allowed {
+        loop_at(code, slot, insn)
+    } else {
+        None
+    }
+}
+
+/// Keeps a loop by its head.
+fn put_head(heads: &mut [Option<Loop>; SLOTS], ending: &Option<Loop>)
+    requires { AreLow 1024 ending.now }
+    ensures { heads.new ≡ headed heads.old ending.now }
+{
+    if let Some(counted) = ending {
+        heads[counted.head] = Some(*counted);
+    }
+}

@@ -1,0 +1,69 @@
+-- The kinds at the heads of counted loops.
+use Rattle.std.specs.Prelude.{◌≡◌, ◌≢◌, ℕ, ◌-◌, ◌≤◌, ◌==◌, ◌||◌, ◌&&◌, ◌⊎◌, Bool, true, false, nat_lt, nat_le, if◌then◌else◌, List, [], ◌∷◌, Option, Some, None}
+use Rattle.fc_isa.specs.declared.insn.Insn.{Insn}
+use Rattle.fc_image.specs.declared.loops.Loop.{Loop}
+use Rattle.fc_image.specs.Loops.{is_in, is_written, has_call}
+use Rattle.fc_image.specs.LoopLaws.{IsLoop}
+use Rattle.fc_kinds.specs.declared.kind.Kind.{Kind}
+use Rattle.fc_kinds.specs.declared.kind.Kind.TheVariants.{Unset, Num}
+use Rattle.fc_kinds.specs.Kinds.{kind_at}
+use Rattle.fc_kinds.specs.Transfer.{is_number, where_met}
+
+-- a loop of a program
+abbrev pub IsLoopOf : List Insn → Option Loop → Type 0
+IsLoopOf code None = Unit {0}
+IsLoopOf code (Some l) = IsLoop code l
+
+-- ---- the kinds at a head
+
+abbrev pub IsAnyNumber : Kind → Type 0
+IsAnyNumber k = (k ≡ Num 0 18446744073709551615) ⊎ (k ≡ Unset)
+
+-- the counter is below the bound; of each other register that the body writes nothing is known, or that it is a number; where
+-- the body calls, R1 to R5 are unset
+pub record IsHeadState (code : List Insn) (l : Loop) (kinds : List Kind) : Type 0 where
+  pub counter : kind_at kinds l.counter ≡ Num 0 (l.bound - 1)
+  pub written : (r : ℕ) → r ≢ l.counter → is_written code l r ≡ true → IsAnyNumber (kind_at kinds r)
+  pub cleared : has_call code l ≡ true → (r : ℕ) → r ≢ l.counter → 1 ≤ r → r ≤ 5 → kind_at kinds r ≡ Unset
+
+-- the least such kinds that contain those that enter
+abbrev pub any_number : Kind → Kind
+any_number (Num lo hi) = Num 0 18446744073709551615
+any_number k = Unset
+
+abbrev pub formed_kind : List Insn → Loop → ℕ → Kind → Kind
+formed_kind code l r k =
+    if r == l.counter then Num 0 (l.bound - 1) else (
+    if has_call code l && (nat_le 1 r && nat_le r 5) then Unset else (
+    if is_written code l r then any_number k else k))
+
+abbrev pub formed : List Insn → Loop → List Kind → List Kind
+formed code l kinds =
+    formed_kind code l 0 (kind_at kinds 0) ∷ formed_kind code l 1 (kind_at kinds 1) ∷ formed_kind code l 2 (kind_at kinds 2)
+    ∷ formed_kind code l 3 (kind_at kinds 3) ∷ formed_kind code l 4 (kind_at kinds 4) ∷ formed_kind code l 5 (kind_at kinds 5)
+    ∷ formed_kind code l 6 (kind_at kinds 6) ∷ formed_kind code l 7 (kind_at kinds 7) ∷ formed_kind code l 8 (kind_at kinds 8)
+    ∷ formed_kind code l 9 (kind_at kinds 9) ∷ formed_kind code l 10 (kind_at kinds 10) ∷ []
+
+-- the counter enters below the bound
+abbrev pub enters : Loop → Kind → Bool
+enters l (Num lo hi) = nat_lt hi l.bound
+enters l k = false
+
+-- a slot's kinds as the pass takes them: formed where a loop begins
+unfoldable pub settled : List Insn → Option Loop → List Kind → Option (List Kind)
+settled code None kinds = Some kinds
+settled code (Some l) kinds = where_met (enters l (kind_at kinds l.counter)) (formed code l kinds)
+
+-- a register that an instruction computes is given a number
+abbrev pub gives_number : Option ℕ → List Kind → Bool
+gives_number None after = true
+gives_number (Some dst) after = is_number (kind_at after dst)
+
+abbrev pub is_inside : List Loop → ℕ → Bool
+is_inside [] slot = false
+is_inside (l ∷ loops) slot = is_in l slot || is_inside loops slot
+
+-- the loop that begins at a slot has another in its body
+abbrev pub covers : Option Loop → ℕ → Bool
+covers None slot = false
+covers (Some l) slot = is_in l slot

@@ -1,0 +1,147 @@
+//! The kinds at the heads of counted loops.
+ghost use Rattle.std.specs.Prelude.{None, Some, drop, false, length, take, true, ◌+◌, ◌-◌, ◌<◌, ◌≡◌, ◌≤◌, suc, ℕ};
+ghost use Rattle.fc_isa.specs.Writes.{computes, is_call, is_that, writes};
+ghost use Rattle.fc_image.specs.Loops.{body, has_call, is_written, some_insn};
+ghost use Rattle.fc_verify.specs.Heads.{IsLoopOf, any_number, enters, formed, formed_kind, gives_number, settled};
+ghost use Rattle.fc_kinds.specs.Kinds.{kind_at};
+
+use fc_image::loops::{Loop, computes, is_call, writes};
+use fc_isa::Insn;
+use fc_kinds::{Kind, Regs};
+
+/// A slot's kinds as the pass takes them: where a loop begins, the least that a head may have and that contain these, or `None`
+/// where its counter doesn't enter below the bound.
+#[tactic(auto, unfolding(crate::specs::Heads::settled))]
+pub(crate) fn settled(code: &[Insn], beginning: &Option<Loop>, regs: &Regs) -> Option<Regs>
+    requires { IsLoopOf code.now beginning.now }
+    ensures { result ≡ settled code.now beginning.now regs.now }
+{
+    match beginning {
+        Some(counted) => formed_where(code, counted, regs),
+        None => Some(*regs),
+    }
+}
+
+#[tactic(auto, unfolding(crate::specs::Heads::settled))]
+fn formed_where(code: &[Insn], counted: &Loop, regs: &Regs) -> Option<Regs>
+    requires { IsLoopOf code.now (Some counted.now) }
+    ensures { result ≡ settled code.now (Some counted.now) regs.now }
+{
+    if enters(counted, &regs[counted.counter.index()]) {
+        Some(formed(code, counted, regs))
+    } else {
+        None
+    }
+}
+
+/// Whether a kind enters below the bound.
+fn enters(counted: &Loop, kind: &Kind) -> bool
+    ensures { result ≡ enters counted.now kind.now }
+{
+    match kind {
+        Kind::Num { hi, .. } => *hi < counted.bound as u64,
+        _ => false,
+    }
+}
+
+pub(crate) fn formed(code: &[Insn], counted: &Loop, regs: &Regs) -> Regs
+    requires { IsLoopOf code.now (Some counted.now) }
+    ensures { result ≡ formed code.now counted.now regs.now }
+{
+    [
+        formed_kind(code, counted, 0, regs),
+        formed_kind(code, counted, 1, regs),
+        formed_kind(code, counted, 2, regs),
+        formed_kind(code, counted, 3, regs),
+        formed_kind(code, counted, 4, regs),
+        formed_kind(code, counted, 5, regs),
+        formed_kind(code, counted, 6, regs),
+        formed_kind(code, counted, 7, regs),
+        formed_kind(code, counted, 8, regs),
+        formed_kind(code, counted, 9, regs),
+        formed_kind(code, counted, 10, regs),
+    ]
+}
+
+fn formed_kind(code: &[Insn], counted: &Loop, register: usize, regs: &Regs) -> Kind
+    requires body { IsLoopOf code.now (Some counted.now) }
+    requires register { register < 11 }
+    ensures { result ≡ formed_kind code.now counted.now register (kind_at regs.now register) }
+{
+    if register == counted.counter.index() {
+        return Kind::Num {
+            lo: 0,
+            hi: counted.bound as u64 - 1,
+        };
+    }
+    if has_call(code, counted) && (1 <= register && register <= 5) {
+        return Kind::Unset;
+    }
+    if is_written(code, counted, register) {
+        any_number(&regs[register])
+    } else {
+        regs[register]
+    }
+}
+
+fn any_number(kind: &Kind) -> Kind
+    ensures { result ≡ any_number kind.now }
+{
+    match kind {
+        Kind::Num { .. } => Kind::Num {
+            lo: 0,
+            hi: u64::MAX,
+        },
+        _ => Kind::Unset,
+    }
+}
+
+/// Whether an instruction of the body writes a register.
+#[tactic(auto, unfolding(fc_image::specs::Loops::is_written))]
+fn is_written(code: &[Insn], counted: &Loop, register: usize) -> bool
+    requires { IsLoopOf code.now (Some counted.now) }
+    ensures { result ≡ is_written code.now counted.now register }
+{
+    some_writes(&code[counted.head..counted.last + 1], register)
+}
+
+/// Whether an instruction of the body is a call.
+#[tactic(auto, unfolding(fc_image::specs::Loops::has_call))]
+fn has_call(code: &[Insn], counted: &Loop) -> bool
+    requires { IsLoopOf code.now (Some counted.now) }
+    ensures { result ≡ has_call code.now counted.now }
+{
+    some_calls(&code[counted.head..counted.last + 1])
+}
+
+fn some_writes(code: &[Insn], register: usize) -> bool
+    ensures { result ≡ some_insn (λ insn. writes insn register) code.now }
+{
+    for slot in 0..code.len() {
+        if writes(&code[slot], register) {
+            return true;
+        }
+    }
+    false
+}
+
+fn some_calls(code: &[Insn]) -> bool
+    ensures { result ≡ some_insn is_call code.now }
+{
+    for slot in 0..code.len() {
+        if is_call(&code[slot]) {
+            return true;
+        }
+    }
+    false
+}
+
+/// Whether the register that an instruction computes is a number after it.
+pub(crate) fn gives_number(insn: &Insn, after: &Regs) -> bool
+    ensures { result ≡ gives_number (computes insn.now) after.now }
+{
+    match computes(insn) {
+        Some(dst) => matches!(after[dst.index()], Kind::Num { .. }),
+        None => true,
+    }
+}
