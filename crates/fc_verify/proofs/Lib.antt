@@ -7,6 +7,14 @@ pub mod PassLaws
 pub mod Passing
 pub mod Levels
 pub mod Table
+mod KeptRegisters
+mod Moves
+mod Counters
+mod OpenLoops
+mod StepMoves
+mod Waiting
+mod Starts
+mod FlowSteps
 pub mod RunLaws
 pub mod Judging
 pub mod Right
