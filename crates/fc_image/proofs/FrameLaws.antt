@@ -1,4 +1,4 @@
--- Each step of a shaped program leads nearer to its end, and its calls add no more frames than its header allows.
+-- The frames that calls add from a slot on: no fewer than from a later slot of its function, and more than in a function that it calls.
 use Rattle.std.proofs.Common.{◌≡◌, ℕ, zero, suc, ◌+◌, ◌-◌, ◌<◌, ◌≤◌, ◌==◌, ◌||◌, ◌&&◌, not, nat_lt, min, max, Bool, true, false, ℤ, List, [], ◌∷◌, length, drop, Option, Some, None, get_or, inl, inr, refl, sym, ap, ◌∙◌, subst, arith}
 use Rattle.std.specs.Prelude.{slice_get}
 use Rattle.std.proofs.lemmas.Bool.{cases_lt}
@@ -6,17 +6,14 @@ use Rattle.std.proofs.lemmas.Bool.Decides.{nat_tests}
 use Rattle.std.proofs.lemmas.List.{get_or-drop, get_or_past}
 use Rattle.fc_isa.specs.declared.insn.Insn.{Insn}
 use Rattle.fc_isa.specs.declared.insn.Insn.TheVariants.{Alu, Neg, SignExtend, End, LoadWide, WideSecond, Load, StoreImm, Store, JumpAlways, JumpAlwaysLong, JumpIf, CallHelper, CallLocal, Exit}
-use Rattle.fc_isa.specs.declared.rule.Rule.TheVariants.{JumpTarget, BackwardJump, Boundary}
+use Rattle.fc_isa.specs.declared.rule.Rule.TheVariants.{JumpTarget}
 use Rattle.fc_isa.specs.Program.{is_program}
-use Rattle.fc_isa.specs.Flow.{target, landing, Flow, Goes, flow}
-use Rattle.fc_image.specs.Flow.{IsForward}
+use Rattle.fc_isa.specs.Flow.{target, landing}
 use Rattle.fc_image.specs.Functions.{is_at, calls, is_called, is_start, starts_within, depths, frames}
-use Rattle.fc_image.specs.Laws.{cost_at, frames_at, IsNearer, LeadsNearer}
-use Rattle.fc_image.specs.Paths.{along}
+use Rattle.fc_image.specs.Laws.{frames_at}
 use Rattle.fc_image.specs.ShapeRules.{is_place, is_instruction, is_later, leaves, IsShapedBy}
 use Rattle.fc_image.proofs.FunctionTables.{length-depths, depth_is, rest_of}
-use Rattle.fc_image.proofs.PathLaws.{offset_lands, not_true, first_false, second_false, placed, forward}
-use Rattle.fc_image.proofs.Straight.{cost_along}
+use Rattle.fc_image.proofs.PathLaws.{offset_lands, not_true, first_false, second_false, placed}
 
 -- ---- the frames of a slot, by those of later ones
 
@@ -160,68 +157,7 @@ second_half (WideSecond ∷ rest) slot dst value p e = absurd (cc p)
 second_half (i ∷ rest) zero dst value p e = absurd (cc e)
 second_half (i ∷ rest) (suc slot) dst value p e = second_half rest slot dst value p e
 
--- ---- each step
-
--- a next slot that doesn't start a function
-next_frames : (code : List Insn) (slot : ℕ) (insn : Insn) (a : Bool) → slice_get code slot ≡ Some insn → (a || is_start code (slot + 1)) ≡ false → frames_at code (slot + 1) ≤ frames_at code slot
-next_frames code slot insn a g e = stay_frames code slot insn g (second_false a (is_start code (slot + 1)) e)
-
--- what is known of a slot of a shaped program
-record Known (code : List Insn) (slot : ℕ) (f : Flow) : Type 0 where
-  forward : IsForward (length code) slot f
-  cost : cost_at code slot ≡ along (cost_at code) f
-
-cost_there : (code : List Insn) (slot : ℕ) (insn : Insn) → IsShapedBy false code → slice_get code slot ≡ Some insn → Known code slot (flow slot insn)
-cost_there code slot insn s g = record { forward = forward code slot insn s g; cost = cost_along code slot insn s g }
-
-step_next : (code : List Insn) (slot : ℕ) (insn : Insn) (a : Bool) → slice_get code slot ≡ Some insn → Known code slot (Goes (slot + 1)) → (a || is_start code (slot + 1)) ≡ false → IsNearer code slot (slot + 1)
-step_next code slot insn a g k e = let c = k.cost in (omega (arith, c), next_frames code slot insn a g e)
-
-pub nearer : (code : List Insn) (slot : ℕ) (insn : Insn) → IsShapedBy false code → is_program code ≡ true → slice_get code slot ≡ Some insn → LeadsNearer code slot (flow slot insn)
-nearer code slot (JumpAlways o) s p g =
-    let k = cost_there code slot (JumpAlways o) s g in
-    let c = k.cost in
-    (omega (arith, c), jump_frames code slot o (first_false _ false (s.each JumpTarget slot (JumpAlways o) g)) (s.each BackwardJump slot (JumpAlways o) g) (first_false _ _ (s.each Boundary slot (JumpAlways o) g)))
-nearer code slot (JumpAlwaysLong o) s p g =
-    let k = cost_there code slot (JumpAlwaysLong o) s g in
-    let c = k.cost in
-    (omega (arith, c), jump_frames code slot o (first_false _ false (s.each JumpTarget slot (JumpAlwaysLong o) g)) (s.each BackwardJump slot (JumpAlwaysLong o) g) (first_false _ _ (s.each Boundary slot (JumpAlwaysLong o) g)))
-nearer code slot (JumpIf j) s p g =
-    let k = cost_there code slot (JumpIf j) s g in
-    let c = k.cost in
-    let b = s.each Boundary slot (JumpIf j) g in (
-      (omega (arith, c), jump_frames code slot j.offset (first_false _ false (s.each JumpTarget slot (JumpIf j) g)) (s.each BackwardJump slot (JumpIf j) g) (first_false _ _ b)),
-      (omega (arith, c), next_frames code slot (JumpIf j) _ g (second_false _ _ b)),
-    )
-nearer code slot (CallLocal o) s p g =
-    let k = cost_there code slot (CallLocal o) s g in
-    let c = k.cost in
-    (omega (arith, c), call_frames code slot o g k.forward.0.0, next_frames code slot (CallLocal o) _ g (s.each Boundary slot (CallLocal o) g))
-nearer code slot (LoadWide dst value) s p g =
-    let k = cost_there code slot (LoadWide dst value) s g in
-    let c = k.cost in
-    let half = second_half code slot dst value p g in
-    let z : suc slot ≡ slot + 1 = omega arith in
-    let y : slot + 1 + 1 ≡ slot + 2 = omega arith in
-    let first : is_start code (slot + 1) ≡ false = ap (is_start code) (sym z) ∙ no_half false code slot s half in
-    let last : is_start code (slot + 1 + 1) ≡ false = ap (is_start code) y ∙ second_false _ _ (s.each Boundary slot (LoadWide dst value) g) in
-    let a = stay_frames code slot (LoadWide dst value) g first in
-    let b = stay_frames code (slot + 1) WideSecond (subst (λ n. slice_get code n ≡ Some WideSecond) z half) last in
-    let e : frames_at code (slot + 1 + 1) ≡ frames_at code (slot + 2) = ap (frames_at code) y in
-    (omega (arith, c), omega (arith, a, b, e))
-nearer code slot Exit s p g = let k = cost_there code slot Exit s g in let c = k.cost in omega (arith, c)
-nearer code slot WideSecond s p g = let k = cost_there code slot WideSecond s g in let c = k.cost in omega (arith, c)
-nearer code slot (Alu op width dst operand) s p g = step_next code slot _ _ g (cost_there code slot (Alu op width dst operand) s g) (s.each Boundary slot (Alu op width dst operand) g)
-nearer code slot (Neg width dst) s p g = step_next code slot _ _ g (cost_there code slot (Neg width dst) s g) (s.each Boundary slot (Neg width dst) g)
-nearer code slot (SignExtend extension dst src) s p g = step_next code slot _ _ g (cost_there code slot (SignExtend extension dst src) s g) (s.each Boundary slot (SignExtend extension dst src) g)
-nearer code slot (End order width dst) s p g = step_next code slot _ _ g (cost_there code slot (End order width dst) s g) (s.each Boundary slot (End order width dst) g)
-nearer code slot (Load loaded dst base offset) s p g = step_next code slot _ _ g (cost_there code slot (Load loaded dst base offset) s g) (s.each Boundary slot (Load loaded dst base offset) g)
-nearer code slot (StoreImm size base offset imm) s p g = step_next code slot _ _ g (cost_there code slot (StoreImm size base offset imm) s g) (s.each Boundary slot (StoreImm size base offset imm) g)
-nearer code slot (Store size base offset src) s p g = step_next code slot _ _ g (cost_there code slot (Store size base offset src) s g) (s.each Boundary slot (Store size base offset src) g)
-nearer code slot (CallHelper number) s p g = step_next code slot _ _ g (cost_there code slot (CallHelper number) s g) (s.each Boundary slot (CallHelper number) g)
-
--- ---- the first frame, and those that calls add
-
+-- a program has its first frame, and those that calls add
 pub first_and_added : (code : List Insn) → frames code ≡ 1 + frames_at code 0
 unfolding frames
 first_and_added code = refl

@@ -8,7 +8,6 @@ pub mod ShapeLaws
 pub mod PathLaws
 pub mod Costs
 pub mod Attained
-pub mod Straight
 pub mod FrameLaws
 mod Rows
 pub mod LoopForm

@@ -5,7 +5,7 @@ ghost use Rattle.fc_isa.specs.declared.insn.Insn.{Insn};
 ghost use Rattle.fc_isa.specs.declared.version.ImageVersion.{ImageVersion};
 ghost use Rattle.fc_isa.specs.Program.{is_program};
 ghost use Rattle.fc_image.specs.Head.{Head, IsHead, KeepsHead, head_bytes, head_fault, head_rules, stated};
-ghost use Rattle.fc_image.specs.Laws.{FirstShapeFaultIsFound, ShapeFaultIsFirst, ShapeFaultIsLow, ShapedProgramsGoForward, ShapedProgramsGoOn, FramesBeginWithOne};
+ghost use Rattle.fc_image.specs.Laws.{FirstShapeFaultIsFound, ShapeFaultIsFirst, ShapeFaultIsLow, ShapedProgramsGoForward};
 ghost use Rattle.fc_image.specs.LoopLaws.{LoopsHaveLongestPaths, ShapedLoopsAreLoops};
 ghost use Rattle.fc_image.specs.Paths.{IsLongest, longest};
 ghost use Rattle.fc_image.specs.ShapeRules.{IsShaped, KeepsLimits, flow_rules, shape_fault};
@@ -28,13 +28,6 @@ pub fn longest_is_longest()
 /// In a program without loops that keeps the rules of the control flow each instruction leads to later slots of the program.
 pub fn shaped_programs_go_forward()
     ensures { ShapedProgramsGoForward }
-{}
-
-/// In a program without loops that keeps the rules of the control flow each step leads nearer to its end; its frames are the first and those
-/// that calls add.
-pub fn shaped_programs_go_on()
-    ensures nearer { ShapedProgramsGoOn }
-    ensures frames { FramesBeginWithOne }
 {}
 
 /// The loops of a program that keeps the rules of the control flow are nested or apart, a path comes into each by its head and
