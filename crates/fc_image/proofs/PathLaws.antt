@@ -1,18 +1,14 @@
--- In a shaped program each instruction leads on to later slots.
+-- Where the offsets of a shaped program lead.
 use Rattle.std.proofs.Common.{◌≡◌, ℕ, suc, ◌+◌, ◌-◌, ◌<◌, ◌||◌, not, Bool, true, false, if◌then◌else◌, List, length, drop, Option, Some, None, get_or, refl, ap, ◌∙◌, arith, ℤ, pos, negsuc}
 use Rattle.std.specs.Prelude.{slice_get, nat_lt, nat_le, unwrap_or}
 use Rattle.std.proofs.lemmas.Bool.Decides.{nat_tests}
 use Rattle.std.proofs.lemmas.List.{get_or-drop}
 use Rattle.std.proofs.lemmas.Option.{slice_get_within}
 use Rattle.fc_isa.specs.declared.insn.Insn.{Insn}
-use Rattle.fc_isa.specs.declared.insn.Insn.TheVariants.{Alu, Neg, SignExtend, End, LoadWide, WideSecond, Load, StoreImm, Store, JumpAlways, JumpAlwaysLong, JumpIf, CallHelper, CallLocal, Exit}
-use Rattle.fc_isa.specs.declared.rule.Rule.TheVariants.{JumpTarget, BackwardJump, Boundary, BackwardCall}
-use Rattle.fc_isa.specs.Flow.{target, landing, flow}
-use Rattle.fc_image.specs.Flow.{IsLater, IsForward}
-use Rattle.fc_image.specs.Functions.{at_offset, is_start}
-use Rattle.fc_image.specs.ShapeRules.{is_instruction, is_place, is_later, IsShapedBy}
-
--- ---- where a shaped program's instructions lead
+use Rattle.fc_isa.specs.Flow.{target, landing}
+use Rattle.fc_image.specs.Flow.{IsLater}
+use Rattle.fc_image.specs.Functions.{at_offset}
+use Rattle.fc_image.specs.ShapeRules.{is_instruction, is_place, is_later}
 
 pub not_true : (b : Bool) → not b ≡ false → b ≡ true
 not_true true e = refl
@@ -53,29 +49,6 @@ pub goes_on : (code : List Insn) (slot next : ℕ) (starts : Bool) → slot < ne
 goes_on code slot next starts lt e =
     let t = not_true (nat_lt next (length code)) (first_false (not (nat_lt next (length code))) starts e) in
     (lt, grind (arith, nat_tests, t))
-
-pub forward : (code : List Insn) (slot : ℕ) (insn : Insn) → IsShapedBy false code → slice_get code slot ≡ Some insn → IsForward (length code) slot (flow slot insn)
-forward code slot (JumpAlways o) s e = lands code slot o (first_false _ false (s.each JumpTarget slot (JumpAlways o) e)) (s.each BackwardJump slot (JumpAlways o) e)
-forward code slot (JumpAlwaysLong o) s e = lands code slot o (first_false _ false (s.each JumpTarget slot (JumpAlwaysLong o) e)) (s.each BackwardJump slot (JumpAlwaysLong o) e)
-forward code slot (JumpIf j) s e = (
-  lands code slot j.offset (first_false _ false (s.each JumpTarget slot (JumpIf j) e)) (s.each BackwardJump slot (JumpIf j) e),
-  goes_on code slot (slot + 1) (is_start code (slot + 1)) (omega arith) (second_false _ _ (s.each Boundary slot (JumpIf j) e)),
-)
-forward code slot (CallLocal o) s e = (
-  lands code slot o (s.each JumpTarget slot (CallLocal o) e) (s.each BackwardCall slot (CallLocal o) e),
-  goes_on code slot (slot + 1) (is_start code (slot + 1)) (omega arith) (s.each Boundary slot (CallLocal o) e),
-)
-forward code slot Exit s e = tt
-forward code slot WideSecond s e = tt
-forward code slot (LoadWide dst value) s e = goes_on code slot (slot + 2) (is_start code (slot + 2)) (omega arith) (s.each Boundary slot (LoadWide dst value) e)
-forward code slot (Alu op width dst operand) s e = goes_on code slot (slot + 1) (is_start code (slot + 1)) (omega arith) (s.each Boundary slot (Alu op width dst operand) e)
-forward code slot (Neg width dst) s e = goes_on code slot (slot + 1) (is_start code (slot + 1)) (omega arith) (s.each Boundary slot (Neg width dst) e)
-forward code slot (SignExtend extension dst src) s e = goes_on code slot (slot + 1) (is_start code (slot + 1)) (omega arith) (s.each Boundary slot (SignExtend extension dst src) e)
-forward code slot (End order width dst) s e = goes_on code slot (slot + 1) (is_start code (slot + 1)) (omega arith) (s.each Boundary slot (End order width dst) e)
-forward code slot (Load loaded dst base offset) s e = goes_on code slot (slot + 1) (is_start code (slot + 1)) (omega arith) (s.each Boundary slot (Load loaded dst base offset) e)
-forward code slot (StoreImm size base offset imm) s e = goes_on code slot (slot + 1) (is_start code (slot + 1)) (omega arith) (s.each Boundary slot (StoreImm size base offset imm) e)
-forward code slot (Store size base offset src) s e = goes_on code slot (slot + 1) (is_start code (slot + 1)) (omega arith) (s.each Boundary slot (Store size base offset src) e)
-forward code slot (CallHelper number) s e = goes_on code slot (slot + 1) (is_start code (slot + 1)) (omega arith) (s.each Boundary slot (CallHelper number) e)
 
 -- an offset that lands later is read among the later costs
 pub offset_lands : (table : List ℕ) (slot : ℕ) (o : ℤ) → slot < landing slot o → at_offset (drop (suc slot) table) o ≡ get_or table (landing slot o) 0

@@ -1,19 +1,11 @@
 -- The laws of a program's shape.
-use Rattle.std.specs.Prelude.{◌≡◌, ℕ, ◌<◌, false, List, length, Some, slice_get, slice_index}
+use Rattle.std.specs.Prelude.{◌≡◌, ℕ, ◌<◌, List, Some, slice_index}
 use Rattle.fc_isa.specs.declared.insn.Insn.{Insn}
 use Rattle.fc_isa.specs.declared.rule.Rule.{Rule}
 use Rattle.fc_isa.specs.Rules.{number_of}
-use Rattle.fc_isa.specs.Flow.{flow}
-use Rattle.fc_image.specs.Flow.{IsForward}
 use Rattle.fc_image.specs.Functions.{is_start, depths}
 use Rattle.fc_image.specs.Head.{Head}
-use Rattle.fc_image.specs.ShapeRules.{IsShapeFault, IsShapedBy, shape_fault}
-
--- in a shaped program without loops each instruction leads to later slots of the program
-abbrev pub ShapedProgramsGoForward : Type 0
-ShapedProgramsGoForward =
-    (code : List Insn) (slot : ℕ) (insn : Insn) → IsShapedBy false code → slice_get code slot ≡ Some insn
-    → IsForward (length code) slot (flow slot insn)
+use Rattle.fc_image.specs.ShapeRules.{IsShapeFault, shape_fault}
 
 -- the fault that is found is the least slot that breaks the first rule that is broken; it is found; its rule is below 20
 abbrev pub ShapeFaultIsFirst : Type 0

@@ -5,7 +5,7 @@ ghost use Rattle.fc_isa.specs.declared.insn.Insn.{Insn};
 ghost use Rattle.fc_isa.specs.declared.version.ImageVersion.{ImageVersion};
 ghost use Rattle.fc_isa.specs.Program.{is_program};
 ghost use Rattle.fc_image.specs.Head.{Head, IsHead, KeepsHead, head_bytes, head_fault, head_rules, stated};
-ghost use Rattle.fc_image.specs.Laws.{FirstShapeFaultIsFound, ShapeFaultIsFirst, ShapeFaultIsLow, ShapedProgramsGoForward};
+ghost use Rattle.fc_image.specs.Laws.{FirstShapeFaultIsFound, ShapeFaultIsFirst, ShapeFaultIsLow};
 ghost use Rattle.fc_image.specs.LoopLaws.{LoopsHaveLongestPaths, ShapedLoopsAreLoops};
 ghost use Rattle.fc_image.specs.Paths.{IsLongest, longest};
 ghost use Rattle.fc_image.specs.ShapeRules.{IsShaped, KeepsLimits, flow_rules, shape_fault};
@@ -23,11 +23,6 @@ pub fn read_head_is_written(image: &[u8])
 /// A program that keeps the rules of the control flow has a longest path, and `longest` is its number of steps.
 pub fn longest_is_longest()
     ensures { (version : ImageVersion) (code : List Insn) → 0 < length code → is_program code ≡ true → IsShaped version code → IsLongest version code (longest version code) }
-{}
-
-/// In a program without loops that keeps the rules of the control flow each instruction leads to later slots of the program.
-pub fn shaped_programs_go_forward()
-    ensures { ShapedProgramsGoForward }
 {}
 
 /// The loops of a program that keeps the rules of the control flow are nested or apart, a path comes into each by its head and
