@@ -1,5 +1,5 @@
 -- The header of an image: sixteen bytes, numbers with the least byte first.
-use Rattle.std.specs.Prelude.{◌≡◌, ℕ, ◌+◌, ◌*◌, ◌%◌, ◌≤◌, ◌==◌, ◌&&◌, ◌||◌, not, Bool, false, nat_lt, nat_le, if◌then◌else◌, List, [], ◌∷◌, ◌++◌, length, take, drop, find, Option, Some, None, slice_index}
+use Rattle.std.specs.Prelude.{◌≡◌, ℕ, ◌+◌, ◌*◌, ◌%◌, ◌≤◌, ◌==◌, ◌&&◌, ◌||◌, not, Bool, true, false, nat_lt, nat_le, if◌then◌else◌, List, [], ◌∷◌, ◌++◌, length, take, drop, find, Option, Some, None, slice_index}
 use Rattle.std.specs.Int.{w16, w32, from_le_bytes, to_le_bytes}
 use Rattle.fc_isa.specs.declared.rule.Rule.{Rule}
 use Rattle.fc_isa.specs.declared.rule.Rule.TheVariants.{Format, SlotCount, VarsSize, Budget, Reserved}
@@ -15,10 +15,10 @@ abbrev pub frames_allowed : ImageVersion → ℕ
 frames_allowed One = 4
 frames_allowed Two = 8
 
--- the versions whose programs may have counted loops: none so far
+-- whether its jumps may go back, as those of counted loops
 abbrev pub loops_allowed : ImageVersion → Bool
 loops_allowed One = false
-loops_allowed Two = false
+loops_allowed Two = true
 
 -- the version of the format, the size of the variables in bytes, the count of slots, and the budget of steps
 pub record Head : Type 0 where

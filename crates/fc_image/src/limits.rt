@@ -32,7 +32,8 @@ pub fn loops_allowed(version: ImageVersion) -> bool
     ensures { result ≡ loops_allowed version }
 {
     match version {
-        ImageVersion::One | ImageVersion::Two => false,
+        ImageVersion::One => false,
+        ImageVersion::Two => true,
     }
 }
 

@@ -18,7 +18,8 @@ pub fn rule_text(rule: Rule) -> &'static str {
         Rule::Field => "a field that isn't used isn't zero, or one has a value that isn't allowed",
         Rule::WideLoad => "a wide load without its second slot, or with a malformed one",
         Rule::JumpTarget => "a jump or `callf` out of the program, or into a wide load",
-        Rule::BackwardJump => "a jump that doesn't go to a later slot",
+        Rule::BackwardJump =>
+            "a jump that doesn't go to a later slot, and in the second version isn't that of a counted loop",
         Rule::Boundary =>
             "a jump into another function, or a function whose last instruction isn't `exit`",
         Rule::BackwardCall => "a `callf` that doesn't lead to a later slot",
@@ -65,7 +66,8 @@ fn rule_remedy(rule: Rule) -> &'static str {
         Rule::WideLoad => "put the high half of the value into a slot behind it, with nothing else",
         Rule::JumpTarget =>
             "name a label in front of an instruction, or count the offset from the slot behind the jump; a wide load counts two",
-        Rule::BackwardJump => "there are no loops: write the turns out",
+        Rule::BackwardJump =>
+            "write the turns out, or in the second version give it the form of a counted loop",
         Rule::Boundary =>
             "end each function with `exit`, and call a function where you would jump into it",
         Rule::BackwardCall => "put a function behind all that call it: none calls itself",

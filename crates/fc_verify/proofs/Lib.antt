@@ -21,4 +21,5 @@ pub mod Right
 pub mod Sound
 pub mod Called
 mod Rows
+mod HeadRows
 pub mod Lowered

@@ -41,6 +41,8 @@ mod job_tests;
 #[cfg(test)]
 mod lock_tests;
 #[cfg(test)]
+mod loop_tests;
+#[cfg(test)]
 mod machine_tests;
 #[cfg(test)]
 mod memory_tests;

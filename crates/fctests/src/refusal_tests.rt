@@ -104,9 +104,9 @@ static FLOWS: [(&[u8], u32, &str, &str); 9] = [
         b"mov64 r0, 0\njeq r0, 0, -2\nexit",
         3,
         "V12 slot 1\n",
-        "rule: a jump that doesn't go to a later slot\n\
+        "rule: a jump that doesn't go to a later slot, and in the second version isn't that of a counted loop\n\
         slot 1: jeq r0, 0, -2\n\
-        change: there are no loops: write the turns out\n",
+        change: write the turns out, or in the second version give it the form of a counted loop\n",
     ),
     (
         b"lddw r0, 4294967296",

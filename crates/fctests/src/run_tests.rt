@@ -11,14 +11,14 @@ use std::test::Fail;
 
 // What an image is asked: the payload and the query in hex, and the variables, if they are given.
 #[derive(Clone, Copy)]
-struct Words {
-    method: Method,
-    payload: &'static str,
-    query: &'static str,
-    vars: Option<&'static str>,
+pub(crate) struct Words {
+    pub(crate) method: Method,
+    pub(crate) payload: &'static str,
+    pub(crate) query: &'static str,
+    pub(crate) vars: Option<&'static str>,
 }
 
-const GET: Words = Words {
+pub(crate) const GET: Words = Words {
     method: Method::Get,
     payload: "",
     query: "",
@@ -32,7 +32,7 @@ const POST: Words = Words {
     vars: None,
 };
 
-fn ran(alloc: Global, image: &[u8], words: &Words) -> Result<Done, Fail> {
+pub(crate) fn ran(alloc: Global, image: &[u8], words: &Words) -> Result<Done, Fail> {
     let asked = Asked::new(alloc, words.method, words.payload, words.query, words.vars)?;
     let mut out = Vec::new(alloc);
     let mut err = Vec::new(alloc);
