@@ -10,6 +10,7 @@ mod Moves
 mod Calling
 mod Helping
 mod Follows
+mod Skips
 mod Beginning
 mod Live
 mod Small
