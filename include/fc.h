@@ -24,8 +24,8 @@
    Limits: 512 slots (an instruction is one, with a constant of 64 bits two); a budget of 65,536 steps, an instruction each, on the longest
    path; 256 bytes of stack for each function, four functions deep; no loops, no recursion, no data, no pointers in memory.
 
-   That is version 1 of images, which is what elf2img writes. Version 2 has 1,024 slots, eight functions deep, and a pointer to 64 bytes
-   of readings in R4: this header and elf2img don't have it yet. */
+   That is version 1 of images, which is what elf2img writes. Version 2 has 1,024 slots, eight functions deep, counted loops, and a
+   pointer to 64 bytes of readings in R4: this header and elf2img don't have it yet. */
 
 #ifndef FC_H
 #define FC_H

@@ -48,7 +48,7 @@ abbrev pub calls_no_helper : Insn → Bool
 calls_no_helper (CallHelper number) = not (is_helper number)
 calls_no_helper other = false
 
--- what a slot breaks: its target is no instruction of the program; a jump or a call isn't to a later slot; a jump leaves its
+-- what a slot breaks: its target is no instruction of the program; a jump isn't to a later slot, nor that of a counted loop, or a call isn't; a jump leaves its
 -- function, or the function's last instruction is no exit; a helper doesn't exist
 abbrev pub breaks_flow : Bool → List Insn → ℕ → Insn → Rule → Bool
 breaks_flow allowed code slot insn JumpTarget =

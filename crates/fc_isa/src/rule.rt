@@ -29,7 +29,7 @@ pub enum Rule {
     WideLoad,
     /// 11: a jump or call to a place outside the program or inside a wide load.
     JumpTarget,
-    /// 12: a jump to a place that isn't later.
+    /// 12: a jump to a place that isn't later, nor that of a counted loop.
     BackwardJump,
     /// 13: a jump out of its function, or a function whose last instruction isn't `exit`.
     Boundary,

@@ -48,7 +48,7 @@ pub data Fails (vars : ℕ) (inside : Bool) (insn : Insn) (kinds : List Kind) : 
 
 -- why the pass stops at a slot that is found with these kinds: the instruction isn't passed with the kinds that the slot settles to; or it
 -- settles to none, since the counter of the loop that begins there doesn't enter below the bound, and then the instruction's demands aren't
--- met in the loop's turns, or they are
+-- met in the loop's turns, or it settles to none
 pub data Stops (vars : ℕ) (code : List Insn) (beginning : Option Loop) (inside : Bool) (insn : Insn) (found known : List Kind) : Type 0 where
   AtInsn :
       settled code beginning found ≡ Some known → Fails vars inside insn known

@@ -8,6 +8,6 @@ pub struct Untyped {
     /// A rule, 20 to 28, that the slot breaks.
     pub fault: Fault,
     /// What is known of each register before the slot's instruction: where a loop begins, what that is in each of its turns, but what
-    /// enters the loop where its counter doesn't enter below the bound.
+    /// enters the loop where rule 28 is told of its counter.
     pub known: Regs,
 }

@@ -1,6 +1,8 @@
 // What is told of refused images and texts: the rule, what shows that it is broken, and what to change. Each rule has a row.
-use crate::tooling::{Done, assembled, checked, listed};
+use crate::tooling::{Done, assembled, assembled_with, checked, listed};
 use fc_cli::Status;
+use fc_isa::ImageVersion;
+use fc_tools::budget::Budget;
 use std::alloc::{AllocError, Global};
 use std::process::Abort;
 use std::test::Fail;
@@ -367,6 +369,36 @@ static UNTYPED: [(&[u8], u16, &str, &str); 16] = [
 fn a_missing_typing_is_explained(rt: HostRuntime) -> Result<(), Fail> {
     for (text, vars_size, verdict, told) in UNTYPED.iter().copied() {
         let image = assembled(rt.alloc(), text, vars_size, 100)?;
+        let done = checked(rt.alloc(), image.out.as_slice())?;
+        is_refused_so(&rt, &done, verdict, told)?;
+    }
+    Ok(())
+}
+
+// Programs of the second version whose loops aren't typed.
+static LOOPS: [(&[u8], &str, &str); 2] = [
+    (
+        b"mov64 r6, 4\nmov64 r0, r6\nadd64 r6, 1\njlt r6, 4, -3\nexit",
+        "V28 slot 1\n",
+        "rule: a loop's counter that may not begin below the bound, or a pointer written in a loop's body\n\
+        slot 1: mov64 r0, r6\n\
+        r6: the number 4\n\
+        change: set the counter to a number below the bound before the loop; write numbers alone in its body, and pointers before it\n",
+    ),
+    (
+        b"mov64 r6, 0\nmov64 r8, r1\nadd64 r6, 1\njlt r6, 4, -3\nmov64 r0, 0\nexit",
+        "V28 slot 1\n",
+        "rule: a loop's counter that may not begin below the bound, or a pointer written in a loop's body\n\
+        slot 1: mov64 r8, r1\n\
+        r1: a pointer into the request, at offset 0\n\
+        change: set the counter to a number below the bound before the loop; write numbers alone in its body, and pointers before it\n",
+    ),
+];
+
+#[test]
+fn a_loop_that_is_not_typed_is_explained(rt: HostRuntime) -> Result<(), Fail> {
+    for (text, verdict, told) in LOOPS.iter().copied() {
+        let image = assembled_with(rt.alloc(), text, 0, Budget::Steps(100), ImageVersion::Two)?;
         let done = checked(rt.alloc(), image.out.as_slice())?;
         is_refused_so(&rt, &done, verdict, told)?;
     }
