@@ -516,10 +516,9 @@ fn ask_for_readings<R: Abort + Net + Clock + AllocGlobal>(rt: &R, port: u16) -> 
     client.set_read_timeout(Some(Duration::from_secs(5)))?;
     thread::sleep(rt, Duration::from_millis(300));
     let readings = readings_of(&client, server, 9)?;
-    let [low, high, others @ ..] = &readings;
-    let moment = u16::from_le_bytes([*low, *high]);
+    let moment = u16::from_le_bytes([readings[0], readings[1]]);
     assert!(rt; moment >= 300, "{moment}");
-    assert!(rt; others.iter().all(|byte| *byte == 0));
+    assert!(rt; readings[2..].iter().all(|byte| *byte == 0));
     Ok(())
 }
 
