@@ -2,6 +2,7 @@ pub mod Head
 pub mod Flow
 pub mod Functions
 pub mod Loops
+pub mod Uncounted
 pub mod Paths
 pub mod ShapeRules
 pub mod Tables

@@ -127,7 +127,7 @@ fn breaks_back(allowed: bool, code: &[Insn], slot: usize, insn: &Insn) -> bool
     requires slot { slot < length code.now }
     ensures { result ≡ breaks_back allowed code.now slot insn.now }
 {
-    !(allowed && is_counted(code, slot, insn)) && is_back(slot, jump_offset(insn))
+    is_back(slot, jump_offset(insn)) && !(allowed && is_counted(code, slot, insn))
 }
 
 /// Whether an offset's target isn't a later slot.

@@ -21,6 +21,7 @@ pub mod laws;
 pub mod limits;
 pub mod loops;
 pub mod table;
+pub mod uncounted;
 
 pub use control_flow::shape;
 pub use head_table::heads;

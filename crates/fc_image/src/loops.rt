@@ -1,14 +1,10 @@
 //! Counted loops: `add64 r, c`, and right after it `jlt r, n` back to the head of the loop.
-ghost use Rattle.std.specs.Prelude.{None, Some, false, length, slice_get, true, ℤ, ℕ, ◌+◌, ◌-◌, ◌<◌, ◌≡◌, ◌≤◌};
-ghost use Rattle.fc_isa.specs.declared.insn.Width.TheVariants.{W64 as wide};
-ghost use Rattle.fc_isa.specs.declared.insn.Relation.TheVariants.{Lt as below};
-ghost use Rattle.fc_isa.specs.declared.insn.Operand.TheVariants.{Imm as immediate};
+ghost use Rattle.std.specs.Prelude.{Some, length, ◌<◌, ◌≡◌, ◌≤◌};
 ghost use Rattle.fc_isa.specs.Writes.{computes, is_call, is_that, writes};
-ghost use Rattle.fc_isa.specs.Flow.{landing, target};
-ghost use Rattle.fc_image.specs.Functions.{with_offset};
-ghost use Rattle.fc_image.specs.Loops.{bound_of, crosses, disturbs, is_exit, is_in, is_undisturbed, loop_at, loop_by, some_slot, spoils, step_of};
+ghost use Rattle.fc_image.specs.Loops.{bound_of, is_exit, is_in, is_undisturbed, loop_at, loop_by, step_of};
 
-use crate::flow::{jump_offset, target};
+use crate::flow::target;
+use crate::uncounted::disturbed;
 use fc_isa::{AluOp, Insn, Jump, Operand, Reg, Relation, Target, Width};
 
 /// A counted loop: its body are the slots from `head` to `last`; it counts in a register, below a bound, by a step.
@@ -68,7 +64,7 @@ fn loop_by(slot: usize, jump: &Jump, bound: Option<u32>, step: Option<u32>) -> O
 }
 
 /// The bound of a jump where its register is below an immediate of 1 to 1,024.
-fn bound_of(jump: &Jump) -> Option<u32>
+pub(crate) fn bound_of(jump: &Jump) -> Option<u32>
     ensures { result ≡ bound_of jump.now.width jump.now.relation jump.now.right }
 {
     match (jump.width, jump.relation, jump.right) {
@@ -80,7 +76,7 @@ fn bound_of(jump: &Jump) -> Option<u32>
 }
 
 /// How far an instruction counts a register up.
-fn step_of(insn: &Insn, counter: Reg) -> Option<u32>
+pub(crate) fn step_of(insn: &Insn, counter: Reg) -> Option<u32>
     ensures { result ≡ step_of (Some insn.now) counter }
 {
     match insn {
@@ -99,61 +95,19 @@ fn is_undisturbed(code: &[Insn], counted: &Loop) -> bool
     requires { length code.now ≤ 1024 }
     ensures { result ≡ is_undisturbed code.now (Some counted.now) }
 {
-    for (slot, insn) in code.iter().enumerate() {
-        if disturbs(counted, slot, insn) {
-            return false;
-        }
-    }
-    true
+    disturbed(code, counted).is_none()
 }
 
-/// Whether an instruction spoils a loop, or jumps into its body, out of it, or to its jump back.
-fn disturbs(counted: &Loop, slot: usize, insn: &Insn) -> bool
-    requires { slot < 1024 }
-    ensures { result ≡ disturbs counted.now slot insn.now }
-{
-    spoils(counted, slot, insn) || crosses(counted, slot, jump_offset(insn))
-}
-
-fn is_in(counted: &Loop, slot: usize) -> bool
+pub(crate) fn is_in(counted: &Loop, slot: usize) -> bool
     ensures { result ≡ is_in counted.now slot }
 {
     counted.head <= slot && slot <= counted.last
 }
 
-/// Whether an instruction of the body but the addition writes the counter, or is an exit.
-fn spoils(counted: &Loop, slot: usize, insn: &Insn) -> bool
-    requires { slot < 1024 }
-    ensures { result ≡ spoils counted.now slot insn.now }
-{
-    is_in(counted, slot)
-        && (writes(insn, counted.counter.index()) && slot + 1 != counted.last || is_exit(insn))
-}
-
-fn is_exit(insn: &Insn) -> bool
+pub(crate) fn is_exit(insn: &Insn) -> bool
     ensures { result ≡ is_exit insn.now }
 {
     matches!(insn, Insn::Exit)
-}
-
-/// Whether a jump of this offset leads into the body or out of it, or to its jump back.
-fn crosses(counted: &Loop, slot: usize, offset: Option<i32>) -> bool
-    requires { slot < 1024 }
-    ensures { result ≡ with_offset offset (λ o. crosses counted.now slot (target slot o)) }
-{
-    match offset {
-        Some(offset) => crosses_to(counted, slot, target(slot, offset)),
-        None => false,
-    }
-}
-
-fn crosses_to(counted: &Loop, slot: usize, place: Option<usize>) -> bool
-    ensures { result ≡ crosses counted.now slot place }
-{
-    match place {
-        Some(place) => is_in(counted, slot) != is_in(counted, place) || place == counted.last,
-        None => false,
-    }
 }
 
 /// Whether an instruction writes a register: a call writes R0 to R5.

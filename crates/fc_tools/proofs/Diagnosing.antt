@@ -19,7 +19,7 @@ use Rattle.fc_verify.proofs.Judging.{refused_shape, refused_typing}
 use Rattle.fc_tools.specs.Diagnosed.{IsCauseOf, IsCost, IsDiagnosisOf, IsShapeCause, IsShapeShown, IsShown}
 use Rattle.fc_tools.specs.declared.diagnosis.Diagnosis.{Diagnosis}
 use Rattle.fc_tools.specs.declared.diagnosis.Cause.{Cause}
-use Rattle.fc_tools.specs.declared.diagnosis.Cause.TheVariants.{Header, Slot, Flow, Frames, Cost, Typing}
+use Rattle.fc_tools.specs.declared.diagnosis.Cause.TheVariants.{Header, Slot, Flow, Back, Frames, Cost, Typing}
 
 -- what an error's conversion leaves
 pub err_of : {T E : Type 0} (r : Result T E) (e : E) (P : E → Type 0) → IsErrAnd r (λ x. x ≡ e) → P e → IfErr r P
@@ -39,9 +39,11 @@ cause_in_image : (image : List ℕ) (head : Head) (code : List Insn) (f : Fault)
 cause_in_image image head code f Header h k s = absurd s
 cause_in_image image head code f (Slot bytes) h k s = absurd s
 cause_in_image image head code f (Flow insn) h k s = subst (λ c. slice_get c f.slot ≡ Some insn) k.code_is s
+cause_in_image image head code f (Back insn reason) h k s =
+    subst (λ x. IsShapeShown x (code_in image) f (Back insn reason)) h.stated_is (subst (λ c. IsShapeShown head c f (Back insn reason)) k.code_is s)
 cause_in_image image head code f Frames h k s = tt
 cause_in_image image head code f (Cost cost budget) h k s = (subst (λ x. IsCost x (code_in image) cost) h.stated_is (subst (λ c. IsCost head c cost) k.code_is s.0), s.1 ∙ ap (λ x. x.budget) h.stated_is)
-cause_in_image image head code f (Typing insn known) h k s = absurd s
+cause_in_image image head code f (Typing insn known demand) h k s = absurd s
 
 -- ---- which rules are broken where
 
@@ -100,12 +102,12 @@ shape_diagnosis image head code d h k s low c = record {
 
 pub typing_diagnosis : (image : List ℕ) (head : Head) (code : List Insn) (u : Untyped) (d : Diagnosis) → IsHeadOf image head → IsCodeOf image code → shape_fault head code ≡ None
     → is_typable head.version head.vars_size code ≡ false → IsTypingFault code u.fault → IsUntyped head.version head.vars_size code u
-    → d.fault ≡ u.fault → ((insn : Insn) → slice_get code u.fault.slot ≡ Some insn → d.cause ≡ Typing insn u.known) → IsDiagnosisOf image d
+    → d.fault ≡ u.fault → ((insn : Insn) → slice_get code u.fault.slot ≡ Some insn → d.cause ≡ Typing insn u.known u.demand) → IsDiagnosisOf image d
 typing_diagnosis image head code u d h k s t r n same cause =
     let fault = refused_typing image head code u.fault h k s t r in
     let there : slice_get (code_in image) u.fault.slot ≡ Some n.insn = subst (λ c. slice_get c u.fault.slot ≡ Some n.insn) k.code_is n.insn_is in
     let at : IsUntyped (stated image).version (stated image).vars_size (code_in image) u = subst (λ x. IsUntyped x.version x.vars_size (code_in image) u) h.stated_is (subst (λ c. IsUntyped head.version head.vars_size c u) k.code_is n) in
-    let shown : IsCauseOf image u.fault (Typing n.insn u.known) = record { rule = (r.from, r.upto); shown = (there, at) } in
+    let shown : IsCauseOf image u.fault (Typing n.insn u.known u.demand) = record { rule = (r.from, r.upto); shown = (there, at) } in
     record {
       fault = rw same fault;
       cause = rw (same, cause n.insn n.insn_is) shown;

@@ -3,9 +3,10 @@ use Rattle.std.specs.Prelude.{◌≡◌, ℕ, ◌+◌, ◌*◌, ◌≤◌, List,
 use Rattle.fc_isa.specs.declared.insn.Insn.{Insn}
 use Rattle.fc_isa.specs.declared.rule.Fault.{Fault}
 use Rattle.fc_isa.specs.Rules.{number_of}
-use Rattle.fc_image.specs.Head.{Head, head_fault, stated}
+use Rattle.fc_image.specs.Head.{Head, head_fault, loops_allowed, stated}
 use Rattle.fc_image.specs.Paths.{longest}
 use Rattle.fc_image.specs.ShapeRules.{shape_fault}
+use Rattle.fc_image.specs.Uncounted.{IsUncountedBy}
 use Rattle.fc_kinds.specs.Meaning.{Program}
 use Rattle.fc_verify.specs.Accepted.{Accepts}
 use Rattle.fc_verify.specs.Judged.{judged, code_in}
@@ -13,7 +14,7 @@ use Rattle.fc_verify.specs.Refusals.{IsFaultOf}
 use Rattle.fc_verify.specs.Stages.{IsUntyped}
 use Rattle.fc_tools.specs.declared.diagnosis.Diagnosis.{Diagnosis}
 use Rattle.fc_tools.specs.declared.diagnosis.Cause.{Cause as CauseShown}
-use Rattle.fc_tools.specs.declared.diagnosis.Cause.TheVariants.{Header, Slot, Flow, Frames, Cost, Typing}
+use Rattle.fc_tools.specs.declared.diagnosis.Cause.TheVariants.{Header, Slot, Flow, Back, Frames, Cost, Typing}
 use Rattle.fc_tools.specs.declared.diagnosis.Rejection.{Rejection}
 use Rattle.fc_tools.specs.declared.diagnosis.Rejection.TheVariants.{Broken, NoMemory}
 
@@ -21,10 +22,11 @@ use Rattle.fc_tools.specs.declared.diagnosis.Rejection.TheVariants.{Broken, NoMe
 abbrev pub Shows : CauseShown → ℕ → Type 0
 Shows Header rule = (1 ≤ rule) × (rule ≤ 5)
 Shows (Slot bytes) rule = (6 ≤ rule) × (rule ≤ 10)
-Shows (Flow insn) rule = (11 ≤ rule) × (rule ≤ 17) × (rule ≡ 15 → ⊥) × (rule ≡ 16 → ⊥)
+Shows (Flow insn) rule = (11 ≤ rule) × (rule ≤ 17) × (rule ≡ 12 → ⊥) × (rule ≡ 15 → ⊥) × (rule ≡ 16 → ⊥)
+Shows (Back insn reason) rule = rule ≡ 12
 Shows Frames rule = rule ≡ 15
 Shows (Cost cost budget) rule = rule ≡ 16
-Shows (Typing insn known) rule = (20 ≤ rule) × (rule ≤ 28)
+Shows (Typing insn known demand) rule = (20 ≤ rule) × (rule ≤ 28)
 
 -- a header with the greatest budget
 abbrev pub at_most : Head → Head
@@ -38,6 +40,7 @@ IsCost head code None = shape_fault (at_most head) code ≡ None → ⊥
 -- what a program of this header shows of a fault of its control flow
 abbrev pub IsShapeShown : Head → List Insn → Fault → CauseShown → Type 0
 IsShapeShown head code f (Flow insn) = slice_get code f.slot ≡ Some insn
+IsShapeShown head code f (Back insn reason) = (slice_get code f.slot ≡ Some insn) × IsUncountedBy (loops_allowed head.version) code f.slot insn reason
 IsShapeShown head code f Frames = Unit {0}
 IsShapeShown head code f (Cost cost b) = IsCost head code cost × (b ≡ head.budget)
 IsShapeShown head code f other = ⊥
@@ -52,10 +55,12 @@ abbrev pub IsShown : List ℕ → Fault → CauseShown → Type 0
 IsShown image f Header = Unit {0}
 IsShown image f (Slot bytes) = bytes ≡ take 8 (drop (16 + 8 * f.slot) image)
 IsShown image f (Flow insn) = slice_get (code_in image) f.slot ≡ Some insn
+IsShown image f (Back insn reason) = IsShapeShown (stated image) (code_in image) f (Back insn reason)
 IsShown image f Frames = Unit {0}
 IsShown image f (Cost cost budget) = IsCost (stated image) (code_in image) cost × (budget ≡ (stated image).budget)
-IsShown image f (Typing insn known) =
-    (slice_get (code_in image) f.slot ≡ Some insn) × IsUntyped (stated image).version (stated image).vars_size (code_in image) (record { fault = f; known = known })
+IsShown image f (Typing insn known demand) =
+    (slice_get (code_in image) f.slot ≡ Some insn)
+    × IsUntyped (stated image).version (stated image).vars_size (code_in image) (record { fault = f; known = known; demand = demand })
 
 -- what shows that an image breaks a rule
 pub record IsCauseOf (image : List ℕ) (f : Fault) (cause : CauseShown) : Type 0 where

@@ -3,7 +3,9 @@ ghost use Rattle.std.specs.Prelude.{IfErr, IfOk, Some, None, length, true, ◌�
 ghost use Rattle.fc_image.specs.Functions.{frames};
 ghost use Rattle.fc_image.specs.Head.{frames_allowed};
 ghost use Rattle.fc_image.specs.Paths.{IsLongest, longest};
-ghost use Rattle.fc_image.specs.ShapeRules.{IsShaped, shape_fault};
+ghost use Rattle.fc_image.specs.ShapeRules.{IsShaped, breaks_shape, shape_fault};
+ghost use Rattle.fc_isa.specs.declared.insn.Insn.{Insn as Instruction};
+ghost use Rattle.fc_isa.specs.declared.rule.Rule.TheVariants.{BackwardJump};
 ghost use Rattle.fc_isa.specs.Encoding.{IsFirstFault};
 ghost use Rattle.fc_isa.specs.Program.{is_program};
 ghost use Rattle.fc_isa.specs.Rules.{number_of};
@@ -13,11 +15,12 @@ ghost use Rattle.fc_verify.specs.Stages.{IsCodeOf, IsHeadOf};
 ghost use Rattle.fc_tools.specs.Diagnosed.{IsAcceptable, IsCost, IsRejection, IsShapeCause};
 
 use fc_image::laws::shape_fault_is_first;
+use fc_image::uncounted::{Uncounted, why_uncounted};
 use fc_image::{HEADER_SIZE, Head, head, shape};
 use fc_isa::{DecodeError, Fault, Insn, Rule, decode};
 use fc_kinds::Regs;
-use fc_verify::Untyped;
 use fc_verify::pass::typed;
+use fc_verify::{Demand, Untyped};
 use std::alloc::{AllocError, Global};
 use std::fmt;
 
@@ -59,13 +62,25 @@ pub enum Cause {
     Slot([u8; 8]),
     /// The slot's instruction, where it stands.
     Flow(Insn),
+    /// The slot's instruction, a jump that leads to no later slot, and why it isn't that of a counted loop.
+    Back {
+        insn: Insn,
+        reason: Uncounted,
+    },
     /// All calls of the program: its slot says nothing of them.
     Frames,
     /// The steps of the longest path, if these are at most the greatest budget and no other rule of the control flow is broken, and the
     /// budget.
-    Cost { cost: Option<u32>, budget: u32 },
-    /// The slot's instruction, and what is known of the registers before it.
-    Typing { insn: Insn, known: Regs },
+    Cost {
+        cost: Option<u32>,
+        budget: u32,
+    },
+    /// The slot's instruction, what is known of the registers before it, and the demand that isn't met.
+    Typing {
+        insn: Insn,
+        known: Regs,
+        demand: Demand,
+    },
 }
 
 /// Why an image isn't accepted.
@@ -194,15 +209,34 @@ fn shape_cause(head: &Head, code: &[Insn], fault: Fault) -> Cause
     requires whole { is_program code.now ≡ true }
     requires slot { fault.slot < length code.now }
     requires rule { (11 ≤ number_of fault.rule) × (number_of fault.rule ≤ 17) }
+    requires broken { (insn : Instruction) → slice_get code.now fault.slot ≡ Some insn → breaks_shape head.now code.now fault.slot insn fault.rule ≡ true }
     ensures { IsShapeCause head.now code.now fault result }
 {
     match fault.rule {
+        Rule::BackwardJump => back(head, code, fault.slot),
         Rule::Cost => Cause::Cost {
             cost: cost_of(head, code),
             budget: head.budget(),
         },
         Rule::FrameDepth => Cause::Frames,
         _ => Cause::Flow(code[fault.slot]),
+    }
+}
+
+/// Why the jump at a slot, which leads to no later one, isn't that of a counted loop.
+#[tactic(auto, unfolding(fc_image::specs::ShapeRules::breaks_shape))]
+fn back(head: &Head, code: &[Insn], slot: usize) -> Cause
+    requires count { length code.now ≡ head.now.count }
+    requires slot { slot < length code.now }
+    requires broken { (insn : Instruction) → slice_get code.now slot ≡ Some insn → breaks_shape head.now code.now slot insn BackwardJump ≡ true }
+    ensures { IsShapeCause head.now code.now (record { rule = BackwardJump; slot = slot }) result }
+{
+    // The checker learns from this call how many slots there are at most.
+    let _slots = head.count();
+    let insn = code[slot];
+    match why_uncounted(head.version(), code, slot, &insn) {
+        Some(reason) => Cause::Back { insn, reason },
+        None => unreachable!(),
     }
 }
 
@@ -219,13 +253,14 @@ fn cost_of(head: &Head, code: &[Insn]) -> Option<u32>
 fn typing(code: &[Insn], untyped: &Untyped) -> Diagnosis
     requires { untyped.now.fault.slot < length code.now }
     ensures fault { result.fault ≡ untyped.now.fault }
-    ensures cause { (insn : Insn) → slice_get code.now untyped.now.fault.slot ≡ Some insn → result.cause ≡ Cause.Typing insn untyped.now.known }
+    ensures cause { (insn : Insn) → slice_get code.now untyped.now.fault.slot ≡ Some insn → result.cause ≡ Cause.Typing insn untyped.now.known untyped.now.demand }
 {
     Diagnosis {
         fault: untyped.fault,
         cause: Cause::Typing {
             insn: code[untyped.fault.slot],
             known: untyped.known,
+            demand: untyped.demand,
         },
     }
 }

@@ -2,12 +2,13 @@
 use crate::diagnosis::{Cause, Diagnosis};
 use crate::form::BadForm;
 use crate::known::Known;
-use crate::numbered::listed;
+use crate::loops::{write_entry, write_insn, write_reason};
 use crate::reads::{Reads, registers_read};
-use crate::rules::{correction, mistake_text, remedy, rule_text};
+use crate::rules::{broken_text, correction, mistake_text, remedy};
 use fc_asm::Mistake;
 use fc_isa::{Insn, Reg};
 use fc_kinds::Regs;
+use fc_verify::Demand;
 use std::alloc::Global;
 use std::io;
 use std::io::Write;
@@ -17,10 +18,9 @@ use std::io::Write;
 /// # Errors
 /// Writing failed, or memory was refused.
 pub fn explain<W: Write>(alloc: Global, out: &mut W, diagnosis: &Diagnosis) -> io::Result<()> {
-    let rule = diagnosis.fault.rule;
-    writeln!(out, "rule: {}", rule_text(rule))?;
+    writeln!(out, "rule: {}", broken_text(diagnosis))?;
     write_cause(alloc, out, diagnosis.fault.slot, &diagnosis.cause)?;
-    writeln!(out, "change: {}", remedy(rule, &diagnosis.cause))
+    writeln!(out, "change: {}", remedy(diagnosis))
 }
 
 /// Writes why a text is refused: what is wrong with the line, the line, if it is text, and what to change.
@@ -66,11 +66,36 @@ fn write_cause<W: Write>(alloc: Global, out: &mut W, slot: usize, cause: &Cause)
         Cause::Header | Cause::Frames => Ok(()),
         Cause::Slot(bytes) => write_bytes(out, slot, bytes),
         Cause::Flow(insn) => write_insn(alloc, out, slot, *insn),
-        Cause::Cost { cost, budget } => write_cost(out, *cost, *budget),
-        Cause::Typing { insn, known } => {
+        Cause::Back { insn, reason } => {
             write_insn(alloc, out, slot, *insn)?;
-            write_registers(out, *insn, known)
+            write_reason(alloc, out, reason)
         }
+        Cause::Cost { cost, budget } => write_cost(out, *cost, *budget),
+        Cause::Typing {
+            insn,
+            known,
+            demand,
+        } => {
+            write_insn(alloc, out, slot, *insn)?;
+            write_demand(out, *insn, known, demand)
+        }
+    }
+}
+
+// What is known of the registers that a demand speaks of.
+fn write_demand<W: Write>(
+    out: &mut W,
+    insn: Insn,
+    known: &Regs,
+    demand: &Demand,
+) -> io::Result<()> {
+    match demand {
+        Demand::Operands => write_registers(out, insn, known),
+        Demand::Number { register, given } => {
+            write_registers(out, insn, known)?;
+            writeln!(out, "r{} after it: {}", register.index(), Known(*given))
+        }
+        Demand::Counter(counted) => write_entry(out, counted, known),
     }
 }
 
@@ -80,11 +105,6 @@ fn write_bytes<W: Write>(out: &mut W, slot: usize, bytes: &[u8; 8]) -> io::Resul
         write!(out, " {byte:02x}")?;
     }
     writeln!(out)
-}
-
-fn write_insn<W: Write>(alloc: Global, out: &mut W, slot: usize, insn: Insn) -> io::Result<()> {
-    let listed = listed(alloc, insn)?;
-    writeln!(out, "slot {slot}: {}", listed.trim_end())
 }
 
 fn write_cost<W: Write>(out: &mut W, cost: Option<u32>, budget: u32) -> io::Result<()> {

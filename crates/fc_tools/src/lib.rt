@@ -9,6 +9,7 @@ pub mod explain;
 pub mod form;
 pub mod known;
 pub mod laws;
+mod loops;
 pub mod numbered;
 pub mod reads;
 pub mod rules;

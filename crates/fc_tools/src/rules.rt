@@ -1,10 +1,26 @@
 //! The rules in plain words, and what to change where one is broken.
-use crate::diagnosis::{Cause, GREATEST_BUDGET};
+use crate::diagnosis::{Cause, Diagnosis, GREATEST_BUDGET};
+use crate::loops::loop_remedy;
 use fc_asm::Mistake;
 use fc_isa::Rule;
+use fc_verify::Demand;
 
-/// What an image has done that breaks this rule.
-pub fn rule_text(rule: Rule) -> &'static str {
+/// What an image has done that breaks a rule.
+pub fn broken_text(diagnosis: &Diagnosis) -> &'static str {
+    match diagnosis.cause {
+        Cause::Typing {
+            demand: Demand::Counter(_),
+            ..
+        } => "a loop's counter may begin at its bound or above, or isn't a number",
+        Cause::Typing {
+            demand: Demand::Number { .. },
+            ..
+        } => "a pointer is written in a loop's body",
+        _ => rule_text(diagnosis.fault.rule),
+    }
+}
+
+fn rule_text(rule: Rule) -> &'static str {
     match rule {
         Rule::Format =>
             "under 16 bytes, no `FCB1` or `FCB2` in front, or a length that isn't 16 + 8 times the count of slots",
@@ -42,12 +58,21 @@ pub fn rule_text(rule: Rule) -> &'static str {
     }
 }
 
-/// What to change where this rule is broken and this shows it: with the greatest budget there is none that would do.
-pub fn remedy(rule: Rule, cause: &Cause) -> &'static str {
-    match cause {
+/// What to change in an image that breaks a rule: with the greatest budget there is none that would do.
+pub fn remedy(diagnosis: &Diagnosis) -> &'static str {
+    match &diagnosis.cause {
         Cause::Cost { budget, .. } if *budget == GREATEST_BUDGET =>
             "shorten the longest path; a function called twice costs twice",
-        _ => rule_remedy(rule),
+        Cause::Back { reason, .. } => loop_remedy(reason),
+        Cause::Typing {
+            demand: Demand::Counter(_),
+            ..
+        } => "set the counter to a number below the bound before the loop",
+        Cause::Typing {
+            demand: Demand::Number { .. },
+            ..
+        } => "write numbers alone in a loop's body; set pointers before it",
+        _ => rule_remedy(diagnosis.fault.rule),
     }
 }
 

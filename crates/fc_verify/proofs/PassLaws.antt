@@ -32,6 +32,7 @@ use Rattle.fc_verify.specs.Heads.{IsLoopOf, IsHeadState, settled, gives_number, 
 use Rattle.fc_isa.specs.Writes.{computes}
 use Rattle.fc_kinds.specs.Ways.{Way, way_where, kinds_when, ways_along, ways_after}
 use Rattle.fc_verify.specs.Typing.{AllLead, IsWellTypedAt, IsTypingWith, IsTypingOf}
+use Rattle.fc_verify.specs.declared.untyped.Demand.{Demand}
 use Rattle.fc_verify.specs.Stages.{Fails, Unmet, NoNumber, Stops, AtInsn, AtHead, AtEntry}
 use Rattle.fc_verify.specs.Pass.{joined_in, met, led, handed_on, met_by, passed_by, passed_with, passed, pass_from, beginning, pass_with, pass, is_typable}
 use Rattle.fc_image.specs.LoopLaws.{LeadsTo, Calls, IsLoop, IsBack, IsOnward, AreLoops}
@@ -384,17 +385,18 @@ passed_parts vars code loops slot insn found states next e = one (settled code (
     one (Some kinds) s g = two kinds (transfer vars insn kinds) refl s g
 
 -- where the pass stops it leaves nothing
-pub stopped : (vars : ℕ) (code : List Insn) (beginning : Option Loop) (inside : Bool) (slot : ℕ) (insn : Insn) (found known : List Kind) (states : States) → Stops vars code beginning inside insn found known → passed_by vars code beginning inside slot insn found states ≡ None
-stopped vars code beginning inside slot insn found known states (AtHead l b e k t) = ap (λ o. with_some o (λ kinds. met_by vars inside slot insn kinds states)) e
-stopped vars code beginning inside slot insn found known states (AtEntry e k) = ap (λ o. with_some o (λ kinds. met_by vars inside slot insn kinds states)) e
-stopped vars code beginning inside slot insn found known states (AtInsn e f) = ap (λ o. with_some o (λ kinds. met_by vars inside slot insn kinds states)) e ∙ fails f
+pub stopped : (vars : ℕ) (code : List Insn) (beginning : Option Loop) (inside : Bool) (slot : ℕ) (insn : Insn) (found known : List Kind) (demand : Demand) (states : States) → Stops vars code beginning inside insn found known demand → passed_by vars code beginning inside slot insn found states ≡ None
+stopped vars code beginning inside slot insn found known demand states (AtHead l b e k t d) = ap (λ o. with_some o (λ kinds. met_by vars inside slot insn kinds states)) e
+stopped vars code beginning inside slot insn found known demand states (AtEntry l after b e k t d) = ap (λ o. with_some o (λ kinds. met_by vars inside slot insn kinds states)) e
+stopped vars code beginning inside slot insn found known demand states (AtInsn e f) = ap (λ o. with_some o (λ kinds. met_by vars inside slot insn kinds states)) e ∙ fails f
   where
-    fails : Fails vars inside insn known → met_by vars inside slot insn known states ≡ None
-    fails (Unmet n) = ap (λ o. with_some o (λ after. handed_on inside slot insn known after states)) n
-    fails (NoNumber after t i g) =
+    fails : Fails vars inside insn known demand → met_by vars inside slot insn known states ≡ None
+    fails (Unmet n d) = ap (λ o. with_some o (λ after. handed_on inside slot insn known after states)) n
+    fails (NoNumber after t g) =
         ap (λ o. with_some o (λ after. handed_on inside slot insn known after states)) t
-        ∙ ap (λ b. if b && not (gives_number (computes insn) after) then None else Some (led slot (slice_set states slot (Some known)) (ways_after slot insn known after))) i
-        ∙ ap (λ b. if not b then None else Some (led slot (slice_set states slot (Some known)) (ways_after slot insn known after))) g
+        ∙ ap (λ b. if b && not (gives_number (computes insn) after) then None else Some (led slot (slice_set states slot (Some known)) (ways_after slot insn known after))) g.inside_is
+        ∙ ap (λ o. if not (gives_number o after) then None else Some (led slot (slice_set states slot (Some known)) (ways_after slot insn known after))) g.computed
+        ∙ ap (λ b. if not b then None else Some (led slot (slice_set states slot (Some known)) (ways_after slot insn known after))) g.other
 
 -- the settled kinds
 pub record IsSettled (code : List Insn) (loops : List Loop) (slot : ℕ) (found kinds : List Kind) : Type 0 where

@@ -1,7 +1,9 @@
 -- What the steps of a verification find of an image, one after the other.
-use Rattle.std.specs.Prelude.{◌≡◌, ℕ, ◌+◌, ◌*◌, ◌<◌, ◌≤◌, Bool, true, false, List, length, take, Option, None, Some, slice_get}
+use Rattle.std.specs.Prelude.{◌≡◌, ℕ, ◌+◌, ◌*◌, ◌<◌, ◌≤◌, ◌&&◌, not, Bool, true, false, List, length, take, Option, None, Some, slice_get}
 use Rattle.fc_isa.specs.declared.insn.Insn.{Insn}
 use Rattle.fc_isa.specs.declared.version.ImageVersion.{ImageVersion}
+use Rattle.fc_isa.specs.declared.rule.Rule.{Rule}
+use Rattle.fc_isa.specs.declared.rule.Rule.TheVariants.{LoopState}
 use Rattle.fc_isa.specs.declared.rule.Fault.{Fault}
 use Rattle.fc_isa.specs.Encoding.{Spells, first_fault}
 use Rattle.fc_isa.specs.Rules.{number_of}
@@ -10,12 +12,15 @@ use Rattle.fc_isa.specs.Writes.{computes}
 use Rattle.fc_image.specs.declared.loops.Loop.{Loop}
 use Rattle.fc_image.specs.Loops.{begins, loops_in}
 use Rattle.fc_kinds.specs.declared.kind.Kind.{Kind}
+use Rattle.fc_kinds.specs.Kinds.{kind_at}
+use Rattle.fc_kinds.specs.Transfer.{is_number, transfer}
 use Rattle.fc_verify.specs.Accepted.{slots_of}
 use Rattle.fc_verify.specs.Heads.{formed, settled, gives_number, is_inside}
-use Rattle.fc_kinds.specs.Transfer.{transfer}
 use Rattle.fc_verify.specs.Judged.{code_in}
 use Rattle.fc_verify.specs.Pass.{beginning, pass_from}
 use Rattle.fc_verify.specs.Typing.{States, state_at}
+use Rattle.fc_verify.specs.declared.untyped.Demand.{Demand}
+use Rattle.fc_verify.specs.declared.untyped.Demand.TheVariants.{Operands, Number, Counter}
 use Rattle.fc_verify.specs.declared.untyped.Untyped.{Untyped}
 
 -- the header breaks no rule, and says this
@@ -38,28 +43,51 @@ pub record IsTypingFault (code : List Insn) (f : Fault) : Type 0 where
   pub upto : number_of f.rule ≤ 28
   pub within : f.slot < length code
 
--- why an instruction isn't passed with these kinds: it has none after them; or in a loop's body it gives the register that it computes
--- no number
-pub data Fails (vars : ℕ) (inside : Bool) (insn : Insn) (kinds : List Kind) : Type 0 where
-  Unmet : transfer vars insn kinds ≡ None → Fails vars inside insn kinds
-  NoNumber :
-      (after : List Kind) → transfer vars insn kinds ≡ Some after → inside ≡ true → gives_number (computes insn) after ≡ false
-      → Fails vars inside insn kinds
+-- in a loop's body an instruction gives the register that it computes this kind, which is no number
+pub record GivesNoNumber (inside : Bool) (insn : Insn) (after : List Kind) (demand : Demand) : Type 0 where
+  pub inside_is : inside ≡ true
+  pub register : ℕ
+  pub computed : computes insn ≡ Some register
+  pub other : is_number (kind_at after register) ≡ false
+  pub demand_is : demand ≡ Number register (kind_at after register)
 
--- why the pass stops at a slot that is found with these kinds: the instruction isn't passed with the kinds that the slot settles to; or it
--- settles to none, since the counter of the loop that begins there doesn't enter below the bound, and then the instruction's demands aren't
--- met in the loop's turns, or it settles to none
-pub data Stops (vars : ℕ) (code : List Insn) (beginning : Option Loop) (inside : Bool) (insn : Insn) (found known : List Kind) : Type 0 where
+-- outside of bodies, or where a number is given, nothing is demanded; else this
+abbrev pub IsUnnumbered : Bool → Insn → List Kind → Option Demand → Type 0
+IsUnnumbered inside insn after None = (inside && not (gives_number (computes insn) after)) ≡ false
+IsUnnumbered inside insn after (Some demand) = GivesNoNumber inside insn after demand
+
+-- the demand for which an instruction isn't passed with these kinds: it has none after them; or in a loop's body it gives the register
+-- that it computes no number
+pub data Fails (vars : ℕ) (inside : Bool) (insn : Insn) (kinds : List Kind) (demand : Demand) : Type 0 where
+  Unmet : transfer vars insn kinds ≡ None → demand ≡ Operands → Fails vars inside insn kinds demand
+  NoNumber :
+      (after : List Kind) → transfer vars insn kinds ≡ Some after → GivesNoNumber inside insn after demand
+      → Fails vars inside insn kinds demand
+
+-- the demand for which the pass stops at a slot that is found with these kinds: the instruction isn't passed with the kinds that the slot
+-- settles to; or it settles to none, since the counter of the loop that begins there doesn't enter below the bound, and then the
+-- instruction's own demands aren't met in the loop's turns, or they are and the counter's isn't
+pub data Stops (vars : ℕ) (code : List Insn) (beginning : Option Loop) (inside : Bool) (insn : Insn) (found known : List Kind) (demand : Demand) : Type 0 where
   AtInsn :
-      settled code beginning found ≡ Some known → Fails vars inside insn known
-      → Stops vars code beginning inside insn found known
+      settled code beginning found ≡ Some known → Fails vars inside insn known demand
+      → Stops vars code beginning inside insn found known demand
   AtHead :
       (l : Loop) → beginning ≡ Some l → settled code beginning found ≡ None → known ≡ formed code l found
-      → transfer vars insn known ≡ None → Stops vars code beginning inside insn found known
-  AtEntry : settled code beginning found ≡ None → known ≡ found → Stops vars code beginning inside insn found known
+      → transfer vars insn known ≡ None → demand ≡ Operands → Stops vars code beginning inside insn found known demand
+  AtEntry :
+      (l : Loop) (after : List Kind) → beginning ≡ Some l → settled code beginning found ≡ None → known ≡ found
+      → transfer vars insn (formed code l found) ≡ Some after → demand ≡ Counter l
+      → Stops vars code beginning inside insn found known demand
+
+-- the rules that tell of a demand
+abbrev pub IsRuleOf : Demand → Rule → Type 0
+IsRuleOf Operands rule = (20 ≤ number_of rule) × (number_of rule ≤ 27)
+IsRuleOf (Number register given) rule = rule ≡ LoopState
+IsRuleOf (Counter l) rule = rule ≡ LoopState
 
 -- the pass comes to the slot with some kinds, and stops there
 pub record IsUntyped (version : ImageVersion) (vars : ℕ) (code : List Insn) (u : Untyped) : Type 0 where
+  pub rule : IsRuleOf u.demand u.fault.rule
   pub insn : Insn
   pub insn_is : slice_get code u.fault.slot ≡ Some insn
   pub states : States
@@ -68,3 +96,4 @@ pub record IsUntyped (version : ImageVersion) (vars : ℕ) (code : List Insn) (u
   pub found_is : state_at states u.fault.slot ≡ Some found
   pub stops :
       Stops vars code (begins (loops_in version code) u.fault.slot) (is_inside (loops_in version code) u.fault.slot) insn found u.known
+      u.demand

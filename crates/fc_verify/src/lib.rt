@@ -25,6 +25,6 @@ pub mod verifying;
 
 pub use op::Op;
 pub use refusal::Refusal;
-pub use untyped::Untyped;
+pub use untyped::{Demand, Untyped};
 pub use verified::Verified;
 pub use verifying::verify;

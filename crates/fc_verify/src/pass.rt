@@ -17,12 +17,12 @@ ghost use Rattle.fc_kinds.specs.Transfer.{AreShallow, transfer};
 ghost use Rattle.fc_kinds.specs.Ways.{ways_after};
 ghost use Rattle.fc_verify.specs.Heads.{IsLoopOf, covers, is_inside, settled};
 ghost use Rattle.fc_verify.specs.Runs.{IsTypedProgram, IsUntypedProgram};
-ghost use Rattle.fc_verify.specs.Stages.{Fails, IsTypingFault, IsUntyped, Stops};
+ghost use Rattle.fc_verify.specs.Stages.{Fails, IsRuleOf, IsTypingFault, IsUntyped, Stops};
 ghost use Rattle.fc_verify.specs.Pass.{IsWithin, beginning, is_typable, led, met, met_by, met_later, pass, passed_by};
 ghost use Rattle.fc_verify.specs.Typing.{IsTypingOf, States};
 
-use crate::settling::{formed, gives_number, settled};
-use crate::untyped::Untyped;
+use crate::settling::{formed, settled, unnumbered};
+use crate::untyped::{Demand, Untyped};
 use fc_image::laws::shaped_loops_are_loops;
 use fc_image::loops::Loop;
 use fc_image::{SLOTS, heads};
@@ -105,16 +105,14 @@ fn pass_slots(
     for (slot, insn) in code.iter().enumerate() {
         if let Some(regs) = states[slot] {
             let inside = is_inside(&heads, slot);
-            pass(
-                vars_size,
-                code,
-                slot,
-                insn,
-                &heads[slot],
-                inside,
-                &regs,
-                states,
-            )?;
+            let beginning = &heads[slot];
+            // Not by `?`: rattle's borrow checker doesn't follow the enum of an error's field there.
+            match pass(
+                vars_size, code, slot, insn, beginning, inside, &regs, states,
+            ) {
+                Ok(()) => {}
+                Err(untyped) => return Err(untyped),
+            }
         }
     }
     Ok(())
@@ -165,9 +163,9 @@ fn pass(
     requires within { IsWithin (length states.old) (flow slot insn.now) }
     requires insn { IsInsn insn.now }
     ensures passed { IfOk result (λ u. passed_by vars_size code.now beginning.now inside slot insn.now regs.now states.old ≡ Some states.new) }
-    ensures rule { IfErr result (λ u. (20 ≤ number_of u.fault.rule) × (number_of u.fault.rule ≤ 28)) }
+    ensures rule { IfErr result (λ u. IsRuleOf u.demand u.fault.rule) }
     ensures slot { IfErr result (λ u. u.fault.slot ≡ slot) }
-    ensures stops { IfErr result (λ u. Stops vars_size code.now beginning.now inside insn.now regs.now u.known) }
+    ensures stops { IfErr result (λ u. Stops vars_size code.now beginning.now inside insn.now regs.now u.known u.demand) }
 {
     match settled(code, beginning, regs) {
         Some(kinds) => meet_demands(vars_size, slot, insn, inside, &kinds, states),
@@ -176,6 +174,7 @@ fn pass(
 }
 
 /// What is wrong at a slot that settles to no kinds, since the counter of the loop that begins there doesn't enter below the bound.
+#[tactic(auto, unfolding(crate::specs::Heads::settled))]
 fn unentered(
     vars_size: u16,
     code: &[Insn],
@@ -188,13 +187,13 @@ fn unentered(
     requires outside { settled code.now beginning.now regs.now ≡ None }
     requires kinds { AreKinds regs.now }
     requires insn { IsInsn insn.now }
-    ensures rule { (20 ≤ number_of result.fault.rule) × (number_of result.fault.rule ≤ 28) }
+    ensures rule { IsRuleOf result.demand result.fault.rule }
     ensures slot { result.fault.slot ≡ slot }
-    ensures stops { (inside : Bool) → Stops vars_size code.now beginning.now inside insn.now regs.now result.known }
+    ensures stops { (inside : Bool) → Stops vars_size code.now beginning.now inside insn.now regs.now result.known result.demand }
 {
     match beginning {
         Some(counted) => at_head(vars_size, code, slot, insn, counted, regs),
-        None => against_loop(slot, regs),
+        None => unreachable!(),
     }
 }
 
@@ -211,21 +210,22 @@ fn at_head(
     requires outside { settled code.now (Some counted.now) regs.now ≡ None }
     requires kinds { AreKinds regs.now }
     requires insn { IsInsn insn.now }
-    ensures rule { (20 ≤ number_of result.fault.rule) × (number_of result.fault.rule ≤ 28) }
+    ensures rule { IsRuleOf result.demand result.fault.rule }
     ensures slot { result.fault.slot ≡ slot }
-    ensures stops { (inside : Bool) → Stops vars_size code.now (Some counted.now) inside insn.now regs.now result.known }
+    ensures stops { (inside : Bool) → Stops vars_size code.now (Some counted.now) inside insn.now regs.now result.known result.demand }
 {
     match checked(vars_size, slot, *insn, &formed(code, counted, regs)) {
-        Ok(_) => against_loop(slot, regs),
+        Ok(_) => against_loop(slot, regs, Demand::Counter(*counted)),
         Err(untyped) => untyped,
     }
 }
 
-/// That a slot breaks the rule of loops.
-fn against_loop(slot: usize, known: &Regs) -> Untyped
+/// That a slot breaks the rule of loops, by this demand.
+fn against_loop(slot: usize, known: &Regs, demand: Demand) -> Untyped
     ensures rule { result.fault.rule ≡ LoopState }
     ensures slot { result.fault.slot ≡ slot }
     ensures known { result.known ≡ known.now }
+    ensures demand { result.demand ≡ demand }
 {
     Untyped {
         fault: Fault {
@@ -233,6 +233,7 @@ fn against_loop(slot: usize, known: &Regs) -> Untyped
             slot,
         },
         known: *known,
+        demand,
     }
 }
 
@@ -255,14 +256,14 @@ fn meet_demands(
     requires within { IsWithin (length states.old) (flow slot insn.now) }
     requires insn { IsInsn insn.now }
     ensures passed { IfOk result (λ u. met_by vars_size inside slot insn.now kinds.now states.old ≡ Some states.new) }
-    ensures rule { IfErr result (λ u. (20 ≤ number_of u.fault.rule) × (number_of u.fault.rule ≤ 28)) }
+    ensures rule { IfErr result (λ u. IsRuleOf u.demand u.fault.rule) }
     ensures slot { IfErr result (λ u. u.fault.slot ≡ slot) }
     ensures known { IfErr result (λ u. u.known ≡ kinds.now) }
-    ensures fails { IfErr result (λ u. Fails vars_size inside insn.now kinds.now) }
+    ensures fails { IfErr result (λ u. Fails vars_size inside insn.now kinds.now u.demand) }
 {
     let next = checked(vars_size, slot, *insn, kinds)?;
-    if inside && !gives_number(insn, &next) {
-        return Err(against_loop(slot, kinds));
+    if let Some(demand) = unnumbered(inside, insn, &next) {
+        return Err(against_loop(slot, kinds, demand));
     }
     states[slot] = Some(*kinds);
     spread(slot, *insn, kinds, &next, states);
@@ -282,6 +283,7 @@ fn checked(vars_size: u16, slot: usize, insn: Insn, regs: &Regs) -> Result<Regs,
     ensures rule { IfErr result (λ u. (20 ≤ number_of u.fault.rule) × (number_of u.fault.rule ≤ 27)) }
     ensures slot { IfErr result (λ u. u.fault.slot ≡ slot) }
     ensures known { IfErr result (λ u. u.known ≡ regs.now) }
+    ensures demand { IfErr result (λ u. u.demand ≡ Demand.Operands) }
 {
     effects_keep_kinds();
     match after(insn, regs, vars_size) {
@@ -289,6 +291,7 @@ fn checked(vars_size: u16, slot: usize, insn: Insn, regs: &Regs) -> Result<Regs,
         Err(rule) => Err(Untyped {
             fault: Fault { rule, slot },
             known: *regs,
+            demand: Demand::Operands,
         }),
     }
 }

@@ -2,9 +2,11 @@
 ghost use Rattle.std.specs.Prelude.{None, Some, drop, false, length, take, true, ◌+◌, ◌-◌, ◌<◌, ◌≡◌, ◌≤◌, suc, ℕ};
 ghost use Rattle.fc_isa.specs.Writes.{computes, is_call, is_that, writes};
 ghost use Rattle.fc_image.specs.Loops.{body, has_call, is_written, some_insn};
-ghost use Rattle.fc_verify.specs.Heads.{IsLoopOf, any_number, enters, formed, formed_kind, gives_number, settled};
+ghost use Rattle.fc_verify.specs.Heads.{IsLoopOf, any_number, enters, formed, formed_kind, settled};
+ghost use Rattle.fc_verify.specs.Stages.{IsUnnumbered};
 ghost use Rattle.fc_kinds.specs.Kinds.{kind_at};
 
+use crate::untyped::Demand;
 use fc_image::loops::{Loop, computes, is_call, writes};
 use fc_isa::Insn;
 use fc_kinds::{Kind, Regs};
@@ -136,12 +138,15 @@ fn some_calls(code: &[Insn]) -> bool
     false
 }
 
-/// Whether the register that an instruction computes is a number after it.
-pub(crate) fn gives_number(insn: &Insn, after: &Regs) -> bool
-    ensures { result ≡ gives_number (computes insn.now) after.now }
+/// In a loop's body the demand of an instruction that gives the register that it computes no number.
+pub(crate) fn unnumbered(inside: bool, insn: &Insn, after: &Regs) -> Option<Demand>
+    ensures { IsUnnumbered inside insn.now after.now result }
 {
-    match computes(insn) {
-        Some(dst) => matches!(after[dst.index()], Kind::Num { .. }),
-        None => true,
+    let register = computes(insn)?;
+    let given = after[register.index()];
+    if inside && !matches!(given, Kind::Num { .. }) {
+        Some(Demand::Number { register, given })
+    } else {
+        None
     }
 }

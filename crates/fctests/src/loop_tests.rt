@@ -33,7 +33,7 @@ fn check_all<R: Abort + AllocGlobal>(rt: &R, rows: &[Judged]) -> Result<(), Fail
 }
 
 // A body counts as often as it turns.
-static COSTS: [Judged; 14] = [
+static COSTS: [Judged; 16] = [
     (SUM, 26, "accepted cost 26 budget 26\n"),
     (SUM, 25, "V16 slot 0\n"),
     // a bound of 8, and a step of 3: two turns
@@ -106,6 +106,17 @@ static COSTS: [Judged; 14] = [
         b"mov64 r6, 0\nadd64 r6, 2147483647\njlt r6, 1024, -2\nmov64 r0, 0\nexit",
         5,
         "accepted cost 5 budget 5\n",
+    ),
+    // eight frames from a body, by functions of 14, 12, 10, 8, 6, 4 and 2 steps: 1 + 2 * (1 + 14 + 2) + 1; and nine
+    (
+        b"mov64 r6, 0\ncallf 3\nadd64 r6, 1\njlt r6, 2, -3\nexit\ncallf 1\nexit\ncallf 1\nexit\ncallf 1\nexit\ncallf 1\nexit\ncallf 1\nexit\ncallf 1\nexit\nmov64 r0, 0\nexit",
+        36,
+        "accepted cost 36 budget 36\n",
+    ),
+    (
+        b"mov64 r6, 0\ncallf 3\nadd64 r6, 1\njlt r6, 2, -3\nexit\ncallf 1\nexit\ncallf 1\nexit\ncallf 1\nexit\ncallf 1\nexit\ncallf 1\nexit\ncallf 1\nexit\ncallf 1\nexit\nmov64 r0, 0\nexit",
+        40,
+        "V15 slot 0\n",
     ),
 ];
 

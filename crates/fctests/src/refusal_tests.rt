@@ -108,7 +108,8 @@ static FLOWS: [(&[u8], u32, &str, &str); 9] = [
         "V12 slot 1\n",
         "rule: a jump that doesn't go to a later slot, and in the second version isn't that of a counted loop\n\
         slot 1: jeq r0, 0, -2\n\
-        change: write the turns out, or in the second version give it the form of a counted loop\n",
+        loop: a program of the first version has none\n\
+        change: write the turns out, or make an image of the second version\n",
     ),
     (
         b"lddw r0, 4294967296",
@@ -375,25 +376,136 @@ fn a_missing_typing_is_explained(rt: HostRuntime) -> Result<(), Fail> {
     Ok(())
 }
 
+// Programs of the second version with a jump back that isn't that of a counted loop, the verdict, and what is told.
+static JUMPS_BACK: [(&[u8], &str, &str); 10] = [
+    (
+        b"mov64 r0, 0\nadd64 r0, 1\njne r0, 4, -2\nexit",
+        "V12 slot 2\n",
+        "rule: a jump that doesn't go to a later slot, and in the second version isn't that of a counted loop\n\
+        slot 2: jne r0, 4, -2\n\
+        loop: it doesn't end with `jlt` of a register and a number\n\
+        change: end the loop with `add64 COUNTER, STEP` and right after it `jlt COUNTER, BOUND, HEAD`, or write the turns out\n",
+    ),
+    // by 32 bits
+    (
+        b"mov64 r0, 0\nadd64 r0, 1\njlt32 r0, 4, -2\nexit",
+        "V12 slot 2\n",
+        "rule: a jump that doesn't go to a later slot, and in the second version isn't that of a counted loop\n\
+        slot 2: jlt32 r0, 4, -2\n\
+        loop: it doesn't end with `jlt` of a register and a number\n\
+        change: end the loop with `add64 COUNTER, STEP` and right after it `jlt COUNTER, BOUND, HEAD`, or write the turns out\n",
+    ),
+    (
+        b"mov64 r0, 0\nadd64 r0, 1\njlt r0, 1025, -2\nexit",
+        "V12 slot 2\n",
+        "rule: a jump that doesn't go to a later slot, and in the second version isn't that of a counted loop\n\
+        slot 2: jlt r0, 1025, -2\n\
+        loop: its bound isn't 1 to 1024\n\
+        change: give `jlt` a bound of 1 to 1024; two loops, one in the other, take more turns\n",
+    ),
+    (
+        b"mov64 r0, 0\nadd64 r0, 0\njlt r0, 4, -2\nexit",
+        "V12 slot 2\n",
+        "rule: a jump that doesn't go to a later slot, and in the second version isn't that of a counted loop\n\
+        slot 2: jlt r0, 4, -2\n\
+        loop: the slot before isn't `add64` of the same register and a number of 1 or more\n\
+        change: end the loop with `add64 COUNTER, STEP` and right after it `jlt COUNTER, BOUND, HEAD`, or write the turns out\n",
+    ),
+    (
+        b"mov64 r0, 0\nadd64 r0, 1\njlt r0, 4, -1\nexit",
+        "V12 slot 2\n",
+        "rule: a jump that doesn't go to a later slot, and in the second version isn't that of a counted loop\n\
+        slot 2: jlt r0, 4, -1\n\
+        loop: the jump leads to itself\n\
+        change: jump back to the first instruction of the body\n",
+    ),
+    (
+        b"mov64 r6, 0\nmov64 r6, 0\nadd64 r6, 1\njlt r6, 4, -3\nmov64 r0, 0\nexit",
+        "V12 slot 3\n",
+        "rule: a jump that doesn't go to a later slot, and in the second version isn't that of a counted loop\n\
+        slot 3: jlt r6, 4, -3\n\
+        loop: slots 1 to 3, counted in r6 below 4; slot 1 writes the counter\n\
+        slot 1: mov64 r6, 0\n\
+        change: count in a register that only the addition writes; a call writes r0 to r5\n",
+    ),
+    (
+        b"mov64 r0, 0\njne r0, 2, 1\nexit\nadd64 r0, 1\njlt r0, 4, -4\nexit",
+        "V12 slot 4\n",
+        "rule: a jump that doesn't go to a later slot, and in the second version isn't that of a counted loop\n\
+        slot 4: jlt r0, 4, -4\n\
+        loop: slots 1 to 4, counted in r0 below 4; slot 2 is an exit in it\n\
+        slot 2: exit\n\
+        change: keep in a register that the rest is to be skipped, and put the exit behind the loop\n",
+    ),
+    (
+        b"mov64 r0, 0\njeq r0, 2, 1\nadd64 r0, 1\njlt r0, 4, -3\nexit",
+        "V12 slot 3\n",
+        "rule: a jump that doesn't go to a later slot, and in the second version isn't that of a counted loop\n\
+        slot 3: jlt r0, 4, -3\n\
+        loop: slots 1 to 3, counted in r0 below 4; slot 1 jumps past the addition\n\
+        slot 1: jeq r0, 2, 1\n\
+        change: jump to the addition\n",
+    ),
+    (
+        b"mov64 r0, 0\njeq r0, 2, 2\nadd64 r0, 1\njlt r0, 4, -3\nexit",
+        "V12 slot 3\n",
+        "rule: a jump that doesn't go to a later slot, and in the second version isn't that of a counted loop\n\
+        slot 3: jlt r0, 4, -3\n\
+        loop: slots 1 to 3, counted in r0 below 4; slot 1 jumps out of it\n\
+        slot 1: jeq r0, 2, 2\n\
+        change: keep in a register that the rest is to be skipped, and jump to the addition\n",
+    ),
+    (
+        b"mov64 r0, 0\nja 0\nadd64 r0, 1\njlt r0, 4, -2\nexit",
+        "V12 slot 3\n",
+        "rule: a jump that doesn't go to a later slot, and in the second version isn't that of a counted loop\n\
+        slot 3: jlt r0, 4, -2\n\
+        loop: slots 2 to 3, counted in r0 below 4; slot 1 jumps into it\n\
+        slot 1: ja 0\n\
+        change: let the loop be entered from the slot before its first one alone\n",
+    ),
+];
+
 // Programs of the second version whose loops aren't typed.
-static LOOPS: [(&[u8], &str, &str); 2] = [
+static LOOPS: [(&[u8], &str, &str); 3] = [
     (
         b"mov64 r6, 4\nmov64 r0, r6\nadd64 r6, 1\njlt r6, 4, -3\nexit",
         "V28 slot 1\n",
-        "rule: a loop's counter that may not begin below the bound, or a pointer written in a loop's body\n\
+        "rule: a loop's counter may begin at its bound or above, or isn't a number\n\
         slot 1: mov64 r0, r6\n\
+        loop: slots 1 to 3, counted in r6 below 4\n\
         r6: the number 4\n\
-        change: set the counter to a number below the bound before the loop; write numbers alone in its body, and pointers before it\n",
+        change: set the counter to a number below the bound before the loop\n",
+    ),
+    (
+        b"mov64 r6, r1\nmov64 r0, 0\nadd64 r6, 1\njlt r6, 4, -3\nexit",
+        "V28 slot 1\n",
+        "rule: a loop's counter may begin at its bound or above, or isn't a number\n\
+        slot 1: mov64 r0, 0\n\
+        loop: slots 1 to 3, counted in r6 below 4\n\
+        r6: a pointer into the request, at offset 0\n\
+        change: set the counter to a number below the bound before the loop\n",
     ),
     (
         b"mov64 r6, 0\nmov64 r8, r1\nadd64 r6, 1\njlt r6, 4, -3\nmov64 r0, 0\nexit",
         "V28 slot 1\n",
-        "rule: a loop's counter that may not begin below the bound, or a pointer written in a loop's body\n\
+        "rule: a pointer is written in a loop's body\n\
         slot 1: mov64 r8, r1\n\
         r1: a pointer into the request, at offset 0\n\
-        change: set the counter to a number below the bound before the loop; write numbers alone in its body, and pointers before it\n",
+        r8 after it: a pointer into the request, at offset 0\n\
+        change: write numbers alone in a loop's body; set pointers before it\n",
     ),
 ];
+
+#[test]
+fn a_jump_back_that_is_not_counted_is_explained(rt: HostRuntime) -> Result<(), Fail> {
+    for (text, verdict, told) in JUMPS_BACK.iter().copied() {
+        let image = assembled_with(rt.alloc(), text, 0, Budget::Steps(100), ImageVersion::Two)?;
+        let done = checked(rt.alloc(), image.out.as_slice())?;
+        is_refused_so(&rt, &done, verdict, told)?;
+    }
+    Ok(())
+}
 
 #[test]
 fn a_loop_that_is_not_typed_is_explained(rt: HostRuntime) -> Result<(), Fail> {

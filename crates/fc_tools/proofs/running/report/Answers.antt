@@ -1,6 +1,6 @@
 use Rattle.std.proofs.Common.{ap, ◌∙◌}
 use Rattle.fc_machine.specs.Ran.{meaning_of, ran}
-use Rattle.fc_tools.specs.Runs.{found_by, report_text}
+use Rattle.fc_tools.specs.Runs.{report_text}
 use Rattle.fc_tools.proofs.running.report.Goals as goal
 
 pub returns : goal.returns

@@ -1,4 +1,4 @@
-use Rattle.std.proofs.Common.{◌≡◌, None, refl, sym, ◌∙◌, subst}
+use Rattle.std.proofs.Common.{◌≡◌, None, Some, refl, sym, ◌∙◌, subst}
 use Rattle.fc_kinds.specs.Lattice.{AreKinds}
 use Rattle.fc_kinds.specs.Transfer.{transfer}
 use Rattle.fc_verify.specs.Stages.{AtHead, AtEntry}
@@ -10,7 +10,7 @@ pub checked-requires-clause-kinds : goal.checked-requires-clause-kinds
 checked-requires-clause-kinds c = subst AreKinds (sym c.formed.ensures) (formed_kinds c.args.code.now c.args.counted.now c.args.regs.now (sound_of c.args.code.now c.args.counted.now c.requires.counted) c.requires.kinds)
 
 pub returns-in-Ok-clause-stops : goal.returns-in-Ok-clause-stops
-returns-in-Ok-clause-stops c = λ inside. AtEntry c.requires.outside c.against_loop.ensures.known
+returns-in-Ok-clause-stops c = λ inside. AtEntry c.args.counted.now c.in-Ok.field-0 refl c.requires.outside c.against_loop.ensures.known (subst (λ ks. transfer c.args.vars_size c.args.insn.now ks ≡ Some c.in-Ok.field-0) c.formed.ensures c.in-Ok.ensures.after) c.against_loop.ensures.demand
 
 pub returns-in-Err-clause-stops : goal.returns-in-Err-clause-stops
-returns-in-Err-clause-stops c = λ inside. AtHead c.args.counted.now refl c.requires.outside (c.in-Err.ensures.known ∙ c.formed.ensures) (subst (λ ks. transfer c.args.vars_size c.args.insn.now ks ≡ None) (sym c.in-Err.ensures.known) c.in-Err.ensures.refused)
+returns-in-Err-clause-stops c = λ inside. AtHead c.args.counted.now refl c.requires.outside (c.in-Err.ensures.known ∙ c.formed.ensures) (subst (λ ks. transfer c.args.vars_size c.args.insn.now ks ≡ None) (sym c.in-Err.ensures.known) c.in-Err.ensures.refused) c.in-Err.ensures.demand

@@ -1,6 +1,6 @@
-use Rattle.std.proofs.Common.{sym, ◌∙◌}
-use Rattle.fc_verify.specs.Stages.{NoNumber}
+use Rattle.std.proofs.Common.{sym, subst}
+use Rattle.fc_verify.specs.Stages.{GivesNoNumber, NoNumber}
 use Rattle.fc_verify.proofs.pass.meet_demands.Goals as goal
 
-pub returns-then-not-gives_number-clause-fails : goal.returns-then-not-gives_number-clause-fails
-returns-then-not-gives_number-clause-fails c = NoNumber c.in_ok-next.next c.in_ok-next.ensures.after c.if-inside.true (sym c.gives_number.ensures ∙ c.if-not-gives_number.true)
+pub returns-in-Some-clause-fails : goal.returns-in-Some-clause-fails
+returns-in-Some-clause-fails c = NoNumber c.in_ok-next.next c.in_ok-next.ensures.after (subst (GivesNoNumber c.args.inside c.args.insn.now c.in_ok-next.next) (sym c.against_loop.ensures.demand) c.in-Some.ensures)

@@ -18,9 +18,9 @@ meet_demands-requires-clause-levels c = settled_shallow 1023 c.args.code.now c.a
 
 -- it stops at its instruction
 at_insn : {T : Type 0} (r : Result T Untyped) (vars : ℕ) (code : List Insn) (beginning : Option Loop) (inside : Bool) (insn : Insn) (found kinds : List Kind) → settled code beginning found ≡ Some kinds
-    → IfErr r (λ u. u.known ≡ kinds) → IfErr r (λ u. Fails vars inside insn kinds) → IfErr r (λ u. Stops vars code beginning inside insn found u.known)
+    → IfErr r (λ u. u.known ≡ kinds) → IfErr r (λ u. Fails vars inside insn kinds u.demand) → IfErr r (λ u. Stops vars code beginning inside insn found u.known u.demand)
 at_insn (Ok x) vars code beginning inside insn found kinds e k f = tt
-at_insn (Err u) vars code beginning inside insn found kinds e k f = subst (Stops vars code beginning inside insn found) (sym k) (AtInsn e f)
+at_insn (Err u) vars code beginning inside insn found kinds e k f = subst (λ ks. Stops vars code beginning inside insn found ks u.demand) (sym k) (AtInsn e f)
 
 pub returns-in-Some-clause-stops : goal.returns-in-Some-clause-stops
 returns-in-Some-clause-stops c = at_insn c.meet_demands.result c.args.vars_size c.args.code.now c.args.beginning.now c.args.inside c.args.insn.now c.args.regs.now c.in-Some.kinds (sym c.settled.ensures ∙ c.in-Some.is) c.meet_demands.ensures.known c.meet_demands.ensures.fails

@@ -1,7 +1,6 @@
-use Rattle.std.proofs.Common.{Result, Ok, Err, ◌≡◌, ℕ, ◌+◌, ◌<◌, ◌≤◌, Bool, List, Option, Some, None, get_or, sym, ap, ◌∙◌, subst, arith}
-use Rattle.std.specs.Prelude.{IfErr, slice_get}
+use Rattle.std.proofs.Common.{◌≡◌, ℕ, ◌+◌, ◌<◌, ◌≤◌, Bool, List, Option, Some, None, get_or, sym, ap, ◌∙◌, subst, arith}
+use Rattle.std.specs.Prelude.{slice_get}
 use Rattle.std.proofs.lemmas.Option.{slice_get-get_or}
-use Rattle.std.specs.Result.{IsErrAnd}
 use Rattle.fc_isa.specs.declared.insn.Insn.{Insn}
 use Rattle.fc_isa.specs.Flow.{flow}
 use Rattle.fc_image.specs.Head.{loops_allowed}
@@ -14,18 +13,13 @@ use Rattle.fc_kinds.specs.declared.kind.Kind.{Kind}
 use Rattle.fc_verify.specs.Typing.{States}
 use Rattle.fc_verify.specs.Heads.{IsLoopOf, is_inside}
 use Rattle.fc_verify.specs.Pass.{IsWithin, passed_by, passed_with}
-use Rattle.fc_verify.specs.Stages.{IsUntyped, Stops}
+use Rattle.fc_verify.specs.Stages.{Stops}
 use Rattle.fc_verify.proofs.Levels.{AreLow, shallow_up, low_up, low_passed, beginning_low}
 use Rattle.fc_verify.proofs.PassLaws.{stopped}
 use Rattle.fc_verify.proofs.Passing.{Passing, passing_start, passing_some, passing_none, passing_refused}
 use Rattle.fc_verify.proofs.Table.{loop_is, within_is}
 use Rattle.fc_verify.proofs.pass.pass_slots.Goals as goal
-use Rattle.fc_verify.proofs.pass.pass_slots.Goals.{in-Some+in_ok-pass, in_default}
-
--- what is handed on as it is
-handed_on : {T E : Type 0} (r : Result T E) (e : E) (P : E → Type 0) → IsErrAnd r (λ x. x ≡ e) → P e → IfErr r P
-handed_on (Ok x) e P h p = absurd h
-handed_on (Err x) e P h p = subst P (sym h) p
+use Rattle.fc_verify.proofs.pass.pass_slots.Goals.{in-Some+in-Ok, in_default}
 
 -- what the table holds at a slot
 begins_there : (loops : List Loop) (heads : List (Option Loop)) (slot : ℕ) (o : Option Loop) → AreHeads loops heads → slot < 1024 → get_or heads slot o ≡ begins loops slot
@@ -93,12 +87,12 @@ loop-slot-preserved c =
     let at : slice_get code l.slot ≡ Some insn = slice_get-get_or code l.slot insn c.loop-slot-test.true ∙ ap Some (sym c.index-code-slot.is) in
     let p = l.invariant.passing in
     elim c.match-states-slot.branch [
-      | in-Some+in_ok-pass w ↦
+      | in-Some+in-Ok w ↦
           let ks = w.in-Some.regs in
           let next = w.pass.new.states in
           let begin = begins_there all c.heads-heads.result l.slot w.index-heads-slot.result c.heads-heads.ensures few in
           let inside = w.is_inside-inside.ensures code all loops c.heads-heads.ensures in
-          let passed = with_loops vars code all l.slot insn ks l.states _ _ (Some next) begin inside w.in_ok-pass.ensures.passed in
+          let passed = with_loops vars code all l.slot insn ks l.states _ _ (Some next) begin inside w.in-Ok.ensures.passed in
           let now = passing_some version vars code all l.slot l.states next insn ks loops (program.insns l.slot insn at) p at w.in-Some.is passed in
           let low = low_passed l.slot vars code all l.slot insn ks l.states next l.invariant.low w.in-Some.is passed in
           record { passing = subst (Passing version vars code all (l.slot + 1)) (sym w.states-is) now; low = subst (AreLow (l.slot + 1)) (sym w.states-is) low }
@@ -109,8 +103,8 @@ loop-slot-preserved c =
           }
     ]
 
-pub returns-in_err-pass-clause-refused : goal.returns-in_err-pass-clause-refused
-returns-in_err-pass-clause-refused c =
+pub returns-in-Err-clause-refused : goal.returns-in-Err-clause-refused
+returns-in-Err-clause-refused c =
     let l = c.loop-slot in
     let version = c.args.version in
     let vars = c.args.vars_size in
@@ -123,12 +117,11 @@ returns-in_err-pass-clause-refused c =
     let at : slice_get code l.slot ≡ Some insn = slice_get-get_or code l.slot insn c.loop-slot-test.true ∙ ap Some (sym c.index-code-slot.is) in
     let begin = begins_there all c.heads-heads.result l.slot c.index-heads-slot.result c.heads-heads.ensures few in
     let inside = c.is_inside-inside.ensures code all loops c.heads-heads.ensures in
-    let none = stopped vars code _ c.is_inside-inside.result l.slot insn c.in-Some.regs c.in_err-pass.field-0.0.known l.states c.in_err-pass.ensures.stops in
-    handed_on c.from_residual.result c.in_err-pass.field-0.0 _ c.from_residual.ensures.1
+    let none = stopped vars code _ c.is_inside-inside.result l.slot insn c.in-Some.regs c.in-Err.untyped.known c.in-Err.untyped.demand l.states c.in-Err.ensures.stops in
     (passing_refused version vars code all l.slot l.states insn c.in-Some.regs l.invariant.passing at c.in-Some.is (with_loops vars code all l.slot insn c.in-Some.regs l.states _ _ None begin inside none))
 
-pub returns-in_err-pass-clause-known : goal.returns-in_err-pass-clause-known
-returns-in_err-pass-clause-known c =
+pub returns-in-Err-clause-known : goal.returns-in-Err-clause-known
+returns-in-Err-clause-known c =
     let l = c.loop-slot in
     let version = c.args.version in
     let vars = c.args.vars_size in
@@ -141,11 +134,11 @@ returns-in_err-pass-clause-known c =
     let at : slice_get code l.slot ≡ Some insn = slice_get-get_or code l.slot insn c.loop-slot-test.true ∙ ap Some (sym c.index-code-slot.is) in
     let begin = begins_there all c.heads-heads.result l.slot c.index-heads-slot.result c.heads-heads.ensures few in
     let inside = c.is_inside-inside.ensures code all loops c.heads-heads.ensures in
-    let e = c.in_err-pass.ensures in
+    let e = c.in-Err.ensures in
     let passed = l.invariant.passing.passed_is in
     let is = c.in-Some.is in
-    let known = c.in_err-pass.field-0.0.known in
-    let stops : Stops vars code (begins all l.slot) (is_inside all l.slot) insn c.in-Some.regs known =
-    subst (λ o. Stops vars code o (is_inside all l.slot) insn c.in-Some.regs known) begin (subst (λ b. Stops vars code (get_or c.heads-heads.result l.slot c.index-heads-slot.result) b insn c.in-Some.regs known) inside e.stops) in
-    handed_on c.from_residual.result c.in_err-pass.field-0.0 (IsUntyped version vars code) c.from_residual.ensures.1
-    (record { insn = insn; insn_is = rw e.slot at; states = l.states; passed = rw e.slot passed; found = c.in-Some.regs; found_is = rw e.slot is; stops = rw e.slot stops })
+    let known = c.in-Err.untyped.known in
+    let demand = c.in-Err.untyped.demand in
+    let stops : Stops vars code (begins all l.slot) (is_inside all l.slot) insn c.in-Some.regs known demand =
+    subst (λ o. Stops vars code o (is_inside all l.slot) insn c.in-Some.regs known demand) begin (subst (λ b. Stops vars code (get_or c.heads-heads.result l.slot c.index-heads-slot.result) b insn c.in-Some.regs known demand) inside e.stops) in
+    (record { rule = e.rule; insn = insn; insn_is = rw e.slot at; states = l.states; passed = rw e.slot passed; found = c.in-Some.regs; found_is = rw e.slot is; stops = rw e.slot stops })

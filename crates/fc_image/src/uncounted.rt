@@ -1,0 +1,158 @@
+//! Why a jump back isn't that of a counted loop.
+ghost use Rattle.std.specs.Prelude.{None, length, true, ◌<◌, ◌≡◌, ◌≤◌};
+ghost use Rattle.fc_image.specs.Head.{loops_allowed};
+ghost use Rattle.fc_image.specs.Loops.{loop_at};
+ghost use Rattle.fc_image.specs.Uncounted.{IsCrossing, IsDisturbed, IsHow, IsReason, IsUncountedBy, is_below};
+
+use crate::flow::{jump_offset, target};
+use crate::limits::loops_allowed;
+use crate::loops::{Loop, bound_of, is_exit, is_in, loop_at, step_of, writes};
+use fc_isa::{ImageVersion, Insn, Jump, Operand, Relation, Width};
+
+/// Why an instruction isn't the jump back of a counted loop.
+#[derive(Clone, Copy)]
+pub enum Uncounted {
+    /// Programs of the image's version have no loops.
+    NoLoops,
+    /// It isn't `jlt` of a register and an immediate, in 64 bits.
+    Jump,
+    /// The immediate isn't 1 to 1,024.
+    Bound,
+    /// The instruction before it isn't `add64` of the same register and an immediate of 1 or more.
+    Step,
+    /// It doesn't lead to an earlier slot.
+    Target,
+    /// This slot's instruction disturbs the loop that it would be.
+    Disturbed {
+        counted: Loop,
+        slot: usize,
+        insn: Insn,
+        by: Disturbance,
+    },
+}
+
+/// How an instruction disturbs a loop.
+#[derive(Clone, Copy)]
+pub enum Disturbance {
+    /// In the body it writes the counter, and isn't the addition.
+    Write,
+    /// In the body it is an exit.
+    Exit,
+    /// It jumps past the addition, to the jump back.
+    Skip,
+    /// It jumps out of the body.
+    Leave,
+    /// It jumps into the body from outside.
+    Enter,
+}
+
+/// Why the instruction at a slot isn't the jump back of a counted loop, if it isn't.
+pub fn why_uncounted(
+    version: ImageVersion,
+    code: &[Insn],
+    slot: usize,
+    insn: &Insn,
+) -> Option<Uncounted>
+    requires count { length code.now ≤ 1024 }
+    requires slot { slot < length code.now }
+    ensures { IsReason (loops_allowed version) code.now slot insn.now result }
+{
+    if !loops_allowed(version) {
+        return Some(Uncounted::NoLoops);
+    }
+    match loop_at(code, slot, insn) {
+        Some(counted) => disturbed(code, &counted),
+        None => Some(unformed(code, slot, insn)),
+    }
+}
+
+/// What an instruction lacks that is no loop's jump back, whatever stands around it but for the slot before.
+fn unformed(code: &[Insn], slot: usize, insn: &Insn) -> Uncounted
+    requires count { length code.now ≤ 1024 }
+    requires slot { slot < length code.now }
+    requires none { loop_at code.now slot insn.now ≡ None }
+    ensures { IsUncountedBy true code.now slot insn.now result }
+{
+    match insn {
+        Insn::JumpIf(jump) => unformed_jump(code, slot, jump),
+        _ => Uncounted::Jump,
+    }
+}
+
+fn unformed_jump(code: &[Insn], slot: usize, jump: &Jump) -> Uncounted
+    requires count { length code.now ≤ 1024 }
+    requires slot { slot < length code.now }
+    requires none { loop_at code.now slot (Insn.JumpIf jump.now) ≡ None }
+    ensures { IsUncountedBy true code.now slot (Insn.JumpIf jump.now) result }
+{
+    if !is_below(jump) {
+        return Uncounted::Jump;
+    }
+    if bound_of(jump).is_none() {
+        return Uncounted::Bound;
+    }
+    if step_of(&code[slot.saturating_sub(1)], jump.left).is_none() {
+        return Uncounted::Step;
+    }
+    Uncounted::Target
+}
+
+/// Whether a jump compares if a register is below an immediate, in 64 bits.
+fn is_below(jump: &Jump) -> bool
+    ensures { result ≡ is_below jump.now.width jump.now.relation jump.now.right }
+{
+    matches!(
+        (jump.width, jump.relation, jump.right),
+        (Width::W64, Relation::Lt, Operand::Imm(_))
+    )
+}
+
+/// The first instruction of a program that disturbs a loop, and how.
+pub(crate) fn disturbed(code: &[Insn], counted: &Loop) -> Option<Uncounted>
+    requires { length code.now ≤ 1024 }
+    ensures { IsDisturbed code.now counted.now result }
+{
+    for (slot, insn) in code.iter().enumerate() {
+        if let Some(by) = how_disturbed(counted, slot, insn) {
+            return Some(Uncounted::Disturbed {
+                counted: *counted,
+                slot,
+                insn: *insn,
+                by,
+            });
+        }
+    }
+    None
+}
+
+/// How an instruction disturbs a loop, if it does.
+fn how_disturbed(counted: &Loop, slot: usize, insn: &Insn) -> Option<Disturbance>
+    requires { slot < 1024 }
+    ensures { IsHow counted.now slot insn.now result }
+{
+    if is_in(counted, slot) && writes(insn, counted.counter.index()) && slot + 1 != counted.last {
+        return Some(Disturbance::Write);
+    }
+    if is_in(counted, slot) && is_exit(insn) {
+        return Some(Disturbance::Exit);
+    }
+    match jump_offset(insn) {
+        Some(offset) => crossing(counted, slot, target(slot, offset)),
+        None => None,
+    }
+}
+
+/// How a jump from a slot to a place crosses a loop, if it does.
+fn crossing(counted: &Loop, slot: usize, place: Option<usize>) -> Option<Disturbance>
+    ensures { IsCrossing counted.now slot place result }
+{
+    let place = place?;
+    if place == counted.last {
+        return Some(Disturbance::Skip);
+    }
+    match (is_in(counted, slot), is_in(counted, place)) {
+        (true, false) => Some(Disturbance::Leave),
+        (false, true) => Some(Disturbance::Enter),
+        _ => None,
+    }
+}

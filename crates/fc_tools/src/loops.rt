@@ -1,0 +1,122 @@
+//! What is told of loops.
+use crate::known::Known;
+use crate::numbered::listed;
+use fc_image::loops::Loop;
+use fc_image::uncounted::{Disturbance, Uncounted};
+use fc_isa::Insn;
+use fc_kinds::Regs;
+use std::alloc::Global;
+use std::io::Write;
+use std::{fmt, io};
+
+/// A loop in words: it prints as `slots 2 to 6, counted in r6 below 4`.
+#[derive(Clone, Copy)]
+pub(crate) struct Counted(pub Loop);
+
+impl fmt::Display for Counted {
+    fn fmt<W: fmt::Write>(&self, f: &mut fmt::Formatter<W>) -> fmt::Result {
+        let counted = self.0;
+        write!(
+            f,
+            "slots {} to {}, counted in r{} below {}",
+            counted.head,
+            counted.last,
+            counted.counter.index(),
+            counted.bound
+        )
+    }
+}
+
+/// Writes why a jump back isn't that of a counted loop, and the instruction that is in the way, each on a line of its own.
+pub(crate) fn write_reason<W: Write>(
+    alloc: Global,
+    out: &mut W,
+    reason: &Uncounted,
+) -> io::Result<()> {
+    match reason {
+        Uncounted::NoLoops => writeln!(out, "loop: a program of the first version has none"),
+        Uncounted::Jump => writeln!(
+            out,
+            "loop: it doesn't end with `jlt` of a register and a number"
+        ),
+        Uncounted::Bound => writeln!(out, "loop: its bound isn't 1 to 1024"),
+        Uncounted::Step => writeln!(
+            out,
+            "loop: the slot before isn't `add64` of the same register and a number of 1 or more"
+        ),
+        Uncounted::Target => writeln!(out, "loop: the jump leads to itself"),
+        Uncounted::Disturbed {
+            counted,
+            slot,
+            insn,
+            by,
+        } => {
+            writeln!(
+                out,
+                "loop: {}; slot {slot} {}",
+                Counted(*counted),
+                harm(*by)
+            )?;
+            write_insn(alloc, out, *slot, *insn)
+        }
+    }
+}
+
+/// What an instruction does that disturbs a loop.
+fn harm(by: Disturbance) -> &'static str {
+    match by {
+        Disturbance::Write => "writes the counter",
+        Disturbance::Exit => "is an exit in it",
+        Disturbance::Skip => "jumps past the addition",
+        Disturbance::Leave => "jumps out of it",
+        Disturbance::Enter => "jumps into it",
+    }
+}
+
+/// Writes a loop whose counter doesn't enter below its bound, and with what it enters.
+pub(crate) fn write_entry<W: Write>(
+    out: &mut W,
+    counted: &Loop,
+    entering: &Regs,
+) -> io::Result<()> {
+    let counter = counted.counter.index();
+    writeln!(out, "loop: {}", Counted(*counted))?;
+    writeln!(out, "r{counter}: {}", Known(entering[counter]))
+}
+
+/// Writes an instruction with its slot.
+pub(crate) fn write_insn<W: Write>(
+    alloc: Global,
+    out: &mut W,
+    slot: usize,
+    insn: Insn,
+) -> io::Result<()> {
+    let listed = listed(alloc, insn)?;
+    writeln!(out, "slot {slot}: {}", listed.trim_end())
+}
+
+/// What to change where a jump back isn't that of a counted loop.
+pub(crate) fn loop_remedy(reason: &Uncounted) -> &'static str {
+    match reason {
+        Uncounted::NoLoops => "write the turns out, or make an image of the second version",
+        Uncounted::Jump | Uncounted::Step =>
+            "end the loop with `add64 COUNTER, STEP` and right after it `jlt COUNTER, BOUND, HEAD`, or write the turns out",
+        Uncounted::Bound =>
+            "give `jlt` a bound of 1 to 1024; two loops, one in the other, take more turns",
+        Uncounted::Target => "jump back to the first instruction of the body",
+        Uncounted::Disturbed { by, .. } => loop_correction(*by),
+    }
+}
+
+fn loop_correction(by: Disturbance) -> &'static str {
+    match by {
+        Disturbance::Write =>
+            "count in a register that only the addition writes; a call writes r0 to r5",
+        Disturbance::Exit =>
+            "keep in a register that the rest is to be skipped, and put the exit behind the loop",
+        Disturbance::Skip => "jump to the addition",
+        Disturbance::Leave =>
+            "keep in a register that the rest is to be skipped, and jump to the addition",
+        Disturbance::Enter => "let the loop be entered from the slot before its first one alone",
+    }
+}
