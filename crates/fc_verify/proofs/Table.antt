@@ -1,13 +1,14 @@
 -- What the code asks of loops, by the loop that begins at each slot.
-use Rattle.std.proofs.Common.{◌≡◌, ℕ, suc, ◌<◌, ◌≤◌, Bool, true, false, Option, Some, None, List, [], ◌∷◌, length, inl, inr, refl, sym, ap, ◌∙◌, arith}
+use Rattle.std.proofs.Common.{◌≡◌, ℕ, suc, ◌+◌, ◌<◌, ◌≤◌, nat_lt, Bool, true, false, Option, Some, None, List, [], ◌∷◌, length, inl, inr, refl, sym, ap, ◌∙◌, subst, arith}
 use Rattle.std.specs.Prelude.{◌⊎◌, ◌||◌, slice_get}
+use Rattle.std.proofs.lemmas.Bool.{cases_lt}
 use Rattle.std.proofs.lemmas.Bool.Decides.{nat_tests}
 use Rattle.fc_isa.specs.declared.insn.Insn.{Insn}
 use Rattle.fc_isa.specs.Flow.{Flow, Halts, Goes, Forks, Enters}
 use Rattle.fc_image.specs.declared.loops.Loop.{Loop}
 use Rattle.fc_image.specs.Loops.{begins, is_in}
 use Rattle.fc_image.specs.LoopLaws.{AreLoops, IsBack, IsOnward}
-use Rattle.fc_verify.specs.Heads.{IsLoopOf, covers, is_inside}
+use Rattle.fc_verify.specs.Heads.{IsLoopOf, is_inside, reached}
 use Rattle.fc_verify.specs.Pass.{IsWithin}
 use Rattle.fc_verify.proofs.PassLaws.{begins_is, inside_is}
 
@@ -44,25 +45,59 @@ inside_parts (m ∷ loops) slot e = go (is_in m slot) refl (inside_parts loops s
     go true b ih g = (0, m, refl, b)
     go false b ih g = let r = ih g in (suc r.0, r.1, r.2, r.3)
 
-pub covered_is : (loops : List Loop) (head slot : ℕ) → covers (begins loops head) slot ≡ true → is_inside loops slot ≡ true
-covered_is loops head slot e = go (begins loops head) refl e
-  where
-    go : (o : Option Loop) → begins loops head ≡ o → covers o slot ≡ true → is_inside loops slot ≡ true
-    go None b g = absurd (cc g)
-    go (Some l) b g =
-        let at = begins_is loops head l b in
-        inside_is loops at.0 slot l at.1 (grind (arith, nat_tests, g)) (grind (arith, nat_tests, g))
+-- which slots are in bodies, by how far the bodies reach that begin before a slot
+pub record Reaches (loops : List Loop) (slot reach : ℕ) : Type 0 where
+  pub all : (i : ℕ) (l : Loop) → slice_get loops i ≡ Some l → l.head < slot → l.last < reach
+  pub some : (s : ℕ) → slot ≤ s → s < reach → is_inside loops s ≡ true
 
-pub uncovered_is : (code : List Insn) (loops : List Loop) (slot : ℕ) → AreLoops code loops → ((head : ℕ) → head ≤ slot → covers (begins loops head) slot ≡ false) → is_inside loops slot ≡ false
-uncovered_is code loops slot a miss = go (is_inside loops slot) refl
+pub reaches_none : (loops : List Loop) → Reaches loops 0 0
+reaches_none loops = record { all = λ i l at lt. absurd (omega (arith, lt)); some = λ s le lt. absurd (omega (arith, lt)) }
+
+-- with the loop that begins at the slot
+reached_some : (loops : List Loop) (slot reach s : ℕ) → Reaches loops slot reach → slot ≤ s → s < reached reach (begins loops slot) → is_inside loops s ≡ true
+reached_some loops slot reach s r le lt = go (begins loops slot) refl lt
   where
-    go : (b : Bool) → is_inside loops slot ≡ b → is_inside loops slot ≡ false
-    go false e = e
+    go : (o : Option Loop) → begins loops slot ≡ o → s < reached reach o → is_inside loops s ≡ true
+    go None b lt = r.some s le lt
+    go (Some l) b lt = elim (cases_lt s reach) [
+      | inl before ↦ r.some s le before
+      | inr ge ↦ let at = begins_is loops slot l b in let head = at.2 in inside_is loops at.0 s l at.1 (omega (arith, head, le)) (omega (arith, lt, ge))
+    ]
+
+reached_all : (code : List Insn) (loops : List Loop) (slot reach : ℕ) (i : ℕ) (l : Loop) → AreLoops code loops → Reaches loops slot reach → slice_get loops i ≡ Some l → l.head < slot + 1 → l.last < reached reach (begins loops slot)
+reached_all code loops slot reach i l a r at lt = elim (cases_lt l.head slot) [
+  | inl before ↦ further (begins loops slot) (r.all i l at before)
+  | inr ge ↦
+      let same : l.head ≡ slot = omega (arith, lt, ge) in
+      let here : begins loops slot ≡ Some l = ap (begins loops) (sym same) ∙ a.one i l at in
+      subst (λ o. l.last < reached reach o) (sym here) (omega arith)
+]
+  where
+    further : (o : Option Loop) → l.last < reach → l.last < reached reach o
+    further None lt = lt
+    further (Some m) lt = omega (arith, lt)
+
+pub reaches_on : (code : List Insn) (loops : List Loop) (slot reach : ℕ) → AreLoops code loops → Reaches loops slot reach → Reaches loops (slot + 1) (reached reach (begins loops slot))
+reaches_on code loops slot reach a r = record {
+  all = λ i l at lt. reached_all code loops slot reach i l a r at lt;
+  some = λ s le lt. reached_some loops slot reach s r (omega (arith, le)) lt;
+}
+
+-- a slot is in a body where it comes before what they reach
+pub reached_is : (code : List Insn) (loops : List Loop) (slot reach : ℕ) → AreLoops code loops → Reaches loops slot reach → nat_lt slot (reached reach (begins loops slot)) ≡ is_inside loops slot
+reached_is code loops slot reach a r = go (is_inside loops slot) refl
+  where
+    go : (b : Bool) → is_inside loops slot ≡ b → nat_lt slot (reached reach (begins loops slot)) ≡ is_inside loops slot
     go true e =
-        let r = inside_parts loops slot e in
-        let l = r.1 in
-        let in_body = r.3 in
-        let le : l.head ≤ slot = grind (arith, nat_tests, in_body) in
-        let one : begins loops l.head ≡ Some l = a.one r.0 l r.2 in
-        let not_in : is_in l slot ≡ false = ap (λ o. covers o slot) (sym one) ∙ miss l.head le in
-        absurd (cc (in_body, not_in))
+        let p = inside_parts loops slot e in
+        let l = p.1 in
+        let in_body = p.3 in
+        let from : l.head ≤ slot = grind (arith, nat_tests, in_body) in
+        let to : slot ≤ l.last = grind (arith, nat_tests, in_body) in
+        let far = reached_all code loops slot reach p.0 l a r p.2 (omega (arith, from)) in
+        let before : slot < reached reach (begins loops slot) = omega (arith, to, far) in
+        grind (arith, nat_tests, before) ∙ sym e
+    go false e = elim (cases_lt slot (reached reach (begins loops slot))) [
+      | inl lt ↦ absurd (cc (e, reached_some loops slot reach slot r (omega arith) lt))
+      | inr ge ↦ grind (arith, nat_tests, ge) ∙ sym e
+    ]

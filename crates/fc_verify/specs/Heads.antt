@@ -1,5 +1,5 @@
 -- The kinds at the heads of counted loops.
-use Rattle.std.specs.Prelude.{◌≡◌, ◌≢◌, ℕ, ◌-◌, ◌≤◌, ◌==◌, ◌||◌, ◌&&◌, ◌⊎◌, Bool, true, false, nat_lt, nat_le, if◌then◌else◌, List, [], ◌∷◌, Option, Some, None}
+use Rattle.std.specs.Prelude.{◌≡◌, ◌≢◌, ℕ, ◌+◌, ◌-◌, ◌≤◌, ◌==◌, ◌||◌, ◌&&◌, ◌⊎◌, Bool, true, false, nat_lt, nat_le, max, if◌then◌else◌, List, [], ◌∷◌, Option, Some, None}
 use Rattle.fc_isa.specs.declared.insn.Insn.{Insn}
 use Rattle.fc_image.specs.declared.loops.Loop.{Loop}
 use Rattle.fc_image.specs.Loops.{is_in, is_written, has_call}
@@ -63,7 +63,7 @@ abbrev pub is_inside : List Loop → ℕ → Bool
 is_inside [] slot = false
 is_inside (l ∷ loops) slot = is_in l slot || is_inside loops slot
 
--- the loop that begins at a slot has another in its body
-abbrev pub covers : Option Loop → ℕ → Bool
-covers None slot = false
-covers (Some l) slot = is_in l slot
+-- the slot behind the last of the bodies that begin so far, with that of the loop that begins at a slot
+abbrev pub reached : ℕ → Option Loop → ℕ
+reached reach None = reach
+reached reach (Some l) = max reach (l.last + 1)

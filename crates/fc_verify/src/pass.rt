@@ -10,12 +10,12 @@ ghost use Rattle.fc_isa.specs.declared.rule.Rule.TheVariants.{LoopState};
 ghost use Rattle.fc_image.specs.declared.loops.Loop.{Loop as Counted};
 ghost use Rattle.fc_image.specs.LoopLaws.{AreLoops};
 ghost use Rattle.fc_image.specs.Loops.{loops_in};
-ghost use Rattle.fc_image.specs.Tables.{AreHeads};
+ghost use Rattle.fc_image.specs.Tables.{AreLow};
 ghost use Rattle.fc_kinds.specs.Entry.{entry};
 ghost use Rattle.fc_kinds.specs.Lattice.{AreKinds};
 ghost use Rattle.fc_kinds.specs.Transfer.{AreShallow, transfer};
 ghost use Rattle.fc_kinds.specs.Ways.{ways_after};
-ghost use Rattle.fc_verify.specs.Heads.{IsLoopOf, covers, is_inside, settled};
+ghost use Rattle.fc_verify.specs.Heads.{IsLoopOf, reached, settled};
 ghost use Rattle.fc_verify.specs.Runs.{IsTypedProgram, IsUntypedProgram};
 ghost use Rattle.fc_verify.specs.Stages.{Fails, IsRuleOf, IsTypingFault, IsUntyped, Stops};
 ghost use Rattle.fc_verify.specs.Pass.{IsWithin, beginning, is_typable, led, met, met_by, met_later, pass, passed_by};
@@ -23,9 +23,9 @@ ghost use Rattle.fc_verify.specs.Typing.{IsTypingOf, States};
 
 use crate::settling::{formed, settled, unnumbered};
 use crate::untyped::{Demand, Untyped};
+use fc_image::heads;
 use fc_image::laws::shaped_loops_are_loops;
 use fc_image::loops::Loop;
-use fc_image::{SLOTS, heads};
 use fc_isa::{Fault, ImageVersion, Insn, Jump, Rule};
 use fc_kinds::laws::effects_keep_kinds;
 use fc_kinds::{Regs, after, enter, entry, join, when};
@@ -102,10 +102,12 @@ fn pass_slots(
 {
     shaped_loops_are_loops();
     let heads = heads(version, code);
+    let mut reach = 0;
     for (slot, insn) in code.iter().enumerate() {
+        let beginning = &heads[slot];
+        reach = reached(reach, beginning);
         if let Some(regs) = states[slot] {
-            let inside = is_inside(&heads, slot);
-            let beginning = &heads[slot];
+            let inside = slot < reach;
             // Not by `?`: rattle's borrow checker doesn't follow the enum of an error's field there.
             match pass(
                 vars_size, code, slot, insn, beginning, inside, &regs, states,
@@ -118,25 +120,15 @@ fn pass_slots(
     Ok(())
 }
 
-/// Whether a slot is in the body of a loop, by the loop that begins at each slot.
-fn is_inside(heads: &[Option<Loop>; SLOTS], slot: usize) -> bool
-    requires { slot < 1024 }
-    ensures { (code : List Instruction) (loops : List Counted) → AreLoops code loops → AreHeads loops heads.now → result ≡ is_inside loops slot }
-{
-    for head in 0..slot + 1 {
-        if covers(&heads[head], slot) {
-            return true;
-        }
-    }
-    false
-}
-
-fn covers(beginning: &Option<Loop>, slot: usize) -> bool
-    ensures { result ≡ covers beginning.now slot }
+/// The slot behind the last body that begins up to here, where that of a loop which begins here ends later: a slot is in a body where it
+/// comes before that.
+fn reached(reach: usize, beginning: &Option<Loop>) -> usize
+    requires { AreLow 1024 beginning.now }
+    ensures { result ≡ reached reach beginning.now }
 {
     match beginning {
-        Some(counted) => counted.head <= slot && slot <= counted.last,
-        None => false,
+        Some(counted) => reach.max(counted.last + 1),
+        None => reach,
     }
 }
 

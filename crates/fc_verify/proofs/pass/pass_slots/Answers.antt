@@ -1,4 +1,4 @@
-use Rattle.std.proofs.Common.{◌≡◌, ℕ, ◌+◌, ◌<◌, ◌≤◌, Bool, List, Option, Some, None, get_or, sym, ap, ◌∙◌, subst, arith}
+use Rattle.std.proofs.Common.{◌≡◌, ℕ, ◌+◌, ◌<◌, ◌≤◌, nat_lt, Bool, List, Option, Some, None, get_or, sym, ap, ◌∙◌, subst, arith}
 use Rattle.std.specs.Prelude.{slice_get}
 use Rattle.std.proofs.lemmas.Option.{slice_get-get_or}
 use Rattle.fc_isa.specs.declared.insn.Insn.{Insn}
@@ -11,13 +11,13 @@ use Rattle.fc_image.specs.Tables.{AreHeads}
 use Rattle.fc_image.proofs.HeadTable.{default_in}
 use Rattle.fc_kinds.specs.declared.kind.Kind.{Kind}
 use Rattle.fc_verify.specs.Typing.{States}
-use Rattle.fc_verify.specs.Heads.{IsLoopOf, is_inside}
+use Rattle.fc_verify.specs.Heads.{IsLoopOf, is_inside, reached}
 use Rattle.fc_verify.specs.Pass.{IsWithin, passed_by, passed_with}
 use Rattle.fc_verify.specs.Stages.{Stops}
 use Rattle.fc_verify.proofs.Levels.{AreLow, shallow_up, low_up, low_passed, beginning_low}
 use Rattle.fc_verify.proofs.PassLaws.{stopped}
 use Rattle.fc_verify.proofs.Passing.{Passing, passing_start, passing_some, passing_none, passing_refused}
-use Rattle.fc_verify.proofs.Table.{loop_is, within_is}
+use Rattle.fc_verify.proofs.Table.{Reaches, loop_is, reached_is, reaches_none, reaches_on, within_is}
 use Rattle.fc_verify.proofs.pass.pass_slots.Goals as goal
 use Rattle.fc_verify.proofs.pass.pass_slots.Goals.{in-Some+in-Ok, in_default}
 
@@ -31,12 +31,16 @@ with_loops : (vars : ℕ) (code : List Insn) (loops : List Loop) (slot : ℕ) (i
 with_loops vars code loops slot insn found states o inside r e f g =
     ap (λ x. passed_by vars code x (is_inside loops slot) slot insn found states) (sym e) ∙ ap (λ b. passed_by vars code o b slot insn found states) (sym f) ∙ g
 
+-- how far bodies reach, with that of the loop that begins at the slot
+far_is : (loops : List Loop) (slot reach now : ℕ) (o : Option Loop) → now ≡ reached reach o → o ≡ begins loops slot → now ≡ reached reach (begins loops slot)
+far_is loops slot reach now o e b = e ∙ ap (reached reach) b
+
 pub loop-slot-init : goal.loop-slot-init
 loop-slot-init c =
     let version = c.args.version in
     let code = c.args.code.now in
     let loops = loops_in version code in
-    record { passing = subst (Passing version c.args.vars_size code loops 0) (sym c.requires.beginning) (passing_start version c.args.vars_size code loops); low = subst (AreLow 0) (sym c.requires.beginning) (beginning_low version code) }
+    record { passing = subst (Passing version c.args.vars_size code loops 0) (sym c.requires.beginning) (passing_start version c.args.vars_size code loops); low = subst (AreLow 0) (sym c.requires.beginning) (beginning_low version code); reach = reaches_none loops }
 
 pub pass-requires-clause-counted : goal.pass-requires-clause-counted
 pass-requires-clause-counted c =
@@ -86,20 +90,23 @@ loop-slot-preserved c =
     let insn = c.index-code-slot.result in
     let at : slice_get code l.slot ≡ Some insn = slice_get-get_or code l.slot insn c.loop-slot-test.true ∙ ap Some (sym c.index-code-slot.is) in
     let p = l.invariant.passing in
+    let begin = begins_there all c.heads-heads.result l.slot c.index-heads-slot.result c.heads-heads.ensures few in
+    let far = far_is all l.slot l.reach c.reached-reach.result _ c.reached-reach.ensures begin in
+    let reach = subst (Reaches all (l.slot + 1)) (sym far) (reaches_on code all l.slot l.reach loops l.invariant.reach) in
     elim c.match-states-slot.branch [
       | in-Some+in-Ok w ↦
           let ks = w.in-Some.regs in
           let next = w.pass.new.states in
-          let begin = begins_there all c.heads-heads.result l.slot w.index-heads-slot.result c.heads-heads.ensures few in
-          let inside = w.is_inside-inside.ensures code all loops c.heads-heads.ensures in
+          let inside = ap (nat_lt l.slot) far ∙ reached_is code all l.slot l.reach loops l.invariant.reach in
           let passed = with_loops vars code all l.slot insn ks l.states _ _ (Some next) begin inside w.in-Ok.ensures.passed in
           let now = passing_some version vars code all l.slot l.states next insn ks loops (program.insns l.slot insn at) p at w.in-Some.is passed in
           let low = low_passed l.slot vars code all l.slot insn ks l.states next l.invariant.low w.in-Some.is passed in
-          record { passing = subst (Passing version vars code all (l.slot + 1)) (sym w.states-is) now; low = subst (AreLow (l.slot + 1)) (sym w.states-is) low }
+          record { passing = subst (Passing version vars code all (l.slot + 1)) (sym w.states-is) now; low = subst (AreLow (l.slot + 1)) (sym w.states-is) low; reach = reach }
       | in_default w ↦
           record {
             passing = subst (Passing version vars code all (l.slot + 1)) (sym w.states-is) (passing_none version vars code all l.slot l.states insn p at w.in_default.is);
             low = subst (AreLow (l.slot + 1)) (sym w.states-is) (low_up l.slot (l.slot + 1) l.states (omega arith) l.invariant.low);
+            reach = reach;
           }
     ]
 
@@ -116,8 +123,9 @@ returns-in-Err-clause-refused c =
     let insn = c.index-code-slot.result in
     let at : slice_get code l.slot ≡ Some insn = slice_get-get_or code l.slot insn c.loop-slot-test.true ∙ ap Some (sym c.index-code-slot.is) in
     let begin = begins_there all c.heads-heads.result l.slot c.index-heads-slot.result c.heads-heads.ensures few in
-    let inside = c.is_inside-inside.ensures code all loops c.heads-heads.ensures in
-    let none = stopped vars code _ c.is_inside-inside.result l.slot insn c.in-Some.regs c.in-Err.untyped.known c.in-Err.untyped.demand l.states c.in-Err.ensures.stops in
+    let far = far_is all l.slot l.reach c.reached-reach.result _ c.reached-reach.ensures begin in
+    let inside = ap (nat_lt l.slot) far ∙ reached_is code all l.slot l.reach loops l.invariant.reach in
+    let none = stopped vars code _ (nat_lt l.slot c.reached-reach.result) l.slot insn c.in-Some.regs c.in-Err.untyped.known c.in-Err.untyped.demand l.states c.in-Err.ensures.stops in
     (passing_refused version vars code all l.slot l.states insn c.in-Some.regs l.invariant.passing at c.in-Some.is (with_loops vars code all l.slot insn c.in-Some.regs l.states _ _ None begin inside none))
 
 pub returns-in-Err-clause-known : goal.returns-in-Err-clause-known
@@ -133,7 +141,8 @@ returns-in-Err-clause-known c =
     let insn = c.index-code-slot.result in
     let at : slice_get code l.slot ≡ Some insn = slice_get-get_or code l.slot insn c.loop-slot-test.true ∙ ap Some (sym c.index-code-slot.is) in
     let begin = begins_there all c.heads-heads.result l.slot c.index-heads-slot.result c.heads-heads.ensures few in
-    let inside = c.is_inside-inside.ensures code all loops c.heads-heads.ensures in
+    let far = far_is all l.slot l.reach c.reached-reach.result _ c.reached-reach.ensures begin in
+    let inside = ap (nat_lt l.slot) far ∙ reached_is code all l.slot l.reach loops l.invariant.reach in
     let e = c.in-Err.ensures in
     let passed = l.invariant.passing.passed_is in
     let is = c.in-Some.is in
