@@ -1,4 +1,4 @@
-// Each call that asks for memory, once with ample memory, and nothing else beside it: docs/refused-memory refuses each of its requests.
+// Each call that asks for memory, once with ample memory, and nothing else beside it: tests/refused-memory refuses each of its requests.
 use crate::overtaking_tests::COUNTER;
 use coap_block::Uploads;
 use coap_dedup::Exchanges;

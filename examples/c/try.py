@@ -1,7 +1,7 @@
 #!/usr/bin/env python3
 """Makes the programs of this folder from C and from their assembler texts, uploads both to a server, and asks them; then shows what is refused.
 
-Use: docs/c/try.py [CLANG], at the top of the repository, whose fcasm and fcd are built, or on the path. CLANG is `clang` if not given.
+Use: examples/c/try.py [CLANG], at the top of the repository, whose fcasm and fcd are built, or on the path. CLANG is `clang` if not given.
 The status is 0 where no answer was wrong, and no mended form was refused."""
 import re
 import shutil
@@ -129,14 +129,14 @@ def main(words):
     with tempfile.TemporaryDirectory(prefix="try-") as room:
         room, slots = Path(room), []
         for name, size in PROGRAMS.items():
-            source, image = TOP / f"docs/c/{name}.c", room / f"{name}.img"
+            source, image = TOP / f"examples/c/{name}.c", room / f"{name}.img"
             status, said = image_of(clang, source, image, size)
             if status:
                 raise SystemExit(f"{name}.c: {said}")
             print(f"\n{name}.c  {said}")
             slots.append((name, "c", image.read_bytes()))
             print(f"{name}.c  fcasm check: {run(built('fcasm'), 'check', input=image.read_bytes())[1].decode().strip()}")
-            lines = (TOP / f"docs/c/{name}.s").read_text()
+            lines = (TOP / f"examples/c/{name}.s").read_text()
             status, made = run(built("fcasm"), "image", *lines.splitlines()[1].strip("; ").split(), input=lines.encode())
             print(f"{name}.s  fcasm check: {run(built('fcasm'), 'check', input=made)[1].decode().strip()}")
             slots.append((name, "s", made))
@@ -168,8 +168,8 @@ def main(words):
             server.wait()
         print("\nWhat is refused, and as it is mended:")
         plain = [it for it in FLAGS if it not in ("-mllvm", "-enable-tail-merge=0")]
-        sources = [(TOP / "docs/c/thermostat.c", plain, FLAGS), (TOP / "docs/c/refused/tails.c", plain, FLAGS)]
-        sources += [(it, FLAGS, [*FLAGS, "-DMENDED"]) for it in sorted((TOP / "docs/c/refused").glob("*.c")) if it.stem != "tails"]
+        sources = [(TOP / "examples/c/thermostat.c", plain, FLAGS), (TOP / "examples/c/refused/tails.c", plain, FLAGS)]
+        sources += [(it, FLAGS, [*FLAGS, "-DMENDED"]) for it in sorted((TOP / "examples/c/refused").glob("*.c")) if it.stem != "tails"]
         for source, natural, mended in sources:
             for at, flags in enumerate((natural, mended)):
                 status, said = image_of(clang, source, room / f"{source.stem}.img", 32, "-w", flags=flags)

@@ -4,7 +4,7 @@
 Run it at the top of the repository, behind `rt run` in crates/fcd, which builds what it runs; libcoap's client is that of Debian's
 package libcoap3-bin:
 
-    python3 docs/socket/observe.py [--workers W]
+    python3 tests/socket/observe.py [--workers W]
 
 It starts `fcd serve`, and installs two counters: both answer how many POSTs there were, and only that of slot 1 calls `notify` in a POST.
 What has to be heard of slot 1 is each POST, of slot 2 nothing but the first answer, nothing after a cancellation, and of a DELETE that

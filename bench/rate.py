@@ -3,7 +3,7 @@
 
 Run it at the top of the repository, behind `rt run` in crates/fcd:
 
-    python3 docs/socket/rate.py
+    python3 bench/rate.py
 
 Each measurement has a fresh server whose 64 slots have the same program, and one client that sends 900 POSTs to the slots in turn,
 of which at most 32 wait for their answer. A fresh server holds 1,024 exchanges for 247 s, so that no measurement can be longer. What is told is

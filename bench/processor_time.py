@@ -3,7 +3,7 @@
 
 Run it at the top of the repository, behind `rt run` in crates/fcd, with Debian's libcoap3-bin:
 
-    python3 docs/socket/processor_time.py
+    python3 bench/processor_time.py
 
 Each measurement has a fresh server, pinned to two processors of its own, and 1,000 confirmable requests from one client or from eight, pinned to two others, of
 which at most 64 wait for their answer. What is told is the user and the system time of the server's process over these, divided by their number: the least and the

@@ -3,7 +3,7 @@
 
 Run it at the top of the repository, behind `rt run` in crates/fcd, which builds what it runs; hostile.py, beside it, mutates the datagrams:
 
-    python3 docs/socket/played.py [--count N] [--seed K] [--workers W] [--seconds S] [--program FILE]
+    python3 tests/socket/played.py [--count N] [--seed K] [--workers W] [--seconds S] [--program FILE]
 
 It feeds N lines (1,000,000 where it isn't given) to `fcd play` by a pipe: mutated datagrams from 64 peers, datagrams of one byte
 repeated, and moments alone. Moments advance by steps of several sizes, and by leaps of the time for which an exchange is kept and of a

@@ -3,7 +3,7 @@
 
 Run it at the top of the repository, behind `rt run` in crates/fcd, crates/fcasm, crates/fcreplay and crates/fcreq, which build what it runs:
 
-    python3 docs/faults/faults.py [WORD..]
+    python3 tests/faults/faults.py [WORD..]
 
 It needs a C compiler and UDP port 5696 at 127.0.0.1. Each fault in whose name one of these words stands (all, where none is given) is tried once. It prints
 a line for each: the command, what it told on standard error, its status, or the signal that ended it, and its time. What is told, printed and answered, and the

@@ -1,7 +1,7 @@
 #!/usr/bin/env python3
 """Runs the commands of README's first screen on a fresh clone, times each, and compares what it prints with the page.
 
-Use: docs/first-screen/try.py [--built PATH] [--build] [--page PATH] [--in PATH]
+Use: tests/first-screen/try.py [--built PATH] [--build] [--page PATH] [--in PATH]
 
 A fresh clone of this repository is made, of its last commit, and the programs that PATH has are copied into it (this checkout's, where --built isn't given):
 PATH has crates/NAME/out/NAME. With --build they are proved and built in the clone by `rt run`, which takes half an hour. With --in the commands are run in that

@@ -3,7 +3,7 @@
 
 Run it at the top of the repository, behind `rt run` in crates/fcd, which builds what it runs:
 
-    python3 docs/socket/hostile.py [--count N] [--seconds S] [--no-wait]
+    python3 tests/socket/hostile.py [--count N] [--seconds S] [--no-wait]
 
 It starts `fcd serve`, installs a program in slot 1, and sends N datagrams (1,000,000 where it isn't given), each a request of the
 server's, registrations of observers and their Acknowledgements and Resets among them, with bytes changed, cut, repeated or put in, or

@@ -3,7 +3,7 @@
 
 Run it at the top of the repository, behind `rt run` in crates/fcd, with Debian's libcoap3-bin:
 
-    python3 docs/socket/observers_time.py
+    python3 bench/observers_time.py
 
 Each round has a fresh server, 32 observers on ports of their own, and 100 changes, each when all have heard the one before it. A
 confirmable notification is acknowledged at once. What is told is the server's user and system time of a change, by the scheduler: five

@@ -5,7 +5,7 @@ each request for memory refused.
 Run it at the top of the repository, behind `rt test` in crates/fctests and `rt run` in crates/fcd, crates/fcasm and crates/fcreplay, which
 build what it runs:
 
-    python3 docs/refused-memory/run.py [NAME..]
+    python3 tests/refused-memory/run.py [NAME..]
 
 It needs a C compiler and UDP port 5697 at 127.0.0.1. It prints a line for each test and each program in whose name one of these stands (all,
 where none is given), and ends with 1 where an outcome is not one that refused memory may have. A test passes, or ends with the error that memory
