@@ -79,15 +79,7 @@ first_apart j (Some own) number e = let same : own ≡ number = cc e in ap (turn
 apart_by : (turn : Turn) (s : Stage) → IsToldOf turn s → ((needs : TurnStage) × (s ≡ ToTell turn needs)) ⊎ (s ≡ Gone)
 apart_by turn (ToTell own needs) w = inl (needs, ap (λ (t : Turn). ToTell t needs) w)
 apart_by turn Gone w = inr refl
-apart_by turn ToMatch w = absurd w
-apart_by turn (ToTake count) w = absurd w
-apart_by turn (ToCommit count t) w = absurd w
-apart_by turn ToInstall w = absurd w
-apart_by turn ToRemove w = absurd w
-apart_by turn ToDescribe w = absurd w
-apart_by turn (ToList words) w = absurd w
-apart_by turn (ToRaise word content) w = absurd w
-apart_by turn (ToAnswer content) w = absurd w
+apart_by turn other w = absurd w
 
 pub is_told_of : (h : History) (k number : ℕ) → (job (seen h) k).turn ≡ Some number → IsToldOf (turn_of (job (seen h) k) number) (stage (seen h) k)
 is_told_of h k number is =

@@ -131,31 +131,39 @@ FitsChanges n ToMatch = n ≡ 0
 FitsChanges n (ToList seen) = n ≡ 0
 FitsChanges n other = n ≤ 1
 
+none_is_few : (n : ℕ) → n ≡ 0 → n ≤ 1
+none_is_few n f = omega (arith, f)
+
 one_change : (s : Stage) (n : ℕ) → FitsChanges n s → n ≤ 1
-one_change (ToTake count) n f = omega (arith, f)
-one_change (ToCommit count t) n f = omega (arith, f)
-one_change ToInstall n f = omega (arith, f)
-one_change (ToRaise word content) n f = f
-one_change ToRemove n f = omega (arith, f)
-one_change ToMatch n f = omega (arith, f)
-one_change (ToList seen) n f = omega (arith, f)
-one_change ToDescribe n f = f
-one_change (ToAnswer content) n f = f
-one_change (ToTell turn needs) n f = f
-one_change Gone n f = f
+one_change (ToTake count) n f = none_is_few n f
+one_change (ToCommit count t) n f = none_is_few n f
+one_change ToInstall n f = none_is_few n f
+one_change ToRemove n f = none_is_few n f
+one_change ToMatch n f = none_is_few n f
+one_change (ToList seen) n f = none_is_few n f
+one_change other n f = f
+
+none_and_none : (n m : ℕ) → n ≡ 0 → m ≡ 0 → n + m ≡ 0
+none_and_none n m is more = omega (arith, is, more)
+
+none_and_few : (n m r : ℕ) → n ≡ 0 → m ≡ r → r ≤ 1 → n + m ≤ 1
+none_and_few n m r is more few = omega (arith, is, more, few)
+
+zero_is_few : 0 ≤ 1
+zero_is_few = omega arith
+
+raises_few : (s : Stage) → raises s ≤ 1
+raises_few (ToRaise word content) = omega arith
+raises_few other = zero_is_few
 
 first_change : (s : Stage) (n m : ℕ) → n ≡ 0 → m ≡ raises s → FitsChanges (n + m) s
-first_change (ToTake count) n m is more = omega arith
-first_change (ToCommit count t) n m is more = omega arith
-first_change ToInstall n m is more = omega arith
-first_change (ToRaise word content) n m is more = omega arith
-first_change ToMatch n m is more = omega arith
-first_change ToRemove n m is more = omega arith
-first_change ToDescribe n m is more = omega arith
-first_change (ToList seen) n m is more = omega arith
-first_change (ToAnswer content) n m is more = omega arith
-first_change (ToTell turn needs) n m is more = omega arith
-first_change Gone n m is more = omega arith
+first_change (ToTake count) n m is more = none_and_none n m is more
+first_change (ToCommit count t) n m is more = none_and_none n m is more
+first_change ToInstall n m is more = none_and_none n m is more
+first_change ToRemove n m is more = none_and_none n m is more
+first_change ToMatch n m is more = none_and_none n m is more
+first_change (ToList seen) n m is more = none_and_none n m is more
+first_change other n m is more = none_and_few n m (raises other) is more (raises_few other)
 
 no_change : (s : Stage) (n : ℕ) → FitsChanges n s → FitsChanges (n + 0) s
 no_change s n f = subst (λ (m : ℕ). FitsChanges m s) (let is : n ≡ n + 0 = omega arith in is) f
@@ -253,18 +261,12 @@ adds r s k named stray =
     own_length r s k named ∙ ap (λ (n : ℕ). n + length (s.changes (slot_of s k)))
     (row_raises r.event k (job s k) (slot_at s (slot_of s k)) (around s (slot_of s k)) (stage s k) named stray ∙ ap raises (sym (named_stage r s k (came r s k named stray) named)))
 
+none_isnt_more : (P : Type 0) (n m : ℕ) → m ≡ 0 + n → n < m → P
+none_isnt_more P n m is lt = absurd (omega (arith, is, lt))
+
 to_raise : (s : Stage) (n m : ℕ) → m ≡ raises s + n → n < m → IsToRaise s
 to_raise (ToRaise word content) n m is lt = tt
-to_raise ToMatch n m is lt = absurd (omega arith)
-to_raise ToRemove n m is lt = absurd (omega arith)
-to_raise ToDescribe n m is lt = absurd (omega arith)
-to_raise (ToList seen) n m is lt = absurd (omega arith)
-to_raise (ToTake count) n m is lt = absurd (omega arith)
-to_raise (ToCommit count t) n m is lt = absurd (omega arith)
-to_raise ToInstall n m is lt = absurd (omega arith)
-to_raise (ToAnswer content) n m is lt = absurd (omega arith)
-to_raise (ToTell turn needs) n m is lt = absurd (omega arith)
-to_raise Gone n m is lt = absurd (omega arith)
+to_raise other n m is lt = none_isnt_more (IsToRaise other) n m is lt
 
 pub changes_are_published : (r : Entry) (s : Seen) (k : ℕ) → names r.event ≡ Some k → length (s.changes (slot_of s k)) < length ((and_then r s).changes (slot_of s k)) → IsToRaise (stage (and_then r s) k)
 changes_are_published r s k named lt = ⊎_elim

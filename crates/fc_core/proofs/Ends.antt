@@ -30,18 +30,12 @@ abbrev FitsAnswers : ℕ → Stage → Type 0
 FitsAnswers n Gone = n ≤ 1
 FitsAnswers n other = n ≡ 0
 
+none_is_few : (n : ℕ) → n ≡ 0 → n ≤ 1
+none_is_few n f = omega (arith, f)
+
 at_most_once : (s : Stage) (n : ℕ) → FitsAnswers n s → n ≤ 1
 at_most_once Gone n f = f
-at_most_once (ToTake count) n f = omega (arith, f)
-at_most_once (ToCommit count t) n f = omega (arith, f)
-at_most_once ToInstall n f = omega (arith, f)
-at_most_once (ToRaise word content) n f = omega (arith, f)
-at_most_once ToMatch n f = omega (arith, f)
-at_most_once ToRemove n f = omega (arith, f)
-at_most_once ToDescribe n f = omega (arith, f)
-at_most_once (ToList seen) n f = omega (arith, f)
-at_most_once (ToAnswer content) n f = omega (arith, f)
-at_most_once (ToTell turn needs) n f = omega (arith, f)
+at_most_once other n f = none_is_few n f
 
 never_yet : (s : Stage) (n : ℕ) → n ≡ 0 → FitsAnswers n s
 never_yet Gone n is = omega arith
@@ -91,18 +85,12 @@ answers_fit = along answers_of once_more FitsAnswers 0 answers_told
 pub answered_once : (h : History) (k : ℕ) → answers_of h k ≤ 1
 answered_once h k = at_most_once (stage (seen h) k) (answers_of h k) (answers_fit h k)
 
+some_isnt_none : (P : Type 0) (n : ℕ) → n ≡ 0 → 1 ≤ n → P
+some_isnt_none P n f le = absurd (omega (arith, f))
+
 answered_by : (s : Stage) (n : ℕ) → FitsAnswers n s → 1 ≤ n → s ≡ Gone
 answered_by Gone n f le = refl
-answered_by (ToTake count) n f le = absurd (omega (arith, f))
-answered_by (ToCommit count t) n f le = absurd (omega (arith, f))
-answered_by ToInstall n f le = absurd (omega (arith, f))
-answered_by (ToRaise word content) n f le = absurd (omega (arith, f))
-answered_by ToMatch n f le = absurd (omega (arith, f))
-answered_by ToRemove n f le = absurd (omega (arith, f))
-answered_by ToDescribe n f le = absurd (omega (arith, f))
-answered_by (ToList seen) n f le = absurd (omega (arith, f))
-answered_by (ToAnswer content) n f le = absurd (omega (arith, f))
-answered_by (ToTell turn needs) n f le = absurd (omega (arith, f))
+answered_by other n f le = some_isnt_none (other ≡ Gone) n f le
 
 pub answered_gone : (h : History) (k : ℕ) → 1 ≤ answers_of h k → stage (seen h) k ≡ Gone
 answered_gone h k le = answered_by (stage (seen h) k) (answers_of h k) (answers_fit h k) le

@@ -72,17 +72,9 @@ turn_changed job slot turns.ToTake cs own = tt
 
 -- a job fits its slot after changes
 pub fits_changed : (job : Job) (slot : Slot) (s : Stage) (cs : List Change) → FitsStage job slot s → FitsStage job (after_changes slot cs) s
-fits_changed job slot (ToTake n) cs f = f
 fits_changed job slot (ToCommit n t) cs f = (f.0, ticket_changed job slot t cs f.1, f.2)
-fits_changed job slot ToInstall cs f = tt
-fits_changed job slot ToMatch cs f = f
-fits_changed job slot ToRemove cs f = tt
-fits_changed job slot ToDescribe cs f = tt
-fits_changed job slot (ToList seen) cs f = f
-fits_changed job slot (ToRaise word content) cs f = f
-fits_changed job slot (ToAnswer content) cs f = f
 fits_changed job slot (ToTell turn needs) cs f = (f.0, f.1, turn_changed job slot needs cs f.2)
-fits_changed job slot Gone cs f = tt
+fits_changed job slot other cs f = f
 
 -- a job that lists head words has yet one to read
 pub fits_next : (job : Job) (slot : Slot) (s : Stage) → FitsStage job slot s → HasNext s

@@ -70,15 +70,11 @@ turn_at_most ts (turns.ToNote found id) f = one_at_most ts found f
 at_most_eight : (s : Stage) (ts : List Taking) → Took ts s → length ts ≤ 8
 at_most_eight (ToTake n) ts f = omega (arith, f.0, f.1)
 at_most_eight (ToCommit n t) ts f = omega (arith, f.0, f.1)
-at_most_eight ToInstall ts f = f
 at_most_eight ToMatch ts f = omega (arith, f)
-at_most_eight ToRemove ts f = f
-at_most_eight ToDescribe ts f = f
-at_most_eight (ToList seen) ts f = f
 at_most_eight (ToRaise word content) ts f = f.0
 at_most_eight (ToAnswer content) ts f = f.0
 at_most_eight (ToTell turn needs) ts f = turn_at_most ts needs f
-at_most_eight Gone ts f = f
+at_most_eight other ts f = f
 
 abbrev at : Job → Slot → Around → Stage → Scene
 at job slot ws stage = record { job = job; slot = slot; around = ws; stage = stage }
@@ -210,18 +206,16 @@ known = along takings_of more Took [] is_told
 pub few : (h : History) (k : ℕ) → length (takings_of h k) ≤ 8
 few h k = at_most_eight (stage (seen h) k) (takings_of h k) (known h k)
 
+says_run : (ts : List Taking) (content : Content) (run : RunAnswer) → Some content ≡ Some (Ran run) → Says ts content → IsOfNewest ts run
+says_run ts content run e says = let is : content ≡ Ran run = cc e in subst (Says ts) is says
+
+none_isnt : {x : Content} → None ≡ Some x → ⊥
+none_isnt e = cc e
+
 said : (ts : List Taking) (s : Stage) (run : RunAnswer) → Took ts s → answer_at s ≡ Some (Ran run) → IsOfNewest ts run
-said ts (ToTake n) run f e = absurd (cc e)
-said ts (ToCommit n t) run f e = absurd (cc e)
-said ts ToInstall run f e = absurd (cc e)
-said ts Gone run f e = absurd (cc e)
-said ts ToMatch run f e = absurd (cc e)
-said ts ToRemove run f e = absurd (cc e)
-said ts ToDescribe run f e = absurd (cc e)
-said ts (ToList seen) run f e = absurd (cc e)
-said ts (ToTell turn needs) run f e = absurd (cc e)
-said ts (ToRaise word content) run f e = let is : content ≡ Ran run = cc e in subst (Says ts) is f.1
-said ts (ToAnswer content) run f e = let is : content ≡ Ran run = cc e in subst (Says ts) is f.1
+said ts (ToRaise word content) run f e = says_run ts content run e f.1
+said ts (ToAnswer content) run f e = says_run ts content run e f.1
+said ts other run f e = absurd (none_isnt e)
 
 -- the ticket that a turn tells of
 pub told_newest : (h : History) (k id : ℕ) (turn : Turn) (t : Ticket) → stage (seen h) k ≡ ToTell turn (turns.ToNote (Some t) id) → (length (takings_of h k) ≡ 1) × IsNewest (takings_of h k) t
