@@ -11,4 +11,5 @@ pub mod Attained
 pub mod FrameLaws
 mod Rows
 pub mod LoopForm
+pub mod Spanned
 mod LoopLaws

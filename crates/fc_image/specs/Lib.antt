@@ -6,6 +6,7 @@ pub mod Uncounted
 pub mod Paths
 pub mod ShapeRules
 pub mod Tables
+pub mod Spans
 pub mod Judged
 pub mod Laws
 pub mod LoopLaws

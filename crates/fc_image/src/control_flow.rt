@@ -7,6 +7,7 @@ ghost use Rattle.fc_image.specs.Functions.{frames, with_offset};
 ghost use Rattle.fc_image.specs.Head.{frames_allowed};
 ghost use Rattle.fc_image.specs.Judged.{AreTables};
 ghost use Rattle.fc_image.specs.Paths.{IsLongest, longest};
+ghost use Rattle.fc_image.specs.Spans.{AreSpans};
 ghost use Rattle.fc_image.specs.Tables.{AreCounts};
 ghost use Rattle.fc_image.specs.ShapeRules.{IsSame, IsShaped, breaks_back, breaks_shape, calls_no_helper, shape_fault, first_broken, is_later, is_place, least, leaves};
 
@@ -14,6 +15,7 @@ use crate::flow::{call_offset, jump_offset, target};
 use crate::functions::{crosses, is_open_end};
 use crate::limits::{Head, loops_allowed};
 use crate::loops::is_counted;
+use crate::spans::Span;
 use crate::table::{SLOTS, Tables};
 use fc_isa::{Fault, Insn, Rule};
 
@@ -90,7 +92,13 @@ fn breaks(code: &[Insn], tables: &Tables, head: &Head, slot: usize, insn: &Insn,
     match rule {
         Rule::JumpTarget => is_astray(code, slot, jump_offset(insn))
             || is_astray(code, slot, call_offset(insn)),
-        Rule::BackwardJump => breaks_back(loops_allowed(head.version()), code, slot, insn),
+        Rule::BackwardJump => breaks_back(
+            loops_allowed(head.version()),
+            code,
+            &tables.spans,
+            slot,
+            insn,
+        ),
         Rule::Boundary => leaves(code, &tables.counts, slot, jump_offset(insn))
             || is_open_end(code, &tables.starts, slot, insn),
         Rule::BackwardCall => is_back(slot, call_offset(insn)),
@@ -122,12 +130,19 @@ fn is_place(code: &[Insn], place: Option<usize>) -> bool
 }
 
 /// Whether a jump doesn't lead to a later slot, and isn't that of a counted loop, where loops are allowed.
-fn breaks_back(allowed: bool, code: &[Insn], slot: usize, insn: &Insn) -> bool
+fn breaks_back(
+    allowed: bool,
+    code: &[Insn],
+    spans: &[Option<Span>; SLOTS],
+    slot: usize,
+    insn: &Insn,
+) -> bool
     requires count { length code.now ≤ 1024 }
+    requires spans { AreSpans code.now (length code.now) spans.now }
     requires slot { slot < length code.now }
     ensures { result ≡ breaks_back allowed code.now slot insn.now }
 {
-    is_back(slot, jump_offset(insn)) && !(allowed && is_counted(code, slot, insn))
+    is_back(slot, jump_offset(insn)) && !(allowed && is_counted(code, spans, slot, insn))
 }
 
 /// Whether an offset's target isn't a later slot.

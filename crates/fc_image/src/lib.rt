@@ -20,6 +20,7 @@ pub mod header;
 pub mod laws;
 pub mod limits;
 pub mod loops;
+mod spans;
 pub mod table;
 pub mod uncounted;
 

@@ -1,10 +1,13 @@
 //! Counted loops: `add64 r, c`, and right after it `jlt r, n` back to the head of the loop.
-ghost use Rattle.std.specs.Prelude.{Some, length, ◌<◌, ◌≡◌, ◌≤◌};
+ghost use Rattle.std.specs.Prelude.{Some, length, ◌<◌, ◌||◌, ◌≡◌, ◌≤◌};
 ghost use Rattle.fc_isa.specs.Writes.{computes, is_call, is_that, writes};
-ghost use Rattle.fc_image.specs.Loops.{bound_of, is_exit, is_in, is_undisturbed, loop_at, loop_by, step_of};
+ghost use Rattle.fc_image.specs.Loops.{bound_of, disturbs, is_exit, is_in, is_undisturbed, loop_at, loop_by, step_of};
+ghost use Rattle.fc_image.specs.Spans.{AreSpans, is_entered};
 
 use crate::flow::target;
-use crate::uncounted::disturbed;
+use crate::spans::Span;
+use crate::table::SLOTS;
+use crate::uncounted::how_disturbed;
 use fc_isa::{AluOp, Insn, Jump, Operand, Reg, Relation, Target, Width};
 
 /// A counted loop: its body are the slots from `head` to `last`; it counts in a register, below a bound, by a step.
@@ -18,13 +21,19 @@ pub struct Loop {
 }
 
 /// Whether an instruction is the jump back of a counted loop.
-pub(crate) fn is_counted(code: &[Insn], slot: usize, insn: &Insn) -> bool
+pub(crate) fn is_counted(
+    code: &[Insn],
+    spans: &[Option<Span>; SLOTS],
+    slot: usize,
+    insn: &Insn,
+) -> bool
     requires count { length code.now ≤ 1024 }
+    requires spans { AreSpans code.now (length code.now) spans.now }
     requires slot { slot < length code.now }
     ensures { result ≡ is_undisturbed code.now (loop_at code.now slot insn.now) }
 {
     match loop_at(code, slot, insn) {
-        Some(candidate) => is_undisturbed(code, &candidate),
+        Some(candidate) => is_undisturbed(code, spans, &candidate),
         None => false,
     }
 }
@@ -90,12 +99,40 @@ pub(crate) fn step_of(insn: &Insn, counter: Reg) -> Option<u32>
     }
 }
 
-/// Whether no instruction of a program disturbs a loop.
-fn is_undisturbed(code: &[Insn], counted: &Loop) -> bool
-    requires { length code.now ≤ 1024 }
+/// Whether no instruction of a program disturbs a loop: those of its body are looked at, and where the jumps to them come from.
+fn is_undisturbed(code: &[Insn], spans: &[Option<Span>; SLOTS], counted: &Loop) -> bool
+    requires count { length code.now ≤ 1024 }
+    requires spans { AreSpans code.now (length code.now) spans.now }
+    requires order { counted.now.head < counted.now.last }
+    requires last { counted.now.last < length code.now }
     ensures { result ≡ is_undisturbed code.now (Some counted.now) }
 {
-    disturbed(code, counted).is_none()
+    for slot in counted.head..counted.last + 1 {
+        if is_disturbed(counted, slot, &code[slot], &spans[slot]) {
+            return false;
+        }
+    }
+    true
+}
+
+/// Whether the instruction at a slot of a body disturbs its loop, or a jump does that leads there.
+fn is_disturbed(counted: &Loop, slot: usize, insn: &Insn, span: &Option<Span>) -> bool
+    requires { slot < 1024 }
+    ensures { result ≡ (disturbs counted.now slot insn.now || is_entered counted.now slot span.now) }
+{
+    how_disturbed(counted, slot, insn).is_some() || is_entered(counted, slot, span)
+}
+
+/// Whether a jump leads to this slot of a body from outside of it, or to the loop's jump back.
+fn is_entered(counted: &Loop, slot: usize, span: &Option<Span>) -> bool
+    ensures { result ≡ is_entered counted.now slot span.now }
+{
+    match span {
+        Some(span) => slot == counted.last
+            || (span.least as usize) < counted.head
+            || counted.last < span.greatest as usize,
+        None => false,
+    }
 }
 
 pub(crate) fn is_in(counted: &Loop, slot: usize) -> bool

@@ -6,6 +6,7 @@ use crate::cost::longest_cost;
 use crate::functions::{deepest, starts, starts_counted};
 use crate::head_table::heads;
 use crate::limits::loops_allowed;
+use crate::spans::{Span, spans};
 use fc_isa::{ImageVersion, Insn};
 
 /// The most slots of any program.
@@ -18,6 +19,8 @@ pub(crate) struct Tables {
     pub(crate) starts: [bool; SLOTS],
     /// How many functions start up to each slot.
     pub(crate) counts: [u16; SLOTS],
+    /// Where the jumps come from that lead to each slot.
+    pub(crate) spans: [Option<Span>; SLOTS],
     /// The most stack frames that calls nest, up to 9.
     pub(crate) frames: u8,
     /// The steps of the longest path, up to 65,537.
@@ -37,6 +40,7 @@ impl Tables {
         Tables {
             starts,
             counts,
+            spans: spans(code),
             frames,
             cost: longest_cost(code, &heads, loops_allowed(version)),
         }

@@ -108,7 +108,7 @@ fn is_below(jump: &Jump) -> bool
 }
 
 /// The first instruction of a program that disturbs a loop, and how.
-pub(crate) fn disturbed(code: &[Insn], counted: &Loop) -> Option<Uncounted>
+fn disturbed(code: &[Insn], counted: &Loop) -> Option<Uncounted>
     requires { length code.now ≤ 1024 }
     ensures { IsDisturbed code.now counted.now result }
 {
@@ -126,7 +126,7 @@ pub(crate) fn disturbed(code: &[Insn], counted: &Loop) -> Option<Uncounted>
 }
 
 /// How an instruction disturbs a loop, if it does.
-fn how_disturbed(counted: &Loop, slot: usize, insn: &Insn) -> Option<Disturbance>
+pub(crate) fn how_disturbed(counted: &Loop, slot: usize, insn: &Insn) -> Option<Disturbance>
     requires { slot < 1024 }
     ensures { IsHow counted.now slot insn.now result }
 {

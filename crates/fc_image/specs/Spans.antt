@@ -1,0 +1,48 @@
+-- Where the jumps come from that lead to a slot.
+use Rattle.std.specs.Prelude.{◌≡◌, ℤ, ℕ, ◌<◌, ◌≤◌, ◌==◌, ◌||◌, Bool, false, if◌then◌else◌, nat_lt, List, length, slice_get, slice_index_or, slice_set, Option, Some, None}
+use Rattle.fc_isa.specs.declared.insn.Insn.{Insn}
+use Rattle.fc_isa.specs.Flow.{jump_offset, target}
+use Rattle.fc_image.specs.declared.loops.Loop.{Loop}
+use Rattle.fc_image.specs.declared.spans.Span.{Span}
+
+-- the slot that an instruction jumps to
+abbrev pub place_by : ℕ → Option ℤ → Option ℕ
+place_by slot None = None
+place_by slot (Some offset) = target slot offset
+
+abbrev pub jumps_to : ℕ → Insn → Option ℕ
+jumps_to slot insn = place_by slot (jump_offset insn)
+
+pub record LeadsTo (code : List Insn) (slot place : ℕ) : Type 0 where
+  pub insn : Insn
+  pub stands : slice_get code slot ≡ Some insn
+  pub leads : jumps_to slot insn ≡ Some place
+
+abbrev pub IsWithin : ℕ → Option Span → Type 0
+IsWithin slot None = ⊥
+IsWithin slot (Some s) = (s.least ≤ slot) × (slot ≤ s.greatest)
+
+-- both ends of a span are slots, of so many, whose jumps lead to the place
+abbrev pub AreEnds : List Insn → ℕ → ℕ → Option Span → Type 0
+AreEnds code count place None = Unit {0}
+AreEnds code count place (Some s) = (s.least < count) × LeadsTo code s.least place × LeadsTo code s.greatest place
+
+-- a place for each of 1,024 slots: the span of the slots, of so many, whose jumps lead there
+pub record AreSpans (code : List Insn) (count : ℕ) (spans : List (Option Span)) : Type 0 where
+  pub size : length spans ≡ 1024
+  pub all : (slot place : ℕ) → slot < count → place < 1024 → LeadsTo code slot place → IsWithin slot (slice_index_or spans place None)
+  pub ends : (place : ℕ) → place < 1024 → AreEnds code count place (slice_index_or spans place None)
+
+-- with a later slot
+abbrev pub with_slot : Option Span → ℕ → Span
+with_slot None slot = record { least = slot; greatest = slot }
+with_slot (Some s) slot = record { least = s.least; greatest = slot }
+
+abbrev pub widened : List (Option Span) → ℕ → Option ℕ → List (Option Span)
+widened spans slot None = spans
+widened spans slot (Some place) = if nat_lt place 1024 then slice_set spans place (Some (with_slot (slice_index_or spans place None) slot)) else spans
+
+-- a jump leads to this slot of a body from outside of it, or the slot is that of the jump back
+abbrev pub is_entered : Loop → ℕ → Option Span → Bool
+is_entered l slot None = false
+is_entered l slot (Some s) = (slot == l.last) || (nat_lt s.least l.head || nat_lt l.last s.greatest)

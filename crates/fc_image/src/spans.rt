@@ -1,0 +1,64 @@
+//! Where the jumps come from that lead to a slot.
+ghost use Rattle.std.specs.Prelude.{None, length, ◌<◌, ◌≡◌, ◌≤◌};
+ghost use Rattle.fc_image.specs.Spans.{AreSpans, jumps_to, widened, with_slot};
+
+use crate::flow::{jump_offset, target};
+use crate::table::SLOTS;
+use fc_isa::Insn;
+
+/// The least slot whose jump leads to a slot, and the greatest.
+#[derive(Clone, Copy)]
+pub(crate) struct Span {
+    pub(crate) least: u16,
+    pub(crate) greatest: u16,
+}
+
+/// The span of each slot that a jump leads to.
+pub(crate) fn spans(code: &[Insn]) -> [Option<Span>; SLOTS]
+    requires { length code.now ≤ 1024 }
+    ensures { AreSpans code.now (length code.now) result }
+{
+    let mut spans = [None; SLOTS];
+    for (slot, insn) in code.iter().enumerate() {
+        widen(&mut spans, slot, jumps_to(slot, insn));
+    }
+    spans
+}
+
+/// The slot that an instruction jumps to.
+fn jumps_to(slot: usize, insn: &Insn) -> Option<usize>
+    requires { slot < 1024 }
+    ensures { result ≡ jumps_to slot insn.now }
+{
+    match jump_offset(insn) {
+        Some(offset) => target(slot, offset),
+        None => None,
+    }
+}
+
+/// Widens the span of the slot that a jump leads to: the jump comes from a later slot than those before it.
+fn widen(spans: &mut [Option<Span>; SLOTS], slot: usize, place: Option<usize>)
+    requires { slot < 1024 }
+    ensures { spans.new ≡ widened spans.old slot place }
+{
+    match place {
+        Some(place) if place < SLOTS => spans[place] = Some(with_slot(&spans[place], slot)),
+        _ => {}
+    }
+}
+
+fn with_slot(span: &Option<Span>, slot: usize) -> Span
+    requires { slot < 1024 }
+    ensures { result ≡ with_slot span.now slot }
+{
+    match span {
+        Some(span) => Span {
+            least: span.least,
+            greatest: slot as u16,
+        },
+        None => Span {
+            least: slot as u16,
+            greatest: slot as u16,
+        },
+    }
+}
