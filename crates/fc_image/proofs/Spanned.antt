@@ -10,7 +10,7 @@ use Rattle.fc_image.specs.declared.loops.Loop.{Loop}
 use Rattle.fc_image.specs.declared.spans.Span.{Span}
 use Rattle.fc_image.specs.Functions.{with_offset}
 use Rattle.fc_image.specs.Loops.{crosses, disturbs, is_exit, is_in, some_slot, spoils}
-use Rattle.fc_image.specs.Spans.{AreEnds, AreSpans, IsWithin, LeadsTo, is_entered, jumps_to, place_by, widened, with_slot}
+use Rattle.fc_image.specs.Spans.{AreEnds, AreSpans, IsInSpan, IsJumpTo, is_entered, jumps_to, place_by, widened, with_slot}
 
 -- ---- the table
 
@@ -35,10 +35,10 @@ none_in zero place = refl
 none_in (suc n) zero = refl
 none_in (suc n) (suc place) = none_in n place
 
-same_target : (code : List Insn) (slot place : ℕ) (insn : Insn) → slice_get code slot ≡ Some insn → LeadsTo code slot place → jumps_to slot insn ≡ Some place
+same_target : (code : List Insn) (slot place : ℕ) (insn : Insn) → slice_get code slot ≡ Some insn → IsJumpTo code slot place → jumps_to slot insn ≡ Some place
 same_target code slot place insn stands t = let same : t.insn ≡ insn = cc (t.stands, stands) in subst (λ i. jumps_to slot i ≡ Some place) same t.leads
 
-wider : (code : List Insn) (slot s place : ℕ) (o : Option Span) → AreEnds code slot place o → s < slot + 1 → (s < slot → IsWithin s o) → IsWithin s (Some (with_slot o slot))
+wider : (code : List Insn) (slot s place : ℕ) (o : Option Span) → AreEnds code slot place o → s < slot + 1 → (s < slot → IsInSpan s o) → IsInSpan s (Some (with_slot o slot))
 wider code slot s place None e lt h = elim (cases_lt s slot) [
   | inl before ↦ absurd (h before)
   | inr ge ↦ (omega (arith, lt, ge), omega (arith, lt))
@@ -48,7 +48,7 @@ wider code slot s place (Some w) e lt h = elim (cases_lt s slot) [
   | inr ge ↦ let least = e.0 in (omega (arith, lt, ge, least), omega (arith, lt))
 ]
 
-wider_ends : (code : List Insn) (slot place : ℕ) (o : Option Span) → AreEnds code slot place o → LeadsTo code slot place → AreEnds code (slot + 1) place (Some (with_slot o slot))
+wider_ends : (code : List Insn) (slot place : ℕ) (o : Option Span) → AreEnds code slot place o → IsJumpTo code slot place → AreEnds code (slot + 1) place (Some (with_slot o slot))
 wider_ends code slot place None e t = (omega arith, t, t)
 wider_ends code slot place (Some w) e t = (let least = e.0 in omega (arith, least), e.1, t)
 
@@ -56,12 +56,12 @@ wider_ends code slot place (Some w) e t = (let least = e.0 in omega (arith, leas
 pub spans_more : (code : List Insn) (slot : ℕ) (insn : Insn) (spans : List (Option Span)) → slice_get code slot ≡ Some insn → AreSpans code slot spans → AreSpans code (slot + 1) (widened spans slot (jumps_to slot insn))
 spans_more code slot insn spans stands a = go (jumps_to slot insn) refl
   where
-    still : ((place : ℕ) → place < 1024 → LeadsTo code slot place → ⊥) → AreSpans code (slot + 1) spans
+    still : ((place : ℕ) → place < 1024 → IsJumpTo code slot place → ⊥) → AreSpans code (slot + 1) spans
     still none = record {
       size = a.size;
       all = λ s place lt few t. elim (cases_lt s slot) [
         | inl before ↦ a.all s place before few t
-        | inr ge ↦ let same : s ≡ slot = omega (arith, lt, ge) in absurd (none place few (subst (λ n. LeadsTo code n place) same t))
+        | inr ge ↦ let same : s ≡ slot = omega (arith, lt, ge) in absurd (none place few (subst (λ n. IsJumpTo code n place) same t))
       ];
       ends = λ place few. leads_on code slot place (get_or spans place None) (a.ends place few);
     }
@@ -71,20 +71,20 @@ spans_more code slot insn spans stands a = go (jumps_to slot insn) refl
         let size = a.size in
         let within : place < length spans = omega (arith, few, size) in
         let value = Some (with_slot (get_or spans place None) slot) in
-        let t : LeadsTo code slot place = record { insn = insn; stands = stands; leads = leads } in
+        let t : IsJumpTo code slot place = record { insn = insn; stands = stands; leads = leads } in
         let here : get_or (slice_set spans place value) place None ≡ value = get_or-set_same spans place value None within in
         record {
           size = length-set spans place value ∙ size;
           all = λ s p lt low to. elim (cases_eq p place) [
             | inl same ↦
-                subst (λ n. IsWithin s (get_or (slice_set spans place value) n None)) (sym same)
-                (subst (IsWithin s) (sym here) (wider code slot s place (get_or spans place None) (a.ends place few) lt (λ before. a.all s place before few (subst (LeadsTo code s) same to))))
+                subst (λ n. IsInSpan s (get_or (slice_set spans place value) n None)) (sym same)
+                (subst (IsInSpan s) (sym here) (wider code slot s place (get_or spans place None) (a.ends place few) lt (λ before. a.all s place before few (subst (IsJumpTo code s) same to))))
             | inr other ↦
-                subst (IsWithin s) (sym (get_or-set_other spans place p value None other)) (elim (cases_lt s slot) [
+                subst (IsInSpan s) (sym (get_or-set_other spans place p value None other)) (elim (cases_lt s slot) [
                   | inl before ↦ a.all s p before low to
                   | inr ge ↦
                       let is : s ≡ slot = omega (arith, lt, ge) in
-                      let leads_too = same_target code slot p insn stands (subst (λ n. LeadsTo code n p) is to) in
+                      let leads_too = same_target code slot p insn stands (subst (λ n. IsJumpTo code n p) is to) in
                       let same : p ≡ place = cc (leads_too, leads) in
                       absurd (other same)
                 ])
@@ -146,7 +146,7 @@ crossing l slot place insn e c = either (spoils l slot insn) (with_offset (jump_
 some_here : (code : List Insn) (l : Loop) (slot : ℕ) (insn : Insn) → slice_get code slot ≡ Some insn → disturbs l slot insn ≡ true → some_slot (disturbs l) 0 code ≡ true
 some_here code l slot insn stands d = let z : slot ≡ 0 + slot = omega arith in some_at (disturbs l) 0 slot code insn stands (subst (λ n. disturbs l n insn ≡ true) z d)
 
-by_jump : (code : List Insn) (l : Loop) (slot place : ℕ) → LeadsTo code slot place → crosses l slot (Some place) ≡ true → some_slot (disturbs l) 0 code ≡ true
+by_jump : (code : List Insn) (l : Loop) (slot place : ℕ) → IsJumpTo code slot place → crosses l slot (Some place) ≡ true → some_slot (disturbs l) 0 code ≡ true
 by_jump code l slot place t c = some_here code l slot t.insn t.stands (crossing l slot place t.insn t.leads c)
 
 -- what is found at a slot of the body disturbs the loop
@@ -195,7 +195,7 @@ none_found code spans l a few order last quiet = none_at (disturbs l) 0 code eac
     before_end (x ∷ code) (suc k) insn e = let h = before_end code k insn e in omega (arith, h)
 
     -- a slot of the body isn't come to from outside
-    kept : (k place : ℕ) (o : Option Span) → IsWithin k o → is_entered l place o ≡ false → (l.head ≤ k) × (k ≤ l.last)
+    kept : (k place : ℕ) (o : Option Span) → IsInSpan k o → is_entered l place o ≡ false → (l.head ≤ k) × (k ≤ l.last)
     kept k place None w e = absurd w
     kept k place (Some s) w e =
         let low = w.0 in

@@ -13,24 +13,25 @@ place_by slot (Some offset) = target slot offset
 abbrev pub jumps_to : ℕ → Insn → Option ℕ
 jumps_to slot insn = place_by slot (jump_offset insn)
 
-pub record LeadsTo (code : List Insn) (slot place : ℕ) : Type 0 where
+-- the jump at a slot leads to this place
+pub record IsJumpTo (code : List Insn) (slot place : ℕ) : Type 0 where
   pub insn : Insn
   pub stands : slice_get code slot ≡ Some insn
   pub leads : jumps_to slot insn ≡ Some place
 
-abbrev pub IsWithin : ℕ → Option Span → Type 0
-IsWithin slot None = ⊥
-IsWithin slot (Some s) = (s.least ≤ slot) × (slot ≤ s.greatest)
+abbrev pub IsInSpan : ℕ → Option Span → Type 0
+IsInSpan slot None = ⊥
+IsInSpan slot (Some s) = (s.least ≤ slot) × (slot ≤ s.greatest)
 
 -- both ends of a span are slots, of so many, whose jumps lead to the place
 abbrev pub AreEnds : List Insn → ℕ → ℕ → Option Span → Type 0
 AreEnds code count place None = Unit {0}
-AreEnds code count place (Some s) = (s.least < count) × LeadsTo code s.least place × LeadsTo code s.greatest place
+AreEnds code count place (Some s) = (s.least < count) × IsJumpTo code s.least place × IsJumpTo code s.greatest place
 
 -- a place for each of 1,024 slots: the span of the slots, of so many, whose jumps lead there
 pub record AreSpans (code : List Insn) (count : ℕ) (spans : List (Option Span)) : Type 0 where
   pub size : length spans ≡ 1024
-  pub all : (slot place : ℕ) → slot < count → place < 1024 → LeadsTo code slot place → IsWithin slot (slice_index_or spans place None)
+  pub all : (slot place : ℕ) → slot < count → place < 1024 → IsJumpTo code slot place → IsInSpan slot (slice_index_or spans place None)
   pub ends : (place : ℕ) → place < 1024 → AreEnds code count place (slice_index_or spans place None)
 
 -- with a later slot
