@@ -13,19 +13,20 @@
    | Parameter | Register | At the start                                                                                    |
    |-----------|----------|-------------------------------------------------------------------------------------------------|
    | request   | R1       | the request: 1,104 bytes, read only                                                             |
-   | vars      | R2       | the variables: as many bytes as `elf2img --vars` says, 0 to 256, a multiple of 8; zero after an  |
-   |           |          | upload; a pointer to a struct of your own will do                                                |
+   | vars      | R2       | the variables: as many bytes as `elf2img --vars` or FC_VARS says, 0 to 256, a multiple of 8; zero |
+   |           |          | after an upload; a pointer to a struct of your own will do                                      |
    | length    | R3       | the payload's length, 0 to 1,024                                                                |
+   | readings  | R4       | `const struct fc_readings *`, 64 bytes of the device, read only; where it isn't used, leave it   |
    |           | R10      | the end of the stack frame: 256 bytes                                                           |
 
    All other registers are unset. What `run` returns, R0, becomes the reply's code. What a run of a GET stores in the variables is gone
    at its end; a POST's is kept where it is answered 2.04. A POST that another change of the slot overtook is run again.
 
-   Limits: 512 slots (an instruction is one, with a constant of 64 bits two); a budget of 65,536 steps, an instruction each, on the longest
-   path; 256 bytes of stack for each function, four functions deep; no loops, no recursion, no data, no pointers in memory.
+   Limits: 1,024 slots (an instruction is one, with a constant of 64 bits two); a budget of 65,536 steps, an instruction each, on the longest
+   path; 256 bytes of stack for each function, eight functions deep; loops of 1,024 turns; no recursion, no globals but constants, no
+   pointers in memory. Without loops and readings, 512 slots and four functions are an image of version 1.
 
-   That is version 1 of images, which is what elf2img writes. Version 2 has 1,024 slots, eight functions deep, counted loops, and a
-   pointer to 64 bytes of readings in R4: this header and elf2img don't have it yet. */
+   Compiled for a computer, as by `cc -I include`, the helpers are functions that a test defines. */
 
 #ifndef FC_H
 #define FC_H
@@ -34,6 +35,9 @@ typedef __UINT8_TYPE__ fc_u8;
 typedef __UINT16_TYPE__ fc_u16;
 typedef __UINT32_TYPE__ fc_u32;
 typedef __UINT64_TYPE__ fc_u64;
+typedef __INT8_TYPE__ fc_i8;
+typedef __INT16_TYPE__ fc_i16;
+typedef __INT32_TYPE__ fc_i32;
 typedef __INT64_TYPE__ fc_i64;
 
 /* The request. Numbers have their least byte first. Alignment isn't asked; the attribute has clang read several bytes by one instruction. */
@@ -48,6 +52,17 @@ struct fc_request {
     fc_u8 query[64];        /* 16: the values of Uri-Query, joined by &, then zeros */
     fc_u8 payload[1024];    /* 80: then zeros */
 } __attribute__((aligned(8)));
+
+/* The readings. */
+struct fc_readings {
+    fc_u64 clock;           /*  0: by `fcd serve`: milliseconds since the server's start */
+    fc_u8 sensors[56];      /*  8: of the device's sensors, as whoever runs the server says */
+} __attribute__((aligned(8)));
+
+/* FC_VARS(struct state); outside all functions: elf2img then takes the variables' size from here. */
+#define FC_VARS(type)                                                                                                  \
+    _Static_assert(sizeof(type) <= 256, "the variables have 256 bytes");                                                \
+    static const fc_u32 fc_size_of_variables __attribute__((section(".fc.vars"), used)) = sizeof(type)
 
 enum { FC_GET = 1, FC_POST = 2 };
 enum { FC_REPLY_GET = 4096, FC_REPLY_POST = 1024 }; /* the reply's room */
@@ -64,44 +79,94 @@ enum {
 
 /* The helpers, by their numbers; a call is one step. Of the answers of payload_byte and var_get nothing is known but that they are
    numbers: bound one (`if (x < 100)`, `x & 63`) before it becomes an index. */
-static fc_u64 (*const payload_len)(void) = (fc_u64 (*)(void))1;                     /* 0 to 1,024 */
-static fc_u64 (*const payload_byte)(fc_u64) = (fc_u64 (*)(fc_u64))2;                /* (i): byte i, or FC_NO_BYTE past the payload's end */
-static fc_u64 (*const var_get)(fc_u64) = (fc_u64 (*)(fc_u64))3;                     /* (i): the variables' i-th 8 bytes, or 0 past their end */
-static fc_u64 (*const var_put)(fc_u64, fc_u64) = (fc_u64 (*)(fc_u64, fc_u64))4;     /* (i, x): sets them and gives 1; 0 past their end */
-static fc_u64 (*const reply_put)(const void *, fc_u64) = (fc_u64 (*)(const void *, fc_u64))5; /* (p, n): adds n bytes and gives 1; 0 where they have no room */
-static fc_u64 (*const reply_byte)(fc_u64) = (fc_u64 (*)(fc_u64))6;                  /* (x): adds the low byte and gives 1; 0 where it has no room */
-static fc_u64 (*const notify)(void) = (fc_u64 (*)(void))7;                          /* observers are told of the change that this POST makes */
+#if defined(__BPF__) && defined(__clang__)
+#define FC_HELPER(number, name, ...) static fc_u64 (*const name)(__VA_ARGS__) = (fc_u64 (*)(__VA_ARGS__))number
+#elif defined(__BPF__)
+#define FC_HELPER(number, name, ...) fc_u64 name(__VA_ARGS__) __attribute__((kernel_helper(number)))
+#else
+#define FC_HELPER(number, name, ...) fc_u64 name(__VA_ARGS__)
+#endif
+FC_HELPER(1, payload_len, void);                    /* 0 to 1,024 */
+FC_HELPER(2, payload_byte, fc_u64 i);               /* byte i of the payload, or FC_NO_BYTE past its end */
+FC_HELPER(3, var_get, fc_u64 i);                    /* the variables' i-th 8 bytes, or 0 past their end */
+FC_HELPER(4, var_put, fc_u64 i, fc_u64 x);          /* sets them and gives 1; 0 past their end */
+FC_HELPER(5, reply_put, const void *p, fc_u64 n);   /* adds n bytes and gives 1; 0 where they have no room */
+FC_HELPER(6, reply_byte, fc_u64 x);                 /* adds the low byte and gives 1; 0 where it has no room */
+FC_HELPER(7, notify, void);                         /* observers are told of the change that this POST makes */
 
 #define FC_NO_BYTE 0xffffffffffffffffu
 
-/* FC_INLINE: a function that stands in place of each of its calls. FC_FUNCTION: one that stands once and is called, at most four deep with
+/* FC_INLINE: a function that stands in place of each of its calls. FC_FUNCTION: one that stands once and is called, at most eight deep with
    run, with five arguments at most; it returns a number, also where nobody wants it. A function that is called twice costs twice. */
 #define FC_INLINE static inline __attribute__((always_inline))
 #define FC_FUNCTION static __attribute__((noinline, used))
 
 /* In front of a `for` with a constant count: its turns are written out. */
+#ifdef __clang__
 #define FC_UNROLL _Pragma("clang loop unroll(full)")
+#else
+#define FC_UNROLL _Pragma("GCC unroll 1024")
+#endif
 
 /* From here on clang doesn't know where the variable x got its value, so that it compares the very register that is used later. */
 #define fc_keep(x) __asm__ volatile("" : "+r"(x))
 
 /* array[i] as an addition of a number to a pointer; clang, left alone, may add the pointer to the number, which is refused. */
-#define fc_at(array, i) (*(__typeof__(&(array)[0]))fc_moved((array), (i) * sizeof(array)[0]))
+#define fc_at(array, i)                                                                        \
+    (*__extension__({                                                                          \
+        __typeof__(&(array)[0]) fc_element = (array);                                          \
+        fc_move(fc_element, (fc_u64)(i) * sizeof(array)[0]);                                   \
+        fc_element;                                                                            \
+    }))
+#if defined(__BPF__) && defined(__clang__)
+#define fc_move(p, bytes) __asm__ volatile("%0 += %1" : "+r"(p) : "r"(bytes))
+#elif defined(__BPF__)
+#define fc_move(p, bytes) __asm__ volatile("add %0, %1" : "+r"(p) : "r"(bytes))
+#else
+#define fc_move(p, bytes) (p = (__typeof__(p))((const char *)(p) + (bytes)))
+#endif
 
-FC_INLINE void *fc_moved(const void *p, fc_u64 bytes)
-{
-    __asm__ volatile("%0 += %1" : "+r"(p) : "r"(bytes));
-    return (void *)p;
-}
+/* Signed division and remainder, towards zero: one instruction each, which compilers for BPF don't write, or by -mcpu=v4 alone. By zero
+   they give 0 and a. */
+#define fc_sdiv(a, b) fc_signed(a, b, "0x3f", (fc_b == 0 ? 0 : fc_b == -1 ? (fc_i64)-(fc_u64)fc_a : fc_a / fc_b))
+#define fc_smod(a, b) fc_signed(a, b, "0x9f", (fc_b == 0 ? fc_a : fc_b == -1 ? 0 : fc_a % fc_b))
+#ifdef __BPF__
+#define fc_signed(a, b, opcode, answer)                                                        \
+    __extension__({                                                                            \
+        fc_i64 fc_left = (a), fc_right = (b);                                                  \
+        register fc_i64 fc_a __asm__("r4") = fc_left;                                          \
+        register fc_i64 fc_b __asm__("r5") = fc_right;                                         \
+        __asm__(".byte " opcode ", 0x54, 1, 0, 0, 0, 0, 0" : "+r"(fc_a) : "r"(fc_b));          \
+        fc_a;                                                                                  \
+    })
+#else
+#define fc_signed(a, b, opcode, answer) __extension__({ fc_i64 fc_a = (a), fc_b = (b); answer; })
+#endif
 
-/* Adds a string literal, of at most some 200 bytes, to the reply: it is written to the stack first, since an image has no data. */
+/* Is the query this literal, of 1 to 8 characters? Behind the query there are zeros, so its first eight bytes tell. */
+#define fc_query_is(request, word)                                                             \
+    __extension__({                                                                            \
+        _Static_assert(sizeof(word) >= 2 && sizeof(word) <= 9, "a word of 1 to 8 characters");  \
+        *(const fc_u64 *)(request)->query == fc_word(word) && (request)->query_length == sizeof(word) - 1; \
+    })
+#define fc_word(w) (fc_char(w, 0) | fc_char(w, 1) | fc_char(w, 2) | fc_char(w, 3) | fc_char(w, 4) | fc_char(w, 5) | fc_char(w, 6) | fc_char(w, 7))
+#define fc_char(w, i) ((fc_u64)(i < sizeof(w) ? (fc_u8)(w)[i < sizeof(w) ? i : 0] : 0) << 8 * i)
+
+/* FC_TABLE(fc_u16, name, 1, 2, 3); in a function: an array that is filled where this stands. Other constants, as `static const fc_u16
+   name[] = {..}`, are put on the stack where their function begins, eight bytes by one store or two: that costs less, but on each path. */
+#define FC_TABLE(type, name, first, ...)                                                       \
+    fc_u64 name##_zero = 0;                                                                    \
+    fc_keep(name##_zero);                                                                      \
+    type name[] = {(type)((first) + name##_zero), __VA_ARGS__}
+
+/* Adds a string literal, of at most some 200 bytes, to the reply: it is written to the stack where this stands. */
 #define fc_reply_text(text)                    \
     __extension__({                            \
         char fc_text[sizeof(text) - 1] = text; \
         reply_put(fc_text, sizeof fc_text);    \
     })
 
-_Static_assert(sizeof(struct fc_request) == 1104, "the region");
+_Static_assert(sizeof(struct fc_request) == 1104 && sizeof(struct fc_readings) == 64, "the regions");
 _Static_assert(__builtin_offsetof(struct fc_request, length) == 2 && __builtin_offsetof(struct fc_request, format) == 4, "the region");
 _Static_assert(__builtin_offsetof(struct fc_request, has_format) == 6 && __builtin_offsetof(struct fc_request, query_length) == 7, "the region");
 _Static_assert(__builtin_offsetof(struct fc_request, query) == 16 && __builtin_offsetof(struct fc_request, payload) == 80, "the region");

@@ -1,11 +1,12 @@
 /* An access code by query: a GET of /r/N?code=4711 replies `open` where 4711 is the code, else 4.03. A POST of four bytes sets a new code
-   where its query has the old one; the first code is set by anyone, and until then a GET is answered 4.04. --vars 8 */
+   where its query has the old one; the first code is set by anyone, and until then a GET is answered 4.04. */
 #include <fc.h>
 
 struct state {
     fc_u32 code; /* four characters */
     fc_u32 is_set;
 };
+FC_VARS(struct state);
 
 FC_INLINE int is_right(const struct fc_request *request, fc_u32 code)
 {

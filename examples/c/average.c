@@ -1,12 +1,13 @@
 /* The average of the last four readings. A POST has a reading as decimal text, `0` to `9999`, else it is answered 4.00; a GET replies the
    average of the readings so far, four at most, as decimal text, rounded down; 4.04 where there is none. Observers are told of each
-   reading. --vars 16 */
+   reading. */
 #include <fc.h>
 
 struct state {
     fc_u16 reading[4]; /* the latest first */
     fc_u64 count;      /* 0 to 4 */
 };
+FC_VARS(struct state);
 
 FC_FUNCTION fc_u64 digit(fc_u64 value, fc_u64 unit)
 {

@@ -1,19 +1,13 @@
 /* A thermostat. A POST tells the temperature, a byte in whole degrees: below the target the heating goes on, above it off. A POST with
    the query `target` sets the target instead; it is 20 while none is set. Both reply `on` or `off`, as a GET does. Observers are told
-   when it changes. --vars 8 */
+   when it changes. */
 #include <fc.h>
 
 struct state {
     fc_u8 is_on;
     fc_u8 target; /* 0 while none is set */
-    fc_u8 zero[6];
 };
-
-FC_INLINE int is_target(const struct fc_request *request)
-{
-    const fc_u8 *q = request->query;
-    return request->query_length == 6 && q[0] == 't' && q[1] == 'a' && q[2] == 'r' && q[3] == 'g' && q[4] == 'e' && q[5] == 't';
-}
+FC_VARS(struct state);
 
 fc_u64 run(const struct fc_request *request, struct state *state, fc_u64 length)
 {
@@ -21,7 +15,7 @@ fc_u64 run(const struct fc_request *request, struct state *state, fc_u64 length)
         if (length != 1)
             return FC_BAD_REQUEST;
         fc_u8 degrees = request->payload[0];
-        if (is_target(request)) {
+        if (fc_query_is(request, "target")) {
             state->target = degrees;
         } else {
             fc_u8 target = state->target ? state->target : 20, was_on = state->is_on;
@@ -34,8 +28,8 @@ fc_u64 run(const struct fc_request *request, struct state *state, fc_u64 length)
         }
     }
     if (state->is_on)
-        fc_reply_text("on");
+        reply_put("on", 2);
     else
-        fc_reply_text("off");
+        reply_put("off", 3);
     return FC_OK;
 }

@@ -1,11 +1,14 @@
 #!/usr/bin/env python3
-"""Makes the programs of this folder from C and from their assembler texts, uploads both to a server, and asks them; then shows what is refused.
+"""Makes the programs of this folder from C and from their assembler texts, uploads both to a server, and asks them; runs those of loops/ beside
+the same C compiled for this computer, by `cc`; then shows what is refused.
 
 Use: examples/c/try.py [CLANG], at the top of the repository, whose fcasm and fcd are built, or on the path. CLANG is `clang` if not given.
 The status is 0 where no answer was wrong, and no mended form was refused."""
+import random
 import re
 import shutil
 import socket
+import struct
 import subprocess
 import sys
 import tempfile
@@ -13,8 +16,9 @@ import time
 from pathlib import Path
 
 TOP = Path(__file__).resolve().parent.parent.parent
-FLAGS = ["-target", "bpf", "-mcpu=v2", "-O2", "-mllvm", "-enable-tail-merge=0", "-I", str(TOP / "include")]
-PROGRAMS = {"thermostat": 8, "average": 16, "access": 8}  # name and --vars
+FLAGS = ["-target", "bpf", "-mcpu=v2", "-O2", "-g", "-mllvm", "-enable-tail-merge=0", "-I", str(TOP / "include")]
+PROGRAMS = ["thermostat", "average", "access", "alarm", "thermistor"]
+RUNS, WORDS = 300, 8  # of a program of loops/: with so many requests, on so many words of variables
 
 # method, query, payload, and the answer: code and payload
 ASKED = {
@@ -62,6 +66,32 @@ ASKED = {
         ("GET", "code=4711", b"", "4.03", b""),
         ("GET", "code=80a0", b"", "2.05", b"open"),
     ],
+    "alarm": [
+        ("GET", "", b"", "2.05", b"normal"),
+        ("POST", "limit", b"\x64\0", "2.04", b"normal"),  # 100
+        ("POST", "", b"\x65\0", "2.04", b"raised"),  # 101
+        ("POST", "", b"\x63\0", "2.04", b"raised"),  # 99, and nobody said ack
+        ("POST", "ack", b"", "2.04", b"normal"),
+        ("POST", "", b"\xff\0", "2.04", b"raised"),
+        ("POST", "ack", b"", "2.04", b"acked"),  # it is still above
+        ("POST", "", b"\xc8\0", "2.04", b"acked"),
+        ("POST", "", b"\x64\0", "2.04", b"normal"),  # 100 isn't above 100
+        ("POST", "", b"\x01", "4.00", b""),
+        ("POST", "acl", b"\x65\x01", "2.04", b"raised"),  # a value, 357
+        ("GET", "ack", b"", "2.05", b"raised"),  # a GET changes nothing
+    ],
+    "thermistor": [
+        ("GET", "", b"", "2.05", b"\0\0"),
+        ("POST", "", b"\0\0", "2.04", struct.pack("<h", 1250)),
+        ("POST", "", struct.pack("<H", 256), "2.04", struct.pack("<h", 980)),
+        ("POST", "", struct.pack("<H", 128), "2.04", struct.pack("<h", 1115)),  # halfway
+        ("POST", "", struct.pack("<H", 13 * 256 + 128), "2.04", struct.pack("<h", -45)),
+        ("POST", "", struct.pack("<H", 13 * 256 + 1), "2.04", struct.pack("<h", 0)),  # -90/256
+        ("POST", "", struct.pack("<H", 4095), "2.04", struct.pack("<h", -399)),  # -210 and -190 * 255/256
+        ("POST", "", struct.pack("<H", 4096), "4.00", b""),
+        ("POST", "", b"\0", "4.00", b""),
+        ("GET", "", b"", "2.05", struct.pack("<h", -399)),
+    ],
 }
 
 
@@ -75,13 +105,13 @@ def run(*words, **more):
     return done.returncode, done.stdout
 
 
-def image_of(clang, source, image, size, *more, flags=FLAGS):
-    """Compiles a source, makes an image of it, and returns the status and the last command's text."""
+def image_of(clang, source, image, *more, size=None, flags=FLAGS):
+    """Compiles a source, makes an image of it, with so many bytes of variables or as it says, and returns the status and what was printed."""
     status, said = run(clang, *flags, *more, "-c", source, "-o", image.with_suffix(".o"))
     lines = said.decode(errors="replace").replace(str(source), source.name).splitlines()
     if status:
         return status, re.sub("0x[0-9a-f]+", "0x..", next(it for it in lines if "error" in it))
-    status, said = run(TOP / "tools/elf2img", "--fcasm", built("fcasm"), "--vars", size, image.with_suffix(".o"), image)
+    status, said = run(TOP / "tools/elf2img", "--fcasm", built("fcasm"), *(["--vars", size] if size else []), image.with_suffix(".o"), image)
     return status, said.decode().strip().replace(str(image.parent) + "/", "")
 
 
@@ -123,14 +153,50 @@ def payload_of(rest):
     return rest[1:]
 
 
+def requests():
+    """Runs to ask for: a method, 1 or 2, a payload, a query, variables and readings, in hex; the same ones each time."""
+    some = random.Random(1)
+    bytes_of = [lambda: some.randrange(256), lambda: some.choice(b"0123456789"), lambda: some.choice(b"\0\1\2\3\4\7\xff")]
+    for _ in range(RUNS):
+        size, byte, word = some.choice([0, 1, 2, 3, 8, some.randrange(40), some.randrange(1025)]), some.choice(bytes_of), some.choice(bytes_of)
+        parts = bytes(byte() for _ in range(size)), bytes(some.randrange(33, 127) for _ in range(some.randrange(9)))
+        parts += bytes(word() for _ in range(8 * WORDS)), bytes(some.randrange(256) for _ in range(64))
+        yield some.choice([1, 2]), *(it.hex() or "-" for it in parts)
+
+
+def by_fcasm(image, method, payload, query, variables, readings):
+    """What a run answers: code, reply, variables, notice, in a line."""
+    given = zip(("--payload", "--query", "--vars", "--readings"), (payload, query, variables, readings))
+    more = [word for name, hexes in given if hexes != "-" for word in (name, hexes)]
+    status, said = run(built("fcasm"), "run", "--method", ["get", "post"][method - 1], *more, image)
+    lines = dict(it.split() for it in said.decode().splitlines())
+    return " ".join(lines.get(it, f"(status {status})") for it in ("code", "reply", "vars", "notice"))
+
+
+def compare(source, image):
+    """Runs an image, and its source compiled for this computer, and returns how often the answers differ."""
+    program, asked = image.with_suffix(""), list(requests())
+    flags = ["-O1", "-w", "-fno-strict-aliasing", "-I", TOP / "include", f'-DPROGRAM="{source}"']
+    status, said = run("cc", *flags, TOP / "examples/c/host.c", "-o", program)
+    if status:
+        raise SystemExit(f"{source}: {said.decode()}")
+    answers = run(program, input="".join(" ".join(map(str, it)) + "\n" for it in asked).encode())[1].decode().splitlines()
+    return sum(by_fcasm(image, *it) != answer for it, answer in zip(asked, answers)) + len(asked) - len(answers)
+
+
+def shown(payload):
+    """A payload as text, or in hex where it is none."""
+    return payload.decode() if all(32 <= it < 127 for it in payload) else payload.hex()
+
+
 def main(words):
     clang, wrong, refused = words[0] if words else "clang", 0, [0, 0]
     print(run(clang, "--version")[1].decode().splitlines()[0])
     with tempfile.TemporaryDirectory(prefix="try-") as room:
         room, slots = Path(room), []
-        for name, size in PROGRAMS.items():
+        for name in PROGRAMS:
             source, image = TOP / f"examples/c/{name}.c", room / f"{name}.img"
-            status, said = image_of(clang, source, image, size)
+            status, said = image_of(clang, source, image)
             if status:
                 raise SystemExit(f"{name}.c: {said}")
             print(f"\n{name}.c  {said}")
@@ -161,18 +227,26 @@ def main(words):
                         is_wrong = [code, said] != right
                         wrong += is_wrong
                         if here == slot or is_wrong:
-                            asked = f"{method:4} /r/{here}{'?' + query if query else '':11} {repr(payload)[1:]:8}"
-                            print(f"  {asked} {code} {said.decode()}{'  WRONG' if is_wrong else ''}".rstrip())
+                            asked = f"{method:4} /r/{here}{'?' + query if query else '':11} {repr(payload)[1:]:10}"
+                            print(f"  {asked} {code} {shown(said)}{'  WRONG' if is_wrong else ''}".rstrip())
         finally:
             server.kill()
             server.wait()
+        print(f"\nLoops, each asked {RUNS} times beside the same C compiled for this computer:")
+        for source in sorted((TOP / "examples/c/loops").glob("*.c")):
+            image = room / f"{source.stem}.img"
+            status, said = image_of(clang, source, image, size=8 * WORDS)
+            differ = RUNS if status else compare(source, image)
+            wrong, count = wrong + differ, count + RUNS
+            text = said.splitlines()[0].replace(f"{source.stem}.img: ", "").replace(f", {8 * WORDS} bytes of variables", "")
+            print(f"  {source.stem:9} {text}{f'  {differ} WRONG' if differ else ''}")
         print("\nWhat is refused, and as it is mended:")
         plain = [it for it in FLAGS if it not in ("-mllvm", "-enable-tail-merge=0")]
-        sources = [(TOP / "examples/c/thermostat.c", plain, FLAGS), (TOP / "examples/c/refused/tails.c", plain, FLAGS)]
+        sources = [(TOP / "examples/c/refused/tails.c", plain, FLAGS)]
         sources += [(it, FLAGS, [*FLAGS, "-DMENDED"]) for it in sorted((TOP / "examples/c/refused").glob("*.c")) if it.stem != "tails"]
         for source, natural, mended in sources:
             for at, flags in enumerate((natural, mended)):
-                status, said = image_of(clang, source, room / f"{source.stem}.img", 32, "-w", flags=flags)
+                status, said = image_of(clang, source, room / f"{source.stem}.img", "-w", size=32, flags=flags)
                 text = said.splitlines()[0].replace(f"elf2img: {source.stem}.o: ", "").replace(f"{source.stem}.img: ", "")
                 print(f"{source.stem if at == 0 else '':11} {text.replace(', 32 bytes of variables', '')}")
                 refused[at] += status != 0

@@ -6,8 +6,7 @@ fc_u64 run(const struct fc_request *request, fc_u64 *vars, fc_u64 length)
 #ifndef MENDED
     degrees /= 7;
 #else
-    fc_u64 size = degrees < 0 ? -degrees : degrees;
-    degrees = degrees < 0 ? -(size / 7) : size / 7;
+    degrees = fc_sdiv(degrees, 7);
 #endif
     vars[0] = degrees;
     return FC_OK;
