@@ -5,3 +5,5 @@ pub mod Splitting
 pub mod SentBodies
 mod JoinedAnswers
 mod TakenBlocks
+pub mod Observes
+pub mod Watching

@@ -1,13 +1,13 @@
 -- A block of the body goes out behind one that was taken.
-use Rattle.std.proofs.Common.{◌≡◌, ℕ, ◌+◌, ◌==◌, ◌&&◌, nat_le, nat_lt, true, false, List, length, Option, Some, None, refl}
+use Rattle.std.proofs.Common.{◌≡◌, ℕ, ◌+◌, ◌==◌, ◌&&◌, nat_le, nat_lt, true, List, length, Option, Some, None, refl}
 use Rattle.std.proofs.lemmas.Bool.{and_parts, eqb-true, leb-true}
 use Rattle.coap_msg.specs.Wire.{Message}
 use Rattle.coap_msg.specs.declared.code.TheConstants.Code as registered
-use Rattle.coap_opts.specs.Values.{Place, place_in}
+use Rattle.coap_opts.specs.Values.{place_in}
 use Rattle.coap_client.specs.declared.part.Part.TheVariants.{Body, Answer}
 use Rattle.coap_client.specs.declared.reply.Next.{Next}
 use Rattle.coap_client.specs.declared.reply.Next.TheVariants as next
-use Rattle.coap_client.specs.Fetching.{State, Out, after_reply, moved_on}
+use Rattle.coap_client.specs.Fetching.{Out, after_reply, moved_on}
 use Rattle.coap_client.specs.Joined.{NamesTaken, SaysTaken}
 use Rattle.coap_client.specs.Parts.{has_more}
 use Rattle.coap_client.specs.Replies.{block1_of, block2_of, by_more, by_option, by_part, fits_place, is_continue, is_final, is_success, is_understood, next_block, next_by_code, next_number, next_of_answer, next_of_body, next_of_whole, next_size, size_by_block}

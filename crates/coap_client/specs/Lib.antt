@@ -6,3 +6,5 @@ pub mod Replies
 pub mod Heard
 pub mod Fetching
 pub mod Joined
+pub mod Notices
+pub mod Notes

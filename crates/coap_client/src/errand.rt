@@ -228,7 +228,7 @@ fn options_with<'a>(
 }
 
 // Adds an option of this number for each value.
-fn push_options<'a>(
+pub(crate) fn push_options<'a>(
     options: &mut Vec<(u16, &'a [u8])>,
     number: u16,
     values: &'a [&'a [u8]],

@@ -39,6 +39,9 @@ pub enum Fault {
     /// A further block is of another version of the answer than the blocks before it, for the second time, or where the request can't be made again.
     #[error("the answer changed while its blocks were fetched")]
     Changed,
+    /// What an observer is notified of has more blocks, or a critical option that a client doesn't know.
+    #[error("what is observed has more than one block, or a critical option that isn't known")]
+    Part,
     /// Sending or receiving failed.
     #[error("UDP: {0}")]
     Socket(#[from] io::Error),

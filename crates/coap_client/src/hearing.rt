@@ -14,11 +14,11 @@ use crate::reply::{is_empty_acknowledgement, is_reply, is_reset, is_separate};
 use coap_msg::{Code, Datagram, Message, MessageType, Outgoing, read, write};
 
 /// How long the answer to each sending of a request is waited for, in seconds: RFC 7252, 4.2 and 4.8, without the random part.
-const WAITS: [u64; 5] = [2, 4, 8, 16, 32];
+pub(crate) const WAITS: [u64; 5] = [2, 4, 8, 16, 32];
 
 /// How long an answer is waited for once the request was acknowledged, in seconds: as long as a sender waits for an
 /// acknowledgement at most, MAX_TRANSMIT_WAIT (RFC 7252, 4.8.2).
-const SEPARATE_WAIT: u64 = 93;
+pub(crate) const SEPARATE_WAIT: u64 = 93;
 
 /// How long the answer to a non-confirmable request is waited for, in seconds.
 const NON_WAIT: u64 = 32;
@@ -186,7 +186,7 @@ fn hear_message(request: &Request<'_>, message: &Message<'_>) -> Heard
 }
 
 // Acknowledges a message that asks for it (RFC 7252, 4.2).
-fn acknowledge<P: Peer>(peer: &mut P, bytes: &[u8]) -> Result<(), Fault>
+pub(crate) fn acknowledge<P: Peer>(peer: &mut P, bytes: &[u8]) -> Result<(), Fault>
     ensures { OnOk result ((m : wire.Message) → reading_of bytes.now ≡ Ok m → m.kind ≡ Confirmable
         → P.went (message_bytes (acknowledgement m.id))) }
 {

@@ -12,6 +12,9 @@ pub trait Peer {
     // Which datagrams came by it.
     ghost came: { List ℕ → Type 0 } = { λ _. ⊤ };
 
+    // Which moments it has told.
+    ghost is_moment: { ℕ → Type 0 } = { λ _. ⊤ };
+
     /// Sends a datagram to the server.
     ///
     /// # Errors
@@ -24,6 +27,13 @@ pub trait Peer {
     /// # Errors
     /// There is no clock.
     fn begin_wait(&mut self, seconds: u64) -> io::Result<()>;
+
+    /// The moment that it is, in milliseconds since some start.
+    ///
+    /// # Errors
+    /// There is no clock.
+    fn now(&self) -> io::Result<u64>
+        ensures { IfOk result is_moment };
 
     /// The next datagram that comes from the server while the wait lasts: how many bytes at the start of the buffer it is.
     /// What doesn't fit the buffer is lost. `None` where the wait is over.

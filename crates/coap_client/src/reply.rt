@@ -127,7 +127,7 @@ pub fn etag_of<'a>(message: &Message<'a>) -> &'a [u8]
 }
 
 // Whether no critical option is unknown, or stands there again.
-fn is_understood(message: &Message<'_>) -> bool
+pub(crate) fn is_understood(message: &Message<'_>) -> bool
     ensures { result ≡ spec.is_understood message.now }
 {
     are_known(message) && is_single(BLOCK1, message) && is_single(BLOCK2, message)

@@ -15,6 +15,7 @@ pub struct Server<'a, C: Clock> {
     clock: &'a C,
     socket: UdpSocket,
     address: SocketAddr,
+    start: Instant,
     until: Instant,
 }
 
@@ -26,11 +27,13 @@ impl<'a, C: Clock> Server<'a, C> {
     pub fn at<R: Net>(net: &R, clock: &'a C, address: SocketAddrV4) -> io::Result<Server<'a, C>> {
         let socket = UdpSocket::bind(net, SocketAddrV4::new(Ipv4Addr::UNSPECIFIED, 0))?;
         socket.connect(address)?;
+        let start = Instant::now(clock)?;
         Ok(Server {
             clock,
             socket,
             address: SocketAddr::V4(address),
-            until: Instant::now(clock)?,
+            start,
+            until: start,
         })
     }
 
@@ -58,6 +61,11 @@ impl<'a, C: Clock> Peer for Server<'a, C> {
         let now = Instant::now(self.clock)?;
         self.until = now.checked_add(Duration::from_secs(seconds)).unwrap_or(now);
         Ok(())
+    }
+
+    fn now(&self) -> io::Result<u64> {
+        let elapsed = self.start.elapsed(self.clock)?;
+        Ok(u64::try_from(elapsed.as_millis()).unwrap_or(u64::MAX))
     }
 
     fn receive(&mut self, buffer: &mut [u8]) -> io::Result<Option<usize>> {

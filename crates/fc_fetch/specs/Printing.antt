@@ -1,7 +1,7 @@
 -- As what the bytes of an answer are printed.
-use Rattle.std.specs.Prelude.{◌≡◌, ℕ, ◌≤◌, ◌==◌, ◌&&◌, ◌||◌, not, nat_le, Bool, true, false, if◌then◌else◌, List, Option, Some, None}
+use Rattle.std.specs.Prelude.{◌≡◌, ℕ, ◌==◌, ◌&&◌, ◌||◌, not, nat_le, Bool, if◌then◌else◌, List, Option, Some, None}
 use Rattle.std.specs.Borrow.{Bor}
-use Rattle.std.specs.List.{list_all}
+use Rattle.std.specs.List.{list_all, list_any}
 use Rattle.std.specs.Str.{chars, is_utf8}
 use Rattle.hex.specs.Hex.{encode_lower}
 use Rattle.fc_fetch.specs.declared.printing.Shown.{Shown}
@@ -23,3 +23,11 @@ shown_bytes Text bytes = if is_text bytes then bytes else encode_lower bytes
 abbrev pub IsShownText : Shown → List ℕ → Option (Bor (List ℕ)) → Type 0
 IsShownText shown bytes None = shown_bytes shown bytes ≡ encode_lower bytes
 IsShownText shown bytes (Some text) = shown_bytes shown bytes ≡ text.now
+
+-- in one line: text goes as it is only where it has no line feed
+abbrev pub line_bytes : Shown → List ℕ → List ℕ
+line_bytes shown bytes = if list_any (λ b. b == 10) bytes then encode_lower bytes else shown_bytes shown bytes
+
+abbrev pub IsShownLine : Shown → List ℕ → Option (Bor (List ℕ)) → Type 0
+IsShownLine shown bytes None = line_bytes shown bytes ≡ encode_lower bytes
+IsShownLine shown bytes (Some text) = line_bytes shown bytes ≡ text.now

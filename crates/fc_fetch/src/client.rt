@@ -4,6 +4,7 @@ ghost use Rattle.fc_fetch.specs.Fetching.{ending_of};
 ghost use Rattle.fc_cli.specs.declared.status.Status.TheVariants.{Failed};
 
 use crate::address::{Address, AddressError};
+use crate::observer::NotesError;
 use crate::printing::{Shown, write_answer};
 use coap_client::{Errand, Fault, Fetched, Path, PathError, Server, Target};
 use coap_opts::Method;
@@ -37,9 +38,9 @@ pub struct Asking<'a> {
     pub shown: Shown,
 }
 
-// Why nothing is printed.
+// Why nothing is printed, or no more.
 #[derive(Debug, Drop, Error)]
-enum Stop<'a> {
+pub(crate) enum Stop<'a> {
     #[error("{0}")]
     Address(#[from] AddressError),
     #[error("{0}")]
@@ -50,20 +51,25 @@ enum Stop<'a> {
     Room,
     #[error("{0}: {1}")]
     Input(&'a str, io::Error),
+    #[error("random bytes: {0}")]
+    Random(io::Error),
     #[error("{0}")]
     Fault(#[from] Fault),
+    #[error("{0}")]
+    Notes(#[from] NotesError),
     #[error("{0}")]
     Memory(#[from] AllocError),
 }
 
 impl<'a> Stop<'a> {
-    fn status(&self) -> Status {
+    pub(crate) fn status(&self) -> Status {
         match self {
             Stop::Address(AddressError::NoMemory) | Stop::Path(PathError::NoMemory) => {
                 Status::Failed
             }
             Stop::Address(_) | Stop::Path(_) | Stop::Argument | Stop::Room => Status::Bad,
-            Stop::Input(..) | Stop::Fault(_) | Stop::Memory(_) => Status::Failed,
+            Stop::Input(..) | Stop::Random(_) | Stop::Fault(_) | Stop::Notes(_) | Stop::Memory(_) =>
+                Status::Failed,
         }
     }
 }
@@ -96,10 +102,7 @@ fn answer<'a, R: Net + Clock, I: Read>(
     asking: &Asking<'a>,
 ) -> Result<Fetched, Stop<'a>> {
     let address = Address::parse(alloc, asking.target, asking.port)?;
-    let target = Target {
-        path: Path::parse(alloc, &address.path)?,
-        query: arguments(alloc, &address.query)?,
-    };
+    let target = resource(alloc, &address)?;
     let mut payload = Vec::new(alloc);
     if let Err(error) = input.read_to_end(&mut payload) {
         return Err(Stop::Input(asking.source, error));
@@ -109,6 +112,17 @@ fn answer<'a, R: Net + Clock, I: Read>(
     };
     let mut server = Server::at(rt, rt, address.server).map_err(Fault::Socket)?;
     Ok(coap_client::fetch(alloc, &mut server, &errand, clock_id(rt))?)
+}
+
+// The resource of an address.
+pub(crate) fn resource<'a, 'b>(
+    alloc: Global,
+    address: &'b Address,
+) -> Result<Target<'b>, Stop<'a>> {
+    Ok(Target {
+        path: Path::parse(alloc, &address.path)?,
+        query: arguments(alloc, &address.query)?,
+    })
 }
 
 // The arguments of a query, which `&` parts; an empty one has none.

@@ -4,9 +4,11 @@ ghost use Rattle.std.specs.List.{list_all};
 ghost use Rattle.std.specs.Str.{chars};
 ghost use Rattle.std.specs.Io.KnownBytes.{Appends};
 ghost use Rattle.fc_fetch.specs.Fetching.{answer_text};
+ghost use Rattle.fc_fetch.specs.Observing.{note_text};
 ghost use Rattle.fc_fetch.specs.Printing as spec;
 
 use coap_client::Fetched;
+use coap_msg::Message;
 use std::alloc::{AllocError, Global};
 use std::io;
 use std::io::Write;
@@ -58,6 +60,47 @@ pub fn write_answer<W: Write>(
     }
     out.flush()?;
     Ok(())
+}
+
+/// Writes what an observer is told in a line: the code and, where there are bytes, a space and these, as text only where it has no line feed.
+///
+/// # Errors
+/// It can't be written, or there was no memory for its digits.
+pub fn write_note<W: Write>(
+    alloc: Global,
+    out: &mut W,
+    shown: Shown,
+    message: &Message<'_>,
+) -> Result<(), PrintError>
+    ensures { OnOk result (Appends (W.contents out.old) (W.contents out.new)
+        (note_text shown message.now.code message.now.payload)) }
+{
+    let code = message.code();
+    let payload = message.payload();
+    if payload.is_empty() {
+        writeln!(out, "{code}")?;
+    } else {
+        match line_of(shown, payload) {
+            Some(text) => writeln!(out, "{code} {text}")?,
+            None => {
+                let digits = hex::encode(alloc, payload)?;
+                writeln!(out, "{code} {digits}")?;
+            }
+        }
+    }
+    out.flush()?;
+    Ok(())
+}
+
+// The bytes as text in one line, where they are to be shown so and can be.
+fn line_of(shown: Shown, bytes: &[u8]) -> Option<&str>
+    ensures { spec.IsShownLine shown bytes.now result }
+{
+    if bytes.contains(&b'\n') {
+        None
+    } else {
+        text_of(shown, bytes)
+    }
 }
 
 // The bytes as text, where they are to be shown so and can be.

@@ -5,13 +5,15 @@ use clap::{Arg, ArgAction, ArgMatches, Command, Error, value_parser};
 use coap_opts::Method;
 use fc_cli::Status;
 use fc_cli::command_line::{VERSION, exit_code, parse, words};
-use fc_fetch::{Asking, Shown, fetch};
+use fc_fetch::observer::Extent;
+use fc_fetch::{Asking, Observing, Shown, fetch, observe};
 use std::alloc::Global;
 use std::fs::File;
 use std::io;
 use std::io::{BufWriter, Read, Write};
 use std::net::Net;
 use std::process::ExitCode;
+use std::random::RandomSource;
 use std::rt::Runtime;
 
 /// What `--help` tells of requests, of what is printed, and of how it ends.
@@ -31,16 +33,28 @@ more. Where the server acknowledges it and answers later, the answer is waited f
 body of a PUT goes in blocks where it has more than 1,024 bytes, and so does an answer; where the
 server names a smaller size, in blocks of that.
 
-Exit status: 0 where the code is of class 2; 1 where it is another; 2 where the command line is
-bad, or the request has no room in a datagram; 3 where no answer came, nobody listens at the port,
-the socket, reading or writing failed, or memory was refused.";
+`observe` prints what a GET is answered, and then each change that the server notifies of, in a
+line: the code, a space and the bytes, with `--text` as text where that has no line feed. It
+reads no body. It ends after N lines, or S seconds after the first answer, and deregisters.
+
+  fcreq --text --count 3 observe coap://127.0.0.1/r/1
+
+Exit status: 0 where the code is of class 2; 1 where it is another, or the server notifies no
+more; 2 where the command line is bad, or the request has no room in a datagram; 3 where no answer
+came, nobody listens at the port, the socket, reading or writing failed, or memory was refused.";
+
+/// The word that observes in place of asking once.
+const OBSERVE: &str = "observe";
+
+/// A file that takes the place of a standard stream that is closed.
+const NULL: &str = "/dev/null";
 
 fn command<'a>(alloc: Global) -> Result<Command<'a>, Error> {
     let method = Arg::new(alloc, "method")
         .value_name("METHOD")
         .required(true)
-        .value_parser(["get", "post", "put", "delete"].as_slice())
-        .help("What is asked");
+        .value_parser(["get", "post", "put", "delete", OBSERVE].as_slice())
+        .help("What is asked; or `observe`, for a GET and the changes behind it");
     let target = Arg::new(alloc, "target")
         .value_name("TARGET")
         .required(true)
@@ -63,6 +77,18 @@ fn command<'a>(alloc: Global) -> Result<Command<'a>, Error> {
                 "Print the answer's bytes as text, where they are text",
             ))?
             .arg(file(alloc))?
+            .arg(limit(
+                alloc,
+                "count",
+                "N",
+                "With `observe`: after how many lines it ends",
+            ))?
+            .arg(limit(
+                alloc,
+                "seconds",
+                "S",
+                "With `observe`: how many seconds after the first answer it ends",
+            ))?
             .arg(method)?
             .arg(target)?,
     )
@@ -84,6 +110,20 @@ fn file<'a>(alloc: Global) -> Arg<'a> {
         .help("Read the request's body from this file")
 }
 
+// A bound of an observation, 1 and more.
+fn limit<'a>(
+    alloc: Global,
+    name: &'static str,
+    value: &'static str,
+    help: &'static str,
+) -> Arg<'a> {
+    Arg::new(alloc, name)
+        .long(name)
+        .value_name(value)
+        .value_parser(value_parser!(u32).range(1..))
+        .help(help)
+}
+
 // An option without a value.
 fn flag<'a>(alloc: Global, name: &'static str, help: &'static str) -> Arg<'a> {
     Arg::new(alloc, name)
@@ -102,7 +142,10 @@ fn method_of(word: &str) -> Option<Method> {
     }
 }
 
-fn run<R: Runtime + AllocGlobal + Net, E: Write>(rt: &R, err: &mut E) -> anyhow::Result<Status> {
+fn run<R: Runtime + AllocGlobal + Net + RandomSource, E: Write>(
+    rt: &R,
+    err: &mut E,
+) -> anyhow::Result<Status> {
     match words(rt, err)? {
         Some(words) => obey(rt, err, words),
         None => Ok(Status::Bad),
@@ -110,7 +153,7 @@ fn run<R: Runtime + AllocGlobal + Net, E: Write>(rt: &R, err: &mut E) -> anyhow:
 }
 
 // Asks what the words of the command line say.
-fn obey<R: Runtime + AllocGlobal + Net, E: Write>(
+fn obey<R: Runtime + AllocGlobal + Net + RandomSource, E: Write>(
     rt: &R,
     err: &mut E,
     words: Vec<String>,
@@ -119,6 +162,13 @@ fn obey<R: Runtime + AllocGlobal + Net, E: Write>(
         Ok(matches) => matches,
         Err(status) => return Ok(status),
     };
+    if let Some(why) = misfit(&matches) {
+        writeln!(err, "error: {why}")?;
+        return Ok(Status::Bad);
+    }
+    if is_observed(&matches) {
+        return observe_by(rt, err, &matches);
+    }
     let Some(asking) = asking_of(&matches) else {
         return Ok(Status::Bad);
     };
@@ -134,6 +184,58 @@ fn obey<R: Runtime + AllocGlobal + Net, E: Write>(
     }
 }
 
+fn is_observed(matches: &ArgMatches<'_>) -> bool {
+    matches.get_str("method") == Some(OBSERVE)
+}
+
+// Why these words don't go together, where they don't.
+fn misfit(matches: &ArgMatches<'_>) -> Option<&'static str> {
+    let has_limit = matches.get_one::<u32>("count").is_some()
+        || matches.get_one::<u32>("seconds").is_some();
+    let has_other = matches.get_flag("non") || matches.get_str("file").is_some();
+    match (is_observed(matches), has_limit, has_other) {
+        (true, _, true) => Some(
+            "`observe` is a confirmable GET without a body: it takes neither `-N` nor `-f`",
+        ),
+        (false, true, _) => Some("`--count` and `--seconds` go with `observe`"),
+        _ => None,
+    }
+}
+
+// Observes what the command line says. Its socket is open while it prints: where a standard stream is closed, a file has its descriptor, and not the socket.
+fn observe_by<R: Runtime + AllocGlobal + Net + RandomSource, E: Write>(
+    rt: &R,
+    err: &mut E,
+    matches: &ArgMatches<'_>,
+) -> anyhow::Result<Status> {
+    let Some(target) = matches.get_str("target") else {
+        return Ok(Status::Bad);
+    };
+    let observing = Observing {
+        target,
+        port: matches.get_one::<u16>("port"),
+        shown: shown_by(matches),
+        extent: Extent {
+            count: matches.get_one::<u32>("count"),
+            seconds: matches.get_one::<u32>("seconds"),
+        },
+    };
+    let alloc = rt.alloc();
+    let mut out = BufWriter::new(alloc, io::writer(rt))?;
+    let _first = File::open(rt, NULL)?;
+    let _second = File::open(rt, NULL)?;
+    let _third = File::open(rt, NULL)?;
+    Ok(observe(rt, alloc, &mut out, err, &observing))
+}
+
+fn shown_by(matches: &ArgMatches<'_>) -> Shown {
+    if matches.get_flag("text") {
+        Shown::Text
+    } else {
+        Shown::Hex
+    }
+}
+
 // What the command line asks for.
 fn asking_of<'a>(matches: &ArgMatches<'a>) -> Option<Asking<'a>> {
     Some(Asking {
@@ -142,11 +244,7 @@ fn asking_of<'a>(matches: &ArgMatches<'a>) -> Option<Asking<'a>> {
         target: matches.get_str("target")?,
         port: matches.get_one::<u16>("port"),
         source: matches.get_str("file").unwrap_or("standard input"),
-        shown: if matches.get_flag("text") {
-            Shown::Text
-        } else {
-            Shown::Hex
-        },
+        shown: shown_by(matches),
     })
 }
 

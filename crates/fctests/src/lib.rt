@@ -49,6 +49,8 @@ mod memory_tests;
 #[cfg(test)]
 mod message_tests;
 #[cfg(test)]
+mod notice_tests;
+#[cfg(test)]
 mod notification_tests;
 #[cfg(test)]
 mod observer_tests;

@@ -6,12 +6,13 @@ use std::alloc::{AllocError, Global};
 use std::io;
 use std::process::Abort;
 
-// A server whose datagrams are these, in order; an empty one says that the wait is over. It keeps what it is sent, and for how
-// many seconds it was waited for.
+// A server whose datagrams are these, in order, each at its moment; an empty one says that the wait is over. It keeps what it is sent, and
+// for how many seconds it was waited for.
 #[derive(Drop)]
 pub(crate) struct Scripted {
     alloc: Global,
     script: Vec<Vec<u8>>,
+    moments: Vec<u64>,
     place: usize,
     pub(crate) sent: Vec<Vec<u8>>,
     pub(crate) waits: Vec<u64>,
@@ -22,6 +23,17 @@ impl Peer for Scripted {
         let copy = joined(self.alloc, datagram.as_slice(), &[])?;
         self.sent.push(copy).map_err(AllocError::from)?;
         Ok(())
+    }
+
+    // Of each datagram it is the moment that its place in the script is told by.
+    fn now(&self) -> io::Result<u64> {
+        let moments = &self.moments;
+        Ok(
+            moments
+                .get(self.place.saturating_sub(1))
+                .copied()
+                .unwrap_or(0),
+        )
     }
 
     fn begin_wait(&mut self, seconds: u64) -> io::Result<()> {
@@ -54,6 +66,7 @@ pub(crate) fn follows(alloc: Global) -> Scripted {
     Scripted {
         alloc,
         script: Vec::new(alloc),
+        moments: Vec::new(alloc),
         place: 0,
         sent: Vec::new(alloc),
         waits: Vec::new(alloc),
@@ -62,8 +75,19 @@ pub(crate) fn follows(alloc: Global) -> Scripted {
 
 // The server sends these bytes, and these behind them.
 pub(crate) fn comes(server: &mut Scripted, first: &[u8], second: &[u8]) -> Result<(), AllocError> {
+    comes_at(server, 0, first, second)
+}
+
+// The server sends them, and it is this moment, in milliseconds, when they have come.
+pub(crate) fn comes_at(
+    server: &mut Scripted,
+    moment: u64,
+    first: &[u8],
+    second: &[u8],
+) -> Result<(), AllocError> {
     let bytes = joined(server.alloc, first, second)?;
-    server.script.push(bytes).map_err(AllocError::from)
+    server.script.push(bytes).map_err(AllocError::from)?;
+    server.moments.push(moment).map_err(AllocError::from)
 }
 
 // What comes of asking this of a path by confirmable requests, from message id 7 on.

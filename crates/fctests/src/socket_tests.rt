@@ -31,12 +31,12 @@ static COUNT: [u8; 88] = [
 ];
 
 // A port of this host, at 127.0.0.1.
-fn at_port(port: u16) -> SocketAddrV4 {
+pub(crate) fn at_port(port: u16) -> SocketAddrV4 {
     SocketAddrV4::new(Ipv4Addr::LOCALHOST, port)
 }
 
 // A request of this path is answered so, and the client ends with this status.
-fn check_asked<R: Abort + Net + Clock + AllocGlobal>(
+pub(crate) fn check_asked<R: Abort + Net + Clock + AllocGlobal>(
     rt: &R,
     port: u16,
     method: Method,
@@ -90,7 +90,7 @@ fn ask_counter<R: Abort + Net + Clock + AllocGlobal>(rt: &R, port: u16) {
 }
 
 // Serves a socket, by so many workers and up to so many datagrams: how that ended, and what was logged.
-fn serve_logged<R: Threads + Wait + Clock + Sync>(
+pub(crate) fn serve_logged<R: Threads + Wait + Clock + Sync>(
     rt: &R,
     alloc: Global,
     socket: &UdpSocket,

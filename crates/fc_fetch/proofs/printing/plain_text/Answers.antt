@@ -1,4 +1,4 @@
-use Rattle.std.proofs.Common.{◌∙◌, ap, sym, subst, true, ◌≡◌}
+use Rattle.std.proofs.Common.{◌∙◌, sym, subst, true, ◌≡◌}
 use Rattle.std.specs.List.{list_all}
 use Rattle.std.specs.Str.{chars}
 use Rattle.fc_fetch.specs.Printing.{is_shown_char}

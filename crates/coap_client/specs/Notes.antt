@@ -1,0 +1,185 @@
+-- What an observer shows: each came, each state is newer than the one before it, and none is shown twice.
+use Rattle.std.specs.Prelude.{◌≡◌, ℕ, ◌+◌, ◌≤◌, ◌%◌, ◌&&◌, ◌⊎◌, nat_eq, Bool, true, false, max, List, [], ◌∷◌, length, take, Option, Some, None, Ok}
+use Rattle.std.specs.List.{All, list_any}
+use Rattle.coap_msg.specs.Reading.{reading_of}
+use Rattle.coap_msg.specs.Windows.{window}
+use Rattle.coap_msg.specs.Wire.{Message, message_bytes}
+use Rattle.coap_msg.specs.declared.types.MessageType.TheVariants.{Acknowledgement, Confirmable}
+use Rattle.coap_client.specs.declared.hearing.Heard.{Heard}
+use Rattle.coap_client.specs.declared.hearing.Heard.TheVariants.{Reply, Separate, Repeat, Acknowledged, Rejected, Other}
+use Rattle.coap_client.specs.declared.hearing.Listened.{Listened}
+use Rattle.coap_client.specs.declared.hearing.Listened.TheVariants as listened
+use Rattle.coap_client.specs.declared.notice.Interest.TheVariants.{Register, Deregister}
+use Rattle.coap_client.specs.declared.notice.Notice.{Notice}
+use Rattle.coap_client.specs.declared.notice.Notice.TheVariants.{State, Last}
+use Rattle.coap_client.specs.declared.observing.Noted.{Noted}
+use Rattle.coap_client.specs.declared.observing.Observer.{Observer}
+use Rattle.coap_client.specs.declared.watch.Mark.{Mark}
+use Rattle.coap_client.specs.declared.watch.Watch.{Watch}
+use Rattle.coap_client.specs.Heard.{IsAcknowledged, IsReadAs}
+use Rattle.coap_client.specs.Notices.{IsOwnResponse, IsReplyWith, is_newer, marked, notice_after, notice_of, observe_request}
+use Rattle.coap_client.specs.Replies.{IsEmptyAcknowledgement, IsReset, begins_exchange}
+use Rattle.coap_client.specs.Requests.{acknowledgement}
+
+-- ---- what comes to an observer
+
+-- a response with the token, in the acknowledgement of the request of this id or in a message of its own
+abbrev pub IsResponseWith : List ℕ → ℕ → Message → Type 0
+IsResponseWith token id m = IsReplyWith token id m ⊎ IsOwnResponse token m
+
+-- none of these
+pub record IsNoneOf (token : List ℕ) (id : ℕ) (m : Message) : Type 0 where
+  pub reply : IsReplyWith token id m → ⊥
+  pub notification : IsOwnResponse token m → ⊥
+  pub acknowledged : IsEmptyAcknowledgement id m → ⊥
+  pub rejected : IsReset id m → ⊥
+
+-- what a datagram is to an observer whose request of this id is out; one that spells no message is none of these
+abbrev pub IsHeardBy : List ℕ → ℕ → Message → Heard → Type 0
+IsHeardBy token id m Reply = IsReplyWith token id m
+IsHeardBy token id m Separate = IsOwnResponse token m
+IsHeardBy token id m Acknowledged = IsEmptyAcknowledgement id m
+IsHeardBy token id m Rejected = IsReset id m
+IsHeardBy token id m Other = IsNoneOf token id m
+IsHeardBy token id m Repeat = ⊥
+
+abbrev pub TellsObserver : List ℕ → ℕ → List ℕ → Heard → Type 0
+TellsObserver token id bytes Other = (m : Message) → reading_of bytes ≡ Ok m → IsNoneOf token id m
+TellsObserver token id bytes heard = IsReadAs bytes (λ m. IsHeardBy token id m heard)
+
+-- a datagram came that spells a message of this kind
+pub record HasArrived (came : List ℕ → Type 0) (P : Message → Type 0) (bytes : List ℕ) : Type 0 where
+  pub message : Message
+  pub came_is : came bytes
+  pub read_is : reading_of bytes ≡ Ok message
+  pub holds : P message
+
+-- what listening for the answer comes to
+abbrev pub HearsAnswer : (List ℕ → Type 0) → List ℕ → ℕ → List ℕ → Listened → Type 0
+HearsAnswer came token id buffer (listened.Answer count) = (count ≤ length buffer) × HasArrived came (IsResponseWith token id) (take count buffer)
+HearsAnswer came token id buffer listened.Acknowledged = IsAcknowledged came id
+HearsAnswer came token id buffer listened.Nothing = Unit {0}
+
+-- ---- what is shown
+
+-- a message that was shown, and the moment at which it was, in milliseconds
+pub record Note : Type 0 where
+  pub message : Message
+  pub at : ℕ
+
+-- a datagram came that spells the message, and where that is confirmable it was acknowledged (RFC 7252, 4.2)
+pub record IsHeardFrom (went came : List ℕ → Type 0) (bytes : List ℕ) (m : Message) : Type 0 where
+  pub came_is : came bytes
+  pub read_is : reading_of bytes ≡ Ok m
+  pub acknowledged : m.kind ≡ Confirmable → went (message_bytes (acknowledgement m.id))
+
+-- the registration was sent, and this answered it
+pub record IsRegistered (went came : List ℕ → Type 0) (o : Observer) (bytes : List ℕ) : Type 0 where
+  pub asked : went (message_bytes (observe_request o.errand.now Register o.token o.id))
+  pub message : Message
+  pub heard : IsHeardFrom went came bytes message
+  pub own : IsResponseWith o.token o.id message
+
+-- it is a response with the token of the registration, which had this id, and was shown at a moment that was told
+pub record IsNoteOf (went came : List ℕ → Type 0) (told : ℕ → Type 0) (token : List ℕ) (id : ℕ) (n : Note) : Type 0 where
+  pub bytes : List ℕ
+  pub heard : IsHeardFrom went came bytes n.message
+  pub own : IsResponseWith token id n.message
+  pub moment : told n.at
+
+-- a state is newer than one of this sequence number and moment (RFC 7641, 3.4)
+abbrev pub IsNewerThan : ℕ → ℕ → Notice → ℕ → Type 0
+IsNewerThan sequence at (State v) now = is_newer sequence at v now ≡ true
+IsNewerThan sequence at other now = Unit {0}
+
+-- the earlier one is a state; the later one is no earlier moment's, and where it is a state too, a newer one
+pub record IsAfter (earlier later : Note) : Type 0 where
+  pub sequence : ℕ
+  pub state : notice_of earlier.message ≡ State sequence
+  pub moments : earlier.at ≤ later.at
+  pub newer : IsNewerThan sequence earlier.at (notice_of later.message) later.at
+
+-- the later one isn't the earlier one again: it has another id, or came 247 s later (RFC 7252, 4.5 and 4.8.2)
+abbrev pub IsApart : Note → Note → Type 0
+IsApart later earlier = begins_exchange earlier.message.kind ≡ true → earlier.message.id ≡ later.message.id → earlier.at + window ≤ later.at
+
+-- behind the first one that is shown, each is a notification, later and newer than the one before it, and none of those before
+pub record IsNext (token : List ℕ) (before : Note) (older : List Note) (n : Note) : Type 0 where
+  pub own : IsOwnResponse token n.message
+  pub after : IsAfter before n
+  pub once : All (IsApart n) (before ∷ older)
+
+abbrev pub FollowsNotes : List ℕ → List Note → Note → Type 0
+FollowsNotes token [] n = Unit {0}
+FollowsNotes token (before ∷ older) n = IsNext token before older n
+
+-- what is shown, the newest first
+abbrev pub AreNotes : (List ℕ → Type 0) → (List ℕ → Type 0) → (ℕ → Type 0) → List ℕ → ℕ → List Note → Type 0
+AreNotes went came told token id [] = Unit {0}
+AreNotes went came told token id (n ∷ ns) = AreNotes went came told token id ns × IsNoteOf went came told token id n × FollowsNotes token ns n
+
+-- ---- step by step
+
+abbrev pub is_mark_of : ℕ → ℕ → Mark → Bool
+is_mark_of id at k = nat_eq k.id id && nat_eq k.at at
+
+-- a mark of this id and moment is there
+abbrev pub has_mark : List Mark → ℕ → ℕ → Bool
+has_mark marks id at = list_any (is_mark_of id at) marks
+
+-- a message of its own that was shown has a mark, or is 247 s old
+abbrev pub IsRemembered : List Mark → ℕ → Note → Type 0
+IsRemembered marks now n = begins_exchange n.message.kind ≡ true → (has_mark marks n.message.id n.at ≡ true) ⊎ (n.at + window ≤ now)
+
+-- these were shown, and the watch has the newest of them, which is a state, and remembers all
+pub record IsWatching (went came : List ℕ → Type 0) (told : ℕ → Type 0) (token : List ℕ) (id : ℕ) (latest : Note) (older : List Note) (w : Watch) : Type 0 where
+  pub are : AreNotes went came told token id (latest ∷ older)
+  pub state : notice_of latest.message ≡ State w.sequence
+  pub moment : w.at ≡ latest.at
+  pub remembered : All (IsRemembered w.marks.items w.at) (latest ∷ older)
+
+-- the next note, at this moment: the last one, or a state, which is kept
+pub record IsKept (old new : Watch) (at : ℕ) (m : Message) : Type 0 where
+  pub notice : notice_after old at m ≡ State new.sequence
+  pub moment : new.at ≡ at
+  pub marks : new.marks.items ≡ marked old.marks.items m.id at
+
+abbrev pub IsShownAs : Bool → Watch → Watch → ℕ → Message → Type 0
+IsShownAs true old new at m = notice_after old at m ≡ Last
+IsShownAs false old new at m = IsKept old new at m
+
+pub record IsNextNote (went came : List ℕ → Type 0) (told : ℕ → Type 0) (token bytes : List ℕ) (old new : Watch) (last : Bool) : Type 0 where
+  pub message : Message
+  pub moment : ℕ
+  pub told_is : told moment
+  pub heard : IsHeardFrom went came bytes message
+  pub own : IsOwnResponse token message
+  pub shown : IsShownAs last old new (max old.at moment) message
+
+-- where no note comes, nothing is shown
+abbrev pub Watches : (List ℕ → Type 0) → (List ℕ → Type 0) → (ℕ → Type 0) → List ℕ → List ℕ → Watch → Watch → Option Noted → Type 0
+Watches went came told token buffer old new None = new ≡ old
+Watches went came told token buffer old new (Some noted) =
+    (noted.count ≤ length buffer) × IsNextNote went came told token (take noted.count buffer) old new noted.last
+
+-- a notification came, and was acknowledged where it asks for that
+pub record HasOwnResponse (went came : List ℕ → Type 0) (token bytes : List ℕ) : Type 0 where
+  pub message : Message
+  pub heard : IsHeardFrom went came bytes message
+  pub own : IsOwnResponse token message
+
+-- ---- the end
+
+-- an acknowledgement of the request of this id, with an answer or without
+pub record IsAcknowledgementOf (id : ℕ) (m : Message) : Type 0 where
+  pub kind : m.kind ≡ Acknowledgement
+  pub id_is : m.id ≡ id
+
+pub record HasAcknowledgement (came : List ℕ → Type 0) (id : ℕ) : Type 0 where
+  pub bytes : List ℕ
+  pub is : HasArrived came (IsAcknowledgementOf id) bytes
+
+-- the deregistration was sent, and acknowledged
+pub record HasDeregistered (went came : List ℕ → Type 0) (o : Observer) : Type 0 where
+  pub asked : went (message_bytes (observe_request o.errand.now Deregister o.token ((o.id + 1) % 65536)))
+  pub acknowledged : HasAcknowledgement came ((o.id + 1) % 65536)

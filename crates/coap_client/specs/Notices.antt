@@ -1,0 +1,109 @@
+-- What an observer sends, and what a response is to it (RFC 7641).
+use Rattle.std.specs.Prelude.{◌≡◌, ℕ, ◌+◌, ◌-◌, ◌==◌, ◌&&◌, ◌||◌, not, Bool, true, nat_eq, nat_lt, nat_le, filter, if◌then◌else◌, List, [], ◌∷◌, ◌++◌, length, Option, Some, None}
+use Rattle.std.specs.List.{list_any}
+use Rattle.coap_msg.specs.Windows.{within_window}
+use Rattle.coap_msg.specs.Wire.{Message}
+use Rattle.coap_msg.specs.Values.{values_in}
+use Rattle.coap_msg.specs.declared.types.MessageType.TheVariants.{Acknowledgement, Confirmable}
+use Rattle.coap_opts.specs.Fields.{method_code}
+use Rattle.coap_opts.specs.Values.{Place, place_in, uint_bytes, uint_value}
+use Rattle.coap_opts.specs.declared.number.TheConstants as option
+use Rattle.coap_opts.specs.declared.request.Method.TheVariants.{Get}
+use Rattle.coap_client.specs.declared.errand.Errand.{Errand}
+use Rattle.coap_client.specs.declared.notice.Interest.{Interest}
+use Rattle.coap_client.specs.declared.notice.Interest.TheVariants.{Register, Deregister}
+use Rattle.coap_client.specs.declared.notice.Notice.{Notice}
+use Rattle.coap_client.specs.declared.notice.Notice.TheVariants.{State, Older, Last, Misfit}
+use Rattle.coap_client.specs.declared.watch.Mark.{Mark}
+use Rattle.coap_client.specs.declared.watch.Watch.{Watch}
+use Rattle.coap_client.specs.Parts.{resource_options}
+use Rattle.coap_client.specs.Paths.{slices_in}
+use Rattle.coap_client.specs.Replies.{begins_exchange, block2_of, first_or_none, is_response, is_success, is_understood}
+
+-- the value of Observe: 0 registers, 1 deregisters (RFC 7641, 2)
+abbrev pub observe_value : Interest → ℕ
+observe_value Register = 0
+observe_value Deregister = 1
+
+-- the GET by which an observer of an errand's resource registers or deregisters, under its token (RFC 7641, 3.1 and 3.6)
+abbrev pub observe_request : Errand → Interest → List ℕ → ℕ → Message
+observe_request e interest token id = record {
+  kind = Confirmable;
+  code = method_code Get;
+  id = id;
+  token = token;
+  options = (option.OBSERVE, uint_bytes (observe_value interest)) ∷ resource_options (slices_in e.target.path.segments.items) (slices_in e.target.query.items);
+  payload = [];
+}
+
+-- a piggybacked response to the request of this id and token (RFC 7252, 5.2.1)
+pub record IsReplyWith (token : List ℕ) (id : ℕ) (m : Message) : Type 0 where
+  pub kind : m.kind ≡ Acknowledgement
+  pub id_is : m.id ≡ id
+  pub token_is : m.token ≡ token
+  pub response : is_response m.code ≡ true
+
+-- a response in a message of its own to a request of this token: each notification is one (RFC 7641, 1.2)
+pub record IsOwnResponse (token : List ℕ) (m : Message) : Type 0 where
+  pub kind : begins_exchange m.kind ≡ true
+  pub token_is : m.token ≡ token
+  pub response : is_response m.code ≡ true
+
+-- the sequence number of a state: the value of Observe, which has 3 bytes at most (RFC 7641, 2 and 3.4)
+abbrev pub sequence_in : Option (List ℕ) → Option ℕ
+sequence_in None = None
+sequence_in (Some value) = if nat_le (length value) 3 then Some (uint_value value) else None
+
+abbrev pub sequence_of : Message → Option ℕ
+sequence_of m = sequence_in (first_or_none (values_in option.OBSERVE m.options))
+
+-- the state of sequence number v2 that came at moment t2 is newer than that of v1 that came at t1, in milliseconds (RFC 7641, 3.4)
+abbrev pub is_newer : ℕ → ℕ → ℕ → ℕ → Bool
+is_newer v1 t1 v2 t2 =
+    (nat_lt v1 v2 && nat_lt (v2 - v1) 8388608) || ((nat_lt v2 v1 && nat_lt 8388608 (v1 - v2)) || nat_lt (t1 + 128000) t2)
+
+-- an answer is whole where it names no block, or the first one with none behind it (RFC 7959, 2.4)
+abbrev pub is_only_block : Place → Bool
+is_only_block b = (b.number == 0) && not b.more
+
+abbrev pub is_whole_by : Option (List ℕ) → Bool
+is_whole_by None = true
+is_whole_by (Some value) = nat_le (length value) 3 && is_only_block (place_in value)
+
+-- it can be shown: no critical option is unknown, and nothing is behind it
+abbrev pub can_be_shown : Message → Bool
+can_be_shown m = is_understood m && is_whole_by (block2_of m)
+
+-- a success with a sequence number is a state, behind which others may come; without one, and where it is an error, it is the last (RFC 7641, 3.2 and 4.2)
+abbrev pub by_sequence : Option ℕ → Notice
+by_sequence None = Last
+by_sequence (Some v) = State v
+
+abbrev pub by_success : Message → Notice
+by_success m = if is_success m.code then by_sequence (sequence_of m) else Last
+
+abbrev pub notice_of : Message → Notice
+notice_of m = if can_be_shown m then by_success m else Misfit
+
+-- a message of this id was shown less than 247 s before: this one repeats it (RFC 7252, 4.5)
+abbrev pub is_shown_again : List Mark → ℕ → ℕ → Bool
+is_shown_again marks id at = list_any (λ k. nat_eq k.id id && within_window at k.at) marks
+
+-- what a response in a message of its own is, at this moment, to an observer that has shown these
+abbrev pub by_age : Watch → ℕ → Notice → Notice
+by_age w at (State v) = if is_newer w.sequence w.at v at then State v else Older
+by_age w at other = other
+
+abbrev pub notice_after : Watch → ℕ → Message → Notice
+notice_after w at m = if is_shown_again w.marks.items m.id at then Older else by_age w at (notice_of m)
+
+abbrev pub mark : ℕ → ℕ → Mark
+mark id at = record { id = id; at = at }
+
+-- the mark of the first one that is shown, where it is a message of its own
+abbrev pub first_marks : Message → ℕ → List Mark
+first_marks m at = if begins_exchange m.kind then mark m.id at ∷ [] else []
+
+-- the marks that still count at this moment, and one more
+abbrev pub marked : List Mark → ℕ → ℕ → List Mark
+marked marks id at = filter (λ k. within_window at k.at) marks ++ mark id at ∷ []

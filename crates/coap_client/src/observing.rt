@@ -1,0 +1,328 @@
+//! An observer: it registers, hears what it is notified of, and deregisters (RFC 7641).
+ghost use Rattle.std.specs.Prelude.{◌≡◌, ◌∷◌, ◌≤◌, IfOk, IfSome, IsTrue, OnOk, length, take};
+ghost use Rattle.coap_msg.specs.Wire.{message_bytes};
+ghost use Rattle.coap_msg.specs.Writing.{options_in};
+ghost use Rattle.coap_client.specs.Heard.{IsReadAs};
+ghost use Rattle.coap_client.specs.Notes.{HasAcknowledgement, HasArrived, HasDeregistered, HearsAnswer, IsAcknowledgementOf, IsHeardBy, HasOwnResponse, IsRegistered, IsResponseWith, TellsObserver, Watches};
+ghost use Rattle.coap_client.specs.Notices.{IsOwnResponse, observe_request, observe_value};
+ghost use Rattle.coap_opts.specs.Values.{uint_bytes};
+ghost use Rattle.std.specs.Bool.{OnTrue};
+ghost use Rattle.coap_client.specs.Parts.{resource_options};
+ghost use Rattle.coap_client.specs.Paths.{slices_in};
+
+use crate::errand::{Errand, push_options};
+use crate::fetching::Fault;
+use crate::hearing::{Heard, Listened, SEPARATE_WAIT, WAITS, acknowledge};
+use crate::notice::{Interest, Notice, is_notification, is_reply_with};
+use crate::peer::Peer;
+use crate::reply::{is_empty_acknowledgement, is_reset};
+use crate::watch::Watch;
+use coap_msg::{Code, Datagram, Message, MessageType, Outgoing, read, write};
+use coap_opts::number::{OBSERVE, URI_PATH, URI_QUERY};
+use coap_opts::{UintBytes, encode_uint};
+use std::alloc::{AllocError, Global};
+
+/// The bytes of an observer's token.
+pub const TOKEN: usize = 4;
+
+/// Who observes a resource: the errand that names it, a token by which its notifications are told, and the id of the registration. The deregistration has the next
+/// id.
+#[derive(Clone, Copy)]
+pub struct Observer<'a> {
+    pub errand: &'a Errand<'a>,
+    pub token: [u8; TOKEN],
+    pub id: u16,
+}
+
+/// A notification that is shown: how many bytes at the start of the buffer it is, and whether none comes behind it.
+#[derive(Clone, Copy, PartialEq, Eq)]
+pub struct Noted {
+    pub count: usize,
+    pub last: bool,
+}
+
+impl<'a> Observer<'a> {
+    /// Registers: sends a confirmable GET with Observe 0, and again where it isn't answered or acknowledged in time, as a fetch does; how many bytes at the start
+    /// of the buffer its answer is. A confirmable answer is acknowledged.
+    ///
+    /// # Errors
+    /// No answer came, the request was rejected, or sending, receiving or memory failed.
+    pub fn register<P: Peer>(
+        &self,
+        alloc: Global,
+        peer: &mut P,
+        buffer: &mut [u8],
+    ) -> Result<usize, Fault>
+        ensures { IfOk result (λ count. (count ≤ length buffer.new) × IsRegistered P.went P.came self.now (take count buffer.new)) }
+    {
+        let mut datagram = Datagram::new();
+        write_request(
+            alloc,
+            self.errand,
+            Interest::Register,
+            &self.token,
+            self.id,
+            &mut datagram,
+        )?;
+        let count = self.ask(peer, &datagram, buffer)?;
+        acknowledge(peer, &buffer[..count])?;
+        Ok(count)
+    }
+
+    // Sends the registration until it is answered.
+    fn ask<P: Peer>(
+        &self,
+        peer: &mut P,
+        datagram: &Datagram,
+        buffer: &mut [u8],
+    ) -> Result<usize, Fault>
+        ensures { IfOk result (λ count. (count ≤ length buffer.new) × P.went datagram.now.items
+            × HasArrived P.came (IsResponseWith self.now.token self.now.id) (take count buffer.new)) }
+    {
+        for seconds in WAITS {
+            peer.send(datagram)?;
+            peer.begin_wait(seconds)?;
+            match self.listen(peer, false, buffer)? {
+                Listened::Answer(count) => return Ok(count),
+                Listened::Acknowledged => {
+                    peer.begin_wait(SEPARATE_WAIT)?;
+                    return self.await_answer(peer, buffer);
+                }
+                Listened::Nothing => {}
+            }
+        }
+        Err(Fault::Silence)
+    }
+
+    // Waits for the answer of an acknowledged registration.
+    fn await_answer<P: Peer>(&self, peer: &mut P, buffer: &mut [u8]) -> Result<usize, Fault>
+        ensures { IfOk result (λ count. (count ≤ length buffer.new)
+            × HasArrived P.came (IsResponseWith self.now.token self.now.id) (take count buffer.new)) }
+    {
+        match self.listen(peer, true, buffer)? {
+            Listened::Answer(count) => Ok(count),
+            Listened::Acknowledged | Listened::Nothing => Err(Fault::Silence),
+        }
+    }
+
+    // Listens for the answer while a wait lasts, and passes over what is none of these.
+    fn listen<P: Peer>(
+        &self,
+        peer: &mut P,
+        acknowledged: bool,
+        buffer: &mut [u8],
+    ) -> Result<Listened, Fault>
+        ensures { IfOk result (HearsAnswer P.came self.now.token self.now.id buffer.new) }
+    {
+        for _ in 0..u64::MAX {
+            let Some(count) = peer.receive(buffer)? else {
+                return Ok(Listened::Nothing);
+            };
+            match hear_datagram(&self.token, self.id, &buffer[..count]) {
+                Heard::Reply | Heard::Separate => return Ok(Listened::Answer(count)),
+                Heard::Acknowledged if !acknowledged => return Ok(Listened::Acknowledged),
+                Heard::Rejected => return Err(Fault::Rejected),
+                Heard::Acknowledged | Heard::Repeat | Heard::Other => {}
+            }
+        }
+        Ok(Listened::Nothing)
+    }
+
+    /// Deregisters: sends a confirmable GET with Observe 1 until it is acknowledged.
+    ///
+    /// # Errors
+    /// No acknowledgement came, the request was rejected, or sending, receiving or memory failed.
+    pub fn deregister<P: Peer>(
+        &self,
+        alloc: Global,
+        peer: &mut P,
+        buffer: &mut [u8],
+    ) -> Result<(), Fault>
+        ensures { OnOk result (HasDeregistered P.went P.came self.now) }
+    {
+        let id = self.id.wrapping_add(1);
+        let mut datagram = Datagram::new();
+        write_request(
+            alloc,
+            self.errand,
+            Interest::Deregister,
+            &self.token,
+            id,
+            &mut datagram,
+        )?;
+        for seconds in WAITS {
+            peer.send(&datagram)?;
+            peer.begin_wait(seconds)?;
+            if is_acknowledged(peer, id, buffer)? {
+                return Ok(());
+            }
+        }
+        Err(Fault::Silence)
+    }
+}
+
+impl Watch {
+    /// Waits for the next notification that is to be shown, while a wait lasts, and keeps that it is. Others are passed over: older ones, and repeats. A confirmable
+    /// one is acknowledged, shown or not. `None` where the wait is over.
+    ///
+    /// # Errors
+    /// A notification can't be shown, or sending, receiving or memory failed.
+    pub fn next<P: Peer>(
+        &mut self,
+        peer: &mut P,
+        token: &[u8],
+        buffer: &mut [u8],
+    ) -> Result<Option<Noted>, Fault>
+        ensures { IfOk result (Watches P.went P.came P.is_moment token.now buffer.new self.old self.new) }
+    {
+        for _ in 0..u64::MAX {
+            let Some(count) = hear(peer, token, buffer)? else {
+                return Ok(None);
+            };
+            let Ok(message) = read(&buffer[..count]) else {
+                unreachable!();
+            };
+            let at = self.at.max(peer.now()?);
+            match self.notice_of(at, &message) {
+                Notice::State(sequence) => {
+                    self.keep(sequence, at, message.id())?;
+                    return Ok(Some(Noted { count, last: false }));
+                }
+                Notice::Last => return Ok(Some(Noted { count, last: true })),
+                Notice::Misfit => return Err(Fault::Part),
+                Notice::Older => {}
+            }
+        }
+        Ok(None)
+    }
+}
+
+// The next notification that comes while a wait lasts. A confirmable one is acknowledged.
+fn hear<P: Peer>(peer: &mut P, token: &[u8], buffer: &mut [u8]) -> Result<Option<usize>, Fault>
+    ensures { IfOk result (λ r. IfSome r (λ count. (count ≤ length buffer.new)
+        × HasOwnResponse P.went P.came token.now (take count buffer.new))) }
+{
+    for _ in 0..u64::MAX {
+        let Some(count) = peer.receive(buffer)? else {
+            return Ok(None);
+        };
+        if tells_notification(token, &buffer[..count]) {
+            acknowledge(peer, &buffer[..count])?;
+            return Ok(Some(count));
+        }
+    }
+    Ok(None)
+}
+
+// Whether a datagram is a notification.
+fn tells_notification(token: &[u8], bytes: &[u8]) -> bool
+    ensures { IsTrue result → IsReadAs bytes.now (IsOwnResponse token.now) }
+{
+    match read(bytes) {
+        Ok(message) => is_notification(token, &message),
+        Err(_) => false,
+    }
+}
+
+// What a datagram is to an observer whose registration has this id.
+fn hear_datagram(token: &[u8], id: u16, bytes: &[u8]) -> Heard
+    ensures { TellsObserver token.now id bytes.now result }
+{
+    match read(bytes) {
+        Ok(message) => hear_message(token, id, &message),
+        Err(_) => Heard::Other,
+    }
+}
+
+fn hear_message(token: &[u8], id: u16, message: &Message<'_>) -> Heard
+    ensures { IsHeardBy token.now id message.now result }
+{
+    if is_reply_with(token, id, message) {
+        Heard::Reply
+    } else if is_notification(token, message) {
+        Heard::Separate
+    } else if is_empty_acknowledgement(id, message) {
+        Heard::Acknowledged
+    } else if is_reset(id, message) {
+        Heard::Rejected
+    } else {
+        Heard::Other
+    }
+}
+
+// Listens, while a wait lasts, for the acknowledgement of the request of this id, with an answer or without.
+fn is_acknowledged<P: Peer>(peer: &mut P, id: u16, buffer: &mut [u8]) -> Result<bool, Fault>
+    ensures { IfOk result (λ is. OnTrue is (HasAcknowledgement P.came id)) }
+{
+    for _ in 0..u64::MAX {
+        let Some(count) = peer.receive(buffer)? else {
+            return Ok(false);
+        };
+        if tells_acknowledgement(id, &buffer[..count]) {
+            return Ok(true);
+        }
+    }
+    Ok(false)
+}
+
+// Whether a datagram is the acknowledgement of the request of this id, with an answer or without.
+fn tells_acknowledgement(id: u16, bytes: &[u8]) -> bool
+    ensures { IsTrue result → IsReadAs bytes.now (IsAcknowledgementOf id) }
+{
+    match read(bytes) {
+        Ok(message) => message.kind() == MessageType::Acknowledgement && message.id() == id,
+        Err(_) => false,
+    }
+}
+
+// Writes the GET with Observe of an errand's resource, in place of what the datagram held.
+fn write_request(
+    alloc: Global,
+    errand: &Errand<'_>,
+    interest: Interest,
+    token: &[u8],
+    id: u16,
+    datagram: &mut Datagram,
+) -> Result<(), AllocError>
+    requires { length token.now ≤ TOKEN }
+    ensures { OnOk result (datagram.new.items ≡ message_bytes (observe_request errand.now interest token.now id)) }
+{
+    let value = value_of(interest);
+    let options = options_of(alloc, errand, &value)?;
+    let request = Outgoing {
+        kind: MessageType::Confirmable,
+        code: Code::GET,
+        id,
+        token,
+        options: &options,
+        payload: &[],
+    };
+    write(&request, datagram);
+    Ok(())
+}
+
+// The value of Observe (RFC 7641, 2).
+fn value_of(interest: Interest) -> UintBytes
+    ensures { result.items ≡ uint_bytes (observe_value interest) }
+{
+    encode_uint(match interest {
+        Interest::Register => 0,
+        Interest::Deregister => 1,
+    })
+}
+
+// Observe, and the options that name an errand's resource.
+fn options_of<'a>(
+    alloc: Global,
+    errand: &'a Errand<'a>,
+    value: &'a UintBytes,
+) -> Result<Vec<(u16, &'a [u8])>, AllocError>
+    ensures { IfOk result (λ v. options_in v.items ≡ (OBSERVE, value.entry.now.items) ∷ resource_options
+        (slices_in errand.entry.now.target.path.segments.items) (slices_in errand.entry.now.target.query.items)) }
+{
+    let mut options = Vec::new(alloc);
+    options.push((OBSERVE, value.as_slice()))?;
+    push_options(&mut options, URI_PATH, &errand.target.path.segments)?;
+    push_options(&mut options, URI_QUERY, &errand.target.query)?;
+    Ok(options)
+}

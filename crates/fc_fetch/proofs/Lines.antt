@@ -1,0 +1,95 @@
+-- What an observer's program has printed, line by line.
+use Rattle.std.proofs.Common.{◌≡◌, Bool, false, ℕ, ◌+◌, List, [], ◌∷◌, ◌++◌, Option, Some, None, Ok, refl, sym, ap, subst, ◌∙◌, arith}
+use Rattle.std.specs.Io.KnownBytes.{Appends}
+use Rattle.std.proofs.lemmas.List.{append_assoc}
+use Rattle.coap_msg.specs.Reading.{reading_of}
+use Rattle.coap_msg.specs.Wire.{Message}
+use Rattle.coap_client.proofs.Watching.{first_note, next_note, only_note}
+use Rattle.coap_client.specs.Notices.{first_marks, notice_of}
+use Rattle.coap_client.specs.Notes.{IsNextNote, IsRegistered}
+use Rattle.coap_client.specs.declared.notice.Notice.TheVariants as notice
+use Rattle.coap_client.specs.declared.observing.Observer.{Observer}
+use Rattle.coap_client.specs.declared.watch.Watch.{Watch}
+use Rattle.coap_msg.specs.declared.code.Code.{Code}
+use Rattle.fc_fetch.specs.declared.observer.End.TheVariants.{Counted, Last}
+use Rattle.fc_fetch.specs.declared.observer.First.TheVariants.{State, Only}
+use Rattle.fc_fetch.specs.declared.printing.Shown.{Shown}
+use Rattle.fc_fetch.specs.Observing.{HasShown, IsFirstShown, IsShowing, note_text, notes_text}
+
+appended : (a b c : Option (List ℕ)) (x y : List ℕ) → Appends a b x → Appends b c y → Appends a c (x ++ y)
+appended None b c x y v w = tt
+appended (Some xs) None c x y v w = absurd v
+appended (Some xs) (Some ys) None x y v w = absurd w
+appended (Some xs) (Some ys) (Some zs) x y v w = w ∙ (ap (λ l. l ++ y) v ∙ append_assoc xs x y)
+
+-- the answer is a state
+pub first_shown : (went came : List ℕ → Type 0) (told : ℕ → Type 0) (o : Observer) (shown : Shown) (bytes : List ℕ) (before after : Option (List ℕ)) (m : Message) (at : ℕ) (w : Watch) →
+    IsRegistered went came o bytes → reading_of bytes ≡ Ok m → told at → notice_of m ≡ notice.State w.sequence → w.at ≡ at → w.marks.items ≡ first_marks m at →
+    Appends before after (note_text shown m.code m.payload) → IsFirstShown went came told o shown before after (State w)
+first_shown went came told o shown bytes before after m at w registered read moment state same marks appends = record {
+  asked = registered.asked;
+  latest = record { message = m; at = at };
+  older = [];
+  watching = first_note went came told o bytes w m at registered read moment state same marks;
+  printed = appends;
+  count = refl;
+}
+
+-- the answer is the last one
+pub only_shown : (went came : List ℕ → Type 0) (told : ℕ → Type 0) (o : Observer) (shown : Shown) (bytes : List ℕ) (before after : Option (List ℕ)) (m : Message) (at : ℕ) (code : Code) →
+    IsRegistered went came o bytes → reading_of bytes ≡ Ok m → told at → code.byte ≡ m.code →
+    Appends before after (note_text shown m.code m.payload) → IsFirstShown went came told o shown before after (Only code)
+only_shown went came told o shown bytes before after m at code registered read moment same appends = λ limit. record {
+  asked = registered.asked;
+  latest = record { message = m; at = at };
+  older = [];
+  are = only_note went came told o bytes m at registered read moment;
+  printed = appends;
+  ends = sym same;
+}
+
+-- a state behind it
+pub next_shown : (went came : List ℕ → Type 0) (told : ℕ → Type 0) (o : Observer) (shown : Shown) (bytes : List ℕ) (before now after : Option (List ℕ)) (m : Message) (lines : ℕ) (old new : Watch) (last : Bool) →
+    IsShowing went came told o shown before now lines old → IsNextNote went came told o.token bytes old new last → last ≡ false → reading_of bytes ≡ Ok m →
+    Appends now after (note_text shown m.code m.payload) → IsShowing went came told o shown before after (lines + 1) new
+next_shown went came told o shown bytes before now after m lines old new last s x goes read appends =
+    let next = next_note went came told o.token o.id s.latest s.older bytes old new last s.watching x in
+    let spelled : m ≡ next.note.message = cc (read, next.read) in
+    record {
+      asked = s.asked;
+      latest = next.note;
+      older = s.latest ∷ s.older;
+      watching = next.goes_on goes;
+      printed = appended before now after (notes_text shown (s.latest ∷ s.older)) (note_text shown next.note.message.code next.note.message.payload) s.printed
+          (subst (λ n. Appends now after (note_text shown n.code n.payload)) spelled appends);
+      count = omega (arith, s.count);
+    }
+
+-- the last one behind it
+pub last_shown : (went came : List ℕ → Type 0) (told : ℕ → Type 0) (o : Observer) (shown : Shown) (bytes : List ℕ) (before now after : Option (List ℕ)) (m : Message) (lines limit : ℕ) (old new : Watch) (last : Bool) (code : Code) →
+    IsShowing went came told o shown before now lines old → IsNextNote went came told o.token bytes old new last → reading_of bytes ≡ Ok m → code.byte ≡ m.code →
+    Appends now after (note_text shown m.code m.payload) → HasShown went came told o shown limit before after (Last code)
+last_shown went came told o shown bytes before now after m lines limit old new last code s x read same appends =
+    let next = next_note went came told o.token o.id s.latest s.older bytes old new last s.watching x in
+    let spelled : m ≡ next.note.message = cc (read, next.read) in
+    record {
+      asked = s.asked;
+      latest = next.note;
+      older = s.latest ∷ s.older;
+      are = next.are;
+      printed = appended before now after (notes_text shown (s.latest ∷ s.older)) (note_text shown next.note.message.code next.note.message.payload) s.printed
+          (subst (λ n. Appends now after (note_text shown n.code n.payload)) spelled appends);
+      ends = ap (λ n. n.code) (sym spelled) ∙ sym same;
+    }
+
+-- as many as are wanted
+pub all_shown : (went came : List ℕ → Type 0) (told : ℕ → Type 0) (o : Observer) (shown : Shown) (before now : Option (List ℕ)) (lines limit : ℕ) (w : Watch) →
+    IsShowing went came told o shown before now lines w → lines ≡ limit → HasShown went came told o shown limit before now Counted
+all_shown went came told o shown before now lines limit w s same = record {
+  asked = s.asked;
+  latest = s.latest;
+  older = s.older;
+  are = s.watching.are;
+  printed = s.printed;
+  ends = s.count ∙ same;
+}

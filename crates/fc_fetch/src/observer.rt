@@ -1,0 +1,277 @@
+//! An observer's program: it registers, prints what it is notified of, a line each, and deregisters (RFC 7641).
+ghost use Rattle.std.specs.Prelude.{◌≡◌, ◌≤◌, ◌⊎◌, IfOk};
+ghost use Rattle.coap_client.specs.Notes.{Watches};
+ghost use Rattle.fc_cli.specs.declared.status.Status.TheVariants.{Failed};
+ghost use Rattle.fc_fetch.specs.Observing.{HasShown, IsFirstShown, end_status, lines_wanted};
+
+use crate::address::Address;
+use crate::client::{Stop, resource};
+use crate::printing::{PrintError, Shown, write_note};
+use coap_client::notice::notice_of;
+use coap_client::observing::TOKEN;
+use coap_client::{Errand, Fault, Noted, Notice, Observer, Peer, Server, Watch};
+use coap_msg::types::DATAGRAM;
+use coap_msg::{Code, read};
+use coap_opts::Method;
+use fc_cli::clock::clock_id;
+use fc_cli::status::{Status, tell};
+use std::alloc::{AllocError, Global};
+use std::io::Write;
+use std::net::{Net, SocketAddrV4};
+use std::random::RandomSource;
+use std::time::Clock;
+use thiserror::Error;
+
+/// The class of the codes of success (RFC 7252, 5.9.1).
+const SUCCESS: u8 = 2;
+
+/// One byte more than a datagram may have: a longer one is seen to be too long.
+const BUFFER: usize = DATAGRAM + 1;
+
+/// How long one wait lasts where there is no end to them, in seconds: a day.
+const DAY: u64 = 86_400;
+
+/// What is observed, how it is shown, and for how long.
+#[derive(Clone, Copy)]
+pub struct Observing<'a> {
+    /// A path, or a URI of the scheme coap.
+    pub target: &'a str,
+    /// The port of 127.0.0.1, for a path.
+    pub port: Option<u16>,
+    pub shown: Shown,
+    pub extent: Extent,
+}
+
+/// After how many lines it ends, 1 and more, and how many seconds after the first answer; where neither is given, never.
+#[derive(Clone, Copy)]
+pub struct Extent {
+    pub count: Option<u32>,
+    pub seconds: Option<u32>,
+}
+
+/// Why no more is shown.
+#[derive(Clone, Copy, PartialEq, Eq)]
+pub enum End {
+    /// As many lines were printed as are wanted.
+    Counted,
+    /// The time is over.
+    Over,
+    /// An answer of this code, behind which none comes.
+    Last(Code),
+}
+
+/// Why no more is shown, and no end says so.
+#[derive(Debug, Drop, Error)]
+pub enum NotesError {
+    /// No answer came, or sending or receiving failed, or what came can't be shown.
+    #[error("{0}")]
+    Fault(#[from] Fault),
+    /// A line can't be printed.
+    #[error("{0}")]
+    Print(#[from] PrintError),
+    /// There was no memory for what was shown.
+    #[error("{0}")]
+    Memory(#[from] AllocError),
+}
+
+/// Observes a resource: registers, prints the answer, and then each notification that is newer than what was printed before it, each in a line, and deregisters.
+///
+/// It is done after as many lines or seconds as are wanted; refused where an answer is an error or has no sequence number, which is printed and after which the server
+/// doesn't notify. It ends as [`fetch`](crate::fetch) does where the target is bad or no answer came, to the registration or to the deregistration; and `Failed` where
+/// a notification can't be shown. `err` is told why.
+pub fn observe<R: Net + Clock + RandomSource, W: Write, E: Write>(
+    rt: &R,
+    alloc: Global,
+    out: &mut W,
+    err: &mut E,
+    observing: &Observing<'_>,
+) -> Status {
+    match observe_to_end(rt, alloc, out, observing) {
+        Ok(end) => finish(err, end),
+        Err(stop) => tell(err, &stop, stop.status()),
+    }
+}
+
+// How the program ends; `err` is told where an answer has no sequence number.
+fn finish<E: Write>(err: &mut E, end: End) -> Status
+    ensures { (result ≡ end_status end) ⊎ (result ≡ Failed) }
+{
+    match end {
+        End::Counted | End::Over => Status::Done,
+        End::Last(code) if code.class() == SUCCESS => tell(
+            err,
+            &"the answer has no Observe: the server doesn't notify of changes",
+            Status::Refused,
+        ),
+        End::Last(_) => Status::Refused,
+    }
+}
+
+// Observes what a text names.
+fn observe_to_end<'a, R: Net + Clock + RandomSource, W: Write>(
+    rt: &R,
+    alloc: Global,
+    out: &mut W,
+    observing: &Observing<'a>,
+) -> Result<End, Stop<'a>> {
+    let address = Address::parse(alloc, observing.target, observing.port)?;
+    let target = resource(alloc, &address)?;
+    match Errand::new(true, Method::Get, target, &[]) {
+        Some(errand) => observe_errand(rt, alloc, out, observing, &errand, address.server),
+        None => Err(Stop::Room),
+    }
+}
+
+// Registers at the server of this address, prints, and deregisters where it would notify further: also where printing failed.
+fn observe_errand<'a, R: Net + Clock + RandomSource, W: Write>(
+    rt: &R,
+    alloc: Global,
+    out: &mut W,
+    observing: &Observing<'a>,
+    errand: &Errand<'_>,
+    address: SocketAddrV4,
+) -> Result<End, Stop<'a>> {
+    let mut token = [0; TOKEN];
+    if let Err(error) = rt.fill_bytes(&mut token) {
+        return Err(Stop::Random(error));
+    }
+    let observer = Observer {
+        errand,
+        token,
+        id: clock_id(rt),
+    };
+    let mut server = Server::at(rt, rt, address).map_err(Fault::Socket)?;
+    let mut buffer = [0; BUFFER];
+    let (shown, extent) = (observing.shown, observing.extent);
+    match print_notes(
+        alloc,
+        &mut server,
+        out,
+        &observer,
+        shown,
+        extent,
+        &mut buffer,
+    ) {
+        Ok(End::Last(code)) => Ok(End::Last(code)),
+        Ok(end) => {
+            observer.deregister(alloc, &mut server, &mut buffer)?;
+            Ok(end)
+        }
+        Err(NotesError::Print(error)) => {
+            let _ended = observer.deregister(alloc, &mut server, &mut buffer);
+            Err(Stop::Notes(NotesError::Print(error)))
+        }
+        Err(error) => Err(Stop::Notes(error)),
+    }
+}
+
+/// Registers, and prints the answer and the notifications behind it, each in a line, until as many lines were printed as are wanted, the time is over, or none comes
+/// any more. Each that is printed came, each state is newer than the one before it (RFC 7641, 3.4), and none is printed twice.
+///
+/// # Errors
+/// What [`NotesError`] says. Some may be printed.
+pub fn print_notes<P: Peer, W: Write>(
+    alloc: Global,
+    peer: &mut P,
+    out: &mut W,
+    observer: &Observer<'_>,
+    shown: Shown,
+    extent: Extent,
+    buffer: &mut [u8],
+) -> Result<End, NotesError>
+    ensures { IfOk result (HasShown P.went P.came P.is_moment observer.now shown
+        (lines_wanted extent.count) (W.contents out.old) (W.contents out.new)) }
+{
+    let mut watch = match print_first(alloc, peer, out, observer, shown, buffer)? {
+        First::State(watch) => watch,
+        First::Only(code) => return Ok(End::Last(code)),
+    };
+    let seconds = extent.seconds.map_or(DAY, u64::from);
+    begin_wait(peer, seconds)?;
+    for _ in 1..lines_wanted(extent.count) {
+        let ends = extent.seconds.is_some();
+        let Some(noted) = await_note(peer, observer, &mut watch, ends, buffer)? else {
+            return Ok(End::Over);
+        };
+        let Ok(message) = read(&buffer[..noted.count]) else {
+            unreachable!();
+        };
+        write_note(alloc, out, shown, &message)?;
+        if noted.last {
+            return Ok(End::Last(message.code()));
+        }
+    }
+    Ok(End::Counted)
+}
+
+// How many lines are printed at most: one and more.
+fn lines_wanted(count: Option<u32>) -> u64
+    ensures wanted { result ≡ lines_wanted count }
+    ensures some { 1 ≤ result }
+{
+    match count {
+        Some(count) => u64::from(count.max(1)),
+        None => u64::MAX,
+    }
+}
+
+// What the answer to a registration is: a state, behind which notifications come, or the last one, of this code.
+#[derive(Drop)]
+enum First {
+    State(Watch),
+    Only(Code),
+}
+
+// Registers, and prints the answer.
+fn print_first<P: Peer, W: Write>(
+    alloc: Global,
+    peer: &mut P,
+    out: &mut W,
+    observer: &Observer<'_>,
+    shown: Shown,
+    buffer: &mut [u8],
+) -> Result<First, NotesError>
+    ensures { IfOk result (IsFirstShown P.went P.came P.is_moment observer.now shown (W.contents out.old) (W.contents out.new)) }
+{
+    let count = observer.register(alloc, peer, buffer)?;
+    let Ok(message) = read(&buffer[..count]) else {
+        unreachable!();
+    };
+    let at = moment(peer)?;
+    let first = match notice_of(&message) {
+        Notice::State(sequence) => First::State(Watch::first(alloc, sequence, at, &message)?),
+        Notice::Last | Notice::Older => First::Only(message.code()),
+        Notice::Misfit => return Err(NotesError::Fault(Fault::Part)),
+    };
+    write_note(alloc, out, shown, &message)?;
+    Ok(first)
+}
+
+fn moment<P: Peer>(peer: &P) -> Result<u64, Fault>
+    ensures { IfOk result P.is_moment }
+{
+    Ok(peer.now()?)
+}
+
+fn begin_wait<P: Peer>(peer: &mut P, seconds: u64) -> Result<(), Fault> {
+    Ok(peer.begin_wait(seconds)?)
+}
+
+// Waits for the next notification that is to be shown: until the time is over, where it ends.
+fn await_note<P: Peer>(
+    peer: &mut P,
+    observer: &Observer<'_>,
+    watch: &mut Watch,
+    ends: bool,
+    buffer: &mut [u8],
+) -> Result<Option<Noted>, Fault>
+    ensures { IfOk result (Watches P.went P.came P.is_moment observer.now.token buffer.new watch.old watch.new) }
+{
+    for _ in 0..u64::MAX {
+        match watch.next(peer, &observer.token, buffer)? {
+            None if !ends => peer.begin_wait(DAY)?,
+            noted => return Ok(noted),
+        }
+    }
+    Ok(None)
+}

@@ -1,0 +1,373 @@
+// Observers of a server that follows a script (RFC 7641): the datagrams are worked out by hand. And one of our own server, over a socket.
+use crate::scripted::{Scripted, check_sent, comes, comes_at, follows};
+use crate::socket_tests::{at_port, check_asked, serve_logged};
+use crate::tooling::assembled;
+use coap_client::notice::{is_newer, notice_of};
+use coap_client::{Errand, Fault, Notice, Observer, Path, Target};
+use coap_msg::read;
+use coap_msg::types::DATAGRAM;
+use coap_opts::Method;
+use fc_cli::Status;
+use fc_fetch::observer::{Extent, print_notes};
+use fc_fetch::{Observing, Shown, observe};
+use fc_service::serve::Extent as Served;
+use fc_service::socket::open;
+use std::alloc::{AllocError, Global};
+use std::net::Net;
+use std::process::Abort;
+use std::random::RandomSource;
+use std::sync::Wait;
+use std::test::Fail;
+use std::thread;
+use std::thread::Threads;
+use std::time::{Clock, Duration};
+
+const TOKEN: [u8; 4] = [1, 2, 3, 4];
+
+// Sequence numbers and moments of two states, and whether the second is newer (RFC 7641, 3.4): by less than 2^23, by more than that downwards,
+// where the numbers begin anew, or by more than 128 seconds.
+static ORDER: [(u32, u64, u32, u64, bool); 10] = [
+    (0, 0, 1, 0, true),
+    (1, 0, 0, 0, false),
+    (7, 0, 7, 0, false),
+    (0, 0, 0x7f_ffff, 0, true),
+    (0, 0, 0x80_0000, 0, false),
+    (0x80_0000, 0, 0, 0, false),
+    (0x80_0001, 0, 0, 0, true),
+    (0xff_ffff, 0, 0, 0, true),
+    (7, 1_000, 7, 129_000, false),
+    (7, 1_000, 3, 129_001, true),
+];
+
+#[test]
+fn states_are_in_order(rt: HostRuntime) {
+    for (first, first_at, second, second_at, newer) in ORDER.iter().copied() {
+        assert!(rt;
+            is_newer(first, first_at, second, second_at) == newer,
+            "{first} {second}"
+        );
+    }
+}
+
+// A message, and what it is to an observer: a state by Observe of no byte, of one and of three; an error, without Observe and with it; a success without it, or with one
+// of four bytes; a whole answer in its first block, the first of two, and the second; and a critical option that isn't known.
+static NOTICES: [(&[u8], Notice); 11] = [
+    (b"\x50\x45\x00\x01\x60\xff\x61", Notice::State(0)),
+    (b"\x50\x45\x00\x01\x61\x05", Notice::State(5)),
+    (
+        b"\x50\x43\x00\x01\x63\x01\x02\x03",
+        Notice::State(0x01_0203),
+    ),
+    (b"\x50\x84\x00\x01", Notice::Last),
+    (b"\x50\x84\x00\x01\x61\x05", Notice::Last),
+    (b"\x50\x45\x00\x01\xff\x61", Notice::Last),
+    (b"\x50\x45\x00\x01\x64\x00\x00\x00\x05", Notice::Last),
+    (b"\x50\x45\x00\x01\x61\x05\xd1\x04\x06", Notice::State(5)),
+    (
+        b"\x50\x45\x00\x01\x61\x05\xd1\x04\x0e\xff\x61",
+        Notice::Misfit,
+    ),
+    (
+        b"\x50\x45\x00\x01\x61\x05\xd1\x04\x16\xff\x61",
+        Notice::Misfit,
+    ),
+    (b"\x50\x45\x00\x01\x61\x05\x30", Notice::Misfit),
+];
+
+#[test]
+fn responses_are_noticed(rt: HostRuntime) {
+    for (bytes, notice) in NOTICES.iter().copied() {
+        match read(bytes) {
+            Ok(message) => assert!(rt; notice_of(&message) == notice, "{bytes:?}"),
+            Err(_) => assert!(rt; false, "{bytes:?} is no message"),
+        }
+    }
+}
+
+fn slot_one<'a>(alloc: Global) -> Result<Target<'a>, Fail> {
+    Ok(Target {
+        path: Path::parse(alloc, b"/r/1")?,
+        query: Vec::new(alloc),
+    })
+}
+
+// What an observer of slot 1 prints, by requests from message id 7 on, until so many lines are there or the script is at its end.
+fn watched(alloc: Global, server: &mut Scripted, count: u32) -> Result<Vec<u8>, Fail> {
+    let Some(errand) = Errand::new(true, Method::Get, slot_one(alloc)?, &[]) else {
+        return Err(Fail::new("no room"));
+    };
+    let observer = Observer {
+        errand: &errand,
+        token: TOKEN,
+        id: 7,
+    };
+    let extent = Extent {
+        count: Some(count),
+        seconds: Some(60),
+    };
+    let mut out = Vec::new(alloc);
+    let mut buffer = [0; DATAGRAM];
+    print_notes(
+        alloc,
+        server,
+        &mut out,
+        &observer,
+        Shown::Text,
+        extent,
+        &mut buffer,
+    )?;
+    Ok(out)
+}
+
+// The header of a response: type and token length, the code, the message id, and the token.
+fn comes_with(
+    server: &mut Scripted,
+    at: u64,
+    head: &[u8; 4],
+    rest: &[u8],
+) -> Result<(), AllocError> {
+    let bytes = [head[0], head[1], head[2], head[3], 1, 2, 3, 4];
+    comes_at(server, at, &bytes, rest)
+}
+
+#[test]
+fn an_observer_shows_what_is_newer(rt: HostRuntime) -> Result<(), Fail> {
+    let mut server = follows(rt.alloc());
+    comes_with(&mut server, 0, b"\x64\x45\x00\x07", b"\x61\x02\xff\x61")?;
+    comes_with(&mut server, 1, b"\x54\x45\x10\x00", b"\x61\x03\xff\x62")?;
+    // an older state, one with another token, the acknowledgement again, and one with no token
+    comes_with(&mut server, 2, b"\x54\x45\x10\x01", b"\x61\x01\xff\x78")?;
+    comes(
+        &mut server,
+        b"\x54\x45\x10\x02\x01\x02\x03\x05",
+        b"\x61\x09\xff\x78",
+    )?;
+    comes_with(&mut server, 2, b"\x64\x45\x00\x07", b"\x61\x09\xff\x78")?;
+    comes(&mut server, b"\x50\x45\x10\x02", b"\x61\x09\xff\x78")?;
+    // a confirmable state, twice, and the last
+    comes_with(&mut server, 3, b"\x44\x45\x10\x03", b"\x61\x04\xff\x63\x0a")?;
+    comes_with(&mut server, 4, b"\x44\x45\x10\x03", b"\x61\x04\xff\x63\x0a")?;
+    comes_with(&mut server, 5, b"\x54\x84\x10\x04", &[])?;
+    comes_with(&mut server, 6, b"\x54\x45\x10\x05", b"\x61\x05\xff\x78")?;
+    let out = watched(rt.alloc(), &mut server, 9)?;
+    assert!(rt; out.as_slice() == b"2.05 a\n2.05 b\n2.05 630a\n4.04\n".as_slice());
+    assert!(rt; server.sent.len() == 3);
+    check_sent(
+        &rt,
+        &server,
+        0,
+        b"\x44\x01\x00\x07\x01\x02\x03\x04\x60\x51\x72\x01\x31",
+        &[],
+    );
+    for place in [1, 2] {
+        check_sent(&rt, &server, place, b"\x60\x00\x10\x03", &[]);
+    }
+    Ok(())
+}
+
+// After 128 seconds each state is newer; but a message that was shown is shown again only 247 seconds later.
+#[test]
+fn a_message_is_shown_once(rt: HostRuntime) -> Result<(), Fail> {
+    let mut server = follows(rt.alloc());
+    comes_with(&mut server, 0, b"\x64\x45\x00\x07", b"\x61\x05\xff\x61")?;
+    comes_with(&mut server, 1_000, b"\x54\x45\x10\x00", b"\x61\x06\xff\x62")?;
+    comes_with(
+        &mut server,
+        129_000,
+        b"\x54\x45\x10\x01",
+        b"\x61\x04\xff\x78",
+    )?;
+    comes_with(
+        &mut server,
+        129_001,
+        b"\x54\x45\x10\x00",
+        b"\x61\x06\xff\x78",
+    )?;
+    comes_with(
+        &mut server,
+        129_002,
+        b"\x54\x45\x10\x01",
+        b"\x61\x04\xff\x63",
+    )?;
+    comes_with(
+        &mut server,
+        247_999,
+        b"\x54\x45\x10\x00",
+        b"\x61\x06\xff\x78",
+    )?;
+    comes_with(
+        &mut server,
+        248_000,
+        b"\x54\x45\x10\x00",
+        b"\x61\x06\xff\x64",
+    )?;
+    let out = watched(rt.alloc(), &mut server, 9)?;
+    assert!(rt; out.as_slice() == b"2.05 a\n2.05 b\n2.05 c\n2.05 d\n".as_slice());
+    Ok(())
+}
+
+// A registration that is acknowledged first, and answered by a confirmable state of its own.
+#[test]
+fn a_registration_is_answered_later(rt: HostRuntime) -> Result<(), Fail> {
+    let mut server = follows(rt.alloc());
+    comes(&mut server, &[], &[])?;
+    comes(&mut server, b"\x60\x00\x00\x07", &[])?;
+    comes_with(&mut server, 0, b"\x44\x45\x20\x00", b"\x60\xff\x61")?;
+    comes_with(&mut server, 130_000, b"\x44\x45\x20\x00", b"\x60\xff\x61")?;
+    let out = watched(rt.alloc(), &mut server, 9)?;
+    assert!(rt; out.as_slice() == b"2.05 a\n".as_slice());
+    assert!(rt; server.waits.as_slice() == [2, 4, 93, 60].as_slice() && server.sent.len() == 4);
+    check_sent(&rt, &server, 2, b"\x60\x00\x20\x00", &[]);
+    check_sent(&rt, &server, 3, b"\x60\x00\x20\x00", &[]);
+    Ok(())
+}
+
+#[test]
+fn an_observer_prints_so_many_lines(rt: HostRuntime) -> Result<(), Fail> {
+    let mut server = follows(rt.alloc());
+    comes_with(&mut server, 0, b"\x64\x45\x00\x07", b"\x61\x02\xff\x61")?;
+    comes_with(&mut server, 1, b"\x54\x45\x10\x00", b"\x61\x03")?;
+    comes_with(&mut server, 1, b"\x54\x45\x10\x01", b"\x61\x04")?;
+    let out = watched(rt.alloc(), &mut server, 2)?;
+    assert!(rt; out.as_slice() == b"2.05 a\n2.05\n".as_slice());
+    Ok(())
+}
+
+#[test]
+fn an_observer_ends(rt: HostRuntime) -> Result<(), Fail> {
+    let alloc = rt.alloc();
+    let Some(errand) = Errand::new(true, Method::Get, slot_one(alloc)?, &[]) else {
+        return Err(Fail::new("no room"));
+    };
+    let observer = Observer {
+        errand: &errand,
+        token: TOKEN,
+        id: 0xffff,
+    };
+    let mut buffer = [0; DATAGRAM];
+    let mut server = follows(alloc);
+    comes_with(&mut server, 0, b"\x54\x45\x10\x00", b"\x61\x09\xff\x78")?;
+    comes_with(&mut server, 0, b"\x64\x45\x00\x00", b"\xff\x61")?;
+    observer.deregister(alloc, &mut server, &mut buffer)?;
+    check_sent(
+        &rt,
+        &server,
+        0,
+        b"\x44\x01\x00\x00\x01\x02\x03\x04\x61\x01\x51\x72\x01\x31",
+        &[],
+    );
+    let mut silent = follows(alloc);
+    let ended = observer.deregister(alloc, &mut silent, &mut buffer);
+    assert!(rt; matches!(&ended, Err(Fault::Silence)));
+    assert!(rt; silent.waits.as_slice() == [2, 4, 8, 16, 32].as_slice());
+    let mut rejects = follows(alloc);
+    comes(&mut rejects, b"\x70\x00\xff\xff", &[])?;
+    let ended = observer.register(alloc, &mut rejects, &mut buffer);
+    assert!(rt; matches!(&ended, Err(Fault::Rejected)) && rejects.sent.len() == 1);
+    Ok(())
+}
+
+// A program that counts POSTs in eight bytes of variables, tells observers, and replies the count to a GET.
+static COUNTS: &[u8] = b"ldxb r6, r1, 0\n\
+mov64 r7, r2\n\
+jeq r6, 1, 8\n\
+mov64 r1, 0\n\
+call 3\n\
+mov64 r2, r0\n\
+add64 r2, 1\n\
+mov64 r1, 0\n\
+call 4\n\
+call 7\n\
+ja 3\n\
+mov64 r1, r7\n\
+mov64 r2, 8\n\
+call 5\n\
+mov64 r0, 0\n\
+exit\n";
+
+// More datagrams than are sent to the server.
+const LIMIT: u32 = 40;
+
+// What an observer of slot 1 of our own server prints, until three lines are there or ten seconds are over.
+fn observed<R: Net + Clock + RandomSource>(rt: &R, alloc: Global, port: u16) -> (Status, Vec<u8>) {
+    let mut out = Vec::new(alloc);
+    let mut err = Vec::new(alloc);
+    let observing = Observing {
+        target: "/r/1",
+        port: Some(port),
+        shown: Shown::Hex,
+        extent: Extent {
+            count: Some(3),
+            seconds: Some(10),
+        },
+    };
+    let status = observe(rt, alloc, &mut out, &mut err, &observing);
+    (status, out)
+}
+
+// Posts twice, when the observer has registered.
+fn post_twice<R: Abort + Net + Clock + AllocGlobal>(rt: &R, port: u16) {
+    for _ in 0..2u8 {
+        thread::sleep(rt, Duration::from_secs(1));
+        check_asked(rt, port, Method::Post, "/r/1", &[], Status::Done, "2.04\n");
+    }
+}
+
+// A counter is installed, and observed while it is posted to: three states, in order.
+fn watch_counter<R: Abort + AllocGlobal + Threads + Wait + Clock + Net + RandomSource + Sync>(
+    rt: &R,
+    port: u16,
+) -> Result<(), Fail> {
+    let alloc = rt.alloc();
+    let image = assembled(alloc, COUNTS, 8, 13)?.out;
+    // version=1 cost=13 budget=13 vars=8
+    let receipt = "2.01\n76657273696f6e3d3120636f73743d3133206275646765743d313320766172733d38\n";
+    check_asked(rt, port, Method::Put, "/p/1", &image, Status::Done, receipt);
+    let ((status, out), ()) = thread::join(
+        rt,
+        || observed(rt, alloc, port),
+        || post_twice(rt, port),
+    );
+    let printed = b"2.05 0000000000000000\n2.05 0100000000000000\n2.05 0200000000000000\n";
+    assert!(rt; status == Status::Done && out.as_slice() == printed.as_slice());
+    Ok(())
+}
+
+// As many datagrams as the server takes, of one byte each, which it ignores: so it ends, however often a request was sent again.
+fn end<R: Net>(rt: &R, port: u16) -> Result<(), Fail> {
+    let client = open(rt, at_port(0))?;
+    for _ in 0..LIMIT {
+        client.send_to(&[0], at_port(port))?;
+    }
+    Ok(())
+}
+
+fn check_watched<R: Abort + AllocGlobal + Threads + Wait + Clock + Net + RandomSource + Sync>(
+    rt: &R,
+    workers: u8,
+) -> Result<(), Fail> {
+    let alloc = rt.alloc();
+    let socket = open(rt, at_port(0))?;
+    let port = socket.local_addr()?.port();
+    let extent = Served {
+        workers,
+        limit: LIMIT,
+    };
+    let ((status, _memory), watched) = thread::join(
+        rt,
+        || serve_logged(rt, alloc, &socket, extent),
+        || {
+            watch_counter(rt, port)?;
+            end(rt, port)
+        },
+    );
+    watched?;
+    assert!(rt; status == Status::Done);
+    Ok(())
+}
+
+#[test]
+fn our_own_server_is_observed(rt: HostRuntime) -> Result<(), Fail> {
+    check_watched(&rt, 1)?;
+    check_watched(&rt, 2)
+}
