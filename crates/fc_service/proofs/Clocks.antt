@@ -1,5 +1,5 @@
 -- The readings of a clock at a worked moment.
-use Rattle.std.proofs.Common.{◌≡◌, [], ◌∷◌, ◌++◌, refl}
+use Rattle.std.proofs.Common.{◌≡◌, ◌∷◌, refl}
 use Rattle.std.specs.Prelude.{replicate}
 use Rattle.fc_service.specs.Clocks.{clock_readings}
 

@@ -11,7 +11,7 @@ use Rattle.fc_core.specs.Receiving.{delivered, emission_if}
 use Rattle.fc_server.specs.Serving.{Hears, Passes, Serves}
 use Rattle.fc_server.specs.States.{ServerState}
 use Rattle.fc_workers.specs.Answers.{saturated}
-use Rattle.fc_service.specs.Clocks.{clock_readings}
+use Rattle.fc_service.specs.Clocks.{device_readings}
 use Rattle.fc_service.specs.declared.replies.Replies.{Replies}
 use Rattle.fc_service.proofs.Steps.{joined, sent_joined}
 use Rattle.fc_service.specs.Counting.{counted, no_replies}
@@ -52,28 +52,38 @@ no_steps now random readings s r = ([], refl, counts_none r)
 
 -- ---- rounds
 
-pub no_rounds : (serial id : ℕ) (first : ServerState) (r : Replies) → Serves (Begins serial id) first [] → r ≡ no_replies → HaveServed serial id first r
-no_rounds serial id first r begins none = record { rounds = []; first = first; begins = begins; served = refl; counted = ap (λ (x : Replies). saturated (x.sent + x.failed)) none }
+pub no_rounds : (sensors : List ℕ → Type 0) (serial id : ℕ) (first : ServerState) (r : Replies) → Serves (Begins serial id) first [] → r ≡ no_replies → HaveServed sensors serial id first r
+no_rounds sensors serial id first r begins none =
+    record { rounds = []; first = first; begins = begins; served = refl; counted = ap (λ (x : Replies). saturated (x.sent + x.failed)) none }
 
-pub one_round : (serial id now : ℕ) (received : Reception) (sent : Option Emission) (old mid new : ServerState) (a b c : Replies) → HaveServed serial id old a → IsReceived now received old sent mid → CountsMore (length (option_to_list sent)) a b → Settled now (now % 65536) (clock_readings now) mid new b c → HaveServed serial id new c
-one_round serial id now received sent old mid new a b c h is v x = record {
-  rounds = record { received = received; now = now; sent = sent; steps = x.0 } ∷ h.rounds;
+pub one_round : (sensors : List ℕ → Type 0) (serial id now : ℕ) (sensed : List ℕ) (received : Reception) (sent : Option Emission) (old mid new : ServerState) (a b c : Replies) → HaveServed sensors serial id old a → sensors sensed → IsReceived now sensed received old sent mid → CountsMore (length (option_to_list sent)) a b → Settled now (now % 65536) (device_readings now sensed) mid new b c → HaveServed sensors serial id new c
+one_round sensors serial id now sensed received sent old mid new a b c h said is v x = record {
+  rounds = record { received = received; now = now; sensed = sensed; sent = sent; steps = x.0 } ∷ h.rounds;
   first = h.first;
   begins = h.begins;
-  served = (old, h.served, record { answered = mid; carried_out = is; settled = x.1 });
+  served = (old, h.served, record { said = said; answered = mid; carried_out = is; settled = x.1 });
   counted = omega (arith, h.counted, v, x.2);
 }
 
 -- one round more, of a datagram: its reply, if it has one, is counted
-pub heard_round : (serial id now : ℕ) (from : Endpoint) (bytes : Bor (List ℕ)) (out : Option Bool) (reply : Emission) (old heard mid new : ServerState) (a b c : Replies) → HaveServed serial id old a → Hears (clock_readings now) now from bytes (delivered (advanced old.front now) from bytes.now) old heard (emission_if (is_some out) reply) → mid ≡ heard → b ≡ counted out a → Settled now (now % 65536) (clock_readings now) mid new b c → HaveServed serial id new c
-heard_round serial id now from bytes out reply old heard mid new a b c h is same counts x =
-    one_round serial id now (Datagram from bytes.now) (emission_if (is_some out) reply) old mid new a b c h
-    (record { borrow = bytes; bytes_are = refl; heard = subst (λ (s : ServerState). Hears (clock_readings now) now from bytes (delivered (advanced old.front now) from bytes.now) old s (emission_if (is_some out) reply)) (sym same) is })
-    (subst (λ (r : Replies). CountsMore (length (option_to_list (emission_if (is_some out) reply))) a r) (sym counts) (counts_one out reply a)) x
+pub heard_round : (sensors : List ℕ → Type 0) (serial id now : ℕ) (sensed readings : List ℕ) (from : Endpoint) (bytes : Bor (List ℕ)) (out : Option Bool) (reply : Emission) (old heard mid new : ServerState) (a b c : Replies) → HaveServed sensors serial id old a → sensors sensed → readings ≡ device_readings now sensed → Hears readings now from bytes (delivered (advanced old.front now) from bytes.now) old heard (emission_if (is_some out) reply) → mid ≡ heard → b ≡ counted out a → Settled now (now % 65536) readings mid new b c → HaveServed sensors serial id new c
+heard_round sensors serial id now sensed readings from bytes out reply old heard mid new a b c h said are is same counts x =
+    let sent = emission_if (is_some out) reply in
+    one_round sensors serial id now sensed (Datagram from bytes.now) sent old mid new a b c h said
+    (record {
+      borrow = bytes;
+      bytes_are = refl;
+      heard =
+          subst (λ (r : List ℕ). Hears r now from bytes (delivered (advanced old.front now) from bytes.now) old mid sent) are
+          (subst (λ (s : ServerState). Hears readings now from bytes (delivered (advanced old.front now) from bytes.now) old s sent) (sym same) is);
+    })
+    (subst (λ (r : Replies). CountsMore (length (option_to_list sent)) a r) (sym counts) (counts_one out reply a))
+    (subst (λ (r : List ℕ). Settled now (now % 65536) r mid new b c) are x)
 
 -- and of a moment
-pub passed_round : (serial id now : ℕ) (old passed mid new : ServerState) (a b c : Replies) → HaveServed serial id old a → Passes now old passed → mid ≡ passed → b ≡ a → Settled now (now % 65536) (clock_readings now) mid new b c → HaveServed serial id new c
-passed_round serial id now old passed mid new a b c h is same kept x =
-    one_round serial id now Nothing None old mid new a b c h
+pub passed_round : (sensors : List ℕ → Type 0) (serial id now : ℕ) (sensed readings : List ℕ) (old passed mid new : ServerState) (a b c : Replies) → HaveServed sensors serial id old a → sensors sensed → readings ≡ device_readings now sensed → Passes now old passed → mid ≡ passed → b ≡ a → Settled now (now % 65536) readings mid new b c → HaveServed sensors serial id new c
+passed_round sensors serial id now sensed readings old passed mid new a b c h said are is same kept x =
+    one_round sensors serial id now sensed Nothing None old mid new a b c h said
     (record { nothing = refl; passed = subst (λ (s : ServerState). Passes now old s) (sym same) is })
-    (subst (λ (r : Replies). CountsMore 0 a r) (sym kept) (counts_none a)) x
+    (subst (λ (r : Replies). CountsMore 0 a r) (sym kept) (counts_none a))
+    (subst (λ (r : List ℕ). Settled now (now % 65536) r mid new b c) are x)

@@ -1,7 +1,23 @@
--- The readings of a server whose device has nothing but a clock.
-use Rattle.std.specs.Prelude.{ℕ, List, ◌++◌, replicate}
+-- The readings of a device that has a clock, and sensors or none.
+use Rattle.std.specs.Prelude.{◌≡◌, ℕ, ◌-◌, ◌≤◌, List, ◌++◌, length, replicate, Option}
 use Rattle.std.specs.Int.{w64, to_le_bytes}
+use Rattle.std.specs.Io.KnownBytes.{Consumes}
 
--- the moment in milliseconds, in eight bytes, the least first; and zeros
+-- where there are no sensors
+abbrev pub no_sensors : List ℕ
+no_sensors = replicate 56 0
+
+-- the moment in milliseconds, in eight bytes, the least first; and what the sensors say
+abbrev pub device_readings : ℕ → List ℕ → List ℕ
+device_readings now sensed = to_le_bytes w64 now ++ sensed
+
 abbrev pub clock_readings : ℕ → List ℕ
-clock_readings now = to_le_bytes w64 now ++ replicate 56 0
+clock_readings now = device_readings now no_sensors
+
+-- a reader gave this many bytes, 56 at most; zeros stand for those that are missing
+pub record AreSensed (had left : Option (List ℕ)) (count : ℕ) (sensed : List ℕ) : Type 0 where
+  pub given : List ℕ
+  pub count_is : length given ≡ count
+  pub few : count ≤ 56
+  pub first : Consumes had left given
+  pub padded : sensed ≡ given ++ replicate (56 - count) 0

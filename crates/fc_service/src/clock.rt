@@ -1,12 +1,16 @@
-//! The monotonic clock: moments since a start, and the readings of a device that has nothing but a clock.
-ghost use Rattle.std.specs.Prelude.{◌≡◌, ℕ};
-ghost use Rattle.fc_service.specs.Clocks.{clock_readings};
+//! The monotonic clock: moments since a start, and the readings of a device that has a clock.
+ghost use Rattle.std.specs.Prelude.{◌≡◌, ℕ, List};
+ghost use Rattle.fc_service.specs.Clocks.{device_readings};
 
+use crate::sensors::{Sensed, Sensors};
 use fc_help::{NO_READINGS, Readings};
 use fc_workers::{Device, Moments};
 use std::io;
 use std::sync::Wait;
 use std::time::{Clock, Instant};
+
+/// The bytes of the readings that are the clock's.
+const CLOCK: usize = 8;
 
 // Milliseconds since a start, by the monotonic clock. It is 0 where the clock can't be read.
 #[derive(Drop)]
@@ -38,25 +42,28 @@ impl<'a, C: Clock> Moments for Elapsed<'a, C> {
     }
 }
 
-// A device that has nothing but a clock.
+// A device that has a clock, and sensors or none.
 #[derive(Drop)]
-pub(crate) struct ClockDevice<'a, M: Moments> {
+pub(crate) struct SensingDevice<'a, M: Moments, Z: Sensors> {
     pub(crate) moments: &'a M,
+    pub(crate) sensors: &'a Z,
 }
 
-impl<'a, M: Moments> Device for ClockDevice<'a, M> {
-    ghost are_readings = { λ readings. (now : ℕ) × M.is_moment now × (readings ≡ clock_readings now) };
+impl<'a, M: Moments, Z: Sensors> Device for SensingDevice<'a, M, Z> {
+    ghost are_readings = { λ readings. (now : ℕ) × (sensed : List ℕ) × M.is_moment now × Z.are_sensed sensed × (readings ≡ device_readings now sensed) };
 
     fn readings<R: Wait>(&self, rt: &R) -> Readings {
-        clock_readings(self.moments.now(rt))
+        let now = self.moments.now(rt);
+        device_readings(now, &self.sensors.sense(rt, now))
     }
 }
 
-// The readings at a moment in milliseconds: the moment, and zeros.
-pub(crate) fn clock_readings(now: u64) -> Readings
-    ensures { result ≡ clock_readings now }
+// The readings at a moment in milliseconds: the moment, and what the sensors say.
+pub(crate) fn device_readings(now: u64, sensed: &Sensed) -> Readings
+    ensures { result ≡ device_readings now sensed.now }
 {
     let mut readings = NO_READINGS;
-    readings[..8].copy_from_slice(&now.to_le_bytes());
+    readings[..CLOCK].copy_from_slice(&now.to_le_bytes());
+    readings[CLOCK..].copy_from_slice(sensed);
     readings
 }

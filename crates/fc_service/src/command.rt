@@ -28,7 +28,8 @@ programs and remove them.
 One thread receives datagrams, and runs the programs that take less than 6,000 instructions;
 W others run those that may take more. With `--workers 1` there are no others: the one thread
 runs all. After each datagram observers are notified. Programs of the second version read the
-milliseconds since the start, in eight bytes, the least first.
+milliseconds since the start, in eight bytes, the least first, and behind these 56 bytes of FILE,
+which is read again before a run; zeros where there are none.
 
 After N datagrams the server ends, where N isn't 0. With `--log info` standard error is told
 `listening on ADDRESS:PORT` once it receives, and at its end `sent S failed F`, how many replies
@@ -93,6 +94,7 @@ fn serve_command<'a>(alloc: Global) -> Result<Command<'a>, Error> {
             .arg(port(alloc))?
             .arg(bind(alloc))?
             .arg(dear_workers(alloc))?
+            .arg(readings(alloc))?
             .arg(limit(alloc))?
             .arg(log(alloc))?,
     )
@@ -112,6 +114,15 @@ fn bind<'a>(alloc: Global) -> Arg<'a> {
         "The IPv4 address of this host that it listens at",
     )
     .default_value("127.0.0.1")
+}
+
+fn readings<'a>(alloc: Global) -> Arg<'a> {
+    option(
+        alloc,
+        "readings",
+        "FILE",
+        "What programs read behind the clock: the file's first 56 bytes",
+    )
 }
 
 fn limit<'a>(alloc: Global) -> Arg<'a> {

@@ -22,6 +22,7 @@ pub mod command;
 pub mod play;
 pub mod pool;
 pub mod replies;
+pub mod sensors;
 pub mod serve;
 mod settle;
 pub mod socket;

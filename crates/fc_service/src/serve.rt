@@ -1,17 +1,18 @@
 //! A server on a socket: datagrams are received on one thread, and their jobs are worked off by others, or by the same.
-ghost use Rattle.std.specs.Prelude.{◌≡◌, ◌<◌, ◌≤◌, ◌%◌, ◌⊎◌, IfOk, List, is_some, length};
+ghost use Rattle.std.specs.Prelude.{◌≡◌, ◌<◌, ◌≤◌, ◌%◌, ◌⊎◌, ℕ, IfOk, List, is_some, length};
 ghost use Rattle.fc_core.specs.Exchanges.{advanced};
 ghost use Rattle.fc_core.specs.Receiving.{delivered, emission_if};
 ghost use Rattle.fc_registry.specs.Slots.{last_serial};
 ghost use Rattle.fc_server.specs.Serving.{Hears};
-ghost use Rattle.fc_service.specs.Clocks.{clock_readings};
+ghost use Rattle.fc_service.specs.Clocks.{device_readings};
 ghost use Rattle.fc_service.specs.Rounds.{CountsMore, HasServed};
 ghost use Rattle.fc_service.specs.Settling.{AreSteps, SettlingStep, sent_in_steps};
 ghost use Rattle.fc_cli.specs.declared.status.Status.TheVariants.{Done, Failed};
 
-use crate::clock::{ClockDevice, Elapsed, clock_readings};
+use crate::clock::{Elapsed, SensingDevice, device_readings};
 use crate::pool::{Feeder, Intake, Pool, run_pool};
 use crate::replies::Replies;
+use crate::sensors::Sensors;
 use crate::settle::{STEPS, Settling};
 use crate::socket::{Replying, Sink, Source, open};
 use coap_msg::types::DATAGRAM;
@@ -20,6 +21,7 @@ use fc_cli::clock::clock_id;
 use fc_cli::status::{Status, tell};
 use fc_core::Heard;
 use fc_core::front::blank_emission;
+use fc_help::Readings;
 use fc_server::engine::Notified;
 use fc_server::{Begin, Engine};
 use fc_workers::{Handover, Moments};
@@ -70,11 +72,12 @@ pub struct Listening {
 
 /// Serves on UDP at an address and a port of this host, as [`serve_at`] does; `err` is told that it listens, where that is asked for. It fails, and `err` is told why, where
 /// the socket can't be had as well.
-pub fn serve<R: Threads + Wait + Clock + Net + Sync, L: Log, E: Write>(
+pub fn serve<R: Threads + Wait + Clock + Net + Sync, L: Log, E: Write, Z: Sensors + Sync>(
     rt: &R,
     alloc: Global,
     log: &L,
     err: &mut E,
+    sensors: &Z,
     listening: Listening,
     extent: Extent,
 ) -> Status
@@ -86,31 +89,39 @@ pub fn serve<R: Threads + Wait + Clock + Net + Sync, L: Log, E: Write>(
             if listening.told {
                 let _told = writeln!(err, "listening on {address}");
             }
-            serve_at(rt, alloc, log, err, &socket, &socket, extent)
+            serve_at(rt, alloc, log, err, sensors, &socket, &socket, extent)
         }
         Err(error) => tell(err, &Stop::Socket(address, error), Status::Failed),
     }
 }
 
-/// Serves datagrams of a source, on a new server of empty slots, until so many were received. This thread answers each whose job is cheap before it receives the
+/// Serves datagrams of a source, on a new server of empty slots, until so many were received. Programs read the milliseconds since the start, and what the sensors say. This thread answers each whose job is cheap before it receives the
 /// next; a job whose program may run long is worked off by workers, each in a thread of its own. One worker is this thread, for all jobs; and so it is where no
 /// thread can be made for a worker, which `err` is told. After each datagram what is late is sent again, and the observers that are due are notified.
 /// Where none comes in time, time passes. Then the workers work off the jobs that are
 /// left, and `log` is told how many replies went to the sink and how many couldn't be sent: a record `sent 2 failed 0` of level info.
 ///
 /// It fails, and `err` is told why, where the clock couldn't be read or there was no memory at the start.
-pub fn serve_at<R: Threads + Wait + Clock + Sync, S: Source, K: Sink + Sync, L: Log, E: Write>(
+pub fn serve_at<
+    R: Threads + Wait + Clock + Sync,
+    S: Source,
+    K: Sink + Sync,
+    L: Log,
+    E: Write,
+    Z: Sensors + Sync,
+>(
     rt: &R,
     alloc: Global,
     log: &L,
     err: &mut E,
+    sensors: &Z,
     source: &S,
     sink: &K,
     extent: Extent,
 ) -> Status
     ensures { (result ≡ Done) ⊎ (result ≡ Failed) }
 {
-    match serve_to_end(rt, alloc, err, source, sink, extent) {
+    match serve_to_end(rt, alloc, err, sensors, source, sink, extent) {
         Ok(replies) => {
             info!(log; "{replies}");
             Status::Done
@@ -120,10 +131,17 @@ pub fn serve_at<R: Threads + Wait + Clock + Sync, S: Source, K: Sink + Sync, L: 
 }
 
 // Serves to the end: all replies.
-fn serve_to_end<R: Threads + Wait + Clock + Sync, E: Write, S: Source, K: Sink + Sync>(
+fn serve_to_end<
+    R: Threads + Wait + Clock + Sync,
+    E: Write,
+    Z: Sensors + Sync,
+    S: Source,
+    K: Sink + Sync,
+>(
     rt: &R,
     alloc: Global,
     err: &mut E,
+    sensors: &Z,
     source: &S,
     sink: &K,
     extent: Extent,
@@ -137,6 +155,7 @@ fn serve_to_end<R: Threads + Wait + Clock + Sync, E: Write, S: Source, K: Sink +
         source,
         sink,
         moments: &moments,
+        sensors,
         limit: extent.limit,
     };
     if extent.workers == 1 {
@@ -148,7 +167,10 @@ fn serve_to_end<R: Threads + Wait + Clock + Sync, E: Write, S: Source, K: Sink +
         begin,
         wire: &Replying { sink },
         moments: &moments,
-        device: &ClockDevice { moments: &moments },
+        device: &SensingDevice {
+            moments: &moments,
+            sensors,
+        },
     };
     let fed = run_pool(rt, alloc, err, &pool, receiver)?;
     Ok(fed.given.plus(fed.replies))
@@ -156,14 +178,15 @@ fn serve_to_end<R: Threads + Wait + Clock + Sync, E: Write, S: Source, K: Sink +
 
 // Who receives datagrams, up to a limit, and sends what needs no job; or works all of them off.
 #[derive(Drop)]
-struct Receiver<'a, S: Source, K: Sink, M: Moments> {
+struct Receiver<'a, S: Source, K: Sink, M: Moments, Z: Sensors> {
     source: &'a S,
     sink: &'a K,
     moments: &'a M,
+    sensors: &'a Z,
     limit: u32,
 }
 
-impl<'a, S: Source, K: Sink, M: Moments> Feeder<Replies> for Receiver<'a, S, K, M> {
+impl<'a, S: Source, K: Sink, M: Moments, Z: Sensors> Feeder<Replies> for Receiver<'a, S, K, M, Z> {
     fn feed<N: Intake, R: Wait>(self, rt: &R, intake: &mut N) -> Replies {
         let mut reply = blank_emission();
         let mut buffer = [0; BUFFER];
@@ -190,7 +213,7 @@ impl<'a, S: Source, K: Sink, M: Moments> Feeder<Replies> for Receiver<'a, S, K, 
     }
 }
 
-impl<'a, S: Source, K: Sink, M: Moments> Receiver<'a, S, K, M> {
+impl<'a, S: Source, K: Sink, M: Moments, Z: Sensors> Receiver<'a, S, K, M, Z> {
     // Sends what a datagram is answered at once, if anything.
     fn reply_if(&self, heard: Heard, reply: &Emission, replies: &mut Replies) {
         if heard == Heard::Reply {
@@ -245,7 +268,7 @@ fn notify<N: Intake, R: Wait>(rt: &R, intake: &mut N, shard: u8, now: u64) -> No
     }
 }
 
-impl<'a, S: Source, K: Sink, M: Moments> Receiver<'a, S, K, M> {
+impl<'a, S: Source, K: Sink, M: Moments, Z: Sensors> Receiver<'a, S, K, M, Z> {
     // Works each datagram off on this thread, before the next is received: the replies, each counted once.
     fn serve_alone<R: Wait>(
         self,
@@ -254,7 +277,7 @@ impl<'a, S: Source, K: Sink, M: Moments> Receiver<'a, S, K, M> {
         begin: Begin,
     ) -> Result<Replies, AllocError>
         requires { begin.serial ≤ last_serial }
-        ensures { IfOk result (HasServed begin.serial begin.id) }
+        ensures { IfOk result (HasServed Z.are_sensed begin.serial begin.id) }
     {
         let mut engine = Engine::new(alloc, begin.serial, begin.id)?;
         let mut reply = blank_emission();
@@ -266,32 +289,49 @@ impl<'a, S: Source, K: Sink, M: Moments> Receiver<'a, S, K, M> {
                 break;
             }
             let heard = self.source.receive(&mut buffer);
-            let now = self.moments.now(rt);
+            let at = moment_of(rt, self.moments, self.sensors);
             match heard {
                 Some((count, from)) => {
                     received = received.saturating_add(1);
                     let bytes = &buffer[..count];
-                    let out = answer(&mut engine, alloc, now, from, bytes, &mut reply, self.sink);
+                    let out = answer(&mut engine, alloc, &at, from, bytes, &mut reply, self.sink);
                     replies.count_if_any(out);
                 }
-                None => engine.tick(now),
+                None => engine.tick(at.millis),
             }
-            settle(&mut engine, now, self.sink, &mut replies);
+            settle(&mut engine, &at, self.sink, &mut replies);
         }
         Ok(replies)
     }
 }
 
-// Sends what is late again, and notifies the observers that are due, at a moment in milliseconds, whose low bits are the random word.
-fn settle<K: Sink>(engine: &mut Engine, now: u64, sink: &K, replies: &mut Replies)
-    ensures { (steps : List SettlingStep) × AreSteps now (now % 65536) (clock_readings now) steps engine.old engine.new
+// A moment in milliseconds, and the readings that programs find then.
+#[derive(Clone, Copy)]
+struct Moment {
+    millis: u64,
+    readings: Readings,
+}
+
+// The moment that it is, with what the sensors say.
+fn moment_of<R: Wait, M: Moments, Z: Sensors>(rt: &R, moments: &M, sensors: &Z) -> Moment
+    ensures { (sensed : List ℕ) × Z.are_sensed sensed × (result.readings ≡ device_readings result.millis sensed) }
+{
+    let now = moments.now(rt);
+    Moment {
+        millis: now,
+        readings: device_readings(now, &sensors.sense(rt, now)),
+    }
+}
+
+// Sends what is late again, and notifies the observers that are due, at a moment, whose low bits are the random word.
+fn settle<K: Sink>(engine: &mut Engine, at: &Moment, sink: &K, replies: &mut Replies)
+    ensures { (steps : List SettlingStep) × AreSteps at.now.millis (at.now.millis % 65536) at.now.readings steps engine.old engine.new
         × CountsMore (length (sent_in_steps steps)) replies.old replies.new }
 {
-    let random = (now % 0x1_0000) as u16;
-    let readings = clock_readings(now);
+    let random = (at.millis % 0x1_0000) as u16;
     let mut settling = Settling::new();
     for _ in 0..STEPS {
-        match settling.next(engine, now, &readings, random) {
+        match settling.next(engine, at.millis, &at.readings, random) {
             Some(emission) => replies.count_if_any(Some(sink.send(&emission))),
             None => return,
         }
@@ -302,16 +342,16 @@ fn settle<K: Sink>(engine: &mut Engine, now: u64, sink: &K, replies: &mut Replie
 fn answer<K: Sink>(
     engine: &mut Engine,
     alloc: Global,
-    now: u64,
+    at: &Moment,
     from: Endpoint,
     bytes: &[u8],
     reply: &mut Emission,
     sink: &K,
 ) -> Option<bool>
-    ensures { Hears (clock_readings now) now from bytes.entry (delivered (advanced engine.old.front now) from bytes.now)
+    ensures { Hears at.now.readings at.now.millis from bytes.entry (delivered (advanced engine.old.front at.now.millis) from bytes.now)
         engine.old engine.new (emission_if (is_some result) reply.new) }
 {
-    if engine.hear(alloc, now, from, bytes, &clock_readings(now), reply) {
+    if engine.hear(alloc, at.millis, from, bytes, &at.readings, reply) {
         Some(sink.send(reply))
     } else {
         None

@@ -8,6 +8,7 @@ use fc_lines::LineLimit;
 use fc_server::Begin;
 use fc_service::command::command;
 use fc_service::play::play;
+use fc_service::sensors::{FileSensors, NoSensors};
 use fc_service::serve::{Extent, Listening, serve};
 use fc_service::workers::play_by_workers;
 use log::sink::Console;
@@ -27,17 +28,19 @@ const FIRST_ID: u16 = 0;
 
 fn run<R: Runtime + AllocGlobal + Threads + Wait + Net + Sync, E: Write>(
     rt: &R,
+    files: &HostRuntime,
     err: &mut E,
 ) -> anyhow::Result<Status> {
     match words(rt, err)? {
-        Some(words) => obey(rt, err, words),
+        Some(words) => obey(rt, files, err, words),
         None => Ok(Status::Bad),
     }
 }
 
-// Does what the words of the command line ask for.
+// Does what the words of the command line ask for. `files` is the same runtime: several threads read by it, which is shown of its own type alone.
 fn obey<R: Runtime + AllocGlobal + Threads + Wait + Net + Sync, E: Write>(
     rt: &R,
+    files: &HostRuntime,
     err: &mut E,
     words: Vec<String>,
 ) -> anyhow::Result<Status> {
@@ -50,7 +53,7 @@ fn obey<R: Runtime + AllocGlobal + Threads + Wait + Net + Sync, E: Write>(
             let workers = matches.get_one::<u8>("workers");
             play_input(rt, err, workers)
         }
-        Some(("serve", matches)) => serve_socket(rt, err, matches),
+        Some(("serve", matches)) => serve_socket(rt, files, err, matches),
         _ => Ok(Status::Bad),
     }
 }
@@ -77,6 +80,7 @@ fn play_input<R: Runtime + AllocGlobal + Threads + Wait + Net + Sync, E: Write>(
 // Serves at the address and port that the command line names.
 fn serve_socket<R: Runtime + AllocGlobal + Threads + Wait + Net + Sync, E: Write>(
     rt: &R,
+    files: &HostRuntime,
     err: &mut E,
     matches: &ArgMatches<'_>,
 ) -> anyhow::Result<Status> {
@@ -106,7 +110,14 @@ fn serve_socket<R: Runtime + AllocGlobal + Threads + Wait + Net + Sync, E: Write
         told,
     };
     let extent = Extent { workers, limit };
-    Ok(serve(rt, rt.alloc(), &log, err, listening, extent))
+    let alloc = rt.alloc();
+    Ok(match matches.get_str("readings") {
+        Some(path) => {
+            let sensors = FileSensors::new(files, path);
+            serve(rt, alloc, &log, err, &sensors, listening, extent)
+        }
+        None => serve(rt, alloc, &log, err, &NoSensors, listening, extent),
+    })
 }
 
 fn ip_of(text: &str) -> Option<Ipv4Addr> {
@@ -115,6 +126,6 @@ fn ip_of(text: &str) -> Option<Ipv4Addr> {
 
 fn main(rt: HostRuntime) -> ExitCode {
     let mut err = rt.stderr();
-    let ended = run(&rt, &mut err);
+    let ended = run(&rt, &rt, &mut err);
     exit_code(&mut err, ended)
 }

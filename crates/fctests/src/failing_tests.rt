@@ -4,6 +4,7 @@ ghost use Rattle.std.specs.Prelude.{◌≤◌, IfSome, length};
 use crate::socket_tests::{check_logged, put_datagram};
 use coap_msg::{Emission, Endpoint};
 use fc_cli::Status;
+use fc_service::sensors::NoSensors;
 use fc_service::serve::{Extent, serve_at};
 use fc_service::socket::{Sink, Source};
 use log::sink::Memory;
@@ -107,7 +108,9 @@ fn check_served<R: Abort + AllocGlobal + Threads + Wait + Clock + Sync>(
         wrong: AtomicUsize::new(0),
     };
     let extent = Extent { workers, limit: 8 };
-    let status = serve_at(rt, alloc, &log, &mut err, &letters, &matching, extent);
+    let status = serve_at(
+        rt, alloc, &log, &mut err, &NoSensors, &letters, &matching, extent,
+    );
     assert!(rt; status == Status::Done && err.is_empty());
     assert!(rt;
         matching.sends.load(Ordering::SeqCst) == 8 && matching.wrong.load(Ordering::SeqCst) == 0

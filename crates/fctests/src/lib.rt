@@ -81,6 +81,8 @@ mod run_tests;
 #[cfg(test)]
 mod scripted;
 #[cfg(test)]
+mod sensor_tests;
+#[cfg(test)]
 mod separate_tests;
 #[cfg(test)]
 mod smaller_block_tests;

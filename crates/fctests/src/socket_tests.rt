@@ -6,6 +6,7 @@ use coap_msg::{Emission, Endpoint};
 use coap_opts::Method;
 use fc_cli::Status;
 use fc_fetch::{Asking, Shown, fetch};
+use fc_service::sensors::NoSensors;
 use fc_service::serve::{Extent, Listening, serve, serve_at};
 use fc_service::socket::{Sink, Source, open};
 use log::sink::Memory;
@@ -99,7 +100,9 @@ pub(crate) fn serve_logged<R: Threads + Wait + Clock + Sync>(
     let memory = Memory::new(alloc);
     let log = Logged::new(rt, LevelFilter::Info, &memory);
     let mut err = Vec::new(alloc);
-    let status = serve_at(rt, alloc, &log, &mut err, socket, socket, extent);
+    let status = serve_at(
+        rt, alloc, &log, &mut err, &NoSensors, socket, socket, extent,
+    );
     (status, memory)
 }
 
@@ -154,7 +157,7 @@ fn a_taken_port_is_status_3(rt: HostRuntime) -> Result<(), Fail> {
         address: at_port(port),
         told: true,
     };
-    let status = serve(&rt, alloc, &log, &mut err, listening, extent);
+    let status = serve(&rt, alloc, &log, &mut err, &NoSensors, listening, extent);
     let told = format!(in alloc; "UDP 127.0.0.1:{port}: Address already in use (os error 98)\n")?;
     assert!(rt; status == Status::Failed && err.as_slice() == told.as_bytes());
     Ok(())
@@ -311,7 +314,9 @@ fn serve_script<R: Abort + AllocGlobal + Threads + Wait + Clock + Sync>(
         sends: AtomicUsize::new(0),
     };
     let extent = Extent { workers, limit: 2 };
-    let status = serve_at(rt, alloc, &log, &mut err, &script, &lossy, extent);
+    let status = serve_at(
+        rt, alloc, &log, &mut err, &NoSensors, &script, &lossy, extent,
+    );
     assert!(rt; status == Status::Done && err.is_empty());
     assert!(rt;
         script.calls.load(Ordering::SeqCst) == 4 && lossy.sends.load(Ordering::SeqCst) == 2
@@ -477,7 +482,7 @@ fn eight_clients_count_right(rt: HostRuntime) -> Result<(), Fail> {
 }
 
 // An image of the second version that replies all of its readings: `mov64 r1, r4`, `mov64 r2, 64`, `call 5`, `mov64 r0, 0`, `exit`.
-static READER: [u8; 56] = [
+pub(crate) static READER: [u8; 56] = [
     0x46, 0x43, 0x42, 0x32, 0x00, 0x00, 0x05, 0x00, 0x05, 0x00, 0x00, 0x00, 0x00, 0x00, 0x00, 0x00,
     0xbf, 0x41, 0x00, 0x00, 0x00, 0x00, 0x00, 0x00, 0xb7, 0x02, 0x00, 0x00, 0x40, 0x00, 0x00, 0x00,
     0x85, 0x00, 0x00, 0x00, 0x05, 0x00, 0x00, 0x00, 0xb7, 0x00, 0x00, 0x00, 0x00, 0x00, 0x00, 0x00,
@@ -485,7 +490,11 @@ static READER: [u8; 56] = [
 ];
 
 // The readings that `GET /r/0` is answered with: those 64 bytes behind the head, the token, the ETag and the payload marker.
-fn readings_of(client: &UdpSocket, server: SocketAddrV4, id: u8) -> io::Result<[u8; 64]> {
+pub(crate) fn readings_of(
+    client: &UdpSocket,
+    server: SocketAddrV4,
+    id: u8,
+) -> io::Result<[u8; 64]> {
     client.send_to(&[0x40, 0x01, 0x00, id, 0xb1, b'r', 0x01, b'0'], server)?;
     let mut answer = [0; 128];
     let (count, _from) = client.recv_from(&mut answer)?;

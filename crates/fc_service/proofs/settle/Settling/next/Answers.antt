@@ -1,5 +1,3 @@
-use Rattle.std.proofs.Common.{◌≡◌, ◌∙◌, ◌++◌, [], List, None, ap}
-use Rattle.std.specs.Option.{option_to_list}
 use Rattle.fc_service.proofs.Steps.{then_steps}
 use Rattle.fc_service.proofs.settle.Settling.next.Goals as goal
 

@@ -1,4 +1,4 @@
-use Rattle.std.proofs.Common.{◌≡◌, ◌∙◌, Bool, None, ℕ, [], List, refl, subst, sym}
+use Rattle.std.proofs.Common.{◌≡◌, Bool, None, [], List, refl, subst, sym}
 use Rattle.std.specs.Prelude.{MatchBool}
 use Rattle.fc_server.specs.Serving.{TicksShard}
 use Rattle.fc_server.specs.States.{ServerState}

@@ -1,0 +1,135 @@
+//! Sensors: what a device reads behind its clock. A file has what they say, which a driver or a script keeps; or there are none.
+ghost use Rattle.std.specs.Prelude.{◌≡◌, ⊤, ℕ, List, IfOk, OnErr};
+ghost use Rattle.fc_service.specs.Clocks.{AreSensed, no_sensors};
+
+use std::io::{Eprint, Read};
+use std::os::unix::fs::FileTypeExt;
+use std::rt::Files;
+use std::sync::{Mutex, Wait};
+use std::{fs, io};
+use thiserror::Error;
+
+/// The bytes of the readings behind the clock's.
+pub const SENSED: usize = 56;
+
+/// What the sensors say.
+pub type Sensed = [u8; SENSED];
+
+/// What is read where there is no sensor.
+const NOTHING: Sensed = [0; SENSED];
+
+/// The sensors of a device.
+pub trait Sensors {
+    // What they have said.
+    ghost are_sensed: { List ℕ → Type 0 } = { λ _. ⊤ };
+
+    /// What they say, at a moment in milliseconds.
+    fn sense<R: Wait>(&self, rt: &R, now: u64) -> Sensed
+        ensures { are_sensed result };
+}
+
+/// No sensors: zeros.
+#[derive(Clone, Copy)]
+pub struct NoSensors;
+
+impl Sensors for NoSensors {
+    ghost are_sensed = { λ sensed. sensed ≡ no_sensors };
+
+    fn sense<R: Wait>(&self, rt: &R, now: u64) -> Sensed {
+        let _ = rt;
+        let _ = now;
+        NOTHING
+    }
+}
+
+// Why a file doesn't say what the sensors say.
+#[derive(Debug, Drop, Error)]
+enum Trouble {
+    #[error("{0}")]
+    Unread(#[from] io::Error),
+    #[error("a FIFO isn't read, since that waits for its writer")]
+    Fifo,
+    #[error("{0} bytes of 56")]
+    Short(usize),
+}
+
+// What a file said last, and at which moment; and whether standard error was told that it doesn't say all.
+#[derive(Drop)]
+struct Kept {
+    at: Option<u64>,
+    sensed: Sensed,
+    told: bool,
+}
+
+/// Sensors whose first 56 bytes a file has: it is read when they are asked for, and again at another moment. Zeros stand for what is missing, which standard error is told,
+/// once.
+#[derive(Drop)]
+pub struct FileSensors<'a, F: Files + Eprint> {
+    files: &'a F,
+    path: &'a str,
+    kept: Mutex<Kept>,
+}
+
+impl<'a, F: Files + Eprint> FileSensors<'a, F> {
+    /// The sensors of the file of this path.
+    pub fn new(files: &'a F, path: &'a str) -> FileSensors<'a, F> {
+        let kept = Kept {
+            at: None,
+            sensed: NOTHING,
+            told: false,
+        };
+        FileSensors {
+            files,
+            path,
+            kept: Mutex::new(kept),
+        }
+    }
+
+    // Reads the file: its first bytes, with zeros behind them.
+    fn read(&self, sensed: &mut Sensed) -> Result<(), Trouble> {
+        *sensed = NOTHING;
+        if fs::metadata(self.files, self.path)?.file_type().is_fifo() {
+            return Err(Trouble::Fifo);
+        }
+        let mut file = fs::open(self.files, self.path)?;
+        match read_sensed(&mut file, sensed)? {
+            SENSED => Ok(()),
+            count => Err(Trouble::Short(count)),
+        }
+    }
+
+    fn tell(&self, trouble: &Trouble) {
+        let path = self.path;
+        let _told = eprintln!(self.files;
+            "readings {path}: {trouble}: zeros stand for what is missing"
+        );
+    }
+}
+
+impl<'a, F: Files + Eprint> Sensors for FileSensors<'a, F> {
+    fn sense<R: Wait>(&self, rt: &R, now: u64) -> Sensed {
+        let mut kept = self.kept.lock(rt);
+        if kept.at != Some(now) {
+            kept.at = Some(now);
+            if let Err(trouble) = self.read(&mut kept.sensed)
+                && !kept.told
+            {
+                kept.told = true;
+                self.tell(&trouble);
+            }
+        }
+        kept.sensed
+    }
+}
+
+// Reads what one call of a reader gives, 56 bytes at most, with zeros behind them: how many it gave.
+fn read_sensed<R: Read>(reader: &mut R, sensed: &mut Sensed) -> io::Result<usize>
+    ensures given { IfOk result (λ count. AreSensed (R.remaining reader.old) (R.remaining reader.new) count sensed.new) }
+    ensures none { OnErr result (sensed.new ≡ no_sensors) }
+{
+    *sensed = NOTHING;
+    let mut given = NOTHING;
+    let count = reader.read(&mut given)?;
+    sensed[..count].copy_from_slice(&given[..count]);
+    Ok(count)
+}
