@@ -14,6 +14,7 @@ pub mod OnShards
 pub mod Watches
 pub mod Others
 pub mod Steps
+pub mod ByStep
 pub mod Along
 pub mod Takings
 pub mod Ends

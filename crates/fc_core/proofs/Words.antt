@@ -17,13 +17,14 @@ use Rattle.fc_core.specs.Contents.{Valid}
 use Rattle.fc_core.specs.declared.event.Event.{Event}
 use Rattle.fc_core.specs.declared.event.Event.TheVariants.{Peek, Take, Commit, Install, Remove, Receipt, Raise, Answer, Fresh, Note, GiveUp, Lose}
 use Rattle.fc_core.specs.declared.stage.Stage.{Stage}
-use Rattle.fc_core.specs.declared.stage.Stage.TheVariants.{ToMatch, ToTake, ToCommit, ToInstall, ToRemove, ToDescribe, ToList, ToRaise, ToAnswer, ToTell}
-use Rattle.fc_core.specs.declared.stage.TurnStage.TheVariants as turns
+use Rattle.fc_core.specs.declared.stage.Stage.TheVariants.{ToMatch, ToInstall, ToRaise, ToAnswer}
 use Rattle.fc_core.specs.HeadLaws.{raises_of, word_to_raise, words_raised}
 use Rattle.fc_core.specs.Heads.{head_word, is_match, published, serial_in, word_at, word_raised}
 use Rattle.fc_core.specs.History.{around, Entry, History, Begins, Then, Seen, seen, and_then, did, job, scene, slot_at, stage, words_seen}
 use Rattle.fc_core.specs.Laws.{slot_of}
 use Rattle.fc_core.specs.Stages.{Around, Scene, committed, image_of, installed, matched_by, names, peeked_own, row, verified}
+use Rattle.fc_core.proofs.ByStep.{Step, by_step, event_by, move_by, some_step, stage_by, step_of}
+use Rattle.fc_core.proofs.ByStep as steps
 use Rattle.fc_core.proofs.Others.{is_here, named_stage}
 
 abbrev at : Job → Slot → Around → Stage → Scene
@@ -50,21 +51,20 @@ abbrev raise_by : Event → Stage → Option ℕ
 raise_by (Raise k) (ToRaise word content) = Some word
 raise_by e other = None
 
+step_raises : (k : ℕ) (c : Step) (job : Job) (slot : Slot) (ws : Around) → (move_by c job slot ws).raises ≡ raise_by (event_by k c) (stage_by c)
+step_raises k (steps.Commits now n t) job slot ws = committed_raises n t now ws (outcome t slot)
+step_raises k (steps.Installs memory) job slot ws = verified_raises memory (at job slot ws ToInstall)
+step_raises k other job slot ws = refl
+
+rest_raises : (e : Event) (s : Stage) → step_of e s ≡ None → None ≡ raise_by e s
+rest_raises (Raise k) (ToRaise word content) none = absurd (some_step none)
+rest_raises (Raise k) other none = refl
+rest_raises other s none = refl
+
 row_raises : (e : Event) (job : Job) (slot : Slot) (ws : Around) (st : Stage) → (row e (at job slot ws st)).raises ≡ raise_by e st
-row_raises (Commit k now) job slot ws (ToCommit n t) = committed_raises n t now ws (outcome t slot)
-row_raises (Install k memory) job slot ws ToInstall = verified_raises memory (at job slot ws ToInstall)
-row_raises (Take k memory readings) job slot ws (ToTake n) = refl
-row_raises (Take k memory readings) job slot ws (ToTell turn turns.ToTake) = refl
-row_raises (Raise k) job slot ws (ToRaise word content) = refl
-row_raises (Answer k now) job slot ws (ToAnswer content) = refl
-row_raises (Fresh k now) job slot ws (ToTell turn (turns.ToDraw found)) = refl
-row_raises (Note k now random) job slot ws (ToTell turn (turns.ToNote found id)) = refl
-row_raises (GiveUp k now) job slot ws (ToTell turn needs) = refl
-row_raises (Peek k n) job slot ws ToMatch = refl
-row_raises (Peek k n) job slot ws (ToList seen) = refl
-row_raises (Remove k) job slot ws ToRemove = refl
-row_raises (Receipt k) job slot ws ToDescribe = refl
-row_raises other job slot ws st = refl
+row_raises e job slot ws st =
+    by_step (λ d s m. m.raises ≡ raise_by d s) job slot ws
+    (λ k c. step_raises k c job slot ws) (λ d s rest. rest_raises d s rest.none) e st
 
 -- ---- the words
 
