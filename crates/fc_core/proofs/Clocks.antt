@@ -17,14 +17,15 @@ use Rattle.fc_registry.specs.Notes.{keeps_observer, note_at, note_calls, serial_
 use Rattle.fc_registry.specs.Slots.{Present, Slot, Ticket}
 use Rattle.fc_registry.specs.Watches.{place_from, signal_call}
 use Rattle.fc_core.specs.declared.event.Event.{Event}
-use Rattle.fc_core.specs.declared.event.Event.TheVariants.{Peek, Remove, Receipt, Raise, Answer, Take, Commit, Due, Install, Note, GiveUp, ShardTick, Signal}
+use Rattle.fc_core.specs.declared.event.Event.TheVariants.{Due, ShardTick, Signal}
 use Rattle.fc_core.specs.declared.stage.Stage.{Stage}
-use Rattle.fc_core.specs.declared.stage.Stage.TheVariants.{ToMatch, ToTake, ToCommit, ToInstall, ToRemove, ToDescribe, ToList, ToRaise, ToAnswer, ToTell}
-use Rattle.fc_core.specs.declared.stage.TurnStage.TheVariants as turns
+use Rattle.fc_core.specs.declared.stage.Stage.TheVariants.{ToInstall}
 use Rattle.fc_core.specs.History.{Entry, History, Begins, Then, Seen, seen, and_then, around, calls_in, calls_named, due_in, is_due_at, is_late_at, is_place_of, job, late_in, scene, shard_hands, shard_moment_after, slot_at, stage, watch}
 use Rattle.fc_core.specs.Laws.{slot_of}
 use Rattle.fc_core.specs.Stages.{Around, Scene, committed, handed, names, row}
 use Rattle.fc_core.specs.TurnLaws.{moment_at}
+use Rattle.fc_core.proofs.ByStep.{Step, by_move, move_by}
+use Rattle.fc_core.proofs.ByStep as steps
 use Rattle.fc_core.proofs.Calling.{verified_calls}
 use Rattle.fc_core.proofs.Lists.{Each}
 use Rattle.fc_core.proofs.Places.{place_is}
@@ -101,20 +102,18 @@ note_reaches : (turn : Turn) (id random m : ℕ) (found : Option Ticket) (sent :
 note_reaches turn id random m found None = (omega arith, tt)
 note_reaches turn id random m found (Some e) = (told_reaches (keeps_observer found) turn id random m (serial_told found) e.bytes, (omega arith, tt))
 
+step_reaches : (c : Step) (job : Job) (slot : Slot) (ws : Around) → Each (ReachesTo (handed (move_by c job slot ws).hands ws.moment)) (move_by c job slot ws).calls
+step_reaches (steps.TakesTurn memory readings turn) job slot ws = miss_reaches (is_out_at turn ws.moment ws.watch) turn slot.present ws.moment
+step_reaches (steps.Commits now n t) job slot ws = committed_reaches n now t ws (outcome t slot)
+step_reaches (steps.Installs memory) job slot ws = subst (Each (ReachesTo (handed (move_by (steps.Installs memory) job slot ws).hands ws.moment))) (sym (verified_calls memory (at job slot ws ToInstall))) tt
+step_reaches (steps.Notes now random turn found id) job slot ws = note_reaches turn id random (max ws.moment now) found (note_at turn id (max ws.moment now) found ws.watch)
+step_reaches (steps.GivesUp now turn needs) job slot ws = (omega arith, tt)
+step_reaches other job slot ws = tt
+
 row_reaches : (e : Event) (job : Job) (slot : Slot) (ws : Around) (s : Stage) → Each (ReachesTo (handed (row e (at job slot ws s)).hands ws.moment)) (row e (at job slot ws s)).calls
-row_reaches (Peek k n) job slot ws ToMatch = tt
-row_reaches (Peek k n) job slot ws (ToList words) = tt
-row_reaches (Remove k) job slot ws ToRemove = tt
-row_reaches (Receipt k) job slot ws ToDescribe = tt
-row_reaches (Raise k) job slot ws (ToRaise word content) = tt
-row_reaches (Answer k now) job slot ws (ToAnswer content) = tt
-row_reaches (Take k memory readings) job slot ws (ToTake n) = tt
-row_reaches (Take k memory readings) job slot ws (ToTell turn turns.ToTake) = miss_reaches (is_out_at turn ws.moment ws.watch) turn slot.present ws.moment
-row_reaches (Commit k now) job slot ws (ToCommit n t) = committed_reaches n now t ws (outcome t slot)
-row_reaches (Install k memory) job slot ws ToInstall = subst (Each (ReachesTo (handed (row (Install k memory) (at job slot ws ToInstall)).hands ws.moment))) (sym (verified_calls memory (at job slot ws ToInstall))) tt
-row_reaches (Note k now random) job slot ws (ToTell turn (turns.ToNote found id)) = note_reaches turn id random (max ws.moment now) found (note_at turn id (max ws.moment now) found ws.watch)
-row_reaches (GiveUp k now) job slot ws (ToTell turn needs) = (omega arith, tt)
-row_reaches other job slot ws s = tt
+row_reaches e job slot ws s =
+    by_move (λ st m. Each (ReachesTo (handed m.hands ws.moment)) m.calls) job slot ws
+    (λ c. step_reaches c job slot ws) (λ st. tt) e s
 
 -- ---- an event
 
