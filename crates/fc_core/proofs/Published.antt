@@ -11,9 +11,8 @@ use Rattle.fc_registry.specs.Slots.{Slot, Present, Ticket, last_serial, new_slot
 use Rattle.fc_registry.specs.Changes.{after_changes, with_vars}
 use Rattle.fc_registry.specs.Calls.{clear_by, commit_of, outcome, put_by, receipt_of, taking, readings_if}
 use Rattle.fc_core.specs.declared.event.Event.{Event}
-use Rattle.fc_core.specs.declared.event.Event.TheVariants.{Peek, Take, Commit as Commits, Install, Remove, Receipt, Raise, Answer, Lose, Fresh, Note, GiveUp}
 use Rattle.fc_core.specs.declared.stage.Stage.{Stage}
-use Rattle.fc_core.specs.declared.stage.Stage.TheVariants.{ToMatch, ToTake, ToCommit, ToInstall, ToRemove, ToDescribe, ToList, ToRaise, ToAnswer, ToTell}
+use Rattle.fc_core.specs.declared.stage.Stage.TheVariants.{ToMatch, ToTake, ToCommit, ToInstall, ToRemove, ToList, ToRaise, ToAnswer, ToTell}
 use Rattle.fc_core.specs.declared.stage.TurnStage.TheVariants as turns
 use Rattle.fc_core.specs.declared.stage.Task.{Task}
 use Rattle.arrayvec.specs.ArrayVec.{ArrayVec}
@@ -25,6 +24,8 @@ use Rattle.fc_core.specs.HeadLaws.{PublishesAt}
 use Rattle.fc_core.specs.Laws.{HasCome, slot_of}
 use Rattle.fc_core.specs.Sound.{IsSound}
 use Rattle.fc_core.specs.Stages.{Around, Scene, committed, image_of, installed, made, matched_by, names, peeked_next, peeked_own, removed, row, took, verified}
+use Rattle.fc_core.proofs.ByStep.{Step, by_move, move_by, stage_by}
+use Rattle.fc_core.proofs.ByStep as steps
 use Rattle.fc_core.proofs.Telling.{after_turn}
 use Rattle.fc_core.proofs.Commits.{writes_at}
 use Rattle.fc_core.proofs.Fitting.{after_changes-append, writes_found}
@@ -94,22 +95,20 @@ next_publishes slot old true word seen = listed_publishes slot old (nat_lt (leng
 next_publishes slot old false word seen = tt
 
 -- what a row leaves to raise is the word of the slot after its changes
+step_publishes : (c : Step) (job : Job) (slot : Slot) (ws : Around) → FitsStage job slot (stage_by c) → PublishesAt (after_changes slot (move_by c job slot ws).changes) (stage_by c) (move_by c job slot ws).stage
+step_publishes (steps.Commits now n t) job slot ws f = committed_publishes job slot n t now ws (outcome t slot) refl f
+step_publishes (steps.Installs memory) job slot ws f = verified_publishes memory (at job slot ws ToInstall)
+step_publishes steps.Removes job slot ws f = clear_publishes slot (nat_lt slot.serial last_serial) slot.present
+step_publishes (steps.Takes memory readings n) job slot ws f = took_publishes slot (ToTake n) (readings_if memory readings) job slot.serial n slot.present
+step_publishes (steps.TakesTurn memory readings turn) job slot ws f = after_turn (PublishesAt slot (ToTell turn turns.ToTake)) (λ turn needs. tt) tt (readings_if memory readings) turn (at job slot ws (ToTell turn turns.ToTake))
+step_publishes (steps.Matches n) job slot ws f = own_publishes slot ToMatch (n == job.origin.slot) (word_at ws.common.words n) job.etags.items
+step_publishes (steps.Lists n seen) job slot ws f = next_publishes slot (ToList seen) (n == length seen.items) (word_at ws.common.words n) seen
+step_publishes other job slot ws f = tt
+
 row_publishes : (e : Event) (job : Job) (slot : Slot) (ws : Around) (s : Stage) → FitsStage job slot s → PublishesAt (after_changes slot (row e (at job slot ws s)).changes) s (row e (at job slot ws s)).stage
-row_publishes (Commits k now) job slot ws (ToCommit n t) f = committed_publishes job slot n t now ws (outcome t slot) refl f
-row_publishes (Install k memory) job slot ws ToInstall f = verified_publishes memory (at job slot ws ToInstall)
-row_publishes (Remove k) job slot ws ToRemove f = clear_publishes slot (nat_lt slot.serial last_serial) slot.present
-row_publishes (Take k memory readings) job slot ws (ToTake n) f = took_publishes slot (ToTake n) (readings_if memory readings) job slot.serial n slot.present
-row_publishes (Take k memory readings) job slot ws (ToTell turn turns.ToTake) f = after_turn (PublishesAt slot (ToTell turn turns.ToTake)) (λ turn needs. tt) tt (readings_if memory readings) turn (at job slot ws (ToTell turn turns.ToTake))
-row_publishes (Receipt k) job slot ws ToDescribe f = tt
-row_publishes (Peek k n) job slot ws ToMatch f = own_publishes slot ToMatch (n == job.origin.slot) (word_at ws.common.words n) job.etags.items
-row_publishes (Peek k n) job slot ws (ToList seen) f = next_publishes slot (ToList seen) (n == length seen.items) (word_at ws.common.words n) seen
-row_publishes (Raise k) job slot ws (ToRaise word content) f = tt
-row_publishes (Answer k now) job slot ws (ToAnswer content) f = tt
-row_publishes (Fresh k now) job slot ws (ToTell turn (turns.ToDraw found)) f = tt
-row_publishes (Note k now random) job slot ws (ToTell turn (turns.ToNote found id)) f = tt
-row_publishes (GiveUp k now) job slot ws (ToTell turn needs) f = tt
-row_publishes (Lose k) job slot ws s f = tt
-row_publishes other job slot ws s f = same_publishes slot s
+row_publishes e job slot ws s =
+    by_move (λ st m. FitsStage job slot st → PublishesAt (after_changes slot m.changes) st m.stage) job slot ws
+    (λ c. step_publishes c job slot ws) (λ st f. same_publishes slot st) e s
 
 -- the slot of the job that an event names, after it
 pub own_after : (r : Entry) (s : Seen) (k : ℕ) → names r.event ≡ Some k → slot_at (and_then r s) (slot_of s k) ≡ after_changes (slot_at s (slot_of s k)) (row r.event (scene s k)).changes
