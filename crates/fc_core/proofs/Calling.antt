@@ -28,15 +28,17 @@ use Rattle.fc_registry.specs.Watches.{place_from, signal_call}
 use Rattle.fc_verify.specs.Accepted.{Judgement, Accepts, Breaks, Untypable}
 use Rattle.fc_verify.specs.Judged.{judged}
 use Rattle.fc_core.specs.declared.event.Event.{Event}
-use Rattle.fc_core.specs.declared.event.Event.TheVariants.{Peek, Take, Commit, Install, Remove, Receipt, Raise, Answer, Fresh, Note, GiveUp}
+use Rattle.fc_core.specs.declared.event.Event.TheVariants.{Commit, Note}
 use Rattle.fc_core.specs.declared.stage.Stage.{Stage}
-use Rattle.fc_core.specs.declared.stage.Stage.TheVariants.{ToMatch, ToTake, ToCommit, ToInstall, ToRemove, ToDescribe, ToList, ToRaise, ToAnswer, ToTell}
+use Rattle.fc_core.specs.declared.stage.Stage.TheVariants.{ToCommit, ToInstall, ToTell}
 use Rattle.fc_core.specs.declared.stage.TurnStage.TheVariants as turns
 use Rattle.fc_core.specs.Fits.{FitsStage}
 use Rattle.fc_core.specs.History.{AtShard, AsksTurn, Signals, Ticks, Calm, Seen, around, at_shard, calls_by, calls_named, due_in, is_due_at, is_place_of, job, late_in, scene, slot_at, stage, turn_at, watch}
 use Rattle.fc_core.specs.Receiving.{AskWithin, JobWithin, RequestWithin}
 use Rattle.fc_core.specs.Sound.{IsSound}
 use Rattle.fc_core.specs.Stages.{Around, Scene, committed, image_of, installed, names, row, verified}
+use Rattle.fc_core.proofs.ByStep.{Step, by_step, event_by, move_by, stage_by}
+use Rattle.fc_core.proofs.ByStep as steps
 use Rattle.fc_core.proofs.Lists.{Each}
 use Rattle.fc_core.proofs.Places.{place_below}
 use Rattle.fc_core.proofs.Watches.{after_append}
@@ -69,32 +71,16 @@ pub verified_calls : (memory : Bool) (x : Scene) → (verified memory x).calls �
 verified_calls true x = installed_calls (judged (image_of x.job.ask)) x.slot
 verified_calls false x = refl
 
+step_calls : (k : ℕ) (c : Step) (job : Job) (slot : Slot) (ws : Around) → CallsBy (event_by k c) ws (stage_by c) (move_by c job slot ws).calls
+step_calls k (steps.TakesTurn memory readings turn) job slot ws = OfTaking turn ws.moment slot.present ws.watch refl
+step_calls k (steps.Commits now n t) job slot ws = committed_calls k now n t ws (outcome t slot)
+step_calls k (steps.Installs memory) job slot ws = NoCall (verified_calls memory (at job slot ws ToInstall))
+step_calls k (steps.Notes now random turn found id) job slot ws = OfNote k now random id turn found refl refl refl
+step_calls k (steps.GivesUp now turn needs) job slot ws = OfGiveUp turn (max ws.moment now) refl
+step_calls k other job slot ws = NoCall refl
+
 pub row_calls : (e : Event) (job : Job) (slot : Slot) (ws : Around) (s : Stage) → CallsBy e ws s (row e (at job slot ws s)).calls
-row_calls (Peek k n) job slot ws ToMatch = NoCall refl
-row_calls (Peek k n) job slot ws (ToList seen) = NoCall refl
-row_calls (Peek k n) job slot ws other = NoCall refl
-row_calls (Remove k) job slot ws ToRemove = NoCall refl
-row_calls (Remove k) job slot ws other = NoCall refl
-row_calls (Receipt k) job slot ws ToDescribe = NoCall refl
-row_calls (Receipt k) job slot ws other = NoCall refl
-row_calls (Take k memory readings) job slot ws (ToTake n) = NoCall refl
-row_calls (Take k memory readings) job slot ws (ToTell turn turns.ToTake) = OfTaking turn ws.moment slot.present ws.watch refl
-row_calls (Take k memory readings) job slot ws other = NoCall refl
-row_calls (Commit k now) job slot ws (ToCommit n t) = committed_calls k now n t ws (outcome t slot)
-row_calls (Commit k now) job slot ws other = NoCall refl
-row_calls (Install k memory) job slot ws ToInstall = NoCall (verified_calls memory (at job slot ws ToInstall))
-row_calls (Install k memory) job slot ws other = NoCall refl
-row_calls (Raise k) job slot ws (ToRaise word content) = NoCall refl
-row_calls (Raise k) job slot ws other = NoCall refl
-row_calls (Answer k now) job slot ws (ToAnswer content) = NoCall refl
-row_calls (Answer k now) job slot ws other = NoCall refl
-row_calls (Fresh k now) job slot ws (ToTell turn (turns.ToDraw found)) = NoCall refl
-row_calls (Fresh k now) job slot ws other = NoCall refl
-row_calls (Note k now random) job slot ws (ToTell turn (turns.ToNote found id)) = OfNote k now random id turn found refl refl refl
-row_calls (Note k now random) job slot ws other = NoCall refl
-row_calls (GiveUp k now) job slot ws (ToTell turn needs) = OfGiveUp turn (max ws.moment now) refl
-row_calls (GiveUp k now) job slot ws other = NoCall refl
-row_calls other job slot ws s = NoCall refl
+row_calls e job slot ws s = by_step (λ d st m. CallsBy d ws st m.calls) job slot ws (λ k c. step_calls k c job slot ws) (λ d st rest. NoCall refl) e s
 
 -- ---- a call keeps them within
 
