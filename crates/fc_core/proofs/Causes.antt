@@ -13,14 +13,15 @@ use Rattle.fc_registry.specs.Slots.{Slot, Present, Ticket, last_serial, new_slot
 use Rattle.fc_registry.specs.Changes.{Change, Installed, Committed, Removed, after_changes, with_vars}
 use Rattle.fc_registry.specs.Calls.{clear_by, commit_of, outcome, put_by}
 use Rattle.fc_core.specs.declared.event.Event.{Event}
-use Rattle.fc_core.specs.declared.event.Event.TheVariants.{Peek, Take, Commit, Install, Remove, Receipt, Raise, Answer, Fresh, Note, GiveUp}
+use Rattle.fc_core.specs.declared.event.Event.TheVariants.{Commit, Install, Remove}
 use Rattle.fc_core.specs.declared.stage.Stage.{Stage}
-use Rattle.fc_core.specs.declared.stage.Stage.TheVariants.{ToMatch, ToTake, ToCommit, ToInstall, ToRemove, ToDescribe, ToList, ToRaise, ToAnswer, ToTell}
-use Rattle.fc_core.specs.declared.stage.TurnStage.TheVariants as turns
+use Rattle.fc_core.specs.declared.stage.Stage.TheVariants.{ToCommit, ToInstall, ToRemove}
 use Rattle.fc_core.specs.History.{around, Entry, History, Begins, Then, Seen, seen, and_then, job, scene, slot_at, stage}
 use Rattle.fc_core.specs.Laws.{slot_of}
 use Rattle.fc_core.specs.SlotLaws.{AllOfImages, ChangesBy, IsInstall, IsOfImage, IsRemoving, IsWriting, Clears, Installs, Nothing, Writes}
 use Rattle.fc_core.specs.Stages.{Around, Scene, committed, image_of, installed, names, row, verified}
+use Rattle.fc_core.proofs.ByStep.{Step, by_step, event_by, move_by, stage_by}
+use Rattle.fc_core.proofs.ByStep as steps
 use Rattle.fc_core.proofs.Others.{no_slot, other_slot, own_slot}
 
 abbrev at : Job → Slot → Around → Stage → Scene
@@ -57,21 +58,16 @@ clear_makes k job slot b None e is = None_made refl
 clear_makes k job slot true (Some p) e is = Takes_out k p refl refl is (ltb-true slot.serial last_serial e) refl
 clear_makes k job slot false (Some p) e is = None_made refl
 
+step_makes : (k : ℕ) (c : Step) (job : Job) (slot : Slot) (ws : Around) → Makes (event_by k c) job slot (stage_by c) (move_by c job slot ws).changes
+step_makes k steps.Removes job slot ws = clear_makes k job slot (nat_lt slot.serial last_serial) slot.present refl refl
+step_makes k (steps.Commits now n t) job slot ws = committed_makes k now n t job slot ws (outcome t slot)
+step_makes k (steps.Installs memory) job slot ws = verified_makes k memory job slot ws
+step_makes k other job slot ws = None_made refl
+
 row_makes : (e : Event) (job : Job) (slot : Slot) (ws : Around) (s : Stage) → Makes e job slot s (row e (at job slot ws s)).changes
-row_makes (Peek k n) job slot ws ToMatch = None_made refl
-row_makes (Peek k n) job slot ws (ToList seen) = None_made refl
-row_makes (Remove k) job slot ws ToRemove = clear_makes k job slot (nat_lt slot.serial last_serial) slot.present refl refl
-row_makes (Receipt k) job slot ws ToDescribe = None_made refl
-row_makes (Take k memory readings) job slot ws (ToTake n) = None_made refl
-row_makes (Take k memory readings) job slot ws (ToTell turn turns.ToTake) = None_made refl
-row_makes (Commit k now) job slot ws (ToCommit n t) = committed_makes k now n t job slot ws (outcome t slot)
-row_makes (Install k memory) job slot ws ToInstall = verified_makes k memory job slot ws
-row_makes (Raise k) job slot ws (ToRaise word content) = None_made refl
-row_makes (Answer k now) job slot ws (ToAnswer content) = None_made refl
-row_makes (Fresh k now) job slot ws (ToTell turn (turns.ToDraw found)) = None_made refl
-row_makes (Note k now random) job slot ws (ToTell turn (turns.ToNote found id)) = None_made refl
-row_makes (GiveUp k now) job slot ws (ToTell turn needs) = None_made refl
-row_makes other job slot ws s = None_made refl
+row_makes e job slot ws s =
+    by_step (λ d st m. Makes d job slot st m.changes) job slot ws
+    (λ k c. step_makes k c job slot ws) (λ d st rest. None_made refl) e s
 
 own_does : (r : Entry) (s : Seen) (k : ℕ) (cs : List Change) → names r.event ≡ Some k → (and_then r s).changes (slot_of s k) ≡ cs ++ s.changes (slot_of s k) → Makes r.event (job s k) (slot_at s (slot_of s k)) (stage s k) cs → ChangesBy r s (slot_of s k)
 own_does r s k cs named grown (None_made is) = Nothing (grown ∙ ap (λ (l : List Change). l ++ s.changes (slot_of s k)) is)
