@@ -5,17 +5,18 @@ use Rattle.fc_registry.specs.declared.job.Ask.{Ask}
 use Rattle.fc_registry.specs.declared.job.Job.{Job}
 use Rattle.fc_registry.specs.Slots.{Slot, Present, Ticket}
 use Rattle.fc_registry.specs.Changes.{Change}
-use Rattle.fc_registry.specs.Calls.{commit_of, run_of, taking, ticket_of, readings_if}
+use Rattle.fc_registry.specs.Calls.{commit_of, run_of, taking, ticket_of}
 use Rattle.fc_core.specs.declared.event.Event.{Event}
-use Rattle.fc_core.specs.declared.event.Event.TheVariants.{Peek, Take, Commit, Install, Remove, Receipt, Raise, Answer, Lose, Fresh, Note, GiveUp}
+use Rattle.fc_core.specs.declared.event.Event.TheVariants.{Take, Install, Raise, Answer, Lose}
 use Rattle.fc_core.specs.declared.stage.Stage.{Stage}
-use Rattle.fc_core.specs.declared.stage.Stage.TheVariants.{ToMatch, ToTake, ToCommit, ToInstall, ToRemove, ToDescribe, ToList, ToRaise, ToAnswer, Gone, ToTell}
+use Rattle.fc_core.specs.declared.stage.Stage.TheVariants.{ToTake, ToCommit, ToInstall, ToRaise, ToAnswer, Gone, ToTell}
 use Rattle.fc_core.specs.declared.stage.TurnStage.TheVariants as turns
 use Rattle.fc_core.specs.Contents.{Content, Unavailable}
 use Rattle.fc_core.specs.History.{around, Entry, History, Then, Seen, seen, and_then, did, job, scene, slot_at, stage, task_at}
 use Rattle.fc_core.specs.Laws.{HasCome, Taking, answers_of, gives, is_answered, is_named, later, slot_of, takings_of}
 use Rattle.fc_core.specs.Stages.{Around, Scene, first_by, row, took}
-use Rattle.fc_core.proofs.Telling.{after_turn}
+use Rattle.fc_core.proofs.ByStep.{Step, by_move, by_step, event_by, move_by, stage_by}
+use Rattle.fc_core.proofs.ByStep as steps
 use Rattle.fc_core.proofs.Along.{IsTold, along}
 use Rattle.fc_core.proofs.Others.{is_here, kept_by, kept_later, named_stage, still_here}
 use Rattle.fc_core.proofs.Steps.{becomes, gone_stays}
@@ -41,22 +42,16 @@ never_yet : (s : Stage) (n : ℕ) → n ≡ 0 → FitsAnswers n s
 never_yet Gone n is = omega arith
 never_yet other n is = is
 
+-- a job that isn't answered yet may need anything next
+step_answers : (k : ℕ) (c : Step) (job : Job) (slot : Slot) (ws : Around) (n : ℕ) → FitsAnswers n (stage_by c) → FitsAnswers (if is_answered (event_by k c) (stage_by c) then n + 1 else n) (move_by c job slot ws).stage
+step_answers k (steps.Answers now content) job slot ws n f = omega (arith, f)
+step_answers k (steps.Loses needs) job slot ws n f = at_most_once needs n f
+step_answers k other job slot ws n f = never_yet (move_by other job slot ws).stage n f
+
 row_answers : (e : Event) (job : Job) (slot : Slot) (ws : Around) (s : Stage) (n : ℕ) → FitsAnswers n s → FitsAnswers (if is_answered e s then n + 1 else n) (row e (at job slot ws s)).stage
-row_answers (Take k memory readings) job slot ws (ToTake count) n f = never_yet (row (Take k memory readings) (at job slot ws (ToTake count))).stage n f
-row_answers (Take k memory readings) job slot ws (ToTell turn turns.ToTake) n f = after_turn (λ st. FitsAnswers n st) (λ turn needs. f) (omega (arith, f)) (readings_if memory readings) turn (at job slot ws (ToTell turn turns.ToTake))
-row_answers (Commit k now) job slot ws (ToCommit count t) n f = never_yet (row (Commit k now) (at job slot ws (ToCommit count t))).stage n f
-row_answers (Install k memory) job slot ws ToInstall n f = never_yet (row (Install k memory) (at job slot ws ToInstall)).stage n f
-row_answers (Raise k) job slot ws (ToRaise word content) n f = f
-row_answers (Peek k i) job slot ws ToMatch n f = never_yet (row (Peek k i) (at job slot ws ToMatch)).stage n f
-row_answers (Peek k i) job slot ws (ToList seen) n f = never_yet (row (Peek k i) (at job slot ws (ToList seen))).stage n f
-row_answers (Remove k) job slot ws ToRemove n f = never_yet (row (Remove k) (at job slot ws ToRemove)).stage n f
-row_answers (Receipt k) job slot ws ToDescribe n f = f
-row_answers (Answer k now) job slot ws (ToAnswer content) n f = omega (arith, f)
-row_answers (Fresh k now) job slot ws (ToTell turn (turns.ToDraw found)) n f = f
-row_answers (Note k now random) job slot ws (ToTell turn (turns.ToNote found id)) n f = at_most_once (ToTell turn (turns.ToNote found id)) n f
-row_answers (GiveUp k now) job slot ws (ToTell turn needs) n f = at_most_once (ToTell turn needs) n f
-row_answers (Lose k) job slot ws s n f = at_most_once s n f
-row_answers other job slot ws s n f = f
+row_answers e job slot ws s n =
+    by_step (λ d st m. FitsAnswers n st → FitsAnswers (if is_answered d st then n + 1 else n) m.stage) job slot ws (λ k c. step_answers k c job slot ws n)
+    (λ d st rest f. subst (λ (b : Bool). FitsAnswers (if b then n + 1 else n) st) (sym rest.answered) f) e s
 
 gone_answered : (e : Event) → is_answered e Gone ≡ false
 gone_answered (Answer k now) = refl
@@ -143,22 +138,14 @@ IsSettled (ToAnswer content) = Unit {0}
 IsSettled Gone = Unit {0}
 IsSettled other = ⊥
 
+step_settled : (c : Step) (job : Job) (slot : Slot) (ws : Around) → IsSettled (stage_by c) → IsSettled (move_by c job slot ws).stage
+step_settled (steps.Raises word content) job slot ws f = tt
+step_settled (steps.Answers now content) job slot ws f = tt
+step_settled (steps.Loses needs) job slot ws f = tt
+step_settled other job slot ws f = absurd f
+
 row_settled : (e : Event) (job : Job) (slot : Slot) (ws : Around) (s : Stage) → IsSettled s → IsSettled (row e (at job slot ws s)).stage
-row_settled (Take k memory readings) job slot ws (ToTake count) f = absurd f
-row_settled (Take k memory readings) job slot ws (ToTell turn turns.ToTake) f = absurd f
-row_settled (Commit k now) job slot ws (ToCommit count t) f = absurd f
-row_settled (Install k memory) job slot ws ToInstall f = absurd f
-row_settled (Raise k) job slot ws (ToRaise word content) f = tt
-row_settled (Peek k i) job slot ws ToMatch f = absurd f
-row_settled (Peek k i) job slot ws (ToList seen) f = absurd f
-row_settled (Remove k) job slot ws ToRemove f = absurd f
-row_settled (Receipt k) job slot ws ToDescribe f = absurd f
-row_settled (Answer k now) job slot ws (ToAnswer content) f = tt
-row_settled (Fresh k now) job slot ws (ToTell turn (turns.ToDraw found)) f = absurd f
-row_settled (Note k now random) job slot ws (ToTell turn (turns.ToNote found id)) f = absurd f
-row_settled (GiveUp k now) job slot ws (ToTell turn needs) f = tt
-row_settled (Lose k) job slot ws s f = tt
-row_settled other job slot ws s f = f
+row_settled e job slot ws s = by_move (λ st m. IsSettled st → IsSettled m.stage) job slot ws (λ c. step_settled c job slot ws) (λ st f. f) e s
 
 settled_given : (e : Event) (job : Job) (slot : Slot) (ws : Around) (cs : List Change) (s : Stage) → IsSettled s → gives e (at job slot ws s) cs ≡ []
 settled_given (Take k true readings) job slot ws cs (ToTake count) f = absurd f
