@@ -23,9 +23,8 @@ use Rattle.fc_registry.specs.Record.{IsChain, IsLink, code_class}
 use Rattle.fc_registry.specs.declared.receipt.Receipt.{Receipt as Facts}
 use Rattle.fc_registry.specs.Calls.{HasGiven, clear_by, commit_of, input_of, is_post, meaning_at, outcome, outcome_by, put_by, receipt_at, receipt_of, request_of, taking, wants, is_out_at, turn_taking, readings_if}
 use Rattle.fc_core.specs.declared.event.Event.{Event}
-use Rattle.fc_core.specs.declared.event.Event.TheVariants.{Peek, Take, Commit as Commits, Install, Remove, Receipt, Raise, Answer, Lose, Fresh, Note, GiveUp}
 use Rattle.fc_core.specs.declared.stage.Stage.{Stage}
-use Rattle.fc_core.specs.declared.stage.Stage.TheVariants.{ToMatch, ToTake, ToCommit, ToInstall, ToRemove, ToDescribe, ToList, ToRaise, ToAnswer, Gone, ToTell}
+use Rattle.fc_core.specs.declared.stage.Stage.TheVariants.{ToTake, ToCommit, ToInstall, ToList, ToAnswer, ToTell}
 use Rattle.fc_core.specs.declared.stage.TurnStage.{TurnStage}
 use Rattle.fc_core.specs.declared.stage.TurnStage.TheVariants as turns
 use Rattle.arrayvec.specs.ArrayVec.{ArrayVec}
@@ -35,6 +34,8 @@ use Rattle.fc_core.specs.Fits.{FitsPresent, FitsSlot, FitsStage, FitsTurn, HasNe
 use Rattle.fc_core.specs.Receiving.{AskWithin}
 use Rattle.fc_core.specs.Sound.{AllSafe}
 use Rattle.fc_core.specs.Stages.{Around, Scene, committed, first_by, first_or_turn, first_stage, image_of, installed, made, matched_by, peeked_next, peeked_own, removed, row, told, took, verified, turn_took, with_id}
+use Rattle.fc_core.proofs.ByStep.{Step, by_move, move_by, stage_by}
+use Rattle.fc_core.proofs.ByStep as steps
 
 -- ---- slots
 
@@ -164,23 +165,24 @@ drawn_fits job slot (Some t) None own = own
 drawn_fits job slot None (Some id) own = tt
 drawn_fits job slot None None own = tt
 
+step_fits : (c : Step) (job : Job) (slot : Slot) (ws : Around) → FitsStage job slot (stage_by c) → FitsStage job slot (move_by c job slot ws).stage
+step_fits (steps.Matches n) job slot ws f = own_fits job slot (n == job.origin.slot) (word_at ws.common.words n) job.etags.items f
+step_fits (steps.Lists n seen) job slot ws f = next_fits job slot (n == length seen.items) (word_at ws.common.words n) seen f
+step_fits steps.Removes job slot ws f = clear_fits job slot (nat_lt slot.serial last_serial) slot.serial slot.present
+step_fits steps.Describes job slot ws f = told_fits job slot (receipt_at slot.present)
+step_fits (steps.Takes memory readings n) job slot ws f = took_fits (readings_if memory readings) job slot n slot.present refl f.0 f.1
+step_fits (steps.TakesTurn memory readings turn) job slot ws f = turn_fits (readings_if memory readings) job slot turn (is_out_at turn ws.moment ws.watch) slot.present refl f.0 f.1
+step_fits (steps.Commits now n t) job slot ws f = committed_fits job slot n t (outcome t slot) now ws f.1.origin f.2
+step_fits (steps.Installs memory) job slot ws f = verified_fits memory (at job slot ws ToInstall)
+step_fits (steps.Raises word content) job slot ws f = f
+step_fits (steps.Draws now turn found) job slot ws f = (f.0, f.1, drawn_fits job slot found (ws.common.free now) f.2)
+step_fits other job slot ws f = tt
+
 -- a job that an event moved fits its slot as it was
 pub row_fits : (e : Event) (job : Job) (slot : Slot) (ws : Around) (s : Stage) → FitsStage job slot s → FitsStage job slot (row e (at job slot ws s)).stage
-row_fits (Peek k n) job slot ws ToMatch f = own_fits job slot (n == job.origin.slot) (word_at ws.common.words n) job.etags.items f
-row_fits (Peek k n) job slot ws (ToList seen) f = next_fits job slot (n == length seen.items) (word_at ws.common.words n) seen f
-row_fits (Remove k) job slot ws ToRemove f = clear_fits job slot (nat_lt slot.serial last_serial) slot.serial slot.present
-row_fits (Receipt k) job slot ws ToDescribe f = told_fits job slot (receipt_at slot.present)
-row_fits (Lose k) job slot ws s f = tt
-row_fits (Take k memory readings) job slot ws (ToTake n) f = took_fits (readings_if memory readings) job slot n slot.present refl f.0 f.1
-row_fits (Take k memory readings) job slot ws (ToTell turn turns.ToTake) f = turn_fits (readings_if memory readings) job slot turn (is_out_at turn ws.moment ws.watch) slot.present refl f.0 f.1
-row_fits (Commits k now) job slot ws (ToCommit n t) f = committed_fits job slot n t (outcome t slot) now ws f.1.origin f.2
-row_fits (Install k memory) job slot ws ToInstall f = verified_fits memory (at job slot ws ToInstall)
-row_fits (Raise k) job slot ws (ToRaise word content) f = f
-row_fits (Answer k now) job slot ws (ToAnswer content) f = tt
-row_fits (Fresh k now) job slot ws (ToTell turn (turns.ToDraw found)) f = (f.0, f.1, drawn_fits job slot found (ws.common.free now) f.2)
-row_fits (Note k now random) job slot ws (ToTell turn (turns.ToNote found id)) f = tt
-row_fits (GiveUp k now) job slot ws (ToTell turn needs) f = tt
-row_fits other job slot ws s f = f
+row_fits e job slot ws s =
+    by_move (λ st m. FitsStage job slot st → FitsStage job slot m.stage) job slot ws
+    (λ c. step_fits c job slot ws) (λ st f. f) e s
 
 -- ---- the chain
 
@@ -239,21 +241,16 @@ clear_chain first cs below serial None chain = chain
 clear_chain first cs true serial (Some p) chain = chain
 clear_chain first cs false serial (Some p) chain = chain
 
+step_chain : (c : Step) (job : Job) (first : Slot) (cs : List Change) (ws : Around) → FitsStage job (after_changes first cs) (stage_by c) → IsChain first cs → IsChain first ((move_by c job (after_changes first cs) ws).changes ++ cs)
+step_chain steps.Removes job first cs ws f chain = clear_chain first cs (nat_lt (after_changes first cs).serial last_serial) (after_changes first cs).serial (after_changes first cs).present chain
+step_chain (steps.Commits now n t) job first cs ws f chain = commit_chain first cs n t now ws (outcome t (after_changes first cs)) refl f.1.given chain
+step_chain (steps.Installs memory) job first cs ws f chain = verified_chain memory first cs (at job (after_changes first cs) ws ToInstall) chain
+step_chain other job first cs ws f chain = chain
+
 pub row_chain : (e : Event) (job : Job) (first : Slot) (cs : List Change) (ws : Around) (s : Stage) → FitsStage job (after_changes first cs) s → IsChain first cs → IsChain first ((row e (at job (after_changes first cs) ws s)).changes ++ cs)
-row_chain (Peek k n) job first cs ws ToMatch f chain = chain
-row_chain (Peek k n) job first cs ws (ToList seen) f chain = chain
-row_chain (Remove k) job first cs ws ToRemove f chain = clear_chain first cs (nat_lt (after_changes first cs).serial last_serial) (after_changes first cs).serial (after_changes first cs).present chain
-row_chain (Receipt k) job first cs ws ToDescribe f chain = chain
-row_chain (Commits k now) job first cs ws (ToCommit n t) f chain = commit_chain first cs n t now ws (outcome t (after_changes first cs)) refl f.1.given chain
-row_chain (Install k memory) job first cs ws ToInstall f chain = verified_chain memory first cs (at job (after_changes first cs) ws ToInstall) chain
-row_chain (Take k memory readings) job first cs ws (ToTake n) f chain = chain
-row_chain (Take k memory readings) job first cs ws (ToTell turn turns.ToTake) f chain = chain
-row_chain (Raise k) job first cs ws (ToRaise word content) f chain = chain
-row_chain (Answer k now) job first cs ws (ToAnswer content) f chain = chain
-row_chain (Fresh k now) job first cs ws (ToTell turn (turns.ToDraw found)) f chain = chain
-row_chain (Note k now random) job first cs ws (ToTell turn (turns.ToNote found id)) f chain = chain
-row_chain (GiveUp k now) job first cs ws (ToTell turn needs) f chain = chain
-row_chain other job first cs ws s f chain = chain
+row_chain e job first cs ws s =
+    by_move (λ st m. FitsStage job (after_changes first cs) st → IsChain first cs → IsChain first (m.changes ++ cs)) job (after_changes first cs) ws
+    (λ c. step_chain c job first cs ws) (λ st f chain. chain) e s
 
 -- ---- safe programs
 
@@ -296,18 +293,13 @@ clear_safe slot below serial None fits = fits
 clear_safe slot true serial (Some p) fits = tt
 clear_safe slot false serial (Some p) fits = fits
 
+step_safe : (c : Step) (job : Job) (slot : Slot) (ws : Around) → AskWithin job.ask → FitsStage job slot (stage_by c) → AllSafe (move_by c job slot ws).changes → FitsSlot slot.present → FitsSlot (after_changes slot (move_by c job slot ws).changes).present
+step_safe steps.Removes job slot ws within f safe fits = clear_safe slot (nat_lt slot.serial last_serial) slot.serial slot.present fits
+step_safe (steps.Commits now n t) job slot ws within f safe fits = commit_safe job slot n t now ws (outcome t slot) refl within f.1 fits
+step_safe (steps.Installs memory) job slot ws within f safe fits = verified_safe memory (at job slot ws ToInstall) safe fits
+step_safe other job slot ws within f safe fits = fits
+
 pub row_safe : (e : Event) (job : Job) (slot : Slot) (ws : Around) (s : Stage) → AskWithin job.ask → FitsStage job slot s → AllSafe (row e (at job slot ws s)).changes → FitsSlot slot.present → FitsSlot (after_changes slot (row e (at job slot ws s)).changes).present
-row_safe (Peek k n) job slot ws ToMatch within f safe fits = fits
-row_safe (Peek k n) job slot ws (ToList seen) within f safe fits = fits
-row_safe (Remove k) job slot ws ToRemove within f safe fits = clear_safe slot (nat_lt slot.serial last_serial) slot.serial slot.present fits
-row_safe (Receipt k) job slot ws ToDescribe within f safe fits = fits
-row_safe (Commits k now) job slot ws (ToCommit n t) within f safe fits = commit_safe job slot n t now ws (outcome t slot) refl within f.1 fits
-row_safe (Install k memory) job slot ws ToInstall within f safe fits = verified_safe memory (at job slot ws ToInstall) safe fits
-row_safe (Take k memory readings) job slot ws (ToTake n) within f safe fits = fits
-row_safe (Take k memory readings) job slot ws (ToTell turn turns.ToTake) within f safe fits = fits
-row_safe (Raise k) job slot ws (ToRaise word content) within f safe fits = fits
-row_safe (Answer k now) job slot ws (ToAnswer content) within f safe fits = fits
-row_safe (Fresh k now) job slot ws (ToTell turn (turns.ToDraw found)) within f safe fits = fits
-row_safe (Note k now random) job slot ws (ToTell turn (turns.ToNote found id)) within f safe fits = fits
-row_safe (GiveUp k now) job slot ws (ToTell turn needs) within f safe fits = fits
-row_safe other job slot ws s within f safe fits = fits
+row_safe e job slot ws s within =
+    by_move (λ st m. FitsStage job slot st → AllSafe m.changes → FitsSlot slot.present → FitsSlot (after_changes slot m.changes).present) job slot ws
+    (λ c. step_safe c job slot ws within) (λ st f safe fits. fits) e s
