@@ -8,9 +8,9 @@ use Rattle.fc_registry.specs.declared.shard.Taken.TheVariants.{Given, Missing, S
 use Rattle.fc_registry.specs.Calls.{turn_of}
 use Rattle.fc_registry.specs.Slots.{Slot, Ticket}
 use Rattle.fc_core.specs.declared.event.Event.{Event}
-use Rattle.fc_core.specs.declared.event.Event.TheVariants.{Take, Fresh, Note, GiveUp, Lose}
+use Rattle.fc_core.specs.declared.event.Event.TheVariants.{Note, GiveUp, Lose}
 use Rattle.fc_core.specs.declared.stage.Stage.{Stage}
-use Rattle.fc_core.specs.declared.stage.Stage.TheVariants.{ToMatch, ToTake, ToCommit, ToInstall, ToRemove, ToDescribe, ToList, ToRaise, ToAnswer, ToTell, Gone}
+use Rattle.fc_core.specs.declared.stage.Stage.TheVariants.{ToTell, Gone}
 use Rattle.fc_core.specs.declared.stage.Task.{Task}
 use Rattle.fc_core.specs.declared.stage.TurnStage.{TurnStage}
 use Rattle.fc_core.specs.declared.stage.TurnStage.TheVariants as turns
@@ -18,6 +18,8 @@ use Rattle.fc_core.specs.Fits.{FitsStage}
 use Rattle.fc_core.specs.History.{Entry, History, Begins, Then, Seen, seen, and_then, around, did, job, no_task, slot_at, stage, task_at}
 use Rattle.fc_core.specs.Laws.{HasCome, later, slot_of}
 use Rattle.fc_core.specs.Stages.{Around, Scene, first_or_turn, first_stage, names, row, turn_took}
+use Rattle.fc_core.proofs.ByStep.{Step, by_move, move_by, stage_by}
+use Rattle.fc_core.proofs.ByStep as steps
 use Rattle.fc_core.proofs.Ends.{gone_later, lost_gone}
 use Rattle.fc_core.proofs.Others.{is_here, named_stage, still_here}
 use Rattle.fc_core.proofs.Steps.{Becomes, Moves, Stays, Comes, becomes}
@@ -55,22 +57,18 @@ taken_apart own turn Missing is = is
 taken_apart own turn Stale is = tt
 taken_apart own turn Refused is = is
 
+step_apart : (c : Step) (job : Job) (slot : Slot) (ws : Around) (turn : Turn) → IsToldOf turn (stage_by c) → IsToldOf turn (move_by c job slot ws).stage
+step_apart (steps.TakesTurn memory readings own) job slot ws turn w = taken_apart own turn _ w
+step_apart (steps.Draws now own found) job slot ws turn w = w
+step_apart (steps.Notes now random own found id) job slot ws turn w = tt
+step_apart (steps.GivesUp now own needs) job slot ws turn w = tt
+step_apart (steps.Loses needs) job slot ws turn w = tt
+step_apart other job slot ws turn w = absurd w
+
 pub row_apart : (e : Event) (job : Job) (slot : Slot) (ws : Around) (turn : Turn) (s : Stage) → IsToldOf turn s → IsToldOf turn (row e (at job slot ws s)).stage
-row_apart (Lose k) job slot ws turn s w = tt
-row_apart (Take k memory readings) job slot ws turn (ToTell own turns.ToTake) w = taken_apart own turn _ w
-row_apart (Fresh k now) job slot ws turn (ToTell own (turns.ToDraw found)) w = w
-row_apart (Note k now random) job slot ws turn (ToTell own (turns.ToNote found id)) w = tt
-row_apart (GiveUp k now) job slot ws turn (ToTell own needs) w = tt
-row_apart e job slot ws turn ToMatch w = absurd w
-row_apart e job slot ws turn (ToTake count) w = absurd w
-row_apart e job slot ws turn (ToCommit count t) w = absurd w
-row_apart e job slot ws turn ToInstall w = absurd w
-row_apart e job slot ws turn ToRemove w = absurd w
-row_apart e job slot ws turn ToDescribe w = absurd w
-row_apart e job slot ws turn (ToList words) w = absurd w
-row_apart e job slot ws turn (ToRaise word content) w = absurd w
-row_apart e job slot ws turn (ToAnswer content) w = absurd w
-row_apart other job slot ws turn s w = w
+row_apart e job slot ws turn s =
+    by_move (λ st m. IsToldOf turn st → IsToldOf turn m.stage) job slot ws
+    (λ c. step_apart c job slot ws turn) (λ st w. w) e s
 
 pub first_apart : (j : Job) (o : Option ℕ) (number : ℕ) → o ≡ Some number → IsToldOf (turn_of j number) (first_or_turn o j)
 first_apart j None number e = absurd (cc e)
