@@ -19,9 +19,9 @@ use Rattle.fc_registry.specs.Calls.{is_out_at, meaning_at, turn_of, turn_taking,
 use Rattle.fc_registry.specs.Slots.{Present, Slot, Ticket}
 use Rattle.fc_registry.specs.Turns.{first_block, job_of_turn, turn_job}
 use Rattle.fc_core.specs.declared.event.Event.{Event}
-use Rattle.fc_core.specs.declared.event.Event.TheVariants.{Deliver, Due, Take, Fresh, Note, GiveUp, Lose}
+use Rattle.fc_core.specs.declared.event.Event.TheVariants.{Deliver, Due}
 use Rattle.fc_core.specs.declared.stage.Stage.{Stage}
-use Rattle.fc_core.specs.declared.stage.Stage.TheVariants.{ToMatch, ToTake, ToCommit, ToInstall, ToRemove, ToDescribe, ToList, ToRaise, ToAnswer, ToTell}
+use Rattle.fc_core.specs.declared.stage.Stage.TheVariants.{ToTell}
 use Rattle.fc_core.specs.declared.stage.Task.{Task}
 use Rattle.fc_core.specs.declared.stage.TurnStage.TheVariants as turns
 use Rattle.fc_core.specs.Fits.{FitsStage}
@@ -31,6 +31,8 @@ use Rattle.fc_core.specs.ObserveLaws.{IsFirst}
 use Rattle.fc_core.specs.Receiving.{Received, Opened, brought, next_opening}
 use Rattle.fc_core.specs.Stages.{Around, Scene, first_or_turn, names, new_task, row, task_moved, turn_took, with_id}
 use Rattle.fc_core.specs.TurnLaws.{response_of}
+use Rattle.fc_core.proofs.ByStep.{Step, by_move, move_by, stage_by}
+use Rattle.fc_core.proofs.ByStep as steps
 use Rattle.fc_core.proofs.Apart.{IsToldOf, every, first_apart, row_apart}
 use Rattle.fc_core.proofs.Lists.{Each, appended_all, written_all}
 use Rattle.fc_core.proofs.Writing.{sound}
@@ -100,22 +102,18 @@ drawn_block : (own : Turn) (j : Job) (found : Option Ticket) (free : Option ℕ)
 drawn_block own j found (Some id) w = w
 drawn_block own j found None w = w
 
+step_block : (c : Step) (j : Job) (slot : Slot) (ws : Around) (turn : Turn) → IsToldOf turn (stage_by c) → HasBlock j (stage_by c) → HasBlock j (move_by c j slot ws).stage
+step_block (steps.TakesTurn memory readings mine) j slot ws turn own w = taken_block mine (is_out_at mine ws.moment ws.watch) (readings_if memory readings) j slot.serial slot.present
+step_block (steps.Draws now mine found) j slot ws turn own w = drawn_block mine j found (ws.common.free now) w
+step_block (steps.Notes now random mine found id) j slot ws turn own w = tt
+step_block (steps.GivesUp now mine needs) j slot ws turn own w = tt
+step_block (steps.Loses needs) j slot ws turn own w = tt
+step_block other j slot ws turn own w = absurd own
+
 row_block : (e : Event) (j : Job) (slot : Slot) (ws : Around) (turn : Turn) (s : Stage) → IsToldOf turn s → HasBlock j s → HasBlock j (row e (at j slot ws s)).stage
-row_block (Lose k) j slot ws turn s own w = tt
-row_block (Take k memory readings) j slot ws turn (ToTell mine turns.ToTake) own w = taken_block mine (is_out_at mine ws.moment ws.watch) (readings_if memory readings) j slot.serial slot.present
-row_block (Fresh k now) j slot ws turn (ToTell mine (turns.ToDraw found)) own w = drawn_block mine j found (ws.common.free now) w
-row_block (Note k now random) j slot ws turn (ToTell mine (turns.ToNote found id)) own w = tt
-row_block (GiveUp k now) j slot ws turn (ToTell mine needs) own w = tt
-row_block e j slot ws turn ToMatch own w = absurd own
-row_block e j slot ws turn (ToTake count) own w = absurd own
-row_block e j slot ws turn (ToCommit count t) own w = absurd own
-row_block e j slot ws turn ToInstall own w = absurd own
-row_block e j slot ws turn ToRemove own w = absurd own
-row_block e j slot ws turn ToDescribe own w = absurd own
-row_block e j slot ws turn (ToList words) own w = absurd own
-row_block e j slot ws turn (ToRaise word answer) own w = absurd own
-row_block e j slot ws turn (ToAnswer answer) own w = absurd own
-row_block other j slot ws turn s own w = w
+row_block e j slot ws turn s =
+    by_move (λ st m. IsToldOf turn st → HasBlock j st → HasBlock j m.stage) j slot ws
+    (λ c. step_block c j slot ws turn) (λ st own w. w) e s
 
 abbrev TellsBlock : Job → Stage → Type 0
 TellsBlock j st = (n : ℕ) → j.turn ≡ Some n → IsToldOf (turn_of j n) st × HasBlock j st
