@@ -12,16 +12,17 @@ use Rattle.fc_registry.specs.Slots.{Slot, Present, Ticket, last_serial}
 use Rattle.fc_registry.specs.Changes.{after_changes}
 use Rattle.fc_registry.specs.Calls.{clear_by, outcome, put_by, receipt_at, receipt_of, taking, readings_if}
 use Rattle.fc_core.specs.declared.event.Event.{Event}
-use Rattle.fc_core.specs.declared.event.Event.TheVariants.{Peek, Take, Commit, Install, Remove, Receipt, Raise, Answer, Lose, Fresh, Note, GiveUp}
 use Rattle.fc_core.specs.declared.stage.Stage.{Stage}
-use Rattle.fc_core.specs.declared.stage.Stage.TheVariants.{ToMatch, ToTake, ToCommit, ToInstall, ToRemove, ToDescribe, ToList, ToRaise, ToAnswer, ToTell}
+use Rattle.fc_core.specs.declared.stage.Stage.TheVariants.{ToTake, ToInstall, ToList, ToAnswer, ToTell}
 use Rattle.fc_core.specs.declared.stage.TurnStage.TheVariants as turns
 use Rattle.fc_core.specs.declared.stage.Task.{Task}
-use Rattle.fc_core.specs.Contents.{Deleted, Listed, Unavailable}
+use Rattle.fc_core.specs.Contents.{Content, Deleted, Listed, Unavailable}
 use Rattle.fc_core.specs.Heads.{is_match, word_at}
 use Rattle.fc_core.specs.History.{around, Entry, History, Then, Seen, seen, and_then, job, slot_at, stage, task_at}
 use Rattle.fc_core.specs.Laws.{HasCome, answer_at, slot_of}
 use Rattle.fc_core.specs.Stages.{Around, Scene, committed, image_of, installed, made, matched_by, names, peeked_next, peeked_own, removed, row, told, took, verified}
+use Rattle.fc_core.proofs.ByStep.{Step, by_move, move_by, stage_by}
+use Rattle.fc_core.proofs.ByStep as steps
 use Rattle.fc_core.proofs.Telling.{after_turn}
 use Rattle.fc_core.proofs.Published.{own_after}
 use Rattle.fc_core.proofs.Steps.{Becomes, Moves, Stays, Comes, becomes}
@@ -86,22 +87,25 @@ next_empties : (slot : Slot) (b : Bool) (word : ℕ) (seen : ArrayVec ℕ) → I
 next_empties slot true word seen e = listed_empties slot (nat_lt (length (seen.items ++ word ∷ [])) 64) (seen.items ++ word ∷ []) e
 next_empties slot false word seen e = absurd (cc e)
 
+none_is_answered : {c : Content} → None ≡ Some c → ⊥
+none_is_answered e = cc e
+
+step_empties : (c : Step) (job : Job) (slot : Slot) (ws : Around) → answer_at (move_by c job slot ws).stage ≡ Some Deleted → (answer_at (stage_by c) ≡ Some Deleted) ⊎ ((after_changes slot (move_by c job slot ws).changes).present ≡ None)
+step_empties (steps.Takes memory readings n) job slot ws e = inr (took_empties slot (readings_if memory readings) job slot.serial n slot.present e)
+step_empties (steps.TakesTurn memory readings turn) job slot ws e = absurd (after_turn (λ st. answer_at st ≡ Some Deleted → ⊥) (λ turn needs e. cc e) (λ e. cc e) (readings_if memory readings) turn (at job slot ws (ToTell turn turns.ToTake)) e)
+step_empties (steps.Commits now n t) job slot ws e = inr (committed_empties (after_changes slot (committed (outcome t slot) n t now ws).changes) n t now ws (outcome t slot) e)
+step_empties (steps.Installs memory) job slot ws e = inr (verified_empties (after_changes slot (verified memory (at job slot ws ToInstall)).changes) memory (at job slot ws ToInstall) e)
+step_empties steps.Removes job slot ws e = inr (clear_empties slot (nat_lt slot.serial last_serial) slot.present refl e)
+step_empties steps.Describes job slot ws e = inr (told_empties slot slot.present e)
+step_empties (steps.Matches n) job slot ws e = inr (own_empties slot (n == job.origin.slot) (word_at ws.common.words n) job.etags.items e)
+step_empties (steps.Lists n seen) job slot ws e = inr (next_empties slot (n == length seen.items) (word_at ws.common.words n) seen e)
+step_empties (steps.Raises word content) job slot ws e = inl e
+step_empties other job slot ws e = absurd (none_is_answered e)
+
 row_empties : (e : Event) (job : Job) (slot : Slot) (ws : Around) (s : Stage) → answer_at (row e (at job slot ws s)).stage ≡ Some Deleted → (answer_at s ≡ Some Deleted) ⊎ ((after_changes slot (row e (at job slot ws s)).changes).present ≡ None)
-row_empties (Take k memory readings) job slot ws (ToTake n) e = inr (took_empties slot (readings_if memory readings) job slot.serial n slot.present e)
-row_empties (Take k memory readings) job slot ws (ToTell turn turns.ToTake) e = absurd (after_turn (λ st. answer_at st ≡ Some Deleted → ⊥) (λ turn needs e. cc e) (λ e. cc e) (readings_if memory readings) turn (at job slot ws (ToTell turn turns.ToTake)) e)
-row_empties (Commit k now) job slot ws (ToCommit n t) e = inr (committed_empties (after_changes slot (committed (outcome t slot) n t now ws).changes) n t now ws (outcome t slot) e)
-row_empties (Install k memory) job slot ws ToInstall e = inr (verified_empties (after_changes slot (verified memory (at job slot ws ToInstall)).changes) memory (at job slot ws ToInstall) e)
-row_empties (Remove k) job slot ws ToRemove e = inr (clear_empties slot (nat_lt slot.serial last_serial) slot.present refl e)
-row_empties (Receipt k) job slot ws ToDescribe e = inr (told_empties slot slot.present e)
-row_empties (Peek k n) job slot ws ToMatch e = inr (own_empties slot (n == job.origin.slot) (word_at ws.common.words n) job.etags.items e)
-row_empties (Peek k n) job slot ws (ToList seen) e = inr (next_empties slot (n == length seen.items) (word_at ws.common.words n) seen e)
-row_empties (Raise k) job slot ws (ToRaise word content) e = inl e
-row_empties (Answer k now) job slot ws (ToAnswer content) e = absurd (cc e)
-row_empties (Fresh k now) job slot ws (ToTell turn (turns.ToDraw found)) e = absurd (cc e)
-row_empties (Note k now random) job slot ws (ToTell turn (turns.ToNote found id)) e = absurd (cc e)
-row_empties (GiveUp k now) job slot ws (ToTell turn needs) e = absurd (cc e)
-row_empties (Lose k) job slot ws s e = absurd (cc e)
-row_empties other job slot ws s e = inl e
+row_empties e job slot ws s =
+    by_move (λ st m. answer_at m.stage ≡ Some Deleted → (answer_at st ≡ Some Deleted) ⊎ ((after_changes slot m.changes).present ≡ None)) job slot ws
+    (λ c. step_empties c job slot ws) (λ st e. inl e) e s
 
 empties_by : (r : Entry) (s : Seen) (k : ℕ) (t : Task) → Becomes (names r.event) r.event s k t → HasCome s k → answer_at t.stage ≡ Some Deleted → (answer_at (stage s k) ≡ Some Deleted) ⊎ ((slot_at (and_then r s) (slot_of s k)).present ≡ None)
 empties_by r s k t (Moves named is) come e =
