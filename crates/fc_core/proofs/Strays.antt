@@ -8,7 +8,7 @@ use Rattle.fc_registry.specs.Slots.{Slot}
 use Rattle.fc_core.specs.declared.event.Event.{Event}
 use Rattle.fc_core.specs.declared.event.Event.TheVariants.{Deliver, Peek, Take, Commit, Install, Remove, Receipt, Raise, Answer, Signal, Tick, ShardTick, Lose, Fresh, Note, GiveUp, Due}
 use Rattle.fc_core.specs.declared.stage.Stage.{Stage}
-use Rattle.fc_core.specs.declared.stage.Stage.TheVariants.{ToMatch, ToTake, ToCommit, ToInstall, ToRemove, ToDescribe, ToList, ToRaise, ToAnswer, Gone, ToTell}
+use Rattle.fc_core.specs.declared.stage.Stage.TheVariants.{ToMatch, ToList, ToAnswer, Gone, ToTell}
 use Rattle.fc_core.specs.declared.stage.TurnStage.TheVariants as turns
 use Rattle.fc_core.specs.Contents.{Content}
 use Rattle.fc_core.specs.Stages.{Around, Move, Scene, content_at, handed, task_moved, moves, names, needs_id, notification, peeked_next, peeked_own, row, words_after}
@@ -19,6 +19,8 @@ use Rattle.coap_block.specs.Transfers.{Addition}
 use Rattle.fc_core.specs.Laws.{is_stray, is_stray_at}
 use Rattle.fc_core.specs.Legal.{Emits, AnswerEmits}
 use Rattle.fc_core.specs.Exchanges.{FrontState}
+use Rattle.fc_core.proofs.ByStep.{Step, by_step, event_by, move_by, stage_by}
+use Rattle.fc_core.proofs.ByStep as steps
 
 abbrev at : Job → Slot → Around → Stage → Scene
 at job slot ws stage = record { job = job; slot = slot; around = ws; stage = stage }
@@ -32,23 +34,19 @@ next_still : (n : ℕ) (x : Scene) (seen : ArrayVec ℕ) (b : Bool) → not b �
 next_still n x seen true e = absurd (cc)
 next_still n x seen false e = refl
 
+false_isnt : false ≡ true → ⊥
+false_isnt e = cc e
+
+step_still : (k : ℕ) (c : Step) (job : Job) (slot : Slot) (ws : Around) → is_stray_at (event_by k c) job.origin.slot (stage_by c) ≡ true → move_by c job slot ws ≡ moves (stage_by c)
+step_still k (steps.Matches n) job slot ws e = peek_still n (at job slot ws ToMatch) (n == job.origin.slot) e
+step_still k (steps.Lists n seen) job slot ws e = next_still n (at job slot ws (ToList seen)) seen (n == length seen.items) e
+step_still k (steps.Loses Gone) job slot ws e = refl
+step_still k other job slot ws e = absurd (false_isnt e)
+
 row_still : (e : Event) (job : Job) (slot : Slot) (ws : Around) (s : Stage) → is_stray_at e job.origin.slot s ≡ true → row e (at job slot ws s) ≡ moves s
-row_still (Peek k n) job slot ws ToMatch e = peek_still n (at job slot ws ToMatch) (n == job.origin.slot) e
-row_still (Peek k n) job slot ws (ToList seen) e = next_still n (at job slot ws (ToList seen)) seen (n == length seen.items) e
-row_still (Remove k) job slot ws ToRemove e = absurd (cc)
-row_still (Receipt k) job slot ws ToDescribe e = absurd (cc)
-row_still (Take k memory readings) job slot ws (ToTake n) e = absurd (cc)
-row_still (Take k memory readings) job slot ws (ToTell turn turns.ToTake) e = absurd (cc)
-row_still (Commit k now) job slot ws (ToCommit n t) e = absurd (cc)
-row_still (Install k memory) job slot ws ToInstall e = absurd (cc)
-row_still (Raise k) job slot ws (ToRaise word content) e = absurd (cc)
-row_still (Answer k now) job slot ws (ToAnswer content) e = absurd (cc)
-row_still (Fresh k now) job slot ws (ToTell turn (turns.ToDraw found)) e = absurd (cc)
-row_still (Note k now random) job slot ws (ToTell turn (turns.ToNote found id)) e = absurd (cc)
-row_still (GiveUp k now) job slot ws (ToTell turn needs) e = absurd (cc)
-row_still (Lose k) job slot ws Gone e = refl
-row_still (Lose k) job slot ws other e = absurd (cc)
-row_still other job slot ws s e = refl
+row_still e job slot ws s =
+    by_step (λ d st m. is_stray_at d job.origin.slot st ≡ true → m ≡ moves st) job slot ws
+    (λ k c. step_still k c job slot ws) (λ d st rest e. refl) e s
 
 none_drawn : (k now own : ℕ) (s : Stage) → is_stray_at (Fresh k now) own s ≡ true → needs_id s ≡ false
 none_drawn k now own (ToTell turn (turns.ToDraw found)) e = absurd (cc)
