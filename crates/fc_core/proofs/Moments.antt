@@ -1,5 +1,5 @@
 -- The moments of the front and of the shards.
-use Rattle.std.proofs.Common.{◌≡◌, ℕ, List, ◌++◌, Bool, true, false, Option, Some, None, refl, ap, ◌∙◌, max, if◌then◌else◌, [], ◌∷◌}
+use Rattle.std.proofs.Common.{◌≡◌, ℕ, List, ◌++◌, Bool, true, false, Option, Some, None, refl, sym, ap, ◌∙◌, max, if◌then◌else◌, [], ◌∷◌}
 use Rattle.std.specs.Prelude.{is_some, ◌%◌, ◌==◌}
 use Rattle.fc_verify.specs.Accepted.{Judgement, Accepts, Breaks, Untypable}
 use Rattle.fc_verify.specs.Judged.{judged}
@@ -9,14 +9,16 @@ use Rattle.fc_registry.specs.declared.commit.CommitOutcome.TheVariants.{Writes, 
 use Rattle.fc_registry.specs.Slots.{Slot, Ticket}
 use Rattle.fc_registry.specs.Calls.{outcome}
 use Rattle.fc_core.specs.declared.event.Event.{Event}
-use Rattle.fc_core.specs.declared.event.Event.TheVariants.{Deliver, Peek, Take, Commit, Install, Remove, Receipt, Raise, Answer, Tick, Fresh, Note, GiveUp, Due, ShardTick}
+use Rattle.fc_core.specs.declared.event.Event.TheVariants.{Deliver, Answer, Tick, Fresh, Due, ShardTick}
 use Rattle.fc_core.specs.declared.stage.Stage.{Stage}
-use Rattle.fc_core.specs.declared.stage.Stage.TheVariants.{ToMatch, ToTake, ToCommit, ToInstall, ToRemove, ToDescribe, ToList, ToRaise, ToAnswer, ToTell}
+use Rattle.fc_core.specs.declared.stage.Stage.TheVariants.{ToInstall, ToAnswer, ToTell}
 use Rattle.fc_core.specs.declared.stage.TurnStage.TheVariants as turns
 use Rattle.fc_core.specs.AnswerLaws.{answer_moment, draw_moment, row_moment, greatest, is_of_shard, own_moment, moments_in, moments_of, shard_moments_of}
 use Rattle.fc_core.specs.History.{around, History, Begins, Then, Seen, seen, job, moment_after, scene, shard_hands, shard_moment_after, slot_at, stage}
 use Rattle.fc_core.specs.Laws.{slot_of, stage_named}
 use Rattle.fc_core.specs.Stages.{Around, Scene, content_at, committed, handed, image_of, installed, names, needs_id, row, verified}
+use Rattle.fc_core.proofs.ByStep.{Step, by_step, event_by, move_by, stage_by}
+use Rattle.fc_core.proofs.ByStep as steps
 
 answer_handed : (st : Stage) (m now : ℕ) (ms : List ℕ) → m ≡ greatest ms → (if is_some (content_at st) then max m now else m) ≡ greatest (answer_moment st now ++ ms)
 answer_handed (ToAnswer content) m now ms is = ap (λ (x : ℕ). max x now) is
@@ -56,21 +58,17 @@ verified_hands : (memory : Bool) (s : Scene) → (verified memory s).hands ≡ N
 verified_hands true s = installed_hands (judged (image_of s.job.ask)) s.slot
 verified_hands false s = refl
 
+step_handed : (k : ℕ) (c : Step) (job : Job) (slot : Slot) (ws : Around) (m : ℕ) (ms : List ℕ) → m ≡ greatest ms → handed (move_by c job slot ws).hands m ≡ greatest (row_moment (event_by k c) (stage_by c) ++ ms)
+step_handed k (steps.Commits now n t) job slot ws m ms is = ap (λ (o : Option ℕ). handed o m) (committed_hands n t now ws (outcome t slot)) ∙ ap (λ (x : ℕ). max x now) is
+step_handed k (steps.Installs memory) job slot ws m ms is = ap (λ (o : Option ℕ). handed o m) (verified_hands memory (at job slot ws ToInstall)) ∙ is
+step_handed k (steps.Notes now random turn found id) job slot ws m ms is = ap (λ (x : ℕ). max x now) is
+step_handed k (steps.GivesUp now turn needs) job slot ws m ms is = ap (λ (x : ℕ). max x now) is
+step_handed k other job slot ws m ms is = is
+
 row_handed : (e : Event) (job : Job) (slot : Slot) (ws : Around) (st : Stage) (m : ℕ) (ms : List ℕ) → m ≡ greatest ms → handed (row e (at job slot ws st)).hands m ≡ greatest (row_moment e st ++ ms)
-row_handed (Commit k now) job slot ws (ToCommit n t) m ms is = ap (λ (o : Option ℕ). handed o m) (committed_hands n t now ws (outcome t slot)) ∙ ap (λ (x : ℕ). max x now) is
-row_handed (Install k memory) job slot ws ToInstall m ms is = ap (λ (o : Option ℕ). handed o m) (verified_hands memory (at job slot ws ToInstall)) ∙ is
-row_handed (Take k memory readings) job slot ws (ToTake n) m ms is = is
-row_handed (Take k memory readings) job slot ws (ToTell turn turns.ToTake) m ms is = is
-row_handed (Raise k) job slot ws (ToRaise word content) m ms is = is
-row_handed (Answer k now) job slot ws (ToAnswer content) m ms is = is
-row_handed (Fresh k now) job slot ws (ToTell turn (turns.ToDraw found)) m ms is = is
-row_handed (Note k now random) job slot ws (ToTell turn (turns.ToNote found id)) m ms is = ap (λ (x : ℕ). max x now) is
-row_handed (GiveUp k now) job slot ws (ToTell turn needs) m ms is = ap (λ (x : ℕ). max x now) is
-row_handed (Peek k n) job slot ws ToMatch m ms is = is
-row_handed (Peek k n) job slot ws (ToList seen) m ms is = is
-row_handed (Remove k) job slot ws ToRemove m ms is = is
-row_handed (Receipt k) job slot ws ToDescribe m ms is = is
-row_handed other job slot ws st m ms is = is
+row_handed e job slot ws st m ms is =
+    by_step (λ d s move. handed move.hands m ≡ greatest (row_moment d s ++ ms)) job slot ws (λ k c. step_handed k c job slot ws m ms is)
+    (λ d s rest. is ∙ ap (λ (l : List ℕ). greatest (l ++ ms)) (sym rest.moments)) e st
 
 shard_if : (s : Seen) (e : Event) (k i : ℕ) (b : Bool) (ms : List ℕ) → s.shard_moment i ≡ greatest ms → (if b then handed (row e (scene s k)).hands (s.shard_moment i) else s.shard_moment i) ≡ greatest (if b then row_moment e (stage s k) ++ ms else ms)
 shard_if s e k i true ms is = row_handed e (job s k) (slot_at s (slot_of s k)) (around s (slot_of s k)) (stage s k) (s.shard_moment i) ms is
