@@ -18,9 +18,9 @@ use Rattle.fc_registry.specs.Changes.{Change}
 use Rattle.fc_registry.specs.declared.receipt.Receipt.{Receipt as Facts}
 use Rattle.fc_registry.specs.Calls.{is_observed, clear_by, meaning_at, outcome, outcome_by, put_by, is_out_at, receipt_at, receipt_of, taking, turn_taking, wants, readings_if}
 use Rattle.fc_core.specs.declared.event.Event.{Event}
-use Rattle.fc_core.specs.declared.event.Event.TheVariants.{Peek, Take, Commit, Install, Remove, Receipt, Raise, Answer, Lose, Fresh, Note, GiveUp}
+use Rattle.fc_core.specs.declared.event.Event.TheVariants.{Take, Commit}
 use Rattle.fc_core.specs.declared.stage.Stage.{Stage}
-use Rattle.fc_core.specs.declared.stage.Stage.TheVariants.{ToMatch, ToTake, ToCommit, ToInstall, ToRemove, ToDescribe, ToList, ToRaise, ToAnswer, Gone, ToTell}
+use Rattle.fc_core.specs.declared.stage.Stage.TheVariants.{ToMatch, ToTake, ToCommit, ToInstall, ToList, ToRaise, ToAnswer, Gone, ToTell}
 use Rattle.fc_core.specs.declared.stage.TurnStage.{TurnStage}
 use Rattle.fc_core.specs.declared.stage.TurnStage.TheVariants as turns
 use Rattle.coap_reply.specs.Blocks.{cut_for}
@@ -30,6 +30,8 @@ use Rattle.fc_core.specs.Heads.{is_match, word_at}
 use Rattle.fc_core.specs.History.{around, Entry, History, Then, Seen, seen, and_then, did, job, scene, slot_at, stage}
 use Rattle.fc_core.specs.Laws.{IsNewest, IsOfNewest, IsOvertaken, Taking, TakesAgain, answer_at, finds_if, gives, slot_of, takings_of}
 use Rattle.fc_core.specs.Stages.{Around, Scene, committed, first_by, image_of, installed, made, matched_by, peeked_next, peeked_own, removed, retaken, row, told, took, turn_took, verified, with_id}
+use Rattle.fc_core.proofs.ByStep.{Step, by_step, event_by, move_by, stage_by}
+use Rattle.fc_core.proofs.ByStep as steps
 use Rattle.fc_core.proofs.Along.{IsTold, along}
 use Rattle.fc_core.proofs.Others.{is_here, named_stage}
 
@@ -152,25 +154,24 @@ next_took : (b : Bool) (word : ℕ) (seen : ArrayVec ℕ) (ts : List Taking) →
 next_took true word seen ts le = listed_took (nat_lt (length (seen.items ++ word ∷ [])) 64) (seen.items ++ word ∷ []) ts le
 next_took false word seen ts le = le
 
+step_took : (k : ℕ) (c : Step) (job : Job) (slot : Slot) (cs : List Change) (ws : Around) (ts : List Taking) → Took ts (stage_by c) → Took (gives (event_by k c) (at job slot ws (stage_by c)) cs ++ ts) (move_by c job slot ws).stage
+step_took k (steps.Matches n) job slot cs ws ts f = own_took (n == job.origin.slot) (word_at ws.common.words n) job.etags.items ts f
+step_took k (steps.Lists n seen) job slot cs ws ts f = next_took (n == length seen.items) (word_at ws.common.words n) seen ts f
+step_took k steps.Removes job slot cs ws ts f = clear_took (nat_lt slot.serial last_serial) slot.serial slot.present ts f
+step_took k steps.Describes job slot cs ws ts f = told_took (receipt_at slot.present) ts f
+step_took k (steps.Takes memory readings n) job slot cs ws ts f = taking_took memory readings k job slot cs ws n ts slot.present refl f.0 f.1
+step_took k (steps.TakesTurn true readings turn) job slot cs ws ts f = turn_taking_took (is_out_at turn ws.moment ws.watch) readings turn job slot.serial cs ts slot.present f
+step_took k (steps.TakesTurn false readings turn) job slot cs ws ts f = refused_took (is_out_at turn ws.moment ws.watch) turn job slot.serial ts slot.present f
+step_took k (steps.Commits now n t) job slot cs ws ts f = committed_took n ts t now ws (outcome t slot) f.0 f.1 f.2
+step_took k (steps.Installs memory) job slot cs ws ts f = verified_took memory (at job slot ws ToInstall) ts f
+step_took k (steps.Raises word content) job slot cs ws ts f = f
+step_took k (steps.Draws now turn found) job slot cs ws ts f = drawn_took ts found (ws.common.free now) f
+step_took k other job slot cs ws ts f = at_most_eight (stage_by other) ts f
+
 row_took : (e : Event) (job : Job) (slot : Slot) (cs : List Change) (ws : Around) (s : Stage) (ts : List Taking) → Took ts s → Took (gives e (at job slot ws s) cs ++ ts) (row e (at job slot ws s)).stage
-row_took (Peek k n) job slot cs ws ToMatch ts f = own_took (n == job.origin.slot) (word_at ws.common.words n) job.etags.items ts f
-row_took (Peek k n) job slot cs ws (ToList seen) ts f = next_took (n == length seen.items) (word_at ws.common.words n) seen ts f
-row_took (Remove k) job slot cs ws ToRemove ts f = clear_took (nat_lt slot.serial last_serial) slot.serial slot.present ts f
-row_took (Receipt k) job slot cs ws ToDescribe ts f = told_took (receipt_at slot.present) ts f
-row_took (Take k memory readings) job slot cs ws (ToTake n) ts f = taking_took memory readings k job slot cs ws n ts slot.present refl f.0 f.1
-row_took (Take k true readings) job slot cs ws (ToTell turn turns.ToTake) ts f = turn_taking_took (is_out_at turn ws.moment ws.watch) readings turn job slot.serial cs ts slot.present f
-row_took (Take k false readings) job slot cs ws (ToTell turn turns.ToTake) ts f = refused_took (is_out_at turn ws.moment ws.watch) turn job slot.serial ts slot.present f
-row_took (Take k true readings) job slot cs ws other ts f = f
-row_took (Take k false readings) job slot cs ws other ts f = f
-row_took (Commit k now) job slot cs ws (ToCommit n t) ts f = committed_took n ts t now ws (outcome t slot) f.0 f.1 f.2
-row_took (Install k memory) job slot cs ws ToInstall ts f = verified_took memory (at job slot ws ToInstall) ts f
-row_took (Raise k) job slot cs ws (ToRaise word content) ts f = f
-row_took (Answer k now) job slot cs ws (ToAnswer content) ts f = f.0
-row_took (Fresh k now) job slot cs ws (ToTell turn (turns.ToDraw found)) ts f = drawn_took ts found (ws.common.free now) f
-row_took (Note k now random) job slot cs ws (ToTell turn (turns.ToNote found id)) ts f = one_at_most ts found f
-row_took (GiveUp k now) job slot cs ws (ToTell turn needs) ts f = turn_at_most ts needs f
-row_took (Lose k) job slot cs ws s ts f = at_most_eight s ts f
-row_took other job slot cs ws s ts f = f
+row_took e job slot cs ws s ts =
+    by_step (λ d st m. Took ts st → Took (gives d (at job slot ws st) cs ++ ts) m.stage) job slot ws (λ k c. step_took k c job slot cs ws ts)
+    (λ d st rest f. subst (λ (l : List Taking). Took (l ++ ts) st) (sym (rest.given job slot ws cs)) f) e s
 
 -- nothing is given to a job that is gone
 gone_given : (e : Event) (job : Job) (slot : Slot) (ws : Around) (cs : List Change) → gives e (at job slot ws Gone) cs ≡ []
