@@ -20,9 +20,9 @@ use Rattle.fc_registry.specs.Slots.{Present, Slot, Ticket}
 use Rattle.fc_registry.specs.Turns.{job_of_turn, turn_job}
 use Rattle.fc_registry.proofs.Noticed.{noticed_within}
 use Rattle.fc_core.specs.declared.event.Event.{Event}
-use Rattle.fc_core.specs.declared.event.Event.TheVariants.{Deliver, Due, Take, Fresh, Note, GiveUp, Lose}
+use Rattle.fc_core.specs.declared.event.Event.TheVariants.{Deliver, Due}
 use Rattle.fc_core.specs.declared.stage.Stage.{Stage}
-use Rattle.fc_core.specs.declared.stage.Stage.TheVariants.{ToMatch, ToTake, ToCommit, ToInstall, ToRemove, ToDescribe, ToList, ToRaise, ToAnswer, ToTell}
+use Rattle.fc_core.specs.declared.stage.Stage.TheVariants.{ToTell}
 use Rattle.fc_core.specs.declared.stage.Task.{Task}
 use Rattle.fc_core.specs.declared.stage.TurnStage.{TurnStage}
 use Rattle.fc_core.specs.declared.stage.TurnStage.TheVariants as turns
@@ -32,6 +32,8 @@ use Rattle.fc_core.specs.Laws.{slot_of}
 use Rattle.fc_core.specs.Receiving.{Received, Opened, brought, job_of, next_opening}
 use Rattle.fc_core.specs.Sound.{IsSound}
 use Rattle.fc_core.specs.Stages.{Common, Around, Scene, first_stage, names, new_task, row, task_moved, turn_took, with_id}
+use Rattle.fc_core.proofs.ByStep.{Step, by_move, move_by, stage_by}
+use Rattle.fc_core.proofs.ByStep as steps
 use Rattle.fc_core.proofs.Apart.{IsToldOf, is_told_of}
 use Rattle.fc_core.proofs.Fitting.{after_rises, first_fits, row_fits}
 use Rattle.fc_core.proofs.Keeping.{grows, slot_grows}
@@ -114,22 +116,18 @@ module _ (n : ℕ) (calls : List ObserverCall) (common : Common) (moment : ℕ) 
   abbrev ws : Around
   ws = record { common = common; moment = moment; watch = observers n calls }
 
+  step_knows : (c : Step) (job : Job) (slot : Slot) (turn : Turn) → IsToldOf turn (stage_by c) → Knows n calls slot.serial (stage_by c) → Knows n ((move_by c job slot ws).calls ++ calls) slot.serial (move_by c job slot ws).stage
+  step_knows (steps.TakesTurn memory readings mine) job slot turn own w = taking_knows n calls slot.serial mine moment job (is_out_at mine moment (observers n calls)) (readings_if memory readings) slot.present refl w.0 w.1
+  step_knows (steps.Draws now mine found) job slot turn own w = (w.0, drawn_knows n calls slot.serial mine found (common.free now) w.1)
+  step_knows (steps.Notes now random mine found id) job slot turn own w = tt
+  step_knows (steps.GivesUp now mine needs) job slot turn own w = tt
+  step_knows (steps.Loses needs) job slot turn own w = tt
+  step_knows other job slot turn own w = absurd own
+
   row_knows : (e : Event) (job : Job) (slot : Slot) (turn : Turn) (s : Stage) → IsToldOf turn s → Knows n calls slot.serial s → Knows n ((row e (at job slot ws s)).calls ++ calls) slot.serial (row e (at job slot ws s)).stage
-  row_knows (Lose k) job slot turn s own w = tt
-  row_knows (Take k memory readings) job slot turn (ToTell mine turns.ToTake) own w = taking_knows n calls slot.serial mine moment job (is_out_at mine moment (observers n calls)) (readings_if memory readings) slot.present refl w.0 w.1
-  row_knows (Fresh k now) job slot turn (ToTell mine (turns.ToDraw found)) own w = (w.0, drawn_knows n calls slot.serial mine found (common.free now) w.1)
-  row_knows (Note k now random) job slot turn (ToTell mine (turns.ToNote found id)) own w = tt
-  row_knows (GiveUp k now) job slot turn (ToTell mine needs) own w = tt
-  row_knows e job slot turn ToMatch own w = absurd own
-  row_knows e job slot turn (ToTake count) own w = absurd own
-  row_knows e job slot turn (ToCommit count t) own w = absurd own
-  row_knows e job slot turn ToInstall own w = absurd own
-  row_knows e job slot turn ToRemove own w = absurd own
-  row_knows e job slot turn ToDescribe own w = absurd own
-  row_knows e job slot turn (ToList words) own w = absurd own
-  row_knows e job slot turn (ToRaise word content) own w = absurd own
-  row_knows e job slot turn (ToAnswer content) own w = absurd own
-  row_knows other job slot turn s own w = w
+  row_knows e job slot turn s =
+      by_move (λ st m. IsToldOf turn st → Knows n calls slot.serial st → Knows n (m.calls ++ calls) slot.serial m.stage) job slot ws
+      (λ c. step_knows c job slot turn) (λ st own w. w) e s
 
 -- ---- each event
 
