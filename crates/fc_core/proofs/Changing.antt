@@ -1,6 +1,6 @@
 -- A job changes its slot at most once, and then publishes its serial.
 use Rattle.std.proofs.Common.{◌≡◌, ℕ, ◌+◌, ◌-◌, ◌<◌, ◌≤◌, length, Bool, true, false, Option, Some, None, refl, sym, ap, ◌∙◌, subst, ◌⊎◌, inl, inr, ⊎_elim, arith, if◌then◌else◌, length-append}
-use Rattle.std.specs.Prelude.{List, [], ◌∷◌, ◌++◌, ◌==◌, nat_lt, not}
+use Rattle.std.specs.Prelude.{List, [], ◌∷◌, ◌++◌, ◌==◌, nat_lt}
 use Rattle.std.proofs.lemmas.Bool.{cases_Bool, cases_lt, eqb-true}
 use Rattle.fc_kinds.specs.Meaning.{Program}
 use Rattle.fc_verify.specs.Accepted.{Judgement, Accepts, Breaks, Untypable}
@@ -15,15 +15,17 @@ use Rattle.fc_registry.specs.Calls.{clear_by, outcome, put_by, receipt_of, takin
 use Rattle.fc_core.specs.declared.event.Event.{Event}
 use Rattle.fc_core.specs.declared.event.Event.TheVariants.{Peek, Take, Commit, Install, Remove, Receipt, Raise, Answer, Lose, Fresh, Note, GiveUp}
 use Rattle.fc_core.specs.declared.stage.Stage.{Stage}
-use Rattle.fc_core.specs.declared.stage.Stage.TheVariants.{ToMatch, ToTake, ToCommit, ToInstall, ToRemove, ToDescribe, ToList, ToRaise, ToAnswer, Gone, ToTell}
+use Rattle.fc_core.specs.declared.stage.Stage.TheVariants.{ToMatch, ToTake, ToCommit, ToInstall, ToRemove, ToList, ToRaise, ToAnswer, Gone, ToTell}
 use Rattle.fc_core.specs.declared.stage.TurnStage.TheVariants as turns
 use Rattle.arrayvec.specs.ArrayVec.{ArrayVec}
 use Rattle.fc_core.specs.Contents.{Content, Listed, Unavailable}
 use Rattle.fc_core.specs.Heads.{is_match, word_at}
 use Rattle.fc_core.specs.History.{around, Entry, History, Then, Seen, seen, and_then, job, scene, slot_at, stage}
-use Rattle.fc_core.specs.Laws.{HasCome, changes_by, is_named, is_job, is_stray, is_stray_at, needs_word, own_of_named, slot_of, stage_named}
+use Rattle.fc_core.specs.Laws.{HasCome, changes_by, is_named, is_job, is_stray, is_stray_at, own_of_named, slot_of, stage_named}
 use Rattle.fc_core.specs.SlotLaws.{IsToRaise}
-use Rattle.fc_core.specs.Stages.{Around, Scene, at_peek, committed, first_by, image_of, installed, made, matched_by, names, peeked_next, peeked_own, removed, row, took, verified}
+use Rattle.fc_core.specs.Stages.{Around, Scene, committed, first_by, image_of, installed, made, matched_by, names, peeked_next, peeked_own, removed, row, took, verified}
+use Rattle.fc_core.proofs.ByStep.{Step, by_move, by_step, move_by, stage_by}
+use Rattle.fc_core.proofs.ByStep as steps
 use Rattle.fc_core.proofs.Telling.{after_turn}
 use Rattle.fc_core.proofs.Along.{IsTold, along, gone_before}
 use Rattle.fc_core.proofs.Others.{named_stage, own_slot}
@@ -86,38 +88,24 @@ next_raises : (b : Bool) (word : ℕ) (seen : ArrayVec ℕ) → 0 ≡ raises (pe
 next_raises true word seen = listed_raises (nat_lt (length (seen.items ++ word ∷ [])) 64) (seen.items ++ word ∷ [])
 next_raises false word seen = refl
 
-peek_raises : (n : ℕ) (x : Scene) (s : Stage) → (raises s ≡ 0) → 0 ≡ raises (at_peek n x s).stage
-peek_raises n x ToMatch e = own_raises (n == x.job.origin.slot) (word_at x.around.common.words n) x.job.etags.items
-peek_raises n x (ToList seen) e = next_raises (n == length seen.items) (word_at x.around.common.words n) seen
-peek_raises n x other e = sym e
+step_raises : (c : Step) (job : Job) (slot : Slot) (ws : Around) → length (move_by c job slot ws).changes ≡ raises (move_by c job slot ws).stage
+step_raises (steps.Matches n) job slot ws = own_raises (n == job.origin.slot) (word_at ws.common.words n) job.etags.items
+step_raises (steps.Lists n seen) job slot ws = next_raises (n == length seen.items) (word_at ws.common.words n) seen
+step_raises (steps.Takes memory readings n) job slot ws = taking_raises (readings_if memory readings) job slot n slot.present
+step_raises (steps.TakesTurn memory readings turn) job slot ws = after_turn (λ st. 0 ≡ raises st) (λ turn needs. refl) refl (readings_if memory readings) turn (at job slot ws (ToTell turn turns.ToTake))
+step_raises (steps.Commits now n t) job slot ws = committed_raises n t now ws (outcome t slot)
+step_raises (steps.Installs memory) job slot ws = verified_raises memory (at job slot ws ToInstall)
+step_raises steps.Removes job slot ws = clear_raises (nat_lt slot.serial last_serial) slot.serial slot.present
+step_raises other job slot ws = refl
 
--- what a look changes and leaves to publish: nothing
-peek_makes : (n : ℕ) (x : Scene) (s : Stage) → length (at_peek n x s).changes ≡ 0
-peek_makes n x ToMatch = refl
-peek_makes n x (ToList seen) = refl
-peek_makes n x other = refl
-
--- a job that is at a look has nothing to publish
-needs_none : (own n : ℕ) (s : Stage) → not (needs_word own n s) ≡ false → raises s ≡ 0
-needs_none own n (ToRaise word content) e = absurd (cc)
-needs_none own n other e = refl
+true_isnt : true ≡ false → ⊥
+true_isnt e = cc e
 
 -- an event that isn't a stray makes as many changes as it leaves to publish
 row_raises : (e : Event) (k : ℕ) (job : Job) (slot : Slot) (ws : Around) (s : Stage) → names e ≡ Some k → is_stray_at e job.origin.slot s ≡ false → length (row e (at job slot ws s)).changes ≡ raises (row e (at job slot ws s)).stage
-row_raises (Peek j n) k job slot ws s named e = peek_makes n (at job slot ws s) s ∙ peek_raises n (at job slot ws s) s (needs_none job.origin.slot n s e)
-row_raises (Remove j) k job slot ws ToRemove named e = clear_raises (nat_lt slot.serial last_serial) slot.serial slot.present
-row_raises (Receipt j) k job slot ws ToDescribe named e = refl
-row_raises (Take j memory readings) k job slot ws (ToTake n) named e = taking_raises (readings_if memory readings) job slot n slot.present
-row_raises (Take j memory readings) k job slot ws (ToTell turn turns.ToTake) named e = after_turn (λ st. 0 ≡ raises st) (λ turn needs. refl) refl (readings_if memory readings) turn (at job slot ws (ToTell turn turns.ToTake))
-row_raises (Commit j now) k job slot ws (ToCommit n t) named e = committed_raises n t now ws (outcome t slot)
-row_raises (Install j memory) k job slot ws ToInstall named e = verified_raises memory (at job slot ws ToInstall)
-row_raises (Raise j) k job slot ws (ToRaise word content) named e = refl
-row_raises (Answer j now) k job slot ws (ToAnswer content) named e = refl
-row_raises (Fresh j now) k job slot ws (ToTell turn (turns.ToDraw found)) named e = refl
-row_raises (Note j now random) k job slot ws (ToTell turn (turns.ToNote found id)) named e = refl
-row_raises (GiveUp j now) k job slot ws (ToTell turn needs) named e = refl
-row_raises (Lose j) k job slot ws s named e = refl
-row_raises other k job slot ws s named e = absurd (cc)
+row_raises e k job slot ws s =
+    by_step (λ d st m. names d ≡ Some k → is_stray_at d job.origin.slot st ≡ false → length m.changes ≡ raises m.stage) job slot ws
+    (λ j c named e. step_raises c job slot ws) (λ d st rest named e. absurd (true_isnt (sym (rest.stray k job.origin.slot named) ∙ e))) e s
 
 -- ---- at most once
 
@@ -168,22 +156,24 @@ first_change other n m is more = none_and_few n m (raises other) is more (raises
 no_change : (s : Stage) (n : ℕ) → FitsChanges n s → FitsChanges (n + 0) s
 no_change s n f = subst (λ (m : ℕ). FitsChanges m s) (let is : n ≡ n + 0 = omega arith in is) f
 
+few_still : (n : ℕ) → n ≤ 1 → n + 0 ≤ 1
+few_still n f = omega (arith, f)
+
+step_changes : (c : Step) (job : Job) (slot : Slot) (ws : Around) (n : ℕ) → FitsChanges n (stage_by c) → FitsChanges (n + length (move_by c job slot ws).changes) (move_by c job slot ws).stage
+step_changes steps.Describes job slot ws n f = few_still n f
+step_changes (steps.TakesTurn memory readings turn) job slot ws n f = after_turn (λ st. FitsChanges (n + 0) st) (λ turn needs. few_still n f) (few_still n f) (readings_if memory readings) turn (at job slot ws (ToTell turn turns.ToTake))
+step_changes (steps.Raises word content) job slot ws n f = few_still n f
+step_changes (steps.Answers now content) job slot ws n f = few_still n f
+step_changes (steps.Draws now turn found) job slot ws n f = few_still n f
+step_changes (steps.Notes now random turn found id) job slot ws n f = few_still n f
+step_changes (steps.GivesUp now turn needs) job slot ws n f = few_still n f
+step_changes (steps.Loses needs) job slot ws n f = few_still n (one_change needs n f)
+step_changes other job slot ws n f = first_change (move_by other job slot ws).stage n (length (move_by other job slot ws).changes) f (step_raises other job slot ws)
+
 row_changes : (e : Event) (job : Job) (slot : Slot) (ws : Around) (s : Stage) (n : ℕ) → FitsChanges n s → FitsChanges (n + length (row e (at job slot ws s)).changes) (row e (at job slot ws s)).stage
-row_changes (Peek k i) job slot ws ToMatch n f = first_change (row (Peek k i) (at job slot ws ToMatch)).stage n 0 f (peek_raises i (at job slot ws ToMatch) ToMatch refl)
-row_changes (Peek k i) job slot ws (ToList seen) n f = first_change (row (Peek k i) (at job slot ws (ToList seen))).stage n 0 f (peek_raises i (at job slot ws (ToList seen)) (ToList seen) refl)
-row_changes (Remove k) job slot ws ToRemove n f = first_change (row (Remove k) (at job slot ws ToRemove)).stage n (length (row (Remove k) (at job slot ws ToRemove)).changes) f (row_raises (Remove k) k job slot ws ToRemove refl refl)
-row_changes (Receipt k) job slot ws ToDescribe n f = omega (arith, f)
-row_changes (Take k memory readings) job slot ws (ToTake c) n f = first_change (row (Take k memory readings) (at job slot ws (ToTake c))).stage n 0 f (row_raises (Take k memory readings) k job slot ws (ToTake c) refl refl)
-row_changes (Take k memory readings) job slot ws (ToTell turn turns.ToTake) n f = after_turn (λ st. FitsChanges (n + 0) st) (λ turn needs. omega (arith, f)) (omega (arith, f)) (readings_if memory readings) turn (at job slot ws (ToTell turn turns.ToTake))
-row_changes (Commit k now) job slot ws (ToCommit c t) n f = first_change (row (Commit k now) (at job slot ws (ToCommit c t))).stage n (length (row (Commit k now) (at job slot ws (ToCommit c t))).changes) f (row_raises (Commit k now) k job slot ws (ToCommit c t) refl refl)
-row_changes (Install k memory) job slot ws ToInstall n f = first_change (row (Install k memory) (at job slot ws ToInstall)).stage n (length (row (Install k memory) (at job slot ws ToInstall)).changes) f (row_raises (Install k memory) k job slot ws ToInstall refl refl)
-row_changes (Raise k) job slot ws (ToRaise word content) n f = omega (arith, f)
-row_changes (Answer k now) job slot ws (ToAnswer content) n f = omega (arith, f)
-row_changes (Fresh k now) job slot ws (ToTell turn (turns.ToDraw found)) n f = omega (arith, f)
-row_changes (Note k now random) job slot ws (ToTell turn (turns.ToNote found id)) n f = omega (arith, f)
-row_changes (GiveUp k now) job slot ws (ToTell turn needs) n f = omega (arith, f)
-row_changes (Lose k) job slot ws s n f = omega (arith, one_change s n f)
-row_changes other job slot ws s n f = no_change s n f
+row_changes e job slot ws s n =
+    by_move (λ st m. FitsChanges n st → FitsChanges (n + length m.changes) m.stage) job slot ws
+    (λ c. step_changes c job slot ws n) (λ st f. no_change st n f) e s
 
 gone_changes : (e : Event) (job : Job) (slot : Slot) (ws : Around) (n : ℕ) → n + length (row e (at job slot ws Gone)).changes ≡ n
 gone_changes (Take k memory readings) job slot ws n = omega arith
