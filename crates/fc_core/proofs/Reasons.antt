@@ -16,9 +16,9 @@ use Rattle.fc_registry.specs.declared.commit.CommitOutcome.TheVariants.{Writes, 
 use Rattle.fc_registry.specs.Slots.{Slot, Present, Ticket, last_serial}
 use Rattle.fc_registry.specs.Calls.{is_observed, clear_by, outcome, outcome_by, put_by, receipt_at, receipt_of, taking, wants, readings_if}
 use Rattle.fc_core.specs.declared.event.Event.{Event}
-use Rattle.fc_core.specs.declared.event.Event.TheVariants.{Peek, Take, Commit, Install, Remove, Receipt, Raise, Answer, Lose, Fresh, Note, GiveUp}
+use Rattle.fc_core.specs.declared.event.Event.TheVariants.{Peek, Take, Commit, Install, Remove, Receipt}
 use Rattle.fc_core.specs.declared.stage.Stage.{Stage}
-use Rattle.fc_core.specs.declared.stage.Stage.TheVariants.{ToMatch, ToTake, ToCommit, ToInstall, ToRemove, ToDescribe, ToList, ToRaise, ToAnswer, ToTell}
+use Rattle.fc_core.specs.declared.stage.Stage.TheVariants.{ToMatch, ToTake, ToCommit, ToInstall, ToRemove, ToDescribe, ToList, ToAnswer, ToTell}
 use Rattle.fc_core.specs.declared.stage.TurnStage.TheVariants as turns
 use Rattle.fc_core.specs.declared.stage.Task.{Task}
 use Rattle.arrayvec.specs.ArrayVec.{ArrayVec}
@@ -29,6 +29,8 @@ use Rattle.fc_core.specs.AnswerLaws.{HasSerial, IsCause, NoTicket, NoMemory, Not
 use Rattle.fc_core.specs.History.{around, Entry, History, Then, Seen, seen, and_then, did, job, slot_at, stage, task_at}
 use Rattle.fc_core.specs.Laws.{answer_at, slot_of, takings_of}
 use Rattle.fc_core.specs.Stages.{Around, Scene, committed, first_by, first_or_turn, image_of, installed, made, matched_by, names, peeked_next, peeked_own, removed, run_content, row, told, took, verified}
+use Rattle.fc_core.proofs.ByStep.{Step, by_step, event_by, move_by, names_job, stage_by}
+use Rattle.fc_core.proofs.ByStep as steps
 use Rattle.fc_core.proofs.Telling.{after_turn}
 use Rattle.fc_core.proofs.Others.{is_here, named_stage}
 use Rattle.fc_core.proofs.Steps.{Becomes, Moves, Stays, Comes, becomes}
@@ -172,33 +174,28 @@ IsCount (ToCommit n t) taken = (taken ≡ n) × (n ≤ 8)
 IsCount (ToList seen) taken = length seen.items < 64
 IsCount other taken = Unit {0}
 
+none_is_answered : {c : Content} → None ≡ Some c → ⊥
+none_is_answered e = cc e
+
+step_why : (x : Step) (k : ℕ) (job : Job) (slot : Slot) (ws : Around) (taken : ℕ) (c : Content) → IsCount (stage_by x) taken → answer_at (move_by x job slot ws).stage ≡ Some c → (answer_at (stage_by x) ≡ Some c) ⊎ IsCause (event_by k x) k job slot ws.common.words (stage_by x) taken c
+step_why (steps.Matches n) k job slot ws taken c f e = inr (own_why k job slot ws taken n (n == job.origin.slot) c refl e)
+step_why (steps.Lists n seen) k job slot ws taken c f e = inr (next_why k job slot ws taken seen n (n == length seen.items) c refl f e)
+step_why steps.Removes k job slot ws taken c f e = inr (clear_why k job slot ws taken (nat_lt slot.serial last_serial) slot.present c refl refl e)
+step_why steps.Describes k job slot ws taken c f e = inr (told_why k job slot ws taken slot.present c refl e)
+step_why (steps.Takes memory readings n) k job slot ws taken c f e = inr (taking_why k job slot ws taken memory readings n slot.present c refl e)
+step_why (steps.TakesTurn memory readings turn) k job slot ws taken c f e = absurd (after_turn (λ st. answer_at st ≡ Some c → ⊥) (λ turn needs e. cc e) (λ e. cc e) (readings_if memory readings) turn (at job slot ws (ToTell turn turns.ToTake)) e)
+step_why (steps.Commits now n t) k job slot ws taken c f e = inr (committed_why k job slot ws taken now n t (outcome t slot) c f.0 f.1 refl e)
+step_why (steps.Installs memory) k job slot ws taken c f e = inr (verified_why k job slot ws taken memory c e)
+step_why (steps.Raises word content) k job slot ws taken c f e = inl e
+step_why other k job slot ws taken c f e = absurd (none_is_answered e)
+
 row_why : (e : Event) (k : ℕ) (job : Job) (slot : Slot) (ws : Around) (s : Stage) (taken : ℕ) (c : Content) → names e ≡ Some k → IsCount s taken → answer_at (row e (at job slot ws s)).stage ≡ Some c → (answer_at s ≡ Some c) ⊎ IsCause e k job slot ws.common.words s taken c
-row_why (Peek j n) k job slot ws ToMatch taken c named f e = let same : j ≡ k = cc named in inr (subst (λ (i : ℕ). IsCause (Peek i n) k job slot ws.common.words ToMatch taken c) (sym same) (own_why k job slot ws taken n (n == job.origin.slot) c refl e))
-row_why (Peek j n) k job slot ws (ToList seen) taken c named f e = let same : j ≡ k = cc named in inr (subst (λ (i : ℕ). IsCause (Peek i n) k job slot ws.common.words (ToList seen) taken c) (sym same) (next_why k job slot ws taken seen n (n == length seen.items) c refl f e))
-row_why (Peek j n) k job slot ws other taken c named f e = inl e
-row_why (Remove j) k job slot ws ToRemove taken c named f e = let same : j ≡ k = cc named in inr (subst (λ (i : ℕ). IsCause (Remove i) k job slot ws.common.words ToRemove taken c) (sym same) (clear_why k job slot ws taken (nat_lt slot.serial last_serial) slot.present c refl refl e))
-row_why (Remove j) k job slot ws other taken c named f e = inl e
-row_why (Receipt j) k job slot ws ToDescribe taken c named f e = let same : j ≡ k = cc named in inr (subst (λ (i : ℕ). IsCause (Receipt i) k job slot ws.common.words ToDescribe taken c) (sym same) (told_why k job slot ws taken slot.present c refl e))
-row_why (Receipt j) k job slot ws other taken c named f e = inl e
-row_why (Take j memory readings) k job slot ws (ToTake n) taken c named f e = let same : j ≡ k = cc named in inr (subst (λ (i : ℕ). IsCause (Take i memory readings) k job slot ws.common.words (ToTake n) taken c) (sym same) (taking_why k job slot ws taken memory readings n slot.present c refl e))
-row_why (Take j memory readings) k job slot ws (ToTell turn turns.ToTake) taken c named f e = absurd (after_turn (λ st. answer_at st ≡ Some c → ⊥) (λ turn needs e. cc e) (λ e. cc e) (readings_if memory readings) turn (at job slot ws (ToTell turn turns.ToTake)) e)
-row_why (Take j memory readings) k job slot ws other taken c named f e = inl e
-row_why (Commit j now) k job slot ws (ToCommit n t) taken c named f e = let same : j ≡ k = cc named in inr (subst (λ (i : ℕ). IsCause (Commit i now) k job slot ws.common.words (ToCommit n t) taken c) (sym same) (committed_why k job slot ws taken now n t (outcome t slot) c f.0 f.1 refl e))
-row_why (Commit j now) k job slot ws other taken c named f e = inl e
-row_why (Install j memory) k job slot ws ToInstall taken c named f e = let same : j ≡ k = cc named in inr (subst (λ (i : ℕ). IsCause (Install i memory) k job slot ws.common.words ToInstall taken c) (sym same) (verified_why k job slot ws taken memory c e))
-row_why (Install j memory) k job slot ws other taken c named f e = inl e
-row_why (Raise j) k job slot ws (ToRaise word content) taken c named f e = inl e
-row_why (Raise j) k job slot ws other taken c named f e = inl e
-row_why (Answer j now) k job slot ws (ToAnswer content) taken c named f e = absurd (cc e)
-row_why (Answer j now) k job slot ws other taken c named f e = inl e
-row_why (Fresh j now) k job slot ws (ToTell turn (turns.ToDraw found)) taken c named f e = inl e
-row_why (Fresh j now) k job slot ws other taken c named f e = inl e
-row_why (Note j now random) k job slot ws (ToTell turn (turns.ToNote found id)) taken c named f e = absurd (cc e)
-row_why (Note j now random) k job slot ws other taken c named f e = inl e
-row_why (GiveUp j now) k job slot ws (ToTell turn needs) taken c named f e = absurd (cc e)
-row_why (GiveUp j now) k job slot ws other taken c named f e = inl e
-row_why (Lose j) k job slot ws s taken c named f e = absurd (cc e)
-row_why other k job slot ws s taken c named f e = absurd (cc named)
+row_why e k job slot ws s taken c =
+    by_step (λ d st m. names d ≡ Some k → IsCount st taken → answer_at m.stage ≡ Some c → (answer_at st ≡ Some c) ⊎ IsCause d k job slot ws.common.words st taken c) job slot ws
+    (λ j x named f e.
+    let same : j ≡ k = cc (sym (names_job j x) ∙ named) in
+    subst (λ (i : ℕ). (answer_at (stage_by x) ≡ Some c) ⊎ IsCause (event_by i x) k job slot ws.common.words (stage_by x) taken c) (sym same) (step_why x k job slot ws taken c f e))
+    (λ d st rest named f e. inl e) e s
 
 count_is : (s : Stage) (h : History) (k : ℕ) → Took (takings_of h k) s → HasNext s → IsCount s (length (takings_of h k))
 count_is (ToCommit n t) h k f next = (f.0, f.1)
