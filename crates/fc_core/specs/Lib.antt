@@ -11,6 +11,7 @@ pub mod Receiving
 pub mod Askings
 pub mod Answering
 pub mod Stages
+pub mod Steps
 pub mod Fits
 pub mod History
 pub mod Sound

@@ -34,10 +34,11 @@ use Rattle.fc_core.specs.Contents.{Content, IsOf, Listed, Unavailable}
 use Rattle.fc_core.specs.Heads.{head_word, is_match}
 use Rattle.fc_core.specs.Ends.{refused, refused_by}
 use Rattle.fc_core.specs.Stages.{asked_stage, first_by, image_of, listed, matched, matched_by, run_content, removed, told, took, after_commit, made, takings}
+use Rattle.fc_core.specs.Steps.{Call, Takes, Commits, Installs, Lists, Matches, Rejects, Refuses, Removes, Describes, Raises}
 use Rattle.fc_workers.specs.declared.share.Share.{Share}
-use Rattle.fc_workers.specs.Answers.{AreTallied, commit_changes, ended_by, install_changes, removal_changes, saturated, IsTakingWith, IsSomeCommit, IsSomeInstall, IsSomeReceipt, IsSomeRemoval}
+use Rattle.fc_workers.specs.Answers.{AreTallied, commit_changes, commit_overtakings, ended_by, install_changes, removal_changes, saturated, taking_refusals, IsTakingWith, IsSomeCommit, IsSomeInstall, IsSomeReceipt, IsSomeRemoval}
 use Rattle.fc_workers.specs.Steps.{Follows, IsReady, IsStep, ListsOn, taken_at}
-use Rattle.fc_workers.specs.Work.{Call, Takes, Commits, Installs, Refuses, Removes, Describes, Looks, Raises, AreCalls, IsCallAt, IsWorkedOff, HasCounted, next_stage, stage_after, change_by, overtaking_by, refusal_by, taking_by, total}
+use Rattle.fc_workers.specs.Work.{AreCalls, IsCallAt, IsWorkedOff, HasCounted, stage_after, change_by, overtaking_by, refusal_by, taking_by, total}
 
 -- the calls so far, and where they led the job
 pub record Walked {T : Type 0} (changes : T → ℕ → ℕ) (AreReadings : List ℕ → Type 0) (job : Job) (stage : Stage) (before now : Share T) : Type 0 where
@@ -138,19 +139,19 @@ module _ {T : Type 0} (changes : T → ℕ → ℕ) (AreReadings : List ℕ → 
   is_step : (old : Stage) {new next : Stage} {before after counted : Share T} → new ≡ next → after ≡ counted → IsStep changes AreReadings job old next before counted → IsStep changes AreReadings job old new before after
   is_step old {new} {next} {before} {after} {counted} e c s = subst (λ (x : Stage). IsStep changes AreReadings job old x before after) (sym e) (subst (λ (p : Share T). IsStep changes AreReadings job old next before p) (sym c) s)
 
-  pub took_step : (n : ℕ) (x : Taken) (p : Share T) (tallies : T) {next : Stage} {after : Share T} → n < takings → IsTakingWith AreReadings job x → ((shard : ℕ) → shard < 8 → changes tallies shard ≡ changes p.tallies shard) → next ≡ took n x → after ≡ record p { tallies = tallies; refusals = saturated (p.refusals + refusal_by (Takes x)) } → IsStep changes AreReadings job (ToTake n) next p after
+  pub took_step : (n : ℕ) (x : Taken) (p : Share T) (tallies : T) {next : Stage} {after : Share T} → n < takings → IsTakingWith AreReadings job x → ((shard : ℕ) → shard < 8 → changes tallies shard ≡ changes p.tallies shard) → next ≡ took n x → after ≡ record p { tallies = tallies; refusals = saturated (p.refusals + taking_refusals x) } → IsStep changes AreReadings job (ToTake n) next p after
   took_step n x p tallies less is same e c = is_step (ToTake n) e c (record {
-    call = Takes x;
-    is = is;
+    call = Takes n x;
+    is = (refl, is);
     next = refl;
     follows = took_follows AreReadings job n x less is;
     counted = record { tallies = λ shard lt. same shard lt ∙ same_tallies (changes p.tallies) job.origin.slot shard lt; refusals = omega arith; overtakings = omega arith; got = refl; sent = refl; failed = refl };
   })
 
-  pub commit_step : (n : ℕ) (t : Ticket) (x : Committed) (p : Share T) (tallies : T) {next : Stage} {after : Share T} → IsReady job (ToCommit n t) → IsSomeCommit (run_of t) t x → AreTallied (changes p.tallies) (changes tallies) t.origin.slot (commit_changes x) → next ≡ after_commit n t x → after ≡ record p { tallies = tallies; overtakings = saturated (p.overtakings + overtaking_by (Commits x)) } → IsStep changes AreReadings job (ToCommit n t) next p after
+  pub commit_step : (n : ℕ) (t : Ticket) (x : Committed) (p : Share T) (tallies : T) {next : Stage} {after : Share T} → IsReady job (ToCommit n t) → IsSomeCommit (run_of t) t x → AreTallied (changes p.tallies) (changes tallies) t.origin.slot (commit_changes x) → next ≡ after_commit n t x → after ≡ record p { tallies = tallies; overtakings = saturated (p.overtakings + commit_overtakings x) } → IsStep changes AreReadings job (ToCommit n t) next p after
   commit_step n t x p tallies ready is rises e c = is_step (ToCommit n t) e c (record {
-    call = Commits x;
-    is = is;
+    call = Commits n t x;
+    is = (refl, is);
     next = refl;
     follows = commit_follows job n t x ready;
     counted = record {
@@ -166,7 +167,7 @@ module _ {T : Type 0} (changes : T → ℕ → ℕ) (AreReadings : List ℕ → 
   pub install_step : (program : Program) (x : Made) (p : Share T) (tallies : T) {next : Stage} → judged (image_of job.ask) ≡ Accepts program → IsSomeInstall program x → AreTallied (changes p.tallies) (changes tallies) job.origin.slot (install_changes x) → next ≡ made (receipt_of program 0) x → IsStep changes AreReadings job ToInstall next p (record p { tallies = tallies })
   install_step program x p tallies accepted is rises e = is_step ToInstall e refl (record {
     call = Installs program x;
-    is = (accepted, is);
+    is = (refl, (accepted, is));
     next = refl;
     follows = made_follows job (receipt_of program 0) x;
     counted = record { tallies = one_tallied (changes p.tallies) (changes tallies) job.origin.slot (install_changes x) rises; refusals = omega arith; overtakings = omega arith; got = refl; sent = refl; failed = refl };
@@ -175,7 +176,7 @@ module _ {T : Type 0} (changes : T → ℕ → ℕ) (AreReadings : List ℕ → 
   pub remove_step : (x : Removal) (p : Share T) (tallies : T) {next : Stage} → IsSomeRemoval x → AreTallied (changes p.tallies) (changes tallies) job.origin.slot (removal_changes x) → next ≡ removed x → IsStep changes AreReadings job ToRemove next p (record p { tallies = tallies })
   remove_step x p tallies is rises e = is_step ToRemove e refl (record {
     call = Removes x;
-    is = is;
+    is = (refl, is);
     next = refl;
     follows = removed_follows job x;
     counted = record { tallies = one_tallied (changes p.tallies) (changes tallies) job.origin.slot (removal_changes x) rises; refusals = omega arith; overtakings = omega arith; got = refl; sent = refl; failed = refl };
@@ -193,25 +194,25 @@ module _ {T : Type 0} (changes : T → ℕ → ℕ) (AreReadings : List ℕ → 
   }
 
   pub describe_step : (x : Option Receipt) (p : Share T) {next : Stage} → IsSomeReceipt x → next ≡ ToAnswer (told x) → IsStep changes AreReadings job ToDescribe next p p
-  describe_step x p is e = is_step ToDescribe e refl (record { call = Describes x; is = is; next = refl; follows = told_follows job x; counted = unchanged (Describes x) p refl refl refl })
+  describe_step x p is e = is_step ToDescribe e refl (record { call = Describes x; is = (refl, is); next = refl; follows = told_follows job x; counted = unchanged (Describes x) p refl refl refl })
 
   pub match_step : (word : ℕ) (p : Share T) {next : Stage} → next ≡ matched word job.etags.items → IsStep changes AreReadings job ToMatch next p p
-  match_step word p e = is_step ToMatch e refl (record { call = Looks word; is = tt; next = refl; follows = matched_follows job (is_match word job.etags.items) word; counted = unchanged (Looks word) p refl refl refl })
+  match_step word p e = is_step ToMatch e refl (record { call = Matches job.etags.items word; is = (refl, refl); next = refl; follows = matched_follows job (is_match word job.etags.items) word; counted = unchanged (Matches job.etags.items word) p refl refl refl })
 
   pub list_step : (seen : ArrayVec ℕ) (word : ℕ) (p : Share T) {next : Stage} → length seen.items < 64 → next ≡ listed (seen.items ++ word ∷ []) → IsStep changes AreReadings job (ToList seen) next p p
   list_step seen word p lt e = is_step (ToList seen) e refl (record {
-    call = Looks word;
-    is = tt;
+    call = Lists seen word;
+    is = (refl, tt);
     next = refl;
     follows = listed_follows job seen (seen.items ++ word ∷ []) (nat_lt (length (seen.items ++ word ∷ [])) 64) (length-append seen.items (word ∷ [])) lt refl;
-    counted = unchanged (Looks word) p refl refl refl;
+    counted = unchanged (Lists seen word) p refl refl refl;
   })
 
   -- an image that breaks a rule
   pub reject_step : (f : Fault) (p : Share T) {next : Stage} → IsRefusal (image_of job.ask) (Broken f) → next ≡ ToAnswer (refused (Broken f)) → IsStep changes AreReadings job ToInstall next p p
   reject_step f p is e = is_step ToInstall e refl (record {
-    call = Refuses (Broken f);
-    is = is;
+    call = Rejects (refused (Broken f));
+    is = (refl, (f, is, refl));
     next = refl;
     follows = rejected_follows job f (nat_lt (number_of f.rule) 20);
     counted = record { tallies = same_tallies (changes p.tallies) job.origin.slot; refusals = omega arith; overtakings = omega arith; got = refl; sent = refl; failed = refl };
@@ -220,8 +221,8 @@ module _ {T : Type 0} (changes : T → ℕ → ℕ) (AreReadings : List ℕ → 
   -- memory that was refused
   pub refuse_step : (p : Share T) {next : Stage} {after : Share T} → IsRefusal (image_of job.ask) NoMemory → next ≡ ToAnswer Unavailable → after ≡ record p { refusals = saturated (p.refusals + 1) } → IsStep changes AreReadings job ToInstall next p after
   refuse_step p is e c = is_step ToInstall e c (record {
-    call = Refuses NoMemory;
-    is = is;
+    call = Refuses;
+    is = (refl, is);
     next = refl;
     follows = record { ready = tt; fewer = omega arith; few = omega arith };
     counted = record { tallies = same_tallies (changes p.tallies) job.origin.slot; refusals = omega arith; overtakings = omega arith; got = refl; sent = refl; failed = refl };
@@ -229,8 +230,8 @@ module _ {T : Type 0} (changes : T → ℕ → ℕ) (AreReadings : List ℕ → 
 
   pub raise_step : (word : ℕ) (content : Content) (p : Share T) → IsOf job content → IsStep changes AreReadings job (ToRaise word content) (ToAnswer content) p p
   raise_step word content p own = record {
-    call = Raises;
-    is = tt;
+    call = Raises word content;
+    is = (refl, tt);
     next = refl;
     follows = record { ready = own; fewer = omega arith; few = omega arith };
     counted = record { tallies = same_tallies (changes p.tallies) job.origin.slot; refusals = omega arith; overtakings = omega arith; got = refl; sent = refl; failed = refl };
@@ -254,15 +255,11 @@ no_calls : (AreReadings : List ℕ → Type 0) (job : Job) → AreCalls AreReadi
 unfolding AreCalls
 no_calls AreReadings job = tt
 
-at_first : (job : Job) → asked_stage job ≡ stage_after job []
-unfolding stage_after
-at_first job = refl
-
 pub sets_out : {T : Type 0} (changes : T → ℕ → ℕ) (AreReadings : List ℕ → Type 0) (job : Job) (p : Share T) → Walked changes AreReadings job (asked_stage job) p p
 sets_out changes AreReadings job p = record {
   calls = [];
   are = no_calls AreReadings job;
-  stands = at_first job;
+  stands = refl;
   ready = first_ready job job.ask job.etags.items;
   few = omega arith;
   counted = record { tallies = same_tallies (changes p.tallies) job.origin.slot; refusals = omega arith; overtakings = omega arith; got = refl; sent = refl; failed = refl };
@@ -271,10 +268,6 @@ sets_out changes AreReadings job p = record {
 more_calls : (AreReadings : List ℕ → Type 0) (job : Job) (calls : List Call) (call : Call) → AreCalls AreReadings job calls → IsCallAt AreReadings job (stage_after job calls) call → AreCalls AreReadings job (call ∷ calls)
 unfolding AreCalls
 more_calls AreReadings job calls call are is = (are, is)
-
-at_next : (job : Job) (calls : List Call) (call : Call) → next_stage job (stage_after job calls) call ≡ stage_after job (call ∷ calls)
-unfolding stage_after
-at_next job calls call = refl
 
 tallied_on : (b : Bool) (before now after x y : ℕ) → now ≡ before + (if b then x else 0) → after ≡ now + (if b then 0 + y else 0) → after ≡ before + (if b then x + y else 0)
 tallied_on true before now after x y e f = omega (arith, e, f)
@@ -297,7 +290,7 @@ walks_on changes AreReadings job {stage} {at} {next} {before} {now} {after} e w 
     record {
       calls = s.call ∷ w.calls;
       are = more_calls AreReadings job w.calls s.call w.are (subst (λ (x : Stage). IsCallAt AreReadings job x s.call) here s.is);
-      stands = s.next ∙ (ap (λ (x : Stage). next_stage job x s.call) here ∙ at_next job w.calls s.call);
+      stands = s.next;
       ready = s.follows.ready;
       few = omega (arith, subst (λ (x : Stage). total taking_by w.calls ≤ taken_at x) e w.few, s.follows.few);
       counted = counts_on changes job.origin.slot w.calls s.call before now after w.counted s.counted;

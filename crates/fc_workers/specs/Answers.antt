@@ -17,11 +17,11 @@ use Rattle.fc_observe.specs.declared.observers.Ticked.{Ticked}
 use Rattle.fc_observe.specs.Observers.{ObserverList}
 use Rattle.fc_registry.specs.declared.job.Job.{Job}
 use Rattle.fc_registry.specs.declared.shard.Taken.{Taken}
-use Rattle.fc_registry.specs.declared.shard.Taken.TheVariants.{Stale}
+use Rattle.fc_registry.specs.declared.shard.Taken.TheVariants.{Refused, Stale}
 use Rattle.fc_registry.specs.declared.shard.Made.{Made}
 use Rattle.fc_registry.specs.declared.shard.Made.TheVariants.{Raised, AtEnd}
 use Rattle.fc_registry.specs.declared.commit.Committed.{Committed}
-use Rattle.fc_registry.specs.declared.commit.Committed.TheVariants.{Done}
+use Rattle.fc_registry.specs.declared.commit.Committed.TheVariants.{Done, Overtaken}
 use Rattle.fc_registry.specs.declared.note.Noted.{Noted}
 use Rattle.fc_registry.specs.declared.note.Notification.{Notification}
 use Rattle.fc_registry.specs.Notes.{IsNoted}
@@ -111,7 +111,17 @@ abbrev pub commit_changes : Committed → ℕ
 commit_changes (Done m) = if m.changed then 1 else 0
 commit_changes other = 0
 
--- how many an install's answer tells of
+-- how many overtakings
+abbrev pub commit_overtakings : Committed → ℕ
+commit_overtakings Overtaken = 1
+commit_overtakings other = 0
+
+-- how many refusals of memory a taking's answer tells of
+abbrev pub taking_refusals : Taken → ℕ
+taking_refusals Refused = 1
+taking_refusals other = 0
+
+-- how many changes an install's answer tells of
 abbrev pub install_changes : Made → ℕ
 install_changes (Raised serial created) = 1
 install_changes AtEnd = 0

@@ -5,8 +5,9 @@ use Rattle.fc_core.specs.declared.stage.Stage.{Stage}
 use Rattle.fc_core.specs.declared.stage.Stage.TheVariants.{ToMatch, ToTake, ToCommit, ToInstall, ToRemove, ToDescribe, ToList, ToRaise, ToAnswer, ToTell, Gone}
 use Rattle.fc_core.specs.Contents.{IsOf}
 use Rattle.fc_core.specs.Stages.{takings}
+use Rattle.fc_core.specs.Steps.{Call, next_stage}
 use Rattle.fc_workers.specs.declared.share.Share.{Share}
-use Rattle.fc_workers.specs.Work.{Call, next_stage, IsCallAt, taking_by, HasCounted}
+use Rattle.fc_workers.specs.Work.{IsCallAt, taking_by, HasCounted}
 
 -- a job that is to take may take once more; a ticket is its job's, and so is an answer; a job that lists head words has yet one
 -- to read
@@ -52,7 +53,7 @@ pub record Follows (job : Job) (old : Stage) (takes : ℕ) (new : Stage) : Type 
 pub record IsStep {T : Type 0} (changes : T → ℕ → ℕ) (AreReadings : List ℕ → Type 0) (job : Job) (old new : Stage) (before after : Share T) : Type 0 where
   pub call : Call
   pub is : IsCallAt AreReadings job old call
-  pub next : new ≡ next_stage job old call
+  pub next : new ≡ next_stage call
   pub follows : Follows job old (taking_by call) new
   pub counted : HasCounted changes job.origin.slot (call ∷ []) before after
 

@@ -1,76 +1,49 @@
 -- What is done with a job whose shard others change too: a list of calls, the newest first, each at the stage that needs it,
 -- and answered as its shard answers at some slot.
-use Rattle.std.specs.Prelude.{◌≡◌, ℕ, ◌+◌, ◌<◌, ◌≤◌, Bool, List, [], ◌∷◌, ◌++◌, Option, Some, None}
+use Rattle.std.specs.Prelude.{◌≡◌, ℕ, ◌+◌, ◌<◌, ◌≤◌, Bool, List, [], ◌∷◌, Option, Some, None}
 use Rattle.coap_msg.specs.declared.types.Emission.{Emission}
-use Rattle.fc_kinds.specs.Meaning.{Program}
+use Rattle.fc_isa.specs.declared.rule.Fault.{Fault}
 use Rattle.fc_verify.specs.Accepted.{Accepts}
 use Rattle.fc_verify.specs.Judged.{judged}
 use Rattle.fc_verify.specs.Refusals.{IsRefusal}
-use Rattle.fc_verify.specs.declared.refusal.Refusal.{Refusal}
-use Rattle.fc_verify.specs.declared.refusal.Refusal.TheVariants.{NoMemory}
+use Rattle.fc_verify.specs.declared.refusal.Refusal.TheVariants.{Broken, NoMemory}
 use Rattle.fc_observe.specs.declared.entry.Turn.{Turn}
 use Rattle.fc_registry.specs.declared.job.Job.{Job}
 use Rattle.fc_registry.specs.declared.shard.Taken.{Taken}
-use Rattle.fc_registry.specs.declared.shard.Taken.TheVariants.{Refused}
-use Rattle.fc_registry.specs.declared.shard.Made.{Made}
-use Rattle.fc_registry.specs.declared.commit.Committed.{Committed}
-use Rattle.fc_registry.specs.declared.commit.Committed.TheVariants.{Overtaken}
-use Rattle.fc_registry.specs.declared.receipt.Receipt.{Receipt}
-use Rattle.fc_registry.specs.declared.shard.Removal.{Removal}
-use Rattle.fc_registry.specs.Calls.{receipt_of, run_of, turn_of}
+use Rattle.fc_registry.specs.Calls.{run_of, turn_of}
 use Rattle.fc_core.specs.declared.stage.Stage.{Stage}
-use Rattle.fc_core.specs.declared.stage.Stage.TheVariants.{ToMatch, ToTake, ToCommit, ToInstall, ToRemove, ToDescribe, ToList, ToRaise, ToAnswer}
+use Rattle.fc_core.specs.declared.stage.Stage.TheVariants.{ToAnswer}
 use Rattle.fc_core.specs.Contents.{Content, IsOf}
 use Rattle.fc_core.specs.Ends.{refused}
-use Rattle.fc_core.specs.Stages.{asked_stage, image_of, listed, matched, took, told, after_commit, made, removed, takings}
-use Rattle.fc_workers.specs.Answers.{IsTakingWith, IsSomeCommit, IsSomeInstall, IsSomeReceipt, IsSomeRemoval, AreTallied, HasRisen, commit_changes, install_changes, removal_changes}
+use Rattle.fc_core.specs.Stages.{asked_stage, image_of, takings}
+use Rattle.fc_core.specs.Steps.{Call, Matches, Lists, Takes, Commits, Installs, Rejects, Refuses, Removes, Describes, Raises, called_at, next_stage}
+use Rattle.fc_workers.specs.Answers.{IsTakingWith, IsSomeCommit, IsSomeInstall, IsSomeReceipt, IsSomeRemoval, AreTallied, HasRisen, commit_changes, commit_overtakings, install_changes, removal_changes, taking_refusals}
 use Rattle.fc_workers.specs.Outgoing.{GivesAnswer, IsTurnReply, with_reply}
 use Rattle.fc_workers.specs.declared.share.Share.{Share}
 
--- a call for a job, and what it answered
-pub data Call : Type 0 where
-  Takes : (taken : Taken) → Call
-  Commits : (committed : Committed) → Call
-  Installs : (program : Program) (made : Made) → Call
-  -- no install: its image breaks a rule, or memory was refused
-  Refuses : (refusal : Refusal) → Call
-  Removes : (removal : Removal) → Call
-  Describes : (receipt : Option Receipt) → Call
-  -- a look at a head word
-  Looks : (word : ℕ) → Call
-  -- its slot's head word is raised
-  Raises : Call
+-- the serials are the job's, and the answer is true of some slot; what a look at a head word tells may be any. An answer, a loss and
+-- the calls of a turn are in no request's list
+abbrev pub IsCallOf : (AreReadings : List ℕ → Type 0) → Job → Call → Type 0
+IsCallOf AreReadings job (Matches serials word) = serials ≡ job.etags.items
+IsCallOf AreReadings job (Lists seen word) = Unit {0}
+IsCallOf AreReadings job (Takes count taken) = IsTakingWith AreReadings job taken
+IsCallOf AreReadings job (Commits count t committed) = IsSomeCommit (run_of t) t committed
+IsCallOf AreReadings job (Installs p answer) = (judged (image_of job.ask) ≡ Accepts p) × IsSomeInstall p answer
+IsCallOf AreReadings job (Rejects content) = (f : Fault) × IsRefusal (image_of job.ask) (Broken f) × (content ≡ refused (Broken f))
+IsCallOf AreReadings job Refuses = IsRefusal (image_of job.ask) NoMemory
+IsCallOf AreReadings job (Removes removal) = IsSomeRemoval removal
+IsCallOf AreReadings job (Describes receipt) = IsSomeReceipt receipt
+IsCallOf AreReadings job (Raises word content) = Unit {0}
+IsCallOf AreReadings job other = ⊥
 
--- the stage that a call leaves a job at: the row of its answer
-abbrev pub next_stage : Job → Stage → Call → Stage
-next_stage job ToMatch (Looks word) = matched word job.etags.items
-next_stage job (ToTake n) (Takes taken) = took n taken
-next_stage job (ToCommit n t) (Commits committed) = after_commit n t committed
-next_stage job ToInstall (Installs p answer) = made (receipt_of p 0) answer
-next_stage job ToInstall (Refuses refusal) = ToAnswer (refused refusal)
-next_stage job ToRemove (Removes removal) = removed removal
-next_stage job ToDescribe (Describes receipt) = ToAnswer (told receipt)
-next_stage job (ToList seen) (Looks word) = listed (seen.items ++ word ∷ [])
-next_stage job (ToRaise word content) Raises = ToAnswer content
-next_stage job stage call = stage
-
--- the call is the one that the stage needs, and its answer is true of some slot; what a look at a head word tells may be any
+-- the call is the one that the stage needs, and its answer is true
 abbrev pub IsCallAt : (AreReadings : List ℕ → Type 0) → Job → Stage → Call → Type 0
-IsCallAt AreReadings job ToMatch (Looks word) = Unit {0}
-IsCallAt AreReadings job (ToTake n) (Takes taken) = IsTakingWith AreReadings job taken
-IsCallAt AreReadings job (ToCommit n t) (Commits committed) = IsSomeCommit (run_of t) t committed
-IsCallAt AreReadings job ToInstall (Installs p answer) = (judged (image_of job.ask) ≡ Accepts p) × IsSomeInstall p answer
-IsCallAt AreReadings job ToInstall (Refuses refusal) = IsRefusal (image_of job.ask) refusal
-IsCallAt AreReadings job ToRemove (Removes removal) = IsSomeRemoval removal
-IsCallAt AreReadings job ToDescribe (Describes receipt) = IsSomeReceipt receipt
-IsCallAt AreReadings job (ToList seen) (Looks word) = Unit {0}
-IsCallAt AreReadings job (ToRaise word content) Raises = Unit {0}
-IsCallAt AreReadings job stage call = ⊥
+IsCallAt AreReadings job stage call = (stage ≡ called_at call) × IsCallOf AreReadings job call
 
 -- the stage that these calls leave a job at
-unfoldable pub stage_after : Job → List Call → Stage
+abbrev pub stage_after : Job → List Call → Stage
 stage_after job [] = asked_stage job
-stage_after job (call ∷ calls) = next_stage job (stage_after job calls) call
+stage_after job (call ∷ calls) = next_stage call
 
 -- each is the call that the stage needs where the ones before it have led
 unfoldable pub AreCalls : (AreReadings : List ℕ → Type 0) → Job → List Call → Type 0
@@ -80,24 +53,24 @@ AreCalls AreReadings job (call ∷ calls) = AreCalls AreReadings job calls × Is
 -- ---- what is counted of them
 
 abbrev pub taking_by : Call → ℕ
-taking_by (Takes taken) = 1
+taking_by (Takes count taken) = 1
 taking_by other = 0
 
 -- changes of the job's slot
 abbrev pub change_by : Call → ℕ
-change_by (Commits committed) = commit_changes committed
+change_by (Commits count t committed) = commit_changes committed
 change_by (Installs p answer) = install_changes answer
 change_by (Removes removal) = removal_changes removal
 change_by other = 0
 
 -- refusals of memory
 abbrev pub refusal_by : Call → ℕ
-refusal_by (Takes Refused) = 1
-refusal_by (Refuses NoMemory) = 1
+refusal_by (Takes count taken) = taking_refusals taken
+refusal_by Refuses = 1
 refusal_by other = 0
 
 abbrev pub overtaking_by : Call → ℕ
-overtaking_by (Commits Overtaken) = 1
+overtaking_by (Commits count t committed) = commit_overtakings committed
 overtaking_by other = 0
 
 -- how many of these the calls have

@@ -1,8 +1,7 @@
 //! What a worker has done.
 ghost use Rattle.std.specs.Prelude.{◌≡◌, ◌+◌, if◌then◌else◌};
-ghost use Rattle.fc_workers.specs.Answers.{saturated};
+ghost use Rattle.fc_workers.specs.Answers.{commit_overtakings, saturated, taking_refusals};
 ghost use Rattle.fc_workers.specs.Shares.{new_share};
-ghost use Rattle.fc_workers.specs.Work.{Commits, Takes, overtaking_by, refusal_by};
 
 use fc_jobs::Got;
 use fc_registry::{Committed, Taken};
@@ -37,7 +36,7 @@ impl<T: Drop> Share<T> {
     // Counts a taking, if memory was refused.
     pub(crate) fn count_taking(&mut self, taken: &Taken)
         ensures { self.new ≡ record self.old {
-          refusals = saturated (self.old.refusals + refusal_by (Takes taken.now));
+          refusals = saturated (self.old.refusals + taking_refusals taken.now);
         } }
     {
         let refused = matches!(taken, Taken::Refused);
@@ -47,7 +46,7 @@ impl<T: Drop> Share<T> {
     // Counts a commit, if it was overtaken.
     pub(crate) fn count_commit(&mut self, committed: &Committed)
         ensures { self.new ≡ record self.old {
-          overtakings = saturated (self.old.overtakings + overtaking_by (Commits committed.now));
+          overtakings = saturated (self.old.overtakings + commit_overtakings committed.now);
         } }
     {
         let overtaken = matches!(committed, Committed::Overtaken);

@@ -1,0 +1,81 @@
+-- A job's way by its calls: each call with what the stage that needs it holds, and with what it answered.
+use Rattle.std.specs.Prelude.{ℕ, Option, List, [], ◌∷◌, ◌++◌}
+use Rattle.arrayvec.specs.ArrayVec.{ArrayVec}
+use Rattle.fc_kinds.specs.Meaning.{Program}
+use Rattle.fc_observe.specs.declared.entry.Turn.{Turn}
+use Rattle.fc_registry.specs.declared.commit.Committed.{Committed}
+use Rattle.fc_registry.specs.declared.receipt.Receipt.{Receipt}
+use Rattle.fc_registry.specs.declared.shard.Made.{Made}
+use Rattle.fc_registry.specs.declared.shard.Removal.{Removal}
+use Rattle.fc_registry.specs.declared.shard.Taken.{Taken}
+use Rattle.fc_registry.specs.Calls.{receipt_of}
+use Rattle.fc_registry.specs.Slots.{Ticket}
+use Rattle.fc_core.specs.Contents.{Content, Unavailable}
+use Rattle.fc_core.specs.declared.stage.Stage.{Stage}
+use Rattle.fc_core.specs.declared.stage.Stage.TheVariants.{ToMatch, ToTake, ToCommit, ToInstall, ToRemove, ToDescribe, ToList, ToRaise, ToAnswer, ToTell, Gone}
+use Rattle.fc_core.specs.declared.stage.TurnStage.{TurnStage}
+use Rattle.fc_core.specs.declared.stage.TurnStage.TheVariants as turns
+use Rattle.fc_core.specs.Stages.{after_commit, listed, made, matched, removed, told, took, turn_took, with_id}
+
+-- a call for a job
+pub data Call : Type 0 where
+  -- a look at the head word of the job's slot, whose client has the answers of these serials
+  Matches : (serials : List ℕ) (word : ℕ) → Call
+  -- a look at the head word of the slot after those that were seen
+  Lists : (seen : ArrayVec ℕ) (word : ℕ) → Call
+  Takes : (count : ℕ) (taken : Taken) → Call
+  Commits : (count : ℕ) (ticket : Ticket) (committed : Committed) → Call
+  Installs : (program : Program) (answer : Made) → Call
+  -- no install: the image breaks a rule, which is answered so
+  Rejects : (content : Content) → Call
+  -- no install: memory was refused
+  Refuses : Call
+  Removes : (removal : Removal) → Call
+  Describes : (receipt : Option Receipt) → Call
+  -- the head word of the job's slot is raised, and then this is to be answered
+  Raises : (word : ℕ) (content : Content) → Call
+  Answers : (content : Content) → Call
+  -- the taking of a turn
+  TakesTurn : (turn : Turn) (taken : Taken) → Call
+  -- a message id for a turn, or none that is free
+  Draws : (turn : Turn) (found : Option Ticket) (free : Option ℕ) → Call
+  Notes : (turn : Turn) (found : Option Ticket) (id : ℕ) → Call
+  -- a turn is given up, whatever it needs
+  GivesUp : (turn : Turn) (needs : TurnStage) → Call
+  -- its worker is lost, whatever the job needs
+  Loses : (needs : Stage) → Call
+
+-- the stage that needs it
+abbrev pub called_at : Call → Stage
+called_at (Matches serials word) = ToMatch
+called_at (Lists seen word) = ToList seen
+called_at (Takes count taken) = ToTake count
+called_at (Commits count ticket committed) = ToCommit count ticket
+called_at (Installs program answer) = ToInstall
+called_at (Rejects content) = ToInstall
+called_at Refuses = ToInstall
+called_at (Removes removal) = ToRemove
+called_at (Describes receipt) = ToDescribe
+called_at (Raises word content) = ToRaise word content
+called_at (Answers content) = ToAnswer content
+called_at (TakesTurn turn taken) = ToTell turn turns.ToTake
+called_at (Draws turn found free) = ToTell turn (turns.ToDraw found)
+called_at (Notes turn found id) = ToTell turn (turns.ToNote found id)
+called_at (GivesUp turn needs) = ToTell turn needs
+called_at (Loses needs) = needs
+
+-- the stage that it leaves the job at: the row of its answer
+abbrev pub next_stage : Call → Stage
+next_stage (Matches serials word) = matched word serials
+next_stage (Lists seen word) = listed (seen.items ++ word ∷ [])
+next_stage (Takes count taken) = took count taken
+next_stage (Commits count ticket committed) = after_commit count ticket committed
+next_stage (Installs program answer) = made (receipt_of program 0) answer
+next_stage (Rejects content) = ToAnswer content
+next_stage Refuses = ToAnswer Unavailable
+next_stage (Removes removal) = removed removal
+next_stage (Describes receipt) = ToAnswer (told receipt)
+next_stage (Raises word content) = ToAnswer content
+next_stage (TakesTurn turn taken) = turn_took turn taken
+next_stage (Draws turn found free) = ToTell turn (with_id found free)
+next_stage other = Gone
