@@ -15,6 +15,7 @@ pub mod Watches
 pub mod Others
 pub mod Steps
 pub mod ByStep
+pub mod ByCall
 pub mod Along
 pub mod Takings
 pub mod Ends
