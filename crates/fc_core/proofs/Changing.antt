@@ -13,7 +13,7 @@ use Rattle.fc_registry.specs.declared.commit.CommitOutcome.TheVariants.{Writes, 
 use Rattle.fc_registry.specs.Slots.{Slot, Present, Ticket, last_serial}
 use Rattle.fc_registry.specs.Calls.{clear_by, outcome, put_by, receipt_of, taking, readings_if}
 use Rattle.fc_core.specs.declared.event.Event.{Event}
-use Rattle.fc_core.specs.declared.event.Event.TheVariants.{Peek, Take, Commit, Install, Remove, Receipt, Raise, Answer, Lose, Fresh, Note, GiveUp}
+use Rattle.fc_core.specs.declared.event.Event.TheVariants.{Deliver, Due, ShardTick, Signal, Take, Tick}
 use Rattle.fc_core.specs.declared.stage.Stage.{Stage}
 use Rattle.fc_core.specs.declared.stage.Stage.TheVariants.{ToMatch, ToTake, ToCommit, ToInstall, ToRemove, ToList, ToRaise, ToAnswer, Gone, ToTell}
 use Rattle.fc_core.specs.declared.stage.TurnStage.TheVariants as turns
@@ -222,19 +222,12 @@ changed_once h k = one_change (stage (seen h) k) (changes_by h k) (along changes
 -- ---- and it is published
 
 named_stray : (e : Event) (own k : ℕ) → names e ≡ Some k → is_stray_at e own Gone ≡ true
-named_stray (Peek j n) own k e = refl
-named_stray (Remove j) own k e = refl
-named_stray (Receipt j) own k e = refl
-named_stray (Take j memory readings) own k e = refl
-named_stray (Commit j now) own k e = refl
-named_stray (Install j memory) own k e = refl
-named_stray (Raise j) own k e = refl
-named_stray (Answer j now) own k e = refl
-named_stray (Fresh j now) own k e = refl
-named_stray (Note j now random) own k e = refl
-named_stray (GiveUp j now) own k e = refl
-named_stray (Lose j) own k e = refl
-named_stray other own k e = absurd (cc)
+named_stray (Deliver now to bytes) own k e = absurd (cc)
+named_stray (Due shard now) own k e = absurd (cc)
+named_stray (Signal shard to id reset) own k e = absurd (cc)
+named_stray (Tick now) own k e = absurd (cc)
+named_stray (ShardTick shard now) own k e = absurd (cc)
+named_stray other own k e = refl
 
 came : (r : Entry) (s : Seen) (k : ℕ) → names r.event ≡ Some k → is_stray_at r.event (slot_of s k) (stage s k) ≡ false → HasCome s k
 came r s k named stray = ⊎_elim
