@@ -7,8 +7,8 @@ use Rattle.fc_isa.specs.Flow.{Flow, Halts, Goes, Forks, Enters, flow}
 use Rattle.fc_image.specs.Flow.{IsForward, flow_at}
 use Rattle.fc_image.specs.declared.loops.Loop.{Loop}
 use Rattle.fc_image.specs.Loops.{begins, ends}
-use Rattle.fc_image.specs.LoopLaws.{LeadsTo, Calls, AreBodies}
-use Rattle.fc_image.specs.Paths.{turns, Behind, Return, Turns, opened_at, opened, Repeats, Follows, GoesOn, IsPath, IsLongestIn, own_cost, looped, cost_in, own}
+use Rattle.fc_image.specs.LoopLaws.{FlowsTo, Calls, AreBodies}
+use Rattle.fc_image.specs.Paths.{turns, Behind, Return, Turns, opened_loop, opened_loops, TurnsBack, GoesBy, GoesOn, IsPath, IsLongestIn, own_cost, looped, cost_in, own}
 use Rattle.fc_image.proofs.Costs.{begins_is, ends_is, cost_is, less_one, flow_there, flow_here, paths_no_longer}
 
 -- ---- in which body, or in none, a path comes to a slot and stands there
@@ -75,7 +75,7 @@ stands_head code loops t l b e =
     }
 
 -- a flow stays in the body, or outside
-goes_in : (code : List Insn) (loops : List Loop) (g : Option Loop) (slot t : ℕ) (f : Flow) → AreBodies code loops → StandsIn code loops g slot → ends loops slot ≡ None → flow_at code slot ≡ Some f → LeadsTo f t → slot < t → ComesIn code loops g t
+goes_in : (code : List Insn) (loops : List Loop) (g : Option Loop) (slot t : ℕ) (f : Flow) → AreBodies code loops → StandsIn code loops g slot → ends loops slot ≡ None → flow_at code slot ≡ Some f → FlowsTo f t → slot < t → ComesIn code loops g t
 goes_in code loops None slot t f b s e at leads later = record { apart = λ i l g from upto. s.outside i l g (b.closed i slot t l f g at leads later from upto) (omega (arith, later, upto)) }
 goes_in code loops (Some m) slot t f b s e at leads later =
     let begun = s.begun in
@@ -158,23 +158,23 @@ Fits (Some m) (Turns l k ∷ behind) = m ≡ l
 -- a path of n steps goes on behind the end of the body, or of the function
 abbrev Rest : List Insn → List Loop → ℕ → List Behind → Type 0
 Rest code loops n [] = n ≡ 0
-Rest code loops n (Return place ∷ behind) = IsPath code loops n place (opened loops place behind)
-Rest code loops n (Turns l zero ∷ behind) = IsPath code loops n (l.last + 1) (opened loops (l.last + 1) behind)
+Rest code loops n (Return place ∷ behind) = IsPath code loops n place (opened_loops loops place behind)
+Rest code loops n (Turns l zero ∷ behind) = IsPath code loops n (l.last + 1) (opened_loops loops (l.last + 1) behind)
 Rest code loops n (Turns l (suc k) ∷ behind) = IsPath code loops n l.head (Turns l k ∷ behind)
 
 abbrev AttainsAt : List Insn → List Loop → Option Loop → ℕ → Type 0
 AttainsAt code loops g slot = (n : ℕ) (behind : List Behind) → Fits g behind → Rest code loops n behind → IsPath code loops (own code loops slot + n) slot behind
 
 abbrev Attains : List Insn → List Loop → ℕ → Type 0
-Attains code loops t = (g : Option Loop) → ComesIn code loops g t → (n : ℕ) (behind : List Behind) → Fits g behind → Rest code loops n behind → IsPath code loops (cost_in code loops t + n) t (opened loops t behind)
+Attains code loops t = (g : Option Loop) → ComesIn code loops g t → (n : ℕ) (behind : List Behind) → Fits g behind → Rest code loops n behind → IsPath code loops (cost_in code loops t + n) t (opened_loops loops t behind)
 
-step_flow : (code : List Insn) (loops : List Loop) (n m slot : ℕ) (behind : List Behind) (f : Flow) → ends loops slot ≡ None → flow_at code slot ≡ Some f → m ≡ suc n → Follows loops (IsPath code loops n) n behind (Some f) → IsPath code loops m slot behind
+step_flow : (code : List Insn) (loops : List Loop) (n m slot : ℕ) (behind : List Behind) (f : Flow) → ends loops slot ≡ None → flow_at code slot ≡ Some f → m ≡ suc n → GoesBy loops (IsPath code loops n) n behind (Some f) → IsPath code loops m slot behind
 unfolding IsPath
 step_flow code loops n m slot behind f e at is p =
     subst (λ x. IsPath code loops x slot behind) (sym is)
-    (subst (GoesOn code loops (IsPath code loops n) n slot behind) (sym e) (subst (Follows loops (IsPath code loops n) n behind) (sym at) p))
+    (subst (GoesOn code loops (IsPath code loops n) n slot behind) (sym e) (subst (GoesBy loops (IsPath code loops n) n behind) (sym at) p))
 
-step_back : (code : List Insn) (loops : List Loop) (n m slot : ℕ) (behind : List Behind) (l : Loop) → ends loops slot ≡ Some l → m ≡ suc n → Repeats loops (IsPath code loops n) slot behind → IsPath code loops m slot behind
+step_back : (code : List Insn) (loops : List Loop) (n m slot : ℕ) (behind : List Behind) (l : Loop) → ends loops slot ≡ Some l → m ≡ suc n → TurnsBack loops (IsPath code loops n) slot behind → IsPath code loops m slot behind
 unfolding IsPath
 step_back code loops n m slot behind l e is p = subst (λ x. IsPath code loops x slot behind) (sym is) (subst (GoesOn code loops (IsPath code loops n) n slot behind) (sym e) p)
 
@@ -213,7 +213,7 @@ back_attained code loops slot l b e n behind fits rest =
     let one : own code loops slot ≡ 1 = rw (e, f) refl in
     step_back code loops n (own code loops slot + n) slot behind l e (omega (arith, one)) (go behind fits rest (sym r.2))
   where
-    go : (behind : List Behind) → Fits (Some l) behind → Rest code loops n behind → slot ≡ l.last → Repeats loops (IsPath code loops n) slot behind
+    go : (behind : List Behind) → Fits (Some l) behind → Rest code loops n behind → slot ≡ l.last → TurnsBack loops (IsPath code loops n) slot behind
     go [] fits rest at = absurd fits
     go (Return place ∷ behind) fits rest at = absurd fits
     go (Turns m zero ∷ behind) fits rest at = (at ∙ ap (λ x. x.last) fits, rest)
@@ -236,7 +236,7 @@ laps code loops l n behind way rest (suc k) =
 come_attained : (code : List Insn) (loops : List Loop) (t : ℕ) → AreBodies code loops → t < length code → ((u : ℕ) → t < u → u < length code → Attains code loops u) → Attains code loops t
 come_attained code loops t b lt ih g c n behind fits rest = go (begins loops t) refl
   where
-    go : (o : Option Loop) → begins loops t ≡ o → IsPath code loops (cost_in code loops t + n) t (opened_at o behind)
+    go : (o : Option Loop) → begins loops t ≡ o → IsPath code loops (cost_in code loops t + n) t (opened_loop o behind)
     go None e =
         let same : own code loops t ≡ cost_in code loops t = sym (cost_is code loops t b lt ∙ ap (λ o. looped (cost_in code loops) o (own code loops t)) e) in
         subst (λ x. IsPath code loops (x + n) t behind) same (any_attained code loops g t b lt (stands_plain code loops g t b e c) ih n behind fits rest)
@@ -258,10 +258,10 @@ attained : (code : List Insn) (loops : List Loop) → AreBodies code loops → (
 attained code loops b zero t lt le = absurd (omega (arith, lt, le))
 attained code loops b (suc fuel) t lt le = come_attained code loops t b lt (λ u later within. attained code loops b fuel u within (omega (arith, le, later)))
 
-path_of : (code : List Insn) (loops : List Loop) → 0 < length code → AreBodies code loops → IsPath code loops (cost_in code loops 0) 0 (opened loops 0 [])
+path_of : (code : List Insn) (loops : List Loop) → 0 < length code → AreBodies code loops → IsPath code loops (cost_in code loops 0) 0 (opened_loops loops 0 [])
 path_of code loops some b =
     let z : cost_in code loops 0 + 0 ≡ cost_in code loops 0 = omega arith in
-    subst (λ n. IsPath code loops n 0 (opened loops 0 [])) z
+    subst (λ n. IsPath code loops n 0 (opened_loops loops 0 [])) z
     (attained code loops b (length code) 0 some (omega arith) None (record { apart = λ i l g from upto. absurd (omega (arith, from)) }) 0 [] tt refl)
 
 pub longest_in : (code : List Insn) (loops : List Loop) → 0 < length code → AreBodies code loops → IsLongestIn code loops (cost_in code loops 0)

@@ -10,7 +10,7 @@ use Rattle.fc_isa.specs.Flow.{Flow, Halts, Goes, Forks, Enters, flow}
 use Rattle.fc_image.specs.Flow.{IsForward, flow_of, flow_at}
 use Rattle.fc_image.specs.declared.loops.Loop.{Loop}
 use Rattle.fc_image.specs.Loops.{begins, ends}
-use Rattle.fc_image.specs.Paths.{turns, Behind, Return, Turns, opened_at, opened, Repeats, Follows, GoesOn, IsPath, along, own_cost, looped, later, own_of, cost_of, costs, cost_in, own_by, own, left}
+use Rattle.fc_image.specs.Paths.{turns, Behind, Return, Turns, opened_loop, opened_loops, TurnsBack, GoesBy, GoesOn, IsPath, along, own_cost, looped, later, own_of, cost_of, costs, cost_in, own_by, own, left}
 use Rattle.fc_image.specs.LoopLaws.{AreBodies}
 
 -- ---- the table
@@ -107,7 +107,7 @@ past code slot n f ge e = go (slice_get code slot) refl e
     go None g h = absurd (cc h)
     go (Some insn) g h = let lt = slice_get_within code slot insn g in absurd (omega (arith, lt, ge))
 
-pub come_left : (code : List Insn) (loops : List Loop) (slot : ℕ) (behind : List Behind) → AreBodies code loops → own code loops slot + left code loops (opened loops slot behind) ≤ cost_in code loops slot + left code loops behind
+pub come_left : (code : List Insn) (loops : List Loop) (slot : ℕ) (behind : List Behind) → AreBodies code loops → own code loops slot + left code loops (opened_loops loops slot behind) ≤ cost_in code loops slot + left code loops behind
 come_left code loops slot behind b = go (begins loops slot) refl
   where
     plain : (o : Option Flow) → flow_at code slot ≡ o → begins loops slot ≡ None → own code loops slot ≤ cost_in code loops slot
@@ -117,7 +117,7 @@ come_left code loops slot behind b = go (begins loops slot) refl
       | inr ge ↦ absurd (past code slot slot w ge f)
     ]
 
-    go : (o : Option Loop) → begins loops slot ≡ o → own code loops slot + left code loops (opened_at o behind) ≤ cost_in code loops slot + left code loops behind
+    go : (o : Option Loop) → begins loops slot ≡ o → own code loops slot + left code loops (opened_loop o behind) ≤ cost_in code loops slot + left code loops behind
     go None e = let p = plain (flow_at code slot) refl e in omega (arith, p)
     go (Some l) e =
         let r = begins_is loops slot l e in
@@ -136,10 +136,10 @@ no_longer code loops b (suc n) slot behind p = go (ends loops slot) refl p (no_l
     Before : Type 0
     Before = (slot : ℕ) (behind : List Behind) → IsPath code loops n slot behind → n ≤ own code loops slot + left code loops behind
 
-    come : Before → (t : ℕ) (behind : List Behind) → IsPath code loops n t (opened loops t behind) → n ≤ cost_in code loops t + left code loops behind
-    come ih t behind h = let a = ih t (opened loops t behind) h in let c = come_left code loops t behind b in omega (arith, a, c)
+    come : Before → (t : ℕ) (behind : List Behind) → IsPath code loops n t (opened_loops loops t behind) → n ≤ cost_in code loops t + left code loops behind
+    come ih t behind h = let a = ih t (opened_loops loops t behind) h in let c = come_left code loops t behind b in omega (arith, a, c)
 
-    with : (o : Option Flow) → flow_at code slot ≡ o → ends loops slot ≡ None → (behind : List Behind) → Follows loops (IsPath code loops n) n behind o → Before → suc n ≤ own_by (cost_in code loops) None o + left code loops behind
+    with : (o : Option Flow) → flow_at code slot ≡ o → ends loops slot ≡ None → (behind : List Behind) → GoesBy loops (IsPath code loops n) n behind o → Before → suc n ≤ own_by (cost_in code loops) None o + left code loops behind
     with None f e behind h ih = absurd h
     with (Some Halts) f e [] h ih = omega (arith, h)
     with (Some Halts) f e (Return place ∷ behind) h ih = let a = come ih place behind h in omega (arith, a)
@@ -149,7 +149,7 @@ no_longer code loops b (suc n) slot behind p = go (ends loops slot) refl p (no_l
     with (Some (Forks taken next)) f e behind (inr h) ih = let a = come ih next behind h in omega (arith, a)
     with (Some (Enters start next)) f e behind h ih = let a = come ih start (Return next ∷ behind) h in omega (arith, a)
 
-    back : (behind : List Behind) → Repeats loops (IsPath code loops n) slot behind → Before → suc n ≤ 1 + left code loops behind
+    back : (behind : List Behind) → TurnsBack loops (IsPath code loops n) slot behind → Before → suc n ≤ 1 + left code loops behind
     back [] h ih = absurd h
     back (Return place ∷ behind) h ih = absurd h
     back (Turns l zero ∷ behind) h ih = let a = come ih (l.last + 1) behind h.1 in omega (arith, a)
@@ -165,5 +165,5 @@ no_longer code loops b (suc n) slot behind p = go (ends loops slot) refl p (no_l
     go None e h ih = rw e (with (flow_at code slot) refl e behind h ih)
     go (Some l) e h ih = let a = back behind h ih in let c = one l e in omega (arith, a, c)
 
-pub paths_no_longer : (code : List Insn) (loops : List Loop) (n : ℕ) → AreBodies code loops → IsPath code loops n 0 (opened loops 0 []) → n ≤ cost_in code loops 0
-paths_no_longer code loops n b p = let a = no_longer code loops b n 0 (opened loops 0 []) p in let c = come_left code loops 0 [] b in omega (arith, a, c)
+pub paths_no_longer : (code : List Insn) (loops : List Loop) (n : ℕ) → AreBodies code loops → IsPath code loops n 0 (opened_loops loops 0 []) → n ≤ cost_in code loops 0
+paths_no_longer code loops n b p = let a = no_longer code loops b n 0 (opened_loops loops 0 []) p in let c = come_left code loops 0 [] b in omega (arith, a, c)

@@ -20,7 +20,7 @@ use Rattle.fc_image.specs.Functions.{with_offset, calls, is_called, is_start, st
 use Rattle.fc_image.specs.Laws.{frames_at}
 use Rattle.fc_image.specs.declared.loops.Loop.{Loop}
 use Rattle.fc_image.specs.Loops.{is_in, is_exit, crosses, spoils, is_undisturbed, loop_if, loops_of, ends, some_insn, body, is_written, has_call}
-use Rattle.fc_image.specs.LoopLaws.{LeadsTo, Calls, JumpsBack, IsLoop, IsBack, IsOnward, AreLoops, AreBodies, IsCounter, AreCounters, ShapedLoopsAreLoops}
+use Rattle.fc_image.specs.LoopLaws.{FlowsTo, Calls, JumpsBack, IsLoop, IsBack, IsOnward, AreLoops, AreBodies, IsCounter, AreCounters, ShapedLoopsAreLoops}
 use Rattle.fc_image.specs.ShapeRules.{is_instruction, is_place, is_later, leaves, leads_back, IsShapedBy}
 use Rattle.fc_isa.specs.declared.version.ImageVersion.{ImageVersion}
 use Rattle.fc_image.specs.Head.{loops_allowed}
@@ -40,7 +40,7 @@ data Leads (slot : ℕ) (insn : Insn) (t : ℕ) : Type 0 where
   Falls : t ≡ slot + 1 → is_wide_load insn ≡ false → may_end insn ≡ false → slots_taken insn ≡ 1 → Leads slot insn t
   Skips : t ≡ slot + 2 → (dst value : ℕ) → insn ≡ LoadWide dst value → Leads slot insn t
 
-leads : (slot : ℕ) (insn : Insn) (t : ℕ) → LeadsTo (flow slot insn) t → Leads slot insn t
+leads : (slot : ℕ) (insn : Insn) (t : ℕ) → FlowsTo (flow slot insn) t → Leads slot insn t
 leads slot (JumpAlways offset) t h = Jumps offset refl (sym h)
 leads slot (JumpAlwaysLong offset) t h = Jumps offset refl (sym h)
 leads slot (JumpIf j) t (inl h) = Jumps j.offset refl (sym h)
@@ -134,7 +134,7 @@ inside l slot a b = grind (arith, nat_tests, a, b)
 within : (l : Loop) (slot : ℕ) → is_in l slot ≡ true → (l.head ≤ slot) × (slot ≤ l.last)
 within l slot e = (grind (arith, nat_tests, e), grind (arith, nat_tests, e))
 
-closed : (allowed : Bool) (code : List Insn) (l : Loop) (k t : ℕ) (insn : Insn) → IsShapedBy allowed code → is_program code ≡ true → IsJump allowed code l → slice_get code k ≡ Some insn → LeadsTo (flow k insn) t → l.head < t → t ≤ l.last → l.head ≤ k
+closed : (allowed : Bool) (code : List Insn) (l : Loop) (k t : ℕ) (insn : Insn) → IsShapedBy allowed code → is_program code ≡ true → IsJump allowed code l → slice_get code k ≡ Some insn → FlowsTo (flow k insn) t → l.head < t → t ≤ l.last → l.head ≤ k
 closed allowed code l k t insn s p j g h from upto = go (leads k insn t h)
   where
     go : Leads k insn t → l.head ≤ k
@@ -147,7 +147,7 @@ closed allowed code l k t insn s p j g h from upto = go (leads k insn t h)
       | inr d ↦ omega (arith, e, from, d)
     ]
 
-stays : (allowed : Bool) (code : List Insn) (l : Loop) (k t : ℕ) (insn : Insn) → IsShapedBy allowed code → is_program code ≡ true → IsJump allowed code l → slice_get code k ≡ Some insn → k ≢ l.last → LeadsTo (flow k insn) t → l.head ≤ k → k ≤ l.last → t ≤ l.last
+stays : (allowed : Bool) (code : List Insn) (l : Loop) (k t : ℕ) (insn : Insn) → IsShapedBy allowed code → is_program code ≡ true → IsJump allowed code l → slice_get code k ≡ Some insn → k ≢ l.last → FlowsTo (flow k insn) t → l.head ≤ k → k ≤ l.last → t ≤ l.last
 stays allowed code l k t insn s p j g other h from upto = go (leads k insn t h)
   where
     before : k < l.last
@@ -186,7 +186,7 @@ halts_not allowed code l k s j from upto half e =
     ]
 
 -- no flow leads to a second half
-half_not : (allowed : Bool) (code : List Insn) (k t : ℕ) (insn : Insn) → IsShapedBy allowed code → is_program code ≡ true → slice_get code k ≡ Some insn → LeadsTo (flow k insn) t → slice_get code t ≡ Some WideSecond → ⊥
+half_not : (allowed : Bool) (code : List Insn) (k t : ℕ) (insn : Insn) → IsShapedBy allowed code → is_program code ≡ true → slice_get code k ≡ Some insn → FlowsTo (flow k insn) t → slice_get code t ≡ Some WideSecond → ⊥
 half_not allowed code k t insn s p g h e = go (leads k insn t h)
   where
     go : Leads k insn t → ⊥
@@ -206,7 +206,7 @@ starts_not allowed code l s j e =
     let o = j.order in
     halts_not allowed code l l.head s j (omega arith) (omega (arith, o)) (λ g. half_is code l.head l.head g refl (head_stands allowed code l s j)) e
 
-goes_not : (allowed : Bool) (code : List Insn) (l : Loop) (k t : ℕ) (insn : Insn) → IsShapedBy allowed code → is_program code ≡ true → IsJump allowed code l → slice_get code k ≡ Some insn → LeadsTo (flow k insn) t → l.head < t → t ≤ l.last → flow_at code t ≡ Some Halts → ⊥
+goes_not : (allowed : Bool) (code : List Insn) (l : Loop) (k t : ℕ) (insn : Insn) → IsShapedBy allowed code → is_program code ≡ true → IsJump allowed code l → slice_get code k ≡ Some insn → FlowsTo (flow k insn) t → l.head < t → t ≤ l.last → flow_at code t ≡ Some Halts → ⊥
 goes_not allowed code l k t insn s p j g h from upto e = halts_not allowed code l t s j (omega (arith, from)) upto (half_not allowed code k t insn s p g h) e
 
 -- ---- no function starts in a body but at its head
@@ -264,7 +264,7 @@ whole allowed code l k t insn s j g h from upto = absurd h
 adds_at : (allowed : Bool) (code : List Insn) (l : Loop) (k : ℕ) → IsJump allowed code l → suc k ≡ l.last → slice_get code k ≡ Some (Alu Add W64 l.counter (Imm (pos l.step)))
 adds_at allowed code l k j e = let at : l.last - 1 ≡ k = omega (arith, e) in subst (λ n. slice_get code n ≡ Some (Alu Add W64 l.counter (Imm (pos l.step)))) at j.adds
 
-only : (allowed : Bool) (code : List Insn) (l : Loop) (k : ℕ) (insn : Insn) → IsShapedBy allowed code → is_program code ≡ true → IsJump allowed code l → slice_get code k ≡ Some insn → LeadsTo (flow k insn) l.last → suc k ≡ l.last
+only : (allowed : Bool) (code : List Insn) (l : Loop) (k : ℕ) (insn : Insn) → IsShapedBy allowed code → is_program code ≡ true → IsJump allowed code l → slice_get code k ≡ Some insn → FlowsTo (flow k insn) l.last → suc k ≡ l.last
 only allowed code l k insn s p j g h = go (leads k insn l.last h)
   where
     go : Leads k insn l.last → suc k ≡ l.last
@@ -278,10 +278,10 @@ only allowed code l k insn s p j g h = go (leads k insn l.last h)
         let add = adds_at allowed code l (suc k) j (omega (arith, e)) in
         absurd (cc (half, add))
 
-then : (allowed : Bool) (code : List Insn) (l : Loop) (k t : ℕ) (insn : Insn) → IsJump allowed code l → slice_get code k ≡ Some insn → LeadsTo (flow k insn) t → suc k ≡ l.last → t ≡ l.last
+then : (allowed : Bool) (code : List Insn) (l : Loop) (k t : ℕ) (insn : Insn) → IsJump allowed code l → slice_get code k ≡ Some insn → FlowsTo (flow k insn) t → suc k ≡ l.last → t ≡ l.last
 then allowed code l k t insn j g h e =
     let it : insn ≡ Alu Add W64 l.counter (Imm (pos l.step)) = cc (g, adds_at allowed code l k j e) in
-    let to : t ≡ k + 1 = subst (λ i. LeadsTo (flow k i) t) it h in
+    let to : t ≡ k + 1 = subst (λ i. FlowsTo (flow k i) t) it h in
     omega (arith, to, e)
 
 keeps : (allowed : Bool) (code : List Insn) (l : Loop) (k : ℕ) (insn : Insn) → IsShapedBy allowed code → IsJump allowed code l → l.head ≤ k → k ≤ l.last → suc k ≢ l.last → slice_get code k ≡ Some insn → writes insn l.counter ≡ false
@@ -438,21 +438,21 @@ bodies allowed code p s = record {
   last = λ i l g. ends_last allowed code i l g;
   nested = λ i k l m g h from upto. nested allowed code i k l m s g h from upto;
   onward = λ slot insn g e. forward_by (length code) (loops_of allowed code) slot (flow slot insn) (λ i l h. last_not allowed code slot i l e h) (onward allowed code slot insn s g);
-  closed = λ i k t l f g e h lt from upto. let n = flow_insn code k f e in closed allowed code l k t n.0 s p (has_jump allowed code i l g) n.1 (subst (λ x. LeadsTo x t) (sym n.2) h) from upto;
+  closed = λ i k t l f g e h lt from upto. let n = flow_insn code k f e in closed allowed code l k t n.0 s p (has_jump allowed code i l g) n.1 (subst (λ x. FlowsTo x t) (sym n.2) h) from upto;
   stays = λ i k t l f g e none h from upto.
       let n = flow_insn code k f e in
-      stays allowed code l k t n.0 s p (has_jump allowed code i l g) n.1 (last_not allowed code k i l none g) (subst (λ x. LeadsTo x t) (sym n.2) h) from upto;
+      stays allowed code l k t n.0 s p (has_jump allowed code i l g) n.1 (last_not allowed code k i l none g) (subst (λ x. FlowsTo x t) (sym n.2) h) from upto;
   whole = λ i k t l f g e h from upto. let n = flow_insn code k f e in whole allowed code l k t n.0 s (has_jump allowed code i l g) n.1 (subst (λ x. Calls x t) (sym n.2) h) from upto;
   exits = λ i k l g from upto e. no_exit allowed code l k s (has_jump allowed code i l g) from upto e;
   starts = λ i l g e. starts_not allowed code l s (has_jump allowed code i l g) e;
-  goes = λ i k t l f g e h from upto z. let n = flow_insn code k f e in goes_not allowed code l k t n.0 s p (has_jump allowed code i l g) n.1 (subst (λ x. LeadsTo x t) (sym n.2) h) from upto z;
+  goes = λ i k t l f g e h from upto z. let n = flow_insn code k f e in goes_not allowed code l k t n.0 s p (has_jump allowed code i l g) n.1 (subst (λ x. FlowsTo x t) (sym n.2) h) from upto z;
 }
 
 counters : (allowed : Bool) (code : List Insn) → ((slot : ℕ) (insn : Insn) → slice_get code slot ≡ Some insn → IsInsn insn) → is_program code ≡ true → IsShapedBy allowed code → AreCounters code (loops_of allowed code)
 counters allowed code n p s = record {
   each = λ i l g. counter_of allowed code l n s (has_jump allowed code i l g);
-  only = λ i k l f g e h. let x = flow_insn code k f e in only allowed code l k x.0 s p (has_jump allowed code i l g) x.1 (subst (λ y. LeadsTo y l.last) (sym x.2) h);
-  then = λ i k t l f g e h at. let x = flow_insn code k f e in then allowed code l k t x.0 (has_jump allowed code i l g) x.1 (subst (λ y. LeadsTo y t) (sym x.2) h) at;
+  only = λ i k l f g e h. let x = flow_insn code k f e in only allowed code l k x.0 s p (has_jump allowed code i l g) x.1 (subst (λ y. FlowsTo y l.last) (sym x.2) h);
+  then = λ i k t l f g e h at. let x = flow_insn code k f e in then allowed code l k t x.0 (has_jump allowed code i l g) x.1 (subst (λ y. FlowsTo y t) (sym x.2) h) at;
 }
 
 loop_of : (allowed : Bool) (code : List Insn) (i : ℕ) (l : Loop) → ((slot : ℕ) (insn : Insn) → slice_get code slot ≡ Some insn → IsInsn insn) → is_program code ≡ true → IsShapedBy allowed code → slice_get (loops_of allowed code) i ≡ Some l → IsLoop code l
@@ -491,7 +491,7 @@ typing_loops allowed code n p s = record {
 
 -- ---- frames
 
-frames_later : (allowed : Bool) (code : List Insn) (slot t : ℕ) (insn : Insn) → is_program code ≡ true → IsShapedBy allowed code → slice_get code slot ≡ Some insn → LeadsTo (flow slot insn) t → slot < t → frames_at code t ≤ frames_at code slot
+frames_later : (allowed : Bool) (code : List Insn) (slot t : ℕ) (insn : Insn) → is_program code ≡ true → IsShapedBy allowed code → slice_get code slot ≡ Some insn → FlowsTo (flow slot insn) t → slot < t → frames_at code t ≤ frames_at code slot
 frames_later allowed code slot t insn p s g h lt = go (leads slot insn t h)
   where
     b : (with_offset (jump_offset insn) (λ o. leaves code slot (target slot o)) || is_open_end code slot insn) ≡ false

@@ -10,7 +10,7 @@ use Rattle.fc_image.specs.declared.loops.Loop.{Loop}
 use Rattle.fc_image.specs.declared.spans.Span.{Span}
 use Rattle.fc_image.specs.Functions.{with_offset}
 use Rattle.fc_image.specs.Loops.{crosses, disturbs, is_exit, is_in, some_slot, spoils}
-use Rattle.fc_image.specs.Spans.{AreEnds, AreSpans, IsInSpan, IsJumpTo, is_entered, jumps_to, place_by, widened, with_slot}
+use Rattle.fc_image.specs.Spans.{AreEnds, AreSpans, IsInSpan, IsJumpTo, is_jumped_into, jumps_to, place_by, widened, span_with}
 
 -- ---- the table
 
@@ -38,7 +38,7 @@ none_in (suc n) (suc place) = none_in n place
 same_target : (code : List Insn) (slot place : ℕ) (insn : Insn) → slice_get code slot ≡ Some insn → IsJumpTo code slot place → jumps_to slot insn ≡ Some place
 same_target code slot place insn stands t = let same : t.insn ≡ insn = cc (t.stands, stands) in subst (λ i. jumps_to slot i ≡ Some place) same t.leads
 
-wider : (code : List Insn) (slot s place : ℕ) (o : Option Span) → AreEnds code slot place o → s < slot + 1 → (s < slot → IsInSpan s o) → IsInSpan s (Some (with_slot o slot))
+wider : (code : List Insn) (slot s place : ℕ) (o : Option Span) → AreEnds code slot place o → s < slot + 1 → (s < slot → IsInSpan s o) → IsInSpan s (Some (span_with o slot))
 wider code slot s place None e lt h = elim (cases_lt s slot) [
   | inl before ↦ absurd (h before)
   | inr ge ↦ (omega (arith, lt, ge), omega (arith, lt))
@@ -48,7 +48,7 @@ wider code slot s place (Some w) e lt h = elim (cases_lt s slot) [
   | inr ge ↦ let least = e.0 in (omega (arith, lt, ge, least), omega (arith, lt))
 ]
 
-wider_ends : (code : List Insn) (slot place : ℕ) (o : Option Span) → AreEnds code slot place o → IsJumpTo code slot place → AreEnds code (slot + 1) place (Some (with_slot o slot))
+wider_ends : (code : List Insn) (slot place : ℕ) (o : Option Span) → AreEnds code slot place o → IsJumpTo code slot place → AreEnds code (slot + 1) place (Some (span_with o slot))
 wider_ends code slot place None e t = (omega arith, t, t)
 wider_ends code slot place (Some w) e t = (let least = e.0 in omega (arith, least), e.1, t)
 
@@ -66,11 +66,11 @@ spans_more code slot insn spans stands a = go (jumps_to slot insn) refl
       ends = λ place few. leads_on code slot place (get_or spans place None) (a.ends place few);
     }
 
-    put : (place : ℕ) → place < 1024 → jumps_to slot insn ≡ Some place → AreSpans code (slot + 1) (slice_set spans place (Some (with_slot (get_or spans place None) slot)))
+    put : (place : ℕ) → place < 1024 → jumps_to slot insn ≡ Some place → AreSpans code (slot + 1) (slice_set spans place (Some (span_with (get_or spans place None) slot)))
     put place few leads =
         let size = a.size in
         let within : place < length spans = omega (arith, few, size) in
-        let value = Some (with_slot (get_or spans place None) slot) in
+        let value = Some (span_with (get_or spans place None) slot) in
         let t : IsJumpTo code slot place = record { insn = insn; stands = stands; leads = leads } in
         let here : get_or (slice_set spans place value) place None ≡ value = get_or-set_same spans place value None within in
         record {
@@ -104,10 +104,10 @@ spans_more code slot insn spans stands a = go (jumps_to slot insn) refl
     go (Some place) e = elim (cases_lt place 1024) [
       | inl few ↦
           let test : nat_lt place 1024 ≡ true = grind (arith, nat_tests, few) in
-          subst (λ b. AreSpans code (slot + 1) (if b then slice_set spans place (Some (with_slot (get_or spans place None) slot)) else spans)) (sym test) (put place few e)
+          subst (λ b. AreSpans code (slot + 1) (if b then slice_set spans place (Some (span_with (get_or spans place None) slot)) else spans)) (sym test) (put place few e)
       | inr many ↦
           let test : nat_lt place 1024 ≡ false = grind (arith, nat_tests, many) in
-          subst (λ b. AreSpans code (slot + 1) (if b then slice_set spans place (Some (with_slot (get_or spans place None) slot)) else spans)) (sym test)
+          subst (λ b. AreSpans code (slot + 1) (if b then slice_set spans place (Some (span_with (get_or spans place None) slot)) else spans)) (sym test)
           (still (λ p few t. let same : p ≡ place = cc (same_target code slot p insn stands t, e) in absurd (omega (arith, few, many, same))))
     ]
 
@@ -151,10 +151,10 @@ by_jump code l slot place t c = some_here code l slot t.insn t.stands (crossing 
 
 -- what is found at a slot of the body disturbs the loop
 pub found : (code : List Insn) (spans : List (Option Span)) (l : Loop) (slot : ℕ) (insn : Insn) → AreSpans code (length code) spans → slot < 1024 → l.head ≤ slot → slot ≤ l.last → slice_get code slot ≡ Some insn
-    → (disturbs l slot insn || is_entered l slot (get_or spans slot None)) ≡ true → some_slot (disturbs l) 0 code ≡ true
+    → (disturbs l slot insn || is_jumped_into l slot (get_or spans slot None)) ≡ true → some_slot (disturbs l) 0 code ≡ true
 found code spans l slot insn a few from to stands e = go (disturbs l slot insn) refl e
   where
-    enters : (o : Option Span) → AreEnds code (length code) slot o → is_entered l slot o ≡ true → some_slot (disturbs l) 0 code ≡ true
+    enters : (o : Option Span) → AreEnds code (length code) slot o → is_jumped_into l slot o ≡ true → some_slot (disturbs l) 0 code ≡ true
     enters None h e = absurd (cc e)
     enters (Some s) h e = elim (cases_eq slot l.last) [
       | inl last ↦ by_jump code l s.least slot h.1 (either (if is_in l s.least then not (is_in l slot) else is_in l slot) (slot == l.last) (grind (arith, nat_tests, last)))
@@ -166,13 +166,13 @@ found code spans l slot insn a few from to stands e = go (disturbs l slot insn) 
       ]
     ]
 
-    go : (b : Bool) → disturbs l slot insn ≡ b → (b || is_entered l slot (get_or spans slot None)) ≡ true → some_slot (disturbs l) 0 code ≡ true
+    go : (b : Bool) → disturbs l slot insn ≡ b → (b || is_jumped_into l slot (get_or spans slot None)) ≡ true → some_slot (disturbs l) 0 code ≡ true
     go true d e = some_here code l slot insn stands d
     go false d e = enters (get_or spans slot None) (a.ends slot few) e
 
 -- where nothing is found in the body, nothing disturbs the loop
 pub none_found : (code : List Insn) (spans : List (Option Span)) (l : Loop) → AreSpans code (length code) spans → length code ≤ 1024 → l.head < l.last → l.last < length code
-    → ((slot : ℕ) (insn : Insn) → l.head ≤ slot → slot ≤ l.last → slice_get code slot ≡ Some insn → (disturbs l slot insn || is_entered l slot (get_or spans slot None)) ≡ false)
+    → ((slot : ℕ) (insn : Insn) → l.head ≤ slot → slot ≤ l.last → slice_get code slot ≡ Some insn → (disturbs l slot insn || is_jumped_into l slot (get_or spans slot None)) ≡ false)
     → some_slot (disturbs l) 0 code ≡ false
 none_found code spans l a few order last quiet = none_at (disturbs l) 0 code each
   where
@@ -195,7 +195,7 @@ none_found code spans l a few order last quiet = none_at (disturbs l) 0 code eac
     before_end (x ∷ code) (suc k) insn e = let h = before_end code k insn e in omega (arith, h)
 
     -- a slot of the body isn't come to from outside
-    kept : (k place : ℕ) (o : Option Span) → IsInSpan k o → is_entered l place o ≡ false → (l.head ≤ k) × (k ≤ l.last)
+    kept : (k place : ℕ) (o : Option Span) → IsInSpan k o → is_jumped_into l place o ≡ false → (l.head ≤ k) × (k ≤ l.last)
     kept k place None w e = absurd w
     kept k place (Some s) w e =
         let low = w.0 in
@@ -211,7 +211,7 @@ none_found code spans l a few order last quiet = none_at (disturbs l) 0 code eac
             let from : l.head ≤ place = grind (arith, nat_tests, e) in
             let to : place ≤ l.last = grind (arith, nat_tests, e) in
             let at = stands_at code place (omega (arith, to, last)) in
-            let none = second (disturbs l place at.0) (is_entered l place (get_or spans place None)) (quiet place at.0 from to at.1) in
+            let none = second (disturbs l place at.0) (is_jumped_into l place (get_or spans place None)) (quiet place at.0 from to at.1) in
             let within = kept k place (get_or spans place None) (a.all k place lt (omega (arith, to, last, few)) (record { insn = insn; stands = stands; leads = leads })) none in
             let low = within.0 in
             let high = within.1 in
@@ -232,7 +232,7 @@ none_found code spans l a few order last quiet = none_at (disturbs l) 0 code eac
     each k insn e = let z : k ≡ 0 + k = omega arith in subst (λ n. disturbs l n insn ≡ false) z (go (is_in l k) refl)
       where
         go : (b : Bool) → is_in l k ≡ b → disturbs l k insn ≡ false
-        go true i = first (disturbs l k insn) (is_entered l k (get_or spans k None)) (quiet k insn (grind (arith, nat_tests, i)) (grind (arith, nat_tests, i)) e)
+        go true i = first (disturbs l k insn) (is_jumped_into l k (get_or spans k None)) (quiet k insn (grind (arith, nat_tests, i)) (grind (arith, nat_tests, i)) e)
         go false i =
             let lt = before_end code k insn e in
             ap (λ b. (b && ((writes insn l.counter && not (suc k == l.last)) || is_exit insn)) || with_offset (jump_offset insn) (λ o. crosses l k (target k o))) i

@@ -19,11 +19,11 @@ use Rattle.fc_image.specs.Paths.{IsLongestIn, cost_in}
 use Rattle.fc_image.specs.ShapeRules.{IsShapedBy}
 
 -- a flow leads to a slot within its function
-abbrev pub LeadsTo : Flow → ℕ → Type 0
-LeadsTo Halts t = ⊥
-LeadsTo (Goes next) t = t ≡ next
-LeadsTo (Forks taken next) t = (t ≡ taken) ⊎ (t ≡ next)
-LeadsTo (Enters start next) t = t ≡ next
+abbrev pub FlowsTo : Flow → ℕ → Type 0
+FlowsTo Halts t = ⊥
+FlowsTo (Goes next) t = t ≡ next
+FlowsTo (Forks taken next) t = (t ≡ taken) ⊎ (t ≡ next)
+FlowsTo (Enters start next) t = t ≡ next
 
 -- or calls the function there
 abbrev pub Calls : Flow → ℕ → Type 0
@@ -51,7 +51,7 @@ pub record IsLoop (code : List Insn) (l : Loop) : Type 0 where
   pub counts : is_written code l l.counter ≡ true
   -- a way into the body from a slot before leads to the head, or comes from the body
   pub closed :
-      (k t : ℕ) (insn : Insn) → slice_get code k ≡ Some insn → LeadsTo (flow k insn) t → k < t → l.head < t → t ≤ l.last
+      (k t : ℕ) (insn : Insn) → slice_get code k ≡ Some insn → FlowsTo (flow k insn) t → k < t → l.head < t → t ≤ l.last
       → l.head ≤ k
   -- no function starts within
   pub whole : (k t : ℕ) (insn : Insn) → slice_get code k ≡ Some insn → Calls (flow k insn) t → l.head < t → t ≤ l.last → ⊥
@@ -102,11 +102,11 @@ pub record AreBodies (code : List Insn) (loops : List Loop) : Type 0 where
       (slot : ℕ) (insn : Insn) → slice_get code slot ≡ Some insn → ends loops slot ≡ None
       → IsForward (length code) slot (flow slot insn)
   pub closed :
-      (i k t : ℕ) (l : Loop) (f : Flow) → slice_get loops i ≡ Some l → flow_at code k ≡ Some f → LeadsTo f t → k < t
+      (i k t : ℕ) (l : Loop) (f : Flow) → slice_get loops i ≡ Some l → flow_at code k ≡ Some f → FlowsTo f t → k < t
       → l.head < t → t ≤ l.last → l.head ≤ k
   pub stays :
       (i k t : ℕ) (l : Loop) (f : Flow) → slice_get loops i ≡ Some l → flow_at code k ≡ Some f → ends loops k ≡ None
-      → LeadsTo f t → l.head ≤ k → k ≤ l.last → t ≤ l.last
+      → FlowsTo f t → l.head ≤ k → k ≤ l.last → t ≤ l.last
   pub whole :
       (i k t : ℕ) (l : Loop) (f : Flow) → slice_get loops i ≡ Some l → flow_at code k ≡ Some f → Calls f t → l.head < t
       → t ≤ l.last → ⊥
@@ -115,7 +115,7 @@ pub record AreBodies (code : List Insn) (loops : List Loop) : Type 0 where
       (i k : ℕ) (l : Loop) → slice_get loops i ≡ Some l → l.head ≤ k → k ≤ l.last → slice_get code k ≡ Some Exit → ⊥
   pub starts : (i : ℕ) (l : Loop) → slice_get loops i ≡ Some l → flow_at code l.head ≡ Some Halts → ⊥
   pub goes :
-      (i k t : ℕ) (l : Loop) (f : Flow) → slice_get loops i ≡ Some l → flow_at code k ≡ Some f → LeadsTo f t → l.head < t
+      (i k t : ℕ) (l : Loop) (f : Flow) → slice_get loops i ≡ Some l → flow_at code k ≡ Some f → FlowsTo f t → l.head < t
       → t ≤ l.last → flow_at code t ≡ Some Halts → ⊥
 
 -- ---- of counters
@@ -137,10 +137,10 @@ pub record AreCounters (code : List Insn) (loops : List Loop) : Type 0 where
   pub each : (i : ℕ) (l : Loop) → slice_get loops i ≡ Some l → IsCounter code l
   -- the addition alone leads to a jump back
   pub only :
-      (i k : ℕ) (l : Loop) (f : Flow) → slice_get loops i ≡ Some l → flow_at code k ≡ Some f → LeadsTo f l.last
+      (i k : ℕ) (l : Loop) (f : Flow) → slice_get loops i ≡ Some l → flow_at code k ≡ Some f → FlowsTo f l.last
       → suc k ≡ l.last
   pub then :
-      (i k t : ℕ) (l : Loop) (f : Flow) → slice_get loops i ≡ Some l → flow_at code k ≡ Some f → LeadsTo f t
+      (i k t : ℕ) (l : Loop) (f : Flow) → slice_get loops i ≡ Some l → flow_at code k ≡ Some f → FlowsTo f t
       → suc k ≡ l.last → t ≡ l.last
 
 -- ---- of frames
@@ -150,7 +150,7 @@ pub record AreCounters (code : List Insn) (loops : List Loop) : Type 0 where
 pub record FramesFall (code : List Insn) : Type 0 where
   pub first : frames code ≡ 1 + frames_at code 0
   pub later :
-      (slot t : ℕ) (insn : Insn) → slice_get code slot ≡ Some insn → LeadsTo (flow slot insn) t → slot < t
+      (slot t : ℕ) (insn : Insn) → slice_get code slot ≡ Some insn → FlowsTo (flow slot insn) t → slot < t
       → frames_at code t ≤ frames_at code slot
   pub enters :
       (slot t : ℕ) (insn : Insn) → slice_get code slot ≡ Some insn → Calls (flow slot insn) t

@@ -17,15 +17,15 @@ pub data Behind : Type 0 where
   Turns : (loop : Loop) (left : ℕ) → Behind
 
 -- a path comes to a slot: where a loop begins there, it is in its first turn
-abbrev pub opened_at : Option Loop → List Behind → List Behind
-opened_at None behind = behind
-opened_at (Some l) behind = Turns l (turns l - 1) ∷ behind
+abbrev pub opened_loop : Option Loop → List Behind → List Behind
+opened_loop None behind = behind
+opened_loop (Some l) behind = Turns l (turns l - 1) ∷ behind
 
-abbrev pub opened : List Loop → ℕ → List Behind → List Behind
-opened loops slot behind = opened_at (begins loops slot) behind
+abbrev pub opened_loops : List Loop → ℕ → List Behind → List Behind
+opened_loops loops slot behind = opened_loop (begins loops slot) behind
 
 abbrev pub Comes : List Loop → (ℕ → List Behind → Type 0) → ℕ → List Behind → Type 0
-Comes loops Path slot behind = Path slot (opened loops slot behind)
+Comes loops Path slot behind = Path slot (opened_loops loops slot behind)
 
 -- an exit goes back to the return place of the last call that goes on; it ends the path where there is none
 abbrev pub Returns : List Loop → (ℕ → List Behind → Type 0) → ℕ → List Behind → Type 0
@@ -34,22 +34,22 @@ Returns loops Path n (Return place ∷ behind) = Comes loops Path place behind
 Returns loops Path n (Turns l left ∷ behind) = ⊥
 
 -- a jump back goes on with the next turn, and behind the loop after the last
-abbrev pub Repeats : List Loop → (ℕ → List Behind → Type 0) → ℕ → List Behind → Type 0
-Repeats loops Path slot (Turns l (suc left) ∷ behind) = (slot ≡ l.last) × Path l.head (Turns l left ∷ behind)
-Repeats loops Path slot (Turns l zero ∷ behind) = (slot ≡ l.last) × Comes loops Path (l.last + 1) behind
-Repeats loops Path slot other = ⊥
+abbrev pub TurnsBack : List Loop → (ℕ → List Behind → Type 0) → ℕ → List Behind → Type 0
+TurnsBack loops Path slot (Turns l (suc left) ∷ behind) = (slot ≡ l.last) × Path l.head (Turns l left ∷ behind)
+TurnsBack loops Path slot (Turns l zero ∷ behind) = (slot ≡ l.last) × Comes loops Path (l.last + 1) behind
+TurnsBack loops Path slot other = ⊥
 
-abbrev pub Follows : List Loop → (ℕ → List Behind → Type 0) → ℕ → List Behind → Option Flow → Type 0
-Follows loops Path n behind None = ⊥
-Follows loops Path n behind (Some Halts) = Returns loops Path n behind
-Follows loops Path n behind (Some (Goes next)) = Comes loops Path next behind
-Follows loops Path n behind (Some (Forks taken next)) = Comes loops Path taken behind ⊎ Comes loops Path next behind
-Follows loops Path n behind (Some (Enters start next)) = Comes loops Path start (Return next ∷ behind)
+abbrev pub GoesBy : List Loop → (ℕ → List Behind → Type 0) → ℕ → List Behind → Option Flow → Type 0
+GoesBy loops Path n behind None = ⊥
+GoesBy loops Path n behind (Some Halts) = Returns loops Path n behind
+GoesBy loops Path n behind (Some (Goes next)) = Comes loops Path next behind
+GoesBy loops Path n behind (Some (Forks taken next)) = Comes loops Path taken behind ⊎ Comes loops Path next behind
+GoesBy loops Path n behind (Some (Enters start next)) = Comes loops Path start (Return next ∷ behind)
 
 -- where a path with n steps left goes on
 abbrev pub GoesOn : List Insn → List Loop → (ℕ → List Behind → Type 0) → ℕ → ℕ → List Behind → Option Loop → Type 0
-GoesOn code loops Path n slot behind None = Follows loops Path n behind (flow_at code slot)
-GoesOn code loops Path n slot behind (Some l) = Repeats loops Path slot behind
+GoesOn code loops Path n slot behind None = GoesBy loops Path n behind (flow_at code slot)
+GoesOn code loops Path n slot behind (Some l) = TurnsBack loops Path slot behind
 
 -- a path of this many steps leads from a slot to the program's exit, with this behind it; each instruction is one step
 unfoldable pub IsPath : List Insn → List Loop → ℕ → ℕ → List Behind → Type 0
@@ -58,8 +58,8 @@ IsPath code loops (suc n) slot behind = GoesOn code loops (IsPath code loops n) 
 
 -- the greatest number of steps on any path from slot 0
 pub record IsLongestIn (code : List Insn) (loops : List Loop) (steps : ℕ) : Type 0 where
-  pub path : IsPath code loops steps 0 (opened loops 0 [])
-  pub greatest : (n : ℕ) → IsPath code loops n 0 (opened loops 0 []) → n ≤ steps
+  pub path : IsPath code loops steps 0 (opened_loops loops 0 [])
+  pub greatest : (n : ℕ) → IsPath code loops n 0 (opened_loops loops 0 []) → n ≤ steps
 
 -- through the loops that a version of the format allows
 abbrev pub IsLongest : ImageVersion → List Insn → ℕ → Type 0

@@ -35,15 +35,15 @@ pub record AreSpans (code : List Insn) (count : ℕ) (spans : List (Option Span)
   pub ends : (place : ℕ) → place < 1024 → AreEnds code count place (slice_index_or spans place None)
 
 -- with a later slot
-abbrev pub with_slot : Option Span → ℕ → Span
-with_slot None slot = record { least = slot; greatest = slot }
-with_slot (Some s) slot = record { least = s.least; greatest = slot }
+abbrev pub span_with : Option Span → ℕ → Span
+span_with None slot = record { least = slot; greatest = slot }
+span_with (Some s) slot = record { least = s.least; greatest = slot }
 
 abbrev pub widened : List (Option Span) → ℕ → Option ℕ → List (Option Span)
 widened spans slot None = spans
-widened spans slot (Some place) = if nat_lt place 1024 then slice_set spans place (Some (with_slot (slice_index_or spans place None) slot)) else spans
+widened spans slot (Some place) = if nat_lt place 1024 then slice_set spans place (Some (span_with (slice_index_or spans place None) slot)) else spans
 
 -- a jump leads to this slot of a body from outside of it, or the slot is that of the jump back
-abbrev pub is_entered : Loop → ℕ → Option Span → Bool
-is_entered l slot None = false
-is_entered l slot (Some s) = (slot == l.last) || (nat_lt s.least l.head || nat_lt l.last s.greatest)
+abbrev pub is_jumped_into : Loop → ℕ → Option Span → Bool
+is_jumped_into l slot None = false
+is_jumped_into l slot (Some s) = (slot == l.last) || (nat_lt s.least l.head || nat_lt l.last s.greatest)

@@ -9,7 +9,7 @@ use crate::table::SLOTS;
 use fc_isa::{ImageVersion, Insn};
 
 /// The loop that begins at each slot of a program of a version.
-pub fn heads(version: ImageVersion, code: &[Insn]) -> [Option<Loop>; SLOTS]
+pub fn loops_by_head(version: ImageVersion, code: &[Insn]) -> [Option<Loop>; SLOTS]
     requires { length code.now ≤ 1024 }
     ensures { AreHeads (loops_in version code.now) result }
 {

@@ -25,7 +25,7 @@ pub mod table;
 pub mod uncounted;
 
 pub use control_flow::shape;
-pub use head_table::heads;
+pub use head_table::loops_by_head;
 pub use header::{HEADER_SIZE, head};
 pub use limits::Head;
 pub use table::SLOTS;

@@ -2,7 +2,7 @@
 ghost use Rattle.std.specs.Prelude.{Some, length, ◌<◌, ◌||◌, ◌≡◌, ◌≤◌};
 ghost use Rattle.fc_isa.specs.Writes.{computes, is_call, is_that, writes};
 ghost use Rattle.fc_image.specs.Loops.{bound_of, disturbs, is_exit, is_in, is_undisturbed, loop_at, loop_by, step_of};
-ghost use Rattle.fc_image.specs.Spans.{AreSpans, is_entered};
+ghost use Rattle.fc_image.specs.Spans.{AreSpans, is_jumped_into};
 
 use crate::flow::target;
 use crate::spans::Span;
@@ -118,14 +118,14 @@ fn is_undisturbed(code: &[Insn], spans: &[Option<Span>; SLOTS], counted: &Loop) 
 /// Whether the instruction at a slot of a body disturbs its loop, or a jump does that leads there.
 fn is_disturbed(counted: &Loop, slot: usize, insn: &Insn, span: &Option<Span>) -> bool
     requires { slot < 1024 }
-    ensures { result ≡ (disturbs counted.now slot insn.now || is_entered counted.now slot span.now) }
+    ensures { result ≡ (disturbs counted.now slot insn.now || is_jumped_into counted.now slot span.now) }
 {
-    how_disturbed(counted, slot, insn).is_some() || is_entered(counted, slot, span)
+    how_disturbed(counted, slot, insn).is_some() || is_jumped_into(counted, slot, span)
 }
 
 /// Whether a jump leads to this slot of a body from outside of it, or to the loop's jump back.
-fn is_entered(counted: &Loop, slot: usize, span: &Option<Span>) -> bool
-    ensures { result ≡ is_entered counted.now slot span.now }
+fn is_jumped_into(counted: &Loop, slot: usize, span: &Option<Span>) -> bool
+    ensures { result ≡ is_jumped_into counted.now slot span.now }
 {
     match span {
         Some(span) => slot == counted.last

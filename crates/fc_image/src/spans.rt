@@ -1,6 +1,6 @@
 //! Where the jumps come from that lead to a slot.
 ghost use Rattle.std.specs.Prelude.{None, length, ◌<◌, ◌≡◌, ◌≤◌};
-ghost use Rattle.fc_image.specs.Spans.{AreSpans, jumps_to, widened, with_slot};
+ghost use Rattle.fc_image.specs.Spans.{AreSpans, jumps_to, widened, span_with};
 
 use crate::flow::{jump_offset, target};
 use crate::table::SLOTS;
@@ -42,14 +42,14 @@ fn widen(spans: &mut [Option<Span>; SLOTS], slot: usize, place: Option<usize>)
     ensures { spans.new ≡ widened spans.old slot place }
 {
     match place {
-        Some(place) if place < SLOTS => spans[place] = Some(with_slot(&spans[place], slot)),
+        Some(place) if place < SLOTS => spans[place] = Some(span_with(&spans[place], slot)),
         _ => {}
     }
 }
 
-fn with_slot(span: &Option<Span>, slot: usize) -> Span
+fn span_with(span: &Option<Span>, slot: usize) -> Span
     requires { slot < 1024 }
-    ensures { result ≡ with_slot span.now slot }
+    ensures { result ≡ span_with span.now slot }
 {
     match span {
         Some(span) => Span {

@@ -4,7 +4,7 @@ ghost use Rattle.fc_image.specs.Judged.{AreTables};
 
 use crate::cost::longest_cost;
 use crate::functions::{deepest, starts, starts_counted};
-use crate::head_table::heads;
+use crate::head_table::loops_by_head;
 use crate::limits::loops_allowed;
 use crate::spans::{Span, spans};
 use fc_isa::{ImageVersion, Insn};
@@ -36,7 +36,7 @@ impl Tables {
         let starts = starts(code);
         let counts = starts_counted(code, &starts);
         let frames = deepest(code, &starts);
-        let heads = heads(version, code);
+        let heads = loops_by_head(version, code);
         Tables {
             starts,
             counts,

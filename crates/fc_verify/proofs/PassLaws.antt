@@ -34,8 +34,8 @@ use Rattle.fc_kinds.specs.Ways.{Way, way_where, kinds_when, ways_along, ways_aft
 use Rattle.fc_verify.specs.Typing.{AllLead, IsWellTypedAt, IsTypingWith, IsTypingOf}
 use Rattle.fc_verify.specs.declared.untyped.Demand.{Demand}
 use Rattle.fc_verify.specs.Stages.{Fails, Unmet, NoNumber, Stops, AtInsn, AtHead, AtEntry}
-use Rattle.fc_verify.specs.Pass.{joined_in, met, led, handed_on, met_by, passed_by, passed_with, passed, pass_from, beginning, pass_with, pass, is_typable}
-use Rattle.fc_image.specs.LoopLaws.{LeadsTo, Calls, IsLoop, IsBack, IsOnward, AreLoops}
+use Rattle.fc_verify.specs.Pass.{joined_in, met, led, passed_on, met_by, passed_by, passed_with, passed, pass_from, beginning, pass_with, pass, is_typable}
+use Rattle.fc_image.specs.LoopLaws.{FlowsTo, Calls, IsLoop, IsBack, IsOnward, AreLoops}
 use Rattle.fc_verify.proofs.Rules.{IsUnder, IsSound}
 use Rattle.fc_verify.proofs.Heads.{settles, least, inner_under, body_keeps, back}
 use Rattle.fc_verify.proofs.Narrow.{way_inside}
@@ -376,11 +376,11 @@ passed_parts vars code loops slot insn found states next e = one (settled code (
     three kinds after false c p q s t g = (kinds, after, record { settled_is = s; effect = t; number = λ h. absurd (cc (h, p)) }, cc g)
 
     two : (kinds : List Kind) (o : Option (List Kind)) → transfer vars insn kinds ≡ o → settled code (begins loops slot) found ≡ Some kinds
-        → with_some o (λ after. handed_on (is_inside loops slot) slot insn kinds after states) ≡ Some next → Parts
+        → with_some o (λ after. passed_on (is_inside loops slot) slot insn kinds after states) ≡ Some next → Parts
     two kinds None t s g = absurd (cc g)
     two kinds (Some after) t s g = three kinds after (is_inside loops slot) (gives_number (computes insn) after) refl refl s t g
 
-    one : (o : Option (List Kind)) → settled code (begins loops slot) found ≡ o → with_some o (λ kinds. with_some (transfer vars insn kinds) (λ after. handed_on (is_inside loops slot) slot insn kinds after states)) ≡ Some next → Parts
+    one : (o : Option (List Kind)) → settled code (begins loops slot) found ≡ o → with_some o (λ kinds. with_some (transfer vars insn kinds) (λ after. passed_on (is_inside loops slot) slot insn kinds after states)) ≡ Some next → Parts
     one None s g = absurd (cc g)
     one (Some kinds) s g = two kinds (transfer vars insn kinds) refl s g
 
@@ -391,9 +391,9 @@ stopped vars code beginning inside slot insn found known demand states (AtEntry 
 stopped vars code beginning inside slot insn found known demand states (AtInsn e f) = ap (λ o. with_some o (λ kinds. met_by vars inside slot insn kinds states)) e ∙ fails f
   where
     fails : Fails vars inside insn known demand → met_by vars inside slot insn known states ≡ None
-    fails (Unmet n d) = ap (λ o. with_some o (λ after. handed_on inside slot insn known after states)) n
+    fails (Unmet n d) = ap (λ o. with_some o (λ after. passed_on inside slot insn known after states)) n
     fails (NoNumber after t g) =
-        ap (λ o. with_some o (λ after. handed_on inside slot insn known after states)) t
+        ap (λ o. with_some o (λ after. passed_on inside slot insn known after states)) t
         ∙ ap (λ b. if b && not (gives_number (computes insn) after) then None else Some (led slot (slice_set states slot (Some known)) (ways_after slot insn known after))) g.inside_is
         ∙ ap (λ o. if not (gives_number o after) then None else Some (led slot (slice_set states slot (Some known)) (ways_after slot insn known after))) g.computed
         ∙ ap (λ b. if not b then None else Some (led slot (slice_set states slot (Some known)) (ways_after slot insn known after))) g.other
@@ -438,8 +438,8 @@ settled_under code loops slot found kinds head i l a f e g lt le h u = go (begin
 
 -- ---- one slot
 
-by_flow : (P : ℕ → List Kind → Type 0) (f : Flow) (insn : Insn) (before after : List Kind) → ((t : ℕ) → LeadsTo f t → P t after)
-    → ((taken : Bool) (t : ℕ) (k : List Kind) → LeadsTo f t → kinds_when taken insn after ≡ Some k → P t k) → ((t : ℕ) → Calls f t → P t (enter before)) → WaysBy P f insn before after
+by_flow : (P : ℕ → List Kind → Type 0) (f : Flow) (insn : Insn) (before after : List Kind) → ((t : ℕ) → FlowsTo f t → P t after)
+    → ((taken : Bool) (t : ℕ) (k : List Kind) → FlowsTo f t → kinds_when taken insn after ≡ Some k → P t k) → ((t : ℕ) → Calls f t → P t (enter before)) → WaysBy P f insn before after
 by_flow P Halts insn before after h w c = tt
 by_flow P (Goes next) insn before after h w c = h next refl
 by_flow P (Forks taken next) insn before after h w c = (λ k e. w true taken k (inl refl) e, λ k e. w false next k (inr refl) e)
@@ -475,7 +475,7 @@ ways_inner vars code loops slot insn found kinds after base a n stands p f here 
     fit : AreKinds after
     fit = effect_kinds vars insn kinds after n f p.effect
 
-    on : (t : ℕ) (ks : List Kind) → LeadsTo (flow slot insn) t → AreKinds ks → Within ks after → slot < t → Inner loops (suc slot) base t ks
+    on : (t : ℕ) (ks : List Kind) → FlowsTo (flow slot insn) t → AreKinds ks → Within ks after → slot < t → Inner loops (suc slot) base t ks
     on t ks leads k w later = record {
       fit = k;
       found = λ i l g lt le.

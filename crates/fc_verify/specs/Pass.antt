@@ -34,14 +34,14 @@ led slot states [] = states
 led slot states (w ∷ ws) = led slot (met_later slot states w.target w.kinds) ws
 
 -- a slot's state is what it settled to; in a loop's body the register that its instruction computes is to be a number
-abbrev pub handed_on : Bool → ℕ → Insn → List Kind → List Kind → States → Option States
-handed_on inside slot insn kinds after states =
+abbrev pub passed_on : Bool → ℕ → Insn → List Kind → List Kind → States → Option States
+passed_on inside slot insn kinds after states =
     if inside && not (gives_number (computes insn) after) then None
     else Some (led slot (slice_set states slot (Some kinds)) (ways_after slot insn kinds after))
 
 -- an instruction's demands are met by what the slot settled to
 abbrev pub met_by : ℕ → Bool → ℕ → Insn → List Kind → States → Option States
-met_by vars inside slot insn kinds states = with_some (transfer vars insn kinds) (λ after. handed_on inside slot insn kinds after states)
+met_by vars inside slot insn kinds states = with_some (transfer vars insn kinds) (λ after. passed_on inside slot insn kinds after states)
 
 -- the states after a slot that is found with these kinds, where this loop begins, in a body or in none
 abbrev pub passed_by : ℕ → List Insn → Option Loop → Bool → ℕ → Insn → List Kind → States → Option States

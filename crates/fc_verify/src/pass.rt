@@ -23,9 +23,9 @@ ghost use Rattle.fc_verify.specs.Typing.{IsTypingOf, States};
 
 use crate::settling::{formed, settled, unnumbered};
 use crate::untyped::{Demand, Untyped};
-use fc_image::heads;
 use fc_image::laws::shaped_loops_are_loops;
 use fc_image::loops::Loop;
+use fc_image::loops_by_head;
 use fc_isa::{Fault, ImageVersion, Insn, Jump, Rule};
 use fc_kinds::laws::effects_keep_kinds;
 use fc_kinds::{Regs, after, enter, entry, join, when};
@@ -101,7 +101,7 @@ fn pass_slots(
     ensures known { IfErr result (IsUntyped version vars_size code.now) }
 {
     shaped_loops_are_loops();
-    let heads = heads(version, code);
+    let heads = loops_by_head(version, code);
     let mut reach = 0;
     for (slot, insn) in code.iter().enumerate() {
         let beginning = &heads[slot];

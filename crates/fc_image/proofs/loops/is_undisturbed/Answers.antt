@@ -6,14 +6,14 @@ use Rattle.fc_isa.specs.declared.insn.Insn.{Insn}
 use Rattle.fc_image.specs.declared.loops.Loop.{Loop}
 use Rattle.fc_image.specs.declared.spans.Span.{Span}
 use Rattle.fc_image.specs.Loops.{disturbs}
-use Rattle.fc_image.specs.Spans.{is_entered}
+use Rattle.fc_image.specs.Spans.{is_jumped_into}
 use Rattle.fc_image.proofs.Spanned.{default_in, found, none_found}
 use Rattle.fc_image.proofs.loops.is_undisturbed.Goals as goal
 
 -- what was found at a slot, by the table's span there
-told : (l : Loop) (slot : ℕ) (insn : Insn) (spans : List (Option Span)) (o : Option Span) (b result : Bool) → result ≡ (disturbs l slot insn || is_entered l slot o) → result ≡ b → o ≡ get_or spans slot None
-    → (disturbs l slot insn || is_entered l slot (get_or spans slot None)) ≡ b
-told l slot insn spans o b result e f same = ap (λ s. disturbs l slot insn || is_entered l slot s) (sym same) ∙ sym e ∙ f
+told : (l : Loop) (slot : ℕ) (insn : Insn) (spans : List (Option Span)) (o : Option Span) (b result : Bool) → result ≡ (disturbs l slot insn || is_jumped_into l slot o) → result ≡ b → o ≡ get_or spans slot None
+    → (disturbs l slot insn || is_jumped_into l slot (get_or spans slot None)) ≡ b
+told l slot insn spans o b result e f same = ap (λ s. disturbs l slot insn || is_jumped_into l slot s) (sym same) ∙ sym e ∙ f
 
 pub loop-slot-preserved : goal.loop-slot-preserved
 loop-slot-preserved c =
@@ -30,7 +30,7 @@ loop-slot-preserved c =
           let same : slot ≡ at = omega (arith, lt, ge) in
           let is : slice_get code at ≡ Some insn = subst (λ n. slice_get code n ≡ Some insn) same e in
           let same_insn : found_insn ≡ insn = cc (is, stands) in
-          subst (λ n. (disturbs l n insn || is_entered l n (get_or c.args.spans.now n None)) ≡ false) (sym same) (subst (λ i. (disturbs l at i || is_entered l at (get_or c.args.spans.now at None)) ≡ false) same_insn none)
+          subst (λ n. (disturbs l n insn || is_jumped_into l n (get_or c.args.spans.now n None)) ≡ false) (sym same) (subst (λ i. (disturbs l at i || is_jumped_into l at (get_or c.args.spans.now at None)) ≡ false) same_insn none)
     ]
 
 pub returns-then-is_disturbed : goal.returns-then-is_disturbed

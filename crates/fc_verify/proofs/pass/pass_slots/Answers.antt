@@ -49,7 +49,7 @@ pass-requires-clause-counted c =
     let code = c.args.code.now in
     let loops : AreLoops code (loops_in version code) = (c.shaped_loops_are_loops.ensures (loops_allowed version) code p.insns p.whole p.shaped).typing in
     let few : c.loop-slot.slot < 1024 = omega (arith, p.few, c.loop-slot-test.true) in
-    subst (IsLoopOf code) (sym (begins_there (loops_in version code) c.heads-heads.result c.loop-slot.slot c.index-heads-slot.result c.heads-heads.ensures few)) (loop_is code (loops_in version code) c.loop-slot.slot loops)
+    subst (IsLoopOf code) (sym (begins_there (loops_in version code) c.loops_by_head-heads.result c.loop-slot.slot c.index-heads-slot.result c.loops_by_head-heads.ensures few)) (loop_is code (loops_in version code) c.loop-slot.slot loops)
 
 pub pass-requires-clause-kinds : goal.pass-requires-clause-kinds
 pass-requires-clause-kinds c = let l = c.loop-slot in l.invariant.passing.proper l.slot c.in-Some.regs c.in-Some.is
@@ -90,7 +90,7 @@ loop-slot-preserved c =
     let insn = c.index-code-slot.result in
     let at : slice_get code l.slot ≡ Some insn = slice_get-get_or code l.slot insn c.loop-slot-test.true ∙ ap Some (sym c.index-code-slot.is) in
     let p = l.invariant.passing in
-    let begin = begins_there all c.heads-heads.result l.slot c.index-heads-slot.result c.heads-heads.ensures few in
+    let begin = begins_there all c.loops_by_head-heads.result l.slot c.index-heads-slot.result c.loops_by_head-heads.ensures few in
     let far = far_is all l.slot l.reach c.reached-reach.result _ c.reached-reach.ensures begin in
     let reach = subst (Reaches all (l.slot + 1)) (sym far) (reaches_on code all l.slot l.reach loops l.invariant.reach) in
     elim c.match-states-slot.branch [
@@ -122,7 +122,7 @@ returns-in-Err-clause-refused c =
     let few : l.slot < 1024 = omega (arith, program.few, c.loop-slot-test.true) in
     let insn = c.index-code-slot.result in
     let at : slice_get code l.slot ≡ Some insn = slice_get-get_or code l.slot insn c.loop-slot-test.true ∙ ap Some (sym c.index-code-slot.is) in
-    let begin = begins_there all c.heads-heads.result l.slot c.index-heads-slot.result c.heads-heads.ensures few in
+    let begin = begins_there all c.loops_by_head-heads.result l.slot c.index-heads-slot.result c.loops_by_head-heads.ensures few in
     let far = far_is all l.slot l.reach c.reached-reach.result _ c.reached-reach.ensures begin in
     let inside = ap (nat_lt l.slot) far ∙ reached_is code all l.slot l.reach loops l.invariant.reach in
     let none = stopped vars code _ (nat_lt l.slot c.reached-reach.result) l.slot insn c.in-Some.regs c.in-Err.untyped.known c.in-Err.untyped.demand l.states c.in-Err.ensures.stops in
@@ -140,7 +140,7 @@ returns-in-Err-clause-known c =
     let few : l.slot < 1024 = omega (arith, program.few, c.loop-slot-test.true) in
     let insn = c.index-code-slot.result in
     let at : slice_get code l.slot ≡ Some insn = slice_get-get_or code l.slot insn c.loop-slot-test.true ∙ ap Some (sym c.index-code-slot.is) in
-    let begin = begins_there all c.heads-heads.result l.slot c.index-heads-slot.result c.heads-heads.ensures few in
+    let begin = begins_there all c.loops_by_head-heads.result l.slot c.index-heads-slot.result c.loops_by_head-heads.ensures few in
     let far = far_is all l.slot l.reach c.reached-reach.result _ c.reached-reach.ensures begin in
     let inside = ap (nat_lt l.slot) far ∙ reached_is code all l.slot l.reach loops l.invariant.reach in
     let e = c.in-Err.ensures in
@@ -149,5 +149,5 @@ returns-in-Err-clause-known c =
     let known = c.in-Err.untyped.known in
     let demand = c.in-Err.untyped.demand in
     let stops : Stops vars code (begins all l.slot) (is_inside all l.slot) insn c.in-Some.regs known demand =
-    subst (λ o. Stops vars code o (is_inside all l.slot) insn c.in-Some.regs known demand) begin (subst (λ b. Stops vars code (get_or c.heads-heads.result l.slot c.index-heads-slot.result) b insn c.in-Some.regs known demand) inside e.stops) in
+    subst (λ o. Stops vars code o (is_inside all l.slot) insn c.in-Some.regs known demand) begin (subst (λ b. Stops vars code (get_or c.loops_by_head-heads.result l.slot c.index-heads-slot.result) b insn c.in-Some.regs known demand) inside e.stops) in
     (record { rule = e.rule; insn = insn; insn_is = rw e.slot at; states = l.states; passed = rw e.slot passed; found = c.in-Some.regs; found_is = rw e.slot is; stops = rw e.slot stops })

@@ -1,6 +1,6 @@
 use Rattle.std.proofs.Common.{◌≤◌, length}
 use Rattle.fc_image.proofs.HeadTable.{AreHeadsFrom}
-use Rattle.fc_image.proofs.head_table.heads.Given as goal
+use Rattle.fc_image.proofs.head_table.loops_by_head.Given as goal
 
 abbrev pub invariant-loop-slot : goal.invariant-loop-slot
 invariant-loop-slot l = record {

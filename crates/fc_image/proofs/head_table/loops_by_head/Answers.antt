@@ -6,7 +6,7 @@ use Rattle.fc_image.specs.declared.loops.Loop.{Loop}
 use Rattle.fc_image.specs.Loops.{loop_if, loops_of}
 use Rattle.fc_image.specs.Tables.{AreHeads, headed}
 use Rattle.fc_image.proofs.HeadTable.{AreHeadsFrom, heads_first, heads_more, heads_are, none_in}
-use Rattle.fc_image.proofs.head_table.heads.Goals as goal
+use Rattle.fc_image.proofs.head_table.loops_by_head.Goals as goal
 
 pub loop-slot-init : goal.loop-slot-init
 loop-slot-init c = record { slot = omega arith; heads = heads_first c.loops_allowed-allowed.result c.args.code.now _ _ (omega arith) (search rules) (none_in 1024) }
