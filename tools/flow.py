@@ -2,7 +2,7 @@
 
 Numbers and names are those of the instruction set (RFC 9669). What is known stands in a dictionary: a register, by its number, or a home, a
 place of eight bytes in the frame that no pointer leads to, by its offset from R10, is known to be a number, given as its least and its
-greatest value, or POINTER; of what isn't there nothing is known."""
+greatest value, or POINTER, or a Request, a pointer into the request; of what isn't there nothing is known."""
 
 LDX, ST, STX, ALU32, JMP, JMP32, ALU64 = 1, 2, 3, 4, 5, 6, 7  # classes
 JA, JA32, CALL, CALLX, EXIT, LDDW = 0x05, 0x06, 0x85, 0x8D, 0x95, 0x18
@@ -14,6 +14,18 @@ ARGUMENTS = {1: 0, 2: 1, 3: 1, 4: 2, 5: 2, 6: 1, 7: 0}  # of the helpers
 FRAME = 10
 POINTER = "pointer"
 ANY = (0, (1 << 64) - 1)
+
+
+class Request:
+    """A pointer into the request, at this place."""
+
+    def __init__(self, at):
+        self.at = at
+
+    def __eq__(self, other):
+        return isinstance(other, Request) and self.at == other.at
+
+    __hash__ = None
 
 
 class Instruction:
@@ -250,7 +262,7 @@ class Flow:
                 known = now.get(one.to)
                 if one.opcode == ADD and -(1 << 31) < one.imm < 0 and is_number(known) and known[1] >= -one.imm:
                     code.append(one.like(SUBTRACT, imm=-one.imm))
-                elif one.opcode == ADD_REGISTER and is_number(known) and now.get(one.by) == POINTER:
+                elif one.opcode == ADD_REGISTER and is_number(known) and is_pointer(now.get(one.by)):
                     code += moved(one, after)
                 else:
                     code.append(one)
@@ -269,7 +281,8 @@ class Flow:
             for name in order:
                 if name in loops:
                     changed = self.changed(loops[name].blocks)
-                    at[name] = {it: ANY if it in changed and is_number(one) else one for it, one in at[name].items() if it not in lost.get(name, ())}
+                    left = {it: one for it, one in at[name].items() if it not in lost.get(name, ())}
+                    at[name] = {it: any_such(one) if it in changed else one for it, one in left.items()}
                 now, block = dict(at[name]), self.blocks[name]
                 for one in block.code:
                     self.step(one, now, by_homes)
@@ -359,8 +372,17 @@ def is_number(known):
     return isinstance(known, tuple)
 
 
+def is_pointer(known):
+    return known == POINTER or isinstance(known, Request)
+
+
+def any_such(known):
+    """Any number for a number, any pointer for a pointer."""
+    return ANY if is_number(known) else POINTER if is_pointer(known) else None
+
+
 def sort(known):
-    return "number" if is_number(known) else known
+    return "number" if is_number(known) else POINTER if is_pointer(known) else None
 
 
 def join(one, other):
@@ -372,6 +394,8 @@ def join(one, other):
             found[it] = min(mine[0], yours[0]), max(mine[1], yours[1])
         elif mine == yours:
             found[it] = mine
+        elif is_pointer(mine) and is_pointer(yours):
+            found[it] = POINTER
     return found
 
 
@@ -390,7 +414,9 @@ def computed(one, now):
     if one.opcode == MOVE:
         return right
     if code in (0, 1) and not (is_number(left) and is_number(right)):
-        return POINTER if left == POINTER and is_number(right) or right == POINTER and is_number(left) else None
+        if isinstance(left, Request) and not one.takes_register:
+            return Request(left.at + (one.imm if code == 0 else -one.imm))
+        return POINTER if is_pointer(left) and is_number(right) or is_pointer(right) and is_number(left) else None
     if not is_number(left) or not is_number(right):
         return ANY
     (least, most), (low, high) = left, right

@@ -7,10 +7,11 @@ a number that is known. Then it is counted, or its turns are written out: where 
 A turn is what a run does from one time at the head to the next. A way back leads to the head from inside the loop, a way out leaves it."""
 from typing import NamedTuple
 
-from flow import ADD, ADD_REGISTER, ANY, CALL, EQUAL_TO, FRAME, INVERSE, JA, JMP, LDX, LESS, LOAD, MOVE, MOVE_REGISTER, NOT_0, POINTER, ST, STORE
-from flow import STORE_REGISTER, STX, SUBTRACT, Block, Instruction, is_number, join, put, shifted, single
+from flow import ADD, ADD_REGISTER, CALL, EQUAL_TO, FRAME, INVERSE, JA, JMP, LDX, LESS, LOAD, MOVE, MOVE_REGISTER, NOT_0, ST, STORE, STORE_REGISTER
+from flow import STX, SUBTRACT, Block, Instruction, is_number, is_pointer, join, put, shifted, single
+from loads import ask_for_bytes
 
-MOST_TURNS, MOST_BOUND = 1024, 1024
+MOST_TURNS, MOST_BOUND, MOST_REWRITINGS = 1024, 1024, 1000
 MIRROR = {1: 1, 5: 5, 2: 10, 10: 2, 3: 11, 11: 3, 6: 12, 12: 6, 7: 13, 13: 7}  # of a jump's code, where its sides change places
 SIGNED = (6, 7, 12, 13)
 CUTS = {0x67: "up", 0x77: "low", 0xC7: "signed"}  # shifts by 32: up and down again they cut a number to its low half, without sign or with it
@@ -32,8 +33,8 @@ class Test:
 
 
 class Shift(NamedTuple):
-    """A register's value at the turn's start and a number; or the low half of that, or "mixed", of which only the low half is so, and all
-    for small numbers; "up" is halfway to the low half."""
+    """A register's value at the turn's start and a number, or a number alone; or the low half of that, or "mixed", of which only the low half
+    is so, and all for small numbers; "up" is halfway to the low half."""
 
     base: object
     number: int
@@ -50,18 +51,18 @@ class Counter:
 def mend_loops(flow, needs, start, frame, may_count, room):
     """Gives each loop of a function the accepted form. `needs` tells what a called function reads, `start` what is known at first, `room`
     how many slots the function may have."""
-    while True:
+    for _ in range(MOST_REWRITINGS):
         flow.thread()
         loops = flow.loops()
         if loops is None:
             first = next(one for it in flow.blocks.values() for one in it.code)
             raise Unfit("a loop into whose middle a jump leads", "`for`, `while` or `do`", first)
-        known, verified = flow.known(start), flow.known(start, by_homes=False)
+        verified = flow.known(start, by_homes=False)
         loop = next((it for it in loops.values() if not (may_count and is_counted(flow, it, begins(flow, it, verified, start)))), None)
         if loop is None:
             return
-        before = begins(flow, loop, known, start), begins(flow, loop, verified, start)
-        Rewriting(flow, loop, loops, needs, known, before, frame).mend(may_count, room)
+        Rewriting(flow, loop.head, needs, start, frame).mend(may_count, room)
+    raise Unfit("too many loops", "fewer loops", next(one for it in flow.blocks.values() for one in it.code))
 
 
 def begins(flow, loop, known, start):
@@ -97,18 +98,20 @@ def jumps_to(flow, loop):
 class Rewriting:
     """A loop that is to be rewritten, and what is known of it."""
 
-    def __init__(self, flow, loop, loops, needs, known, before, frame):
-        self.flow, self.loop, self.needs, self.frame = flow, loop, needs, frame
-        self.begins, self.verified = before  # what is known before the first turn, and what the verifier knows of it
+    def __init__(self, flow, head, needs, start, frame):
+        loops, known = flow.loops(), flow.known(start)
+        self.flow, self.loop, self.needs, self.start, self.frame = flow, loops[head], needs, start, frame
+        loop, (self.at, _) = self.loop, known
+        self.begins = begins(flow, loop, known, start)  # what is known before the first turn
+        self.verified = begins(flow, loop, flow.known(start, by_homes=False), start)  # and what the verifier knows
         self.blocks = {it: flow.blocks[it] for it in flow.reached() if it in loop.blocks}  # each before those that it leads to
         self.inner = {it.head: it for it in loops.values() if it.blocks < loop.blocks}
-        self.at, _ = known
         self.written = flow.changed(loop.blocks)
         self.calls = any(one.opcode == CALL for one in self.code())
         self.needed = flow.needed(needs)
         dominators = flow.dominators()
         always = set.intersection(*(dominators[it] for it in loop.backs)) & loop.blocks
-        self.once = {it for it in always if not any(it in other.blocks for other in self.inner.values())}  # each turn but the last comes there once
+        self.once = always.difference(*(it.blocks for it in self.inner.values()))  # each turn but the last comes there once
         self.shown = (flow.blocks[loop.backs[0]].code or list(self.code()) or [Instruction(JA, where=flow.name)])[-1]
 
     def code(self):
@@ -128,6 +131,8 @@ class Rewriting:
                 if not self.fits(test, room):
                     raise
         if not self.fits(test, room):
+            if may_count and pointer is not None and ask_for_bytes(self):
+                return None
             size = f"written out its {test.turns} turns have {self.size(test)} slots, of {room}"
             if pointer is None:
                 raise Unfit(f"a loop, which version 1 hasn't; {size}", "fewer turns, or --format 2", self.shown)
@@ -166,16 +171,21 @@ class Rewriting:
         """What is known of a comparison's right side, if it is the same in each turn."""
         if right.base is None:
             return single(right.number)
-        known = None if right.base in self.written else shifted(self.begins.get(right.base), right.number)
+        known = shifted(self.begins.get(right.base), right.number) if self.is_same(right.base) else None
         return known if known is None or right.cut is None or known[1] < 1 << 30 else None
+
+    def is_same(self, register):
+        """Is it in each turn as it was before, though it may be loaded again?"""
+        return register not in self.written or all(self.ends[it].get(register) == Shift(register, 0) for it in self.loop.backs)
 
     def shifts(self):
         """What each register is at each block's end: a Shift, or None."""
-        order = list(self.blocks)
-        at, ends = {self.loop.head: {it: Shift(it, 0) for it in (*range(11), *self.flow.homes)}}, {}
+        order, self.starts, self.ends = list(self.blocks), {}, {}
+        at, ends = {self.loop.head: {it: Shift(it, 0) for it in (*range(11), *self.flow.homes)}}, self.ends
         for number, name in enumerate(order):
             changed = self.flow.changed(self.inner[name].blocks) if name in self.inner else ()
             ends[name] = now = {it: one for it, one in at[name].items() if it not in changed}
+            self.starts[name] = dict(now)
             for one in self.blocks[name].code:
                 self.shift(one, now)
             for to in set(self.blocks[name].after) & set(order[number + 1 :]):
@@ -190,13 +200,19 @@ class Rewriting:
             put(now, home, now.get(one.by) if one.kind == STX else None)
         elif one.kind == LDX:
             put(now, one.to, now.get(self.flow.home(one, LDX)))
+        elif one.opcode == MOVE:
+            put(now, one.to, Shift(None, one.imm))
         elif one.opcode in (ADD, SUBTRACT):
-            cut = "mixed" if of and of.cut else None
-            put(now, one.to, of._replace(number=of.number + (one.imm if one.opcode == ADD else -one.imm), cut=cut) if of and of.cut != "up" else None)
-        elif one.opcode == ADD_REGISTER and of and of.cut == "up":  # a number that goes into the high half, as it is there
-            by = self.bound(now.get(one.by) or Shift(-1, 0)) or (0, 1)
-            more = (by[0] >> 32) - (by[0] >> 63 << 32)
-            put(now, one.to, of._replace(number=of.number + more) if by[0] == by[1] and not by[0] & 0xFFFFFFFF else None)
+            put(now, one.to, more(of, one.imm if one.opcode == ADD else -one.imm))
+        elif one.opcode == ADD_REGISTER and not (of and of.cut == "up"):
+            other = now.get(one.by)
+            of, other = (other, of) if of and of.base is None else (of, other)
+            put(now, one.to, more(of, other.number) if other and other.base is None else None)
+        elif one.opcode == ADD_REGISTER:  # a number that goes into the high half, as it is there
+            of_by = now.get(one.by)
+            by = of_by and of_by.base not in self.written and self.bound(of_by) or (0, 1)
+            high = (by[0] >> 32) - (by[0] >> 63 << 32)
+            put(now, one.to, of._replace(number=of.number + high) if by[0] == by[1] and not by[0] & 0xFFFFFFFF else None)
         elif one.opcode == MOVE_REGISTER and not one.offset:
             put(now, one.to, now.get(one.by))
         elif one.opcode in CUTS and one.imm == 32:
@@ -224,7 +240,7 @@ class Rewriting:
             now = dict(self.at[name])
             for one in block.code:
                 self.flow.step(one, now)
-                if any(now.get(it) == POINTER for it in one.writes()):
+                if any(is_pointer(now.get(it)) for it in one.writes()):
                     return one
         return None
 
@@ -287,7 +303,8 @@ class Rewriting:
         else:
             flow.blocks[end].falls = test.out
         if is_jumped_to and not flow.blocks[before].code:
-            flow.blocks[before].code.append(self.made(MOVE_REGISTER, to=counter.register, by=counter.register))  # what jumps to the loop leads here
+            keeps = self.made(MOVE_REGISTER, to=counter.register, by=counter.register)  # for what jumps to the loop, which leads here
+            flow.blocks[before].code.append(keeps)
 
     def made(self, opcode, **fields):
         return Instruction(opcode, where=self.shown.where, line=self.shown.line, **fields)
@@ -456,6 +473,11 @@ class Rewriting:
                 behind.falls = leads
 
 
+def more(of, number):
+    """A Shift and a number; None where that is none."""
+    return of._replace(number=of.number + number, cut="mixed" if of.cut else None) if of and of.cut != "up" else None
+
+
 def turns_on(code, begins, left, by, bound):
     """How often at most a comparison goes on, and whether exactly so often. Its left side is a Shift of what begins as `begins` and goes on by
     the Shift `by`, its right side is in `bound`. None where that isn't known, or numbers are so large that the left side might wrap."""
@@ -463,8 +485,9 @@ def turns_on(code, begins, left, by, bound):
         return None
     is_equal, is_cut = code == 5, left.cut or by.cut
     bits, is_signed = (32, True) if is_cut else (64, is_equal or code in SIGNED)
-    first, bound = numbers(begins, left.number, bits, is_signed), numbers(within_cut(bound, left.cut) if is_cut else bound, 0, bits, is_signed)
-    if first is None or bound is None:
+    first = numbers(begins, left.number, bits, is_signed)
+    bound = numbers(within_cut(bound, left.cut) if is_cut else bound, 0, bits, is_signed)
+    if first is None or bound is None or abs(by.number) >= 1 << 20:
         return None
     (low, high), (least, most), step = first, bound, by.number
     if not is_equal or is_cut and left.cut not in ("low", "signed"):  # else what is compared is the same though it wraps

@@ -1,16 +1,14 @@
-/* A loop of as many turns as the payload has bytes. */
+/* As many turns as a variable says: nothing tells that they are few. */
 #include <fc.h>
 fc_u64 run(const struct fc_request *request, fc_u64 *vars, fc_u64 length)
 {
-    fc_u64 sum = 0;
+    fc_u64 sum = 0, n = vars[0];
 #ifndef MENDED
-    for (fc_u64 i = 0; i < length; i++)
-        sum += request->payload[i];
+    for (fc_u64 i = 0; i < n; i++)
 #else
-    FC_UNROLL
-    for (fc_u64 i = 0; i < 16; i++)
-        sum += request->payload[i]; /* behind the payload there are zeros */
+    for (fc_u64 i = 0; i < n && i < 64; i++)
 #endif
+        sum += payload_byte(i);
     reply_byte(sum);
     return FC_OK;
 }

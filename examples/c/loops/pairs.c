@@ -1,0 +1,14 @@
+/* How often two neighbours of the payload are alike, by an index, and the variables' first word counts all such: two bytes a turn. */
+#include <fc.h>
+fc_u64 run(const struct fc_request *request, fc_u64 *vars, fc_u64 length)
+{
+    fc_u64 alike = 0;
+    for (fc_u64 i = 0; i + 1 < length; i++) {
+        if (request->payload[i] == request->payload[i + 1]) {
+            alike++;
+            vars[0]++;
+        }
+    }
+    reply_put(&alike, 8);
+    return FC_OK;
+}
