@@ -64,14 +64,15 @@ abbrev pub IsDisturbance : List Insn → Loop → Reason → Type 0
 IsDisturbance code l (Disturbed m slot insn by) = (m ≡ l) × (slice_get code slot ≡ Some insn) × (disturbs_by by l slot insn ≡ true)
 IsDisturbance code l reason = ⊥
 
--- this is why the instruction at a slot isn't a counted loop's jump back
+-- this is why the instruction at a slot isn't a counted loop's jump back; where no loops are allowed, that is why
 abbrev pub IsUncountedBy : Bool → List Insn → ℕ → Insn → Reason → Type 0
 IsUncountedBy allowed code slot insn NoLoops = allowed ≡ false
-IsUncountedBy allowed code slot insn Jump = compares_below insn ≡ false
-IsUncountedBy allowed code slot insn Bound = (compares_below insn ≡ true) × (has_bound insn ≡ None)
-IsUncountedBy allowed code slot insn Step = (compares_below insn ≡ true) × (has_step code slot insn ≡ None)
-IsUncountedBy allowed code slot insn Target = (compares_below insn ≡ true) × (leads_earlier slot insn ≡ false)
-IsUncountedBy allowed code slot insn (Disturbed l k i by) = (loop_at code slot insn ≡ Some l) × IsDisturbance code l (Disturbed l k i by)
+IsUncountedBy allowed code slot insn Jump = (allowed ≡ true) × (compares_below insn ≡ false)
+IsUncountedBy allowed code slot insn Bound = (allowed ≡ true) × (compares_below insn ≡ true) × (has_bound insn ≡ None)
+IsUncountedBy allowed code slot insn Step = (allowed ≡ true) × (compares_below insn ≡ true) × (has_step code slot insn ≡ None)
+IsUncountedBy allowed code slot insn Target = (allowed ≡ true) × (compares_below insn ≡ true) × (leads_earlier slot insn ≡ false)
+IsUncountedBy allowed code slot insn (Disturbed l k i by) =
+    (allowed ≡ true) × (loop_at code slot insn ≡ Some l) × IsDisturbance code l (Disturbed l k i by)
 
 -- ---- what is found, or nothing
 

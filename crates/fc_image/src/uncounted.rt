@@ -38,12 +38,12 @@ pub enum Disturbance {
     Write,
     /// In the body it is an exit.
     Exit,
-    /// It jumps past the addition, to the jump back.
-    Skip,
     /// It jumps out of the body.
     Leave,
     /// It jumps into the body from outside.
     Enter,
+    /// It jumps past the addition, to the jump back.
+    Skip,
 }
 
 /// Why the instruction at a slot isn't the jump back of a counted loop, if it isn't.
@@ -107,7 +107,7 @@ fn is_below(jump: &Jump) -> bool
     )
 }
 
-/// The first instruction of a program that disturbs a loop, and how.
+/// An instruction of a program that disturbs a loop, and how: the first of them.
 fn disturbed(code: &[Insn], counted: &Loop) -> Option<Uncounted>
     requires { length code.now ≤ 1024 }
     ensures { IsDisturbed code.now counted.now result }
@@ -147,12 +147,10 @@ fn crossing(counted: &Loop, slot: usize, place: Option<usize>) -> Option<Disturb
     ensures { IsCrossing counted.now slot place result }
 {
     let place = place?;
-    if place == counted.last {
-        return Some(Disturbance::Skip);
-    }
     match (is_in(counted, slot), is_in(counted, place)) {
         (true, false) => Some(Disturbance::Leave),
         (false, true) => Some(Disturbance::Enter),
+        _ if place == counted.last => Some(Disturbance::Skip),
         _ => None,
     }
 }

@@ -37,7 +37,7 @@ pub(crate) fn write_reason<W: Write>(
         Uncounted::NoLoops => writeln!(out, "loop: a program of the first version has none"),
         Uncounted::Jump => writeln!(
             out,
-            "loop: it doesn't end with `jlt` of a register and a number"
+            "loop: it isn't `jlt` of a register and a number, in 64 bits"
         ),
         Uncounted::Bound => writeln!(out, "loop: its bound isn't 1 to 1024"),
         Uncounted::Step => writeln!(
@@ -98,11 +98,12 @@ pub(crate) fn write_insn<W: Write>(
 /// What to change where a jump back isn't that of a counted loop.
 pub(crate) fn loop_remedy(reason: &Uncounted) -> &'static str {
     match reason {
-        Uncounted::NoLoops => "write the turns out, or make an image of the second version",
+        Uncounted::NoLoops =>
+            "write the turns out, or make an image of the second version, by `--format 2`",
         Uncounted::Jump | Uncounted::Step =>
-            "end the loop with `add64 COUNTER, STEP` and right after it `jlt COUNTER, BOUND, HEAD`, or write the turns out",
+            "end the loop with `add64 COUNTER, STEP` and right after it `jlt COUNTER, BOUND, HEAD`; to begin the next turn, jump to the addition",
         Uncounted::Bound =>
-            "give `jlt` a bound of 1 to 1024; two loops, one in the other, take more turns",
+            "give `jlt` a bound of 1 to 1024; for more turns put one loop into another",
         Uncounted::Target => "jump back to the first instruction of the body",
         Uncounted::Disturbed { by, .. } => loop_correction(*by),
     }
@@ -117,6 +118,7 @@ fn loop_correction(by: Disturbance) -> &'static str {
         Disturbance::Skip => "jump to the addition",
         Disturbance::Leave =>
             "keep in a register that the rest is to be skipped, and jump to the addition",
-        Disturbance::Enter => "let the loop be entered from the slot before its first one alone",
+        Disturbance::Enter =>
+            "lead it to an instruction in front of the loop's first, which runs on into it; loops stand in one another or apart",
     }
 }

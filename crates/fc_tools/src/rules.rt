@@ -71,7 +71,8 @@ pub fn remedy(diagnosis: &Diagnosis) -> &'static str {
         Cause::Typing {
             demand: Demand::Number { .. },
             ..
-        } => "write numbers alone in a loop's body; set pointers before it",
+        } =>
+            "write numbers alone in a loop's body; set pointers before it, and index by `payload_byte`, `var_get`, `var_put`, `reply_byte` or in a function that it calls",
         _ => rule_remedy(diagnosis.fault.rule),
     }
 }
@@ -101,7 +102,7 @@ fn rule_remedy(rule: Rule) -> &'static str {
             "give a greater budget, 65536 at most, as `--budget auto` does, or shorten the longest path; a function called twice costs twice",
         Rule::Helper => "call one of the helpers 1 to 7",
         Rule::UnsetRegister =>
-            "set it on each way that leads here; r1 to r5 are unset after each call, r0, r4 (in the first version) and r5 to r9 at the program's start, r0 and r6 to r9 at a function's",
+            "set it on each way that leads here; r1 to r5 are unset after each call, r0, r4 (in the first version) and r5 to r9 at the program's start, r0 and r6 to r9 at a function's; in a loop what its body writes is unset, but for numbers that were numbers before it, and r1 to r5 where it calls",
         Rule::OperandKind =>
             "a load or store needs a pointer as its base; of arithmetic only `mov64`, `add64` and `sub64` take one; keep numbers and pointers in registers of their own",
         Rule::Access =>

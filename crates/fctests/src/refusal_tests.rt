@@ -93,7 +93,7 @@ fn a_refused_image_is_explained(rt: HostRuntime) -> Result<(), Fail> {
 }
 
 // Texts of programs whose control flow breaks a rule, with their budget, the verdict, and what is told.
-static FLOWS: [(&[u8], u32, &str, &str); 9] = [
+static FLOWS: [(&[u8], u32, &str, &str); 10] = [
     (
         b"mov64 r0, 0\nja 1\nexit",
         3,
@@ -109,7 +109,16 @@ static FLOWS: [(&[u8], u32, &str, &str); 9] = [
         "rule: a jump that doesn't go to a later slot, and in the second version isn't that of a counted loop\n\
         slot 1: jeq r0, 0, -2\n\
         loop: a program of the first version has none\n\
-        change: write the turns out, or make an image of the second version\n",
+        change: write the turns out, or make an image of the second version, by `--format 2`\n",
+    ),
+    (
+        b"mov64 r0, 0\nadd64 r0, 1\njlt r0, 4, -2\nexit",
+        10,
+        "V12 slot 2\n",
+        "rule: a jump that doesn't go to a later slot, and in the second version isn't that of a counted loop\n\
+        slot 2: jlt r0, 4, -2\n\
+        loop: a program of the first version has none\n\
+        change: write the turns out, or make an image of the second version, by `--format 2`\n",
     ),
     (
         b"lddw r0, 4294967296",
@@ -220,7 +229,7 @@ static UNTYPED: [(&[u8], u16, &str, &str); 16] = [
         "rule: a register is read of which nothing is known\n\
         slot 0: mov64 r0, r5\n\
         r5: nothing\n\
-        change: set it on each way that leads here; r1 to r5 are unset after each call, r0, r4 (in the first version) and r5 to r9 at the program's start, r0 and r6 to r9 at a function's\n",
+        change: set it on each way that leads here; r1 to r5 are unset after each call, r0, r4 (in the first version) and r5 to r9 at the program's start, r0 and r6 to r9 at a function's; in a loop what its body writes is unset, but for numbers that were numbers before it, and r1 to r5 where it calls\n",
     ),
     // behind a helper's call R1 is unset
     (
@@ -231,7 +240,7 @@ static UNTYPED: [(&[u8], u16, &str, &str); 16] = [
         slot 1: jgt r0, r1, 0\n\
         r0: a number from 0 to 1024\n\
         r1: nothing\n\
-        change: set it on each way that leads here; r1 to r5 are unset after each call, r0, r4 (in the first version) and r5 to r9 at the program's start, r0 and r6 to r9 at a function's\n",
+        change: set it on each way that leads here; r1 to r5 are unset after each call, r0, r4 (in the first version) and r5 to r9 at the program's start, r0 and r6 to r9 at a function's; in a loop what its body writes is unset, but for numbers that were numbers before it, and r1 to r5 where it calls\n",
     ),
     (
         b"mov32 r4, r1\nexit",
@@ -377,14 +386,14 @@ fn a_missing_typing_is_explained(rt: HostRuntime) -> Result<(), Fail> {
 }
 
 // Programs of the second version with a jump back that isn't that of a counted loop, the verdict, and what is told.
-static JUMPS_BACK: [(&[u8], &str, &str); 10] = [
+static JUMPS_BACK: [(&[u8], &str, &str); 14] = [
     (
         b"mov64 r0, 0\nadd64 r0, 1\njne r0, 4, -2\nexit",
         "V12 slot 2\n",
         "rule: a jump that doesn't go to a later slot, and in the second version isn't that of a counted loop\n\
         slot 2: jne r0, 4, -2\n\
-        loop: it doesn't end with `jlt` of a register and a number\n\
-        change: end the loop with `add64 COUNTER, STEP` and right after it `jlt COUNTER, BOUND, HEAD`, or write the turns out\n",
+        loop: it isn't `jlt` of a register and a number, in 64 bits\n\
+        change: end the loop with `add64 COUNTER, STEP` and right after it `jlt COUNTER, BOUND, HEAD`; to begin the next turn, jump to the addition\n",
     ),
     // by 32 bits
     (
@@ -392,8 +401,8 @@ static JUMPS_BACK: [(&[u8], &str, &str); 10] = [
         "V12 slot 2\n",
         "rule: a jump that doesn't go to a later slot, and in the second version isn't that of a counted loop\n\
         slot 2: jlt32 r0, 4, -2\n\
-        loop: it doesn't end with `jlt` of a register and a number\n\
-        change: end the loop with `add64 COUNTER, STEP` and right after it `jlt COUNTER, BOUND, HEAD`, or write the turns out\n",
+        loop: it isn't `jlt` of a register and a number, in 64 bits\n\
+        change: end the loop with `add64 COUNTER, STEP` and right after it `jlt COUNTER, BOUND, HEAD`; to begin the next turn, jump to the addition\n",
     ),
     (
         b"mov64 r0, 0\nadd64 r0, 1\njlt r0, 1025, -2\nexit",
@@ -401,7 +410,7 @@ static JUMPS_BACK: [(&[u8], &str, &str); 10] = [
         "rule: a jump that doesn't go to a later slot, and in the second version isn't that of a counted loop\n\
         slot 2: jlt r0, 1025, -2\n\
         loop: its bound isn't 1 to 1024\n\
-        change: give `jlt` a bound of 1 to 1024; two loops, one in the other, take more turns\n",
+        change: give `jlt` a bound of 1 to 1024; for more turns put one loop into another\n",
     ),
     (
         b"mov64 r0, 0\nadd64 r0, 0\njlt r0, 4, -2\nexit",
@@ -409,7 +418,7 @@ static JUMPS_BACK: [(&[u8], &str, &str); 10] = [
         "rule: a jump that doesn't go to a later slot, and in the second version isn't that of a counted loop\n\
         slot 2: jlt r0, 4, -2\n\
         loop: the slot before isn't `add64` of the same register and a number of 1 or more\n\
-        change: end the loop with `add64 COUNTER, STEP` and right after it `jlt COUNTER, BOUND, HEAD`, or write the turns out\n",
+        change: end the loop with `add64 COUNTER, STEP` and right after it `jlt COUNTER, BOUND, HEAD`; to begin the next turn, jump to the addition\n",
     ),
     (
         b"mov64 r0, 0\nadd64 r0, 1\njlt r0, 4, -1\nexit",
@@ -462,12 +471,51 @@ static JUMPS_BACK: [(&[u8], &str, &str); 10] = [
         slot 3: jlt r0, 4, -2\n\
         loop: slots 2 to 3, counted in r0 below 4; slot 1 jumps into it\n\
         slot 1: ja 0\n\
-        change: let the loop be entered from the slot before its first one alone\n",
+        change: lead it to an instruction in front of the loop's first, which runs on into it; loops stand in one another or apart\n",
+    ),
+    // the test of a loop first, by a jump to it
+    (
+        b"mov64 r0, 0\nja 1\nadd64 r0, 1\njlt r0, 4, -2\nexit",
+        "V12 slot 3\n",
+        "rule: a jump that doesn't go to a later slot, and in the second version isn't that of a counted loop\n\
+        slot 3: jlt r0, 4, -2\n\
+        loop: slots 2 to 3, counted in r0 below 4; slot 1 jumps into it\n\
+        slot 1: ja 1\n\
+        change: lead it to an instruction in front of the loop's first, which runs on into it; loops stand in one another or apart\n",
+    ),
+    // the next turn, begun at its head
+    (
+        b"mov64 r0, 0\nmov64 r1, 0\njeq r0, 2, -2\nadd64 r0, 1\njlt r0, 4, -4\nexit",
+        "V12 slot 2\n",
+        "rule: a jump that doesn't go to a later slot, and in the second version isn't that of a counted loop\n\
+        slot 2: jeq r0, 2, -2\n\
+        loop: it isn't `jlt` of a register and a number, in 64 bits\n\
+        change: end the loop with `add64 COUNTER, STEP` and right after it `jlt COUNTER, BOUND, HEAD`; to begin the next turn, jump to the addition\n",
+    ),
+    // a call writes the counter
+    (
+        b"mov64 r1, 0\ncall 1\nadd64 r1, 1\njlt r1, 4, -3\nmov64 r0, 0\nexit",
+        "V12 slot 3\n",
+        "rule: a jump that doesn't go to a later slot, and in the second version isn't that of a counted loop\n\
+        slot 3: jlt r1, 4, -3\n\
+        loop: slots 1 to 3, counted in r1 below 4; slot 1 writes the counter\n\
+        slot 1: call 1\n\
+        change: count in a register that only the addition writes; a call writes r0 to r5\n",
+    ),
+    // two loops that overlap
+    (
+        b"mov64 r6, 0\nmov64 r7, 0\nadd64 r6, 1\njlt r6, 4, -3\nadd64 r7, 1\njlt r7, 4, -4\nmov64 r0, 0\nexit",
+        "V12 slot 3\n",
+        "rule: a jump that doesn't go to a later slot, and in the second version isn't that of a counted loop\n\
+        slot 3: jlt r6, 4, -3\n\
+        loop: slots 1 to 3, counted in r6 below 4; slot 5 jumps into it\n\
+        slot 5: jlt r7, 4, -4\n\
+        change: lead it to an instruction in front of the loop's first, which runs on into it; loops stand in one another or apart\n",
     ),
 ];
 
 // Programs of the second version whose loops aren't typed.
-static LOOPS: [(&[u8], &str, &str); 3] = [
+static LOOPS: [(&[u8], &str, &str); 4] = [
     (
         b"mov64 r6, 4\nmov64 r0, r6\nadd64 r6, 1\njlt r6, 4, -3\nexit",
         "V28 slot 1\n",
@@ -493,7 +541,16 @@ static LOOPS: [(&[u8], &str, &str); 3] = [
         slot 1: mov64 r8, r1\n\
         r1: a pointer into the request, at offset 0\n\
         r8 after it: a pointer into the request, at offset 0\n\
-        change: write numbers alone in a loop's body; set pointers before it\n",
+        change: write numbers alone in a loop's body; set pointers before it, and index by `payload_byte`, `var_get`, `var_put`, `reply_byte` or in a function that it calls\n",
+    ),
+    // a pointer that walks
+    (
+        b"mov64 r6, 0\nmov64 r7, r1\nldxb r8, r7, 0\nadd64 r7, 1\nadd64 r6, 1\njlt r6, 4, -4\nmov64 r0, 0\nexit",
+        "V20 slot 2\n",
+        "rule: a register is read of which nothing is known\n\
+        slot 2: ldxb r8, r7, 0\n\
+        r7: nothing\n\
+        change: set it on each way that leads here; r1 to r5 are unset after each call, r0, r4 (in the first version) and r5 to r9 at the program's start, r0 and r6 to r9 at a function's; in a loop what its body writes is unset, but for numbers that were numbers before it, and r1 to r5 where it calls\n",
     ),
 ];
 
