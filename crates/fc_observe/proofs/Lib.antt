@@ -13,3 +13,4 @@ pub mod Lasting
 pub mod Staying
 pub mod Rising
 pub mod First
+pub mod Notified

@@ -1,5 +1,5 @@
 -- What the calls on the observers of a slot keep.
-use Rattle.std.specs.Prelude.{◌≡◌, ℕ, ◌+◌, ◌<◌, ◌≤◌, ◌==◌, ◌&&◌, ◌⊎◌, Bool, true, false, if◌then◌else◌, List, [], ◌∷◌}
+use Rattle.std.specs.Prelude.{◌≡◌, ℕ, ◌+◌, ◌<◌, ◌≤◌, ◌==◌, ◌&&◌, ◌⊎◌, max, nat_le, Bool, true, false, if◌then◌else◌, List, [], ◌∷◌, Some, None}
 use Rattle.arrayvec.specs.ArrayVec.{ArrayVec}
 use Rattle.coap_msg.specs.Windows.{window}
 use Rattle.coap_msg.specs.declared.types.Endpoint.{Endpoint}
@@ -75,3 +75,21 @@ has_number_in number other = false
 -- an entry whose turn has it
 abbrev pub has_number : ℕ → Entry → Bool
 has_number number o = has_number_in number o.phase
+
+-- ---- the last notification
+
+-- the call registers the entry at this moment: no notification was sent yet
+abbrev pub IsNewAt : ObserverCall → ObserverList → Entry → Type 0
+IsNewAt (Register now to token request szx serial) t o = (o.id ≡ None) × (o.confirmed ≡ max t.moment now)
+IsNewAt other t o = ⊥
+
+-- by a notification at a moment: the moment, where 24 hours have passed since, and else what it was
+abbrev pub confirmed_at : ℕ → ℕ → ℕ
+confirmed_at now before = if nat_le (before + 86400000) now then now else before
+
+-- an entry after a call is of the same observer, with the same last notification; it was notified by the call, or is as it was before
+-- a notification of another
+abbrev pub KeepsLast : ObserverCall → ObserverList → Entry → Entry → Type 0
+KeepsLast (Notify now turn id serial random bytes) t o before =
+    (o ≡ before) ⊎ ((is_out turn (at_moment now t) before ≡ true) × (interest_of o ≡ interest_of before) × (o.id ≡ Some id) × (o.confirmed ≡ confirmed_at (max t.moment now) before.confirmed))
+KeepsLast other t o before = (interest_of o ≡ interest_of before) × (o.id ≡ before.id) × (o.confirmed ≡ before.confirmed)

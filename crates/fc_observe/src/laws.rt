@@ -6,8 +6,8 @@ ghost use Rattle.coap_msg.specs.declared.types.Emission.{Emission};
 ghost use Rattle.coap_msg.specs.declared.types.Endpoint.{Endpoint};
 ghost use Rattle.fc_observe.specs.Calls.{ComesFrom, IsRegisteredBy, ObserverCall, NextDue, Notify, Miss, End, GiveUp, after_calls, observers, observers_after};
 ghost use Rattle.fc_observe.specs.Entries.{given_up, is_due, is_entry_of, is_late, must_confirm, notified, retransmission, timed_out, with_turn};
-ghost use Rattle.fc_observe.specs.Laws.{HandsInUpTo, IsGivenUpNow, IsOutstanding, IsSentAt, IsTurnOut, KeepsSerial, RegistersNone, has_number, noticed_for, resent_at};
-ghost use Rattle.fc_observe.specs.Observers.{ObserverList, after_ack, after_reset, at_moment, entry_out, is_missing, is_out, next_turn, ticked, turn_given};
+ghost use Rattle.fc_observe.specs.Laws.{HandsInUpTo, IsGivenUpNow, IsNewAt, IsOutstanding, IsSentAt, IsTurnOut, KeepsLast, KeepsSerial, RegistersNone, has_number, noticed_for, resent_at};
+ghost use Rattle.fc_observe.specs.Observers.{ObserverList, after_ack, after_reset, at_moment, entry_out, is_missing, is_out, next_turn, registered, ticked, turn_given};
 ghost use Rattle.fc_observe.specs.declared.entry.Entry.{Entry};
 ghost use Rattle.fc_observe.specs.declared.entry.Phase.TheVariants.{Outstanding, TurnOut};
 ghost use Rattle.fc_observe.specs.declared.entry.Turn.{Turn};
@@ -141,4 +141,12 @@ pub fn the_first_due_gets_the_turn()
         t.turns < 18446744073709551615 → t.held ≡ before ++ o ∷ after →
         list_any (is_due t.moment noticed) before ≡ false → is_due t.moment noticed o ≡ true →
         (turn_given noticed t).held ≡ before ++ with_turn t.turns t.moment o ∷ after }
+{}
+
+/// An entry's message id is that of its last notification; there is none before the first. A notification is confirmable exactly where
+/// 86,400,000 ms or more have passed since the entry's registration, or since its last confirmable notification where there was one.
+pub fn entries_keep_their_last_notification()
+    ensures kept { (c : ObserverCall) (t : ObserverList) →
+        All (λ (o : Entry). IsNewAt c t o ⊎ Any (KeepsLast c t o) t.held) (observers_after c t).held }
+    ensures confirmable { (now : ℕ) (o : Entry) → must_confirm now o ≡ nat_le (o.confirmed + 86400000) now }
 {}
