@@ -14,3 +14,4 @@ pub mod Staying
 pub mod Rising
 pub mod First
 pub mod Notified
+pub mod Waiting

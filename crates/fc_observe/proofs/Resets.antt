@@ -42,7 +42,7 @@ id_is : (id : ℕ) (own : Option ℕ) → is_id id own ≡ true → own ≡ Some
 id_is id None e = absurd (cc e)
 id_is id (Some own) e = ap (λ (n : ℕ). Some n) (eqb-true own id e)
 
-is_so : (to : Endpoint) (id : ℕ) (o : Entry) → (o.endpoint ≡ to) × (o.id ≡ Some id) → has_last_id to id o ≡ true
+pub is_so : (to : Endpoint) (id : ℕ) (o : Entry) → (o.endpoint ≡ to) × (o.id ≡ Some id) → has_last_id to id o ≡ true
 is_so to id o w =
     let ip : pointwise nat_eq to.ip to.ip ≡ true = (bytes_decides to.ip to.ip).1 refl in
     let port : (to.port == to.port) ≡ true = eq-eqb to.port to.port refl in

@@ -9,7 +9,7 @@ use Rattle.fc_observe.specs.Observers.{ObserverList, at_moment, gives_turn, is_o
 use Rattle.fc_observe.specs.Views.{interest_of}
 use Rattle.fc_observe.specs.declared.entry.Entry.{Entry}
 use Rattle.fc_observe.specs.declared.entry.Phase.{Phase}
-use Rattle.fc_observe.specs.declared.entry.Phase.TheVariants.{GivenUp, TurnOut, Outstanding}
+use Rattle.fc_observe.specs.declared.entry.Phase.TheVariants.{Idle, GivenUp, TurnOut, Outstanding}
 
 -- none of the calls registers this endpoint and token
 abbrev pub RegistersNone : Endpoint → List ℕ → List ObserverCall → Type 0
@@ -93,3 +93,13 @@ abbrev pub KeepsLast : ObserverCall → ObserverList → Entry → Entry → Typ
 KeepsLast (Notify now turn id serial random bytes) t o before =
     (o ≡ before) ⊎ ((is_out turn (at_moment now t) before ≡ true) × (interest_of o ≡ interest_of before) × (o.id ≡ Some id) × (o.confirmed ≡ confirmed_at (max t.moment now) before.confirmed))
 KeepsLast other t o before = (interest_of o ≡ interest_of before) × (o.id ≡ before.id) × (o.confirmed ≡ before.confirmed)
+
+-- ---- an acknowledgement
+
+-- this endpoint's last notification had this message id, and waits for its acknowledgement
+abbrev pub IsAwaited : Endpoint → ℕ → Entry → Type 0
+IsAwaited to id o = (o.endpoint ≡ to) × (o.id ≡ Some id) × IsOutstanding o.phase
+
+-- an entry before an acknowledgement, and after it
+abbrev pub IsAcknowledged : Endpoint → ℕ → Entry → Entry → Type 0
+IsAcknowledged to id before o = (IsAwaited to id before → o ≡ record before { phase = Idle }) × ((IsAwaited to id before → ⊥) → o ≡ before)

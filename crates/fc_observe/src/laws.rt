@@ -1,12 +1,12 @@
 //! What the calls on the observers of a slot promise together: each function is a law, and its contract says it.
 ghost use Rattle.std.specs.Prelude.{◌≡◌, ◌↔◌, ℕ, ◌+◌, ◌*◌, ◌%◌, ◌<◌, ◌≤◌, ◌⊎◌, nat_lt, nat_le, Bool, false, true, [], ◌∷◌, ◌++◌, List, None, Option, Some, count_by, is_some, length};
-ghost use Rattle.std.specs.List.{All, Any, Contains, list_any};
+ghost use Rattle.std.specs.List.{All, AllZip, Any, Contains, list_any};
 ghost use Rattle.arrayvec.specs.ArrayVec.{ArrayVec};
 ghost use Rattle.coap_msg.specs.declared.types.Emission.{Emission};
 ghost use Rattle.coap_msg.specs.declared.types.Endpoint.{Endpoint};
 ghost use Rattle.fc_observe.specs.Calls.{ComesFrom, IsRegisteredBy, ObserverCall, NextDue, Notify, Miss, End, GiveUp, after_calls, observers, observers_after};
 ghost use Rattle.fc_observe.specs.Entries.{given_up, is_due, is_entry_of, is_late, must_confirm, notified, retransmission, timed_out, with_turn};
-ghost use Rattle.fc_observe.specs.Laws.{HandsInUpTo, IsGivenUpNow, IsNewAt, IsOutstanding, IsSentAt, IsTurnOut, KeepsLast, KeepsSerial, RegistersNone, has_number, noticed_for, resent_at};
+ghost use Rattle.fc_observe.specs.Laws.{HandsInUpTo, IsAcknowledged, IsGivenUpNow, IsNewAt, IsOutstanding, IsSentAt, IsTurnOut, KeepsLast, KeepsSerial, RegistersNone, has_number, noticed_for, resent_at};
 ghost use Rattle.fc_observe.specs.Observers.{ObserverList, after_ack, after_reset, at_moment, entry_out, is_missing, is_out, next_turn, registered, ticked, turn_given};
 ghost use Rattle.fc_observe.specs.declared.entry.Entry.{Entry};
 ghost use Rattle.fc_observe.specs.declared.entry.Phase.TheVariants.{Outstanding, TurnOut};
@@ -149,4 +149,10 @@ pub fn entries_keep_their_last_notification()
     ensures kept { (c : ObserverCall) (t : ObserverList) →
         All (λ (o : Entry). IsNewAt c t o ⊎ Any (KeepsLast c t o) t.held) (observers_after c t).held }
     ensures confirmable { (now : ℕ) (o : Entry) → must_confirm now o ≡ nat_le (o.confirmed + 86400000) now }
+{}
+
+/// An Acknowledgement ends the wait of the entries whose last notification it answers, and changes nothing else.
+pub fn acknowledgements_end_the_wait()
+    ensures { (to : Endpoint) (id : ℕ) (t : ObserverList) →
+        AllZip (IsAcknowledged to id) t.held (after_ack to id t).held }
 {}
