@@ -15,3 +15,4 @@ pub mod Rising
 pub mod First
 pub mod Notified
 pub mod Waiting
+pub mod Entering

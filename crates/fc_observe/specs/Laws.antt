@@ -1,8 +1,9 @@
 -- What the calls on the observers of a slot keep.
-use Rattle.std.specs.Prelude.{◌≡◌, ℕ, ◌+◌, ◌<◌, ◌≤◌, ◌==◌, ◌&&◌, ◌⊎◌, max, nat_le, Bool, true, false, if◌then◌else◌, List, [], ◌∷◌, Some, None}
+use Rattle.std.specs.Prelude.{◌≡◌, ℕ, ◌+◌, ◌<◌, ◌≤◌, ◌==◌, ◌&&◌, ◌⊎◌, max, nat_le, Bool, true, false, if◌then◌else◌, List, [], ◌∷◌, Option, Some, None}
 use Rattle.arrayvec.specs.ArrayVec.{ArrayVec}
 use Rattle.coap_msg.specs.Windows.{window}
 use Rattle.coap_msg.specs.declared.types.Endpoint.{Endpoint}
+use Rattle.fc_help.specs.Request.{Request}
 use Rattle.fc_observe.specs.Calls.{ObserverCall, NextDue, Notify, Register, is_registration_of, observers}
 use Rattle.fc_observe.specs.Entries.{retransmitted}
 use Rattle.fc_observe.specs.Observers.{ObserverList, at_moment, gives_turn, is_out}
@@ -103,3 +104,10 @@ IsAwaited to id o = (o.endpoint ≡ to) × (o.id ≡ Some id) × IsOutstanding o
 -- an entry before an acknowledgement, and after it
 abbrev pub IsAcknowledged : Endpoint → ℕ → Entry → Entry → Type 0
 IsAcknowledged to id before o = (IsAwaited to id before → o ≡ record before { phase = Idle }) × ((IsAwaited to id before → ⊥) → o ≡ before)
+
+-- ---- a registration
+
+-- an entry of this client's GET, which was sent this serial, and with which nothing is under way
+abbrev pub IsRegistrationOf : Endpoint → ArrayVec ℕ → Request → Option ℕ → ℕ → Entry → Type 0
+IsRegistrationOf to token request szx serial o =
+    (interest_of o ≡ record { endpoint = to; token = token; request = request; szx = szx }) × (o.serial ≡ serial) × (o.phase ≡ Idle)

@@ -4,9 +4,10 @@ ghost use Rattle.std.specs.List.{All, AllZip, Any, Contains, list_any};
 ghost use Rattle.arrayvec.specs.ArrayVec.{ArrayVec};
 ghost use Rattle.coap_msg.specs.declared.types.Emission.{Emission};
 ghost use Rattle.coap_msg.specs.declared.types.Endpoint.{Endpoint};
+ghost use Rattle.fc_help.specs.Request.{Request};
 ghost use Rattle.fc_observe.specs.Calls.{ComesFrom, IsRegisteredBy, ObserverCall, NextDue, Notify, Miss, End, GiveUp, after_calls, observers, observers_after};
 ghost use Rattle.fc_observe.specs.Entries.{given_up, is_due, is_entry_of, is_late, must_confirm, notified, retransmission, timed_out, with_turn};
-ghost use Rattle.fc_observe.specs.Laws.{HandsInUpTo, IsAcknowledged, IsGivenUpNow, IsNewAt, IsOutstanding, IsSentAt, IsTurnOut, KeepsLast, KeepsSerial, RegistersNone, has_number, noticed_for, resent_at};
+ghost use Rattle.fc_observe.specs.Laws.{HandsInUpTo, IsAcknowledged, IsGivenUpNow, IsNewAt, IsOutstanding, IsRegistrationOf, IsSentAt, IsTurnOut, KeepsLast, KeepsSerial, RegistersNone, has_number, noticed_for, resent_at};
 ghost use Rattle.fc_observe.specs.Observers.{ObserverList, after_ack, after_reset, at_moment, entry_out, is_missing, is_out, next_turn, registered, ticked, turn_given};
 ghost use Rattle.fc_observe.specs.declared.entry.Entry.{Entry};
 ghost use Rattle.fc_observe.specs.declared.entry.Phase.TheVariants.{Outstanding, TurnOut};
@@ -155,4 +156,17 @@ pub fn entries_keep_their_last_notification()
 pub fn acknowledgements_end_the_wait()
     ensures { (to : Endpoint) (id : ℕ) (t : ObserverList) →
         AllZip (IsAcknowledged to id) t.held (after_ack to id t).held }
+{}
+
+/// A registration is entered where fewer than 32 observe the slot, or its own endpoint and token do. Where 32 others do, it changes nothing.
+pub fn registrations_are_entered()
+    ensures room { (to : Endpoint) (token : ArrayVec ℕ) (request : Request) (szx : Option ℕ) (serial : ℕ) (t : ObserverList) →
+        length t.held < 32 →
+        Any (IsRegistrationOf to token request szx serial) (registered to token request szx serial t).held }
+    ensures renewed { (to : Endpoint) (token : ArrayVec ℕ) (request : Request) (szx : Option ℕ) (serial : ℕ) (t : ObserverList) →
+        list_any (is_entry_of to token.items) t.held ≡ true →
+        Any (IsRegistrationOf to token request szx serial) (registered to token request szx serial t).held }
+    ensures full { (to : Endpoint) (token : ArrayVec ℕ) (request : Request) (szx : Option ℕ) (serial : ℕ) (t : ObserverList) →
+        32 ≤ length t.held → list_any (is_entry_of to token.items) t.held ≡ false →
+        registered to token request szx serial t ≡ t }
 {}
