@@ -16,3 +16,4 @@ pub mod First
 pub mod Notified
 pub mod Waiting
 pub mod Entering
+pub mod Again

@@ -170,3 +170,12 @@ pub fn registrations_are_entered()
         32 ≤ length t.held → list_any (is_entry_of to token.items) t.held ≡ false →
         registered to token request szx serial t ≡ t }
 {}
+
+/// A tick sends the first notification of the list that is late, the same bytes to the same endpoint, where it was sent again less than
+/// four times.
+pub fn late_notifications_are_sent_again()
+    ensures { (s wait : ℕ) (bytes : ArrayVec ℕ) (o : Entry) (at : List ℕ) (before after : List Entry) (t : ObserverList) →
+        IsSentAt s wait bytes o → length at < 4 → is_late t.moment (resent_at at o) ≡ true →
+        t.held ≡ before ++ resent_at at o ∷ after → list_any (is_late t.moment) before ≡ false →
+        ticked t ≡ Resend (record { to = o.endpoint; bytes = bytes }) }
+{}
