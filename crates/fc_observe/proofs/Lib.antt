@@ -17,3 +17,4 @@ pub mod Notified
 pub mod Waiting
 pub mod Entering
 pub mod Again
+pub mod Leaving

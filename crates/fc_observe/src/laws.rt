@@ -179,3 +179,10 @@ pub fn late_notifications_are_sent_again()
         t.held ≡ before ++ resent_at at o ∷ after → list_any (is_late t.moment) before ≡ false →
         ticked t ≡ Resend (record { to = o.endpoint; bytes = bytes }) }
 {}
+
+/// The end of a turn removes the observer that has it out: no entry of its endpoint and token is left.
+pub fn ended_turns_remove_their_observer()
+    ensures { (slot : ℕ) (turn : Turn) (o : Entry) (h : List ObserverCall) →
+        entry_out turn (observers slot h) ≡ Some o →
+        list_any (is_entry_of o.endpoint o.token.items) (observers slot (End turn ∷ h)).held ≡ false }
+{}
