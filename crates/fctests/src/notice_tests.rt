@@ -8,7 +8,7 @@ use coap_msg::read;
 use coap_msg::types::DATAGRAM;
 use coap_opts::Method;
 use fc_cli::Status;
-use fc_fetch::observer::{Extent, print_notes};
+use fc_fetch::observer::{Extent, NotesError, print_notes};
 use fc_fetch::{Observing, Shown, observe};
 use fc_service::serve::Extent as Served;
 use fc_service::socket::open;
@@ -84,20 +84,32 @@ fn responses_are_noticed(rt: HostRuntime) {
     }
 }
 
-fn slot_one<'a>(alloc: Global) -> Result<Target<'a>, Fail> {
-    Ok(Target {
+// What names slot 1.
+fn slot_one(alloc: Global) -> Result<Errand<'static>, Fail> {
+    let target = Target {
         path: Path::parse(alloc, b"/r/1")?,
         query: Vec::new(alloc),
-    })
+    };
+    match Errand::new(true, Method::Get, target, &[]) {
+        Some(errand) => Ok(errand),
+        None => Err(Fail::new("no room")),
+    }
 }
 
 // What an observer of slot 1 prints, by requests from message id 7 on, until so many lines are there or the script is at its end.
 fn watched(alloc: Global, server: &mut Scripted, count: u32) -> Result<Vec<u8>, Fail> {
-    let Some(errand) = Errand::new(true, Method::Get, slot_one(alloc)?, &[]) else {
-        return Err(Fail::new("no room"));
-    };
+    let errand = slot_one(alloc)?;
+    Ok(printed(alloc, server, &errand, count)?)
+}
+
+fn printed(
+    alloc: Global,
+    server: &mut Scripted,
+    errand: &Errand<'_>,
+    count: u32,
+) -> Result<Vec<u8>, NotesError> {
     let observer = Observer {
-        errand: &errand,
+        errand,
         token: TOKEN,
         id: 7,
     };
@@ -233,22 +245,25 @@ fn an_observer_prints_so_many_lines(rt: HostRuntime) -> Result<(), Fail> {
     Ok(())
 }
 
-#[test]
-fn an_observer_ends(rt: HostRuntime) -> Result<(), Fail> {
-    let alloc = rt.alloc();
-    let Some(errand) = Errand::new(true, Method::Get, slot_one(alloc)?, &[]) else {
-        return Err(Fail::new("no room"));
-    };
+// What comes of an observer's deregistration, whose message id is 0.
+fn ended(alloc: Global, server: &mut Scripted, errand: &Errand<'_>) -> Result<(), Fault> {
     let observer = Observer {
-        errand: &errand,
+        errand,
         token: TOKEN,
         id: 0xffff,
     };
     let mut buffer = [0; DATAGRAM];
+    observer.deregister(alloc, server, &mut buffer)
+}
+
+#[test]
+fn an_observer_ends(rt: HostRuntime) -> Result<(), Fail> {
+    let alloc = rt.alloc();
+    let errand = slot_one(alloc)?;
     let mut server = follows(alloc);
     comes_with(&mut server, 0, b"\x54\x45\x10\x00", b"\x61\x09\xff\x78")?;
     comes_with(&mut server, 0, b"\x64\x45\x00\x00", b"\xff\x61")?;
-    observer.deregister(alloc, &mut server, &mut buffer)?;
+    ended(alloc, &mut server, &errand)?;
     check_sent(
         &rt,
         &server,
@@ -257,13 +272,20 @@ fn an_observer_ends(rt: HostRuntime) -> Result<(), Fail> {
         &[],
     );
     let mut silent = follows(alloc);
-    let ended = observer.deregister(alloc, &mut silent, &mut buffer);
-    assert!(rt; matches!(&ended, Err(Fault::Silence)));
+    let silence = ended(alloc, &mut silent, &errand);
+    assert!(rt; matches!(&silence, Err(Fault::Silence)));
     assert!(rt; silent.waits.as_slice() == [2, 4, 8, 16, 32].as_slice());
-    let mut rejects = follows(alloc);
-    comes(&mut rejects, b"\x70\x00\xff\xff", &[])?;
-    let ended = observer.register(alloc, &mut rejects, &mut buffer);
-    assert!(rt; matches!(&ended, Err(Fault::Rejected)) && rejects.sent.len() == 1);
+    Ok(())
+}
+
+#[test]
+fn a_registration_is_rejected(rt: HostRuntime) -> Result<(), Fail> {
+    let mut server = follows(rt.alloc());
+    comes(&mut server, b"\x70\x00\x00\x07", &[])?;
+    let errand = slot_one(rt.alloc())?;
+    let shown = printed(rt.alloc(), &mut server, &errand, 1);
+    assert!(rt; matches!(&shown, Err(NotesError::Fault(Fault::Rejected))));
+    assert!(rt; server.sent.len() == 1);
     Ok(())
 }
 
@@ -323,10 +345,10 @@ fn watch_counter<R: Abort + AllocGlobal + Threads + Wait + Clock + Net + RandomS
     // version=1 cost=13 budget=13 vars=8
     let receipt = "2.01\n76657273696f6e3d3120636f73743d3133206275646765743d313320766172733d38\n";
     check_asked(rt, port, Method::Put, "/p/1", &image, Status::Done, receipt);
-    let ((status, out), ()) = thread::join(
+    let ((), (status, out)) = thread::join(
         rt,
-        || observed(rt, alloc, port),
         || post_twice(rt, port),
+        || observed(rt, alloc, port),
     );
     let printed = b"2.05 0000000000000000\n2.05 0100000000000000\n2.05 0200000000000000\n";
     assert!(rt; status == Status::Done && out.as_slice() == printed.as_slice());
