@@ -3,7 +3,7 @@ use crate::scripted::{Scripted, check_sent, comes, comes_at, follows};
 use crate::socket_tests::{at_port, check_asked, serve_logged};
 use crate::tooling::assembled;
 use coap_client::notice::{is_newer, notice_of};
-use coap_client::{Errand, Fault, Notice, Observer, Path, Target};
+use coap_client::{Errand, Fault, Notice, Observer, Path, Peer, Server, Target};
 use coap_msg::read;
 use coap_msg::types::DATAGRAM;
 use coap_opts::Method;
@@ -15,7 +15,6 @@ use fc_service::socket::open;
 use std::alloc::{AllocError, Global};
 use std::net::Net;
 use std::process::Abort;
-use std::random::RandomSource;
 use std::sync::Wait;
 use std::test::Fail;
 use std::thread;
@@ -311,7 +310,48 @@ exit\n";
 const LIMIT: u32 = 40;
 
 // What an observer of slot 1 of our own server prints, until three lines are there or ten seconds are over.
-fn observed<R: Net + Clock + RandomSource>(rt: &R, alloc: Global, port: u16) -> (Status, Vec<u8>) {
+fn observed<R: Net + Clock>(rt: &R, alloc: Global, port: u16) -> Result<Vec<u8>, Fail> {
+    let errand = slot_one(alloc)?;
+    let mut server = Server::at(rt, rt, at_port(port))?;
+    Ok(three_lines(alloc, &mut server, &errand)?)
+}
+
+fn three_lines<P: Peer>(
+    alloc: Global,
+    server: &mut P,
+    errand: &Errand<'_>,
+) -> Result<Vec<u8>, NotesError> {
+    let observer = Observer {
+        errand,
+        token: TOKEN,
+        id: 7,
+    };
+    let extent = Extent {
+        count: Some(3),
+        seconds: Some(10),
+    };
+    let mut out = Vec::new(alloc);
+    let mut buffer = [0; DATAGRAM];
+    print_notes(
+        alloc,
+        server,
+        &mut out,
+        &observer,
+        Shown::Hex,
+        extent,
+        &mut buffer,
+    )?;
+    observer.deregister(alloc, server, &mut buffer)?;
+    Ok(out)
+}
+
+// Nobody listens at the port.
+#[test]
+fn an_observer_of_nobody_is_status_3(rt: HostRuntime) -> Result<(), Fail> {
+    let alloc = rt.alloc();
+    let socket = open(&rt, at_port(0))?;
+    let port = socket.local_addr()?.port();
+    drop(socket);
     let mut out = Vec::new(alloc);
     let mut err = Vec::new(alloc);
     let observing = Observing {
@@ -319,12 +359,14 @@ fn observed<R: Net + Clock + RandomSource>(rt: &R, alloc: Global, port: u16) -> 
         port: Some(port),
         shown: Shown::Hex,
         extent: Extent {
-            count: Some(3),
-            seconds: Some(10),
+            count: Some(1),
+            seconds: None,
         },
     };
-    let status = observe(rt, alloc, &mut out, &mut err, &observing);
-    (status, out)
+    let status = observe(&rt, alloc, &mut out, &mut err, &observing);
+    let told = b"UDP: Connection refused (os error 111)\n".as_slice();
+    assert!(rt; status == Status::Failed && out.is_empty() && err.as_slice() == told);
+    Ok(())
 }
 
 // Posts twice, when the observer has registered.
@@ -336,7 +378,7 @@ fn post_twice<R: Abort + Net + Clock + AllocGlobal>(rt: &R, port: u16) {
 }
 
 // A counter is installed, and observed while it is posted to: three states, in order.
-fn watch_counter<R: Abort + AllocGlobal + Threads + Wait + Clock + Net + RandomSource + Sync>(
+fn watch_counter<R: Abort + AllocGlobal + Threads + Wait + Clock + Net + Sync>(
     rt: &R,
     port: u16,
 ) -> Result<(), Fail> {
@@ -345,13 +387,9 @@ fn watch_counter<R: Abort + AllocGlobal + Threads + Wait + Clock + Net + RandomS
     // version=1 cost=13 budget=13 vars=8
     let receipt = "2.01\n76657273696f6e3d3120636f73743d3133206275646765743d313320766172733d38\n";
     check_asked(rt, port, Method::Put, "/p/1", &image, Status::Done, receipt);
-    let ((), (status, out)) = thread::join(
-        rt,
-        || post_twice(rt, port),
-        || observed(rt, alloc, port),
-    );
+    let ((), out) = thread::join(rt, || post_twice(rt, port), || observed(rt, alloc, port));
     let printed = b"2.05 0000000000000000\n2.05 0100000000000000\n2.05 0200000000000000\n";
-    assert!(rt; status == Status::Done && out.as_slice() == printed.as_slice());
+    assert!(rt; out?.as_slice() == printed.as_slice());
     Ok(())
 }
 
@@ -364,7 +402,7 @@ fn end<R: Net>(rt: &R, port: u16) -> Result<(), Fail> {
     Ok(())
 }
 
-fn check_watched<R: Abort + AllocGlobal + Threads + Wait + Clock + Net + RandomSource + Sync>(
+fn check_watched<R: Abort + AllocGlobal + Threads + Wait + Clock + Net + Sync>(
     rt: &R,
     workers: u8,
 ) -> Result<(), Fail> {
