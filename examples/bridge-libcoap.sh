@@ -3,6 +3,8 @@
 # behind it.
 #
 # Use: examples/bridge-libcoap.sh URI COMMAND..
+#
+# The command's input is empty: else it would read the states, which come by a pipe.
 set -m # each job is a group of its own, and ends as one
 uri=$1
 shift
@@ -22,7 +24,7 @@ watch() {
 
 act() {
     while read -r state; do
-        [ -z "$state" ] || "$@" "$state"
+        [ -z "$state" ] || "$@" "$state" </dev/null
     done
 }
 

@@ -4,7 +4,8 @@
 #
 # Use: examples/bridge.sh PORT PATH COMMAND..      at the top of the repository, whose fcreq is built, or with FCREQ=PROGRAM
 #
-# A server that is gone is asked again each second. At SIGTERM or SIGINT the bridge ends, and what it started with it.
+# The command's input is empty: else it would read the answers, which come by a pipe. A server that is gone is asked again each second. At SIGTERM or SIGINT the
+# bridge ends, and what it started with it.
 set -m # each job is a group of its own, and ends as one
 port=$1 path=$2
 shift 2
@@ -26,7 +27,7 @@ watch() {
 act() {
     while read -r code state; do
         case $code in
-        2.05) "$@" "$state" ;;
+        2.05) "$@" "$state" </dev/null ;;
         *) echo "bridge: $path: $code" >&2 ;;
         esac
     done

@@ -1,15 +1,15 @@
-; A fan by a temperature: bytes 8 and 9 of the readings, in tenths of a degree, the least byte first. A POST looks at it: the fan is on from 30.0
+; A fan by a temperature: bytes 8 and 9 of the readings, in tenths of a degree, with a sign, the least byte first. A POST looks at it: the fan is on from 30.0
 ; degrees and off from 29.0 down, and observers are told where that changes. Each answer is `on` or `off`. Variables: byte 0 whether it is on.
 ; --format 2 --vars 8 --budget auto
 mov64 r7, r2                ; R2 and R4 are unset behind a call
 ldxb r6, r1, 0              ; the method: 1 GET, 2 POST
 jne r6, 2, reply
-ldxh r5, r4, 8              ; the temperature
+ldsxh r5, r4, 8             ; the temperature, which has a sign
 ldxb r8, r7, 0              ; whether it was on
-jlt r5, 300, cool
+jslt r5, 300, cool
 stb r7, 0, 1
 cool:
-jgt r5, 290, looked
+jsgt r5, 290, looked
 stb r7, 0, 0
 looked:
 ldxb r9, r7, 0
