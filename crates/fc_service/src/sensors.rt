@@ -61,8 +61,8 @@ struct Kept {
     told: bool,
 }
 
-/// Sensors whose first 56 bytes a file has: it is read when they are asked for, and again at another moment. Zeros stand for what is missing, which standard error is told,
-/// once.
+/// Sensors whose first 56 bytes a file has: it is read when they are asked for, and again at a later moment: where moments come out of order, an earlier
+/// one reads what a later one has read. Zeros stand for what is missing, which standard error is told, once.
 #[derive(Drop)]
 pub struct FileSensors<'a, F: Files + Eprint> {
     files: &'a F,
@@ -109,7 +109,8 @@ impl<'a, F: Files + Eprint> FileSensors<'a, F> {
 impl<'a, F: Files + Eprint> Sensors for FileSensors<'a, F> {
     fn sense<R: Wait>(&self, rt: &R, now: u64) -> Sensed {
         let mut kept = self.kept.lock(rt);
-        if kept.at != Some(now) {
+        // a moment that is passed is that of a run which was held up: what was read since is newer
+        if kept.at < Some(now) {
             kept.at = Some(now);
             if let Err(trouble) = self.read(&mut kept.sensed)
                 && !kept.told
