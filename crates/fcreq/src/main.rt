@@ -33,7 +33,7 @@ more. Where the server acknowledges it and answers later, the answer is waited f
 body of a PUT goes in blocks where it has more than 1,024 bytes, and so does an answer; where the
 server names a smaller size, in blocks of that.
 
-`observe` prints what a GET is answered, and then each change that the server notifies of, in a
+`observe` prints what a GET is answered, and then each newer state that it is notified of, in a
 line: the code, a space and the bytes, with `--text` as text where that has no line feed. It
 reads no body. It ends after N lines, or S seconds after the first answer, and deregisters.
 
@@ -41,7 +41,9 @@ reads no body. It ends after N lines, or S seconds after the first answer, and d
 
 Exit status: 0 where the code is of class 2; 1 where it is another, or the server notifies no
 more; 2 where the command line is bad, or the request has no room in a datagram; 3 where no answer
-came, nobody listens at the port, the socket, reading or writing failed, or memory was refused.";
+came, or one with a critical option that isn't known, or blocks that don't fit or, with `observe`,
+more than one; nobody listens at the port, the socket, reading or writing failed, or memory was
+refused.";
 
 /// The word that observes in place of asking once.
 const OBSERVE: &str = "observe";
