@@ -13,7 +13,7 @@ use Rattle.coap_client.specs.declared.notice.Notice.TheVariants.{State, Older, L
 use Rattle.coap_client.specs.declared.observing.Observer.{Observer}
 use Rattle.coap_client.specs.declared.watch.Mark.{Mark}
 use Rattle.coap_client.specs.declared.watch.Watch.{Watch}
-use Rattle.coap_client.specs.Notices.{IsOwnResponse, by_age, first_marks, is_newer, is_shown_again, mark, marked, notice_after, notice_of}
+use Rattle.coap_client.specs.Notices.{IsOwnResponse, by_age, by_success, can_be_shown, first_marks, is_newer, is_shown_again, mark, marked, notice_after, notice_of}
 use Rattle.coap_client.specs.Notes.{AreNotes, IsRemembered, IsWatching, has_mark, is_mark_of, IsApart, IsHeardFrom, IsNewerThan, IsNext, IsNextNote, IsNoteOf, IsRegistered, IsResponseWith, Note}
 use Rattle.coap_client.specs.Replies.{begins_exchange}
 
@@ -113,6 +113,7 @@ pub record HasNext (went came : List ℕ → Type 0) (told : ℕ → Type 0) (to
   pub read : reading_of bytes ≡ Ok note.message
   pub are : AreNotes went came told token id (note ∷ latest ∷ older)
   pub goes_on : last ≡ false → IsWatching went came told token id note (latest ∷ older) new
+  pub none : last ≡ true → notice_of note.message ≡ Last
 
 -- a notification that isn't older follows
 follows : (went came : List ℕ → Type 0) (told : ℕ → Type 0) (token : List ℕ) (id : ℕ) (latest : Note) (older : List Note) (w : Watch) (n : Note) (x : Notice) →
@@ -137,14 +138,35 @@ state_is w n v is =
     let fresh = not_older (is_shown_again w.marks.items n.message.id n.at) (by_age w n.at (notice_of n.message)) (State v) is other in
     (aged w n.at (notice_of n.message) (State v) fresh.1 other).0
 
+last_is : (w : Watch) (n : Note) → notice_after w n.at n.message ≡ Last → notice_of n.message ≡ Last
+last_is w n is =
+    let other : Last ≡ Older → ⊥ = λ e. cc e in
+    let fresh = not_older (is_shown_again w.marks.items n.message.id n.at) (by_age w n.at (notice_of n.message)) Last is other in
+    (aged w n.at (notice_of n.message) Last fresh.1 other).0
+
 -- the note of what came
+unmisfit : (shown : Bool) (y x : Notice) → (if shown then y else Misfit) ≡ x → (x ≡ Misfit → ⊥) → shown ≡ true
+unmisfit true y x e other = refl
+unmisfit false y x e other = absurd (other (sym e))
+
+-- what isn't a misfit can be shown
+shown_as : (m : Message) (x : Notice) → notice_of m ≡ x → (x ≡ Misfit → ⊥) → can_be_shown m ≡ true
+shown_as m x e other = unmisfit (can_be_shown m) (by_success m) x e other
+
+-- neither is what is shown next
+next_shown_as : (w : Watch) (n : Note) (x : Notice) → notice_after w n.at n.message ≡ x → (x ≡ Older → ⊥) → (x ≡ Misfit → ⊥) → can_be_shown n.message ≡ true
+next_shown_as w n x is other fits =
+    let fresh = not_older (is_shown_again w.marks.items n.message.id n.at) (by_age w n.at (notice_of n.message)) x is other in
+    shown_as n.message x (aged w n.at (notice_of n.message) x fresh.1 other).0 fits
+
 noted : (went came : List ℕ → Type 0) (told : ℕ → Type 0) (token : List ℕ) (id : ℕ) (latest : Note) (older : List Note) (bytes : List ℕ) (old new : Watch) (last : Bool) →
     IsWatching went came told token id latest older old → (x : IsNextNote went came told token bytes old new last) →
-    IsNoteOf went came told token id (record { message = x.message; at = max old.at x.moment })
-noted went came told token id latest older bytes old new last watching x = record {
+    can_be_shown x.message ≡ true → IsNoteOf went came told token id (record { message = x.message; at = max old.at x.moment })
+noted went came told token id latest older bytes old new last watching x whole = record {
   bytes = bytes;
   heard = x.heard;
   own = inr x.own;
+  whole = whole;
   moment = told_later told old.at x.moment (subst told (sym watching.moment) watching.are.1.moment) x.told_is;
 }
 
@@ -162,13 +184,14 @@ next_note went came told token id latest older bytes old new true watching x =
     record {
       note = n;
       read = x.heard.read_is;
-      are = (watching.are, noted went came told token id latest older bytes old new true watching x, after);
+      are = (watching.are, noted went came told token id latest older bytes old new true watching x (next_shown_as old n Last x.shown (λ e. cc e) (λ e. cc e)), after);
       goes_on = λ e. absurd (cc e);
+      none = λ _. last_is old n x.shown;
     }
 next_note went came told token id latest older bytes old new false watching x =
     let n : Note = record { message = x.message; at = max old.at x.moment } in
     let after = follows went came told token id latest older old n (State new.sequence) watching x.own (omega arith) x.shown.notice (λ e. cc e) in
-    let are : AreNotes went came told token id (n ∷ latest ∷ older) = (watching.are, noted went came told token id latest older bytes old new false watching x, after) in
+    let are : AreNotes went came told token id (n ∷ latest ∷ older) = (watching.are, noted went came told token id latest older bytes old new false watching x (next_shown_as old n (State new.sequence) x.shown.notice (λ e. cc e) (λ e. cc e)), after) in
     record {
       note = n;
       read = x.heard.read_is;
@@ -182,6 +205,7 @@ next_note went came told token id latest older bytes old new false watching x =
             (subst (λ marks. All (IsRemembered marks n.at) (n ∷ latest ∷ older)) (sym x.shown.marks)
             (remembers old.marks.items old.at n (latest ∷ older) (omega arith) watching.remembered));
       };
+      none = λ e. absurd (cc e);
     }
 
 first_has : (own : Bool) (id at : ℕ) → own ≡ true → has_mark (if own then mark id at ∷ [] else []) id at ≡ true
@@ -202,6 +226,7 @@ first_note went came told o bytes w m at registered read moment state same marks
           bytes = bytes;
           heard = subst (IsHeardFrom went came bytes) spelled registered.heard;
           own = subst (IsResponseWith o.token o.id) spelled registered.own;
+          whole = shown_as m (State w.sequence) state (λ e. cc e);
           moment = moment;
         },
         tt,
@@ -216,14 +241,15 @@ first_note went came told o bytes w m at registered read moment state same marks
 
 -- the first one, where none comes behind it
 pub only_note : (went came : List ℕ → Type 0) (told : ℕ → Type 0) (o : Observer) (bytes : List ℕ) (m : Message) (at : ℕ) →
-    IsRegistered went came o bytes → reading_of bytes ≡ Ok m → told at → AreNotes went came told o.token o.id (record { message = m; at = at } ∷ [])
-only_note went came told o bytes m at registered read moment =
+    IsRegistered went came o bytes → reading_of bytes ≡ Ok m → told at → notice_of m ≡ Last → AreNotes went came told o.token o.id (record { message = m; at = at } ∷ [])
+only_note went came told o bytes m at registered read moment last =
     let spelled : registered.message ≡ m = cc (registered.heard.read_is, read) in (
       tt,
       record {
         bytes = bytes;
         heard = subst (IsHeardFrom went came bytes) spelled registered.heard;
         own = subst (IsResponseWith o.token o.id) spelled registered.own;
+        whole = shown_as m Last last (λ e. cc e);
         moment = moment;
       },
       tt,

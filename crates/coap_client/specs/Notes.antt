@@ -17,7 +17,7 @@ use Rattle.coap_client.specs.declared.observing.Observer.{Observer}
 use Rattle.coap_client.specs.declared.watch.Mark.{Mark}
 use Rattle.coap_client.specs.declared.watch.Watch.{Watch}
 use Rattle.coap_client.specs.Heard.{IsAcknowledged, IsReadAs}
-use Rattle.coap_client.specs.Notices.{IsOwnResponse, IsReplyWith, is_newer, marked, notice_after, notice_of, observe_request}
+use Rattle.coap_client.specs.Notices.{IsOwnResponse, IsReplyWith, can_be_shown, is_newer, marked, notice_after, notice_of, observe_request}
 use Rattle.coap_client.specs.Replies.{IsEmptyAcknowledgement, IsReset, begins_exchange}
 use Rattle.coap_client.specs.Requests.{acknowledgement}
 
@@ -80,11 +80,12 @@ pub record IsRegistered (went came : List ℕ → Type 0) (o : Observer) (bytes 
   pub heard : IsHeardFrom went came bytes message
   pub own : IsResponseWith o.token o.id message
 
--- it is a response with the token of the registration, which had this id, and was shown at a moment that was told
+-- it is a response with the token of the registration, which had this id, can be shown, and was at a moment that was told
 pub record IsNoteOf (went came : List ℕ → Type 0) (told : ℕ → Type 0) (token : List ℕ) (id : ℕ) (n : Note) : Type 0 where
   pub bytes : List ℕ
   pub heard : IsHeardFrom went came bytes n.message
   pub own : IsResponseWith token id n.message
+  pub whole : can_be_shown n.message ≡ true
   pub moment : told n.at
 
 -- a state is newer than one of this sequence number and moment (RFC 7641, 3.4)

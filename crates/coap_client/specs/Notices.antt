@@ -1,12 +1,12 @@
 -- What an observer sends, and what a response is to it (RFC 7641).
-use Rattle.std.specs.Prelude.{◌≡◌, ℕ, ◌+◌, ◌-◌, ◌==◌, ◌&&◌, ◌||◌, not, Bool, true, nat_eq, nat_lt, nat_le, filter, if◌then◌else◌, List, [], ◌∷◌, ◌++◌, length, Option, Some, None}
+use Rattle.std.specs.Prelude.{◌≡◌, ℕ, ◌+◌, ◌-◌, ◌&&◌, ◌||◌, Bool, true, false, nat_eq, nat_lt, nat_le, filter, if◌then◌else◌, List, [], ◌∷◌, ◌++◌, length, Option, Some, None}
 use Rattle.std.specs.List.{list_any}
 use Rattle.coap_msg.specs.Windows.{within_window}
 use Rattle.coap_msg.specs.Wire.{Message}
 use Rattle.coap_msg.specs.Values.{values_in}
 use Rattle.coap_msg.specs.declared.types.MessageType.TheVariants.{Acknowledgement, Confirmable}
 use Rattle.coap_opts.specs.Fields.{method_code}
-use Rattle.coap_opts.specs.Values.{Place, place_in, uint_bytes, uint_value}
+use Rattle.coap_opts.specs.Values.{uint_bytes, uint_value}
 use Rattle.coap_opts.specs.declared.number.TheConstants as option
 use Rattle.coap_opts.specs.declared.request.Method.TheVariants.{Get}
 use Rattle.coap_client.specs.declared.errand.Errand.{Errand}
@@ -14,11 +14,13 @@ use Rattle.coap_client.specs.declared.notice.Interest.{Interest}
 use Rattle.coap_client.specs.declared.notice.Interest.TheVariants.{Register, Deregister}
 use Rattle.coap_client.specs.declared.notice.Notice.{Notice}
 use Rattle.coap_client.specs.declared.notice.Notice.TheVariants.{State, Older, Last, Misfit}
+use Rattle.coap_client.specs.declared.reply.Next.{Next}
+use Rattle.coap_client.specs.declared.reply.Next.TheVariants as next
 use Rattle.coap_client.specs.declared.watch.Mark.{Mark}
 use Rattle.coap_client.specs.declared.watch.Watch.{Watch}
-use Rattle.coap_client.specs.Parts.{resource_options}
+use Rattle.coap_client.specs.Parts.{largest_szx, resource_options}
 use Rattle.coap_client.specs.Paths.{slices_in}
-use Rattle.coap_client.specs.Replies.{begins_exchange, block2_of, first_or_none, is_response, is_success, is_understood}
+use Rattle.coap_client.specs.Replies.{begins_exchange, first_or_none, is_response, is_success, is_understood, next_of_answer}
 
 -- the value of Observe: 0 registers, 1 deregisters (RFC 7641, 2)
 abbrev pub observe_value : Interest → ℕ
@@ -62,17 +64,14 @@ abbrev pub is_newer : ℕ → ℕ → ℕ → ℕ → Bool
 is_newer v1 t1 v2 t2 =
     (nat_lt v1 v2 && nat_lt (v2 - v1) 8388608) || ((nat_lt v2 v1 && nat_lt 8388608 (v1 - v2)) || nat_lt (t1 + 128000) t2)
 
--- an answer is whole where it names no block, or the first one with none behind it (RFC 7959, 2.4)
-abbrev pub is_only_block : Place → Bool
-is_only_block b = (b.number == 0) && not b.more
+-- nothing comes behind it
+abbrev pub is_last_part : Next → Bool
+is_last_part next.Last = true
+is_last_part other = false
 
-abbrev pub is_whole_by : Option (List ℕ) → Bool
-is_whole_by None = true
-is_whole_by (Some value) = nat_le (length value) 3 && is_only_block (place_in value)
-
--- it can be shown: no critical option is unknown, and nothing is behind it
+-- it can be shown: no critical option is unknown, and it is whole by itself, as what a fetch gets by its first request (RFC 7959, 2.4)
 abbrev pub can_be_shown : Message → Bool
-can_be_shown m = is_understood m && is_whole_by (block2_of m)
+can_be_shown m = is_understood m && is_last_part (next_of_answer 0 largest_szx m)
 
 -- a success with a sequence number is a state, behind which others may come; without one, and where it is an error, it is the last (RFC 7641, 3.2 and 4.2)
 abbrev pub by_sequence : Option ℕ → Notice

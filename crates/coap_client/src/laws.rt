@@ -1,12 +1,15 @@
 //! Laws of what the definitions say: the function is a law, and its contract says it.
-ghost use Rattle.std.specs.Prelude.{◌≡◌, ℕ, List, ◌∷◌, true};
+ghost use Rattle.std.specs.Prelude.{◌≡◌, ◌+◌, ◌≤◌, ℕ, List, ◌∷◌, Some, None, false, length, true};
 ghost use Rattle.coap_msg.specs.Wire.{Message};
 ghost use Rattle.coap_client.specs.declared.errand.Errand.{Errand};
 ghost use Rattle.coap_client.specs.declared.part.Part.{Part};
 ghost use Rattle.coap_client.specs.declared.part.Part.TheVariants.{Body};
+ghost use Rattle.coap_client.specs.declared.notice.Notice.TheVariants.{Last};
+ghost use Rattle.coap_client.specs.Notices.{can_be_shown, is_newer, notice_of};
 ghost use Rattle.coap_client.specs.Fetching.{Ended, Out, after_reply, state_after};
 ghost use Rattle.coap_client.specs.Joined.{IsOneAnswer, SaysTaken};
-ghost use Rattle.coap_client.specs.Replies.{is_success};
+ghost use Rattle.coap_client.specs.Replies.{first_or_none, is_success};
+ghost use Rattle.coap_msg.specs.Values.{values_in};
 
 /// A block of the body is followed by another one only where its answer is a success that says that it was taken.
 pub fn the_next_block_goes_behind_one_that_was_taken()
@@ -22,4 +25,45 @@ pub fn the_answer_is_of_one_version()
         state_after e replies ≡ Out part body etag →
         state_after e (m ∷ replies) ≡ Ended code answer → is_success code ≡ true →
         IsOneAnswer answer m replies }
+{}
+
+/// Behind the greatest sequence number, of 24 bits, they begin anew: 0 is newer (RFC 7641, 3.4).
+pub fn zero_is_newer_than_the_greatest()
+    ensures { (first second : ℕ) → is_newer 16777215 first 0 second ≡ true }
+{}
+
+/// A sequence number that is ahead by less than half of them is newer.
+pub fn less_than_half_ahead_is_newer()
+    ensures { (v first second : ℕ) → is_newer v first (v + 8388607) second ≡ true }
+{}
+
+/// Of two that are half of all apart neither is newer, but by age.
+pub fn half_apart_is_newer_neither_way()
+    ensures up { (v first second : ℕ) → second ≤ first + 128000 → is_newer v first (v + 8388608) second ≡ false }
+    ensures down { (v first second : ℕ) → second ≤ first + 128000 → is_newer (v + 8388608) first v second ≡ false }
+{}
+
+/// The same sequence number is newer by age alone, which is more than 128 seconds.
+pub fn the_same_is_newer_by_age_alone()
+    ensures { (v first second : ℕ) → second ≤ first + 128000 → is_newer v first v second ≡ false }
+{}
+
+/// Any sequence number is newer 128,001 milliseconds later.
+pub fn any_is_newer_by_age()
+    ensures { (v w first : ℕ) → is_newer v first w (first + 128001) ≡ true }
+{}
+
+/// At one moment at most one of two is newer than the other.
+pub fn at_most_one_is_newer()
+    ensures { (v w at : ℕ) → is_newer v at w at ≡ true → is_newer w at v at ≡ false }
+{}
+
+/// What can be shown and has no Observe is the last one: the server doesn't notify.
+pub fn without_observe_it_is_the_last()
+    ensures { (m : Message) → can_be_shown m ≡ true → first_or_none (values_in 6 m.options) ≡ None → notice_of m ≡ Last }
+{}
+
+/// What can be shown and has an Observe of four bytes, which is none, is the last one.
+pub fn by_a_long_observe_it_is_the_last()
+    ensures { (m : Message) (value : List ℕ) → can_be_shown m ≡ true → first_or_none (values_in 6 m.options) ≡ Some value → length value ≡ 4 → notice_of m ≡ Last }
 {}

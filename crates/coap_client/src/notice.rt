@@ -5,10 +5,11 @@ ghost use Rattle.coap_client.specs.Notices.{IsOwnResponse, IsReplyWith};
 ghost use Rattle.coap_client.specs.Notices as spec;
 ghost use Rattle.coap_client.specs.Replies as replies;
 
-use crate::reply::{begins_exchange, is_understood};
+use crate::errand::LARGEST_SZX;
+use crate::reply::{Next, begins_exchange, is_understood, next_of_answer};
 use coap_msg::{Code, Message, MessageType};
-use coap_opts::number::{BLOCK2, OBSERVE};
-use coap_opts::{Block, decode_uint};
+use coap_opts::decode_uint;
+use coap_opts::number::OBSERVE;
 
 /// The class of the codes of success (RFC 7252, 5.9.1).
 const SUCCESS: u8 = 2;
@@ -24,7 +25,7 @@ const HALF: u32 = 1 << 23;
 /// How old a state is, in milliseconds, when each one that comes is newer: 128 seconds (RFC 7641, 3.4).
 const OLD: u64 = 128_000;
 
-/// The most bytes of a value of Observe (RFC 7641, 2) and of a block option (RFC 7959, 2.2).
+/// The most bytes of a value of Observe (RFC 7641, 2).
 const VALUE: usize = 3;
 
 /// What a GET with Observe asks (RFC 7641, 2).
@@ -114,18 +115,9 @@ fn decode(value: &[u8]) -> u32
     decode_uint(value) as u32
 }
 
-// Whether an answer names no block, or the first one with none behind it.
+// Whether an answer is whole by itself: it names no block, or the first one with none behind it.
 fn is_whole(message: &Message<'_>) -> bool
-    ensures { result ≡ spec.is_whole_by (replies.block2_of message.now) }
+    ensures { result ≡ spec.is_last_part (replies.next_of_answer 0 6 message.now) }
 {
-    match message.values(BLOCK2).next() {
-        None => true,
-        Some(value) => value.len() <= VALUE && is_only_block(Block::read(value)),
-    }
-}
-
-fn is_only_block(block: Block) -> bool
-    ensures { result ≡ spec.is_only_block block }
-{
-    block.number() == 0 && !block.more()
+    matches!(next_of_answer(0, LARGEST_SZX, message), Next::Last)
 }

@@ -1,10 +1,11 @@
 //! An observer: it registers, hears what it is notified of, and deregisters (RFC 7641).
-ghost use Rattle.std.specs.Prelude.{◌≡◌, ◌∷◌, ◌≤◌, IfOk, IfSome, IsTrue, OnOk, length, take};
+ghost use Rattle.std.specs.Prelude.{◌≡◌, ◌↔◌, ◌∷◌, ◌≤◌, IfOk, IfSome, IsTrue, OnOk, length, take};
 ghost use Rattle.coap_msg.specs.Wire.{message_bytes};
 ghost use Rattle.coap_msg.specs.Writing.{options_in};
 ghost use Rattle.coap_client.specs.Heard.{IsReadAs};
 ghost use Rattle.coap_client.specs.Notes.{HasAcknowledgement, HasArrived, HasDeregistered, HearsAnswer, IsAcknowledgementOf, IsHeardBy, HasOwnResponse, IsRegistered, IsResponseWith, TellsObserver, Watches};
 ghost use Rattle.coap_client.specs.Notices.{IsOwnResponse, observe_request, observe_value};
+ghost use Rattle.coap_client.specs.Replies.{IsReset};
 ghost use Rattle.coap_opts.specs.Values.{uint_bytes};
 ghost use Rattle.std.specs.Bool.{OnTrue};
 ghost use Rattle.coap_client.specs.Parts.{resource_options};
@@ -128,7 +129,7 @@ impl<'a> Observer<'a> {
         Ok(Listened::Nothing)
     }
 
-    /// Deregisters: sends a confirmable GET with Observe 1 until it is acknowledged.
+    /// Deregisters: sends a confirmable GET with Observe 1 until it is acknowledged. Confirmable notifications that come meanwhile are acknowledged, and not shown.
     ///
     /// # Errors
     /// No acknowledgement came, the request was rejected, or sending, receiving or memory failed.
@@ -153,7 +154,7 @@ impl<'a> Observer<'a> {
         for seconds in WAITS {
             peer.send(&datagram)?;
             peer.begin_wait(seconds)?;
-            if is_acknowledged(peer, id, buffer)? {
+            if is_acknowledged(peer, &self.token, id, buffer)? {
                 return Ok(());
             }
         }
@@ -216,7 +217,7 @@ fn hear<P: Peer>(peer: &mut P, token: &[u8], buffer: &mut [u8]) -> Result<Option
 
 // Whether a datagram is a notification.
 fn tells_notification(token: &[u8], bytes: &[u8]) -> bool
-    ensures { IsTrue result → IsReadAs bytes.now (IsOwnResponse token.now) }
+    ensures { IsTrue result ↔ IsReadAs bytes.now (IsOwnResponse token.now) }
 {
     match read(bytes) {
         Ok(message) => is_notification(token, &message),
@@ -250,16 +251,29 @@ fn hear_message(token: &[u8], id: u16, message: &Message<'_>) -> Heard
     }
 }
 
-// Listens, while a wait lasts, for the acknowledgement of the request of this id, with an answer or without.
-fn is_acknowledged<P: Peer>(peer: &mut P, id: u16, buffer: &mut [u8]) -> Result<bool, Fault>
+// Listens, while a wait lasts, for the acknowledgement of the request of this id, with an answer or without. Confirmable notifications with the token are
+// acknowledged: else the server would send them again (RFC 7641, 3.5).
+fn is_acknowledged<P: Peer>(
+    peer: &mut P,
+    token: &[u8],
+    id: u16,
+    buffer: &mut [u8],
+) -> Result<bool, Fault>
     ensures { IfOk result (λ is. OnTrue is (HasAcknowledgement P.came id)) }
 {
     for _ in 0..u64::MAX {
         let Some(count) = peer.receive(buffer)? else {
             return Ok(false);
         };
-        if tells_acknowledgement(id, &buffer[..count]) {
+        let bytes = &buffer[..count];
+        if tells_acknowledgement(id, bytes) {
             return Ok(true);
+        }
+        if tells_reset(id, bytes) {
+            return Err(Fault::Rejected);
+        }
+        if tells_notification(token, bytes) {
+            acknowledge(peer, bytes)?;
         }
     }
     Ok(false)
@@ -267,10 +281,20 @@ fn is_acknowledged<P: Peer>(peer: &mut P, id: u16, buffer: &mut [u8]) -> Result<
 
 // Whether a datagram is the acknowledgement of the request of this id, with an answer or without.
 fn tells_acknowledgement(id: u16, bytes: &[u8]) -> bool
-    ensures { IsTrue result → IsReadAs bytes.now (IsAcknowledgementOf id) }
+    ensures { IsTrue result ↔ IsReadAs bytes.now (IsAcknowledgementOf id) }
 {
     match read(bytes) {
         Ok(message) => message.kind() == MessageType::Acknowledgement && message.id() == id,
+        Err(_) => false,
+    }
+}
+
+// Whether a datagram rejects the request of this id.
+fn tells_reset(id: u16, bytes: &[u8]) -> bool
+    ensures { IsTrue result ↔ IsReadAs bytes.now (IsReset id) }
+{
+    match read(bytes) {
+        Ok(message) => is_reset(id, &message),
         Err(_) => false,
     }
 }

@@ -244,7 +244,7 @@ fn next_of_further(number: u32, szx: u8, etag: &[u8], message: &Message<'_>) -> 
 }
 
 // What comes after a success that answers what asked for this block.
-fn next_of_answer(number: u32, szx: u8, message: &Message<'_>) -> Next
+pub(crate) fn next_of_answer(number: u32, szx: u8, message: &Message<'_>) -> Next
     requires { IsBlock number szx }
     ensures { result ≡ spec.next_of_answer number szx message.now }
 {

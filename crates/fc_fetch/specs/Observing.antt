@@ -1,9 +1,11 @@
 -- What an observer's program prints, and how it ends.
 use Rattle.std.specs.Prelude.{◌≡◌, ℕ, ◌++◌, max, List, [], ◌∷◌, length, Option, Some, None, codes}
 use Rattle.std.specs.Io.KnownBytes.{Appends}
-use Rattle.coap_client.specs.Notes.{AreNotes, IsWatching, Note}
-use Rattle.coap_client.specs.Notices.{observe_request}
+use Rattle.coap_client.specs.Notes.{AreNotes, HasDeregistered, IsWatching, Note}
+use Rattle.coap_client.specs.Notices.{notice_of, observe_request}
 use Rattle.coap_client.specs.declared.notice.Interest.TheVariants.{Register}
+use Rattle.coap_client.specs.declared.notice.Notice.{Notice}
+use Rattle.coap_client.specs.declared.notice.Notice.TheVariants as notice
 use Rattle.coap_client.specs.declared.observing.Observer.{Observer}
 use Rattle.coap_client.specs.declared.watch.Watch.{Watch}
 use Rattle.coap_msg.specs.Codes.{code_text}
@@ -33,11 +35,20 @@ abbrev pub lines_wanted : Option ℕ → ℕ
 lines_wanted None = 18446744073709551615
 lines_wanted (Some count) = max count 1
 
--- why no more is shown: as many were as are wanted, the time is over, or the last one has this code
+abbrev pub IsState : Notice → Type 0
+IsState (notice.State sequence) = Unit {0}
+IsState other = ⊥
+
+-- why no more is shown: as many were as are wanted, or the time is over, and each is a state; or the last one has this code, and none comes behind it
 abbrev pub IsEnd : ℕ → End → Note → List Note → Type 0
-IsEnd limit Counted latest older = length (latest ∷ older) ≡ limit
-IsEnd limit Over latest older = Unit {0}
-IsEnd limit (Last code) latest older = latest.message.code ≡ code.byte
+IsEnd limit Counted latest older = (length (latest ∷ older) ≡ limit) × IsState (notice_of latest.message)
+IsEnd limit Over latest older = IsState (notice_of latest.message)
+IsEnd limit (Last code) latest older = (latest.message.code ≡ code.byte) × (notice_of latest.message ≡ notice.Last)
+
+-- the deregistration was sent and acknowledged, where the server would notify further
+abbrev pub HasLeft : (List ℕ → Type 0) → (List ℕ → Type 0) → Observer → End → Type 0
+HasLeft went came o (Last code) = Unit {0}
+HasLeft went came o other = HasDeregistered went came o
 
 -- the registration was sent; its answer and notifications were printed, a line each: each came, is newer than the one before it, and was printed once
 pub record HasShown (went came : List ℕ → Type 0) (told : ℕ → Type 0) (o : Observer) (shown : Shown) (limit : ℕ) (before after : Option (List ℕ)) (end : End) : Type 0 where

@@ -2,7 +2,7 @@
 ghost use Rattle.std.specs.Prelude.{◌≡◌, ◌≤◌, ◌⊎◌, IfOk};
 ghost use Rattle.coap_client.specs.Notes.{Watches};
 ghost use Rattle.fc_cli.specs.declared.status.Status.TheVariants.{Failed};
-ghost use Rattle.fc_fetch.specs.Observing.{HasShown, IsFirstShown, end_status, lines_wanted};
+ghost use Rattle.fc_fetch.specs.Observing.{HasLeft, HasShown, IsFirstShown, end_status, lines_wanted};
 
 use crate::address::Address;
 use crate::client::{Stop, resource};
@@ -122,7 +122,7 @@ fn observe_to_end<'a, R: Net + Clock + RandomSource, W: Write>(
     }
 }
 
-// Registers at the server of this address, prints, and deregisters where it would notify further: also where printing failed.
+// Observes at the server of this address.
 fn observe_errand<'a, R: Net + Clock + RandomSource, W: Write>(
     rt: &R,
     alloc: Global,
@@ -143,7 +143,7 @@ fn observe_errand<'a, R: Net + Clock + RandomSource, W: Write>(
     let mut server = Server::at(rt, rt, address).map_err(Fault::Socket)?;
     let mut buffer = [0; BUFFER];
     let (shown, extent) = (observing.shown, observing.extent);
-    match print_notes(
+    let end = print_to_end(
         alloc,
         &mut server,
         out,
@@ -151,18 +151,46 @@ fn observe_errand<'a, R: Net + Clock + RandomSource, W: Write>(
         shown,
         extent,
         &mut buffer,
-    ) {
+    )?;
+    Ok(end)
+}
+
+/// Prints as [`print_notes`] does, and deregisters where the server may notify further: it does so, too, where what came can't be shown, or where printing, memory, the
+/// socket or the clock failed.
+///
+/// # Errors
+/// What [`NotesError`] says. Some may be printed.
+pub fn print_to_end<P: Peer, W: Write>(
+    alloc: Global,
+    peer: &mut P,
+    out: &mut W,
+    observer: &Observer<'_>,
+    shown: Shown,
+    extent: Extent,
+    buffer: &mut [u8],
+) -> Result<End, NotesError>
+    ensures shown { IfOk result (HasShown P.went P.came P.is_moment observer.now shown
+        (lines_wanted extent.count) (W.contents out.old) (W.contents out.new)) }
+    ensures left { IfOk result (HasLeft P.went P.came observer.now) }
+{
+    match print_notes(alloc, peer, out, observer, shown, extent, buffer) {
         Ok(End::Last(code)) => Ok(End::Last(code)),
         Ok(end) => {
-            observer.deregister(alloc, &mut server, &mut buffer)?;
+            observer.deregister(alloc, peer, buffer)?;
             Ok(end)
         }
-        Err(NotesError::Print(error)) => {
-            let _ended = observer.deregister(alloc, &mut server, &mut buffer);
-            Err(Stop::Notes(NotesError::Print(error)))
+        Err(error) => {
+            if may_notify(&error) {
+                let _ended = observer.deregister(alloc, peer, buffer);
+            }
+            Err(error)
         }
-        Err(error) => Err(Stop::Notes(error)),
     }
+}
+
+// Whether a server may have the observer behind this error: not where it rejected the registration, or where no answer to it came.
+fn may_notify(error: &NotesError) -> bool {
+    !matches!(error, NotesError::Fault(Fault::Rejected | Fault::Silence))
 }
 
 /// Registers, and prints the answer and the notifications behind it, each in a line, until as many lines were printed as are wanted, the time is over, or none comes
@@ -240,8 +268,8 @@ fn print_first<P: Peer, W: Write>(
     let at = moment(peer)?;
     let first = match notice_of(&message) {
         Notice::State(sequence) => First::State(Watch::first(alloc, sequence, at, &message)?),
-        Notice::Last | Notice::Older => First::Only(message.code()),
-        Notice::Misfit => return Err(NotesError::Fault(Fault::Part)),
+        Notice::Last => First::Only(message.code()),
+        Notice::Older | Notice::Misfit => return Err(NotesError::Fault(Fault::Part)),
     };
     write_note(alloc, out, shown, &message)?;
     Ok(first)

@@ -17,5 +17,5 @@ returns g c =
           let f = w.in_ok-first-in-State in
           subst is (sym w.first-is)
           (first_shown _ _ _ _ _ _ _ _ _ _ f.field-0 registered read told (sym c.notice_of.ensures ∙ (w.in-State.is ∙ ap notice.State (sym f.ensures.shown.0))) f.ensures.shown.1 f.ensures.marks appends)
-      | in-Last w ↦ subst is (sym w.first-is) (only_shown _ _ _ _ _ _ _ _ _ _ w.code.result registered read told w.code.ensures appends)
+      | in-Last w ↦ subst is (sym w.first-is) (only_shown _ _ _ _ _ _ _ _ _ _ w.code.result registered read told (sym c.notice_of.ensures ∙ w.in-Last.is) w.code.ensures appends)
     ]

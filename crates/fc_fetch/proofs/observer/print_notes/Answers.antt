@@ -12,7 +12,7 @@ returns-in-Only g c =
 pub returns-then-noted : goal.returns-then-noted
 returns-then-noted g c =
     let noted = subst (Watches g.P.Peer.went g.P.Peer.came g.P.Peer.is_moment c.args.observer.now.token c.await_note.new.buffer c.loop.watch c.await_note.new.watch) c.in-Some.is c.in_ok-noted.ensures in
-    last_shown _ _ _ _ _ _ _ _ _ _ _ _ _ _ _ c.code.result c.loop.invariant noted.1 (sym c.read.ensures.function ∙ c.in-Ok.is) c.code.ensures c.in_ok-write_note.ensures
+    last_shown _ _ _ _ _ _ _ _ _ _ _ _ _ _ _ c.code.result c.loop.invariant noted.1 c.if-noted.true (sym c.read.ensures.function ∙ c.in-Ok.is) c.code.ensures c.in_ok-write_note.ensures
 
 pub loop-preserved : goal.loop-preserved
 loop-preserved g c =
