@@ -6,4 +6,5 @@ pub mod Outcomes
 pub mod Noticed
 pub mod Telling
 pub mod Ahead
+pub mod Tickets
 mod Quiet

@@ -1,6 +1,9 @@
--- What a slot's serials, version and variables say of its changes.
+-- What a slot's serials, version and variables say of its changes, and a ticket of its job.
 use Rattle.std.specs.Prelude.{◌≡◌, ℕ, ◌+◌, if◌then◌else◌, List, [], ◌∷◌, ◌++◌, length, replicate}
-use Rattle.fc_registry.specs.Slots.{Present, new_slot}
+use Rattle.fc_help.specs.Request.{Request}
+use Rattle.fc_registry.specs.declared.job.Ask.TheVariants.{Run}
+use Rattle.fc_registry.specs.declared.job.Job.{Job}
+use Rattle.fc_registry.specs.Slots.{Present, Ticket, new_slot}
 use Rattle.fc_registry.specs.Changes.{Change, Installed, Committed, Removed, after_changes, is_noticed}
 
 -- no install and no removal is among the changes
@@ -31,3 +34,12 @@ pub record FollowsInstall (serial : ℕ) (cs : List Change) (p : Present) : Type
   pub only_commits : AllCommits later
   pub version : p.version ≡ (after_changes (new_slot serial) earlier).serial + 1
   pub vars : p.vars ≡ vars_left (replicate p.program.vars_size 0) later
+
+-- a ticket has what its job asks
+pub record IsTicketOf (j : Job) (t : Ticket) : Type 0 where
+  pub origin : t.origin ≡ j.origin
+  pub turn : t.turn ≡ j.turn
+  pub token : t.token ≡ j.token
+  pub block : t.block ≡ j.block
+  pub observe : t.observe ≡ j.observe
+  pub request : (request : Request) → j.ask ≡ Run request → t.request ≡ request

@@ -1,13 +1,16 @@
 //! What the slots promise of their changes: each function is a law, and its contract says it.
 ghost use Rattle.circular_buffer.specs.Buffer.{keep_last};
 ghost use Rattle.fc_registry.specs.Changes.{Change, Commit, Committed, after_changes, changed};
-ghost use Rattle.fc_registry.specs.Laws.{FollowsInstall, noticed_serial};
+ghost use Rattle.fc_registry.specs.Laws.{FollowsInstall, IsTicketOf, noticed_serial};
+ghost use Rattle.fc_observe.specs.Observers.{ObserverList};
 ghost use Rattle.fc_observe.specs.declared.observers.Ticked.TheVariants.{Quiet};
 ghost use Rattle.fc_registry.specs.Slots.{Present, Shard, Slot, Ticket, new_slot};
 ghost use Rattle.fc_registry.specs.Turns.{due_job};
 ghost use Rattle.fc_registry.specs.Watches.{after_due, after_tick, due_place, is_quiet, late_place, ticked_in};
 ghost use Rattle.fc_registry.specs.declared.commit.CommitOutcome.{CommitOutcome};
-ghost use Rattle.fc_registry.specs.Calls.{HasGiven, ComesTo, outcome};
+ghost use Rattle.fc_registry.specs.declared.job.Job.{Job};
+ghost use Rattle.fc_registry.specs.declared.shard.Taken.TheVariants.{Given};
+ghost use Rattle.fc_registry.specs.Calls.{HasGiven, ComesTo, IsTaking, outcome};
 ghost use Rattle.std.specs.Prelude.{List, [], None, Some, length, true, ℕ, ◌∷◌, ◌++◌, ◌+◌, ◌≤◌, ◌≡◌};
 
 /// A slot's serial counts its changes, from its first serial on.
@@ -49,4 +52,11 @@ pub fn quiet_shards_do_nothing()
         (ticked_in (late_place shard) shard ≡ Quiet) × (after_tick (late_place shard) shard ≡ shard) }
     ensures due { (shard : Shard) → is_quiet shard ≡ true →
         (due_job (due_place shard) shard ≡ None) × (after_due (due_place shard) shard ≡ shard) }
+{}
+
+/// A ticket has what its job asks: the token, the block and the Observe of its request, its client and its turn, and the request that the
+/// slot's program is to answer.
+pub fn tickets_are_of_their_jobs()
+    ensures { (job : Job) (readings : List ℕ) (slot : Slot) (at : ℕ) (w : ObserverList) (t : Ticket) →
+        IsTaking job readings slot at w (Given t) → IsTicketOf job t }
 {}
