@@ -7,4 +7,5 @@ pub mod Noticed
 pub mod Telling
 pub mod Ahead
 pub mod Tickets
+pub mod Endings
 mod Quiet

@@ -1,16 +1,20 @@
 //! What the slots promise of their changes: each function is a law, and its contract says it.
 ghost use Rattle.circular_buffer.specs.Buffer.{keep_last};
 ghost use Rattle.fc_registry.specs.Changes.{Change, Commit, Committed, after_changes, changed};
+ghost use Rattle.coap_msg.specs.declared.types.Emission.{Emission};
 ghost use Rattle.fc_registry.specs.Laws.{FollowsInstall, IsTicketOf, noticed_serial};
+ghost use Rattle.fc_observe.specs.Calls.{Advance, End, Notify};
 ghost use Rattle.fc_observe.specs.Observers.{ObserverList};
+ghost use Rattle.fc_observe.specs.declared.entry.Turn.{Turn};
 ghost use Rattle.fc_observe.specs.declared.observers.Ticked.TheVariants.{Quiet};
+ghost use Rattle.fc_registry.specs.Notes.{note_calls};
 ghost use Rattle.fc_registry.specs.Slots.{Present, Shard, Slot, Ticket, new_slot};
 ghost use Rattle.fc_registry.specs.Turns.{due_job};
 ghost use Rattle.fc_registry.specs.Watches.{after_due, after_tick, due_place, is_quiet, late_place, ticked_in};
 ghost use Rattle.fc_registry.specs.declared.commit.CommitOutcome.{CommitOutcome};
 ghost use Rattle.fc_registry.specs.declared.job.Job.{Job};
 ghost use Rattle.fc_registry.specs.declared.shard.Taken.TheVariants.{Given};
-ghost use Rattle.fc_registry.specs.Calls.{HasGiven, ComesTo, IsTaking, outcome};
+ghost use Rattle.fc_registry.specs.Calls.{HasGiven, ComesTo, IsTaking, meaning_at, outcome};
 ghost use Rattle.std.specs.Prelude.{List, [], None, Some, length, true, ℕ, ◌∷◌, ◌++◌, ◌+◌, ◌≤◌, ◌≡◌};
 
 /// A slot's serial counts its changes, from its first serial on.
@@ -59,4 +63,15 @@ pub fn quiet_shards_do_nothing()
 pub fn tickets_are_of_their_jobs()
     ensures { (job : Job) (readings : List ℕ) (slot : Slot) (at : ℕ) (w : ObserverList) (t : Ticket) →
         IsTaking job readings slot at w (Given t) → IsTicketOf job t }
+{}
+
+/// A notification of a 2.05 Content (69) ends its turn, with the message id, the serial and the bytes that were sent. One of anything else,
+/// and of an empty slot, ends it by the removal of its observer (RFC 7641, 4.2).
+pub fn notifications_end_their_turns()
+    ensures content { (turn : Turn) (id random at : ℕ) (t : Ticket) (e : Emission) → (meaning_at t).code ≡ 69 →
+        note_calls turn id random at (Some t) (Some e) ≡ Notify at turn id t.serial random e.bytes ∷ Advance at ∷ [] }
+    ensures error { (turn : Turn) (id random at : ℕ) (t : Ticket) (e : Emission) → ((meaning_at t).code ≡ 69 → ⊥) →
+        note_calls turn id random at (Some t) (Some e) ≡ End turn ∷ Advance at ∷ [] }
+    ensures empty { (turn : Turn) (id random at : ℕ) (e : Emission) →
+        note_calls turn id random at None (Some e) ≡ End turn ∷ Advance at ∷ [] }
 {}
