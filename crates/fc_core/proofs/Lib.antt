@@ -1,6 +1,7 @@
 pub mod Decimals
 mod Draws
 pub mod Rejections
+pub mod EightShards
 pub mod Commits
 pub mod Lists
 pub mod Fitting

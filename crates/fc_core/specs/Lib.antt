@@ -24,3 +24,4 @@ pub mod HeadLaws
 pub mod AnswerLaws
 pub mod ExchangeLaws
 pub mod TurnLaws
+pub mod ShardLaws
