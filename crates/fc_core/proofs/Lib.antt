@@ -2,6 +2,7 @@ pub mod Decimals
 mod Draws
 pub mod Rejections
 pub mod EightShards
+pub mod Refusing
 pub mod Commits
 pub mod Lists
 pub mod Fitting

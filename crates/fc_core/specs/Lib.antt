@@ -24,4 +24,5 @@ pub mod HeadLaws
 pub mod AnswerLaws
 pub mod ExchangeLaws
 pub mod TurnLaws
+pub mod ReplyLaws
 pub mod ShardLaws

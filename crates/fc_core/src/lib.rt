@@ -34,6 +34,7 @@ mod ids;
 pub mod laws;
 pub mod observe_laws;
 mod reply;
+pub mod reply_laws;
 pub mod shard_laws;
 pub mod slot_laws;
 pub mod stage;
