@@ -3,6 +3,7 @@ mod Draws
 pub mod Rejections
 pub mod EightShards
 pub mod Refusing
+pub mod Envelopes
 pub mod Commits
 pub mod Lists
 pub mod Fitting

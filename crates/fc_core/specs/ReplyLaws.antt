@@ -1,16 +1,21 @@
--- What the laws of refusals speak of.
+-- What the laws of refusals and of answers speak of.
 use Rattle.std.specs.Prelude.{◌≡◌, ℕ, ◌/◌, ◌%◌, ◌≤◌, ◌⊎◌, List, [], ◌∷◌, Ok, Err}
 use Rattle.coap_msg.specs.declared.types.Bad.TheVariants as bad
 use Rattle.coap_msg.specs.declared.types.Emission.{Emission}
 use Rattle.coap_msg.specs.declared.types.Endpoint.{Endpoint}
+use Rattle.coap_msg.specs.declared.types.MessageType.{MessageType}
 use Rattle.coap_msg.specs.declared.types.MessageType.TheVariants.{Confirmable}
 use Rattle.coap_msg.specs.Reading.{reading_of}
 use Rattle.coap_msg.specs.Wire.{Message}
 use Rattle.coap_opts.specs.Verdict.{IsRefused, verdict}
+use Rattle.coap_reply.specs.Responses.{Response, sent_in}
+use Rattle.fc_registry.specs.declared.job.Job.{Job}
 use Rattle.fc_core.specs.declared.event.Event.{Event}
 use Rattle.fc_core.specs.declared.event.Event.TheVariants.{Deliver}
+use Rattle.fc_core.specs.Contents.{Content}
 use Rattle.fc_core.specs.ExchangeLaws.{IsOpening}
 use Rattle.fc_core.specs.History.{Seen}
+use Rattle.fc_core.specs.Replies.{Says}
 
 -- ---- refusals
 
@@ -39,3 +44,11 @@ Rejects other to id = ⊥
 -- a Reset message of this id: version 1, type 3, no token, code 0.00 (RFC 7252, 3)
 abbrev pub reset_to : Endpoint → ℕ → Emission
 reset_to to id = record { to = to; bytes = record { items = 112 ∷ 0 ∷ (id / 256) ∷ (id % 256) ∷ [] } }
+
+-- ---- answers
+
+-- the emission answers the job by this content: to its client's endpoint, by this type and message id, with the request's token
+pub record IsAnswerTo (j : Job) (content : Content) (kind : MessageType) (id : ℕ) (e : Emission) : Type 0 where
+  pub response : Response
+  pub says : Says j content response
+  pub is : e ≡ sent_in (record { to = j.origin.endpoint; kind = kind; id = id; token = j.token.items }) response

@@ -1,14 +1,21 @@
-//! What a history promises of refusals: each function is a law, and its contract says it.
+//! What a history promises of refusals, and of whom answers are for: each function is a law, and its contract says it.
 ghost use Rattle.std.specs.Borrow.{Bor};
-ghost use Rattle.std.specs.Prelude.{◌≡◌, ℕ, List, Option, Some};
+ghost use Rattle.std.specs.Prelude.{◌≡◌, ℕ, List, Option, Some, false, max, true};
 ghost use Rattle.coap_msg.specs.Wire.{Message};
 ghost use Rattle.coap_msg.specs.declared.types.Emission.{Emission};
 ghost use Rattle.coap_msg.specs.declared.types.Endpoint.{Endpoint};
+ghost use Rattle.coap_msg.specs.declared.types.MessageType.TheVariants.{Acknowledgement, Confirmable, NonConfirmable};
+ghost use Rattle.coap_reply.specs.Responses.{Response, sent_in};
+ghost use Rattle.fc_core.specs.Contents.{Content};
 ghost use Rattle.fc_core.specs.ExchangeLaws.{bare_by};
-ghost use Rattle.fc_core.specs.History.{Entry, Seen, and_then, did, job};
+ghost use Rattle.fc_core.specs.Exchanges.{FrontState};
+ghost use Rattle.fc_core.specs.History.{Entry, Seen, and_then, did, job, stage};
+ghost use Rattle.fc_core.specs.Ids.{free_id};
 ghost use Rattle.fc_core.specs.Legal.{Emits};
-ghost use Rattle.fc_core.specs.ReplyLaws.{Refuses, Rejects, reset_to};
-ghost use Rattle.fc_core.specs.declared.event.Event.TheVariants.{Deliver};
+ghost use Rattle.fc_core.specs.Receiving.{told};
+ghost use Rattle.fc_core.specs.ReplyLaws.{IsAnswerTo, Refuses, Rejects, reset_to};
+ghost use Rattle.fc_core.specs.declared.event.Event.TheVariants.{Answer, Deliver};
+ghost use Rattle.fc_core.specs.declared.stage.Stage.TheVariants.{ToAnswer};
 
 /// A request that is no repeat, and that a check of its options refuses, is answered by the code of that check alone. A confirmable message
 /// with a format error, a ping, and a confirmable message that is no request are rejected by a Reset message of their id (RFC 7252,
@@ -32,4 +39,20 @@ pub fn refusals_are_answered_by_their_code()
         (and_then (did (Deliver now to bytes) o) s).words ≡ s.words }
     ensures shards { (s : Seen) (now i : ℕ) (to : Endpoint) (bytes : Bor (List ℕ)) (o : Option Emission) →
         (and_then (did (Deliver now to bytes) o) s).shard_moment i ≡ s.shard_moment i }
+{}
+
+/// An answer goes to its client's endpoint, with the token of the request: to a confirmable request in its Acknowledgement, by the
+/// request's own message id, and to another in a non-confirmable message, by the next id of the server's own (RFC 7252, 5.2 and 5.3).
+pub fn answers_go_to_their_clients()
+    ensures confirmable { (s : Seen) (k now : ℕ) (content : Content) (e : Emission) → stage s k ≡ ToAnswer content
+        → (job s k).confirmable ≡ true → Emits s (Answer k now) (Some e)
+        → IsAnswerTo (job s k) content Acknowledgement (job s k).origin.id e }
+    ensures other { (s : Seen) (k now : ℕ) (content : Content) (e : Emission) → stage s k ≡ ToAnswer content
+        → (job s k).confirmable ≡ false → Emits s (Answer k now) (Some e)
+        → (id : ℕ) × (free_id s.ids (max s.moment now) ≡ Some id) × IsAnswerTo (job s k) content NonConfirmable id e }
+    ensures at_once { (f : FrontState) (to : Endpoint) (m : Message) (response : Response) → m.kind ≡ Confirmable
+        → told f to m response ≡ Some (sent_in (record { to = to; kind = Acknowledgement; id = m.id; token = m.token }) response) }
+    ensures other_at_once { (f : FrontState) (to : Endpoint) (m : Message) (response : Response) (id : ℕ) → m.kind ≡ NonConfirmable
+        → free_id f.ids f.now ≡ Some id
+        → told f to m response ≡ Some (sent_in (record { to = to; kind = NonConfirmable; id = id; token = m.token }) response) }
 {}
