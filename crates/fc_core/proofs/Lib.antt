@@ -4,6 +4,7 @@ pub mod Rejections
 pub mod EightShards
 pub mod Refusing
 pub mod Envelopes
+pub mod Erring
 pub mod Commits
 pub mod Lists
 pub mod Fitting

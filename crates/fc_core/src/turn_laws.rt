@@ -1,5 +1,5 @@
 //! What a history promises of turns and of the notifications of observers: each function is a law, and its contract says it.
-ghost use Rattle.std.specs.Prelude.{◌≡◌, ℕ, ◌+◌, ◌*◌, ◌%◌, ◌<◌, ◌≤◌, ◌⊎◌, List, None, Option, Some, is_some, length, max, true};
+ghost use Rattle.std.specs.Prelude.{◌≡◌, ℕ, ◌+◌, ◌*◌, ◌%◌, ◌<◌, ◌≤◌, ◌⊎◌, List, None, Option, Some, false, is_some, length, max, true};
 ghost use Rattle.std.specs.List.{All};
 ghost use Rattle.coap_msg.specs.declared.types.Emission.{Emission};
 ghost use Rattle.coap_msg.specs.declared.types.Endpoint.{Endpoint};
@@ -14,7 +14,7 @@ ghost use Rattle.fc_core.specs.Laws.{HasCome, IsNewest, later, slot_of, takings_
 ghost use Rattle.fc_core.specs.Legal.{Emits};
 ghost use Rattle.fc_core.specs.ObserveLaws.{NoneRegisters, is_held};
 ghost use Rattle.fc_observe.specs.Entries.{is_entry_of};
-ghost use Rattle.fc_core.specs.TurnLaws.{HasLapsed, IsToHeld, NotifiesOf, Removes, Resends, moment_at, response_of};
+ghost use Rattle.fc_core.specs.TurnLaws.{HasLapsed, IsNoContent, IsToHeld, NotifiesOf, Removes, Resends, moment_at, response_of};
 ghost use Rattle.fc_core.specs.declared.event.Event.TheVariants.{GiveUp, Lose, Note, ShardTick};
 ghost use Rattle.fc_core.specs.declared.stage.Stage.TheVariants.{Gone, ToTell};
 ghost use Rattle.fc_core.specs.declared.stage.TurnStage.{TurnStage};
@@ -104,6 +104,15 @@ pub fn removed_observers_hear_nothing()
 pub fn observers_stay()
     ensures { (r : Entry) (s : Seen) (n : ℕ) (to : Endpoint) (token : List ℕ) → is_held to token (watch s n) ≡ true
         → (is_held to token (watch (and_then r s) n) ≡ true) ⊎ Removes r s n to token }
+{}
+
+/// A notification that isn't a 2.05 Content removes the observer that it goes to from the list of its slot (RFC 7641, 4.2).
+pub fn errors_remove_their_observer()
+    ensures { (s : Seen) (k now random id : ℕ) (turn : Turn) (found : Option Ticket) (x : ObserverEntry) (e : Emission)
+        → stage s k ≡ ToTell turn (ToNote found id) → IsNoContent found
+        → entry_out turn (at_moment (moment_at s k now) (watch s (slot_of s k))) ≡ Some x
+        → Emits s (Note k now random) (Some e)
+        → is_held x.endpoint x.token.items (watch (and_then (did (Note k now random) (Some e)) s) (slot_of s k)) ≡ false }
 {}
 
 /// The observers of a slot are at no later moment than their shard.
