@@ -19,6 +19,7 @@ pub mod listing;
 mod mnemonic;
 mod names;
 mod operand;
+pub mod vocabulary;
 
 pub use assembling::assemble;
 pub use error::{AsmError, Mistake};

@@ -1,0 +1,46 @@
+//! Words that mean something to the assembler.
+ghost use Rattle.std.specs.Prelude.{IfOk, is_some, is_ok, ◌≡◌};
+ghost use Rattle.fc_asm.specs.Names.{mnemonic_named};
+ghost use Rattle.fc_asm.specs.Operands.{register_from};
+
+use crate::mnemonic::Mnemonic;
+use crate::names::Names;
+use crate::operand::register;
+use std::alloc::{AllocError, Global};
+
+/// The operands that an instruction of this name takes, in their order; a word that names no instruction has none. `DST` is a register that
+/// may be written, `SRC` and `BASE` are registers, `TARGET` and `OFFSET` are numbers, and so are the other words.
+///
+/// # Errors
+/// Memory was refused.
+pub fn operands_of(alloc: Global, word: &str) -> Result<Option<&'static str>, AllocError>
+    ensures { IfOk result (λ operands. is_some operands ≡ is_some (mnemonic_named word.now)) }
+{
+    match Names::new(alloc)?.find(word) {
+        Some(mnemonic) => Ok(Some(operands(mnemonic))),
+        None => Ok(None),
+    }
+}
+
+fn operands(mnemonic: Mnemonic) -> &'static str {
+    match mnemonic {
+        Mnemonic::Alu(_, _) => "DST, SRC|NUMBER",
+        Mnemonic::Neg(_) | Mnemonic::End(_, _) => "DST",
+        Mnemonic::SignExtend(_) => "DST, SRC, BITS",
+        Mnemonic::LoadWide => "DST, NUMBER",
+        Mnemonic::Load(_) => "DST, BASE, OFFSET",
+        Mnemonic::StoreImm(_) => "BASE, OFFSET, NUMBER",
+        Mnemonic::Store(_) => "BASE, OFFSET, SRC",
+        Mnemonic::JumpAlways | Mnemonic::JumpAlwaysLong | Mnemonic::CallLocal => "TARGET",
+        Mnemonic::JumpIf(_, _) => "SRC, SRC|NUMBER, TARGET",
+        Mnemonic::CallHelper => "HELPER",
+        Mnemonic::Exit => "",
+    }
+}
+
+/// Whether it is one of `r0` to `r10`.
+pub fn is_register(word: &str) -> bool
+    ensures { result ≡ is_ok (register_from word.now) }
+{
+    register(word).is_ok()
+}
