@@ -1,14 +1,56 @@
 -- Texts that have nothing to be expanded.
-use Rattle.std.specs.Prelude.{ℕ, ◌==◌, ◌||◌, ◌&&◌, not, Bool, true, List, [], ◌∷◌}
+use Rattle.std.specs.Prelude.{ℕ, ◌==◌, ◌||◌, ◌&&◌, not, nat_le, if◌then◌else◌, Bool, true, false, List, [], ◌∷◌}
 
--- `:`, `'`, `"`, or the `x` of `0x`
-abbrev pub is_mark : ℕ → ℕ → Bool
-is_mark before b = ((b == 58) || ((b == 39) || (b == 34))) || ((before == 48) && (b == 120))
+-- a tab or a carriage return, which stand for a space
+abbrev pub is_tab : ℕ → Bool
+is_tab b = (b == 9) || (b == 13)
 
--- no byte of the rest of a text is a mark, this byte being before it
-abbrev pub plain_from : ℕ → List ℕ → Bool
-plain_from before [] = true
-plain_from before (b ∷ more) = not (is_mark before b) && plain_from b more
+abbrev pub as_space : ℕ → ℕ
+as_space b = if is_tab b then 32 else b
 
+-- `:`, `'` or `"`
+abbrev pub is_mark : ℕ → Bool
+is_mark b = (b == 58) || ((b == 39) || (b == 34))
+
+-- `0x`, or the `.c` of `.const`
+abbrev pub is_pair : ℕ → ℕ → Bool
+is_pair a b = ((a == 48) && (b == 120)) || ((a == 46) && (b == 99))
+
+-- a space, or what stands for one
+abbrev pub is_space : ℕ → Bool
+is_space b = (b == 32) || is_tab b
+
+-- a space or a comma
+abbrev pub parts_words : ℕ → Bool
+parts_words b = is_space b || (b == 44)
+
+-- `-` or a digit
+abbrev pub begins_number : ℕ → Bool
+begins_number b = (b == 45) || (nat_le 48 b && nat_le b 57)
+
+-- `call`, what parts words, and then no number: maybe a helper's name
+abbrev pub begins_named_call : List ℕ → Bool
+begins_named_call (c ∷ a ∷ l ∷ m ∷ b ∷ first ∷ more) = ((c == 99) && ((a == 97) && ((l == 108) && (m == 108)))) && (parts_words b && not (begins_number first))
+begins_named_call other = false
+
+abbrev pub begins_pair : List ℕ → Bool
+begins_pair (a ∷ b ∷ more) = is_pair a b
+begins_pair other = false
+
+-- what is expanded begins here, at the first byte of the rest of a text
+abbrev pub begins_mark : List ℕ → Bool
+begins_mark [] = false
+begins_mark (b ∷ more) = is_mark b || (begins_pair (b ∷ more) || begins_named_call (b ∷ more))
+
+-- it begins nowhere
+abbrev pub is_plain_but_for_tabs : List ℕ → Bool
+is_plain_but_for_tabs [] = true
+is_plain_but_for_tabs (b ∷ more) = not (begins_mark (b ∷ more)) && is_plain_but_for_tabs more
+
+abbrev pub has_no_tab : List ℕ → Bool
+has_no_tab [] = true
+has_no_tab (b ∷ more) = not (is_tab b) && has_no_tab more
+
+-- and there is neither a tab nor a carriage return
 abbrev pub is_plain : List ℕ → Bool
-is_plain text = plain_from 0 text
+is_plain text = is_plain_but_for_tabs text && has_no_tab text

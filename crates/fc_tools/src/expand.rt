@@ -1,8 +1,13 @@
-//! From a text with labels, hexadecimal numbers, characters and texts to one that the assembler takes.
-ghost use Rattle.std.specs.Prelude.{IfOk, length, true, ◌+◌, ◌≡◌, ◌≤◌};
-ghost use Rattle.fc_tools.specs.Expanded.{is_mark, is_plain};
+//! From a text with labels, constants, names of helpers, hexadecimal numbers, characters and texts to one that the assembler takes.
+ghost use Rattle.std.specs.Prelude.{IfOk, length, map, true, ◌≡◌, ◌≤◌};
+ghost use Rattle.fc_tools.specs.Expanded.{as_space, is_plain, is_plain_but_for_tabs};
 
+use crate::constant::{Constant, constants_of, expand_constant, value_of};
 use crate::form::{BadForm, Form};
+use crate::helper::number_of_helper;
+use crate::pieces::{LineError, number_piece, push_number, push_word};
+use crate::plain::{is_plain_but_for_tabs, push_spaced};
+use crate::words::{first_word, is_blank, is_name, is_space, split_label, split_word, word_size};
 use std::alloc::{AllocError, AllocFailed, Global};
 
 /// Why a text isn't expanded.
@@ -26,76 +31,67 @@ impl<T: Drop> From<AllocFailed<T>> for ExpandError {
     }
 }
 
-/// Why a line isn't expanded.
-#[derive(Clone, Copy)]
-enum LineError {
-    Form(Form),
-    NoMemory,
-}
-
-impl From<AllocError> for LineError {
-    fn from(_error: AllocError) -> Self {
-        LineError::NoMemory
-    }
-}
-
-impl<T: Drop> From<AllocFailed<T>> for LineError {
-    fn from(_error: AllocFailed<T>) -> Self {
-        LineError::NoMemory
-    }
-}
-
 /// A label, the line that has it, counted from 1, and the slot that it names.
 #[derive(Clone, Copy)]
-struct Label<'a> {
-    name: &'a [u8],
-    line: usize,
-    slot: u32,
+pub(crate) struct Label<'a> {
+    pub(crate) name: &'a [u8],
+    pub(crate) line: usize,
+    pub(crate) slot: u32,
+}
+
+/// What the names of a text mean.
+#[derive(Clone, Copy)]
+struct Names<'a> {
+    alloc: Global,
+    labels: &'a [Label<'a>],
+    constants: &'a [Constant<'a>],
 }
 
 /// What a line's words mean besides themselves.
 #[derive(Clone, Copy)]
 struct Place<'a> {
-    alloc: Global,
-    labels: &'a [Label<'a>],
+    names: Names<'a>,
     slot: u32,
-    is_jump: bool,
+    wanted: Wanted,
+}
+
+/// What an instruction takes by its name, if that is no constant's.
+#[derive(Clone, Copy)]
+enum Wanted {
+    /// A jump or `callf`: the label that it leads to, as its last operand.
+    Label,
+    /// `call`: a helper, as its first operand.
+    Helper,
+    /// Others: nothing.
+    Nothing,
 }
 
 /// Expands a text, line by line: `NAME:` in front of a line names its slot, and as the target of a jump or `callf` stands for the
-/// offset to there; `0x1f` stands for the number, `'k'` for the character's, and `.text "on"` for that whose bytes the characters are, the first
-/// the lowest. A text without these stays as it is.
+/// offset to there; the name of a helper behind `call` stands for its number, and that of a constant, as an operand, for the number that its line
+/// `.const NAME NUMBER` gives it; `0x1f` stands for the number, `'k'` for the character's, and `.text "on"` for that whose bytes the characters
+/// are, the first the lowest; tabs and carriage returns stand for spaces. A text without these stays as it is, and one with tabs and carriage returns
+/// alone has spaces for them.
 ///
 /// # Errors
 /// The first line that has a mistake in one of these; or memory was refused.
+#[tactic(auto, using(crate::proofs::Spacing::plain_is_spaced))]
 pub fn expand(alloc: Global, text: &[u8]) -> Result<Vec<u8>, ExpandError>
-    ensures { is_plain text.now ≡ true → IfOk result (λ v. v.items ≡ text.now) }
+    ensures plain { is_plain text.now ≡ true → IfOk result (λ v. v.items ≡ text.now) }
+    ensures spaced { is_plain_but_for_tabs text.now ≡ true → IfOk result (λ v. v.items ≡ map as_space text.now) }
 {
-    if is_plain(text) {
-        return Ok(Vec::from_slice(alloc, text)?);
+    if is_plain_but_for_tabs(text) {
+        let mut out = Vec::with_capacity(alloc, text.len())?;
+        push_spaced(&mut out, text)?;
+        return Ok(out);
     }
     let labels = labels_of(alloc, text)?;
-    expand_lines(alloc, text, &labels)
-}
-
-/// Whether a text has none of the marks of what is expanded: `:`, `'`, `"` and `0x`.
-fn is_plain(text: &[u8]) -> bool
-    ensures { result ≡ is_plain text.now }
-{
-    let mut before = 0;
-    for byte in text {
-        if is_mark(before, *byte) {
-            return false;
-        }
-        before = *byte;
-    }
-    true
-}
-
-fn is_mark(before: u8, byte: u8) -> bool
-    ensures { result ≡ is_mark before byte }
-{
-    byte == b':' || byte == b'\'' || byte == b'"' || (before == b'0' && byte == b'x')
+    let constants = constants_of(alloc, text)?;
+    let names = Names {
+        alloc,
+        labels: &labels,
+        constants: &constants,
+    };
+    expand_lines(text, names)
 }
 
 /// The labels of a text, each line's slot being counted from the lines before it.
@@ -114,8 +110,8 @@ fn labels_of<'a>(alloc: Global, text: &'a [u8]) -> Result<Vec<Label<'a>>, AllocE
     Ok(labels)
 }
 
-fn expand_lines(alloc: Global, text: &[u8], labels: &[Label<'_>]) -> Result<Vec<u8>, ExpandError> {
-    let mut out = Vec::with_capacity(alloc, text.len())?;
+fn expand_lines(text: &[u8], names: Names<'_>) -> Result<Vec<u8>, ExpandError> {
+    let mut out = Vec::with_capacity(names.alloc, text.len())?;
     let mut slot: u32 = 0;
     let mut line: usize = 0;
     for code in text.split(|byte| *byte == b'\n') {
@@ -123,7 +119,7 @@ fn expand_lines(alloc: Global, text: &[u8], labels: &[Label<'_>]) -> Result<Vec<
             out.push(b'\n')?;
         }
         line = line.saturating_add(1);
-        match expand_line(alloc, &mut out, code, labels, line, slot) {
+        match expand_line(&mut out, code, names, line, slot) {
             Ok(slots) => slot = slot.saturating_add(slots),
             Err(LineError::Form(form)) => return Err(ExpandError::Faulty(BadForm { form, line })),
             Err(LineError::NoMemory) => return Err(ExpandError::NoMemory),
@@ -134,26 +130,35 @@ fn expand_lines(alloc: Global, text: &[u8], labels: &[Label<'_>]) -> Result<Vec<
 
 /// Adds the line that this one stands for, and tells how many slots it has.
 fn expand_line(
-    alloc: Global,
     out: &mut Vec<u8>,
     code: &[u8],
-    labels: &[Label<'_>],
+    names: Names<'_>,
     line: usize,
     slot: u32,
 ) -> Result<u32, LineError> {
-    let (name, body) = split_label(code);
-    if let Some(name) = name {
-        if is_taken(labels, name, line) {
+    let (label, body) = split_label(code);
+    if let Some(name) = label {
+        if is_taken(names.labels, name, line) {
             return Err(LineError::Form(Form::DoubleLabel));
         }
     }
-    let place = Place {
-        alloc,
-        labels,
-        slot,
-        is_jump: is_jump(first_word(body)),
-    };
-    expand_words(out, body, &place)?;
+    if is_constant(body) {
+        if label.is_some() {
+            return Err(LineError::Form(Form::Constant));
+        }
+        expand_constant(out, body, names.labels, names.constants, line, names.alloc)?;
+        return Ok(0);
+    }
+    let wanted = wanted_by(first_word(body));
+    expand_words(
+        out,
+        body,
+        &Place {
+            names,
+            slot,
+            wanted,
+        },
+    )?;
     Ok(slots_of(body))
 }
 
@@ -165,7 +170,7 @@ fn is_taken(labels: &[Label<'_>], name: &[u8], line: usize) -> bool {
     }
 }
 
-/// Adds what the words of a line stand for, and all between them as it is.
+/// Adds what the words of a line stand for, and all between them, with spaces for tabs and carriage returns.
 fn expand_words(out: &mut Vec<u8>, body: &[u8], place: &Place<'_>) -> Result<(), LineError> {
     let mut at = 0;
     for _piece in 0..body.len() {
@@ -186,72 +191,21 @@ fn expand_piece(
 {
     match rest {
         [] => Ok(0),
-        [b';', ..] => copied(out, rest),
-        [b' ' | b',', ..] => copied(out, &rest[..1]),
-        [b'\'', more @ ..] => character(out, more, place.alloc),
-        [b'.', b't', b'e', b'x', b't', more @ ..] => packed(out, more, place.alloc),
+        [b';', ..] => spaced(out, rest),
+        [byte, ..] if is_space(*byte) || *byte == b',' => spaced(out, &rest[..1]),
+        [b'\'' | b'.', ..] => number_piece(out, rest, place.names.alloc),
         _ => word(out, before, rest, place),
     }
 }
 
-fn copied(out: &mut Vec<u8>, bytes: &[u8]) -> Result<usize, LineError>
+fn spaced(out: &mut Vec<u8>, bytes: &[u8]) -> Result<usize, LineError>
     ensures { IfOk result (λ n. n ≡ length bytes.now) }
 {
-    out.extend_from_slice(bytes)?;
+    push_spaced(out, bytes)?;
     Ok(bytes.len())
 }
 
-/// Adds the number of a character, behind its first `'`.
-fn character(out: &mut Vec<u8>, more: &[u8], alloc: Global) -> Result<usize, LineError>
-    ensures { IfOk result (λ n. n ≤ length more.now + 1) }
-{
-    match more {
-        [byte, b'\'', after @ ..] if is_printed(*byte) && is_ended(after) => {
-            push_number(out, alloc, u64::from(*byte))?;
-            Ok(3)
-        }
-        _ => Err(LineError::Form(Form::Character)),
-    }
-}
-
-fn is_printed(byte: u8) -> bool {
-    byte == b' ' || byte.is_ascii_graphic()
-}
-
-/// Adds the number of a text, behind its `.text`.
-fn packed(out: &mut Vec<u8>, more: &[u8], alloc: Global) -> Result<usize, LineError>
-    ensures { IfOk result (λ n. n ≤ length more.now + 5) }
-{
-    let Some(spaces) = more.iter().position(|byte| *byte != b' ') else {
-        return Err(LineError::Form(Form::Packed));
-    };
-    let [b'"', text @ ..] = &more[spaces..] else {
-        return Err(LineError::Form(Form::Packed));
-    };
-    let Some(size) = text.iter().position(|byte| *byte == b'"') else {
-        return Err(LineError::Form(Form::Packed));
-    };
-    if !is_ended(&text[size + 1..]) {
-        return Err(LineError::Form(Form::Packed));
-    }
-    push_number(out, alloc, packed_number(&text[..size])?)?;
-    Ok(5 + spaces + 1 + size + 1)
-}
-
-/// The number whose bytes the characters are, the first the lowest.
-fn packed_number(text: &[u8]) -> Result<u64, LineError> {
-    if text.len() > 8 {
-        return Err(LineError::Form(Form::LongPacked));
-    }
-    if !text.iter().all(|byte| is_printed(*byte)) {
-        return Err(LineError::Form(Form::Packed));
-    }
-    let mut bytes = [0; 8];
-    bytes[..text.len()].copy_from_slice(text);
-    Ok(u64::from_le_bytes(bytes))
-}
-
-/// Adds what a word stands for: a hexadecimal number, a label that is the target of a jump, or itself.
+/// Adds what a word stands for: a hexadecimal number; a name, as an operand; or itself.
 fn word(
     out: &mut Vec<u8>,
     before: &[u8],
@@ -262,138 +216,74 @@ fn word(
 {
     let size = word_size(rest);
     let (word, after) = rest.split_at(size);
-    let is_target = place.is_jump && !is_blank(before) && is_blank(after) && is_name(word);
-    if is_target {
-        push_offset(out, word, place)?;
+    if is_blank(before) || !is_name(word) {
+        push_word(out, word, place.names.alloc)?;
+    } else if let Some(value) = value_of(place.names.constants, word) {
+        number_piece(out, value, place.names.alloc)?;
     } else {
-        push_word(out, word, place.alloc)?;
+        let is_first = is_blank(split_word(before).1);
+        push_name(out, word, is_first, is_blank(after), place)?;
     }
     Ok(size)
 }
 
+/// Adds what a name stands for that is an operand, and no constant.
+fn push_name(
+    out: &mut Vec<u8>,
+    name: &[u8],
+    is_first: bool,
+    is_last: bool,
+    place: &Place<'_>,
+) -> Result<(), LineError> {
+    match place.wanted {
+        Wanted::Label if is_last => push_offset(out, name, place),
+        Wanted::Helper if is_first => push_helper(out, name, place.names.alloc),
+        _ => Ok(out.extend_from_slice(name)?),
+    }
+}
+
 /// Adds the offset to a label: slots are counted from the one behind the jump.
 fn push_offset(out: &mut Vec<u8>, name: &[u8], place: &Place<'_>) -> Result<(), LineError> {
-    match place.labels.iter().find(|label| label.name == name) {
+    match place.names.labels.iter().find(|label| label.name == name) {
         Some(label) => {
             let offset = i64::from(label.slot) - i64::from(place.slot) - 1;
-            let text = format!(in place.alloc; "{offset}")?;
+            let text = format!(in place.names.alloc; "{offset}")?;
             Ok(out.extend_from_slice(text.as_bytes())?)
         }
         None => Err(LineError::Form(Form::UnknownLabel)),
     }
 }
 
-/// Adds a word, or the number that its hexadecimal digits are.
-fn push_word(out: &mut Vec<u8>, word: &[u8], alloc: Global) -> Result<(), LineError> {
-    match word {
-        [b'-', b'0', b'x', digits @ ..] if is_hex(digits) => {
-            out.push(b'-')?;
-            push_number(out, alloc, hexadecimal(digits)?)
-        }
-        [b'0', b'x', digits @ ..] if is_hex(digits) => {
-            push_number(out, alloc, hexadecimal(digits)?)
-        }
-        _ => Ok(out.extend_from_slice(word)?),
-    }
-}
-
-fn is_hex(digits: &[u8]) -> bool {
-    !digits.is_empty() && digits.iter().all(|digit| digit.is_ascii_hexdigit())
-}
-
-/// The number of hexadecimal digits.
-fn hexadecimal(digits: &[u8]) -> Result<u64, LineError> {
-    match str::from_utf8(digits) {
-        Ok(digits) => match u64::from_str_radix(digits, 16) {
-            Ok(number) => Ok(number),
-            Err(_) => Err(LineError::Form(Form::LongNumber)),
-        },
-        Err(_) => Err(LineError::Form(Form::LongNumber)),
-    }
-}
-
-fn push_number(out: &mut Vec<u8>, alloc: Global, number: u64) -> Result<(), LineError> {
-    let text = format!(in alloc; "{number}")?;
-    Ok(out.extend_from_slice(text.as_bytes())?)
-}
-
-/// A line's label, if it has one, and what is behind that.
-fn split_label(code: &[u8]) -> (Option<&[u8]>, &[u8]) {
-    let Some(colon) = code.iter().position(|byte| *byte == b':') else {
-        return (None, code);
-    };
-    let head = &code[..colon];
-    let spaces = head.iter().position(|byte| *byte != b' ').unwrap_or(0);
-    if is_name(&head[spaces..]) {
-        (Some(&head[spaces..]), &code[colon + 1..])
-    } else {
-        (None, code)
-    }
-}
-
-/// Letters, digits and `_`, no digit being first.
-fn is_name(word: &[u8]) -> bool {
-    match word {
-        [] => false,
-        [first, ..] => !first.is_ascii_digit() && word.iter().all(|byte| is_name_byte(*byte)),
-    }
-}
-
-fn is_name_byte(byte: u8) -> bool {
-    byte == b'_' || byte.is_ascii_alphanumeric()
-}
-
-/// Whether nothing is left, or what is left begins with what ends a word.
-fn is_ended(rest: &[u8]) -> bool {
-    match rest {
-        [] => true,
-        [byte, ..] => ends_word(*byte),
-    }
-}
-
-/// The bytes up to a space, a comma or a comment.
-fn word_size(rest: &[u8]) -> usize
-    ensures { result ≤ length rest.now }
-{
-    match rest.iter().position(|byte| ends_word(*byte)) {
-        Some(size) => size,
-        None => rest.len(),
-    }
-}
-
-fn ends_word(byte: u8) -> bool {
-    byte == b' ' || byte == b',' || byte == b';'
-}
-
-/// Whether no word is there before a comment.
-fn is_blank(code: &[u8]) -> bool {
-    first_word(code).is_empty()
-}
-
-/// The first word of a line, or nothing.
-fn first_word(body: &[u8]) -> &[u8] {
-    match body.iter().position(|byte| *byte != b' ' && *byte != b',') {
-        Some(start) => {
-            let rest = &body[start..];
-            &rest[..word_size(rest)]
-        }
-        None => &[],
+/// Adds the number of a helper.
+fn push_helper(out: &mut Vec<u8>, name: &[u8], alloc: Global) -> Result<(), LineError> {
+    match number_of_helper(name) {
+        Some(number) => push_number(out, alloc, number),
+        None => Err(LineError::Form(Form::UnknownHelper)),
     }
 }
 
 /// How many slots a line has that has no label.
 fn slots_of(body: &[u8]) -> u32 {
     match first_word(body) {
-        [] => 0,
+        [] | b".const" => 0,
         b"lddw" => 2,
         _ => 1,
     }
 }
 
-/// Whether a word names a jump or `callf`.
-fn is_jump(word: &[u8]) -> bool {
-    match word {
-        b"callf" | [b'j', ..] => true,
+/// Whether a line defines a constant.
+pub(crate) fn is_constant(body: &[u8]) -> bool {
+    match first_word(body) {
+        b".const" => true,
         _ => false,
+    }
+}
+
+/// What the instruction of this name takes by its name.
+fn wanted_by(word: &[u8]) -> Wanted {
+    match word {
+        b"call" => Wanted::Helper,
+        b"callf" | [b'j', ..] => Wanted::Label,
+        _ => Wanted::Nothing,
     }
 }

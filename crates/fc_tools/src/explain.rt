@@ -5,7 +5,9 @@ use crate::known::Known;
 use crate::loops::{write_entry, write_insn, write_reason};
 use crate::reads::{Reads, registers_read};
 use crate::rules::{broken_text, correction, mistake_text, remedy};
+use crate::words::{first_word, split_label};
 use fc_asm::Mistake;
+use fc_asm::vocabulary::operands_of;
 use fc_isa::{Insn, Reg};
 use fc_kinds::Regs;
 use fc_verify::Demand;
@@ -23,11 +25,13 @@ pub fn explain<W: Write>(alloc: Global, out: &mut W, diagnosis: &Diagnosis) -> i
     writeln!(out, "change: {}", remedy(diagnosis))
 }
 
-/// Writes why a text is refused: what is wrong with the line, the line, if it is text, and what to change.
+/// Writes why a text is refused: what is wrong with the line, the line, if it is text, the form of its instruction, where an operand is wrong, and
+/// what to change.
 ///
 /// # Errors
-/// Writing failed.
+/// Writing failed, or memory was refused.
 pub fn explain_line<W: Write>(
+    alloc: Global,
     out: &mut W,
     text: &[u8],
     mistake: Mistake,
@@ -35,6 +39,9 @@ pub fn explain_line<W: Write>(
 ) -> io::Result<()> {
     writeln!(out, "rule: {}", mistake_text(mistake))?;
     write_line(out, text, line)?;
+    if mistake == Mistake::Operand {
+        write_form(alloc, out, text, line)?;
+    }
     writeln!(out, "change: {}", correction(mistake))
 }
 
@@ -59,6 +66,22 @@ fn write_line<W: Write>(out: &mut W, text: &[u8], line: usize) -> io::Result<()>
 fn line_of(text: &[u8], line: usize) -> Option<&str> {
     let text = str::from_utf8(text).ok()?;
     text.split('\n').nth(line.checked_sub(1)?)
+}
+
+// The form of the instruction that a line names.
+fn write_form<W: Write>(alloc: Global, out: &mut W, text: &[u8], line: usize) -> io::Result<()> {
+    let Some(code) = line_of(text, line) else {
+        return Ok(());
+    };
+    let (_, body) = split_label(code.as_bytes());
+    let Ok(name) = str::from_utf8(first_word(body)) else {
+        return Ok(());
+    };
+    match operands_of(alloc, name)? {
+        Some("") => writeln!(out, "form: {name}"),
+        Some(operands) => writeln!(out, "form: {name} {operands}"),
+        None => Ok(()),
+    }
 }
 
 fn write_cause<W: Write>(alloc: Global, out: &mut W, slot: usize, cause: &Cause) -> io::Result<()> {

@@ -1,4 +1,4 @@
-//! What is wrong with a label, a number or a text of the assembler's text.
+//! What is wrong with a label, a constant, a helper's name, a number or a text of the assembler's text.
 use fc_asm::{AsmError, Mistake};
 use std::fmt;
 
@@ -17,14 +17,23 @@ pub enum Form {
     LongPacked,
     /// A hexadecimal number of more than 64 bits.
     LongNumber,
+    /// A call of a name that no helper has.
+    UnknownHelper,
+    /// A line `.const` that isn't a name and a number alone.
+    Constant,
+    /// A constant that a line before has.
+    DoubleConstant,
+    /// A constant with the name of something else.
+    TakenConstant,
 }
 
 impl Form {
     /// The mistake that the line has.
     pub fn mistake(self) -> Mistake {
         match self {
-            Form::DoubleLabel => Mistake::UnknownWord,
-            Form::UnknownLabel | Form::Character | Form::Packed => Mistake::Operand,
+            Form::DoubleLabel | Form::DoubleConstant | Form::TakenConstant => Mistake::UnknownWord,
+            Form::UnknownLabel | Form::UnknownHelper | Form::Constant => Mistake::Operand,
+            Form::Character | Form::Packed => Mistake::Operand,
             Form::LongPacked | Form::LongNumber => Mistake::OutOfRange,
         }
     }
@@ -40,6 +49,11 @@ impl Form {
                 "a text is printed ASCII, space to `~`, between two `\"`, and ends its word",
             Form::LongPacked => "a text of more than eight characters",
             Form::LongNumber => "a number of more than 64 bits",
+            Form::UnknownHelper => "a `call` of a name that no helper has",
+            Form::Constant => "a constant is `.const`, a name and a number, on a line of their own",
+            Form::DoubleConstant => "a constant that a line before has",
+            Form::TakenConstant =>
+                "a constant with the name of a label, a helper, an instruction or a register",
         }
     }
 
@@ -52,6 +66,11 @@ impl Form {
             Form::Packed => "write it as `.text \"on\"`, and other characters as a number",
             Form::LongPacked => "write it as several numbers of up to eight characters",
             Form::LongNumber => "write at most 16 hexadecimal digits",
+            Form::UnknownHelper =>
+                "call one of `payload_len`, `payload_byte`, `var_get`, `var_put`, `reply_put`, `reply_byte` and `notify`, or a constant or number from 1 to 7",
+            Form::Constant =>
+                "write it as `.const LIMIT 100`; a name has letters, digits and `_`, and begins with no digit",
+            Form::DoubleConstant | Form::TakenConstant => "give each constant a name of its own",
         }
     }
 }

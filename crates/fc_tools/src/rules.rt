@@ -131,10 +131,9 @@ pub fn mistake_text(mistake: Mistake) -> &'static str {
 /// What to change in a line that has this mistake.
 pub fn correction(mistake: Mistake) -> &'static str {
     match mistake {
-        Mistake::UnknownWord =>
-            "write an instruction's name first; a tab or a carriage return is part of a word",
+        Mistake::UnknownWord => "write an instruction's name first",
         Mistake::Operand =>
-            "give what the instruction takes, in its order: destination or base, source or offset, then the rest; a tab or a carriage return is part of a word; one `NAME:` a line, without a space before `:`",
+            "give what the form has, in its order: DST is r0 to r9, SRC and BASE are r0 to r10; one `NAME:` a line, without a space before `:`",
         Mistake::OutOfRange =>
             "offsets are -32768 to 32767, immediates -2147483648 to 2147483647, the number of `lddw` 0 to 18446744073709551615",
     }

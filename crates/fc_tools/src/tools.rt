@@ -41,7 +41,7 @@ pub enum ToolError {
     /// The text has a mistake.
     #[error("{0}")]
     Text(AsmError),
-    /// A label, a number or a text of the text has one.
+    /// A label, a constant, a helper's name, a number or a text of the text has one.
     #[error("{0}")]
     Form(BadForm),
     /// The text is too long to be read.
@@ -213,7 +213,7 @@ fn tell_whole<E: Write>(alloc: Global, err: &mut E, error: &ToolError, text: &[u
     let told = tell(err, error, error.status());
     match error {
         ToolError::Text(AsmError::Faulty { mistake, line }) if told == Status::Refused => {
-            tell_line(err, text, *mistake, *line)
+            tell_line(alloc, err, text, *mistake, *line)
         }
         ToolError::Form(bad) if told == Status::Refused => tell_form(err, text, *bad),
         ToolError::Image(diagnosis) if told == Status::Refused => tell_cause(alloc, err, diagnosis),
@@ -230,8 +230,14 @@ fn tell_cause<E: Write>(alloc: Global, err: &mut E, diagnosis: &Diagnosis) -> St
 }
 
 // Tells what is wrong with a line of a text.
-fn tell_line<E: Write>(err: &mut E, text: &[u8], mistake: Mistake, line: usize) -> Status {
-    match explain_line(err, text, mistake, line) {
+fn tell_line<E: Write>(
+    alloc: Global,
+    err: &mut E,
+    text: &[u8],
+    mistake: Mistake,
+    line: usize,
+) -> Status {
+    match explain_line(alloc, err, text, mistake, line) {
         Ok(()) => Status::Refused,
         Err(error) => tell(err, &error, Status::Failed),
     }

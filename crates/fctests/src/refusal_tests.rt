@@ -582,14 +582,14 @@ static TEXTS: [(&[u8], u16, &str); 5] = [
         "A1 line 2\n\
         rule: the first word names no instruction, or the text isn't UTF-8\n\
         line 2: \tmovq r1, 1 ; no such word\n\
-        change: write an instruction's name first; a tab or a carriage return is part of a word\n",
+        change: write an instruction's name first\n",
     ),
     (
         b"exit\n\xff",
         0,
         "A1 line 1\n\
         rule: the first word names no instruction, or the text isn't UTF-8\n\
-        change: write an instruction's name first; a tab or a carriage return is part of a word\n",
+        change: write an instruction's name first\n",
     ),
     (
         b"mov64 r10, 1",
@@ -597,7 +597,8 @@ static TEXTS: [(&[u8], u16, &str); 5] = [
         "A2 line 1\n\
         rule: too few operands or too many, or one of another sort: no register, no number, no label that a line has, r10 where it would be written\n\
         line 1: mov64 r10, 1\n\
-        change: give what the instruction takes, in its order: destination or base, source or offset, then the rest; a tab or a carriage return is part of a word; one `NAME:` a line, without a space before `:`\n",
+        form: mov64 DST, SRC|NUMBER\n\
+        change: give what the form has, in its order: DST is r0 to r9, SRC and BASE are r0 to r10; one `NAME:` a line, without a space before `:`\n",
     ),
     (
         b"\n\nmov64 r1, 2147483648\n",
@@ -620,6 +621,42 @@ static TEXTS: [(&[u8], u16, &str); 5] = [
 fn a_refused_text_is_explained(rt: HostRuntime) -> Result<(), Fail> {
     for (text, vars_size, told) in TEXTS.iter().copied() {
         is_refused_so(&rt, &assembled(rt.alloc(), text, vars_size, 1)?, "", told)?;
+    }
+    Ok(())
+}
+
+// Lines with another operand than their instruction takes, and the form of it that is told: each form has a row.
+static FORMS: [(&[u8], &[u8]); 15] = [
+    (b"mov64 r0", b"form: mov64 DST, SRC|NUMBER"),
+    (
+        b"here:\tarsh32 r0, r1, r2 ; in front",
+        b"form: arsh32 DST, SRC|NUMBER",
+    ),
+    (b"neg32", b"form: neg32 DST"),
+    (b"swap16 1", b"form: swap16 DST"),
+    (b"movsx64 r0, r1", b"form: movsx64 DST, SRC, BITS"),
+    (b"lddw r10, 1", b"form: lddw DST, NUMBER"),
+    (b"ldxb r0, r1", b"form: ldxb DST, BASE, OFFSET"),
+    (b"stw r0, r1, 1", b"form: stw BASE, OFFSET, NUMBER"),
+    (b"stxdw r0, 1, 1", b"form: stxdw BASE, OFFSET, SRC"),
+    (b"ja", b"form: ja TARGET"),
+    (b"ja32 1, 2", b"form: ja32 TARGET"),
+    (b"jsgt32 r0, 1", b"form: jsgt32 SRC, SRC|NUMBER, TARGET"),
+    (b"call", b"form: call HELPER"),
+    (b"callf", b"form: callf TARGET"),
+    (b"exit r0", b"form: exit"),
+];
+
+#[test]
+fn the_form_of_a_line_is_told(rt: HostRuntime) -> Result<(), Fail> {
+    for (text, form) in FORMS.iter().copied() {
+        let done = assembled(rt.alloc(), text, 0, 1)?;
+        assert!(rt; done.status == Status::Refused && done.err.starts_with(b"A2 line 1\n"));
+        assert!(rt;
+            done.err
+                .split(|byte| *byte == b'\n')
+                .any(|line| line == form)
+        );
     }
     Ok(())
 }

@@ -1,0 +1,112 @@
+//! The constants of a text: lines `.const NAME NUMBER`.
+use crate::expand::{Label, is_constant};
+use crate::form::Form;
+use crate::helper::number_of_helper;
+use crate::pieces::{LineError, is_number, number_piece};
+use crate::plain::push_spaced;
+use crate::words::{from_word, is_blank, is_name, split_word};
+use fc_asm::vocabulary::{is_register, operands_of};
+use std::alloc::{AllocError, Global};
+
+/// A constant, the line that has it, counted from 1, and its number as that line writes it.
+#[derive(Clone, Copy)]
+pub(crate) struct Constant<'a> {
+    name: &'a [u8],
+    line: usize,
+    value: &'a [u8],
+}
+
+/// What a constant's line says.
+#[derive(Clone, Copy)]
+struct Definition<'a> {
+    name: &'a [u8],
+    value: &'a [u8],
+    after: &'a [u8],
+}
+
+/// The constants of a text whose lines are well formed.
+pub(crate) fn constants_of<'a>(
+    alloc: Global,
+    text: &'a [u8],
+) -> Result<Vec<Constant<'a>>, AllocError> {
+    let mut constants = Vec::new(alloc);
+    let mut line: usize = 0;
+    for code in text.split(|byte| *byte == b'\n') {
+        line = line.saturating_add(1);
+        if !is_constant(code) {
+            continue;
+        }
+        match definition_of(code, alloc) {
+            Ok(Definition { name, value, .. }) => constants.push(Constant { name, line, value })?,
+            Err(LineError::Form(_)) => (),
+            Err(LineError::NoMemory) => return Err(AllocError),
+        }
+    }
+    Ok(constants)
+}
+
+/// The number of the constant of this name, as its line writes it.
+pub(crate) fn value_of<'a>(constants: &[Constant<'a>], name: &[u8]) -> Option<&'a [u8]> {
+    match constants.iter().find(|constant| constant.name == name) {
+        Some(constant) => Some(constant.value),
+        None => None,
+    }
+}
+
+/// Adds what stands behind a constant's number, and nothing for the rest of its line.
+pub(crate) fn expand_constant(
+    out: &mut Vec<u8>,
+    body: &[u8],
+    labels: &[Label<'_>],
+    constants: &[Constant<'_>],
+    line: usize,
+    alloc: Global,
+) -> Result<(), LineError> {
+    let Definition { name, after, .. } = definition_of(body, alloc)?;
+    if is_defined(constants, name, line) {
+        return Err(LineError::Form(Form::DoubleConstant));
+    }
+    if labels.iter().any(|label| label.name == name) || is_meant(name, alloc)? {
+        return Err(LineError::Form(Form::TakenConstant));
+    }
+    push_spaced(out, after)?;
+    Ok(())
+}
+
+/// Whether a line before this one has the constant.
+fn is_defined(constants: &[Constant<'_>], name: &[u8], line: usize) -> bool {
+    match constants.iter().find(|constant| constant.name == name) {
+        Some(constant) => constant.line < line,
+        None => false,
+    }
+}
+
+/// Whether it is the name of a register, an instruction or a helper.
+fn is_meant(name: &[u8], alloc: Global) -> Result<bool, AllocError> {
+    match str::from_utf8(name) {
+        Ok(word) => Ok(
+            is_register(word)
+                || operands_of(alloc, word)?.is_some()
+                || number_of_helper(name).is_some(),
+        ),
+        Err(_) => Ok(false),
+    }
+}
+
+/// The name of a constant's line and its number, and what is behind that.
+fn definition_of<'a>(body: &'a [u8], alloc: Global) -> Result<Definition<'a>, LineError> {
+    let (_, more) = split_word(body);
+    let (name, more) = split_word(more);
+    if !is_name(name) {
+        return Err(LineError::Form(Form::Constant));
+    }
+    let rest = from_word(more);
+    let mut number = Vec::new(alloc);
+    let size = number_piece(&mut number, rest, alloc)?;
+    let (value, after) = rest.split_at(size);
+    if is_number(&number) && is_blank(after) {
+        Ok(Definition { name, value, after })
+    } else {
+        Err(LineError::Form(Form::Constant))
+    }
+}

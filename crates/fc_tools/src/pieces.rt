@@ -1,0 +1,140 @@
+//! Numbers as a program's text writes them: characters, texts, and hexadecimal digits.
+ghost use Rattle.std.specs.Prelude.{IfOk, length, ◌+◌, ◌≡◌, ◌≤◌};
+
+use crate::form::Form;
+use crate::words::{is_ended, is_space, word_size};
+use std::alloc::{AllocError, AllocFailed, Global};
+
+/// Why a line isn't expanded.
+#[derive(Clone, Copy)]
+pub(crate) enum LineError {
+    Form(Form),
+    NoMemory,
+}
+
+impl From<AllocError> for LineError {
+    fn from(_error: AllocError) -> Self {
+        LineError::NoMemory
+    }
+}
+
+impl<T: Drop> From<AllocFailed<T>> for LineError {
+    fn from(_error: AllocFailed<T>) -> Self {
+        LineError::NoMemory
+    }
+}
+
+/// Adds the number that the first piece of these bytes is, or the word, and tells how many bytes that has.
+pub(crate) fn number_piece(
+    out: &mut Vec<u8>,
+    rest: &[u8],
+    alloc: Global,
+) -> Result<usize, LineError>
+    ensures { IfOk result (λ n. n ≤ length rest.now) }
+{
+    match rest {
+        [b'\'', more @ ..] => character(out, more, alloc),
+        [b'.', b't', b'e', b'x', b't', more @ ..] => packed(out, more, alloc),
+        _ => {
+            let size = word_size(rest);
+            push_word(out, &rest[..size], alloc)?;
+            Ok(size)
+        }
+    }
+}
+
+/// Adds the number of a character, behind its first `'`.
+fn character(out: &mut Vec<u8>, more: &[u8], alloc: Global) -> Result<usize, LineError>
+    ensures { IfOk result (λ n. n ≤ length more.now + 1) }
+{
+    match more {
+        [byte, b'\'', after @ ..] if is_printed(*byte) && is_ended(after) => {
+            push_number(out, alloc, u64::from(*byte))?;
+            Ok(3)
+        }
+        _ => Err(LineError::Form(Form::Character)),
+    }
+}
+
+fn is_printed(byte: u8) -> bool {
+    byte == b' ' || byte.is_ascii_graphic()
+}
+
+/// Adds the number of a text, behind its `.text`.
+fn packed(out: &mut Vec<u8>, more: &[u8], alloc: Global) -> Result<usize, LineError>
+    ensures { IfOk result (λ n. n ≤ length more.now + 5) }
+{
+    let Some(spaces) = more.iter().position(|byte| !is_space(*byte)) else {
+        return Err(LineError::Form(Form::Packed));
+    };
+    let [b'"', text @ ..] = &more[spaces..] else {
+        return Err(LineError::Form(Form::Packed));
+    };
+    let Some(size) = text.iter().position(|byte| *byte == b'"') else {
+        return Err(LineError::Form(Form::Packed));
+    };
+    if !is_ended(&text[size + 1..]) {
+        return Err(LineError::Form(Form::Packed));
+    }
+    push_number(out, alloc, packed_number(&text[..size])?)?;
+    Ok(5 + spaces + 1 + size + 1)
+}
+
+/// The number whose bytes the characters are, the first the lowest.
+fn packed_number(text: &[u8]) -> Result<u64, LineError> {
+    if text.len() > 8 {
+        return Err(LineError::Form(Form::LongPacked));
+    }
+    if !text.iter().all(|byte| is_printed(*byte)) {
+        return Err(LineError::Form(Form::Packed));
+    }
+    let mut bytes = [0; 8];
+    bytes[..text.len()].copy_from_slice(text);
+    Ok(u64::from_le_bytes(bytes))
+}
+
+/// Adds a word, or the number that its hexadecimal digits are.
+pub(crate) fn push_word(out: &mut Vec<u8>, word: &[u8], alloc: Global) -> Result<(), LineError> {
+    match word {
+        [b'-', b'0', b'x', digits @ ..] if is_hex(digits) => {
+            out.push(b'-')?;
+            push_number(out, alloc, hexadecimal(digits)?)
+        }
+        [b'0', b'x', digits @ ..] if is_hex(digits) => {
+            push_number(out, alloc, hexadecimal(digits)?)
+        }
+        _ => Ok(out.extend_from_slice(word)?),
+    }
+}
+
+fn is_hex(digits: &[u8]) -> bool {
+    !digits.is_empty() && digits.iter().all(|digit| digit.is_ascii_hexdigit())
+}
+
+/// The number of hexadecimal digits.
+fn hexadecimal(digits: &[u8]) -> Result<u64, LineError> {
+    match str::from_utf8(digits) {
+        Ok(digits) => match u64::from_str_radix(digits, 16) {
+            Ok(number) => Ok(number),
+            Err(_) => Err(LineError::Form(Form::LongNumber)),
+        },
+        Err(_) => Err(LineError::Form(Form::LongNumber)),
+    }
+}
+
+pub(crate) fn push_number(out: &mut Vec<u8>, alloc: Global, number: u64) -> Result<(), LineError> {
+    let text = format!(in alloc; "{number}")?;
+    Ok(out.extend_from_slice(text.as_bytes())?)
+}
+
+/// Whether a word is a decimal number.
+pub(crate) fn is_number(word: &[u8]) -> bool {
+    match word {
+        [b'-', digits @ ..] => is_decimal(digits),
+        digits => is_decimal(digits),
+    }
+}
+
+fn is_decimal(digits: &[u8]) -> bool {
+    !digits.is_empty() && digits.iter().all(|digit| digit.is_ascii_digit())
+}

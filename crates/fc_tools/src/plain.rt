@@ -1,0 +1,65 @@
+//! Texts that have nothing to be expanded.
+ghost use Rattle.std.specs.Prelude.{OnOk, map, ◌++◌, ◌≡◌};
+ghost use Rattle.fc_tools.specs.Expanded.{as_space, begins_mark, begins_number, is_mark, is_pair, is_plain_but_for_tabs};
+
+use crate::words::{is_tab, parts_words};
+use std::alloc::AllocError;
+
+/// Whether a text has nothing to be expanded but for tabs and carriage returns: nowhere in it a mark begins.
+pub(crate) fn is_plain_but_for_tabs(text: &[u8]) -> bool
+    ensures { result ≡ is_plain_but_for_tabs text.now }
+{
+    for at in 0..text.len() {
+        if begins_mark(&text[at..]) {
+            return false;
+        }
+    }
+    true
+}
+
+/// Whether one of `:`, `'`, `"`, `0x` and `.c` stands in front, or `call` with what parts words behind it, and then neither a digit nor `-`.
+fn begins_mark(rest: &[u8]) -> bool
+    ensures { result ≡ begins_mark rest.now }
+{
+    match rest {
+        [c, a, l, m, between, first, ..] if *c == b'c' && *a == b'a' && *l == b'l' && *m == b'l' =>
+            parts_words(*between) && !begins_number(*first),
+        [a, b, ..] => is_mark(*a) || is_pair(*a, *b),
+        [a] => is_mark(*a),
+        [] => false,
+    }
+}
+
+fn is_mark(byte: u8) -> bool
+    ensures { result ≡ is_mark byte }
+{
+    byte == b':' || byte == b'\'' || byte == b'"'
+}
+
+fn is_pair(first: u8, second: u8) -> bool
+    ensures { result ≡ is_pair first second }
+{
+    (first == b'0' && second == b'x') || (first == b'.' && second == b'c')
+}
+
+fn begins_number(byte: u8) -> bool
+    ensures { result ≡ begins_number byte }
+{
+    byte == b'-' || byte.is_ascii_digit()
+}
+
+/// Adds bytes, with spaces for tabs and carriage returns.
+pub(crate) fn push_spaced(out: &mut Vec<u8>, bytes: &[u8]) -> Result<(), AllocError>
+    ensures { OnOk result (out.new.items ≡ out.old.items ++ map as_space bytes.now) }
+{
+    for byte in bytes {
+        out.push(as_space(*byte))?;
+    }
+    Ok(())
+}
+
+fn as_space(byte: u8) -> u8
+    ensures { result ≡ as_space byte }
+{
+    if is_tab(byte) { b' ' } else { byte }
+}
