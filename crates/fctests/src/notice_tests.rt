@@ -1,25 +1,17 @@
-// Observers of a server that follows a script (RFC 7641): the datagrams are worked out by hand. And one of our own server, over a socket.
+// Observers of a server that follows a script (RFC 7641): the datagrams are worked out by hand.
 use crate::scripted::{Scripted, check_sent, comes, comes_at, follows};
-use crate::socket_tests::{at_port, check_asked, serve_logged};
-use crate::tooling::assembled;
+use crate::socket_tests::at_port;
 use coap_client::notice::{is_newer, notice_of};
-use coap_client::{Errand, Fault, Notice, Observer, Path, Peer, Server, Target};
+use coap_client::{Errand, Fault, Notice, Observer, Path, Target};
 use coap_msg::read;
 use coap_msg::types::DATAGRAM;
 use coap_opts::Method;
 use fc_cli::Status;
 use fc_fetch::observer::{Extent, NotesError, print_notes};
 use fc_fetch::{Observing, Shown, observe};
-use fc_service::serve::Extent as Served;
 use fc_service::socket::open;
 use std::alloc::{AllocError, Global};
-use std::net::Net;
-use std::process::Abort;
-use std::sync::Wait;
 use std::test::Fail;
-use std::thread;
-use std::thread::Threads;
-use std::time::{Clock, Duration};
 
 const TOKEN: [u8; 4] = [1, 2, 3, 4];
 
@@ -288,63 +280,6 @@ fn a_registration_is_rejected(rt: HostRuntime) -> Result<(), Fail> {
     Ok(())
 }
 
-// A program that counts POSTs in eight bytes of variables, tells observers, and replies the count to a GET.
-static COUNTS: &[u8] = b"ldxb r6, r1, 0\n\
-mov64 r7, r2\n\
-jeq r6, 1, 8\n\
-mov64 r1, 0\n\
-call 3\n\
-mov64 r2, r0\n\
-add64 r2, 1\n\
-mov64 r1, 0\n\
-call 4\n\
-call 7\n\
-ja 3\n\
-mov64 r1, r7\n\
-mov64 r2, 8\n\
-call 5\n\
-mov64 r0, 0\n\
-exit\n";
-
-// More datagrams than are sent to the server.
-const LIMIT: u32 = 40;
-
-// What an observer of slot 1 of our own server prints, until three lines are there or ten seconds are over.
-fn observed<R: Net + Clock>(rt: &R, alloc: Global, port: u16) -> Result<Vec<u8>, Fail> {
-    let errand = slot_one(alloc)?;
-    let mut server = Server::at(rt, rt, at_port(port))?;
-    Ok(three_lines(alloc, &mut server, &errand)?)
-}
-
-fn three_lines<P: Peer>(
-    alloc: Global,
-    server: &mut P,
-    errand: &Errand<'_>,
-) -> Result<Vec<u8>, NotesError> {
-    let observer = Observer {
-        errand,
-        token: TOKEN,
-        id: 7,
-    };
-    let extent = Extent {
-        count: Some(3),
-        seconds: Some(10),
-    };
-    let mut out = Vec::new(alloc);
-    let mut buffer = [0; DATAGRAM];
-    print_notes(
-        alloc,
-        server,
-        &mut out,
-        &observer,
-        Shown::Hex,
-        extent,
-        &mut buffer,
-    )?;
-    observer.deregister(alloc, server, &mut buffer)?;
-    Ok(out)
-}
-
 // Nobody listens at the port.
 #[test]
 fn an_observer_of_nobody_is_status_3(rt: HostRuntime) -> Result<(), Fail> {
@@ -367,67 +302,4 @@ fn an_observer_of_nobody_is_status_3(rt: HostRuntime) -> Result<(), Fail> {
     let told = b"UDP: Connection refused (os error 111)\n".as_slice();
     assert!(rt; status == Status::Failed && out.is_empty() && err.as_slice() == told);
     Ok(())
-}
-
-// Posts twice, when the observer has registered.
-fn post_twice<R: Abort + Net + Clock + AllocGlobal>(rt: &R, port: u16) {
-    for _ in 0..2u8 {
-        thread::sleep(rt, Duration::from_secs(1));
-        check_asked(rt, port, Method::Post, "/r/1", &[], Status::Done, "2.04\n");
-    }
-}
-
-// A counter is installed, and observed while it is posted to: three states, in order.
-fn watch_counter<R: Abort + AllocGlobal + Threads + Wait + Clock + Net + Sync>(
-    rt: &R,
-    port: u16,
-) -> Result<(), Fail> {
-    let alloc = rt.alloc();
-    let image = assembled(alloc, COUNTS, 8, 13)?.out;
-    // version=1 cost=13 budget=13 vars=8
-    let receipt = "2.01\n76657273696f6e3d3120636f73743d3133206275646765743d313320766172733d38\n";
-    check_asked(rt, port, Method::Put, "/p/1", &image, Status::Done, receipt);
-    let ((), out) = thread::join(rt, || post_twice(rt, port), || observed(rt, alloc, port));
-    let printed = b"2.05 0000000000000000\n2.05 0100000000000000\n2.05 0200000000000000\n";
-    assert!(rt; out?.as_slice() == printed.as_slice());
-    Ok(())
-}
-
-// As many datagrams as the server takes, of one byte each, which it ignores: so it ends, however often a request was sent again.
-fn end<R: Net>(rt: &R, port: u16) -> Result<(), Fail> {
-    let client = open(rt, at_port(0))?;
-    for _ in 0..LIMIT {
-        client.send_to(&[0], at_port(port))?;
-    }
-    Ok(())
-}
-
-fn check_watched<R: Abort + AllocGlobal + Threads + Wait + Clock + Net + Sync>(
-    rt: &R,
-    workers: u8,
-) -> Result<(), Fail> {
-    let alloc = rt.alloc();
-    let socket = open(rt, at_port(0))?;
-    let port = socket.local_addr()?.port();
-    let extent = Served {
-        workers,
-        limit: LIMIT,
-    };
-    let ((status, _memory), watched) = thread::join(
-        rt,
-        || serve_logged(rt, alloc, &socket, extent),
-        || {
-            watch_counter(rt, port)?;
-            end(rt, port)
-        },
-    );
-    watched?;
-    assert!(rt; status == Status::Done);
-    Ok(())
-}
-
-#[test]
-fn our_own_server_is_observed(rt: HostRuntime) -> Result<(), Fail> {
-    check_watched(&rt, 1)?;
-    check_watched(&rt, 2)
 }
