@@ -13,10 +13,14 @@ use Rattle.fc_server.specs.States.{ServerState}
 use Rattle.fc_workers.specs.Answers.{saturated}
 use Rattle.fc_service.specs.Clocks.{device_readings}
 use Rattle.fc_service.specs.declared.replies.Replies.{Replies}
+use Rattle.fc_service.specs.Alone.{NotifiesAlone, ResendsAlone}
+use Rattle.fc_service.specs.declared.alone.Alone.{Alone}
+use Rattle.fc_service.specs.declared.alone.Handed.{Handed}
+use Rattle.fc_service.proofs.AloneSteps.{alone_steps, in_range, sent_in_range}
 use Rattle.fc_service.proofs.Steps.{joined, sent_joined}
 use Rattle.fc_service.specs.Counting.{counted, no_replies}
 use Rattle.fc_service.specs.Rounds.{CountsMore, Datagram, HaveServed, IsReceived, Nothing, Reception}
-use Rattle.fc_service.specs.Settling.{AreSteps, SettlingStep, sent_in_steps}
+use Rattle.fc_service.specs.Settling.{AreSteps, AreStepsBy, SettlingStep, sent_in_steps}
 
 -- one reply, where there is one
 pub counts_one : (out : Option Bool) (e : Emission) (r : Replies) → CountsMore (length (option_to_list (emission_if (is_some out) e))) r (counted out r)
@@ -30,25 +34,38 @@ counts_then n m a b c v w = omega (arith, v, w)
 pub counts_none : (r : Replies) → CountsMore 0 r r
 counts_none r = omega arith
 
--- steps whose emissions are counted
+-- of a server, by what it does at a shard: steps whose emissions are counted
+module _ {S : Type 0} (Resends : ℕ → ℕ → S → S → Option Emission → Type 0) (Notifies : ℕ → ℕ → S → S → Bool → Option Emission → Type 0) where
+  abbrev pub SettledOf : ℕ → S → S → Replies → Replies → Type 0
+  SettledOf now old new a b = (steps : List SettlingStep) × AreStepsBy Resends Notifies now steps old new × CountsMore (length (sent_in_steps steps)) a b
+
+  settled_more : (now : ℕ) (old mid new : S) (a b c : Replies) (xs ys : List SettlingStep) (n : ℕ) → AreStepsBy Resends Notifies now ys old mid → CountsMore (length (sent_in_steps ys)) a b → AreStepsBy Resends Notifies now xs mid new → length (sent_in_steps xs) ≡ n → CountsMore n b c → SettledOf now old new a c
+  settled_more now old mid new a b c xs ys n w v x e more =
+      let all : length (sent_in_steps (xs ++ ys)) ≡ length (sent_in_steps ys) + n = ap (λ (l : List Emission). length l) (sent_joined xs ys) ∙ (length-append (sent_in_steps ys) (sent_in_steps xs) ∙ ap (λ (k : ℕ). length (sent_in_steps ys) + k) e) in
+      (xs ++ ys, joined Resends Notifies now old mid new xs ys x w, subst (λ (k : ℕ). CountsMore k a c) (sym all) (counts_then (length (sent_in_steps ys)) n a b c v more))
+
+  -- after steps that sent one emission more, which was counted
+  pub settles_one : (now : ℕ) (old mid new : S) (a b c : Replies) (e : Emission) (out : Bool) → SettledOf now old mid a b → ((steps : List SettlingStep) × AreStepsBy Resends Notifies now steps mid new × (sent_in_steps steps ≡ e ∷ [])) → c ≡ counted (Some out) b → SettledOf now old new a c
+  settles_one now old mid new a b c e out w x is = settled_more now old mid new a b c x.0 w.0 1 w.1 w.2 x.1 (ap (λ (l : List Emission). length l) x.2) (subst (λ (r : Replies). CountsMore 1 b r) (sym is) (counts_one (Some out) e b))
+
+  -- and after those that sent nothing
+  pub settles_nothing : (now : ℕ) (old mid new : S) (a b : Replies) → SettledOf now old mid a b → ((steps : List SettlingStep) × AreStepsBy Resends Notifies now steps mid new × (sent_in_steps steps ≡ [])) → SettledOf now old new a b
+  settles_nothing now old mid new a b w x = settled_more now old mid new a b b x.0 w.0 0 w.1 w.2 x.1 (ap (λ (l : List Emission). length l) x.2) (counts_none b)
+
+  pub no_steps : (now : ℕ) (s : S) (r : Replies) → SettledOf now s s r r
+  no_steps now s r = ([], refl, counts_none r)
+
+-- on one thread
 abbrev pub Settled : ℕ → ℕ → List ℕ → ServerState → ServerState → Replies → Replies → Type 0
 Settled now random readings old new a b = (steps : List SettlingStep) × AreSteps now random readings steps old new × CountsMore (length (sent_in_steps steps)) a b
 
-settled_more : (now random : ℕ) (readings : List ℕ) (old mid new : ServerState) (a b c : Replies) (xs ys : List SettlingStep) (n : ℕ) → AreSteps now random readings ys old mid → CountsMore (length (sent_in_steps ys)) a b → AreSteps now random readings xs mid new → length (sent_in_steps xs) ≡ n → CountsMore n b c → Settled now random readings old new a c
-settled_more now random readings old mid new a b c xs ys n w v x e more =
-    let all : length (sent_in_steps (xs ++ ys)) ≡ length (sent_in_steps ys) + n = ap (λ (l : List Emission). length l) (sent_joined xs ys) ∙ (length-append (sent_in_steps ys) (sent_in_steps xs) ∙ ap (λ (k : ℕ). length (sent_in_steps ys) + k) e) in
-    (xs ++ ys, joined now random readings old mid new xs ys x w, subst (λ (k : ℕ). CountsMore k a c) (sym all) (counts_then (length (sent_in_steps ys)) n a b c v more))
+pub settled_alone : (now : ℕ) (old new : Alone) (a b : Replies) → SettledOf ResendsAlone NotifiesAlone now old new a b → Settled now old.handed.random old.handed.readings old.engine new.engine a b
+settled_alone now old new a b w =
+    (in_range w.0, alone_steps now old new w.0 w.1, subst (λ (sent : List Emission). CountsMore (length sent) a b) (sym (sent_in_range w.0)) w.2)
 
--- after steps that sent one emission more, which was counted
-pub settles_one : (now random : ℕ) (readings : List ℕ) (old mid new : ServerState) (a b c : Replies) (e : Emission) (out : Bool) → Settled now random readings old mid a b → ((steps : List SettlingStep) × AreSteps now random readings steps mid new × (sent_in_steps steps ≡ e ∷ [])) → c ≡ counted (Some out) b → Settled now random readings old new a c
-settles_one now random readings old mid new a b c e out w x is = settled_more now random readings old mid new a b c x.0 w.0 1 w.1 w.2 x.1 (ap (λ (l : List Emission). length l) x.2) (subst (λ (r : Replies). CountsMore 1 b r) (sym is) (counts_one (Some out) e b))
-
--- and after those that sent nothing
-pub settles_nothing : (now random : ℕ) (readings : List ℕ) (old mid new : ServerState) (a b : Replies) → Settled now random readings old mid a b → ((steps : List SettlingStep) × AreSteps now random readings steps mid new × (sent_in_steps steps ≡ [])) → Settled now random readings old new a b
-settles_nothing now random readings old mid new a b w x = settled_more now random readings old mid new a b b x.0 w.0 0 w.1 w.2 x.1 (ap (λ (l : List Emission). length l) x.2) (counts_none b)
-
-pub no_steps : (now random : ℕ) (readings : List ℕ) (s : ServerState) (r : Replies) → Settled now random readings s s r r
-no_steps now random readings s r = ([], refl, counts_none r)
+-- with what it was handed
+pub settled_with : (now random : ℕ) (readings : List ℕ) (old new : Alone) (a b : Replies) → old.handed ≡ record { readings = readings; random = random } → SettledOf ResendsAlone NotifiesAlone now old new a b → Settled now random readings old.engine new.engine a b
+settled_with now random readings old new a b is w = subst (λ (h : Handed). Settled now h.random h.readings old.engine new.engine a b) is (settled_alone now old new a b w)
 
 -- ---- rounds
 

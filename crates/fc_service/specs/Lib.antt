@@ -1,3 +1,4 @@
+pub mod Alone
 pub mod Clocks
 pub mod Counting
 pub mod Playing

@@ -17,6 +17,7 @@
 //! ```
 #![tactic(auto)]
 
+mod alone;
 pub mod clock;
 pub mod command;
 pub mod play;

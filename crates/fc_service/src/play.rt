@@ -6,8 +6,10 @@ ghost use Rattle.fc_registry.specs.Slots.{last_serial};
 ghost use Rattle.fc_core.specs.Receiving.{emission_if};
 ghost use Rattle.fc_cli.specs.declared.status.Status.TheVariants.{Done};
 ghost use Rattle.fc_service.specs.Playing.{output_by, output_of, moment_of, readings_after, IsCarriedOut, IsPlayed, IsPlayedOut, PlayedLine};
-ghost use Rattle.fc_service.specs.Settling.{AreSteps, SettlingStep, printed_steps};
+ghost use Rattle.fc_service.specs.Settling.{AreStepsBy, SettlingStep, printed_steps};
 
+use crate::alone::{Alone, Handed};
+use crate::pool::Intake;
 use crate::settle::{STEPS, Settling};
 use coap_msg::Emission;
 use fc_cli::status::{Status, tell};
@@ -53,7 +55,7 @@ fn play_lines<R: BufRead + Drop, W: Write>(
     requires { first_serial ≤ last_serial }
     ensures { OnOk result (IsPlayedOut first_serial first_id (R.remaining input) (W.contents out.old) (W.contents out.new)) }
 {
-    let mut engine = Engine::new(alloc, first_serial, first_id)?;
+    let mut alone = Alone::new(alloc, first_serial, first_id)?;
     let mut reply = blank_emission();
     let mut readings = NO_READINGS;
     let mut number = 0u64;
@@ -62,7 +64,7 @@ fn play_lines<R: BufRead + Drop, W: Write>(
         match text {
             Ok(text) => play_line(
                 alloc,
-                &mut engine,
+                &mut alone,
                 &mut reply,
                 &mut readings,
                 &text,
@@ -78,22 +80,26 @@ fn play_lines<R: BufRead + Drop, W: Write>(
 // Reads the line of this number, and carries it out, with the readings so far or those that it says.
 fn play_line<W: Write>(
     alloc: Global,
-    engine: &mut Engine,
+    alone: &mut Alone,
     reply: &mut Emission,
     readings: &mut Readings,
     text: &[u8],
     number: u64,
     out: &mut W,
 ) -> Result<(), Stop>
-    ensures { OnOk result ((p : PlayedLine) × (p.text ≡ text.now) × IsPlayed p engine.old engine.new
+    ensures { OnOk result ((p : PlayedLine) × (p.text ≡ text.now) × IsPlayed p alone.old.engine alone.new.engine
         × (p.readings ≡ readings.new) × (readings.new ≡ readings_after p.line readings.old)
         × Appends (W.contents out.old) (W.contents out.new) (output_by p)) }
 {
     match parse(alloc, text) {
         Ok(line) => {
             read(&line, readings);
-            carry_out(alloc, engine, reply, readings, &line, out)?;
-            settle(engine, moment(&line), readings, out)?;
+            alone.handed = Handed {
+                readings: *readings,
+                random: 0,
+            };
+            carry_out(alloc, &mut alone.engine, reply, readings, &line, out)?;
+            settle(alone, moment(&line), out)?;
             Ok(())
         }
         Err(LineError::Bad) => Err(Stop::BadLine(number)),
@@ -148,18 +154,13 @@ pub(crate) fn moment(line: &Line) -> u64
 }
 
 // Prints what is sent again, and what observers are told, at a moment in milliseconds.
-fn settle<W: Write>(
-    engine: &mut Engine,
-    now: u64,
-    readings: &Readings,
-    out: &mut W,
-) -> io::Result<()>
-    ensures { (steps : List SettlingStep) × AreSteps now 0 readings.now steps engine.old engine.new
+pub(crate) fn settle<N: Intake, W: Write>(intake: &mut N, now: u64, out: &mut W) -> io::Result<()>
+    ensures { (steps : List SettlingStep) × AreStepsBy N.resends N.notifies now steps intake.old intake.new
         × OnOk result (Appends (W.contents out.old) (W.contents out.new) (printed_steps steps)) }
 {
     let mut settling = Settling::new();
     for _ in 0..STEPS {
-        match settling.next(engine, now, readings, 0) {
+        match settling.next(intake, now) {
             Some(emission) => print(out, &emission)?,
             None => break,
         }
@@ -168,7 +169,7 @@ fn settle<W: Write>(
 }
 
 // Prints an emission, where it is sent.
-fn print_if<W: Write>(out: &mut W, sent: bool, emission: &Emission) -> io::Result<()>
+pub(crate) fn print_if<W: Write>(out: &mut W, sent: bool, emission: &Emission) -> io::Result<()>
     ensures { OnOk result (Appends (W.contents out.old) (W.contents out.new) (output_of (emission_if sent emission.now))) }
 {
     if sent { print(out, emission) } else { Ok(()) }

@@ -1,10 +1,16 @@
 //! Pools: a new server behind its locks, workers at it, and who feeds them with datagrams.
-ghost use Rattle.std.specs.Prelude.{◌≡◌, ◌+◌, ◌<◌, ◌≤◌, vec_len, IfOk};
-ghost use Rattle.fc_core.specs.Receiving.{heard};
-ghost use Rattle.fc_registry.specs.declared.job.Job.{Job};
+ghost use Rattle.std.specs.Prelude.{◌≡◌, ◌+◌, ◌<◌, ◌≤◌, ℕ, ⊤, Bool, List, MatchBool, None, Option, vec_len, IfOk};
+ghost use Rattle.std.specs.Borrow.{Bor};
+ghost use Rattle.coap_msg.specs.declared.types.Emission.{Emission};
+ghost use Rattle.coap_msg.specs.declared.types.Endpoint.{Endpoint};
+ghost use Rattle.fc_core.specs.declared.front.Heard.{Heard};
+ghost use Rattle.fc_core.specs.Legal.{resent};
 ghost use Rattle.fc_registry.specs.Slots.{last_serial};
-ghost use Rattle.fc_workers.specs.Answers.{IsSomeDelivery, IsSomeQuiet, IsSomeTick};
+ghost use Rattle.fc_server.specs.Notified.{is_given, notification_in};
+ghost use Rattle.fc_service.specs.Settling.{IsSomeResend};
+ghost use Rattle.fc_workers.specs.Answers.{IsSomeQuiet};
 ghost use Rattle.fc_workers.specs.Closing.{HasCountedAll};
+ghost use Rattle.fc_workers.specs.Dispatch.{IsTakenIn, IsTurnAsked};
 ghost use Rattle.fc_workers.specs.Naming.{AreNamed};
 
 use crate::replies::Replies;
@@ -12,6 +18,7 @@ use coap_msg::{Emission, Endpoint};
 use fc_core::Heard;
 use fc_observe::Ticked;
 use fc_server::Begin;
+use fc_server::engine::Notified;
 use fc_workers::{
     Bench, Blanks, Books, Closed, Device, Dispatcher, Gate, Handover, Locked, Moments, Reserve,
     Share, Tallies, Wire, Workshop, feed_workers, make_seats,
@@ -23,61 +30,82 @@ use std::sync::Wait;
 use std::thread::Threads;
 
 /// Where a feeder has datagrams taken in, and observers notified: a server. (A method that is generic in its bench can't hand it on, since a
-/// bench's tallies cross threads; it can hand on this.)
+/// bench's tallies cross threads; it can hand on this.) What each call does to the server is said by
+/// who implements this.
 pub trait Intake {
+    // A datagram of these bytes, from an endpoint, was heard at a moment: the server before and after, what became of it, and the reply that was written.
+    ghost hears: { ℕ → Endpoint → Bor (List ℕ) → Self → Self → Heard → Emission → Type 0 } = { λ now from bytes old new heard reply. ⊤ };
+
+    // Time passed to a moment: the server before and after.
+    ghost passes: { ℕ → Self → Self → Type 0 } = { λ now old new. ⊤ };
+
+    // A shard was advanced to a moment, and sends this again, or nothing.
+    ghost resends: { ℕ → ℕ → Self → Self → Option Emission → Type 0 } = { λ shard now old new sent. ⊤ };
+
+    // A shard was asked at a moment for the observer that is due first: whether there was one, and what is sent of it.
+    ghost notifies: { ℕ → ℕ → Self → Self → Bool → Option Emission → Type 0 } = { λ shard now old new given sent. ⊤ };
+
     /// Takes a datagram in, at a moment in milliseconds. Its reply is written over another; its job is worked off, here or by a worker; its signal goes to each
-    /// shard.
-    fn hear<R: Wait>(
-        &mut self,
-        rt: &R,
-        now: u64,
-        from: Endpoint,
-        bytes: &[u8],
-        reply: &mut Emission,
-    ) -> Heard
-        ensures { (job : Job) × IsSomeDelivery now from bytes.now (heard result job reply.new) };
+    /// shard. Tells `Reply` where what was written is to be sent, and `Job` where a worker has the job, or has sent what it came to.
+    fn hear(&mut self, now: u64, from: Endpoint, bytes: &[u8], reply: &mut Emission) -> Heard
+        ensures { hears now from bytes.entry self.old self.new result reply.new };
 
     /// Has time pass, to a moment in milliseconds.
-    fn tick<R: Wait>(&mut self, rt: &R, now: u64);
+    fn tick(&mut self, now: u64)
+        ensures { passes now self.old self.new };
 
     /// Has a shard, 0 to 7, tell what it sends again at a moment in milliseconds.
-    fn resend<R: Wait>(&mut self, rt: &R, shard: u8, now: u64) -> Ticked
-        ensures { IsSomeTick now result };
+    fn resend(&mut self, shard: u8, now: u64) -> Ticked
+        ensures { resends shard now self.old self.new (resent result) };
 
     /// Advances a shard, 0 to 7, to a moment in milliseconds where nothing is late and nobody is due. Tells whether it did.
-    fn advance_if_quiet<R: Wait>(&mut self, rt: &R, shard: u8, now: u64) -> bool
-        ensures { IsSomeQuiet now result };
+    fn advance_if_quiet(&mut self, shard: u8, now: u64) -> bool
+        ensures quiet { IsSomeQuiet now result }
+        ensures after { MatchBool result (resends shard now self.old self.new None) (self.new ≡ self.old) };
 
-    /// Has the observer of a shard, 0 to 7, notified that is due first at a moment in milliseconds, here or by a worker. Tells whether there was one.
-    fn notify<R: Wait>(&mut self, rt: &R, shard: u8, now: u64) -> bool;
+    /// Has the observer of a shard, 0 to 7, notified that is due first at a moment in milliseconds, here or by a worker. Tells what is to be sent of it: nothing
+    /// where a worker has the turn, or has sent what it came to.
+    fn notify(&mut self, shard: u8, now: u64) -> Notified
+        ensures { notifies shard now self.old self.new (is_given result) (notification_in result) };
 }
 
-impl<'a, B: Bench, G: Gate, W: Wire, M: Moments> Intake for Dispatcher<'a, B, G, W, M> {
-    fn hear<R: Wait>(
-        &mut self,
-        rt: &R,
-        now: u64,
-        from: Endpoint,
-        bytes: &[u8],
-        reply: &mut Emission,
-    ) -> Heard {
-        Dispatcher::hear(self, rt, now, from, bytes, reply)
+// A dispatcher, and the handle by which it waits.
+#[derive(Drop)]
+struct Dispatching<'a, 'b, R: Wait, B: Bench, G: Gate, W: Wire, M: Moments> {
+    rt: &'a R,
+    dispatcher: Dispatcher<'b, B, G, W, M>,
+}
+
+impl<'a, 'b, R: Wait, B: Bench, G: Gate, W: Wire, M: Moments> Intake
+    for Dispatching<'a, 'b, R, B, G, W, M> {
+    ghost hears = { λ now from bytes old new heard reply. IsTakenIn B.changes B.ended B.are_readings M.is_moment old.dispatcher.handover now from bytes.now heard reply old.dispatcher.done new.dispatcher.done };
+
+    ghost resends = { λ shard now old new sent. IsSomeResend now sent };
+
+    ghost notifies = { λ shard now old new given sent. IsTurnAsked B.changes B.ended B.are_readings M.is_moment old.dispatcher.handover now given old.dispatcher.done new.dispatcher.done × (sent ≡ None) };
+
+    fn hear(&mut self, now: u64, from: Endpoint, bytes: &[u8], reply: &mut Emission) -> Heard {
+        self.dispatcher.hear(self.rt, now, from, bytes, reply)
     }
 
-    fn tick<R: Wait>(&mut self, rt: &R, now: u64) {
-        Dispatcher::tick(self, rt, now);
+    fn tick(&mut self, now: u64) {
+        self.dispatcher.tick(self.rt, now);
     }
 
-    fn resend<R: Wait>(&mut self, rt: &R, shard: u8, now: u64) -> Ticked {
-        Dispatcher::resend(self, rt, shard, now)
+    fn resend(&mut self, shard: u8, now: u64) -> Ticked {
+        self.dispatcher.resend(self.rt, shard, now)
     }
 
-    fn advance_if_quiet<R: Wait>(&mut self, rt: &R, shard: u8, now: u64) -> bool {
-        Dispatcher::advance_if_quiet(self, rt, shard, now)
+    fn advance_if_quiet(&mut self, shard: u8, now: u64) -> bool {
+        self.dispatcher.advance_if_quiet(self.rt, shard, now)
     }
 
-    fn notify<R: Wait>(&mut self, rt: &R, shard: u8, now: u64) -> bool {
-        Dispatcher::notify(self, rt, shard, now)
+    fn notify(&mut self, shard: u8, now: u64) -> Notified {
+        if self.dispatcher.notify(self.rt, shard, now) {
+            Notified::Unsent
+        } else {
+            Notified::Nobody
+        }
     }
 }
 
@@ -291,9 +319,12 @@ where
                 tell_alone(err);
                 Handover::Never
             };
-            let mut dispatcher = Dispatcher::new(workshop, channel, sent, own, handover);
-            let given = feeder.feed(rt, &mut dispatcher);
-            (given, dispatcher.close())
+            let mut intake = Dispatching {
+                rt,
+                dispatcher: Dispatcher::new(workshop, channel, sent, own, handover),
+            };
+            let given = feeder.feed(rt, &mut intake);
+            (given, intake.dispatcher.close())
         },
     );
     Ok(Ended {

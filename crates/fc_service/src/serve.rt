@@ -6,9 +6,10 @@ ghost use Rattle.fc_registry.specs.Slots.{last_serial};
 ghost use Rattle.fc_server.specs.Serving.{Hears};
 ghost use Rattle.fc_service.specs.Clocks.{device_readings};
 ghost use Rattle.fc_service.specs.Rounds.{CountsMore, HasServed};
-ghost use Rattle.fc_service.specs.Settling.{AreSteps, SettlingStep, sent_in_steps};
+ghost use Rattle.fc_service.specs.Settling.{AreStepsBy, SettlingStep, sent_in_steps};
 ghost use Rattle.fc_cli.specs.declared.status.Status.TheVariants.{Done, Failed};
 
+use crate::alone::{Alone, Handed};
 use crate::clock::{Elapsed, SensingDevice, device_readings};
 use crate::pool::{Feeder, Intake, Pool, run_pool};
 use crate::replies::Replies;
@@ -22,7 +23,6 @@ use fc_cli::status::{Status, tell};
 use fc_core::Heard;
 use fc_core::front::blank_emission;
 use fc_help::Readings;
-use fc_server::engine::Notified;
 use fc_server::{Begin, Engine};
 use fc_workers::{Handover, Moments};
 use log::{Log, info};
@@ -202,12 +202,12 @@ impl<'a, S: Source, K: Sink, M: Moments, Z: Sensors> Feeder<Replies> for Receive
                 Some((count, from)) => {
                     received = received.saturating_add(1);
                     let bytes = &buffer[..count];
-                    let heard = intake.hear(rt, now, from, bytes, &mut reply);
+                    let heard = intake.hear(now, from, bytes, &mut reply);
                     self.reply_if(heard, &reply, &mut replies);
                 }
-                None => intake.tick(rt, now),
+                None => intake.tick(now),
             }
-            self.settle(rt, intake, now, &mut replies);
+            settle(intake, now, self.sink, &mut replies);
         }
         replies
     }
@@ -221,54 +221,6 @@ impl<'a, S: Source, K: Sink, M: Moments, Z: Sensors> Receiver<'a, S, K, M, Z> {
         }
     }
 
-    // Sends what is late at a moment in milliseconds again, and has who is due notified.
-    fn settle<N: Intake, R: Wait>(&self, rt: &R, intake: &mut N, now: u64, replies: &mut Replies) {
-        let mut settling = Settling::new();
-        for _ in 0..STEPS {
-            let Some(shard) = settling.shard() else {
-                return;
-            };
-            if !settling.notifies() && intake.advance_if_quiet(rt, shard, now) {
-                settling.pass();
-            } else {
-                self.settle_shard(rt, intake, shard, now, &mut settling, replies);
-            }
-        }
-    }
-
-    // Sends what is late of a shard again, or has who is due notified.
-    fn settle_shard<N: Intake, R: Wait>(
-        &self,
-        rt: &R,
-        intake: &mut N,
-        shard: u8,
-        now: u64,
-        settling: &mut Settling,
-        replies: &mut Replies,
-    )
-        requires { settling.old.shard < 8 }
-    {
-        let emission = if settling.notifies() {
-            settling.notified(notify(rt, intake, shard, now))
-        } else {
-            settling.resent(intake.resend(rt, shard, now))
-        };
-        if let Some(emission) = emission {
-            replies.count_if_any(Some(self.sink.send(&emission)));
-        }
-    }
-}
-
-// Has the observer of a shard notified that is due first, if one is.
-fn notify<N: Intake, R: Wait>(rt: &R, intake: &mut N, shard: u8, now: u64) -> Notified {
-    if intake.notify(rt, shard, now) {
-        Notified::Unsent
-    } else {
-        Notified::Nobody
-    }
-}
-
-impl<'a, S: Source, K: Sink, M: Moments, Z: Sensors> Receiver<'a, S, K, M, Z> {
     // Works each datagram off on this thread, before the next is received: the replies, each counted once.
     fn serve_alone<R: Wait>(
         self,
@@ -279,7 +231,7 @@ impl<'a, S: Source, K: Sink, M: Moments, Z: Sensors> Receiver<'a, S, K, M, Z> {
         requires { begin.serial ≤ last_serial }
         ensures { IfOk result (HasServed Z.are_sensed begin.serial begin.id) }
     {
-        let mut engine = Engine::new(alloc, begin.serial, begin.id)?;
+        let mut alone = Alone::new(alloc, begin.serial, begin.id)?;
         let mut reply = blank_emission();
         let mut buffer = [0; BUFFER];
         let mut replies = Replies::none();
@@ -290,16 +242,18 @@ impl<'a, S: Source, K: Sink, M: Moments, Z: Sensors> Receiver<'a, S, K, M, Z> {
             }
             let heard = self.source.receive(&mut buffer);
             let at = moment_of(rt, self.moments, self.sensors);
+            alone.handed = at.handed();
             match heard {
                 Some((count, from)) => {
                     received = received.saturating_add(1);
                     let bytes = &buffer[..count];
-                    let out = answer(&mut engine, alloc, &at, from, bytes, &mut reply, self.sink);
+                    let engine = &mut alone.engine;
+                    let out = answer(engine, alloc, &at, from, bytes, &mut reply, self.sink);
                     replies.count_if_any(out);
                 }
-                None => engine.tick(at.millis),
+                None => alone.engine.tick(at.millis),
             }
-            settle(&mut engine, &at, self.sink, &mut replies);
+            settle(&mut alone, at.millis, self.sink, &mut replies);
         }
         Ok(replies)
     }
@@ -323,15 +277,26 @@ fn moment_of<R: Wait, M: Moments, Z: Sensors>(rt: &R, moments: &M, sensors: &Z) 
     }
 }
 
-// Sends what is late again, and notifies the observers that are due, at a moment, whose low bits are the random word.
-fn settle<K: Sink>(engine: &mut Engine, at: &Moment, sink: &K, replies: &mut Replies)
-    ensures { (steps : List SettlingStep) × AreSteps at.now.millis (at.now.millis % 65536) at.now.readings steps engine.old engine.new
+impl Moment {
+    // What jobs are handed at this moment: its readings, and its low bits for the random word.
+    fn handed(&self) -> Handed
+        ensures { result ≡ record { readings = self.now.readings; random = self.now.millis % 65536 } }
+    {
+        Handed {
+            readings: self.readings,
+            random: (self.millis % 0x1_0000) as u16,
+        }
+    }
+}
+
+// Sends what is late at a moment in milliseconds again, and has the observers that are due notified.
+fn settle<N: Intake, K: Sink>(intake: &mut N, now: u64, sink: &K, replies: &mut Replies)
+    ensures { (steps : List SettlingStep) × AreStepsBy N.resends N.notifies now steps intake.old intake.new
         × CountsMore (length (sent_in_steps steps)) replies.old replies.new }
 {
-    let random = (at.millis % 0x1_0000) as u16;
     let mut settling = Settling::new();
     for _ in 0..STEPS {
-        match settling.next(engine, at.millis, &at.readings, random) {
+        match settling.next(intake, now) {
             Some(emission) => replies.count_if_any(Some(sink.send(&emission))),
             None => return,
         }

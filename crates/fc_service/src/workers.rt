@@ -5,17 +5,17 @@ ghost use Rattle.coap_msg.specs.declared.types.Emission.{Emission as Emitted};
 ghost use Rattle.fc_registry.specs.Slots.{last_serial};
 ghost use Rattle.fc_service.specs.Playing.{output_of};
 
-use crate::play::moment;
+use crate::play::{moment, print_if, settle};
 use crate::pool::{Feeder, Intake, Pool, run_pool};
-use crate::settle::{STEPS, Settling};
 use coap_msg::{Emission, Endpoint};
 use fc_cli::status::{Status, tell};
 use fc_cli::stop::Stop;
 use fc_core::Heard;
 use fc_core::front::blank_emission;
 use fc_help::{NO_READINGS, Readings};
-use fc_lines::emission::{endpoint, print};
+use fc_lines::emission::endpoint;
 use fc_lines::line::{Line, LineError, parse};
+use fc_observe::Ticked;
 use fc_server::Begin;
 use fc_server::engine::Notified;
 use fc_workers::{Device, Handover, Moments, Wire};
@@ -122,29 +122,65 @@ fn copy(emission: &Emission) -> Emission {
     copy
 }
 
-// Prints what was sent, if anything.
-fn print_sent<W: Write>(out: &mut W, emission: &Option<Emission>) -> io::Result<()>
-    ensures { OnOk result (Appends (W.contents out.old) (W.contents out.new) (output_of emission.now)) }
-{
-    match emission {
-        Some(emission) => print(out, emission),
-        None => Ok(()),
+// Who waits at a board for each job that is taken in, and for each turn, until it was worked off.
+#[derive(Drop)]
+struct Waiting<'a, 'b, R: Wait, N: Intake> {
+    rt: &'a R,
+    intake: &'b mut N,
+    board: &'a Board,
+}
+
+impl<'a, 'b, R: Wait, N: Intake> Intake for Waiting<'a, 'b, R, N> {
+    fn hear(&mut self, now: u64, from: Endpoint, bytes: &[u8], reply: &mut Emission) -> Heard {
+        self.board.begin(self.rt, now);
+        match self.intake.hear(now, from, bytes, reply) {
+            Heard::Job => match self.board.wait(self.rt) {
+                Some(emission) => {
+                    *reply = emission;
+                    Heard::Reply
+                }
+                None => Heard::Nothing,
+            },
+            heard => heard,
+        }
+    }
+
+    fn tick(&mut self, now: u64) {
+        self.intake.tick(now);
+    }
+
+    fn resend(&mut self, shard: u8, now: u64) -> Ticked {
+        self.intake.resend(shard, now)
+    }
+
+    fn advance_if_quiet(&mut self, shard: u8, now: u64) -> bool {
+        self.intake.advance_if_quiet(shard, now)
+    }
+
+    // A turn of which nothing is sent had no message id, or no memory.
+    fn notify(&mut self, shard: u8, now: u64) -> Notified {
+        self.board.begin(self.rt, now);
+        match self.intake.notify(shard, now) {
+            Notified::Unsent => match self.board.wait(self.rt) {
+                Some(emission) => Notified::Sent(emission),
+                None => Notified::Starved,
+            },
+            told => told,
+        }
     }
 }
 
-// What a line needs: who takes it in, where its job is waited for, and room for its reply.
+// What a line needs: who takes it in, and room for its reply.
 #[derive(Drop)]
-struct Desk<'a, 'b, N: Intake> {
-    intake: &'b mut N,
-    board: &'a Board,
+struct Desk<'a, 'b, R: Wait, N: Intake> {
+    intake: Waiting<'a, 'b, R, N>,
     reply: Emission,
 }
 
-impl<'a, 'b, N: Intake> Desk<'a, 'b, N> {
+impl<'a, 'b, R: Wait, N: Intake> Desk<'a, 'b, R, N> {
     // Carries out the lines, each in turn, and prints what each sends.
-    fn play<R: Wait, I: BufRead + Drop, W: Write>(
+    fn play<I: BufRead + Drop, W: Write>(
         &mut self,
-        rt: &R,
         alloc: Global,
         input: I,
         out: &mut W,
@@ -158,8 +194,8 @@ impl<'a, 'b, N: Intake> Desk<'a, 'b, N> {
             };
             match parse(alloc, &text) {
                 Ok(line) => {
-                    self.carry_out(rt, &line, out)?;
-                    self.settle(rt, moment(&line), out)?;
+                    self.carry_out(&line, out)?;
+                    settle(&mut self.intake, moment(&line), out)?;
                 }
                 Err(LineError::Bad) => return Err(Stop::BadLine(number)),
                 Err(LineError::NoMemory) => return Err(Stop::Memory(AllocError)),
@@ -169,73 +205,25 @@ impl<'a, 'b, N: Intake> Desk<'a, 'b, N> {
     }
 
     // Carries out a line, and prints what it sends.
-    fn carry_out<R: Wait, W: Write>(&mut self, rt: &R, line: &Line, out: &mut W) -> Result<(), Stop>
+    fn carry_out<W: Write>(&mut self, line: &Line, out: &mut W) -> io::Result<()>
         ensures { (emission : Option Emitted)
             × OnOk result (Appends (W.contents out.old) (W.contents out.new) (output_of emission)) }
     {
         match line {
             Line::Tick { now } => {
-                self.intake.tick(rt, *now);
+                self.intake.tick(*now);
                 Ok(())
             }
             Line::Device { now, readings } => {
-                self.board.set(rt, *readings);
-                self.intake.tick(rt, *now);
+                self.intake.board.set(self.intake.rt, *readings);
+                self.intake.tick(*now);
                 Ok(())
             }
             Line::Deliver { now, peer, bytes } => {
-                let emission = self.hear(rt, *now, endpoint(*peer), bytes);
-                print_sent(out, &emission).map_err(Stop::Output)
+                let reply = &mut self.reply;
+                let heard = self.intake.hear(*now, endpoint(*peer), bytes, reply);
+                print_if(out, heard == Heard::Reply, reply)
             }
-        }
-    }
-
-    // Has a datagram taken in at a moment in milliseconds, and the job that it brings worked off: what is sent.
-    fn hear<R: Wait>(
-        &mut self,
-        rt: &R,
-        now: u64,
-        from: Endpoint,
-        bytes: &[u8],
-    ) -> Option<Emission> {
-        self.board.begin(rt, now);
-        match self.intake.hear(rt, now, from, bytes, &mut self.reply) {
-            Heard::Nothing | Heard::Signal { .. } => None,
-            Heard::Reply => Some(copy(&self.reply)),
-            Heard::Job => self.board.wait(rt),
-        }
-    }
-
-    // Has what is late at a moment in milliseconds sent again, and who is due notified, and prints what is sent.
-    fn settle<R: Wait, W: Write>(&mut self, rt: &R, now: u64, out: &mut W) -> Result<(), Stop> {
-        let mut settling = Settling::new();
-        for _ in 0..STEPS {
-            let Some(shard) = settling.shard() else {
-                break;
-            };
-            if !settling.notifies() && self.intake.advance_if_quiet(rt, shard, now) {
-                settling.pass();
-                continue;
-            }
-            let emission = if settling.notifies() {
-                settling.notified(self.notify(rt, shard, now))
-            } else {
-                settling.resent(self.intake.resend(rt, shard, now))
-            };
-            print_sent(out, &emission).map_err(Stop::Output)?;
-        }
-        Ok(())
-    }
-
-    // Has the observer of a shard notified that is due first. A turn of which nothing is sent had no message id, or no memory.
-    fn notify<R: Wait>(&mut self, rt: &R, shard: u8, now: u64) -> Notified {
-        self.board.begin(rt, now);
-        if !self.intake.notify(rt, shard, now) {
-            return Notified::Nobody;
-        }
-        match self.board.wait(rt) {
-            Some(emission) => Notified::Sent(emission),
-            None => Notified::Starved,
         }
     }
 }
@@ -258,11 +246,10 @@ impl<'a, I: BufRead + Drop, W: Write> Feeder<Result<(), Stop>> for Player<'a, I,
             board,
         } = self;
         let mut desk = Desk {
-            intake,
-            board,
+            intake: Waiting { rt, intake, board },
             reply: blank_emission(),
         };
-        desk.play(rt, alloc, input, out)
+        desk.play(alloc, input, out)
     }
 }
 

@@ -18,11 +18,12 @@ struct Installs {
 
 impl Feeder<Result<(), AllocError>> for Installs {
     fn feed<N: Intake, R: Wait>(self, rt: &R, intake: &mut N) -> Result<(), AllocError> {
+        let _ = rt;
         let mut reply = blank_emission();
         for (id, slot) in [(0, 1), (1, 9), (2, 2), (3, 9)] {
             let slot = SlotNumber::new(slot);
             let bytes = datagram(self.alloc, Request::Put(COUNTER), id, slot)?;
-            let _heard = intake.hear(rt, 0, PEER, &bytes, &mut reply);
+            let _heard = intake.hear(0, PEER, &bytes, &mut reply);
         }
         Ok(())
     }

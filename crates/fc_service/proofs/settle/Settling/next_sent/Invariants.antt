@@ -1,7 +1,7 @@
-use Rattle.std.proofs.Common.{◌≡◌, List, []}
-use Rattle.fc_service.specs.Settling.{AreSteps, SettlingStep, sent_in_steps}
+use Rattle.std.proofs.Common.{[]}
+use Rattle.fc_service.specs.Settling.{StepsSend}
 use Rattle.fc_service.proofs.settle.Settling.next_sent.Given as goal
 
 -- the steps so far sent nothing
 abbrev pub invariant-loop : goal.invariant-loop
-invariant-loop l = (steps : List SettlingStep) × AreSteps l.now l.random l.readings steps l.fn.engine l.engine × (sent_in_steps steps ≡ [])
+invariant-loop g l = StepsSend g.N.Intake.resends g.N.Intake.notifies l.now l.fn.intake l.intake []

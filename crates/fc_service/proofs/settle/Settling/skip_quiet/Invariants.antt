@@ -1,10 +1,10 @@
-use Rattle.std.proofs.Common.{◌≡◌, ◌-◌, ℕ, List, []}
-use Rattle.fc_service.specs.Settling.{AreSteps, SettlingStep, sent_in_steps}
+use Rattle.std.proofs.Common.{◌-◌, []}
+use Rattle.fc_service.specs.Settling.{StepsSend}
 use Rattle.fc_service.proofs.settle.Settling.skip_quiet.Given as goal
 
 -- the steps so far sent nothing
 abbrev pub invariant-quiet : goal.invariant-quiet
-invariant-quiet l = (random : ℕ) (readings : List ℕ) → (steps : List SettlingStep) × AreSteps l.now random readings steps l.fn.engine l.engine × (sent_in_steps steps ≡ [])
+invariant-quiet g l = StepsSend g.N.Intake.resends g.N.Intake.notifies l.now l.fn.intake l.intake []
 
 abbrev pub decreases-quiet : goal.decreases-quiet
-decreases-quiet l = 8 - l.self.shard
+decreases-quiet g l = 8 - l.self.shard
