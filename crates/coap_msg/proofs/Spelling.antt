@@ -3,7 +3,8 @@ use Rattle.std.proofs.Common.{◌≡◌, ℕ, zero, suc, ◌+◌, ◌-◌, ◌*�
 use Rattle.std.proofs.lemmas.Bool.{ltb-true, eqb-true, lt-ltb, le-ltb, ne_eqb, cases_lt}
 use Rattle.std.proofs.lemmas.List.{append-nil}
 use Rattle.coap_msg.specs.Wire.{nibble, extension, option_bytes, options_bytes, IsOption, AreOptions}
-use Rattle.coap_msg.specs.Reading.{◌>>=◌, guard, split, ext8, ext16, number_at, RawOption, option_at, Listed, with_first, is_end, options_at, all_of, options_of, HasOptions}
+use Rattle.coap_msg.specs.Reading.{◌>>=◌, guard, split, ext8, ext16, number_at, RawOption, option_at, Listed, with_first, options_at}
+use Rattle.coap_msg.specs.Parsing.{is_end, all_of, options_of, HasOptions}
 use Rattle.coap_msg.proofs.Steps.{came, passed, passes, split-append, joins, AreBytes, tail_bytes, back_bytes}
 
 -- ---- numbers

@@ -2,7 +2,8 @@
 use Rattle.std.proofs.Common.{◌≡◌, ℕ, zero, suc, ◌-◌, ◌<◌, ◌≤◌, true, false, List, [], ◌∷◌, ◌++◌, length, take, Option, Some, None, refl, sym, ◌∙◌, ap, arith, append_assoc, length-append}
 use Rattle.std.proofs.Math.Seq.{take-append_seam}
 use Rattle.coap_msg.specs.Wire.{options_bytes}
-use Rattle.coap_msg.specs.Reading.{◌>>=◌, RawOption, option_at, Listed, with_first, is_end, options_at, EndsIn, AreSplit}
+use Rattle.coap_msg.specs.Reading.{◌>>=◌, RawOption, option_at, Listed, with_first, options_at}
+use Rattle.coap_msg.specs.Parsing.{is_end, EndsIn, AreSplit}
 use Rattle.coap_msg.proofs.Steps.{AreBytes}
 use Rattle.coap_msg.proofs.Spelling.{options_from, HasOptions-of}
 

@@ -6,7 +6,8 @@ use Rattle.coap_msg.specs.declared.types.MessageType.{MessageType}
 use Rattle.coap_msg.specs.declared.types.MessageType.TheVariants.{Confirmable, NonConfirmable, Acknowledgement, Reset}
 use Rattle.coap_msg.specs.declared.types.Bad.TheVariants as bad
 use Rattle.coap_msg.specs.Wire.{Message, type_number, first_byte, options_bytes, payload_bytes, message_bytes, AreOptions, IsMessage, SpellsMessage}
-use Rattle.coap_msg.specs.Reading.{SpellsNone, id_of, IsBad, type_of, token_length, split, is_end, options_at, payload_at, message_by, is_sized, message_of, bad_of, reading_of}
+use Rattle.coap_msg.specs.Reading.{SpellsNone, id_of, IsBad, type_of, token_length, split, options_at, payload_at, message_by, is_sized, message_of, bad_of, reading_of}
+use Rattle.coap_msg.specs.Parsing.{is_end}
 use Rattle.coap_msg.proofs.Steps.{came, passed, passes, split-append, joins, AreBytes, back_bytes}
 use Rattle.coap_msg.proofs.Spelling.{options_at-of, options_from}
 

@@ -1,5 +1,6 @@
 pub mod Wire
 pub mod Reading
+pub mod Parsing
 pub mod Codes
 pub mod Writing
 pub mod Values

@@ -4,7 +4,7 @@ use Rattle.coap_msg.specs.declared.types.MessageType.{MessageType}
 use Rattle.coap_msg.specs.declared.types.MessageType.TheVariants.{Confirmable, NonConfirmable, Acknowledgement, Reset}
 use Rattle.coap_msg.specs.declared.types.Bad.{Bad}
 use Rattle.coap_msg.specs.declared.types.Bad.TheVariants as bad
-use Rattle.coap_msg.specs.Wire.{Message, SpellsMessage, AreOptions, options_bytes}
+use Rattle.coap_msg.specs.Wire.{Message, SpellsMessage}
 
 -- the next step of a value that may be missing
 infixl 10 ◌>>=◌
@@ -92,11 +92,6 @@ abbrev pub with_first : RawOption → Option Listed → Option Listed
 with_first o None = None
 with_first o (Some (options, after)) = Some (((o.number, o.value) ∷ options), after)
 
--- there the options end: nothing stands there, or a marker
-abbrev pub is_end : List ℕ → Bool
-is_end [] = true
-is_end (b ∷ bytes) = b == 255
-
 -- the options that stand first, of which there are at most so many as there are bytes
 unfoldable pub options_at : ℕ → ℕ → List ℕ → Option Listed
 options_at count before [] = Some ([], [])
@@ -104,34 +99,6 @@ options_at zero before (b ∷ bytes) = None
 options_at (suc count) before (b ∷ bytes) =
     if b == 255 then Some ([], b ∷ bytes) else
     (option_at before (b ∷ bytes) >>= λ o. with_first o (options_at count o.number o.after))
-
--- the options alone; none where bytes spell none
-abbrev pub all_of : Option Listed → List (ℕ × List ℕ)
-all_of None = []
-all_of (Some (options, after)) = options
-
--- the options that bytes spell with nothing after them
-unfoldable pub options_of : ℕ → List ℕ → List (ℕ × List ℕ)
-options_of before bytes = all_of (options_at (length bytes) before bytes)
-
--- the message of these parts, its options by their bytes
-abbrev pub message_from : MessageType → ℕ → ℕ → List ℕ → List ℕ → List ℕ → Message
-message_from kind code id token options payload = record { kind = kind; code = code; id = id; token = token; options = options_of 0 options; payload = payload }
-
--- the bytes spell options and nothing else
-pub record HasOptions (before : ℕ) (bytes : List ℕ) : Type 0 where
-  pub bytes_are : bytes ≡ options_bytes before (options_of before bytes)
-  pub options : AreOptions before (options_of before bytes)
-
--- what is after the options that stand first
-pub record EndsIn (bytes after : List ℕ) : Type 0 where
-  pub options : List (ℕ × List ℕ)
-  pub found : options_at (length bytes) 0 bytes ≡ Some (options, after)
-
--- the same, with the options' own bytes
-pub record AreSplit (bytes options after : List ℕ) : Type 0 where
-  pub found : options_at (length bytes) 0 bytes ≡ Some (options_of 0 options, after)
-  pub has_options : HasOptions 0 options
 
 -- what stands after the options: nothing, or the marker and at least one byte
 abbrev pub payload_at : List ℕ → Option (List ℕ)

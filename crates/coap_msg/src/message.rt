@@ -1,6 +1,6 @@
 //! A message as it was read.
 ghost use Rattle.std.specs.Prelude.{◌≡◌, ◌≤◌, length};
-ghost use Rattle.coap_msg.specs.Reading.{HasOptions, message_from};
+ghost use Rattle.coap_msg.specs.Parsing.{HasOptions, message_from};
 ghost use Rattle.coap_msg.specs.Values.{values_in};
 
 use crate::code::Code;
@@ -22,7 +22,7 @@ pub struct Message<'a> {
 
 impl<'a> Model for Message<'a> {
     ghost use Rattle.std.specs.Prelude.{◌≤◌, length};
-    ghost use Rattle.coap_msg.specs.Reading.{HasOptions, message_from};
+    ghost use Rattle.coap_msg.specs.Parsing.{HasOptions, message_from};
     ghost use Rattle.coap_msg.specs.Wire.{Message as Stated};
 
     ghost Value = { Stated };

@@ -1,7 +1,8 @@
 //! The options of a message, read where they stand.
 ghost use Rattle.std.specs.Prelude.{◌≡◌, ◌<◌, ◌+◌, length, nat_lt, IfSome, MatchOption};
 ghost use Rattle.std.specs.Iterator.{YieldsFirstBy, item_count};
-ghost use Rattle.coap_msg.specs.Reading.{AreSplit, EndsIn, HasOptions, guard, is_end, number_at, option_at, options_at, options_of};
+ghost use Rattle.coap_msg.specs.Reading.{guard, number_at, option_at, options_at};
+ghost use Rattle.coap_msg.specs.Parsing.{AreSplit, EndsIn, HasOptions, is_end, options_of};
 ghost use Rattle.coap_msg.specs.Options.{IsFirstOf};
 
 use crate::wire::{EXT8_BIAS, EXT16_BIAS, NIBBLE_EXT8, NIBBLE_EXT16, PAYLOAD_MARKER, number_of};
@@ -16,7 +17,7 @@ pub struct Options<'a> {
 
 impl<'a> Model for Options<'a> {
     ghost use Rattle.std.specs.Prelude.{ℕ, List};
-    ghost use Rattle.coap_msg.specs.Reading.{HasOptions, options_of};
+    ghost use Rattle.coap_msg.specs.Parsing.{HasOptions, options_of};
 
     ghost Value = { List (ℕ × List ℕ) };
 
