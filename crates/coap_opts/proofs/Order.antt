@@ -8,7 +8,8 @@ use Rattle.coap_opts.specs.declared.request.Action.{Action}
 use Rattle.coap_opts.specs.Path.{method_of}
 use Rattle.coap_opts.specs.Served.{action_of}
 use Rattle.coap_opts.specs.Recognition.{has_unknown_critical}
-use Rattle.coap_opts.specs.Verdict.{IsKnown, IsServedAt, asked, has, resource, names_proxy, number_in, block_in, query, etags, observe_at, is_reserved, has_bad_value, refusal_code}
+use Rattle.coap_opts.specs.Verdict.{asked, has, resource, names_proxy, number_in, block_in, query, etags, observe_at, is_reserved, has_bad_value, refusal_code}
+use Rattle.coap_opts.specs.Classified.{IsKnown, IsServedAt}
 use Rattle.coap_opts.specs.Collected.{IsCollected, IsQueryBy, lent, resource_with}
 use Rattle.coap_opts.specs.declared.collector.Collected.{Collected}
 use Rattle.coap_opts.specs.Values.{Place, place_in}

@@ -8,7 +8,8 @@ use Rattle.std.proofs.lemmas.Slice.Eq.{bytes_eq-Decides}
 use Rattle.coap_msg.specs.Reading.{◌>>=◌, guard}
 use Rattle.coap_opts.specs.declared.request.Resource.{Resource}
 use Rattle.coap_opts.specs.declared.request.Resource.TheVariants.{Run, Program, Core}
-use Rattle.coap_opts.specs.Path.{digit, slot_named, resource_of, IsResource, path_of}
+use Rattle.coap_opts.specs.Path.{digit, slot_named, resource_of}
+use Rattle.coap_opts.specs.Fields.{IsResource, path_of}
 
 -- a value that comes in two steps
 record Came {A B : Type 0} (o : Option A) (f : A → Option B) (y : B) : Type 0 where

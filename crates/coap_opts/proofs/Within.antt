@@ -18,9 +18,10 @@ use Rattle.coap_opts.specs.declared.request.Action.{Action}
 use Rattle.coap_opts.specs.declared.request.Action.TheVariants as actions
 use Rattle.coap_opts.specs.Path.{method_of}
 use Rattle.coap_opts.specs.Values.{Place, place_in, uint_value}
-use Rattle.coap_opts.specs.Verdict.{Asked, IsAsked, IsAskedWithin, IsBlockFor, IsErrorCode, IsRefused, IsSilent, IsReset, IsSignal, IsIgnored, Verdict, asked, accepted, resource, verdict, verdict_by, request_verdict, verdict_by_check, refusal_verdict, refusal_code, action, checks, first_failing, first_of, is_request, is_get, is_reserved, has_bad_value, query, values, number_in, block_in, etags, observe_at}
-use Rattle.coap_opts.specs.Fields.{IsMadeOf}
-use Rattle.coap_opts.specs.Served.{action_of, method_in, resource_in}
+use Rattle.coap_opts.specs.Verdict.{Asked, IsAsked, IsRefused, IsSilent, IsReset, IsSignal, IsIgnored, Verdict, asked, accepted, resource, verdict, verdict_by, request_verdict, verdict_by_check, refusal_verdict, refusal_code, action, checks, first_failing, first_of, is_request, is_reserved, has_bad_value, query, values, number_in, block_in, etags, observe_at}
+use Rattle.coap_opts.specs.Classified.{IsErrorCode}
+use Rattle.coap_opts.specs.Fields.{IsMadeOf, method_in, IsAskedWithin, IsBlockFor, is_get}
+use Rattle.coap_opts.specs.Served.{action_of, resource_in}
 use Rattle.coap_opts.proofs.Known.{block1_in_put, block2_in_get, etag_in_get, observe_in_get}
 use Rattle.coap_opts.proofs.Paths.{path_only}
 

@@ -1,12 +1,39 @@
--- What the fields of a request are, said of its message (RFC 7252, 5.10; RFC 7641, 2; RFC 7959, 2.1).
-use Rattle.std.specs.Prelude.{◌≡◌, ℕ, Some}
+-- What the fields of a request are, said of its message, and what they are within (RFC 7252, 5.10; RFC 7641, 2; RFC 7959, 2.1).
+use Rattle.std.specs.Prelude.{◌≡◌, ℕ, Some, ◌<◌, List, [], ◌∷◌, codes, ◌≢◌, Bool, true, false, length, Option, IfSome, ◌≤◌}
 use Rattle.coap_msg.specs.Wire.{Message}
 use Rattle.coap_opts.specs.declared.number.TheConstants as option
 use Rattle.coap_opts.specs.declared.request.Method.{Method}
 use Rattle.coap_opts.specs.declared.request.Method.TheVariants.{Get, Post, Put, Delete}
-use Rattle.coap_opts.specs.Path.{method_of, path_of}
-use Rattle.coap_opts.specs.Served.{method_in, resource_in}
+use Rattle.coap_opts.specs.Path.{method_of}
+use Rattle.coap_opts.specs.Served.{resource_in, action_of}
 use Rattle.coap_opts.specs.Verdict.{Asked, block_in, etags, number_in, observe_at, query, resource, values}
+use Rattle.std.specs.Fmt.{decimal}
+use Rattle.coap_opts.specs.declared.request.Resource.{Resource}
+use Rattle.coap_opts.specs.declared.request.Resource.TheVariants.{Run, Program, Core}
+use Rattle.coap_opts.specs.declared.request.Action.{Action}
+use Rattle.coap_opts.specs.declared.request.Action.TheVariants as actions
+use Rattle.coap_opts.specs.Values.{Place}
+
+-- the method by which it is asked
+abbrev pub method_in : Action → Method
+method_in (actions.Get n) = Get
+method_in (actions.Post n) = Post
+method_in (actions.Install n) = Put
+method_in (actions.Remove n) = Delete
+method_in (actions.Describe n) = Get
+method_in actions.Discover = Get
+
+-- a slot is below 64
+abbrev pub IsResource : Resource → Type 0
+IsResource (Run n) = n < 64
+IsResource (Program n) = n < 64
+IsResource Core = Unit {0}
+
+-- the one path of a resource; a slot in decimal digits, with no zero in front
+abbrev pub path_of : Resource → List (List ℕ)
+path_of (Run n) = codes "r" ∷ decimal n ∷ []
+path_of (Program n) = codes "p" ∷ decimal n ∷ []
+path_of Core = codes ".well-known" ∷ codes "core" ∷ []
 
 -- the code of a method (RFC 7252, 12.1.1)
 abbrev pub method_code : Method → ℕ
@@ -28,3 +55,26 @@ pub record IsMadeOf (m : Message) (r : Asked) : Type 0 where
   pub block1_is : r.block1 ≡ block_in option.BLOCK1 m
   pub block2_is : r.block2 ≡ block_in option.BLOCK2 m
   pub payload_is : r.payload ≡ m.payload
+
+-- a GET of what a program answers
+abbrev pub is_get : Action → Bool
+is_get (actions.Get n) = true
+is_get _ = false
+
+-- a block, where there is one, comes with this method, and its size isn't the reserved one
+abbrev pub IsBlockFor : Method → Method → Option Place → Type 0
+IsBlockFor wanted method block = IfSome block (λ b. (method ≡ wanted) × (b.szx < 7))
+
+-- a request that is carried out: its method is served at its resource, one of the server's, its payload is the message's, and each field is within its limits
+pub record IsAskedWithin (m : Message) (r : Asked) : Type 0 where
+  pub method : method_of m.code ≡ Some (method_in r.action)
+  pub resource : IsResource (resource_in r.action)
+  pub served : action_of (resource_in r.action) (method_in r.action) ≡ Some r.action
+  pub query : length r.query ≤ 64
+  pub etags : length r.etags ≤ 4
+  pub etags_in_get : method_in r.action ≢ Get → r.etags ≡ []
+  pub observe : IfSome r.observe (λ value. is_get r.action ≡ true)
+  pub block1 : IsBlockFor Put (method_in r.action) r.block1
+  pub block2 : IsBlockFor Get (method_in r.action) r.block2
+  pub payload_is : r.payload ≡ m.payload
+  pub short : length m.payload ≤ 1024

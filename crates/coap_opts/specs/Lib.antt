@@ -3,6 +3,7 @@ pub mod Path
 pub mod Served
 pub mod Recognition
 pub mod Verdict
+pub mod Classified
 pub mod Fields
 pub mod Collected
 pub mod Replies

@@ -1,7 +1,6 @@
 -- Methods, and the resources by path.
-use Rattle.std.specs.Prelude.{ℕ, ◌+◌, ◌-◌, ◌*◌, ◌<◌, ◌==◌, ◌&&◌, nat_lt, nat_le, if◌then◌else◌, List, [], ◌∷◌, Option, Some, None, codes}
+use Rattle.std.specs.Prelude.{ℕ, ◌+◌, ◌-◌, ◌*◌, ◌==◌, ◌&&◌, nat_lt, nat_le, if◌then◌else◌, List, [], ◌∷◌, Option, Some, None, codes}
 use Rattle.std.specs.Str.{bytes_eq}
-use Rattle.std.specs.Fmt.{decimal}
 use Rattle.coap_msg.specs.Reading.{◌>>=◌, guard}
 use Rattle.coap_msg.specs.declared.code.TheConstants.Code.{GET, POST, PUT, DELETE}
 use Rattle.coap_opts.specs.declared.request.Method.{Method}
@@ -38,15 +37,3 @@ resource_of (first ∷ second ∷ []) = resource_named first second
 resource_of _ = None
 
 -- ---- the same the other way
-
--- a slot is below 64
-abbrev pub IsResource : Resource → Type 0
-IsResource (Run n) = n < 64
-IsResource (Program n) = n < 64
-IsResource Core = Unit {0}
-
--- the one path of a resource; a slot in decimal digits, with no zero in front
-abbrev pub path_of : Resource → List (List ℕ)
-path_of (Run n) = codes "r" ∷ decimal n ∷ []
-path_of (Program n) = codes "p" ∷ decimal n ∷ []
-path_of Core = codes ".well-known" ∷ codes "core" ∷ []

@@ -47,15 +47,6 @@ action_of _ _ = None
 
 -- ---- the same the other way
 
--- the method by which it is asked
-abbrev pub method_in : Action → Method
-method_in (actions.Get n) = Get
-method_in (actions.Post n) = Post
-method_in (actions.Install n) = Put
-method_in (actions.Remove n) = Delete
-method_in (actions.Describe n) = Get
-method_in actions.Discover = Get
-
 -- the resource of which it is asked
 abbrev pub resource_in : Action → Resource
 resource_in (actions.Get n) = Run n

@@ -1,27 +1,20 @@
 -- The class of a message: the first check that fails, or the request with its fields.
-use Rattle.std.specs.Prelude.{◌≡◌, ◌≢◌, ℕ, ◌<◌, ◌==◌, ◌&&◌, ◌||◌, not, Bool, true, false, nat_lt, if◌then◌else◌, List, [], ◌∷◌, length, take, map, Option, Some, None, Result, Ok, Err, IfSome, codes, ◌≤◌}
+use Rattle.std.specs.Prelude.{ℕ, ◌==◌, ◌&&◌, ◌||◌, not, Bool, true, false, nat_lt, if◌then◌else◌, List, [], ◌∷◌, length, take, map, Option, Some, None, codes}
 use Rattle.std.specs.List.{filter, join_by}
 use Rattle.std.specs.Option.{option_map}
 use Rattle.coap_msg.specs.declared.types.MessageType.{MessageType}
 use Rattle.coap_msg.specs.declared.types.MessageType.TheVariants as kind
-use Rattle.coap_msg.specs.declared.code.Code.{Code}
 use Rattle.coap_msg.specs.declared.code.TheConstants.Code as registered
 use Rattle.coap_msg.specs.Wire.{Message}
-use Rattle.coap_msg.specs.Codes.{code}
 use Rattle.coap_msg.specs.Reading.{◌>>=◌}
 use Rattle.coap_opts.specs.declared.number.TheConstants as option
-use Rattle.coap_opts.specs.declared.request.Method.{Method}
-use Rattle.coap_opts.specs.declared.request.Method.TheVariants.{Get, Put}
 use Rattle.coap_opts.specs.declared.request.Action.{Action}
 use Rattle.coap_opts.specs.declared.request.Action.TheVariants as actions
 use Rattle.coap_opts.specs.declared.request.Resource.{Resource}
-use Rattle.coap_opts.specs.declared.request.Request.{Request}
-use Rattle.coap_opts.specs.declared.request.Classified.{Classified}
-use Rattle.coap_opts.specs.declared.request.Classified.TheVariants as classified
 use Rattle.coap_opts.specs.Values.{Place, place_in, uint_value}
 use Rattle.coap_opts.specs.Recognition.{values_of, has_unknown_critical}
-use Rattle.coap_opts.specs.Path.{IsResource, method_of, resource_of}
-use Rattle.coap_opts.specs.Served.{action_of, method_in, resource_in}
+use Rattle.coap_opts.specs.Path.{method_of, resource_of}
+use Rattle.coap_opts.specs.Served.{action_of}
 
 -- ---- the fields of a request
 
@@ -135,18 +128,6 @@ first_failing ((fails, answer) ∷ more) = if fails then Some answer else first_
 unfoldable pub refusal_code : Message → Option ℕ
 refusal_code m = first_failing (checks m)
 
--- the checks on the options are passed
-pub record IsKnown (m : Message) : Type 0 where
-  pub no_proxy : names_proxy m ≡ false
-  pub no_unknown : has_unknown_critical m.code None m.options ≡ false
-
--- and those on method and path
-pub record IsServedAt (m : Message) (method : Method) (at : Resource) (action : Action) : Type 0 where
-  pub known : IsKnown m
-  pub method_is : method_of m.code ≡ Some method
-  pub resource_is : resource m ≡ Some at
-  pub served : action_of at method ≡ Some action
-
 -- ---- the verdict
 
 -- a request; a refusal by its code; silence; a reset; a signal, by whether it is a reset; nothing
@@ -192,60 +173,4 @@ verdict_by kind.Reset m = if m.code == 0 then IsSignal true else IsIgnored
 unfoldable pub verdict : Message → Verdict
 verdict m = verdict_by m.kind m
 
--- ---- what is answered, as a verdict
-
--- a request without where its payload lies
-abbrev pub asked_by : Request → Asked
-asked_by r = record {
-  action = r.action;
-  query = r.query.items;
-  content_format = r.content_format;
-  etags = r.etags.items;
-  observe = r.observe;
-  block1 = r.block1;
-  block2 = r.block2;
-  payload = r.payload.now;
-}
-
--- the request where no check fails, or the code of the first that does
-abbrev pub IsRequestOf : Message → Result Request Code → Type 0
-IsRequestOf m (Ok r) = (refusal_code m ≡ None) × (asked m ≡ Some (asked_by r))
-IsRequestOf m (Err answer) = refusal_code m ≡ Some answer.byte
-
-abbrev pub verdict_of : Classified → Verdict
-verdict_of (classified.Request r) = IsAsked (asked_by r)
-verdict_of (classified.Refused answer) = IsRefused answer.byte
-verdict_of classified.Silent = IsSilent
-verdict_of classified.Reset = IsReset
-verdict_of (classified.Signal reset) = IsSignal reset
-verdict_of classified.Ignored = IsIgnored
-
 -- ---- what a verdict is within
-
--- a GET of what a program answers
-abbrev pub is_get : Action → Bool
-is_get (actions.Get n) = true
-is_get _ = false
-
--- a block, where there is one, comes with this method, and its size isn't the reserved one
-abbrev pub IsBlockFor : Method → Method → Option Place → Type 0
-IsBlockFor wanted method block = IfSome block (λ b. (method ≡ wanted) × (b.szx < 7))
-
--- a request that is carried out: its method is served at its resource, one of the server's, its payload is the message's, and each field is within its limits
-pub record IsAskedWithin (m : Message) (r : Asked) : Type 0 where
-  pub method : method_of m.code ≡ Some (method_in r.action)
-  pub resource : IsResource (resource_in r.action)
-  pub served : action_of (resource_in r.action) (method_in r.action) ≡ Some r.action
-  pub query : length r.query ≤ 64
-  pub etags : length r.etags ≤ 4
-  pub etags_in_get : method_in r.action ≢ Get → r.etags ≡ []
-  pub observe : IfSome r.observe (λ value. is_get r.action ≡ true)
-  pub block1 : IsBlockFor Put (method_in r.action) r.block1
-  pub block2 : IsBlockFor Get (method_in r.action) r.block2
-  pub payload_is : r.payload ≡ m.payload
-  pub short : length m.payload ≤ 1024
-
--- a refusal is the reply of a client error or a server error, 4.00 to 5.31
-pub record IsErrorCode (answer : ℕ) : Type 0 where
-  pub at_least : code 4 0 ≤ answer
-  pub at_most : answer ≤ code 5 31

@@ -1,6 +1,7 @@
 //! Request classification: message type, options, method, path, in the order of the checks.
 ghost use Rattle.std.specs.Prelude.{◌≡◌, ◌||◌, None, Some};
-ghost use Rattle.coap_opts.specs.Verdict.{IsRequestOf, refusal_verdict, request_verdict, verdict_of, verdict};
+ghost use Rattle.coap_opts.specs.Verdict.{refusal_verdict, request_verdict, verdict};
+ghost use Rattle.coap_opts.specs.Classified.{IsRequestOf, verdict_of};
 ghost use Rattle.coap_opts.specs.Verdict as spec;
 
 use crate::block::Block;

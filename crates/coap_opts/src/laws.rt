@@ -1,15 +1,19 @@
 //! Laws of what the definitions say, for the crates above: each function is a law, and its contract says it.
 ghost use Rattle.std.specs.Prelude.{◌≡◌, ◌≢◌, ◌<◌, ◌≤◌, ◌^◌, ℕ, List, Some, length, slice_index};
 ghost use Rattle.coap_opts.specs.Values.{uint_bytes, uint_value};
-ghost use Rattle.coap_opts.specs.Path.{IsResource, method_of, path_of, resource_of};
+ghost use Rattle.coap_opts.specs.Path.{method_of, resource_of};
+ghost use Rattle.coap_opts.specs.Fields.{IsResource, path_of};
 ghost use Rattle.coap_opts.specs.Fields.{IsMadeOf, method_code};
 ghost use Rattle.coap_msg.specs.Wire.{Message};
-ghost use Rattle.coap_opts.specs.Verdict.{Asked, IsAsked, IsAskedWithin, IsErrorCode, IsRefused, verdict};
+ghost use Rattle.coap_opts.specs.Verdict.{Asked, IsAsked, IsRefused, verdict};
+ghost use Rattle.coap_opts.specs.Classified.{IsErrorCode};
+ghost use Rattle.coap_opts.specs.Fields.{IsAskedWithin};
 ghost use Rattle.coap_opts.specs.declared.request.Method.{Method};
 ghost use Rattle.coap_opts.specs.declared.request.Method.TheVariants.{Get, Post, Put, Delete};
 ghost use Rattle.coap_opts.specs.declared.request.Resource.{Resource};
 ghost use Rattle.coap_opts.specs.declared.request.Action.{Action};
-ghost use Rattle.coap_opts.specs.Served.{action_of, method_in, resource_in};
+ghost use Rattle.coap_opts.specs.Served.{action_of, resource_in};
+ghost use Rattle.coap_opts.specs.Fields.{method_in};
 
 use crate::number::{
     BLOCK1, BLOCK2, CONTENT_FORMAT, ETAG, OBSERVE, PROXY_SCHEME, PROXY_URI, URI_HOST, URI_PATH,

@@ -13,13 +13,13 @@ use Rattle.coap_opts.specs.declared.request.Method.{Method}
 use Rattle.coap_opts.specs.declared.request.Method.TheVariants as methods
 use Rattle.coap_opts.specs.declared.request.Resource.{Resource}
 use Rattle.coap_opts.specs.declared.request.Resource.TheVariants as resources
-use Rattle.coap_opts.specs.Fields.{IsMadeOf, method_code}
-use Rattle.coap_opts.specs.Path.{IsResource, method_of, path_of, resource_of}
+use Rattle.coap_opts.specs.Fields.{IsMadeOf, method_code, IsResource, path_of, method_in, IsBlockFor}
+use Rattle.coap_opts.specs.Path.{method_of, resource_of}
 use Rattle.coap_opts.specs.Values.{Place}
 use Rattle.coap_opts.specs.declared.request.Action.{Action}
 use Rattle.coap_opts.specs.declared.request.Action.TheVariants as actions
-use Rattle.coap_opts.specs.Served.{action_of, method_in, resource_in}
-use Rattle.coap_opts.specs.Verdict.{Asked, IsBlockFor, Verdict, IsAsked, IsRefused, IsSilent, IsReset, IsSignal, IsIgnored, block_in, etags, number_in, observe_at, values, verdict}
+use Rattle.coap_opts.specs.Served.{action_of, resource_in}
+use Rattle.coap_opts.specs.Verdict.{Asked, Verdict, IsAsked, IsRefused, IsSilent, IsReset, IsSignal, IsIgnored, block_in, etags, number_in, observe_at, values, verdict}
 use Rattle.coap_opts.proofs.Paths.{path_named}
 use Rattle.coap_opts.proofs.Rows.{code_is}
 use Rattle.coap_opts.proofs.Within.{action_served, asked_made, asked_within}

@@ -8,13 +8,13 @@ use Rattle.coap_msg.specs.declared.types.Bad.TheVariants as bad
 use Rattle.coap_msg.specs.declared.types.Endpoint.{Endpoint}
 use Rattle.coap_msg.specs.Wire.{Message}
 use Rattle.coap_msg.specs.Reading.{reading_of}
-use Rattle.coap_opts.specs.Path.{IsResource}
+use Rattle.coap_opts.specs.Fields.{IsResource, IsAskedWithin}
 use Rattle.coap_opts.specs.declared.request.Action.{Action}
 use Rattle.coap_opts.specs.declared.request.Action.TheVariants as actions
 use Rattle.coap_opts.specs.Served.{resource_in}
 use Rattle.coap_opts.specs.declared.request.Resource.{Resource}
 use Rattle.coap_opts.specs.declared.request.Resource.TheVariants as resources
-use Rattle.coap_opts.specs.Verdict.{Asked, Verdict, IsAsked, IsRefused, IsSilent, IsReset, IsSignal, IsIgnored, IsAskedWithin, verdict}
+use Rattle.coap_opts.specs.Verdict.{Asked, Verdict, IsAsked, IsRefused, IsSilent, IsReset, IsSignal, IsIgnored, verdict}
 use Rattle.coap_opts.proofs.Within.{asked_within}
 use Rattle.coap_dedup.specs.Exchanges.{Look, IsNew, IsBusy, IsAgain, IsSilent as IsAnsweredNon, IsFull}
 use Rattle.fc_registry.specs.declared.job.Job.{Job}

@@ -1,9 +1,10 @@
 -- What is done about a request that is new, as it is seen.
 use Rattle.std.specs.Prelude.{◌≤◌, length}
 use Rattle.coap_msg.specs.Wire.{Message}
-use Rattle.coap_opts.specs.Path.{IsResource}
+use Rattle.coap_opts.specs.Fields.{IsResource}
 use Rattle.coap_opts.specs.Served.{resource_in}
-use Rattle.coap_opts.specs.Verdict.{Asked, asked_by}
+use Rattle.coap_opts.specs.Verdict.{Asked}
+use Rattle.coap_opts.specs.Classified.{asked_by}
 use Rattle.fc_core.specs.declared.front.Asking.{Asking}
 use Rattle.fc_core.specs.declared.front.Asking.TheVariants.{Serve, Refuse, Hush}
 use Rattle.fc_core.specs.Exchanges.{FrontState}

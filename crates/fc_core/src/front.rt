@@ -1,6 +1,7 @@
 //! The front: exchanges, and the way in and out.
 ghost use Rattle.std.specs.Prelude.{◌≡◌, ◌≤◌, [], false, IfOk, Some, length};
-ghost use Rattle.coap_opts.specs.Verdict.{asked_by, verdict};
+ghost use Rattle.coap_opts.specs.Verdict.{verdict};
+ghost use Rattle.coap_opts.specs.Classified.{asked_by};
 ghost use Rattle.coap_dedup.specs.Exchanges.{IsNew};
 ghost use Rattle.fc_core.specs.Answering.{AnswersIn, after_answered, emission_of, responded};
 ghost use Rattle.fc_core.specs.Askings.{IsAsking, IsWithinLimits, asked_in, new_request};

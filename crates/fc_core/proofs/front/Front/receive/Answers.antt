@@ -1,5 +1,5 @@
 use Rattle.std.proofs.Common.{ℕ, List, ◌≤◌, length, sym, subst}
-use Rattle.coap_opts.specs.Verdict.{asked_by}
+use Rattle.coap_opts.specs.Classified.{asked_by}
 use Rattle.fc_core.proofs.front.Front.receive.Goals as goal
 
 pub request-requires : goal.request-requires

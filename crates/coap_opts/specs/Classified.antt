@@ -1,0 +1,58 @@
+-- What `classify` answers, as a verdict, and what a message that passed its checks is.
+use Rattle.std.specs.Prelude.{◌≡◌, ℕ, false, Some, None, Result, Ok, Err, ◌≤◌}
+use Rattle.coap_msg.specs.declared.code.Code.{Code}
+use Rattle.coap_msg.specs.Wire.{Message}
+use Rattle.coap_msg.specs.Codes.{code}
+use Rattle.coap_opts.specs.declared.request.Method.{Method}
+use Rattle.coap_opts.specs.declared.request.Action.{Action}
+use Rattle.coap_opts.specs.declared.request.Resource.{Resource}
+use Rattle.coap_opts.specs.declared.request.Request.{Request}
+use Rattle.coap_opts.specs.declared.request.Classified.{Classified}
+use Rattle.coap_opts.specs.declared.request.Classified.TheVariants as classified
+use Rattle.coap_opts.specs.Recognition.{has_unknown_critical}
+use Rattle.coap_opts.specs.Path.{method_of}
+use Rattle.coap_opts.specs.Served.{action_of}
+use Rattle.coap_opts.specs.Verdict.{resource, Asked, asked, names_proxy, refusal_code, Verdict, IsAsked, IsRefused, IsSilent, IsReset, IsSignal, IsIgnored}
+
+-- the checks on the options are passed
+pub record IsKnown (m : Message) : Type 0 where
+  pub no_proxy : names_proxy m ≡ false
+  pub no_unknown : has_unknown_critical m.code None m.options ≡ false
+
+-- and those on method and path
+pub record IsServedAt (m : Message) (method : Method) (at : Resource) (action : Action) : Type 0 where
+  pub known : IsKnown m
+  pub method_is : method_of m.code ≡ Some method
+  pub resource_is : resource m ≡ Some at
+  pub served : action_of at method ≡ Some action
+
+-- a request without where its payload lies
+abbrev pub asked_by : Request → Asked
+asked_by r = record {
+  action = r.action;
+  query = r.query.items;
+  content_format = r.content_format;
+  etags = r.etags.items;
+  observe = r.observe;
+  block1 = r.block1;
+  block2 = r.block2;
+  payload = r.payload.now;
+}
+
+-- the request where no check fails, or the code of the first that does
+abbrev pub IsRequestOf : Message → Result Request Code → Type 0
+IsRequestOf m (Ok r) = (refusal_code m ≡ None) × (asked m ≡ Some (asked_by r))
+IsRequestOf m (Err answer) = refusal_code m ≡ Some answer.byte
+
+abbrev pub verdict_of : Classified → Verdict
+verdict_of (classified.Request r) = IsAsked (asked_by r)
+verdict_of (classified.Refused answer) = IsRefused answer.byte
+verdict_of classified.Silent = IsSilent
+verdict_of classified.Reset = IsReset
+verdict_of (classified.Signal reset) = IsSignal reset
+verdict_of classified.Ignored = IsIgnored
+
+-- a refusal is the reply of a client error or a server error, 4.00 to 5.31
+pub record IsErrorCode (answer : ℕ) : Type 0 where
+  pub at_least : code 4 0 ≤ answer
+  pub at_most : answer ≤ code 5 31
