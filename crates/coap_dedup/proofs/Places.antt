@@ -11,7 +11,8 @@ use Rattle.arrayvec.specs.ArrayVec.{ArrayVec}
 use Rattle.coap_msg.specs.declared.types.Endpoint.{Endpoint}
 use Rattle.coap_dedup.specs.declared.exchange.Kept.{Kept}
 use Rattle.coap_dedup.specs.declared.exchange.Opened.{Opened}
-use Rattle.coap_dedup.specs.Exchanges.{Exchange, IsNew, Look, answered, answered_if, has_room, is_of, is_open, look_by, new_or_full, repeated_by}
+use Rattle.coap_dedup.specs.Exchanges.{Exchange, IsNew, Look, answered_if, has_room, is_of, look_by, new_or_full, repeated_by}
+use Rattle.coap_dedup.specs.Calls.{answered, is_open}
 use Rattle.coap_dedup.specs.Keys.{key_of}
 use Rattle.coap_dedup.specs.Requests.{has_key}
 use Rattle.coap_dedup.specs.Views.{Arrives, IsArrived, IsGone, IsNumbered, answer_if, as_exchange, is_from, request_is_live, kept_at, no_answer, with_answer}

@@ -1,11 +1,9 @@
 -- The exchanges that are held (after RFC 7252, 4.5; the one window for all requests is this project's own).
-use Rattle.std.specs.Prelude.{ℕ, ◌+◌, ◌==◌, ◌&&◌, Bool, true, false, nat_lt, List, [], ◌∷◌, ◌++◌, length, filter, find, Option, Some, None}
+use Rattle.std.specs.Prelude.{ℕ, ◌==◌, ◌&&◌, Bool, true, false, nat_lt, List, length, find, Option, Some, None}
 use Rattle.arrayvec.specs.ArrayVec.{ArrayVec}
 use Rattle.coap_msg.specs.declared.types.Endpoint.{Endpoint}
 use Rattle.coap_msg.specs.Endpoints.{same_endpoint}
 use Rattle.coap_msg.specs.Windows.{within_window}
-use Rattle.coap_dedup.specs.declared.exchanges.Closed.{Closed}
-use Rattle.coap_dedup.specs.declared.exchanges.Closed.TheVariants as answers
 
 -- a request that was opened: whose it is, its message id, whether it is confirmable, its number and moment, and its answer,
 -- where it has one
@@ -30,10 +28,6 @@ is_live now e = within_window now e.at
 -- it is of this endpoint and message id
 abbrev pub is_of : Endpoint → ℕ → Exchange → Bool
 is_of to id e = same_endpoint e.endpoint to && (e.id == id)
-
--- what is a window old or more is let go
-abbrev pub expired : Table → ℕ → Table
-expired t now = record { now = now; opened = t.opened; held = filter (is_live now) t.held }
 
 -- there is room where fewer than 1,024 are held, and their count isn't at its end
 abbrev pub has_room : ℕ → ℕ → Bool
@@ -72,26 +66,6 @@ look_by None room = new_or_full room
 abbrev pub look_at : Table → Endpoint → ℕ → Look
 look_at t to id = look_by (find (is_of to id) t.held) (has_room (length t.held) t.opened)
 
--- it is opened last, without an answer
-abbrev pub opened : Table → ℕ → Endpoint → ℕ → Bool → Table
-opened t now to id confirmable = record {
-  now = now;
-  opened = t.opened + 1;
-  held = t.held ++ record { endpoint = to; id = id; confirmable = confirmable; number = t.opened; at = now; answer = None } ∷ [];
-}
-
--- it is the exchange of this number, and live
-abbrev pub is_open : ℕ → ℕ → Exchange → Bool
-is_open now number e = (e.number == number) && is_live now e
-
 abbrev pub answered_if : Bool → ArrayVec ℕ → Exchange → Exchange
 answered_if true bytes e = record e { answer = Some bytes }
 answered_if false bytes e = e
-
--- an exchange after the answer of the one of this number
-abbrev pub answered : ℕ → ℕ → ArrayVec ℕ → Exchange → Exchange
-answered now number bytes e = answered_if (is_open now number e) bytes e
-
-abbrev pub closing : Bool → Closed
-closing true = answers.Closed
-closing false = answers.Late

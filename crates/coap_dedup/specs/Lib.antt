@@ -1,4 +1,5 @@
 pub mod Exchanges
+pub mod Calls
 pub mod Keys
 pub mod Looks
 pub mod Requests

@@ -1,7 +1,8 @@
 //! The exchanges that are held.
 ghost use Rattle.std.specs.Prelude.{◌≡◌, ◌+◌, ◌<◌, ◌≤◌, [], length, map, IfOk, MatchOption};
 ghost use Rattle.std.specs.List.{list_any};
-ghost use Rattle.coap_dedup.specs.Exchanges.{is_open, answered, expired, look_at, new_or_full, has_room, repeated_by, IsNew, closing, opened};
+ghost use Rattle.coap_dedup.specs.Exchanges.{look_at, new_or_full, has_room, repeated_by, IsNew};
+ghost use Rattle.coap_dedup.specs.Calls.{is_open, answered, expired, closing, opened};
 ghost use Rattle.coap_dedup.specs.Looks.{look_of};
 ghost use Rattle.coap_dedup.specs.Views.{IsGone, IsNumbered, answer_if};
 

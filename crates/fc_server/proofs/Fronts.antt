@@ -9,7 +9,8 @@ use Rattle.arrayvec.specs.ArrayVec.{ArrayVec}
 use Rattle.coap_msg.specs.declared.types.Endpoint.{Endpoint}
 use Rattle.coap_msg.specs.declared.types.Emission.{Emission}
 use Rattle.coap_dedup.specs.Exchanges.{Exchange}
-use Rattle.coap_dedup.specs.Exchanges.{is_live as is_held, answered, answered_if}
+use Rattle.coap_dedup.specs.Exchanges.{is_live as is_held, answered_if}
+use Rattle.coap_dedup.specs.Calls.{answered}
 use Rattle.fc_core.specs.Exchanges.{FrontState, advanced}
 use Rattle.fc_core.specs.History.{Seen, answered_in, front_at, front_in}
 use Rattle.fc_core.specs.Ids.{Ids}

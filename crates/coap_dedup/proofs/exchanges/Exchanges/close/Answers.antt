@@ -3,7 +3,8 @@ use Rattle.std.specs.List.{list_any}
 use Rattle.std.specs.Option.{MatchOption}
 use Rattle.coap_dedup.specs.declared.exchange.Opened.{Opened}
 use Rattle.coap_dedup.specs.declared.exchange.Kept.{Kept}
-use Rattle.coap_dedup.specs.Exchanges.{Table, answered, closing, is_open}
+use Rattle.coap_dedup.specs.Exchanges.{Table}
+use Rattle.coap_dedup.specs.Calls.{answered, closing, is_open}
 use Rattle.coap_dedup.specs.Views.{IsGone, IsNumbered, as_exchange}
 use Rattle.coap_dedup.proofs.Places.{none_answered, none_held, none_open, numbered_from, one_answered, one_open, too_old}
 use Rattle.coap_dedup.proofs.exchanges.Exchanges.close.Goals as goal

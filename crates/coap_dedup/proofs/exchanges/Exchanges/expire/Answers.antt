@@ -1,6 +1,7 @@
 use Rattle.std.proofs.Common.{◌≡◌, ◌∙◌, ◌≤◌, ap, sym, subst, length, map, arith}
 use Rattle.std.specs.Prelude.{filter}
-use Rattle.coap_dedup.specs.Exchanges.{Table, expired}
+use Rattle.coap_dedup.specs.Exchanges.{Table}
+use Rattle.coap_dedup.specs.Calls.{expired}
 use Rattle.coap_dedup.specs.Views.{IsArrived, as_exchange, request_is_live}
 use Rattle.coap_dedup.proofs.Arrival.{expired_arrived, fewer, filter_seen}
 use Rattle.coap_dedup.proofs.exchanges.Exchanges.expire.Goals as goal

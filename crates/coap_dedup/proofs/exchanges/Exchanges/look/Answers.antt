@@ -3,7 +3,8 @@ use Rattle.std.proofs.lemmas.List.{length-map}
 use Rattle.std.specs.Prelude.{find}
 use Rattle.coap_dedup.specs.declared.exchange.Kept.{Kept}
 use Rattle.coap_dedup.specs.declared.exchange.Opened.{Opened}
-use Rattle.coap_dedup.specs.Exchanges.{Table, expired, has_room, look_at, new_or_full, repeated_by}
+use Rattle.coap_dedup.specs.Exchanges.{Table, has_room, look_at, new_or_full, repeated_by}
+use Rattle.coap_dedup.specs.Calls.{expired}
 use Rattle.coap_dedup.specs.Looks.{look_of}
 use Rattle.coap_dedup.specs.Views.{answer_if, as_exchange}
 use Rattle.coap_dedup.specs.declared.key.Key.{Key}

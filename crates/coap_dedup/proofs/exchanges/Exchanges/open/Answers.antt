@@ -5,7 +5,8 @@ use Rattle.coap_msg.specs.declared.types.Endpoint.{Endpoint}
 use Rattle.coap_dedup.specs.declared.exchange.Kept.{Kept}
 use Rattle.coap_dedup.specs.declared.exchange.Opened.{Opened}
 use Rattle.coap_dedup.specs.declared.key.Key.{Key}
-use Rattle.coap_dedup.specs.Exchanges.{Exchange, IsNew, Table, has_room, look_at, opened}
+use Rattle.coap_dedup.specs.Exchanges.{Exchange, IsNew, Table, has_room, look_at}
+use Rattle.coap_dedup.specs.Calls.{opened}
 use Rattle.coap_dedup.specs.Requests.{has_key}
 use Rattle.coap_dedup.specs.Views.{IsArrived, as_exchange, kept_at, no_answer, with_answer}
 use Rattle.coap_dedup.proofs.Arrival.{opened_arrived}

@@ -1,0 +1,31 @@
+-- What the calls leave of the table of exchanges, and what they tell.
+use Rattle.std.specs.Prelude.{ℕ, ◌+◌, ◌==◌, ◌&&◌, Bool, true, false, [], ◌∷◌, ◌++◌, filter, None}
+use Rattle.arrayvec.specs.ArrayVec.{ArrayVec}
+use Rattle.coap_msg.specs.declared.types.Endpoint.{Endpoint}
+use Rattle.coap_dedup.specs.declared.exchanges.Closed.{Closed}
+use Rattle.coap_dedup.specs.declared.exchanges.Closed.TheVariants as answers
+use Rattle.coap_dedup.specs.Exchanges.{Exchange, Table, is_live, answered_if}
+
+-- what is a window old or more is let go
+abbrev pub expired : Table → ℕ → Table
+expired t now = record { now = now; opened = t.opened; held = filter (is_live now) t.held }
+
+-- it is opened last, without an answer
+abbrev pub opened : Table → ℕ → Endpoint → ℕ → Bool → Table
+opened t now to id confirmable = record {
+  now = now;
+  opened = t.opened + 1;
+  held = t.held ++ record { endpoint = to; id = id; confirmable = confirmable; number = t.opened; at = now; answer = None } ∷ [];
+}
+
+-- it is the exchange of this number, and live
+abbrev pub is_open : ℕ → ℕ → Exchange → Bool
+is_open now number e = (e.number == number) && is_live now e
+
+-- an exchange after the answer of the one of this number
+abbrev pub answered : ℕ → ℕ → ArrayVec ℕ → Exchange → Exchange
+answered now number bytes e = answered_if (is_open now number e) bytes e
+
+abbrev pub closing : Bool → Closed
+closing true = answers.Closed
+closing false = answers.Late
