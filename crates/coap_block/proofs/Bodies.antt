@@ -8,7 +8,7 @@ use Rattle.coap_msg.specs.declared.types.Endpoint.{Endpoint}
 use Rattle.coap_block.specs.declared.transfer.Transfer.{Transfer}
 use Rattle.coap_opts.specs.Values.{Place, block_size}
 use Rattle.coap_block.specs.Uploads.{Add, Continues, IsWhole, add_of, before_by, before_of, body_among, body_behind, body_with, checked_by, extended_by, has_length, is_full, is_transfer_of, live, others, unless_full, unless_more}
-use Rattle.coap_block.specs.Transfers.{Begins, Fits, HasLength}
+use Rattle.coap_block.specs.UnderWay.{Begins, Fits, HasLength}
 
 -- the bytes of a transfer that was found
 abbrev pub found_bytes : Option Transfer → Option (List ℕ)

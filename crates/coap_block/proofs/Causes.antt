@@ -4,7 +4,8 @@ use Rattle.std.specs.Prelude.{◌↔◌, nat_lt, ◌==◌}
 use Rattle.std.proofs.lemmas.Bool.{eqb-true, eqb-false, ltb-true, ltb-false}
 use Rattle.coap_opts.specs.Values.{Place, block_size}
 use Rattle.coap_block.specs.Uploads.{Add, IsIncomplete, IsBadLength, IsTooLarge, IsFull, block_added, has_length}
-use Rattle.coap_block.specs.Transfers.{Addition, BeginsBehind, FitsBehind, HasLength, RisesTo, bytes_held, others_at, transfers}
+use Rattle.coap_block.specs.Transfers.{Addition, transfers}
+use Rattle.coap_block.specs.UnderWay.{BeginsBehind, FitsBehind, HasLength, RisesTo, bytes_held, others_at}
 use Rattle.coap_block.specs.Causes.{FindsNoRoom, HasLargeSum, HasWrongLength, IsOutOfPlace}
 use Rattle.coap_block.proofs.Bodies.{long_from, long_to, some_inner}
 use Rattle.coap_block.proofs.Refusals.{out_of_place, too_large, too_many, wrong_length}

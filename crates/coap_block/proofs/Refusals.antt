@@ -5,7 +5,8 @@ use Rattle.std.proofs.lemmas.Bool.{and_left, eq-eqb, ne_eqb, le-ltb, lt-ltb}
 use Rattle.coap_block.specs.declared.transfer.Transfer.{Transfer}
 use Rattle.coap_opts.specs.Values.{Place, block_size}
 use Rattle.coap_block.specs.Uploads.{Add, Continues, IsWhole, IsIncomplete, IsBadLength, IsTooLarge, IsFull, before_by, before_of, block_added, body_among, body_behind, body_with, checked_by, extended_by, has_length, is_transfer_of, live, unless_full, unless_more}
-use Rattle.coap_block.specs.Transfers.{Addition, BeginsBehind, HasLength, IsUnderWay, RisesTo, others_at, transfers}
+use Rattle.coap_block.specs.Transfers.{Addition, transfers}
+use Rattle.coap_block.specs.UnderWay.{BeginsBehind, HasLength, IsUnderWay, RisesTo, others_at}
 use Rattle.coap_block.proofs.Bodies.{BeginsBy, begins_to, found_bytes, long_from, long_to}
 use Rattle.coap_block.proofs.UnderWay.{held_from, held_to}
 

@@ -6,7 +6,8 @@ use Rattle.coap_msg.specs.declared.types.Endpoint.{Endpoint}
 use Rattle.coap_block.specs.declared.transfer.Transfer.{Transfer}
 use Rattle.coap_opts.specs.Values.{Place}
 use Rattle.coap_block.specs.Uploads.{Add, Continues, IsWhole, after_add, before_of, block_added, body_among, body_behind, is_full, is_transfer_of, is_under_way, kept_transfer, live, others, same_key, unless_more}
-use Rattle.coap_block.specs.Transfers.{Addition, FitsBehind, IsUnderWay, RisesTo, StillUnderWay, block_if, bytes_held, transfers}
+use Rattle.coap_block.specs.Transfers.{Addition, transfers}
+use Rattle.coap_block.specs.UnderWay.{FitsBehind, IsUnderWay, RisesTo, StillUnderWay, block_if, bytes_held}
 use Rattle.coap_block.proofs.Finds.{find_agree}
 use Rattle.coap_block.proofs.Others.{filter_short}
 use Rattle.coap_block.proofs.Rooms.{has_room}

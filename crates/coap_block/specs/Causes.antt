@@ -1,7 +1,8 @@
 -- Why a block is refused, said of the blocks that were added before it (RFC 7959, 2.9).
 use Rattle.std.specs.Prelude.{◌≡◌, ◌≢◌, ℕ, ◌+◌, ◌<◌, ◌≤◌, List, length}
 use Rattle.coap_opts.specs.Values.{Place, block_size}
-use Rattle.coap_block.specs.Transfers.{Addition, BeginsBehind, HasLength, others_at}
+use Rattle.coap_block.specs.Transfers.{Addition}
+use Rattle.coap_block.specs.UnderWay.{BeginsBehind, HasLength, others_at}
 
 -- it has number 0, and 16 transfers of other endpoints and slots are under way
 pub record FindsNoRoom (h : List Addition) (a : Addition) (b : Place) : Type 0 where

@@ -1,7 +1,5 @@
 -- The block of a body that a GET asks (RFC 7959, 2.4).
-use Rattle.std.specs.Prelude.{ℕ, ◌+◌, ◌*◌, ◌&&◌, Bool, true, false, nat_lt, not, List, [], length, take, drop, Option, Some, None, Result, Ok, Err}
-use Rattle.coap_block.specs.declared.cut.Cut.{Cut}
-use Rattle.coap_block.specs.declared.cut.PastEnd.{PastEnd}
+use Rattle.std.specs.Prelude.{ℕ, ◌+◌, ◌*◌, ◌&&◌, Bool, true, false, nat_lt, not, List, [], length, take, drop, Option, Some, None}
 use Rattle.coap_opts.specs.Values.{Place, block_size}
 
 -- a part of a body: its bytes, and its place where it isn't the whole
@@ -41,8 +39,3 @@ cut_unasked false bytes = Some (record { bytes = bytes; place = None })
 abbrev pub cut_of : List ℕ → Option Place → Option Part
 cut_of bytes None = cut_unasked (nat_lt 1024 (length bytes)) bytes
 cut_of bytes (Some place) = cut_at bytes place.number place.szx
-
--- a cut, as it is seen
-abbrev pub cut_seen : Result Cut PastEnd → Option Part
-cut_seen (Ok cut) = Some (record { bytes = cut.bytes.now; place = cut.block })
-cut_seen (Err past) = None

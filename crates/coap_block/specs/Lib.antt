@@ -2,5 +2,6 @@ pub mod Cuts
 pub mod Uploads
 pub mod Views
 pub mod Transfers
+pub mod UnderWay
 pub mod Pieces
 pub mod Causes

@@ -1,6 +1,7 @@
 //! The block of a body that a GET asks (RFC 7959, 2.4).
 ghost use Rattle.std.specs.Prelude.{◌≡◌, ◌<◌, ◌^◌};
-ghost use Rattle.coap_block.specs.Cuts.{cut_at, cut_of, cut_seen};
+ghost use Rattle.coap_block.specs.Cuts.{cut_at, cut_of};
+ghost use Rattle.coap_block.specs.Views.{cut_seen};
 
 use coap_opts::Block;
 

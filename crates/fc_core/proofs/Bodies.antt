@@ -14,7 +14,8 @@ use Rattle.coap_opts.specs.Values.{Place}
 use Rattle.coap_opts.specs.Verdict.{Asked, Verdict, IsAsked, IsRefused, IsSilent, IsReset, IsSignal, IsIgnored, verdict}
 use Rattle.coap_dedup.specs.Exchanges.{Look, IsNew, IsBusy, IsAgain, IsSilent as IsAnsweredNon, IsFull as IsTableFull}
 use Rattle.coap_block.specs.Cuts.{cut_at}
-use Rattle.coap_block.specs.Transfers.{Addition, FitsBehind, RisesTo, transfers}
+use Rattle.coap_block.specs.Transfers.{Addition, transfers}
+use Rattle.coap_block.specs.UnderWay.{FitsBehind, RisesTo}
 use Rattle.coap_block.specs.Uploads.{Add, add_of, block_added, Continues, IsWhole, IsIncomplete, IsBadLength, IsTooLarge, IsFull}
 use Rattle.fc_registry.specs.declared.job.Ask.TheVariants.{Install as Installs}
 use Rattle.fc_registry.specs.declared.job.Opening.{Opening}

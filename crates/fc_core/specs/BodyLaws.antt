@@ -8,7 +8,8 @@ use Rattle.coap_msg.specs.Wire.{Message}
 use Rattle.coap_opts.specs.Values.{Place}
 use Rattle.coap_opts.specs.declared.request.Action.TheVariants as actions
 use Rattle.coap_opts.specs.Verdict.{Asked, IsAsked, verdict}
-use Rattle.coap_block.specs.Transfers.{Addition, FitsBehind}
+use Rattle.coap_block.specs.Transfers.{Addition}
+use Rattle.coap_block.specs.UnderWay.{FitsBehind}
 use Rattle.fc_registry.specs.declared.job.Ask.TheVariants.{Install as Installs}
 use Rattle.fc_registry.specs.declared.job.Job.{Job}
 use Rattle.fc_core.specs.declared.event.Event.{Event}

@@ -1,7 +1,8 @@
 //! What a history promises of bodies that come and go in blocks: each function is a law, and its contract says it.
 ghost use Rattle.coap_block.specs.Causes.{FindsNoRoom, HasLargeSum, HasWrongLength, IsOutOfPlace};
 ghost use Rattle.coap_block.specs.Cuts.{cut_at};
-ghost use Rattle.coap_block.specs.Transfers.{FitsBehind, RisesTo, transfers};
+ghost use Rattle.coap_block.specs.Transfers.{transfers};
+ghost use Rattle.coap_block.specs.UnderWay.{FitsBehind, RisesTo};
 ghost use Rattle.coap_msg.specs.Codes.{code};
 ghost use Rattle.coap_msg.specs.Wire.{Message};
 ghost use Rattle.coap_msg.specs.declared.types.Endpoint.{Endpoint};

@@ -1,5 +1,6 @@
 use Rattle.std.proofs.Common.{ap, sym, ◌∙◌}
-use Rattle.coap_block.specs.Cuts.{cut_seen, cut_of}
+use Rattle.coap_block.specs.Cuts.{cut_of}
+use Rattle.coap_block.specs.Views.{cut_seen}
 use Rattle.coap_reply.proofs.Within1024.{cut_within}
 use Rattle.coap_reply.proofs.block.BodyBlock.cut.Goals as goal
 
