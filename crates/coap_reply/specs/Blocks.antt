@@ -1,11 +1,9 @@
 -- Blocks of answers, and the options that name them (RFC 7959, 2).
-use Rattle.std.specs.Prelude.{◌≡◌, ℕ, List, [], ◌∷◌, Option, Some, None, min}
+use Rattle.std.specs.Prelude.{ℕ, List, [], ◌∷◌, Option, Some, None, min}
 use Rattle.std.specs.Option.{option_map}
 use Rattle.coap_opts.specs.declared.number.TheConstants as option
-use Rattle.coap_opts.specs.declared.reply.ReplyOptions.{ReplyOptions}
 use Rattle.coap_opts.specs.Values.{Place, block_bytes}
 use Rattle.coap_block.specs.Cuts.{Part, cut_of}
-use Rattle.coap_reply.specs.declared.block.BodyBlock.{BodyBlock}
 
 -- no request that is carried out asks the reserved size, 7; it would count as the greatest
 abbrev pub asked_place : Place → Place
@@ -15,10 +13,6 @@ asked_place p = record p { szx = min p.szx 6 }
 abbrev pub cut_for : Option Place → List ℕ → Option Part
 cut_for asked body = cut_of body (option_map asked_place asked)
 
--- a block as it is kept
-abbrev pub part_of : BodyBlock → Part
-part_of b = record { bytes = b.bytes.items; place = b.block }
-
 -- the options that name a block
 abbrev pub block2 : Option Place → List (ℕ × List ℕ)
 block2 None = []
@@ -27,8 +21,3 @@ block2 (Some place) = (option.BLOCK2, block_bytes place) ∷ []
 abbrev pub block1 : Option Place → List (ℕ × List ℕ)
 block1 None = []
 block1 (Some place) = (option.BLOCK1, block_bytes place) ∷ []
-
--- options that name no block yet
-pub record HasNoBlock (options : ReplyOptions) : Type 0 where
-  pub block2 : options.block2 ≡ None
-  pub block1 : options.block1 ≡ None

@@ -1,7 +1,6 @@
 -- What an answer becomes on the wire (RFC 7252, 5.2).
 use Rattle.std.specs.Prelude.{ℕ, ◌==◌, ◌%◌, Bool, true, false, if◌then◌else◌, List, [], ◌∷◌, ◌++◌, Option, Some, None}
 use Rattle.std.specs.Int.{w64, to_be_bytes}
-use Rattle.arrayvec.specs.ArrayVec.{ArrayVec}
 use Rattle.coap_msg.specs.declared.types.Endpoint.{Endpoint}
 use Rattle.coap_msg.specs.declared.types.Emission.{Emission}
 use Rattle.coap_msg.specs.declared.types.MessageType.{MessageType}
@@ -60,10 +59,6 @@ pub record Envelope : Type 0 where
 abbrev pub reply_kind : Bool → MessageType
 reply_kind true = Acknowledgement
 reply_kind false = NonConfirmable
-
--- a datagram to the endpoint of an envelope
-abbrev pub to_peer : Envelope → ArrayVec ℕ → Emission
-to_peer e bytes = record { to = e.to; bytes = bytes }
 
 unfoldable pub sent_in : Envelope → Response → Emission
 sent_in e r = record {

@@ -1,7 +1,8 @@
 //! Blocks of answers (RFC 7959, 2).
 ghost use Rattle.std.specs.Prelude.{◌≡◌, ◌≤◌, length, min};
 ghost use Rattle.std.specs.Option.{option_map};
-ghost use Rattle.coap_reply.specs.Blocks.{asked_place, cut_for, part_of};
+ghost use Rattle.coap_reply.specs.Blocks.{asked_place, cut_for};
+ghost use Rattle.coap_reply.specs.Views.{part_of};
 
 use arrayvec::ArrayVec;
 use coap_block::slice;

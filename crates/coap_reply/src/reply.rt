@@ -3,9 +3,10 @@ ghost use Rattle.std.specs.Prelude.{◌≡◌, ◌≤◌, ◌++◌, length};
 ghost use Rattle.std.specs.Option.{option_map};
 ghost use Rattle.coap_opts.specs.Replies.{reply_options};
 ghost use Rattle.coap_block.specs.Cuts.{part_bytes};
-ghost use Rattle.coap_reply.specs.Blocks.{HasNoBlock, part_of};
+ghost use Rattle.coap_reply.specs.Views.{HasNoBlock, part_of};
 ghost use Rattle.coap_reply.specs.Responses as spec;
-ghost use Rattle.coap_reply.specs.Responses.{etag, observe_option, ran_response, reset_of, sent_in, to_peer};
+ghost use Rattle.coap_reply.specs.Responses.{etag, observe_option, ran_response, reset_of, sent_in};
+ghost use Rattle.coap_reply.specs.Views.{to_peer};
 
 use crate::block::BodyBlock;
 use coap_msg::{Code, Datagram, Emission, Endpoint, MessageType, Outgoing, write};

@@ -5,7 +5,7 @@ use Rattle.fc_isa.specs.declared.rule.Fault.{Fault}
 use Rattle.fc_verify.specs.declared.refusal.Refusal.{Refusal}
 use Rattle.fc_verify.specs.declared.refusal.Refusal.TheVariants.{Broken, NoMemory}
 use Rattle.std.specs.Option.{option_map}
-use Rattle.coap_reply.specs.Blocks.{part_of}
+use Rattle.coap_reply.specs.Views.{part_of}
 use Rattle.fc_core.specs.declared.answer.End.{End}
 use Rattle.fc_core.specs.declared.answer.End.TheVariants.{Match, Missing, Unavailable, Made, Rejected, Removed, Told, Core}
 use Rattle.fc_core.specs.declared.answer.Said.{Said}

@@ -2,8 +2,9 @@
 ghost use Rattle.std.specs.Prelude.{◌≡◌, ◌≤◌, [], Some, drop, length};
 ghost use Rattle.coap_msg.specs.Codes.{code};
 ghost use Rattle.coap_opts.specs.Replies.{reply_options};
-ghost use Rattle.coap_reply.specs.Blocks.{HasNoBlock};
-ghost use Rattle.coap_reply.specs.Responses.{etag, sent_in, settled_by, to_peer};
+ghost use Rattle.coap_reply.specs.Views.{HasNoBlock};
+ghost use Rattle.coap_reply.specs.Responses.{etag, sent_in, settled_by};
+ghost use Rattle.coap_reply.specs.Views.{to_peer};
 ghost use Rattle.fc_core.specs.Contents.{Listed};
 ghost use Rattle.fc_core.specs.Ends.{content_of};
 ghost use Rattle.fc_core.specs.Receiving.{told_by};

@@ -1,0 +1,21 @@
+-- Blocks, replies and emissions as single calls are handed and give them.
+use Rattle.std.specs.Prelude.{◌≡◌, None, ℕ}
+use Rattle.coap_opts.specs.declared.reply.ReplyOptions.{ReplyOptions}
+use Rattle.coap_block.specs.Cuts.{Part}
+use Rattle.coap_reply.specs.declared.block.BodyBlock.{BodyBlock}
+use Rattle.arrayvec.specs.ArrayVec.{ArrayVec}
+use Rattle.coap_msg.specs.declared.types.Emission.{Emission}
+use Rattle.coap_reply.specs.Responses.{Envelope}
+
+-- a block as it is kept
+abbrev pub part_of : BodyBlock → Part
+part_of b = record { bytes = b.bytes.items; place = b.block }
+
+-- options that name no block yet
+pub record HasNoBlock (options : ReplyOptions) : Type 0 where
+  pub block2 : options.block2 ≡ None
+  pub block1 : options.block1 ≡ None
+
+-- a datagram to the endpoint of an envelope
+abbrev pub to_peer : Envelope → ArrayVec ℕ → Emission
+to_peer e bytes = record { to = e.to; bytes = bytes }
