@@ -6,7 +6,8 @@ use Rattle.fc_isa.specs.declared.shape.Shape.{Shape}
 use Rattle.fc_isa.specs.declared.shape.Shape.TheVariants.{Unknown}
 use Rattle.fc_isa.specs.declared.table.TheConstants.{SHAPES}
 use Rattle.fc_isa.proofs.Forms.{is_plain, form_back}
-use Rattle.fc_isa.specs.Shapes.{opcode_of, shape_of, known_shapes, is_known, uses, opcode_uses_dst, opcode_uses_src, opcode_uses_offset, opcode_uses_imm}
+use Rattle.fc_isa.specs.Shapes.{opcode_of, shape_of, known_shapes, is_known, uses}
+use Rattle.fc_isa.specs.OpcodeFields.{opcode_uses_dst, opcode_uses_src, opcode_uses_offset, opcode_uses_imm}
 
 -- a row has the opcode's form: a known one by its opcode, and the unknown one where there is none
 abbrev row_test : ℕ → Shape → Bool

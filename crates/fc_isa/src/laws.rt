@@ -5,7 +5,8 @@ ghost use Rattle.fc_isa.specs.Encoding.{BreaksOpcodeFirst, IsFirstFault, Spells,
 ghost use Rattle.fc_isa.specs.Program.{IsInsn, is_program};
 ghost use Rattle.fc_isa.specs.Rules.{number_of};
 ghost use Rattle.fc_isa.specs.declared.insn.Insn.{Insn};
-ghost use Rattle.fc_isa.specs.Shapes.{is_known, opcode_of, opcode_uses_dst, opcode_uses_imm, opcode_uses_offset, opcode_uses_src, shape_of, uses};
+ghost use Rattle.fc_isa.specs.Shapes.{is_known, opcode_of, shape_of, uses};
+ghost use Rattle.fc_isa.specs.OpcodeFields.{opcode_uses_dst, opcode_uses_imm, opcode_uses_offset, opcode_uses_src};
 ghost use Rattle.fc_isa.specs.declared.rule.Rule.{Rule};
 
 use crate::insn::Insn;
