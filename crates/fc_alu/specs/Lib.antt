@@ -1,3 +1,4 @@
 pub mod Words
 pub mod Arithmetic
+pub mod Instructions
 pub mod Comparison

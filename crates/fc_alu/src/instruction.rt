@@ -1,6 +1,6 @@
 //! Arithmetic instructions.
 ghost use Rattle.std.specs.Prelude.{true, ◌≡◌};
-ghost use Rattle.fc_alu.specs.Arithmetic.{alu, is_computation};
+ghost use Rattle.fc_alu.specs.Instructions.{alu, is_computation};
 
 use crate::byte_order::reorder;
 use crate::operation::{arithmetic, neg};
@@ -9,7 +9,7 @@ use fc_isa::Insn;
 
 /// Computes an arithmetic instruction (RFC 9669, 4.1 and 4.2): the number that it leaves in its destination register, which
 /// held `dst`. `operand` is its source register, or its immediate extended by its sign to 64 bits; NEG and END take none.
-#[tactic(auto, unfolding(crate::specs::Arithmetic::alu))]
+#[tactic(auto, unfolding(crate::specs::Instructions::alu))]
 pub fn alu(insn: Insn, dst: u64, operand: u64) -> u64
     requires { is_computation insn ≡ true }
     ensures { result ≡ alu insn dst operand }

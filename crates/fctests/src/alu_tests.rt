@@ -1,7 +1,7 @@
 //! Rows worked out from the standard's words and this profile's choices, not from the definitions: the result of each
 //! operation, and the truth of each comparison, at both widths.
 ghost use Rattle.std.specs.Prelude.{true, ◌≡◌, ◌≤◌};
-ghost use Rattle.fc_alu.specs.Arithmetic.{is_computation};
+ghost use Rattle.fc_alu.specs.Instructions.{is_computation};
 
 use fc_alu::{alu, truth};
 use fc_isa::{

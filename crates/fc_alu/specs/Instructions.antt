@@ -1,0 +1,20 @@
+-- What an arithmetic instruction computes.
+use Rattle.std.specs.Prelude.{ℕ, Bool, true, false}
+use Rattle.fc_isa.specs.declared.insn.Insn.{Insn}
+use Rattle.fc_isa.specs.declared.insn.Insn.TheVariants.{Alu, Neg, SignExtend, End}
+use Rattle.fc_alu.specs.Arithmetic.{computed_at, negated, sign_extended, ordered}
+
+abbrev pub is_computation : Insn → Bool
+is_computation (Alu op width dst operand) = true
+is_computation (Neg width dst) = true
+is_computation (SignExtend extension dst src) = true
+is_computation (End order width dst) = true
+is_computation other = false
+
+-- what an arithmetic instruction leaves in its destination, where that held the number a and the operand, or source, is b
+unfoldable pub alu : Insn → ℕ → ℕ → ℕ
+alu (Alu op width dst operand) a b = computed_at op width a b
+alu (Neg width dst) a b = negated width a
+alu (SignExtend extension dst src) a b = sign_extended extension b
+alu (End order width dst) a b = ordered order width a
+alu other a b = a
