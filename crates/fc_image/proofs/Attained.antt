@@ -4,11 +4,12 @@ use Rattle.std.specs.Prelude.{slice_get}
 use Rattle.std.proofs.lemmas.Bool.{cases_eq, cases_lt}
 use Rattle.fc_isa.specs.declared.insn.Insn.{Insn}
 use Rattle.fc_isa.specs.Flow.{Flow, Halts, Goes, Forks, Enters, flow}
-use Rattle.fc_image.specs.Flow.{IsForward, flow_at}
+use Rattle.fc_image.specs.Flow.{flow_at}
 use Rattle.fc_image.specs.declared.loops.Loop.{Loop}
 use Rattle.fc_image.specs.Loops.{begins, ends}
-use Rattle.fc_image.specs.LoopLaws.{FlowsTo, Calls, AreBodies}
-use Rattle.fc_image.specs.Paths.{turns, Behind, Return, Turns, opened_loop, opened_loops, TurnsBack, GoesBy, GoesOn, IsPath, IsLongestIn, own_cost, looped, cost_in, own}
+use Rattle.fc_image.specs.LoopLaws.{FlowsTo, Calls, AreBodies, IsForward}
+use Rattle.fc_image.specs.Paths.{turns, Behind, Return, Turns, opened_loop, opened_loops, TurnsBack, GoesBy, GoesOn, IsPath, IsLongestIn, own_cost, looped, cost_in}
+use Rattle.fc_image.specs.Remaining.{own}
 use Rattle.fc_image.proofs.Costs.{begins_is, ends_is, cost_is, less_one, flow_there, flow_here, paths_no_longer}
 
 -- ---- in which body, or in none, a path comes to a slot and stands there

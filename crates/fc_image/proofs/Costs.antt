@@ -7,11 +7,12 @@ use Rattle.std.proofs.lemmas.List.{get_or-drop}
 use Rattle.std.proofs.lemmas.Option.{slice_get_within}
 use Rattle.fc_isa.specs.declared.insn.Insn.{Insn}
 use Rattle.fc_isa.specs.Flow.{Flow, Halts, Goes, Forks, Enters, flow}
-use Rattle.fc_image.specs.Flow.{IsForward, flow_of, flow_at}
+use Rattle.fc_image.specs.Flow.{flow_of, flow_at}
 use Rattle.fc_image.specs.declared.loops.Loop.{Loop}
 use Rattle.fc_image.specs.Loops.{begins, ends}
-use Rattle.fc_image.specs.Paths.{turns, Behind, Return, Turns, opened_loop, opened_loops, TurnsBack, GoesBy, GoesOn, IsPath, along, own_cost, looped, later, own_of, cost_of, costs, cost_in, own_by, own, left}
-use Rattle.fc_image.specs.LoopLaws.{AreBodies}
+use Rattle.fc_image.specs.Paths.{turns, Behind, Return, Turns, opened_loop, opened_loops, TurnsBack, GoesBy, GoesOn, IsPath, along, own_cost, looped, later, own_of, cost_of, costs, cost_in}
+use Rattle.fc_image.specs.Remaining.{own_by, own, left}
+use Rattle.fc_image.specs.LoopLaws.{AreBodies, IsForward}
 
 -- ---- the table
 

@@ -3,7 +3,8 @@ use Rattle.std.proofs.Common.{◌≡◌, ℕ, ◌+◌, ◌*◌, ◌%◌, ◌≤�
 use Rattle.std.proofs.lemmas.Bool.Decides.{nat_tests}
 use Rattle.fc_isa.specs.declared.rule.Rule.{Rule}
 use Rattle.fc_isa.specs.declared.rule.Rule.TheVariants.{Format, SlotCount, VarsSize, Budget, Reserved}
-use Rattle.fc_image.specs.Head.{KeepsHead, head_breaks, head_fault, stated, has_magic, slots_allowed}
+use Rattle.fc_image.specs.Head.{head_breaks, head_fault, stated, has_magic, slots_allowed}
+use Rattle.fc_image.specs.Written.{KeepsHead}
 
 -- where none of five tests finds anything, each is false
 pub none_of_five : (a b c d e : Bool) (x y z v w : Rule) → cond a (Some x) (cond b (Some y) (cond c (Some z) (cond d (Some v) (cond e (Some w) None)))) ≡ None

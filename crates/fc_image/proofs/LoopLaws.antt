@@ -15,12 +15,12 @@ use Rattle.fc_isa.specs.declared.rule.Rule.TheVariants.{JumpTarget, BackwardJump
 use Rattle.fc_isa.specs.Flow.{jump_offset, target, landing, Flow, Halts, Goes, Forks, Enters, flow}
 use Rattle.fc_isa.specs.Program.{IsInsn, is_wide_load, is_program}
 use Rattle.fc_isa.specs.Writes.{is_call, writes}
-use Rattle.fc_image.specs.Flow.{IsLater, IsForward, flow_of, flow_at}
+use Rattle.fc_image.specs.Flow.{flow_of, flow_at}
 use Rattle.fc_image.specs.Functions.{with_offset, calls, is_called, is_start, starts_within, slots_taken, may_end, is_open_end}
 use Rattle.fc_image.specs.Laws.{frames_at}
 use Rattle.fc_image.specs.declared.loops.Loop.{Loop}
 use Rattle.fc_image.specs.Loops.{is_in, is_exit, crosses, spoils, is_undisturbed, loop_if, loops_of, ends, some_insn, body, is_written, has_call}
-use Rattle.fc_image.specs.LoopLaws.{FlowsTo, Calls, JumpsBack, IsLoop, IsBack, IsOnward, AreLoops, AreBodies, IsCounter, AreCounters, ShapedLoopsAreLoops}
+use Rattle.fc_image.specs.LoopLaws.{FlowsTo, Calls, JumpsBack, IsLoop, IsBack, IsOnward, AreLoops, AreBodies, IsCounter, AreCounters, ShapedLoopsAreLoops, IsLater, IsForward}
 use Rattle.fc_image.specs.ShapeRules.{is_instruction, is_place, is_later, leaves, leads_back, IsShapedBy}
 use Rattle.fc_isa.specs.declared.version.ImageVersion.{ImageVersion}
 use Rattle.fc_image.specs.Head.{loops_allowed}

@@ -6,7 +6,7 @@ use Rattle.std.proofs.lemmas.List.{get_or-drop}
 use Rattle.std.proofs.lemmas.Option.{slice_get_within}
 use Rattle.fc_isa.specs.declared.insn.Insn.{Insn}
 use Rattle.fc_isa.specs.Flow.{target, landing}
-use Rattle.fc_image.specs.Flow.{IsLater}
+use Rattle.fc_image.specs.LoopLaws.{IsLater}
 use Rattle.fc_image.specs.Functions.{at_offset}
 use Rattle.fc_image.specs.ShapeRules.{is_instruction, is_place, is_later}
 

@@ -5,7 +5,8 @@ use Rattle.std.specs.Prelude.{get_or}
 use Rattle.std.proofs.lemmas.Bool.Decides.{nat_tests}
 use Rattle.std.proofs.lemmas.Nat.{le_bytes_2, le_bytes_4}
 use Rattle.fc_isa.specs.declared.rule.Rule.TheVariants.{Format, SlotCount, VarsSize, Budget, Reserved}
-use Rattle.fc_image.specs.Head.{digit_of, head_breaks, head_bytes, head_fault, stated, has_magic, is_word, version_of}
+use Rattle.fc_image.specs.Head.{head_breaks, head_fault, stated, has_magic, is_word, version_of}
+use Rattle.fc_image.specs.Written.{digit_of, head_bytes}
 use Rattle.fc_image.proofs.Kept.{none_of_five}
 
 -- the first four of these bytes, and the rest

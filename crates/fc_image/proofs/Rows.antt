@@ -10,7 +10,8 @@ use Rattle.fc_isa.specs.declared.insn.Operand.TheVariants.{Imm}
 use Rattle.fc_isa.specs.declared.rule.Rule.TheVariants.{JumpTarget, BackwardJump, Boundary, BackwardCall, FrameDepth, Cost, Helper}
 use Rattle.fc_isa.specs.declared.version.ImageVersion.{ImageVersion}
 use Rattle.fc_isa.specs.declared.version.ImageVersion.TheVariants.{One, Two}
-use Rattle.fc_image.specs.Head.{Head, has_magic, head_bytes, is_bad_size, is_bad_count, is_bad_budget, stated}
+use Rattle.fc_image.specs.Head.{Head, has_magic, is_bad_size, is_bad_count, is_bad_budget, stated}
+use Rattle.fc_image.specs.Written.{head_bytes}
 use Rattle.fc_image.specs.Functions.{is_start, frames}
 use Rattle.fc_image.specs.Loops.{loops_of}
 use Rattle.fc_image.specs.Paths.{costs, cost_in, longest}

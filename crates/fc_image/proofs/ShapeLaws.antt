@@ -10,7 +10,8 @@ use Rattle.fc_isa.specs.Rules.{number_of}
 use Rattle.fc_image.specs.Functions.{frames}
 use Rattle.fc_image.specs.Head.{Head, frames_allowed, loops_allowed}
 use Rattle.fc_image.specs.Paths.{longest}
-use Rattle.fc_image.specs.ShapeRules.{breaks_flow, breaks_shape, KeepsLimits, IsShapeFault, KeepsRule, least, or_next, first_broken, flow_rules, shape_fault}
+use Rattle.fc_image.specs.ShapeRules.{breaks_flow, breaks_shape, IsShapeFault, KeepsRule, least, or_next, first_broken, flow_rules, shape_fault}
+use Rattle.fc_image.specs.Laws.{KeepsLimits}
 use Rattle.fc_image.proofs.CostTable.{drop_at}
 
 -- ---- the least slot

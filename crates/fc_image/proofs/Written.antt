@@ -7,7 +7,8 @@ use Rattle.fc_isa.specs.declared.rule.Rule.{Rule}
 use Rattle.fc_isa.specs.declared.rule.Rule.TheVariants.{Format, SlotCount, VarsSize, Budget, Reserved}
 use Rattle.fc_isa.specs.declared.version.ImageVersion.{ImageVersion}
 use Rattle.fc_isa.specs.declared.version.ImageVersion.TheVariants.{One, Two}
-use Rattle.fc_image.specs.Head.{Head, IsHead, digit_of, slots_allowed, version_of, head_breaks, head_bytes, head_fault, stated, has_magic, is_bad_count, is_bad_size, is_bad_budget}
+use Rattle.fc_image.specs.Head.{Head, slots_allowed, version_of, head_breaks, head_fault, stated, has_magic, is_bad_count, is_bad_size, is_bad_budget}
+use Rattle.fc_image.specs.Written.{IsHead, digit_of, head_bytes}
 
 few : (version : ImageVersion) (n : ℕ) → n ≤ slots_allowed version → n ≤ 1024
 few One n le = omega (arith, le)

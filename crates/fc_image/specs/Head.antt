@@ -1,6 +1,6 @@
 -- The header of an image: sixteen bytes, numbers with the least byte first.
-use Rattle.std.specs.Prelude.{◌≡◌, ℕ, ◌+◌, ◌*◌, ◌%◌, ◌≤◌, ◌==◌, ◌&&◌, ◌||◌, not, Bool, true, false, nat_lt, nat_le, if◌then◌else◌, List, [], ◌∷◌, ◌++◌, length, take, drop, find, Option, Some, None, slice_index}
-use Rattle.std.specs.Int.{w16, w32, from_le_bytes, to_le_bytes}
+use Rattle.std.specs.Prelude.{ℕ, ◌+◌, ◌*◌, ◌%◌, ◌==◌, ◌&&◌, ◌||◌, not, Bool, true, false, nat_lt, nat_le, if◌then◌else◌, List, [], ◌∷◌, length, take, drop, find, Option, slice_index}
+use Rattle.std.specs.Int.{w16, w32, from_le_bytes}
 use Rattle.fc_isa.specs.declared.rule.Rule.{Rule}
 use Rattle.fc_isa.specs.declared.rule.Rule.TheVariants.{Format, SlotCount, VarsSize, Budget, Reserved}
 use Rattle.fc_isa.specs.declared.version.ImageVersion.{ImageVersion}
@@ -26,23 +26,6 @@ pub record Head : Type 0 where
   pub vars_size : ℕ
   pub count : ℕ
   pub budget : ℕ
-
-abbrev pub head_of : ℕ → ℕ → ℕ → ImageVersion → Head
-head_of vars_size count budget version = record { version = version; vars_size = vars_size; count = count; budget = budget }
-
--- the limits of these numbers
-pub record IsHead (h : Head) : Type 0 where
-  pub vars : h.vars_size ≤ 256
-  pub words : h.vars_size % 8 ≡ 0
-  pub some : 1 ≤ h.count
-  pub count : h.count ≤ slots_allowed h.version
-  pub steps : 1 ≤ h.budget
-  pub budget : h.budget ≤ 65536
-
--- the last byte of the magic, `FCB1` or `FCB2`, and the version that it names
-abbrev pub digit_of : ImageVersion → ℕ
-digit_of One = 49
-digit_of Two = 50
 
 abbrev pub version_of : ℕ → ImageVersion
 version_of digit = if digit == 50 then Two else One
@@ -76,12 +59,6 @@ is_bad_size size = nat_lt 256 size || not (size % 8 == 0)
 abbrev pub is_bad_budget : ℕ → Bool
 is_bad_budget budget = (budget == 0) || nat_lt 65536 budget
 
--- the least rule that these numbers break
-abbrev pub limit_fault : Head → Option Rule
-limit_fault h =
-    if is_bad_count h.version h.count then Some SlotCount else (if is_bad_size h.vars_size then Some VarsSize else (
-    if is_bad_budget h.budget then Some Budget else None))
-
 -- an image breaks a rule of the header
 unfoldable pub head_breaks : List ℕ → Rule → Bool
 head_breaks image Format = not ((nat_le 16 (length image) && has_magic image) && (length image == 16 + 8 * (stated image).count))
@@ -98,13 +75,3 @@ head_rules = Format ∷ SlotCount ∷ VarsSize ∷ Budget ∷ Reserved ∷ []
 -- the least rule that a header breaks
 abbrev pub head_fault : List ℕ → Option Rule
 head_fault image = find (head_breaks image) head_rules
-
--- the sixteen bytes that say these numbers: the magic, the numbers, four zeros
-abbrev pub head_bytes : Head → List ℕ
-head_bytes h =
-    70 ∷ 67 ∷ 66 ∷ digit_of h.version ∷ (to_le_bytes w16 h.vars_size ++ (to_le_bytes w16 h.count ++ (to_le_bytes w32 h.budget ++ (0 ∷ 0 ∷ 0 ∷ 0 ∷ []))))
-
--- what an image keeps whose header breaks no rule: it is the header and its slots, and the numbers are within their limits
-pub record KeepsHead (image : List ℕ) : Type 0 where
-  pub size : length image ≡ 16 + 8 * (stated image).count
-  pub head : IsHead (stated image)

@@ -1,11 +1,18 @@
 -- The laws of a program's shape.
-use Rattle.std.specs.Prelude.{◌≡◌, ℕ, ◌<◌, List, Some, slice_index}
+use Rattle.std.specs.Prelude.{◌≡◌, ℕ, ◌<◌, List, Some, slice_index, ◌≤◌}
 use Rattle.fc_isa.specs.declared.insn.Insn.{Insn}
 use Rattle.fc_isa.specs.declared.rule.Rule.{Rule}
 use Rattle.fc_isa.specs.Rules.{number_of}
-use Rattle.fc_image.specs.Functions.{is_start, depths}
-use Rattle.fc_image.specs.Head.{Head}
-use Rattle.fc_image.specs.ShapeRules.{IsShapeFault, shape_fault}
+use Rattle.fc_image.specs.Functions.{is_start, depths, frames}
+use Rattle.fc_image.specs.Head.{Head, frames_allowed}
+use Rattle.fc_image.specs.ShapeRules.{IsShapeFault, shape_fault, IsShaped}
+use Rattle.fc_image.specs.Paths.{longest}
+
+-- it is shaped, and its frames and its longest path are within what the header allows
+pub record KeepsLimits (head : Head) (code : List Insn) : Type 0 where
+  pub shaped : IsShaped head.version code
+  pub frames : frames code ≤ frames_allowed head.version
+  pub within : longest head.version code ≤ head.budget
 
 -- the fault that is found is the least slot that breaks the first rule that is broken; it is found; its rule is below 20
 abbrev pub ShapeFaultIsFirst : Type 0

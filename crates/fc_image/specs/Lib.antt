@@ -1,9 +1,11 @@
 pub mod Head
+pub mod Written
 pub mod Flow
 pub mod Functions
 pub mod Loops
 pub mod Uncounted
 pub mod Paths
+pub mod Remaining
 pub mod ShapeRules
 pub mod Tables
 pub mod Spans

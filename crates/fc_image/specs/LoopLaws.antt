@@ -10,13 +10,24 @@ use Rattle.fc_isa.specs.declared.insn.Insn.TheVariants.{Alu, JumpIf, Exit}
 use Rattle.fc_isa.specs.Flow.{Flow, Halts, Goes, Forks, Enters, flow}
 use Rattle.fc_isa.specs.Program.{IsInsn, is_program}
 use Rattle.fc_isa.specs.Writes.{writes}
-use Rattle.fc_image.specs.Flow.{IsLater, IsForward, flow_at}
+use Rattle.fc_image.specs.Flow.{flow_at}
 use Rattle.fc_image.specs.Functions.{frames}
 use Rattle.fc_image.specs.Laws.{frames_at}
 use Rattle.fc_image.specs.declared.loops.Loop.{Loop}
 use Rattle.fc_image.specs.Loops.{is_written, has_call, begins, ends, loops_of}
 use Rattle.fc_image.specs.Paths.{IsLongestIn, cost_in}
 use Rattle.fc_image.specs.ShapeRules.{IsShapedBy}
+
+-- a later slot of a program of so many
+abbrev pub IsLater : ℕ → ℕ → ℕ → Type 0
+IsLater count slot t = (slot < t) × (t < count)
+
+-- each slot that a flow leads to is later, and in the program
+abbrev pub IsForward : ℕ → ℕ → Flow → Type 0
+IsForward count slot Halts = Unit {0}
+IsForward count slot (Goes next) = IsLater count slot next
+IsForward count slot (Forks taken next) = IsLater count slot taken × IsLater count slot next
+IsForward count slot (Enters start next) = IsLater count slot start × IsLater count slot next
 
 -- a flow leads to a slot within its function
 abbrev pub FlowsTo : Flow → ℕ → Type 0

@@ -109,17 +109,3 @@ unfoldable pub longest : ImageVersion → List Insn → ℕ
 longest version code = cost_in code (loops_in version code) 0
 
 -- ---- what is left of a path
-
--- a slot's own cost
-abbrev pub own_by : (ℕ → ℕ) → Option Loop → Option Flow → ℕ
-own_by at o None = 0
-own_by at o (Some f) = own_cost at o f
-
-abbrev pub own : List Insn → List Loop → ℕ → ℕ
-own code loops slot = own_by (cost_in code loops) (ends loops slot) (flow_at code slot)
-
--- behind a place, at most: of each open loop the turns after this one, and what comes behind it
-abbrev pub left : List Insn → List Loop → List Behind → ℕ
-left code loops [] = 0
-left code loops (Return place ∷ behind) = cost_in code loops place + left code loops behind
-left code loops (Turns l k ∷ behind) = k * own code loops l.head + cost_in code loops (l.last + 1) + left code loops behind

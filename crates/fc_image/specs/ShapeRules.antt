@@ -1,11 +1,10 @@
 -- The rules of a program's control flow.
-use Rattle.std.specs.Prelude.{◌≡◌, ℕ, ◌+◌, ◌-◌, ◌<◌, ◌≤◌, ◌==◌, ◌||◌, ◌&&◌, not, nat_lt, nat_le, Bool, true, false, if◌then◌else◌, min, max, ℤ, pos, negsuc, List, [], ◌∷◌, ◌++◌, length, Option, Some, None, MatchOption, slice_get}
+use Rattle.std.specs.Prelude.{◌≡◌, ℕ, ◌+◌, ◌-◌, ◌<◌, ◌==◌, ◌||◌, ◌&&◌, not, nat_lt, nat_le, Bool, true, false, if◌then◌else◌, min, max, ℤ, pos, negsuc, List, [], ◌∷◌, ◌++◌, length, Option, Some, None, slice_get}
 use Rattle.std.specs.List.{AllByRecursion}
 use Rattle.fc_isa.specs.declared.insn.Insn.{Insn}
 use Rattle.fc_isa.specs.declared.insn.Insn.TheVariants.{CallHelper}
 use Rattle.fc_isa.specs.declared.version.ImageVersion.{ImageVersion}
 use Rattle.fc_isa.specs.declared.rule.Rule.{Rule}
-use Rattle.fc_isa.specs.declared.rule.Fault.{Fault}
 use Rattle.fc_isa.specs.declared.rule.Rule.TheVariants.{JumpTarget, BackwardJump, Boundary, BackwardCall, FrameDepth, Cost, Helper}
 use Rattle.fc_isa.specs.Program.{is_wide_second}
 use Rattle.fc_isa.specs.Flow.{jump_offset, call_offset, target}
@@ -75,12 +74,6 @@ pub record IsShapedBy (allowed : Bool) (code : List Insn) : Type 0 where
 abbrev pub IsShaped : ImageVersion → List Insn → Type 0
 IsShaped version code = IsShapedBy (loops_allowed version) code
 
--- it is shaped, and its frames and its longest path are within what the header allows
-pub record KeepsLimits (head : Head) (code : List Insn) : Type 0 where
-  pub shaped : IsShaped head.version code
-  pub frames : frames code ≤ frames_allowed head.version
-  pub within : longest head.version code ≤ head.budget
-
 -- no slot breaks a rule
 pub record KeepsRule (head : Head) (code : List Insn) (rule : Rule) : Type 0 where
   pub each : (slot : ℕ) (insn : Insn) → slice_get code slot ≡ Some insn → breaks_shape head code slot insn rule ≡ false
@@ -119,7 +112,3 @@ first_broken head code (rule ∷ rules) =
 
 unfoldable pub shape_fault : Head → List Insn → Option (ℕ × Rule)
 shape_fault head code = first_broken head code flow_rules
-
--- a fault or none, as a slot and a rule say
-abbrev pub IsSame : Option (ℕ × Rule) → Option Fault → Type 0
-IsSame found fault = MatchOption fault (found ≡ None) (λ f. found ≡ Some (f.slot, f.rule))

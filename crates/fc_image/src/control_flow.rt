@@ -9,7 +9,8 @@ ghost use Rattle.fc_image.specs.Judged.{AreTables};
 ghost use Rattle.fc_image.specs.Paths.{IsLongest, longest};
 ghost use Rattle.fc_image.specs.Spans.{AreSpans};
 ghost use Rattle.fc_image.specs.Tables.{AreCounts};
-ghost use Rattle.fc_image.specs.ShapeRules.{IsSame, IsShaped, breaks_back, breaks_shape, calls_no_helper, shape_fault, first_broken, is_later, is_place, least, leaves};
+ghost use Rattle.fc_image.specs.ShapeRules.{IsShaped, breaks_back, breaks_shape, calls_no_helper, shape_fault, first_broken, is_later, is_place, least, leaves};
+ghost use Rattle.fc_image.specs.Judged.{IsSame};
 
 use crate::flow::{call_offset, jump_offset, target};
 use crate::functions::{crosses, is_open_end};

@@ -1,6 +1,7 @@
 //! The header of an image.
 ghost use Rattle.std.specs.Prelude.{IfErr, IfOk, None, Some, false, length, slice_index, ◌≡◌, ◌≤◌};
-ghost use Rattle.fc_image.specs.Head.{KeepsHead, head_breaks, head_fault, is_word, stated};
+ghost use Rattle.fc_image.specs.Head.{head_breaks, head_fault, is_word, stated};
+ghost use Rattle.fc_image.specs.Written.{KeepsHead};
 ghost use Rattle.fc_isa.specs.declared.rule.Rule.{Rule};
 
 use crate::limits::{Head, is_bad_budget, is_bad_count, is_bad_size};

@@ -4,11 +4,13 @@ ghost use Rattle.fc_isa.specs.Rules.{number_of};
 ghost use Rattle.fc_isa.specs.declared.insn.Insn.{Insn};
 ghost use Rattle.fc_isa.specs.declared.version.ImageVersion.{ImageVersion};
 ghost use Rattle.fc_isa.specs.Program.{is_program};
-ghost use Rattle.fc_image.specs.Head.{Head, IsHead, KeepsHead, head_bytes, head_fault, head_rules, stated};
+ghost use Rattle.fc_image.specs.Head.{Head, head_fault, head_rules, stated};
+ghost use Rattle.fc_image.specs.Written.{IsHead, KeepsHead, head_bytes};
 ghost use Rattle.fc_image.specs.Laws.{FirstShapeFaultIsFound, ShapeFaultIsFirst, ShapeFaultIsLow};
 ghost use Rattle.fc_image.specs.LoopLaws.{LoopsHaveLongestPaths, ShapedLoopsAreLoops};
 ghost use Rattle.fc_image.specs.Paths.{IsLongest, longest};
-ghost use Rattle.fc_image.specs.ShapeRules.{IsShaped, KeepsLimits, flow_rules, shape_fault};
+ghost use Rattle.fc_image.specs.ShapeRules.{IsShaped, flow_rules, shape_fault};
+ghost use Rattle.fc_image.specs.Laws.{KeepsLimits};
 
 /// An image whose header breaks no rule is the header and its slots, with numbers within their limits.
 pub fn faultless_head_is_kept(image: &[u8])

@@ -1,6 +1,7 @@
 //! What an image's header says, and the limits of its numbers.
 ghost use Rattle.std.specs.Prelude.{◌≡◌, ◌≤◌};
-ghost use Rattle.fc_image.specs.Head.{frames_allowed, is_bad_budget, is_bad_count, is_bad_size, limit_fault, loops_allowed, slots_allowed};
+ghost use Rattle.fc_image.specs.Head.{frames_allowed, is_bad_budget, is_bad_count, is_bad_size, loops_allowed, slots_allowed};
+ghost use Rattle.fc_image.specs.Written.{limit_fault};
 
 use fc_isa::{Fault, ImageVersion, Rule};
 use std::marker::Model;
@@ -47,7 +48,8 @@ pub struct Head {
 }
 
 impl Model for Head {
-    ghost use Rattle.fc_image.specs.Head.{Head as Stated, IsHead};
+    ghost use Rattle.fc_image.specs.Head.{Head as Stated};
+    ghost use Rattle.fc_image.specs.Written.{IsHead};
 
     ghost Value = { Stated };
 
@@ -60,7 +62,8 @@ impl Model for Head {
 
 impl Head {
     ghost use Rattle.std.specs.Prelude.{IfErr, IfOk, None, Some, ◌%◌, ◌≡◌, ◌≤◌};
-    ghost use Rattle.fc_image.specs.Head.{IsHead, frames_allowed, head_bytes, head_of, limit_fault, slots_allowed};
+    ghost use Rattle.fc_image.specs.Head.{frames_allowed, slots_allowed};
+    ghost use Rattle.fc_image.specs.Written.{IsHead, head_bytes, head_of, limit_fault};
 
     /// The header of these numbers: the size of the variables in bytes, the count of slots, and the budget of steps; and of this
     /// version.

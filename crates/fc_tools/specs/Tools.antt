@@ -4,7 +4,8 @@ use Rattle.fc_isa.specs.declared.insn.Insn.{Insn}
 use Rattle.fc_isa.specs.Encoding.{Spells, encoded}
 use Rattle.fc_isa.specs.declared.version.ImageVersion.{ImageVersion}
 use Rattle.fc_isa.specs.declared.version.ImageVersion.TheVariants.{One, Two}
-use Rattle.fc_image.specs.Head.{head_bytes, head_fault, limit_fault, Head}
+use Rattle.fc_image.specs.Head.{head_fault, Head}
+use Rattle.fc_image.specs.Written.{head_bytes, limit_fault}
 use Rattle.fc_image.specs.Paths.{IsLongest}
 use Rattle.fc_asm.specs.Syntax.{lines_of}
 use Rattle.fc_asm.specs.Assembled.{IsAssembled}

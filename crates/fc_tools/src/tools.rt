@@ -2,7 +2,7 @@
 ghost use Rattle.std.specs.Prelude.{IfOk, IsTrue, None, string_bytes, true, ◌++◌, ◌≡◌};
 ghost use Rattle.fc_asm.specs.Assembled.{IsAssembled};
 ghost use Rattle.fc_asm.specs.Syntax.{lines_of};
-ghost use Rattle.fc_image.specs.Head.{head_bytes, limit_fault};
+ghost use Rattle.fc_image.specs.Written.{head_bytes, limit_fault};
 ghost use Rattle.fc_image.specs.Paths.{IsLongest};
 ghost use Rattle.fc_isa.specs.Encoding.{encoded};
 ghost use Rattle.fc_isa.specs.Program.{is_program};

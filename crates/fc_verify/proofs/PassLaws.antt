@@ -11,7 +11,6 @@ use Rattle.fc_isa.specs.declared.version.ImageVersion.TheVariants.{One, Two}
 use Rattle.fc_isa.specs.declared.insn.Insn.TheVariants.{JumpIf}
 use Rattle.fc_isa.specs.Program.{IsInsn}
 use Rattle.fc_isa.specs.Flow.{Flow, Halts, Goes, Forks, Enters, flow}
-use Rattle.fc_image.specs.Flow.{IsLater}
 use Rattle.fc_kinds.specs.declared.kind.Kind.{Kind}
 use Rattle.fc_kinds.specs.Kinds.{kind_at, KindWithin, Within}
 use Rattle.fc_kinds.specs.Lattice.{IsKind, AreKinds, join_kind, joined}
@@ -35,7 +34,7 @@ use Rattle.fc_verify.specs.Typing.{AllLead, IsWellTypedAt, IsTypingWith, IsTypin
 use Rattle.fc_verify.specs.declared.untyped.Demand.{Demand}
 use Rattle.fc_verify.specs.Stages.{Fails, Unmet, NoNumber, Stops, AtInsn, AtHead, AtEntry}
 use Rattle.fc_verify.specs.Pass.{joined_in, met, led, passed_on, met_by, passed_by, passed_with, passed, pass_from, beginning, pass_with, pass, is_typable}
-use Rattle.fc_image.specs.LoopLaws.{FlowsTo, Calls, IsLoop, IsBack, IsOnward, AreLoops}
+use Rattle.fc_image.specs.LoopLaws.{FlowsTo, Calls, IsLoop, IsBack, IsOnward, AreLoops, IsLater}
 use Rattle.fc_verify.proofs.Rules.{IsUnder, IsSound}
 use Rattle.fc_verify.proofs.Heads.{settles, least, inner_under, body_keeps, back}
 use Rattle.fc_verify.proofs.Narrow.{way_inside}

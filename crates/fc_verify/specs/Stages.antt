@@ -7,7 +7,8 @@ use Rattle.fc_isa.specs.declared.rule.Rule.TheVariants.{LoopState}
 use Rattle.fc_isa.specs.declared.rule.Fault.{Fault}
 use Rattle.fc_isa.specs.Encoding.{Spells, first_fault}
 use Rattle.fc_isa.specs.Rules.{number_of}
-use Rattle.fc_image.specs.Head.{Head, IsHead, head_fault, stated}
+use Rattle.fc_image.specs.Head.{Head, head_fault, stated}
+use Rattle.fc_image.specs.Written.{IsHead}
 use Rattle.fc_isa.specs.Writes.{computes}
 use Rattle.fc_image.specs.declared.loops.Loop.{Loop}
 use Rattle.fc_image.specs.Loops.{begins, loops_in}

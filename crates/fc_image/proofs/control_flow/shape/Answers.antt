@@ -1,6 +1,7 @@
 use Rattle.std.proofs.Common.{◌≡◌, ◌<◌, length, min, None, sym, ap, ◌∙◌, subst, arith}
 use Rattle.fc_image.specs.Paths.{IsLongest, longest}
-use Rattle.fc_image.specs.ShapeRules.{shape_fault, KeepsLimits}
+use Rattle.fc_image.specs.ShapeRules.{shape_fault}
+use Rattle.fc_image.specs.Laws.{KeepsLimits}
 use Rattle.fc_image.proofs.LoopLaws.{longest_is}
 use Rattle.fc_image.proofs.ShapeLaws.{faultless}
 use Rattle.fc_image.proofs.control_flow.shape.Goals as goal

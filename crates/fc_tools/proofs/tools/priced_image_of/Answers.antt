@@ -2,7 +2,8 @@ use Rattle.std.proofs.Common.{◌≡◌, ◌++◌, ℕ, List, None, ap, ◌∙�
 use Rattle.std.proofs.lemmas.Result.{IfOk-weaker}
 use Rattle.fc_asm.specs.Assembled.{IsAssembled}
 use Rattle.fc_asm.specs.Syntax.{lines_of}
-use Rattle.fc_image.specs.Head.{Head, head_bytes, limit_fault}
+use Rattle.fc_image.specs.Head.{Head}
+use Rattle.fc_image.specs.Written.{head_bytes, limit_fault}
 use Rattle.fc_image.specs.Paths.{IsLongest}
 use Rattle.fc_isa.specs.Encoding.{encoded}
 use Rattle.fc_isa.specs.declared.insn.Insn.{Insn}

@@ -1,5 +1,5 @@
 use Rattle.std.proofs.Common.{◌+◌, ◌*◌, ap, ◌∙◌, subst, sym}
-use Rattle.fc_image.specs.Head.{IsHead}
+use Rattle.fc_image.specs.Written.{IsHead}
 use Rattle.fc_verify.proofs.Judging.{refused_head}
 use Rattle.fc_verify.proofs.verifying.read_head.Goals as goal
 

@@ -1,0 +1,22 @@
+-- What is left of a path, at most.
+use Rattle.std.specs.Prelude.{ℕ, ◌+◌, ◌*◌, List, [], ◌∷◌, Option, Some, None}
+use Rattle.fc_isa.specs.declared.insn.Insn.{Insn}
+use Rattle.fc_isa.specs.Flow.{Flow}
+use Rattle.fc_image.specs.Flow.{flow_at}
+use Rattle.fc_image.specs.declared.loops.Loop.{Loop}
+use Rattle.fc_image.specs.Loops.{ends}
+use Rattle.fc_image.specs.Paths.{Behind, Return, Turns, own_cost, cost_in}
+
+-- a slot's own cost
+abbrev pub own_by : (ℕ → ℕ) → Option Loop → Option Flow → ℕ
+own_by at o None = 0
+own_by at o (Some f) = own_cost at o f
+
+abbrev pub own : List Insn → List Loop → ℕ → ℕ
+own code loops slot = own_by (cost_in code loops) (ends loops slot) (flow_at code slot)
+
+-- behind a place, at most: of each open loop the turns after this one, and what comes behind it
+abbrev pub left : List Insn → List Loop → List Behind → ℕ
+left code loops [] = 0
+left code loops (Return place ∷ behind) = cost_in code loops place + left code loops behind
+left code loops (Turns l k ∷ behind) = k * own code loops l.head + cost_in code loops (l.last + 1) + left code loops behind
