@@ -12,7 +12,8 @@ use Rattle.fc_isa.specs.declared.insn.AluOp.TheVariants.{Add, Sub, Mul, Div, Or,
 use Rattle.fc_isa.specs.declared.insn.SignExtension.{SignExtension}
 use Rattle.fc_isa.specs.declared.insn.SignExtension.TheVariants.{Byte, HalfWord, Word}
 use Rattle.fc_alu.specs.Words.{bits_of}
-use Rattle.fc_kinds.specs.Intervals.{alu_interval, extended_interval, extended_values, interval, all, IntervalWithin, IsInterval, clipped, added, subtracted, multiplied, divided, moded, bits_needed, merged, masked, shifted_left, shifted_right, shifted_signed, interval_of}
+use Rattle.fc_kinds.specs.Intervals.{alu_interval, extended_interval, extended_values, interval, all, clipped, added, subtracted, multiplied, divided, moded, bits_needed, merged, masked, shifted_left, shifted_right, shifted_signed, interval_of}
+use Rattle.fc_kinds.specs.Containing.{IntervalWithin, IsInterval}
 
 pub pow_up : (i j : ℕ) → i ≤ j → 2 ^ i ≤ 2 ^ j
 pow_up i j h = elim (cases_lt i j) [

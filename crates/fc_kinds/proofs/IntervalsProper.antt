@@ -10,7 +10,8 @@ use Rattle.fc_isa.specs.declared.insn.SignExtension.{SignExtension}
 use Rattle.fc_isa.specs.declared.insn.SignExtension.TheVariants.{Byte, HalfWord, Word}
 use Rattle.fc_alu.specs.Words.{bits_of}
 use Rattle.fc_kinds.specs.declared.interval.Interval.{Interval}
-use Rattle.fc_kinds.specs.Intervals.{all, IsInterval, clipped, multiplied, divided, bits_needed, merged, shifted_left, shifted_right, shifted_signed, interval_of, alu_interval, extended_interval, extended_values}
+use Rattle.fc_kinds.specs.Intervals.{all, clipped, multiplied, divided, bits_needed, merged, shifted_left, shifted_right, shifted_signed, interval_of, alu_interval, extended_interval, extended_values}
+use Rattle.fc_kinds.specs.Containing.{IsInterval}
 use Rattle.fc_kinds.proofs.IntervalsGrow.{div_grows, needed_least, pow_up, clipped_proper}
 
 pub all_proper : (w : ℕ) → IsInterval w (all w)

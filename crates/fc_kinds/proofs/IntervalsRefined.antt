@@ -5,7 +5,8 @@ use Rattle.fc_isa.specs.declared.insn.Relation.{Relation}
 use Rattle.fc_isa.specs.declared.insn.Relation.TheVariants.{Eq, Gt, Ge, Set, Ne, Sgt, Sge, Lt, Le, Slt, Sle}
 use Rattle.fc_alu.specs.Comparison.{holds}
 use Rattle.fc_kinds.specs.declared.interval.Interval.{Interval}
-use Rattle.fc_kinds.specs.Intervals.{Inside, IntervalWithin, both, above, above_equal, exchanged, equal, unequal, refined}
+use Rattle.fc_kinds.specs.Intervals.{both, above, above_equal, exchanged, equal, unequal, refined}
+use Rattle.fc_kinds.specs.Containing.{Inside, IntervalWithin}
 
 -- a refinement that leaves these two numbers possible
 pub record Leaves (o : Option (Interval × Interval)) (x y : ℕ) : Type 0 where

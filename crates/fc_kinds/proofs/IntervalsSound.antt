@@ -14,7 +14,8 @@ use Rattle.fc_alu.specs.Arithmetic as D
 use Rattle.fc_alu.specs.Words.{bits_of, signed, unsigned}
 use Rattle.fc_alu.specs.Arithmetic.{floor_halved, computed, computed_at, extended_sign}
 use Rattle.fc_kinds.specs.declared.interval.Interval.{Interval}
-use Rattle.fc_kinds.specs.Intervals.{interval, all, Inside, IsInterval, clipped, added, subtracted, multiplied, divided, moded, bits_needed, merged, masked, shifted_left, shifted_right, shifted_signed, interval_of, alu_interval, extended_interval, extended_values}
+use Rattle.fc_kinds.specs.Intervals.{interval, all, clipped, added, subtracted, multiplied, divided, moded, bits_needed, merged, masked, shifted_left, shifted_right, shifted_signed, interval_of, alu_interval, extended_interval, extended_values}
+use Rattle.fc_kinds.specs.Containing.{Inside, IsInterval}
 use Rattle.fc_kinds.proofs.IntervalsGrow.{div_grows, needed_enough, pow_up, clipped_proper}
 
 -- the two's complement of a whole number is below 2 ^ w

@@ -6,7 +6,8 @@ use Rattle.std.proofs.lemmas.Bool.Decides.{nat_tests}
 use Rattle.fc_kinds.specs.declared.kind.Kind.{Kind}
 use Rattle.fc_kinds.specs.declared.kind.Kind.TheVariants.{Unset, Num, Stack, Req, Vars, Dev}
 use Rattle.fc_kinds.specs.Kinds.{kind_at, KindWithin, Within}
-use Rattle.fc_kinds.specs.Lattice.{join_kind, joined, IsKind, AreKinds, IsNear}
+use Rattle.fc_kinds.specs.Lattice.{join_kind, joined}
+use Rattle.fc_kinds.specs.Containing.{IsKind, AreKinds, IsNear}
 
 stack_left : (t : Bool) (l lo hi l' lo' hi' : _) → (l == l') ≡ t → KindWithin (Stack l lo hi) (if t then Stack l (int_min lo lo') (int_max hi hi') else Unset)
 stack_left true l lo hi l' lo' hi' e = (refl, omega (arith, ints, clamps), omega (arith, ints, clamps))

@@ -22,9 +22,10 @@ use Rattle.fc_kinds.specs.declared.kind.Kind.TheVariants.{Unset, Num, Stack, Req
 use Rattle.fc_kinds.specs.Values.{with_some}
 use Rattle.fc_kinds.specs.Kinds.{kind_at}
 use Rattle.fc_kinds.specs.Lattice.{join_kind, joined}
-use Rattle.fc_kinds.specs.Transfer.{num, by_form, on_number, operand_kind, distance, near, numbers, forth, back, moved, alu_kind, ordered_interval, bytes_loaded, loaded_interval, may_read, put_kind, where_met, after_call, returned, are_arguments, helped_kinds, raised, IsShallow, AreShallow, enter, transfer}
+use Rattle.fc_kinds.specs.Transfer.{num, by_form, on_number, operand_kind, distance, near, numbers, forth, back, moved, alu_kind, ordered_interval, bytes_loaded, loaded_interval, may_read, put_kind, where_met, after_call, returned, are_arguments, helped_kinds, raised, enter, transfer}
+use Rattle.fc_kinds.specs.Containing.{IsShallow, AreShallow, AllShallow}
 use Rattle.fc_kinds.specs.Refinement.{put_right, put_both, relation_of, refines, both_numbers, when}
-use Rattle.fc_kinds.specs.Ways.{Way, way_where, kinds_when, ways_along, ways_after, AllShallow}
+use Rattle.fc_kinds.specs.Ways.{Way, way_where, kinds_when, ways_along, ways_after}
 use Rattle.fc_kinds.proofs.JoinLaws.{joined_at}
 
 -- ---- one kind

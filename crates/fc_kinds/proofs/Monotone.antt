@@ -16,13 +16,13 @@ use Rattle.fc_isa.specs.declared.insn.SignExtension.{SignExtension}
 use Rattle.fc_isa.specs.declared.insn.SignExtension.TheVariants.{Byte, HalfWord, Word}
 use Rattle.fc_alu.specs.Words.{bits_of}
 use Rattle.fc_kinds.specs.declared.interval.Interval.{Interval}
-use Rattle.fc_kinds.specs.Intervals.{interval, all, IsInterval, IntervalWithin, alu_interval, extended_values}
+use Rattle.fc_kinds.specs.Intervals.{interval, all, alu_interval, extended_values}
+use Rattle.fc_kinds.specs.Containing.{IsInterval, IntervalWithin, IsNear, IsKind}
 use Rattle.fc_kinds.proofs.IntervalsGrow.{alu_interval_grows, sign_extended_grows}
 use Rattle.fc_kinds.proofs.IntervalsProper.{all_proper, alu_interval_proper}
 use Rattle.fc_kinds.specs.declared.kind.Kind.{Kind}
 use Rattle.fc_kinds.specs.declared.kind.Kind.TheVariants.{Unset, Num, Stack, Req, Vars, Dev}
 use Rattle.fc_kinds.specs.Kinds.{KindWithin, Within}
-use Rattle.fc_kinds.specs.Lattice.{IsNear, IsKind}
 use Rattle.fc_kinds.specs.Transfer.{num, by_form, no_pointer, on_number, is_number, operand_kind, small, distance, near, numbers, forth, back, set, alu_kind, ordered_interval, inside, may_read, may_write}
 
 -- where the wider has a kind, the narrower has one too, and it is narrower

@@ -12,12 +12,12 @@ use Rattle.fc_isa.specs.declared.insn.Operand.{Operand}
 use Rattle.fc_isa.specs.declared.insn.Operand.TheVariants.{Imm, Reg}
 use Rattle.fc_alu.specs.Arithmetic.{computed_at}
 use Rattle.fc_kinds.specs.declared.interval.Interval.{Interval}
-use Rattle.fc_kinds.specs.Intervals.{interval, Inside, alu_interval}
+use Rattle.fc_kinds.specs.Intervals.{interval, alu_interval}
+use Rattle.fc_kinds.specs.Containing.{Inside, Contains}
 use Rattle.fc_kinds.proofs.IntervalsSound.{alu_interval_sound}
 use Rattle.fc_kinds.specs.declared.kind.Kind.{Kind}
 use Rattle.fc_kinds.specs.declared.kind.Kind.TheVariants.{Unset, Num, Stack, Req, Vars, Dev}
 use Rattle.fc_kinds.specs.Values.{Region, Frame, Asked, Variables, Readings, Value, Number, Pointer}
-use Rattle.fc_kinds.specs.Kinds.{Contains}
 use Rattle.fc_kinds.specs.Transfer.{immediate, num, by_form, no_pointer, on_number, small, distance, near, numbers, forth, back, moved, alu_kind}
 use Rattle.fc_kinds.specs.Operations.{by_value, no_step, with_number, moved_forth, moved_back, copied, result_of}
 

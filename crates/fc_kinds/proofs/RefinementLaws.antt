@@ -8,7 +8,8 @@ use Rattle.fc_isa.specs.declared.insn.Jump.{Jump}
 use Rattle.fc_isa.specs.declared.insn.Relation.{Relation}
 use Rattle.fc_isa.specs.Program.{IsReg, IsOperand}
 use Rattle.fc_kinds.specs.declared.interval.Interval.{Interval}
-use Rattle.fc_kinds.specs.Intervals.{interval, IntervalWithin, refined}
+use Rattle.fc_kinds.specs.Intervals.{interval, refined}
+use Rattle.fc_kinds.specs.Containing.{IntervalWithin, IsKind, AreKinds}
 use Rattle.fc_kinds.proofs.IntervalsRefined.{refined_narrower, refined_proper, refined_inside}
 use Rattle.fc_kinds.specs.declared.kind.Kind.{Kind}
 use Rattle.fc_kinds.specs.declared.kind.Kind.TheVariants.{Unset, Num, Stack, Req, Vars, Dev}
@@ -16,7 +17,6 @@ use Rattle.fc_kinds.specs.Kinds.{kind_at, KindWithin, Within}
 use Rattle.fc_kinds.specs.Values.{with_some}
 use Rattle.fc_kinds.specs.Transfer.{num, is_number, operand_kind}
 use Rattle.fc_kinds.specs.Refinement.{put_right, put_both, relation_of, refines, both_numbers, when}
-use Rattle.fc_kinds.specs.Lattice.{IsKind, AreKinds}
 use Rattle.fc_kinds.proofs.KindLaws.{within_put}
 use Rattle.fc_kinds.proofs.Monotone.{operand_within}
 use Rattle.fc_kinds.proofs.TransferLaws.{kinds_put, operand_is}

@@ -13,12 +13,13 @@ use Rattle.fc_isa.specs.declared.insn.Relation.{Relation}
 use Rattle.fc_isa.specs.declared.insn.Relation.TheVariants.{Eq, Gt, Ge, Set, Ne, Sgt, Sge, Lt, Le, Slt, Sle}
 use Rattle.fc_alu.specs.Comparison.{holds, compared}
 use Rattle.fc_kinds.specs.declared.interval.Interval.{Interval}
-use Rattle.fc_kinds.specs.Intervals.{interval, Inside, opposite, refined}
+use Rattle.fc_kinds.specs.Intervals.{interval, opposite, refined}
+use Rattle.fc_kinds.specs.Containing.{Inside, Contains, Holds}
 use Rattle.fc_kinds.proofs.IntervalsRefined.{Leaves, refined_leaves}
 use Rattle.fc_kinds.specs.declared.kind.Kind.{Kind}
 use Rattle.fc_kinds.specs.declared.kind.Kind.TheVariants.{Unset, Num, Stack, Req, Vars, Dev}
 use Rattle.fc_kinds.specs.Values.{Value, Number, value_at, with_some}
-use Rattle.fc_kinds.specs.Kinds.{kind_at, Contains, Holds}
+use Rattle.fc_kinds.specs.Kinds.{kind_at}
 use Rattle.fc_kinds.specs.Transfer.{num, operand_kind}
 use Rattle.fc_kinds.specs.Refinement.{put_right, put_both, relation_of, refines_at, is_same, refines, both_numbers, when}
 use Rattle.fc_kinds.specs.Operations.{operand_value}

@@ -24,7 +24,7 @@ use Rattle.fc_help.specs.declared.helper.Arguments.{Arguments}
 use Rattle.fc_help.specs.declared.helper.Arguments.TheVariants.{NoArgument, OneNumber, TwoNumbers, Bytes}
 use Rattle.fc_help.specs.Helpers.{helper_of, signature_of}
 use Rattle.fc_kinds.proofs.KindLaws.{kind_within_same, within_put}
-use Rattle.fc_kinds.specs.Lattice.{IsKind, AreKinds}
+use Rattle.fc_kinds.specs.Containing.{IsKind, AreKinds}
 use Rattle.fc_kinds.proofs.Monotone.{KindFollows, alu_follows, neg_follows, extended_follows, ordered_follows, may_read_follows, may_write_follows, fewer_follow, is_number_follows, where_follows, operand_within}
 
 pub kinds_put : (ks : List Kind) (r : ℕ) (k : Kind) → r < 11 → IsKind k → AreKinds ks → AreKinds (slice_set ks r k)

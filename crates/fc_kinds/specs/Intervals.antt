@@ -1,5 +1,5 @@
 -- Ranges of numbers, and the range that each operation's results are in.
-use Rattle.std.specs.Prelude.{ℕ, zero, suc, ◌+◌, ◌-◌, ◌*◌, ◌/◌, ◌%◌, ◌^◌, ◌<◌, ◌≤◌, ◌==◌, ◌&&◌, not, Bool, true, false, nat_lt, nat_le, if◌then◌else◌, min, max, Option, Some, None}
+use Rattle.std.specs.Prelude.{ℕ, zero, suc, ◌+◌, ◌-◌, ◌*◌, ◌/◌, ◌%◌, ◌^◌, ◌==◌, ◌&&◌, not, Bool, true, false, nat_lt, nat_le, if◌then◌else◌, min, max, Option, Some, None}
 use Rattle.fc_isa.specs.declared.insn.Width.{Width}
 use Rattle.fc_isa.specs.declared.insn.AluOp.{AluOp}
 use Rattle.fc_isa.specs.declared.insn.AluOp.TheVariants.{Add, Sub, Mul, Div, Or, And, Lsh, Rsh, Mod, Xor, Mov, Arsh, Sdiv, Smod}
@@ -16,16 +16,6 @@ interval lo hi = record { lo = lo; hi = hi }
 -- every number of w bits
 abbrev pub all : ℕ → Interval
 all w = interval 0 (2 ^ w - 1)
-
-abbrev pub Inside : ℕ → Interval → Type 0
-Inside n s = (s.lo ≤ n) × (n ≤ s.hi)
-
-abbrev pub IntervalWithin : Interval → Interval → Type 0
-IntervalWithin a b = (b.lo ≤ a.lo) × (a.hi ≤ b.hi)
-
--- it holds some number, and those of w bits alone
-abbrev pub IsInterval : ℕ → Interval → Type 0
-IsInterval w s = (s.lo ≤ s.hi) × (s.hi < 2 ^ w)
 
 -- what is known of the low w bits
 abbrev pub clipped : ℕ → Interval → Interval

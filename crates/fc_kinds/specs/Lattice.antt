@@ -1,9 +1,8 @@
 -- Kinds as a lattice: joins, and the kinds that hold some value.
-use Rattle.std.specs.Prelude.{◌≡◌, ℕ, ◌≤◌, ◌<◌, ◌^◌, ◌==◌, if◌then◌else◌, min, max, ℤ, pos, negsuc, ◌≤ℤ◌, List, [], ◌∷◌, length}
+use Rattle.std.specs.Prelude.{◌==◌, if◌then◌else◌, min, max, List, [], ◌∷◌}
 use Rattle.std.specs.Int.{int_min, int_max}
 use Rattle.fc_kinds.specs.declared.kind.Kind.{Kind}
 use Rattle.fc_kinds.specs.declared.kind.Kind.TheVariants.{Unset, Num, Stack, Req, Vars, Dev}
-use Rattle.fc_kinds.specs.Kinds.{kind_at}
 
 -- two of a form give the least of it that contains both; all others say nothing
 abbrev pub join_kind : Kind → Kind → Kind
@@ -18,21 +17,3 @@ join_kind a b = Unset
 abbrev pub joined : List Kind → List Kind → List Kind
 joined (k ∷ kinds) (l ∷ others) = join_kind k l ∷ joined kinds others
 joined kinds others = []
-
--- a pointer's ends stay within 65,536 on both sides
-abbrev pub IsNear : ℤ → ℤ → Type 0
-IsNear lo hi = (lo ≤ℤ hi) × (negsuc 65535 ≤ℤ lo) × (hi ≤ℤ pos 65536)
-
--- it holds some value of its form; a number has 64 bits
-abbrev pub IsKind : Kind → Type 0
-IsKind Unset = Unit {0}
-IsKind (Num lo hi) = (lo ≤ hi) × (hi < 2 ^ 64)
-IsKind (Stack level lo hi) = IsNear lo hi
-IsKind (Req lo hi) = IsNear lo hi
-IsKind (Vars lo hi) = IsNear lo hi
-IsKind (Dev lo hi) = IsNear lo hi
-
--- the kinds of eleven registers, each of which holds some value of its form
-pub record AreKinds (kinds : List Kind) : Type 0 where
-  pub count : length kinds ≡ 11
-  pub each : (r : ℕ) → IsKind (kind_at kinds r)

@@ -7,13 +7,13 @@ use Rattle.fc_isa.specs.declared.insn.Insn.TheVariants.{JumpIf, CallLocal, Exit}
 use Rattle.fc_isa.specs.Program.{IsInsn}
 use Rattle.fc_alu.specs.Comparison.{truth}
 use Rattle.fc_kinds.specs.declared.kind.Kind.{Kind}
-use Rattle.fc_kinds.specs.Kinds.{Holds, Within, kind_at}
+use Rattle.fc_kinds.specs.Kinds.{Within, kind_at}
+use Rattle.fc_kinds.specs.Containing.{Holds, AreKinds, AreShallow, AllShallow}
 use Rattle.fc_kinds.specs.Values.{Value, Number, value_at}
-use Rattle.fc_kinds.specs.Transfer.{AreShallow, is_number, operand_kind, transfer}
+use Rattle.fc_kinds.specs.Transfer.{is_number, operand_kind, transfer}
 use Rattle.fc_kinds.specs.Refinement.{when}
 use Rattle.fc_kinds.specs.Operations.{operand_value}
-use Rattle.fc_kinds.specs.Lattice.{AreKinds}
-use Rattle.fc_kinds.specs.Ways.{ways_after, AllShallow}
+use Rattle.fc_kinds.specs.Ways.{ways_after}
 use Rattle.fc_kinds.specs.Execution.{Caller, Config, act, depth}
 use Rattle.fc_kinds.specs.Soundness.{IsConfig, StaysInFunction, StepsAlong, Waits, IsEntered, IsLeft, StepsTo}
 

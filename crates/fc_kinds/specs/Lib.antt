@@ -2,6 +2,7 @@ pub mod Values
 pub mod Kinds
 pub mod Entry
 pub mod Intervals
+pub mod Containing
 pub mod Lattice
 pub mod Transfer
 pub mod Refinement

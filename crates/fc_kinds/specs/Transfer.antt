@@ -1,5 +1,5 @@
 -- The transfer function: the registers' kinds after each instruction, where its demands are met.
-use Rattle.std.specs.Prelude.{ℕ, ◌+◌, ◌-◌, ◌≤◌, ◌^◌, ◌&&◌, Bool, true, false, nat_lt, nat_le, if◌then◌else◌, ℤ, pos, negsuc, ◌+ℤ◌, ◌-ℤ◌, int_le, List, [], ◌∷◌, Option, Some, None, slice_set}
+use Rattle.std.specs.Prelude.{ℕ, ◌+◌, ◌-◌, ◌^◌, ◌&&◌, Bool, true, false, nat_lt, nat_le, if◌then◌else◌, ℤ, pos, negsuc, ◌+ℤ◌, ◌-ℤ◌, int_le, List, [], ◌∷◌, Option, Some, None, slice_set}
 use Rattle.std.specs.Int.{w32, w64, cast_unsigned}
 use Rattle.fc_isa.specs.declared.insn.Width.{Width}
 use Rattle.fc_isa.specs.declared.insn.Width.TheVariants.{W32, W64}
@@ -176,15 +176,6 @@ helped_kinds vars kinds helper =
 abbrev pub raised : Kind → Kind
 raised (Stack level lo hi) = Stack (level + 1) lo hi
 raised kind = kind
-
--- a stack frame is at most so many levels above the present one
-abbrev pub IsShallow : ℕ → Kind → Type 0
-IsShallow top (Stack level lo hi) = level ≤ top
-IsShallow top kind = Unit {0}
-
--- and so it is for each register
-pub record AreShallow (top : ℕ) (kinds : List Kind) : Type 0 where
-  pub each : (r : ℕ) → IsShallow top (kind_at kinds r)
 
 -- what a local call hands to the start of its function: R1 to R5, and R10 at the end of a fresh frame
 abbrev pub enter : List Kind → List Kind

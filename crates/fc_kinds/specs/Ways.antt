@@ -4,7 +4,7 @@ use Rattle.fc_isa.specs.declared.insn.Insn.{Insn}
 use Rattle.fc_isa.specs.declared.insn.Insn.TheVariants.{JumpIf}
 use Rattle.fc_isa.specs.Flow.{Flow, Halts, Goes, Forks, Enters, flow}
 use Rattle.fc_kinds.specs.declared.kind.Kind.{Kind}
-use Rattle.fc_kinds.specs.Transfer.{AreShallow, enter}
+use Rattle.fc_kinds.specs.Transfer.{enter}
 use Rattle.fc_kinds.specs.Refinement.{when}
 
 -- a way on: the slot that it leads to, and the kinds on it
@@ -36,8 +36,3 @@ ways_along (Enters start next) insn before after = way start (enter before) ++ w
 -- the ways on from an instruction at a slot
 abbrev pub ways_after : ℕ → Insn → List Kind → List Kind → List Way
 ways_after slot insn before after = ways_along (flow slot insn) insn before after
-
--- no way's kinds have a stack frame more than so many levels above
-abbrev pub AllShallow : ℕ → List Way → Type 0
-AllShallow top [] = Unit {0}
-AllShallow top (w ∷ ws) = AreShallow top w.kinds × AllShallow top ws

@@ -2,7 +2,7 @@
 ghost use Rattle.std.specs.Prelude.{IfErr, IfOk, None, Some, ◌≡◌, ◌≤◌};
 ghost use Rattle.fc_isa.specs.Rules.{number_of};
 ghost use Rattle.fc_isa.specs.declared.insn.AluOp.{AluOp as Operation};
-ghost use Rattle.fc_kinds.specs.Lattice.{AreKinds, IsKind};
+ghost use Rattle.fc_kinds.specs.Containing.{AreKinds, IsKind};
 ghost use Rattle.fc_kinds.specs.Transfer.{added, alu_kind, moved, numbers, operand_kind, ordered_interval, subtracted};
 
 use crate::interval::{Interval, alu_interval};

@@ -1,8 +1,9 @@
 //! Calls: what they take, what they hand to a function, and what they leave.
 ghost use Rattle.std.specs.Prelude.{IfErr, IfOk, None, Some, ◌≡◌, ◌≤◌};
 ghost use Rattle.fc_isa.specs.Rules.{number_of};
-ghost use Rattle.fc_kinds.specs.Lattice.{AreKinds, IsKind};
-ghost use Rattle.fc_kinds.specs.Transfer.{AreShallow, IsShallow, after_call, are_arguments, are_bytes, enter, helped_kinds, raised, returned, transfer};
+ghost use Rattle.fc_kinds.specs.Containing.{AreKinds, IsKind};
+ghost use Rattle.fc_kinds.specs.Transfer.{after_call, are_arguments, are_bytes, enter, helped_kinds, raised, returned, transfer};
+ghost use Rattle.fc_kinds.specs.Containing.{AreShallow, IsShallow};
 
 use crate::interval::all;
 use crate::kind::{Kind, Regs};

@@ -3,11 +3,14 @@ ghost use Rattle.std.specs.Prelude.{List, Some, true, ℕ, ◌≡◌};
 ghost use Rattle.fc_isa.specs.Program.{IsInsn};
 ghost use Rattle.fc_isa.specs.declared.insn.Insn.{Insn};
 ghost use Rattle.fc_help.specs.declared.request.Method.{Method};
-ghost use Rattle.fc_kinds.specs.Kinds.{Holds, Within};
-ghost use Rattle.fc_kinds.specs.Lattice.{AreKinds, joined};
+ghost use Rattle.fc_kinds.specs.Kinds.{Within};
+ghost use Rattle.fc_kinds.specs.Containing.{Holds};
+ghost use Rattle.fc_kinds.specs.Lattice.{joined};
+ghost use Rattle.fc_kinds.specs.Containing.{AreKinds};
 ghost use Rattle.fc_kinds.specs.Laws.{CallsContainTheStep, EffectsAreMonotone, EffectsContainTheStep, ExitsContainTheStep, RefinementIsMonotone, RefinementKeepsWhatTakesTheWay, WaysRaiseByOne};
 ghost use Rattle.fc_kinds.specs.Meaning.{Input, Meaning, Means, Program, is_reply_code, reply_code};
-ghost use Rattle.fc_kinds.specs.Transfer.{AreShallow, enter, transfer};
+ghost use Rattle.fc_kinds.specs.Transfer.{enter, transfer};
+ghost use Rattle.fc_kinds.specs.Containing.{AreShallow};
 ghost use Rattle.fc_kinds.specs.Values.{Value};
 ghost use Rattle.fc_kinds.specs.declared.kind.Kind.{Kind as What};
 

@@ -2,7 +2,7 @@
 ghost use Rattle.std.specs.Prelude.{IfErr, IfOk, None, Some, ◌≡◌, ◌≤◌};
 ghost use Rattle.fc_isa.specs.Rules.{number_of};
 ghost use Rattle.fc_kinds.specs.Kinds.{kind_at};
-ghost use Rattle.fc_kinds.specs.Lattice.{AreKinds, IsKind};
+ghost use Rattle.fc_kinds.specs.Containing.{AreKinds, IsKind};
 ghost use Rattle.fc_kinds.specs.Transfer.{loaded_interval, may_write, size_of, transfer, where_met};
 
 use crate::interval::{Interval, all};

@@ -1,7 +1,7 @@
 //! What an instruction reads.
 ghost use Rattle.std.specs.Prelude.{IfErr, IfOk, None, Some, false, pos, slice_set, true, ◌&&◌, ◌≡◌, ◌≤◌};
 ghost use Rattle.fc_isa.specs.Rules.{number_of};
-ghost use Rattle.fc_kinds.specs.Lattice.{AreKinds, IsKind};
+ghost use Rattle.fc_kinds.specs.Containing.{AreKinds, IsKind};
 ghost use Rattle.fc_kinds.specs.Transfer.{immediate, is_number, num, operand_kind};
 
 use crate::interval::Interval;

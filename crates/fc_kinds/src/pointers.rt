@@ -1,7 +1,7 @@
 //! Pointers: how they move, and what may be accessed through them.
 ghost use Rattle.std.specs.Prelude.{IfErr, IfOk, None, Some, ℤ, int_le, negsuc, pos, ◌&&◌, ◌+ℤ◌, ◌-ℤ◌, ◌≡◌, ◌≤ℤ◌, ◌≤◌};
 ghost use Rattle.fc_isa.specs.Rules.{number_of};
-ghost use Rattle.fc_kinds.specs.Lattice.{IsKind};
+ghost use Rattle.fc_kinds.specs.Containing.{IsKind};
 ghost use Rattle.fc_kinds.specs.Transfer.{bytes_loaded, distance, inside, may_read, may_write, size_of};
 
 use crate::kind::Kind;

@@ -18,7 +18,7 @@ use Rattle.fc_kinds.specs.declared.kind.Kind.{Kind}
 use Rattle.fc_kinds.specs.declared.kind.Kind.TheVariants.{Unset, Num, Stack, Req, Vars, Dev}
 use Rattle.fc_kinds.specs.Values.{with_some}
 use Rattle.fc_kinds.specs.Kinds.{kind_at, KindWithin, Within}
-use Rattle.fc_kinds.specs.Lattice.{IsKind, AreKinds}
+use Rattle.fc_kinds.specs.Containing.{IsKind, AreKinds}
 use Rattle.fc_kinds.specs.Transfer.{num, is_number, put_kind, where_met, after_call, are_arguments, helped_kinds, transfer}
 use Rattle.fc_kinds.specs.Refinement.{both_numbers, when}
 use Rattle.fc_kinds.proofs.KindLaws.{kind_within_same, within_then}

@@ -9,10 +9,11 @@ use Rattle.fc_image.specs.Loops.{begins}
 use Rattle.fc_kinds.specs.declared.kind.Kind.{Kind}
 use Rattle.fc_kinds.specs.declared.kind.Kind.TheVariants.{Unset, Num, Stack, Req, Vars, Dev}
 use Rattle.fc_kinds.specs.Kinds.{kind_at}
-use Rattle.fc_kinds.specs.Transfer.{IsShallow, AreShallow, where_met}
+use Rattle.fc_kinds.specs.Transfer.{where_met}
+use Rattle.fc_kinds.specs.Containing.{IsShallow, AreShallow, AllShallow}
 use Rattle.fc_kinds.specs.Entry.{entry, fourth_kind}
 use Rattle.fc_verify.specs.Typing.{States, state_at}
-use Rattle.fc_kinds.specs.Ways.{Way, AllShallow, ways_after}
+use Rattle.fc_kinds.specs.Ways.{Way, ways_after}
 use Rattle.fc_kinds.proofs.Levels.{ways_shallow, joined_shallow}
 use Rattle.fc_verify.specs.Heads.{settled, formed, enters, any_number}
 use Rattle.fc_verify.specs.Pass.{passed_with, beginning}

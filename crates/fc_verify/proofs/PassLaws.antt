@@ -13,7 +13,8 @@ use Rattle.fc_isa.specs.Program.{IsInsn}
 use Rattle.fc_isa.specs.Flow.{Flow, Halts, Goes, Forks, Enters, flow}
 use Rattle.fc_kinds.specs.declared.kind.Kind.{Kind}
 use Rattle.fc_kinds.specs.Kinds.{kind_at, KindWithin, Within}
-use Rattle.fc_kinds.specs.Lattice.{IsKind, AreKinds, join_kind, joined}
+use Rattle.fc_kinds.specs.Lattice.{join_kind, joined}
+use Rattle.fc_kinds.specs.Containing.{IsKind, AreKinds}
 use Rattle.fc_kinds.specs.Values.{with_some}
 use Rattle.fc_kinds.specs.Transfer.{transfer, enter, is_number}
 use Rattle.fc_kinds.specs.Refinement.{when}

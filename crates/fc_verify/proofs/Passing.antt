@@ -10,7 +10,7 @@ use Rattle.fc_image.specs.declared.loops.Loop.{Loop}
 use Rattle.fc_image.specs.LoopLaws.{AreLoops}
 use Rattle.fc_kinds.specs.declared.kind.Kind.{Kind}
 use Rattle.fc_kinds.specs.Entry.{entry}
-use Rattle.fc_kinds.specs.Lattice.{AreKinds}
+use Rattle.fc_kinds.specs.Containing.{AreKinds}
 use Rattle.fc_verify.specs.Typing.{States, state_at}
 use Rattle.fc_kinds.specs.Values.{with_some}
 use Rattle.fc_kinds.specs.Ways.{ways_after}

@@ -4,7 +4,7 @@ use Rattle.fc_isa.specs.declared.insn.Insn.{Insn}
 use Rattle.fc_image.specs.declared.loops.Loop.{Loop}
 use Rattle.fc_kinds.specs.declared.kind.Kind.{Kind}
 use Rattle.fc_kinds.specs.Kinds.{kind_at, KindWithin, Within}
-use Rattle.fc_kinds.specs.Lattice.{AreKinds}
+use Rattle.fc_kinds.specs.Containing.{AreKinds}
 use Rattle.fc_verify.specs.Heads.{IsHeadState, settled}
 
 -- but for the loop's counter they say no less than those at its head

@@ -1,5 +1,5 @@
 use Rattle.std.proofs.Common.{sym, subst}
-use Rattle.fc_kinds.specs.Intervals.{IsInterval}
+use Rattle.fc_kinds.specs.Containing.{IsInterval}
 use Rattle.fc_alu.specs.Words.{bits_of}
 use Rattle.fc_kinds.proofs.IntervalsProper.{span_proper}
 use Rattle.fc_kinds.proofs.interval.alu_interval.Goals as goal

@@ -1,5 +1,5 @@
 use Rattle.std.proofs.Common.{◌≡◌, subst}
-use Rattle.fc_kinds.specs.Lattice.{AreKinds}
+use Rattle.fc_kinds.specs.Containing.{AreKinds}
 use Rattle.fc_kinds.proofs.KindLaws.{within_same}
 use Rattle.fc_kinds.proofs.TransferLaws.{transfer_meets}
 use Rattle.fc_kinds.proofs.laws.effects_keep_kinds.Goals as goal

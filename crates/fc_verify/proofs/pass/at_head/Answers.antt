@@ -1,5 +1,5 @@
 use Rattle.std.proofs.Common.{◌≡◌, None, Some, refl, sym, ◌∙◌, subst}
-use Rattle.fc_kinds.specs.Lattice.{AreKinds}
+use Rattle.fc_kinds.specs.Containing.{AreKinds}
 use Rattle.fc_kinds.specs.Transfer.{transfer}
 use Rattle.fc_verify.specs.Stages.{AtHead, AtEntry}
 use Rattle.fc_verify.proofs.Heads.{formed_kinds}
