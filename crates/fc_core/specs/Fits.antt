@@ -1,7 +1,8 @@
 -- What is true of each job and its slot, at any history.
 use Rattle.std.specs.Prelude.{◌≡◌, ℕ, ◌<◌, ◌≤◌, length, Option, Some, None}
 use Rattle.fc_image.specs.Paths.{IsLongest}
-use Rattle.fc_kinds.specs.Meaning.{Program, IsRunnable}
+use Rattle.fc_kinds.specs.Meaning.{Program}
+use Rattle.fc_kinds.specs.Runnable.{IsRunnable}
 use Rattle.fc_observe.specs.declared.entry.Turn.{Turn}
 use Rattle.fc_registry.specs.declared.job.Job.{Job}
 use Rattle.fc_registry.specs.Slots.{Slot, Present, Ticket}

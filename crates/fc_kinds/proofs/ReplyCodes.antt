@@ -2,7 +2,8 @@
 use Rattle.std.proofs.Common.{◌≡◌, ℕ, ◌==◌, ◌||◌, Bool, true, false, refl, ap, if◌then◌else◌}
 use Rattle.fc_help.specs.declared.request.Method.{Method}
 use Rattle.fc_help.specs.declared.request.Method.TheVariants.{Get, Post}
-use Rattle.fc_kinds.specs.Meaning.{code_byte, is_answer, is_reply_code, reply_code, success_of}
+use Rattle.fc_kinds.specs.Meaning.{code_byte, is_answer, reply_code, success_of}
+use Rattle.fc_kinds.specs.Runnable.{is_reply_code}
 
 success_known : (m : Method) → is_reply_code m (success_of m) ≡ true
 success_known Get = refl

@@ -11,4 +11,5 @@ pub mod Operations
 pub mod Execution
 pub mod Soundness
 pub mod Meaning
+pub mod Runnable
 pub mod Laws

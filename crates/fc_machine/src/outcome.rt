@@ -1,7 +1,7 @@
 //! What a run gave.
 ghost use Rattle.std.specs.Prelude.{length, true, ◌≡◌, ◌≤◌};
 ghost use Rattle.fc_help.specs.Helpers.{room_of};
-ghost use Rattle.fc_kinds.specs.Meaning.{is_reply_code};
+ghost use Rattle.fc_kinds.specs.Runnable.{is_reply_code};
 ghost use Rattle.fc_machine.specs.Ran.{meaning_of};
 
 use fc_help::{Readings, Request, Vars};

@@ -1,6 +1,6 @@
 //! From an image to a program that may run.
 ghost use Rattle.std.specs.Prelude.{◌≡◌, ◌≤◌, length, IfOk, IfErr};
-ghost use Rattle.fc_kinds.specs.Meaning.{IsRunnable};
+ghost use Rattle.fc_kinds.specs.Runnable.{IsRunnable};
 ghost use Rattle.fc_verify.specs.Accepted.{Accepts, IsAccepted, slots_of};
 ghost use Rattle.fc_verify.specs.Judged.{judged};
 ghost use Rattle.fc_verify.specs.Refusals.{IsRefusal};

@@ -1,5 +1,5 @@
 use Rattle.std.proofs.Common.{◌≡◌, ◌≤◌, true, sym, subst}
-use Rattle.fc_kinds.specs.Meaning.{is_reply_code}
+use Rattle.fc_kinds.specs.Runnable.{is_reply_code}
 use Rattle.fc_machine.specs.Ran.{Ran}
 use Rattle.fc_machine.proofs.Codes.{meaning_high, outcome_known}
 use Rattle.fc_machine.proofs.outcome.Outcome.code.Goals as goal
