@@ -7,7 +7,7 @@ use borrow.Author.Tests.{ltb-true}
 use Rattle.fc_help.specs.declared.request.Method.{Method}
 use Rattle.fc_help.specs.declared.request.Method.TheVariants.{Get, Post}
 use Rattle.fc_help.specs.Request.{Request}
-use Rattle.fc_help.specs.Region.{FitsRegion}
+use Rattle.fc_help.specs.Layout.{FitsRegion}
 use Rattle.fc_kinds.specs.Meaning.{Program, input_with}
 use Rattle.fc_kinds.specs.Runnable.{IsInput}
 use Rattle.fc_verify.specs.Accepted.{Judgement, Accepts, Breaks, Untypable}

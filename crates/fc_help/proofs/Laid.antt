@@ -5,7 +5,8 @@ use Rattle.std.proofs.lemmas.List.{length-append, length-replicate, length-take-
 use Rattle.std.proofs.Math.Seq.{drop-append_seam, take-append_seam}
 use Rattle.fc_help.specs.declared.request.Method.{Method}
 use Rattle.fc_help.specs.Request.{Request}
-use Rattle.fc_help.specs.Region.{FitsRegion, IsLaidOut, region_head, padded, region_of, readings_region, part_at, read_from}
+use Rattle.fc_help.specs.Region.{region_head, padded, region_of, readings_region}
+use Rattle.fc_help.specs.Layout.{FitsRegion, IsLaidOut, part_at, read_from}
 
 padded_size : (size : ℕ) (bytes : List ℕ) → length bytes ≤ size → length (padded size bytes) ≡ size
 padded_size size bytes h =

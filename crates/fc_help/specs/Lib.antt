@@ -1,3 +1,4 @@
 pub mod Request
 pub mod Region
+pub mod Layout
 pub mod Helpers

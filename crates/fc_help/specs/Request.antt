@@ -15,7 +15,3 @@ pub record Request : Type 0 where
 -- a GET of slot 0 that brings nothing
 abbrev pub no_request : Request
 no_request = record { method = Get; slot = 0; content_format = None; query = []; payload = [] }
-
--- a request of these parts
-abbrev pub request_with : Method → ℕ → Option ℕ → List ℕ → List ℕ → Request
-request_with method slot content_format query payload = record { method = method; slot = slot; content_format = content_format; query = query; payload = payload }

@@ -1,7 +1,8 @@
 //! The request that a program answers.
 ghost use Rattle.std.specs.Prelude.{◌≡◌, ◌+◌, ◌++◌, ◌≤◌, ◌↔◌, length, IsTrue};
-ghost use Rattle.fc_help.specs.Request.{request_with};
-ghost use Rattle.fc_help.specs.Region.{FitsRegion, region_head, method_number, padded, region_of};
+ghost use Rattle.fc_help.specs.Layout.{request_with};
+ghost use Rattle.fc_help.specs.Region.{region_head, method_number, padded, region_of};
+ghost use Rattle.fc_help.specs.Layout.{FitsRegion};
 
 use arrayvec::ArrayVec;
 use std::marker::Model;
@@ -44,7 +45,7 @@ pub struct Request {
 }
 
 impl Model for Request {
-    ghost use Rattle.fc_help.specs.Region.{IsLaidOut, read_from};
+    ghost use Rattle.fc_help.specs.Layout.{IsLaidOut, read_from};
     ghost use Rattle.fc_help.specs.Request.{Request as Stated};
 
     ghost Value = { Stated };

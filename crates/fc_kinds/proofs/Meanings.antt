@@ -23,7 +23,8 @@ use Rattle.fc_help.specs.declared.request.Method.{Method}
 use Rattle.fc_help.specs.declared.request.Method.TheVariants.{Get, Post}
 use Rattle.fc_help.specs.declared.helper.Helper.{Helper}
 use Rattle.fc_help.specs.declared.helper.Helper.TheVariants.{PayloadLen, PayloadByte, VarGet, VarPut, ReplyPut, ReplyByte, Notify}
-use Rattle.fc_help.specs.Request.{Request, request_with}
+use Rattle.fc_help.specs.Request.{Request}
+use Rattle.fc_help.specs.Layout.{request_with}
 use Rattle.fc_help.specs.Region.{region_of, no_readings, readings_region}
 use Rattle.fc_kinds.specs.Values.{Value, Number, Pointer, Unset, Frame, Asked, Variables, Readings, value_at}
 use Rattle.fc_kinds.specs.Operations.{result_of}

@@ -4,7 +4,8 @@ use Rattle.std.specs.Fmt.{decimal}
 use Rattle.hex.specs.Hex.{decode_of, encode_lower}
 use Rattle.coap_msg.specs.Codes.{code_text}
 use Rattle.fc_help.specs.Region.{padded}
-use Rattle.fc_help.specs.Request.{Request, request_with}
+use Rattle.fc_help.specs.Request.{Request}
+use Rattle.fc_help.specs.Layout.{request_with}
 use Rattle.fc_help.specs.declared.request.Method.{Method}
 use Rattle.fc_kinds.specs.Meaning.{Meaning}
 

@@ -1,5 +1,6 @@
 use Rattle.std.proofs.Common.{◌≡◌, ◌++◌, List, ℕ, ap, ◌∙◌, append_assoc, rules}
-use Rattle.fc_help.specs.Request.{Request, request_with}
+use Rattle.fc_help.specs.Request.{Request}
+use Rattle.fc_help.specs.Layout.{request_with}
 use Rattle.fc_help.specs.Region.{region_head, padded, region_of}
 use Rattle.fc_help.proofs.request.lay_out.Goals as goal
 

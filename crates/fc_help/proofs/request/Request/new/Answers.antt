@@ -1,6 +1,6 @@
 use Rattle.std.proofs.Common.{length, refl, ap, ◌∙◌, arith}
-use Rattle.fc_help.specs.Request.{Request, request_with}
-use Rattle.fc_help.specs.Region.{FitsRegion}
+use Rattle.fc_help.specs.Request.{Request}
+use Rattle.fc_help.specs.Layout.{FitsRegion, request_with}
 use Rattle.fc_help.proofs.Laid.{laid_out}
 use Rattle.fc_help.proofs.request.Request.new.Goals as goal
 
