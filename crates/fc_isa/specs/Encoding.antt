@@ -17,7 +17,7 @@ use Rattle.fc_isa.specs.declared.insn.Insn.TheVariants.{Alu, Neg, SignExtend, En
 use Rattle.fc_isa.specs.declared.shape.Source.{Source}
 use Rattle.fc_isa.specs.declared.shape.Source.TheVariants.{K, X}
 use Rattle.fc_isa.specs.declared.shape.Shape.{Shape}
-use Rattle.fc_isa.specs.declared.shape.Shape.TheVariants.{Unknown as UnknownShape, Alu as AluShape, Neg as NegShape, End as EndShape, LoadWide as LoadWideShape, Load as LoadShape, StoreImm as StoreImmShape, Store as StoreShape, JumpAlways as JumpAlwaysShape, JumpAlwaysLong as JumpAlwaysLongShape, JumpIf as JumpIfShape, Call as CallShape, Exit as ExitShape}
+use Rattle.fc_isa.specs.declared.shape.Shape.TheVariants as shapes
 use Rattle.fc_isa.specs.declared.rule.Rule.{Rule}
 use Rattle.fc_isa.specs.declared.rule.Rule.TheVariants.{Opcode, Register, FramePointer, Field, WideLoad}
 use Rattle.fc_isa.specs.declared.decoding.DecodeError.{DecodeError}
@@ -80,22 +80,22 @@ fields shape dst src offset imm = record { opcode = opcode_of shape; dst = dst; 
 
 -- the fields of an instruction's own slot: opcode, dst, src, offset, imm; a second half has none
 abbrev pub fields_of : Insn → Fields
-fields_of (Alu op width dst operand) = fields (AluShape op width (source_of operand)) dst (src_of operand) (sign_offset op) (imm_of operand)
-fields_of (Neg width dst) = fields (NegShape width) dst 0 0 0
-fields_of (SignExtend extension dst src) = fields (AluShape Mov (extended_width extension) X) dst src (extended_bits extension) 0
-fields_of (End order width dst) = fields (EndShape order) dst 0 0 (swap_bits width)
-fields_of (LoadWide dst value) = fields LoadWideShape dst 0 0 (value % 2 ^ 32)
+fields_of (Alu op width dst operand) = fields (shapes.Alu op width (source_of operand)) dst (src_of operand) (sign_offset op) (imm_of operand)
+fields_of (Neg width dst) = fields (shapes.Neg width) dst 0 0 0
+fields_of (SignExtend extension dst src) = fields (shapes.Alu Mov (extended_width extension) X) dst src (extended_bits extension) 0
+fields_of (End order width dst) = fields (shapes.End order) dst 0 0 (swap_bits width)
+fields_of (LoadWide dst value) = fields shapes.LoadWide dst 0 0 (value % 2 ^ 32)
 fields_of WideSecond = record { opcode = 0; dst = 0; src = 0; offset = 0; imm = 0 }
-fields_of (Load loaded dst base offset) = fields (LoadShape loaded) dst base (cast_unsigned w16 offset) 0
-fields_of (StoreImm size base offset imm) = fields (StoreImmShape size) base 0 (cast_unsigned w16 offset) (cast_unsigned w32 imm)
-fields_of (Store size base offset src) = fields (StoreShape size) base src (cast_unsigned w16 offset) 0
-fields_of (JumpAlways offset) = fields JumpAlwaysShape 0 0 (cast_unsigned w16 offset) 0
-fields_of (JumpAlwaysLong offset) = fields JumpAlwaysLongShape 0 0 0 (cast_unsigned w32 offset)
+fields_of (Load loaded dst base offset) = fields (shapes.Load loaded) dst base (cast_unsigned w16 offset) 0
+fields_of (StoreImm size base offset imm) = fields (shapes.StoreImm size) base 0 (cast_unsigned w16 offset) (cast_unsigned w32 imm)
+fields_of (Store size base offset src) = fields (shapes.Store size) base src (cast_unsigned w16 offset) 0
+fields_of (JumpAlways offset) = fields shapes.JumpAlways 0 0 (cast_unsigned w16 offset) 0
+fields_of (JumpAlwaysLong offset) = fields shapes.JumpAlwaysLong 0 0 0 (cast_unsigned w32 offset)
 fields_of (JumpIf j) =
-    fields (JumpIfShape j.width j.relation (source_of j.right)) j.left (src_of j.right) (cast_unsigned w16 j.offset) (imm_of j.right)
-fields_of (CallHelper number) = fields CallShape 0 0 0 (cast_unsigned w32 number)
-fields_of (CallLocal offset) = fields CallShape 0 1 0 (cast_unsigned w32 offset)
-fields_of Exit = fields ExitShape 0 0 0 0
+    fields (shapes.JumpIf j.width j.relation (source_of j.right)) j.left (src_of j.right) (cast_unsigned w16 j.offset) (imm_of j.right)
+fields_of (CallHelper number) = fields shapes.Call 0 0 0 (cast_unsigned w32 number)
+fields_of (CallLocal offset) = fields shapes.Call 0 1 0 (cast_unsigned w32 offset)
+fields_of Exit = fields shapes.Exit 0 0 0 0
 
 -- the second slot of a wide load: 32 zero bits, then the high half of its value (3.2)
 abbrev pub second_half : ℕ → Fields
@@ -160,9 +160,9 @@ alu_values_allowed op width source offset = true
 
 -- what an opcode uses has a value that is allowed
 abbrev pub values_allowed : Shape → Fields → Bool
-values_allowed (AluShape op width source) f = alu_values_allowed op width source f.offset
-values_allowed (EndShape order) f = ((f.imm == 16) || (f.imm == 32)) || (f.imm == 64)
-values_allowed CallShape f = (f.src == 0) || (f.src == 1)
+values_allowed (shapes.Alu op width source) f = alu_values_allowed op width source f.offset
+values_allowed (shapes.End order) f = ((f.imm == 16) || (f.imm == 32)) || (f.imm == 64)
+values_allowed shapes.Call f = (f.src == 0) || (f.src == 1)
 values_allowed shape f = true
 
 -- a wide load's second slot is there, and has nothing but an immediate
@@ -258,20 +258,20 @@ called f = if f.src == 0 then CallHelper (cast_signed w32 f.imm) else CallLocal 
 
 -- the instruction of a form with these fields; high is the imm of the slot after them
 abbrev pub insn_with : Shape → Fields → ℕ → Insn
-insn_with (AluShape op width source) f high = arithmetic op width source f
-insn_with (NegShape width) f high = Neg width f.dst
-insn_with (EndShape order) f high = End order (swap_width f.imm) f.dst
-insn_with LoadWideShape f high = LoadWide f.dst (high * 2 ^ 32 + f.imm)
-insn_with (LoadShape loaded) f high = Load loaded f.dst f.src (cast_signed w16 f.offset)
-insn_with (StoreImmShape size) f high = StoreImm size f.dst (cast_signed w16 f.offset) (cast_signed w32 f.imm)
-insn_with (StoreShape size) f high = Store size f.dst (cast_signed w16 f.offset) f.src
-insn_with JumpAlwaysShape f high = JumpAlways (cast_signed w16 f.offset)
-insn_with JumpAlwaysLongShape f high = JumpAlwaysLong (cast_signed w32 f.imm)
-insn_with (JumpIfShape width relation source) f high =
+insn_with (shapes.Alu op width source) f high = arithmetic op width source f
+insn_with (shapes.Neg width) f high = Neg width f.dst
+insn_with (shapes.End order) f high = End order (swap_width f.imm) f.dst
+insn_with shapes.LoadWide f high = LoadWide f.dst (high * 2 ^ 32 + f.imm)
+insn_with (shapes.Load loaded) f high = Load loaded f.dst f.src (cast_signed w16 f.offset)
+insn_with (shapes.StoreImm size) f high = StoreImm size f.dst (cast_signed w16 f.offset) (cast_signed w32 f.imm)
+insn_with (shapes.Store size) f high = Store size f.dst (cast_signed w16 f.offset) f.src
+insn_with shapes.JumpAlways f high = JumpAlways (cast_signed w16 f.offset)
+insn_with shapes.JumpAlwaysLong f high = JumpAlwaysLong (cast_signed w32 f.imm)
+insn_with (shapes.JumpIf width relation source) f high =
     JumpIf (record { width = width; relation = relation; left = f.dst; right = operand_of source f; offset = cast_signed w16 f.offset })
-insn_with CallShape f high = called f
-insn_with ExitShape f high = Exit
-insn_with UnknownShape f high = Exit
+insn_with shapes.Call f high = called f
+insn_with shapes.Exit f high = Exit
+insn_with shapes.Unknown f high = Exit
 
 abbrev pub imm_after : Option Fields → ℕ
 imm_after (Some f) = f.imm
