@@ -22,7 +22,7 @@ use Rattle.fc_kinds.specs.declared.kind.Kind.TheVariants.{Unset, Num, Stack, Req
 use Rattle.fc_kinds.specs.Values.{with_some}
 use Rattle.fc_kinds.specs.Kinds.{kind_at}
 use Rattle.fc_kinds.specs.Lattice.{join_kind, joined}
-use Rattle.fc_kinds.specs.Transfer.{num, by_form, on_number, operand_kind, distance, near, numbers, forth, back, moved, alu_kind, ordered_interval, bytes_loaded, loaded_interval, may_read, put_kind, where_met, after_call, returned, are_arguments, helped_kinds, raised, enter, transfer}
+use Rattle.fc_kinds.specs.Transfer.{num, by_form, where_number, operand_kind, distance, near, numbers, forth, back, moved, alu_kind, ordered_interval, bytes_loaded, loaded_interval, may_read, put_kind, where_met, after_call, returned, are_arguments, helped_kinds, raised, enter, transfer}
 use Rattle.fc_kinds.specs.Containing.{IsShallow, AreShallow, AllShallow}
 use Rattle.fc_kinds.specs.Refinement.{put_right, put_both, relation_of, refines, both_numbers, when}
 use Rattle.fc_kinds.specs.Ways.{Way, way_where, kinds_when, ways_along, ways_after}
@@ -47,7 +47,7 @@ by_form_low top (Req lo hi) f g h p q = q Req lo hi (λ l m. tt)
 by_form_low top (Vars lo hi) f g h p q = q Vars lo hi (λ l m. tt)
 by_form_low top (Dev lo hi) f g h p q = q Dev lo hi (λ l m. tt)
 
-number_low : (top : ℕ) (k : Kind) (f : Interval → Interval) → IsLow top (on_number k (λ s. Some (num (f s))))
+number_low : (top : ℕ) (k : Kind) (f : Interval → Interval) → IsLow top (where_number k (λ s. Some (num (f s))))
 number_low top Unset f = tt
 number_low top (Num lo hi) f = tt
 number_low top (Stack level lo hi) f = tt
@@ -55,7 +55,7 @@ number_low top (Req lo hi) f = tt
 number_low top (Vars lo hi) f = tt
 number_low top (Dev lo hi) f = tt
 
-plain_low : (top : ℕ) (op : AluOp) (width : Width) (a b : Kind) → IsLow top (on_number a (numbers op width b))
+plain_low : (top : ℕ) (op : AluOp) (width : Width) (a b : Kind) → IsLow top (where_number a (numbers op width b))
 plain_low top op width Unset b = tt
 plain_low top op width (Num lo hi) b = number_low top b (alu_interval op width _)
 plain_low top op width (Stack level lo hi) b = tt

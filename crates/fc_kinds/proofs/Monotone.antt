@@ -23,7 +23,7 @@ use Rattle.fc_kinds.proofs.IntervalsProper.{all_proper, alu_interval_proper}
 use Rattle.fc_kinds.specs.declared.kind.Kind.{Kind}
 use Rattle.fc_kinds.specs.declared.kind.Kind.TheVariants.{Unset, Num, Stack, Req, Vars, Dev}
 use Rattle.fc_kinds.specs.Kinds.{KindWithin, Within}
-use Rattle.fc_kinds.specs.Transfer.{num, by_form, no_pointer, on_number, is_number, operand_kind, small, distance, near, numbers, forth, back, set, alu_kind, ordered_interval, inside, may_read, may_write}
+use Rattle.fc_kinds.specs.Transfer.{num, by_form, no_pointer, where_number, is_number, operand_kind, small, distance, near, numbers, forth, back, set, alu_kind, ordered_interval, inside, may_read, may_write}
 
 -- where the wider has a kind, the narrower has one too, and it is narrower
 abbrev pub KindFollows : Option Kind → Option Kind → Type 0
@@ -72,7 +72,7 @@ by_form_follows _ _ f f' g g' p w n q = absurd w
 no_pointers : Pointers no_pointer no_pointer
 no_pointers form lo hi lo' hi' i p q r = tt
 
-on_number_follows : (k k' : Kind) (f f' : Interval → Option Kind) → IsKind k → KindWithin k k' → Numbers f f' → KindFollows (on_number k f) (on_number k' f')
+on_number_follows : (k k' : Kind) (f f' : Interval → Option Kind) → IsKind k → KindWithin k k' → Numbers f f' → KindFollows (where_number k f) (where_number k' f')
 on_number_follows k k' f f' p w n = by_form_follows k k' f f' no_pointer no_pointer p w n no_pointers
 
 numbers_follow : (op : AluOp) (width : Width) (b b' : Kind) → IsKind b → KindWithin b b' → Numbers (numbers op width b) (numbers op width b')
@@ -132,11 +132,11 @@ set_follows : (b b' : Kind) → IsKind b → KindWithin b b' → KindFollows (se
 set_follows b b' p w = by_form_follows b b' (λ s. Some (num s)) (λ s. Some (num s)) (λ form lo hi. Some (form lo hi)) (λ form lo hi. Some (form lo hi)) p w
     (λ s s' q v. (v, q)) (λ form lo hi lo' hi' i q r s. (i.within lo hi lo' hi' r s, i.is lo hi q))
 
-moved_follows : (b b' : Kind) → IsKind b → KindWithin b b' → KindFollows (on_number b (λ t. Some (num (alu_interval Mov W32 t t)))) (on_number b' (λ t. Some (num (alu_interval Mov W32 t t))))
+moved_follows : (b b' : Kind) → IsKind b → KindWithin b b' → KindFollows (where_number b (λ t. Some (num (alu_interval Mov W32 t t)))) (where_number b' (λ t. Some (num (alu_interval Mov W32 t t))))
 moved_follows b b' p w = on_number_follows b b' (λ t. Some (num (alu_interval Mov W32 t t))) (λ t. Some (num (alu_interval Mov W32 t t))) p w
     (λ t t' q v. (alu_interval_grows Mov W32 t t t' t' q.0 q.0 v v, low W32 (alu_interval Mov W32 t t) (alu_interval_proper Mov W32 t t q.0 q.0)))
 
-plain_follows : (op : AluOp) (width : Width) (a b a' b' : Kind) → IsKind a → IsKind b → KindWithin a a' → KindWithin b b' → KindFollows (on_number a (numbers op width b)) (on_number a' (numbers op width b'))
+plain_follows : (op : AluOp) (width : Width) (a b a' b' : Kind) → IsKind a → IsKind b → KindWithin a a' → KindWithin b b' → KindFollows (where_number a (numbers op width b)) (where_number a' (numbers op width b'))
 plain_follows op width a b a' b' p q v w = on_number_follows a a' (numbers op width b) (numbers op width b') p v (numbers_follow op width b b' q w)
 
 pub alu_follows : (op : AluOp) (width : Width) (o : Operand) (a b a' b' : Kind) → IsKind a → IsKind b → KindWithin a a' → KindWithin b b' → KindFollows (alu_kind op width o a b) (alu_kind op width o a' b')
@@ -215,7 +215,7 @@ where_follows false true k p f w = absurd (cc (f refl))
 
 -- ---- the other forms of arithmetic
 
-pub neg_follows : (width : Width) (a a' : Kind) → IsKind a → KindWithin a a' → KindFollows (on_number a (λ s. Some (num (all (bits_of width))))) (on_number a' (λ s. Some (num (all (bits_of width)))))
+pub neg_follows : (width : Width) (a a' : Kind) → IsKind a → KindWithin a a' → KindFollows (where_number a (λ s. Some (num (all (bits_of width))))) (where_number a' (λ s. Some (num (all (bits_of width)))))
 neg_follows width a a' p w = on_number_follows a a' (λ s. Some (num (all (bits_of width)))) (λ s. Some (num (all (bits_of width)))) p w (λ s s' q v. ((omega arith, omega arith), low width (all (bits_of width)) (all_proper (bits_of width))))
 
 extended_low : (e : SignExtension) (s : Interval) → IsInterval 64 s → IsKind (num (extended_values e s))
@@ -226,7 +226,7 @@ extended_low (HalfWord W32) s l = grind (arith, nat_tests, l)
 extended_low (HalfWord W64) s l = grind (arith, nat_tests, l)
 extended_low Word s l = grind (arith, nat_tests, l)
 
-pub extended_follows : (e : _) (a a' : Kind) → IsKind a → KindWithin a a' → KindFollows (on_number a (λ s. Some (num (extended_values e s)))) (on_number a' (λ s. Some (num (extended_values e s))))
+pub extended_follows : (e : _) (a a' : Kind) → IsKind a → KindWithin a a' → KindFollows (where_number a (λ s. Some (num (extended_values e s)))) (where_number a' (λ s. Some (num (extended_values e s))))
 extended_follows e a a' p w = on_number_follows a a' (λ s. Some (num (extended_values e s))) (λ s. Some (num (extended_values e s))) p w (λ s s' q v. (sign_extended_grows e s s' v, extended_low e s q))
 
 ordered_grows : (order : ByteOrder) (width : SwapWidth) (s s' : Interval) → IsInterval 64 s → IntervalWithin s s' → KindWithin (num (ordered_interval order width s)) (num (ordered_interval order width s')) × IsKind (num (ordered_interval order width s))
@@ -240,7 +240,7 @@ ordered_grows Swapped S16 s s' p w = ((omega arith, omega arith), omega arith)
 ordered_grows Swapped S32 s s' p w = ((omega arith, omega arith), omega arith)
 ordered_grows Swapped S64 s s' p w = ((omega arith, omega arith), omega arith)
 
-pub ordered_follows : (order : ByteOrder) (width : SwapWidth) (a a' : Kind) → IsKind a → KindWithin a a' → KindFollows (on_number a (λ s. Some (num (ordered_interval order width s)))) (on_number a' (λ s. Some (num (ordered_interval order width s))))
+pub ordered_follows : (order : ByteOrder) (width : SwapWidth) (a a' : Kind) → IsKind a → KindWithin a a' → KindFollows (where_number a (λ s. Some (num (ordered_interval order width s)))) (where_number a' (λ s. Some (num (ordered_interval order width s))))
 ordered_follows order width a a' p w = on_number_follows a a' (λ s. Some (num (ordered_interval order width s))) (λ s. Some (num (ordered_interval order width s))) p w (λ s s' q v. ordered_grows order width s s' q v)
 
 pub operand_within : (width : Width) (o : Operand) (ks ks' : List Kind) → Within ks ks' → KindWithin (operand_kind width o ks) (operand_kind width o ks')

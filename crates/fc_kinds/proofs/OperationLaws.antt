@@ -18,8 +18,8 @@ use Rattle.fc_kinds.proofs.IntervalsSound.{alu_interval_sound}
 use Rattle.fc_kinds.specs.declared.kind.Kind.{Kind}
 use Rattle.fc_kinds.specs.declared.kind.Kind.TheVariants.{Unset, Num, Stack, Req, Vars, Dev}
 use Rattle.fc_kinds.specs.Values.{Region, Frame, Asked, Variables, Readings, Value, Number, Pointer}
-use Rattle.fc_kinds.specs.Transfer.{immediate, num, by_form, no_pointer, on_number, small, distance, near, numbers, forth, back, moved, alu_kind}
-use Rattle.fc_kinds.specs.Operations.{by_value, no_step, with_number, moved_forth, moved_back, copied, result_of}
+use Rattle.fc_kinds.specs.Transfer.{immediate, num, by_form, no_pointer, where_number, small, distance, near, numbers, forth, back, moved, alu_kind}
+use Rattle.fc_kinds.specs.Operations.{by_value, no_step, computed_with, moved_forth, moved_back, copied, result_of}
 
 -- where there is a kind there is a value, and the kind contains it
 abbrev pub Gives : ℕ → Option Kind → Option Value → Type 0
@@ -49,11 +49,11 @@ by_form_gives depth _ _ f g f' g' c n p = absurd c
 no_pointers_give : (depth : ℕ) → PointersGive depth no_pointer no_step
 no_pointers_give depth form lo hi region o i p q = tt
 
-numbers_give : (depth : ℕ) (op : AluOp) (width : Width) (b : Kind) (y : Value) → Contains depth b y → NumbersGive depth (numbers op width b) (with_number op width y)
+numbers_give : (depth : ℕ) (op : AluOp) (width : Width) (b : Kind) (y : Value) → Contains depth b y → NumbersGive depth (numbers op width b) (computed_with op width y)
 numbers_give depth op width b y c s x h = by_form_gives depth b y (λ t. Some (num (alu_interval op width s t))) no_pointer (λ n. Some (Number (computed_at op width x n))) no_step c (λ t n i. alu_interval_sound op width x n s t h i) (no_pointers_give depth)
 
-plain_gives : (depth : ℕ) (op : AluOp) (width : Width) (a b : Kind) (x y : Value) → Contains depth a x → Contains depth b y → Gives depth (on_number a (numbers op width b)) (by_value x (with_number op width y) no_step)
-plain_gives depth op width a b x y c d = by_form_gives depth a x (numbers op width b) no_pointer (with_number op width y) no_step c (numbers_give depth op width b y d) (no_pointers_give depth)
+plain_gives : (depth : ℕ) (op : AluOp) (width : Width) (a b : Kind) (x y : Value) → Contains depth a x → Contains depth b y → Gives depth (where_number a (numbers op width b)) (by_value x (computed_with op width y) no_step)
+plain_gives depth op width a b x y c d = by_form_gives depth a x (numbers op width b) no_pointer (computed_with op width y) no_step c (numbers_give depth op width b y d) (no_pointers_give depth)
 
 -- the operand's kind and value: an immediate is one value
 abbrev pub IsOwn : Width → Operand → Value → Type 0
@@ -111,8 +111,8 @@ moved_gives depth W32 b y c = by_form_gives depth b y (λ t. Some (num (alu_inte
 pub alu_gives : (depth : ℕ) (op : AluOp) (width : Width) (o : Operand) (a b : Kind) (x y : Value) → IsOwn width o y → Contains depth a x → Contains depth b y → Gives depth (alu_kind op width o a b) (result_of op width x y)
 unfolding alu_kind result_of
 alu_gives depth Mov width o a b x y own c d = moved_gives depth width b y d
-alu_gives depth Add W64 o a b x y own c d = by_form_gives depth a x (numbers Add W64 b) (forth (distance o b)) (with_number Add W64 y) (moved_forth y) c (numbers_give depth Add W64 b y d) (forth_gives depth (distance o b) y (distance_gives depth o b y own d))
-alu_gives depth Sub W64 o a b x y own c d = by_form_gives depth a x (numbers Sub W64 b) (back (distance o b)) (with_number Sub W64 y) (moved_back y) c (numbers_give depth Sub W64 b y d) (back_gives depth (distance o b) y (distance_gives depth o b y own d))
+alu_gives depth Add W64 o a b x y own c d = by_form_gives depth a x (numbers Add W64 b) (forth (distance o b)) (computed_with Add W64 y) (moved_forth y) c (numbers_give depth Add W64 b y d) (forth_gives depth (distance o b) y (distance_gives depth o b y own d))
+alu_gives depth Sub W64 o a b x y own c d = by_form_gives depth a x (numbers Sub W64 b) (back (distance o b)) (computed_with Sub W64 y) (moved_back y) c (numbers_give depth Sub W64 b y d) (back_gives depth (distance o b) y (distance_gives depth o b y own d))
 alu_gives depth Add W32 o a b x y own c d = plain_gives depth Add W32 a b x y c d
 alu_gives depth Sub W32 o a b x y own c d = plain_gives depth Sub W32 a b x y c d
 alu_gives depth Mul width o a b x y own c d = plain_gives depth Mul width a b x y c d

@@ -111,11 +111,11 @@ exchanged None = None
 exchanged (Some p) = Some (p.1, p.0)
 
 -- what both hold
-abbrev pub common : Interval → Interval → Interval
-common a b = interval (max a.lo b.lo) (min a.hi b.hi)
+abbrev pub overlap : Interval → Interval → Interval
+overlap a b = interval (max a.lo b.lo) (min a.hi b.hi)
 
 abbrev pub equal : Interval → Interval → Option (Interval × Interval)
-equal a b = both (nat_le (max a.lo b.lo) (min a.hi b.hi)) (common a b) (common a b)
+equal a b = both (nat_le (max a.lo b.lo) (min a.hi b.hi)) (overlap a b) (overlap a b)
 
 -- without a number at an end
 abbrev pub without : Interval → ℕ → Interval

@@ -44,8 +44,8 @@ by_form (Dev lo hi) number pointer = pointer Dev lo hi
 abbrev pub no_pointer : {A : Type 0} → (ℤ → ℤ → Kind) → ℤ → ℤ → Option A
 no_pointer form lo hi = None
 
-abbrev pub on_number : {A : Type 0} → Kind → (Interval → Option A) → Option A
-on_number k number = by_form k number no_pointer
+abbrev pub where_number : {A : Type 0} → Kind → (Interval → Option A) → Option A
+where_number k number = by_form k number no_pointer
 
 abbrev pub is_number : Kind → Bool
 is_number (Num lo hi) = true
@@ -67,14 +67,14 @@ small s = if nat_le s.hi 65536 then Some (pos s.lo, pos s.hi) else None
 
 abbrev pub distance : Operand → Kind → Option (ℤ × ℤ)
 distance (Imm k) kind = Some (k, k)
-distance (Reg r) kind = on_number kind small
+distance (Reg r) kind = where_number kind small
 
 -- offsets stay within 65536 on both sides
 abbrev pub near : (ℤ → ℤ → Kind) → ℤ → ℤ → Option Kind
 near form lo hi = if int_le (negsuc 65535) lo && int_le hi (pos 65536) then Some (form lo hi) else None
 
 abbrev pub numbers : AluOp → Width → Kind → Interval → Option Kind
-numbers op width b s = on_number b (λ t. Some (num (alu_interval op width s t)))
+numbers op width b s = where_number b (λ t. Some (num (alu_interval op width s t)))
 
 abbrev pub forth : Option (ℤ × ℤ) → (ℤ → ℤ → Kind) → ℤ → ℤ → Option Kind
 forth by form lo hi = with_some by (λ d. near form (lo +ℤ d.0) (hi +ℤ d.1))
@@ -82,25 +82,25 @@ forth by form lo hi = with_some by (λ d. near form (lo +ℤ d.0) (hi +ℤ d.1))
 abbrev pub back : Option (ℤ × ℤ) → (ℤ → ℤ → Kind) → ℤ → ℤ → Option Kind
 back by form lo hi = with_some by (λ d. near form (lo -ℤ d.1) (hi -ℤ d.0))
 
-abbrev pub added : Operand → Kind → Kind → Option Kind
-added operand a b = by_form a (numbers Add W64 b) (forth (distance operand b))
+abbrev pub kind_added : Operand → Kind → Kind → Option Kind
+kind_added operand a b = by_form a (numbers Add W64 b) (forth (distance operand b))
 
-abbrev pub subtracted : Operand → Kind → Kind → Option Kind
-subtracted operand a b = by_form a (numbers Sub W64 b) (back (distance operand b))
+abbrev pub kind_subtracted : Operand → Kind → Kind → Option Kind
+kind_subtracted operand a b = by_form a (numbers Sub W64 b) (back (distance operand b))
 
 abbrev pub set : Kind → Option Kind
 set b = by_form b (λ s. Some (num s)) (λ form lo hi. Some (form lo hi))
 
 abbrev pub moved : Width → Kind → Option Kind
 moved W64 b = set b
-moved W32 b = on_number b (λ t. Some (num (alu_interval Mov W32 t t)))
+moved W32 b = where_number b (λ t. Some (num (alu_interval Mov W32 t t)))
 
 -- what is known of the destination after an operation, by the kinds of the destination and of the operand
 unfoldable pub alu_kind : AluOp → Width → Operand → Kind → Kind → Option Kind
 alu_kind Mov width operand a b = moved width b
-alu_kind Add W64 operand a b = added operand a b
-alu_kind Sub W64 operand a b = subtracted operand a b
-alu_kind op width operand a b = on_number a (numbers op width b)
+alu_kind Add W64 operand a b = kind_added operand a b
+alu_kind Sub W64 operand a b = kind_subtracted operand a b
+alu_kind op width operand a b = where_number a (numbers op width b)
 
 abbrev pub ordered_interval : ByteOrder → SwapWidth → Interval → Interval
 ordered_interval Little width s = if nat_lt s.hi (256 ^ bytes_in width) then s else interval 0 (256 ^ bytes_in width - 1)
@@ -195,11 +195,11 @@ is_access other = false
 unfoldable pub transfer : ℕ → Insn → List Kind → Option (List Kind)
 transfer vars (Alu op width dst operand) kinds =
     put_kind kinds dst (alu_kind op width operand (kind_at kinds dst) (operand_kind width operand kinds))
-transfer vars (Neg width dst) kinds = put_kind kinds dst (on_number (kind_at kinds dst) (λ s. Some (num (all (bits_of width)))))
+transfer vars (Neg width dst) kinds = put_kind kinds dst (where_number (kind_at kinds dst) (λ s. Some (num (all (bits_of width)))))
 transfer vars (SignExtend extension dst src) kinds =
-    put_kind kinds dst (on_number (kind_at kinds src) (λ s. Some (num (extended_values extension s))))
+    put_kind kinds dst (where_number (kind_at kinds src) (λ s. Some (num (extended_values extension s))))
 transfer vars (End order width dst) kinds =
-    put_kind kinds dst (on_number (kind_at kinds dst) (λ s. Some (num (ordered_interval order width s))))
+    put_kind kinds dst (where_number (kind_at kinds dst) (λ s. Some (num (ordered_interval order width s))))
 transfer vars (LoadWide dst value) kinds = put_kind kinds dst (Some (Num value value))
 transfer vars WideSecond kinds = None
 transfer vars (Load loaded dst base offset) kinds =

@@ -3,7 +3,7 @@ ghost use Rattle.std.specs.Prelude.{IfErr, IfOk, None, Some, ◌≡◌, ◌≤�
 ghost use Rattle.fc_isa.specs.Rules.{number_of};
 ghost use Rattle.fc_isa.specs.declared.insn.AluOp.{AluOp as Operation};
 ghost use Rattle.fc_kinds.specs.Containing.{AreKinds, IsKind};
-ghost use Rattle.fc_kinds.specs.Transfer.{added, alu_kind, moved, numbers, operand_kind, ordered_interval, subtracted};
+ghost use Rattle.fc_kinds.specs.Transfer.{kind_added, alu_kind, moved, numbers, operand_kind, ordered_interval, kind_subtracted};
 
 use crate::interval::{Interval, alu_interval};
 use crate::kind::{Kind, Regs};
@@ -33,8 +33,8 @@ fn numbers(op: AluOp, width: Width, a: Interval, b: Kind) -> Result<Kind, Rule>
 fn added(operand: Operand, a: Kind, b: Kind) -> Result<Kind, Rule>
     requires left { IsKind a }
     requires right { IsKind b }
-    ensures kind { IfOk result (λ k. added operand a b ≡ Some k) }
-    ensures refused { IfErr result (λ rule. added operand a b ≡ None) }
+    ensures kind { IfOk result (λ k. kind_added operand a b ≡ Some k) }
+    ensures refused { IfErr result (λ rule. kind_added operand a b ≡ None) }
     ensures rule { IfErr result (λ rule. (20 ≤ number_of rule) × (number_of rule ≤ 27)) }
 {
     match a {
@@ -83,8 +83,8 @@ fn added(operand: Operand, a: Kind, b: Kind) -> Result<Kind, Rule>
 fn subtracted(operand: Operand, a: Kind, b: Kind) -> Result<Kind, Rule>
     requires left { IsKind a }
     requires right { IsKind b }
-    ensures kind { IfOk result (λ k. subtracted operand a b ≡ Some k) }
-    ensures refused { IfErr result (λ rule. subtracted operand a b ≡ None) }
+    ensures kind { IfOk result (λ k. kind_subtracted operand a b ≡ Some k) }
+    ensures refused { IfErr result (λ rule. kind_subtracted operand a b ≡ None) }
     ensures rule { IfErr result (λ rule. (20 ≤ number_of rule) × (number_of rule ≤ 27)) }
 {
     match a {

@@ -14,7 +14,7 @@ use Rattle.fc_help.specs.Helpers.{helper_of, signature_of}
 use Rattle.fc_kinds.specs.declared.kind.Kind.{Kind}
 use Rattle.fc_kinds.specs.declared.interval.Interval.{Interval}
 use Rattle.fc_kinds.specs.Kinds.{kind_at}
-use Rattle.fc_kinds.specs.Transfer.{alu_kind, are_arguments, are_bytes, bytes_loaded, helped_kinds, is_number, loaded_interval, may_read, may_write, moved, num, on_number, operand_kind, put_kind, size_of, transfer, where_met}
+use Rattle.fc_kinds.specs.Transfer.{alu_kind, are_arguments, are_bytes, bytes_loaded, helped_kinds, is_number, loaded_interval, may_read, may_write, moved, num, where_number, operand_kind, put_kind, size_of, transfer, where_met}
 use Rattle.fc_kinds.specs.Values.{with_some}
 use Rattle.fc_tools.specs.Reads.{AreSame, ReadsDecide, argument_list, arithmetic_reads, helper_reads, operand_read}
 
@@ -26,8 +26,8 @@ met_some : (b : Bool) (ks : List Kind) → is_some (where_met b ks) ≡ b
 met_some true ks = refl
 met_some false ks = refl
 
-number_same : (k other : Kind) (f : Interval → Option Kind) → k ≡ other → is_some (on_number k f) ≡ is_some (on_number other f)
-number_same k other f e = ap (λ x. is_some (on_number x f)) e
+number_same : (k other : Kind) (f : Interval → Option Kind) → k ≡ other → is_some (where_number k f) ≡ is_some (where_number other f)
+number_same k other f e = ap (λ x. is_some (where_number x f)) e
 
 operand_same : (width : Width) (operand : Operand) (ks other : List Kind) → AreSame (operand_read operand) ks other → operand_kind width operand ks ≡ operand_kind width operand other
 operand_same width (Imm k) ks other h = refl
