@@ -1,5 +1,5 @@
 -- Which place an exchange has, and what an answer there changes.
-use Rattle.std.proofs.Common.{◌≡◌, ℕ, zero, suc, ◌+◌, ◌-◌, ◌%◌, ◌<◌, ◌≤◌, List, [], ◌∷◌, ◌++◌, length, map, drop, set, Bool, true, false, cond, Option, Some, None, refl, sym, ap, ◌∙◌, ⊎_elim, arith}
+use Rattle.std.proofs.Common.{◌≡◌, ℕ, zero, suc, ◌+◌, ◌-◌, ◌%◌, ◌<◌, ◌≤◌, List, [], ◌∷◌, ◌++◌, length, map, drop, set, Bool, true, false, cond, Option, Some, None, refl, sym, ap, ◌∙◌, ⊎_elim, arith, if◌then◌else◌}
 use Rattle.std.specs.Prelude.{find, nat_lt, slice_get, ◌==◌, ◌&&◌, ◌||◌}
 use Rattle.std.specs.List.{list_any}
 use Rattle.std.proofs.lemmas.List.{get_or-set_other, map-append}
@@ -11,7 +11,7 @@ use Rattle.arrayvec.specs.ArrayVec.{ArrayVec}
 use Rattle.coap_msg.specs.declared.types.Endpoint.{Endpoint}
 use Rattle.coap_dedup.specs.declared.exchange.Kept.{Kept}
 use Rattle.coap_dedup.specs.declared.exchange.Opened.{Opened}
-use Rattle.coap_dedup.specs.Exchanges.{Exchange, IsNew, Look, answered_if, has_room, is_of, look_by, new_or_full, repeated_by}
+use Rattle.coap_dedup.specs.Exchanges.{Exchange, IsNew, Look, answered_if, has_room, is_of, look_by, repeated_by, IsFull}
 use Rattle.coap_dedup.specs.Calls.{answered, is_open}
 use Rattle.coap_dedup.specs.Keys.{key_of}
 use Rattle.coap_dedup.specs.Requests.{has_key}
@@ -151,7 +151,7 @@ found_key to id os = λ i. find (λ o. ((eq_by_cmp_equiv key_total).symm (key_of
 
 abbrev pub found_look : List Kept → Option Opened → Bool → Look
 found_look kept (Some o) room = repeated_by o.confirmable (answer_if (kept_at kept o.number).answered (kept_at kept o.number).bytes)
-found_look kept None room = new_or_full room
+found_look kept None room = (if room then IsNew else IsFull)
 
 look_step : (kept : List Kept) (b : Bool) (o : Opened) (seen : Option Exchange) (found : Option Opened) (room : Bool) → look_by seen room ≡ found_look kept found room → look_by (cond b (Some (as_exchange kept o)) seen) room ≡ found_look kept (cond b (Some o) found) room
 look_step kept true o seen found room rest = refl
@@ -172,7 +172,7 @@ not_found : (kept : List Kept) (found : Option Opened) (room : Bool) → found_l
 not_found kept None room new = refl
 not_found kept (Some o) room new = absurd (not_again o.confirmable (answer_if (kept_at kept o.number).answered (kept_at kept o.number).bytes) new)
 
-new_in_room : (b c : Bool) → new_or_full (b && c) ≡ IsNew → b ≡ true
+new_in_room : (b c : Bool) → (if (b && c) then IsNew else IsFull) ≡ IsNew → b ≡ true
 new_in_room true c new = refl
 new_in_room false c new = absurd (cc new)
 

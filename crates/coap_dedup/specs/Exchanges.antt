@@ -1,5 +1,5 @@
 -- The exchanges that are held (after RFC 7252, 4.5; the one window for all requests is this project's own).
-use Rattle.std.specs.Prelude.{ℕ, ◌==◌, ◌&&◌, Bool, true, false, nat_lt, List, length, find, Option, Some, None}
+use Rattle.std.specs.Prelude.{ℕ, ◌==◌, ◌&&◌, Bool, true, false, nat_lt, List, length, find, Option, Some, None, if◌then◌else◌}
 use Rattle.arrayvec.specs.ArrayVec.{ArrayVec}
 use Rattle.coap_msg.specs.declared.types.Endpoint.{Endpoint}
 use Rattle.coap_msg.specs.Endpoints.{same_endpoint}
@@ -42,25 +42,17 @@ pub data Look : Type 0 where
   IsSilent : Look
   IsFull : Look
 
-abbrev pub new_or_full : Bool → Look
-new_or_full true = IsNew
-new_or_full false = IsFull
-
-abbrev pub answered_again : Bool → List ℕ → Look
-answered_again true bytes = IsAgain bytes
-answered_again false bytes = IsSilent
-
 -- a repeat of this exchange
 abbrev pub repeated_by : Bool → Option (ArrayVec ℕ) → Look
 repeated_by confirmable None = IsBusy
-repeated_by confirmable (Some bytes) = answered_again confirmable bytes.items
+repeated_by confirmable (Some bytes) = if confirmable then IsAgain bytes.items else IsSilent
 
 abbrev pub repeat_of : Exchange → Look
 repeat_of e = repeated_by e.confirmable e.answer
 
 abbrev pub look_by : Option Exchange → Bool → Look
 look_by (Some e) room = repeat_of e
-look_by None room = new_or_full room
+look_by None room = if room then IsNew else IsFull
 
 -- what a request of this endpoint and message id is, to what is held
 abbrev pub look_at : Table → Endpoint → ℕ → Look

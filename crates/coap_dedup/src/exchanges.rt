@@ -1,7 +1,7 @@
 //! The exchanges that are held.
-ghost use Rattle.std.specs.Prelude.{◌≡◌, ◌+◌, ◌<◌, ◌≤◌, [], length, map, IfOk, MatchOption};
+ghost use Rattle.std.specs.Prelude.{◌≡◌, ◌+◌, ◌<◌, ◌≤◌, [], length, map, IfOk, MatchOption, if◌then◌else◌};
 ghost use Rattle.std.specs.List.{list_any};
-ghost use Rattle.coap_dedup.specs.Exchanges.{look_at, new_or_full, has_room, repeated_by, IsNew};
+ghost use Rattle.coap_dedup.specs.Exchanges.{look_at, has_room, repeated_by, IsNew, IsFull};
 ghost use Rattle.coap_dedup.specs.Calls.{is_open, answered, expired, closing, opened};
 ghost use Rattle.coap_dedup.specs.Looks.{look_of};
 ghost use Rattle.coap_dedup.specs.Views.{IsGone, IsNumbered, answer_if};
@@ -162,7 +162,7 @@ fn no_answers(alloc: Global) -> Result<Vec<Kept>, AllocError>
 
 // What a new request is, where so many are held, and so many were opened.
 fn new_in(held: usize, opened: u64) -> Looked
-    ensures { look_of result ≡ new_or_full (has_room held opened) }
+    ensures { look_of result ≡ (if has_room held opened then IsNew else IsFull) }
 {
     if held < EXCHANGES && opened < u64::MAX {
         Looked::New

@@ -1,9 +1,9 @@
-use Rattle.std.proofs.Common.{◌≡◌, ◌∙◌, ap, sym, length, map, Option, ℕ}
+use Rattle.std.proofs.Common.{◌≡◌, ◌∙◌, ap, sym, length, map, Option, ℕ, if◌then◌else◌}
 use Rattle.std.proofs.lemmas.List.{length-map}
 use Rattle.std.specs.Prelude.{find}
 use Rattle.coap_dedup.specs.declared.exchange.Kept.{Kept}
 use Rattle.coap_dedup.specs.declared.exchange.Opened.{Opened}
-use Rattle.coap_dedup.specs.Exchanges.{Table, has_room, look_at, new_or_full, repeated_by}
+use Rattle.coap_dedup.specs.Exchanges.{Table, has_room, look_at, repeated_by, IsNew, IsFull}
 use Rattle.coap_dedup.specs.Calls.{expired}
 use Rattle.coap_dedup.specs.Looks.{look_of}
 use Rattle.coap_dedup.specs.Views.{answer_if, as_exchange}
@@ -25,6 +25,6 @@ returns-clause-looked c =
           (let o = w.in-Some.opened in
           ap look_of w.result-is ∙ (w.repeat.ensures ∙ (ap (λ (k : Kept). repeated_by o.confirmable (answer_if k.answered k.bytes)) w.answer_of.ensures ∙ ap (λ (x : Option Opened). found_look kept x room) (sym w.in-Some.is))))
       | in-None w ↦
-          ap look_of w.result-is ∙ (w.new_in.ensures ∙ (ap (λ (n : ℕ). new_or_full (has_room n c.self.inside.opened)) (w.len.ensures.len ∙ sym (length-map os (as_exchange kept))) ∙ ap (λ (x : Option Opened). found_look kept x room) (sym w.in-None.is)))
+          ap look_of w.result-is ∙ (w.new_in.ensures ∙ (ap (λ (n : ℕ). (if (has_room n c.self.inside.opened) then IsNew else IsFull)) (w.len.ensures.len ∙ sym (length-map os (as_exchange kept))) ∙ ap (λ (x : Option Opened). found_look kept x room) (sym w.in-None.is)))
     ] in
     tells ∙ looks
