@@ -1,5 +1,5 @@
 -- A block is whole, or goes on, where it fits behind the payloads before it.
-use Rattle.std.proofs.Common.{◌≡◌, inl, inr, ℕ, ◌+◌, ◌*◌, ◌<◌, ◌≤◌, List, [], ◌++◌, length, Bool, true, false, Option, Some, None, refl, sym, ap, ◌∙◌, subst, arith, length-append}
+use Rattle.std.proofs.Common.{◌≡◌, inl, inr, ℕ, ◌+◌, ◌*◌, ◌<◌, ◌≤◌, List, [], ◌++◌, length, Bool, true, false, Option, Some, None, refl, sym, ap, ◌∙◌, subst, arith, length-append, if◌then◌else◌}
 use Rattle.std.specs.Prelude.{find, not, nat_lt, ◌==◌, ◌&&◌}
 use Rattle.std.specs.Option.{option_map}
 use Rattle.std.proofs.lemmas.Bool.{and_left, and_right, eqb-true, eqb-false, eq-eqb, ne_eqb, ltb-true, ltb-false, lt-ltb, le-ltb, not-false, not-true, not_from_true, not_from_false}
@@ -7,7 +7,7 @@ use Rattle.std.proofs.Math.Nat.{zero-mul}
 use Rattle.coap_msg.specs.declared.types.Endpoint.{Endpoint}
 use Rattle.coap_block.specs.declared.transfer.Transfer.{Transfer}
 use Rattle.coap_opts.specs.Values.{Place, block_size}
-use Rattle.coap_block.specs.Uploads.{Add, Continues, IsWhole, add_of, before_by, before_of, body_among, body_behind, body_with, checked_by, extended_by, has_length, is_full, is_transfer_of, live, others, unless_full, unless_more}
+use Rattle.coap_block.specs.Uploads.{Add, Continues, IsWhole, add_of, before_by, before_of, body_among, body_behind, body_with, checked_by, has_length, is_full, is_transfer_of, live, others, unless_more, IsTooLarge, IsFull}
 use Rattle.coap_block.specs.UnderWay.{Begins, Fits, HasLength}
 
 -- the bytes of a transfer that was found
@@ -16,7 +16,7 @@ found_bytes u = option_map (λ t. t.body.items) u
 
 -- ---- what a whole body says of the checks
 
-pub unfull : (full : Bool) (x : Add) (body : List ℕ) → unless_full full x ≡ IsWhole body → (full ≡ false) × (x ≡ IsWhole body)
+pub unfull : (full : Bool) (x : Add) (body : List ℕ) → (if full then IsFull else x) ≡ IsWhole body → (full ≡ false) × (x ≡ IsWhole body)
 unfull true x body e = absurd (cc)
 unfull false x body e = (refl, e)
 
@@ -25,7 +25,7 @@ checks true true x body e = (refl, refl, e)
 checks true false x body e = absurd (cc)
 checks false long x body e = absurd (cc)
 
-extends : (over : Bool) (sum body : List ℕ) → extended_by over sum ≡ IsWhole body → (over ≡ false) × (sum ≡ body)
+extends : (over : Bool) (sum body : List ℕ) → (if over then IsTooLarge else IsWhole sum) ≡ IsWhole body → (over ≡ false) × (sum ≡ body)
 extends true sum body e = absurd (cc)
 extends false sum body e = (refl, cc)
 
@@ -59,7 +59,7 @@ behind_to before b bytes body h =
     let l = long_to b.more (block_size b.szx) (length bytes) h.long in
     let le = subst (λ (l : List ℕ). length l ≤ 8208) h.joined h.within in
     let w : nat_lt 8208 (length before + length bytes) ≡ false = le-ltb 8208 (length before + length bytes) (omega (arith, le, length-append before bytes)) in
-    (λ i. checked_by (h.starts i) (l i) (extended_by (w i) (before ++ bytes))) ∙ ap IsWhole (sym h.joined)
+    (λ i. checked_by (h.starts i) (l i) (if w i then IsTooLarge else IsWhole (before ++ bytes))) ∙ ap IsWhole (sym h.joined)
 
 -- ---- what is before it
 
@@ -121,7 +121,7 @@ pub fits_to : (U : List ℕ → Type 0) (held : List Transfer) (to : Endpoint) (
 fits_to U held to n b bytes body under fits =
     let u = find (is_transfer_of to n) held in
     let w = begins_to U (length (others to n held)) b u fits.before under fits.begins in
-    (λ i. unless_full (w.room i) (body_behind (w.is i) b bytes)) ∙ behind_to fits.before b bytes body (record { starts = w.starts; long = fits.long; joined = fits.joined; within = fits.within })
+    (λ i. (if w.room i then IsFull else body_behind (w.is i) b bytes)) ∙ behind_to fits.before b bytes body (record { starts = w.starts; long = fits.long; joined = fits.joined; within = fits.within })
 
 -- ---- the answer
 
@@ -136,13 +136,13 @@ goes_on_from true Continues n e = absurd (n refl)
 goes_on_from true x n e = absurd (cc)
 goes_on_from false x n e = absurd (n e)
 
-never_checked : (starts long over : Bool) (sum : List ℕ) → checked_by starts long (extended_by over sum) ≡ Continues → ⊥
+never_checked : (starts long over : Bool) (sum : List ℕ) → checked_by starts long (if over then IsTooLarge else IsWhole sum) ≡ Continues → ⊥
 never_checked true true true sum e = cc
 never_checked true true false sum e = cc
 never_checked true false over sum e = cc
 never_checked false long over sum e = cc
 
-never_behind : (full : Bool) (o : Option (List ℕ)) (b : Place) (bytes : List ℕ) → unless_full full (body_behind o b bytes) ≡ Continues → ⊥
+never_behind : (full : Bool) (o : Option (List ℕ)) (b : Place) (bytes : List ℕ) → (if full then IsFull else body_behind o b bytes) ≡ Continues → ⊥
 never_behind true o b bytes e = cc
 never_behind false None b bytes e = cc
 never_behind false (Some before) b bytes e = never_checked (b.number * block_size b.szx == length before) (has_length b.more (block_size b.szx) (length bytes)) (nat_lt 8208 (length before + length bytes)) (before ++ bytes) e
@@ -163,4 +163,4 @@ most_bytes held now to n (Some b) bytes body e =
     (fits_from (λ before. Unit {0}) (live now held) to n b bytes body (λ before is. tt) w.1).within
 
 pub bound_reached : (bytes : List ℕ) → length bytes ≤ 8208 → body_with [] bytes ≡ IsWhole bytes
-bound_reached bytes le = let w : nat_lt 8208 (length {A = ℕ} [] + length bytes) ≡ false = le-ltb 8208 (length {A = ℕ} [] + length bytes) (omega (arith, le)) in ap (λ (over : Bool). extended_by over bytes) w
+bound_reached bytes le = let w : nat_lt 8208 (length {A = ℕ} [] + length bytes) ≡ false = le-ltb 8208 (length {A = ℕ} [] + length bytes) (omega (arith, le)) in ap (λ (over : Bool). (if over then IsTooLarge else IsWhole bytes)) w

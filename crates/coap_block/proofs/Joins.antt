@@ -1,5 +1,5 @@
 -- The cuts of a body by one size are its bytes.
-use Rattle.std.proofs.Common.{◌≡◌, ℕ, zero, suc, ◌+◌, ◌*◌, ◌≤◌, List, [], ◌++◌, length, take, drop, Bool, true, false, Some, refl, sym, ap, ◌∙◌, subst, ⊎_elim, arith, length-drop}
+use Rattle.std.proofs.Common.{◌≡◌, ℕ, zero, suc, ◌+◌, ◌*◌, ◌≤◌, List, [], ◌++◌, length, take, drop, Bool, true, false, None, Some, refl, sym, ap, ◌∙◌, subst, ⊎_elim, arith, length-drop, if◌then◌else◌}
 use Rattle.std.specs.Prelude.{nat_lt, not}
 use Rattle.std.proofs.lemmas.Bool.{and_parts, and_cases, ltb-true, ltb-false, not-true, not-false}
 use Rattle.std.proofs.lemmas.List.{length-take}
@@ -7,7 +7,7 @@ use Rattle.std.proofs.Math.Nat.{zero-mul, suc-mul}
 use Rattle.std.proofs.Math.ListN.{drop_of_length-le}
 use Rattle.std.proofs.Math.Seq.{take-add, take-nil}
 use Rattle.coap_opts.specs.Values.{block_size}
-use Rattle.coap_block.specs.Cuts.{Part, block_at, cut_at, is_past, unless_past, part_bytes}
+use Rattle.coap_block.specs.Cuts.{Part, block_at, cut_at, is_past, part_bytes}
 use Rattle.coap_block.specs.Pieces.{EndsBy, IsBlockOf, joined_cuts}
 
 -- ---- joined
@@ -17,7 +17,7 @@ nothing_left body k szx e =
     let w = and_parts (nat_lt 0 k) (not (nat_lt (k * block_size szx) (length body))) e in
     drop_of_length-le body (ltb-false (k * block_size szx) (length body) (not-true (nat_lt (k * block_size szx) (length body)) w.1))
 
-cut_bytes : (body : List ℕ) (k szx : ℕ) (past : Bool) → is_past body k szx ≡ past → part_bytes (unless_past past (block_at body k szx)) ≡ take (block_size szx) (drop (k * block_size szx) body)
+cut_bytes : (body : List ℕ) (k szx : ℕ) (past : Bool) → is_past body k szx ≡ past → part_bytes (if past then None else Some (block_at body k szx)) ≡ take (block_size szx) (drop (k * block_size szx) body)
 cut_bytes body k szx true e = sym (ap (take (block_size szx)) (nothing_left body k szx e) ∙ take-nil (block_size szx))
 cut_bytes body k szx false e = refl
 
@@ -47,7 +47,7 @@ ends_by body size start false le e =
     let d = length-drop start body in
     (omega (arith, ge, t, d, le), omega (arith, ge, t, d, le))
 
-part_is : (past : Bool) (made part : Part) → unless_past past made ≡ Some part → (past ≡ false) × (made ≡ part)
+part_is : (past : Bool) (made part : Part) → (if past then None else Some made) ≡ Some part → (past ≡ false) × (made ≡ part)
 part_is true made part e = absurd (cc)
 part_is false made part e = (refl, cc)
 

@@ -1,10 +1,10 @@
 -- Each refusal has its cause.
-use Rattle.std.proofs.Common.{◌≡◌, inr, ℕ, ◌+◌, ◌*◌, ◌<◌, ◌≤◌, List, ◌++◌, length, Bool, true, false, Option, Some, None, refl, ap, ◌∙◌}
+use Rattle.std.proofs.Common.{◌≡◌, inr, ℕ, ◌+◌, ◌*◌, ◌<◌, ◌≤◌, List, ◌++◌, length, Bool, true, false, Option, Some, None, refl, ap, ◌∙◌, if◌then◌else◌}
 use Rattle.std.specs.Prelude.{◌≢◌, find, not, nat_lt, ◌==◌, ◌&&◌}
 use Rattle.std.proofs.lemmas.Bool.{and_left, eq-eqb, ne_eqb, le-ltb, lt-ltb}
 use Rattle.coap_block.specs.declared.transfer.Transfer.{Transfer}
 use Rattle.coap_opts.specs.Values.{Place, block_size}
-use Rattle.coap_block.specs.Uploads.{Add, Continues, IsWhole, IsIncomplete, IsBadLength, IsTooLarge, IsFull, before_by, before_of, block_added, body_among, body_behind, body_with, checked_by, extended_by, has_length, is_transfer_of, live, unless_full, unless_more}
+use Rattle.coap_block.specs.Uploads.{Add, Continues, IsWhole, IsIncomplete, IsBadLength, IsTooLarge, IsFull, before_by, before_of, block_added, body_among, body_behind, body_with, checked_by, has_length, is_transfer_of, live, unless_more}
 use Rattle.coap_block.specs.Transfers.{Addition, transfers}
 use Rattle.coap_block.specs.UnderWay.{BeginsBehind, HasLength, IsUnderWay, RisesTo, others_at}
 use Rattle.coap_block.proofs.Bodies.{BeginsBy, begins_to, found_bytes, long_from, long_to}
@@ -32,7 +32,7 @@ pub too_many : (h : List Addition) (a : Addition) (b : Place) → b.number ≡ 0
 too_many h a b first many =
     let z = eq-eqb b.number 0 first in
     let r = le-ltb (others_at a h) 16 many in
-    refused h a b IsFull (λ body e. cc e) (λ i. unless_full (z i && not (r i)) (body_behind (before_of b.number (own h a)) b a.payload))
+    refused h a b IsFull (λ body e. cc e) (λ i. (if z i && not (r i) then IsFull else body_behind (before_of b.number (own h a)) b a.payload))
 
 -- ---- a block that begins where those before it end
 
@@ -47,14 +47,14 @@ pub wrong_length : (h : List Addition) (a : Addition) (b : Place) (before : List
 wrong_length h a b before r w never =
     let x = begun h a b before r w in
     let l = length_is_no b.more (block_size b.szx) (length a.payload) (has_length b.more (block_size b.szx) (length a.payload)) refl never in
-    refused h a b IsBadLength (λ body e. cc e) ((λ i. unless_full (x.room i) (body_behind (x.is i) b a.payload)) ∙ (λ i. checked_by (x.starts i) (l i) (body_with before a.payload)))
+    refused h a b IsBadLength (λ body e. cc e) ((λ i. (if x.room i then IsFull else body_behind (x.is i) b a.payload)) ∙ (λ i. checked_by (x.starts i) (l i) (body_with before a.payload)))
 
 pub too_large : (h : List Addition) (a : Addition) (b : Place) (before : List ℕ) → RisesTo a.at h → BeginsBehind h a b before → HasLength b.more (block_size b.szx) (length a.payload) → 8208 < length before + length a.payload → block_added (transfers h) a.at a.endpoint a.slot b a.payload ≡ IsTooLarge
 too_large h a b before r w long over =
     let x = begun h a b before r w in
     let l = long_to b.more (block_size b.szx) (length a.payload) long in
     let o = lt-ltb 8208 (length before + length a.payload) over in
-    refused h a b IsTooLarge (λ body e. cc e) ((λ i. unless_full (x.room i) (body_behind (x.is i) b a.payload)) ∙ (λ i. checked_by (x.starts i) (l i) (extended_by (o i) (before ++ a.payload))))
+    refused h a b IsTooLarge (λ body e. cc e) ((λ i. (if x.room i then IsFull else body_behind (x.is i) b a.payload)) ∙ (λ i. checked_by (x.starts i) (l i) (if o i then IsTooLarge else IsWhole (before ++ a.payload))))
 
 -- ---- one that doesn't
 
@@ -68,4 +68,4 @@ pub out_of_place : (h : List Addition) (a : Addition) (b : Place) → RisesTo a.
 out_of_place h a b r later never =
     let z = ne_eqb b.number 0 later in
     let nowhere : (body : List ℕ) → found_bytes (own h a) ≡ Some body → (b.number * block_size b.szx == length body) ≡ false = λ body e. ne_eqb (b.number * block_size b.szx) (length body) (λ is. never body (inr (later, held_from h a.at a.endpoint a.slot body r e, is))) in
-    refused h a b IsIncomplete (λ body e. cc e) ((λ i. unless_full (and_left (b.number == 0) (not (nat_lt (others_at a h) 16)) z i) (body_behind (before_by (z i) (own h a)) b a.payload)) ∙ found_at (own h a) b a.payload nowhere)
+    refused h a b IsIncomplete (λ body e. cc e) ((λ i. (if and_left (b.number == 0) (not (nat_lt (others_at a h) 16)) z i then IsFull else body_behind (before_by (z i) (own h a)) b a.payload)) ∙ found_at (own h a) b a.payload nowhere)

@@ -1,5 +1,5 @@
 -- The block of a body that a GET asks (RFC 7959, 2.4).
-use Rattle.std.specs.Prelude.{ℕ, ◌+◌, ◌*◌, ◌&&◌, Bool, true, false, nat_lt, not, List, [], length, take, drop, Option, Some, None}
+use Rattle.std.specs.Prelude.{ℕ, ◌+◌, ◌*◌, ◌&&◌, Bool, nat_lt, not, List, [], length, take, drop, Option, Some, None, if◌then◌else◌}
 use Rattle.coap_opts.specs.Values.{Place, block_size}
 
 -- a part of a body: its bytes, and its place where it isn't the whole
@@ -23,19 +23,11 @@ block_at bytes number szx = record {
   place = Some (record { number = number; more = nat_lt (number * block_size szx + block_size szx) (length bytes); szx = szx });
 }
 
-abbrev pub unless_past : Bool → Part → Option Part
-unless_past true part = None
-unless_past false part = Some part
-
 abbrev pub cut_at : List ℕ → ℕ → ℕ → Option Part
-cut_at bytes number szx = unless_past (is_past bytes number szx) (block_at bytes number szx)
+cut_at bytes number szx = if is_past bytes number szx then None else Some (block_at bytes number szx)
 
--- where no block is asked, up to 1,024 bytes go whole, and of more the first 1,024 (SZX 6)
-abbrev pub cut_unasked : Bool → List ℕ → Option Part
-cut_unasked true bytes = cut_at bytes 0 6
-cut_unasked false bytes = Some (record { bytes = bytes; place = None })
-
--- the block that is asked, by its number and size alone; none where it begins at or past the end
+-- the block that is asked, by its number and size alone; none where it begins at or past the end. Where no block is asked, up to 1,024
+-- bytes go whole, and of more the first 1,024 (SZX 6)
 abbrev pub cut_of : List ℕ → Option Place → Option Part
-cut_of bytes None = cut_unasked (nat_lt 1024 (length bytes)) bytes
+cut_of bytes None = if nat_lt 1024 (length bytes) then cut_at bytes 0 6 else Some (record { bytes = bytes; place = None })
 cut_of bytes (Some place) = cut_at bytes place.number place.szx

@@ -1,5 +1,5 @@
 -- The transfers that are under way (RFC 7959, 2.5).
-use Rattle.std.specs.Prelude.{ℕ, ◌+◌, ◌*◌, ◌==◌, ◌&&◌, Bool, true, false, not, nat_lt, List, [], ◌∷◌, ◌++◌, length, filter, find, Option, Some, None}
+use Rattle.std.specs.Prelude.{ℕ, ◌+◌, ◌*◌, ◌==◌, ◌&&◌, Bool, true, false, not, nat_lt, List, [], ◌∷◌, ◌++◌, length, filter, find, Option, Some, None, if◌then◌else◌}
 use Rattle.coap_msg.specs.declared.types.Endpoint.{Endpoint}
 use Rattle.coap_msg.specs.Endpoints.{same_endpoint}
 use Rattle.coap_msg.specs.Windows.{within_window}
@@ -51,12 +51,8 @@ has_length true size bytes = bytes == size
 has_length false size bytes = not (nat_lt size bytes)
 
 -- a body with more bytes behind it, of at most 8,208 in all
-abbrev pub extended_by : Bool → List ℕ → Add
-extended_by true body = IsTooLarge
-extended_by false body = IsWhole body
-
 abbrev pub body_with : List ℕ → List ℕ → Add
-body_with before bytes = extended_by (nat_lt 8208 (length before + length bytes)) (before ++ bytes)
+body_with before bytes = if nat_lt 8208 (length before + length bytes) then IsTooLarge else IsWhole (before ++ bytes)
 
 -- the checks of where it begins and of its length, in this order, and then of the sum
 abbrev pub checked_by : Bool → Bool → Add → Add
@@ -73,13 +69,9 @@ body_behind (Some before) b bytes = checked_by (b.number * block_size b.szx == l
 abbrev pub is_full : ℕ → ℕ → Bool
 is_full number others = (number == 0) && not (nat_lt others 16)
 
-abbrev pub unless_full : Bool → Add → Add
-unless_full true extended = IsFull
-unless_full false extended = extended
-
 -- the body with a block, among the transfers that are under way
 abbrev pub body_among : List Transfer → Endpoint → ℕ → Place → List ℕ → Add
-body_among held to n b bytes = unless_full (is_full b.number (length (others to n held))) (body_behind (before_of b.number (find (is_transfer_of to n) held)) b bytes)
+body_among held to n b bytes = if is_full b.number (length (others to n held)) then IsFull else body_behind (before_of b.number (find (is_transfer_of to n) held)) b bytes
 
 -- a body that fits goes on where more is to come
 abbrev pub unless_more : Bool → Add → Add

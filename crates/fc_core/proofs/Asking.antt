@@ -1,5 +1,5 @@
 -- A job of a delivery is that of its message's request, and asks what the message says.
-use Rattle.std.proofs.Common.{◌≡◌, ◌≢◌, ℕ, ◌+◌, ◌<◌, ◌≤◌, Bool, true, false, List, [], ◌∷◌, ◌++◌, length, map, Option, Some, None, Ok, refl, sym, ap, ◌∙◌, subst, arith, max}
+use Rattle.std.proofs.Common.{◌≡◌, ◌≢◌, ℕ, ◌+◌, ◌<◌, ◌≤◌, Bool, true, false, List, [], ◌∷◌, ◌++◌, length, map, Option, Some, None, Ok, refl, sym, ap, ◌∙◌, subst, arith, max, if◌then◌else◌}
 use Rattle.std.specs.Prelude.{◌↔◌, ◌==◌, ◌||◌, nat_lt}
 use Rattle.std.proofs.lemmas.Bool.{le-ltb, ne_eqb}
 use Rattle.std.proofs.lemmas.List.{append_cancel_left}
@@ -24,7 +24,7 @@ use Rattle.coap_opts.proofs.Paths.{path_named}
 use Rattle.coap_opts.proofs.Rows.{code_is}
 use Rattle.coap_opts.proofs.Within.{action_served, asked_made, asked_within}
 use Rattle.coap_dedup.specs.Exchanges.{Look, IsNew, IsBusy, IsAgain, IsSilent as IsAnsweredNon, IsFull as IsTableFull}
-use Rattle.coap_block.specs.Uploads.{Add, Continues, IsWhole, IsIncomplete, IsBadLength, IsTooLarge, IsFull, add_of, extended_by}
+use Rattle.coap_block.specs.Uploads.{Add, Continues, IsWhole, IsIncomplete, IsBadLength, IsTooLarge, IsFull, add_of}
 use Rattle.fc_help.specs.declared.request.Method.{Method as Verb}
 use Rattle.fc_help.specs.declared.request.Method.TheVariants.{Get, Post}
 use Rattle.fc_registry.specs.declared.job.Ask.TheVariants.{Run, Install, Remove, Describe, Discover}
@@ -164,7 +164,7 @@ posts r s from m j n lt b q =
     let fields = fields_of (front_at s b.now) from m j w in
     asks_by (front_at s b.now) from m j w (actions.Post n) (action_by m w.asked 2 methods.Post (resources.Run n) (actions.Post n) fields q.code_is refl q.path_is lt refl) ∙ ap Run (asked_is m w.asked Post n fields)
 
-whole_is : (b : Bool) (bytes body : List ℕ) → extended_by b bytes ≡ IsWhole body → body ≡ bytes
+whole_is : (b : Bool) (bytes body : List ℕ) → (if b then IsTooLarge else IsWhole bytes) ≡ IsWhole body → body ≡ bytes
 whole_is true bytes body e = absurd (cc e)
 whole_is false bytes body e = cc e
 
@@ -341,7 +341,7 @@ payload_whole : (s : Seen) (now : ℕ) (to : Endpoint) (m : Message) (q : Asked)
 payload_whole s now to m q none short =
     let front = front_at s now in
     ap (λ (b : Option Place). received_added (add_of front.transfers front.now to (slot_asked q.action) b q.payload) m q) none
-    ∙ ap (λ (b : Bool). received_added (extended_by b q.payload) m q) (le-ltb 8208 (0 + length q.payload) (omega (arith, short)))
+    ∙ ap (λ (b : Bool). received_added (if b then IsTooLarge else IsWhole q.payload) m q) (le-ltb 8208 (0 + length q.payload) (omega (arith, short)))
 
 comes_by : (e : Event) (s : Seen) (m : Message) (q : Asked) → Asks s e m q → q.block1 ≡ None → length q.payload ≤ 1024 → (r : Entry) → r.event ≡ e → (from : Endpoint) × (j : Job) × BringsJob r s from m j
 comes_by (Deliver now to bytes) s m q w none short r is =

@@ -3,7 +3,7 @@ use Rattle.std.proofs.Common.{◌≡◌, ℕ, ◌+◌, ◌*◌, List, [], ◌++�
 use Rattle.std.specs.Prelude.{◌==◌, ◌&&◌, nat_lt, not}
 use Rattle.std.specs.Option.{option_map, option_to_list}
 use Rattle.std.proofs.lemmas.Bool.{eq-eqb}
-use Rattle.coap_block.specs.Cuts.{Part, block_at, cut_at, cut_unasked, unless_past}
+use Rattle.coap_block.specs.Cuts.{Part, block_at, cut_at}
 use Rattle.coap_msg.specs.declared.types.Endpoint.{Endpoint}
 use Rattle.coap_opts.specs.Values.{Place, block_size}
 use Rattle.coap_reply.specs.Blocks.{cut_for}
@@ -137,9 +137,9 @@ ticket_asks_first h k id turn t is =
 
 -- the first block is never past the end
 first_cut : (number szx : ℕ) (bytes : List ℕ) → number ≡ 0 → cut_at bytes number szx ≡ Some (block_at bytes number szx)
-first_cut number szx bytes is = ap (λ (i : ℕ). unless_past (nat_lt 0 i && not (nat_lt (i * block_size szx) (length bytes))) (block_at bytes number szx)) is
+first_cut number szx bytes is = ap (λ (i : ℕ). (if nat_lt 0 i && not (nat_lt (i * block_size szx) (length bytes)) then None else Some (block_at bytes number szx))) is
 
-cut_by : (b : Bool) (bytes : List ℕ) → (part : Part) × (cut_unasked b bytes ≡ Some part)
+cut_by : (b : Bool) (bytes : List ℕ) → (part : Part) × ((if b then cut_at bytes 0 6 else Some (record { bytes = bytes; place = None })) ≡ Some part)
 cut_by true bytes = (block_at bytes 0 6, refl)
 cut_by false bytes = (record { bytes = bytes; place = None }, refl)
 
@@ -152,5 +152,5 @@ content_told h k id turn t is ok =
     let cut = cut_is t.block (meaning_at t).reply (ticket_asks_first h k id turn t is) in
     let options = etag t.serial ++ observe_option true t.serial in
     let part = cut_for t.block (meaning_at t).reply in
-    ap (λ (b : Bool). (if b then content options part else (if (meaning_at t).code == 68 then text (meaning_at t).code (part_bytes part) else bare (meaning_at t).code)).code) (eq-eqb (meaning_at t).code 69 ok)
+    ap (λ (b : Bool). (if b then content options part else if (meaning_at t).code == 68 then text (meaning_at t).code (part_bytes part) else bare (meaning_at t).code).code) (eq-eqb (meaning_at t).code 69 ok)
     ∙ ap (λ (p : Option Part). (content options p).code) cut.1
