@@ -205,8 +205,9 @@ class Definitions:
         """Yields the lines of each definition, with the comment above it, and headings."""
         block = []
         for line in [*self.text.splitlines(), ""]:
-            is_new = not line or line.startswith("--") and block and not block[-1].startswith("--") or ITEM.match(line) and any(map(ITEM.match, block))
-            if is_new and block:
+            is_comment = line.startswith("--") and not all(it.startswith("--") for it in block)
+            is_next = ITEM.match(line) and any(map(ITEM.match, block))
+            if block and (not line or is_comment or is_next):
                 yield block
                 block = []
             if line:
