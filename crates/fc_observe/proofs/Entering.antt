@@ -1,5 +1,5 @@
 -- Which registrations are entered.
-use Rattle.std.proofs.Common.{◌≡◌, ℕ, ◌<◌, ◌≤◌, List, [], ◌∷◌, ◌++◌, length, Bool, true, false, Option, refl, sym, ap, ◌∙◌, subst, arith}
+use Rattle.std.proofs.Common.{◌≡◌, ℕ, ◌<◌, ◌≤◌, [], ◌∷◌, ◌++◌, length, Bool, true, false, Option, refl, sym, ap, ◌∙◌, subst, arith}
 use Rattle.std.specs.Prelude.{nat_lt, if◌then◌else◌}
 use Rattle.std.specs.List.{Any, list_any}
 use Rattle.std.proofs.lemmas.Bool.{false_from_ne_true, ltb-true, lt-ltb}
@@ -9,7 +9,7 @@ use Rattle.coap_msg.specs.declared.types.Endpoint.{Endpoint}
 use Rattle.fc_help.specs.Request.{Request}
 use Rattle.fc_observe.specs.declared.entry.Entry.{Entry}
 use Rattle.fc_observe.specs.declared.observers.Registered.{Registered}
-use Rattle.fc_observe.specs.declared.observers.Registered.TheVariants.{Entered, Replaced, Full}
+use Rattle.fc_observe.specs.declared.observers.Registered.TheVariants.{Entered, Full}
 use Rattle.fc_observe.specs.Entries.{is_entry_of, new_entry}
 use Rattle.fc_observe.specs.Laws.{IsRegistrationOf}
 use Rattle.fc_observe.specs.Observers.{ObserverList, entered_by, registered, registration, registration_by, with_held, without_those}

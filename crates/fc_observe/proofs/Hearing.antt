@@ -29,7 +29,7 @@ pub all_fail : (p : Entry → Bool) (os : List Entry) → list_any p os ≡ fals
 all_fail p [] none = All-nil (λ o. p o ≡ false)
 all_fail p (o ∷ os) none = fail_by p o os (p o) refl (all_fail p os) none
 
-none_any : (p : Entry → Bool) (os : List Entry) → All (λ o. p o ≡ false) os → list_any p os ≡ false
+pub none_any : (p : Entry → Bool) (os : List Entry) → All (λ o. p o ≡ false) os → list_any p os ≡ false
 none_any p [] all = refl
 none_any p (o ∷ os) all = λ i. All-head (λ o. p o ≡ false) o os all i || none_any p os (All-tail (λ o. p o ≡ false) o os all) i
 

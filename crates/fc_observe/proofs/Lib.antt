@@ -18,3 +18,4 @@ pub mod Waiting
 pub mod Entering
 pub mod Again
 pub mod Leaving
+pub mod Quiet

@@ -1,6 +1,6 @@
 -- What an entry keeps of its last notification.
 use Rattle.std.proofs.Common.{◌≡◌, ℕ, Bool, true, false, Some, refl, sym, ap, subst, inl, inr}
-use Rattle.std.specs.Prelude.{max, nat_le, if◌then◌else◌, ◌⊎◌}
+use Rattle.std.specs.Prelude.{max, if◌then◌else◌, ◌⊎◌}
 use Rattle.std.specs.List.{All, Any}
 use Rattle.std.proofs.lemmas.List.Elements.{All-weaker}
 use Rattle.arrayvec.specs.ArrayVec.{ArrayVec}

@@ -4,7 +4,8 @@ use Rattle.std.specs.Prelude.{find, is_some, ◌||◌}
 use Rattle.std.specs.List.{list_any, position_from, remove}
 use Rattle.std.proofs.lemmas.List.{set_split}
 use Rattle.fc_observe.specs.declared.entry.Entry.{Entry}
-use Rattle.fc_observe.specs.Observers.{ObserverList, at_first, gives_turn, next_turn, next_turn_by}
+use Rattle.fc_observe.specs.declared.entry.Turn.{Turn}
+use Rattle.fc_observe.specs.Observers.{ObserverList, at_first, entry_out, gives_turn, is_out, next_turn, next_turn_by, with_held}
 
 -- none passes
 pub record PassesNone (p : Entry → Bool) (os : List Entry) : Type 0 where
@@ -109,3 +110,32 @@ given_by t false = refl
 
 pub is_some-next_turn : (noticed : ℕ) (t : ObserverList) → is_some (next_turn noticed t) ≡ gives_turn noticed t
 is_some-next_turn noticed t = given_by t (gives_turn noticed t)
+
+-- ---- the entry whose turn is out
+
+module _ (turn : Turn) (v w : ObserverList) (same : v ≡ w) where
+  -- it is found there
+  pub out_there : (i : ℕ) (x : Entry) → Some i ≡ position_from (is_out turn w) 0 w.held → x ≡ get_or v.held i x → entry_out turn w ≡ Some x
+  out_there i x at read =
+      found_there (is_out turn w) w.held i x (first_passes (is_out turn w) w.held i (sym at)) (read ∙ ap (λ (l : ObserverList). get_or l.held i x) same)
+
+  -- it is overwritten
+  pub out_changed : (g : ObserverList → Entry → List Entry) (i : ℕ) (x y : Entry) → Some i ≡ position_from (is_out turn w) 0 w.held → x ≡ get_or v.held i x → g v x ≡ y ∷ [] → with_held (set v.held i y) v ≡ with_held (at_first (is_out turn w) (g w) w.held) w
+  out_changed g i x y at read made =
+      (λ j. with_held (set (same j).held i y) (same j))
+      ∙ ap (λ (h : List Entry). with_held h w)
+      (changed_there (is_out turn w) (g w) w.held i x y (first_passes (is_out turn w) w.held i (sym at)) (read ∙ ap (λ (l : ObserverList). get_or l.held i x) same) (ap (λ (l : ObserverList). g l x) (sym same) ∙ made))
+
+  -- it is removed
+  pub out_removed : (i : ℕ) (x : Entry) → Some i ≡ position_from (is_out turn w) 0 w.held → x ≡ get_or v.held i x → with_held (remove v.held i) v ≡ with_held (at_first (is_out turn w) (λ o. []) w.held) w
+  out_removed i x at read =
+      (λ j. with_held (remove (same j).held i) (same j))
+      ∙ ap (λ (h : List Entry). with_held h w)
+      (removed_there (is_out turn w) (λ o. []) w.held i x (first_passes (is_out turn w) w.held i (sym at)) (read ∙ ap (λ (l : ObserverList). get_or l.held i x) same) refl)
+
+-- nobody has the turn out
+pub none_out : (turn : Turn) (w : ObserverList) → None ≡ position_from (is_out turn w) 0 w.held → entry_out turn w ≡ None
+none_out turn w none = (none_passes (is_out turn w) w.held 0 (sym none)).found
+
+pub none_changed : (turn : Turn) (g : Entry → List Entry) (w : ObserverList) → None ≡ position_from (is_out turn w) 0 w.held → w ≡ with_held (at_first (is_out turn w) g w.held) w
+none_changed turn g w none = ap (λ (h : List Entry). with_held h w) (sym ((none_passes (is_out turn w) w.held 0 (sym none)).change g))

@@ -1,12 +1,12 @@
 -- Which waits an acknowledgement ends.
-use Rattle.std.proofs.Common.{◌≡◌, ℕ, List, [], ◌∷◌, Bool, true, false, refl, ap, ◌∙◌}
+use Rattle.std.proofs.Common.{◌≡◌, ℕ, List, [], ◌∷◌, Bool, true, false, refl, ap}
 use Rattle.std.specs.List.{AllZip}
 use Rattle.coap_msg.specs.declared.types.Endpoint.{Endpoint}
 use Rattle.fc_observe.specs.declared.entry.Entry.{Entry}
 use Rattle.fc_observe.specs.declared.entry.Phase.{Phase}
 use Rattle.fc_observe.specs.declared.entry.Phase.TheVariants.{Idle, Outstanding}
 use Rattle.fc_observe.specs.Entries.{acknowledged, acknowledged_phase, changed_if, has_last_id}
-use Rattle.fc_observe.specs.Laws.{IsAcknowledged, IsAwaited, IsOutstanding}
+use Rattle.fc_observe.specs.Laws.{IsAcknowledged, IsOutstanding}
 use Rattle.fc_observe.specs.Observers.{ObserverList, after_ack, at_each}
 use Rattle.fc_observe.proofs.Resets.{is_so, so_is}
 

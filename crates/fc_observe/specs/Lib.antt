@@ -1,4 +1,5 @@
 pub mod Entries
+pub mod Quiet
 pub mod Observers
 pub mod Views
 pub mod Calls

@@ -1,6 +1,7 @@
 //! An entry in the list of observers.
-ghost use Rattle.std.specs.Prelude.{◌≡◌, is_some};
-ghost use Rattle.fc_observe.specs.Entries.{acknowledged, backoff, changed_if, first_timeout, given_up, has_last_id, has_missed, has_turn, is_due, is_entry_of, is_free, is_late, missed, must_confirm, notified, retransmission, retransmitted, with_turn};
+ghost use Rattle.std.specs.Prelude.{◌≡◌, ℕ, ◌<◌, false, is_some};
+ghost use Rattle.fc_observe.specs.Entries.{acknowledged, backoff, changed_if, first_timeout, given_up, has_last_id, has_missed, has_turn, is_due, is_entry_of, is_free, is_late, is_late_in, missed, must_confirm, notified, retransmission, retransmitted, with_turn};
+ghost use Rattle.fc_observe.specs.Quiet.{IsQuietUntil};
 ghost use Rattle.fc_observe.specs.Views.{interest, interest_of};
 
 use coap_msg::{Datagram, Emission, Endpoint, Token, WINDOW};
@@ -89,55 +90,183 @@ pub struct Observer<'a> {
     pub request: &'a Request,
     /// The size exponent of its Block2 option, if it had one.
     pub szx: Option<u8>,
+    /// Whether its notification is to be confirmable: 86,400,000 ms or more passed since the registration or the last confirmable
+    /// one (RFC 7641, 4.5).
+    pub confirmable: bool,
 }
 
 impl Entry {
-    // The observer.
-    pub(crate) fn observer(&self) -> Observer<'_>
-        ensures { interest result ≡ interest_of self.now }
+    // The observer, at a moment of the list.
+    pub(crate) fn observer(&self, now: u64) -> Observer<'_>
+        ensures interest { interest result ≡ interest_of self.now }
+        ensures confirmable { result.confirmable ≡ must_confirm now self.now }
     {
         Observer {
             endpoint: self.endpoint,
             token: &self.token,
             request: &self.request,
             szx: self.szx,
+            confirmable: self.must_confirm(now),
         }
     }
-}
 
-// Whether it is of this endpoint and token.
-pub(crate) fn is_entry_of(endpoint: Endpoint, token: &Token, entry: &Entry) -> bool
-    ensures { result ≡ is_entry_of endpoint token.now.items entry.now }
-{
-    entry.endpoint == endpoint && entry.token.as_slice() == token.as_slice()
-}
-
-// Whether its last notification went to this endpoint, with this message id.
-pub(crate) fn has_last_id(endpoint: Endpoint, id: u16, entry: &Entry) -> bool
-    ensures { result ≡ has_last_id endpoint id entry.now }
-{
-    entry.endpoint == endpoint && entry.id == Some(id)
-}
-
-// Whether it has this turn of the slot, and the turn is out.
-pub(crate) fn has_turn(slot: u8, now: u64, turn: Turn, entry: &Entry) -> bool
-    ensures { result ≡ has_turn slot now turn entry.now }
-{
-    match &entry.phase {
-        Phase::TurnOut { number, at, .. } => {
-            turn.slot == slot && *number == turn.number && (now < *at || now - *at < WINDOW)
-        }
-        _ => false,
+    // Whether it is of this endpoint and token.
+    pub(crate) fn is_entry_of(&self, endpoint: Endpoint, token: &Token) -> bool
+        ensures { result ≡ is_entry_of endpoint token.now.items self.now }
+    {
+        self.endpoint == endpoint && self.token.as_slice() == token.as_slice()
     }
-}
 
-// Whether the taking of its turn, out or lapsed, found the slot empty.
-pub(crate) fn has_missed(entry: &Entry) -> bool
-    ensures { result ≡ has_missed entry.now }
-{
-    match &entry.phase {
-        Phase::TurnOut { missing, .. } => *missing,
-        _ => false,
+    // Whether its last notification went to this endpoint, with this message id.
+    pub(crate) fn has_last_id(&self, endpoint: Endpoint, id: u16) -> bool
+        ensures { result ≡ has_last_id endpoint id self.now }
+    {
+        self.endpoint == endpoint && self.id == Some(id)
+    }
+
+    // Whether it has this turn of the slot, and the turn is out.
+    pub(crate) fn has_turn(&self, slot: u8, now: u64, turn: Turn) -> bool
+        ensures { result ≡ has_turn slot now turn self.now }
+    {
+        match &self.phase {
+            Phase::TurnOut { number, at, .. } => {
+                turn.slot == slot && *number == turn.number && (now < *at || now - *at < WINDOW)
+            }
+            _ => false,
+        }
+    }
+
+    // Whether the taking of its turn, out or lapsed, found the slot empty.
+    pub(crate) fn has_missed(&self) -> bool
+        ensures { result ≡ has_missed self.now }
+    {
+        match &self.phase {
+            Phase::TurnOut { missing, .. } => *missing,
+            _ => false,
+        }
+    }
+
+    // Whether it is to be notified of a change that is noticed.
+    pub(crate) fn is_due(&self, now: u64, noticed: u64) -> bool
+        ensures { result ≡ is_due now noticed self.now }
+    {
+        self.serial < noticed && is_free(now, &self.phase)
+    }
+
+    // Whether its next notification is confirmable.
+    pub(crate) fn must_confirm(&self, now: u64) -> bool
+        ensures { result ≡ must_confirm now self.now }
+    {
+        self.confirmed <= now && now - self.confirmed >= CONFIRMABLE_INTERVAL
+    }
+
+    // Whether its notification is outstanding, and its timeout is over.
+    pub(crate) fn is_late(&self, now: u64) -> bool
+        ensures { result ≡ is_late now self.now }
+    {
+        match &self.phase {
+            Phase::Outstanding {
+                sent_at,
+                timeout,
+                retransmissions,
+                ..
+            } => *sent_at <= now && now - *sent_at >= backoff(*timeout, *retransmissions),
+            _ => false,
+        }
+    }
+
+    // Until when it is neither late nor due, where this serial is noticed.
+    pub(crate) fn quiet_until(&self, noticed: u64) -> u64
+        ensures { IsQuietUntil result noticed self.now }
+    {
+        let late = late_from(&self.phase);
+        if self.serial < noticed {
+            late.min(free_from(&self.phase))
+        } else {
+            late
+        }
+    }
+
+    // Takes a turn.
+    pub(crate) fn take_turn(&mut self, number: u64, now: u64)
+        ensures { self.new ≡ with_turn number now self.old }
+    {
+        self.phase = Phase::TurnOut {
+            number,
+            at: now,
+            missing: false,
+        };
+    }
+
+    // Notes that the taking of its turn found the slot empty.
+    pub(crate) fn miss(&mut self)
+        ensures { self.new ≡ missed self.old }
+    {
+        if let Phase::TurnOut { missing, .. } = &mut self.phase {
+            *missing = true;
+        }
+    }
+
+    // Gives its turn up.
+    pub(crate) fn give_up(&mut self, now: u64)
+        ensures { self.new ≡ given_up now self.old }
+    {
+        self.phase = Phase::GivenUp(now);
+    }
+
+    // Notes that it was sent a notification.
+    pub(crate) fn notify(&mut self, now: u64, id: u16, serial: u64, random: u16, bytes: &Datagram)
+        ensures { self.new ≡ notified now id serial random bytes.now self.old }
+    {
+        let confirmable = self.must_confirm(now);
+        self.serial = serial;
+        self.id = Some(id);
+        if confirmable {
+            self.confirmed = now;
+            self.phase = Phase::Outstanding {
+                sent_at: now,
+                timeout: first_timeout(random),
+                retransmissions: 0,
+                bytes: copy(bytes),
+            };
+        } else {
+            self.phase = Phase::Idle;
+        }
+    }
+
+    // Ends its wait for an acknowledgement, where this message is its last notification.
+    pub(crate) fn acknowledge(&mut self, endpoint: Endpoint, id: u16)
+        ensures { self.new ≡ changed_if (has_last_id endpoint id self.old) acknowledged self.old }
+    {
+        if self.has_last_id(endpoint, id)
+            && let Phase::Outstanding { .. } = self.phase
+        {
+            self.phase = Phase::Idle;
+        }
+    }
+
+    // Sends its outstanding notification again, where it wasn't sent again four times.
+    pub(crate) fn retransmit(&mut self, now: u64) -> Option<Emission>
+        ensures sent { result ≡ retransmission self.old }
+        ensures after { self.new
+            ≡ changed_if (is_some (retransmission self.old)) (retransmitted now) self.old }
+    {
+        match &mut self.phase {
+            Phase::Outstanding {
+                sent_at,
+                timeout: _,
+                retransmissions,
+                bytes,
+            } if *retransmissions < MAX_RETRANSMIT => {
+                *sent_at = now;
+                *retransmissions += 1;
+                Some(Emission {
+                    to: self.endpoint,
+                    bytes: copy(bytes),
+                })
+            }
+            _ => None,
+        }
     }
 }
 
@@ -153,18 +282,31 @@ fn is_free(now: u64, phase: &Phase) -> bool
     }
 }
 
-// Whether it is to be notified of a change that is noticed.
-pub(crate) fn is_due(now: u64, noticed: u64, entry: &Entry) -> bool
-    ensures { result ≡ is_due now noticed entry.now }
+// From when on that may be so.
+fn free_from(phase: &Phase) -> u64
+    ensures { (now : ℕ) → now < result → is_free now phase.now ≡ false }
 {
-    entry.serial < noticed && is_free(now, &entry.phase)
+    match phase {
+        Phase::Idle => 0,
+        Phase::GivenUp(at) => at.saturating_add(1),
+        Phase::TurnOut { at, .. } => at.saturating_add(WINDOW + 1),
+        Phase::Outstanding { .. } => u64::MAX,
+    }
 }
 
-// Whether its next notification is confirmable.
-pub(crate) fn must_confirm(now: u64, entry: &Entry) -> bool
-    ensures { result ≡ must_confirm now entry.now }
+// From when on its notification may be late.
+fn late_from(phase: &Phase) -> u64
+    ensures { (now : ℕ) → now < result → is_late_in now phase.now ≡ false }
 {
-    entry.confirmed <= now && now - entry.confirmed >= CONFIRMABLE_INTERVAL
+    match phase {
+        Phase::Outstanding {
+            sent_at,
+            timeout,
+            retransmissions,
+            ..
+        } => sent_at.saturating_add(backoff(*timeout, *retransmissions)),
+        _ => u64::MAX,
+    }
 }
 
 // How long a transmission is waited for, after so many retransmissions.
@@ -174,19 +316,11 @@ fn backoff(timeout: u16, retransmissions: u8) -> u64
     (timeout as u64) << retransmissions.min(MAX_RETRANSMIT)
 }
 
-// Whether its notification is outstanding, and its timeout is over.
-pub(crate) fn is_late(now: u64, entry: &Entry) -> bool
-    ensures { result ≡ is_late now entry.now }
+// How long the first transmission is waited for.
+fn first_timeout(random: u16) -> u16
+    ensures { result ≡ first_timeout random }
 {
-    match &entry.phase {
-        Phase::Outstanding {
-            sent_at,
-            timeout,
-            retransmissions,
-            ..
-        } => *sent_at <= now && now - *sent_at >= backoff(*timeout, *retransmissions),
-        _ => false,
-    }
+    ACK_TIMEOUT + random % ACK_TIMEOUTS
 }
 
 // Another copy of a datagram.
@@ -205,100 +339,4 @@ pub(crate) fn copy_token(token: &Token) -> Token
     let mut copy = Token::new();
     let _fits = copy.try_extend_from_slice(token.as_slice());
     copy
-}
-
-// Takes a turn.
-pub(crate) fn take_turn(number: u64, now: u64, entry: &mut Entry)
-    ensures { entry.new ≡ with_turn number now entry.old }
-{
-    entry.phase = Phase::TurnOut {
-        number,
-        at: now,
-        missing: false,
-    };
-}
-
-// Notes that the taking of its turn found the slot empty.
-pub(crate) fn miss(entry: &mut Entry)
-    ensures { entry.new ≡ missed entry.old }
-{
-    if let Phase::TurnOut { missing, .. } = &mut entry.phase {
-        *missing = true;
-    }
-}
-
-// Gives its turn up.
-pub(crate) fn give_up(now: u64, entry: &mut Entry)
-    ensures { entry.new ≡ given_up now entry.old }
-{
-    entry.phase = Phase::GivenUp(now);
-}
-
-// Notes that it was sent a notification.
-pub(crate) fn notify(
-    now: u64,
-    id: u16,
-    serial: u64,
-    random: u16,
-    bytes: &Datagram,
-    entry: &mut Entry,
-)
-    ensures { entry.new ≡ notified now id serial random bytes.now entry.old }
-{
-    let confirmable = must_confirm(now, entry);
-    entry.serial = serial;
-    entry.id = Some(id);
-    if confirmable {
-        entry.confirmed = now;
-        entry.phase = Phase::Outstanding {
-            sent_at: now,
-            timeout: first_timeout(random),
-            retransmissions: 0,
-            bytes: copy(bytes),
-        };
-    } else {
-        entry.phase = Phase::Idle;
-    }
-}
-
-// How long the first transmission is waited for.
-fn first_timeout(random: u16) -> u16
-    ensures { result ≡ first_timeout random }
-{
-    ACK_TIMEOUT + random % ACK_TIMEOUTS
-}
-
-// Ends its wait for an acknowledgement, where this message is its last notification.
-pub(crate) fn acknowledge(endpoint: Endpoint, id: u16, entry: &mut Entry)
-    ensures { entry.new ≡ changed_if (has_last_id endpoint id entry.old) acknowledged entry.old }
-{
-    if has_last_id(endpoint, id, entry)
-        && let Phase::Outstanding { .. } = entry.phase
-    {
-        entry.phase = Phase::Idle;
-    }
-}
-
-// Sends its outstanding notification again, where it wasn't sent again four times.
-pub(crate) fn retransmit(now: u64, entry: &mut Entry) -> Option<Emission>
-    ensures sent { result ≡ retransmission entry.old }
-    ensures after { entry.new
-        ≡ changed_if (is_some (retransmission entry.old)) (retransmitted now) entry.old }
-{
-    match &mut entry.phase {
-        Phase::Outstanding {
-            sent_at,
-            timeout: _,
-            retransmissions,
-            bytes,
-        } if *retransmissions < MAX_RETRANSMIT => {
-            *sent_at = now;
-            *retransmissions += 1;
-            Some(Emission {
-                to: entry.endpoint,
-                bytes: copy(bytes),
-            })
-        }
-        _ => None,
-    }
 }

@@ -1,15 +1,13 @@
 //! The list of observers of a slot.
-ghost use Rattle.std.specs.Prelude.{◌≡◌, ◌<◌, ◌≤◌, ◌↔◌, [], ◌∷◌, find, length, true, ◌&&◌, is_none, is_some, IfOk, IfSome, IsTrue, vec_capacity};
-ghost use Rattle.std.specs.List.{list_any, position_from};
+ghost use Rattle.std.specs.Prelude.{◌≡◌, ◌<◌, ◌≤◌, ◌↔◌, [], ◌∷◌, find, length, max, true, ◌&&◌, is_none, is_some, IfOk, IfSome, IsTrue, vec_capacity};
+ghost use Rattle.std.specs.List.{All, list_any, position_from};
 ghost use Rattle.std.specs.Option.{option_map};
 ghost use Rattle.fc_observe.specs.Entries.{acknowledged, has_last_id, has_turn, is_due, is_entry_of, is_late};
-ghost use Rattle.fc_observe.specs.Observers.{after_ack, after_reset, after_tick, at_each, at_moment, cancelled, entry_out, is_missing, late_entry, must_confirm_turn, next_turn, no_observers, registered, registration, ticked, turn_ended, turn_given, turn_given_up, turn_missed, turn_notified, without_those};
+ghost use Rattle.fc_observe.specs.Observers.{after_ack, after_reset, after_tick, at_each, at_moment, cancelled, entry_out, is_missing, is_out, late_entry, must_confirm_turn, next_turn, no_observers, registered, registration, ticked, turn_ended, turn_given, turn_given_up, turn_missed, turn_notified, without_those};
+ghost use Rattle.fc_observe.specs.Quiet.{AreQuietUntil, IsQuiet};
 ghost use Rattle.fc_observe.specs.Views.{interest, interest_of};
 
-use crate::entry::{
-    Entry, Observer, Phase, Turn, acknowledge, copy_token, give_up, has_last_id, has_missed,
-    has_turn, is_due, is_entry_of, is_late, miss, must_confirm, notify, retransmit, take_turn,
-};
+use crate::entry::{Entry, Observer, Phase, Turn, copy_token};
 use coap_msg::{Datagram, Emission, Endpoint, Token};
 use fc_help::Request;
 use std::alloc::{AllocError, Global};
@@ -48,11 +46,15 @@ pub struct Observers {
     moment: u64,
     turns: u64,
     held: Vec<Entry>,
+    // Until when no entry is late, and none due where this serial is noticed, as was last looked.
+    quiet_until: u64,
+    quiet_for: u64,
 }
 
 impl Model for Observers {
     ghost use Rattle.std.specs.Prelude.{◌≤◌, length, vec_capacity};
     ghost use Rattle.fc_observe.specs.Observers.{ObserverList};
+    ghost use Rattle.fc_observe.specs.Quiet.{AreQuietUntil};
 
     ghost Value = { ObserverList };
 
@@ -63,7 +65,8 @@ impl Model for Observers {
       held = x.held.items;
     } };
 
-    ghost invariant = { λ x. (length x.held.items ≤ 32) × (32 ≤ vec_capacity x.held) };
+    ghost invariant = { λ x. (length x.held.items ≤ 32) × (32 ≤ vec_capacity x.held)
+        × AreQuietUntil x.quiet_until x.quiet_for x.held.items };
 }
 
 impl Observers {
@@ -79,6 +82,8 @@ impl Observers {
             moment: 0,
             turns: 0,
             held: Vec::with_capacity(alloc, OBSERVERS)?,
+            quiet_until: 0,
+            quiet_for: 0,
         })
     }
 
@@ -109,6 +114,7 @@ impl Observers {
             return Registered::Full;
         }
         remove_of(&mut self.held, endpoint, token);
+        self.quiet_until = 0;
         self.held.push_reserved(Entry {
             endpoint,
             token: copy_token(token),
@@ -145,7 +151,8 @@ impl Observers {
         }
         let place = first_due(&self.held, self.moment, noticed)?;
         let number = self.turns;
-        take_turn(number, self.moment, &mut self.held[place]);
+        self.quiet_until = 0;
+        self.held[place].take_turn(number, self.moment);
         self.turns += 1;
         Some(Turn {
             slot: self.slot,
@@ -157,29 +164,43 @@ impl Observers {
     pub fn is_due(&self, now: u64, noticed: u64) -> bool
         ensures { result ≡ is_some (next_turn noticed (at_moment now self.now)) }
     {
+        if self.is_at_rest(now, noticed) {
+            return false;
+        }
         self.turns != u64::MAX && first_due(&self.held, self.moment.max(now), noticed).is_some()
     }
 
     /// The observer whose turn this is, unless the turn isn't out: it was ended, given up, or its entry is gone or replaced.
     pub fn out(&self, turn: Turn) -> Option<Observer<'_>>
-        ensures { option_map interest result ≡ option_map interest_of (entry_out turn self.now) }
+        ensures observer { option_map interest result ≡ option_map interest_of (entry_out turn self.now) }
+        ensures confirmable { IfSome result (λ o. o.confirmable ≡ must_confirm_turn turn self.now) }
     {
-        observer_out(&self.held, self.slot, self.moment, turn)
+        let place = self.at(turn)?;
+        Some(self.held[place].observer(self.moment))
+    }
+
+    // The place of the entry whose turn this is, where it is out.
+    fn at(&self, turn: Turn) -> Option<usize>
+        ensures place { result ≡ position_from (is_out turn self.now) 0 self.now.held }
+        ensures within { IfSome result (λ i. i < length self.now.held) }
+    {
+        first_out(&self.held, self.slot, self.moment, turn)
     }
 
     /// Whether this turn is out, so that `out` lends its observer.
     pub fn is_out(&self, turn: Turn) -> bool
         ensures { result ≡ is_some (entry_out turn self.now) }
     {
-        first_out(&self.held, self.slot, self.moment, turn).is_some()
+        self.at(turn).is_some()
     }
 
     /// Notes that the taking of a turn that is out found the slot empty.
     pub fn miss(&mut self, turn: Turn)
         ensures { self.new ≡ turn_missed turn self.old }
     {
-        if let Some(place) = first_out(&self.held, self.slot, self.moment, turn) {
-            miss(&mut self.held[place]);
+        if let Some(place) = self.at(turn) {
+            self.quiet_until = 0;
+            self.held[place].miss();
         }
     }
 
@@ -187,8 +208,8 @@ impl Observers {
     pub fn is_missing(&self, turn: Turn) -> bool
         ensures { result ≡ is_missing turn self.now }
     {
-        match first_out(&self.held, self.slot, self.moment, turn) {
-            Some(place) => has_missed(&self.held[place]),
+        match self.at(turn) {
+            Some(place) => self.held[place].has_missed(),
             None => false,
         }
     }
@@ -198,8 +219,8 @@ impl Observers {
     pub fn must_confirm(&self, turn: Turn) -> bool
         ensures { result ≡ must_confirm_turn turn self.now }
     {
-        match first_out(&self.held, self.slot, self.moment, turn) {
-            Some(place) => must_confirm(self.moment, &self.held[place]),
+        match self.at(turn) {
+            Some(place) => self.held[place].must_confirm(self.moment),
             None => false,
         }
     }
@@ -228,15 +249,9 @@ impl Observers {
             ≡ turn_notified turn id serial random bytes.now (at_moment now self.old) }
     {
         self.advance(now);
-        if let Some(place) = first_out(&self.held, self.slot, self.moment, turn) {
-            notify(
-                self.moment,
-                id,
-                serial,
-                random,
-                bytes,
-                &mut self.held[place],
-            );
+        if let Some(place) = self.at(turn) {
+            self.quiet_until = 0;
+            self.held[place].notify(self.moment, id, serial, random, bytes);
         }
     }
 
@@ -244,7 +259,8 @@ impl Observers {
     pub fn end(&mut self, turn: Turn)
         ensures { self.new ≡ turn_ended turn self.old }
     {
-        if let Some(place) = first_out(&self.held, self.slot, self.moment, turn) {
+        if let Some(place) = self.at(turn) {
+            self.quiet_until = 0;
             let _removed = self.held.remove(place);
         }
     }
@@ -254,8 +270,9 @@ impl Observers {
         ensures { self.new ≡ turn_given_up turn (at_moment now self.old) }
     {
         self.advance(now);
-        if let Some(place) = first_out(&self.held, self.slot, self.moment, turn) {
-            give_up(self.moment, &mut self.held[place]);
+        if let Some(place) = self.at(turn) {
+            self.quiet_until = 0;
+            self.held[place].give_up(self.moment);
         }
     }
 
@@ -272,7 +289,10 @@ impl Observers {
     pub fn acked(&mut self, endpoint: Endpoint, id: u16)
         ensures { self.new ≡ after_ack endpoint id self.old }
     {
-        acknowledge_each(&mut self.held, endpoint, id);
+        if is_last_sent(&self.held, endpoint, id) {
+            self.quiet_until = 0;
+            acknowledge_each(&mut self.held, endpoint, id);
+        }
     }
 
     /// Sends the first outstanding notification whose timeout is over again, or removes its observer where it was sent again four
@@ -285,7 +305,8 @@ impl Observers {
         let Some(place) = first_late(&self.held, self.moment) else {
             return Ticked::Quiet;
         };
-        match retransmit(self.moment, &mut self.held[place]) {
+        self.quiet_until = 0;
+        match self.held[place].retransmit(self.moment) {
             Some(emission) => Ticked::Resend(emission),
             None => {
                 let _removed = self.held.remove(place);
@@ -298,7 +319,8 @@ impl Observers {
     pub fn is_late(&self, now: u64) -> bool
         ensures { result ≡ is_some (late_entry (at_moment now self.now)) }
     {
-        first_late(&self.held, self.moment.max(now)).is_some()
+        !self.is_at_rest(now, self.quiet_for)
+            && first_late(&self.held, self.moment.max(now)).is_some()
     }
 
     /// Whether there is no observer.
@@ -313,7 +335,28 @@ impl Observers {
         ensures { let w = at_moment now self.now in
             result ≡ (is_none (late_entry w) && is_none (next_turn noticed w)) }
     {
-        !self.is_late(now) && !self.is_due(now, noticed)
+        self.is_at_rest(now, noticed) || (!self.is_late(now) && !self.is_due(now, noticed))
+    }
+
+    /// Tells whether it is quiet, as `is_quiet` does, and remembers until when it stays so: the next look is short.
+    pub fn check_quiet(&mut self, now: u64, noticed: u64) -> bool
+        ensures quiet { let w = at_moment now self.old in
+            result ≡ (is_none (late_entry w) && is_none (next_turn noticed w)) }
+        ensures after { self.new ≡ self.old }
+    {
+        let quiet = self.is_quiet(now, noticed);
+        if quiet && !self.is_at_rest(now, noticed) {
+            self.quiet_until = quiet_until(&self.held, noticed);
+            self.quiet_for = noticed;
+        }
+        quiet
+    }
+
+    // Whether it is known, without a look at the entries, that none is late at a moment, and none due where this serial is noticed.
+    fn is_at_rest(&self, now: u64, noticed: u64) -> bool
+        ensures { result ≡ true → All (IsQuiet (max self.now.moment now) noticed) self.now.held }
+    {
+        self.moment.max(now) < self.quiet_until && noticed <= self.quiet_for
     }
 }
 
@@ -323,7 +366,7 @@ fn first_due(held: &[Entry], now: u64, noticed: u64) -> Option<usize>
     ensures within { IfSome result (λ i. i < length held.now) }
 {
     for (place, entry) in held.iter().enumerate() {
-        if is_due(now, noticed, entry) {
+        if entry.is_due(now, noticed) {
             return Some(place);
         }
     }
@@ -336,20 +379,11 @@ fn first_out(held: &[Entry], slot: u8, now: u64, turn: Turn) -> Option<usize>
     ensures within { IfSome result (λ i. i < length held.now) }
 {
     for (place, entry) in held.iter().enumerate() {
-        if has_turn(slot, now, turn, entry) {
+        if entry.has_turn(slot, now, turn) {
             return Some(place);
         }
     }
     None
-}
-
-// The observer whose turn this is, where it is out.
-fn observer_out(held: &[Entry], slot: u8, now: u64, turn: Turn) -> Option<Observer<'_>>
-    ensures { option_map interest result
-        ≡ option_map interest_of (find (has_turn slot now turn) held.now) }
-{
-    let place = first_out(held, slot, now, turn)?;
-    Some(held[place].observer())
 }
 
 // The first entry whose notification is late.
@@ -358,7 +392,7 @@ fn first_late(held: &[Entry], now: u64) -> Option<usize>
     ensures within { IfSome result (λ i. i < length held.now) }
 {
     for (place, entry) in held.iter().enumerate() {
-        if is_late(now, entry) {
+        if entry.is_late(now) {
             return Some(place);
         }
     }
@@ -370,7 +404,7 @@ fn is_known(held: &[Entry], endpoint: Endpoint, token: &Token) -> bool
     ensures { result ≡ list_any (is_entry_of endpoint token.now.items) held.now }
 {
     for entry in held {
-        if is_entry_of(endpoint, token, entry) {
+        if entry.is_entry_of(endpoint, token) {
             return true;
         }
     }
@@ -386,7 +420,7 @@ fn remove_of(held: &mut Vec<Entry>, endpoint: Endpoint, token: &Token)
     ensures less { list_any (is_entry_of endpoint token.now.items) held.old.items ≡ true
         → length held.new.items < length held.old.items }
 {
-    held.retain(|entry| !is_entry_of(endpoint, token, entry));
+    held.retain(|entry| !entry.is_entry_of(endpoint, token));
 }
 
 // Removes each entry whose last notification went to this endpoint with this message id.
@@ -395,7 +429,19 @@ fn remove_reset(held: &mut Vec<Entry>, endpoint: Endpoint, id: u16)
     ensures room { vec_capacity held.new ≡ vec_capacity held.old }
     ensures fewer { length held.new.items ≤ length held.old.items }
 {
-    held.retain(|entry| !has_last_id(endpoint, id, entry));
+    held.retain(|entry| !entry.has_last_id(endpoint, id));
+}
+
+// Whether there is an entry whose last notification went to this endpoint with this message id.
+fn is_last_sent(held: &[Entry], endpoint: Endpoint, id: u16) -> bool
+    ensures { result ≡ list_any (has_last_id endpoint id) held.now }
+{
+    for entry in held {
+        if entry.has_last_id(endpoint, id) {
+            return true;
+        }
+    }
+    false
 }
 
 // Ends the wait of each entry whose last notification went to this endpoint with this message id.
@@ -403,6 +449,17 @@ fn acknowledge_each(held: &mut [Entry], endpoint: Endpoint, id: u16)
     ensures { held.new ≡ at_each (has_last_id endpoint id) acknowledged held.old }
 {
     for entry in held.iter_mut() {
-        acknowledge(endpoint, id, entry);
+        entry.acknowledge(endpoint, id);
     }
+}
+
+// Until when none of these entries is late, or due where this serial is noticed.
+fn quiet_until(held: &[Entry], noticed: u64) -> u64
+    ensures { AreQuietUntil result noticed held.now }
+{
+    let mut until = u64::MAX;
+    for entry in held {
+        until = until.min(entry.quiet_until(noticed));
+    }
+    until
 }

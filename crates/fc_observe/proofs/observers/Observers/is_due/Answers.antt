@@ -1,11 +1,13 @@
-use Rattle.std.proofs.Common.{◌≡◌, Bool, true, sym, ap, ◌∙◌, arith}
+use Rattle.std.proofs.Common.{◌≡◌, Bool, true, Option, sym, ap, ◌∙◌, arith}
 use Rattle.std.specs.List.{position_from}
 use Rattle.std.specs.Prelude.{◌&&◌, is_some, max, nat_lt}
 use Rattle.std.specs.List.{list_any}
 use Rattle.std.proofs.lemmas.Bool.{lt-ltb}
 use Rattle.fc_observe.specs.Entries.{is_due}
+use Rattle.fc_observe.specs.declared.entry.Turn.{Turn}
 use Rattle.fc_observe.specs.Observers.{ObserverList, at_moment, next_turn}
 use Rattle.fc_observe.proofs.Places.{is_some-position, is_some-next_turn}
+use Rattle.fc_observe.proofs.Quiet.{none_due}
 use Rattle.fc_observe.proofs.observers.Observers.is_due.Goals as goal
 
 pub returns-then-self : goal.returns-then-self
@@ -16,4 +18,9 @@ returns-then-self c =
     let l : ObserverList = record { slot = c.self.inside.slot; moment = c.self.inside.moment; turns = c.self.inside.turns; held = c.self.inside.held.items } in
     (some ∙ is_some-position due c.self.inside.held.items 0)
     ∙ (ap (λ (b : Bool). b && list_any due c.self.inside.held.items) (sym few)
-    ∙ (sym (is_some-next_turn c.args.noticed (at_moment c.args.now l)) ∙ ap (λ l. is_some (next_turn c.args.noticed (at_moment c.args.now l))) c.self.view_is))
+    ∙ (sym (is_some-next_turn c.args.noticed (at_moment c.args.now l))
+    ∙ ap (λ l. is_some (next_turn c.args.noticed (at_moment c.args.now l))) c.self.view_is))
+
+pub returns-then-is_at_rest : goal.returns-then-is_at_rest
+returns-then-is_at_rest c =
+    sym (ap (λ (o : Option Turn). is_some o) (none_due c.args.now c.args.noticed c.args.self.now (c.is_at_rest.ensures c.if-is_at_rest.true)))

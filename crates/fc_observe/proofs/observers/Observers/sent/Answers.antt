@@ -1,27 +1,20 @@
-use Rattle.std.proofs.Common.{◌≡◌, [], ◌∷◌, List, Some, None, sym, ap, ◌∙◌}
-use Rattle.std.specs.List.{position_from}
+use Rattle.std.proofs.Common.{[], ◌∷◌, sym, ap, ◌∙◌}
 use Rattle.fc_observe.specs.declared.entry.Entry.{Entry}
-use Rattle.fc_observe.specs.Entries.{has_turn, notified}
+use Rattle.fc_observe.specs.Entries.{notified}
 use Rattle.fc_observe.specs.Observers.{ObserverList, turn_notified}
-use Rattle.fc_observe.proofs.Places.{changed_there, first_passes, none_passes}
+use Rattle.fc_observe.proofs.Places.{none_changed, out_changed}
 use Rattle.fc_observe.proofs.observers.Observers.sent.Goals as goal
 
 pub returns-in-Some : goal.returns-in-Some
 returns-in-Some c =
-    let s = c.self.inside in
-    let p = has_turn s.slot s.moment c.args.turn in
-    let at : position_from p 0 s.held.items ≡ Some c.in-Some.place = sym (ap (λ (l : List Entry). position_from p 0 l) c.deref.ensures.value) ∙ (sym c.first_out.ensures.place ∙ c.in-Some.is) in
-    let first = first_passes p s.held.items c.in-Some.place at in
-    let list = λ (h : List Entry). let l : ObserverList = record { slot = s.slot; moment = s.moment; turns = s.turns; held = h } in l in
+    let change = λ (l : ObserverList) (o : Entry). notified l.moment c.args.id c.args.serial c.args.random c.args.bytes.now o ∷ [] in
     let made = ap (λ (o : Entry). o ∷ []) (sym c.notify.ensures) in
-    ap list (changed_there p (λ o. notified s.moment c.args.id c.args.serial c.args.random c.args.bytes.now o ∷ []) s.held.items c.in-Some.place c.index_mut.result.now c.notify.new.entry first c.index_mut.ensures.value made)
-    ∙ ap (λ l. turn_notified c.args.turn c.args.id c.args.serial c.args.random c.args.bytes.now l) (c.self.view_is ∙ c.advance.ensures)
+    out_changed c.args.turn _ _ c.self.view_is change c.in-Some.place c.index_mut.result.now c.notify.new.self c.in-Some.ensures.place
+    c.index_mut.ensures.value made
+    ∙ ap (turn_notified c.args.turn c.args.id c.args.serial c.args.random c.args.bytes.now) c.advance.ensures
 
 pub returns-in_default : goal.returns-in_default
 returns-in_default c =
-    let s = c.self.inside in
-    let p = has_turn s.slot s.moment c.args.turn in
-    let at : position_from p 0 s.held.items ≡ None = sym (ap (λ (l : List Entry). position_from p 0 l) c.deref.ensures.value) ∙ (sym c.first_out.ensures.place ∙ c.in_default.is) in
-    let none = none_passes p s.held.items 0 at in
-    let list = λ (h : List Entry). let l : ObserverList = record { slot = s.slot; moment = s.moment; turns = s.turns; held = h } in l in
-    sym c.self.view_is ∙ (ap list (sym (none.change (λ o. notified s.moment c.args.id c.args.serial c.args.random c.args.bytes.now o ∷ []))) ∙ ap (λ l. turn_notified c.args.turn c.args.id c.args.serial c.args.random c.args.bytes.now l) (c.self.view_is ∙ c.advance.ensures))
+    let change = λ (o : Entry). notified c.advance.new.self.moment c.args.id c.args.serial c.args.random c.args.bytes.now o ∷ [] in
+    none_changed c.args.turn change _ c.in_default.ensures.place
+    ∙ ap (turn_notified c.args.turn c.args.id c.args.serial c.args.random c.args.bytes.now) c.advance.ensures

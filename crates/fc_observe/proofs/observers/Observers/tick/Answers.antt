@@ -12,7 +12,8 @@ pub returns-in_default-clause-answer : goal.returns-in_default-clause-answer
 returns-in_default-clause-answer c =
     let s = c.self.inside in
     let p = is_late s.moment in
-    let at : position_from p 0 s.held.items ≡ None = sym (ap (λ (l : List Entry). position_from p 0 l) c.deref.ensures.value) ∙ (sym c.first_late.ensures.place ∙ c.in_default.is) in
+    let at : position_from p 0 s.held.items ≡ None = sym (ap (λ (l : List Entry). position_from p 0 l) c.deref.ensures.value)
+    ∙ (sym c.first_late.ensures.place ∙ c.in_default.is) in
     let none = none_passes p s.held.items 0 at in
     sym (ap (λ o. ticked_at o) none.found) ∙ ap (λ l. ticked l) (c.self.view_is ∙ c.advance.ensures)
 
@@ -20,7 +21,8 @@ pub returns-in_default-clause-after : goal.returns-in_default-clause-after
 returns-in_default-clause-after c =
     let s = c.self.inside in
     let p = is_late s.moment in
-    let at : position_from p 0 s.held.items ≡ None = sym (ap (λ (l : List Entry). position_from p 0 l) c.deref.ensures.value) ∙ (sym c.first_late.ensures.place ∙ c.in_default.is) in
+    let at : position_from p 0 s.held.items ≡ None = sym (ap (λ (l : List Entry). position_from p 0 l) c.deref.ensures.value)
+    ∙ (sym c.first_late.ensures.place ∙ c.in_default.is) in
     let none = none_passes p s.held.items 0 at in
     let list = λ (h : List Entry). let l : ObserverList = record { slot = s.slot; moment = s.moment; turns = s.turns; held = h } in l in
     sym c.self.view_is ∙ (ap list (sym (none.change (λ o. timed_out s.moment o))) ∙ ap (λ l. after_tick l) (c.self.view_is ∙ c.advance.ensures))
@@ -29,7 +31,8 @@ pub returns-in-Some-retransmit-clause-answer : goal.returns-in-Some-retransmit-c
 returns-in-Some-retransmit-clause-answer c =
     let s = c.self.inside in
     let p = is_late s.moment in
-    let at : position_from p 0 s.held.items ≡ Some c.in-Some.place = sym (ap (λ (l : List Entry). position_from p 0 l) c.deref.ensures.value) ∙ (sym c.first_late.ensures.place ∙ c.in-Some.is) in
+    let at : position_from p 0 s.held.items ≡ Some c.in-Some.place = sym (ap (λ (l : List Entry). position_from p 0 l) c.deref.ensures.value)
+    ∙ (sym c.first_late.ensures.place ∙ c.in-Some.is) in
     let first = first_passes p s.held.items c.in-Some.place at in
     let x = c.index_mut.result.now in
     let found = found_there p s.held.items c.in-Some.place x first c.index_mut.ensures.value in
@@ -40,20 +43,25 @@ pub returns-in-Some-retransmit-clause-after : goal.returns-in-Some-retransmit-cl
 returns-in-Some-retransmit-clause-after c =
     let s = c.self.inside in
     let p = is_late s.moment in
-    let at : position_from p 0 s.held.items ≡ Some c.in-Some.place = sym (ap (λ (l : List Entry). position_from p 0 l) c.deref.ensures.value) ∙ (sym c.first_late.ensures.place ∙ c.in-Some.is) in
+    let at : position_from p 0 s.held.items ≡ Some c.in-Some.place = sym (ap (λ (l : List Entry). position_from p 0 l) c.deref.ensures.value)
+    ∙ (sym c.first_late.ensures.place ∙ c.in-Some.is) in
     let first = first_passes p s.held.items c.in-Some.place at in
     let x = c.index_mut.result.now in
     let sent : retransmission x ≡ Some c.in-Some-retransmit.emission = sym c.retransmit.ensures.sent ∙ c.in-Some-retransmit.is in
-    let after : retransmitted s.moment x ≡ c.retransmit.new.entry = sym (c.retransmit.ensures.after ∙ ap (λ (e : Option Emission). changed_if (is_some e) (λ o. retransmitted s.moment o) x) sent) in
-    let made : timed_out s.moment x ≡ c.retransmit.new.entry ∷ [] = ap (λ (e : Option Emission). timed_out_by e s.moment x) sent ∙ ap (λ (o : Entry). o ∷ []) after in
+    let after : retransmitted s.moment x ≡ c.retransmit.new.self = sym (c.retransmit.ensures.after
+    ∙ ap (λ (e : Option Emission). changed_if (is_some e) (λ o. retransmitted s.moment o) x) sent) in
+    let made : timed_out s.moment x ≡ c.retransmit.new.self ∷ [] = ap (λ (e : Option Emission). timed_out_by e s.moment x) sent
+    ∙ ap (λ (o : Entry). o ∷ []) after in
     let list = λ (h : List Entry). let l : ObserverList = record { slot = s.slot; moment = s.moment; turns = s.turns; held = h } in l in
-    ap list (changed_there p (λ o. timed_out s.moment o) s.held.items c.in-Some.place x c.retransmit.new.entry first c.index_mut.ensures.value made) ∙ ap (λ l. after_tick l) (c.self.view_is ∙ c.advance.ensures)
+    ap list (changed_there p (λ o. timed_out s.moment o) s.held.items c.in-Some.place x c.retransmit.new.self first c.index_mut.ensures.value made)
+    ∙ ap (λ l. after_tick l) (c.self.view_is ∙ c.advance.ensures)
 
 pub returns-in-None-clause-answer : goal.returns-in-None-clause-answer
 returns-in-None-clause-answer c =
     let s = c.self.inside in
     let p = is_late s.moment in
-    let at : position_from p 0 s.held.items ≡ Some c.in-Some.place = sym (ap (λ (l : List Entry). position_from p 0 l) c.deref.ensures.value) ∙ (sym c.first_late.ensures.place ∙ c.in-Some.is) in
+    let at : position_from p 0 s.held.items ≡ Some c.in-Some.place = sym (ap (λ (l : List Entry). position_from p 0 l) c.deref.ensures.value)
+    ∙ (sym c.first_late.ensures.place ∙ c.in-Some.is) in
     let first = first_passes p s.held.items c.in-Some.place at in
     let x = c.index_mut.result.now in
     let found = found_there p s.held.items c.in-Some.place x first c.index_mut.ensures.value in
@@ -64,11 +72,13 @@ pub returns-in-None-clause-after : goal.returns-in-None-clause-after
 returns-in-None-clause-after c =
     let s = c.self.inside in
     let p = is_late s.moment in
-    let at : position_from p 0 s.held.items ≡ Some c.in-Some.place = sym (ap (λ (l : List Entry). position_from p 0 l) c.deref.ensures.value) ∙ (sym c.first_late.ensures.place ∙ c.in-Some.is) in
+    let at : position_from p 0 s.held.items ≡ Some c.in-Some.place = sym (ap (λ (l : List Entry). position_from p 0 l) c.deref.ensures.value)
+    ∙ (sym c.first_late.ensures.place ∙ c.in-Some.is) in
     let first = first_passes p s.held.items c.in-Some.place at in
     let x = c.index_mut.result.now in
     let over : retransmission x ≡ None = sym c.retransmit.ensures.sent ∙ c.in-None.is in
     let made : timed_out s.moment x ≡ [] = ap (λ (e : Option Emission). timed_out_by e s.moment x) over in
     let gone = removed_there p (λ o. timed_out s.moment o) s.held.items c.in-Some.place x first c.index_mut.ensures.value made in
     let list = λ (h : List Entry). let l : ObserverList = record { slot = s.slot; moment = s.moment; turns = s.turns; held = h } in l in
-    ap list (c.remove-removed.ensures.items ∙ (remove-set s.held.items c.in-Some.place c.retransmit.new.entry ∙ gone)) ∙ ap (λ l. after_tick l) (c.self.view_is ∙ c.advance.ensures)
+    ap list (c.remove-removed.ensures.items ∙ (remove-set s.held.items c.in-Some.place c.retransmit.new.self ∙ gone))
+    ∙ ap (λ l. after_tick l) (c.self.view_is ∙ c.advance.ensures)
