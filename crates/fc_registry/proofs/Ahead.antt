@@ -23,7 +23,7 @@ use Rattle.fc_registry.specs.declared.note.Noted.{Noted}
 use Rattle.fc_registry.specs.declared.note.Noted.TheVariants as noted
 use Rattle.fc_registry.specs.declared.note.Notification.{Notification}
 use Rattle.fc_registry.specs.declared.note.Notification.TheVariants as tells
-use Rattle.fc_registry.specs.declared.shard.SlotState.{SlotState}
+use Rattle.fc_registry.specs.declared.slot.SlotState.{SlotState}
 use Rattle.fc_registry.specs.Calls.{IsCommit, IsOwnCommit, clear_by, commit_calls, commits, install_in, is_cancellation, is_out_at, is_registration, miss_calls, observe_calls_by, put_by, remove_from, turn_calls}
 use Rattle.fc_registry.specs.Changes.{after_changes}
 use Rattle.fc_registry.specs.Notes.{IsNotedIn, keeps_observer, note_calls, sent_of, ticket_told, told_call}

@@ -8,7 +8,7 @@ use Rattle.circular_buffer.specs.Buffer.{keep_last}
 use Rattle.fc_kinds.specs.Meaning.{Program, input_with, meant}
 use Rattle.fc_machine.specs.Ran.{Ran}
 use Rattle.fc_observe.specs.Observers.{ObserverList}
-use Rattle.fc_registry.specs.declared.shard.SlotState.{SlotState}
+use Rattle.fc_registry.specs.declared.slot.SlotState.{SlotState}
 use Rattle.fc_registry.specs.declared.commit.Committed.{Committed as Answer}
 use Rattle.fc_registry.specs.declared.commit.Committed.TheVariants.{Done, Overtaken, Ended, Stranger}
 use Rattle.fc_registry.specs.Views.{as_seen}

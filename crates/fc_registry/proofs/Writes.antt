@@ -3,7 +3,7 @@ use Rattle.std.proofs.Common.{◌≡◌, ℕ, ◌<◌, List, [], ◌∷◌, leng
 use Rattle.std.proofs.lemmas.List.{map-set, get_or-map, set-get_or}
 use Rattle.fc_observe.specs.Calls.{ObserverCall, after_calls}
 use Rattle.fc_observe.specs.Observers.{ObserverList, no_observers}
-use Rattle.fc_registry.specs.declared.shard.SlotState.{SlotState}
+use Rattle.fc_registry.specs.declared.slot.SlotState.{SlotState}
 use Rattle.fc_registry.specs.Slots.{Slot, Shard, new_slot}
 use Rattle.fc_registry.specs.Views.{as_seen}
 use Rattle.fc_registry.specs.Watches.{watches_called}

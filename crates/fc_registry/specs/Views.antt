@@ -1,7 +1,7 @@
 -- How the fields of a shard are seen.
 use Rattle.std.specs.Prelude.{Option, Some, None}
 use Rattle.fc_registry.specs.declared.body.Body.{Body}
-use Rattle.fc_registry.specs.declared.shard.SlotState.{SlotState}
+use Rattle.fc_registry.specs.declared.slot.SlotState.{SlotState}
 use Rattle.fc_registry.specs.Slots.{Slot, Present}
 
 abbrev pub present_of : Option Body → Option Present

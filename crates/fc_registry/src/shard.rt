@@ -11,18 +11,19 @@ ghost use Rattle.fc_registry.specs.Notes.{NotesTo};
 ghost use Rattle.fc_registry.specs.Turns.{due_job};
 ghost use Rattle.fc_registry.specs.Watches.{IsSentUpTo, after_due, after_given_up, after_tick, due_place, handed, is_due_at, is_quiet, is_quiet_at, late_place, new_watches, noticed_at, signal_call, signalled, ticked_in, watch_at};
 
-use crate::body::Body;
-use crate::commit::{CommitOutcome, Committed};
-use crate::job::{Ask, Job};
+use crate::commit::Committed;
+use crate::job::Job;
 use crate::note::{Noted, Notification, note};
-use crate::observe::observe;
 use crate::receipt::Receipt;
-use crate::ring::{Entry, Ring};
+use crate::slot::{
+    SlotState, clear, committed, empty_slot, find, install, noticed_of, receipt_in, serial_of,
+    take_turn, vars_of, version_of,
+};
 use crate::slot_number::{SHARDS, SlotNumber};
-use crate::ticket::{Mark, Ticket, is_run_of};
+use crate::ticket::Ticket;
 use crate::turn::next_turn;
-use coap_msg::{Endpoint, Token};
-use fc_help::{Method, Readings, Request, Vars};
+use coap_msg::Endpoint;
+use fc_help::Readings;
 use fc_machine::Outcome;
 use fc_observe::{Observers, Ticked, Turn};
 use fc_verify::Verified;
@@ -30,19 +31,8 @@ use std::alloc::{AllocError, Global};
 use std::marker::Model;
 use std::sync::Arc;
 
-/// The greatest serial.
-pub const LAST_SERIAL: u64 = 9_223_372_036_854_775_807;
-
 // How many slots a shard has.
 const PLACES: usize = 8;
-
-#[derive(Drop)]
-struct SlotState {
-    serial: u64,
-    noticed: u64,
-    body: Option<Body>,
-    ring: Ring,
-}
 
 /// The slots of one shard: those whose remainder by 8 is the shard's index. Each has its observers.
 #[derive(Drop)]
@@ -402,307 +392,6 @@ fn make_watches(alloc: Global, index: u8) -> Result<Vec<Observers>, AllocError>
         watches.push(Observers::new(alloc, 8 * place + index)?)?;
     }
     Ok(watches)
-}
-
-// A slot that nothing was installed in.
-fn empty_slot(alloc: Global, serial: u64) -> Result<SlotState, AllocError>
-    ensures { IfOk result (λ s. as_seen s ≡ new_slot serial) }
-{
-    Ok(SlotState {
-        serial,
-        noticed: serial,
-        body: None,
-        ring: Ring::new(alloc)?,
-    })
-}
-
-fn serial_of(slot: &SlotState) -> u64
-    ensures { result ≡ (as_seen slot.now).serial }
-{
-    slot.serial
-}
-
-fn noticed_of(slot: &SlotState) -> u64
-    ensures { result ≡ (as_seen slot.now).noticed }
-{
-    slot.noticed
-}
-
-fn version_of(slot: &SlotState) -> Option<u64>
-    ensures { result ≡ version_in (as_seen slot.now).present }
-{
-    match &slot.body {
-        None => None,
-        Some(body) => Some(body.version),
-    }
-}
-
-fn vars_of(slot: &SlotState) -> &[u8]
-    ensures { result.now ≡ vars_in (as_seen slot.now).present }
-{
-    match &slot.body {
-        None => &[],
-        Some(body) => body.vars.as_slice(),
-    }
-}
-
-// What a turn finds in a slot, at its shard's moment.
-fn take_turn(
-    watch: &mut Observers,
-    now: u64,
-    turn: Turn,
-    job: &Job,
-    readings: &Readings,
-    slot: &SlotState,
-) -> Taken
-    ensures taken { IsTurnTaking turn now watch.old job.now readings.now (as_seen slot.now) result }
-    ensures watch { watch.new ≡ after_calls (turn_calls turn now (as_seen slot.now).present watch.old) watch.old }
-{
-    watch.advance(now);
-    if !watch.is_out(turn) {
-        return Taken::Stale;
-    }
-    if slot.body.is_none() {
-        watch.miss(turn);
-    }
-    find(job, readings, slot)
-}
-
-// What a job finds in a slot.
-fn find(job: &Job, readings: &Readings, slot: &SlotState) -> Taken
-    ensures { IsFinding job.now readings.now (as_seen slot.now) result }
-{
-    let Some(body) = &slot.body else {
-        return Taken::Missing;
-    };
-    match Arc::try_clone(&body.program) {
-        Ok(program) => Taken::Given(Ticket {
-            origin: job.origin,
-            turn: job.turn,
-            token: copy_token(&job.token),
-            request: request_of(&job.ask),
-            block: job.block,
-            observe: job.observe,
-            serial: slot.serial,
-            program,
-            version: body.version,
-            vars: body.vars.copy(),
-            readings: *readings,
-        }),
-        Err(_) => Taken::Refused,
-    }
-}
-
-// Another copy of a token.
-pub(crate) fn copy_token(token: &Token) -> Token
-    ensures { result ≡ token.now }
-{
-    let mut copy = Token::new();
-    let _fits = copy.try_extend_from_slice(token.as_slice());
-    copy
-}
-
-// The request that a job asks a program to answer.
-fn request_of(ask: &Ask) -> Request
-    ensures { result ≡ request_of ask.now }
-{
-    match ask {
-        Ask::Run(request) => request.copy(),
-        _ => Request::new(Method::Get, 0, None, &[], &[]),
-    }
-}
-
-// Installs a program in a slot.
-fn install(slot: &mut SlotState, program: Arc<Verified>) -> Made
-    ensures answer { result ≡ (install_in (as_seen slot.old) program.value).answer }
-    ensures slot { as_seen slot.new ≡ after_changes (as_seen slot.old) (install_in (as_seen slot.old) program.value).changes }
-{
-    if slot.serial >= LAST_SERIAL {
-        return Made::AtEnd;
-    }
-    let created = slot.body.is_none();
-    let vars = Vars::zeros(program.vars_size());
-    let serial = slot.serial + 1;
-    let body = Body {
-        program,
-        version: serial,
-        vars,
-    };
-    put(slot, serial, Some(body));
-    Made::Raised { serial, created }
-}
-
-// Puts a program with its variables, or none, in a slot, at a serial that observers are told of. The ring begins anew.
-fn put(slot: &mut SlotState, serial: u64, body: Option<Body>)
-    ensures { as_seen slot.new ≡ record { serial = serial; noticed = serial; present = present_of body; ring = [] } }
-{
-    slot.serial = serial;
-    slot.noticed = serial;
-    slot.ring.clear();
-    slot.body = body;
-}
-
-// Removes the program of a slot.
-fn clear(slot: &mut SlotState) -> Removal
-    ensures answer { result ≡ (remove_from (as_seen slot.old)).answer }
-    ensures slot { as_seen slot.new ≡ after_changes (as_seen slot.old) (remove_from (as_seen slot.old)).changes }
-{
-    if slot.body.is_none() {
-        return Removal::Absent;
-    }
-    if slot.serial >= LAST_SERIAL {
-        return Removal::AtEnd;
-    }
-    let serial = slot.serial + 1;
-    put(slot, serial, None);
-    Removal::Removed { serial }
-}
-
-// What the program in a slot is.
-fn receipt_in(slot: &SlotState) -> Option<Receipt>
-    ensures { result ≡ receipt_at (as_seen slot.now).present }
-{
-    match &slot.body {
-        None => None,
-        Some(body) => Some(Receipt::of(&body.program, body.version)),
-    }
-}
-
-// Whether the ticket is no turn's, the outcome is of its program, request, variables and readings, and its serial isn't above the slot's.
-fn is_own(outcome: &Outcome<'_>, ticket: &Ticket, slot: &SlotState) -> bool
-    ensures own { IsTrue result ↔ IsOwn outcome.now ticket.now (as_seen slot.now) }
-    ensures run { IsTrue result → outcome.now ≡ run_of ticket.now }
-{
-    ticket.turn.is_none() && is_run_of(outcome, ticket, slot.serial)
-}
-
-// Whether the run answered a POST with a code of class 2.
-fn wants(outcome: &Outcome<'_>) -> bool
-    ensures { result ≡ wants_by outcome.now }
-{
-    is_post(outcome.request().method()) && outcome.code() / 32 == 2
-}
-
-fn is_post(method: Method) -> bool
-    ensures { result ≡ is_post method }
-{
-    method == Method::Post
-}
-
-// Whether nothing has changed since the ticket was taken.
-fn is_current(ticket: &Ticket, slot: &SlotState) -> bool
-    ensures { IsTrue result ↔ IsCurrent ticket.now (as_seen slot.now) }
-{
-    match &slot.body {
-        None => false,
-        Some(body) => {
-            slot.serial == ticket.serial
-                && ticket.version == body.version
-                && ticket.program().is(&body.program)
-                && ticket.vars.is(&body.vars)
-        }
-    }
-}
-
-// What the commit of a ticket's run comes to. A run that has nothing to write compares nothing.
-fn outcome_of(outcome: &Outcome<'_>, ticket: &Ticket, slot: &SlotState) -> CommitOutcome
-    requires { IsOwn outcome.now ticket.now (as_seen slot.now) }
-    ensures { ComesTo ticket.now (as_seen slot.now) result }
-{
-    if !wants(outcome) {
-        CommitOutcome::Keeps
-    } else if !is_current(ticket, slot) {
-        CommitOutcome::Overtakes
-    } else if slot.serial >= LAST_SERIAL {
-        CommitOutcome::Ends
-    } else {
-        CommitOutcome::Writes
-    }
-}
-
-// Commits to a slot and its observers, at the shard's moment.
-fn committed(
-    slot: &mut SlotState,
-    watch: &mut Observers,
-    now: u64,
-    outcome: &Outcome<'_>,
-    ticket: &Ticket,
-) -> Committed
-    ensures commit { IsCommit outcome.now ticket.now (as_seen slot.old) watch.old result (as_seen slot.new) }
-    ensures watch { watch.new ≡ after_calls (commit_calls result now ticket.now) watch.old }
-{
-    if !is_own(outcome, ticket, slot) {
-        return Committed::Stranger;
-    }
-    match outcome_of(outcome, ticket, slot) {
-        CommitOutcome::Writes => Committed::Done(write(slot, outcome, ticket)),
-        CommitOutcome::Keeps => Committed::Done(keep(slot, watch, now, outcome, ticket)),
-        CommitOutcome::Overtakes => Committed::Overtaken,
-        CommitOutcome::Ends => Committed::Ended,
-    }
-}
-
-// Leaves a slot as it is, and registers or removes the client of its run.
-fn keep(
-    slot: &SlotState,
-    watch: &mut Observers,
-    now: u64,
-    outcome: &Outcome<'_>,
-    ticket: &Ticket,
-) -> Mark
-    requires { outcome.now ≡ run_of ticket.now }
-    ensures mark { result ≡ mark_of ticket.now (as_seen slot.now).serial false (is_observed ticket.now watch.old) }
-    ensures watch { watch.new ≡ after_calls (observe_calls now ticket.now) watch.old }
-{
-    let observed = observe(watch, now, outcome, ticket);
-    mark(ticket, slot.serial, false, observed)
-}
-
-// Writes what a run left to its slot, and remembers the commit.
-fn write(slot: &mut SlotState, outcome: &Outcome<'_>, ticket: &Ticket) -> Mark
-    requires own { IsOwn outcome.now ticket.now (as_seen slot.old) }
-    requires current { IsCurrent ticket.now (as_seen slot.old) }
-    requires below { (as_seen slot.old).serial < last_serial }
-    ensures mark { result ≡ mark_of ticket.now ((as_seen slot.old).serial + 1) true false }
-    ensures slot { as_seen slot.new ≡ after_changes (as_seen slot.old) (Wrote (commit_of ticket.now) ∷ []) }
-{
-    slot.serial += 1;
-    if outcome.notice() {
-        slot.noticed = slot.serial;
-    }
-    if let Some(body) = &mut slot.body {
-        body.vars = vars_after(outcome);
-    }
-    slot.ring.push(Entry {
-        serial: slot.serial,
-        request: outcome.request().copy(),
-        readings: *outcome.readings(),
-        before: outcome.found().copy(),
-        after: vars_after(outcome),
-    });
-    mark(ticket, slot.serial, true, false)
-}
-
-// The variables that a run left.
-fn vars_after(outcome: &Outcome<'_>) -> Vars
-    ensures vars { result ≡ (meaning_of outcome.now).vars }
-    ensures size { length result ≡ outcome.now.program.vars_size }
-{
-    // The checker learns from this call how many bytes they have at most.
-    let _size = outcome.program().vars_size();
-    Vars::of(outcome.after())
-}
-
-fn mark(ticket: &Ticket, serial: u64, changed: bool, observed: bool) -> Mark
-    ensures { result ≡ mark_of ticket.now serial changed observed }
-{
-    Mark {
-        origin: ticket.origin,
-        found: ticket.serial,
-        serial,
-        changed,
-        observed,
-    }
 }
 
 // Hands a signal to the observers of each slot.

@@ -5,7 +5,7 @@ ghost use Rattle.fc_observe.specs.Views.{interest};
 ghost use Rattle.fc_registry.specs.Turns.{first_block, turn_given_to, turn_job};
 
 use crate::job::{Ask, Job, Opening, Origin};
-use crate::shard::copy_token;
+use crate::slot::copy_token;
 use crate::slot_number::SlotNumber;
 use arrayvec::ArrayVec;
 use coap_opts::Block;
