@@ -21,6 +21,7 @@
 #![tactic(auto)]
 
 pub mod block;
+pub mod laws;
 pub mod reply;
 
 pub use block::{BLOCK, BodyBlock};
