@@ -11,5 +11,6 @@ pub mod Attained
 pub mod FrameLaws
 mod Rows
 pub mod LoopForm
+pub mod Leaving
 pub mod Spanned
 mod LoopLaws

@@ -12,3 +12,4 @@ pub mod Spans
 pub mod Judged
 pub mod Laws
 pub mod LoopLaws
+pub mod CountingLaws

@@ -1,0 +1,47 @@
+-- What a counted loop is by the text: its jump back and the addition before it, and what leaves it as it is.
+use Rattle.std.specs.Prelude.{◌≡◌, ◌≢◌, ◌⊎◌, ℕ, suc, ◌-◌, ◌<◌, ◌≤◌, false, ℤ, pos, List, Option, Some, slice_get}
+use Rattle.fc_isa.specs.declared.insn.Width.TheVariants.{W64}
+use Rattle.fc_isa.specs.declared.insn.AluOp.TheVariants.{Add}
+use Rattle.fc_isa.specs.declared.insn.Relation.TheVariants.{Lt}
+use Rattle.fc_isa.specs.declared.insn.Operand.TheVariants.{Imm}
+use Rattle.fc_isa.specs.declared.insn.Jump.{Jump}
+use Rattle.fc_isa.specs.declared.insn.Insn.{Insn}
+use Rattle.fc_isa.specs.declared.insn.Insn.TheVariants.{Alu, Exit}
+use Rattle.fc_isa.specs.Flow.{jump_offset, landing, target}
+use Rattle.fc_isa.specs.Writes.{writes}
+use Rattle.fc_image.specs.declared.loops.Loop.{Loop}
+
+-- the jump at a slot, `jlt counter, bound`, stands right behind `add64 counter, step` and leads back to the head: the bound is 1 to
+-- 1,024, and the step at least 1
+pub record CountsUp (code : List Insn) (slot : ℕ) (j : Jump) (l : Loop) : Type 0 where
+  pub width : j.width ≡ W64
+  pub relation : j.relation ≡ Lt
+  pub left : j.left ≡ l.counter
+  pub right : j.right ≡ Imm (pos l.bound)
+  pub some : 1 ≤ l.bound
+  pub few : l.bound ≤ 1024
+  pub adds : slice_get code (slot - 1) ≡ Some (Alu Add W64 l.counter (Imm (pos l.step)))
+  pub step : 1 ≤ l.step
+  pub head : landing slot j.offset ≡ l.head
+  pub last : l.last ≡ slot
+  pub back : l.head < slot
+
+-- a slot is in a loop's body: from its head to its jump back
+abbrev pub IsInBody : Loop → ℕ → Type 0
+IsInBody l k = (l.head ≤ k) × (k ≤ l.last)
+
+abbrev pub IsOutside : Loop → ℕ → Type 0
+IsOutside l k = (k < l.head) ⊎ (l.last < k)
+
+-- the jump of the instruction at slot k, if it has one, leads to slot t
+abbrev pub LeadsTo : ℕ → Insn → ℕ → Type 0
+LeadsTo k insn t = (o : ℤ) × (jump_offset insn ≡ Some o) × (target k o ≡ Some t)
+
+-- the instruction at slot k leaves the loop as it is: in the body it is no exit, and only the addition writes the counter; from
+-- within it jumps to no slot outside, from outside to none within, and from nowhere to the jump back
+pub record LeavesLoop (l : Loop) (k : ℕ) (insn : Insn) : Type 0 where
+  pub no_exit : IsInBody l k → insn ≢ Exit
+  pub no_write : IsInBody l k → suc k ≢ l.last → writes insn l.counter ≡ false
+  pub no_way_out : (t : ℕ) → LeadsTo k insn t → IsInBody l k → IsOutside l t → ⊥
+  pub no_way_in : (t : ℕ) → LeadsTo k insn t → IsOutside l k → IsInBody l t → ⊥
+  pub no_skip : (t : ℕ) → LeadsTo k insn t → t ≢ l.last
