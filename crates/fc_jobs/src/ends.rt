@@ -2,27 +2,14 @@
 use crate::protocol::{Hand, Numbered, OnceEach};
 use crossbeam_channel::{Pass, RuledReceiver, RuledSender};
 use std::marker::Model;
-use std::sync::atomic::AtomicBool;
-use std::sync::{Condvar, Mutex};
+use std::sync::OnceLock;
 
-/// What is known of the workers: they may have been refused the memory that they begin with.
-#[derive(Clone, Copy, PartialEq, Eq)]
-pub(crate) enum Crew {
-    /// None has asked for a job yet.
-    Awaited,
-    /// One has.
-    Here,
-    /// None ever will.
-    Gone,
-}
-
-/// The end from which the workers get their jobs, and what is known of them. A clause sees which channel it is.
+/// The end from which the workers get their jobs, and, once it is known, whether there is a worker: true from the first that asked for a job on; false where none ever will,
+/// since they may have been refused the memory that they begin with. A clause sees which channel it is.
 #[derive(Drop)]
 pub struct Jobs {
     pub(crate) receiver: RuledReceiver<Numbered, Hand, OnceEach>,
-    pub(crate) asked: AtomicBool,
-    pub(crate) crew: Mutex<Crew>,
-    pub(crate) told: Condvar,
+    pub(crate) served: OnceLock<bool>,
 }
 
 impl Model for Jobs {

@@ -3,13 +3,12 @@ ghost use Rattle.std.specs.Prelude.{◌≡◌, ◌<◌, ◌≤◌, ◌^◌, ◌�
 ghost use Rattle.fc_jobs.specs.Once.{times};
 ghost use Rattle.fc_jobs.specs.Ends.{nothing_sent, nothing_got, with_sent, with_got};
 
-use crate::ends::{Crew, Got, Jobs, Sent};
+use crate::ends::{Got, Jobs, Sent};
 use crate::protocol::{Hires, Numbered, Puts, Takes};
 use crossbeam_channel::{SendError, bounded_with};
 use fc_registry::Job;
 use std::alloc::{AllocError, Global};
-use std::sync::atomic::{AtomicBool, Ordering};
-use std::sync::{Condvar, Mutex, Wait};
+use std::sync::{OnceLock, Wait};
 
 /// The places of the channel: how many jobs may wait.
 const PLACES: usize = 256;
@@ -35,9 +34,7 @@ impl Jobs {
         let gots = hire(alloc, &mut sent, workers)?;
         let jobs = Jobs {
             receiver,
-            asked: AtomicBool::new(false),
-            crew: Mutex::new(Crew::Awaited),
-            told: Condvar::new(),
+            served: OnceLock::new(),
         };
         Ok((jobs, sent, gots))
     }
@@ -65,8 +62,7 @@ impl Jobs {
         ensures once { IfSome result (λ r. times r.0 got.old.got ≡ 0) }
     {
         if !self.is_served() {
-            self.asked.store(true, Ordering::Relaxed);
-            self.tell(rt, Crew::Here);
+            let _ = self.served.set(rt, true);
         }
         match self.receiver.recv_as::<Takes, R>(rt, &mut got.pass) {
             Ok(Numbered { number, job }) => Some((number, job)),
@@ -79,31 +75,17 @@ impl Jobs {
     /// Whether a worker has asked for a job yet. Where none has, none may ever: the thread that was to begin them may have been refused memory. Who sends no job before then
     /// doesn't wait for ever.
     pub fn is_served(&self) -> bool {
-        self.asked.load(Ordering::Relaxed)
+        self.served.get() == Some(&true)
     }
 
     /// Waits until a worker has asked for a job, or it is known that none will. Tells whether one has.
     pub fn await_worker<R: Wait>(&self, rt: &R) -> bool {
-        if self.is_served() {
-            return true;
-        }
-        let crew = self
-            .told
-            .wait_while(rt, self.crew.lock(rt), |crew| *crew == Crew::Awaited);
-        *crew == Crew::Here
+        *self.served.wait(rt)
     }
 
-    /// Says that no worker will ask for a job any more: who waits for one goes on.
+    /// Says that no worker will ask for a job any more: who waits for one goes on. Where one has asked, it changes nothing.
     pub fn dismiss<R: Wait>(&self, rt: &R) {
-        if !self.is_served() {
-            self.tell(rt, Crew::Gone);
-        }
-    }
-
-    // Says what is known of the workers to who waits for one.
-    fn tell<R: Wait>(&self, rt: &R, known: Crew) {
-        *self.crew.lock(rt) = known;
-        self.told.notify_all();
+        let _ = self.served.set(rt, false);
     }
 }
 
