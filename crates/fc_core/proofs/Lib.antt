@@ -1,4 +1,3 @@
-pub mod Decimals
 mod Draws
 pub mod Rejections
 pub mod EightShards

@@ -9,6 +9,7 @@ use crate::heads::is_present;
 use arrayvec::ArrayVec;
 use fc_isa::Fault;
 use fc_registry::Receipt;
+use itoa::Buffer;
 
 // The most bytes of a text.
 pub(crate) const TEXT: usize = 128;
@@ -26,26 +27,13 @@ fn push_bytes(text: &mut Text, bytes: &[u8])
 }
 
 // Appends a number in decimal, which has at most twenty digits.
-#[tactic(auto, using(crate::proofs::Decimals::decimal_short))]
 fn push_decimal(text: &mut Text, number: u64)
     requires { length text.old.items + 20 ≤ 128 }
     ensures items { text.new.items ≡ text.old.items ++ decimal number }
     ensures len { length text.new.items ≤ length text.old.items + 20 }
 {
-    push_digits(text, number);
-}
-
-// Appends a number's digits.
-fn push_digits(text: &mut Text, number: u64)
-    requires { length text.old.items + length (decimal number) ≤ 128 }
-    ensures { text.new.items ≡ text.old.items ++ decimal number }
-{
-    if number < 10 {
-        text.push(48 + number as u8);
-        return;
-    }
-    push_digits(text, number / 10);
-    text.push(48 + (number % 10) as u8);
+    let mut buffer = Buffer::new();
+    push_bytes(text, buffer.format(number).as_bytes());
 }
 
 // The text of a refusal, as `V16 slot 0`.

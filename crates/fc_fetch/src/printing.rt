@@ -133,8 +133,8 @@ fn are_plain(text: &str) -> bool
 fn is_shown_char(character: char) -> bool
     ensures { result ≡ spec.is_shown_char character }
 {
-    match u32::from(character) {
-        0x09 | 0x0a => true,
-        code => code >= 0x20 && !(0x7f..=0x9f).contains(&code),
+    match character {
+        '\t' | '\n' => true,
+        other => !other.is_control(),
     }
 }
