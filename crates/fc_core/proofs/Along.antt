@@ -14,7 +14,8 @@ use Rattle.fc_core.specs.declared.stage.TurnStage.TheVariants as turns
 use Rattle.fc_core.specs.declared.stage.Task.{Task}
 use Rattle.fc_core.specs.History.{Entry, History, Begins, Then, Seen, seen, and_then, no_task, scene, stage, task_at}
 use Rattle.fc_core.specs.Laws.{is_named, is_job}
-use Rattle.fc_core.specs.Stages.{first_by, first_or_turn, first_stage, names, row}
+use Rattle.fc_core.specs.Stages.{first_by, first_or_turn, first_stage}
+use Rattle.fc_core.specs.Rows.{names, row}
 use Rattle.fc_core.proofs.Steps.{Becomes, Moves, Stays, Comes, becomes, tasks_grow}
 
 pub is_its_number : (k : ℕ) (o : Option ℕ) → o ≡ Some k → is_job k o ≡ true

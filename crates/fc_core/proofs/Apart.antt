@@ -17,7 +17,8 @@ use Rattle.fc_core.specs.declared.stage.TurnStage.TheVariants as turns
 use Rattle.fc_core.specs.Fits.{FitsStage}
 use Rattle.fc_core.specs.History.{Entry, History, Begins, Then, Seen, seen, and_then, around, did, job, no_task, slot_at, stage, task_at}
 use Rattle.fc_core.specs.Laws.{HasCome, later, slot_of}
-use Rattle.fc_core.specs.Stages.{Around, Scene, first_or_turn, first_stage, names, row, turn_took}
+use Rattle.fc_core.specs.Stages.{first_or_turn, first_stage, turn_took}
+use Rattle.fc_core.specs.Rows.{Around, Scene, names, row}
 use Rattle.fc_core.proofs.ByStep.{Step, by_move, move_by, stage_by}
 use Rattle.fc_core.proofs.ByStep as steps
 use Rattle.fc_core.proofs.Ends.{gone_later, lost_gone}
@@ -68,7 +69,7 @@ step_apart other job slot ws turn w = absurd w
 pub row_apart : (e : Event) (job : Job) (slot : Slot) (ws : Around) (turn : Turn) (s : Stage) → IsToldOf turn s → IsToldOf turn (row e (at job slot ws s)).stage
 row_apart e job slot ws turn s =
     by_move (λ st m. IsToldOf turn st → IsToldOf turn m.stage) job slot ws
-    (λ c. step_apart c job slot ws turn) (λ st w. w) e s
+    (λ c asked. step_apart c job slot ws turn) (λ st w. w) e s
 
 pub first_apart : (j : Job) (o : Option ℕ) (number : ℕ) → o ≡ Some number → IsToldOf (turn_of j number) (first_or_turn o j)
 first_apart j None number e = absurd (cc e)

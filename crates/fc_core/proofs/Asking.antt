@@ -38,7 +38,8 @@ use Rattle.fc_core.specs.BodyLaws.{Asks, asked_at}
 use Rattle.fc_core.specs.Exchanges.{FrontState}
 use Rattle.fc_core.specs.History.{Entry, Seen, front_at, no_task, tasks_brought, tasks_moved}
 use Rattle.fc_core.specs.Receiving.{Received, Opened, Refused, Silenced, add_in, ask_by, brought, etags_by, is_confirmable, job_of, look_in, looked, named_block, next_opening, observes, received, received_added, received_as, request_asked, request_received, slot_asked, slot_of_resource}
-use Rattle.fc_core.specs.Stages.{names, new_task}
+use Rattle.fc_core.specs.Stages.{new_task}
+use Rattle.fc_core.specs.Rows.{names}
 use Rattle.fc_core.proofs.Bodies.{anew_is}
 use Rattle.fc_core.proofs.Repeats.{received_of}
 

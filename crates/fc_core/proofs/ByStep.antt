@@ -1,10 +1,15 @@
--- Rows by one column: an event at a stage that needs it is a step, and any other event leaves its job where it is.
-use Rattle.std.proofs.Common.{◌≡◌, ℕ, Bool, true, false, Option, Some, None, List, [], refl}
+-- Rows by one column: an event that is a call is a step, with what the event and the stage that needs it hold; any other event leaves its
+-- job where it is.
+use Rattle.std.proofs.Common.{◌≡◌, ℕ, Bool, true, false, Option, Some, None, List, [], refl, ap, length, max}
+use Rattle.std.specs.Prelude.{◌==◌, not}
 use Rattle.arrayvec.specs.ArrayVec.{ArrayVec}
 use Rattle.fc_observe.specs.declared.entry.Turn.{Turn}
 use Rattle.fc_registry.specs.declared.job.Job.{Job}
 use Rattle.fc_registry.specs.Changes.{Change}
+use Rattle.fc_registry.specs.declared.commit.CommitOutcome.{CommitOutcome}
+use Rattle.fc_registry.specs.Calls.{commit_calls, commits, is_out_at, outcome, readings_if, receipt_at, remove_from, taking, turn_taking}
 use Rattle.fc_registry.specs.Slots.{Slot, Ticket}
+use Rattle.fc_verify.specs.Judged.{judged}
 use Rattle.fc_core.specs.declared.event.Event.{Event}
 use Rattle.fc_core.specs.declared.event.Event.TheVariants.{Peek, Take, Commit, Install, Remove, Receipt, Raise, Answer, Fresh, Note, GiveUp, Lose}
 use Rattle.fc_core.specs.declared.stage.Stage.{Stage}
@@ -14,7 +19,11 @@ use Rattle.fc_core.specs.declared.stage.TurnStage.TheVariants as turns
 use Rattle.fc_core.specs.Contents.{Content}
 use Rattle.fc_core.specs.AnswerLaws.{row_moment}
 use Rattle.fc_core.specs.Laws.{gives, is_answered, is_stray_at}
-use Rattle.fc_core.specs.Stages.{Around, Move, Scene, moves, names, row}
+use Rattle.fc_core.specs.Heads.{word_at}
+use Rattle.fc_core.specs.Rows.{Around, Move, Scene, call_if, call_of, install_if, move_of, moves, names, row}
+use Rattle.fc_core.specs.Stages.{after_commit, image_of}
+use Rattle.fc_core.specs.Steps.{Call, changes_told}
+use Rattle.fc_core.specs.Steps as calls
 
 abbrev at : Job → Slot → Around → Stage → Scene
 at job slot ws stage = record { job = job; slot = slot; around = ws; stage = stage }
@@ -73,48 +82,59 @@ stage_by (Notes now random turn found id) = ToTell turn (turns.ToNote found id)
 stage_by (GivesUp now turn needs) = ToTell turn needs
 stage_by (Loses needs) = needs
 
--- the step that an event is at a stage, if the stage needs it
-abbrev pub step_of : Event → Stage → Option Step
-step_of (Peek k n) ToMatch = Some (Matches n)
-step_of (Peek k n) (ToList seen) = Some (Lists n seen)
-step_of (Take k memory readings) (ToTake count) = Some (Takes memory readings count)
-step_of (Take k memory readings) (ToTell turn turns.ToTake) = Some (TakesTurn memory readings turn)
-step_of (Commit k now) (ToCommit count t) = Some (Commits now count t)
-step_of (Install k memory) ToInstall = Some (Installs memory)
-step_of (Remove k) ToRemove = Some Removes
-step_of (Receipt k) ToDescribe = Some Describes
-step_of (Raise k) (ToRaise word content) = Some (Raises word content)
-step_of (Answer k now) (ToAnswer content) = Some (Answers now content)
-step_of (Fresh k now) (ToTell turn (turns.ToDraw found)) = Some (Draws now turn found)
-step_of (Note k now random) (ToTell turn (turns.ToNote found id)) = Some (Notes now random turn found id)
-step_of (GiveUp k now) (ToTell turn needs) = Some (GivesUp now turn needs)
-step_of (Lose k) needs = Some (Loses needs)
-step_of other needs = None
+-- a look is at the head word that the stage needs
+abbrev pub IsAsked : Step → Job → Type 0
+IsAsked (Matches n) job = (n == job.origin.slot) ≡ true
+IsAsked (Lists n seen) job = (n == length seen.items) ≡ true
+IsAsked other job = Unit {0}
+
+-- the call that it is, answered by the job's slot and what is around it
+abbrev pub call_by : Step → Job → Slot → Around → Call
+call_by (Matches n) job slot ws = calls.Matches job.etags.items (word_at ws.common.words n)
+call_by (Lists n seen) job slot ws = calls.Lists seen (word_at ws.common.words n)
+call_by (Takes memory readings count) job slot ws = calls.Takes count (taking (readings_if memory readings) job slot.serial slot.present)
+call_by (TakesTurn memory readings turn) job slot ws = calls.TakesTurn turn (turn_taking (is_out_at turn ws.moment ws.watch) (readings_if memory readings) job slot.serial slot.present)
+call_by (Commits now count t) job slot ws = calls.Commits count t (commits (outcome t slot) t slot.serial ws.watch).answer
+call_by (Installs memory) job slot ws = install_if memory (judged (image_of job.ask)) slot
+call_by Removes job slot ws = calls.Removes (remove_from slot).answer
+call_by Describes job slot ws = calls.Describes (receipt_at slot.present)
+call_by (Raises word content) job slot ws = calls.Raises word content
+call_by (Answers now content) job slot ws = calls.Answers content
+call_by (Draws now turn found) job slot ws = calls.Draws turn found (ws.common.free now)
+call_by (Notes now random turn found id) job slot ws = calls.Notes turn found id
+call_by (GivesUp now turn needs) job slot ws = calls.GivesUp turn needs
+call_by (Loses needs) job slot ws = calls.Loses needs
 
 -- its event names its job
 pub names_job : (k : ℕ) (c : Step) → names (event_by k c) ≡ Some k
 names_job k (Matches n) = refl
 names_job k other = refl
 
--- what is some step isn't none
-pub some_step : {c : Step} → Some c ≡ None → ⊥
-some_step e = cc e
-
 -- the move of a step
 abbrev pub move_by : Step → Job → Slot → Around → Move
-move_by c job slot ws = row (event_by 0 c) (at job slot ws (stage_by c))
+move_by c job slot ws = move_of (event_by 0 c) (at job slot ws (stage_by c)) (Some (call_by c job slot ws))
+
+-- the move of a commit, by what it comes to at a slot of this serial
+abbrev pub committed : CommitOutcome → ℕ → Ticket → ℕ → ℕ → Around → Move
+committed o count t now serial ws = record {
+  stage = after_commit count t (commits o t serial ws.watch).answer;
+  changes = (changes_told (calls.Commits count t (commits o t serial ws.watch).answer));
+  calls = commit_calls (commits o t serial ws.watch).answer (max ws.moment now) t;
+  hands = Some now;
+  raises = None;
+}
 
 -- ---- an event that is no step
 
--- what is true of an event at a stage that doesn't need it: it is a stray, answers nothing, hands on no moment and gives no ticket
-pub record Rests (e : Event) (s : Stage) : Type 0 where
-  pub none : step_of e s ≡ None
-  pub stray : (k own : ℕ) → names e ≡ Some k → is_stray_at e own s ≡ true
+-- what is true of an event that is no call for a job: it is a stray, answers nothing, hands on no moment and gives no ticket
+pub record Rests (e : Event) (job : Job) (s : Stage) : Type 0 where
+  pub none : (slot : Slot) (ws : Around) → call_of e (at job slot ws s) ≡ None
+  pub stray : (k : ℕ) → names e ≡ Some k → is_stray_at e job.origin.slot s ≡ true
   pub answered : is_answered e s ≡ false
   pub moments : row_moment e s ≡ []
-  pub given : (job : Job) (slot : Slot) (ws : Around) (cs : List Change) → gives e (at job slot ws s) cs ≡ []
+  pub given : (slot : Slot) (ws : Around) (cs : List Change) → gives e (at job slot ws s) cs ≡ []
 
-rests : {e : Event} {s : Stage} → step_of e s ≡ None → ((k own : ℕ) → names e ≡ Some k → is_stray_at e own s ≡ true) → is_answered e s ≡ false → row_moment e s ≡ [] → ((job : Job) (slot : Slot) (ws : Around) (cs : List Change) → gives e (at job slot ws s) cs ≡ []) → Rests e s
+rests : {e : Event} {job : Job} {s : Stage} → ((slot : Slot) (ws : Around) → call_of e (at job slot ws s) ≡ None) → ((k : ℕ) → names e ≡ Some k → is_stray_at e job.origin.slot s ≡ true) → is_answered e s ≡ false → row_moment e s ≡ [] → ((slot : Slot) (ws : Around) (cs : List Change) → gives e (at job slot ws s) cs ≡ []) → Rests e job s
 rests none stray answered moments given = record { none = none; stray = stray; answered = answered; moments = moments; given = given }
 
 no_job : {A : Type 0} {k : ℕ} → None ≡ Some k → A
@@ -122,36 +142,45 @@ no_job e = absurd (cc e)
 
 -- ---- one column
 
--- what holds of each step and its move, and of each event that is none and moves nothing, holds of each row
-pub by_step : (P : Event → Stage → Move → Type 0) (job : Job) (slot : Slot) (ws : Around) → ((k : ℕ) (c : Step) → P (event_by k c) (stage_by c) (move_by c job slot ws)) → ((e : Event) (s : Stage) → Rests e s → P e s (moves s)) → (e : Event) (s : Stage) → P e s (row e (at job slot ws s))
-by_step P job slot ws step rest (Peek k n) ToMatch = step k (Matches n)
-by_step P job slot ws step rest (Peek k n) (ToList seen) = step k (Lists n seen)
-by_step P job slot ws step rest (Peek k n) other = rest (Peek k n) other (rests refl (λ j own is. refl) refl refl (λ job slot ws cs. refl))
-by_step P job slot ws step rest (Take k memory readings) (ToTake count) = step k (Takes memory readings count)
-by_step P job slot ws step rest (Take k memory readings) (ToTell turn turns.ToTake) = step k (TakesTurn memory readings turn)
-by_step P job slot ws step rest (Take k true readings) other = rest (Take k true readings) other (rests refl (λ j own is. refl) refl refl (λ job slot ws cs. refl))
-by_step P job slot ws step rest (Take k false readings) other = rest (Take k false readings) other (rests refl (λ j own is. refl) refl refl (λ job slot ws cs. refl))
-by_step P job slot ws step rest (Commit k now) (ToCommit count t) = step k (Commits now count t)
-by_step P job slot ws step rest (Commit k now) other = rest (Commit k now) other (rests refl (λ j own is. refl) refl refl (λ job slot ws cs. refl))
-by_step P job slot ws step rest (Install k memory) ToInstall = step k (Installs memory)
-by_step P job slot ws step rest (Install k memory) other = rest (Install k memory) other (rests refl (λ j own is. refl) refl refl (λ job slot ws cs. refl))
-by_step P job slot ws step rest (Remove k) ToRemove = step k Removes
-by_step P job slot ws step rest (Remove k) other = rest (Remove k) other (rests refl (λ j own is. refl) refl refl (λ job slot ws cs. refl))
-by_step P job slot ws step rest (Receipt k) ToDescribe = step k Describes
-by_step P job slot ws step rest (Receipt k) other = rest (Receipt k) other (rests refl (λ j own is. refl) refl refl (λ job slot ws cs. refl))
-by_step P job slot ws step rest (Raise k) (ToRaise word content) = step k (Raises word content)
-by_step P job slot ws step rest (Raise k) other = rest (Raise k) other (rests refl (λ j own is. refl) refl refl (λ job slot ws cs. refl))
-by_step P job slot ws step rest (Answer k now) (ToAnswer content) = step k (Answers now content)
-by_step P job slot ws step rest (Answer k now) other = rest (Answer k now) other (rests refl (λ j own is. refl) refl refl (λ job slot ws cs. refl))
-by_step P job slot ws step rest (Fresh k now) (ToTell turn (turns.ToDraw found)) = step k (Draws now turn found)
-by_step P job slot ws step rest (Fresh k now) other = rest (Fresh k now) other (rests refl (λ j own is. refl) refl refl (λ job slot ws cs. refl))
-by_step P job slot ws step rest (Note k now random) (ToTell turn (turns.ToNote found id)) = step k (Notes now random turn found id)
-by_step P job slot ws step rest (Note k now random) other = rest (Note k now random) other (rests refl (λ j own is. refl) refl refl (λ job slot ws cs. refl))
-by_step P job slot ws step rest (GiveUp k now) (ToTell turn needs) = step k (GivesUp now turn needs)
-by_step P job slot ws step rest (GiveUp k now) other = rest (GiveUp k now) other (rests refl (λ j own is. refl) refl refl (λ job slot ws cs. refl))
-by_step P job slot ws step rest (Lose k) s = step k (Loses s)
-by_step P job slot ws step rest other s = rest other s (rests refl (λ j own is. no_job is) refl refl (λ job slot ws cs. refl))
+module _ (P : Event → Stage → Move → Type 0) (job : Job) (slot : Slot) (ws : Around) (step : (k : ℕ) (c : Step) → IsAsked c job → P (event_by k c) (stage_by c) (move_by c job slot ws)) (rest : (e : Event) (s : Stage) → Rests e job s → P e s (moves s)) where
+  matches : (k n : ℕ) (b : Bool) → (n == job.origin.slot) ≡ b → P (Peek k n) ToMatch (move_of (Peek k n) (at job slot ws ToMatch) (call_if b (call_by (Matches n) job slot ws)))
+  matches k n true is = step k (Matches n) is
+  matches k n false is = rest (Peek k n) ToMatch (rests (λ slot ws. ap (λ (b : Bool). call_if b (call_by (Matches n) job slot ws)) is) (λ j named. ap not is) refl refl (λ slot ws cs. refl))
+
+  lists : (k n : ℕ) (seen : ArrayVec ℕ) (b : Bool) → (n == length seen.items) ≡ b → P (Peek k n) (ToList seen) (move_of (Peek k n) (at job slot ws (ToList seen)) (call_if b (call_by (Lists n seen) job slot ws)))
+  lists k n seen true is = step k (Lists n seen) is
+  lists k n seen false is = rest (Peek k n) (ToList seen) (rests (λ slot ws. ap (λ (b : Bool). call_if b (call_by (Lists n seen) job slot ws)) is) (λ j named. ap not is) refl refl (λ slot ws cs. refl))
+
+  -- what holds of each step and its move, and of each event that is none and moves nothing, holds of each row
+  pub by_step : (e : Event) (s : Stage) → P e s (row e (at job slot ws s))
+  by_step (Peek k n) ToMatch = matches k n (n == job.origin.slot) refl
+  by_step (Peek k n) (ToList seen) = lists k n seen (n == length seen.items) refl
+  by_step (Peek k n) other = rest (Peek k n) other (rests (λ slot ws. refl) (λ j is. refl) refl refl (λ slot ws cs. refl))
+  by_step (Take k memory readings) (ToTake count) = step k (Takes memory readings count) tt
+  by_step (Take k memory readings) (ToTell turn turns.ToTake) = step k (TakesTurn memory readings turn) tt
+  by_step (Take k true readings) other = rest (Take k true readings) other (rests (λ slot ws. refl) (λ j is. refl) refl refl (λ slot ws cs. refl))
+  by_step (Take k false readings) other = rest (Take k false readings) other (rests (λ slot ws. refl) (λ j is. refl) refl refl (λ slot ws cs. refl))
+  by_step (Commit k now) (ToCommit count t) = step k (Commits now count t) tt
+  by_step (Commit k now) other = rest (Commit k now) other (rests (λ slot ws. refl) (λ j is. refl) refl refl (λ slot ws cs. refl))
+  by_step (Install k memory) ToInstall = step k (Installs memory) tt
+  by_step (Install k memory) other = rest (Install k memory) other (rests (λ slot ws. refl) (λ j is. refl) refl refl (λ slot ws cs. refl))
+  by_step (Remove k) ToRemove = step k Removes tt
+  by_step (Remove k) other = rest (Remove k) other (rests (λ slot ws. refl) (λ j is. refl) refl refl (λ slot ws cs. refl))
+  by_step (Receipt k) ToDescribe = step k Describes tt
+  by_step (Receipt k) other = rest (Receipt k) other (rests (λ slot ws. refl) (λ j is. refl) refl refl (λ slot ws cs. refl))
+  by_step (Raise k) (ToRaise word content) = step k (Raises word content) tt
+  by_step (Raise k) other = rest (Raise k) other (rests (λ slot ws. refl) (λ j is. refl) refl refl (λ slot ws cs. refl))
+  by_step (Answer k now) (ToAnswer content) = step k (Answers now content) tt
+  by_step (Answer k now) other = rest (Answer k now) other (rests (λ slot ws. refl) (λ j is. refl) refl refl (λ slot ws cs. refl))
+  by_step (Fresh k now) (ToTell turn (turns.ToDraw found)) = step k (Draws now turn found) tt
+  by_step (Fresh k now) other = rest (Fresh k now) other (rests (λ slot ws. refl) (λ j is. refl) refl refl (λ slot ws cs. refl))
+  by_step (Note k now random) (ToTell turn (turns.ToNote found id)) = step k (Notes now random turn found id) tt
+  by_step (Note k now random) other = rest (Note k now random) other (rests (λ slot ws. refl) (λ j is. refl) refl refl (λ slot ws cs. refl))
+  by_step (GiveUp k now) (ToTell turn needs) = step k (GivesUp now turn needs) tt
+  by_step (GiveUp k now) other = rest (GiveUp k now) other (rests (λ slot ws. refl) (λ j is. refl) refl refl (λ slot ws cs. refl))
+  by_step (Lose k) s = step k (Loses s) tt
+  by_step other s = rest other s (rests (λ slot ws. refl) (λ j is. no_job is) refl refl (λ slot ws cs. refl))
 
 -- the same of what speaks of no event
-pub by_move : (P : Stage → Move → Type 0) (job : Job) (slot : Slot) (ws : Around) → ((c : Step) → P (stage_by c) (move_by c job slot ws)) → ((s : Stage) → P s (moves s)) → (e : Event) (s : Stage) → P s (row e (at job slot ws s))
-by_move P job slot ws step rest e s = by_step (λ d st m. P st m) job slot ws (λ k c. step c) (λ d st w. rest st) e s
+pub by_move : (P : Stage → Move → Type 0) (job : Job) (slot : Slot) (ws : Around) → ((c : Step) → IsAsked c job → P (stage_by c) (move_by c job slot ws)) → ((s : Stage) → P s (moves s)) → (e : Event) (s : Stage) → P s (row e (at job slot ws s))
+by_move P job slot ws step rest e s = by_step (λ d st m. P st m) job slot ws (λ k c asked. step c asked) (λ d st w. rest st) e s

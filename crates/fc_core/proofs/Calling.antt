@@ -36,8 +36,9 @@ use Rattle.fc_core.specs.Fits.{FitsStage}
 use Rattle.fc_core.specs.History.{AtShard, AsksTurn, Signals, Ticks, Calm, Seen, around, at_shard, calls_by, calls_named, due_in, is_due_at, is_place_of, job, late_in, scene, slot_at, stage, turn_at, watch}
 use Rattle.fc_core.specs.Receiving.{AskWithin, JobWithin, RequestWithin}
 use Rattle.fc_core.specs.Sound.{IsSound}
-use Rattle.fc_core.specs.Stages.{Around, Scene, committed, image_of, installed, names, row, verified}
-use Rattle.fc_core.proofs.ByStep.{Step, by_step, event_by, move_by, stage_by}
+use Rattle.fc_core.specs.Stages.{image_of}
+use Rattle.fc_core.specs.Rows.{Around, Scene, names, row, calls_told, install_call, install_if}
+use Rattle.fc_core.proofs.ByStep.{Step, by_step, event_by, move_by, stage_by, committed}
 use Rattle.fc_core.proofs.ByStep as steps
 use Rattle.fc_core.proofs.Lists.{Each}
 use Rattle.fc_core.proofs.Places.{place_below}
@@ -56,31 +57,31 @@ pub data CallsBy (e : Event) (ws : Around) (at : Stage) (cs : List ObserverCall)
 abbrev at : Job → Slot → Around → Stage → Scene
 at job slot ws stage = record { job = job; slot = slot; around = ws; stage = stage }
 
-committed_calls : (k now n : ℕ) (t : Ticket) (ws : Around) (o : CommitOutcome) → CallsBy (Commit k now) ws (ToCommit n t) (committed o n t now ws).calls
-committed_calls k now n t ws Keeps = OfCommit k now n (max ws.moment now) t refl refl refl
-committed_calls k now n t ws Writes = NoCall refl
-committed_calls k now n t ws Overtakes = NoCall refl
-committed_calls k now n t ws Ends = NoCall refl
+committed_calls : (k now n : ℕ) (t : Ticket) (serial : ℕ) (ws : Around) (o : CommitOutcome) → CallsBy (Commit k now) ws (ToCommit n t) (committed o n t now serial ws).calls
+committed_calls k now n t serial ws Keeps = OfCommit k now n (max ws.moment now) t refl refl refl
+committed_calls k now n t serial ws Writes = NoCall refl
+committed_calls k now n t serial ws Overtakes = NoCall refl
+committed_calls k now n t serial ws Ends = NoCall refl
 
-installed_calls : (j : Judgement) (slot : Slot) → (installed j slot).calls ≡ []
-installed_calls (Accepts p) slot = refl
-installed_calls (Breaks rule k) slot = refl
-installed_calls Untypable slot = refl
+installed_calls : (at random : ℕ) (x : Scene) (j : Judgement) → calls_told at random x (install_call j x.slot) ≡ []
+installed_calls at random x (Accepts p) = refl
+installed_calls at random x (Breaks rule k) = refl
+installed_calls at random x Untypable = refl
 
-pub verified_calls : (memory : Bool) (x : Scene) → (verified memory x).calls ≡ []
-verified_calls true x = installed_calls (judged (image_of x.job.ask)) x.slot
-verified_calls false x = refl
+pub verified_calls : (at random : ℕ) (memory : Bool) (x : Scene) → calls_told at random x (install_if memory (judged (image_of x.job.ask)) x.slot) ≡ []
+verified_calls at random true x = installed_calls at random x (judged (image_of x.job.ask))
+verified_calls at random false x = refl
 
 step_calls : (k : ℕ) (c : Step) (job : Job) (slot : Slot) (ws : Around) → CallsBy (event_by k c) ws (stage_by c) (move_by c job slot ws).calls
 step_calls k (steps.TakesTurn memory readings turn) job slot ws = OfTaking turn ws.moment slot.present ws.watch refl
-step_calls k (steps.Commits now n t) job slot ws = committed_calls k now n t ws (outcome t slot)
-step_calls k (steps.Installs memory) job slot ws = NoCall (verified_calls memory (at job slot ws ToInstall))
+step_calls k (steps.Commits now n t) job slot ws = committed_calls k now n t slot.serial ws (outcome t slot)
+step_calls k (steps.Installs memory) job slot ws = NoCall (verified_calls ws.moment 0 memory (at job slot ws ToInstall))
 step_calls k (steps.Notes now random turn found id) job slot ws = OfNote k now random id turn found refl refl refl
 step_calls k (steps.GivesUp now turn needs) job slot ws = OfGiveUp turn (max ws.moment now) refl
 step_calls k other job slot ws = NoCall refl
 
 pub row_calls : (e : Event) (job : Job) (slot : Slot) (ws : Around) (s : Stage) → CallsBy e ws s (row e (at job slot ws s)).calls
-row_calls e job slot ws s = by_step (λ d st m. CallsBy d ws st m.calls) job slot ws (λ k c. step_calls k c job slot ws) (λ d st rest. NoCall refl) e s
+row_calls e job slot ws s = by_step (λ d st m. CallsBy d ws st m.calls) job slot ws (λ k c asked. step_calls k c job slot ws) (λ d st rest. NoCall refl) e s
 
 -- ---- a call keeps them within
 

@@ -19,9 +19,12 @@ use Rattle.fc_core.specs.declared.stage.Stage.TheVariants.{ToCommit, ToInstall, 
 use Rattle.fc_core.specs.History.{around, Entry, History, Begins, Then, Seen, seen, and_then, job, scene, slot_at, stage}
 use Rattle.fc_core.specs.Laws.{slot_of}
 use Rattle.fc_core.specs.SlotLaws.{AllOfImages, ChangesBy, IsInstall, IsOfImage, IsRemoving, IsWriting, Clears, Installs, Nothing, Writes}
-use Rattle.fc_core.specs.Stages.{Around, Scene, committed, image_of, installed, names, row, verified}
-use Rattle.fc_core.proofs.ByStep.{Step, by_step, event_by, move_by, stage_by}
+use Rattle.fc_core.specs.Stages.{image_of}
+use Rattle.fc_core.specs.Rows.{Around, Scene, names, row, install_call, install_if}
+use Rattle.fc_core.specs.Steps.{changes_told}
+use Rattle.fc_core.proofs.ByStep.{Step, by_step, event_by, move_by, stage_by, committed}
 use Rattle.fc_core.proofs.ByStep as steps
+use Rattle.fc_core.specs.Steps as call
 use Rattle.fc_core.proofs.Others.{no_slot, other_slot, own_slot}
 
 abbrev at : Job → Slot → Around → Stage → Scene
@@ -34,26 +37,26 @@ data Makes (e : Event) (job : Job) (slot : Slot) (s : Stage) (cs : List Change) 
   Takes_out : (k : ℕ) (p : Present) (event : e ≡ Remove k) (at : s ≡ ToRemove) (found : slot.present ≡ Some p) (below : slot.serial < 9223372036854775807) (is : cs ≡ Removed ∷ []) → Makes e job slot s cs
   Leaves : (k now n : ℕ) (t : Ticket) (event : e ≡ Commit k now) (at : s ≡ ToCommit n t) (is : cs ≡ Committed (commit_of t) ∷ []) → Makes e job slot s cs
 
-committed_makes : (k now n : ℕ) (t : Ticket) (job : Job) (slot : Slot) (ws : Around) (o : CommitOutcome) → Makes (Commit k now) job slot (ToCommit n t) (committed o n t now ws).changes
+committed_makes : (k now n : ℕ) (t : Ticket) (job : Job) (slot : Slot) (ws : Around) (o : CommitOutcome) → Makes (Commit k now) job slot (ToCommit n t) (committed o n t now slot.serial ws).changes
 committed_makes k now n t job slot ws outcomes.Writes = Leaves k now n t refl refl refl
 committed_makes k now n t job slot ws outcomes.Keeps = None_made refl
 committed_makes k now n t job slot ws outcomes.Overtakes = None_made refl
 committed_makes k now n t job slot ws outcomes.Ends = None_made refl
 
-put_makes : (k : ℕ) (p : Program) (job : Job) (slot : Slot) (b : Bool) → judged (image_of job.ask) ≡ Accepts p → nat_lt slot.serial last_serial ≡ b → Makes (Install k true) job slot ToInstall (put_by b slot p).changes
+put_makes : (k : ℕ) (p : Program) (job : Job) (slot : Slot) (b : Bool) → judged (image_of job.ask) ≡ Accepts p → nat_lt slot.serial last_serial ≡ b → Makes (Install k true) job slot ToInstall (changes_told (call.Installs p (put_by b slot p).answer))
 put_makes k p job slot true is e = Puts k p refl refl is (ltb-true slot.serial last_serial e) refl
 put_makes k p job slot false is e = None_made refl
 
-installed_makes : (k : ℕ) (job : Job) (slot : Slot) (j : Judgement) → judged (image_of job.ask) ≡ j → Makes (Install k true) job slot ToInstall (installed j slot).changes
+installed_makes : (k : ℕ) (job : Job) (slot : Slot) (j : Judgement) → judged (image_of job.ask) ≡ j → Makes (Install k true) job slot ToInstall (changes_told (install_call j slot))
 installed_makes k job slot (Accepts p) is = put_makes k p job slot (nat_lt slot.serial last_serial) is refl
 installed_makes k job slot (Breaks rule i) is = None_made refl
 installed_makes k job slot Untypable is = None_made refl
 
-verified_makes : (k : ℕ) (memory : Bool) (job : Job) (slot : Slot) (ws : Around) → Makes (Install k memory) job slot ToInstall (verified memory (at job slot ws ToInstall)).changes
+verified_makes : (k : ℕ) (memory : Bool) (job : Job) (slot : Slot) (ws : Around) → Makes (Install k memory) job slot ToInstall (changes_told (install_if memory (judged (image_of job.ask)) slot))
 verified_makes k true job slot ws = installed_makes k job slot (judged (image_of job.ask)) refl
 verified_makes k false job slot ws = None_made refl
 
-clear_makes : (k : ℕ) (job : Job) (slot : Slot) (b : Bool) (o : Option Present) → nat_lt slot.serial last_serial ≡ b → slot.present ≡ o → Makes (Remove k) job slot ToRemove (clear_by b slot.serial o).changes
+clear_makes : (k : ℕ) (job : Job) (slot : Slot) (b : Bool) (o : Option Present) → nat_lt slot.serial last_serial ≡ b → slot.present ≡ o → Makes (Remove k) job slot ToRemove (changes_told (call.Removes (clear_by b slot.serial o).answer))
 clear_makes k job slot b None e is = None_made refl
 clear_makes k job slot true (Some p) e is = Takes_out k p refl refl is (ltb-true slot.serial last_serial e) refl
 clear_makes k job slot false (Some p) e is = None_made refl
@@ -67,7 +70,7 @@ step_makes k other job slot ws = None_made refl
 row_makes : (e : Event) (job : Job) (slot : Slot) (ws : Around) (s : Stage) → Makes e job slot s (row e (at job slot ws s)).changes
 row_makes e job slot ws s =
     by_step (λ d st m. Makes d job slot st m.changes) job slot ws
-    (λ k c. step_makes k c job slot ws) (λ d st rest. None_made refl) e s
+    (λ k c asked. step_makes k c job slot ws) (λ d st rest. None_made refl) e s
 
 own_does : (r : Entry) (s : Seen) (k : ℕ) (cs : List Change) → names r.event ≡ Some k → (and_then r s).changes (slot_of s k) ≡ cs ++ s.changes (slot_of s k) → Makes r.event (job s k) (slot_at s (slot_of s k)) (stage s k) cs → ChangesBy r s (slot_of s k)
 own_does r s k cs named grown (None_made is) = Nothing (grown ∙ ap (λ (l : List Change). l ++ s.changes (slot_of s k)) is)

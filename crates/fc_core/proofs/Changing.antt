@@ -1,6 +1,6 @@
 -- A job changes its slot at most once, and then publishes its serial.
 use Rattle.std.proofs.Common.{◌≡◌, ℕ, ◌+◌, ◌-◌, ◌<◌, ◌≤◌, length, Bool, true, false, Option, Some, None, refl, sym, ap, ◌∙◌, subst, ◌⊎◌, inl, inr, ⊎_elim, arith, if◌then◌else◌, length-append}
-use Rattle.std.specs.Prelude.{List, [], ◌∷◌, ◌++◌, ◌==◌, nat_lt}
+use Rattle.std.specs.Prelude.{List, [], ◌∷◌, ◌++◌, nat_lt}
 use Rattle.std.proofs.lemmas.Bool.{cases_Bool, cases_lt, eqb-true}
 use Rattle.fc_kinds.specs.Meaning.{Program}
 use Rattle.fc_verify.specs.Accepted.{Judgement, Accepts, Breaks, Untypable}
@@ -17,14 +17,15 @@ use Rattle.fc_core.specs.declared.event.Event.TheVariants.{Deliver, Due, ShardTi
 use Rattle.fc_core.specs.declared.stage.Stage.{Stage}
 use Rattle.fc_core.specs.declared.stage.Stage.TheVariants.{ToMatch, ToTake, ToCommit, ToInstall, ToRemove, ToList, ToRaise, ToAnswer, Gone, ToTell}
 use Rattle.fc_core.specs.declared.stage.TurnStage.TheVariants as turns
-use Rattle.arrayvec.specs.ArrayVec.{ArrayVec}
 use Rattle.fc_core.specs.Contents.{Content, Listed, Unavailable}
 use Rattle.fc_core.specs.Heads.{is_match, word_at}
 use Rattle.fc_core.specs.History.{around, Entry, History, Then, Seen, seen, and_then, job, scene, slot_at, stage}
 use Rattle.fc_core.specs.Laws.{HasCome, changes_by, is_named, is_job, is_stray, is_stray_at, own_of_named, slot_of, stage_named}
 use Rattle.fc_core.specs.SlotLaws.{IsToRaise}
-use Rattle.fc_core.specs.Stages.{Around, Scene, committed, first_by, image_of, installed, made, matched_by, names, peeked_next, peeked_own, removed, row, took, verified}
-use Rattle.fc_core.proofs.ByStep.{Step, by_move, by_step, move_by, stage_by}
+use Rattle.fc_core.specs.Stages.{first_by, image_of, made, matched_by, removed, took}
+use Rattle.fc_core.specs.Rows.{Around, Scene, names, row, install_call, install_if}
+use Rattle.fc_core.specs.Steps.{Installs, Removes, changes_told, next_stage}
+use Rattle.fc_core.proofs.ByStep.{Step, by_move, by_step, move_by, stage_by, committed}
 use Rattle.fc_core.proofs.ByStep as steps
 use Rattle.fc_core.proofs.Telling.{after_turn}
 use Rattle.fc_core.proofs.Along.{IsTold, along, gone_before}
@@ -48,26 +49,26 @@ retaken_raises : (n : ℕ) (b : Bool) → 0 ≡ raises (if b then ToTake n else 
 retaken_raises n true = refl
 retaken_raises n false = refl
 
-committed_raises : (n : ℕ) (t : Ticket) (now : ℕ) (ws : Around) (o : CommitOutcome) → length (committed o n t now ws).changes ≡ raises (committed o n t now ws).stage
-committed_raises n t now ws Writes = refl
-committed_raises n t now ws Keeps = refl
-committed_raises n t now ws Overtakes = retaken_raises n (nat_lt n 8)
-committed_raises n t now ws Ends = refl
+committed_raises : (n : ℕ) (t : Ticket) (now serial : ℕ) (ws : Around) (o : CommitOutcome) → length (committed o n t now serial ws).changes ≡ raises (committed o n t now serial ws).stage
+committed_raises n t now serial ws Writes = refl
+committed_raises n t now serial ws Keeps = refl
+committed_raises n t now serial ws Overtakes = retaken_raises n (nat_lt n 8)
+committed_raises n t now serial ws Ends = refl
 
-put_raises : (b : Bool) (slot : Slot) (p : Program) → length (put_by b slot p).changes ≡ raises (made (receipt_of p 0) (put_by b slot p).answer)
+put_raises : (b : Bool) (slot : Slot) (p : Program) → length (changes_told (Installs p (put_by b slot p).answer)) ≡ raises (made (receipt_of p 0) (put_by b slot p).answer)
 put_raises true slot p = refl
 put_raises false slot p = refl
 
-installed_raises : (j : Judgement) (slot : Slot) → length (installed j slot).changes ≡ raises (installed j slot).stage
+installed_raises : (j : Judgement) (slot : Slot) → length (changes_told (install_call j slot)) ≡ raises (next_stage (install_call j slot))
 installed_raises (Accepts p) slot = put_raises (nat_lt slot.serial last_serial) slot p
 installed_raises (Breaks rule k) slot = refl
 installed_raises Untypable slot = refl
 
-verified_raises : (memory : Bool) (s : Scene) → length (verified memory s).changes ≡ raises (verified memory s).stage
+verified_raises : (memory : Bool) (s : Scene) → length (changes_told (install_if memory (judged (image_of s.job.ask)) s.slot)) ≡ raises (next_stage (install_if memory (judged (image_of s.job.ask)) s.slot))
 verified_raises true s = installed_raises (judged (image_of s.job.ask)) s.slot
 verified_raises false s = refl
 
-clear_raises : (below : Bool) (serial : ℕ) (p : Option Present) → length (clear_by below serial p).changes ≡ raises (removed (clear_by below serial p).answer)
+clear_raises : (below : Bool) (serial : ℕ) (p : Option Present) → length (changes_told (Removes (clear_by below serial p).answer)) ≡ raises (removed (clear_by below serial p).answer)
 clear_raises below serial None = refl
 clear_raises true serial (Some p) = refl
 clear_raises false serial (Some p) = refl
@@ -76,24 +77,16 @@ matched_raises : (b : Bool) (word : ℕ) → 0 ≡ raises (matched_by b word)
 matched_raises true word = refl
 matched_raises false word = refl
 
-own_raises : (b : Bool) (word : ℕ) (serials : List ℕ) → 0 ≡ raises (peeked_own b word serials)
-own_raises true word serials = matched_raises (is_match word serials) word
-own_raises false word serials = refl
-
 listed_raises : (b : Bool) (words : List ℕ) → 0 ≡ raises (if b then ToList (record { items = words }) else ToAnswer (Listed words))
 listed_raises true words = refl
 listed_raises false words = refl
 
-next_raises : (b : Bool) (word : ℕ) (seen : ArrayVec ℕ) → 0 ≡ raises (peeked_next b word seen)
-next_raises true word seen = listed_raises (nat_lt (length (seen.items ++ word ∷ [])) 64) (seen.items ++ word ∷ [])
-next_raises false word seen = refl
-
 step_raises : (c : Step) (job : Job) (slot : Slot) (ws : Around) → length (move_by c job slot ws).changes ≡ raises (move_by c job slot ws).stage
-step_raises (steps.Matches n) job slot ws = own_raises (n == job.origin.slot) (word_at ws.common.words n) job.etags.items
-step_raises (steps.Lists n seen) job slot ws = next_raises (n == length seen.items) (word_at ws.common.words n) seen
+step_raises (steps.Matches n) job slot ws = matched_raises (is_match (word_at ws.common.words n) job.etags.items) (word_at ws.common.words n)
+step_raises (steps.Lists n seen) job slot ws = listed_raises (nat_lt (length (seen.items ++ word_at ws.common.words n ∷ [])) 64) (seen.items ++ word_at ws.common.words n ∷ [])
 step_raises (steps.Takes memory readings n) job slot ws = taking_raises (readings_if memory readings) job slot n slot.present
 step_raises (steps.TakesTurn memory readings turn) job slot ws = after_turn (λ st. 0 ≡ raises st) (λ turn needs. refl) refl (readings_if memory readings) turn (at job slot ws (ToTell turn turns.ToTake))
-step_raises (steps.Commits now n t) job slot ws = committed_raises n t now ws (outcome t slot)
+step_raises (steps.Commits now n t) job slot ws = committed_raises n t now slot.serial ws (outcome t slot)
 step_raises (steps.Installs memory) job slot ws = verified_raises memory (at job slot ws ToInstall)
 step_raises steps.Removes job slot ws = clear_raises (nat_lt slot.serial last_serial) slot.serial slot.present
 step_raises other job slot ws = refl
@@ -105,7 +98,7 @@ true_isnt e = cc e
 row_raises : (e : Event) (k : ℕ) (job : Job) (slot : Slot) (ws : Around) (s : Stage) → names e ≡ Some k → is_stray_at e job.origin.slot s ≡ false → length (row e (at job slot ws s)).changes ≡ raises (row e (at job slot ws s)).stage
 row_raises e k job slot ws s =
     by_step (λ d st m. names d ≡ Some k → is_stray_at d job.origin.slot st ≡ false → length m.changes ≡ raises m.stage) job slot ws
-    (λ j c named e. step_raises c job slot ws) (λ d st rest named e. absurd (true_isnt (sym (rest.stray k job.origin.slot named) ∙ e))) e s
+    (λ j c asked named e. step_raises c job slot ws) (λ d st rest named e. absurd (true_isnt (sym (rest.stray k named) ∙ e))) e s
 
 -- ---- at most once
 
@@ -173,7 +166,7 @@ step_changes other job slot ws n f = first_change (move_by other job slot ws).st
 row_changes : (e : Event) (job : Job) (slot : Slot) (ws : Around) (s : Stage) (n : ℕ) → FitsChanges n s → FitsChanges (n + length (row e (at job slot ws s)).changes) (row e (at job slot ws s)).stage
 row_changes e job slot ws s n =
     by_move (λ st m. FitsChanges n st → FitsChanges (n + length m.changes) m.stage) job slot ws
-    (λ c. step_changes c job slot ws n) (λ st f. no_change st n f) e s
+    (λ c asked. step_changes c job slot ws n) (λ st f. no_change st n f) e s
 
 gone_changes : (e : Event) (job : Job) (slot : Slot) (ws : Around) (n : ℕ) → n + length (row e (at job slot ws Gone)).changes ≡ n
 gone_changes (Take k memory readings) job slot ws n = omega arith
@@ -205,8 +198,8 @@ counted : (h : History) (r : Entry) (k : ℕ) → changes_by (Then h r) k ≡ (i
 unfolding seen
 counted h r k = counted_by r (seen h) k (changes_by h k) (is_named k r.event) refl
 
-changes_told : IsTold changes_by more_changes FitsChanges 0
-changes_told = record {
+is_told : IsTold changes_by more_changes FitsChanges 0
+is_told = record {
   begins = λ serial id k. refl;
   then_is = counted;
   still = λ e s k n is. ap (λ (x : Stage). n + length (row e (at (job s k) (slot_at s (slot_of s k)) (around s (slot_of s k)) x)).changes) is ∙ gone_changes e (job s k) (slot_at s (slot_of s k)) (around s (slot_of s k)) n;
@@ -217,7 +210,7 @@ changes_told = record {
 }
 
 pub changed_once : (h : History) (k : ℕ) → changes_by h k ≤ 1
-changed_once h k = one_change (stage (seen h) k) (changes_by h k) (along changes_by more_changes FitsChanges 0 changes_told h k)
+changed_once h k = one_change (stage (seen h) k) (changes_by h k) (along changes_by more_changes FitsChanges 0 is_told h k)
 
 -- ---- and it is published
 

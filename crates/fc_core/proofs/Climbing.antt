@@ -25,7 +25,7 @@ use Rattle.fc_core.specs.declared.stage.TurnStage.TheVariants as turns
 use Rattle.fc_core.specs.History.{Entry, History, Then, Seen, seen, and_then, around, calls_by, calls_in, calls_named, did, due_in, is_place_of, job, late_in, scene, slot_at, stage, watch}
 use Rattle.fc_core.specs.Laws.{later, slot_of}
 use Rattle.fc_core.specs.ObserveLaws.{NoneRegisters, Registers}
-use Rattle.fc_core.specs.Stages.{names, row}
+use Rattle.fc_core.specs.Rows.{names, row}
 use Rattle.fc_core.specs.TurnLaws.{moment_at}
 use Rattle.fc_core.proofs.Calling.{CallsBy, NoCall, OfCommit, OfGiveUp, OfNote, OfTaking, row_calls}
 use Rattle.fc_core.proofs.Comers.{none_in, registers_none}

@@ -22,9 +22,9 @@ use Rattle.fc_core.specs.declared.stage.Stage.{Stage}
 use Rattle.fc_core.specs.declared.stage.Stage.TheVariants.{ToInstall}
 use Rattle.fc_core.specs.History.{Entry, History, Begins, Then, Seen, seen, and_then, around, calls_in, calls_named, due_in, is_due_at, is_late_at, is_place_of, job, late_in, scene, shard_hands, shard_moment_after, slot_at, stage, watch}
 use Rattle.fc_core.specs.Laws.{slot_of}
-use Rattle.fc_core.specs.Stages.{Around, Scene, committed, handed, names, row}
+use Rattle.fc_core.specs.Rows.{Around, Scene, handed, names, row}
 use Rattle.fc_core.specs.TurnLaws.{moment_at}
-use Rattle.fc_core.proofs.ByStep.{Step, by_move, move_by}
+use Rattle.fc_core.proofs.ByStep.{Step, by_move, move_by, committed}
 use Rattle.fc_core.proofs.ByStep as steps
 use Rattle.fc_core.proofs.Calling.{verified_calls}
 use Rattle.fc_core.proofs.Lists.{Each}
@@ -83,11 +83,11 @@ observed_reaches true c m t = (omega arith, tt)
 observed_reaches false true m t = (tt, tt)
 observed_reaches false false m t = tt
 
-committed_reaches : (n now : ℕ) (t : Ticket) (ws : Around) (o : CommitOutcome) → Each (ReachesTo (handed (committed o n t now ws).hands ws.moment)) (committed o n t now ws).calls
-committed_reaches n now t ws Keeps = observed_reaches (is_registration t) (is_cancellation t) (max ws.moment now) t
-committed_reaches n now t ws Writes = tt
-committed_reaches n now t ws Overtakes = tt
-committed_reaches n now t ws Ends = tt
+committed_reaches : (n now serial : ℕ) (t : Ticket) (ws : Around) (o : CommitOutcome) → Each (ReachesTo (handed (committed o n t now serial ws).hands ws.moment)) (committed o n t now serial ws).calls
+committed_reaches n now serial t ws Keeps = observed_reaches (is_registration t) (is_cancellation t) (max ws.moment now) t
+committed_reaches n now serial t ws Writes = tt
+committed_reaches n now serial t ws Overtakes = tt
+committed_reaches n now serial t ws Ends = tt
 
 miss_reaches : (out : Bool) (turn : Turn) (present : Option Present) (m : ℕ) → Each (ReachesTo m) (miss_calls out turn present ++ Advance m ∷ [])
 miss_reaches true turn None m = (tt, (omega arith, tt))
@@ -104,8 +104,8 @@ note_reaches turn id random m found (Some e) = (told_reaches (keeps_observer fou
 
 step_reaches : (c : Step) (job : Job) (slot : Slot) (ws : Around) → Each (ReachesTo (handed (move_by c job slot ws).hands ws.moment)) (move_by c job slot ws).calls
 step_reaches (steps.TakesTurn memory readings turn) job slot ws = miss_reaches (is_out_at turn ws.moment ws.watch) turn slot.present ws.moment
-step_reaches (steps.Commits now n t) job slot ws = committed_reaches n now t ws (outcome t slot)
-step_reaches (steps.Installs memory) job slot ws = subst (Each (ReachesTo (handed (move_by (steps.Installs memory) job slot ws).hands ws.moment))) (sym (verified_calls memory (at job slot ws ToInstall))) tt
+step_reaches (steps.Commits now n t) job slot ws = committed_reaches n now slot.serial t ws (outcome t slot)
+step_reaches (steps.Installs memory) job slot ws = subst (Each (ReachesTo (handed (move_by (steps.Installs memory) job slot ws).hands ws.moment))) (sym (verified_calls ws.moment 0 memory (at job slot ws ToInstall))) tt
 step_reaches (steps.Notes now random turn found id) job slot ws = note_reaches turn id random (max ws.moment now) found (note_at turn id (max ws.moment now) found ws.watch)
 step_reaches (steps.GivesUp now turn needs) job slot ws = (omega arith, tt)
 step_reaches other job slot ws = tt
@@ -113,7 +113,7 @@ step_reaches other job slot ws = tt
 row_reaches : (e : Event) (job : Job) (slot : Slot) (ws : Around) (s : Stage) → Each (ReachesTo (handed (row e (at job slot ws s)).hands ws.moment)) (row e (at job slot ws s)).calls
 row_reaches e job slot ws s =
     by_move (λ st m. Each (ReachesTo (handed m.hands ws.moment)) m.calls) job slot ws
-    (λ c. step_reaches c job slot ws) (λ st. tt) e s
+    (λ c asked. step_reaches c job slot ws) (λ st. tt) e s
 
 -- ---- an event
 

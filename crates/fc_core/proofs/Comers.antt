@@ -20,7 +20,7 @@ use Rattle.fc_core.specs.declared.event.Event.TheVariants.{Commit, Signal, Shard
 use Rattle.fc_core.specs.History.{Entry, History, Then, Seen, seen, and_then, around, calls_in, calls_named, due_in, is_place_of, job, late_in, scene, slot_at, stage, watch}
 use Rattle.fc_core.specs.Laws.{later, slot_of}
 use Rattle.fc_core.specs.ObserveLaws.{NoneRegisters, Registers, is_held}
-use Rattle.fc_core.specs.Stages.{names, row}
+use Rattle.fc_core.specs.Rows.{names, row}
 use Rattle.fc_core.proofs.Calling.{CallsBy, NoCall, OfCommit, OfGiveUp, OfNote, OfTaking, row_calls}
 use Rattle.fc_core.proofs.Observing.{asked}
 use Rattle.fc_core.proofs.Watches.{after_append}

@@ -1,22 +1,18 @@
 -- A commit that a shard carries out is the row of its table.
-use Rattle.std.proofs.Common.{◌≡◌, ℕ, ◌+◌, ◌/◌, Bool, true, false, refl, sym, ap, ◌∙◌, subst, max, arith, None}
-use Rattle.std.specs.Prelude.{nat_lt, ◌==◌}
-use Rattle.std.proofs.lemmas.Bool.{eqb-true}
+use Rattle.std.proofs.Common.{◌≡◌, ℕ, ◌/◌, refl, sym, ap, ◌∙◌, subst, max, arith, None}
 use Rattle.fc_machine.specs.Ran.{Ran}
 use Rattle.fc_observe.specs.Observers.{ObserverList}
 use Rattle.fc_registry.specs.declared.commit.CommitOutcome.{CommitOutcome}
 use Rattle.fc_registry.specs.declared.commit.CommitOutcome.TheVariants.{Writes, Keeps, Overtakes, Ends}
 use Rattle.fc_registry.specs.declared.commit.Committed.{Committed}
 use Rattle.fc_registry.specs.declared.commit.Committed.TheVariants.{Done, Overtaken, Ended, Stranger}
-use Rattle.fc_registry.specs.Slots.{Shard, Slot, Ticket, last_serial, slot_in, with_slot}
+use Rattle.fc_registry.specs.Slots.{Shard, Slot, Ticket, slot_in, with_slot}
 use Rattle.fc_registry.specs.Changes.{after_changes}
-use Rattle.fc_registry.specs.Calls.{ComesTo, IsCommit, IsOwnCommit, IsOwn, HasGiven, outcome, outcome_by, commit_calls, commits, wants}
+use Rattle.fc_registry.specs.Calls.{ComesTo, IsCommit, IsOwnCommit, IsOwn, HasGiven, outcome, commit_calls, commits}
 use Rattle.fc_registry.specs.Watches.{watch_at, with_calls}
 use Rattle.fc_registry.proofs.Outcomes.{by_serials, own_run}
 use Rattle.fc_core.specs.Contents.{AreDone}
-use Rattle.fc_core.specs.declared.stage.Stage.TheVariants.{ToRaise}
-use Rattle.fc_core.specs.Heads.{head_word}
-use Rattle.fc_core.specs.Stages.{Around, Common, after_commit, around_of, committed, run_content, shard_moved}
+use Rattle.fc_core.specs.Steps.{Commits, changes_told}
 
 -- the mark of a commit that is done is of the outcome and the ticket
 done_by : (ran : Ran) (t : Ticket) (slot : Slot) (v : ObserverList) (o : CommitOutcome) → IsOwn ran t slot → ComesTo t slot o → AreDone ran t (commits o t slot.serial v).answer
@@ -53,28 +49,13 @@ commit_row ran t slot v (Done m) after p r vars readings given none w = own_row 
 commit_row ran t slot v Overtaken after p r vars readings given none w = own_row ran t slot v Overtaken after given w
 commit_row ran t slot v Ended after p r vars readings given none w = own_row ran t slot v Ended after given w
 
--- a commit that writes is at the ticket's serial
-writes_same : (w same below : Bool) → outcome_by w same below ≡ Writes → same ≡ true
-writes_same false same below e = absurd (cc)
-writes_same true false below e = absurd (cc)
-writes_same true true below e = refl
-
-pub writes_at : (t : Ticket) (slot : Slot) → outcome t slot ≡ Writes → slot.serial ≡ t.serial
-writes_at t slot e = eqb-true slot.serial t.serial (writes_same (wants t) (slot.serial == t.serial) (nat_lt slot.serial last_serial) e)
-
--- where the shard's answer leaves the job is the row's stage, and what it changed is the row's change
-pub stage_of_row : (o : CommitOutcome) (n : ℕ) (t : Ticket) (now serial : ℕ) (ws : Around) → (o ≡ Writes → serial ≡ t.serial) → after_commit n t (commits o t serial ws.watch).answer ≡ (committed o n t now ws).stage
-stage_of_row Writes n t now serial ws is = ap (λ (k : ℕ). ToRaise (head_word (k + 1) true) (run_content t false)) (is refl)
-stage_of_row Keeps n t now serial ws is = refl
-stage_of_row Overtakes n t now serial ws is = refl
-stage_of_row Ends n t now serial ws is = refl
-
 -- a shard after a commit that is done at a slot, which left this there
 abbrev pub left_by : Ticket → ℕ → Shard → Committed → Slot → Shard
 left_by t now shard c after = with_calls (commit_calls c (max shard.now now) t) t.origin.slot (with_slot (record shard { now = max shard.now now }) t.origin.slot after)
 
-pub shard_of_row : (o : CommitOutcome) (n : ℕ) (t : Ticket) (now : ℕ) (shard : Shard) (common : Common) → (let called = commits o t (slot_in shard t.origin.slot).serial (watch_at shard (t.origin.slot / 8)) in left_by t now shard called.answer (after_changes (slot_in shard t.origin.slot) called.changes)) ≡ shard_moved (committed o n t now (around_of shard common t.origin.slot)) t.origin.slot shard
-shard_of_row Writes n t now shard common = refl
-shard_of_row Keeps n t now shard common = refl
-shard_of_row Overtakes n t now shard common = refl
-shard_of_row Ends n t now shard common = refl
+-- is that of the row
+pub shard_of_row : (o : CommitOutcome) (n : ℕ) (t : Ticket) (now : ℕ) (shard : Shard) → (let called = commits o t (slot_in shard t.origin.slot).serial (watch_at shard (t.origin.slot / 8)) in left_by t now shard called.answer (after_changes (slot_in shard t.origin.slot) called.changes) ≡ left_by t now shard called.answer (after_changes (slot_in shard t.origin.slot) (changes_told (Commits n t called.answer))))
+shard_of_row Writes n t now shard = refl
+shard_of_row Keeps n t now shard = refl
+shard_of_row Overtakes n t now shard = refl
+shard_of_row Ends n t now shard = refl

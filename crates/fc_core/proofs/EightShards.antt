@@ -1,19 +1,20 @@
 -- An event of a shard above 7 changes nothing.
-use Rattle.std.proofs.Common.{◌≡◌, ℕ, ◌+◌, ◌*◌, ◌%◌, ◌<◌, ◌≤◌, List, [], ◌∷◌, ◌++◌, map, Bool, true, false, Option, Some, None, refl, sym, ap, ◌∙◌, max, arith}
-use Rattle.std.specs.Prelude.{nat_lt, ◌==◌, if◌then◌else◌}
+use Rattle.std.proofs.Common.{◌≡◌, ℕ, ◌%◌, ◌<◌, ◌≤◌, [], ◌∷◌, ◌++◌, map, Bool, Option, Some, None, refl, ap, ◌∙◌, max, arith}
+use Rattle.std.specs.Prelude.{◌==◌, if◌then◌else◌}
 use Rattle.std.specs.Option.{option_to_list}
 use Rattle.std.proofs.lemmas.Bool.{le-ltb, ne_eqb}
 use Rattle.std.proofs.lemmas.List.{append-nil}
 use Rattle.coap_msg.specs.declared.types.Emission.{Emission}
 use Rattle.coap_msg.specs.declared.types.Endpoint.{Endpoint}
-use Rattle.fc_observe.specs.Calls.{ObserverCall, NextDue, Tick as TickObservers}
+use Rattle.fc_observe.specs.Calls.{NextDue, Tick as TickObservers}
 use Rattle.fc_registry.specs.Watches.{place_from, signal_call}
 use Rattle.fc_core.specs.declared.event.Event.{Event}
 use Rattle.fc_core.specs.declared.event.Event.TheVariants.{Due, ShardTick, Signal}
 use Rattle.fc_core.specs.History.{Entry, Seen, and_then, did, due_in, is_due_at, is_late_at, is_place_of, late_in, slot_at, turn_at}
 use Rattle.fc_core.specs.Legal.{Emits, resent_at}
 use Rattle.fc_core.specs.ShardLaws.{IsAsBefore, IsOfNoShard}
-use Rattle.fc_core.specs.Stages.{handed, new_task}
+use Rattle.fc_core.specs.Stages.{new_task}
+use Rattle.fc_core.specs.Rows.{handed}
 
 pub none_late : (s : Seen) (i at : ℕ) → 8 ≤ i → late_in s i at ≡ None
 unfolding late_in

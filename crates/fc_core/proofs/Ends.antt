@@ -14,7 +14,8 @@ use Rattle.fc_core.specs.declared.stage.TurnStage.TheVariants as turns
 use Rattle.fc_core.specs.Contents.{Content, Unavailable}
 use Rattle.fc_core.specs.History.{around, Entry, History, Then, Seen, seen, and_then, did, job, scene, slot_at, stage, task_at}
 use Rattle.fc_core.specs.Laws.{HasCome, Taking, answers_of, gives, is_answered, is_named, later, slot_of, takings_of}
-use Rattle.fc_core.specs.Stages.{Around, Scene, first_by, row, took}
+use Rattle.fc_core.specs.Stages.{first_by, took}
+use Rattle.fc_core.specs.Rows.{Around, Scene, row}
 use Rattle.fc_core.proofs.ByStep.{Step, by_move, by_step, event_by, move_by, stage_by}
 use Rattle.fc_core.proofs.ByStep as steps
 use Rattle.fc_core.proofs.Along.{IsTold, along}
@@ -50,7 +51,7 @@ step_answers k other job slot ws n f = never_yet (move_by other job slot ws).sta
 
 row_answers : (e : Event) (job : Job) (slot : Slot) (ws : Around) (s : Stage) (n : ℕ) → FitsAnswers n s → FitsAnswers (if is_answered e s then n + 1 else n) (row e (at job slot ws s)).stage
 row_answers e job slot ws s n =
-    by_step (λ d st m. FitsAnswers n st → FitsAnswers (if is_answered d st then n + 1 else n) m.stage) job slot ws (λ k c. step_answers k c job slot ws n)
+    by_step (λ d st m. FitsAnswers n st → FitsAnswers (if is_answered d st then n + 1 else n) m.stage) job slot ws (λ k c asked. step_answers k c job slot ws n)
     (λ d st rest f. subst (λ (b : Bool). FitsAnswers (if b then n + 1 else n) st) (sym rest.answered) f) e s
 
 gone_answered : (e : Event) → is_answered e Gone ≡ false
@@ -145,7 +146,7 @@ step_settled (steps.Loses needs) job slot ws f = tt
 step_settled other job slot ws f = absurd f
 
 row_settled : (e : Event) (job : Job) (slot : Slot) (ws : Around) (s : Stage) → IsSettled s → IsSettled (row e (at job slot ws s)).stage
-row_settled e job slot ws s = by_move (λ st m. IsSettled st → IsSettled m.stage) job slot ws (λ c. step_settled c job slot ws) (λ st f. f) e s
+row_settled e job slot ws s = by_move (λ st m. IsSettled st → IsSettled m.stage) job slot ws (λ c asked. step_settled c job slot ws) (λ st f. f) e s
 
 settled_given : (e : Event) (job : Job) (slot : Slot) (ws : Around) (cs : List Change) (s : Stage) → IsSettled s → gives e (at job slot ws s) cs ≡ []
 settled_given (Take k true readings) job slot ws cs (ToTake count) f = absurd f

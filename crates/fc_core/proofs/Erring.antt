@@ -19,9 +19,10 @@ use Rattle.fc_core.specs.History.{Seen, and_then, did, scene, stage, watch}
 use Rattle.fc_core.specs.Laws.{slot_of}
 use Rattle.fc_core.specs.Legal.{Emits}
 use Rattle.fc_core.specs.ObserveLaws.{is_held}
-use Rattle.fc_core.specs.Stages.{at_note, row}
+use Rattle.fc_core.specs.Rows.{row}
 use Rattle.fc_core.specs.TurnLaws.{IsNoContent, moment_at}
 use Rattle.fc_core.proofs.Notices.{note_sends}
+use Rattle.fc_core.proofs.Turning.{at_stage}
 
 -- how its turn ends
 turn_ends : (turn : Turn) (id random at : ℕ) (found : Option Ticket) (e : Emission) → IsNoContent found → note_calls turn id random at found (Some e) ≡ End turn ∷ Advance at ∷ []
@@ -39,7 +40,7 @@ module _ (s : Seen) (k now random id : ℕ) (turn : Turn) (found : Option Ticket
   ended : stage s k ≡ ToTell turn (turns.ToNote found id) → IsNoContent found → Emits s (Note k now random) (Some e) → watch (and_then (did (Note k now random) (Some e)) s) n ≡ observers n (End turn ∷ Advance at ∷ s.calls n)
   ended is not sent =
       ap (λ (b : Bool). observers n ((if b then (row (Note k now random) (scene s k)).calls else []) ++ s.calls n)) (eq-eqb n n refl)
-      ∙ (ap (λ (x : Stage). observers n ((at_note now random (scene s k) x).calls ++ s.calls n)) is
+      ∙ (ap (λ (x : Stage). observers n ((row (Note k now random) (at_stage s k x)).calls ++ s.calls n)) is
       ∙ (ap (λ (o : Option Emission). observers n (note_calls turn id random at found o ++ s.calls n)) (sym (note_sends s k now random id turn found (Some e) is sent))
       ∙ ap (λ (cs : List ObserverCall). observers n (cs ++ s.calls n)) (turn_ends turn id random at found e not)))
 

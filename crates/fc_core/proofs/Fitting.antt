@@ -28,14 +28,15 @@ use Rattle.fc_core.specs.declared.stage.Stage.{Stage}
 use Rattle.fc_core.specs.declared.stage.Stage.TheVariants.{ToTake, ToCommit, ToInstall, ToList, ToAnswer, ToTell}
 use Rattle.fc_core.specs.declared.stage.TurnStage.{TurnStage}
 use Rattle.fc_core.specs.declared.stage.TurnStage.TheVariants as turns
-use Rattle.arrayvec.specs.ArrayVec.{ArrayVec}
 use Rattle.fc_core.specs.Contents.{Listed, Unavailable}
 use Rattle.fc_core.specs.Heads.{is_match, word_at}
 use Rattle.fc_core.specs.Fits.{FitsPresent, FitsSlot, FitsStage, FitsTurn, HasNext, IsTicketOf}
 use Rattle.fc_core.specs.Receiving.{AskWithin}
 use Rattle.fc_core.specs.Sound.{AllSafe}
-use Rattle.fc_core.specs.Stages.{Around, Scene, committed, first_by, first_or_turn, first_stage, image_of, installed, made, matched_by, peeked_next, peeked_own, removed, row, told, took, verified, turn_took, with_id}
-use Rattle.fc_core.proofs.ByStep.{Step, by_move, move_by, stage_by}
+use Rattle.fc_core.specs.Stages.{first_by, first_or_turn, first_stage, image_of, made, matched_by, removed, told, took, turn_took, with_id}
+use Rattle.fc_core.specs.Rows.{Around, Scene, row, install_call, install_if}
+use Rattle.fc_core.specs.Steps.{Installs, Removes, changes_told, next_stage}
+use Rattle.fc_core.proofs.ByStep.{Step, by_move, move_by, stage_by, committed}
 use Rattle.fc_core.proofs.ByStep as steps
 
 -- ---- slots
@@ -113,7 +114,7 @@ retaken_fits : (job : Job) (slot : Slot) (n : ℕ) (b : Bool) → job.turn ≡ N
 retaken_fits job slot n true none e = (ltb-true n 8 e, none)
 retaken_fits job slot n false none e = tt
 
-committed_fits : (job : Job) (slot : Slot) (n : ℕ) (t : Ticket) (o : CommitOutcome) (now : ℕ) (ws : Around) → t.origin ≡ job.origin → job.turn ≡ None → FitsStage job slot (committed o n t now ws).stage
+committed_fits : (job : Job) (slot : Slot) (n : ℕ) (t : Ticket) (o : CommitOutcome) (now : ℕ) (ws : Around) → t.origin ≡ job.origin → job.turn ≡ None → FitsStage job slot (committed o n t now slot.serial ws).stage
 committed_fits job slot n t Writes now ws own none = own
 committed_fits job slot n t Keeps now ws own none = own
 committed_fits job slot n t Overtakes now ws own none = retaken_fits job slot n (nat_lt n 8) none refl
@@ -123,12 +124,12 @@ made_fits : (job : Job) (slot : Slot) (b : Bool) (p : Program) → FitsStage job
 made_fits job slot true p = tt
 made_fits job slot false p = tt
 
-installed_fits : (job : Job) (slot : Slot) (j : Judgement) → FitsStage job slot (installed j slot).stage
+installed_fits : (job : Job) (slot : Slot) (j : Judgement) → FitsStage job slot (next_stage (install_call j slot))
 installed_fits job slot (Accepts p) = made_fits job slot (nat_lt slot.serial last_serial) p
 installed_fits job slot (Breaks rule k) = tt
 installed_fits job slot Untypable = tt
 
-verified_fits : (memory : Bool) (s : Scene) → FitsStage s.job s.slot (verified memory s).stage
+verified_fits : (memory : Bool) (s : Scene) → FitsStage s.job s.slot (next_stage (install_if memory (judged (image_of s.job.ask)) s.slot))
 verified_fits true s = installed_fits s.job s.slot (judged (image_of s.job.ask))
 verified_fits false s = tt
 
@@ -148,17 +149,9 @@ matched_fits : (job : Job) (slot : Slot) (b : Bool) (word : ℕ) → job.turn �
 matched_fits job slot true word none = tt
 matched_fits job slot false word none = (omega arith, none)
 
-own_fits : (job : Job) (slot : Slot) (b : Bool) (word : ℕ) (serials : List ℕ) → job.turn ≡ None → FitsStage job slot (peeked_own b word serials)
-own_fits job slot true word serials none = matched_fits job slot (is_match word serials) word none
-own_fits job slot false word serials none = none
-
 listed_fits : (job : Job) (slot : Slot) (b : Bool) (words : List ℕ) → nat_lt (length words) 64 ≡ b → FitsStage job slot (if b then ToList (record { items = words }) else ToAnswer (Listed words))
 listed_fits job slot true words e = ltb-true (length words) 64 e
 listed_fits job slot false words e = tt
-
-next_fits : (job : Job) (slot : Slot) (b : Bool) (word : ℕ) (seen : ArrayVec ℕ) → length seen.items < 64 → FitsStage job slot (peeked_next b word seen)
-next_fits job slot true word seen lt = listed_fits job slot (nat_lt (length (seen.items ++ word ∷ [])) 64) (seen.items ++ word ∷ []) refl
-next_fits job slot false word seen lt = lt
 
 drawn_fits : (job : Job) (slot : Slot) (found : Option Ticket) (free : Option ℕ) → FitsTurn job slot (turns.ToDraw found) → FitsTurn job slot (with_id found free)
 drawn_fits job slot (Some t) (Some id) own = own
@@ -167,8 +160,8 @@ drawn_fits job slot None (Some id) own = tt
 drawn_fits job slot None None own = tt
 
 step_fits : (c : Step) (job : Job) (slot : Slot) (ws : Around) → FitsStage job slot (stage_by c) → FitsStage job slot (move_by c job slot ws).stage
-step_fits (steps.Matches n) job slot ws f = own_fits job slot (n == job.origin.slot) (word_at ws.common.words n) job.etags.items f
-step_fits (steps.Lists n seen) job slot ws f = next_fits job slot (n == length seen.items) (word_at ws.common.words n) seen f
+step_fits (steps.Matches n) job slot ws f = matched_fits job slot (is_match (word_at ws.common.words n) job.etags.items) (word_at ws.common.words n) f
+step_fits (steps.Lists n seen) job slot ws f = listed_fits job slot (nat_lt (length (seen.items ++ word_at ws.common.words n ∷ [])) 64) (seen.items ++ word_at ws.common.words n ∷ []) refl
 step_fits steps.Removes job slot ws f = clear_fits job slot (nat_lt slot.serial last_serial) slot.serial slot.present
 step_fits steps.Describes job slot ws f = told_fits job slot (receipt_at slot.present)
 step_fits (steps.Takes memory readings n) job slot ws f = took_fits (readings_if memory readings) job slot n slot.present refl f.0 f.1
@@ -183,7 +176,7 @@ step_fits other job slot ws f = tt
 pub row_fits : (e : Event) (job : Job) (slot : Slot) (ws : Around) (s : Stage) → FitsStage job slot s → FitsStage job slot (row e (at job slot ws s)).stage
 row_fits e job slot ws s =
     by_move (λ st m. FitsStage job slot st → FitsStage job slot m.stage) job slot ws
-    (λ c. step_fits c job slot ws) (λ st f. f) e s
+    (λ c asked. step_fits c job slot ws) (λ st f. f) e s
 
 -- ---- the chain
 
@@ -218,26 +211,26 @@ writes_link slot t g e =
       class = eqb-true (code_class (meaning_at t).code) 2 post.1;
     }
 
-commit_chain : (first : Slot) (cs : List Change) (n : ℕ) (t : Ticket) (now : ℕ) (ws : Around) (o : CommitOutcome) → outcome t (after_changes first cs) ≡ o → HasGiven (after_changes first cs) t → IsChain first cs → IsChain first ((committed o n t now ws).changes ++ cs)
+commit_chain : (first : Slot) (cs : List Change) (n : ℕ) (t : Ticket) (now : ℕ) (ws : Around) (o : CommitOutcome) → outcome t (after_changes first cs) ≡ o → HasGiven (after_changes first cs) t → IsChain first cs → IsChain first ((committed o n t now (after_changes first cs).serial ws).changes ++ cs)
 commit_chain first cs n t now ws Writes e g chain = (writes_link (after_changes first cs) t g e, chain)
 commit_chain first cs n t now ws Keeps e g chain = chain
 commit_chain first cs n t now ws Overtakes e g chain = chain
 commit_chain first cs n t now ws Ends e g chain = chain
 
-put_chain : (first : Slot) (cs : List Change) (b : Bool) (slot : Slot) (p : Program) → IsChain first cs → IsChain first ((put_by b slot p).changes ++ cs)
+put_chain : (first : Slot) (cs : List Change) (b : Bool) (slot : Slot) (p : Program) → IsChain first cs → IsChain first (changes_told (Installs p (put_by b slot p).answer) ++ cs)
 put_chain first cs true slot p chain = chain
 put_chain first cs false slot p chain = chain
 
-installed_chain : (first : Slot) (cs : List Change) (j : Judgement) (slot : Slot) → IsChain first cs → IsChain first ((installed j slot).changes ++ cs)
+installed_chain : (first : Slot) (cs : List Change) (j : Judgement) (slot : Slot) → IsChain first cs → IsChain first (changes_told (install_call j slot) ++ cs)
 installed_chain first cs (Accepts p) slot chain = put_chain first cs (nat_lt slot.serial last_serial) slot p chain
 installed_chain first cs (Breaks rule k) slot chain = chain
 installed_chain first cs Untypable slot chain = chain
 
-verified_chain : (memory : Bool) (first : Slot) (cs : List Change) (s : Scene) → IsChain first cs → IsChain first ((verified memory s).changes ++ cs)
+verified_chain : (memory : Bool) (first : Slot) (cs : List Change) (s : Scene) → IsChain first cs → IsChain first (changes_told (install_if memory (judged (image_of s.job.ask)) s.slot) ++ cs)
 verified_chain true first cs s chain = installed_chain first cs (judged (image_of s.job.ask)) s.slot chain
 verified_chain false first cs s chain = chain
 
-clear_chain : (first : Slot) (cs : List Change) (below : Bool) (serial : ℕ) (p : Option Present) → IsChain first cs → IsChain first ((clear_by below serial p).changes ++ cs)
+clear_chain : (first : Slot) (cs : List Change) (below : Bool) (serial : ℕ) (p : Option Present) → IsChain first cs → IsChain first (changes_told (Removes (clear_by below serial p).answer) ++ cs)
 clear_chain first cs below serial None chain = chain
 clear_chain first cs true serial (Some p) chain = chain
 clear_chain first cs false serial (Some p) chain = chain
@@ -251,7 +244,7 @@ step_chain other job first cs ws f chain = chain
 pub row_chain : (e : Event) (job : Job) (first : Slot) (cs : List Change) (ws : Around) (s : Stage) → FitsStage job (after_changes first cs) s → IsChain first cs → IsChain first ((row e (at job (after_changes first cs) ws s)).changes ++ cs)
 row_chain e job first cs ws s =
     by_move (λ st m. FitsStage job (after_changes first cs) st → IsChain first cs → IsChain first (m.changes ++ cs)) job (after_changes first cs) ws
-    (λ c. step_chain c job first cs ws) (λ st f chain. chain) e s
+    (λ c asked. step_chain c job first cs ws) (λ st f chain. chain) e s
 
 -- ---- safe programs
 
@@ -270,26 +263,26 @@ written_fits job slot t within own e fits =
     let here : FitsPresent (record t.found { vars = (meaning_at t).vars }) = record { safe = found.safe; vars = runs.vars } in
     subst (λ (p : Option Present). FitsSlot (with_vars (meaning_at t).vars p)) (sym e) here
 
-commit_safe : (job : Job) (slot : Slot) (n : ℕ) (t : Ticket) (now : ℕ) (ws : Around) (o : CommitOutcome) → outcome t slot ≡ o → AskWithin job.ask → IsTicketOf job slot t → FitsSlot slot.present → FitsSlot (after_changes slot (committed o n t now ws).changes).present
+commit_safe : (job : Job) (slot : Slot) (n : ℕ) (t : Ticket) (now : ℕ) (ws : Around) (o : CommitOutcome) → outcome t slot ≡ o → AskWithin job.ask → IsTicketOf job slot t → FitsSlot slot.present → FitsSlot (after_changes slot (committed o n t now slot.serial ws).changes).present
 commit_safe job slot n t now ws Writes e within own fits = written_fits job slot t within own (writes_found slot t own.given e) fits
 commit_safe job slot n t now ws Keeps e within own fits = fits
 commit_safe job slot n t now ws Overtakes e within own fits = fits
 commit_safe job slot n t now ws Ends e within own fits = fits
 
-put_safe : (slot : Slot) (b : Bool) (p : Program) → AllSafe (put_by b slot p).changes → FitsSlot slot.present → FitsSlot (after_changes slot (put_by b slot p).changes).present
+put_safe : (slot : Slot) (b : Bool) (p : Program) → AllSafe (changes_told (Installs p (put_by b slot p).answer)) → FitsSlot slot.present → FitsSlot (after_changes slot (changes_told (Installs p (put_by b slot p).answer))).present
 put_safe slot true p safe fits = record { safe = safe.0; vars = length-replicate p.vars_size 0 }
 put_safe slot false p safe fits = fits
 
-installed_safe : (slot : Slot) (j : Judgement) → AllSafe (installed j slot).changes → FitsSlot slot.present → FitsSlot (after_changes slot (installed j slot).changes).present
+installed_safe : (slot : Slot) (j : Judgement) → AllSafe (changes_told (install_call j slot)) → FitsSlot slot.present → FitsSlot (after_changes slot (changes_told (install_call j slot))).present
 installed_safe slot (Accepts p) safe fits = put_safe slot (nat_lt slot.serial last_serial) p safe fits
 installed_safe slot (Breaks rule k) safe fits = fits
 installed_safe slot Untypable safe fits = fits
 
-verified_safe : (memory : Bool) (s : Scene) → AllSafe (verified memory s).changes → FitsSlot s.slot.present → FitsSlot (after_changes s.slot (verified memory s).changes).present
+verified_safe : (memory : Bool) (s : Scene) → AllSafe (changes_told (install_if memory (judged (image_of s.job.ask)) s.slot)) → FitsSlot s.slot.present → FitsSlot (after_changes s.slot (changes_told (install_if memory (judged (image_of s.job.ask)) s.slot))).present
 verified_safe true s safe fits = installed_safe s.slot (judged (image_of s.job.ask)) safe fits
 verified_safe false s safe fits = fits
 
-clear_safe : (slot : Slot) (below : Bool) (serial : ℕ) (p : Option Present) → FitsSlot slot.present → FitsSlot (after_changes slot (clear_by below serial p).changes).present
+clear_safe : (slot : Slot) (below : Bool) (serial : ℕ) (p : Option Present) → FitsSlot slot.present → FitsSlot (after_changes slot (changes_told (Removes (clear_by below serial p).answer))).present
 clear_safe slot below serial None fits = fits
 clear_safe slot true serial (Some p) fits = tt
 clear_safe slot false serial (Some p) fits = fits
@@ -303,4 +296,4 @@ step_safe other job slot ws within f safe fits = fits
 pub row_safe : (e : Event) (job : Job) (slot : Slot) (ws : Around) (s : Stage) → AskWithin job.ask → FitsStage job slot s → AllSafe (row e (at job slot ws s)).changes → FitsSlot slot.present → FitsSlot (after_changes slot (row e (at job slot ws s)).changes).present
 row_safe e job slot ws s within =
     by_move (λ st m. FitsStage job slot st → AllSafe m.changes → FitsSlot slot.present → FitsSlot (after_changes slot m.changes).present) job slot ws
-    (λ c. step_safe c job slot ws within) (λ st f safe fits. fits) e s
+    (λ c asked. step_safe c job slot ws within) (λ st f safe fits. fits) e s

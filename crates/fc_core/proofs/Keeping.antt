@@ -33,7 +33,8 @@ use Rattle.fc_core.specs.Receiving.{AskWithin, JobWithin, Received, add_in, rece
 use Rattle.coap_block.specs.Uploads.{Add, Continues, IsWhole, IsIncomplete, IsBadLength, IsTooLarge, IsFull}
 use Rattle.fc_core.specs.Receiving as x
 use Rattle.fc_core.specs.Sound.{AllSafe, IsSafelySeen, IsSound}
-use Rattle.fc_core.specs.Stages.{task_moved, names, new_task, row}
+use Rattle.fc_core.specs.Stages.{new_task}
+use Rattle.fc_core.specs.Rows.{task_moved, names, row}
 use Rattle.fc_core.proofs.Calling.{turns_within, watched_after}
 use Rattle.fc_core.proofs.Lists.{Each, appended_all, written_all}
 use Rattle.fc_core.proofs.Fitting.{after_changes-append, first_fits, fits_changed, row_chain, row_fits, row_safe}

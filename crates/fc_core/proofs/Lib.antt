@@ -19,7 +19,6 @@ pub mod Watches
 pub mod Others
 pub mod Steps
 pub mod ByStep
-pub mod ByCall
 pub mod Along
 pub mod Takings
 pub mod Ends

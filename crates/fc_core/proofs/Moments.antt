@@ -1,22 +1,18 @@
 -- The moments of the front and of the shards.
 use Rattle.std.proofs.Common.{◌≡◌, ℕ, List, ◌++◌, Bool, true, false, Option, Some, None, refl, sym, ap, ◌∙◌, max, if◌then◌else◌, [], ◌∷◌}
 use Rattle.std.specs.Prelude.{is_some, ◌%◌, ◌==◌}
-use Rattle.fc_verify.specs.Accepted.{Judgement, Accepts, Breaks, Untypable}
-use Rattle.fc_verify.specs.Judged.{judged}
 use Rattle.fc_registry.specs.declared.job.Job.{Job}
-use Rattle.fc_registry.specs.declared.commit.CommitOutcome.{CommitOutcome}
-use Rattle.fc_registry.specs.declared.commit.CommitOutcome.TheVariants.{Writes, Keeps, Overtakes, Ends}
-use Rattle.fc_registry.specs.Slots.{Slot, Ticket}
-use Rattle.fc_registry.specs.Calls.{outcome}
+use Rattle.fc_registry.specs.Slots.{Slot}
 use Rattle.fc_core.specs.declared.event.Event.{Event}
 use Rattle.fc_core.specs.declared.event.Event.TheVariants.{Deliver, Answer, Tick, Fresh, Due, ShardTick}
 use Rattle.fc_core.specs.declared.stage.Stage.{Stage}
-use Rattle.fc_core.specs.declared.stage.Stage.TheVariants.{ToInstall, ToAnswer, ToTell}
+use Rattle.fc_core.specs.declared.stage.Stage.TheVariants.{ToAnswer, ToTell}
 use Rattle.fc_core.specs.declared.stage.TurnStage.TheVariants as turns
 use Rattle.fc_core.specs.AnswerLaws.{answer_moment, draw_moment, row_moment, greatest, is_of_shard, own_moment, moments_in, moments_of, shard_moments_of}
 use Rattle.fc_core.specs.History.{around, History, Begins, Then, Seen, seen, job, moment_after, scene, shard_hands, shard_moment_after, slot_at, stage}
 use Rattle.fc_core.specs.Laws.{slot_of, stage_named}
-use Rattle.fc_core.specs.Stages.{Around, Scene, content_at, committed, handed, image_of, installed, names, needs_id, row, verified}
+use Rattle.fc_core.specs.Stages.{content_at, needs_id}
+use Rattle.fc_core.specs.Rows.{Around, Scene, handed, names, row}
 use Rattle.fc_core.proofs.ByStep.{Step, by_step, event_by, move_by, stage_by}
 use Rattle.fc_core.proofs.ByStep as steps
 
@@ -43,31 +39,15 @@ moment_is_greatest (Then h r) = front_handed r.event (seen h) (moments_of h) (mo
 abbrev at : Job → Slot → Around → Stage → Scene
 at job slot ws stage = record { job = job; slot = slot; around = ws; stage = stage }
 
-committed_hands : (n : ℕ) (t : Ticket) (now : ℕ) (ws : Around) (o : CommitOutcome) → (committed o n t now ws).hands ≡ Some now
-committed_hands n t now ws Writes = refl
-committed_hands n t now ws Keeps = refl
-committed_hands n t now ws Overtakes = refl
-committed_hands n t now ws Ends = refl
-
-installed_hands : (j : Judgement) (slot : Slot) → (installed j slot).hands ≡ None
-installed_hands (Accepts p) slot = refl
-installed_hands (Breaks rule k) slot = refl
-installed_hands Untypable slot = refl
-
-verified_hands : (memory : Bool) (s : Scene) → (verified memory s).hands ≡ None
-verified_hands true s = installed_hands (judged (image_of s.job.ask)) s.slot
-verified_hands false s = refl
-
 step_handed : (k : ℕ) (c : Step) (job : Job) (slot : Slot) (ws : Around) (m : ℕ) (ms : List ℕ) → m ≡ greatest ms → handed (move_by c job slot ws).hands m ≡ greatest (row_moment (event_by k c) (stage_by c) ++ ms)
-step_handed k (steps.Commits now n t) job slot ws m ms is = ap (λ (o : Option ℕ). handed o m) (committed_hands n t now ws (outcome t slot)) ∙ ap (λ (x : ℕ). max x now) is
-step_handed k (steps.Installs memory) job slot ws m ms is = ap (λ (o : Option ℕ). handed o m) (verified_hands memory (at job slot ws ToInstall)) ∙ is
+step_handed k (steps.Commits now n t) job slot ws m ms is = ap (λ (x : ℕ). max x now) is
 step_handed k (steps.Notes now random turn found id) job slot ws m ms is = ap (λ (x : ℕ). max x now) is
 step_handed k (steps.GivesUp now turn needs) job slot ws m ms is = ap (λ (x : ℕ). max x now) is
 step_handed k other job slot ws m ms is = is
 
 row_handed : (e : Event) (job : Job) (slot : Slot) (ws : Around) (st : Stage) (m : ℕ) (ms : List ℕ) → m ≡ greatest ms → handed (row e (at job slot ws st)).hands m ≡ greatest (row_moment e st ++ ms)
 row_handed e job slot ws st m ms is =
-    by_step (λ d s move. handed move.hands m ≡ greatest (row_moment d s ++ ms)) job slot ws (λ k c. step_handed k c job slot ws m ms is)
+    by_step (λ d s move. handed move.hands m ≡ greatest (row_moment d s ++ ms)) job slot ws (λ k c asked. step_handed k c job slot ws m ms is)
     (λ d s rest. is ∙ ap (λ (l : List ℕ). greatest (l ++ ms)) (sym rest.moments)) e st
 
 shard_if : (s : Seen) (e : Event) (k i : ℕ) (b : Bool) (ms : List ℕ) → s.shard_moment i ≡ greatest ms → (if b then handed (row e (scene s k)).hands (s.shard_moment i) else s.shard_moment i) ≡ greatest (if b then row_moment e (stage s k) ++ ms else ms)

@@ -36,7 +36,7 @@ use Rattle.fc_core.specs.History.{Entry as HistoryEntry, History, Seen, Then, di
 use Rattle.fc_core.specs.Laws.{is_stray, is_stray_at, later, slot_of}
 use Rattle.fc_core.specs.Legal.{Emits, resent, resent_at}
 use Rattle.fc_core.specs.ObserveLaws.{is_held}
-use Rattle.fc_core.specs.Stages.{notification}
+use Rattle.fc_core.specs.Rows.{notification}
 use Rattle.fc_core.specs.TurnLaws.{HasLapsed, IsToHeld, Notifies, NotifiesOf, Resends, moment_at, response_of}
 use Rattle.fc_core.proofs.Apart.{given_up_ever, noted_ever}
 use Rattle.fc_core.proofs.Clocks.{turn_moment}

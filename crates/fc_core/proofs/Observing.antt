@@ -22,7 +22,9 @@ use Rattle.fc_core.specs.declared.stage.Stage.TheVariants.{ToAnswer, ToCommit}
 use Rattle.fc_core.specs.History.{Seen, and_then, around, did, job, scene, slot_at, stage, watch}
 use Rattle.fc_core.specs.Laws.{slot_of}
 use Rattle.fc_core.specs.ObserveLaws.{AsksToObserve, IsFirst, is_among}
-use Rattle.fc_core.specs.Stages.{Around, Scene, committed, row, run_content}
+use Rattle.fc_core.specs.Stages.{run_content}
+use Rattle.fc_core.specs.Rows.{Around, Scene, row}
+use Rattle.fc_core.proofs.ByStep.{committed}
 use Rattle.fc_core.proofs.Once.{equal_endpoints, same_bytes}
 use Rattle.fc_core.proofs.Others.{is_here, named_stage}
 use Rattle.fc_core.proofs.Writing.{keeps_unwanted, unwanted}
@@ -64,19 +66,19 @@ abbrev at : Seen → ℕ → Stage → Scene
 at s k st = record { job = job s k; slot = slot_at s (slot_of s k); around = around s (slot_of s k); stage = st }
 
 -- the observers of the job's slot, by what the commit comes to
-watched : (s : Seen) (k now n : ℕ) (t : Ticket) (o : Option Emission) (x : CommitOutcome) → stage s k ≡ ToCommit n t → outcome t (slot_at s (slot_of s k)) ≡ x → watch (and_then (did (Commit k now) o) s) (slot_of s k) ≡ observers (slot_of s k) ((committed x n t now (around s (slot_of s k))).calls ++ s.calls (slot_of s k))
+watched : (s : Seen) (k now n : ℕ) (t : Ticket) (o : Option Emission) (x : CommitOutcome) → stage s k ≡ ToCommit n t → outcome t (slot_at s (slot_of s k)) ≡ x → watch (and_then (did (Commit k now) o) s) (slot_of s k) ≡ observers (slot_of s k) ((committed x n t now (slot_at s (slot_of s k)).serial (around s (slot_of s k))).calls ++ s.calls (slot_of s k))
 watched s k now n t o x is comes =
     let m = slot_of s k in
     ap (λ (b : Bool). observers m ((if b then (row (Commit k now) (scene s k)).calls else []) ++ s.calls m)) (eq-eqb m m refl)
     ∙ (ap (λ (st : Stage). observers m ((row (Commit k now) (at s k st)).calls ++ s.calls m)) is
-    ∙ ap (λ (y : CommitOutcome). observers m ((committed y n t now (around s m)).calls ++ s.calls m)) comes)
+    ∙ ap (λ (y : CommitOutcome). observers m ((committed y n t now (slot_at s m).serial (around s m)).calls ++ s.calls m)) comes)
 
 -- and where it leaves the job
-leaves : (s : Seen) (k now n : ℕ) (t : Ticket) (o : Option Emission) (x : CommitOutcome) → stage s k ≡ ToCommit n t → outcome t (slot_at s (slot_of s k)) ≡ x → stage (and_then (did (Commit k now) o) s) k ≡ (committed x n t now (around s (slot_of s k))).stage
+leaves : (s : Seen) (k now n : ℕ) (t : Ticket) (o : Option Emission) (x : CommitOutcome) → stage s k ≡ ToCommit n t → outcome t (slot_at s (slot_of s k)) ≡ x → stage (and_then (did (Commit k now) o) s) k ≡ (committed x n t now (slot_at s (slot_of s k)).serial (around s (slot_of s k))).stage
 leaves s k now n t o x is comes =
     named_stage (did (Commit k now) o) s k (is_here s k (ToCommit n t) is (λ e. absurd (cc e))) refl
     ∙ (ap (λ (st : Stage). (row (Commit k now) (at s k st)).stage) is
-    ∙ ap (λ (y : CommitOutcome). (committed y n t now (around s (slot_of s k))).stage) comes)
+    ∙ ap (λ (y : CommitOutcome). (committed y n t now (slot_at s (slot_of s k)).serial (around s (slot_of s k))).stage) comes)
 
 -- a GET has nothing to write
 keeps : (s : Seen) (k : ℕ) (t : Ticket) → t.request.method ≡ Get → outcome t (slot_at s (slot_of s k)) ≡ Keeps
@@ -136,18 +138,18 @@ get_cancels s k now n t o is get one =
 
 -- ---- every other commit
 
-none_called : (x : CommitOutcome) (n now : ℕ) (t : Ticket) (ws : Around) → is_registration t ≡ false → is_cancellation t ≡ false → (committed x n t now ws).calls ≡ []
-none_called Keeps n now t ws r c = λ i. observe_calls_by (r i) (c i) (max ws.moment now) t
-none_called Writes n now t ws r c = refl
-none_called Overtakes n now t ws r c = refl
-none_called Ends n now t ws r c = refl
+none_called : (x : CommitOutcome) (n now serial : ℕ) (t : Ticket) (ws : Around) → is_registration t ≡ false → is_cancellation t ≡ false → (committed x n t now serial ws).calls ≡ []
+none_called Keeps n now serial t ws r c = λ i. observe_calls_by (r i) (c i) (max ws.moment now) t
+none_called Writes n now serial t ws r c = refl
+none_called Overtakes n now serial t ws r c = refl
+none_called Ends n now serial t ws r c = refl
 
 pub others_call_nothing : (s : Seen) (k now n : ℕ) (t : Ticket) (o : Option Emission) → stage s k ≡ ToCommit n t → (AsksToObserve t → ⊥) → (t.observe ≡ Some 1 → ⊥) → watch (and_then (did (Commit k now) o) s) (slot_of s k) ≡ watch s (slot_of s k)
 others_call_nothing s k now n t o is asks one =
     let m = slot_of s k in
     let x = outcome t (slot_at s m) in
     watched s k now n t o x is refl
-    ∙ ap (λ (cs : List ObserverCall). observers m (cs ++ s.calls m)) (none_called x n now t (around s m) (not_true (is_registration t) (λ e. asks (asked t e))) (not_true (is_cancellation t) (λ e. one (value_is 1 t.observe e))))
+    ∙ ap (λ (cs : List ObserverCall). observers m (cs ++ s.calls m)) (none_called x n now (slot_at s m).serial t (around s m) (not_true (is_registration t) (λ e. asks (asked t e))) (not_true (is_cancellation t) (λ e. one (value_is 1 t.observe e))))
 
 -- another slot's
 pub other_slots_stay : (s : Seen) (k now m : ℕ) (o : Option Emission) → (m ≡ slot_of s k → ⊥) → watch (and_then (did (Commit k now) o) s) m ≡ watch s m

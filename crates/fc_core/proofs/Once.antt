@@ -33,7 +33,8 @@ use Rattle.fc_core.specs.History.{Entry, History, Begins, Then, Seen, seen, and_
 use Rattle.fc_core.specs.Laws.{HasCome}
 use Rattle.coap_block.specs.Uploads.{Add, Continues, IsWhole, IsIncomplete, IsBadLength, IsTooLarge, IsFull}
 use Rattle.fc_core.specs.Receiving.{Received, Silenced, Refused, Opened, add_in, received_added, request_received, brought, kept_of, look_in, looked, next_opening, opened_by, received_as, received_read}
-use Rattle.fc_core.specs.Stages.{content_at, names, new_task}
+use Rattle.fc_core.specs.Stages.{content_at, new_task}
+use Rattle.fc_core.specs.Rows.{names}
 use Rattle.fc_core.proofs.Lists.{Each}
 use Rattle.fc_core.proofs.Others.{job_stays}
 use Rattle.fc_core.proofs.Repeats.{look_is, new_look, received_of, room_at}

@@ -10,7 +10,7 @@ use Rattle.fc_core.specs.declared.stage.Stage.TheVariants.{Gone}
 use Rattle.fc_core.specs.declared.stage.Task.{Task}
 use Rattle.fc_core.specs.History.{Entry, History, Then, Seen, seen, and_then, changes_after, job, no_task, scene, stage, task_at}
 use Rattle.fc_core.specs.Laws.{HasCome, later, slot_of}
-use Rattle.fc_core.specs.Stages.{Around, names, row}
+use Rattle.fc_core.specs.Rows.{Around, names, row}
 use Rattle.fc_core.proofs.Steps.{Becomes, Moves, Stays, Comes, becomes, tasks_grow}
 
 unnamed_by : (r : Entry) (s : Seen) (k : ℕ) (t : Task) → Becomes (names r.event) r.event s k t → HasCome s k → (names r.event ≡ Some k → ⊥) → t.stage ≡ stage s k

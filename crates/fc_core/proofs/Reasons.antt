@@ -28,8 +28,10 @@ use Rattle.fc_core.specs.Heads.{is_match, is_present, serial_in, word_at}
 use Rattle.fc_core.specs.AnswerLaws.{HasSerial, IsCause, NoTicket, NoMemory, NothingDescribed, NothingTaken, Overtaken, LastCommit, LastInstall, LastRemoval}
 use Rattle.fc_core.specs.History.{around, Entry, History, Then, Seen, seen, and_then, did, job, slot_at, stage, task_at}
 use Rattle.fc_core.specs.Laws.{answer_at, slot_of, takings_of}
-use Rattle.fc_core.specs.Stages.{Around, Scene, committed, first_by, first_or_turn, image_of, installed, made, matched_by, names, peeked_next, peeked_own, removed, run_content, row, told, took, verified}
-use Rattle.fc_core.proofs.ByStep.{Step, by_step, event_by, move_by, names_job, stage_by}
+use Rattle.fc_core.specs.Stages.{first_by, first_or_turn, image_of, made, matched_by, removed, run_content, told, took, matched}
+use Rattle.fc_core.specs.Rows.{Around, Scene, names, row, install_call, install_if}
+use Rattle.fc_core.specs.Steps.{next_stage}
+use Rattle.fc_core.proofs.ByStep.{Step, by_step, event_by, move_by, names_job, stage_by, committed, IsAsked}
 use Rattle.fc_core.proofs.ByStep as steps
 use Rattle.fc_core.proofs.Telling.{after_turn}
 use Rattle.fc_core.proofs.Others.{is_here, named_stage}
@@ -93,7 +95,7 @@ module _ (k : ℕ) (job : Job) (slot : Slot) (ws : Around) (taken : ℕ) where
   ran_why : (now n : ℕ) (t : Ticket) (observed : Bool) (c : Content) → (wants t ≡ true → (slot.serial ≡ t.serial) × (slot.serial < last_serial)) → Answered (Commit k now) (ToCommit n t) (ToAnswer (run_content t observed)) c
   ran_why now n t observed c writes e = so (Commit k now) (ToCommit n t) (run_content t observed) c (record { now = now; count = n; ticket = t; event = refl; is = refl; code = refl; cut = refl; serial = refl; writes = writes }) e
 
-  committed_why : (now n : ℕ) (t : Ticket) (o : CommitOutcome) (c : Content) → taken ≡ n → n ≤ 8 → outcome t slot ≡ o → Answered (Commit k now) (ToCommit n t) (committed o n t now ws).stage c
+  committed_why : (now n : ℕ) (t : Ticket) (o : CommitOutcome) (c : Content) → taken ≡ n → n ≤ 8 → outcome t slot ≡ o → Answered (Commit k now) (ToCommit n t) (committed o n t now slot.serial ws).stage c
   committed_why now n t Writes c is le comes e =
       let tests = outcome_writes (wants t) (slot.serial == t.serial) (nat_lt slot.serial last_serial) comes in
       ran_why now n t false c (λ w. (eqb-true slot.serial t.serial tests.0, ltb-true slot.serial last_serial tests.1)) e
@@ -109,12 +111,12 @@ module _ (k : ℕ) (job : Job) (slot : Slot) (ws : Around) (taken : ℕ) where
   put_why p true c is lt e = so (Install k true) ToInstall (Made (record (receipt_of p 0) { version = slot.serial + 1 }) (is_none slot.present)) c (record { program = p; event = refl; is = refl; accepted = is; below = ltb-true slot.serial last_serial lt; version = refl; cost = refl; budget = refl; vars = refl; empty = refl }) e
   put_why p false c is lt e = so (Install k true) ToInstall Unavailable c (LastInstall p refl refl is (ltb-false slot.serial last_serial lt)) e
 
-  installed_why : (j : Judgement) (c : Content) → judged (image_of job.ask) ≡ j → Answered (Install k true) ToInstall (installed j slot).stage c
+  installed_why : (j : Judgement) (c : Content) → judged (image_of job.ask) ≡ j → Answered (Install k true) ToInstall (next_stage (install_call j slot)) c
   installed_why (Accepts p) c is e = put_why p (nat_lt slot.serial last_serial) c is refl e
   installed_why (Breaks rule n) c is e = so (Install k true) ToInstall (Rejected rule n) c (record { event = refl; is = refl; judged_as = is }) e
   installed_why Untypable c is e = so (Install k true) ToInstall Untyped c (record { event = refl; is = refl; judged_as = is }) e
 
-  verified_why : (memory : Bool) (c : Content) → Answered (Install k memory) ToInstall (verified memory (at job slot ws ToInstall)).stage c
+  verified_why : (memory : Bool) (c : Content) → Answered (Install k memory) ToInstall (next_stage (install_if memory (judged (image_of job.ask)) slot)) c
   verified_why true c e = installed_why (judged (image_of job.ask)) c refl e
   verified_why false c e = so (Install k false) ToInstall Unavailable c (NoMemory refl refl) e
 
@@ -147,12 +149,11 @@ module _ (k : ℕ) (job : Job) (slot : Slot) (ws : Around) (taken : ℕ) where
       so (Peek k job.origin.slot) ToMatch (Valid (serial_in word)) c (record { event = refl; is = refl; word = sym is ∙ omega (arith, odd); asked = among job.etags.items (serial_in word) tests.1 }) f
   matched_why word false c is e f = absurd (cc f)
 
-  own_why : (n : ℕ) (b : Bool) (c : Content) → (n == job.origin.slot) ≡ b → Answered (Peek k n) ToMatch (peeked_own b (word_at ws.common.words n) job.etags.items) c
-  own_why n true c is e =
+  own_why : (n : ℕ) (c : Content) → (n == job.origin.slot) ≡ true → Answered (Peek k n) ToMatch (matched (word_at ws.common.words n) job.etags.items) c
+  own_why n c is =
       let same = eqb-true n job.origin.slot is in
-      subst (λ (i : ℕ). Answered (Peek k i) ToMatch (peeked_own true (word_at ws.common.words i) job.etags.items) c) (sym same)
-      (matched_why (word_at ws.common.words job.origin.slot) (is_match (word_at ws.common.words job.origin.slot) job.etags.items) c refl refl) e
-  own_why n false c is e = absurd (cc e)
+      subst (λ (i : ℕ). Answered (Peek k i) ToMatch (matched (word_at ws.common.words i) job.etags.items) c) (sym same)
+      (matched_why (word_at ws.common.words job.origin.slot) (is_match (word_at ws.common.words job.origin.slot) job.etags.items) c refl refl)
 
   listed_why : (seen : ArrayVec ℕ) (n : ℕ) (b : Bool) (c : Content) → n ≡ length seen.items → length seen.items < 64 → nat_lt (length (seen.items ++ word_at ws.common.words n ∷ [])) 64 ≡ b → Answered (Peek k n) (ToList seen) (if b then ToList (record { items = seen.items ++ word_at ws.common.words n ∷ [] }) else ToAnswer (Listed (seen.items ++ word_at ws.common.words n ∷ []))) c
   listed_why seen n true c is below lt e = absurd (cc e)
@@ -164,10 +165,6 @@ module _ (k : ℕ) (job : Job) (slot : Slot) (ws : Around) (taken : ℕ) where
       so (Peek k n) (ToList seen) (Listed (seen.items ++ word_at ws.common.words n ∷ [])) c
       (record { seen = seen; event = ap (Peek k) last; is = refl; list_is = ap (λ (i : ℕ). seen.items ++ word_at ws.common.words i ∷ []) last; count = count }) e
 
-  next_why : (seen : ArrayVec ℕ) (n : ℕ) (b : Bool) (c : Content) → (n == length seen.items) ≡ b → length seen.items < 64 → Answered (Peek k n) (ToList seen) (peeked_next b (word_at ws.common.words n) seen) c
-  next_why seen n true c is below e = listed_why seen n (nat_lt (length (seen.items ++ word_at ws.common.words n ∷ [])) 64) c (eqb-true n (length seen.items) is) below refl e
-  next_why seen n false c is below e = absurd (cc e)
-
 -- how many tickets a job took that is to commit; a job that lists head words has yet one to read
 abbrev IsCount : Stage → ℕ → Type 0
 IsCount (ToCommit n t) taken = (taken ≡ n) × (n ≤ 8)
@@ -177,24 +174,24 @@ IsCount other taken = Unit {0}
 none_is_answered : {c : Content} → None ≡ Some c → ⊥
 none_is_answered e = cc e
 
-step_why : (x : Step) (k : ℕ) (job : Job) (slot : Slot) (ws : Around) (taken : ℕ) (c : Content) → IsCount (stage_by x) taken → answer_at (move_by x job slot ws).stage ≡ Some c → (answer_at (stage_by x) ≡ Some c) ⊎ IsCause (event_by k x) k job slot ws.common.words (stage_by x) taken c
-step_why (steps.Matches n) k job slot ws taken c f e = inr (own_why k job slot ws taken n (n == job.origin.slot) c refl e)
-step_why (steps.Lists n seen) k job slot ws taken c f e = inr (next_why k job slot ws taken seen n (n == length seen.items) c refl f e)
-step_why steps.Removes k job slot ws taken c f e = inr (clear_why k job slot ws taken (nat_lt slot.serial last_serial) slot.present c refl refl e)
-step_why steps.Describes k job slot ws taken c f e = inr (told_why k job slot ws taken slot.present c refl e)
-step_why (steps.Takes memory readings n) k job slot ws taken c f e = inr (taking_why k job slot ws taken memory readings n slot.present c refl e)
-step_why (steps.TakesTurn memory readings turn) k job slot ws taken c f e = absurd (after_turn (λ st. answer_at st ≡ Some c → ⊥) (λ turn needs e. cc e) (λ e. cc e) (readings_if memory readings) turn (at job slot ws (ToTell turn turns.ToTake)) e)
-step_why (steps.Commits now n t) k job slot ws taken c f e = inr (committed_why k job slot ws taken now n t (outcome t slot) c f.0 f.1 refl e)
-step_why (steps.Installs memory) k job slot ws taken c f e = inr (verified_why k job slot ws taken memory c e)
-step_why (steps.Raises word content) k job slot ws taken c f e = inl e
-step_why other k job slot ws taken c f e = absurd (none_is_answered e)
+step_why : (x : Step) (k : ℕ) (job : Job) (slot : Slot) (ws : Around) (taken : ℕ) (c : Content) → IsAsked x job → IsCount (stage_by x) taken → answer_at (move_by x job slot ws).stage ≡ Some c → (answer_at (stage_by x) ≡ Some c) ⊎ IsCause (event_by k x) k job slot ws.common.words (stage_by x) taken c
+step_why (steps.Matches n) k job slot ws taken c asked f e = inr (own_why k job slot ws taken n c asked e)
+step_why (steps.Lists n seen) k job slot ws taken c asked f e = inr (listed_why k job slot ws taken seen n (nat_lt (length (seen.items ++ word_at ws.common.words n ∷ [])) 64) c (eqb-true n (length seen.items) asked) f refl e)
+step_why steps.Removes k job slot ws taken c asked f e = inr (clear_why k job slot ws taken (nat_lt slot.serial last_serial) slot.present c refl refl e)
+step_why steps.Describes k job slot ws taken c asked f e = inr (told_why k job slot ws taken slot.present c refl e)
+step_why (steps.Takes memory readings n) k job slot ws taken c asked f e = inr (taking_why k job slot ws taken memory readings n slot.present c refl e)
+step_why (steps.TakesTurn memory readings turn) k job slot ws taken c asked f e = absurd (after_turn (λ st. answer_at st ≡ Some c → ⊥) (λ turn needs e. cc e) (λ e. cc e) (readings_if memory readings) turn (at job slot ws (ToTell turn turns.ToTake)) e)
+step_why (steps.Commits now n t) k job slot ws taken c asked f e = inr (committed_why k job slot ws taken now n t (outcome t slot) c f.0 f.1 refl e)
+step_why (steps.Installs memory) k job slot ws taken c asked f e = inr (verified_why k job slot ws taken memory c e)
+step_why (steps.Raises word content) k job slot ws taken c asked f e = inl e
+step_why other k job slot ws taken c asked f e = absurd (none_is_answered e)
 
 row_why : (e : Event) (k : ℕ) (job : Job) (slot : Slot) (ws : Around) (s : Stage) (taken : ℕ) (c : Content) → names e ≡ Some k → IsCount s taken → answer_at (row e (at job slot ws s)).stage ≡ Some c → (answer_at s ≡ Some c) ⊎ IsCause e k job slot ws.common.words s taken c
 row_why e k job slot ws s taken c =
     by_step (λ d st m. names d ≡ Some k → IsCount st taken → answer_at m.stage ≡ Some c → (answer_at st ≡ Some c) ⊎ IsCause d k job slot ws.common.words st taken c) job slot ws
-    (λ j x named f e.
+    (λ j x asked named f e.
     let same : j ≡ k = cc (sym (names_job j x) ∙ named) in
-    subst (λ (i : ℕ). (answer_at (stage_by x) ≡ Some c) ⊎ IsCause (event_by i x) k job slot ws.common.words (stage_by x) taken c) (sym same) (step_why x k job slot ws taken c f e))
+    subst (λ (i : ℕ). (answer_at (stage_by x) ≡ Some c) ⊎ IsCause (event_by i x) k job slot ws.common.words (stage_by x) taken c) (sym same) (step_why x k job slot ws taken c asked f e))
     (λ d st rest named f e. inl e) e s
 
 count_is : (s : Stage) (h : History) (k : ℕ) → Took (takings_of h k) s → HasNext s → IsCount s (length (takings_of h k))

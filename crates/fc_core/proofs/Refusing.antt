@@ -1,5 +1,5 @@
 -- What is refused or rejected is answered at once, and brings no job.
-use Rattle.std.proofs.Common.{◌≡◌, ℕ, ◌≤◌, List, ◌++◌, map, Bool, false, Option, Some, None, Ok, Err, refl, sym, ap, ◌∙◌, ◌⊎◌, inl, inr, max}
+use Rattle.std.proofs.Common.{◌≡◌, ℕ, ◌≤◌, List, ◌++◌, map, Bool, false, Option, Some, Ok, Err, refl, sym, ap, ◌∙◌, ◌⊎◌, inl, inr}
 use Rattle.std.specs.Prelude.{nat_lt, if◌then◌else◌}
 use Rattle.std.proofs.lemmas.Bool.{and_right, le-ltb}
 use Rattle.std.proofs.lemmas.List.{append-nil}
@@ -9,7 +9,7 @@ use Rattle.coap_msg.specs.declared.types.Endpoint.{Endpoint}
 use Rattle.coap_msg.specs.declared.types.MessageType.{MessageType}
 use Rattle.coap_msg.specs.declared.types.MessageType.TheVariants.{Confirmable}
 use Rattle.coap_msg.specs.Wire.{Message}
-use Rattle.coap_opts.specs.Verdict.{Verdict, IsRefused, IsReset, is_request, request_verdict, verdict, verdict_by}
+use Rattle.coap_opts.specs.Verdict.{Verdict, IsReset, is_request, request_verdict, verdict, verdict_by}
 use Rattle.coap_reply.specs.Responses.{reset_of, sent_in}
 use Rattle.fc_core.specs.declared.event.Event.{Event}
 use Rattle.fc_core.specs.declared.event.Event.TheVariants.{Deliver}
@@ -18,7 +18,8 @@ use Rattle.fc_core.specs.History.{Entry, Seen, and_then, exchanges_after, exchan
 use Rattle.fc_core.specs.Legal.{Emits}
 use Rattle.fc_core.specs.Receiving.{Received, Refused, Rejected, brought, next_opening, received_as, sent}
 use Rattle.fc_core.specs.ReplyLaws.{FormatError, IsRefusedAnew, IsRejected, NoRequest, Refuses, Rejects, reset_to}
-use Rattle.fc_core.specs.Stages.{names, new_task}
+use Rattle.fc_core.specs.Stages.{new_task}
+use Rattle.fc_core.specs.Rows.{names}
 use Rattle.fc_core.proofs.Repeats.{new_as, opening_is, received_of}
 
 -- ---- a refusal

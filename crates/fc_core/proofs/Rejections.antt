@@ -9,18 +9,18 @@ use Rattle.fc_isa.specs.Rules.{number_of}
 use Rattle.fc_verify.specs.Accepted.{Judgement, Accepts, Breaks, Untypable}
 use Rattle.fc_verify.specs.Refusals.{IsFaultOf}
 use Rattle.fc_registry.specs.Slots.{Slot, Shard, slot_in, with_slot, new_slot}
-use Rattle.fc_core.specs.declared.stage.Stage.TheVariants.{ToAnswer}
 use Rattle.fc_core.specs.Contents.{Rejected}
 use Rattle.fc_core.specs.Ends.{refused_by}
-use Rattle.fc_core.specs.Stages.{installed, moves}
+use Rattle.fc_core.specs.Rows.{install_call}
+use Rattle.fc_core.specs.Steps.{Rejects}
 
--- the move of a refusal is the one that the judgement says
-pub rejected_move : (image : List ℕ) (j : Judgement) (f : Fault) (slot : Slot) → IsFaultOf image j f → moves (ToAnswer (refused_by (nat_lt (number_of f.rule) 20) f)) ≡ installed j slot
-rejected_move image (Accepts p) f slot is = absurd is
-rejected_move image (Breaks rule k) f slot is =
+-- the call of a refusal is the one that the judgement says
+pub rejected_call : (image : List ℕ) (j : Judgement) (f : Fault) (slot : Slot) → IsFaultOf image j f → Rejects (refused_by (nat_lt (number_of f.rule) 20) f) ≡ install_call j slot
+rejected_call image (Accepts p) f slot is = absurd is
+rejected_call image (Breaks rule k) f slot is =
     let low : number_of f.rule < 20 = subst (λ (r : Rule). number_of r < 20) (sym is.0) is.2 in
-    ap (λ (b : Bool). moves (ToAnswer (refused_by b f))) (lt-ltb (number_of f.rule) 20 low) ∙ λ i. moves (ToAnswer (Rejected (is.0 i) (is.1 i)))
-rejected_move image Untypable f slot is = ap (λ (b : Bool). moves (ToAnswer (refused_by b f))) (le-ltb (number_of f.rule) 20 is.0)
+    ap (λ (b : Bool). Rejects (refused_by b f)) (lt-ltb (number_of f.rule) 20 low) ∙ λ i. Rejects (Rejected (is.0 i) (is.1 i))
+rejected_call image Untypable f slot is = ap (λ (b : Bool). Rejects (refused_by b f)) (le-ltb (number_of f.rule) 20 is.0)
 
 -- a slot written as it was
 pub same_slot : (shard : Shard) (n : ℕ) → with_slot shard n (slot_in shard n) ≡ shard

@@ -26,7 +26,8 @@ use Rattle.fc_core.specs.Legal.{Emits}
 use Rattle.coap_block.specs.Transfers.{Addition}
 use Rattle.coap_block.specs.Uploads.{Add, Continues, IsWhole, IsIncomplete, IsBadLength, IsTooLarge, IsFull}
 use Rattle.fc_core.specs.Receiving.{Received, add_in, added_by, is_confirmable, received_added, request_received, Repeated, Again, Silenced, Refused, brought, drawn_by, kept_of, look_in, looked, next_opening, opened_by, received, received_as, received_read, sent}
-use Rattle.fc_core.specs.Stages.{content_at, names, new_task}
+use Rattle.fc_core.specs.Stages.{content_at, new_task}
+use Rattle.fc_core.specs.Rows.{names}
 
 -- ---- what a request is to the exchanges
 

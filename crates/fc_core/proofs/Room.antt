@@ -14,7 +14,8 @@ use Rattle.fc_core.specs.ExchangeLaws.{FindsNoExchange, IsCrowdedOut, bare_by, i
 use Rattle.fc_core.specs.History.{Entry, Seen, added_in, and_then, exchanges_after, exchanges_received, front_at, received_at, tasks_brought, tasks_moved}
 use Rattle.fc_core.specs.Legal.{Emits}
 use Rattle.fc_core.specs.Receiving.{Received, Full, added_by, brought, looked, next_opening, sent}
-use Rattle.fc_core.specs.Stages.{names, new_task}
+use Rattle.fc_core.specs.Stages.{new_task}
+use Rattle.fc_core.specs.Rows.{names}
 use Rattle.fc_core.proofs.Repeats.{new_as, request_is, room_at}
 
 no_room : (s : Seen) (at : ℕ) → (1024 ≤ length (filter (is_within at) s.exchanges)) ⊎ (18446744073709551615 ≤ length s.exchanges) → room_at s at ≡ false

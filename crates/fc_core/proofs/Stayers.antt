@@ -24,7 +24,7 @@ use Rattle.fc_core.specs.declared.event.Event.TheVariants.{Commit, Due, Note, Sh
 use Rattle.fc_core.specs.History.{Entry, Seen, and_then, around, calls_by, calls_in, calls_named, due_in, is_place_of, job, late_in, scene, slot_at, stage, watch}
 use Rattle.fc_core.specs.Laws.{slot_of}
 use Rattle.fc_core.specs.ObserveLaws.{is_held}
-use Rattle.fc_core.specs.Stages.{names, row}
+use Rattle.fc_core.specs.Rows.{names, row}
 use Rattle.fc_core.specs.TurnLaws.{ByAnswer, ByCancellation, ByReset, ByTimeout, IsNoContent, Removes, moment_at}
 use Rattle.fc_core.proofs.Calling.{CallsBy, NoCall, OfCommit, OfGiveUp, OfNote, OfTaking, row_calls}
 use Rattle.fc_core.proofs.Notices.{found_holds}

@@ -12,7 +12,8 @@ use Rattle.fc_core.specs.declared.stage.Stage.TheVariants.{Gone}
 use Rattle.fc_core.specs.declared.stage.Task.{Task}
 use Rattle.fc_core.specs.History.{AsksTurn, around, due_in, Entry, Seen, and_then, front_at, no_task, received_at, scene, slot_at, task_at, tasks_brought, tasks_moved, turn_at, turns_by}
 use Rattle.fc_core.specs.Receiving.{brought, next_opening}
-use Rattle.fc_core.specs.Stages.{Around, task_moved, names, new_task, row, scene_at}
+use Rattle.fc_core.specs.Stages.{new_task}
+use Rattle.fc_core.specs.Rows.{Around, task_moved, names, row, scene_at}
 
 -- the task of a number after an event: the event moves it, it is as before, or it is new
 pub data Becomes (o : Option ℕ) (e : Event) (s : Seen) (k : ℕ) (t : Task) : Type 0 where

@@ -8,45 +8,40 @@ use Rattle.fc_registry.specs.Slots.{Slot}
 use Rattle.fc_core.specs.declared.event.Event.{Event}
 use Rattle.fc_core.specs.declared.event.Event.TheVariants.{Deliver, Peek, Take, Commit, Install, Remove, Receipt, Raise, Answer, Signal, Tick, ShardTick, Lose, Fresh, Note, GiveUp, Due}
 use Rattle.fc_core.specs.declared.stage.Stage.{Stage}
-use Rattle.fc_core.specs.declared.stage.Stage.TheVariants.{ToMatch, ToList, ToAnswer, Gone, ToTell}
+use Rattle.fc_core.specs.declared.stage.Stage.TheVariants.{ToAnswer, Gone, ToTell}
 use Rattle.fc_core.specs.declared.stage.TurnStage.TheVariants as turns
 use Rattle.fc_core.specs.Contents.{Content}
-use Rattle.fc_core.specs.Stages.{Around, Move, Scene, content_at, handed, task_moved, moves, names, needs_id, notification, peeked_next, peeked_own, row, words_after}
-use Rattle.fc_core.specs.Heads.{word_at}
-use Rattle.arrayvec.specs.ArrayVec.{ArrayVec}
+use Rattle.fc_core.specs.Stages.{content_at, needs_id}
+use Rattle.fc_core.specs.Rows.{Around, Move, Scene, handed, task_moved, moves, names, notification, row, words_after}
 use Rattle.fc_core.specs.History.{Entry, Seen, added_in, and_then, calls_in, calls_named, changes_after, did, exchanges_after, ids_after, job, moment_after, no_task, scene, shard_hands, shard_moment_after, stage, task_at, tasks_brought, tasks_moved, words_seen}
 use Rattle.coap_block.specs.Transfers.{Addition}
 use Rattle.fc_core.specs.Laws.{is_stray, is_stray_at}
 use Rattle.fc_core.specs.Legal.{Emits, AnswerEmits}
 use Rattle.fc_core.specs.Exchanges.{FrontState}
-use Rattle.fc_core.proofs.ByStep.{Step, by_step, event_by, move_by, stage_by}
+use Rattle.fc_core.proofs.ByStep.{Step, by_step, event_by, move_by, stage_by, IsAsked}
 use Rattle.fc_core.proofs.ByStep as steps
 
 abbrev at : Job → Slot → Around → Stage → Scene
 at job slot ws stage = record { job = job; slot = slot; around = ws; stage = stage }
 
--- a look at another slot's head word than the one that is needed
-peek_still : (n : ℕ) (x : Scene) (b : Bool) → not b ≡ true → moves (peeked_own b (word_at x.around.common.words n) x.job.etags.items) ≡ moves ToMatch
-peek_still n x true e = absurd (cc)
-peek_still n x false e = refl
-
-next_still : (n : ℕ) (x : Scene) (seen : ArrayVec ℕ) (b : Bool) → not b ≡ true → moves (peeked_next b (word_at x.around.common.words n) seen) ≡ moves (ToList seen)
-next_still n x seen true e = absurd (cc)
-next_still n x seen false e = refl
-
 false_isnt : false ≡ true → ⊥
 false_isnt e = cc e
 
-step_still : (k : ℕ) (c : Step) (job : Job) (slot : Slot) (ws : Around) → is_stray_at (event_by k c) job.origin.slot (stage_by c) ≡ true → move_by c job slot ws ≡ moves (stage_by c)
-step_still k (steps.Matches n) job slot ws e = peek_still n (at job slot ws ToMatch) (n == job.origin.slot) e
-step_still k (steps.Lists n seen) job slot ws e = next_still n (at job slot ws (ToList seen)) seen (n == length seen.items) e
-step_still k (steps.Loses Gone) job slot ws e = refl
-step_still k other job slot ws e = absurd (false_isnt e)
+-- a look at the head word that is needed is none
+asked_isnt : (b : Bool) → b ≡ true → not b ≡ true → ⊥
+asked_isnt true is e = false_isnt e
+asked_isnt false is e = false_isnt is
+
+step_still : (k : ℕ) (c : Step) (job : Job) (slot : Slot) (ws : Around) → IsAsked c job → is_stray_at (event_by k c) job.origin.slot (stage_by c) ≡ true → move_by c job slot ws ≡ moves (stage_by c)
+step_still k (steps.Matches n) job slot ws asked e = absurd (asked_isnt (n == job.origin.slot) asked e)
+step_still k (steps.Lists n seen) job slot ws asked e = absurd (asked_isnt (n == length seen.items) asked e)
+step_still k (steps.Loses Gone) job slot ws asked e = refl
+step_still k other job slot ws asked e = absurd (false_isnt e)
 
 row_still : (e : Event) (job : Job) (slot : Slot) (ws : Around) (s : Stage) → is_stray_at e job.origin.slot s ≡ true → row e (at job slot ws s) ≡ moves s
 row_still e job slot ws s =
     by_step (λ d st m. is_stray_at d job.origin.slot st ≡ true → m ≡ moves st) job slot ws
-    (λ k c. step_still k c job slot ws) (λ d st rest e. refl) e s
+    (λ k c asked. step_still k c job slot ws asked) (λ d st rest e. refl) e s
 
 none_drawn : (k now own : ℕ) (s : Stage) → is_stray_at (Fresh k now) own s ≡ true → needs_id s ≡ false
 none_drawn k now own (ToTell turn (turns.ToDraw found)) e = absurd (cc)

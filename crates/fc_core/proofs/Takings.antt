@@ -24,13 +24,14 @@ use Rattle.fc_core.specs.declared.stage.Stage.TheVariants.{ToMatch, ToTake, ToCo
 use Rattle.fc_core.specs.declared.stage.TurnStage.{TurnStage}
 use Rattle.fc_core.specs.declared.stage.TurnStage.TheVariants as turns
 use Rattle.coap_reply.specs.Blocks.{cut_for}
-use Rattle.arrayvec.specs.ArrayVec.{ArrayVec}
 use Rattle.fc_core.specs.Contents.{Content, Listed, Ran, RunAnswer, run_answer, Unavailable}
 use Rattle.fc_core.specs.Heads.{is_match, word_at}
 use Rattle.fc_core.specs.History.{around, Entry, History, Then, Seen, seen, and_then, did, job, scene, slot_at, stage}
 use Rattle.fc_core.specs.Laws.{IsNewest, IsOfNewest, IsOvertaken, Taking, TakesAgain, answer_at, finds_if, gives, slot_of, takings_of}
-use Rattle.fc_core.specs.Stages.{Around, Scene, committed, first_by, image_of, installed, made, matched_by, peeked_next, peeked_own, removed, retaken, row, told, took, turn_took, verified, with_id}
-use Rattle.fc_core.proofs.ByStep.{Step, by_step, event_by, move_by, stage_by}
+use Rattle.fc_core.specs.Stages.{first_by, image_of, made, matched_by, removed, retaken, told, took, turn_took, with_id}
+use Rattle.fc_core.specs.Rows.{Around, Scene, row, install_call, install_if}
+use Rattle.fc_core.specs.Steps.{next_stage}
+use Rattle.fc_core.proofs.ByStep.{Step, by_step, event_by, move_by, stage_by, committed}
 use Rattle.fc_core.proofs.ByStep as steps
 use Rattle.fc_core.proofs.Along.{IsTold, along}
 use Rattle.fc_core.proofs.Others.{is_here, named_stage}
@@ -110,22 +111,22 @@ newest_says : (ts : List Taking) (t : Ticket) (observed : Bool) → IsNewest ts 
 newest_says [] t observed e = e
 newest_says (x ∷ xs) t observed e = (ap (λ (y : Ticket). (meaning_at y).code) (sym e), ap (λ (y : Ticket). cut_for y.block (meaning_at y).reply) (sym e), ap (λ (y : Ticket). y.serial) (sym e))
 
-committed_took : (n : ℕ) (ts : List Taking) (t : Ticket) (now : ℕ) (ws : Around) (o : CommitOutcome) → length ts ≡ n → n ≤ 8 → IsNewest ts t → Took ts (committed o n t now ws).stage
-committed_took n ts t now ws Writes is le e = (omega arith, newest_says ts t false e)
-committed_took n ts t now ws Keeps is le e = (omega arith, newest_says ts t (is_observed t ws.watch) e)
-committed_took n ts t now ws Overtakes is le e = retaken_took n ts (nat_lt n 8) refl is le
-committed_took n ts t now ws Ends is le e = (omega arith, tt)
+committed_took : (n : ℕ) (ts : List Taking) (t : Ticket) (now : ℕ) (serial : ℕ) (ws : Around) (o : CommitOutcome) → length ts ≡ n → n ≤ 8 → IsNewest ts t → Took ts (committed o n t now serial ws).stage
+committed_took n ts t now serial ws Writes is le e = (omega arith, newest_says ts t false e)
+committed_took n ts t now serial ws Keeps is le e = (omega arith, newest_says ts t (is_observed t ws.watch) e)
+committed_took n ts t now serial ws Overtakes is le e = retaken_took n ts (nat_lt n 8) refl is le
+committed_took n ts t now serial ws Ends is le e = (omega arith, tt)
 
 made_took : (b : Bool) (p : Program) (slot : Slot) (ts : List Taking) → length ts ≤ 8 → Took ts (made (receipt_of p 0) (put_by b slot p).answer)
 made_took true p slot ts le = (le, tt)
 made_took false p slot ts le = (le, tt)
 
-installed_took : (j : Judgement) (slot : Slot) (ts : List Taking) → length ts ≤ 8 → Took ts (installed j slot).stage
+installed_took : (j : Judgement) (slot : Slot) (ts : List Taking) → length ts ≤ 8 → Took ts (next_stage (install_call j slot))
 installed_took (Accepts p) slot ts le = made_took (nat_lt slot.serial last_serial) p slot ts le
 installed_took (Breaks rule k) slot ts le = (le, tt)
 installed_took Untypable slot ts le = (le, tt)
 
-verified_took : (memory : Bool) (s : Scene) (ts : List Taking) → length ts ≤ 8 → Took ts (verified memory s).stage
+verified_took : (memory : Bool) (s : Scene) (ts : List Taking) → length ts ≤ 8 → Took ts (next_stage (install_if memory (judged (image_of s.job.ask)) s.slot))
 verified_took true s ts le = installed_took (judged (image_of s.job.ask)) s.slot ts le
 verified_took false s ts le = (le, tt)
 
@@ -142,27 +143,19 @@ matched_took : (b : Bool) (word : ℕ) (ts : List Taking) → length ts ≡ 0 �
 matched_took true word ts is = (omega (arith, is), tt)
 matched_took false word ts is = (is, omega arith)
 
-own_took : (b : Bool) (word : ℕ) (serials : List ℕ) (ts : List Taking) → length ts ≡ 0 → Took ts (peeked_own b word serials)
-own_took true word serials ts is = matched_took (is_match word serials) word ts is
-own_took false word serials ts is = is
-
 listed_took : (b : Bool) (words : List ℕ) (ts : List Taking) → length ts ≤ 8 → Took ts (if b then ToList (record { items = words }) else ToAnswer (Listed words))
 listed_took true words ts le = le
 listed_took false words ts le = (le, tt)
 
-next_took : (b : Bool) (word : ℕ) (seen : ArrayVec ℕ) (ts : List Taking) → length ts ≤ 8 → Took ts (peeked_next b word seen)
-next_took true word seen ts le = listed_took (nat_lt (length (seen.items ++ word ∷ [])) 64) (seen.items ++ word ∷ []) ts le
-next_took false word seen ts le = le
-
 step_took : (k : ℕ) (c : Step) (job : Job) (slot : Slot) (cs : List Change) (ws : Around) (ts : List Taking) → Took ts (stage_by c) → Took (gives (event_by k c) (at job slot ws (stage_by c)) cs ++ ts) (move_by c job slot ws).stage
-step_took k (steps.Matches n) job slot cs ws ts f = own_took (n == job.origin.slot) (word_at ws.common.words n) job.etags.items ts f
-step_took k (steps.Lists n seen) job slot cs ws ts f = next_took (n == length seen.items) (word_at ws.common.words n) seen ts f
+step_took k (steps.Matches n) job slot cs ws ts f = matched_took (is_match (word_at ws.common.words n) job.etags.items) (word_at ws.common.words n) ts f
+step_took k (steps.Lists n seen) job slot cs ws ts f = listed_took (nat_lt (length (seen.items ++ word_at ws.common.words n ∷ [])) 64) (seen.items ++ word_at ws.common.words n ∷ []) ts f
 step_took k steps.Removes job slot cs ws ts f = clear_took (nat_lt slot.serial last_serial) slot.serial slot.present ts f
 step_took k steps.Describes job slot cs ws ts f = told_took (receipt_at slot.present) ts f
 step_took k (steps.Takes memory readings n) job slot cs ws ts f = taking_took memory readings k job slot cs ws n ts slot.present refl f.0 f.1
 step_took k (steps.TakesTurn true readings turn) job slot cs ws ts f = turn_taking_took (is_out_at turn ws.moment ws.watch) readings turn job slot.serial cs ts slot.present f
 step_took k (steps.TakesTurn false readings turn) job slot cs ws ts f = refused_took (is_out_at turn ws.moment ws.watch) turn job slot.serial ts slot.present f
-step_took k (steps.Commits now n t) job slot cs ws ts f = committed_took n ts t now ws (outcome t slot) f.0 f.1 f.2
+step_took k (steps.Commits now n t) job slot cs ws ts f = committed_took n ts t now slot.serial ws (outcome t slot) f.0 f.1 f.2
 step_took k (steps.Installs memory) job slot cs ws ts f = verified_took memory (at job slot ws ToInstall) ts f
 step_took k (steps.Raises word content) job slot cs ws ts f = f
 step_took k (steps.Draws now turn found) job slot cs ws ts f = drawn_took ts found (ws.common.free now) f
@@ -170,8 +163,8 @@ step_took k other job slot cs ws ts f = at_most_eight (stage_by other) ts f
 
 row_took : (e : Event) (job : Job) (slot : Slot) (cs : List Change) (ws : Around) (s : Stage) (ts : List Taking) → Took ts s → Took (gives e (at job slot ws s) cs ++ ts) (row e (at job slot ws s)).stage
 row_took e job slot cs ws s ts =
-    by_step (λ d st m. Took ts st → Took (gives d (at job slot ws st) cs ++ ts) m.stage) job slot ws (λ k c. step_took k c job slot cs ws ts)
-    (λ d st rest f. subst (λ (l : List Taking). Took (l ++ ts) st) (sym (rest.given job slot ws cs)) f) e s
+    by_step (λ d st m. Took ts st → Took (gives d (at job slot ws st) cs ++ ts) m.stage) job slot ws (λ k c asked. step_took k c job slot cs ws ts)
+    (λ d st rest f. subst (λ (l : List Taking). Took (l ++ ts) st) (sym (rest.given slot ws cs)) f) e s
 
 -- nothing is given to a job that is gone
 gone_given : (e : Event) (job : Job) (slot : Slot) (ws : Around) (cs : List Change) → gives e (at job slot ws Gone) cs ≡ []
@@ -238,7 +231,7 @@ overtaken_stage : (s : Seen) (k now : ℕ) (o : Option Emission) (w : IsOvertake
 overtaken_stage s k now o w =
     named_stage (committing k now o) s k (is_here s k (ToCommit w.count w.ticket) w.at (λ gone. absurd (cc gone))) refl
     ∙ (ap (λ (x : Stage). (row (Commit k now) (at (job s k) (slot_at s (slot_of s k)) (around s (slot_of s k)) x)).stage) w.at
-    ∙ ap (λ (x : CommitOutcome). (committed x w.count w.ticket now (around s (slot_of s k))).stage) (overtaken_outcome w.ticket (slot_at s (slot_of s k)) w.wants w.other))
+    ∙ ap (λ (x : CommitOutcome). (committed x w.count w.ticket now (slot_at s (slot_of s k)).serial (around s (slot_of s k))).stage) (overtaken_outcome w.ticket (slot_at s (slot_of s k)) w.wants w.other))
 
 taken_so_far : (h : History) (k : ℕ) (w : IsOvertaken (seen h) k) → length (takings_of h k) ≡ w.count
 taken_so_far h k w = (subst (Took (takings_of h k)) w.at (known h k)).0

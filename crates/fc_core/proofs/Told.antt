@@ -31,7 +31,8 @@ use Rattle.fc_core.specs.History.{Entry, History, Begins, Then, Seen, seen, and_
 use Rattle.fc_core.specs.Laws.{slot_of}
 use Rattle.fc_core.specs.Receiving.{Received, Opened, brought, job_of, next_opening}
 use Rattle.fc_core.specs.Sound.{IsSound}
-use Rattle.fc_core.specs.Stages.{Common, Around, Scene, first_stage, names, new_task, row, task_moved, turn_took, with_id}
+use Rattle.fc_core.specs.Stages.{first_stage, new_task, turn_took, with_id}
+use Rattle.fc_core.specs.Rows.{Common, Around, Scene, names, row, task_moved}
 use Rattle.fc_core.proofs.ByStep.{Step, by_move, move_by, stage_by}
 use Rattle.fc_core.proofs.ByStep as steps
 use Rattle.fc_core.proofs.Apart.{IsToldOf, is_told_of}
@@ -127,7 +128,7 @@ module _ (n : ℕ) (calls : List ObserverCall) (common : Common) (moment : ℕ) 
   row_knows : (e : Event) (job : Job) (slot : Slot) (turn : Turn) (s : Stage) → IsToldOf turn s → Knows n calls slot.serial s → Knows n ((row e (at job slot ws s)).calls ++ calls) slot.serial (row e (at job slot ws s)).stage
   row_knows e job slot turn s =
       by_move (λ st m. IsToldOf turn st → Knows n calls slot.serial st → Knows n (m.calls ++ calls) slot.serial m.stage) job slot ws
-      (λ c. step_knows c job slot turn) (λ st own w. w) e s
+      (λ c asked. step_knows c job slot turn) (λ st own w. w) e s
 
 -- ---- each event
 

@@ -29,7 +29,8 @@ use Rattle.fc_core.specs.History.{History, Begins, Then, Seen, seen, due_in, fro
 use Rattle.fc_core.specs.Laws.{slot_of}
 use Rattle.fc_core.specs.ObserveLaws.{IsFirst}
 use Rattle.fc_core.specs.Receiving.{Received, Opened, brought, next_opening}
-use Rattle.fc_core.specs.Stages.{Around, Scene, first_or_turn, names, new_task, row, task_moved, turn_took, with_id}
+use Rattle.fc_core.specs.Stages.{first_or_turn, new_task, turn_took, with_id}
+use Rattle.fc_core.specs.Rows.{Around, Scene, names, row, task_moved}
 use Rattle.fc_core.specs.TurnLaws.{response_of}
 use Rattle.fc_core.proofs.ByStep.{Step, by_move, move_by, stage_by}
 use Rattle.fc_core.proofs.ByStep as steps
@@ -113,7 +114,7 @@ step_block other j slot ws turn own w = absurd own
 row_block : (e : Event) (j : Job) (slot : Slot) (ws : Around) (turn : Turn) (s : Stage) → IsToldOf turn s → HasBlock j s → HasBlock j (row e (at j slot ws s)).stage
 row_block e j slot ws turn s =
     by_move (λ st m. IsToldOf turn st → HasBlock j st → HasBlock j m.stage) j slot ws
-    (λ c. step_block c j slot ws turn) (λ st own w. w) e s
+    (λ c asked. step_block c j slot ws turn) (λ st own w. w) e s
 
 abbrev TellsBlock : Job → Stage → Type 0
 TellsBlock j st = (n : ℕ) → j.turn ≡ Some n → IsToldOf (turn_of j n) st × HasBlock j st

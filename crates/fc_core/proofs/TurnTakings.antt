@@ -8,12 +8,14 @@ use Rattle.fc_registry.specs.declared.shard.Taken.{Taken}
 use Rattle.fc_registry.specs.Calls.{TakesAt, after_taking, is_out_at, taking_at, taking_by, taking_calls, taking_calls_by, turn_calls, turn_of, turn_taking, readings_if}
 use Rattle.fc_registry.specs.Slots.{Present, Shard, Slot, slot_in}
 use Rattle.fc_registry.specs.Watches.{watch_at, with_calls}
+use Rattle.fc_core.specs.declared.event.Event.TheVariants.{Take}
 use Rattle.fc_core.specs.declared.stage.Stage.{Stage}
 use Rattle.fc_core.specs.declared.stage.Stage.TheVariants.{ToTell}
 use Rattle.fc_core.specs.declared.stage.Task.{Task}
 use Rattle.fc_core.specs.declared.stage.TurnStage.TheVariants as turns
 use Rattle.fc_core.specs.Fits.{FitsStage}
-use Rattle.fc_core.specs.Stages.{Common, at_take, had_memory, scene_of, shard_after, task_moved, turn_to_take, turn_took, without_memory}
+use Rattle.fc_core.specs.Stages.{had_memory, turn_to_take, turn_took, without_memory}
+use Rattle.fc_core.specs.Rows.{Common, Scene, around_of, row, scene_of, shard_after, task_moved}
 use Rattle.fc_core.proofs.Rejections.{same_slot}
 use Rattle.std.proofs.Common.{subst}
 
@@ -63,23 +65,26 @@ module _ (shard : Shard) (task : Task) (turn : Turn) (to_take : turn_to_take tas
   calls_are : taking_calls task.job slot shard.now w ≡ turn_calls turn shard.now slot.present w
   calls_are = ap (λ (o : Option ℕ). taking_calls_by o task.job slot shard.now w) told.1 ∙ ap (λ (t : Turn). turn_calls t shard.now slot.present w) turn_is
 
-  row_is : (kept : Option (List ℕ)) (common : Common) → task_moved task (at_take kept (scene_of shard common task) (ToTell turn turns.ToTake)) ≡ task_moved task (at_take kept (scene_of shard common task) task.stage)
-  row_is kept common = ap (λ (st : Stage). task_moved task (at_take kept (scene_of shard common task) st)) (sym is)
+  abbrev here : Common → Stage → Scene
+  here common st = record { job = task.job; slot = slot; around = around_of shard common n; stage = st }
 
-  pub turn_takes : (readings : List ℕ) (x : Taken) → TakesAt task.job readings shard x → (common : Common) → record { job = task.job; stage = turn_took turn x } ≡ task_moved task (at_take (readings_if (had_memory x) readings) (scene_of shard common task) task.stage)
-  turn_takes readings x takes common =
+  row_is : (k : ℕ) (memory : Bool) (readings : List ℕ) (common : Common) → task_moved task (row (Take k memory readings) (here common (ToTell turn turns.ToTake))) ≡ task_moved task (row (Take k memory readings) (scene_of shard common task))
+  row_is k memory readings common = ap (λ (st : Stage). task_moved task (row (Take k memory readings) (here common st))) (sym is)
+
+  pub turn_takes : (readings : List ℕ) (x : Taken) → TakesAt task.job readings shard x → (k : ℕ) (common : Common) → record { job = task.job; stage = turn_took turn x } ≡ task_moved task (row (Take k (had_memory x) readings) (scene_of shard common task))
+  turn_takes readings x takes k common =
       let taken : x ≡ turn_taking out (readings_if takes.0 readings) task.job slot.serial slot.present = takes.1 ∙ taking_is (readings_if takes.0 readings) in
       let settled : x ≡ turn_taking out (readings_if (had_memory x) readings) task.job slot.serial slot.present = taken ∙ (had out takes.0 readings task.job slot.serial slot.present ∙ ap (λ (y : Taken). turn_taking out (readings_if (had_memory y) readings) task.job slot.serial slot.present) (sym taken)) in
-      ap (λ (y : Taken). record { job = task.job; stage = turn_took turn y }) settled ∙ row_is (readings_if (had_memory x) readings) common
+      ap (λ (y : Taken). record { job = task.job; stage = turn_took turn y }) settled ∙ row_is k (had_memory x) readings common
 
-  pub turn_takes_without : (readings : List ℕ) (x : Taken) → TakesAt task.job readings shard x → (common : Common) → record { job = task.job; stage = turn_took turn (without_memory x) } ≡ task_moved task (at_take None (scene_of shard common task) task.stage)
-  turn_takes_without readings x takes common =
+  pub turn_takes_without : (readings : List ℕ) (x : Taken) → TakesAt task.job readings shard x → (k : ℕ) (others : List ℕ) (common : Common) → record { job = task.job; stage = turn_took turn (without_memory x) } ≡ task_moved task (row (Take k false others) (scene_of shard common task))
+  turn_takes_without readings x takes k others common =
       let taken : x ≡ turn_taking out (readings_if takes.0 readings) task.job slot.serial slot.present = takes.1 ∙ taking_is (readings_if takes.0 readings) in
-      ap (λ (y : Taken). record { job = task.job; stage = turn_took turn y }) (ap without_memory taken ∙ without out (readings_if takes.0 readings) task.job slot.serial slot.present) ∙ row_is None common
+      ap (λ (y : Taken). record { job = task.job; stage = turn_took turn y }) (ap without_memory taken ∙ without out (readings_if takes.0 readings) task.job slot.serial slot.present) ∙ row_is k false others common
 
-  pub turn_calls_at : (kept : Option (List ℕ)) (new : Shard) → new ≡ after_taking task.job shard → (common : Common) → new ≡ shard_after (at_take kept (scene_of shard common task) task.stage) task shard
-  turn_calls_at kept new after common =
+  pub turn_calls_at : (new : Shard) → new ≡ after_taking task.job shard → (k : ℕ) (memory : Bool) (readings : List ℕ) (common : Common) → new ≡ shard_after (row (Take k memory readings) (scene_of shard common task)) task shard
+  turn_calls_at new after k memory readings common =
       after
       ∙ (ap (λ (cs : List ObserverCall). with_calls cs n shard) calls_are
       ∙ (ap (with_calls (turn_calls turn shard.now slot.present w) n) (sym (same_slot shard n))
-      ∙ ap (λ (st : Stage). shard_after (at_take kept (scene_of shard common task) st) task shard) (sym is)))
+      ∙ ap (λ (st : Stage). shard_after (row (Take k memory readings) (here common st)) task shard) (sym is)))

@@ -27,7 +27,8 @@ use Rattle.fc_registry.specs.Slots.{Ticket}
 use Rattle.fc_core.specs.History.{Seen, and_then, around, did, due_in, is_due_at, is_late_at, is_place_of, job, late_in, scene, slot_at, stage, turn_at, watch}
 use Rattle.fc_core.specs.Laws.{slot_of}
 use Rattle.fc_core.specs.ObserveLaws.{BringsTurn}
-use Rattle.fc_core.specs.Stages.{Scene, new_task, row, with_id}
+use Rattle.fc_core.specs.Stages.{new_task, with_id}
+use Rattle.fc_core.specs.Rows.{Scene, row}
 use Rattle.fc_core.proofs.Others.{is_here, named_stage}
 use Rattle.fc_core.proofs.Places.{none_passes, place_first, place_passes}
 use Rattle.fc_core.proofs.Watches.{called}

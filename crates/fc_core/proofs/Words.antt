@@ -6,10 +6,7 @@ use Rattle.std.proofs.lemmas.Bool.{cases_eq, eq-eqb, ne_eqb}
 use Rattle.std.proofs.lemmas.List.{get_or-replicate, get_or-set_same, get_or-set_other, length-replicate}
 use Rattle.coap_msg.specs.declared.types.Emission.{Emission}
 use Rattle.fc_registry.specs.declared.job.Job.{Job}
-use Rattle.fc_registry.specs.declared.commit.CommitOutcome.{CommitOutcome}
-use Rattle.fc_registry.specs.declared.commit.CommitOutcome.TheVariants.{Writes, Keeps, Overtakes, Ends}
-use Rattle.fc_registry.specs.Calls.{outcome}
-use Rattle.fc_registry.specs.Slots.{Slot, Ticket}
+use Rattle.fc_registry.specs.Slots.{Slot}
 use Rattle.fc_verify.specs.Accepted.{Judgement, Accepts, Breaks, Untypable}
 use Rattle.fc_verify.specs.Judged.{judged}
 use Rattle.fc_core.specs.AnswerLaws.{HasSerial, greatest}
@@ -22,8 +19,10 @@ use Rattle.fc_core.specs.HeadLaws.{raises_of, word_to_raise, words_raised}
 use Rattle.fc_core.specs.Heads.{head_word, is_match, published, serial_in, word_at, word_raised}
 use Rattle.fc_core.specs.History.{around, Entry, History, Begins, Then, Seen, seen, and_then, did, job, scene, slot_at, stage, words_seen}
 use Rattle.fc_core.specs.Laws.{slot_of}
-use Rattle.fc_core.specs.Stages.{Around, Scene, committed, image_of, installed, matched_by, names, peeked_own, row, verified}
-use Rattle.fc_core.proofs.ByStep.{Step, by_step, event_by, move_by, some_step, stage_by, step_of}
+use Rattle.fc_core.specs.Stages.{image_of, matched_by, matched}
+use Rattle.fc_core.specs.Rows.{Around, Scene, names, row, call_if, install_call, install_if, move_of}
+use Rattle.fc_core.specs.Steps.{Matches, word_told}
+use Rattle.fc_core.proofs.ByStep.{Step, by_step, event_by, move_by, stage_by, Rests}
 use Rattle.fc_core.proofs.ByStep as steps
 use Rattle.fc_core.proofs.Others.{is_here, named_stage}
 
@@ -32,18 +31,12 @@ at job slot ws stage = record { job = job; slot = slot; around = ws; stage = sta
 
 -- ---- what a row raises
 
-committed_raises : (n : ℕ) (t : Ticket) (now : ℕ) (ws : Around) (o : CommitOutcome) → (committed o n t now ws).raises ≡ None
-committed_raises n t now ws Writes = refl
-committed_raises n t now ws Keeps = refl
-committed_raises n t now ws Overtakes = refl
-committed_raises n t now ws Ends = refl
-
-installed_raises : (j : Judgement) (slot : Slot) → (installed j slot).raises ≡ None
+installed_raises : (j : Judgement) (slot : Slot) → word_told (install_call j slot) ≡ None
 installed_raises (Accepts p) slot = refl
 installed_raises (Breaks rule k) slot = refl
 installed_raises Untypable slot = refl
 
-verified_raises : (memory : Bool) (x : Scene) → (verified memory x).raises ≡ None
+verified_raises : (memory : Bool) (x : Scene) → word_told (install_if memory (judged (image_of x.job.ask)) x.slot) ≡ None
 verified_raises true x = installed_raises (judged (image_of x.job.ask)) x.slot
 verified_raises false x = refl
 
@@ -52,19 +45,18 @@ raise_by (Raise k) (ToRaise word content) = Some word
 raise_by e other = None
 
 step_raises : (k : ℕ) (c : Step) (job : Job) (slot : Slot) (ws : Around) → (move_by c job slot ws).raises ≡ raise_by (event_by k c) (stage_by c)
-step_raises k (steps.Commits now n t) job slot ws = committed_raises n t now ws (outcome t slot)
 step_raises k (steps.Installs memory) job slot ws = verified_raises memory (at job slot ws ToInstall)
 step_raises k other job slot ws = refl
 
-rest_raises : (e : Event) (s : Stage) → step_of e s ≡ None → None ≡ raise_by e s
-rest_raises (Raise k) (ToRaise word content) none = absurd (some_step none)
-rest_raises (Raise k) other none = refl
-rest_raises other s none = refl
+rest_raises : (e : Event) (job : Job) (s : Stage) → Rests e job s → None ≡ raise_by e s
+rest_raises (Raise k) job (ToRaise word content) rest = absurd (cc (rest.stray k refl))
+rest_raises (Raise k) job other rest = refl
+rest_raises other job s rest = refl
 
 row_raises : (e : Event) (job : Job) (slot : Slot) (ws : Around) (st : Stage) → (row e (at job slot ws st)).raises ≡ raise_by e st
 row_raises e job slot ws st =
     by_step (λ d s m. m.raises ≡ raise_by d s) job slot ws
-    (λ k c. step_raises k c job slot ws) (λ d s rest. rest_raises d s rest.none) e st
+    (λ k c asked. step_raises k c job slot ws) (λ d s rest. rest_raises d job s rest) e st
 
 -- ---- the words
 
@@ -181,7 +173,7 @@ match_is_valid s k serial o is word has =
     let etags = (job s k).etags.items in
     named_stage (did (Peek k own) o) s k (is_here s k ToMatch is (λ e. absurd (cc e))) refl
     ∙ (ap (λ (st : Stage). (row (Peek k own) (at (job s k) (slot_at s own) (around s own) st)).stage) is
-    ∙ (ap (λ (b : Bool). peeked_own b (word_at s.words own) etags) (eq-eqb own own refl)
-    ∙ (ap (λ (w : ℕ). peeked_own true w etags) word
+    ∙ (ap (λ (b : Bool). (move_of (Peek k own) (at (job s k) (slot_at s own) (around s own) ToMatch) (call_if b (Matches etags (word_at s.words own)))).stage) (eq-eqb own own refl)
+    ∙ (ap (λ (w : ℕ). matched w etags) word
     ∙ (ap (λ (b : Bool). matched_by b (head_word serial true)) (matches etags serial has)
     ∙ ap (λ (i : ℕ). ToAnswer (Valid i)) (serial_of serial)))))

@@ -25,7 +25,8 @@ use Rattle.fc_core.specs.History.{around, Entry, History, Begins, Then, Seen, se
 use Rattle.fc_core.specs.Laws.{HasCome, Taking, finds, finds_if, gives_at, is_named, slot_of, takings_of}
 use Rattle.fc_core.specs.SlotLaws.{IsUnchanged, IsWritten}
 use Rattle.fc_core.specs.Sound.{IsSound}
-use Rattle.fc_core.specs.Stages.{Around, Scene, committed, names, row}
+use Rattle.fc_core.specs.Rows.{Around, Scene, names, row}
+use Rattle.fc_core.proofs.ByStep.{committed}
 use Rattle.fc_core.proofs.Along.{none_after}
 use Rattle.fc_core.proofs.Calling.{EntryWithin}
 use Rattle.fc_core.proofs.Keeping.{grows, still_sound}
@@ -130,10 +131,10 @@ same_serial h k n t is same = serial_by (seen h) k n t (takings_of h k) (took_at
 abbrev at : Job → Slot → Around → Stage → Scene
 at job slot ws stage = record { job = job; slot = slot; around = ws; stage = stage }
 
-commit_changes : (s : Seen) (k now n : ℕ) (o : Option Emission) (t : Ticket) (x : CommitOutcome) → stage s k ≡ ToCommit n t → outcome t (slot_at s (slot_of s k)) ≡ x → (and_then (did (Commit k now) o) s).changes (slot_of s k) ≡ (committed x n t now (around s (slot_of s k))).changes ++ s.changes (slot_of s k)
+commit_changes : (s : Seen) (k now n : ℕ) (o : Option Emission) (t : Ticket) (x : CommitOutcome) → stage s k ≡ ToCommit n t → outcome t (slot_at s (slot_of s k)) ≡ x → (and_then (did (Commit k now) o) s).changes (slot_of s k) ≡ (committed x n t now (slot_at s (slot_of s k)).serial (around s (slot_of s k))).changes ++ s.changes (slot_of s k)
 commit_changes s k now n o t x is comes = own_slot (did (Commit k now) o) s k refl
     ∙ (ap (λ (st : Stage). (row (Commit k now) (at (job s k) (slot_at s (slot_of s k)) (around s (slot_of s k)) st)).changes ++ s.changes (slot_of s k)) is
-    ∙ ap (λ (y : CommitOutcome). (committed y n t now (around s (slot_of s k))).changes ++ s.changes (slot_of s k)) comes)
+    ∙ ap (λ (y : CommitOutcome). (committed y n t now (slot_at s (slot_of s k)).serial (around s (slot_of s k))).changes ++ s.changes (slot_of s k)) comes)
 
 post_wants : (m : Method) (b : Bool) → m ≡ Post → b ≡ true → (is_post m && b) ≡ true
 post_wants Get b p e = absurd (cc)
@@ -174,7 +175,7 @@ kept_if s e k n true at is = ap (λ (cs : List Change). cs ++ s.changes n) is
 kept_if s e k n false at is = refl
 
 row_keeps : (job : Job) (slot : Slot) (ws : Around) (k now count : ℕ) (t : Ticket) (st : Stage) → st ≡ ToCommit count t → outcome t slot ≡ Keeps → (row (Commit k now) (at job slot ws st)).changes ≡ []
-row_keeps job slot ws k now count t st is keeps = ap (λ (x : Stage). (row (Commit k now) (at job slot ws x)).changes) is ∙ ap (λ (o : CommitOutcome). (committed o count t now ws).changes) keeps
+row_keeps job slot ws k now count t st is keeps = ap (λ (x : Stage). (row (Commit k now) (at job slot ws x)).changes) is ∙ ap (λ (o : CommitOutcome). (committed o count t now slot.serial ws).changes) keeps
 
 unwanted_at : (s : Seen) (k now count n : ℕ) (o : Option Emission) (t : Ticket) → stage s k ≡ ToCommit count t → wants t ≡ false → (and_then (did (Commit k now) o) s).changes n ≡ s.changes n
 unwanted_at s k now count n o t is w =

@@ -18,7 +18,8 @@ use Rattle.fc_core.specs.Contents.{Content, RunAnswer, Ran, Missing, Unavailable
 use Rattle.fc_core.specs.Heads.{head_word, word_at}
 use Rattle.fc_core.specs.History.{Entry, History, Begins, Then, Seen, seen, job, slot_at, stage}
 use Rattle.fc_core.specs.Laws.{slot_of, stage_named, takings_of}
-use Rattle.fc_core.specs.Stages.{image_of, names}
+use Rattle.fc_core.specs.Stages.{image_of}
+use Rattle.fc_core.specs.Rows.{names}
 
 -- ---- where an answer comes from
 

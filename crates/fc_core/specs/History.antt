@@ -25,7 +25,8 @@ use Rattle.fc_core.specs.Ids.{Ids, first_ids, drawn, drawn_for, free_id}
 use Rattle.fc_core.specs.Exchanges.{FrontState, opening_is_live}
 use Rattle.fc_core.specs.Receiving.{Received, added_by, received, opened_by, kept_of, drawn_by, brought, next_opening}
 use Rattle.fc_core.specs.Heads.{no_words}
-use Rattle.fc_core.specs.Stages.{Around, Common, Scene, names, needs_id, new_task, scene_at, row, content_at, task_moved, handed, words_after}
+use Rattle.fc_core.specs.Stages.{needs_id, new_task, content_at}
+use Rattle.fc_core.specs.Rows.{Around, Common, Scene, names, scene_at, row, task_moved, handed, words_after}
 
 -- an event, and what it emitted
 pub record Entry : Type 0 where

@@ -11,7 +11,7 @@ use Rattle.fc_core.specs.declared.stage.Stage.TheVariants.{ToMatch, ToTake, ToCo
 use Rattle.fc_core.specs.declared.stage.TurnStage.TheVariants as turns
 use Rattle.coap_reply.specs.Blocks.{cut_for}
 use Rattle.fc_core.specs.Contents.{Content, RunAnswer}
-use Rattle.fc_core.specs.Stages.{Scene, names}
+use Rattle.fc_core.specs.Rows.{Scene, names}
 use Rattle.fc_core.specs.History.{Entry, History, Begins, Then, Seen, seen, job, scene, slot_at, stage}
 
 -- ---- strays

@@ -18,7 +18,8 @@ use Rattle.fc_core.specs.Contents.{Content}
 use Rattle.fc_core.specs.Replies.{IsReplyTo}
 use Rattle.fc_core.specs.Exchanges.{FrontState, opening_is_live}
 use Rattle.fc_core.specs.Receiving.{sent, id_in}
-use Rattle.fc_core.specs.Stages.{Scene, content_at, names, sends}
+use Rattle.fc_core.specs.Stages.{content_at}
+use Rattle.fc_core.specs.Rows.{Scene, names, sends}
 use Rattle.fc_core.specs.History.{AtFront, Receives, Answers, Draws, Passes, Rests, AtShard, Ticks, History, Begins, Then, Seen, seen, at_front, at_shard, front_at, received_at, job, late_in, stage, scene, watch}
 
 -- a job's answer goes out while its exchange is live and a message id is free, and not after

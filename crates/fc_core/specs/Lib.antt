@@ -12,6 +12,7 @@ pub mod Askings
 pub mod Answering
 pub mod Stages
 pub mod Steps
+pub mod Rows
 pub mod Fits
 pub mod History
 pub mod Sound

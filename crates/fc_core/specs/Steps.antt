@@ -1,14 +1,18 @@
 -- A job's way by its calls: each call with what the stage that needs it holds, and with what it answered.
-use Rattle.std.specs.Prelude.{ℕ, Option, List, [], ◌∷◌, ◌++◌}
+use Rattle.std.specs.Prelude.{ℕ, Option, Some, None, List, [], ◌∷◌, ◌++◌, if◌then◌else◌}
 use Rattle.arrayvec.specs.ArrayVec.{ArrayVec}
 use Rattle.fc_kinds.specs.Meaning.{Program}
 use Rattle.fc_observe.specs.declared.entry.Turn.{Turn}
 use Rattle.fc_registry.specs.declared.commit.Committed.{Committed}
+use Rattle.fc_registry.specs.declared.commit.Committed.TheVariants.{Done}
 use Rattle.fc_registry.specs.declared.receipt.Receipt.{Receipt}
 use Rattle.fc_registry.specs.declared.shard.Made.{Made}
+use Rattle.fc_registry.specs.declared.shard.Made.TheVariants.{Raised}
 use Rattle.fc_registry.specs.declared.shard.Removal.{Removal}
+use Rattle.fc_registry.specs.declared.shard.Removal.TheVariants as removals
 use Rattle.fc_registry.specs.declared.shard.Taken.{Taken}
-use Rattle.fc_registry.specs.Calls.{receipt_of}
+use Rattle.fc_registry.specs.Calls.{commit_of, receipt_of}
+use Rattle.fc_registry.specs.Changes.{Change, Committed as Wrote, Installed, Removed}
 use Rattle.fc_registry.specs.Slots.{Ticket}
 use Rattle.fc_core.specs.Contents.{Content, Unavailable}
 use Rattle.fc_core.specs.declared.stage.Stage.{Stage}
@@ -79,3 +83,15 @@ next_stage (Raises word content) = ToAnswer content
 next_stage (TakesTurn turn taken) = turn_took turn taken
 next_stage (Draws turn found free) = ToTell turn (with_id found free)
 next_stage other = Gone
+
+-- the change of the job's slot that its answer tells
+abbrev pub changes_told : Call → List Change
+changes_told (Commits count t (Done m)) = if m.changed then Wrote (commit_of t) ∷ [] else []
+changes_told (Installs p (Raised serial created)) = Installed p ∷ []
+changes_told (Removes (removals.Removed serial)) = Removed ∷ []
+changes_told other = []
+
+-- the head word that it raises the job's slot to
+abbrev pub word_told : Call → Option ℕ
+word_told (Raises word content) = Some word
+word_told other = None

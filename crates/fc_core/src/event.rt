@@ -97,7 +97,7 @@ pub enum Event<'a> {
 
 impl Event<'_> {
     ghost use Rattle.std.specs.Prelude.{◌≡◌};
-    ghost use Rattle.fc_core.specs.Stages.{names};
+    ghost use Rattle.fc_core.specs.Rows.{names};
 
     /// The number of the job that it names, if it names one.
     pub fn job(&self) -> Option<usize>

@@ -8,7 +8,7 @@ ghost use Rattle.fc_core.specs.Laws.{HasCome, IsOfNewest, IsOvertaken, TakesAgai
 ghost use Rattle.fc_registry.specs.Calls.{commit_of, run_of};
 ghost use Rattle.fc_registry.specs.Slots.{Present, Ticket};
 ghost use Rattle.fc_core.specs.Legal.{Emits};
-ghost use Rattle.fc_core.specs.Stages.{names};
+ghost use Rattle.fc_core.specs.Rows.{names};
 ghost use Rattle.std.specs.Prelude.{ℕ, ◌+◌, ◌<◌, ◌≤◌, List, None, Option, Some, false, length, true, ◌≡◌};
 
 /// An event that comes when its job isn't at the stage that the event needs changes nothing that can be asked of a

@@ -1,194 +1,31 @@
 //! Jobs at work: what each event does to a job, its slot and its shard.
-ghost use Rattle.std.specs.Prelude.{◌≡◌, ℕ, ◌/◌, ◌<◌, ◌∷◌, ◌++◌, ◌==◌, [], List, None, Option, Some, option_copied, length, false, max, IfOk, OnOk, IsErr};
+ghost use Rattle.std.specs.Prelude.{◌≡◌, ℕ, ◌/◌, ◌<◌, List, None, Option, Some, false, option_copied, max, IfOk, OnOk, IsErr};
 ghost use Rattle.fc_verify.specs.Accepted.{Accepts};
 ghost use Rattle.fc_verify.specs.Judged.{judged};
 ghost use Rattle.fc_registry.specs.Slots.{IsOwned, slot_in};
-ghost use Rattle.fc_core.specs.Contents.{AreDone, IsMadeBelow, IsRemovedBelow, Missing as Misses, Unavailable};
-ghost use Rattle.fc_core.specs.Ends.{refused};
-ghost use Rattle.fc_core.specs.Fits.{FitsStage, HasListed, HasNext, TellsOwn};
-ghost use Rattle.fc_core.specs.Heads.{word_at};
-ghost use Rattle.fc_core.specs.Sound.{AllSafe};
-ghost use Rattle.fc_registry.specs.Calls.{HasGiven, readings_if, receipt_of};
+ghost use Rattle.fc_registry.specs.Calls.{HasGiven};
 ghost use Rattle.fc_registry.specs.Notes.{note_at, note_calls};
 ghost use Rattle.fc_registry.specs.Watches.{handed, watch_at, with_calls};
-ghost use Rattle.fc_core.specs.Stages as rows;
-ghost use Rattle.fc_core.specs.Stages.{Common, ShardMoves, TaskMoves, after_list, at_answer, at_commit, at_give_up, at_install, at_note, at_peek, at_raise, at_receipt, at_remove, at_take, asked_stage, commit_move, content_at, first_stage, had_memory, image_of, installed, needs_id, notification, peeked_own, task_moved, new_task, scene_of, shard_after, shard_moved, turn_to_take, without_memory, words_after};
+ghost use Rattle.fc_core.specs.declared.event.Event.{Event};
+ghost use Rattle.fc_core.specs.Fits.{FitsStage, HasListed, HasNext, TellsOwn};
+ghost use Rattle.fc_core.specs.Sound.{AllSafe};
+ghost use Rattle.fc_core.specs.Stages.{after_list, content_at, drew, ended, had_memory, image_of, needs_id, new_task, turn_to_take, without_memory};
+ghost use Rattle.fc_core.specs.Steps.{changes_told, next_stage};
+ghost use Rattle.fc_core.specs.Rows.{Common, Scene, ShardMoves, TaskMoves, commit_call, commit_move, install_call, install_move, moves, notification, row, scene_of, shard_moved, task_moved, words_after};
 
-use crate::answer::{Answer, End, Words};
+use crate::answer::{Answer, End};
 use crate::front::blank_job;
-use crate::heads::{Heads, WORDS, head_word, is_present, serial_in};
+use crate::heads::{Heads, WORDS};
 use crate::stage::{Stage, Task, TurnStage};
-use arrayvec::ArrayVec;
 use coap_msg::Emission;
 use fc_help::{NO_READINGS, Readings};
-use fc_isa::Fault;
-use fc_machine::{Frame, Outcome, run};
+use fc_machine::{Frame, run};
 use fc_observe::Turn;
-use fc_registry::{
-    Ask, Committed, Job, Made, Noted, Notification, Receipt, Removal, Shard, SlotNumber, Taken,
-    Ticket,
-};
+use fc_registry::{Ask, Job, Noted, Notification, Receipt, Shard, SlotNumber, Taken, Ticket};
 use fc_verify::{Refusal, Verified, verify};
 use std::alloc::{AllocError, Global};
 use std::mem;
 use std::sync::Arc;
-
-/// How many times a job may take.
-const TAKINGS: u8 = 8;
-
-/// Where each call's answer leaves a job, whoever works it.
-impl Stage {
-    /// What a job needs first.
-    pub fn first(job: &Job) -> Stage
-        ensures { result ≡ first_stage job.now }
-    {
-        match job.turn {
-            Some(number) => {
-                let slot = job.origin.slot.number();
-                Stage::ToTell(Turn { slot, number }, TurnStage::ToTake)
-            }
-            None => Stage::asked(job),
-        }
-    }
-
-    /// What a request's job needs first.
-    pub fn asked(job: &Job) -> Stage
-        ensures { result ≡ asked_stage job.now }
-    {
-        match &job.ask {
-            Ask::Run(_) if job.etags.is_empty() => Stage::ToTake(0),
-            Ask::Run(_) => Stage::ToMatch,
-            Ask::Install(_) => Stage::ToInstall,
-            Ask::Remove => Stage::ToRemove,
-            Ask::Describe => Stage::ToDescribe,
-            Ask::Discover => Stage::ToList(ArrayVec::new()),
-        }
-    }
-
-    /// After a look at the head word of a run's slot: where it is that of a program at a serial of which the client has the
-    /// answer, that is said, and there is no run.
-    pub fn matched(job: &Job, word: u64) -> Stage
-        ensures { result ≡ rows.matched word job.now.etags.items }
-    {
-        let serial = serial_in(word);
-        if is_present(word) && job.etags.as_slice().contains(&serial) {
-            Stage::ToAnswer(Answer::other(End::Match(serial)))
-        } else {
-            Stage::ToTake(0)
-        }
-    }
-
-    /// After a taking, and so many takings before it.
-    pub fn took(count: u8, taken: Taken) -> Stage
-        requires { count < 8 }
-        ensures { result ≡ rows.took count taken }
-    {
-        match taken {
-            Taken::Missing => Stage::missing(),
-            Taken::Given(ticket) => Stage::ToCommit(count + 1, ticket),
-            Taken::Refused | Taken::Stale => Stage::unavailable(),
-        }
-    }
-
-    /// After the taking of a turn.
-    pub fn turn_took(turn: Turn, taken: Taken) -> Stage
-        ensures { result ≡ rows.turn_took turn taken }
-    {
-        match taken {
-            Taken::Given(ticket) => Stage::ToTell(turn, TurnStage::ToDraw(Some(ticket))),
-            Taken::Missing => Stage::ToTell(turn, TurnStage::ToDraw(None)),
-            Taken::Stale => Stage::Gone,
-            Taken::Refused => Stage::ToTell(turn, TurnStage::ToTake),
-        }
-    }
-
-    /// After a commit: a run that was overtaken is taken again, eight times at most. An outcome that isn't the ticket's is
-    /// no outcome of this job, which is then unavailable.
-    pub fn committed(
-        count: u8,
-        outcome: &Outcome<'_>,
-        ticket: &Ticket,
-        committed: Committed,
-    ) -> Stage
-        requires { AreDone outcome.now ticket.now committed }
-        ensures { result ≡ rows.after_commit count ticket.now committed }
-    {
-        match committed {
-            Committed::Done(mark) => {
-                let changed = mark.changed();
-                let serial = mark.serial();
-                if changed {
-                    let word = head_word(serial, true);
-                    Stage::ToRaise(word, Answer::ran(outcome, ticket, mark))
-                } else {
-                    Stage::ToAnswer(Answer::ran(outcome, ticket, mark))
-                }
-            }
-            Committed::Overtaken if count < TAKINGS => Stage::ToTake(count),
-            Committed::Overtaken | Committed::Ended | Committed::Stranger => Stage::unavailable(),
-        }
-    }
-
-    /// After an install, whose receipt is still without its version.
-    pub fn made(receipt: Receipt, made: Made) -> Stage
-        requires { IsMadeBelow made }
-        ensures { result ≡ rows.made receipt made }
-    {
-        match made {
-            Made::Raised { serial, created } => {
-                let receipt = Receipt {
-                    version: serial,
-                    ..receipt
-                };
-                let word = head_word(serial, true);
-                Stage::ToRaise(word, Answer::other(End::Made(receipt, created)))
-            }
-            Made::AtEnd => Stage::unavailable(),
-        }
-    }
-
-    /// After a removal.
-    pub fn removed(removal: Removal) -> Stage
-        requires { IsRemovedBelow removal }
-        ensures { result ≡ rows.removed removal }
-    {
-        match removal {
-            Removal::Removed { serial } => {
-                Stage::ToRaise(head_word(serial, false), Answer::other(End::Removed))
-            }
-            Removal::Absent => Stage::ToAnswer(Answer::other(End::Removed)),
-            Removal::AtEnd => Stage::unavailable(),
-        }
-    }
-
-    /// After a receipt, or none.
-    pub fn told(receipt: Option<Receipt>) -> Stage
-        ensures { result ≡ Stage.ToAnswer (rows.told receipt) }
-    {
-        Stage::ToAnswer(Answer::other(End::Told(receipt)))
-    }
-
-    /// After an image was refused by a rule.
-    pub fn rejected(fault: Fault) -> Stage
-        ensures { result ≡ Stage.ToAnswer (refused (Refusal.Broken fault)) }
-    {
-        Stage::ToAnswer(Answer::other(End::Rejected(Refusal::Broken(fault))))
-    }
-
-    /// After the slot was found empty.
-    pub fn missing() -> Stage
-        ensures { result ≡ Stage.ToAnswer Misses }
-    {
-        Stage::ToAnswer(Answer::other(End::Missing))
-    }
-
-    /// After memory was refused, or where serials are at their end.
-    pub fn unavailable() -> Stage
-        ensures { result ≡ Stage.ToAnswer Unavailable }
-    {
-        Stage::ToAnswer(Answer::other(End::Unavailable))
-    }
-}
 
 impl Task {
     /// A job at its first stage.
@@ -221,11 +58,13 @@ impl Task {
     /// Looks at the head word of a slot.
     pub fn peek(&mut self, slot: u8, heads: &Heads)
         requires { HasNext self.old.stage }
-        ensures { (shard : Shard) (free : ℕ → Option ℕ) → let common : Common = record { words = heads.now; free = free } in
-            self.new ≡ task_moved self.old (at_peek slot (scene_of shard common self.old) self.old.stage) }
+        ensures { (k : ℕ) (shard : Shard) (free : ℕ → Option ℕ) → let common : Common = record { words = heads.now; free = free } in
+            self.new ≡ task_moved self.old (row (Event.Peek k slot) (scene_of shard common self.old)) }
     {
         match &mut self.stage {
-            Stage::ToMatch => self.stage = look_own(&self.job, slot, heads),
+            Stage::ToMatch if slot == self.job.origin.slot.number() => {
+                self.stage = Stage::matched(&self.job, heads.peek(self.job.origin.slot));
+            }
             Stage::ToList(seen) if usize::from(slot) == seen.len() => {
                 let _fits = seen.try_push(heads.peek(SlotNumber::new(slot)));
                 if seen.len() == WORDS {
@@ -239,7 +78,7 @@ impl Task {
     // Answers by the head words of all slots, which it has listed.
     fn end_list(&mut self)
         requires { HasListed self.old.stage }
-        ensures { self.new ≡ task_moved self.old (rows.moves (after_list self.old.stage)) }
+        ensures { self.new ≡ task_moved self.old (moves (after_list self.old.stage)) }
     {
         match self.leave() {
             Stage::ToList(words) => {
@@ -254,8 +93,8 @@ impl Task {
     pub fn take(&mut self, shard: &mut Shard, readings: &Readings) -> bool
         requires owned { IsOwned shard.old self.old.job.origin.slot }
         requires fits { FitsStage self.old.job (slot_in shard.old self.old.job.origin.slot) self.old.stage }
-        ensures task { TaskMoves (at_take (readings_if result readings.now)) shard.old self.old self.new }
-        ensures shard { ShardMoves (at_take (readings_if result readings.now)) shard.old self.old shard.new }
+        ensures task { (k : ℕ) → TaskMoves (Event.Take k result readings.now) shard.old self.old self.new }
+        ensures shard { (k : ℕ) → ShardMoves (Event.Take k result readings.now) shard.old self.old shard.new }
     {
         if let Some(turn) = turn_to_take(&self.stage) {
             return self.take_turn(turn, shard, readings);
@@ -281,8 +120,8 @@ impl Task {
         requires owned { IsOwned shard.old self.old.job.origin.slot }
         requires fits { FitsStage self.old.job (slot_in shard.old self.old.job.origin.slot) self.old.stage }
         requires turn { turn_to_take self.old.stage ≡ Some turn }
-        ensures task { TaskMoves (at_take (readings_if result readings.now)) shard.old self.old self.new }
-        ensures shard { ShardMoves (at_take (readings_if result readings.now)) shard.old self.old shard.new }
+        ensures task { (k : ℕ) → TaskMoves (Event.Take k result readings.now) shard.old self.old self.new }
+        ensures shard { (k : ℕ) → ShardMoves (Event.Take k result readings.now) shard.old self.old shard.new }
     {
         let taken = shard.take(&self.job, readings);
         let memory = had_memory(&taken);
@@ -294,8 +133,8 @@ impl Task {
     pub fn refuse_take(&mut self, shard: &mut Shard)
         requires owned { IsOwned shard.old self.old.job.origin.slot }
         requires fits { FitsStage self.old.job (slot_in shard.old self.old.job.origin.slot) self.old.stage }
-        ensures task { TaskMoves (at_take None) shard.old self.old self.new }
-        ensures shard { ShardMoves (at_take None) shard.old self.old shard.new }
+        ensures task { (k : ℕ) (readings : List ℕ) → TaskMoves (Event.Take k false readings) shard.old self.old self.new }
+        ensures shard { (k : ℕ) (readings : List ℕ) → ShardMoves (Event.Take k false readings) shard.old self.old shard.new }
     {
         if let Some(turn) = turn_to_take(&self.stage) {
             self.refuse_turn(turn, shard);
@@ -309,8 +148,8 @@ impl Task {
         requires owned { IsOwned shard.old self.old.job.origin.slot }
         requires fits { FitsStage self.old.job (slot_in shard.old self.old.job.origin.slot) self.old.stage }
         requires turn { turn_to_take self.old.stage ≡ Some turn }
-        ensures task { TaskMoves (at_take None) shard.old self.old self.new }
-        ensures shard { ShardMoves (at_take None) shard.old self.old shard.new }
+        ensures task { (k : ℕ) (readings : List ℕ) → TaskMoves (Event.Take k false readings) shard.old self.old self.new }
+        ensures shard { (k : ℕ) (readings : List ℕ) → ShardMoves (Event.Take k false readings) shard.old self.old shard.new }
     {
         self.stage = Stage::turn_took(turn, without_memory(shard.take(&self.job, &NO_READINGS)));
     }
@@ -319,8 +158,8 @@ impl Task {
     pub fn commit(&mut self, frame: &mut Frame, shard: &mut Shard, now: u64)
         requires owned { IsOwned shard.old self.old.job.origin.slot }
         requires fits { FitsStage self.old.job (slot_in shard.old self.old.job.origin.slot) self.old.stage }
-        ensures task { TaskMoves (at_commit now) shard.old self.old self.new }
-        ensures shard { ShardMoves (at_commit now) shard.old self.old shard.new }
+        ensures task { (k : ℕ) → TaskMoves (Event.Commit k now) shard.old self.old self.new }
+        ensures shard { (k : ℕ) → ShardMoves (Event.Commit k now) shard.old self.old shard.new }
     {
         let Stage::ToCommit(count, ticket) = &self.stage else {
             return;
@@ -331,8 +170,8 @@ impl Task {
     /// Removes its slot's program at its shard.
     pub fn remove(&mut self, shard: &mut Shard)
         requires { IsOwned shard.old self.old.job.origin.slot }
-        ensures task { TaskMoves at_remove shard.old self.old self.new }
-        ensures shard { ShardMoves at_remove shard.old self.old shard.new }
+        ensures task { (k : ℕ) → TaskMoves (Event.Remove k) shard.old self.old self.new }
+        ensures shard { (k : ℕ) → ShardMoves (Event.Remove k) shard.old self.old shard.new }
     {
         match self.leave() {
             Stage::ToRemove => self.stage = Stage::removed(shard.remove(self.job.origin.slot)),
@@ -342,7 +181,7 @@ impl Task {
 
     /// Asks its shard what its slot's program is.
     pub fn describe(&mut self, shard: &Shard)
-        ensures { TaskMoves at_receipt shard.entry.now self.old self.new }
+        ensures { (k : ℕ) → TaskMoves (Event.Receipt k) shard.entry.now self.old self.new }
     {
         match self.leave() {
             Stage::ToDescribe => self.stage = Stage::told(shard.receipt(self.job.origin.slot)),
@@ -354,10 +193,9 @@ impl Task {
     /// slot changes, and it is answered 5.03.
     pub fn install(&mut self, alloc: Global, shard: &mut Shard) -> bool
         requires { IsOwned shard.old self.old.job.origin.slot }
-        ensures task { TaskMoves (at_install result) shard.old self.old self.new }
-        ensures shard { ShardMoves (at_install result) shard.old self.old shard.new }
-        ensures safe { (common : Common) →
-            AllSafe (at_install result (scene_of shard.old common self.old) self.old.stage).changes }
+        ensures task { (k : ℕ) → TaskMoves (Event.Install k result) shard.old self.old self.new }
+        ensures shard { (k : ℕ) → ShardMoves (Event.Install k result) shard.old self.old shard.new }
+        ensures safe { (k : ℕ) (common : Common) → AllSafe (row (Event.Install k result) (scene_of shard.old common self.old)).changes }
     {
         match self.leave() {
             Stage::ToInstall => {
@@ -382,8 +220,7 @@ impl Task {
 
     /// Installs without memory.
     pub fn refuse_install(&mut self)
-        ensures { (shard : Shard) (common : Common) →
-            self.new ≡ task_moved self.old (at_install false (scene_of shard common self.old) self.old.stage) }
+        ensures { (k : ℕ) (shard : Shard) → TaskMoves (Event.Install k false) shard self.old self.new }
     {
         match self.leave() {
             Stage::ToInstall => self.stage = Stage::unavailable(),
@@ -393,8 +230,9 @@ impl Task {
 
     /// Publishes the new head word of its slot.
     pub fn raise(&mut self, heads: &mut Heads)
-        ensures task { self.new ≡ task_moved self.old (at_raise self.old.stage) }
-        ensures words { heads.new ≡ words_after (at_raise self.old.stage) self.old heads.old }
+        ensures task { (k : ℕ) (shard : Shard) → TaskMoves (Event.Raise k) shard self.old self.new }
+        ensures words { (k : ℕ) (shard : Shard) (common : Common) →
+            heads.new ≡ words_after (row (Event.Raise k) (scene_of shard common self.old)) self.old heads.old }
     {
         if !matches!(self.stage, Stage::ToRaise(..)) {
             return;
@@ -417,7 +255,7 @@ impl Task {
 
     /// Ends it, where it was to be answered: it is answered once.
     pub fn end(&mut self)
-        ensures { self.new ≡ task_moved self.old (at_answer self.old.stage) }
+        ensures { self.new ≡ task_moved self.old (moves (ended self.old.stage)) }
     {
         if let Stage::ToAnswer(_) = &self.stage {
             self.stage = Stage::Gone;
@@ -433,7 +271,7 @@ impl Task {
 
     /// Takes the message id that was free for the notification of its turn. Where none was it needs one still.
     pub fn draw(&mut self, free: Option<u16>)
-        ensures { self.new ≡ task_moved self.old (rows.moves (rows.drew free self.old.stage)) }
+        ensures { self.new ≡ task_moved self.old (moves (drew free self.old.stage)) }
     {
         match (self.leave(), free) {
             (Stage::ToTell(turn, TurnStage::ToDraw(found)), Some(id)) => {
@@ -454,8 +292,8 @@ impl Task {
     ) -> Option<Emission>
         requires owned { IsOwned shard.old self.old.job.origin.slot }
         requires fits { FitsStage self.old.job (slot_in shard.old self.old.job.origin.slot) self.old.stage }
-        ensures task { TaskMoves (at_note now random) shard.old self.old self.new }
-        ensures shard { ShardMoves (at_note now random) shard.old self.old shard.new }
+        ensures task { (k : ℕ) → TaskMoves (Event.Note k now random) shard.old self.old self.new }
+        ensures shard { (k : ℕ) → ShardMoves (Event.Note k now random) shard.old self.old shard.new }
         ensures sent { (common : Common) → result ≡ notification now (scene_of shard.old common self.old) self.old.stage }
     {
         match self.leave() {
@@ -473,8 +311,8 @@ impl Task {
     pub fn give_up(&mut self, shard: &mut Shard, now: u64)
         requires owned { IsOwned shard.old self.old.job.origin.slot }
         requires fits { FitsStage self.old.job (slot_in shard.old self.old.job.origin.slot) self.old.stage }
-        ensures task { TaskMoves (at_give_up now) shard.old self.old self.new }
-        ensures shard { ShardMoves (at_give_up now) shard.old self.old shard.new }
+        ensures task { (k : ℕ) → TaskMoves (Event.GiveUp k now) shard.old self.old self.new }
+        ensures shard { (k : ℕ) → ShardMoves (Event.GiveUp k now) shard.old self.old shard.new }
     {
         match self.leave() {
             Stage::ToTell(turn, _) => shard.give_up(turn, now),
@@ -484,7 +322,7 @@ impl Task {
 
     /// Ends it: its worker is lost.
     pub fn lose(&mut self)
-        ensures { self.new ≡ task_moved self.old (rows.moves Stage.Gone) }
+        ensures { self.new ≡ task_moved self.old (moves Stage.Gone) }
     {
         self.stage = Stage::Gone;
     }
@@ -492,7 +330,7 @@ impl Task {
     // Its stage, which it leaves.
     fn leave(&mut self) -> Stage
         ensures stage { result ≡ self.old.stage }
-        ensures after { self.new ≡ task_moved self.old (rows.moves Stage.Gone) }
+        ensures after { self.new ≡ task_moved self.old (moves Stage.Gone) }
     {
         mem::replace(&mut self.stage, Stage::Gone)
     }
@@ -525,17 +363,6 @@ fn without_memory(taken: Taken) -> Taken
     }
 }
 
-// Where a run's job looks at its own slot's head word, and at no other's.
-fn look_own(job: &Job, slot: u8, heads: &Heads) -> Stage
-    ensures { result ≡ peeked_own (slot == job.now.origin.slot) (word_at heads.now slot) job.now.etags.items }
-{
-    if slot == job.origin.slot.number() {
-        Stage::matched(job, heads.peek(job.origin.slot))
-    } else {
-        Stage::ToMatch
-    }
-}
-
 /// The image that a job asks to install; no bytes where it asks for something else.
 pub fn image(ask: &Ask) -> &[u8]
     ensures { result.now ≡ image_of ask.now }
@@ -556,9 +383,8 @@ fn run_and_commit(
     requires owned { IsOwned shard.old ticket.now.origin.slot }
     requires given { HasGiven (slot_in shard.old ticket.now.origin.slot) ticket.now }
     requires asked { ticket.now.turn ≡ None }
-    ensures stage { (common : Common) → result ≡ (commit_move shard.old common count ticket.now now).stage }
-    ensures shard { (common : Common) →
-        shard.new ≡ shard_moved (commit_move shard.old common count ticket.now now) ticket.now.origin.slot shard.old }
+    ensures stage { result ≡ next_stage (commit_call shard.old count ticket.now) }
+    ensures shard { shard.new ≡ shard_moved (commit_move shard.old count ticket.now now) ticket.now.origin.slot shard.old }
 {
     let outcome = run(
         frame,
@@ -613,9 +439,10 @@ fn verify_and_install(
     slot: SlotNumber,
 ) -> Result<Stage, AllocError>
     requires { IsOwned shard.old slot }
-    ensures stage { IfOk result (λ s. s ≡ (installed (judged image.now) (slot_in shard.old slot)).stage) }
-    ensures shard { OnOk result (shard.new ≡ shard_moved (installed (judged image.now) (slot_in shard.old slot)) slot shard.old) }
-    ensures safe { OnOk result (AllSafe (installed (judged image.now) (slot_in shard.old slot)).changes) }
+    ensures stage { IfOk result (λ s. s ≡ next_stage (install_call (judged image.now) (slot_in shard.old slot))) }
+    ensures shard { OnOk result ((s : Scene) →
+        shard.new ≡ shard_moved (install_move (judged image.now) (record s { slot = slot_in shard.old slot })) slot shard.old) }
+    ensures safe { OnOk result (AllSafe (changes_told (install_call (judged image.now) (slot_in shard.old slot)))) }
     ensures refused { IsErr result → shard.new ≡ shard.old }
 {
     match verify(alloc, image) {
@@ -632,8 +459,9 @@ fn install_program(
     slot: SlotNumber,
 ) -> Result<Stage, AllocError>
     requires { IsOwned shard.old slot }
-    ensures stage { IfOk result (λ s. s ≡ (installed (Accepts program) (slot_in shard.old slot)).stage) }
-    ensures shard { OnOk result (shard.new ≡ shard_moved (installed (Accepts program) (slot_in shard.old slot)) slot shard.old) }
+    ensures stage { IfOk result (λ s. s ≡ next_stage (install_call (Accepts program) (slot_in shard.old slot))) }
+    ensures shard { OnOk result ((s : Scene) →
+        shard.new ≡ shard_moved (install_move (Accepts program) (record s { slot = slot_in shard.old slot })) slot shard.old) }
     ensures refused { IsErr result → shard.new ≡ shard.old }
 {
     let receipt = Receipt::of(&program, 0);

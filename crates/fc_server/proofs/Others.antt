@@ -1,21 +1,26 @@
 -- What each call does, as an event: on a job that came, on one that never came, on none.
-use Rattle.std.proofs.Common.{◌≡◌, ℕ, ◌<◌, ◌≤◌, ◌%◌, arith, max, get_or, List, ◌++◌, length, set, Bool, Option, Some, None, refl, sym, ap, ◌∙◌, subst, Bor}
+use Rattle.std.proofs.Common.{◌≡◌, ℕ, ◌<◌, ◌≤◌, ◌%◌, arith, max, get_or, List, ◌++◌, length, set, Bool, true, false, Option, Some, None, refl, sym, ap, ◌∙◌, subst, Bor}
+use Rattle.std.specs.Prelude.{◌==◌}
 use Rattle.std.proofs.lemmas.List.{append-nil, get_or_default, get_or_past, set-get_or, set_past}
 use Rattle.coap_msg.specs.declared.types.Endpoint.{Endpoint}
 use Rattle.coap_msg.specs.declared.types.Emission.{Emission}
 use Rattle.fc_registry.specs.Shards.{no_shard, shard_at, slot_in_shards}
 use Rattle.fc_registry.specs.Slots.{Shard, Slot}
 use Rattle.fc_core.specs.declared.event.Event.{Event}
-use Rattle.fc_core.specs.declared.event.Event.TheVariants.{Deliver, Answer, Due, Fresh, Note, Signal, Tick, ShardTick, Lose}
+use Rattle.fc_core.specs.declared.event.Event.TheVariants.{Deliver, Answer, Due, Fresh, Note, Peek, Receipt, Signal, Tick, ShardTick, Lose}
 use Rattle.fc_core.specs.declared.stage.Stage.{Stage}
-use Rattle.fc_core.specs.declared.stage.Stage.TheVariants.{ToMatch, ToTake, ToDescribe, ToList, ToAnswer, Gone}
+use Rattle.fc_core.specs.declared.stage.Stage.TheVariants.{ToMatch, ToDescribe, ToList, ToAnswer, ToTell, Gone}
+use Rattle.fc_core.specs.declared.stage.TurnStage.TheVariants as turns
 use Rattle.fc_core.specs.declared.stage.Task.{Task}
 use Rattle.fc_core.specs.Exchanges.{advanced}
 use Rattle.fc_core.specs.Ids.{free_id}
-use Rattle.fc_core.specs.History.{AtFront, Rests, AtShard, at_front, at_shard, no_task, task_at}
+use Rattle.fc_core.specs.History.{AtFront, Rests, at_front, at_shard, no_task, task_at}
 use Rattle.fc_core.specs.Legal.{AnswerEmits}
 use Rattle.fc_core.specs.Sound.{AllSafe}
-use Rattle.fc_core.specs.Stages.{around_of, Around, Move, Scene, at_answer, at_fresh, at_peek, at_receipt, content_at, drew, moves, names, needs_id, row, scene_at, sends, task_moved, words_after}
+use Rattle.fc_core.specs.Heads.{word_at}
+use Rattle.fc_core.specs.Stages.{content_at, drew, ended, needs_id}
+use Rattle.fc_core.specs.Steps.{Call, Matches, Lists, next_stage}
+use Rattle.fc_core.specs.Rows.{around_of, Around, Move, Scene, call_if, move_of, moves, names, row, scene_at, sends, task_moved, words_after}
 use Rattle.fc_core.proofs.Rejections.{same_slot}
 use Rattle.fc_server.specs.Agreement.{Parts}
 use Rattle.fc_server.specs.Serving.{with_tasks}
@@ -47,18 +52,36 @@ owner_read shards n k found eight lt place is = is ∙ (get_or_default shards k 
 pub owner_same : (shards : List Shard) (k : ℕ) (found now : Shard) → now ≡ found → found ≡ get_or shards k found → set shards k now ≡ shards
 owner_same shards k found now same is = ap (λ (x : Shard). set shards k x) (same ∙ is) ∙ set-get_or shards k found
 
-pub peek_quiet : (n : ℕ) (x : Scene) (st : Stage) → at_peek n x st ≡ moves (at_peek n x st).stage
-peek_quiet n x ToMatch = refl
-peek_quiet n x (ToList seen) = refl
-peek_quiet n x other = refl
+-- a call that moves its job alone, if it is one
+call_quiet : (e : Event) (x : Scene) (c : Call) → move_of e x (Some c) ≡ moves (next_stage c) → (b : Bool) → move_of e x (call_if b c) ≡ moves (move_of e x (call_if b c)).stage
+call_quiet e x c quiet true = quiet
+call_quiet e x c quiet false = refl
 
-pub receipt_quiet : (x : Scene) (st : Stage) → at_receipt x st ≡ moves (at_receipt x st).stage
-receipt_quiet x ToDescribe = refl
-receipt_quiet x other = refl
+abbrev at : Scene → Stage → Scene
+at x stage = record x { stage = stage }
 
-answer_quiet : (st : Stage) → at_answer st ≡ moves (at_answer st).stage
-answer_quiet (ToAnswer content) = refl
-answer_quiet other = refl
+peek_quiet_at : (k n : ℕ) (x : Scene) (st : Stage) → row (Peek k n) (at x st) ≡ moves (row (Peek k n) (at x st)).stage
+peek_quiet_at k n x ToMatch = call_quiet (Peek k n) (at x ToMatch) (Matches x.job.etags.items (word_at x.around.common.words n)) refl (n == x.job.origin.slot)
+peek_quiet_at k n x (ToList seen) = call_quiet (Peek k n) (at x (ToList seen)) (Lists seen (word_at x.around.common.words n)) refl (n == length seen.items)
+peek_quiet_at k n x other = refl
+
+pub peek_quiet : (k n : ℕ) (x : Scene) → row (Peek k n) x ≡ moves (row (Peek k n) x).stage
+peek_quiet k n x = peek_quiet_at k n x x.stage
+
+receipt_quiet_at : (k : ℕ) (x : Scene) (st : Stage) → row (Receipt k) (at x st) ≡ moves (row (Receipt k) (at x st)).stage
+receipt_quiet_at k x ToDescribe = refl
+receipt_quiet_at k x other = refl
+
+pub receipt_quiet : (k : ℕ) (x : Scene) → row (Receipt k) x ≡ moves (row (Receipt k) x).stage
+receipt_quiet k x = receipt_quiet_at k x x.stage
+
+answer_quiet : (k now : ℕ) (x : Scene) (st : Stage) → row (Answer k now) (at x st) ≡ moves (ended st)
+answer_quiet k now x (ToAnswer content) = refl
+answer_quiet k now x other = refl
+
+draw_quiet : (k now : ℕ) (x : Scene) (st : Stage) → row (Fresh k now) (at x st) ≡ moves (drew (x.around.common.free now) st)
+draw_quiet k now x (ToTell turn (turns.ToDraw found)) = refl
+draw_quiet k now x other = refl
 
 -- ---- a job that came
 
@@ -78,29 +101,34 @@ does_done e k (rests, calm, named) old new tasks later was now out at is d =
     }
 
 pub responds_done : (k now : ℕ) (old new : ServerState) (tasks later : List Task) (was next : Task) (out : Option Emission) → was ≡ task_at tasks k → later ≡ set tasks k next → Responds now old was new next out → Done (Answer k now) (with_tasks old tasks) out (with_tasks new later)
-responds_done k now old new tasks later was next out at is d =
+responds_done k now old new tasks later was next out same is d =
     let task = task_at tasks k in
-    let quiet = answer_quiet task.stage in
+    let quiet : row (Answer k now) (scene_in old task) ≡ moves (ended task.stage) = answer_quiet k now (scene_in old task) task.stage in
     record {
-      front = subst (λ (t : Task). new.front ≡ front_after (content_at t.stage) t.job out old.front now) at d.front;
-      tasks = is ∙ (ap (λ (t : Task). set tasks k t) (d.task_is ∙ ap (λ (t : Task). task_moved t (at_answer t.stage)) at) ∙ sym (append-nil (tasks_in (Some k) (Answer k now) (with_tasks old tasks))));
-      shards = d.shards ∙ (sym (unwritten (at_answer task.stage).stage task.job.origin.slot old.shards) ∙ ap (λ (m : Move). shards_moved m task.job.origin.slot old.shards) (sym quiet));
+      front = subst (λ (t : Task). new.front ≡ front_after (content_at t.stage) t.job out old.front now) same d.front;
+      tasks = is
+          ∙ (ap (λ (t : Task). set tasks k t) (d.task_is ∙ (ap (λ (t : Task). task_moved t (moves (ended t.stage))) same ∙ ap (λ (m : Move). task_moved task m) (sym quiet)))
+          ∙ sym (append-nil (tasks_in (Some k) (Answer k now) (with_tasks old tasks))));
+      shards = d.shards ∙ (sym (unwritten (ended task.stage) task.job.origin.slot old.shards) ∙ ap (λ (m : Move). shards_moved m task.job.origin.slot old.shards) (sym quiet));
       words = d.words ∙ ap (λ (m : Move). words_after m task old.words) (sym quiet);
-      emits = subst (λ (t : Task). AnswerEmits (content_at t.stage) t.job (advanced old.front now) out) at d.emits;
+      emits = subst (λ (t : Task). AnswerEmits (content_at t.stage) t.job (advanced old.front now) out) same d.emits;
       safe = subst (λ (m : Move). AllSafe m.changes) (sym quiet) tt;
     }
 
 pub draws_done : (k now : ℕ) (old new : ServerState) (tasks later : List Task) (was next : Task) → was ≡ task_at tasks k → later ≡ set tasks k next → DrawsId now old was new next → Done (Fresh k now) (with_tasks old tasks) None (with_tasks new later)
-draws_done k now old new tasks later was next at is d =
+draws_done k now old new tasks later was next same is d =
     let task = task_at tasks k in
     let st = drew (free_id old.front.ids (max old.front.now now)) task.stage in
+    let quiet : row (Fresh k now) (scene_in old task) ≡ moves st = draw_quiet k now (scene_in old task) task.stage in
     record {
-      front = subst (λ (t : Task). new.front ≡ front_drawn (needs_id t.stage) old.front now) at d.front;
-      tasks = is ∙ (ap (λ (t : Task). set tasks k t) (d.task_is ∙ ap (λ (t : Task). task_moved t (at_fresh now (scene_in old t) t.stage)) at) ∙ sym (append-nil (tasks_in (Some k) (Fresh k now) (with_tasks old tasks))));
-      shards = d.shards ∙ sym (unwritten st task.job.origin.slot old.shards);
-      words = d.words;
+      front = subst (λ (t : Task). new.front ≡ front_drawn (needs_id t.stage) old.front now) same d.front;
+      tasks = is
+          ∙ (ap (λ (t : Task). set tasks k t) (d.task_is ∙ (ap (λ (t : Task). task_moved t (moves (drew (free_id old.front.ids (max old.front.now now)) t.stage))) same ∙ ap (λ (m : Move). task_moved task m) (sym quiet)))
+          ∙ sym (append-nil (tasks_in (Some k) (Fresh k now) (with_tasks old tasks))));
+      shards = d.shards ∙ (sym (unwritten st task.job.origin.slot old.shards) ∙ ap (λ (m : Move). shards_moved m task.job.origin.slot old.shards) (sym quiet));
+      words = d.words ∙ ap (λ (m : Move). words_after m task old.words) (sym quiet);
       emits = refl;
-      safe = tt;
+      safe = subst (λ (m : Move). AllSafe m.changes) (sym quiet) tt;
     }
 
 -- ---- no job

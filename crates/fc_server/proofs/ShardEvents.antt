@@ -14,7 +14,8 @@ use Rattle.fc_registry.specs.Turns.{due_job, turn_given_to}
 use Rattle.fc_registry.specs.Watches.{after_due, after_tick, due_place, handed as shard_handed, is_due_at as is_due_here, is_late_at as is_late_here, late_place, noticed_at, place_from, signal_call, signalled, ticked_in, watch_at, watch_called}
 use Rattle.fc_core.specs.History.{AtShard, AsksTurn, Signals, Ticks, Calm, Seen, calls_by, due_in, hands_by, is_due_at, is_late_at, is_place_of, late_in, slot_at, turn_at, turns_by}
 use Rattle.fc_core.specs.Legal.{resent, resent_at, resent_in}
-use Rattle.fc_core.specs.Stages.{handed, new_task}
+use Rattle.fc_core.specs.Stages.{new_task}
+use Rattle.fc_core.specs.Rows.{handed}
 use Rattle.fc_core.proofs.Places.{place_below}
 use Rattle.fc_server.specs.Agreement.{ShardsAgree}
 use Rattle.fc_server.specs.Steps.{resent_by, resent_if, shard_asked, shard_by, shard_changed, shard_resent, shard_ticked, shard_turn, turn_if, turns_at}

@@ -26,7 +26,8 @@ use Rattle.fc_core.specs.Ids.{drawn, drawn_for}
 use Rattle.fc_core.specs.Legal.{AnswerEmits, EmitsBy, sends_in, FindsMeaning, FoundMeans, IsAnswered, TakesMeaning}
 use Rattle.fc_core.specs.Receiving.{AskWithin, added_by, after_added, after_received, brought, drawn_by, id_in, keeping, kept_of, next_opening, opened_by, received, sent}
 use Rattle.fc_core.specs.Sound.{AllSafe, IsSafelySeen, IsSound}
-use Rattle.fc_core.specs.Stages.{Move, Scene, content_at, handed, names, needs_id, new_task, row, sends, scene_at, task_moved, words_after}
+use Rattle.fc_core.specs.Stages.{content_at, needs_id, new_task}
+use Rattle.fc_core.specs.Rows.{Move, Scene, handed, names, row, sends, scene_at, task_moved, words_after}
 use Rattle.fc_core.proofs.Fitting.{after_changes-append, is_input}
 use Rattle.fc_core.proofs.Keeping.{IsSafeMove, still_safe, still_sound}
 use Rattle.fc_core.proofs.OnShards.{named_calm}

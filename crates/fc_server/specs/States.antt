@@ -13,7 +13,8 @@ use Rattle.fc_core.specs.Ids.{drawn, free_id}
 use Rattle.fc_core.specs.Fits.{FitsStage}
 use Rattle.fc_core.specs.Legal.{AnswerEmits}
 use Rattle.fc_core.specs.Sound.{AllSafe}
-use Rattle.fc_core.specs.Stages.{Common, Move, Scene, at_answer, at_fresh, content_at, needs_id, task_moved, row, scene_of, sends, shard_moved, words_after}
+use Rattle.fc_core.specs.Stages.{content_at, drew, ended, needs_id}
+use Rattle.fc_core.specs.Rows.{Common, Move, Scene, moves, task_moved, row, scene_of, sends, shard_moved, words_after}
 
 -- its front, its shards, and the head words of their slots
 pub record ServerState : Type 0 where
@@ -63,14 +64,14 @@ front_drawn false f now = f
 -- a task's draw
 pub record DrawsId (now : ℕ) (old : ServerState) (task : Task) (new : ServerState) (next : Task) : Type 0 where
   pub front : new.front ≡ front_drawn (needs_id task.stage) old.front now
-  pub task_is : next ≡ task_moved task (at_fresh now (scene_in old task) task.stage)
+  pub task_is : next ≡ task_moved task (moves (drew (free_id old.front.ids (max old.front.now now)) task.stage))
   pub shards : new.shards ≡ old.shards
   pub words : new.words ≡ old.words
 
 -- a task's answer
 pub record Responds (now : ℕ) (old : ServerState) (task : Task) (new : ServerState) (next : Task) (emitted : Option Emission) : Type 0 where
   pub front : new.front ≡ front_after (content_at task.stage) task.job emitted old.front now
-  pub task_is : next ≡ task_moved task (at_answer task.stage)
+  pub task_is : next ≡ task_moved task (moves (ended task.stage))
   pub shards : new.shards ≡ old.shards
   pub words : new.words ≡ old.words
   pub emits : AnswerEmits (content_at task.stage) task.job (advanced old.front now) emitted

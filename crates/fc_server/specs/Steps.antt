@@ -15,7 +15,8 @@ use Rattle.fc_core.specs.History.{AtFront, Receives, Answers, Draws, Passes, Res
 use Rattle.fc_core.specs.Legal.{AnswerEmits, Emits, TakesMeaning, resent}
 use Rattle.fc_core.specs.Receiving.{after_received, brought, next_opening, received, sent}
 use Rattle.fc_core.specs.Sound.{AllSafe}
-use Rattle.fc_core.specs.Stages.{Move, content_at, names, needs_id, new_task, row, sends, task_moved, words_after}
+use Rattle.fc_core.specs.Stages.{content_at, needs_id, new_task}
+use Rattle.fc_core.specs.Rows.{Move, names, row, sends, task_moved, words_after}
 use Rattle.fc_server.specs.Agreement.{Agrees, Parts}
 use Rattle.fc_server.specs.States.{ServerState, front_after, front_drawn, scene_in, shards_moved}
 

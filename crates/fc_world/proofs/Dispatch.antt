@@ -2,7 +2,7 @@
 use Rattle.std.proofs.Common.{◌≡◌, ◌∙◌, ℕ, Option, Some, ap, sym, subst}
 use Rattle.coap_msg.specs.declared.types.Emission.{Emission}
 use Rattle.fc_core.specs.declared.event.Event.{Event}
-use Rattle.fc_core.specs.Stages.{names}
+use Rattle.fc_core.specs.Rows.{names}
 use Rattle.fc_server.specs.Agreement.{Parts}
 use Rattle.fc_server.specs.Steps.{Steps}
 

@@ -4,8 +4,8 @@ use Rattle.fc_registry.specs.Watches.{watch_at}
 use Rattle.fc_registry.specs.declared.commit.Committed.{Committed}
 use Rattle.fc_machine.specs.Ran.{Ran}
 use Rattle.fc_registry.specs.Calls.{outcome}
-use Rattle.fc_core.specs.Stages.{after_commit, around_of}
-use Rattle.fc_core.proofs.Commits.{IsRow, commit_done, commit_row, left_by, shard_of_row, stage_of_row, writes_at}
+use Rattle.fc_core.specs.Stages.{after_commit}
+use Rattle.fc_core.proofs.Commits.{IsRow, commit_done, commit_row, left_by, shard_of_row}
 use Rattle.fc_core.proofs.task.run_and_commit.Goals as goal
 
 pub committed-requires : goal.committed-requires
@@ -25,15 +25,12 @@ row c =
     c.requires.given c.requires.asked w.commit
 
 pub returns-clause-stage : goal.returns-clause-stage
-returns-clause-stage c = λ common.
-    let n = c.args.ticket.now.origin.slot in
-    let slot = slot_in c.args.shard.now n in
-    c.committed.ensures ∙ (ap (λ (x : Committed). after_commit c.args.count c.args.ticket.now x) (row c).answer ∙ stage_of_row (outcome c.args.ticket.now slot) c.args.count c.args.ticket.now c.args.now slot.serial (around_of c.args.shard.now common n) (writes_at c.args.ticket.now slot))
+returns-clause-stage c = c.committed.ensures ∙ ap (λ (x : Committed). after_commit c.args.count c.args.ticket.now x) (row c).answer
 
 pub returns-clause-shard : goal.returns-clause-shard
-returns-clause-shard c = λ common.
+returns-clause-shard c =
     let shard = c.args.shard.now in
     let t = c.args.ticket.now in
     c.commit-committed.ensures.shard
     ∙ ((λ i. left_by t c.args.now shard ((row c).answer i) ((row c).after_is i))
-    ∙ shard_of_row (outcome t (slot_in shard t.origin.slot)) c.args.count t c.args.now shard common)
+    ∙ shard_of_row (outcome t (slot_in shard t.origin.slot)) c.args.count t c.args.now shard)

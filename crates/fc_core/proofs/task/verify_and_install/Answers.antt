@@ -1,24 +1,35 @@
-use Rattle.std.proofs.Common.{◌≡◌, ap, sym, subst, ◌∙◌}
+use Rattle.std.proofs.Common.{◌≡◌, true, Some, ap, sym, subst, ◌∙◌}
+use Rattle.std.specs.Prelude.{OnOk}
+use Rattle.fc_verify.specs.Accepted.{Judgement}
 use Rattle.fc_verify.specs.declared.refusal.Refusal.{Refusal}
 use Rattle.fc_verify.specs.declared.refusal.Refusal.TheVariants.{Broken}
 use Rattle.fc_isa.specs.declared.rule.Fault.{Fault}
+use Rattle.fc_core.specs.declared.event.Event.TheVariants.{Install}
 use Rattle.fc_core.specs.declared.stage.Stage.TheVariants.{ToAnswer}
 use Rattle.fc_core.specs.Ends.{refused}
 use Rattle.fc_verify.specs.Judged.{judged}
 use Rattle.fc_verify.specs.Refusals.{IsFaultOf, IsRefusal}
 use Rattle.fc_registry.specs.Slots.{slot_in}
-use Rattle.fc_core.specs.Stages.{Move, installed, moves, shard_moved}
-use Rattle.fc_core.proofs.Rejections.{rejected_move, same_slot}
+use Rattle.fc_core.specs.Rows.{Scene, install_call, install_move, move_of, shard_moved}
+use Rattle.fc_core.specs.Steps.{Call, Rejects, next_stage}
+use Rattle.fc_core.proofs.Rejections.{rejected_call, same_slot}
 use Rattle.fc_core.proofs.task.verify_and_install.Goals as goal
 
--- the move of the refusal
-rejects : (c : goal.After-rejected) → moves (ToAnswer (refused (Broken c.in-Err-Broken.fault))) ≡ installed (judged c.args.image.now) (slot_in c.args.shard.now c.args.slot)
+-- the call of the refusal
+rejects : (c : goal.After-rejected) → Rejects (refused (Broken c.in-Err-Broken.fault)) ≡ install_call (judged c.args.image.now) (slot_in c.args.shard.now c.args.slot)
 rejects c =
     let is : IsFaultOf c.args.image.now (judged c.args.image.now) c.in-Err-Broken.fault = subst (λ (r : Refusal). IsRefusal c.args.image.now r) c.in-Err-Broken.field-0-is c.in-Err-Broken.ensures.refused in
-    rejected_move c.args.image.now (judged c.args.image.now) c.in-Err-Broken.fault (slot_in c.args.shard.now c.args.slot) is
+    rejected_call c.args.image.now (judged c.args.image.now) c.in-Err-Broken.fault (slot_in c.args.shard.now c.args.slot) is
 
 pub returns-in-Err-Broken-clause-stage : goal.returns-in-Err-Broken-clause-stage
-returns-in-Err-Broken-clause-stage c = c.rejected.ensures ∙ (ap (λ (f : Fault). ToAnswer (refused (Broken f))) c.in-Err-Broken.fault-is ∙ ap (λ (m : Move). m.stage) (rejects c))
+returns-in-Err-Broken-clause-stage c = c.rejected.ensures ∙ (ap (λ (f : Fault). ToAnswer (refused (Broken f))) c.in-Err-Broken.fault-is ∙ ap next_stage (rejects c))
 
 pub returns-in-Err-Broken-clause-shard : goal.returns-in-Err-Broken-clause-shard
-returns-in-Err-Broken-clause-shard c = sym (same_slot c.args.shard.now c.args.slot) ∙ ap (λ (m : Move). shard_moved m c.args.slot c.args.shard.now) (rejects c)
+returns-in-Err-Broken-clause-shard c = λ s.
+    sym (same_slot c.args.shard.now c.args.slot)
+    ∙ ap (λ (call : Call). shard_moved (move_of (Install 0 true) (record s { slot = slot_in c.args.shard.now c.args.slot }) (Some call)) c.args.slot c.args.shard.now) (rejects c)
+
+pub returns-in-Ok-clause-shard : goal.returns-in-Ok-clause-shard
+returns-in-Ok-clause-shard c =
+    subst (λ (j : Judgement). OnOk c.install_program.result ((s : Scene) → c.install_program.new.shard ≡ shard_moved (install_move j (record s { slot = slot_in c.args.shard.now c.args.slot })) c.args.slot c.args.shard.now))
+    (sym c.in-Ok.ensures.judged) c.install_program.ensures.shard

@@ -1,4 +1,4 @@
-use Rattle.std.proofs.Common.{Bool, List, [], ◌∷◌, ◌++◌, None, Some, length, refl, sym, subst, ◌∙◌}
+use Rattle.std.proofs.Common.{Bool, [], ◌∷◌, ◌++◌, None, Some, length, refl, sym, subst, ◌∙◌}
 use Rattle.fc_core.specs.declared.event.Event.TheVariants.{Due}
 use Rattle.fc_core.specs.declared.stage.Task.{Task}
 use Rattle.fc_server.specs.Notified.{notification_in}

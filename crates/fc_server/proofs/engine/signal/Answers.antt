@@ -1,6 +1,4 @@
-use Rattle.std.proofs.Common.{ℕ, List, suc, ◌+◌, ◌<◌, ◌≡◌, arith, length, subst}
-use Rattle.fc_core.specs.History.{History}
-use Rattle.fc_core.specs.declared.stage.Task.{Task}
+use Rattle.std.proofs.Common.{ℕ, suc, ◌+◌, ◌<◌, ◌≡◌, arith, subst}
 use Rattle.fc_server.specs.Serving.{Serves, signalled_below}
 use Rattle.fc_server.proofs.Served.{signalled_on}
 use Rattle.fc_server.proofs.engine.signal.Goals as goal

@@ -10,4 +10,4 @@ returns c = λ k.
     let s : ServerState = record { front = c.self.inside.front; shards = c.self.inside.shards.items; words = c.self.inside.heads } in
     let task = c.args.task.now in
     subst (λ (x : ServerState). Does (Peek k c.args.slot) x task x c.peek.new.self None) c.self.view_is
-    (does_quietly (Peek k c.args.slot) s s task c.peek.new.self _ (peek_quiet c.args.slot (scene_in s task) task.stage) refl (c.peek.ensures (shard_at s.shards (task.job.origin.slot % 8)) (common_in s.front s.words).free) refl)
+    (does_quietly (Peek k c.args.slot) s s task c.peek.new.self _ (peek_quiet k c.args.slot (scene_in s task)) refl (c.peek.ensures k (shard_at s.shards (task.job.origin.slot % 8)) (common_in s.front s.words).free) refl)

@@ -1,0 +1,217 @@
+-- The rows of a history: what each event does to the job that it names, and to that job's slot and shard. An event is a call for its
+-- job, answered by the slot and what is around it, and its row is the move of that call; an event that is none leaves the job where it is.
+use Rattle.std.specs.Prelude.{◌≡◌, ℕ, ◌/◌, ◌==◌, Bool, true, false, Option, Some, None, List, [], ◌∷◌, length, max}
+use Rattle.coap_msg.specs.declared.types.Emission.{Emission}
+use Rattle.fc_verify.specs.Accepted.{Judgement, Accepts, Breaks, Untypable}
+use Rattle.fc_verify.specs.Judged.{judged}
+use Rattle.fc_observe.specs.Calls.{ObserverCall, GiveUp as GiveUpTurn}
+use Rattle.fc_observe.specs.Observers.{ObserverList}
+use Rattle.fc_registry.specs.declared.job.Job.{Job}
+use Rattle.fc_registry.specs.Slots.{Slot, Shard, Ticket, slot_in, with_slot}
+use Rattle.fc_registry.specs.Changes.{Change, after_changes}
+use Rattle.fc_registry.specs.Watches.{watch_at, with_calls}
+use Rattle.fc_registry.specs.Calls.{commit_calls, commits, install_in, is_out_at, outcome, readings_if, receipt_at, remove_from, taking, turn_calls, turn_taking}
+use Rattle.fc_registry.specs.Notes.{note_at, note_calls}
+use Rattle.fc_core.specs.Contents.{Rejected, Untyped}
+use Rattle.fc_core.specs.Heads.{published, word_at}
+use Rattle.fc_core.specs.declared.event.Event.{Event}
+use Rattle.fc_core.specs.declared.event.Event.TheVariants.{Peek, Take, Commit, Install, Remove, Receipt, Raise, Answer, Fresh, Note, GiveUp, Lose}
+use Rattle.fc_core.specs.declared.stage.Stage.{Stage}
+use Rattle.fc_core.specs.declared.stage.Stage.TheVariants.{ToMatch, ToTake, ToCommit, ToInstall, ToRemove, ToDescribe, ToList, ToRaise, ToAnswer, ToTell}
+use Rattle.fc_core.specs.declared.stage.TurnStage.TheVariants as turns
+use Rattle.fc_core.specs.declared.stage.Task.{Task}
+use Rattle.fc_core.specs.Stages.{image_of}
+use Rattle.fc_core.specs.Steps.{Call, Matches, Lists, Takes, Commits, Installs, Rejects, Refuses, Removes, Describes, Raises, Answers, TakesTurn, Draws, Notes, GivesUp, Loses, changes_told, next_stage, word_told}
+
+-- the job that an event names
+abbrev pub names : Event → Option ℕ
+names (Peek job slot) = Some job
+names (Take job memory readings) = Some job
+names (Commit job now) = Some job
+names (Install job memory) = Some job
+names (Remove job) = Some job
+names (Receipt job) = Some job
+names (Raise job) = Some job
+names (Answer job now) = Some job
+names (Fresh job now) = Some job
+names (Note job now random) = Some job
+names (GiveUp job now) = Some job
+names (Lose job) = Some job
+names other = None
+
+-- ---- what an event finds
+
+-- what is common to the jobs of all slots: the head words, and the message id of the server's own that is free at a moment
+pub record Common : Type 0 where
+  pub words : List ℕ
+  pub free : ℕ → Option ℕ
+
+-- what there is around a job's slot: what is common to all, and its shard's moment and its observers
+pub record Around : Type 0 where
+  pub common : Common
+  pub moment : ℕ
+  pub watch : ObserverList
+
+-- what an event finds of the job that it names
+pub record Scene : Type 0 where
+  pub job : Job
+  pub slot : Slot
+  pub around : Around
+  pub stage : Stage
+
+-- ---- its call
+
+-- a look at the head word of the slot that is to be looked at; at another's it is none
+abbrev pub call_if : Bool → Call → Option Call
+call_if true call = Some call
+call_if false call = None
+
+-- the install of an image by what it is judged, where memory isn't refused
+abbrev pub install_call : Judgement → Slot → Call
+install_call (Accepts p) slot = Installs p (install_in slot p).answer
+install_call (Breaks rule k) slot = Rejects (Rejected rule k)
+install_call Untypable slot = Rejects Untyped
+
+abbrev pub install_if : Bool → Judgement → Slot → Call
+install_if true judgement slot = install_call judgement slot
+install_if false judgement slot = Refuses
+
+-- the call that an event is for the job that it names, with what it is answered; none where the job's stage needs another
+abbrev pub call_at : Event → Scene → Stage → Option Call
+call_at (Peek job n) s ToMatch = call_if (n == s.job.origin.slot) (Matches s.job.etags.items (word_at s.around.common.words n))
+call_at (Peek job n) s (ToList seen) = call_if (n == length seen.items) (Lists seen (word_at s.around.common.words n))
+call_at (Take job memory readings) s (ToTake count) = Some (Takes count (taking (readings_if memory readings) s.job s.slot.serial s.slot.present))
+call_at (Take job memory readings) s (ToTell turn turns.ToTake) =
+    Some (TakesTurn turn (turn_taking (is_out_at turn s.around.moment s.around.watch) (readings_if memory readings) s.job s.slot.serial s.slot.present))
+call_at (Commit job now) s (ToCommit count t) = Some (Commits count t (commits (outcome t s.slot) t s.slot.serial s.around.watch).answer)
+call_at (Install job memory) s ToInstall = Some (install_if memory (judged (image_of s.job.ask)) s.slot)
+call_at (Remove job) s ToRemove = Some (Removes (remove_from s.slot).answer)
+call_at (Receipt job) s ToDescribe = Some (Describes (receipt_at s.slot.present))
+call_at (Raise job) s (ToRaise word content) = Some (Raises word content)
+call_at (Answer job now) s (ToAnswer content) = Some (Answers content)
+call_at (Fresh job now) s (ToTell turn (turns.ToDraw found)) = Some (Draws turn found (s.around.common.free now))
+call_at (Note job now random) s (ToTell turn (turns.ToNote found id)) = Some (Notes turn found id)
+call_at (GiveUp job now) s (ToTell turn needs) = Some (GivesUp turn needs)
+call_at (Lose job) s needs = Some (Loses needs)
+call_at other s needs = None
+
+abbrev pub call_of : Event → Scene → Option Call
+call_of e s = call_at e s s.stage
+
+-- ---- its move
+
+-- where it leaves the job, the changes of the job's slot and the calls on the slot's observers, the newest first, the moment
+-- that it hands to the slot's shard, and the head word that it raises the slot's to
+pub record Move : Type 0 where
+  pub stage : Stage
+  pub changes : List Change
+  pub calls : List ObserverCall
+  pub hands : Option ℕ
+  pub raises : Option ℕ
+
+-- no more than to this stage
+abbrev pub moves : Stage → Move
+moves stage = record { stage = stage; changes = []; calls = []; hands = None; raises = None }
+
+-- the moment that an event hands to the shard of its job's slot, and the random word of a notification
+abbrev pub handed_in : Event → Option ℕ
+handed_in (Commit job now) = Some now
+handed_in (Note job now random) = Some now
+handed_in (GiveUp job now) = Some now
+handed_in other = None
+
+abbrev pub random_in : Event → ℕ
+random_in (Note job now random) = random
+random_in other = 0
+
+abbrev pub handed : Option ℕ → ℕ → ℕ
+handed None before = before
+handed (Some now) before = max before now
+
+-- the calls on the slot's observers, at the moment that the shard is at then, and with this random word
+abbrev pub calls_told : ℕ → ℕ → Scene → Call → List ObserverCall
+calls_told at random s (TakesTurn turn taken) = turn_calls turn at s.slot.present s.around.watch
+calls_told at random s (Commits count t committed) = commit_calls committed at t
+calls_told at random s (Notes turn found id) = note_calls turn id random at found (note_at turn id at found s.around.watch)
+calls_told at random s (GivesUp turn needs) = GiveUpTurn turn at ∷ []
+calls_told at random s other = []
+
+abbrev pub move_of : Event → Scene → Option Call → Move
+move_of e s None = moves s.stage
+move_of e s (Some c) = record {
+  stage = next_stage c;
+  changes = changes_told c;
+  calls = calls_told (handed (handed_in e) s.around.moment) (random_in e) s c;
+  hands = handed_in e;
+  raises = word_told c;
+}
+
+-- the row of an event: the move of its call
+abbrev pub row : Event → Scene → Move
+row e s = move_of e s (call_of e s)
+
+-- the notification that a turn sends at this stage
+abbrev pub notification : ℕ → Scene → Stage → Option Emission
+notification now s (ToTell turn (turns.ToNote found id)) = note_at turn id (max s.around.moment now) found s.around.watch
+notification now s other = None
+
+-- what an event sends of the job that it names, beside its answer
+abbrev pub sends : Event → Scene → Option Emission
+sends (Note job now random) s = notification now s s.stage
+sends other s = None
+
+-- ---- on a task and its shard
+
+abbrev pub scene_at : Task → Slot → Around → Scene
+scene_at task slot around = record { job = task.job; slot = slot; around = around; stage = task.stage }
+
+-- what there is around slot n at a shard
+abbrev pub around_of : Shard → Common → ℕ → Around
+around_of shard common n = record { common = common; moment = shard.now; watch = watch_at shard (n / 8) }
+
+-- what an event on a task finds at a shard
+abbrev pub scene_of : Shard → Common → Task → Scene
+scene_of shard common task = scene_at task (slot_in shard task.job.origin.slot) (around_of shard common task.job.origin.slot)
+
+abbrev pub task_moved : Task → Move → Task
+task_moved task m = record { job = task.job; stage = m.stage }
+
+-- the shard after a move of a job of slot n
+abbrev pub shard_moved : Move → ℕ → Shard → Shard
+shard_moved m n shard = with_calls m.calls n (with_slot (record shard { now = handed m.hands shard.now }) n (after_changes (slot_in shard n) m.changes))
+
+-- the move of a commit of this ticket at a shard
+abbrev pub commit_call : Shard → ℕ → Ticket → Call
+commit_call shard count t =
+    let slot = slot_in shard t.origin.slot in
+    Commits count t (commits (outcome t slot) t slot.serial (watch_at shard (t.origin.slot / 8))).answer
+
+abbrev pub commit_move : Shard → ℕ → Ticket → ℕ → Move
+commit_move shard count t now =
+    let slot = slot_in shard t.origin.slot in
+    record {
+      stage = next_stage (commit_call shard count t);
+      changes = changes_told (commit_call shard count t);
+      calls = commit_calls (commits (outcome t slot) t slot.serial (watch_at shard (t.origin.slot / 8))).answer (max shard.now now) t;
+      hands = Some now;
+      raises = None;
+    }
+
+-- the move of an install, where memory isn't refused, by what the image is judged
+abbrev pub install_move : Judgement → Scene → Move
+install_move judgement s = move_of (Install 0 true) s (Some (install_call judgement s.slot))
+
+-- a shard after a move of this task
+abbrev pub shard_after : Move → Task → Shard → Shard
+shard_after m task shard = shard_moved m task.job.origin.slot shard
+
+-- the task, and the shard of its slot, after an event: whatever is common to all jobs, which the rows of slots don't look at
+abbrev pub TaskMoves : Event → Shard → Task → Task → Type 0
+TaskMoves e shard old new = (common : Common) → new ≡ task_moved old (row e (scene_of shard common old))
+
+abbrev pub ShardMoves : Event → Shard → Task → Shard → Type 0
+ShardMoves e old task new = (common : Common) → new ≡ shard_after (row e (scene_of old common task)) task old
+
+-- the head words after a move of this task
+abbrev pub words_after : Move → Task → List ℕ → List ℕ
+words_after m task words = published m.raises task.job.origin.slot words
