@@ -9,3 +9,4 @@ pub mod Ahead
 pub mod Tickets
 pub mod Endings
 mod Quiet
+pub mod Asked

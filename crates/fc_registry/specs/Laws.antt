@@ -1,6 +1,7 @@
--- What a slot's serials, version and variables say of its changes, and a ticket of its job.
-use Rattle.std.specs.Prelude.{◌≡◌, ℕ, ◌+◌, if◌then◌else◌, List, [], ◌∷◌, ◌++◌, length, replicate}
+-- What a slot's serials, version and variables say of its changes, a ticket of its job, and a turn's job of its observer.
+use Rattle.std.specs.Prelude.{◌≡◌, ℕ, ◌+◌, ◌<◌, false, if◌then◌else◌, Some, None, List, [], ◌∷◌, ◌++◌, length, replicate}
 use Rattle.fc_help.specs.Request.{Request}
+use Rattle.fc_observe.specs.Views.{Interest}
 use Rattle.fc_registry.specs.declared.job.Ask.TheVariants.{Run}
 use Rattle.fc_registry.specs.declared.job.Job.{Job}
 use Rattle.fc_registry.specs.Slots.{Present, Ticket, new_slot}
@@ -43,3 +44,12 @@ pub record IsTicketOf (j : Job) (t : Ticket) : Type 0 where
   pub block : t.block ≡ j.block
   pub observe : t.observe ≡ j.observe
   pub request : (request : Request) → j.ask ≡ Run request → t.request ≡ request
+
+-- a turn's job for an observer: its request, answered anew from the first block on, of the size that its registration asked for, if it asked
+-- for one. A size has an exponent of three bits
+pub record IsTurnFor (j : Job) (o : Interest) : Type 0 where
+  pub endpoint : j.origin.endpoint ≡ o.endpoint
+  pub token : j.token ≡ o.token
+  pub ask : j.ask ≡ Run o.request
+  pub whole : o.szx ≡ None → j.block ≡ None
+  pub size : (szx : ℕ) → szx < 8 → o.szx ≡ Some szx → j.block ≡ Some (record { number = 0; more = false; szx = szx })

@@ -2,19 +2,23 @@
 ghost use Rattle.circular_buffer.specs.Buffer.{keep_last};
 ghost use Rattle.fc_registry.specs.Changes.{Change, Commit, Committed, after_changes, changed};
 ghost use Rattle.coap_msg.specs.declared.types.Emission.{Emission};
-ghost use Rattle.fc_registry.specs.Laws.{FollowsInstall, IsTicketOf, noticed_serial};
-ghost use Rattle.fc_observe.specs.Calls.{Advance, End, Notify};
+ghost use Rattle.fc_registry.specs.Laws.{FollowsInstall, IsTicketOf, IsTurnFor, noticed_serial};
+ghost use Rattle.coap_opts.specs.Values.{Place};
+ghost use Rattle.fc_observe.specs.Calls.{Advance, End, Notify, Register};
+ghost use Rattle.fc_observe.specs.Views.{interest_of};
+ghost use Rattle.fc_observe.specs.declared.entry.Entry.{Entry};
 ghost use Rattle.fc_observe.specs.Observers.{ObserverList};
 ghost use Rattle.fc_observe.specs.declared.entry.Turn.{Turn};
 ghost use Rattle.fc_observe.specs.declared.observers.Ticked.TheVariants.{Quiet};
 ghost use Rattle.fc_registry.specs.Notes.{note_calls};
 ghost use Rattle.fc_registry.specs.Slots.{Present, Shard, Slot, Ticket, new_slot};
 ghost use Rattle.fc_registry.specs.Turns.{due_job};
-ghost use Rattle.fc_registry.specs.Watches.{after_due, after_tick, due_place, is_quiet, late_place, ticked_in};
+ghost use Rattle.fc_registry.specs.Watches.{after_due, after_tick, due_place, is_quiet, late_place, ticked_in, watch_at};
 ghost use Rattle.fc_registry.specs.declared.commit.CommitOutcome.{CommitOutcome};
 ghost use Rattle.fc_registry.specs.declared.job.Job.{Job};
 ghost use Rattle.fc_registry.specs.declared.shard.Taken.TheVariants.{Given};
-ghost use Rattle.fc_registry.specs.Calls.{HasGiven, ComesTo, IsTaking, meaning_at, outcome};
+ghost use Rattle.fc_registry.specs.Calls.{HasGiven, ComesTo, IsTaking, is_registration, meaning_at, observe_calls, outcome};
+ghost use Rattle.std.specs.List.{Any};
 ghost use Rattle.std.specs.Prelude.{List, [], None, Some, length, true, ℕ, ◌∷◌, ◌++◌, ◌+◌, ◌≤◌, ◌≡◌};
 
 /// A slot's serial counts its changes, from its first serial on.
@@ -74,4 +78,15 @@ pub fn notifications_end_their_turns()
         note_calls turn id random at (Some t) (Some e) ≡ End turn ∷ Advance at ∷ [] }
     ensures empty { (turn : Turn) (id random at : ℕ) (e : Emission) →
         note_calls turn id random at None (Some e) ≡ End turn ∷ Advance at ∷ [] }
+{}
+
+/// A turn's job asks what its observer's registration asked, from the first block on: of the size of the Block2 option of the registration,
+/// where it had one (RFC 7959, 2.6). A registration keeps that size.
+pub fn turns_ask_what_was_registered()
+    ensures turn { (shard : Shard) (k : ℕ) (j : Job) → due_job (Some k) shard ≡ Some j →
+        Any (λ (o : Entry). IsTurnFor j (interest_of o)) (watch_at shard k).held }
+    ensures whole { (now : ℕ) (t : Ticket) → is_registration t ≡ true → t.block ≡ None →
+        observe_calls now t ≡ Register now t.origin.endpoint t.token t.request None t.serial ∷ [] }
+    ensures size { (now : ℕ) (t : Ticket) (block : Place) → is_registration t ≡ true → t.block ≡ Some block →
+        observe_calls now t ≡ Register now t.origin.endpoint t.token t.request (Some block.szx) t.serial ∷ [] }
 {}
