@@ -19,3 +19,4 @@ pub mod Entering
 pub mod Again
 pub mod Leaving
 pub mod Quiet
+pub mod Nobody

@@ -174,7 +174,7 @@ module _ (items : List SlotState) (watches : List ObserverList) (p : ℕ) (few :
 
 -- ---- every place
 
-mapped_at : (f : ObserverList → ObserverList) (P : ObserverList → Type 0) (ws : List ObserverList) (k : ℕ) → ((w : ObserverList) → P w → P (f w)) → P (no_observers 0) → P (get_or ws k (no_observers 0)) → P (get_or (map f ws) k (no_observers 0))
+pub mapped_at : (f : ObserverList → ObserverList) (P : ObserverList → Type 0) (ws : List ObserverList) (k : ℕ) → ((w : ObserverList) → P w → P (f w)) → P (no_observers 0) → P (get_or ws k (no_observers 0)) → P (get_or (map f ws) k (no_observers 0))
 mapped_at f P [] k keeps none was = none
 mapped_at f P (w ∷ ws) zero keeps none was = keeps w was
 mapped_at f P (w ∷ ws) (suc k) keeps none was = mapped_at f P ws k keeps none was
@@ -194,8 +194,12 @@ new_held [] k new = refl
 new_held (w ∷ ws) zero new = new.0
 new_held (w ∷ ws) (suc k) new = new_held ws k new.1
 
--- a new shard's observers were sent nothing
+-- a new shard has no observers
+pub none_new : (index k : ℕ) → (get_or (new_watches index 8) k (no_observers 0)).held ≡ []
+none_new index k = new_held (new_watches index 8) k (refl, (refl, (refl, (refl, (refl, (refl, (refl, (refl, tt))))))))
+
+-- they were sent nothing
 pub none_sent : (slots : List Slot) (index : ℕ) → AreSentUpTo slots (new_watches index 8)
 none_sent slots index k =
     let n = (get_or slots k (new_slot 0)).serial in
-    subst (λ (os : List Entry). All (λ (o : Entry). o.serial ≤ n) os) (sym (new_held (new_watches index 8) k (refl, (refl, (refl, (refl, (refl, (refl, (refl, (refl, tt)))))))))) (All-nil (λ (o : Entry). o.serial ≤ n))
+    subst (λ (os : List Entry). All (λ (o : Entry). o.serial ≤ n) os) (sym (none_new index k)) (All-nil (λ (o : Entry). o.serial ≤ n))

@@ -9,4 +9,5 @@ pub mod Ahead
 pub mod Tickets
 pub mod Endings
 mod Quiet
+pub mod Watched
 pub mod Asked

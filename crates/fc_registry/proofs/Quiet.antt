@@ -1,5 +1,5 @@
 -- A shard that is quiet: no notification of it is late, and no observer due.
-use Rattle.std.proofs.Common.{◌≡◌, ℕ, Bool, true, Option, Some, None, refl, ap}
+use Rattle.std.proofs.Common.{◌≡◌, ℕ, true, Option, Some, None, refl, ap}
 use Rattle.std.specs.Prelude.{is_none}
 use Rattle.std.proofs.lemmas.Bool.{and_parts}
 use Rattle.fc_observe.specs.declared.observers.Ticked.TheVariants.{Quiet}

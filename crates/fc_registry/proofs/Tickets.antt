@@ -1,9 +1,8 @@
 -- A ticket has what its job asks.
-use Rattle.std.proofs.Common.{◌≡◌, ℕ, Bool, true, false, List, Option, Some, None, refl, sym, ap, ◌∙◌, subst}
+use Rattle.std.proofs.Common.{◌≡◌, ℕ, Bool, true, false, List, Option, Some, None, refl, sym, ap, subst}
 use Rattle.fc_observe.specs.Observers.{ObserverList}
 use Rattle.fc_registry.specs.declared.job.Job.{Job}
-use Rattle.fc_registry.specs.declared.shard.Taken.{Taken}
-use Rattle.fc_registry.specs.declared.shard.Taken.TheVariants.{Given, Missing, Stale, Refused}
+use Rattle.fc_registry.specs.declared.shard.Taken.TheVariants.{Given}
 use Rattle.fc_registry.specs.Calls.{IsTaking, is_out_at, readings_if, request_of, taking, taking_by, ticket_of, turn_of, turn_taking}
 use Rattle.fc_registry.specs.Laws.{IsTicketOf}
 use Rattle.fc_registry.specs.Slots.{Present, Slot, Ticket}

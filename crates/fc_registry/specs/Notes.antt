@@ -13,6 +13,8 @@ use Rattle.fc_observe.specs.declared.entry.Turn.{Turn}
 use Rattle.fc_observe.specs.Calls.{ObserverCall, Advance, End, Notify}
 use Rattle.fc_observe.specs.Observers.{ObserverList, at_moment, entry_out, is_missing, must_confirm_turn}
 use Rattle.fc_observe.specs.Views.{Interest, interest_of}
+use Rattle.fc_registry.specs.declared.note.NoteOutcome.{NoteOutcome}
+use Rattle.fc_registry.specs.declared.note.NoteOutcome.TheVariants as outcomes
 use Rattle.fc_registry.specs.declared.note.Noted.{Noted}
 use Rattle.fc_registry.specs.declared.note.Noted.TheVariants.{Send, Stale, Stranger}
 use Rattle.fc_registry.specs.declared.note.Notification.{Notification}
@@ -92,6 +94,17 @@ note_calls turn id random at found sent = told_calls turn id random at found sen
 abbrev pub sent_of : Noted → Option Emission
 sent_of (Send emission) = Some emission
 sent_of other = None
+
+-- what becomes of a notification whose emission was written over another
+abbrev pub noted_as : NoteOutcome → Emission → Noted
+noted_as outcomes.Sent emission = Send emission
+noted_as outcomes.Stale emission = Stale
+noted_as outcomes.Stranger emission = Stranger
+
+-- one that isn't sent leaves that as it was
+abbrev pub IsKeptUnlessSent : NoteOutcome → Emission → Emission → Type 0
+IsKeptUnlessSent outcomes.Sent old new = Unit {0}
+IsKeptUnlessSent other old new = new ≡ old
 
 -- the ticket is this turn's, and the outcome is of it, where the slot is at this serial
 pub record IsRunOfTurn (turn : Turn) (ran : Ran) (t : Ticket) (serial : ℕ) : Type 0 where

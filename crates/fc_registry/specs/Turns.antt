@@ -1,5 +1,5 @@
 -- The turns of a slot's observers, as jobs: each answers its observer's request anew (RFC 7641, 4.2).
-use Rattle.std.specs.Prelude.{ℕ, ◌+◌, ◌*◌, ◌%◌, false, Option, Some, None, []}
+use Rattle.std.specs.Prelude.{ℕ, ◌+◌, ◌*◌, ◌%◌, Bool, true, false, Option, Some, None, []}
 use Rattle.std.specs.Option.{option_map}
 use Rattle.coap_opts.specs.Values.{Place}
 use Rattle.fc_observe.specs.declared.entry.Turn.{Turn}
@@ -37,6 +37,11 @@ job_of_turn n (Some turn) w = option_map (turn_job n turn.number) (option_map in
 -- the job of the turn that is given at a moment to one of these observers of slot n, where this serial is noticed
 abbrev pub turn_given_to : ℕ → ℕ → ℕ → ObserverList → Option Job
 turn_given_to n now noticed w = job_of_turn n (next_turn noticed (at_moment now w)) (observers_after (NextDue now noticed) w)
+
+-- the job that was written, if one was
+abbrev pub written_if : Bool → Job → Option Job
+written_if true job = Some job
+written_if false job = None
 
 -- at a place of a shard
 abbrev pub due_job : Option ℕ → Shard → Option Job

@@ -1,5 +1,5 @@
 -- The observers of a shard's slots, and the calls on them.
-use Rattle.std.specs.Prelude.{ℕ, zero, suc, ◌+◌, ◌*◌, ◌/◌, ◌≤◌, Bool, true, false, if◌then◌else◌, Option, Some, None, is_none, is_some, ◌&&◌, List, [], ◌∷◌, ◌++◌, map, max, slice_index_or, slice_set}
+use Rattle.std.specs.Prelude.{◌≡◌, ℕ, zero, suc, ◌+◌, ◌*◌, ◌/◌, ◌≤◌, Bool, true, false, if◌then◌else◌, Option, Some, None, is_none, is_some, ◌&&◌, List, [], ◌∷◌, ◌++◌, map, max, slice_index_or, slice_set}
 use Rattle.std.specs.List.{All}
 use Rattle.coap_msg.specs.declared.types.Endpoint.{Endpoint}
 use Rattle.fc_observe.specs.declared.entry.Turn.{Turn}
@@ -75,7 +75,8 @@ due_place shard = place_from (is_due_at shard) 8 0
 
 -- no notification at a place is late, and no observer due
 abbrev pub is_quiet_at : Shard → ℕ → Bool
-is_quiet_at shard k = is_none (late_entry (at_moment shard.now (watch_at shard k))) && is_none (next_turn (noticed_at shard k) (at_moment shard.now (watch_at shard k)))
+is_quiet_at shard k =
+    is_none (late_entry (at_moment shard.now (watch_at shard k))) && is_none (next_turn (noticed_at shard k) (at_moment shard.now (watch_at shard k)))
 
 -- nor at any place
 abbrev pub is_quiet : Shard → Bool
@@ -100,6 +101,13 @@ signal_call false to id = Acknowledge to id
 -- it is for the observers of every slot
 abbrev pub signalled : ObserverCall → Shard → Shard
 signalled c shard = record shard { watches = map (observers_after c) shard.watches }
+
+-- ---- whom there is to notify
+
+-- nobody observes a slot, where the shard isn't watched
+abbrev pub AreWatched : Bool → List ObserverList → Type 0
+AreWatched true watches = Unit {0}
+AreWatched false watches = (k : ℕ) → (slice_index_or watches k (no_observers 0)).held ≡ []
 
 -- ---- what observers were sent
 

@@ -40,7 +40,7 @@ mod turn;
 
 pub use commit::{CommitOutcome, Committed};
 pub use job::{Ask, Job, Opening, Origin};
-pub use note::{Noted, Notification};
+pub use note::{NoteOutcome, Noted, Notification};
 pub use observe::{CANCEL, REGISTER, has_observe};
 pub use receipt::Receipt;
 pub use ring::Entry;

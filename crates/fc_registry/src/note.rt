@@ -3,10 +3,10 @@ ghost use Rattle.std.specs.Prelude.{◌≡◌, ◌↔◌, ℕ, IsTrue, None, Som
 ghost use Rattle.fc_observe.specs.Calls.{after_calls};
 ghost use Rattle.fc_observe.specs.Views.{interest};
 ghost use Rattle.fc_registry.specs.Calls.{run_of};
-ghost use Rattle.fc_registry.specs.Notes.{IsNoted, IsNotedIn, IsRunOfTurn, IsSentOrStale, note_calls, note_envelope, note_in, note_kind, note_response, note_to, sent_of, ticket_told, told_calls};
+ghost use Rattle.fc_registry.specs.Notes.{IsKeptUnlessSent, IsNoted, IsNotedIn, IsRunOfTurn, IsSentOrStale, note_calls, note_envelope, note_in, note_kind, note_response, note_to, noted_as, sent_of, ticket_told, told_calls};
 
 use crate::ticket::{Ticket, is_run_of};
-use coap_msg::{Code, Datagram, Emission, MessageType};
+use coap_msg::{Code, Emission, MessageType};
 use coap_reply::{BodyBlock, Envelope, ran, text};
 use fc_machine::Outcome;
 use fc_observe::{Observer, Observers, Turn};
@@ -31,7 +31,19 @@ pub enum Noted {
     Stranger,
 }
 
-// Tells the observer that has a turn, at its shard's moment, where its slot is at this serial.
+/// What becomes of a notification whose emission is written over the caller's.
+#[derive(Clone, Copy, PartialEq, Eq)]
+pub enum NoteOutcome {
+    /// It is to be sent, and the turn is over.
+    Sent,
+    /// As [`Noted::Stale`]. The emission stays as it was.
+    Stale,
+    /// As [`Noted::Stranger`]. The emission stays as it was.
+    Stranger,
+}
+
+// Tells the observer that has a turn, at its shard's moment, where its slot is at this serial, and writes what it is sent over another
+// emission.
 pub(crate) fn note(
     watch: &mut Observers,
     now: u64,
@@ -40,21 +52,24 @@ pub(crate) fn note(
     id: u16,
     random: u16,
     told: &Notification<'_>,
-) -> Noted
-    ensures noted { IsNoted told.now turn id now serial watch.old result }
-    ensures watch { watch.new ≡ after_calls (note_calls turn id random now (ticket_told told.now) (sent_of result)) watch.old }
+    emission: &mut Emission,
+) -> NoteOutcome
+    ensures noted { IsNoted told.now turn id now serial watch.old (noted_as result emission.new) }
+    ensures kept { IsKeptUnlessSent result emission.old emission.new }
+    ensures watch { watch.new
+        ≡ after_calls (note_calls turn id random now (ticket_told told.now) (sent_of (noted_as result emission.new))) watch.old }
 {
     watch.advance(now);
     match told {
-        Notification::Gone => note_gone(watch, turn, id),
+        Notification::Gone => note_gone(watch, turn, id, emission),
         Notification::Ran(outcome, ticket) => {
             if !watch.is_out(turn) {
-                return Noted::Stale;
+                return NoteOutcome::Stale;
             }
             if !is_run_of_turn(outcome, ticket, turn, serial) {
-                return Noted::Stranger;
+                return NoteOutcome::Stranger;
             }
-            note_run(watch, now, turn, id, random, outcome, ticket)
+            note_run(watch, now, turn, id, random, outcome, ticket, emission)
         }
     }
 }
@@ -68,97 +83,92 @@ fn note_run(
     random: u16,
     outcome: &Outcome<'_>,
     ticket: &Ticket,
-) -> Noted
+    emission: &mut Emission,
+) -> NoteOutcome
     requires { outcome.now ≡ run_of ticket.now }
-    ensures sent { sent_of result ≡ note_in turn id (Some ticket.now) watch.old }
-    ensures noted { IsSentOrStale result }
-    ensures watch { watch.new ≡ after_calls (told_calls turn id random now (Some ticket.now) (sent_of result)) watch.old }
+    ensures sent { sent_of (noted_as result emission.new) ≡ note_in turn id (Some ticket.now) watch.old }
+    ensures noted { IsSentOrStale (noted_as result emission.new) }
+    ensures kept { IsKeptUnlessSent result emission.old emission.new }
+    ensures watch { watch.new
+        ≡ after_calls (told_calls turn id random now (Some ticket.now) (sent_of (noted_as result emission.new))) watch.old }
 {
-    let confirmable = watch.must_confirm(turn);
     let Some(observer) = watch.out(turn) else {
-        return Noted::Stale;
+        return NoteOutcome::Stale;
     };
-    let emission = of_run(&observer, confirmable, id, outcome, ticket);
+    write_run(&observer, id, outcome, ticket, emission);
     if outcome.code() == Code::CONTENT.byte {
         watch.sent(now, turn, id, ticket.serial(), random, &emission.bytes);
     } else {
         watch.end(turn);
     }
-    Noted::Send(emission)
+    NoteOutcome::Sent
 }
 
 // Tells the observer that its slot was found empty, and removes it.
-fn note_gone(watch: &mut Observers, turn: Turn, id: u16) -> Noted
-    ensures sent { sent_of result ≡ note_in turn id None watch.old }
-    ensures noted { IsSentOrStale result }
-    ensures watch { (random at : ℕ) → watch.new ≡ after_calls (told_calls turn id random at None (sent_of result)) watch.old }
+fn note_gone(watch: &mut Observers, turn: Turn, id: u16, emission: &mut Emission) -> NoteOutcome
+    ensures sent { sent_of (noted_as result emission.new) ≡ note_in turn id None watch.old }
+    ensures noted { IsSentOrStale (noted_as result emission.new) }
+    ensures kept { IsKeptUnlessSent result emission.old emission.new }
+    ensures watch { (random at : ℕ) → watch.new
+        ≡ after_calls (told_calls turn id random at None (sent_of (noted_as result emission.new))) watch.old }
 {
     if !watch.is_missing(turn) {
-        return Noted::Stale;
+        return NoteOutcome::Stale;
     }
-    let confirmable = watch.must_confirm(turn);
     let Some(observer) = watch.out(turn) else {
-        return Noted::Stale;
+        return NoteOutcome::Stale;
     };
-    let emission = of_gone(&observer, confirmable, id);
+    write_gone(&observer, id, emission);
     watch.end(turn);
-    Noted::Send(emission)
+    NoteOutcome::Sent
 }
 
-// The notification of what a run gave.
-fn of_run(
+// Writes the notification of what a run gave.
+fn write_run(
     observer: &Observer<'_>,
-    confirmable: bool,
     id: u16,
     outcome: &Outcome<'_>,
     ticket: &Ticket,
-) -> Emission
+    emission: &mut Emission,
+)
     requires { outcome.now ≡ run_of ticket.now }
-    ensures { result ≡ note_to id confirmable (Some ticket.now) (interest observer.now) }
+    ensures { emission.new ≡ note_to id observer.now.confirmable (Some ticket.now) (interest observer.now) }
 {
-    let mut bytes = Datagram::new();
     let code = Code {
         byte: outcome.code(),
     };
     let block = BodyBlock::cut(outcome.reply(), ticket.block());
     ran(
-        &envelope(observer, confirmable, id),
+        &envelope(observer, id),
         code,
         &block,
         ticket.serial(),
         true,
-        &mut bytes,
+        &mut emission.bytes,
     );
-    Emission {
-        to: observer.endpoint,
-        bytes,
-    }
+    emission.to = observer.endpoint;
 }
 
-// That of a slot that was found empty.
-fn of_gone(observer: &Observer<'_>, confirmable: bool, id: u16) -> Emission
-    ensures { result ≡ note_to id confirmable None (interest observer.now) }
+// Writes that of a slot that was found empty.
+fn write_gone(observer: &Observer<'_>, id: u16, emission: &mut Emission)
+    ensures { emission.new ≡ note_to id observer.now.confirmable None (interest observer.now) }
 {
-    let mut bytes = Datagram::new();
     text(
-        &envelope(observer, confirmable, id),
+        &envelope(observer, id),
         Code::NOT_FOUND,
         &[],
-        &mut bytes,
+        &mut emission.bytes,
     );
-    Emission {
-        to: observer.endpoint,
-        bytes,
-    }
+    emission.to = observer.endpoint;
 }
 
 // Whom a notification is for.
-fn envelope<'a>(observer: &Observer<'a>, confirmable: bool, id: u16) -> Envelope<'a>
-    ensures { result ≡ note_envelope id confirmable (interest observer.now) }
+fn envelope<'a>(observer: &Observer<'a>, id: u16) -> Envelope<'a>
+    ensures { result ≡ note_envelope id observer.now.confirmable (interest observer.now) }
 {
     Envelope {
         to: observer.endpoint,
-        kind: note_kind(confirmable),
+        kind: note_kind(observer.confirmable),
         id,
         token: observer.token.as_slice(),
     }

@@ -7,13 +7,13 @@ ghost use Rattle.fc_registry.specs.Calls.{TakesAt, CommitsTo, IsCommit, ComesTo,
 ghost use Rattle.fc_registry.specs.Views.{as_seen, present_of};
 ghost use Rattle.fc_registry.specs.Record.{IsRing};
 ghost use Rattle.fc_observe.specs.Calls.{after_calls, observers_after};
-ghost use Rattle.fc_registry.specs.Notes.{NotesTo};
-ghost use Rattle.fc_registry.specs.Turns.{due_job};
-ghost use Rattle.fc_registry.specs.Watches.{IsSentUpTo, after_due, after_given_up, after_tick, due_place, handed, is_due_at, is_quiet, is_quiet_at, late_place, new_watches, noticed_at, signal_call, signalled, ticked_in, watch_at};
+ghost use Rattle.fc_registry.specs.Notes.{IsKeptUnlessSent, NotesTo, noted_as};
+ghost use Rattle.fc_registry.specs.Turns.{due_job, written_if};
+ghost use Rattle.fc_registry.specs.Watches.{AreWatched, IsSentUpTo, after_due, after_given_up, after_tick, due_place, handed, is_due_at, is_quiet, is_quiet_at, late_place, new_watches, noticed_at, signal_call, signalled, ticked_in, watch_at};
 
 use crate::commit::Committed;
 use crate::job::Job;
-use crate::note::{Noted, Notification, note};
+use crate::note::{NoteOutcome, Noted, Notification, note};
 use crate::receipt::Receipt;
 use crate::slot::{
     SlotState, clear, committed, empty_slot, find, install, noticed_of, receipt_in, serial_of,
@@ -21,8 +21,8 @@ use crate::slot::{
 };
 use crate::slot_number::{SHARDS, SlotNumber};
 use crate::ticket::Ticket;
-use crate::turn::next_turn;
-use coap_msg::Endpoint;
+use crate::turn::{next_turn, no_job};
+use coap_msg::{Datagram, Emission, Endpoint};
 use fc_help::Readings;
 use fc_machine::Outcome;
 use fc_observe::{Observers, Ticked, Turn};
@@ -41,6 +41,8 @@ pub struct Shard {
     now: u64,
     slots: Vec<SlotState>,
     watches: Vec<Observers>,
+    // Whether a slot may have an observer.
+    watched: bool,
 }
 
 impl Model for Shard {
@@ -52,12 +54,12 @@ impl Model for Shard {
 
     ghost use Rattle.fc_registry.specs.Views.{as_seen};
     ghost use Rattle.fc_registry.specs.Record.{IsRing};
-    ghost use Rattle.fc_registry.specs.Watches.{AreSentUpTo};
+    ghost use Rattle.fc_registry.specs.Watches.{AreSentUpTo, AreWatched};
 
     ghost view = { λ s. record { index = s.index; now = s.now; slots = map as_seen s.slots.items; watches = s.watches.items } };
 
     ghost invariant = { λ s. (length s.slots.items ≡ 8) × All (λ x. IsRing (as_seen x)) s.slots.items × (length s.watches.items ≡ 8) × (s.index < 8)
-        × AreSentUpTo (map as_seen s.slots.items) s.watches.items };
+        × AreSentUpTo (map as_seen s.slots.items) s.watches.items × AreWatched s.watched s.watches.items };
 }
 
 /// What a taking found.
@@ -112,6 +114,7 @@ impl Shard {
             now: 0,
             slots,
             watches: make_watches(alloc, index)?,
+            watched: false,
         })
     }
 
@@ -154,7 +157,9 @@ impl Shard {
         let place = ticket.origin().slot.place();
         let slot = &mut self.slots[place];
         let watch = &mut self.watches[place];
-        committed(slot, watch, self.now, outcome, ticket)
+        let answer = committed(slot, watch, self.now, outcome, ticket);
+        self.watched |= !watch.is_empty();
+        answer
     }
 
     /// Installs a program, with variables of zeros. At the last serial it changes nothing, and answers `AtEnd`.
@@ -227,12 +232,29 @@ impl Shard {
         ensures job { result ≡ due_job (due_place (handed self.old now)) (handed self.old now) }
         ensures after { self.new ≡ after_due (due_place (handed self.old now)) (handed self.old now) }
     {
+        let mut job = no_job();
+        if self.write_due(now, &mut job) {
+            Some(job)
+        } else {
+            None
+        }
+    }
+
+    /// Gives a turn as `next_due` does, and writes its job over another: none is moved. Tells whether one is given; else the job stays
+    /// as it was.
+    pub fn write_due(&mut self, now: u64, job: &mut Job) -> bool
+        ensures job { written_if result job.new ≡ due_job (due_place (handed self.old now)) (handed self.old now) }
+        ensures kept { result ≡ false → job.new ≡ job.old }
+        ensures after { self.new ≡ after_due (due_place (handed self.old now)) (handed self.old now) }
+    {
         self.now = self.now.max(now);
-        let place = self.due_place(self.now)?;
+        let Some(place) = self.due_place(self.now) else {
+            return false;
+        };
         let noticed = self.noticed_at(place);
         let slot = SlotNumber::new(SHARDS * place as u8 + self.index);
         let watch = &mut self.watches[place];
-        next_turn(watch, self.now, noticed, slot)
+        next_turn(watch, self.now, noticed, slot, job)
     }
 
     /// Notifies the observer whose turn is out of what is told, by a message id, at a moment in milliseconds: the response, with the
@@ -251,11 +273,37 @@ impl Shard {
         requires { IsOwned self.old turn.slot }
         ensures { NotesTo told.now turn id random self.old now result self.new }
     {
+        let mut emission = Emission {
+            to: Endpoint::default(),
+            bytes: Datagram::new(),
+        };
+        match self.write_note(turn, id, now, random, told, &mut emission) {
+            NoteOutcome::Sent => Noted::Send(emission),
+            NoteOutcome::Stale => Noted::Stale,
+            NoteOutcome::Stranger => Noted::Stranger,
+        }
+    }
+
+    /// Notifies an observer as `note` does, and writes what it is sent over another emission: none is moved. The emission stays as it
+    /// was where nothing is sent.
+    pub fn write_note(
+        &mut self,
+        turn: Turn,
+        id: u16,
+        now: u64,
+        random: u16,
+        told: &Notification<'_>,
+        emission: &mut Emission,
+    ) -> NoteOutcome
+        requires { IsOwned self.old turn.slot }
+        ensures notes { NotesTo told.now turn id random self.old now (noted_as result emission.new) self.new }
+        ensures kept { IsKeptUnlessSent result emission.old emission.new }
+    {
         self.now = self.now.max(now);
         let place = usize::from(turn.slot / SHARDS);
         let serial = serial_of(&self.slots[place]);
         let watch = &mut self.watches[place];
-        note(watch, self.now, serial, turn, id, random, told)
+        note(watch, self.now, serial, turn, id, random, told, emission)
     }
 
     /// Gives up a turn, at a moment in milliseconds. Its observer is due again at a later one.
@@ -303,32 +351,39 @@ impl Shard {
         ensures after { self.new ≡ (if result then handed self.old now else self.old) }
     {
         let now = self.now.max(now);
-        let quiet = self.is_quiet(now);
+        let quiet = self.check_quiet(now);
         if quiet {
             self.now = now;
         }
         quiet
     }
 
-    // Whether no notification is late at a moment, and no observer due, at any place.
-    fn is_quiet(&self, now: u64) -> bool
-        ensures { result ≡ is_quiet (record self.entry.now { now = now }) }
+    // Whether no notification is late at a moment, and no observer due, at any place. Then it is looked anew whether there is one.
+    fn check_quiet(&mut self, now: u64) -> bool
+        ensures quiet { result ≡ is_quiet (record self.old { now = now }) }
+        ensures after { self.new ≡ self.old }
     {
+        if !self.watched {
+            return true;
+        }
         for place in 0..PLACES {
-            if !self.is_quiet_at(now, place) {
+            if !self.check_quiet_at(now, place) {
                 return false;
             }
         }
+        self.watched = have_observers(&self.watches);
         true
     }
 
     // Whether no notification is late at a moment, and no observer due, at a place.
-    fn is_quiet_at(&self, now: u64, place: usize) -> bool
+    fn check_quiet_at(&mut self, now: u64, place: usize) -> bool
         requires { place < 8 }
-        ensures { result ≡ is_quiet_at (record self.entry.now { now = now }) place }
+        ensures quiet { result ≡ is_quiet_at (record self.old { now = now }) place }
+        ensures after { self.new ≡ self.old }
     {
-        let watch = &self.watches[place];
-        watch.is_empty() || watch.is_quiet(now, self.noticed_at(place))
+        let noticed = self.noticed_at(place);
+        let watch = &mut self.watches[place];
+        watch.check_quiet(now, noticed)
     }
 
     // Whether an observer at a place is due at a moment.
@@ -392,6 +447,18 @@ fn make_watches(alloc: Global, index: u8) -> Result<Vec<Observers>, AllocError>
         watches.push(Observers::new(alloc, 8 * place + index)?)?;
     }
     Ok(watches)
+}
+
+// Whether a slot has an observer.
+fn have_observers(watches: &[Observers]) -> bool
+    ensures { AreWatched result watches.now }
+{
+    for watch in watches {
+        if !watch.is_empty() {
+            return true;
+        }
+    }
+    false
 }
 
 // Hands a signal to the observers of each slot.

@@ -1,49 +1,95 @@
 //! Turns of observers, as jobs.
-ghost use Rattle.std.specs.Prelude.{◌≡◌};
+ghost use Rattle.std.specs.Prelude.{◌≡◌, false};
 ghost use Rattle.fc_observe.specs.Calls.{NextDue, observers_after};
 ghost use Rattle.fc_observe.specs.Views.{interest};
-ghost use Rattle.fc_registry.specs.Turns.{first_block, turn_given_to, turn_job};
+ghost use Rattle.fc_registry.specs.declared.job.Ask.TheVariants.{Run};
+ghost use Rattle.fc_registry.specs.Turns.{first_block, turn_given_to, turn_job, written_if};
 
 use crate::job::{Ask, Job, Opening, Origin};
-use crate::slot::copy_token;
 use crate::slot_number::SlotNumber;
 use arrayvec::ArrayVec;
+use coap_msg::Token;
 use coap_opts::Block;
+use fc_help::Request;
 use fc_observe::{Observer, Observers};
 
-// Gives a turn to the first observer of a slot that is due where this serial is noticed.
+// Gives a turn to the first observer of a slot that is due where this serial is noticed, and writes its job over another. Tells
+// whether one is.
 pub(crate) fn next_turn(
     watch: &mut Observers,
     now: u64,
     noticed: u64,
     slot: SlotNumber,
-) -> Option<Job>
-    ensures job { result ≡ turn_given_to slot now noticed watch.old }
+    job: &mut Job,
+) -> bool
+    ensures job { written_if result job.new ≡ turn_given_to slot now noticed watch.old }
+    ensures kept { result ≡ false → job.new ≡ job.old }
     ensures watch { watch.new ≡ observers_after (NextDue now noticed) watch.old }
 {
-    let turn = watch.next_due(now, noticed)?;
-    let observer = watch.out(turn)?;
-    Some(turn_job(&observer, turn.number, slot))
+    let Some(turn) = watch.next_due(now, noticed) else {
+        return false;
+    };
+    let Some(observer) = watch.out(turn) else {
+        return false;
+    };
+    write_turn(&observer, turn.number, slot, job);
+    true
 }
 
-// The job of the turn of this number: the observer's request, answered from the first block on.
-fn turn_job(observer: &Observer<'_>, number: u64, slot: SlotNumber) -> Job
-    ensures { result ≡ turn_job slot number (interest observer.now) }
-{
+// A job to write a turn's over.
+pub(crate) fn no_job() -> Job {
     Job {
-        origin: Origin {
-            opening: Opening { number: 0, at: 0 },
-            endpoint: observer.endpoint,
-            id: 0,
-            slot,
-        },
-        turn: Some(number),
+        origin: Origin::default(),
+        turn: None,
         confirmable: false,
-        token: copy_token(observer.token),
+        token: Token::new(),
         etags: ArrayVec::new(),
-        block: first_block(observer.szx),
+        block: None,
         observe: None,
-        ask: Ask::Run(observer.request.copy()),
+        ask: Ask::Remove,
+    }
+}
+
+// Writes the job of the turn of this number: the observer's request, answered from the first block on.
+fn write_turn(observer: &Observer<'_>, number: u64, slot: SlotNumber, job: &mut Job)
+    ensures { job.new ≡ turn_job slot number (interest observer.now) }
+{
+    job.origin = Origin {
+        opening: Opening { number: 0, at: 0 },
+        endpoint: observer.endpoint,
+        id: 0,
+        slot,
+    };
+    job.turn = Some(number);
+    job.confirmable = false;
+    write_token(observer.token, &mut job.token);
+    job.etags.clear();
+    job.block = first_block(observer.szx);
+    job.observe = None;
+    write_run(observer.request, &mut job.ask);
+}
+
+// Writes a token over another.
+fn write_token(token: &Token, over: &mut Token)
+    ensures { over.new ≡ token.now }
+{
+    over.clear();
+    let _fits = over.try_extend_from_slice(token.as_slice());
+}
+
+// Writes that a request is to be answered over another ask.
+fn write_run(request: &Request, ask: &mut Ask)
+    ensures { ask.new ≡ Run request.now }
+{
+    match ask {
+        Ask::Run(own) => own.write(
+            request.method(),
+            request.slot(),
+            request.content_format(),
+            request.query(),
+            request.payload(),
+        ),
+        _ => *ask = Ask::Run(request.copy()),
     }
 }
 

@@ -1,14 +1,14 @@
 use Rattle.std.proofs.Common.{◌∙◌, None, ap, sym}
 use Rattle.fc_observe.specs.Calls.{after_calls}
 use Rattle.fc_registry.specs.declared.note.Notification.{Notification}
-use Rattle.fc_registry.specs.Notes.{note_calls, sent_of, ticket_told, told_calls}
+use Rattle.fc_registry.specs.Notes.{note_calls, noted_as, sent_of, ticket_told, told_calls}
 use Rattle.fc_registry.proofs.Telling.{after_advance}
 use Rattle.fc_registry.proofs.note.note.Goals as goal
 
 pub returns-in-Gone-clause-watch : goal.returns-in-Gone-clause-watch
 returns-in-Gone-clause-watch c =
     let turn = c.args.turn in
-    let sent = sent_of c.note_gone.result in
+    let sent = sent_of (noted_as c.note_gone.result c.note_gone.new.emission) in
     c.note_gone.ensures.watch c.args.random c.args.now
     ∙ (ap (after_calls (told_calls turn c.args.id c.args.random c.args.now None sent)) c.advance.ensures
     ∙ (after_advance turn c.args.id c.args.random c.args.now None sent c.args.watch.now

@@ -7,6 +7,7 @@ use Rattle.fc_registry.specs.Slots.{Shard, Slot}
 use Rattle.fc_registry.specs.Calls.{IsCommit, commit_calls}
 use Rattle.fc_registry.specs.Views.{as_seen}
 use Rattle.fc_registry.specs.Watches.{IsSentUpTo, watch_at, watches_called}
+use Rattle.fc_registry.proofs.Watched.{true_of_not, watched_if}
 use Rattle.fc_registry.proofs.Ahead.{both_sent, sent_committed}
 use Rattle.fc_registry.proofs.Rings.{written_rings, ring_kept}
 use Rattle.fc_registry.proofs.Writes.{slot_read, slot_and_watch_write, now_is, slot_in_place}
@@ -19,33 +20,51 @@ returns c =
     let t = c.args.ticket.now in
     let ran = c.args.outcome.now in
     let k = c.place-place.result in
-    let answer = c.committed.result in
-    let after = as_seen c.committed.new.slot in
+    let answer = c.committed-answer.result in
+    let after = as_seen c.committed-answer.new.slot in
     let place : k ≡ t.origin.slot / 8 = c.place-place.ensures.place ∙ ap (λ (o : Origin). o.slot / 8) c.origin.ensures in
     let lt : k < 8 = c.place-place.ensures.limit in
     let eight = c.self.invariant.2 in
     let found = slot_read in_.index in_.now in_.slots.items in_.watches.items shard c.self.view_is c.self.invariant.0 k c.index_mut-slot.result.now lt c.index_mut-slot.ensures.value
     ∙ ap (λ (j : ℕ). slot_in_place shard j) place in
     let was = c.index_mut-watch.result.now in
-    let held : was ≡ get_or in_.watches.items k (no_observers 0) = c.index_mut-watch.ensures.value ∙ get_or_default in_.watches.items k was (no_observers 0) (omega (arith, lt, eight)) in
+    let held : was ≡ get_or in_.watches.items k (no_observers 0) = c.index_mut-watch.ensures.value
+    ∙ get_or_default in_.watches.items k was (no_observers 0) (omega (arith, lt, eight)) in
     let watch : was ≡ watch_at shard (t.origin.slot / 8) = held ∙ (ap (λ (s : Shard). watch_at s k) c.self.view_is ∙ ap (watch_at shard) place) in
-    let at : c.max-self-inside.result ≡ max shard.now c.args.now = c.max-self-inside.ensures ∙ ap (λ (m : ℕ). max m c.args.now) (now_is in_.index in_.now in_.slots.items in_.watches.items shard c.self.view_is c.self.invariant.0) in
+    let at : c.max-self-inside.result ≡ max shard.now c.args.now = c.max-self-inside.ensures
+    ∙ ap (λ (m : ℕ). max m c.args.now) (now_is in_.index in_.now in_.slots.items in_.watches.items shard c.self.view_is c.self.invariant.0) in
     let calls = commit_calls answer (max shard.now c.args.now) t in
     record {
       after = after;
-      commit = subst (λ (w : ObserverList). IsCommit ran t (slot_in_place shard (t.origin.slot / 8)) w answer after) watch (subst (λ (s : Slot). IsCommit ran t s was answer after) found c.committed.ensures.commit);
-      shard = slot_and_watch_write in_.index in_.now in_.slots.items in_.watches.items shard c.self.view_is c.self.invariant.0 k c.max-self-inside.result (max shard.now c.args.now) c.committed.new.slot after calls was c.committed.new.watch
-          at refl held (c.committed.ensures.watch ∙ ap (λ (m : ℕ). after_calls (commit_calls answer m t) was) at)
+      commit = subst (λ (w : ObserverList). IsCommit ran t (slot_in_place shard (t.origin.slot / 8)) w answer after) watch (subst (λ
+          (s : Slot). IsCommit ran t s was answer after) found c.committed-answer.ensures.commit);
+      shard = slot_and_watch_write in_.index in_.now in_.slots.items in_.watches.items shard c.self.view_is c.self.invariant.0 k c.max-self-inside.result
+          (max shard.now c.args.now) c.committed-answer.new.slot after calls was c.committed-answer.new.watch
+          at refl held (c.committed-answer.ensures.watch ∙ ap (λ (m : ℕ). after_calls (commit_calls answer m t) was) at)
           ∙ ap (λ (j : ℕ). record shard { now = max shard.now c.args.now; slots = set shard.slots j after; watches = watches_called calls j shard.watches }) place;
     }
 
 pub invariant_of-self : goal.invariant_of-self
 invariant_of-self c =
     let was = c.index_mut-watch.result.now in
-    let rings = written_rings c.self.inside.slots.items c.place-place.result c.index_mut-slot.result.now c.committed.new.slot (c.self.invariant.0, c.self.invariant.1) c.place-place.ensures.limit c.index_mut-slot.ensures.value
-    (ring_kept c.args.outcome.now c.args.ticket.now (as_seen c.index_mut-slot.result.now) was c.committed.result (as_seen c.committed.new.slot) c.committed.ensures.commit) in
-    let now = as_seen c.committed.new.slot in
+    let rings = written_rings c.self.inside.slots.items c.place-place.result c.index_mut-slot.result.now c.committed-answer.new.slot
+    (c.self.invariant.0, c.self.invariant.1) c.place-place.ensures.limit c.index_mut-slot.ensures.value
+    (ring_kept c.args.outcome.now c.args.ticket.now (as_seen c.index_mut-slot.result.now) was c.committed-answer.result
+    (as_seen c.committed-answer.new.slot) c.committed-answer.ensures.commit) in
+    let now = as_seen c.committed-answer.new.slot in
     let sent = both_sent c.self.inside.slots.items c.self.inside.watches.items c.place-place.result c.self.invariant.0 c.self.invariant.2 c.place-place.ensures.limit c.self.invariant.4
-    c.index_mut-slot.result.now c.committed.new.slot was c.committed.new.watch c.index_mut-slot.ensures.value c.index_mut-watch.ensures.value
-    (λ old. subst (IsSentUpTo now.serial) (sym c.committed.ensures.watch) (sent_committed c.args.outcome.now c.args.ticket.now (as_seen c.index_mut-slot.result.now) was c.committed.result now c.max-self-inside.result c.committed.ensures.commit old)) in
-    (rings.0, rings.1, length-set c.self.inside.watches.items c.place-place.result c.committed.new.watch ∙ c.self.invariant.2, c.self.invariant.3, sent)
+    c.index_mut-slot.result.now c.committed-answer.new.slot was c.committed-answer.new.watch c.index_mut-slot.ensures.value c.index_mut-watch.ensures.value
+    (λ old. subst (IsSentUpTo now.serial) (sym c.committed-answer.ensures.watch) (sent_committed c.args.outcome.now c.args.ticket.now
+    (as_seen c.index_mut-slot.result.now) was c.committed-answer.result now c.max-self-inside.result c.committed-answer.ensures.commit old)) in
+    let eight = c.self.invariant.2 in
+    let lt = c.place-place.ensures.limit in
+    let watched = watched_if c.self.inside.watched _ c.self.inside.watches.items c.place-place.result was c.committed-answer.new.watch (omega
+    (arith, lt, eight)) c.index_mut-watch.ensures.value (λ seen. c.is_empty.ensures.0 (true_of_not c.is_empty.result seen)) c.self.invariant.5 in (
+      rings.0,
+      rings.1,
+      length-set c.self.inside.watches.items c.place-place.result c.committed-answer.new.watch
+          ∙ c.self.invariant.2,
+      c.self.invariant.3,
+      sent,
+      watched,
+    )

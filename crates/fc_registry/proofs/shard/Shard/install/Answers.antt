@@ -33,4 +33,4 @@ invariant_of-self c =
     (λ old. subst IsRing (sym c.install.ensures.slot) (ring_put (as_seen was) c.args.program.value old)) in
     let sent = slot_sent c.self.inside.slots.items c.self.inside.watches.items c.place.result c.self.invariant.0 c.self.invariant.2 c.place.ensures.limit c.self.invariant.4
     was c.install.new.slot c.index_mut-state.ensures.value (subst (λ (s : Slot). (as_seen was).serial ≤ s.serial) (sym c.install.ensures.slot) (install_rises (as_seen was) c.args.program.value)) in
-    (rings.0, rings.1, c.self.invariant.2, c.self.invariant.3, sent)
+    (rings.0, rings.1, c.self.invariant.2, c.self.invariant.3, sent, c.self.invariant.5)

@@ -33,4 +33,4 @@ invariant_of-self c =
     (λ old. subst IsRing (sym c.clear.ensures.slot) (ring_clear (as_seen was) old)) in
     let sent = slot_sent c.self.inside.slots.items c.self.inside.watches.items c.place.result c.self.invariant.0 c.self.invariant.2 c.place.ensures.limit c.self.invariant.4
     was c.clear.new.slot c.index_mut-state.ensures.value (subst (λ (s : Slot). (as_seen was).serial ≤ s.serial) (sym c.clear.ensures.slot) (remove_rises (as_seen was))) in
-    (rings.0, rings.1, c.self.invariant.2, c.self.invariant.3, sent)
+    (rings.0, rings.1, c.self.invariant.2, c.self.invariant.3, sent, c.self.invariant.5)
