@@ -58,7 +58,8 @@ module _ (l : Loop) (k : ℕ) (insn : Insn) (calm : disturbs l k insn ≡ false)
 
   uncrossed : (t : ℕ) → LeadsTo k insn t → crosses l k (Some t) ≡ false
   uncrossed t w =
-      let at : with_offset (jump_offset insn) (λ o. crosses l k (target k o)) ≡ false = or_right (spoils l k insn) (with_offset (jump_offset insn) (λ o. crosses l k (target k o))) calm in
+      let at : with_offset (jump_offset insn) (λ o. crosses l k (target k o)) ≡ false =
+      or_right (spoils l k insn) (with_offset (jump_offset insn) (λ o. crosses l k (target k o))) calm in
       let one : crosses l k (target k w.0) ≡ false = subst (λ (x : Option ℤ). with_offset x (λ o. crosses l k (target k o)) ≡ false) w.1 at in
       subst (λ (x : Option ℕ). crosses l k x ≡ false) w.2 one
 
@@ -127,10 +128,15 @@ module _ (l : Loop) (k : ℕ) (insn : Insn) (w : LeavesLoop l k insn) where
   unspoilt_by true c d true at writes_it last exits = absurd (w.no_exit (of_body l k at) (is_exit_of insn exits))
   unspoilt_by true false d false at writes_it last exits = refl
   unspoilt_by true true true false at writes_it last exits = refl
-  unspoilt_by true true false false at writes_it last exits = absurd (cc (writes_it, w.no_write (of_body l k at) (λ same. absurd (cc (last, eqb_same (suc k) l.last same)))))
+  unspoilt_by true true false false at writes_it last exits = absurd (cc (
+    writes_it,
+    w.no_write (of_body l k at)
+        (λ same. absurd (cc (last, eqb_same (suc k) l.last same))),
+  ))
     where
       eqb_same : (a b : ℕ) → a ≡ b → (a == b) ≡ true
       eqb_same a b e = grind (arith, nat_tests, e)
 
   pub undisturbed : disturbs l k insn ≡ false
-  undisturbed = (λ i. unspoilt_by (is_in l k) (writes insn l.counter) (suc k == l.last) (is_exit insn) refl refl refl refl i || with_offset (jump_offset insn) (λ o. crosses l k (target k o))) ∙ calm_by (jump_offset insn) refl
+  undisturbed = (λ i. unspoilt_by (is_in l k) (writes insn l.counter) (suc k == l.last)
+      (is_exit insn) refl refl refl refl i || with_offset (jump_offset insn) (λ o. crosses l k (target k o))) ∙ calm_by (jump_offset insn) refl
