@@ -1,6 +1,8 @@
 pub mod Numbers
 pub mod Known
 pub mod Order
+pub mod Checked
+pub mod Recognised
 pub mod Paths
 pub mod Spellings
 pub mod Within

@@ -79,7 +79,7 @@ pub collected_query : (m : Message) (g : Collected) → IsCollected m g → has_
 collected_query m g h e = query_by _ _ _ h.query (or_right (is_reserved (block_in 27 m) || is_reserved (block_in 23 m)) _ e)
 
 -- the request
-asked_is : (m : Message) (method : Method) (at : Resource) (action : Action) → IsServedAt m method at action → asked m ≡ Some (record {
+pub asked_is : (m : Message) (method : Method) (at : Resource) (action : Action) → IsServedAt m method at action → asked m ≡ Some (record {
   action = action;
   query = query m;
   content_format = number_in 12 m;

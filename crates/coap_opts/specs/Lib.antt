@@ -5,5 +5,6 @@ pub mod Recognition
 pub mod Verdict
 pub mod Classified
 pub mod Fields
+pub mod Checks
 pub mod Collected
 pub mod Replies

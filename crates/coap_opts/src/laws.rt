@@ -1,13 +1,14 @@
 //! Laws of what the definitions say, for the crates above: each function is a law, and its contract says it.
-ghost use Rattle.std.specs.Prelude.{◌≡◌, ◌≢◌, ◌<◌, ◌≤◌, ◌^◌, ℕ, List, Some, length, slice_index};
-ghost use Rattle.coap_opts.specs.Values.{uint_bytes, uint_value};
-ghost use Rattle.coap_opts.specs.Path.{method_of, resource_of};
-ghost use Rattle.coap_opts.specs.Fields.{IsResource, path_of};
-ghost use Rattle.coap_opts.specs.Fields.{IsMadeOf, method_code};
-ghost use Rattle.coap_msg.specs.Wire.{Message};
-ghost use Rattle.coap_opts.specs.Verdict.{Asked, IsAsked, IsRefused, verdict};
+ghost use Rattle.std.specs.Prelude.{◌≡◌, ◌≢◌, ◌↔◌, ◌+◌, ◌*◌, ◌<◌, ◌≤◌, ◌^◌, ℕ, List, None, Option, Some, false, length, slice_index, true};
+ghost use Rattle.coap_opts.specs.Checks.{HasBadValue, IsRequest, IsUnnamed, NamesProxy, PassesOptions};
 ghost use Rattle.coap_opts.specs.Classified.{IsErrorCode};
-ghost use Rattle.coap_opts.specs.Fields.{IsAskedWithin};
+ghost use Rattle.coap_opts.specs.Recognition.{has_unknown_critical, is_recognised};
+ghost use Rattle.coap_opts.specs.Values.{Place, block_bytes, block_size, place_in, uint_bytes, uint_value};
+ghost use Rattle.coap_msg.specs.declared.types.MessageType.TheVariants.{Confirmable, NonConfirmable};
+ghost use Rattle.coap_opts.specs.Path.{method_of, resource_of};
+ghost use Rattle.coap_opts.specs.Fields.{IsAskedWithin, IsMadeOf, IsResource, method_code, path_of};
+ghost use Rattle.coap_msg.specs.Wire.{Message};
+ghost use Rattle.coap_opts.specs.Verdict.{Asked, IsAsked, IsRefused, IsSilent, action, resource, verdict};
 ghost use Rattle.coap_opts.specs.declared.request.Method.{Method};
 ghost use Rattle.coap_opts.specs.declared.request.Method.TheVariants.{Get, Post, Put, Delete};
 ghost use Rattle.coap_opts.specs.declared.request.Resource.{Resource};
@@ -75,4 +76,63 @@ pub fn options_are_registered()
     ensures block1 { BLOCK1 ≡ 27 }
     ensures proxy_uri { PROXY_URI ≡ 35 }
     ensures proxy_scheme { PROXY_SCHEME ≡ 39 }
+{}
+
+/// The options that are recognised, by their numbers, with the lengths of their values, and with the methods for which they are defined
+/// (RFC 7252, 5.10; RFC 7641, 2; RFC 7959, 2.1). One that isn't repeatable is recognised once: a repeat, which directly follows, isn't
+/// (RFC 7252, 5.4.5). No other number is recognised.
+pub fn options_are_recognised()
+    ensures uri_host { (code count : ℕ) (before : Option ℕ) →
+        ((is_recognised code before 3 count ≡ true) ↔ ((1 ≤ count) × (count ≤ 255) × (before ≢ Some 3))) }
+    ensures etag { (code count : ℕ) (before : Option ℕ) →
+        ((is_recognised code before 4 count ≡ true) ↔ ((1 ≤ count) × (count ≤ 8) × (code ≡ 1))) }
+    ensures observe { (code count : ℕ) (before : Option ℕ) →
+        ((is_recognised code before 6 count ≡ true) ↔ ((count ≤ 3) × (code ≡ 1) × (before ≢ Some 6))) }
+    ensures uri_port { (code count : ℕ) (before : Option ℕ) →
+        ((is_recognised code before 7 count ≡ true) ↔ ((count ≤ 2) × (before ≢ Some 7))) }
+    ensures uri_path { (code count : ℕ) (before : Option ℕ) → ((is_recognised code before 11 count ≡ true) ↔ (count ≤ 255)) }
+    ensures content_format { (code count : ℕ) (before : Option ℕ) →
+        ((is_recognised code before 12 count ≡ true) ↔ ((count ≤ 2) × (before ≢ Some 12))) }
+    ensures uri_query { (code count : ℕ) (before : Option ℕ) → ((is_recognised code before 15 count ≡ true) ↔ (count ≤ 255)) }
+    ensures block2 { (code count : ℕ) (before : Option ℕ) →
+        ((is_recognised code before 23 count ≡ true) ↔ ((count ≤ 3) × (code ≡ 1) × (before ≢ Some 23))) }
+    ensures block1 { (code count : ℕ) (before : Option ℕ) →
+        ((is_recognised code before 27 count ≡ true) ↔ ((count ≤ 3) × (code ≡ 3) × (before ≢ Some 27))) }
+    ensures proxy_uri { (code count : ℕ) (before : Option ℕ) →
+        ((is_recognised code before 35 count ≡ true) ↔ ((1 ≤ count) × (count ≤ 1034) × (before ≢ Some 35))) }
+    ensures proxy_scheme { (code count : ℕ) (before : Option ℕ) →
+        ((is_recognised code before 39 count ≡ true) ↔ ((1 ≤ count) × (count ≤ 255) × (before ≢ Some 39))) }
+    ensures others { (code count number : ℕ) (before : Option ℕ) → IsUnnamed number → is_recognised code before number count ≡ false }
+{}
+
+/// The checks of a request come in this order, and the first that fails decides: a proxy is named, 5.05, whose byte is 165; a critical
+/// option isn't recognised, 4.02, 130, and of a non-confirmable request then nothing; the code is no method, 4.05, 133; the path names no
+/// resource, 4.04, 132; the method isn't served there, 4.05; a block has the reserved size or the query more than 64 bytes, 4.00, 128;
+/// and the payload has more than 1,024 bytes, 4.13, 141 (RFC 7252, 5.4.1, 5.8, 5.9 and 5.10.2; RFC 7959, 2.2).
+pub fn checks_come_in_order()
+    ensures proxy { (m : Message) → IsRequest m → NamesProxy m → verdict m ≡ IsRefused 165 }
+    ensures option { (m : Message) → IsRequest m → (NamesProxy m → ⊥) → m.kind ≡ Confirmable
+        → has_unknown_critical m.code None m.options ≡ true → verdict m ≡ IsRefused 130 }
+    ensures silent { (m : Message) → IsRequest m → (NamesProxy m → ⊥) → m.kind ≡ NonConfirmable
+        → has_unknown_critical m.code None m.options ≡ true → verdict m ≡ IsSilent }
+    ensures method { (m : Message) → IsRequest m → PassesOptions m → 4 < m.code → verdict m ≡ IsRefused 133 }
+    ensures path { (m : Message) → IsRequest m → PassesOptions m → m.code ≤ 4 → resource m ≡ None → verdict m ≡ IsRefused 132 }
+    ensures served { (m : Message) (at : Resource) (method : Method) → IsRequest m → PassesOptions m → method_of m.code ≡ Some method
+        → resource m ≡ Some at → action_of at method ≡ None → verdict m ≡ IsRefused 133 }
+    ensures value { (m : Message) (a : Action) → IsRequest m → PassesOptions m → action m ≡ Some a → HasBadValue m
+        → verdict m ≡ IsRefused 128 }
+    ensures payload { (m : Message) (a : Action) → IsRequest m → PassesOptions m → action m ≡ Some a → (HasBadValue m → ⊥)
+        → 1024 < length m.payload → verdict m ≡ IsRefused 141 }
+    ensures carried_out { (m : Message) (a : Action) → IsRequest m → PassesOptions m → action m ≡ Some a → (HasBadValue m → ⊥)
+        → length m.payload ≤ 1024 → (r : Asked) × (verdict m ≡ IsAsked r) × (r.action ≡ a) }
+{}
+
+/// A block's value is 16 times its number, 8 more where blocks follow, and the exponent of its size less 4, by no more bytes than it needs
+/// (RFC 7959, 2.2); it is read again from there. Sizes are 16 to 1,024 bytes.
+pub fn blocks_have_their_values()
+    ensures last { (number szx : ℕ) → block_bytes (record { number = number; more = false; szx = szx }) ≡ uint_bytes (16 * number + szx) }
+    ensures more { (number szx : ℕ) → block_bytes (record { number = number; more = true; szx = szx }) ≡ uint_bytes (16 * number + 8 + szx) }
+    ensures again { (b : Place) → b.number < 2 ^ 20 → b.szx < 8 → place_in (block_bytes b) ≡ b }
+    ensures least { block_size 0 ≡ 16 }
+    ensures greatest { block_size 6 ≡ 1024 }
 {}
