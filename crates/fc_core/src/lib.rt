@@ -35,6 +35,7 @@ pub mod laws;
 pub mod observe_laws;
 mod reply;
 pub mod reply_laws;
+pub mod response_laws;
 pub mod shard_laws;
 pub mod slot_laws;
 pub mod stage;
