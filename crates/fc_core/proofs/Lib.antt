@@ -5,6 +5,7 @@ pub mod Refusing
 pub mod Envelopes
 pub mod Erring
 pub mod Resent
+pub mod Unchanged
 pub mod Commits
 pub mod Lists
 pub mod Fitting

@@ -25,7 +25,7 @@ use Rattle.fc_core.proofs.Repeats.{new_as, opening_is, received_of}
 -- ---- a refusal
 
 -- it is received as a new request that is refused
-refused_is : (s : Seen) (now : ℕ) (to : Endpoint) (bytes : List ℕ) (m : Message) (answer : ℕ) → IsRefusedAnew s now to bytes m answer → received_at s now to bytes ≡ Refused m answer
+pub refused_is : (s : Seen) (now : ℕ) (to : Endpoint) (bytes : List ℕ) (m : Message) (answer : ℕ) → IsRefusedAnew s now to bytes m answer → received_at s now to bytes ≡ Refused m answer
 refused_is s now to bytes m answer w =
     let same : w.opens.message ≡ m = cc (sym w.opens.read ∙ w.read) in
     opening_is s now to bytes w.opens
@@ -56,7 +56,7 @@ reset_verdict : (m : Message) → m.kind ≡ Confirmable → (m.code ≡ 0) ⊎ 
 unfolding verdict
 reset_verdict m kind code = ap (λ (k : MessageType). verdict_by k m) kind ∙ ap (λ (b : Bool). if b then request_verdict m else IsReset) (no_request m.code code)
 
-rejected_is : (s : Seen) (now : ℕ) (to : Endpoint) (bytes : List ℕ) (id : ℕ) → IsRejected bytes id → received_at s now to bytes ≡ Rejected id
+pub rejected_is : (s : Seen) (now : ℕ) (to : Endpoint) (bytes : List ℕ) (id : ℕ) → IsRejected bytes id → received_at s now to bytes ≡ Rejected id
 rejected_is s now to bytes id (FormatError read) = received_of (front_at s now) to bytes (Err (bad.Reset id)) read
 rejected_is s now to bytes id (NoRequest m read kind code own) =
     received_of (front_at s now) to bytes (Ok m) read

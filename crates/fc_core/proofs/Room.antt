@@ -23,7 +23,7 @@ no_room s at (inl le) = and_left (nat_lt (length (filter (is_within at) s.exchan
 no_room s at (inr le) = and_right (nat_lt (length (filter (is_within at) s.exchanges)) 1024) (nat_lt (length s.exchanges) 18446744073709551615) (le-ltb (length s.exchanges) 18446744073709551615 le)
 
 -- it is received as a request without room
-full_is : (s : Seen) (now : ℕ) (to : Endpoint) (bytes : List ℕ) (m : Message) → IsCrowdedOut s now to bytes m → received_at s now to bytes ≡ Full m
+pub full_is : (s : Seen) (now : ℕ) (to : Endpoint) (bytes : List ℕ) (m : Message) → IsCrowdedOut s now to bytes m → received_at s now to bytes ≡ Full m
 full_is s now to bytes m w =
     request_is s now to bytes m None w.read w.asks w.new
     ∙ ap (λ b. looked (look_by None b) m (new_as (front_at s now) to (verdict m) m)) (no_room s (max s.moment now) w.full)

@@ -26,4 +26,5 @@ pub mod AnswerLaws
 pub mod ExchangeLaws
 pub mod TurnLaws
 pub mod ReplyLaws
+pub mod RefusalLaws
 pub mod ShardLaws

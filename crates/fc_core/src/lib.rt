@@ -33,6 +33,7 @@ pub mod heads;
 mod ids;
 pub mod laws;
 pub mod observe_laws;
+pub mod refusal_laws;
 mod reply;
 pub mod reply_laws;
 pub mod response_laws;
