@@ -8,10 +8,11 @@ use Rattle.coap_msg.specs.declared.types.MessageType.{MessageType}
 use Rattle.coap_msg.specs.declared.types.MessageType.TheVariants.{Confirmable, NonConfirmable, Acknowledgement, Reset}
 use Rattle.coap_opts.specs.Checks.{HasBadValue, IsRequest, NamesProxy, PassesOptions}
 use Rattle.coap_opts.specs.Path.{method_of}
+use Rattle.coap_opts.specs.Classified.{IsKnown, IsServedAt}
 use Rattle.coap_opts.specs.Recognition.{has_unknown_critical}
 use Rattle.coap_opts.specs.Served.{action_of}
 use Rattle.coap_opts.specs.Values.{Place}
-use Rattle.coap_opts.specs.Verdict.{Asked, IsAsked, IsIgnored, IsKnown, IsRefused, IsReset, IsServedAt, IsSilent, Verdict, accepted, action, asked, block_in, first_of, has, has_bad_value, is_request, is_reserved, names_proxy, query, refusal_code, refusal_verdict, request_verdict, resource, values, verdict, verdict_by, verdict_by_check}
+use Rattle.coap_opts.specs.Verdict.{Asked, IsAsked, IsIgnored, IsRefused, IsReset, IsSilent, Verdict, accepted, action, asked, block_in, first_of, has, has_bad_value, is_request, is_reserved, names_proxy, query, refusal_code, refusal_verdict, request_verdict, resource, values, verdict, verdict_by, verdict_by_check}
 use Rattle.coap_opts.specs.declared.request.Action.{Action}
 use Rattle.coap_opts.specs.declared.request.Method.{Method}
 use Rattle.coap_opts.specs.declared.request.Method.TheVariants.{Get, Post, Put, Delete}

@@ -11,7 +11,8 @@ use Rattle.coap_msg.specs.Wire.{Message}
 use Rattle.coap_opts.specs.Values.{Place}
 use Rattle.coap_opts.specs.Verdict.{Asked, Verdict, IsIgnored, IsSilent, verdict}
 use Rattle.coap_block.specs.declared.transfer.Transfer.{Transfer}
-use Rattle.coap_block.specs.Transfers.{Addition, bytes_held, transfers}
+use Rattle.coap_block.specs.Transfers.{Addition, transfers}
+use Rattle.coap_block.specs.UnderWay.{bytes_held}
 use Rattle.coap_block.specs.Uploads.{Add, Continues, IsWhole, IsIncomplete, IsBadLength, IsTooLarge, IsFull, add_of, after_add, after_block, body_among, is_transfer_of, is_under_way, kept_transfer, live, others, same_key, unless_more}
 use Rattle.coap_reply.specs.Responses.{Response, bare, settled_by}
 use Rattle.fc_core.specs.BodyLaws.{Asks, SettlesBy, addition_at}

@@ -7,7 +7,8 @@ use Rattle.coap_msg.specs.declared.types.Endpoint.{Endpoint}
 use Rattle.coap_msg.specs.Reading.{reading_of}
 use Rattle.coap_msg.specs.Wire.{Message}
 use Rattle.coap_opts.specs.Verdict.{IsIgnored, IsSilent, verdict}
-use Rattle.coap_block.specs.Transfers.{bytes_held, transfers}
+use Rattle.coap_block.specs.Transfers.{transfers}
+use Rattle.coap_block.specs.UnderWay.{bytes_held}
 use Rattle.coap_block.specs.Uploads.{same_key}
 use Rattle.fc_kinds.specs.Meaning.{Program}
 use Rattle.fc_observe.specs.declared.entry.Entry.{Entry as ObserverEntry}
