@@ -309,10 +309,7 @@ plain_by (actions.Get n) None first second = refl
 plain_by (actions.Get n) (Some value) first second = neither value first second
 plain_by (actions.Post n) None first second = refl
 plain_by (actions.Post n) (Some value) first second = neither value first second
-plain_by (actions.Install n) value first second = refl
-plain_by (actions.Remove n) value first second = refl
-plain_by (actions.Describe n) value first second = refl
-plain_by actions.Discover value first second = refl
+plain_by other value first second = refl
 
 pub etags_are : (r : Entry) (s : Seen) (from : Endpoint) (m : Message) (j : Job) → BringsJob r s from m j → IsPlain m → j.etags.items ≡ etags m
 etags_are r s from m j b plain =

@@ -5,8 +5,6 @@ use Rattle.std.proofs.lemmas.Bool.{cases_Bool, cases_lt, eqb-true}
 use Rattle.fc_kinds.specs.Meaning.{Program}
 use Rattle.fc_verify.specs.Accepted.{Judgement, Accepts, Breaks, Untypable}
 use Rattle.fc_verify.specs.Judged.{judged}
-use Rattle.fc_registry.specs.declared.job.Ask.{Ask}
-use Rattle.fc_registry.specs.declared.job.Ask.TheVariants.{Run, Install as Installs, Remove as Removes, Describe, Discover}
 use Rattle.fc_registry.specs.declared.job.Job.{Job}
 use Rattle.fc_registry.specs.declared.commit.CommitOutcome.{CommitOutcome}
 use Rattle.fc_registry.specs.declared.commit.CommitOutcome.TheVariants.{Writes, Keeps, Overtakes, Ends}
@@ -172,13 +170,14 @@ gone_changes : (e : Event) (job : Job) (slot : Slot) (ws : Around) (n : ℕ) →
 gone_changes (Take k memory readings) job slot ws n = omega arith
 gone_changes other job slot ws n = omega arith
 
-first_none : (ask : Ask) (serials : List ℕ) → FitsChanges 0 (first_by ask serials)
-first_none (Run request) [] = refl
-first_none (Run request) (x ∷ xs) = refl
-first_none (Installs image) serials = refl
-first_none Removes serials = refl
-first_none Describe serials = omega arith
-first_none Discover serials = refl
+fits_none : (s : Stage) → FitsChanges 0 s
+fits_none (ToTake count) = refl
+fits_none (ToCommit count t) = refl
+fits_none ToInstall = refl
+fits_none ToRemove = refl
+fits_none ToMatch = refl
+fits_none (ToList seen) = refl
+fits_none other = zero_is_few
 
 abbrev more_changes : Event → Seen → ℕ → ℕ → ℕ
 more_changes e s k n = n + length (row e (scene s k)).changes
@@ -204,7 +203,7 @@ is_told = record {
   then_is = counted;
   still = λ e s k n is. ap (λ (x : Stage). n + length (row e (at (job s k) (slot_at s (slot_of s k)) (around s (slot_of s k)) x)).changes) is ∙ gone_changes e (job s k) (slot_at s (slot_of s k)) (around s (slot_of s k)) n;
   gone = omega arith;
-  first = first_none;
+  first = λ ask serials. fits_none (first_by ask serials);
   turns = λ turn. omega arith;
   keeps = λ e s k n f. row_changes e (job s k) (slot_at s (slot_of s k)) (around s (slot_of s k)) (stage s k) n f;
 }

@@ -14,7 +14,7 @@ use Rattle.fc_verify.specs.Accepted.{Judgement, Accepts, Breaks, Untypable}
 use Rattle.fc_verify.specs.Judged.{judged}
 use Rattle.fc_observe.specs.declared.entry.Turn.{Turn}
 use Rattle.fc_registry.specs.declared.job.Ask.{Ask}
-use Rattle.fc_registry.specs.declared.job.Ask.TheVariants.{Run, Install as Installs, Remove as Removes, Describe, Discover}
+use Rattle.fc_registry.specs.declared.job.Ask.TheVariants.{Run, Discover}
 use Rattle.fc_registry.specs.declared.job.Job.{Job}
 use Rattle.fc_registry.specs.declared.commit.CommitOutcome.{CommitOutcome}
 use Rattle.fc_registry.specs.declared.commit.CommitOutcome.TheVariants.{Writes, Keeps, Overtakes, Ends}
@@ -87,10 +87,8 @@ fits_next job slot other f = tt
 first_ask_fits : (job : Job) (slot : Slot) → job.turn ≡ None → (ask : Ask) (serials : List ℕ) → FitsStage job slot (first_by ask serials)
 first_ask_fits job slot none (Run request) [] = (omega arith, none)
 first_ask_fits job slot none (Run request) (x ∷ xs) = none
-first_ask_fits job slot none (Installs image) serials = tt
-first_ask_fits job slot none Removes serials = tt
-first_ask_fits job slot none Describe serials = tt
 first_ask_fits job slot none Discover serials = omega arith
+first_ask_fits job slot none other serials = tt
 
 first_turn_fits : (job : Job) (slot : Slot) (turn : Option ℕ) → job.turn ≡ turn → FitsStage job slot (first_or_turn turn job)
 first_turn_fits job slot None none = first_ask_fits job slot none job.ask job.etags.items

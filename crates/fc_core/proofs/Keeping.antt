@@ -44,10 +44,7 @@ use Rattle.fc_core.proofs.Fitting.{after_changes-append, first_fits, fits_change
 ask_within : (r : Asked) (action : Action) (body : List ℕ) → length r.query ≤ 64 → length r.payload ≤ 1024 → AskWithin (ask_by action r body)
 ask_within r (actions.Get n) body q p = (q, p)
 ask_within r (actions.Post n) body q p = (q, p)
-ask_within r (actions.Install n) body q p = tt
-ask_within r (actions.Remove n) body q p = tt
-ask_within r (actions.Describe n) body q p = tt
-ask_within r actions.Discover body q p = tt
+ask_within r other body q p = tt
 
 slot_within : (at : Resource) → IsResource at → slot_of_resource at < 64
 slot_within (resources.Run n) is = is

@@ -9,7 +9,7 @@ use Rattle.fc_kinds.specs.Meaning.{Program}
 use Rattle.fc_verify.specs.Accepted.{Judgement, Accepts, Breaks, Untypable}
 use Rattle.fc_verify.specs.Judged.{judged}
 use Rattle.fc_registry.specs.declared.job.Ask.{Ask}
-use Rattle.fc_registry.specs.declared.job.Ask.TheVariants.{Run, Install as Installs, Remove as Removes, Describe, Discover}
+use Rattle.fc_registry.specs.declared.job.Ask.TheVariants.{Run}
 use Rattle.fc_registry.specs.declared.job.Job.{Job}
 use Rattle.fc_registry.specs.declared.commit.CommitOutcome.{CommitOutcome}
 use Rattle.fc_registry.specs.declared.commit.CommitOutcome.TheVariants.{Writes, Keeps, Overtakes, Ends}
@@ -200,12 +200,9 @@ count_is (ToList seen) h k f next = next
 count_is other h k f next = tt
 
 none_first : (ask : Ask) (serials : List ℕ) (c : Content) → answer_at (first_by ask serials) ≡ Some c → ⊥
-none_first (Run request) [] c e = absurd (cc e)
-none_first (Run request) (x ∷ xs) c e = absurd (cc e)
-none_first (Installs image) serials c e = absurd (cc e)
-none_first Removes serials c e = absurd (cc e)
-none_first Describe serials c e = absurd (cc e)
-none_first Discover serials c e = absurd (cc e)
+none_first (Run request) [] c e = none_is_answered e
+none_first (Run request) (x ∷ xs) c e = none_is_answered e
+none_first other serials c e = none_is_answered e
 
 none_of_turn : (j : Job) (o : Option ℕ) (c : Content) → answer_at (first_or_turn o j) ≡ Some c → ⊥
 none_of_turn j None c e = none_first j.ask j.etags.items c e

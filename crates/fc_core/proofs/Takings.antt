@@ -9,7 +9,7 @@ use Rattle.fc_verify.specs.Accepted.{Judgement, Accepts, Breaks, Untypable}
 use Rattle.fc_verify.specs.Judged.{judged}
 use Rattle.fc_observe.specs.declared.entry.Turn.{Turn}
 use Rattle.fc_registry.specs.declared.job.Ask.{Ask}
-use Rattle.fc_registry.specs.declared.job.Ask.TheVariants.{Run, Install as Installs, Remove as Removes, Describe, Discover}
+use Rattle.fc_registry.specs.declared.job.Ask.TheVariants.{Run}
 use Rattle.fc_registry.specs.declared.job.Job.{Job}
 use Rattle.fc_registry.specs.declared.commit.CommitOutcome.{CommitOutcome}
 use Rattle.fc_registry.specs.declared.commit.CommitOutcome.TheVariants.{Writes, Keeps, Overtakes, Ends}
@@ -172,13 +172,13 @@ gone_given (Take k true readings) job slot ws cs = refl
 gone_given (Take k false readings) job slot ws cs = refl
 gone_given other job slot ws cs = refl
 
+none_took : 0 ≤ 8
+none_took = omega arith
+
 first_took : (ask : Ask) (serials : List ℕ) → Took [] (first_by ask serials)
 first_took (Run request) [] = (refl, omega arith)
 first_took (Run request) (x ∷ xs) = refl
-first_took (Installs image) serials = omega arith
-first_took Removes serials = omega arith
-first_took Describe serials = omega arith
-first_took Discover serials = omega arith
+first_took other serials = none_took
 
 abbrev pub more : Event → Seen → ℕ → List Taking → List Taking
 more e s k ts = gives e (scene s k) (s.changes (slot_of s k)) ++ ts
