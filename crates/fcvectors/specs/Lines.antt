@@ -1,0 +1,84 @@
+-- The lines of a case, by how each is written, and the bytes that its pieces stand for.
+use Rattle.std.specs.Prelude.{◌≡◌, ◌⊎◌, ℕ, List, [], ◌∷◌, ◌++◌, true, false, if◌then◌else◌}
+use Rattle.std.specs.List.{repeat}
+use Rattle.fc_cli.specs.declared.status.Status.{Status}
+use Rattle.fc_cli.specs.declared.status.Status.TheVariants.{Done, Refused, Bad, Failed}
+use Rattle.fc_lines.specs.Fields.{space, IsNumber}
+use Rattle.fcvectors.specs.declared.line.Stream.{Stream}
+use Rattle.fcvectors.specs.declared.line.Stream.TheVariants.{Stdin, Stdout, Stderr}
+use Rattle.fcvectors.specs.declared.line.Copies.{Copies}
+use Rattle.fcvectors.specs.declared.line.CaseLine.{CaseLine}
+use Rattle.fcvectors.specs.declared.line.CaseLine.TheVariants.{Blank, Command, Piece, Ending}
+
+-- `#`, `$`, `=`, `>`, `!`, `*` and `\`
+abbrev pub hash : ℕ
+hash = 35
+
+abbrev pub dollar : ℕ
+dollar = 36
+
+abbrev pub equals : ℕ
+equals = 61
+
+abbrev pub greater : ℕ
+greater = 62
+
+abbrev pub exclamation : ℕ
+exclamation = 33
+
+abbrev pub star : ℕ
+star = 42
+
+abbrev pub backslash : ℕ
+backslash = 92
+
+-- a mark, a space and a text; or the mark alone, and no text
+abbrev pub IsMarked : ℕ → List ℕ → List ℕ → Type 0
+IsMarked mark line text = (line ≡ mark ∷ (space ∷ text)) ⊎ ((line ≡ mark ∷ []) × (text ≡ []))
+
+abbrev pub IsUnmarked : ℕ → List ℕ → Type 0
+IsUnmarked mark line = (text : List ℕ) → IsMarked mark line text → ⊥
+
+-- nothing, or a comment
+abbrev pub IsBlank : List ℕ → Type 0
+IsBlank line = (line ≡ []) ⊎ ((rest : List ℕ) × (line ≡ hash ∷ rest))
+
+-- the line is a piece of this stream
+abbrev pub IsPieceOf : List ℕ → Stream → List ℕ → Type 0
+IsPieceOf line Stdin piece = (piece ≡ line) × IsUnmarked greater line × IsUnmarked exclamation line
+IsPieceOf line Stdout piece = IsMarked greater line piece
+IsPieceOf line Stderr piece = IsMarked exclamation line piece
+
+-- `*N*TEXT`: N copies of the text; or a text that begins with no star, once
+abbrev pub IsCounted : List ℕ → ℕ → List ℕ → Type 0
+IsCounted counted count text =
+    ((digits : List ℕ) × (counted ≡ star ∷ (digits ++ (star ∷ text))) × IsNumber digits count)
+    ⊎ ((counted ≡ text) × (count ≡ 1) × ((rest : List ℕ) → text ≡ star ∷ rest → ⊥))
+
+-- a piece that a backslash ends has no line feed behind each copy
+abbrev pub IsPiece : List ℕ → Copies → Type 0
+IsPiece piece copies =
+    ((counted : List ℕ) × (piece ≡ counted ++ (backslash ∷ [])) × IsCounted counted copies.count copies.text.now × (copies.ends_line ≡ false))
+    ⊎ (IsCounted piece copies.count copies.text.now × ((front : List ℕ) → piece ≡ front ++ (backslash ∷ []) → ⊥) × (copies.ends_line ≡ true))
+
+-- `refused`, `bad` and `failed`
+abbrev pub IsWordOf : Status → List ℕ → Type 0
+IsWordOf Done word = ⊥
+IsWordOf Refused word = word ≡ 114 ∷ 101 ∷ 102 ∷ 117 ∷ 115 ∷ 101 ∷ 100 ∷ []
+IsWordOf Bad word = word ≡ 98 ∷ 97 ∷ 100 ∷ []
+IsWordOf Failed word = word ≡ 102 ∷ 97 ∷ 105 ∷ 108 ∷ 101 ∷ 100 ∷ []
+
+-- the line of a case is written so
+abbrev pub IsLine : List ℕ → CaseLine → Type 0
+IsLine line Blank = IsBlank line
+IsLine line (Command command) = IsMarked dollar line command.now
+IsLine line (Ending status) = (word : List ℕ) × IsMarked equals line word × IsWordOf status word
+IsLine line (Piece stream copies) = (piece : List ℕ) × IsPieceOf line stream piece × IsPiece piece copies
+    × IsUnmarked dollar line × IsUnmarked equals line × (IsBlank line → ⊥)
+
+-- the bytes of one of the copies, and of all
+abbrev pub copy_bytes : Copies → List ℕ
+copy_bytes copies = copies.text.now ++ (if copies.ends_line then 10 ∷ [] else [])
+
+abbrev pub copies_bytes : Copies → List ℕ
+copies_bytes copies = repeat copies.count (copy_bytes copies)

@@ -1,0 +1,152 @@
+//! The lines of a case.
+ghost use Rattle.std.specs.Prelude.{◌≡◌, ◌++◌, List, ℕ, IfSome, MatchOption, OnOk};
+ghost use Rattle.fcvectors.specs.Lines.{IsLine, IsMarked, IsPieceOf, IsCounted, IsPiece, IsWordOf, copies_bytes, copy_bytes};
+
+use fc_cli::Status;
+use fc_lines::line::number;
+use std::alloc::AllocError;
+
+/// The streams of a program, by which a vector says what goes in and what comes out.
+#[derive(Clone, Copy, Debug, PartialEq, Eq)]
+pub(crate) enum Stream {
+    Stdin,
+    Stdout,
+    Stderr,
+}
+
+/// So many copies of a text, each with a line feed behind it or without.
+#[derive(Clone, Copy)]
+pub(crate) struct Copies<'a> {
+    pub(crate) count: u64,
+    pub(crate) text: &'a [u8],
+    pub(crate) ends_line: bool,
+}
+
+/// A line of a case.
+#[derive(Clone, Copy)]
+pub(crate) enum CaseLine<'a> {
+    /// Nothing, or a comment.
+    Blank,
+    /// A vector begins, with this command.
+    Command(&'a [u8]),
+    /// A piece of a stream.
+    Piece(Stream, Copies<'a>),
+    /// How the vector ends.
+    Ending(Status),
+}
+
+impl Copies<'_> {
+    /// Appends the copies to a stream's bytes.
+    ///
+    /// # Errors
+    /// Memory was refused.
+    pub(crate) fn append_to(&self, bytes: &mut Vec<u8>) -> Result<(), AllocError>
+        ensures { OnOk result (bytes.new.items ≡ bytes.old.items ++ copies_bytes self.now) }
+    {
+        for _ in 0..self.count {
+            self.append_one(bytes)?;
+        }
+        Ok(())
+    }
+
+    // Appends one of them.
+    fn append_one(&self, bytes: &mut Vec<u8>) -> Result<(), AllocError>
+        ensures { OnOk result (bytes.new.items ≡ bytes.old.items ++ copy_bytes self.now) }
+    {
+        bytes.extend_from_slice(self.text)?;
+        if self.ends_line {
+            bytes.push(b'\n')?;
+        }
+        Ok(())
+    }
+}
+
+/// Parses a line of a case, without its line feed: nothing or `# ..`, a comment; `$ COMMAND`, which begins a vector; `> PIECE`, of what is printed;
+/// `! PIECE`, of what is told; `= refused`, `= bad` or `= failed`, how it ends; or else a piece of what is read. A piece is a text, or `*N*TEXT`,
+/// which is N copies of it; where `\` ends it no line feed stands behind each.
+/// `None` where it is none of them.
+pub(crate) fn parse(line: &[u8]) -> Option<CaseLine<'_>>
+    ensures { IfSome result (IsLine line.now) }
+{
+    if line.is_empty() || line.starts_with(b"#") {
+        return Some(CaseLine::Blank);
+    }
+    if let Some(command) = after_mark(line, b'$') {
+        return Some(CaseLine::Command(command));
+    }
+    if let Some(word) = after_mark(line, b'=') {
+        return Some(CaseLine::Ending(status_named(word)?));
+    }
+    let (stream, piece) = piece_of(line);
+    Some(CaseLine::Piece(stream, copies_of(piece)?))
+}
+
+// The stream that a line without a command or an ending is a piece of, and the piece.
+fn piece_of(line: &[u8]) -> (Stream, &[u8])
+    ensures { IsPieceOf line.now result.0 result.1.now }
+{
+    if let Some(piece) = after_mark(line, b'>') {
+        return (Stream::Stdout, piece);
+    }
+    match after_mark(line, b'!') {
+        Some(piece) => (Stream::Stderr, piece),
+        None => (Stream::Stdin, line),
+    }
+}
+
+// What stands behind a mark and a space; nothing behind a mark alone.
+fn after_mark(line: &[u8], mark: u8) -> Option<&[u8]>
+    ensures { MatchOption result ((text : List ℕ) → IsMarked mark line.now text → ⊥) (λ text. IsMarked mark line.now text.now) }
+{
+    let (first, rest) = line.split_first()?;
+    if *first != mark {
+        return None;
+    }
+    match rest.split_first() {
+        None => Some(rest),
+        Some((space, text)) => { if *space == b' ' { Some(text) } else { None } }
+    }
+}
+
+// The copies that a piece stands for.
+fn copies_of(piece: &[u8]) -> Option<Copies<'_>>
+    ensures { IfSome result (IsPiece piece.now) }
+{
+    match piece.strip_suffix(b"\\".as_slice()) {
+        Some(text) => counted(text, false),
+        None => counted(piece, true),
+    }
+}
+
+// So many copies of a text as `*N*` in front of it says, or one.
+fn counted(text: &[u8], ends_line: bool) -> Option<Copies<'_>>
+    ensures copies { IfSome result (λ copies. IsCounted text.now copies.count copies.text.now) }
+    ensures ends_line { IfSome result (λ copies. copies.ends_line ≡ ends_line) }
+{
+    let Some(rest) = text.strip_prefix(b"*".as_slice()) else {
+        return Some(Copies {
+            count: 1,
+            text,
+            ends_line,
+        });
+    };
+    let star = rest.iter().position(|byte| *byte == b'*')?;
+    let count = number(&rest[..star])?;
+    Some(Copies {
+        count,
+        text: &rest[star + 1..],
+        ends_line,
+    })
+}
+
+// The status by its word; what is done needs none.
+fn status_named(word: &[u8]) -> Option<Status>
+    ensures { IfSome result (λ status. IsWordOf status word.now) }
+{
+    match word {
+        b"refused" => Some(Status::Refused),
+        b"bad" => Some(Status::Bad),
+        b"failed" => Some(Status::Failed),
+        _ => None,
+    }
+}

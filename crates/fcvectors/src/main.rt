@@ -1,0 +1,125 @@
+//! The program of the vectors: cases that are files of data, each carried out by the library's function that a program calls.
+#![tactic(auto)]
+
+mod case;
+mod files;
+mod line;
+mod running;
+mod stage;
+
+use case::{CaseError, lines_of};
+use clap::{Arg, ArgAction, Command, Error};
+use fc_cli::Status;
+use fc_cli::command_line::{VERSION, exit_code, parse, words};
+use files::{Suite, all_paths, suite_of};
+use running::{Difference, check_case};
+use std::alloc::Global;
+use std::io::{BufWriter, Write};
+use std::process::ExitCode;
+use std::rt::Runtime;
+use std::sync::Wait;
+use std::thread::Threads;
+use std::{fs, io};
+
+fn command<'a>(alloc: Global) -> Result<Command<'a>, Error> {
+    let cases = Arg::new(alloc, "case")
+        .value_name("CASE")
+        .action(ArgAction::Append)
+        .help("The files of cases; those in play, events and asm where none is given");
+    Ok(
+        Command::new(alloc, "fcvectors")
+            .version(VERSION)
+            .about("Carry out cases, and say of each whether that comes of it which it says")
+            .arg(cases)?,
+    )
+}
+
+fn run<R: Runtime + AllocGlobal + Threads + Wait + Sync, E: Write>(
+    rt: &R,
+    err: &mut E,
+) -> anyhow::Result<Status> {
+    match words(rt, err)? {
+        Some(words) => obey(rt, err, words),
+        None => Ok(Status::Bad),
+    }
+}
+
+// Carries out the cases that the command line names, or all.
+fn obey<R: Runtime + AllocGlobal + Threads + Wait + Sync, E: Write>(
+    rt: &R,
+    err: &mut E,
+    words: Vec<String>,
+) -> anyhow::Result<Status> {
+    let matches = match parse(rt, command(rt.alloc())?, &words)? {
+        Ok(matches) => matches,
+        Err(status) => return Ok(status),
+    };
+    let mut out = BufWriter::new(rt.alloc(), io::writer(rt))?;
+    let status = match matches.get_strs("case") {
+        Some(paths) => check_files(rt, &mut out, err, paths)?,
+        None => {
+            let paths = all_paths(rt)?;
+            let paths: Vec<&str> = paths.iter().map(|path| path.as_str()).collect(rt.alloc())?;
+            check_files(rt, &mut out, err, &paths)?
+        }
+    };
+    out.flush()?;
+    Ok(status)
+}
+
+// Carries out the cases of these files. It ends `Refused` where something else comes of one than it says, and `Bad` where one can't be carried out.
+fn check_files<R: Runtime + AllocGlobal + Threads + Wait + Sync, W: Write, E: Write>(
+    rt: &R,
+    out: &mut W,
+    err: &mut E,
+    paths: &[&str],
+) -> anyhow::Result<Status> {
+    let mut status = Status::Done;
+    for path in paths.iter().copied() {
+        let Some((suite, name)) = suite_of(path) else {
+            writeln!(err, "{path}: no name of a case")?;
+            return Ok(Status::Bad);
+        };
+        let text = fs::read(rt, path)?;
+        match check_text(rt, &text, suite.command) {
+            Ok(None) => writeln!(out, "ok {name}")?,
+            Ok(Some(difference)) => {
+                status = Status::Refused;
+                writeln!(out, "differs {name}: line {}", difference.line)?;
+                difference.tell(err, name)?;
+            }
+            Err(error) => return explain(err, path, &error),
+        }
+    }
+    Ok(status)
+}
+
+// Carries out the case of this text.
+fn check_text<R: Runtime + AllocGlobal + Threads + Wait + Sync>(
+    rt: &R,
+    text: &[u8],
+    command: &[u8],
+) -> Result<Option<Difference>, CaseError> {
+    let lines = lines_of(rt.alloc(), text)?;
+    check_case(rt, &lines, command)
+}
+
+// Tells why a case isn't carried out.
+fn explain<E: Write>(err: &mut E, path: &str, error: &CaseError) -> anyhow::Result<Status> {
+    match error {
+        CaseError::Memory(_) => {
+            writeln!(err, "{error}")?;
+            Ok(Status::Failed)
+        }
+        CaseError::BadLine(_) | CaseError::BadCommand(_) => {
+            writeln!(err, "{path}: {error}")?;
+            Ok(Status::Bad)
+        }
+    }
+}
+
+fn main(rt: HostRuntime) -> ExitCode {
+    let mut err = rt.stderr();
+    let ended = run(&rt, &mut err);
+    exit_code(&mut err, ended)
+}

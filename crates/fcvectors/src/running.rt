@@ -1,0 +1,106 @@
+//! Cases that are carried out.
+use crate::case::{CaseError, Output, Vector, is_command, is_vector, vector_of};
+use crate::line::CaseLine;
+use crate::stage::{is_play, output_of};
+use fc_cli::Status;
+use std::alloc::AllocError;
+use std::io;
+use std::io::Write;
+use std::sync::Wait;
+use std::thread::Threads;
+
+/// Who works off what is played: nobody but this thread, one worker and two.
+static PLAYERS: [Option<u8>; 3] = [None, Some(1), Some(2)];
+
+/// What came of a vector, where its case says something else.
+#[derive(Drop)]
+pub(crate) struct Difference {
+    /// The first line of the vector, counted from 1.
+    pub(crate) line: usize,
+    pub(crate) workers: Option<u8>,
+    pub(crate) came: Output,
+}
+
+/// Carries out the vectors of a case, up to one of which something else comes than it says. Its lines before the first command are a vector with
+/// this command, where one of them isn't blank.
+///
+/// # Errors
+/// A vector has no command, or one that isn't known; or memory was refused.
+pub(crate) fn check_case<'a, R: AllocGlobal + Threads + Wait + Sync>(
+    rt: &R,
+    lines: &[CaseLine<'a>],
+    command: &'a [u8],
+) -> Result<Option<Difference>, CaseError> {
+    let mut line = 1usize;
+    for part in lines.chunk_by(|_, next| !is_command(next)) {
+        if is_vector(part) {
+            let vector = vector_of(rt.alloc(), part, command)?;
+            if let Some(difference) = check_vector(rt, &vector, line)? {
+                return Ok(Some(difference));
+            }
+        }
+        line = line.saturating_add(part.len());
+    }
+    Ok(None)
+}
+
+// Carries out the vector of this line, one that plays by each of the players.
+fn check_vector<R: AllocGlobal + Threads + Wait + Sync>(
+    rt: &R,
+    vector: &Vector<'_>,
+    line: usize,
+) -> Result<Option<Difference>, CaseError> {
+    for workers in players_of(vector.command).iter().copied() {
+        let came = match output_of(rt, workers, vector.command, &vector.stdin)? {
+            Some(came) => came,
+            None => return Err(CaseError::BadCommand(line)),
+        };
+        if !vector.output.allows(&came) {
+            return found(line, workers, came).map(Some);
+        }
+    }
+    Ok(None)
+}
+
+// All players of a command whose last stage plays, the first of them of another.
+fn players_of(command: &[u8]) -> &'static [Option<u8>] {
+    if is_play(command) {
+        &PLAYERS
+    } else {
+        &PLAYERS[..1]
+    }
+}
+
+// A difference, unless there was no memory for the vector.
+fn found(line: usize, workers: Option<u8>, came: Output) -> Result<Difference, CaseError> {
+    if came.status == Status::Failed {
+        return Err(CaseError::Memory(AllocError));
+    }
+    Ok(Difference {
+        line,
+        workers,
+        came,
+    })
+}
+
+impl Difference {
+    /// Tells what came of the vector: by whom, how it ended, what it printed and what it told.
+    ///
+    /// # Errors
+    /// The writer failed.
+    pub(crate) fn tell<E: Write>(&self, err: &mut E, name: &str) -> io::Result<()> {
+        let Output {
+            status,
+            stdout,
+            stderr,
+        } = &self.came;
+        write!(err, "{name}: line {}", self.line)?;
+        if let Some(workers) = self.workers {
+            write!(err, ", by {workers} workers")?;
+        }
+        writeln!(err, ", ends {status:?}, prints")?;
+        err.write_all(stdout)?;
+        writeln!(err, "and tells")?;
+        err.write_all(stderr)
+    }
+}

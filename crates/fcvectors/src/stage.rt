@@ -1,0 +1,247 @@
+//! The stages of a command: each is a function of the libraries, which a program calls.
+use crate::case::Output;
+use fc_cli::Status;
+use fc_cli::status::tell;
+use fc_help::Method;
+use fc_replay::replay::replay;
+use fc_server::Begin;
+use fc_service::play::play;
+use fc_service::workers::play_by_workers;
+use fc_tools::asked::{Asked, AskedError};
+use fc_tools::budget::Budget;
+use fc_tools::tools::{check, expand, image, list, run};
+use fc_tools::version::version_named;
+use hex::FromHexError;
+use std::alloc::{AllocError, Global};
+use std::mem;
+use std::sync::Wait;
+use std::thread::Threads;
+
+/// The greatest serial.
+const LAST_SERIAL: u64 = 9_223_372_036_854_775_807;
+
+/// How many bytes a line of hex digits has: a slot's.
+const LINE: usize = 8;
+
+/// Carries out a command on an input: its stages, parted by `|`, each on what the one before it printed, as long as they end `Done`. Lines are
+/// played by so many workers, or on this thread alone. `None` where a stage isn't known, or an option of it.
+///
+/// # Errors
+/// Memory was refused, for what is handed on.
+pub(crate) fn output_of<R: AllocGlobal + Threads + Wait + Sync>(
+    rt: &R,
+    workers: Option<u8>,
+    command: &[u8],
+    input: &[u8],
+) -> Result<Option<Output>, AllocError> {
+    let alloc = rt.alloc();
+    let Ok(command) = str::from_utf8(command) else {
+        return Ok(None);
+    };
+    let mut output = Output {
+        status: Status::Done,
+        stdout: Vec::from_slice(alloc, input)?,
+        stderr: Vec::new(alloc),
+    };
+    for stage in command.split('|') {
+        if output.status == Status::Done {
+            let input = mem::replace(&mut output.stdout, Vec::new(alloc));
+            match run_stage(rt, workers, stage.trim(), &input, &mut output) {
+                Some(status) => output.status = status,
+                None => return Ok(None),
+            }
+        }
+    }
+    Ok(Some(output))
+}
+
+/// Whether the last stage of a command plays.
+pub(crate) fn is_play(command: &[u8]) -> bool {
+    let start = command
+        .iter()
+        .rposition(|byte| *byte == b'|')
+        .map_or(0, |at| at + 1);
+    command[start..].trim_ascii_start().starts_with(b"play")
+}
+
+// Runs a stage, by its name and its options.
+fn run_stage<R: AllocGlobal + Threads + Wait + Sync>(
+    rt: &R,
+    workers: Option<u8>,
+    stage: &str,
+    input: &[u8],
+    output: &mut Output,
+) -> Option<Status> {
+    let alloc = rt.alloc();
+    let (name, options) = stage.split_once(' ').unwrap_or((stage, ""));
+    match name {
+        "play" => play_from(rt, workers, options, input, output),
+        "image" => write_image(alloc, options, input, output),
+        "list" => write_listing(alloc, options, input, output),
+        "run" => run_asked(alloc, options, input, output),
+        _ if options.is_empty() => run_plain(alloc, name, input, output),
+        _ => None,
+    }
+}
+
+// Runs a stage that has no options.
+fn run_plain(alloc: Global, name: &str, mut input: &[u8], output: &mut Output) -> Option<Status> {
+    let Output { stdout, stderr, .. } = output;
+    match name {
+        "replay" => Some(replay(alloc, &mut input, stdout, stderr)),
+        "expand" => Some(expand(alloc, &mut input, stdout, stderr)),
+        "check" => Some(check(alloc, &mut input, stdout, stderr)),
+        "hex" => Some(ending(write_digits(alloc, input, stdout))),
+        "unhex" => write_bytes(alloc, input, stdout),
+        _ => None,
+    }
+}
+
+// How a stage ends that writes alone.
+fn ending(writing: Result<(), AllocError>) -> Status {
+    match writing {
+        Ok(()) => Status::Done,
+        Err(AllocError) => Status::Failed,
+    }
+}
+
+// Plays lines from the first serial and the first message id that the options say, 0 where they don't.
+fn play_from<R: AllocGlobal + Threads + Wait + Sync>(
+    rt: &R,
+    workers: Option<u8>,
+    options: &str,
+    input: &[u8],
+    output: &mut Output,
+) -> Option<Status> {
+    if !are_options(options, &["--serial", "--id"]) {
+        return None;
+    }
+    let serial = option(options, "--serial")
+        .unwrap_or("0")
+        .parse::<u64>()
+        .ok()?;
+    let id = option(options, "--id").unwrap_or("0").parse::<u16>().ok()?;
+    if serial > LAST_SERIAL {
+        return None;
+    }
+    let alloc = rt.alloc();
+    let Output { stdout, stderr, .. } = output;
+    Some(match workers {
+        None => play(alloc, input, stdout, stderr, serial, id),
+        Some(count) => {
+            play_by_workers(
+                rt,
+                alloc,
+                input,
+                stdout,
+                stderr,
+                count,
+                Begin { serial, id },
+            )
+        }
+    })
+}
+
+fn write_image(
+    alloc: Global,
+    options: &str,
+    mut input: &[u8],
+    output: &mut Output,
+) -> Option<Status> {
+    if !are_options(options, &["--vars", "--budget", "--format"]) {
+        return None;
+    }
+    let vars = option(options, "--vars")?.parse::<u16>().ok()?;
+    let budget = option(options, "--budget")?.parse::<Budget>().ok()?;
+    let version = version_named(option(options, "--format"))?;
+    let Output { stdout, stderr, .. } = output;
+    Some(image(alloc, &mut input, stdout, stderr, vars, budget, version))
+}
+
+fn write_listing(
+    alloc: Global,
+    options: &str,
+    mut input: &[u8],
+    output: &mut Output,
+) -> Option<Status> {
+    if !are_options(options, &["--slots"]) {
+        return None;
+    }
+    let Output { stdout, stderr, .. } = output;
+    Some(list(alloc, &mut input, stdout, stderr, !options.is_empty()))
+}
+
+fn run_asked(
+    alloc: Global,
+    options: &str,
+    mut input: &[u8],
+    output: &mut Output,
+) -> Option<Status> {
+    if !are_options(
+        options,
+        &["--method", "--payload", "--query", "--vars", "--readings"],
+    ) {
+        return None;
+    }
+    let Output { stdout, stderr, .. } = output;
+    match asked_by(alloc, options)? {
+        Ok(asked) => Some(run(alloc, &mut input, stdout, stderr, &asked)),
+        Err(error) => Some(tell(stderr, &error, error.status())),
+    }
+}
+
+// What the options ask a program, as those of `fcasm run` do.
+fn asked_by(alloc: Global, options: &str) -> Option<Result<Asked, AskedError>> {
+    let method = match option(options, "--method") {
+        None | Some("get") => Method::Get,
+        Some("post") => Method::Post,
+        Some(_) => return None,
+    };
+    let payload = option(options, "--payload").unwrap_or("");
+    let query = option(options, "--query").unwrap_or("");
+    let vars = option(options, "--vars");
+    let readings = option(options, "--readings").unwrap_or("");
+    Some(match Asked::new(alloc, method, payload, query, vars) {
+        Ok(asked) => asked.with_readings(alloc, readings),
+        Err(error) => Err(error),
+    })
+}
+
+// The word behind an option's name.
+fn option<'a>(options: &'a str, name: &str) -> Option<&'a str> {
+    let mut words = options.split_whitespace();
+    words.find(|word| *word == name)?;
+    words.next()
+}
+
+// Whether each word with two dashes in front is one of these names.
+fn are_options(options: &str, names: &[&str]) -> bool {
+    let mut words = options.split_whitespace();
+    words.all(|word| !word.starts_with("--") || names.iter().any(|name| *name == word))
+}
+
+// Writes bytes by hex digits, the eight of a slot a line.
+fn write_digits(alloc: Global, bytes: &[u8], out: &mut Vec<u8>) -> Result<(), AllocError> {
+    for slot in bytes.chunks(LINE) {
+        let digits = hex::encode(alloc, slot)?;
+        out.extend_from_slice(digits.as_bytes())?;
+        out.push(b'\n')?;
+    }
+    Ok(())
+}
+
+// Writes the bytes of lines of hex digits; `None` where they aren't.
+fn write_bytes(alloc: Global, lines: &[u8], out: &mut Vec<u8>) -> Option<Status> {
+    let digits = lines.iter().copied().filter(|byte| *byte != b'\n');
+    let Ok(digits) = digits.collect::<Vec<u8>>(alloc) else {
+        return Some(Status::Failed);
+    };
+    match hex::decode(alloc, &digits) {
+        Ok(bytes) => {
+            *out = bytes;
+            Some(Status::Done)
+        }
+        Err(FromHexError::OutOfMemory) => Some(Status::Failed),
+        Err(_) => None,
+    }
+}
