@@ -1,49 +1,10 @@
-// Hostile bytes: a datagram that was cut, and an image each of whose bytes was changed. What is printed was worked out by hand.
-use crate::play_tests::plays;
-use fc_cli::Status;
+// Hostile bytes: an image each of whose bytes was changed.
 use fc_help::{Method, NO_READINGS, Request, Vars};
 use fc_machine::{Frame, run};
 use fc_verify::{Refusal, Verified, verify};
 use std::alloc::AllocError;
 use std::process::Abort;
 use std::test::Fail;
-
-// `PUT /p/0` of a program of two instructions, 42 bytes.
-const PUT: &[u8] =
-    b"4103123370b1700130ff46434231000002000200000000000000b7000000450000009500000000000000";
-
-// What is printed where only so many bytes of it come. Where a token, an option or a payload is cut off it is rejected by a Reset message; without a path of
-// two segments it is 4.04, and then `V01 slot 0` as long as the image is cut.
-fn printed_of(kept: usize) -> &'static str {
-    match kept {
-        0..=3 => "",
-        4 | 6 | 8 | 10 => "1 70001233\n",
-        5 | 7 => "1 6184123370\n",
-        42 => { "1 6141123370ff76657273696f6e3d3120636f73743d32206275646765743d3220766172733d30\n" }
-        _ => "1 6180123370ff56303120736c6f742030\n",
-    }
-}
-
-#[test]
-fn an_upload_is_cut_at_each_byte(rt: HostRuntime) -> Result<(), Fail> {
-    for kept in 0..=PUT.len() / 2 {
-        let mut line = Vec::from_slice(rt.alloc(), b"0 1 ")?;
-        line.extend_from_slice(PUT.get(..2 * kept).ok_or("too long")?)?;
-        line.push(b'\n')?;
-        assert!(rt;
-            plays(
-                rt.alloc(),
-                line.as_slice(),
-                0,
-                Status::Done,
-                printed_of(kept),
-                ""
-            ),
-            "{kept} bytes"
-        );
-    }
-    Ok(())
-}
 
 // `jgt r3, 1023, 4`, `mov64 r4, r1`, `add64 r4, r3`, `ldxb r0, r4, 80`, `exit`, `mov64 r0, 0`, `exit`: the byte of the payload behind the last.
 const BRANCHING: [u8; 72] = *b"FCB1\0\0\x07\0\x05\0\0\0\0\0\0\0\

@@ -9,8 +9,6 @@ mod alu_tests;
 #[cfg(test)]
 mod asm_tests;
 #[cfg(test)]
-mod block_tests;
-#[cfg(test)]
 mod call_tests;
 #[cfg(test)]
 mod client_tests;
@@ -55,8 +53,6 @@ mod notification_tests;
 #[cfg(test)]
 mod observer_tests;
 #[cfg(test)]
-mod observing_tests;
-#[cfg(test)]
 mod opcode_tests;
 #[cfg(test)]
 mod overtaking_tests;
@@ -64,8 +60,6 @@ mod overtaking_tests;
 mod play_tests;
 #[cfg(test)]
 mod pool_tests;
-#[cfg(test)]
-mod post_tests;
 #[cfg(test)]
 mod refusal_tests;
 #[cfg(test)]
@@ -94,5 +88,3 @@ mod tool_tests;
 mod tooling;
 #[cfg(test)]
 mod transfer_tests;
-#[cfg(test)]
-mod version_tests;

@@ -1,6 +1,5 @@
 // Programs with counted loops, and how their images are judged and run: the expected verdicts and steps follow from the rules, worked
 // out by hand.
-use crate::post_tests::check_played;
 use crate::run_tests::{GET, Words, ran};
 use crate::tooling::{assembled_with, check_program, checked};
 use fc_cli::Status;
@@ -416,18 +415,4 @@ fn a_payload_is_added_up(rt: HostRuntime) -> Result<(), Fail> {
         assert!(rt; done.out.as_slice() == told.as_bytes(), "{payload}");
     }
     Ok(())
-}
-
-// The same through an upload: on one thread, and by one worker and two.
-#[test]
-fn a_payload_is_added_up_by_the_server(rt: HostRuntime) {
-    check_played(
-        &rt,
-        "0 1 40030001b1700130ff4643423200000b001a00000000000000b706000000000000b707000000000000bf6100000000000085000000020000000f070000000000000706000001000000a506fbff04000000bf710000000000008500000006000000b7000000000000009500000000000000\n\
-         0 1 40020002b1720130ff01020304\n\
-         0 1 40020003b1720130ff0102\n",
-        "1 60410001ff76657273696f6e3d3120636f73743d3236206275646765743d323620766172733d30\n\
-         1 60440002ff0a\n\
-         1 60440003ff01\n",
-    );
 }
