@@ -17,8 +17,6 @@ mod command_tests;
 #[cfg(test)]
 mod counted_tests;
 #[cfg(test)]
-mod event_tests;
-#[cfg(test)]
 mod exchange_tests;
 #[cfg(test)]
 mod expand_tests;
@@ -32,6 +30,8 @@ mod feeder;
 mod head_tests;
 #[cfg(test)]
 mod hostile_tests;
+#[cfg(test)]
+mod id_tests;
 #[cfg(test)]
 mod isa_tests;
 #[cfg(test)]
@@ -49,8 +49,6 @@ mod message_tests;
 #[cfg(test)]
 mod notice_tests;
 #[cfg(test)]
-mod notification_tests;
-#[cfg(test)]
 mod observer_tests;
 #[cfg(test)]
 mod opcode_tests;
@@ -62,8 +60,6 @@ mod play_tests;
 mod pool_tests;
 #[cfg(test)]
 mod refusal_tests;
-#[cfg(test)]
-mod replay_tests;
 #[cfg(test)]
 mod reply_tests;
 #[cfg(test)]
