@@ -19,8 +19,6 @@ mod counted_tests;
 #[cfg(test)]
 mod exchange_tests;
 #[cfg(test)]
-mod expand_tests;
-#[cfg(test)]
 mod failing_tests;
 #[cfg(test)]
 mod faulty;
@@ -58,8 +56,6 @@ mod overtaking_tests;
 mod play_tests;
 #[cfg(test)]
 mod pool_tests;
-#[cfg(test)]
-mod refusal_tests;
 #[cfg(test)]
 mod reply_tests;
 #[cfg(test)]

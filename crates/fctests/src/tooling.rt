@@ -2,7 +2,7 @@
 use fc_cli::Status;
 use fc_isa::ImageVersion;
 use fc_tools::budget::Budget;
-use fc_tools::tools::{check, image, list};
+use fc_tools::tools::{check, image};
 use std::alloc::{AllocError, Global};
 use std::process::Abort;
 use std::test::Fail;
@@ -51,22 +51,6 @@ pub(crate) fn assembled_with(
     let status = image(
         alloc, &mut input, &mut out, &mut err, vars_size, budget, version,
     );
-    with_memory(Done { status, out, err })
-}
-
-pub(crate) fn listed(alloc: Global, image: &[u8]) -> Result<Done, AllocError> {
-    listed_with(alloc, image, false)
-}
-
-pub(crate) fn listed_with(
-    alloc: Global,
-    image: &[u8],
-    with_slots: bool,
-) -> Result<Done, AllocError> {
-    let mut out = Vec::new(alloc);
-    let mut err = Vec::new(alloc);
-    let mut input = image;
-    let status = list(alloc, &mut input, &mut out, &mut err, with_slots);
     with_memory(Done { status, out, err })
 }
 
