@@ -1,19 +1,19 @@
 #!/usr/bin/env python3
-"""Runs the tests of the assembler, the instructions, the tools, the calls and of each call that asks for memory, and the programs, once with ample memory and once with
+"""Runs the tests of the assembler, the instructions, the tools and of each call that asks for memory, and the programs, once with ample memory and once with
 each request for memory refused.
 
-Run it at the top of the repository, behind `rt test` in crates/fctests and `rt run` in crates/fcd, crates/fcasm and crates/fcreplay, which
+Run it at the top of the repository, behind `rt test` in crates/fctests and `rt run` in crates/fcd, crates/fcasm, crates/fcreplay and crates/fcvectors, which
 build what it runs:
 
     python3 tests/refused-memory/run.py [NAME..]
 
 It needs a C compiler and UDP port 5697 at 127.0.0.1. It prints a line for each test and each program in whose name one of these stands (all,
 where none is given), and ends with 1 where an outcome is not one that refused memory may have. A test passes, or ends with the error that memory
-was refused. `fcasm` and `fcreplay` do as with ample memory, or end with status 3. `fcd` answers a few datagrams: all of them right, or 5.03 to an
+was refused. `fcasm`, `fcreplay` and `fcvectors` do as with ample memory, or end with status 3. `fcd` answers a few datagrams: all of them right, or 5.03 to an
 installation or a run that found no memory, after which the slot is as before; or it ends with status 3. Whoever ends with status 3 says why, and has
 printed a beginning of what may be printed; a server on a socket has answered nothing by then, or all. Whatever hasn't ended after 20 s is stopped, and
-that may not be. The tests of plays, of replies and of events are left out: they judge replies, which refused memory changes, so that their asserts
-fail then.
+that may not be. The tests of plays and of replies, and the cases of plays and of events, are left out: they judge replies, which refused memory
+changes.
 """
 import collections
 import dataclasses
@@ -31,10 +31,14 @@ TESTS = "crates/fctests/out/fctests_tests"
 FCASM = "crates/fcasm/out/fcasm"
 FCD = "crates/fcd/out/fcd"
 FCREPLAY = "crates/fcreplay/out/fcreplay"
+FCVECTORS = "crates/fcvectors/out/fcvectors"
 PORT = 5697
 
 # The modules whose tests are run.
-TRIED = ("asm_tests::", "call_tests::", "isa_tests::", "memory_tests::", "tool_tests::")
+TRIED = ("asm_tests::", "isa_tests::", "memory_tests::", "tool_tests::")
+
+# The cases that are carried out: programs, and how they are judged.
+CASES = ("programs", "calls")
 
 # Two of them read what a failed read or write tells: where memory is refused first, that is told.
 LEFT_OUT = ("tool_tests::a_failed_reader_is_status_3", "tool_tests::a_failed_writer_is_status_3")
@@ -258,6 +262,7 @@ def programs():
         ("fcasm list", command([FCASM, "list"], image), of_command, 1),
         ("fcasm check", command([FCASM, "check"], image), of_command, 1),
         ("fcreplay", command([FCREPLAY], contents("crates/fcreplay/stdin")), of_command, 1),
+        *((f"fcvectors asm/{it}", command([FCVECTORS, f"crates/fcvectors/data/asm/{it}.case"], b""), of_command, 1) for it in CASES),
         ("fcd play", command([FCD, "play"], PLAYED), of_play, 1),
         ("fcd play --workers 1", command([FCD, "play", "--workers", "1"], PLAYED), of_play, TIMES),
         ("fcd play --workers 2", command([FCD, "play", "--workers", "2"], PLAYED), of_play, TIMES),

@@ -1,5 +1,6 @@
-//! The tests that cross crates, and those of crates that would be proved twice for theirs: what each line, list of events, text,
-//! image, datagram and number here is to give follows from the RFCs of the protocol and of the instructions, worked out by hand.
+//! The tests that cross crates, and those of crates that would be proved twice for theirs: what each datagram, image and number here is
+//! to give follows from the RFCs of the protocol and of the instructions, worked out by hand. What the programs print of lines, lists of
+//! events, texts and images is data of fcvectors.
 #![tactic(auto)]
 
 #[cfg(test)]
@@ -8,8 +9,6 @@ mod address_tests;
 mod alu_tests;
 #[cfg(test)]
 mod asm_tests;
-#[cfg(test)]
-mod call_tests;
 #[cfg(test)]
 mod client_tests;
 #[cfg(test)]
@@ -37,8 +36,6 @@ mod job_tests;
 #[cfg(test)]
 mod lock_tests;
 #[cfg(test)]
-mod loop_tests;
-#[cfg(test)]
 mod machine_tests;
 #[cfg(test)]
 mod memory_tests;
@@ -48,8 +45,6 @@ mod message_tests;
 mod notice_tests;
 #[cfg(test)]
 mod observer_tests;
-#[cfg(test)]
-mod opcode_tests;
 #[cfg(test)]
 mod overtaking_tests;
 #[cfg(test)]

@@ -1,38 +1,12 @@
-// Images that are run once: what is told of a run follows from the tables of instructions, helpers and the request, worked out by hand.
+// What an image can be asked in a run, and a report that can't be written; what is told of runs is data of fcvectors.
 use crate::faulty::Full;
-use crate::tooling::{Done, assembled, with_memory};
+use crate::tooling::assembled;
 use fc_cli::Status;
 use fc_help::Method;
 use fc_tools::asked::{Asked, AskedError, Part};
 use fc_tools::tools::run;
 use std::alloc::{AllocError, Global};
-use std::process::Abort;
 use std::test::Fail;
-
-// What an image is asked: the payload and the query in hex, and the variables, if they are given.
-#[derive(Clone, Copy)]
-pub(crate) struct Words {
-    pub(crate) method: Method,
-    pub(crate) payload: &'static str,
-    pub(crate) query: &'static str,
-    pub(crate) vars: Option<&'static str>,
-}
-
-pub(crate) const GET: Words = Words {
-    method: Method::Get,
-    payload: "",
-    query: "",
-    vars: None,
-};
-
-pub(crate) fn ran(alloc: Global, image: &[u8], words: &Words) -> Result<Done, Fail> {
-    let asked = Asked::new(alloc, words.method, words.payload, words.query, words.vars)?;
-    let mut out = Vec::new(alloc);
-    let mut err = Vec::new(alloc);
-    let mut input = image;
-    let status = run(alloc, &mut input, &mut out, &mut err, &asked);
-    Ok(with_memory(Done { status, out, err })?)
-}
 
 #[test]
 fn a_failed_report_is_status_3(rt: HostRuntime) -> Result<(), Fail> {
