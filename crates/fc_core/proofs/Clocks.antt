@@ -1,7 +1,7 @@
 -- The observers of a slot are at no later moment than their shard.
 use Rattle.std.proofs.Common.{◌≡◌, ℕ, ◌+◌, ◌*◌, ◌%◌, ◌<◌, ◌≤◌, List, [], ◌∷◌, ◌++◌, Bool, true, false, Option, Some, None, max, refl, sym, ap, ◌∙◌, subst, arith, if◌then◌else◌}
-use Rattle.std.specs.Prelude.{◌==◌, nat_lt}
-use Rattle.std.proofs.lemmas.Bool.{eq-eqb, eqb-true, ltb-true}
+use Rattle.std.specs.Prelude.{◌==◌, ◌&&◌, nat_lt}
+use Rattle.std.proofs.lemmas.Bool.{and_from, eq-eqb, eqb-true, lt-ltb, ltb-true}
 use Rattle.std.proofs.lemmas.Nat.{mod-mul-add}
 use Rattle.arrayvec.specs.ArrayVec.{ArrayVec}
 use Rattle.coap_msg.specs.declared.types.Emission.{Emission}
@@ -179,10 +179,10 @@ module _ (s : Seen) where
   named_reach e n (Some k) named = slot_reaches e k n (slot_of s k == n) named refl
 
   -- those of its own shard
-  at_shard_moment : (shard now n : ℕ) → shard ≡ n % 8 → max (s.shard_moment shard) now ≤ handed (if shard == (n % 8) then Some now else None) (s.shard_moment (n % 8))
+  at_shard_moment : (shard now n : ℕ) → shard ≡ n % 8 → max (s.shard_moment shard) now ≤ handed (if (shard == (n % 8)) && nat_lt (n % 8) 8 then Some now else None) (s.shard_moment (n % 8))
   at_shard_moment shard now n is =
       let same = ap s.shard_moment is in
-      let yes = ap (λ (b : Bool). handed (if b then Some now else None) (s.shard_moment (n % 8))) (eq-eqb shard (n % 8) is) in
+      let yes = ap (λ (b : Bool). handed (if b then Some now else None) (s.shard_moment (n % 8))) (and_from (shard == (n % 8)) (nat_lt (n % 8) 8) (eq-eqb shard (n % 8) is) (lt-ltb (n % 8) 8 (omega arith))) in
       omega (arith, same, yes)
 
   due_reaches : (shard now n : ℕ) (b : Bool) → is_place_of (due_in s shard (max (s.shard_moment shard) now)) shard n ≡ b → Each (ReachesTo (later (Due shard now) (n % 8))) (if b then NextDue (max (s.shard_moment shard) now) (slot_at s n).noticed ∷ [] else [])

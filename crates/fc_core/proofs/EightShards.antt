@@ -1,8 +1,8 @@
 -- An event of a shard above 7 changes nothing.
-use Rattle.std.proofs.Common.{◌≡◌, ℕ, ◌%◌, ◌<◌, ◌≤◌, [], ◌∷◌, ◌++◌, map, Bool, Option, Some, None, refl, ap, ◌∙◌, max, arith}
-use Rattle.std.specs.Prelude.{◌==◌, if◌then◌else◌}
+use Rattle.std.proofs.Common.{◌≡◌, ℕ, ◌%◌, ◌<◌, ◌≤◌, [], ◌∷◌, ◌++◌, map, Bool, true, false, Option, Some, None, refl, ap, ◌∙◌, max, arith}
+use Rattle.std.specs.Prelude.{nat_lt, ◌==◌, ◌&&◌, if◌then◌else◌}
 use Rattle.std.specs.Option.{option_to_list}
-use Rattle.std.proofs.lemmas.Bool.{le-ltb, ne_eqb}
+use Rattle.std.proofs.lemmas.Bool.{eqb-true, le-ltb, ne_eqb}
 use Rattle.std.proofs.lemmas.List.{append-nil}
 use Rattle.coap_msg.specs.declared.types.Emission.{Emission}
 use Rattle.coap_msg.specs.declared.types.Endpoint.{Endpoint}
@@ -24,9 +24,13 @@ none_due : (s : Seen) (i at : ℕ) → 8 ≤ i → due_in s i at ≡ None
 unfolding due_in
 none_due s i at high = ap (λ (b : Bool). if b then place_from (is_due_at s i at) 8 0 else None) (le-ltb i 8 high)
 
--- its moment is handed to none of the eight
-not_handed : (shard i now before : ℕ) → 8 ≤ shard → i < 8 → handed (if shard == i then Some now else None) before ≡ before
-not_handed shard i now before high low = ap (λ (b : Bool). handed (if b then Some now else None) before) (ne_eqb shard i (λ same. absurd (omega (arith, same, high, low))))
+neither : (a b : Bool) → (a ≡ true → b ≡ false) → (a && b) ≡ false
+neither true b one = one refl
+neither false b one = refl
+
+-- its moment is handed to no shard
+not_handed : (shard i now before : ℕ) → 8 ≤ shard → handed (if (shard == i) && nat_lt i 8 then Some now else None) before ≡ before
+not_handed shard i now before high = ap (λ (b : Bool). handed (if b then Some now else None) before) (neither (shard == i) (nat_lt i 8) (λ same. let at = eqb-true shard i same in le-ltb i 8 (omega (arith, at, high))))
 
 module _ (o : Option Emission) (s : Seen) where
   due_before : (shard now : ℕ) → 8 ≤ shard → IsAsBefore s (and_then (did (Due shard now) o) s)
@@ -40,7 +44,7 @@ module _ (o : Option Emission) (s : Seen) where
         ids = refl;
         tasks = ap (λ (p : Option ℕ). s.tasks ++ (map new_task (option_to_list (turn_at p s shard at)) ++ [])) none ∙ append-nil s.tasks;
         changes = λ n. refl;
-        shards = λ i low. not_handed shard i now (s.shard_moment i) high low;
+        shards = λ i. not_handed shard i now (s.shard_moment i) high;
         calls = λ n. ap (λ (p : Option ℕ). (if is_place_of p shard n then NextDue at (slot_at s n).noticed ∷ [] else []) ++ s.calls n) none;
         words = refl;
       }
@@ -53,7 +57,7 @@ module _ (o : Option Emission) (s : Seen) where
     ids = refl;
     tasks = append-nil s.tasks;
     changes = λ n. refl;
-    shards = λ i low. refl;
+    shards = λ i. refl;
     calls = λ n. ap (λ (b : Bool). (if b then signal_call reset to id ∷ [] else []) ++ s.calls n) (ne_eqb (n % 8) shard (λ same. absurd (omega (arith, same, high))));
     words = refl;
   }
@@ -68,7 +72,7 @@ module _ (o : Option Emission) (s : Seen) where
         ids = refl;
         tasks = append-nil s.tasks;
         changes = λ n. refl;
-        shards = λ i low. not_handed shard i now (s.shard_moment i) high low;
+        shards = λ i. not_handed shard i now (s.shard_moment i) high;
         calls = λ n. ap (λ (p : Option ℕ). (if is_place_of p shard n then TickObservers at ∷ [] else []) ++ s.calls n) (none_late s shard at high);
         words = refl;
       }

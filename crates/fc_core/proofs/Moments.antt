@@ -1,6 +1,6 @@
 -- The moments of the front and of the shards.
 use Rattle.std.proofs.Common.{◌≡◌, ℕ, List, ◌++◌, Bool, true, false, Option, Some, None, refl, sym, ap, ◌∙◌, max, if◌then◌else◌, [], ◌∷◌}
-use Rattle.std.specs.Prelude.{is_some, ◌%◌, ◌==◌}
+use Rattle.std.specs.Prelude.{is_some, nat_lt, ◌%◌, ◌==◌, ◌&&◌}
 use Rattle.fc_registry.specs.declared.job.Job.{Job}
 use Rattle.fc_registry.specs.Slots.{Slot}
 use Rattle.fc_core.specs.declared.event.Event.{Event}
@@ -64,8 +64,8 @@ handed_if true now m ms is = ap (λ (x : ℕ). max x now) is
 handed_if false now m ms is = is
 
 handed_more : (e : Event) (i m : ℕ) (ms : List ℕ) → m ≡ greatest ms → handed (shard_hands e i) m ≡ greatest (own_moment e i ++ ms)
-handed_more (Due shard now) i m ms is = handed_if (shard == i) now m ms is
-handed_more (ShardTick shard now) i m ms is = handed_if (shard == i) now m ms is
+handed_more (Due shard now) i m ms is = handed_if ((shard == i) && nat_lt i 8) now m ms is
+handed_more (ShardTick shard now) i m ms is = handed_if ((shard == i) && nat_lt i 8) now m ms is
 handed_more other i m ms is = is
 
 pub shard_moment_is_greatest : (h : History) (i : ℕ) → (seen h).shard_moment i ≡ greatest (shard_moments_of i h)

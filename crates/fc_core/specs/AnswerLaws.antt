@@ -1,5 +1,5 @@
 -- What the laws of answers and moments speak of.
-use Rattle.std.specs.Prelude.{◌≡◌, ℕ, ◌+◌, ◌%◌, ◌==◌, ◌<◌, ◌≤◌, ◌⊎◌, Bool, true, false, if◌then◌else◌, List, [], ◌∷◌, ◌++◌, Option, Some, None, is_none, length, max}
+use Rattle.std.specs.Prelude.{◌≡◌, ℕ, ◌+◌, ◌%◌, ◌==◌, ◌&&◌, ◌<◌, ◌≤◌, ◌⊎◌, nat_lt, Bool, true, false, if◌then◌else◌, List, [], ◌∷◌, ◌++◌, Option, Some, None, is_none, length, max}
 use Rattle.fc_kinds.specs.Meaning.{Program}
 use Rattle.fc_verify.specs.Accepted.{Judgement, Accepts, Breaks, Untypable}
 use Rattle.fc_verify.specs.Judged.{judged}
@@ -169,10 +169,10 @@ abbrev pub is_of_shard : ℕ → Seen → Option ℕ → Bool
 is_of_shard i s None = false
 is_of_shard i s (Some k) = slot_of s k % 8 == i
 
--- the moment of an event of this shard itself
+-- the moment of an event of this shard itself, one of the eight that there are
 abbrev pub own_moment : Event → ℕ → List ℕ
-own_moment (Due shard now) i = if shard == i then now ∷ [] else []
-own_moment (ShardTick shard now) i = if shard == i then now ∷ [] else []
+own_moment (Due shard now) i = if (shard == i) && nat_lt i 8 then now ∷ [] else []
+own_moment (ShardTick shard now) i = if (shard == i) && nat_lt i 8 then now ∷ [] else []
 own_moment other i = []
 
 -- the moments that were handed to a shard, the newest first: by its own events, and by the commits, the notifications and the givings up

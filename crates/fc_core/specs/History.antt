@@ -1,6 +1,6 @@
 -- The history of a server, and what is seen of it. A history is its beginning and the events since, each with what it emitted.
 -- All that can be asked of it is one fold over its entries.
-use Rattle.std.specs.Prelude.{ℕ, ◌+◌, ◌*◌, ◌%◌, ◌==◌, nat_lt, Bool, true, false, if◌then◌else◌, Option, Some, None, is_some, List, [], ◌∷◌, ◌++◌, length, map, filter, max, slice_index_or, slice_set}
+use Rattle.std.specs.Prelude.{ℕ, ◌+◌, ◌*◌, ◌%◌, ◌==◌, ◌&&◌, nat_lt, Bool, true, false, if◌then◌else◌, Option, Some, None, is_some, List, [], ◌∷◌, ◌++◌, length, map, filter, max, slice_index_or, slice_set}
 use Rattle.std.specs.Option.{option_to_list}
 use Rattle.coap_msg.specs.declared.types.Endpoint.{Endpoint}
 use Rattle.coap_msg.specs.declared.types.Emission.{Emission}
@@ -219,10 +219,10 @@ at_shard (Signal shard to id reset) = Signals shard to id reset
 at_shard (ShardTick shard now) = Ticks shard now
 at_shard other = Calm
 
--- the moment that it hands to a shard
+-- the moment that it hands to a shard, of the eight that there are
 abbrev pub hands_by : AtShard → ℕ → Option ℕ
-hands_by (AsksTurn shard now) i = if shard == i then Some now else None
-hands_by (Ticks shard now) i = if shard == i then Some now else None
+hands_by (AsksTurn shard now) i = if (shard == i) && nat_lt i 8 then Some now else None
+hands_by (Ticks shard now) i = if (shard == i) && nat_lt i 8 then Some now else None
 hands_by other i = None
 
 abbrev pub shard_hands : Event → ℕ → Option ℕ

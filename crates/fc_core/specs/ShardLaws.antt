@@ -1,5 +1,5 @@
 -- What the laws of events of shards speak of.
-use Rattle.std.specs.Prelude.{◌≡◌, ℕ, ◌<◌, ◌≤◌}
+use Rattle.std.specs.Prelude.{◌≡◌, ℕ, ◌≤◌}
 use Rattle.fc_core.specs.declared.event.Event.{Event}
 use Rattle.fc_core.specs.declared.event.Event.TheVariants.{Due, ShardTick, Signal}
 use Rattle.fc_core.specs.History.{Seen}
@@ -11,7 +11,7 @@ IsOfNoShard (Signal shard to id reset) = 8 ≤ shard
 IsOfNoShard (ShardTick shard now) = 8 ≤ shard
 IsOfNoShard other = ⊥
 
--- all that the front, the jobs, the slots and the eight shards hold is as it was
+-- all that the front, the jobs, the slots and the shards hold is as it was
 pub record IsAsBefore (before after : Seen) : Type 0 where
   pub moment : after.moment ≡ before.moment
   pub exchanges : after.exchanges ≡ before.exchanges
@@ -19,6 +19,6 @@ pub record IsAsBefore (before after : Seen) : Type 0 where
   pub ids : after.ids ≡ before.ids
   pub tasks : after.tasks ≡ before.tasks
   pub changes : (n : ℕ) → after.changes n ≡ before.changes n
-  pub shards : (i : ℕ) → i < 8 → after.shard_moment i ≡ before.shard_moment i
+  pub shards : (i : ℕ) → after.shard_moment i ≡ before.shard_moment i
   pub calls : (n : ℕ) → after.calls n ≡ before.calls n
   pub words : after.words ≡ before.words

@@ -10,7 +10,7 @@ ghost use Rattle.fc_observe.specs.Observers.{at_moment, late_entry};
 ghost use Rattle.fc_observe.specs.declared.entry.Entry.{Entry as ObserverEntry};
 ghost use Rattle.fc_observe.specs.declared.entry.Phase.TheVariants.{Outstanding};
 
-/// An event of a shard above 7 emits nothing, and changes nothing that the front, the jobs, the slots and the eight shards hold.
+/// An event of a shard above 7 emits nothing, and changes nothing that the front, the jobs, the slots and the shards hold.
 pub fn shards_are_eight()
     ensures same { (r : Entry) (s : Seen) → IsOfNoShard r.event → IsAsBefore s (and_then r s) }
     ensures emitted { (r : Entry) (s : Seen) → IsOfNoShard r.event → Emits s r.event r.emitted → r.emitted ≡ None }

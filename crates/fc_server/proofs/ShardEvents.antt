@@ -1,8 +1,8 @@
 -- What an event does at a shard of its own is what is seen of it.
 use Rattle.std.proofs.Common.{◌≡◌, ℕ, zero, suc, ◌+◌, ◌*◌, ◌<◌, ◌≤◌, ◌/◌, ◌%◌, arith, get_or, List, [], ◌∷◌, ◌++◌, length, map, set, Bool, true, false, Option, Some, None, refl, sym, ap, ◌∙◌, subst, max, if◌then◌else◌, ⊎_elim}
-use Rattle.std.specs.Prelude.{is_some, nat_lt, ◌==◌}
+use Rattle.std.specs.Prelude.{is_some, nat_lt, ◌==◌, ◌&&◌}
 use Rattle.std.specs.Option.{option_to_list}
-use Rattle.std.proofs.lemmas.Bool.{cases_eq, cases_lt, eq-eqb, le-ltb, lt-ltb, ne_eqb}
+use Rattle.std.proofs.lemmas.Bool.{and_from, and_left, cases_eq, cases_lt, eq-eqb, le-ltb, lt-ltb, ne_eqb}
 use Rattle.std.proofs.lemmas.List.{get_or-map, get_or-set_other, get_or-set_same, length-map, length-set}
 use Rattle.coap_msg.specs.declared.types.Endpoint.{Endpoint}
 use Rattle.fc_observe.specs.Calls.{ObserverCall, NextDue, Tick as TickObservers, observers, observers_after}
@@ -172,10 +172,10 @@ module _ (s : Seen) (i now : ℕ) (low : i < 8) (shards : List Shard) (a : Shard
   after_length (Some k) = length-set here.watches k (observers_after (TickObservers here.now) (watch_at here k)) ∙ a.are.watched i low
 
   hands_here : hands_by (Ticks i now) i ≡ Some now
-  hands_here = ap (λ (b : Bool). if b then Some now else None) (eq-eqb i i refl)
+  hands_here = ap (λ (b : Bool). if b then Some now else None) (and_from (i == i) (nat_lt i 8) (eq-eqb i i refl) (lt-ltb i 8 low))
 
   hands_there : (j : ℕ) → (j ≡ i → ⊥) → hands_by (Ticks i now) j ≡ None
-  hands_there j ne = ap (λ (b : Bool). if b then Some now else None) (ne_eqb i j (λ q. ne (sym q)))
+  hands_there j ne = ap (λ (b : Bool). if b then Some now else None) (and_left (i == j) (nat_lt j 8) (ne_eqb i j (λ q. ne (sym q))))
 
   tick_agrees : (p : Option ℕ) → p ≡ late_in s i at → ShardsAgree (shard_seen (Ticks i now) s) (set shards i (after_tick p here))
   tick_agrees p is = put_agrees shards a.are i low (after_tick p here) s (Ticks i now) a (after_index p) (after_slots p) (after_length p)
@@ -207,7 +207,7 @@ ticks_at s i now shards a = ⊎_elim
     subst (TicksAt s i now shards) (sym (le-ltb i 8 high)) (record {
       sends = ap (λ (p : Option ℕ). resent_at p s i (max (s.shard_moment i) now)) (sym none);
       agrees = rest_agrees (Ticks i now) s shards
-          (λ j lt. ap (λ (b : Bool). if b then Some now else None) (ne_eqb i j (λ q. absurd (omega (arith, q, lt, high)))))
+          (λ j lt. ap (λ (b : Bool). if b then Some now else None) (and_left (i == j) (nat_lt j 8) (ne_eqb i j (λ q. absurd (omega (arith, q, lt, high))))))
           (λ n. ap (λ (p : Option ℕ). if is_place_of p i n then TickObservers (max (s.shard_moment i) now) ∷ [] else []) none)
           a;
     }))
@@ -315,7 +315,7 @@ asks_at s i now shards a = ⊎_elim
     subst (TurnAt s i now shards) (sym (le-ltb i 8 high)) (record {
       brings = ap (λ (p : Option ℕ). turn_at p s i (max (s.shard_moment i) now)) (sym none);
       agrees = rest_agrees (AsksTurn i now) s shards
-          (λ j lt. ap (λ (b : Bool). if b then Some now else None) (ne_eqb i j (λ q. absurd (omega (arith, q, lt, high)))))
+          (λ j lt. ap (λ (b : Bool). if b then Some now else None) (and_left (i == j) (nat_lt j 8) (ne_eqb i j (λ q. absurd (omega (arith, q, lt, high))))))
           (λ n. ap (λ (p : Option ℕ). if is_place_of p i n then NextDue (max (s.shard_moment i) now) (slot_at s n).noticed ∷ [] else []) none)
           a;
     }))
