@@ -6,6 +6,7 @@ pub mod Envelopes
 pub mod Erring
 pub mod Resent
 pub mod Unchanged
+pub mod Hushed
 pub mod Commits
 pub mod Lists
 pub mod Fitting

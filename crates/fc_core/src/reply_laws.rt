@@ -1,20 +1,24 @@
 //! What a history promises of refusals, and of whom answers are for: each function is a law, and its contract says it.
 ghost use Rattle.std.specs.Borrow.{Bor};
-ghost use Rattle.std.specs.Prelude.{◌≡◌, ℕ, List, Option, Some, false, max, true};
+ghost use Rattle.std.specs.Prelude.{◌≡◌, ℕ, Bool, Err, List, None, Ok, Option, Some, false, max, true};
 ghost use Rattle.coap_msg.specs.Wire.{Message};
+ghost use Rattle.coap_msg.specs.Reading.{reading_of};
+ghost use Rattle.coap_msg.specs.declared.types.Bad.TheVariants as bad;
 ghost use Rattle.coap_msg.specs.declared.types.Emission.{Emission};
 ghost use Rattle.coap_msg.specs.declared.types.Endpoint.{Endpoint};
 ghost use Rattle.coap_msg.specs.declared.types.MessageType.TheVariants.{Acknowledgement, Confirmable, NonConfirmable};
+ghost use Rattle.coap_opts.specs.Verdict.{IsIgnored, IsSignal, IsSilent, verdict};
 ghost use Rattle.coap_reply.specs.Responses.{Response, sent_in};
 ghost use Rattle.fc_core.specs.Contents.{Content};
-ghost use Rattle.fc_core.specs.ExchangeLaws.{bare_by};
+ghost use Rattle.fc_core.specs.ExchangeLaws.{IsOpening, bare_by};
 ghost use Rattle.fc_core.specs.Exchanges.{FrontState};
 ghost use Rattle.fc_core.specs.History.{Entry, Seen, and_then, did, job, stage};
 ghost use Rattle.fc_core.specs.Ids.{free_id};
 ghost use Rattle.fc_core.specs.Legal.{Emits};
-ghost use Rattle.fc_core.specs.Receiving.{told};
+ghost use Rattle.fc_core.specs.Receiving.{delivered, told};
 ghost use Rattle.fc_core.specs.ReplyLaws.{IsAnswerTo, Refuses, Rejects, reset_to};
 ghost use Rattle.fc_core.specs.declared.event.Event.TheVariants.{Answer, Deliver};
+ghost use Rattle.fc_core.specs.declared.front.Delivered.TheVariants.{Signal};
 ghost use Rattle.fc_core.specs.declared.stage.Stage.TheVariants.{ToAnswer};
 
 /// A request that is no repeat, and that a check of its options refuses, is answered by the code of that check alone. A confirmable message
@@ -55,4 +59,20 @@ pub fn answers_go_to_their_clients()
     ensures other_at_once { (f : FrontState) (to : Endpoint) (m : Message) (response : Response) (id : ℕ) → m.kind ≡ NonConfirmable
         → free_id f.ids f.now ≡ Some id
         → told f to m response ≡ Some (sent_in (record { to = to; kind = NonConfirmable; id = id; token = m.token }) response) }
+{}
+
+/// An Acknowledgement or a Reset message is handed on with the message id that it answers, and with which of the two it is. It gets no
+/// answer, and neither does what is ignored, nor a non-confirmable request with an unrecognised critical option (RFC 7252, 4.2, 4.3
+/// and 5.4.1).
+pub fn some_messages_get_no_answer()
+    ensures handed_on { (f : FrontState) (to : Endpoint) (bytes : List ℕ) (m : Message) (reset : Bool) → reading_of bytes ≡ Ok m
+        → verdict m ≡ IsSignal reset → delivered f to bytes ≡ Signal m.id reset }
+    ensures signal { (s : Seen) (now : ℕ) (to : Endpoint) (bytes : Bor (List ℕ)) (m : Message) (reset : Bool) (o : Option Emission)
+        → reading_of bytes.now ≡ Ok m → verdict m ≡ IsSignal reset → Emits s (Deliver now to bytes) o → o ≡ None }
+    ensures ignored { (s : Seen) (now : ℕ) (to : Endpoint) (bytes : Bor (List ℕ)) (m : Message) (o : Option Emission)
+        → reading_of bytes.now ≡ Ok m → verdict m ≡ IsIgnored → Emits s (Deliver now to bytes) o → o ≡ None }
+    ensures no_message { (s : Seen) (now : ℕ) (to : Endpoint) (bytes : Bor (List ℕ)) (o : Option Emission)
+        → reading_of bytes.now ≡ Err bad.Ignore → Emits s (Deliver now to bytes) o → o ≡ None }
+    ensures silent { (s : Seen) (now : ℕ) (to : Endpoint) (bytes : Bor (List ℕ)) (w : IsOpening s now to bytes.now) (o : Option Emission)
+        → verdict w.message ≡ IsSilent → Emits s (Deliver now to bytes) o → o ≡ None }
 {}
