@@ -7,6 +7,7 @@ pub mod Erring
 pub mod Resent
 pub mod Unchanged
 pub mod Hushed
+pub mod Ways
 pub mod Commits
 pub mod Lists
 pub mod Fitting

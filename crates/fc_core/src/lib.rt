@@ -43,6 +43,7 @@ pub mod stage;
 pub mod task;
 mod text;
 pub mod turn_laws;
+pub mod way_laws;
 
 pub use answer::{Answer, End, Words};
 pub use event::Event;
