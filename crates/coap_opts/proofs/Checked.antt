@@ -1,6 +1,6 @@
 -- The checks of a request, by what it has.
 use Rattle.std.proofs.Common.{◌≡◌, ◌≢◌, ℕ, zero, suc, ◌<◌, ◌≤◌, ◌==◌, ◌&&◌, ◌||◌, not, Bool, true, false, if◌then◌else◌, nat_lt, length, List, [], ◌∷◌, Option, Some, None, refl, sym, ap, ◌∙◌, subst, ◌⊎◌, inl, inr, arith}
-use Rattle.std.proofs.lemmas.Bool.{and_from, cases_lt, eq-eqb, le-ltb, lt-ltb, ne_eqb}
+use Rattle.std.proofs.lemmas.Bool.{and_from, and_right, cases_lt, eq-eqb, le-ltb, lt-ltb, ne_eqb}
 use Rattle.std.proofs.lemmas.Bool.Decides.{nat_tests}
 use Rattle.coap_msg.specs.Wire.{Message}
 use Rattle.coap_msg.specs.Reading.{◌>>=◌}
@@ -12,7 +12,7 @@ use Rattle.coap_opts.specs.Classified.{IsKnown, IsServedAt}
 use Rattle.coap_opts.specs.Recognition.{has_unknown_critical}
 use Rattle.coap_opts.specs.Served.{action_of}
 use Rattle.coap_opts.specs.Values.{Place}
-use Rattle.coap_opts.specs.Verdict.{Asked, IsAsked, IsIgnored, IsRefused, IsReset, IsSilent, Verdict, accepted, action, asked, block_in, first_of, has, has_bad_value, is_request, is_reserved, names_proxy, query, refusal_code, refusal_verdict, request_verdict, resource, values, verdict, verdict_by, verdict_by_check}
+use Rattle.coap_opts.specs.Verdict.{Asked, IsAsked, IsIgnored, IsRefused, IsReset, IsSignal, IsSilent, Verdict, accepted, action, asked, block_in, first_of, has, has_bad_value, is_request, is_reserved, names_proxy, query, refusal_code, refusal_verdict, request_verdict, resource, values, verdict, verdict_by, verdict_by_check}
 use Rattle.coap_opts.specs.declared.request.Action.{Action}
 use Rattle.coap_opts.specs.declared.request.Method.{Method}
 use Rattle.coap_opts.specs.declared.request.Method.TheVariants.{Get, Post, Put, Delete}
@@ -191,3 +191,28 @@ carried m a w passes is good short =
     let one = asked_is m s.0 s.1 a s.2 in
     let none = none_fails m s.0 s.1 a s.2 (good_value m good) (le-ltb 1024 (length m.payload) short) in
     (_, judged_by m w ∙ (ap (verdict_by_check m) none ∙ ap accepted one), refl)
+
+-- ---- what is no request
+
+no_request : (c : ℕ) → (c ≡ 0) ⊎ (32 ≤ c) → is_request c ≡ false
+no_request c (inl none) = ap is_request none
+no_request c (inr high) = and_right (nat_lt 0 c) (nat_lt c 32) (le-ltb c 32 high)
+
+pub is_rejected : (m : Message) → m.kind ≡ Confirmable → (m.code ≡ 0) ⊎ (32 ≤ m.code) → verdict m ≡ IsReset
+unfolding verdict
+is_rejected m kind code =
+    ap (λ (k : MessageType). verdict_by k m) kind ∙ ap (λ (b : Bool). if b then request_verdict m else IsReset) (no_request m.code code)
+
+pub is_ignored : (m : Message) → m.kind ≡ NonConfirmable → (m.code ≡ 0) ⊎ (32 ≤ m.code) → verdict m ≡ IsIgnored
+unfolding verdict
+is_ignored m kind code =
+    ap (λ (k : MessageType). verdict_by k m) kind ∙ ap (λ (b : Bool). if b then request_verdict m else IsIgnored) (no_request m.code code)
+
+-- an empty Acknowledgement or Reset, or one that isn't
+pub acknowledged_by : (m : Message) (b : Bool) → (m.code == 0) ≡ b → m.kind ≡ Acknowledgement → verdict m ≡ (if b then IsSignal false else IsIgnored)
+unfolding verdict
+acknowledged_by m b empty kind = ap (λ (k : MessageType). verdict_by k m) kind ∙ ap (λ (x : Bool). if x then IsSignal false else IsIgnored) empty
+
+pub reset_by : (m : Message) (b : Bool) → (m.code == 0) ≡ b → m.kind ≡ Reset → verdict m ≡ (if b then IsSignal true else IsIgnored)
+unfolding verdict
+reset_by m b empty kind = ap (λ (k : MessageType). verdict_by k m) kind ∙ ap (λ (x : Bool). if x then IsSignal true else IsIgnored) empty

@@ -1,14 +1,14 @@
 //! Laws of what the definitions say, for the crates above: each function is a law, and its contract says it.
-ghost use Rattle.std.specs.Prelude.{◌≡◌, ◌≢◌, ◌↔◌, ◌+◌, ◌*◌, ◌<◌, ◌≤◌, ◌^◌, ℕ, List, None, Option, Some, false, length, slice_index, true};
+ghost use Rattle.std.specs.Prelude.{◌≡◌, ◌≢◌, ◌↔◌, ◌⊎◌, ◌+◌, ◌*◌, ◌<◌, ◌≤◌, ◌^◌, ℕ, List, None, Option, Some, false, length, slice_index, true};
 ghost use Rattle.coap_opts.specs.Checks.{HasBadValue, IsRequest, IsUnnamed, NamesProxy, PassesOptions};
 ghost use Rattle.coap_opts.specs.Classified.{IsErrorCode};
 ghost use Rattle.coap_opts.specs.Recognition.{has_unknown_critical, is_recognised};
 ghost use Rattle.coap_opts.specs.Values.{Place, block_bytes, block_size, place_in, uint_bytes, uint_value};
-ghost use Rattle.coap_msg.specs.declared.types.MessageType.TheVariants.{Confirmable, NonConfirmable};
+ghost use Rattle.coap_msg.specs.declared.types.MessageType.TheVariants.{Acknowledgement, Confirmable, NonConfirmable, Reset};
 ghost use Rattle.coap_opts.specs.Path.{method_of, resource_of};
 ghost use Rattle.coap_opts.specs.Fields.{IsAskedWithin, IsMadeOf, IsResource, method_code, path_of};
 ghost use Rattle.coap_msg.specs.Wire.{Message};
-ghost use Rattle.coap_opts.specs.Verdict.{Asked, IsAsked, IsRefused, IsSilent, action, resource, verdict};
+ghost use Rattle.coap_opts.specs.Verdict.{Asked, IsAsked, IsIgnored, IsRefused, IsReset, IsSignal, IsSilent, action, resource, verdict};
 ghost use Rattle.coap_opts.specs.declared.request.Method.{Method};
 ghost use Rattle.coap_opts.specs.declared.request.Method.TheVariants.{Get, Post, Put, Delete};
 ghost use Rattle.coap_opts.specs.declared.request.Resource.{Resource};
@@ -125,6 +125,17 @@ pub fn checks_come_in_order()
         → 1024 < length m.payload → verdict m ≡ IsRefused 141 }
     ensures carried_out { (m : Message) (a : Action) → IsRequest m → PassesOptions m → action m ≡ Some a → (HasBadValue m → ⊥)
         → length m.payload ≤ 1024 → (r : Asked) × (verdict m ≡ IsAsked r) × (r.action ≡ a) }
+{}
+
+/// What is no request: a confirmable message of another class or 0.00 is rejected, and a non-confirmable one ignored; an empty
+/// Acknowledgement and an empty Reset are signals of what they answer, and any other is ignored (RFC 7252, 4.2 and 4.3).
+pub fn other_messages_have_their_verdicts()
+    ensures rejected { (m : Message) → m.kind ≡ Confirmable → (m.code ≡ 0) ⊎ (32 ≤ m.code) → verdict m ≡ IsReset }
+    ensures ignored { (m : Message) → m.kind ≡ NonConfirmable → (m.code ≡ 0) ⊎ (32 ≤ m.code) → verdict m ≡ IsIgnored }
+    ensures acknowledges { (m : Message) → m.kind ≡ Acknowledgement → m.code ≡ 0 → verdict m ≡ IsSignal false }
+    ensures resets { (m : Message) → m.kind ≡ Reset → m.code ≡ 0 → verdict m ≡ IsSignal true }
+    ensures acknowledges_nothing { (m : Message) → m.kind ≡ Acknowledgement → m.code ≢ 0 → verdict m ≡ IsIgnored }
+    ensures resets_nothing { (m : Message) → m.kind ≡ Reset → m.code ≢ 0 → verdict m ≡ IsIgnored }
 {}
 
 /// A block's value is 16 times its number, 8 more where blocks follow, and the exponent of its size less 4, by no more bytes than it needs
