@@ -8,7 +8,7 @@ use Rattle.fc_help.specs.Request.{Request}
 use Rattle.fc_help.specs.Region.{region_head, padded, region_of, readings_region}
 use Rattle.fc_help.specs.Layout.{FitsRegion, IsLaidOut, part_at, read_from}
 
-padded_size : (size : ℕ) (bytes : List ℕ) → length bytes ≤ size → length (padded size bytes) ≡ size
+pub padded_size : (size : ℕ) (bytes : List ℕ) → length bytes ≤ size → length (padded size bytes) ≡ size
 padded_size size bytes h =
     let zeros : List ℕ = replicate (size - length bytes) 0 in
     let a = length-append bytes zeros in

@@ -1,10 +1,73 @@
-//! What the table of helpers says, for the crates above: each function is a law, and its contract says it.
-ghost use Rattle.std.specs.Prelude.{map, ◌≡◌};
-ghost use Rattle.fc_help.specs.Helpers.{helpers, signature_of};
+//! What helpers are, and what programs find in memory, for the crates above: each function is a law, and its contract says it.
+ghost use Rattle.std.specs.Prelude.{List, None, Some, length, map, pos, slice_index, ℕ, ◌*◌, ◌+◌, ◌-◌, ◌<◌, ◌^◌, ◌≡◌, ◌≤◌};
+ghost use Rattle.fc_help.specs.Helpers.{helper_of, helpers, room_of, signature_of};
+ghost use Rattle.fc_help.specs.Region.{readings_region, region_of};
+ghost use Rattle.fc_help.specs.Layout.{FitsRegion};
+ghost use Rattle.fc_help.specs.Request.{Request};
+ghost use Rattle.fc_help.specs.declared.helper.Arguments.TheVariants.{Bytes, NoArgument, OneNumber, TwoNumbers};
+ghost use Rattle.fc_help.specs.declared.helper.Helper.TheVariants.{Notify, PayloadByte, PayloadLen, ReplyByte, ReplyPut, VarGet, VarPut};
+ghost use Rattle.fc_help.specs.declared.request.Method.TheVariants.{Get, Post};
 
 use crate::helper::HELPERS;
 
 /// The table has the signature of each helper, in the order of their numbers, and nothing else.
 pub fn table_has_each_signature()
     ensures { HELPERS ≡ map signature_of helpers }
+{}
+
+/// The helpers by their numbers, 1 to 7; no other number is one. A reply to a GET has room for 4,096 bytes, and one to a POST for 1,024.
+pub fn helpers_have_their_numbers()
+    ensures payload_len { helper_of (pos 1) ≡ Some PayloadLen }
+    ensures payload_byte { helper_of (pos 2) ≡ Some PayloadByte }
+    ensures var_get { helper_of (pos 3) ≡ Some VarGet }
+    ensures var_put { helper_of (pos 4) ≡ Some VarPut }
+    ensures reply_put { helper_of (pos 5) ≡ Some ReplyPut }
+    ensures reply_byte { helper_of (pos 6) ≡ Some ReplyByte }
+    ensures notify { helper_of (pos 7) ≡ Some Notify }
+    ensures none { helper_of (pos 0) ≡ None }
+    ensures no_more { (n : ℕ) → 7 < n → helper_of (pos n) ≡ None }
+    ensures get { room_of Get ≡ 4096 }
+    ensures post { room_of Post ≡ 1024 }
+{}
+
+/// What each helper takes, and the greatest number that it answers.
+pub fn helpers_have_their_signatures()
+    ensures payload_len { signature_of PayloadLen ≡ record { arguments = NoArgument; most = 1024 } }
+    ensures payload_byte { signature_of PayloadByte ≡ record { arguments = OneNumber; most = 2 ^ 64 - 1 } }
+    ensures var_get { signature_of VarGet ≡ record { arguments = OneNumber; most = 2 ^ 64 - 1 } }
+    ensures var_put { signature_of VarPut ≡ record { arguments = TwoNumbers; most = 1 } }
+    ensures reply_put { signature_of ReplyPut ≡ record { arguments = Bytes; most = 1 } }
+    ensures reply_byte { signature_of ReplyByte ≡ record { arguments = OneNumber; most = 1 } }
+    ensures notify { signature_of Notify ≡ record { arguments = NoArgument; most = 0 } }
+{}
+
+/// A program finds its request in 1,104 bytes. Byte 0 is the method, 1 for a GET and 2 for a POST, and byte 1 the slot; bytes 2 and 3 are
+/// the payload's length, the least first, 4 and 5 the Content-Format and 6 whether there is one, and 7 is the query's length. The query
+/// stands from byte 16 on, and the payload from byte 80 on. All other bytes are zeros.
+pub fn requests_have_their_places()
+    ensures size { (r : Request) → FitsRegion r → length (region_of r) ≡ 1104 }
+    ensures get { (r : Request) → r.method ≡ Get → slice_index (region_of r) 0 ≡ 1 }
+    ensures post { (r : Request) → r.method ≡ Post → slice_index (region_of r) 0 ≡ 2 }
+    ensures slot { (r : Request) → slice_index (region_of r) 1 ≡ r.slot }
+    ensures payload_length { (r : Request) → FitsRegion r
+        → slice_index (region_of r) 2 + 256 * slice_index (region_of r) 3 ≡ length r.payload }
+    ensures content_format { (r : Request) (format : ℕ) → r.content_format ≡ Some format → format < 65536
+        → (slice_index (region_of r) 4 + 256 * slice_index (region_of r) 5 ≡ format) × (slice_index (region_of r) 6 ≡ 1) }
+    ensures no_content_format { (r : Request) → r.content_format ≡ None
+        → (slice_index (region_of r) 4 ≡ 0) × (slice_index (region_of r) 5 ≡ 0) × (slice_index (region_of r) 6 ≡ 0) }
+    ensures query_length { (r : Request) → slice_index (region_of r) 7 ≡ length r.query }
+    ensures reserved { (r : Request) (k : ℕ) → 8 ≤ k → k < 16 → slice_index (region_of r) k ≡ 0 }
+    ensures query { (r : Request) (k : ℕ) → FitsRegion r → k < length r.query → slice_index (region_of r) (16 + k) ≡ slice_index r.query k }
+    ensures after_query { (r : Request) (k : ℕ) → FitsRegion r → length r.query ≤ k → k < 64 → slice_index (region_of r) (16 + k) ≡ 0 }
+    ensures payload { (r : Request) (k : ℕ) → FitsRegion r → k < length r.payload
+        → slice_index (region_of r) (80 + k) ≡ slice_index r.payload k }
+    ensures after_payload { (r : Request) (k : ℕ) → FitsRegion r → length r.payload ≤ k → k < 1024
+        → slice_index (region_of r) (80 + k) ≡ 0 }
+{}
+
+/// A program finds its readings in 64 bytes: those that were handed in at its taking, and zeros behind them.
+pub fn readings_have_their_places()
+    ensures size { (bytes : List ℕ) → length (readings_region bytes) ≡ 64 }
+    ensures given { (bytes : List ℕ) (k : ℕ) → k < length bytes → k < 64 → slice_index (readings_region bytes) k ≡ slice_index bytes k }
+    ensures zeros { (bytes : List ℕ) (k : ℕ) → length bytes ≤ k → k < 64 → slice_index (readings_region bytes) k ≡ 0 }
 {}
