@@ -8,7 +8,7 @@ use Rattle.fc_isa.specs.declared.insn.Insn.TheVariants.{Exit}
 use Rattle.fc_isa.specs.Flow.{jump_offset, target}
 use Rattle.fc_isa.specs.Writes.{writes}
 use Rattle.fc_image.specs.declared.loops.Loop.{Loop}
-use Rattle.fc_image.specs.CountingLaws.{IsInBody, IsOutside, LeadsTo, LeavesLoop}
+use Rattle.fc_image.specs.CountingLaws.{IsInBody, IsOutside, JumpsTo, LeavesLoop}
 use Rattle.fc_image.specs.Functions.{with_offset}
 use Rattle.fc_image.specs.Loops.{crosses, disturbs, is_exit, is_in, spoils}
 
@@ -56,14 +56,14 @@ module _ (l : Loop) (k : ℕ) (insn : Insn) (calm : disturbs l k insn ≡ false)
   unspoilt : spoils l k insn ≡ false
   unspoilt = or_left (spoils l k insn) (with_offset (jump_offset insn) (λ o. crosses l k (target k o))) calm
 
-  uncrossed : (t : ℕ) → LeadsTo k insn t → crosses l k (Some t) ≡ false
+  uncrossed : (t : ℕ) → JumpsTo k insn t → crosses l k (Some t) ≡ false
   uncrossed t w =
       let at : with_offset (jump_offset insn) (λ o. crosses l k (target k o)) ≡ false =
       or_right (spoils l k insn) (with_offset (jump_offset insn) (λ o. crosses l k (target k o))) calm in
       let one : crosses l k (target k w.0) ≡ false = subst (λ (x : Option ℤ). with_offset x (λ o. crosses l k (target k o)) ≡ false) w.1 at in
       subst (λ (x : Option ℕ). crosses l k x ≡ false) w.2 one
 
-  sides : (t : ℕ) → LeadsTo k insn t → is_in l k ≡ is_in l t
+  sides : (t : ℕ) → JumpsTo k insn t → is_in l k ≡ is_in l t
   sides t w = same_side (is_in l k) (is_in l t) (t == l.last) (uncrossed t w)
 
   exits_not : IsInBody l k → insn ≢ Exit
@@ -102,13 +102,13 @@ module _ (l : Loop) (k : ℕ) (insn : Insn) (calm : disturbs l k insn ≡ false)
 -- ---- what is left is undisturbed
 
 module _ (l : Loop) (k : ℕ) (insn : Insn) (w : LeavesLoop l k insn) where
-  same_by : (b c : Bool) (t : ℕ) → LeadsTo k insn t → is_in l k ≡ b → is_in l t ≡ c → b ≡ c
+  same_by : (b c : Bool) (t : ℕ) → JumpsTo k insn t → is_in l k ≡ b → is_in l t ≡ c → b ≡ c
   same_by true true t leads from to = refl
   same_by true false t leads from to = absurd (w.no_way_out t leads (of_body l k from) (of_outside l t to))
   same_by false true t leads from to = absurd (w.no_way_in t leads (of_outside l k from) (of_body l t to))
   same_by false false t leads from to = refl
 
-  calm_at : (t : ℕ) → LeadsTo k insn t → crosses l k (Some t) ≡ false
+  calm_at : (t : ℕ) → JumpsTo k insn t → crosses l k (Some t) ≡ false
   calm_at t leads = by_sides (is_in l k) (is_in l t) (t == l.last) (same_by (is_in l k) (is_in l t) t leads refl refl) (ne_eqb t l.last (w.no_skip t leads))
 
   calm_to : (o : ℤ) (place : Option ℕ) → jump_offset insn ≡ Some o → target k o ≡ place → crosses l k place ≡ false

@@ -34,14 +34,14 @@ abbrev pub IsOutside : Loop → ℕ → Type 0
 IsOutside l k = (k < l.head) ⊎ (l.last < k)
 
 -- the jump of the instruction at slot k, if it has one, leads to slot t
-abbrev pub LeadsTo : ℕ → Insn → ℕ → Type 0
-LeadsTo k insn t = (o : ℤ) × (jump_offset insn ≡ Some o) × (target k o ≡ Some t)
+abbrev pub JumpsTo : ℕ → Insn → ℕ → Type 0
+JumpsTo k insn t = (o : ℤ) × (jump_offset insn ≡ Some o) × (target k o ≡ Some t)
 
 -- the instruction at slot k leaves the loop as it is: in the body it is no exit, and only the addition writes the counter; from
 -- within it jumps to no slot outside, from outside to none within, and from nowhere to the jump back
 pub record LeavesLoop (l : Loop) (k : ℕ) (insn : Insn) : Type 0 where
   pub no_exit : IsInBody l k → insn ≢ Exit
   pub no_write : IsInBody l k → suc k ≢ l.last → writes insn l.counter ≡ false
-  pub no_way_out : (t : ℕ) → LeadsTo k insn t → IsInBody l k → IsOutside l t → ⊥
-  pub no_way_in : (t : ℕ) → LeadsTo k insn t → IsOutside l k → IsInBody l t → ⊥
-  pub no_skip : (t : ℕ) → LeadsTo k insn t → t ≢ l.last
+  pub no_way_out : (t : ℕ) → JumpsTo k insn t → IsInBody l k → IsOutside l t → ⊥
+  pub no_way_in : (t : ℕ) → JumpsTo k insn t → IsOutside l k → IsInBody l t → ⊥
+  pub no_skip : (t : ℕ) → JumpsTo k insn t → t ≢ l.last
