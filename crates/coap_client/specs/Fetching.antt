@@ -100,12 +100,14 @@ pub record IsFetching (went came : List ℕ → Type 0) (e : Errand) (first : �
 abbrev pub IsAttempt : (List ℕ → Type 0) → (List ℕ → Type 0) → Errand → ℕ → List ℕ → Attempt → Type 0
 IsAttempt went came e first known (attempt.Ended f) = LeadsTo went came e first known (Ended f.code.byte f.body.items)
 IsAttempt went came e first known (attempt.Outdated id earlier) = IsFetching went came e first known id earlier.items Outdated
+IsAttempt went came e first known attempt.Misfit = LeadsTo went came e first known Lost
 
--- what an answer makes of a fetch under way: the next request is out, or it has ended, or the answer was outdated
+-- what an answer makes of a fetch under way: the next request is out, or it has ended, or the answer was outdated, or it doesn't fit
 abbrev pub IsNow : State → Course → Step → Type 0
 IsNow state c step.GoesOn = state ≡ Out c.part c.body.items c.etag.items
 IsNow state c (step.Ended code) = state ≡ Ended code.byte c.body.items
 IsNow state c step.Outdated = state ≡ Outdated
+IsNow state c step.Misfit = state ≡ Lost
 
 pub record IsStepOf (count : ℕ) (m : Message) (old new : Course) (step : Step) : Type 0 where
   pub now : IsNow (after_reply count m (Out old.part old.body.items old.etag.items)) new step

@@ -87,6 +87,11 @@ abbrev pub Tells : Request → List ℕ → Heard → Type 0
 Tells r bytes Other = (m : Message) → reading_of bytes ≡ Ok m → IsOther r.confirmable r.id m
 Tells r bytes heard = IsReadAs bytes (λ m. IsHeardAs r m heard)
 
+-- a response that came before is acknowledged where it asks for that
+abbrev pub AcknowledgesRepeat : (List ℕ → Type 0) → List ℕ → Heard → Type 0
+AcknowledgesRepeat went bytes Repeat = (m : Message) → reading_of bytes ≡ Ok m → m.kind ≡ Confirmable → went (message_bytes (acknowledgement m.id))
+AcknowledgesRepeat went bytes other = Unit {0}
+
 -- what came answers a request, in its acknowledgement, or where that is awaited in a message of its own
 abbrev pub IsAwaited : Request → Bool → Message → Type 0
 IsAwaited r awaited m = IsPiggybacked r.confirmable r.id m ⊎ ((awaited ≡ true) × IsSeparateAmong r.earlier.now false m)

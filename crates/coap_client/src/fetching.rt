@@ -66,6 +66,8 @@ pub enum Attempt {
     Ended(Fetched),
     /// The answer changed while its blocks were fetched: the next request's id, and the ids of the separate responses so far.
     Outdated(u16, Vec<u16>),
+    /// None: an answer doesn't fit its request.
+    Misfit,
 }
 
 /// Asks the server, by requests whose ids count up from the first. A body that is too large goes by blocks, and a larger answer
@@ -86,9 +88,11 @@ pub fn fetch<P: Peer>(
 {
     match fetch_once(alloc, peer, errand, first_id, Vec::new(alloc))? {
         Attempt::Ended(fetched) => Ok(fetched),
+        Attempt::Misfit => Err(Fault::Misfit),
         Attempt::Outdated(id, earlier) if errand.method == Method::Get => {
             match fetch_once(alloc, peer, errand, id, earlier)? {
                 Attempt::Ended(fetched) => Ok(fetched),
+                Attempt::Misfit => Err(Fault::Misfit),
                 Attempt::Outdated(..) => Err(Fault::Changed),
             }
         }
@@ -133,6 +137,7 @@ fn fetch_once<P: Peer>(
                 let Course { id, earlier, .. } = course;
                 return Ok(Attempt::Outdated(id, earlier));
             }
+            Step::Misfit => return Ok(Attempt::Misfit),
         }
     }
     Err(Fault::Misfit)
@@ -147,6 +152,8 @@ pub enum Step {
     Ended(Code),
     /// The fetch's end: the answer changed.
     Outdated,
+    /// The fetch's end: the answer doesn't fit its request.
+    Misfit,
 }
 
 // A fetch under way: the request that is out, what is there of the answer, with its ETag, and the ids of the separate responses so far.
@@ -174,7 +181,7 @@ impl Course {
     }
 
     // Takes the answer to the request that is out: what it leads to. The next request is set, or the answer is whole.
-    fn hear(&mut self, errand: &Errand<'_>, message: &Message<'_>) -> Result<Step, Fault>
+    fn hear(&mut self, errand: &Errand<'_>, message: &Message<'_>) -> Result<Step, AllocError>
         requires { IsPartOf errand.now self.old.part }
         ensures own { OnOk result (IsPartOf errand.now self.new.part) }
         ensures step { IfOk result (IsStepOf (length errand.now.payload.now) message.now self.old self.new) }
@@ -195,7 +202,7 @@ impl Course {
                 Ok(Step::Ended(message.code()))
             }
             Next::Stale => Ok(Step::Outdated),
-            Next::Misfit => Err(Fault::Misfit),
+            Next::Misfit => Ok(Step::Misfit),
         }
     }
 

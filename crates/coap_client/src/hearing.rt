@@ -4,7 +4,7 @@ ghost use Rattle.coap_msg.specs.Wire.{message_bytes};
 ghost use Rattle.coap_msg.specs.Reading.{reading_of};
 ghost use Rattle.coap_msg.specs.Wire as wire;
 ghost use Rattle.coap_msg.specs.declared.types.MessageType.TheVariants.{Confirmable};
-ghost use Rattle.coap_client.specs.Heard.{Hears, HasTakenResponse, HasResponse, IsAwaitedAnswer, IsHeardAs, Tells};
+ghost use Rattle.coap_client.specs.Heard.{AcknowledgesRepeat, Hears, HasTakenResponse, HasResponse, IsAwaitedAnswer, IsHeardAs, Tells};
 ghost use Rattle.coap_client.specs.Replies.{is_taken};
 ghost use Rattle.coap_client.specs.Requests.{acknowledgement};
 
@@ -145,16 +145,27 @@ fn listen<P: Peer>(
         let Some(count) = peer.receive(buffer)? else {
             return Ok(Listened::Nothing);
         };
-        match hear_datagram(request, &buffer[..count]) {
+        match hear_from(peer, request, &buffer[..count])? {
             Heard::Reply => return Ok(Listened::Answer(count)),
             Heard::Separate if awaited => return Ok(Listened::Answer(count)),
             Heard::Acknowledged if !awaited => return Ok(Listened::Acknowledged),
-            Heard::Repeat => acknowledge(peer, &buffer[..count])?,
             Heard::Rejected => return Err(Fault::Rejected),
-            Heard::Separate | Heard::Acknowledged | Heard::Other => {}
+            Heard::Separate | Heard::Acknowledged | Heard::Repeat | Heard::Other => {}
         }
     }
     Ok(Listened::Nothing)
+}
+
+// What a datagram is to a request. A response that came before is acknowledged again, where it asks for that (RFC 7252, 4.2).
+fn hear_from<P: Peer>(peer: &mut P, request: &Request<'_>, bytes: &[u8]) -> Result<Heard, Fault>
+    ensures heard { IfOk result (Tells request.now bytes.now) }
+    ensures repeat { IfOk result (AcknowledgesRepeat P.went bytes.now) }
+{
+    let heard = hear_datagram(request, bytes);
+    if heard == Heard::Repeat {
+        acknowledge(peer, bytes)?;
+    }
+    Ok(heard)
 }
 
 // What a datagram is to a request.
