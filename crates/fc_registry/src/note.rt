@@ -1,12 +1,12 @@
 //! Notifications of observers (RFC 7641, 4.2).
 ghost use Rattle.std.specs.Prelude.{◌≡◌, ◌↔◌, ℕ, IsTrue, None, Some};
-ghost use Rattle.fc_observe.specs.Calls.{after_calls};
+ghost use Rattle.fc_observe.specs.Calls.{after_calls, observers_after};
 ghost use Rattle.fc_observe.specs.Views.{interest};
 ghost use Rattle.fc_registry.specs.Calls.{run_of};
-ghost use Rattle.fc_registry.specs.Notes.{IsKeptUnlessSent, IsNoted, IsNotedIn, IsRunOfTurn, IsSentOrStale, note_calls, note_envelope, note_in, note_kind, note_response, note_to, noted_as, sent_of, ticket_told, told_calls};
+ghost use Rattle.fc_registry.specs.Notes.{IsKeptUnlessSent, IsNoted, IsNotedIn, IsRunOfTurn, IsSentOrStale, keeps_observer, note_calls, note_envelope, note_in, note_kind, note_response, note_to, noted_as, sent_of, ticket_told, told_call, told_calls};
 
 use crate::ticket::{Ticket, is_run_of};
-use coap_msg::{Code, Emission, MessageType};
+use coap_msg::{Code, Datagram, Emission, MessageType};
 use coap_reply::{BodyBlock, Envelope, ran, text};
 use fc_machine::Outcome;
 use fc_observe::{Observer, Observers, Turn};
@@ -63,45 +63,48 @@ pub(crate) fn note(
     match told {
         Notification::Gone => note_gone(watch, turn, id, emission),
         Notification::Ran(outcome, ticket) => {
-            if !watch.is_out(turn) {
+            let Some(observer) = watch.out(turn) else {
                 return NoteOutcome::Stale;
-            }
+            };
             if !is_run_of_turn(outcome, ticket, turn, serial) {
                 return NoteOutcome::Stranger;
             }
-            note_run(watch, now, turn, id, random, outcome, ticket, emission)
+            write_run(&observer, id, outcome, ticket, emission);
+            end_turn(
+                watch,
+                now,
+                turn,
+                id,
+                random,
+                ticket,
+                outcome,
+                &emission.bytes,
+            );
+            NoteOutcome::Sent
         }
     }
 }
 
-// Tells the observer what a run of its turn gave.
-fn note_run(
+// Ends a turn by what a run of it gave and these bytes told.
+fn end_turn(
     watch: &mut Observers,
     now: u64,
     turn: Turn,
     id: u16,
     random: u16,
-    outcome: &Outcome<'_>,
     ticket: &Ticket,
-    emission: &mut Emission,
-) -> NoteOutcome
+    outcome: &Outcome<'_>,
+    bytes: &Datagram,
+)
     requires { outcome.now ≡ run_of ticket.now }
-    ensures sent { sent_of (noted_as result emission.new) ≡ note_in turn id (Some ticket.now) watch.old }
-    ensures noted { IsSentOrStale (noted_as result emission.new) }
-    ensures kept { IsKeptUnlessSent result emission.old emission.new }
-    ensures watch { watch.new
-        ≡ after_calls (told_calls turn id random now (Some ticket.now) (sent_of (noted_as result emission.new))) watch.old }
+    ensures { watch.new
+        ≡ observers_after (told_call (keeps_observer (Some ticket.now)) turn id random now ticket.now.serial bytes.now) watch.old }
 {
-    let Some(observer) = watch.out(turn) else {
-        return NoteOutcome::Stale;
-    };
-    write_run(&observer, id, outcome, ticket, emission);
     if outcome.code() == Code::CONTENT.byte {
-        watch.sent(now, turn, id, ticket.serial(), random, &emission.bytes);
+        watch.sent(now, turn, id, ticket.serial(), random, bytes);
     } else {
         watch.end(turn);
     }
-    NoteOutcome::Sent
 }
 
 // Tells the observer that its slot was found empty, and removes it.
