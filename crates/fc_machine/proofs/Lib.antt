@@ -14,3 +14,4 @@ mod Skips
 mod Beginning
 mod Live
 mod Small
+mod Paired
