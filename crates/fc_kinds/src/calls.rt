@@ -54,20 +54,20 @@ fn raised(kind: Kind) -> Kind
 }
 
 /// The kinds after a local call: R0 is a number.
-pub(crate) fn returned(regs: &Regs) -> Regs
-    ensures { result ≡ returned regs.now }
+pub(crate) fn returned(regs: &mut Regs)
+    ensures { regs.new ≡ returned regs.old }
 {
-    after_call(num(all(Width::W64)), regs)
+    after_call(num(all(Width::W64)), regs);
 }
 
 /// The kinds after a call: R0 is its answer, R1 to R5 are unset, and the others are as they were.
-fn after_call(answer: Kind, regs: &Regs) -> Regs
-    ensures { result ≡ after_call answer regs.now }
+fn after_call(answer: Kind, regs: &mut Regs)
+    ensures { regs.new ≡ after_call answer regs.old }
 {
     let unset = Kind::Unset;
-    [
+    *regs = [
         answer, unset, unset, unset, unset, unset, regs[6], regs[7], regs[8], regs[9], regs[10],
-    ]
+    ];
 }
 
 /// The kinds after a helper's call, where the helper exists and gets what it takes.
@@ -75,10 +75,11 @@ fn after_call(answer: Kind, regs: &Regs) -> Regs
 /// # Errors
 /// An argument is unset, or another than the helper takes.
 #[tactic(auto, unfolding(crate::specs::Transfer::transfer))]
-pub(crate) fn call_helper(number: i32, regs: &Regs, vars_size: u16) -> Result<Regs, Rule>
-    requires { AreKinds regs.now }
-    ensures after { IfOk result (λ ks. transfer vars_size (Insn.CallHelper number) regs.now ≡ Some ks) }
-    ensures refused { IfErr result (λ rule. transfer vars_size (Insn.CallHelper number) regs.now ≡ None) }
+pub(crate) fn call_helper(number: i32, regs: &mut Regs, vars_size: u16) -> Result<(), Rule>
+    requires { AreKinds regs.old }
+    ensures after { IfOk result (λ u. transfer vars_size (Insn.CallHelper number) regs.old ≡ Some regs.new) }
+    ensures refused { IfErr result (λ rule. transfer vars_size (Insn.CallHelper number) regs.old ≡ None) }
+    ensures kept { IfErr result (λ rule. regs.new ≡ regs.old) }
     ensures rule { IfErr result (λ rule. (20 ≤ number_of rule) × (number_of rule ≤ 27)) }
 {
     match helper_of(number) {
@@ -91,15 +92,17 @@ pub(crate) fn call_helper(number: i32, regs: &Regs, vars_size: u16) -> Result<Re
 ///
 /// # Errors
 /// An argument is unset, or another than the helper takes.
-fn helped_kinds(helper: Helper, regs: &Regs, vars_size: u16) -> Result<Regs, Rule>
-    requires { AreKinds regs.now }
-    ensures after { IfOk result (λ ks. helped_kinds vars_size regs.now helper ≡ Some ks) }
-    ensures refused { IfErr result (λ rule. helped_kinds vars_size regs.now helper ≡ None) }
+fn helped_kinds(helper: Helper, regs: &mut Regs, vars_size: u16) -> Result<(), Rule>
+    requires { AreKinds regs.old }
+    ensures after { IfOk result (λ u. helped_kinds vars_size regs.old helper ≡ Some regs.new) }
+    ensures refused { IfErr result (λ rule. helped_kinds vars_size regs.old helper ≡ None) }
+    ensures kept { IfErr result (λ rule. regs.new ≡ regs.old) }
     ensures rule { IfErr result (λ rule. (20 ≤ number_of rule) × (number_of rule ≤ 27)) }
 {
     let Signature { arguments, most } = signature_of(helper);
     if are_arguments(vars_size, arguments, regs) {
-        Ok(after_call(Kind::Num { lo: 0, hi: most }, regs))
+        after_call(Kind::Num { lo: 0, hi: most }, regs);
+        Ok(())
     } else {
         Err(argument_fault(arguments, regs))
     }

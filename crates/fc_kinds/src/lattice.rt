@@ -49,13 +49,11 @@ fn join_kind(a: Kind, b: Kind) -> Kind
     }
 }
 
-/// Joins two states, register by register: the least kinds that contain both.
-pub fn join(a: &Regs, b: &Regs) -> Regs
-    ensures { result ≡ joined a.now b.now }
+/// Joins to a state another, register by register: the least kinds that contain both.
+pub fn join(state: &mut Regs, other: &Regs)
+    ensures { state.new ≡ joined state.old other.now }
 {
-    let mut regs = *a;
     for r in 0..11 {
-        regs[r] = join_kind(a[r], b[r]);
+        state[r] = join_kind(state[r], other[r]);
     }
-    regs
 }

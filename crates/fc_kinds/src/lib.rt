@@ -7,8 +7,9 @@
 //! use fc_kinds::{Kind, Regs, join};
 //!
 //! /// What is known of R0 where two paths meet: numbers of both are within the least interval that has both.
-//! fn met(a: &Regs, b: &Regs) -> Kind {
-//!     join(a, b)[0]
+//! fn met(mut state: Regs, other: &Regs) -> Kind {
+//!     join(&mut state, other);
+//!     state[0]
 //! }
 //! ```
 #![tactic(auto)]
@@ -28,5 +29,5 @@ pub mod transfer;
 pub use calls::enter;
 pub use kind::{Kind, Regs, entry};
 pub use lattice::join;
-pub use refinement::when;
+pub use refinement::refine;
 pub use transfer::after;

@@ -21,18 +21,20 @@ pub(crate) fn load(
     dst: Target,
     base: Reg,
     offset: i16,
-    regs: &Regs,
+    regs: &mut Regs,
     vars_size: u16,
-) -> Result<Regs, Rule>
-    requires { AreKinds regs.now }
-    ensures after { IfOk result (λ ks. transfer vars_size (Insn.Load loaded dst base offset) regs.now ≡ Some ks) }
-    ensures refused { IfErr result (λ rule. transfer vars_size (Insn.Load loaded dst base offset) regs.now ≡ None) }
+) -> Result<(), Rule>
+    requires { AreKinds regs.old }
+    ensures after { IfOk result (λ u. transfer vars_size (Insn.Load loaded dst base offset) regs.old ≡ Some regs.new) }
+    ensures refused { IfErr result (λ rule. transfer vars_size (Insn.Load loaded dst base offset) regs.old ≡ None) }
+    ensures kept { IfErr result (λ rule. regs.new ≡ regs.old) }
     ensures rule { IfErr result (λ rule. (20 ≤ number_of rule) × (number_of rule ≤ 27)) }
 {
     let kind = regs[base.index()];
     let bytes = bytes_loaded(loaded);
     if may_read(vars_size, bytes, offset, kind) {
-        Ok(put(regs, dst, num(loaded_interval(loaded))))
+        put(regs, dst, num(loaded_interval(loaded)));
+        Ok(())
     } else {
         Err(access_fault(vars_size, bytes, offset, kind))
     }
@@ -62,18 +64,19 @@ pub(crate) fn store_imm(
     size: Size,
     base: Reg,
     offset: i16,
-    regs: &Regs,
+    regs: &mut Regs,
     vars_size: u16,
-) -> Result<Regs, Rule>
-    requires { AreKinds regs.now }
-    ensures after { IfOk result (λ ks. where_met (may_write vars_size (size_of size) offset (kind_at regs.now base)) regs.now ≡ Some ks) }
-    ensures refused { IfErr result (λ rule. where_met (may_write vars_size (size_of size) offset (kind_at regs.now base)) regs.now ≡ None) }
+) -> Result<(), Rule>
+    requires { AreKinds regs.old }
+    ensures after { IfOk result (λ u. where_met (may_write vars_size (size_of size) offset (kind_at regs.old base)) regs.old ≡ Some regs.new) }
+    ensures refused { IfErr result (λ rule. where_met (may_write vars_size (size_of size) offset (kind_at regs.old base)) regs.old ≡ None) }
+    ensures kept { IfErr result (λ rule. regs.new ≡ regs.old) }
     ensures rule { IfErr result (λ rule. (20 ≤ number_of rule) × (number_of rule ≤ 27)) }
 {
     let kind = regs[base.index()];
     let bytes = size_of(size);
     if may_write(vars_size, bytes, offset, kind) {
-        Ok(*regs)
+        Ok(())
     } else {
         Err(access_fault(vars_size, bytes, offset, kind))
     }
@@ -89,12 +92,13 @@ pub(crate) fn store(
     base: Reg,
     offset: i16,
     src: Reg,
-    regs: &Regs,
+    regs: &mut Regs,
     vars_size: u16,
-) -> Result<Regs, Rule>
-    requires { AreKinds regs.now }
-    ensures after { IfOk result (λ ks. transfer vars_size (Insn.Store size base offset src) regs.now ≡ Some ks) }
-    ensures refused { IfErr result (λ rule. transfer vars_size (Insn.Store size base offset src) regs.now ≡ None) }
+) -> Result<(), Rule>
+    requires { AreKinds regs.old }
+    ensures after { IfOk result (λ u. transfer vars_size (Insn.Store size base offset src) regs.old ≡ Some regs.new) }
+    ensures refused { IfErr result (λ rule. transfer vars_size (Insn.Store size base offset src) regs.old ≡ None) }
+    ensures kept { IfErr result (λ rule. regs.new ≡ regs.old) }
     ensures rule { IfErr result (λ rule. (20 ≤ number_of rule) × (number_of rule ≤ 27)) }
 {
     let (to, kind) = (regs[base.index()], regs[src.index()]);
@@ -102,7 +106,7 @@ pub(crate) fn store(
     if !may_write(vars_size, bytes, offset, to) {
         Err(store_fault(access_fault(vars_size, bytes, offset, to), kind))
     } else if is_number(kind) {
-        Ok(*regs)
+        Ok(())
     } else {
         Err(store_fault(Rule::PointerStore, kind))
     }

@@ -74,11 +74,9 @@ fn immediate(width: Width, imm: i32) -> u64
     }
 }
 
-/// The registers with a kind in one of them.
-pub(crate) fn put(regs: &Regs, dst: Target, kind: Kind) -> Regs
-    ensures { result ≡ slice_set regs.now dst kind }
+/// Puts a kind into one of the registers.
+pub(crate) fn put(regs: &mut Regs, dst: Target, kind: Kind)
+    ensures { regs.new ≡ slice_set regs.old dst kind }
 {
-    let mut next = *regs;
-    next[dst.index()] = kind;
-    next
+    regs[dst.index()] = kind;
 }

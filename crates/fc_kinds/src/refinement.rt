@@ -3,7 +3,7 @@ ghost use Rattle.std.specs.Prelude.{IfSome, None, Some, ◌≡◌, ◌≤◌};
 ghost use Rattle.fc_kinds.specs.Intervals.{opposite};
 ghost use Rattle.fc_kinds.specs.Containing.{AreKinds};
 ghost use Rattle.fc_kinds.specs.Refinement.{both_numbers, is_same, put_both, put_right, refines, relation_of, when};
-ghost use Rattle.fc_kinds.specs.Transfer.{num, operand_kind};
+ghost use Rattle.fc_kinds.specs.Transfer.{num, operand_kind, where_met};
 
 use crate::interval::{Interval, refined};
 use crate::kind::{Kind, Regs};
@@ -39,27 +39,26 @@ fn refines(jump: &Jump) -> bool
     }
 }
 
-/// The registers with what is known of a jump's operands.
-fn put_both(jump: &Jump, regs: &Regs, left: Interval, right: Interval) -> Regs
-    ensures { result ≡ put_both jump.now regs.now (left, right) }
+/// Puts what is known of a jump's operands into the registers.
+fn put_both(jump: &Jump, regs: &mut Regs, left: Interval, right: Interval)
+    ensures { regs.new ≡ put_both jump.now regs.old (left, right) }
 {
-    let mut next = *regs;
-    next[jump.left.index()] = num(left);
+    regs[jump.left.index()] = num(left);
     if let Operand::Reg(reg) = jump.right {
-        next[reg.index()] = num(right);
+        regs[reg.index()] = num(right);
     }
-    next
 }
 
-/// Refines the kinds for one way of a conditional jump, whose operands are numbers: `None` where no numbers of these kinds take
-/// it. Unsigned relations and equality of whole registers refine, of two registers or a register and an immediate.
+/// Refines the kinds for one way of a conditional jump, whose operands are numbers, in place: whether any numbers of these kinds take
+/// it; where none do, the kinds stay. Unsigned relations and equality of whole registers refine, of two registers or a register and an
+/// immediate.
 #[tactic(auto, unfolding(crate::specs::Refinement::when))]
-pub fn when(jump: &Jump, taken: bool, regs: &Regs) -> Option<Regs>
-    requires { AreKinds regs.now }
-    ensures { result ≡ when jump.now taken regs.now }
+pub fn refine(jump: &Jump, taken: bool, regs: &mut Regs) -> bool
+    requires { AreKinds regs.old }
+    ensures { where_met result regs.new ≡ when jump.now taken regs.old }
 {
     if !refines(jump) {
-        return Some(*regs);
+        return true;
     }
     match (
         regs[jump.left.index()],
@@ -71,10 +70,13 @@ pub fn when(jump: &Jump, taken: bool, regs: &Regs) -> Option<Regs>
                 Interval { lo, hi },
                 Interval { lo: low, hi: high },
             ) {
-                Some((left, right)) => Some(put_both(jump, regs, left, right)),
-                None => None,
+                Some((left, right)) => {
+                    put_both(jump, regs, left, right);
+                    true
+                }
+                None => false,
             }
         }
-        _ => Some(*regs),
+        _ => true,
     }
 }

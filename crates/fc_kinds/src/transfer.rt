@@ -13,16 +13,17 @@ use crate::memory::{load, store, store_imm};
 use crate::operands::{is_number, num, number, operand_fault, operand_kind, put};
 use fc_isa::{Insn, Jump, Rule};
 
-/// Computes the kinds after an instruction of a program whose variables have this many bytes, where its demands are met; a
+/// Makes kinds, in place, those after an instruction of a program whose variables have this many bytes, where its demands are met; a
 /// local call's are those after its function's exit.
 ///
 /// # Errors
-/// A rule, 20 to 27, that the instruction breaks at these kinds; a wide load's second half breaks rule 27.
+/// A rule, 20 to 27, that the instruction breaks at these kinds; a wide load's second half breaks rule 27. The kinds stay.
 #[tactic(auto, unfolding(crate::specs::Transfer::transfer))]
-pub fn after(insn: Insn, regs: &Regs, vars_size: u16) -> Result<Regs, Rule>
-    requires { AreKinds regs.now }
-    ensures after { IfOk result (λ ks. transfer vars_size insn regs.now ≡ Some ks) }
-    ensures refused { IfErr result (λ rule. transfer vars_size insn regs.now ≡ None) }
+pub fn after(insn: Insn, regs: &mut Regs, vars_size: u16) -> Result<(), Rule>
+    requires { AreKinds regs.old }
+    ensures after { IfOk result (λ u. transfer vars_size insn regs.old ≡ Some regs.new) }
+    ensures refused { IfErr result (λ rule. transfer vars_size insn regs.old ≡ None) }
+    ensures kept { IfErr result (λ rule. regs.new ≡ regs.old) }
     ensures rule { IfErr result (λ rule. (20 ≤ number_of rule) × (number_of rule ≤ 27)) }
 {
     match insn {
@@ -33,11 +34,13 @@ pub fn after(insn: Insn, regs: &Regs, vars_size: u16) -> Result<Regs, Rule>
             operand,
         } => {
             let kind = alu_after(op, width, regs[dst.index()], &operand, regs)?;
-            Ok(put(regs, dst, kind))
+            put(regs, dst, kind);
+            Ok(())
         }
         Insn::Neg { width, dst } => {
             number(regs[dst.index()])?;
-            Ok(put(regs, dst, num(all(width))))
+            put(regs, dst, num(all(width)));
+            Ok(())
         }
         Insn::SignExtend {
             extension,
@@ -45,20 +48,28 @@ pub fn after(insn: Insn, regs: &Regs, vars_size: u16) -> Result<Regs, Rule>
             src,
         } => {
             let s = number(regs[src.index()])?;
-            Ok(put(regs, dst, num(extended_values(extension, s))))
+            put(regs, dst, num(extended_values(extension, s)));
+            Ok(())
         }
         Insn::End { order, width, dst } => {
             let s = number(regs[dst.index()])?;
-            Ok(put(regs, dst, num(ordered_interval(order, width, s))))
+            put(regs, dst, num(ordered_interval(order, width, s)));
+            Ok(())
         }
-        Insn::LoadWide { dst, value } => Ok(put(regs, dst, one_number(value))),
+        Insn::LoadWide { dst, value } => {
+            put(regs, dst, one_number(value));
+            Ok(())
+        }
         Insn::Load { .. } | Insn::StoreImm { .. } | Insn::Store { .. } => {
             after_access(insn, regs, vars_size)
         }
-        Insn::JumpAlways { .. } | Insn::JumpAlwaysLong { .. } => Ok(*regs),
+        Insn::JumpAlways { .. } | Insn::JumpAlwaysLong { .. } => Ok(()),
         Insn::JumpIf(jump) => jump_if(&jump, regs),
-        Insn::CallLocal { .. } => Ok(returned(regs)),
-        Insn::Exit if is_number(regs[0]) => Ok(*regs),
+        Insn::CallLocal { .. } => {
+            returned(regs);
+            Ok(())
+        }
+        Insn::Exit if is_number(regs[0]) => Ok(()),
         Insn::Exit => Err(Rule::ExitValue),
         Insn::CallHelper { number } => call_helper(number, regs, vars_size),
         Insn::WideSecond => Err(Rule::HelperArgument),
@@ -77,11 +88,12 @@ fn one_number(value: u64) -> Kind
 
 /// The kinds after a load or a store.
 #[tactic(auto, unfolding(crate::specs::Transfer::transfer))]
-fn after_access(insn: Insn, regs: &Regs, vars_size: u16) -> Result<Regs, Rule>
-    requires kinds { AreKinds regs.now }
+fn after_access(insn: Insn, regs: &mut Regs, vars_size: u16) -> Result<(), Rule>
+    requires kinds { AreKinds regs.old }
     requires access { is_access insn ≡ true }
-    ensures after { IfOk result (λ ks. transfer vars_size insn regs.now ≡ Some ks) }
-    ensures refused { IfErr result (λ rule. transfer vars_size insn regs.now ≡ None) }
+    ensures after { IfOk result (λ u. transfer vars_size insn regs.old ≡ Some regs.new) }
+    ensures refused { IfErr result (λ rule. transfer vars_size insn regs.old ≡ None) }
+    ensures kept { IfErr result (λ rule. regs.new ≡ regs.old) }
     ensures rule { IfErr result (λ rule. (20 ≤ number_of rule) × (number_of rule ≤ 27)) }
 {
     match insn {
@@ -112,16 +124,16 @@ fn after_access(insn: Insn, regs: &Regs, vars_size: u16) -> Result<Regs, Rule>
 /// # Errors
 /// One of them is unset, or a pointer.
 #[tactic(auto, unfolding(crate::specs::Transfer::transfer))]
-fn jump_if(jump: &Jump, regs: &Regs) -> Result<Regs, Rule>
+fn jump_if(jump: &Jump, regs: &Regs) -> Result<(), Rule>
     requires { AreKinds regs.now }
-    ensures after { IfOk result (λ ks. transfer 0 (Insn.JumpIf jump.now) regs.now ≡ Some ks) }
+    ensures after { IfOk result (λ u. transfer 0 (Insn.JumpIf jump.now) regs.now ≡ Some regs.now) }
     ensures refused { IfErr result (λ rule. transfer 0 (Insn.JumpIf jump.now) regs.now ≡ None) }
     ensures rule { IfErr result (λ rule. (20 ≤ number_of rule) × (number_of rule ≤ 27)) }
 {
     let left = regs[jump.left.index()];
     let right = operand_kind(jump.width, jump.right, regs);
     if is_number(left) && is_number(right) {
-        Ok(*regs)
+        Ok(())
     } else {
         Err(operand_fault(left, right))
     }

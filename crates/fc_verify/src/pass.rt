@@ -19,7 +19,7 @@ ghost use Rattle.fc_kinds.specs.Ways.{ways_after};
 ghost use Rattle.fc_verify.specs.Heads.{IsLoopOf, reached, settled};
 ghost use Rattle.fc_verify.specs.Runs.{IsTypedProgram, IsUntypedProgram};
 ghost use Rattle.fc_verify.specs.Stages.{Fails, IsRuleOf, IsTypingFault, IsUntyped, Stops};
-ghost use Rattle.fc_verify.specs.Pass.{IsWithin, beginning, is_typable, led, met, met_by, met_later, pass, passed_by};
+ghost use Rattle.fc_verify.specs.Pass.{IsWithin, beginning, is_typable, joined_in, led, met, met_by, met_later, pass, passed_by};
 ghost use Rattle.fc_verify.specs.Typing.{IsTypingOf, States};
 
 use crate::settling::{formed, settled, unnumbered};
@@ -29,7 +29,7 @@ use fc_image::loops::Loop;
 use fc_image::loops_by_head;
 use fc_isa::{Fault, ImageVersion, Insn, Jump, Rule};
 use fc_kinds::laws::effects_keep_kinds;
-use fc_kinds::{Regs, after, enter, entry, join, when};
+use fc_kinds::{Regs, after, enter, entry, join, refine};
 
 /// Finds a typing of a program that keeps its shape, of an image of this version, whose variables have this many bytes; `room` has
 /// place for a state a slot.
@@ -207,8 +207,9 @@ fn at_head(
     ensures slot { result.fault.slot ≡ slot }
     ensures stops { (inside : Bool) → Stops vars_size code.now (Some counted.now) inside insn.now regs.now result.known result.demand }
 {
-    match checked(vars_size, slot, *insn, &formed(code, counted, regs)) {
-        Ok(_) => against_loop(slot, regs, Demand::Counter(*counted)),
+    let mut turned = formed(code, counted, regs);
+    match checked(vars_size, slot, *insn, &mut turned) {
+        Ok(()) => against_loop(slot, regs, Demand::Counter(*counted)),
         Err(untyped) => untyped,
     }
 }
@@ -254,7 +255,8 @@ fn meet_demands(
     ensures known { IfErr result (λ u. u.known ≡ kinds.now) }
     ensures fails { IfErr result (λ u. Fails vars_size inside insn.now kinds.now u.demand) }
 {
-    let next = checked(vars_size, slot, *insn, kinds)?;
+    let mut next = *kinds;
+    checked(vars_size, slot, *insn, &mut next)?;
     if let Some(demand) = unnumbered(inside, insn, &next) {
         return Err(against_loop(slot, kinds, demand));
     }
@@ -263,24 +265,24 @@ fn meet_demands(
     Ok(())
 }
 
-/// The kinds after a slot.
+/// Makes the kinds before a slot, in place, those after it.
 ///
 /// # Errors
 /// A demand that isn't met.
-fn checked(vars_size: u16, slot: usize, insn: Insn, regs: &Regs) -> Result<Regs, Untyped>
-    requires kinds { AreKinds regs.now }
+fn checked(vars_size: u16, slot: usize, insn: Insn, regs: &mut Regs) -> Result<(), Untyped>
+    requires kinds { AreKinds regs.old }
     requires insn { IsInsn insn }
-    ensures after { IfOk result (λ ks. transfer vars_size insn regs.now ≡ Some ks) }
-    ensures kinds { IfOk result AreKinds }
-    ensures refused { IfErr result (λ u. transfer vars_size insn regs.now ≡ None) }
+    ensures after { IfOk result (λ u. transfer vars_size insn regs.old ≡ Some regs.new) }
+    ensures kinds { IfOk result (λ u. AreKinds regs.new) }
+    ensures refused { IfErr result (λ u. transfer vars_size insn regs.old ≡ None) }
     ensures rule { IfErr result (λ u. (20 ≤ number_of u.fault.rule) × (number_of u.fault.rule ≤ 27)) }
     ensures slot { IfErr result (λ u. u.fault.slot ≡ slot) }
-    ensures known { IfErr result (λ u. u.known ≡ regs.now) }
+    ensures known { IfErr result (λ u. u.known ≡ regs.old) }
     ensures demand { IfErr result (λ u. u.demand ≡ Demand.Operands) }
 {
     effects_keep_kinds();
     match after(insn, regs, vars_size) {
-        Ok(next) => Ok(next),
+        Ok(()) => Ok(()),
         Err(rule) => Err(Untyped {
             fault: Fault { rule, slot },
             known: *regs,
@@ -324,10 +326,12 @@ fn branch(slot: usize, jump: &Jump, before: &Regs, after: &Regs, states: &mut [O
     requires within { IsWithin (length states.old) (flow slot (Insn.JumpIf jump.now)) }
     ensures { states.new ≡ led slot states.old (ways_after slot (Insn.JumpIf jump.now) before.now after.now) }
 {
-    if let Some(taken) = when(jump, true, after) {
+    let mut taken = *after;
+    if refine(jump, true, &mut taken) {
         lead(slot, states, landing(slot, jump.offset as i32), &taken);
     }
-    if let Some(past) = when(jump, false, after) {
+    let mut past = *after;
+    if refine(jump, false, &mut past) {
         lead(slot, states, slot + 1, &past);
     }
 }
@@ -356,8 +360,15 @@ fn meet(states: &mut [Option<Regs>], slot: usize, regs: &Regs)
     requires { slot < length states.old }
     ensures { states.new ≡ met states.old slot regs.now }
 {
-    states[slot] = match &states[slot] {
-        Some(state) => Some(join(state, regs)),
-        None => Some(*regs),
-    };
+    join_in(&mut states[slot], regs);
+}
+
+/// Joins kinds to a state, or makes them one.
+fn join_in(state: &mut Option<Regs>, regs: &Regs)
+    ensures { state.new ≡ joined_in state.old regs.now }
+{
+    match state {
+        Some(kinds) => join(kinds, regs),
+        None => *state = Some(*regs),
+    }
 }
