@@ -7,6 +7,7 @@ pub mod PassLaws
 pub mod Passing
 pub mod Levels
 pub mod Table
+mod Stopping
 mod KeptRegisters
 mod Moves
 mod Counters
@@ -23,3 +24,4 @@ pub mod Called
 mod Rows
 mod HeadRows
 pub mod Lowered
+mod Stopping

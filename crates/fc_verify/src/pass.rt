@@ -160,33 +160,43 @@ fn pass(
     ensures slot { IfErr result (λ u. u.fault.slot ≡ slot) }
     ensures stops { IfErr result (λ u. Stops vars_size code.now beginning.now inside insn.now regs.now u.known u.demand) }
 {
-    match settled(code, beginning, regs) {
-        Some(kinds) => meet_demands(vars_size, slot, insn, inside, &kinds, states),
-        None => Err(unentered(vars_size, code, slot, insn, beginning, regs)),
+    match beginning {
+        Some(counted) => pass_head(
+            vars_size, code, slot, insn, counted, inside, regs, states,
+        ),
+        None => meet_demands(vars_size, slot, insn, inside, regs, states),
     }
 }
 
-/// What is wrong at a slot that settles to no kinds, since the counter of the loop that begins there doesn't enter below the bound.
-#[tactic(auto, unfolding(crate::specs::Heads::settled))]
-fn unentered(
+/// Passes a slot that has a state and where this loop begins.
+///
+/// # Errors
+/// A counter that doesn't enter below its bound, or a demand that isn't met.
+fn pass_head(
     vars_size: u16,
     code: &[Insn],
     slot: usize,
     insn: &Insn,
-    beginning: &Option<Loop>,
+    counted: &Loop,
+    inside: bool,
     regs: &Regs,
-) -> Untyped
-    requires counted { IsLoopOf code.now beginning.now }
-    requires outside { settled code.now beginning.now regs.now ≡ None }
+    states: &mut [Option<Regs>],
+) -> Result<(), Untyped>
+    requires counted { IsLoopOf code.now (Some counted.now) }
     requires kinds { AreKinds regs.now }
+    requires levels { AreShallow 1023 regs.now }
+    requires slot { slot < 1024 }
+    requires here { slot < length states.old }
+    requires within { IsWithin (length states.old) (flow slot insn.now) }
     requires insn { IsInsn insn.now }
-    ensures rule { IsRuleOf result.demand result.fault.rule }
-    ensures slot { result.fault.slot ≡ slot }
-    ensures stops { (inside : Bool) → Stops vars_size code.now beginning.now inside insn.now regs.now result.known result.demand }
+    ensures passed { IfOk result (λ u. passed_by vars_size code.now (Some counted.now) inside slot insn.now regs.now states.old ≡ Some states.new) }
+    ensures rule { IfErr result (λ u. IsRuleOf u.demand u.fault.rule) }
+    ensures slot { IfErr result (λ u. u.fault.slot ≡ slot) }
+    ensures stops { IfErr result (λ u. Stops vars_size code.now (Some counted.now) inside insn.now regs.now u.known u.demand) }
 {
-    match beginning {
-        Some(counted) => at_head(vars_size, code, slot, insn, counted, regs),
-        None => unreachable!(),
+    match settled(code, counted, regs) {
+        Some(kinds) => meet_demands(vars_size, slot, insn, inside, &kinds, states),
+        None => Err(at_head(vars_size, code, slot, insn, counted, regs)),
     }
 }
 

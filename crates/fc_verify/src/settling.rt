@@ -11,21 +11,10 @@ use fc_image::loops::{Loop, computes, is_call, writes};
 use fc_isa::Insn;
 use fc_kinds::{Kind, Regs};
 
-/// A slot's kinds as the pass takes them: where a loop begins, the least that a head may have and that contain these, or `None`
+/// The kinds of a slot where a loop begins as the pass takes them: the least that a head may have and that contain these, or `None`
 /// where its counter doesn't enter below the bound.
 #[tactic(auto, unfolding(crate::specs::Heads::settled))]
-pub(crate) fn settled(code: &[Insn], beginning: &Option<Loop>, regs: &Regs) -> Option<Regs>
-    requires { IsLoopOf code.now beginning.now }
-    ensures { result ≡ settled code.now beginning.now regs.now }
-{
-    match beginning {
-        Some(counted) => formed_where(code, counted, regs),
-        None => Some(*regs),
-    }
-}
-
-#[tactic(auto, unfolding(crate::specs::Heads::settled))]
-fn formed_where(code: &[Insn], counted: &Loop, regs: &Regs) -> Option<Regs>
+pub(crate) fn settled(code: &[Insn], counted: &Loop, regs: &Regs) -> Option<Regs>
     requires { IsLoopOf code.now (Some counted.now) }
     ensures { result ≡ settled code.now (Some counted.now) regs.now }
 {
