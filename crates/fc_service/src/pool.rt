@@ -9,6 +9,7 @@ ghost use Rattle.fc_registry.specs.Slots.{last_serial};
 ghost use Rattle.fc_server.specs.Notified.{is_given, notification_in};
 ghost use Rattle.fc_service.specs.Settling.{IsSomeResend};
 ghost use Rattle.fc_workers.specs.Answers.{IsSomeQuiet};
+ghost use Rattle.fc_workers.specs.Called.{shop};
 ghost use Rattle.fc_workers.specs.Closing.{HasCountedAll};
 ghost use Rattle.fc_workers.specs.Dispatch.{IsTakenIn, IsTurnAsked};
 ghost use Rattle.fc_workers.specs.Naming.{AreNamed};
@@ -78,11 +79,11 @@ struct Dispatching<'a, 'b, R: Wait, B: Bench, G: Gate, W: Wire, M: Moments> {
 
 impl<'a, 'b, R: Wait, B: Bench, G: Gate, W: Wire, M: Moments> Intake
     for Dispatching<'a, 'b, R, B, G, W, M> {
-    ghost hears = { λ now from bytes old new heard reply. IsTakenIn B.changes B.ended B.are_readings M.is_moment old.dispatcher.handover now from bytes.now heard reply old.dispatcher.done new.dispatcher.done };
+    ghost hears = { λ now from bytes old new heard reply. IsTakenIn (shop B.changes B.ended B.called M.is_moment G.passed W.called) old.dispatcher.handover now from bytes.now heard reply old.dispatcher.done new.dispatcher.done };
 
     ghost resends = { λ shard now old new sent. IsSomeResend now sent };
 
-    ghost notifies = { λ shard now old new given sent. IsTurnAsked B.changes B.ended B.are_readings M.is_moment old.dispatcher.handover now given old.dispatcher.done new.dispatcher.done × (sent ≡ None) };
+    ghost notifies = { λ shard now old new given sent. IsTurnAsked (shop B.changes B.ended B.called M.is_moment G.passed W.called) old.dispatcher.handover shard now given old.dispatcher.done new.dispatcher.done × (sent ≡ None) };
 
     fn hear(&mut self, now: u64, from: Endpoint, bytes: &[u8], reply: &mut Emission) -> Heard {
         self.dispatcher.hear(self.rt, now, from, bytes, reply)

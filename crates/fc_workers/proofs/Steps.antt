@@ -37,17 +37,18 @@ use Rattle.fc_core.specs.Stages.{asked_stage, first_by, image_of, listed, matche
 use Rattle.fc_core.specs.Steps.{Call, Takes, Commits, Installs, Lists, Matches, Rejects, Refuses, Removes, Describes, Raises}
 use Rattle.fc_workers.specs.declared.share.Share.{Share}
 use Rattle.fc_workers.specs.Answers.{AreTallied, commit_changes, commit_overtakings, ended_by, install_changes, removal_changes, saturated, taking_refusals, IsTakingWith, IsSomeCommit, IsSomeInstall, IsSomeReceipt, IsSomeRemoval}
-use Rattle.fc_workers.specs.Steps.{Follows, IsReady, IsStep, ListsOn, taken_at}
-use Rattle.fc_workers.specs.Work.{AreCalls, IsCallAt, IsWorkedOff, HasCounted, stage_after, change_by, overtaking_by, refusal_by, taking_by, total}
+use Rattle.fc_workers.specs.Called.{BenchCall, LooksAt, RaisesWord, Shop}
+use Rattle.fc_workers.specs.Steps.{AreSeen, Follows, IsReady, IsStep, ListsOn, taken_at}
+use Rattle.fc_workers.specs.Work.{AreCalls, IsCallAt, IsCommitted, IsWorkedOff, HasCounted, stage_after, change_by, overtaking_by, refusal_by, taking_by, total}
 
 -- the calls so far, and where they led the job
-pub record Walked {T : Type 0} (changes : T → ℕ → ℕ) (AreReadings : List ℕ → Type 0) (job : Job) (stage : Stage) (before now : Share T) : Type 0 where
+pub record Walked {T : Type 0} (shop : Shop T) (number : ℕ) (job : Job) (stage : Stage) (before now : Share T) : Type 0 where
   pub calls : List Call
-  pub are : AreCalls AreReadings job calls
+  pub are : AreCalls shop number job calls
   pub stands : stage ≡ stage_after job calls
   pub ready : IsReady job stage
   pub few : total taking_by calls ≤ taken_at stage
-  pub counted : HasCounted changes job.origin.slot calls before now
+  pub counted : HasCounted shop job.origin.slot calls before now
 
 -- ---- what a step counts
 
@@ -66,21 +67,26 @@ one_tallied before after n k rises = subst (λ (x : ℕ). AreTallied before afte
 -- ---- where a call leads to
 
 -- a ticket is of the job that took it
-taking_follows : (kept : Option (List ℕ)) (job : Job) (n serial : ℕ) (p : Option Present) → n < takings → Follows job (ToTake n) 1 (took n (taking kept job serial p))
+taking_follows : (kept : Option (List ℕ)) (job : Job) (n serial : ℕ) (p : Option Present) → n < takings
+    → Follows job (ToTake n) 1 (took n (taking kept job serial p))
 taking_follows kept job n serial None less = record { ready = tt; fewer = omega (arith, less); few = omega (arith, less) }
-taking_follows (Some readings) job n serial (Some p) less = record { ready = (omega (arith, less), refl); fewer = omega (arith, less); few = omega (arith, less) }
+taking_follows (Some readings) job n serial (Some p) less = record
+    { ready = (omega (arith, less), refl); fewer = omega (arith, less); few = omega (arith, less) }
 taking_follows None job n serial (Some p) less = record { ready = tt; fewer = omega (arith, less); few = omega (arith, less) }
 
-turn_follows : (out : Bool) (kept : Option (List ℕ)) (job : Job) (n serial : ℕ) (p : Option Present) → n < takings → Follows job (ToTake n) 1 (took n (turn_taking out kept job serial p))
+turn_follows : (out : Bool) (kept : Option (List ℕ)) (job : Job) (n serial : ℕ) (p : Option Present) → n < takings
+    → Follows job (ToTake n) 1 (took n (turn_taking out kept job serial p))
 turn_follows true kept job n serial p less = taking_follows kept job n serial p less
 turn_follows false kept job n serial p less = record { ready = tt; fewer = omega (arith, less); few = omega (arith, less) }
 
-by_turn_follows : (turn : Option ℕ) (kept : Option (List ℕ)) (job : Job) (n : ℕ) (slot : Slot) (now : ℕ) (w : ObserverList) → n < takings → Follows job (ToTake n) 1 (took n (taking_of_job turn kept job slot now w))
+by_turn_follows : (turn : Option ℕ) (kept : Option (List ℕ)) (job : Job) (n : ℕ) (slot : Slot) (now : ℕ) (w : ObserverList) → n < takings
+    → Follows job (ToTake n) 1 (took n (taking_of_job turn kept job slot now w))
 by_turn_follows None kept job n slot now w less = taking_follows kept job n slot.serial slot.present less
 by_turn_follows (Some number) kept job n slot now w less = turn_follows (is_out_at (turn_of job number) now w) kept job n slot.serial slot.present less
 
-took_follows : (AreReadings : List ℕ → Type 0) (job : Job) (n : ℕ) (x : Taken) → n < takings → IsTakingWith AreReadings job x → Follows job (ToTake n) 1 (took n x)
-took_follows AreReadings job n x less is = subst (λ (x : Taken). Follows job (ToTake n) 1 (took n x)) (sym is.2.taking.1) (by_turn_follows job.turn (readings_if is.2.taking.0 is.0) job n is.2.slot is.2.now is.2.watch less)
+took_follows : (Called : BenchCall → Type 0) (job : Job) (n : ℕ) (x : Taken) → n < takings → IsTakingWith Called job x → Follows job (ToTake n) 1 (took n x)
+took_follows Called job n x less is = subst (λ (x : Taken). Follows job (ToTake n) 1 (took n x)) (sym is.2.taking.1)
+    (by_turn_follows job.turn (readings_if is.2.taking.0 is.0) job n is.2.slot is.2.now is.2.watch less)
 
 -- a request's taking is never stale
 finding_ends : (kept : Option (List ℕ)) (job : Job) (serial ended : ℕ) (p : Option Present) → ended_by (taking kept job serial p) ended ≡ ended
@@ -88,16 +94,19 @@ finding_ends kept job serial ended None = refl
 finding_ends (Some readings) job serial ended (Some p) = refl
 finding_ends None job serial ended (Some p) = refl
 
-pub asked_ends : (AreReadings : List ℕ → Type 0) (job : Job) (x : Taken) (ended : ℕ) → job.turn ≡ None → IsTakingWith AreReadings job x → ended_by x ended ≡ ended
-asked_ends AreReadings job x ended none is =
-    let found : x ≡ taking (readings_if is.2.taking.0 is.0) job is.2.slot.serial is.2.slot.present = is.2.taking.1 ∙ ap (λ (o : Option ℕ). taking_of_job o (readings_if is.2.taking.0 is.0) job is.2.slot is.2.now is.2.watch) none in
+pub asked_ends : (Called : BenchCall → Type 0) (job : Job) (x : Taken) (ended : ℕ) → job.turn ≡ None → IsTakingWith Called job x → ended_by x ended ≡ ended
+asked_ends Called job x ended none is =
+    let found : x ≡ taking (readings_if is.2.taking.0 is.0) job is.2.slot.serial is.2.slot.present = is.2.taking.1 ∙ ap
+        (λ (o : Option ℕ). taking_of_job o (readings_if is.2.taking.0 is.0) job is.2.slot is.2.now is.2.watch) none in
     ap (λ (y : Taken). ended_by y ended) found ∙ finding_ends (readings_if is.2.taking.0 is.0) job is.2.slot.serial ended is.2.slot.present
 
-retaken_follows : (job : Job) (n : ℕ) (t : Ticket) (b : Bool) → nat_lt n takings ≡ b → n ≤ takings → Follows job (ToCommit n t) 0 (if b then ToTake n else ToAnswer Unavailable)
+retaken_follows : (job : Job) (n : ℕ) (t : Ticket) (b : Bool) → nat_lt n takings ≡ b → n ≤ takings
+    → Follows job (ToCommit n t) 0 (if b then ToTake n else ToAnswer Unavailable)
 retaken_follows job n t true e le = record { ready = ltb-true n takings e; fewer = omega arith; few = omega arith }
 retaken_follows job n t false e le = record { ready = tt; fewer = omega arith; few = omega (arith, le) }
 
-done_follows : (job : Job) (n : ℕ) (t : Ticket) (b observed : Bool) (word : ℕ) → IsReady job (ToCommit n t) → Follows job (ToCommit n t) 0 (if b then ToRaise word (run_content t observed) else ToAnswer (run_content t observed))
+done_follows : (job : Job) (n : ℕ) (t : Ticket) (b observed : Bool) (word : ℕ) → IsReady job (ToCommit n t)
+    → Follows job (ToCommit n t) 0 (if b then ToRaise word (run_content t observed) else ToAnswer (run_content t observed))
 done_follows job n t true observed word r = record { ready = r.1; fewer = omega arith; few = omega (arith, r.0) }
 done_follows job n t false observed word r = record { ready = r.1; fewer = omega arith; few = omega (arith, r.0) }
 
@@ -124,7 +133,8 @@ matched_follows : (job : Job) (b : Bool) (word : ℕ) → Follows job ToMatch 0 
 matched_follows job true word = record { ready = tt; fewer = omega arith; few = omega arith }
 matched_follows job false word = record { ready = omega arith; fewer = omega arith; few = omega arith }
 
-listed_follows : (job : Job) (seen : ArrayVec ℕ) (words : List ℕ) (b : Bool) → length words ≡ length seen.items + 1 → length seen.items < 64 → nat_lt (length words) 64 ≡ b → Follows job (ToList seen) 0 (if b then ToList (record { items = words }) else ToAnswer (Listed words))
+listed_follows : (job : Job) (seen : ArrayVec ℕ) (words : List ℕ) (b : Bool) → length words ≡ length seen.items + 1 → length seen.items < 64
+    → nat_lt (length words) 64 ≡ b → Follows job (ToList seen) 0 (if b then ToList (record { items = words }) else ToAnswer (Listed words))
 listed_follows job seen words true len lt e = record { ready = ltb-true (length words) 64 e; fewer = omega (arith, len, lt); few = omega arith }
 listed_follows job seen words false len lt e = record { ready = tt; fewer = omega (arith, lt); few = omega arith }
 
@@ -134,28 +144,37 @@ rejected_follows job f false = record { ready = tt; fewer = omega arith; few = o
 
 -- ---- a step of each stage
 
-module _ {T : Type 0} (changes : T → ℕ → ℕ) (AreReadings : List ℕ → Type 0) (job : Job) where
+module _ {T : Type 0} (shop : Shop T) (number : ℕ) (job : Job) where
   -- a step to a stage and a share that are these
-  is_step : (old : Stage) {new next : Stage} {before after counted : Share T} → new ≡ next → after ≡ counted → IsStep changes AreReadings job old next before counted → IsStep changes AreReadings job old new before after
-  is_step old {new} {next} {before} {after} {counted} e c s = subst (λ (x : Stage). IsStep changes AreReadings job old x before after) (sym e) (subst (λ (p : Share T). IsStep changes AreReadings job old next before p) (sym c) s)
+  is_step : (old : Stage) {new next : Stage} {before after counted : Share T} → new ≡ next → after ≡ counted → IsStep shop number job old next before counted
+      → IsStep shop number job old new before after
+  is_step old {new} {next} {before} {after} {counted} e c s = subst (λ (x : Stage). IsStep shop number job old x before after) (sym e)
+      (subst (λ (p : Share T). IsStep shop number job old next before p) (sym c) s)
 
-  pub took_step : (n : ℕ) (x : Taken) (p : Share T) (tallies : T) {next : Stage} {after : Share T} → n < takings → IsTakingWith AreReadings job x → ((shard : ℕ) → shard < 8 → changes tallies shard ≡ changes p.tallies shard) → next ≡ took n x → after ≡ record p { tallies = tallies; refusals = saturated (p.refusals + taking_refusals x) } → IsStep changes AreReadings job (ToTake n) next p after
+  pub took_step : (n : ℕ) (x : Taken) (p : Share T) (tallies : T) {next : Stage} {after : Share T} → n < takings → IsTakingWith shop.bench job x
+      → ((shard : ℕ) → shard < 8 → shop.changes tallies shard ≡ shop.changes p.tallies shard) → next ≡ took n x
+      → after ≡ record p { tallies = tallies; refusals = saturated (p.refusals + taking_refusals x) } → IsStep shop number job (ToTake n) next p after
   took_step n x p tallies less is same e c = is_step (ToTake n) e c (record {
     call = Takes n x;
     is = (refl, is);
     next = refl;
-    follows = took_follows AreReadings job n x less is;
-    counted = record { tallies = λ shard lt. same shard lt ∙ same_tallies (changes p.tallies) job.origin.slot shard lt; refusals = omega arith; overtakings = omega arith; got = refl; sent = refl; failed = refl };
+    follows = took_follows shop.bench job n x less is;
+    counted = record { tallies = λ shard lt. same shard lt ∙ same_tallies (shop.changes p.tallies) job.origin.slot shard lt; refusals = omega arith;
+        overtakings = omega arith; got = refl; sent = refl; failed = refl };
   })
 
-  pub commit_step : (n : ℕ) (t : Ticket) (x : Committed) (p : Share T) (tallies : T) {next : Stage} {after : Share T} → IsReady job (ToCommit n t) → IsSomeCommit (run_of t) t x → AreTallied (changes p.tallies) (changes tallies) t.origin.slot (commit_changes x) → next ≡ after_commit n t x → after ≡ record p { tallies = tallies; overtakings = saturated (p.overtakings + commit_overtakings x) } → IsStep changes AreReadings job (ToCommit n t) next p after
+  pub commit_step : (n : ℕ) (t : Ticket) (x : Committed) (p : Share T) (tallies : T) {next : Stage} {after : Share T} → IsReady job (ToCommit n t)
+      → IsCommitted shop number t x → AreTallied (shop.changes p.tallies) (shop.changes tallies) t.origin.slot (commit_changes x) → next ≡ after_commit n t x
+      → after ≡ record p { tallies = tallies; overtakings = saturated (p.overtakings + commit_overtakings x) }
+      → IsStep shop number job (ToCommit n t) next p after
   commit_step n t x p tallies ready is rises e c = is_step (ToCommit n t) e c (record {
     call = Commits n t x;
     is = (refl, is);
     next = refl;
     follows = commit_follows job n t x ready;
     counted = record {
-      tallies = one_tallied (changes p.tallies) (changes tallies) job.origin.slot (commit_changes x) (subst (λ (o : Origin). AreTallied (changes p.tallies) (changes tallies) o.slot (commit_changes x)) ready.1 rises);
+      tallies = one_tallied (shop.changes p.tallies) (shop.changes tallies) job.origin.slot (commit_changes x)
+          (subst (λ (o : Origin). AreTallied (shop.changes p.tallies) (shop.changes tallies) o.slot (commit_changes x)) ready.1 rises);
       refusals = omega arith;
       overtakings = omega arith;
       got = refl;
@@ -164,28 +183,35 @@ module _ {T : Type 0} (changes : T → ℕ → ℕ) (AreReadings : List ℕ → 
     };
   })
 
-  pub install_step : (program : Program) (x : Made) (p : Share T) (tallies : T) {next : Stage} → judged (image_of job.ask) ≡ Accepts program → IsSomeInstall program x → AreTallied (changes p.tallies) (changes tallies) job.origin.slot (install_changes x) → next ≡ made (receipt_of program 0) x → IsStep changes AreReadings job ToInstall next p (record p { tallies = tallies })
+  pub install_step : (program : Program) (x : Made) (p : Share T) (tallies : T) {next : Stage} → judged (image_of job.ask) ≡ Accepts program
+      → IsSomeInstall program x → AreTallied (shop.changes p.tallies) (shop.changes tallies) job.origin.slot (install_changes x)
+      → next ≡ made (receipt_of program 0) x → IsStep shop number job ToInstall next p (record p { tallies = tallies })
   install_step program x p tallies accepted is rises e = is_step ToInstall e refl (record {
     call = Installs program x;
     is = (refl, (accepted, is));
     next = refl;
     follows = made_follows job (receipt_of program 0) x;
-    counted = record { tallies = one_tallied (changes p.tallies) (changes tallies) job.origin.slot (install_changes x) rises; refusals = omega arith; overtakings = omega arith; got = refl; sent = refl; failed = refl };
+    counted = record { tallies = one_tallied (shop.changes p.tallies) (shop.changes tallies) job.origin.slot (install_changes x) rises; refusals = omega arith;
+        overtakings = omega arith; got = refl; sent = refl; failed = refl };
   })
 
-  pub remove_step : (x : Removal) (p : Share T) (tallies : T) {next : Stage} → IsSomeRemoval x → AreTallied (changes p.tallies) (changes tallies) job.origin.slot (removal_changes x) → next ≡ removed x → IsStep changes AreReadings job ToRemove next p (record p { tallies = tallies })
+  pub remove_step : (x : Removal) (p : Share T) (tallies : T) {next : Stage} → IsSomeRemoval x
+      → AreTallied (shop.changes p.tallies) (shop.changes tallies) job.origin.slot (removal_changes x) → next ≡ removed x
+      → IsStep shop number job ToRemove next p (record p { tallies = tallies })
   remove_step x p tallies is rises e = is_step ToRemove e refl (record {
     call = Removes x;
     is = (refl, is);
     next = refl;
     follows = removed_follows job x;
-    counted = record { tallies = one_tallied (changes p.tallies) (changes tallies) job.origin.slot (removal_changes x) rises; refusals = omega arith; overtakings = omega arith; got = refl; sent = refl; failed = refl };
+    counted = record { tallies = one_tallied (shop.changes p.tallies) (shop.changes tallies) job.origin.slot (removal_changes x) rises; refusals = omega arith;
+        overtakings = omega arith; got = refl; sent = refl; failed = refl };
   })
 
   -- calls that change nothing and count nothing
-  unchanged : (call : Call) (p : Share T) → change_by call ≡ 0 → refusal_by call ≡ 0 → overtaking_by call ≡ 0 → HasCounted changes job.origin.slot (call ∷ []) p p
+  unchanged : (call : Call) (p : Share T) → change_by call ≡ 0 → refusal_by call ≡ 0 → overtaking_by call ≡ 0 → HasCounted shop job.origin.slot (call ∷ []) p p
   unchanged call p none no_refusal no_overtaking = record {
-    tallies = subst (λ (n : ℕ). AreTallied (changes p.tallies) (changes p.tallies) job.origin.slot (0 + n)) (sym none) (same_tallies (changes p.tallies) job.origin.slot);
+    tallies = subst (λ (n : ℕ). AreTallied (shop.changes p.tallies) (shop.changes p.tallies) job.origin.slot (0 + n)) (sym none)
+        (same_tallies (shop.changes p.tallies) job.origin.slot);
     refusals = omega (arith, no_refusal);
     overtakings = omega (arith, no_overtaking);
     got = refl;
@@ -193,52 +219,64 @@ module _ {T : Type 0} (changes : T → ℕ → ℕ) (AreReadings : List ℕ → 
     failed = refl;
   }
 
-  pub describe_step : (x : Option Receipt) (p : Share T) {next : Stage} → IsSomeReceipt x → next ≡ ToAnswer (told x) → IsStep changes AreReadings job ToDescribe next p p
-  describe_step x p is e = is_step ToDescribe e refl (record { call = Describes x; is = (refl, is); next = refl; follows = told_follows job x; counted = unchanged (Describes x) p refl refl refl })
+  pub describe_step : (x : Option Receipt) (p : Share T) {next : Stage} → IsSomeReceipt x → next ≡ ToAnswer (told x)
+      → IsStep shop number job ToDescribe next p p
+  describe_step x p is e = is_step ToDescribe e refl (record { call = Describes x; is = (refl, is); next = refl; follows = told_follows job x;
+      counted = unchanged (Describes x) p refl refl refl })
 
-  pub match_step : (word : ℕ) (p : Share T) {next : Stage} → next ≡ matched word job.etags.items → IsStep changes AreReadings job ToMatch next p p
-  match_step word p e = is_step ToMatch e refl (record { call = Matches job.etags.items word; is = (refl, refl); next = refl; follows = matched_follows job (is_match word job.etags.items) word; counted = unchanged (Matches job.etags.items word) p refl refl refl })
+  pub match_step : (word : ℕ) (p : Share T) {next : Stage} → shop.bench (LooksAt job.origin.slot word) → next ≡ matched word job.etags.items
+      → IsStep shop number job ToMatch next p p
+  match_step word p looks e = is_step ToMatch e refl (record { call = Matches job.etags.items word; is = (refl, (refl, looks)); next = refl;
+      follows = matched_follows job (is_match word job.etags.items) word; counted = unchanged (Matches job.etags.items word) p refl refl refl })
 
-  pub list_step : (seen : ArrayVec ℕ) (word : ℕ) (p : Share T) {next : Stage} → length seen.items < 64 → next ≡ listed (seen.items ++ word ∷ []) → IsStep changes AreReadings job (ToList seen) next p p
-  list_step seen word p lt e = is_step (ToList seen) e refl (record {
+  pub list_step : (seen : ArrayVec ℕ) (word : ℕ) (p : Share T) {next : Stage} → shop.bench (LooksAt (length seen.items) word) → length seen.items < 64
+      → next ≡ listed (seen.items ++ word ∷ []) → IsStep shop number job (ToList seen) next p p
+  list_step seen word p looks lt e = is_step (ToList seen) e refl (record {
     call = Lists seen word;
-    is = (refl, tt);
+    is = (refl, looks);
     next = refl;
     follows = listed_follows job seen (seen.items ++ word ∷ []) (nat_lt (length (seen.items ++ word ∷ [])) 64) (length-append seen.items (word ∷ [])) lt refl;
     counted = unchanged (Lists seen word) p refl refl refl;
   })
 
   -- an image that breaks a rule
-  pub reject_step : (f : Fault) (p : Share T) {next : Stage} → IsRefusal (image_of job.ask) (Broken f) → next ≡ ToAnswer (refused (Broken f)) → IsStep changes AreReadings job ToInstall next p p
+  pub reject_step : (f : Fault) (p : Share T) {next : Stage} → IsRefusal (image_of job.ask) (Broken f) → next ≡ ToAnswer (refused (Broken f))
+      → IsStep shop number job ToInstall next p p
   reject_step f p is e = is_step ToInstall e refl (record {
     call = Rejects (refused (Broken f));
     is = (refl, (f, is, refl));
     next = refl;
     follows = rejected_follows job f (nat_lt (number_of f.rule) 20);
-    counted = record { tallies = same_tallies (changes p.tallies) job.origin.slot; refusals = omega arith; overtakings = omega arith; got = refl; sent = refl; failed = refl };
+    counted = record { tallies = same_tallies (shop.changes p.tallies) job.origin.slot; refusals = omega arith; overtakings = omega arith; got = refl;
+        sent = refl; failed = refl };
   })
 
   -- memory that was refused
-  pub refuse_step : (p : Share T) {next : Stage} {after : Share T} → IsRefusal (image_of job.ask) NoMemory → next ≡ ToAnswer Unavailable → after ≡ record p { refusals = saturated (p.refusals + 1) } → IsStep changes AreReadings job ToInstall next p after
+  pub refuse_step : (p : Share T) {next : Stage} {after : Share T} → IsRefusal (image_of job.ask) NoMemory → next ≡ ToAnswer Unavailable
+      → after ≡ record p { refusals = saturated (p.refusals + 1) } → IsStep shop number job ToInstall next p after
   refuse_step p is e c = is_step ToInstall e c (record {
     call = Refuses;
     is = (refl, is);
     next = refl;
     follows = record { ready = tt; fewer = omega arith; few = omega arith };
-    counted = record { tallies = same_tallies (changes p.tallies) job.origin.slot; refusals = omega arith; overtakings = omega arith; got = refl; sent = refl; failed = refl };
+    counted = record { tallies = same_tallies (shop.changes p.tallies) job.origin.slot; refusals = omega arith; overtakings = omega arith; got = refl;
+        sent = refl; failed = refl };
   })
 
-  pub raise_step : (word : ℕ) (content : Content) (p : Share T) → IsOf job content → IsStep changes AreReadings job (ToRaise word content) (ToAnswer content) p p
-  raise_step word content p own = record {
+  pub raise_step : (word : ℕ) (content : Content) (p : Share T) → shop.bench (RaisesWord job.origin.slot word) → IsOf job content
+      → IsStep shop number job (ToRaise word content) (ToAnswer content) p p
+  raise_step word content p raises own = record {
     call = Raises word content;
-    is = (refl, tt);
+    is = (refl, raises);
     next = refl;
     follows = record { ready = own; fewer = omega arith; few = omega arith };
-    counted = record { tallies = same_tallies (changes p.tallies) job.origin.slot; refusals = omega arith; overtakings = omega arith; got = refl; sent = refl; failed = refl };
+    counted = record { tallies = same_tallies (shop.changes p.tallies) job.origin.slot; refusals = omega arith; overtakings = omega arith; got = refl;
+        sent = refl; failed = refl };
   }
 
 -- an outcome of the ticket's program, request, variables and readings is that of its run
-pub is_run : (r : Ran) (t : Ticket) (p : Program) (request : Request) (vars readings : List ℕ) → r ≡ ran p request vars readings → p ≡ t.found.program → request ≡ t.request → vars ≡ t.found.vars → readings ≡ t.readings → r ≡ run_of t
+pub is_run : (r : Ran) (t : Ticket) (p : Program) (request : Request) (vars readings : List ℕ) → r ≡ ran p request vars readings → p ≡ t.found.program
+    → request ≡ t.request → vars ≡ t.found.vars → readings ≡ t.readings → r ≡ run_of t
 is_run r t p request vars readings e by for on with_them = e ∙ λ i. ran (by i) (for i) (on i) (with_them i)
 
 -- ---- the calls so far
@@ -251,31 +289,36 @@ first_ready job Remove serials = tt
 first_ready job Describe serials = tt
 first_ready job Discover serials = omega arith
 
-no_calls : (AreReadings : List ℕ → Type 0) (job : Job) → AreCalls AreReadings job []
+no_calls : {T : Type 0} (shop : Shop T) (number : ℕ) (job : Job) → AreCalls shop number job []
 unfolding AreCalls
-no_calls AreReadings job = tt
+no_calls shop number job = tt
 
-pub sets_out : {T : Type 0} (changes : T → ℕ → ℕ) (AreReadings : List ℕ → Type 0) (job : Job) (p : Share T) → Walked changes AreReadings job (asked_stage job) p p
-sets_out changes AreReadings job p = record {
+pub sets_out : {T : Type 0} (shop : Shop T) (number : ℕ) (job : Job) (p : Share T) → Walked shop number job (asked_stage job) p p
+sets_out shop number job p = record {
   calls = [];
-  are = no_calls AreReadings job;
+  are = no_calls shop number job;
   stands = refl;
   ready = first_ready job job.ask job.etags.items;
   few = omega arith;
-  counted = record { tallies = same_tallies (changes p.tallies) job.origin.slot; refusals = omega arith; overtakings = omega arith; got = refl; sent = refl; failed = refl };
+  counted = record { tallies = same_tallies (shop.changes p.tallies) job.origin.slot; refusals = omega arith; overtakings = omega arith; got = refl;
+      sent = refl; failed = refl };
 }
 
-more_calls : (AreReadings : List ℕ → Type 0) (job : Job) (calls : List Call) (call : Call) → AreCalls AreReadings job calls → IsCallAt AreReadings job (stage_after job calls) call → AreCalls AreReadings job (call ∷ calls)
+more_calls : {T : Type 0} (shop : Shop T) (number : ℕ) (job : Job) (calls : List Call) (call : Call) → AreCalls shop number job calls
+    → IsCallAt shop number job (stage_after job calls) call → AreCalls shop number job (call ∷ calls)
 unfolding AreCalls
-more_calls AreReadings job calls call are is = (are, is)
+more_calls shop number job calls call are is = (are, is)
 
-tallied_on : (b : Bool) (before now after x y : ℕ) → now ≡ before + (if b then x else 0) → after ≡ now + (if b then 0 + y else 0) → after ≡ before + (if b then x + y else 0)
+tallied_on : (b : Bool) (before now after x y : ℕ) → now ≡ before + (if b then x else 0) → after ≡ now + (if b then 0 + y else 0)
+    → after ≡ before + (if b then x + y else 0)
 tallied_on true before now after x y e f = omega (arith, e, f)
 tallied_on false before now after x y e f = omega (arith, e, f)
 
-counts_on : {T : Type 0} (changes : T → ℕ → ℕ) (n : ℕ) (calls : List Call) (call : Call) (before now after : Share T) → HasCounted changes n calls before now → HasCounted changes n (call ∷ []) now after → HasCounted changes n (call ∷ calls) before after
-counts_on changes n calls call before now after c d = record {
-  tallies = λ shard less. tallied_on (shard == n % 8) (changes before.tallies shard) (changes now.tallies shard) (changes after.tallies shard) (total change_by calls) (change_by call) (c.tallies shard less) (d.tallies shard less);
+counts_on : {T : Type 0} (shop : Shop T) (n : ℕ) (calls : List Call) (call : Call) (before now after : Share T) → HasCounted shop n calls before now
+    → HasCounted shop n (call ∷ []) now after → HasCounted shop n (call ∷ calls) before after
+counts_on shop n calls call before now after c d = record {
+  tallies = λ shard less. tallied_on (shard == n % 8) (shop.changes before.tallies shard) (shop.changes now.tallies shard) (shop.changes after.tallies shard)
+      (total change_by calls) (change_by call) (c.tallies shard less) (d.tallies shard less);
   refusals = omega (arith, c.refusals, d.refusals);
   overtakings = omega (arith, c.overtakings, d.overtakings);
   got = d.got ∙ c.got;
@@ -284,20 +327,22 @@ counts_on changes n calls call before now after c d = record {
 }
 
 -- one more step, from a stage that is this one
-pub walks_on : {T : Type 0} (changes : T → ℕ → ℕ) (AreReadings : List ℕ → Type 0) (job : Job) {stage at next : Stage} {before now after : Share T} → stage ≡ at → Walked changes AreReadings job stage before now → IsStep changes AreReadings job at next now after → Walked changes AreReadings job next before after
-walks_on changes AreReadings job {stage} {at} {next} {before} {now} {after} e w s =
+pub walks_on : {T : Type 0} (shop : Shop T) (number : ℕ) (job : Job) {stage at next : Stage} {before now after : Share T} → stage ≡ at
+    → Walked shop number job stage before now → IsStep shop number job at next now after → Walked shop number job next before after
+walks_on shop number job {stage} {at} {next} {before} {now} {after} e w s =
     let here = sym e ∙ w.stands in
     record {
       calls = s.call ∷ w.calls;
-      are = more_calls AreReadings job w.calls s.call w.are (subst (λ (x : Stage). IsCallAt AreReadings job x s.call) here s.is);
+      are = more_calls shop number job w.calls s.call w.are (subst (λ (x : Stage). IsCallAt shop number job x s.call) here s.is);
       stands = s.next;
       ready = s.follows.ready;
       few = omega (arith, subst (λ (x : Stage). total taking_by w.calls ≤ taken_at x) e w.few, s.follows.few);
-      counted = counts_on changes job.origin.slot w.calls s.call before now after w.counted s.counted;
+      counted = counts_on shop job.origin.slot w.calls s.call before now after w.counted s.counted;
     }
 
-pub arrives : {T : Type 0} (changes : T → ℕ → ℕ) (AreReadings : List ℕ → Type 0) (job : Job) (stage : Stage) (content : Content) (before now : Share T) → stage ≡ ToAnswer content → Walked changes AreReadings job stage before now → IsWorkedOff changes AreReadings job content before now
-arrives changes AreReadings job stage content before now e w = record {
+pub arrives : {T : Type 0} (shop : Shop T) (number : ℕ) (job : Job) (stage : Stage) (content : Content) (before now : Share T) → stage ≡ ToAnswer content
+    → Walked shop number job stage before now → IsWorkedOff shop number job content before now
+arrives shop number job stage content before now e w = record {
   calls = w.calls;
   are = w.are;
   ends = sym w.stands ∙ e;
@@ -306,24 +351,39 @@ arrives changes AreReadings job stage content before now e w = record {
   counted = w.counted;
 }
 
--- a look at each head word that is left
-walks_list : {T : Type 0} (changes : T → ℕ → ℕ) (AreReadings : List ℕ → Type 0) (job : Job) (seen : ArrayVec ℕ) (more : List ℕ) {stage : Stage} {before now : Share T} → stage ≡ ToList seen → 0 < length more → length (seen.items ++ more) ≡ 64 → Walked changes AreReadings job stage before now → Walked changes AreReadings job (ToAnswer (Listed (seen.items ++ more))) before now
-walks_list changes AreReadings job seen [] at some all w = absurd (omega (arith, some))
-walks_list changes AreReadings job seen (word ∷ []) {stage} {before} {now} at some all w =
-    let lt : length seen.items < 64 = subst (λ (s : Stage). IsReady job s) at w.ready in
-    let words = seen.items ++ word ∷ [] in
-    let last : nat_lt (length words) 64 ≡ false = le-ltb (length words) 64 (omega (arith, all)) in
-    walks_on changes AreReadings job at w (list_step changes AreReadings job seen word now lt (sym (ap (λ (b : Bool). if b then ToList (record { items = words }) else ToAnswer (Listed words)) last)))
-walks_list changes AreReadings job seen (word ∷ next ∷ more) {stage} {before} {now} at some all w =
-    let lt : length seen.items < 64 = subst (λ (s : Stage). IsReady job s) at w.ready in
-    let words = seen.items ++ word ∷ [] in
-    let on : ArrayVec ℕ = record { items = words } in
-    let same = append_assoc seen.items (word ∷ []) (next ∷ more) in
-    let full : length (words ++ next ∷ more) ≡ 64 = ap length same ∙ all in
-    let long = length-append words (next ∷ more) in
-    let yet : nat_lt (length words) 64 ≡ true = lt-ltb (length words) 64 (omega (arith, full, long)) in
-    let step = walks_on changes AreReadings job at w (list_step changes AreReadings job seen word now {next = ToList on} lt (sym (ap (λ (b : Bool). if b then ToList on else ToAnswer (Listed words)) yet))) in
-    subst (λ (ws : List ℕ). Walked changes AreReadings job (ToAnswer (Listed ws)) before now) same (walks_list changes AreReadings job on (next ∷ more) refl (omega arith) full step)
+-- the words that were seen, and one more
+pub more_seen : (Called : BenchCall → Type 0) (n word : ℕ) (words : List ℕ) → AreSeen Called n words → Called (LooksAt (n + length words) word)
+    → AreSeen Called n (words ++ word ∷ [])
+more_seen Called n word [] seen looks = (subst (λ (k : ℕ). Called (LooksAt k word)) (omega arith) looks, tt)
+more_seen Called n word (w ∷ ws) seen looks = (seen.0, more_seen Called (n + 1) word ws seen.1 (subst (λ (k : ℕ). Called (LooksAt k word)) (omega arith) looks))
 
-pub lists_on : {T : Type 0} (changes : T → ℕ → ℕ) (AreReadings : List ℕ → Type 0) (job : Job) (seen : ArrayVec ℕ) (words : List ℕ) {stage : Stage} {before now : Share T} → stage ≡ ToList seen → ListsOn seen.items words → Walked changes AreReadings job stage before now → Walked changes AreReadings job (ToAnswer (Listed words)) before now
-lists_on changes AreReadings job seen words {stage} {before} {now} at lists w = subst (λ (ws : List ℕ). Walked changes AreReadings job (ToAnswer (Listed ws)) before now) (sym lists.are) (walks_list changes AreReadings job seen lists.more at lists.some (sym (ap length lists.are) ∙ lists.all) w)
+module _ {T : Type 0} (shop : Shop T) (number : ℕ) (job : Job) where
+  -- a look at each head word that is left
+  walks_list : (seen : ArrayVec ℕ) (more : List ℕ) {stage : Stage} {before now : Share T} → stage ≡ ToList seen → AreSeen shop.bench (length seen.items) more
+      → 0 < length more → length (seen.items ++ more) ≡ 64 → Walked shop number job stage before now
+      → Walked shop number job (ToAnswer (Listed (seen.items ++ more))) before now
+  walks_list seen [] at looks some all w = absurd (omega (arith, some))
+  walks_list seen (word ∷ []) {stage} {before} {now} at looks some all w =
+      let lt : length seen.items < 64 = subst (λ (x : Stage). IsReady job x) at w.ready in
+      let words = seen.items ++ word ∷ [] in
+      let last : nat_lt (length words) 64 ≡ false = le-ltb (length words) 64 (omega (arith, all)) in
+      let next = sym (ap (λ (b : Bool). if b then ToList (record { items = words }) else ToAnswer (Listed words)) last) in
+      walks_on shop number job at w (list_step shop number job seen word now looks.0 lt next)
+  walks_list seen (word ∷ next ∷ more) {stage} {before} {now} at looks some all w =
+      let lt : length seen.items < 64 = subst (λ (x : Stage). IsReady job x) at w.ready in
+      let words = seen.items ++ word ∷ [] in
+      let on : ArrayVec ℕ = record { items = words } in
+      let same = append_assoc seen.items (word ∷ []) (next ∷ more) in
+      let full : length (words ++ next ∷ more) ≡ 64 = ap length same ∙ all in
+      let long = length-append words (next ∷ more) in
+      let one : length words ≡ length seen.items + 1 = length-append seen.items (word ∷ []) in
+      let left = subst (λ (k : ℕ). AreSeen shop.bench k (next ∷ more)) (sym one) looks.1 in
+      let yet : nat_lt (length words) 64 ≡ true = lt-ltb (length words) 64 (omega (arith, full, long)) in
+      let goes_on = sym (ap (λ (b : Bool). if b then ToList on else ToAnswer (Listed words)) yet) in
+      let step = walks_on shop number job at w (list_step shop number job seen word now {next = ToList on} looks.0 lt goes_on) in
+      subst (λ (ws : List ℕ). Walked shop number job (ToAnswer (Listed ws)) before now) same (walks_list on (next ∷ more) refl left (omega arith) full step)
+
+  pub lists_on : (seen : ArrayVec ℕ) (words : List ℕ) {stage : Stage} {before now : Share T} → stage ≡ ToList seen → ListsOn shop.bench seen.items words
+      → Walked shop number job stage before now → Walked shop number job (ToAnswer (Listed words)) before now
+  lists_on seen words {stage} {before} {now} at lists w = subst (λ (ws : List ℕ). Walked shop number job (ToAnswer (Listed ws)) before now) (sym lists.are)
+      (walks_list seen lists.more at lists.looks lists.some (sym (ap length lists.are) ∙ lists.all) w)

@@ -32,6 +32,7 @@ use Rattle.fc_registry.specs.declared.receipt.Receipt.{Receipt}
 use Rattle.fc_registry.specs.declared.shard.Removal.{Removal}
 use Rattle.fc_registry.specs.declared.shard.Removal.TheVariants.{Removed}
 use Rattle.fc_registry.specs.Calls.{IsTaking, IsCommit, install_in, receipt_at, remove_from}
+use Rattle.fc_workers.specs.Called.{BenchCall, GivesReadings}
 
 -- a delivery at a moment to some front brings this
 pub record IsSomeDelivery (now : ℕ) (to : Endpoint) (bytes : List ℕ) (brings : Delivered) : Type 0 where
@@ -57,9 +58,9 @@ pub record IsSomeTaking (job : Job) (readings : List ℕ) (taken : Taken) : Type
   pub watch : ObserverList
   pub taking : IsTaking job readings slot now watch taken
 
--- with readings that were given
-abbrev pub IsTakingWith : (AreReadings : List ℕ → Type 0) → Job → Taken → Type 0
-IsTakingWith AreReadings job taken = (readings : List ℕ) × AreReadings readings × IsSomeTaking job readings taken
+-- with readings that the bench gave
+abbrev pub IsTakingWith : (BenchCall → Type 0) → Job → Taken → Type 0
+IsTakingWith Called job taken = (readings : List ℕ) × Called (GivesReadings readings) × IsSomeTaking job readings taken
 
 -- some shard gives this turn at a moment, or none
 pub record IsSomeTurn (now : ℕ) (job : Option Job) : Type 0 where

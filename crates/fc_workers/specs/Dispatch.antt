@@ -3,7 +3,7 @@ use Rattle.std.specs.Prelude.{◌≡◌, ◌⊎◌, ◌+◌, ◌<◌, ◌≤◌,
 use Rattle.coap_msg.specs.declared.types.Emission.{Emission}
 use Rattle.coap_msg.specs.declared.types.Endpoint.{Endpoint}
 use Rattle.fc_core.specs.declared.front.Delivered.{Delivered}
-use Rattle.fc_core.specs.declared.front.Delivered.TheVariants.{Job as Brings}
+use Rattle.fc_core.specs.declared.front.Delivered.TheVariants.{Job as Brings, Signal}
 use Rattle.fc_core.specs.declared.front.Heard.{Heard}
 use Rattle.fc_core.specs.Receiving.{heard}
 use Rattle.fc_jobs.specs.Ends.{with_sent}
@@ -15,6 +15,7 @@ use Rattle.fc_workers.specs.declared.dispatch.Dispatched.{Dispatched}
 use Rattle.fc_workers.specs.declared.dispatch.Handover.{Handover}
 use Rattle.fc_workers.specs.declared.dispatch.Handover.TheVariants.{Every, Dear, Never}
 use Rattle.fc_workers.specs.Answers.{IsSomeDelivery, IsSomeReceipt, IsSomeTurn, saturated}
+use Rattle.fc_workers.specs.Called.{GivesTurn, HandsSignal, Shop}
 use Rattle.fc_workers.specs.Work.{IsReplied}
 
 -- it asks for a run
@@ -35,40 +36,51 @@ MayGo Every job = Unit {0}
 MayGo (Dear least) job = 0 < least → IsDear least job
 MayGo Never job = ⊥
 
-module _ {T : Type 0} (changes : T → ℕ → ℕ) (ended : T → ℕ) (AreReadings : List ℕ → Type 0) (IsMoment : ℕ → Type 0) where
+-- the number of a job that isn't sent to the workers
+abbrev pub unsent : ℕ
+unsent = 18446744073709551615
+
+module _ {T : Type 0} (s : Shop T) where
   -- a job was sent to the workers, under the next number
   pub record IsHandedOver (job : Job) (before after : Dispatched T) : Type 0 where
     pub sent : after.sent ≡ with_sent before.sent job
     pub share : after.share ≡ before.share
 
-  -- a job was worked off here, and ended; its reply is counted
+  -- a job was worked off here, and ended; its reply is sent and counted
   pub record IsWorkedHere (job : Job) (before after : Dispatched T) : Type 0 where
     pub sent : after.sent ≡ before.sent
-    pub worked : IsReplied changes AreReadings IsMoment job before.share after.share
-    pub ends : ended after.share.tallies ≡ saturated (ended before.share.tallies + 1)
+    pub worked : IsReplied s unsent job before.share after.share
+    pub ends : s.ended after.share.tallies ≡ saturated (s.ended before.share.tallies + 1)
 
   -- it went to the workers, where it may, or was worked off here
   abbrev pub IsDispatched : Handover → Job → Dispatched T → Dispatched T → Type 0
   IsDispatched handover job before after = (MayGo handover job × IsHandedOver job before after) ⊎ IsWorkedHere job before after
 
-  -- the job that a delivery brings is dispatched; where it brings none, none is
-  abbrev pub IsDone : Handover → Delivered → Dispatched T → Dispatched T → Type 0
-  IsDone handover (Brings job) before after = IsDispatched handover job before after
-  IsDone handover other before after = after ≡ before
+  -- a Reset message or an Acknowledgement was handed to each shard
+  abbrev pub AreSignalled : Endpoint → ℕ → Bool → Type 0
+  AreSignalled from id reset = (shard : ℕ) → shard < 8 → s.bench (HandsSignal shard from id reset)
 
-  -- a delivery at a moment to some front brought this, and its job is dispatched
-  pub record IsTakenIn (handover : Handover) (now : ℕ) (from : Endpoint) (bytes : List ℕ) (result : Heard) (reply : Emission) (before after : Dispatched T) : Type 0 where
+  -- the job that a delivery brings is dispatched, and what signals observers reaches all of them; else nothing is done
+  abbrev pub IsDone : Handover → Endpoint → Delivered → Dispatched T → Dispatched T → Type 0
+  IsDone handover from (Brings job) before after = IsDispatched handover job before after
+  IsDone handover from (Signal id reset) before after = AreSignalled from id reset × (after ≡ before)
+  IsDone handover from other before after = after ≡ before
+
+  -- a delivery at a moment to some front brought this, and it is done
+  pub record IsTakenIn (handover : Handover) (now : ℕ) (from : Endpoint) (bytes : List ℕ) (result : Heard) (reply : Emission)
+      (before after : Dispatched T) : Type 0 where
     pub job : Job
     pub delivery : IsSomeDelivery now from bytes (heard result job reply)
-    pub done : IsDone handover (heard result job reply) before after
+    pub done : IsDone handover from (heard result job reply) before after
 
   -- a turn that a shard gave is dispatched; where it gave none, none is
   abbrev pub IsTurnDone : Handover → Option Job → Bool → Dispatched T → Dispatched T → Type 0
   IsTurnDone handover (Some job) given before after = (given ≡ true) × IsDispatched handover job before after
   IsTurnDone handover None given before after = (given ≡ false) × (after ≡ before)
 
-  -- some shard gave this turn at a moment, or none, and it is dispatched
-  pub record IsTurnAsked (handover : Handover) (now : ℕ) (given : Bool) (before after : Dispatched T) : Type 0 where
+  -- a shard, as some shard does, gave this turn at a moment, or none, and it is dispatched
+  pub record IsTurnAsked (handover : Handover) (shard now : ℕ) (given : Bool) (before after : Dispatched T) : Type 0 where
     pub turn : Option Job
+    pub asks : s.bench (GivesTurn shard now turn)
     pub turn_is : IsSomeTurn now turn
     pub done : IsTurnDone handover turn given before after

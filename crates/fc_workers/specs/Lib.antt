@@ -1,3 +1,4 @@
+pub mod Called
 pub mod Answers
 pub mod Asked
 pub mod Closing

@@ -15,56 +15,76 @@ use Rattle.fc_registry.specs.Slots.{Ticket}
 use Rattle.fc_core.specs.Contents.{Content}
 use Rattle.fc_workers.specs.declared.share.Share.{Share}
 use Rattle.fc_workers.specs.Answers.{IsSomeAnswer, IsSomeDraw, IsSomeNote, saturated}
-
--- ---- a request
-
--- at some moment of the workshop's some front answers the job so, and this goes out, or nothing
-pub record GivesAnswer (IsMoment : ℕ → Type 0) (job : Job) (content : Content) (reply : Option Emission) : Type 0 where
-  pub now : ℕ
-  pub moment : IsMoment now
-  pub answer : IsSomeAnswer now job content reply
-
--- ---- a turn
+use Rattle.fc_workers.specs.Called.{GivesUpTurn, SendsReply, Shop}
 
 -- what is told is the run of the ticket that was found, or that the slot was found empty
 abbrev pub SaysFound : Notification → Option Ticket → Type 0
 SaysFound (tells.Ran outcome ticket) found = (found ≡ Some ticket.now) × (outcome.now ≡ run_of ticket.now)
 SaysFound tells.Gone found = found ≡ None
 
--- at some moment of the workshop's this is told the observer of the turn, by this message id, and this goes out, or nothing
-pub record IsNoteSent (IsMoment : ℕ → Type 0) (told : Notification) (turn : Turn) (id : ℕ) (reply : Option Emission) : Type 0 where
-  pub now : ℕ
-  pub moment : IsMoment now
-  pub noted : Noted
-  pub note : IsSomeNote now told turn id noted
-  pub reply_is : reply ≡ sent_of noted
+-- a share that has counted a reply by whether it went out
+abbrev pub with_reply : {T : Type 0} → Bool → Share T → Share T
+with_reply out share = if out then record share { sent = saturated (share.sent + 1) } else record share { failed = saturated (share.failed + 1) }
 
--- what was found is told by a message id that some front drew
-pub record IsNotification (IsMoment : ℕ → Type 0) (turn : Turn) (found : Option Ticket) (reply : Option Emission) : Type 0 where
-  pub drawn : ℕ
-  pub moment : IsMoment drawn
-  pub id : ℕ
-  pub draw : IsSomeDraw drawn (Some id)
-  pub told : Notification
-  pub tells : SaysFound told found
-  pub noted : IsNoteSent IsMoment told turn id reply
+module _ {T : Type 0} (s : Shop T) where
+  -- ---- a request
 
--- no message id was free, and nothing goes out
-pub record IsStarved (IsMoment : ℕ → Type 0) (reply : Option Emission) : Type 0 where
-  pub now : ℕ
-  pub moment : IsMoment now
-  pub draw : IsSomeDraw now None
-  pub nothing : reply ≡ None
+  -- at some moment of the workshop's some front answers the job so, and this is to go out, or nothing
+  pub record GivesAnswer (job : Job) (content : Content) (reply : Option Emission) : Type 0 where
+    pub now : ℕ
+    pub moment : s.moment now
+    pub answer : IsSomeAnswer now job content reply
 
-abbrev pub IsFoundTold : (IsMoment : ℕ → Type 0) → Turn → Option Ticket → Option Emission → Type 0
-IsFoundTold IsMoment turn found reply = IsNotification IsMoment turn found reply ⊎ IsStarved IsMoment reply
+  -- ---- a turn
 
--- by what the turn's taking answered: where it is stale, or memory was refused, nothing goes out
-abbrev pub IsTurnReply : (IsMoment : ℕ → Type 0) → Turn → Taken → Option Emission → Type 0
-IsTurnReply IsMoment turn (Given t) reply = IsFoundTold IsMoment turn (Some t) reply
-IsTurnReply IsMoment turn Missing reply = IsFoundTold IsMoment turn None reply
-IsTurnReply IsMoment turn Stale reply = reply ≡ None
-IsTurnReply IsMoment turn Refused reply = reply ≡ None
+  -- at some moment of the workshop's this is told the observer of the turn, by this message id, and this is to go out, or nothing
+  pub record IsNoteSent (told : Notification) (turn : Turn) (id : ℕ) (reply : Option Emission) : Type 0 where
+    pub now : ℕ
+    pub moment : s.moment now
+    pub noted : Noted
+    pub note : IsSomeNote now told turn id noted
+    pub reply_is : reply ≡ sent_of noted
+
+  -- what was found is told by a message id that some front drew
+  pub record IsNotification (turn : Turn) (found : Option Ticket) (reply : Option Emission) : Type 0 where
+    pub drawn : ℕ
+    pub moment : s.moment drawn
+    pub id : ℕ
+    pub draw : IsSomeDraw drawn (Some id)
+    pub told : Notification
+    pub tells : SaysFound told found
+    pub noted : IsNoteSent told turn id reply
+
+  -- at some moment of the workshop's the turn was given up, and nothing goes out
+  pub record IsGivenUp (turn : Turn) (reply : Option Emission) : Type 0 where
+    pub now : ℕ
+    pub moment : s.moment now
+    pub gives_up : s.bench (GivesUpTurn turn now)
+    pub nothing : reply ≡ None
+
+  -- no message id was free, and the turn was given up
+  pub record IsStarved (turn : Turn) (reply : Option Emission) : Type 0 where
+    pub now : ℕ
+    pub moment : s.moment now
+    pub draw : IsSomeDraw now None
+    pub given_up : IsGivenUp turn reply
+
+  abbrev pub IsFoundTold : Turn → Option Ticket → Option Emission → Type 0
+  IsFoundTold turn found reply = IsNotification turn found reply ⊎ IsStarved turn reply
+
+  -- by what the turn's taking answered: where memory was refused the turn is given up, and where it is stale nothing is left to do
+  abbrev pub IsTurnReply : Turn → Taken → Option Emission → Type 0
+  IsTurnReply turn (Given t) reply = IsFoundTold turn (Some t) reply
+  IsTurnReply turn Missing reply = IsFoundTold turn None reply
+  IsTurnReply turn Stale reply = reply ≡ None
+  IsTurnReply turn Refused reply = IsGivenUp turn reply
+
+  -- ---- sending it
+
+  -- a reply was sent under its job's number, and is counted by whether it went out; where there is none, nothing is counted
+  abbrev pub IsSent : ℕ → Option Emission → Share T → Share T → Type 0
+  IsSent number None before after = after ≡ before
+  IsSent number (Some reply) before after = (out : Bool) × s.wire (SendsReply number reply out) × (after ≡ with_reply out before)
 
 -- ---- a reply
 
@@ -86,8 +106,3 @@ pub record IsNote (emission : Emission) : Type 0 where
 -- what may go out of a workshop
 abbrev pub GoesOut : Emission → Type 0
 GoesOut emission = IsAnswer emission ⊎ IsNote emission
-
--- a share that has counted a reply, where there is one, by whether it went out
-abbrev pub with_reply : {T : Type 0} → Option Emission → Bool → Share T → Share T
-with_reply None out share = share
-with_reply (Some emission) out share = if out then record share { sent = saturated (share.sent + 1) } else record share { failed = saturated (share.failed + 1) }

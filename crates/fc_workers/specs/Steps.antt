@@ -7,6 +7,7 @@ use Rattle.fc_core.specs.Contents.{IsOf}
 use Rattle.fc_core.specs.Stages.{takings}
 use Rattle.fc_core.specs.Steps.{Call, next_stage}
 use Rattle.fc_workers.specs.declared.share.Share.{Share}
+use Rattle.fc_workers.specs.Called.{BenchCall, LooksAt, Shop}
 use Rattle.fc_workers.specs.Work.{IsCallAt, taking_by, HasCounted}
 
 -- a job that is to take may take once more; a ticket is its job's, and so is an answer; a job that lists head words has yet one
@@ -49,13 +50,13 @@ pub record Follows (job : Job) (old : Stage) (takes : ℕ) (new : Stage) : Type 
   pub fewer : calls_left new < calls_left old
   pub few : taken_at old + takes ≤ taken_at new
 
--- a call, and the stage and the share that it leaves
-pub record IsStep {T : Type 0} (changes : T → ℕ → ℕ) (AreReadings : List ℕ → Type 0) (job : Job) (old new : Stage) (before after : Share T) : Type 0 where
+-- a call for the job of this number, and the stage and the share that it leaves
+pub record IsStep {T : Type 0} (s : Shop T) (number : ℕ) (job : Job) (old new : Stage) (before after : Share T) : Type 0 where
   pub call : Call
-  pub is : IsCallAt AreReadings job old call
+  pub is : IsCallAt s number job old call
   pub next : new ≡ next_stage call
   pub follows : Follows job old (taking_by call) new
-  pub counted : HasCounted changes job.origin.slot (call ∷ []) before after
+  pub counted : HasCounted s job.origin.slot (call ∷ []) before after
 
 -- after the head word of a job's slot was raised
 abbrev pub raised : Stage → Stage
@@ -67,9 +68,15 @@ abbrev pub IsAnswered : Stage → Type 0
 IsAnswered (ToAnswer content) = Unit {0}
 IsAnswered other = ⊥
 
+-- each of these words was seen at the head word of its slot, from slot n on
+abbrev pub AreSeen : (BenchCall → Type 0) → ℕ → List ℕ → Type 0
+AreSeen Called n [] = Unit {0}
+AreSeen Called n (word ∷ words) = Called (LooksAt n word) × AreSeen Called (n + 1) words
+
 -- head words of all slots, of which these were seen before, but not all
-pub record ListsOn (seen words : List ℕ) : Type 0 where
+pub record ListsOn (Called : BenchCall → Type 0) (seen words : List ℕ) : Type 0 where
   pub more : List ℕ
+  pub looks : AreSeen Called (length seen) more
   pub some : 0 < length more
   pub are : words ≡ seen ++ more
   pub all : length words ≡ 64

@@ -1,6 +1,6 @@
 -- What is done with a job whose shard others change too: a list of calls, the newest first, each at the stage that needs it,
 -- and answered as its shard answers at some slot.
-use Rattle.std.specs.Prelude.{◌≡◌, ℕ, ◌+◌, ◌<◌, ◌≤◌, Bool, List, [], ◌∷◌, Option, Some, None}
+use Rattle.std.specs.Prelude.{◌≡◌, ℕ, ◌+◌, ◌<◌, ◌≤◌, List, [], ◌∷◌, length, Option, Some, None}
 use Rattle.coap_msg.specs.declared.types.Emission.{Emission}
 use Rattle.fc_isa.specs.declared.rule.Fault.{Fault}
 use Rattle.fc_verify.specs.Accepted.{Accepts}
@@ -9,8 +9,10 @@ use Rattle.fc_verify.specs.Refusals.{IsRefusal}
 use Rattle.fc_verify.specs.declared.refusal.Refusal.TheVariants.{Broken, NoMemory}
 use Rattle.fc_observe.specs.declared.entry.Turn.{Turn}
 use Rattle.fc_registry.specs.declared.job.Job.{Job}
+use Rattle.fc_registry.specs.declared.commit.Committed.{Committed}
 use Rattle.fc_registry.specs.declared.shard.Taken.{Taken}
 use Rattle.fc_registry.specs.Calls.{run_of, turn_of}
+use Rattle.fc_registry.specs.Slots.{Ticket}
 use Rattle.fc_core.specs.declared.stage.Stage.{Stage}
 use Rattle.fc_core.specs.declared.stage.Stage.TheVariants.{ToAnswer}
 use Rattle.fc_core.specs.Contents.{Content, IsOf}
@@ -18,39 +20,11 @@ use Rattle.fc_core.specs.Ends.{refused}
 use Rattle.fc_core.specs.Stages.{asked_stage, image_of, takings}
 use Rattle.fc_core.specs.Steps.{Call, Matches, Lists, Takes, Commits, Installs, Rejects, Refuses, Removes, Describes, Raises, called_at, next_stage}
 use Rattle.fc_workers.specs.Answers.{IsTakingWith, IsSomeCommit, IsSomeInstall, IsSomeReceipt, IsSomeRemoval, AreTallied, HasRisen, commit_changes, commit_overtakings, install_changes, removal_changes, taking_refusals}
-use Rattle.fc_workers.specs.Outgoing.{GivesAnswer, IsTurnReply, with_reply}
+use Rattle.fc_workers.specs.Called.{CommitsRun, EndsJob, LooksAt, RaisesWord, Shop}
+use Rattle.fc_workers.specs.Outgoing.{GivesAnswer, IsSent, IsTurnReply}
 use Rattle.fc_workers.specs.declared.share.Share.{Share}
 
--- the serials are the job's, and the answer is true of some slot; what a look at a head word tells may be any. An answer, a loss and
--- the calls of a turn are in no request's list
-abbrev pub IsCallOf : (AreReadings : List ℕ → Type 0) → Job → Call → Type 0
-IsCallOf AreReadings job (Matches serials word) = serials ≡ job.etags.items
-IsCallOf AreReadings job (Lists seen word) = Unit {0}
-IsCallOf AreReadings job (Takes count taken) = IsTakingWith AreReadings job taken
-IsCallOf AreReadings job (Commits count t committed) = IsSomeCommit (run_of t) t committed
-IsCallOf AreReadings job (Installs p answer) = (judged (image_of job.ask) ≡ Accepts p) × IsSomeInstall p answer
-IsCallOf AreReadings job (Rejects content) = (f : Fault) × IsRefusal (image_of job.ask) (Broken f) × (content ≡ refused (Broken f))
-IsCallOf AreReadings job Refuses = IsRefusal (image_of job.ask) NoMemory
-IsCallOf AreReadings job (Removes removal) = IsSomeRemoval removal
-IsCallOf AreReadings job (Describes receipt) = IsSomeReceipt receipt
-IsCallOf AreReadings job (Raises word content) = Unit {0}
-IsCallOf AreReadings job other = ⊥
-
--- the call is the one that the stage needs, and its answer is true
-abbrev pub IsCallAt : (AreReadings : List ℕ → Type 0) → Job → Stage → Call → Type 0
-IsCallAt AreReadings job stage call = (stage ≡ called_at call) × IsCallOf AreReadings job call
-
--- the stage that these calls leave a job at
-abbrev pub stage_after : Job → List Call → Stage
-stage_after job [] = asked_stage job
-stage_after job (call ∷ calls) = next_stage call
-
--- each is the call that the stage needs where the ones before it have led
-unfoldable pub AreCalls : (AreReadings : List ℕ → Type 0) → Job → List Call → Type 0
-AreCalls AreReadings job [] = Unit {0}
-AreCalls AreReadings job (call ∷ calls) = AreCalls AreReadings job calls × IsCallAt AreReadings job (stage_after job calls) call
-
--- ---- what is counted of them
+-- ---- what is counted of calls
 
 abbrev pub taking_by : Call → ℕ
 taking_by (Takes count taken) = 1
@@ -78,56 +52,99 @@ abbrev pub total : (Call → ℕ) → List Call → ℕ
 total by [] = 0
 total by (call ∷ calls) = total by calls + by call
 
--- a worker's share, before and after these calls for a job of slot n
-pub record HasCounted {T : Type 0} (changes : T → ℕ → ℕ) (n : ℕ) (calls : List Call) (before after : Share T) : Type 0 where
-  pub tallies : AreTallied (changes before.tallies) (changes after.tallies) n (total change_by calls)
-  pub refusals : HasRisen before.refusals (total refusal_by calls) after.refusals
-  pub overtakings : HasRisen before.overtakings (total overtaking_by calls) after.overtakings
-  pub got : after.got ≡ before.got
-  pub sent : after.sent ≡ before.sent
-  pub failed : after.failed ≡ before.failed
+-- the stage that these calls leave a job at
+abbrev pub stage_after : Job → List Call → Stage
+stage_after job [] = asked_stage job
+stage_after job (call ∷ calls) = next_stage call
 
--- a job's calls, from its first stage to this answer
-pub record IsWorkedOff {T : Type 0} (changes : T → ℕ → ℕ) (AreReadings : List ℕ → Type 0) (job : Job) (content : Content) (before after : Share T) : Type 0 where
-  pub calls : List Call
-  pub are : AreCalls AreReadings job calls
-  pub ends : stage_after job calls ≡ ToAnswer content
-  pub few : total taking_by calls ≤ takings
-  pub own : IsOf job content
-  pub counted : HasCounted changes job.origin.slot calls before after
+module _ {T : Type 0} (s : Shop T) where
+  -- ---- a call
 
--- a worker's share whose tallies of changes, jobs and replies are as before
-pub record IsQuiet {T : Type 0} (changes : T → ℕ → ℕ) (before after : Share T) : Type 0 where
-  pub tallies : (shard : ℕ) → shard < 8 → changes after.tallies shard ≡ changes before.tallies shard
-  pub got : after.got ≡ before.got
-  pub sent : after.sent ≡ before.sent
-  pub failed : after.failed ≡ before.failed
+  -- a ticket's own run was committed, at some moment of the workshop's, after the gate had let the job of this number go on
+  pub record IsCommitted (number : ℕ) (t : Ticket) (committed : Committed) : Type 0 where
+    pub gate : s.gate number
+    pub now : ℕ
+    pub moment : s.moment now
+    pub commits : s.bench (CommitsRun now (run_of t) t committed)
+    pub commit : IsSomeCommit (run_of t) t committed
 
--- a request's job was worked off to some answer, and this goes out for it, or nothing
-pub record IsRequestWorked {T : Type 0} (changes : T → ℕ → ℕ) (AreReadings : List ℕ → Type 0) (IsMoment : ℕ → Type 0) (job : Job) (before after : Share T) (reply : Option Emission) : Type 0 where
-  pub content : Content
-  pub worked : IsWorkedOff changes AreReadings job content before after
-  pub answered : GivesAnswer IsMoment job content reply
+  -- a call for the job of this number. A look is at the head word of its slot, whose client has the answers of the job's serials, or of the next one
+  -- in a list; its slot's word is raised to the word that the stage told; and what else is answered is true of some slot. An answer, a loss and
+  -- the calls of a turn are in no request's list
+  abbrev pub IsCallOf : ℕ → Job → Call → Type 0
+  IsCallOf number job (Matches serials word) = (serials ≡ job.etags.items) × s.bench (LooksAt job.origin.slot word)
+  IsCallOf number job (Lists seen word) = s.bench (LooksAt (length seen.items) word)
+  IsCallOf number job (Takes count taken) = IsTakingWith s.bench job taken
+  IsCallOf number job (Commits count t committed) = IsCommitted number t committed
+  IsCallOf number job (Installs p answer) = (judged (image_of job.ask) ≡ Accepts p) × IsSomeInstall p answer
+  IsCallOf number job (Rejects content) = (f : Fault) × IsRefusal (image_of job.ask) (Broken f) × (content ≡ refused (Broken f))
+  IsCallOf number job Refuses = IsRefusal (image_of job.ask) NoMemory
+  IsCallOf number job (Removes removal) = IsSomeRemoval removal
+  IsCallOf number job (Describes receipt) = IsSomeReceipt receipt
+  IsCallOf number job (Raises word content) = s.bench (RaisesWord job.origin.slot word)
+  IsCallOf number job other = ⊥
 
--- a turn's job was worked off, and this goes out for it, or nothing: it took once, and what it found is told. It changes no slot
-pub record IsTurnWorked {T : Type 0} (changes : T → ℕ → ℕ) (AreReadings : List ℕ → Type 0) (IsMoment : ℕ → Type 0) (job : Job) (turn : Turn) (before after : Share T) (reply : Option Emission) : Type 0 where
-  pub taken : Taken
-  pub taking : IsTakingWith AreReadings job taken
-  pub told : IsTurnReply IsMoment turn taken reply
-  pub kept : IsQuiet changes before after
+  -- the call is the one that the stage needs, and its answer is true
+  abbrev pub IsCallAt : ℕ → Job → Stage → Call → Type 0
+  IsCallAt number job stage call = (stage ≡ called_at call) × IsCallOf number job call
 
-abbrev pub IsWorkedAs : {T : Type 0} → (T → ℕ → ℕ) → (AreReadings : List ℕ → Type 0) → (IsMoment : ℕ → Type 0) → Option ℕ → Job → Share T → Share T → Option Emission → Type 0
-IsWorkedAs changes AreReadings IsMoment None job before after reply = IsRequestWorked changes AreReadings IsMoment job before after reply
-IsWorkedAs changes AreReadings IsMoment (Some number) job before after reply = IsTurnWorked changes AreReadings IsMoment job (turn_of job number) before after reply
+  -- each is the call that the stage needs where the ones before it have led
+  unfoldable pub AreCalls : ℕ → Job → List Call → Type 0
+  AreCalls number job [] = Unit {0}
+  AreCalls number job (call ∷ calls) = AreCalls number job calls × IsCallAt number job (stage_after job calls) call
 
--- a job was worked off, a request's or a turn's
-abbrev pub IsWorked : {T : Type 0} → (T → ℕ → ℕ) → (AreReadings : List ℕ → Type 0) → (IsMoment : ℕ → Type 0) → Job → Share T → Share T → Option Emission → Type 0
-IsWorked changes AreReadings IsMoment job before after reply = IsWorkedAs changes AreReadings IsMoment job.turn job before after reply
+  -- a worker's share, before and after these calls for a job of slot n
+  pub record HasCounted (n : ℕ) (calls : List Call) (before after : Share T) : Type 0 where
+    pub tallies : AreTallied (s.changes before.tallies) (s.changes after.tallies) n (total change_by calls)
+    pub refusals : HasRisen before.refusals (total refusal_by calls) after.refusals
+    pub overtakings : HasRisen before.overtakings (total overtaking_by calls) after.overtakings
+    pub got : after.got ≡ before.got
+    pub sent : after.sent ≡ before.sent
+    pub failed : after.failed ≡ before.failed
 
--- a job was worked off, and the share has counted whether its reply went out
-pub record IsReplied {T : Type 0} (changes : T → ℕ → ℕ) (AreReadings : List ℕ → Type 0) (IsMoment : ℕ → Type 0) (job : Job) (before after : Share T) : Type 0 where
-  pub reply : Option Emission
-  pub out : Bool
-  pub share : Share T
-  pub worked : IsWorked changes AreReadings IsMoment job before share reply
-  pub counted : after ≡ with_reply reply out share
+  -- ---- a job
+
+  -- a job's calls, from its first stage to this answer
+  pub record IsWorkedOff (number : ℕ) (job : Job) (content : Content) (before after : Share T) : Type 0 where
+    pub calls : List Call
+    pub are : AreCalls number job calls
+    pub ends : stage_after job calls ≡ ToAnswer content
+    pub few : total taking_by calls ≤ takings
+    pub own : IsOf job content
+    pub counted : HasCounted job.origin.slot calls before after
+
+  -- a worker's share whose tallies of changes, jobs and replies are as before
+  pub record IsQuiet (before after : Share T) : Type 0 where
+    pub tallies : (shard : ℕ) → shard < 8 → s.changes after.tallies shard ≡ s.changes before.tallies shard
+    pub got : after.got ≡ before.got
+    pub sent : after.sent ≡ before.sent
+    pub failed : after.failed ≡ before.failed
+
+  -- a request's job was worked off to some answer, and this is to go out for it, or nothing
+  pub record IsRequestWorked (number : ℕ) (job : Job) (before after : Share T) (reply : Option Emission) : Type 0 where
+    pub content : Content
+    pub worked : IsWorkedOff number job content before after
+    pub answered : GivesAnswer s job content reply
+
+  -- a turn's job was worked off, and this is to go out for it, or nothing: it took once, and what it found is told. It changes no slot
+  pub record IsTurnWorked (job : Job) (turn : Turn) (before after : Share T) (reply : Option Emission) : Type 0 where
+    pub taken : Taken
+    pub taking : IsTakingWith s.bench job taken
+    pub told : IsTurnReply s turn taken reply
+    pub kept : IsQuiet before after
+
+  abbrev pub IsWorkedAs : Option ℕ → ℕ → Job → Share T → Share T → Option Emission → Type 0
+  IsWorkedAs None number job before after reply = IsRequestWorked number job before after reply
+  IsWorkedAs (Some turn) number job before after reply = IsTurnWorked job (turn_of job turn) before after reply
+
+  -- the job of this number was worked off, a request's or a turn's
+  abbrev pub IsWorked : ℕ → Job → Share T → Share T → Option Emission → Type 0
+  IsWorked number job before after reply = IsWorkedAs job.turn number job before after reply
+
+  -- it was worked off, its reply, if it has one, was sent and counted, and who waits for the job was told that it has ended
+  pub record IsReplied (number : ℕ) (job : Job) (before after : Share T) : Type 0 where
+    pub reply : Option Emission
+    pub share : Share T
+    pub worked : IsWorked number job before share reply
+    pub sent : IsSent s number reply share after
+    pub over : s.wire (EndsJob number)

@@ -1,9 +1,10 @@
 //! What workers work at.
-ghost use Rattle.std.specs.Prelude.{◌≡◌, ℕ, ◌+◌, ◌<◌, ◌≤◌, ⊤, List};
+ghost use Rattle.std.specs.Prelude.{◌≡◌, ℕ, ◌+◌, ◌<◌, ◌≤◌, ⊤};
 ghost use Rattle.atomic_table.specs.Seated.{TableId};
 ghost use Rattle.fc_core.specs.Contents.{IsOf};
 ghost use Rattle.fc_core.specs.Receiving.{emission_if, heard};
 ghost use Rattle.fc_heads.specs.Heads.{IsRaised, fresh, peeked, word_of};
+ghost use Rattle.fc_workers.specs.Called.{AdvancesFront, AdvancesIfQuiet, AdvancesShard, BenchCall, CommitsRun, GivesReadings, GivesTurn, GivesUpTurn, HandsSignal, LooksAt, RaisesWord};
 ghost use Rattle.fc_workers.specs.Answers.{AreTallied, IsSomeAnswer, IsSomeCommit, IsSomeDelivery, IsSomeDraw, IsSomeInstall, IsSomeNote, IsSomeQuiet, IsSomeReceipt, IsSomeRemoval, IsSomeTaking, IsSomeTick, IsSomeTurn, commit_changes, ended_by, install_changes, removal_changes, saturated};
 
 use coap_msg::{Emission, Endpoint};
@@ -20,7 +21,7 @@ use std::sync::{Arc, Wait};
 
 /// The calls of the shards, the head words and the front, for any number of workers at a time: a server keeps them behind its locks, and
 /// each call may wait for one. A call answers what the shard answers at some slot, and nothing ties one call's slot to the
-/// next's: what others change in between is not said here.
+/// next's: what others change in between is not said here. What a call does is said by who implements this.
 ///
 /// Each worker hands in tallies of its own. They count the changes of each shard that its calls answered, and the jobs
 /// that it ended.
@@ -37,8 +38,8 @@ pub trait Bench {
     // Which head words it has.
     ghost heads: { Self → TableId };
 
-    // Which readings it gives. It says of readings that a call gave them.
-    ghost are_readings: { List ℕ → Type 0 } = { λ _. ⊤ };
+    // Which calls were made. It says of a call that it was made, with what it was handed and what it answered.
+    ghost called: { BenchCall → Type 0 } = { λ _. ⊤ };
 
     /// Takes a datagram in, at a moment in milliseconds, as [`Front::hear`](fc_core::Front::hear) does: the job that it brings, or the
     /// reply, is written over another.
@@ -54,7 +55,8 @@ pub trait Bench {
         ensures { IsSomeDelivery now endpoint bytes.now (heard result job.new reply.new) };
 
     /// Advances the front to a moment in milliseconds, as [`Front::tick`](fc_core::Front::tick) does.
-    fn tick<R: Wait>(&self, rt: &R, now: u64);
+    fn tick<R: Wait>(&self, rt: &R, now: u64)
+        ensures { called (AdvancesFront now) };
 
     /// A message id of the server's own, at a moment in milliseconds, as [`Front::fresh_id`](fc_core::Front::fresh_id) gives it.
     fn fresh_id<R: Wait>(&self, rt: &R, now: u64) -> Option<u16>
@@ -62,7 +64,7 @@ pub trait Bench {
 
     /// The readings of the device.
     fn readings<R: Wait>(&self, rt: &R) -> Readings
-        ensures { are_readings result };
+        ensures { called (GivesReadings result) };
 
     /// Takes what a job finds in its slot, with these readings, as [`Shard::take`](fc_registry::Shard::take) does. A turn that is stale
     /// ends by that.
@@ -88,6 +90,7 @@ pub trait Bench {
         tallies: &mut Self::Tallies,
     ) -> Committed
         ensures committed { IsSomeCommit outcome.now ticket.now result }
+        ensures called { called (CommitsRun now outcome.now ticket.now result) }
         ensures changes { AreTallied (changes tallies.old) (changes tallies.new)
             ticket.now.origin.slot (commit_changes result) }
         ensures ended { ended tallies.new ≡ ended tallies.old };
@@ -113,20 +116,24 @@ pub trait Bench {
         ensures ended { ended tallies.new ≡ ended tallies.old };
 
     /// Hands a signal to a shard, 0 to 7, as [`Shard::signal`](fc_registry::Shard::signal) does.
-    fn signal<R: Wait>(&self, rt: &R, shard: u8, endpoint: Endpoint, id: u16, reset: bool);
+    fn signal<R: Wait>(&self, rt: &R, shard: u8, endpoint: Endpoint, id: u16, reset: bool)
+        ensures { called (HandsSignal shard endpoint id reset) };
 
     /// Advances a shard, 0 to 7, to a moment in milliseconds, as [`Shard::tick`](fc_registry::Shard::tick) does.
     fn tick_shard<R: Wait>(&self, rt: &R, shard: u8, now: u64) -> Ticked
-        ensures { IsSomeTick now result };
+        ensures ticked { IsSomeTick now result }
+        ensures called { called (AdvancesShard shard now result) };
 
     /// Advances a shard, 0 to 7, to a moment in milliseconds where nothing is late and nobody is due, as
     /// [`Shard::advance_if_quiet`](fc_registry::Shard::advance_if_quiet) does. Tells whether it did.
     fn advance_if_quiet<R: Wait>(&self, rt: &R, shard: u8, now: u64) -> bool
-        ensures { IsSomeQuiet now result };
+        ensures quiet { IsSomeQuiet now result }
+        ensures called { called (AdvancesIfQuiet shard now result) };
 
     /// Asks a shard, 0 to 7, for a turn at a moment in milliseconds, as [`Shard::next_due`](fc_registry::Shard::next_due) gives it.
     fn next_due<R: Wait>(&self, rt: &R, shard: u8, now: u64) -> Option<Job>
-        ensures { IsSomeTurn now result };
+        ensures turn { IsSomeTurn now result }
+        ensures called { called (GivesTurn shard now result) };
 
     /// Notifies the observer of a turn, at a moment in milliseconds, as [`Shard::note`](fc_registry::Shard::note) does, and ends its job.
     fn note<R: Wait>(
@@ -148,6 +155,7 @@ pub trait Bench {
     /// Gives up a turn, at a moment in milliseconds, as [`Shard::give_up`](fc_registry::Shard::give_up) does, and ends its job.
     fn give_up<R: Wait>(&self, rt: &R, turn: Turn, now: u64, tallies: &mut Self::Tallies)
         requires { turn.slot < 64 }
+        ensures called { called (GivesUpTurn turn now) }
         ensures changes { (shard : ℕ) → shard < 8 →
             changes tallies.new shard ≡ changes tallies.old shard }
         ensures ended { ended tallies.new ≡ saturated (ended tallies.old + 1) };
@@ -164,12 +172,14 @@ pub trait Bench {
     fn peek(&self, slot: SlotNumber, seat: &mut HeadSeat) -> u64
         requires { seat.old.table ≡ heads self.now }
         ensures rises { word_of seat.old.view.seen slot ≤ result }
-        ensures seen { seat.new ≡ record seat.old { view = peeked seat.old.view slot result } };
+        ensures seen { seat.new ≡ record seat.old { view = peeked seat.old.view slot result } }
+        ensures called { called (LooksAt slot result) };
 
     /// Raises the head word of the slot of a job, as [`Heads::raise`](fc_heads::Heads::raise) does: it is then no less than the word handed in. No lock is taken.
     fn raise(&self, job: &Job, word: u64, seat: &mut HeadSeat)
         requires { seat.old.table ≡ heads self.now }
-        ensures { IsRaised job.now.origin.slot word seat.old seat.new };
+        ensures raised { IsRaised job.now.origin.slot word seat.old seat.new }
+        ensures called { called (RaisesWord job.now.origin.slot word) };
 
     /// Answers a job, at a moment in milliseconds, as [`Front::respond`](fc_core::Front::respond) does, and ends it: what is to be sent is
     /// written over another emission. Tells whether anything is.

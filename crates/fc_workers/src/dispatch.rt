@@ -2,7 +2,8 @@
 ghost use Rattle.std.specs.Prelude.{◌≡◌, ◌<◌, ◌≤◌, ℕ, true, MatchBool};
 ghost use Rattle.fc_jobs.specs.Ends.{with_sent};
 ghost use Rattle.fc_workers.specs.Answers.{IsSomeQuiet, IsSomeTick};
-ghost use Rattle.fc_workers.specs.Dispatch.{IsDear, IsDispatched, IsTakenIn, IsTurnAsked, IsWorkedHere, MayGo};
+ghost use Rattle.fc_workers.specs.Called.{AdvancesFront, AdvancesIfQuiet, AdvancesShard, shop};
+ghost use Rattle.fc_workers.specs.Dispatch.{AreSignalled, IsDear, IsDispatched, IsTakenIn, IsTurnAsked, IsWorkedHere, MayGo};
 ghost use Rattle.fc_workers.specs.Shares.{new_share};
 
 use crate::bench::Bench;
@@ -105,7 +106,7 @@ impl<'a, B: Bench, G: Gate, W: Wire, M: Moments> Dispatcher<'a, B, G, W, M> {
         bytes: &[u8],
         reply: &mut Emission,
     ) -> Heard
-        ensures taken_in { IsTakenIn B.changes B.ended B.are_readings M.is_moment self.old.handover now from bytes.now result reply.new self.old.done self.new.done }
+        ensures taken_in { IsTakenIn (shop B.changes B.ended B.called M.is_moment G.passed W.called) self.old.handover now from bytes.now result reply.new self.old.done self.new.done }
         ensures handover { self.new.handover ≡ self.old.handover }
     {
         let heard = self
@@ -121,27 +122,31 @@ impl<'a, B: Bench, G: Gate, W: Wire, M: Moments> Dispatcher<'a, B, G, W, M> {
     }
 
     /// Advances the front to a moment in milliseconds.
-    pub fn tick<R: Wait>(&self, rt: &R, now: u64) {
+    pub fn tick<R: Wait>(&self, rt: &R, now: u64)
+        ensures { B.called (AdvancesFront now) }
+    {
         self.workshop.bench.tick(rt, now);
     }
 
     /// Advances a shard, 0 to 7, to a moment in milliseconds: what it sends again, if anything.
     pub fn resend<R: Wait>(&self, rt: &R, shard: u8, now: u64) -> Ticked
-        ensures { IsSomeTick now result }
+        ensures ticked { IsSomeTick now result }
+        ensures called { B.called (AdvancesShard shard now result) }
     {
         self.workshop.bench.tick_shard(rt, shard, now)
     }
 
     /// Advances a shard, 0 to 7, to a moment in milliseconds where nothing is late and nobody is due. Tells whether it did.
     pub fn advance_if_quiet<R: Wait>(&self, rt: &R, shard: u8, now: u64) -> bool
-        ensures { IsSomeQuiet now result }
+        ensures quiet { IsSomeQuiet now result }
+        ensures called { B.called (AdvancesIfQuiet shard now result) }
     {
         self.workshop.bench.advance_if_quiet(rt, shard, now)
     }
 
     /// Asks a shard, 0 to 7, for the turn of the observer that is due first at a moment in milliseconds, and dispatches it. Tells whether there was one.
     pub fn notify<R: Wait>(&mut self, rt: &R, shard: u8, now: u64) -> bool
-        ensures asked { IsTurnAsked B.changes B.ended B.are_readings M.is_moment self.old.handover now result self.old.done self.new.done }
+        ensures asked { IsTurnAsked (shop B.changes B.ended B.called M.is_moment G.passed W.called) self.old.handover shard now result self.old.done self.new.done }
         ensures handover { self.new.handover ≡ self.old.handover }
     {
         match self.workshop.bench.next_due(rt, shard, now) {
@@ -156,7 +161,7 @@ impl<'a, B: Bench, G: Gate, W: Wire, M: Moments> Dispatcher<'a, B, G, W, M> {
 
     // Sends its job to the workers, or works it off.
     fn dispatch<R: Wait>(&mut self, rt: &R)
-        ensures dispatched { IsDispatched B.changes B.ended B.are_readings M.is_moment self.old.handover self.old.job self.old.done self.new.done }
+        ensures dispatched { IsDispatched (shop B.changes B.ended B.called M.is_moment G.passed W.called) self.old.handover self.old.job self.old.done self.new.done }
         ensures handover { self.new.handover ≡ self.old.handover }
     {
         let handed = self.hand_over(rt);
@@ -199,7 +204,7 @@ impl<'a, B: Bench, G: Gate, W: Wire, M: Moments> Dispatcher<'a, B, G, W, M> {
 
     // Works its job off.
     fn work<R: Wait>(&mut self, rt: &R)
-        ensures worked { IsWorkedHere B.changes B.ended B.are_readings M.is_moment self.old.job self.old.done self.new.done }
+        ensures worked { IsWorkedHere (shop B.changes B.ended B.called M.is_moment G.passed W.called) self.old.job self.old.done self.new.done }
         ensures handover { self.new.handover ≡ self.old.handover }
     {
         let done = &mut self.done;
@@ -254,8 +259,10 @@ impl<'a, B: Bench, G: Gate, W: Wire, M: Moments> Dispatcher<'a, B, G, W, M> {
     }
 
     // Hands a signal to each shard.
-    fn signal<R: Wait>(&self, rt: &R, from: Endpoint, id: u16, reset: bool) {
-        for shard in 0..SHARDS {
+    fn signal<R: Wait>(&self, rt: &R, from: Endpoint, id: u16, reset: bool)
+        ensures { AreSignalled (shop B.changes B.ended B.called M.is_moment G.passed W.called) from id reset }
+    {
+        'shards: for shard in 0..SHARDS {
             self.workshop.bench.signal(rt, shard, from, id, reset);
         }
     }

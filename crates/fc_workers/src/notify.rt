@@ -1,7 +1,8 @@
 //! Turns of observers worked off over a bench.
-ghost use Rattle.std.specs.Prelude.{◌≡◌, ◌+◌, ◌<◌, None};
+ghost use Rattle.std.specs.Prelude.{◌≡◌, ◌+◌, ◌<◌};
 ghost use Rattle.fc_workers.specs.Answers.{saturated};
-ghost use Rattle.fc_workers.specs.Outgoing.{IsNoteSent, IsFoundTold};
+ghost use Rattle.fc_workers.specs.Called.{shop};
+ghost use Rattle.fc_workers.specs.Outgoing.{IsFoundTold, IsGivenUp, IsNoteSent};
 ghost use Rattle.fc_workers.specs.Work.{IsQuiet, IsTurnWorked};
 
 use crate::bench::Bench;
@@ -26,7 +27,7 @@ impl<'a, B: Bench, G: Gate, W: Wire, M: Moments> Workshop<'a, B, G, W, M> {
         share: &mut Share<B::Tallies>,
     ) -> Option<Emission>
         requires { turn.slot < 64 }
-        ensures worked { IsTurnWorked B.changes B.are_readings M.is_moment job.now turn share.old share.new result }
+        ensures worked { IsTurnWorked (shop B.changes B.ended B.called M.is_moment G.passed W.called) job.now turn share.old share.new result }
         ensures ended { B.ended share.new.tallies ≡ saturated (B.ended share.old.tallies + 1) }
     {
         let readings = self.bench.readings(rt);
@@ -50,8 +51,8 @@ impl<'a, B: Bench, G: Gate, W: Wire, M: Moments> Workshop<'a, B, G, W, M> {
         share: &mut Share<B::Tallies>,
     ) -> Option<Emission>
         requires { turn.slot < 64 }
-        ensures told { IsFoundTold M.is_moment turn found result }
-        ensures kept { IsQuiet B.changes share.old share.new }
+        ensures told { IsFoundTold (shop B.changes B.ended B.called M.is_moment G.passed W.called) turn found result }
+        ensures kept { IsQuiet (shop B.changes B.ended B.called M.is_moment G.passed W.called) share.old share.new }
         ensures ended { B.ended share.new.tallies ≡ saturated (B.ended share.old.tallies + 1) }
     {
         let Some(id) = self.bench.fresh_id(rt, self.moments.now(rt)) else {
@@ -82,8 +83,8 @@ impl<'a, B: Bench, G: Gate, W: Wire, M: Moments> Workshop<'a, B, G, W, M> {
         share: &mut Share<B::Tallies>,
     ) -> Option<Emission>
         requires { turn.slot < 64 }
-        ensures noted { IsNoteSent M.is_moment told.now turn id result }
-        ensures kept { IsQuiet B.changes share.old share.new }
+        ensures noted { IsNoteSent (shop B.changes B.ended B.called M.is_moment G.passed W.called) told.now turn id result }
+        ensures kept { IsQuiet (shop B.changes B.ended B.called M.is_moment G.passed W.called) share.old share.new }
         ensures ended { B.ended share.new.tallies ≡ saturated (B.ended share.old.tallies + 1) }
     {
         let now = self.moments.now(rt);
@@ -97,7 +98,7 @@ impl<'a, B: Bench, G: Gate, W: Wire, M: Moments> Workshop<'a, B, G, W, M> {
         }
     }
 
-    // Gives up a turn: nothing is sent.
+    // Gives up a turn, at the moment that it is: nothing is sent.
     fn give_up<R: Wait>(
         &self,
         rt: &R,
@@ -105,8 +106,8 @@ impl<'a, B: Bench, G: Gate, W: Wire, M: Moments> Workshop<'a, B, G, W, M> {
         share: &mut Share<B::Tallies>,
     ) -> Option<Emission>
         requires { turn.slot < 64 }
-        ensures nothing { result ≡ None }
-        ensures kept { IsQuiet B.changes share.old share.new }
+        ensures given_up { IsGivenUp (shop B.changes B.ended B.called M.is_moment G.passed W.called) turn result }
+        ensures kept { IsQuiet (shop B.changes B.ended B.called M.is_moment G.passed W.called) share.old share.new }
         ensures ended { B.ended share.new.tallies ≡ saturated (B.ended share.old.tallies + 1) }
     {
         self.bench

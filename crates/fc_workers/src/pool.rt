@@ -2,6 +2,7 @@
 ghost use Rattle.std.specs.Prelude.{◌≡◌, Bool, IfOk, vec_len};
 ghost use Rattle.std.specs.List.{All};
 ghost use Rattle.fc_jobs.specs.Ends.{nothing_got, nothing_sent};
+ghost use Rattle.fc_workers.specs.Called.{shop};
 ghost use Rattle.fc_workers.specs.Shares.{AreNewSeats, AreSharesOf, IsShareOf};
 
 use crate::bench::Bench;
@@ -74,27 +75,30 @@ pub fn run_workers<
 where
     B::Tallies: Send,
     requires { All (λ s. s.got.channel ≡ jobs.now) seats.items }
-    ensures { IfOk result (λ v. AreSharesOf B.changes B.ended B.are_readings M.is_moment seats.items v.items) }
+    ensures { IfOk result (λ v. AreSharesOf (shop B.changes B.ended B.called M.is_moment G.passed W.called) seats.items v.items) }
 {
     thread::map_vec(
         rt,
         seats,
         &|seat: Seat<B::Tallies>| -> Share<B::Tallies>
             requires { seat.got.channel ≡ jobs.now }
-            ensures { IsShareOf B.changes B.ended B.are_readings M.is_moment seat result }
+            ensures { IsShareOf (shop B.changes B.ended B.called M.is_moment G.passed W.called) seat result }
         { worker(rt, workshop, jobs, seat) },
     )
 }
 
 // That a thread gives the share of the worker at each of these seats.
 #[derive(Drop)]
-struct SharesOf<B: Bench, M: Moments> {
+struct SharesOf<B: Bench, G: Gate, W: Wire, M: Moments> {
     seats: Snapshot<Vec<Seat<B::Tallies>>>,
+    gate: PhantomData<G>,
+    wire: PhantomData<W>,
     moments: PhantomData<M>,
 }
 
-impl<B: Bench, M: Moments> Promise<Result<Vec<Share<B::Tallies>>, AllocError>> for SharesOf<B, M> {
-    ghost kept_by = { λ p r. IfOk r (λ v. AreSharesOf B.changes B.ended B.are_readings M.is_moment p.seats.value.items v.items) };
+impl<B: Bench, G: Gate, W: Wire, M: Moments> Promise<Result<Vec<Share<B::Tallies>>, AllocError>>
+    for SharesOf<B, G, W, M> {
+    ghost kept_by = { λ p r. IfOk r (λ v. AreSharesOf (shop B.changes B.ended B.called M.is_moment G.passed W.called) p.seats.value.items v.items) };
 }
 
 /// Runs a worker at each seat, as `run_workers` does, and beside them a feeder, in the caller's own thread: what the feeder
@@ -124,7 +128,7 @@ where
     requires seats { All (λ s. s.got.channel ≡ jobs.now) seats.items }
     requires feed { F.IsAlwaysCallable feed }
     ensures fed { (has_workers : Bool) × F.post feed has_workers result.0 }
-    ensures shares { IfOk result.1 (λ v. AreSharesOf B.changes B.ended B.are_readings M.is_moment seats.items v.items) }
+    ensures shares { IfOk result.1 (λ v. AreSharesOf (shop B.changes B.ended B.called M.is_moment G.passed W.called) seats.items v.items) }
 {
     thread::scope(
         thread::scope_env(),
@@ -132,18 +136,20 @@ where
         move |scope| -> (X, Result<Vec<Share<B::Tallies>>, AllocError>)
             requires { All (λ s. s.got.channel ≡ jobs.now) seats.items × F.IsAlwaysCallable feed }
             ensures { ((has_workers : Bool) × F.post feed has_workers result.0)
-                × IfOk result.1 (λ v. AreSharesOf B.changes B.ended B.are_readings M.is_moment seats.items v.items) }
+                × IfOk result.1 (λ v. AreSharesOf (shop B.changes B.ended B.called M.is_moment G.passed W.called) seats.items v.items) }
         {
             let has_seats = !seats.is_empty();
-            let promise = SharesOf::<B, M> {
+            let promise = SharesOf::<B, G, W, M> {
                 seats: Snapshot::of(&seats),
+                gate: PhantomData,
+                wire: PhantomData,
                 moments: PhantomData,
             };
             let started = scope.spawn_with(
                 promise,
                 move || -> Result<Vec<Share<B::Tallies>>, AllocError>
                     requires { All (λ s. s.got.channel ≡ jobs.now) seats.items }
-                    ensures { IfOk result (λ v. AreSharesOf B.changes B.ended B.are_readings M.is_moment seats.items v.items) }
+                    ensures { IfOk result (λ v. AreSharesOf (shop B.changes B.ended B.called M.is_moment G.passed W.called) seats.items v.items) }
                 {
                     let shares = run_workers(rt, workshop, jobs, seats);
                     jobs.dismiss(rt);

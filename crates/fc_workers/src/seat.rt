@@ -2,6 +2,7 @@
 ghost use Rattle.std.specs.Prelude.{◌≡◌, ◌+◌, None, IfOk};
 ghost use Rattle.fc_core.specs.Receiving.{emission_if};
 ghost use Rattle.fc_workers.specs.Answers.{saturated};
+ghost use Rattle.fc_workers.specs.Called.{shop};
 ghost use Rattle.fc_workers.specs.Shares.{IsShareOf};
 ghost use Rattle.fc_workers.specs.Work.{IsReplied, IsRequestWorked, IsWorked};
 
@@ -52,7 +53,7 @@ pub fn worker<B: Bench, G: Gate, W: Wire, M: Moments, R: Wait>(
     seat: Seat<B::Tallies>,
 ) -> Share<B::Tallies>
     requires { seat.got.channel ≡ jobs.now }
-    ensures { IsShareOf B.changes B.ended B.are_readings M.is_moment seat result }
+    ensures { IsShareOf (shop B.changes B.ended B.called M.is_moment G.passed W.called) seat result }
 {
     let Seat {
         got,
@@ -71,7 +72,8 @@ pub fn worker<B: Bench, G: Gate, W: Wire, M: Moments, R: Wait>(
 }
 
 impl<'a, B: Bench, G: Gate, W: Wire, M: Moments> Workshop<'a, B, G, W, M> {
-    /// Works a job off under this number: it is answered, or its turn's observer is notified; and what that gives, if anything, is sent and counted.
+    /// Works a job off under this number: it is answered, or its turn's observer is notified; and what that gives, if anything, is sent under the number and
+    /// counted by whether it went out. Last, the wire is told that the job has ended.
     pub fn work<R: Wait>(
         &self,
         rt: &R,
@@ -82,7 +84,7 @@ impl<'a, B: Bench, G: Gate, W: Wire, M: Moments> Workshop<'a, B, G, W, M> {
     )
         requires { tools.old.heads.table ≡ B.heads self.now.bench.now }
         ensures heads { tools.new.heads.table ≡ tools.old.heads.table }
-        ensures worked { IsReplied B.changes B.are_readings M.is_moment job.now share.old share.new }
+        ensures worked { IsReplied (shop B.changes B.ended B.called M.is_moment G.passed W.called) number job.now share.old share.new }
         ensures ended { B.ended share.new.tallies ≡ saturated (B.ended share.old.tallies + 1) }
         ensures got { share.new.got ≡ share.old.got }
     {
@@ -104,7 +106,7 @@ impl<'a, B: Bench, G: Gate, W: Wire, M: Moments> Workshop<'a, B, G, W, M> {
     ) -> bool
         requires { tools.old.heads.table ≡ B.heads self.now.bench.now }
         ensures heads { tools.new.heads.table ≡ tools.old.heads.table }
-        ensures worked { IsWorked B.changes B.are_readings M.is_moment job.now share.old share.new (emission_if result tools.new.reply) }
+        ensures worked { IsWorked (shop B.changes B.ended B.called M.is_moment G.passed W.called) number job.now share.old share.new (emission_if result tools.new.reply) }
         ensures ended { B.ended share.new.tallies ≡ saturated (B.ended share.old.tallies + 1) }
         ensures got { share.new.got ≡ share.old.got }
     {
@@ -130,7 +132,7 @@ impl<'a, B: Bench, G: Gate, W: Wire, M: Moments> Workshop<'a, B, G, W, M> {
         requires asked { job.now.turn ≡ None }
         requires heads { tools.old.heads.table ≡ B.heads self.now.bench.now }
         ensures heads { tools.new.heads.table ≡ tools.old.heads.table }
-        ensures worked { IsRequestWorked B.changes B.are_readings M.is_moment job.now share.old share.new (emission_if result tools.new.reply) }
+        ensures worked { IsRequestWorked (shop B.changes B.ended B.called M.is_moment G.passed W.called) number job.now share.old share.new (emission_if result tools.new.reply) }
         ensures ended { B.ended share.new.tallies ≡ saturated (B.ended share.old.tallies + 1) }
         ensures got { share.new.got ≡ share.old.got }
     {

@@ -18,7 +18,7 @@ ghost use Rattle.fc_core.specs.Contents.{IsOf};
 ghost use Rattle.fc_core.specs.Receiving.{emission_if};
 ghost use Rattle.fc_registry.specs.Shards.{shard_at};
 ghost use Rattle.fc_registry.specs.Slots.{IsOwned, Shard as Seen, last_serial};
-ghost use Rattle.fc_workers.specs.Asked.{IsSomeDoing};
+ghost use Rattle.fc_workers.specs.Asked.{IsServerCall, IsSomeDoing};
 ghost use Rattle.fc_workers.specs.Naming.{AreNamed};
 ghost use Rattle.fc_workers.specs.Counts.{no_changes, serials, sums};
 ghost use Rattle.fc_workers.specs.Answers.{AreTallied, IsSomeCommit, IsSomeInstall, IsSomeNote, IsSomeReceipt, IsSomeRemoval, IsSomeTaking, IsSomeTick, IsSomeTurn, commit_changes, install_changes, removal_changes, saturated};
@@ -248,7 +248,7 @@ impl<'a, B: Books, D: Device> Locked<'a, B, D> {
 }
 
 impl<'a, B: Books, D: Device> Bench for Locked<'a, B, D> {
-    ghost are_readings = { D.are_readings };
+    ghost called = { IsServerCall D.are_readings };
 
     type Tallies = Tallies<B>;
 

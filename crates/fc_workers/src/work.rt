@@ -1,9 +1,10 @@
 //! Jobs worked off over a bench.
-ghost use Rattle.std.specs.Prelude.{◌≡◌, ◌<◌, None, length};
+ghost use Rattle.std.specs.Prelude.{◌≡◌, ◌<◌, ℕ, None, length};
 ghost use Rattle.fc_verify.specs.Judged.{judged};
 ghost use Rattle.fc_verify.specs.Accepted.{Accepts, IsAccepted};
 ghost use Rattle.fc_core.specs.Stages.{image_of};
 ghost use Rattle.fc_core.specs.declared.stage.Stage.TheVariants.{ToAnswer, ToTake, ToCommit, ToInstall, ToRemove};
+ghost use Rattle.fc_workers.specs.Called.{shop};
 ghost use Rattle.fc_workers.specs.Work.{IsWorkedOff};
 ghost use Rattle.fc_workers.specs.Steps.{IsAnswered, IsReady, IsStep, ListsOn, raised};
 
@@ -26,7 +27,8 @@ impl<'a, B: Bench, G: Gate, W: Wire, M: Moments> Workshop<'a, B, G, W, M> {
     /// Works a request's job off, up to what it is to be answered.
     ///
     /// There is a list of calls from the job's first stage to this answer. Each is the call that its stage needs, and its
-    /// answer is true of some slot; the next stage is the row of that answer. At most eight of them take. The share counts
+    /// answer is true of some slot; a look is at the head word that is needed, that word is raised to which the stage told, and before each commit the gate let
+    /// the job go on; the next stage is the row of that answer. At most eight of them take. The share counts
     /// those that changed the job's slot, those that were refused memory, and those that were overtaken.
     pub fn work_off<R: Wait>(
         &self,
@@ -39,7 +41,7 @@ impl<'a, B: Bench, G: Gate, W: Wire, M: Moments> Workshop<'a, B, G, W, M> {
         requires asked { job.now.turn ≡ None }
         requires heads { tools.old.heads.table ≡ B.heads self.now.bench.now }
         ensures heads { tools.new.heads.table ≡ tools.old.heads.table }
-        ensures worked { IsWorkedOff B.changes B.are_readings job.now result share.old share.new }
+        ensures worked { IsWorkedOff (shop B.changes B.ended B.called M.is_moment G.passed W.called) number job.now result share.old share.new }
         ensures ended { B.ended share.new.tallies ≡ B.ended share.old.tallies }
     {
         let mut stage = Stage::asked(job);
@@ -80,7 +82,7 @@ impl<'a, B: Bench, G: Gate, W: Wire, M: Moments> Workshop<'a, B, G, W, M> {
         requires seen { length seen.now.items < 64 }
         requires heads { heads.old.table ≡ B.heads self.now.bench.now }
         ensures heads { heads.new.table ≡ heads.old.table }
-        ensures listed { ListsOn seen.now.items result.items }
+        ensures listed { ListsOn B.called seen.now.items result.items }
     {
         let mut words = Words::new();
         let _fits = words.try_extend_from_slice(seen.as_slice());
@@ -94,7 +96,7 @@ impl<'a, B: Bench, G: Gate, W: Wire, M: Moments> Workshop<'a, B, G, W, M> {
     // Removes the program of the job's slot.
     #[inline(never)]
     fn remove<R: Wait>(&self, rt: &R, job: &Job, share: &mut Share<B::Tallies>) -> Stage
-        ensures step { IsStep B.changes B.are_readings job.now ToRemove result share.old share.new }
+        ensures step { (number : ℕ) → IsStep (shop B.changes B.ended B.called M.is_moment G.passed W.called) number job.now ToRemove result share.old share.new }
         ensures ended { B.ended share.new.tallies ≡ B.ended share.old.tallies }
     {
         let removal = self.bench.remove(rt, job, &mut share.tallies);
@@ -105,7 +107,7 @@ impl<'a, B: Bench, G: Gate, W: Wire, M: Moments> Workshop<'a, B, G, W, M> {
     fn take<R: Wait>(&self, rt: &R, job: &Job, count: u8, share: &mut Share<B::Tallies>) -> Stage
         requires ready { IsReady job.now (ToTake count) }
         requires asked { job.now.turn ≡ None }
-        ensures step { IsStep B.changes B.are_readings job.now (ToTake count) result share.old share.new }
+        ensures step { (number : ℕ) → IsStep (shop B.changes B.ended B.called M.is_moment G.passed W.called) number job.now (ToTake count) result share.old share.new }
         ensures ended { B.ended share.new.tallies ≡ B.ended share.old.tallies }
     {
         let readings = self.bench.readings(rt);
@@ -125,7 +127,8 @@ impl<'a, B: Bench, G: Gate, W: Wire, M: Moments> Workshop<'a, B, G, W, M> {
         share: &mut Share<B::Tallies>,
     ) -> Stage
         requires { IsReady job.now (ToCommit count ticket.now) }
-        ensures step { IsStep B.changes B.are_readings job.now (ToCommit count ticket.now) result share.old share.new }
+        ensures step { (number : ℕ) → G.passed number
+            → IsStep (shop B.changes B.ended B.called M.is_moment G.passed W.called) number job.now (ToCommit count ticket.now) result share.old share.new }
         ensures ended { B.ended share.new.tallies ≡ B.ended share.old.tallies }
     {
         let outcome = run(
@@ -146,7 +149,7 @@ impl<'a, B: Bench, G: Gate, W: Wire, M: Moments> Workshop<'a, B, G, W, M> {
     // Verifies the job's image, and installs the program.
     #[inline(never)]
     fn install<R: Wait>(&self, rt: &R, job: &Job, share: &mut Share<B::Tallies>) -> Stage
-        ensures step { IsStep B.changes B.are_readings job.now ToInstall result share.old share.new }
+        ensures step { (number : ℕ) → IsStep (shop B.changes B.ended B.called M.is_moment G.passed W.called) number job.now ToInstall result share.old share.new }
         ensures ended { B.ended share.new.tallies ≡ B.ended share.old.tallies }
     {
         match verify(self.alloc, image(&job.ask)) {
@@ -169,7 +172,7 @@ impl<'a, B: Bench, G: Gate, W: Wire, M: Moments> Workshop<'a, B, G, W, M> {
     ) -> Stage
         requires accepted { IsAccepted (image_of job.now.ask) program }
         requires judged { judged (image_of job.now.ask) ≡ Accepts program }
-        ensures step { IsStep B.changes B.are_readings job.now ToInstall result share.old share.new }
+        ensures step { (number : ℕ) → IsStep (shop B.changes B.ended B.called M.is_moment G.passed W.called) number job.now ToInstall result share.old share.new }
         ensures ended { B.ended share.new.tallies ≡ B.ended share.old.tallies }
     {
         let receipt = Receipt::of(&program, 0);

@@ -1,5 +1,6 @@
 //! What workers share.
 ghost use Rattle.std.specs.Prelude.{⊤, ℕ};
+ghost use Rattle.fc_workers.specs.Called.{EndsJob, SendsReply, WireCall};
 ghost use Rattle.fc_workers.specs.Outgoing.{GoesOut};
 
 use crate::bench::Bench;
@@ -9,19 +10,28 @@ use std::sync::Wait;
 
 /// Where a job can be held up, so that a test can let another one overtake it.
 pub trait Gate {
+    // Which jobs were let go on, by their numbers. It says of a number that a call with it came back.
+    ghost passed: { ℕ → Type 0 } = { λ _. ⊤ };
+
     /// Is called with a job's number before each of its runs: after a taking, and before the commit.
-    fn between<R: Wait>(&self, rt: &R, number: u64);
+    fn between<R: Wait>(&self, rt: &R, number: u64)
+        ensures { passed number };
 }
 
 /// Where the replies of jobs go.
 pub trait Wire {
+    // Which calls were made. It says of a call that it was made, with what it was handed and what it answered.
+    ghost called: { WireCall → Type 0 } = { λ _. ⊤ };
+
     /// Sends the reply of the job of this number: some front answers some job by it, or some shard notifies an observer. Tells whether it
     /// went out.
     fn send<R: Wait>(&self, rt: &R, number: u64, emission: &Emission) -> bool
-        requires { GoesOut emission.now };
+        requires { GoesOut emission.now }
+        ensures { called (SendsReply number emission.now result) };
 
     /// Is called last for each job, whether or not anything was sent: who waits for the job can go on.
-    fn ended<R: Wait>(&self, rt: &R, number: u64);
+    fn ended<R: Wait>(&self, rt: &R, number: u64)
+        ensures { called (EndsJob number) };
 }
 
 /// What moment it is, in milliseconds since a start of its own, and random words. It may run backwards: who is handed a moment keeps the

@@ -1,6 +1,9 @@
 use Rattle.std.proofs.Common.{◌≡◌}
+use Rattle.fc_workers.specs.Called.{shop}
 use Rattle.fc_workers.specs.Shares.{HasEnded}
 use Rattle.fc_workers.proofs.seat.worker.Given as goal
 
 abbrev pub invariant-loop : goal.invariant-loop
-invariant-loop g l = (goal.iterator-loop g).can_next l.iterator' × (goal.iterator-loop g).is_finite l.iterator' × (l.share.got.channel ≡ l.jobs) × (l.tools.heads.table ≡ l.initial.tools.heads.table) × HasEnded g.B.Bench.changes g.B.Bench.ended g.B.Bench.are_readings g.M.Moments.is_moment l.initial.share l.share
+invariant-loop g l = (goal.iterator-loop g).can_next l.iterator' × (goal.iterator-loop g).is_finite l.iterator' × (l.share.got.channel ≡ l.jobs) ×
+    (l.tools.heads.table ≡ l.initial.tools.heads.table) × HasEnded
+    (shop g.B.Bench.changes g.B.Bench.ended g.B.Bench.called g.M.Moments.is_moment g.G.Gate.passed g.W.Wire.called) l.initial.share l.share

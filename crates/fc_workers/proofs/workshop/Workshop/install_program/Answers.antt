@@ -3,14 +3,17 @@ use Rattle.fc_kinds.specs.Meaning.{Program}
 use Rattle.fc_registry.specs.declared.receipt.Receipt.{Receipt}
 use Rattle.fc_core.specs.Stages.{made}
 use Rattle.fc_workers.specs.Answers.{IsSomeInstall}
+use Rattle.fc_workers.specs.Called.{shop}
 use Rattle.fc_workers.proofs.Steps.{install_step, refuse_step}
 use Rattle.fc_workers.proofs.workshop.Workshop.install_program.Goals as goal
 
 pub returns-in-Ok-clause-step : goal.returns-in-Ok-clause-step
-returns-in-Ok-clause-step g c =
+returns-in-Ok-clause-step g c number =
     let next = c.made.ensures ∙ ap (λ (r : Receipt). made r c.install-made.result) c.of-receipt.ensures in
     let is = subst (λ (p : Program). IsSomeInstall p c.install-made.result) c.in-Ok.ensures.ok c.install-made.ensures.made in
-    install_step g.B.Bench.changes g.B.Bench.are_readings c.args.job.now c.args.program c.install-made.result c.args.share.now c.install-made.new.tallies c.requires.judged is c.install-made.ensures.changes next
+    install_step (shop g.B.Bench.changes g.B.Bench.ended g.B.Bench.called g.M.Moments.is_moment g.G.Gate.passed g.W.Wire.called) number c.args.job.now
+        c.args.program c.install-made.result c.args.share.now c.install-made.new.tallies c.requires.judged is c.install-made.ensures.changes next
 
 pub returns-clause-step : goal.returns-clause-step
-returns-clause-step g c = refuse_step g.B.Bench.changes g.B.Bench.are_readings c.args.job.now c.args.share.now c.requires.accepted.shapely.program.head c.unavailable.ensures c.count_refusal.ensures
+returns-clause-step g c number = refuse_step (shop g.B.Bench.changes g.B.Bench.ended g.B.Bench.called g.M.Moments.is_moment g.G.Gate.passed g.W.Wire.called)
+    number c.args.job.now c.args.share.now c.requires.accepted.shapely.program.head c.unavailable.ensures c.count_refusal.ensures
