@@ -9,10 +9,10 @@ from pathlib import Path
 NAME = r"[^\s(){}\[\];,.\"]+"
 TOKEN = re.compile(rf'"[^"]*"|[(){{}}\[\];,]|(?:{NAME})?(?:\.{NAME})+|{NAME}|\.')
 CLOSER = {"(": ")", "{": "}", "[": "]"}
-WORDS = {"record", "let", "in", "λ", "=", ":", "where"}
+WORDS = {"record", "let", "in", "λ", "=", ":", "where", "→", "×", "⊥", "Type", "Unit"}
 ITEM = re.compile(r"(?:(?:abbrev|unfoldable) )?pub (?:(record|data) )?(?!mod )(\S+)")
 CASE = re.compile(r"  (\S+) :")
-USE = re.compile(r"^\s*(?:ghost )?use (Rattle[\w.]+?)(?:\.\{([^}]*)\})?(?: as (\S+?))?;?$", re.M)
+USE = re.compile(r"^\s*(?:ghost )?use (\w+(?:\.\w+)+)(?:\.\{([^}]*)\})?(?: as (\S+?))?;?$", re.M)
 CODE_ITEM = re.compile(r"^(?:pub(?:\([a-z]+\))? )?(struct|enum|type|const) (\w+)", re.M)
 CONSTANT = re.compile(r"^    (?:pub(?:\([a-z]+\))? )?const (\w+)", re.M)
 IMPL = re.compile(r"^impl(?:<[^>]*>)? (Model for )?(\w+)(?:<[^>]*>)? \{\n(.*?)^\}", re.M | re.S)
@@ -32,6 +32,7 @@ class Item:
     text: str  # with the comment above it
     section: str = ""  # the last heading before it
     names: set = field(default_factory=set)  # the keys of what it names
+    fault: str = ""  # why that isn't known, if so
 
     @property
     def key(self):
@@ -68,6 +69,7 @@ class Scope:
                 self.means[other or name].append((path, name))
         named = [*self.means, *house.files[crate, module].items]
         self.operators = {next(filter(None, it.split("◌"))): it for it in named if "◌" in it}
+        self.words = {*self.means, *self.modules, *(word for it in named if "◌" in it for word in it.split("◌"))}
 
     def keys(self, name):
         """Returns the keys of what a name means; none where that is the library's, or nothing."""
@@ -80,6 +82,10 @@ class Scope:
         else:
             found = {self.house.own(self.crate, self.module, first)}
         return found - {None}
+
+    def has(self, name):
+        """Returns whether a name is brought in, or the file's own, or says a number or a text."""
+        return name in self.words or name[0] in '"0123456789' or bool(self.house.own(self.crate, self.module, name))
 
     def is_case(self, name):
         """Returns whether a name of a pattern is a case of a type, and no parameter."""
@@ -97,8 +103,12 @@ class Reader:
         self.scope, self.found = scope, set()
 
     def name(self, token, bound):
-        if token.partition(".")[0] not in {"", *bound, *WORDS}:
-            self.found |= self.scope.keys(token)
+        first = token.partition(".")[0]
+        if first in {"", *bound, *WORDS}:
+            return
+        if not self.scope.has(first):
+            raise Unknown(f"`{first}` is neither bound nor brought in")
+        self.found |= self.scope.keys(token)
 
     def pattern(self, these, bound=frozenset()):
         """Returns the names that a pattern binds."""
@@ -225,7 +235,7 @@ class Definitions:
             try:
                 {"record": read_record, "data": read_data, None: read_function}[self.kinds[name]](reader, name, lines)
             except (Unknown, ValueError, StopIteration, IndexError) as it:
-                raise Unknown(f"crates/{self.crate}/{self.module}.antt: {name}: {it}") from it
+                item.fault = f"crates/{self.crate}/{self.module}.antt: {name}: {it}"
             item.names = reader.found - {item.key}
 
 
@@ -289,8 +299,11 @@ class Code:
             text = re.sub(r"//.*", "", item.text)
             item.names = {house.of_code(self.crate, self.module, it, uses) for it in re.findall(r"\b[A-Z]\w*", text)}
             reader = Reader(Scope(house, self.crate, self.module, uses_of(self.text)))
-            for ghost in re.findall(r"ghost \w+: \{(.*?)\}", text, re.S):
-                reader.term(tokens(ghost))
+            try:
+                for ghost in re.findall(r"ghost \w+: \{(.*?)\}", text, re.S):
+                    reader.term(tokens(ghost), bound={*re.findall(r"(\w+):", text)})
+            except Unknown as it:
+                item.fault = f"crates/{self.crate}/{self.module}.rt: {name}: {it}"
             item.names = (item.names | reader.found) - {item.key, None}
 
     def read_value(self, house, item):
@@ -343,9 +356,10 @@ class House:
 
     def key(self, path, name):
         """Returns the key of what is imported from a module by this name; None where that is the library's."""
-        _, crate, _, *parts = path.split(".")
-        if crate not in self.crates:
+        root, crate, *parts = path.split(".")
+        if root != "Rattle" or crate not in self.crates:
             return None
+        parts = parts[1:]  # behind `specs`
         if parts[0] != "declared":
             found = self.own(crate, f"specs/{parts[0]}", name)
         else:
