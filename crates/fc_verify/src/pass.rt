@@ -161,9 +161,7 @@ fn pass(
     ensures stops { IfErr result (λ u. Stops vars_size code.now beginning.now inside insn.now regs.now u.known u.demand) }
 {
     match beginning {
-        Some(counted) => pass_head(
-            vars_size, code, slot, insn, counted, inside, regs, states,
-        ),
+        Some(counted) => pass_head(vars_size, code, slot, insn, counted, inside, regs, states),
         None => meet_demands(vars_size, slot, insn, inside, regs, states),
     }
 }

@@ -22,8 +22,13 @@ nothing_out e is = absurd (let n = is in cc)
 
 sent_is_note : (now : ℕ) (told : Notification) (turn : Turn) (id : ℕ) (noted : Noted) (e : Emission) → IsSomeNote now told turn id noted
     → Some e ≡ sent_of noted → IsNote e
-sent_is_note now told turn id (Send out) e note is = record { now = now; told = told; turn = turn; id = id;
-    note = subst (λ (x : Emission). IsSomeNote now told turn id (Send x)) (let n = is in cc) note }
+sent_is_note now told turn id (Send out) e note is = record {
+  now = now;
+  told = told;
+  turn = turn;
+  id = id;
+  note = subst (λ (x : Emission). IsSomeNote now told turn id (Send x)) (let n = is in cc) note;
+}
 sent_is_note now told turn id StaleNote e note is = nothing_out e is
 sent_is_note now told turn id Stranger e note is = nothing_out e is
 

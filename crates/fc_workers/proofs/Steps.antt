@@ -97,7 +97,7 @@ finding_ends None job serial ended (Some p) = refl
 pub asked_ends : (Called : BenchCall → Type 0) (job : Job) (x : Taken) (ended : ℕ) → job.turn ≡ None → IsTakingWith Called job x → ended_by x ended ≡ ended
 asked_ends Called job x ended none is =
     let found : x ≡ taking (readings_if is.2.taking.0 is.0) job is.2.slot.serial is.2.slot.present = is.2.taking.1 ∙ ap
-        (λ (o : Option ℕ). taking_of_job o (readings_if is.2.taking.0 is.0) job is.2.slot is.2.now is.2.watch) none in
+    (λ (o : Option ℕ). taking_of_job o (readings_if is.2.taking.0 is.0) job is.2.slot is.2.now is.2.watch) none in
     ap (λ (y : Taken). ended_by y ended) found ∙ finding_ends (readings_if is.2.taking.0 is.0) job is.2.slot.serial ended is.2.slot.present
 
 retaken_follows : (job : Job) (n : ℕ) (t : Ticket) (b : Bool) → nat_lt n takings ≡ b → n ≤ takings
@@ -159,8 +159,14 @@ module _ {T : Type 0} (shop : Shop T) (number : ℕ) (job : Job) where
     is = (refl, is);
     next = refl;
     follows = took_follows shop.bench job n x less is;
-    counted = record { tallies = λ shard lt. same shard lt ∙ same_tallies (shop.changes p.tallies) job.origin.slot shard lt; refusals = omega arith;
-        overtakings = omega arith; got = refl; sent = refl; failed = refl };
+    counted = record {
+      tallies = λ shard lt. same shard lt ∙ same_tallies (shop.changes p.tallies) job.origin.slot shard lt;
+      refusals = omega arith;
+      overtakings = omega arith;
+      got = refl;
+      sent = refl;
+      failed = refl;
+    };
   })
 
   pub commit_step : (n : ℕ) (t : Ticket) (x : Committed) (p : Share T) (tallies : T) {next : Stage} {after : Share T} → IsReady job (ToCommit n t)
@@ -191,8 +197,14 @@ module _ {T : Type 0} (shop : Shop T) (number : ℕ) (job : Job) where
     is = (refl, (accepted, is));
     next = refl;
     follows = made_follows job (receipt_of program 0) x;
-    counted = record { tallies = one_tallied (shop.changes p.tallies) (shop.changes tallies) job.origin.slot (install_changes x) rises; refusals = omega arith;
-        overtakings = omega arith; got = refl; sent = refl; failed = refl };
+    counted = record {
+      tallies = one_tallied (shop.changes p.tallies) (shop.changes tallies) job.origin.slot (install_changes x) rises;
+      refusals = omega arith;
+      overtakings = omega arith;
+      got = refl;
+      sent = refl;
+      failed = refl;
+    };
   })
 
   pub remove_step : (x : Removal) (p : Share T) (tallies : T) {next : Stage} → IsSomeRemoval x
@@ -203,8 +215,14 @@ module _ {T : Type 0} (shop : Shop T) (number : ℕ) (job : Job) where
     is = (refl, is);
     next = refl;
     follows = removed_follows job x;
-    counted = record { tallies = one_tallied (shop.changes p.tallies) (shop.changes tallies) job.origin.slot (removal_changes x) rises; refusals = omega arith;
-        overtakings = omega arith; got = refl; sent = refl; failed = refl };
+    counted = record {
+      tallies = one_tallied (shop.changes p.tallies) (shop.changes tallies) job.origin.slot (removal_changes x) rises;
+      refusals = omega arith;
+      overtakings = omega arith;
+      got = refl;
+      sent = refl;
+      failed = refl;
+    };
   })
 
   -- calls that change nothing and count nothing
@@ -221,13 +239,23 @@ module _ {T : Type 0} (shop : Shop T) (number : ℕ) (job : Job) where
 
   pub describe_step : (x : Option Receipt) (p : Share T) {next : Stage} → IsSomeReceipt x → next ≡ ToAnswer (told x)
       → IsStep shop number job ToDescribe next p p
-  describe_step x p is e = is_step ToDescribe e refl (record { call = Describes x; is = (refl, is); next = refl; follows = told_follows job x;
-      counted = unchanged (Describes x) p refl refl refl })
+  describe_step x p is e = is_step ToDescribe e refl (record {
+    call = Describes x;
+    is = (refl, is);
+    next = refl;
+    follows = told_follows job x;
+    counted = unchanged (Describes x) p refl refl refl;
+  })
 
   pub match_step : (word : ℕ) (p : Share T) {next : Stage} → shop.bench (LooksAt job.origin.slot word) → next ≡ matched word job.etags.items
       → IsStep shop number job ToMatch next p p
-  match_step word p looks e = is_step ToMatch e refl (record { call = Matches job.etags.items word; is = (refl, (refl, looks)); next = refl;
-      follows = matched_follows job (is_match word job.etags.items) word; counted = unchanged (Matches job.etags.items word) p refl refl refl })
+  match_step word p looks e = is_step ToMatch e refl (record {
+    call = Matches job.etags.items word;
+    is = (refl, (refl, looks));
+    next = refl;
+    follows = matched_follows job (is_match word job.etags.items) word;
+    counted = unchanged (Matches job.etags.items word) p refl refl refl;
+  })
 
   pub list_step : (seen : ArrayVec ℕ) (word : ℕ) (p : Share T) {next : Stage} → shop.bench (LooksAt (length seen.items) word) → length seen.items < 64
       → next ≡ listed (seen.items ++ word ∷ []) → IsStep shop number job (ToList seen) next p p
@@ -247,8 +275,14 @@ module _ {T : Type 0} (shop : Shop T) (number : ℕ) (job : Job) where
     is = (refl, (f, is, refl));
     next = refl;
     follows = rejected_follows job f (nat_lt (number_of f.rule) 20);
-    counted = record { tallies = same_tallies (shop.changes p.tallies) job.origin.slot; refusals = omega arith; overtakings = omega arith; got = refl;
-        sent = refl; failed = refl };
+    counted = record {
+      tallies = same_tallies (shop.changes p.tallies) job.origin.slot;
+      refusals = omega arith;
+      overtakings = omega arith;
+      got = refl;
+      sent = refl;
+      failed = refl;
+    };
   })
 
   -- memory that was refused
@@ -259,8 +293,14 @@ module _ {T : Type 0} (shop : Shop T) (number : ℕ) (job : Job) where
     is = (refl, is);
     next = refl;
     follows = record { ready = tt; fewer = omega arith; few = omega arith };
-    counted = record { tallies = same_tallies (shop.changes p.tallies) job.origin.slot; refusals = omega arith; overtakings = omega arith; got = refl;
-        sent = refl; failed = refl };
+    counted = record {
+      tallies = same_tallies (shop.changes p.tallies) job.origin.slot;
+      refusals = omega arith;
+      overtakings = omega arith;
+      got = refl;
+      sent = refl;
+      failed = refl;
+    };
   })
 
   pub raise_step : (word : ℕ) (content : Content) (p : Share T) → shop.bench (RaisesWord job.origin.slot word) → IsOf job content
@@ -270,8 +310,14 @@ module _ {T : Type 0} (shop : Shop T) (number : ℕ) (job : Job) where
     is = (refl, raises);
     next = refl;
     follows = record { ready = own; fewer = omega arith; few = omega arith };
-    counted = record { tallies = same_tallies (shop.changes p.tallies) job.origin.slot; refusals = omega arith; overtakings = omega arith; got = refl;
-        sent = refl; failed = refl };
+    counted = record {
+      tallies = same_tallies (shop.changes p.tallies) job.origin.slot;
+      refusals = omega arith;
+      overtakings = omega arith;
+      got = refl;
+      sent = refl;
+      failed = refl;
+    };
   }
 
 -- an outcome of the ticket's program, request, variables and readings is that of its run
@@ -300,8 +346,14 @@ sets_out shop number job p = record {
   stands = refl;
   ready = first_ready job job.ask job.etags.items;
   few = omega arith;
-  counted = record { tallies = same_tallies (shop.changes p.tallies) job.origin.slot; refusals = omega arith; overtakings = omega arith; got = refl;
-      sent = refl; failed = refl };
+  counted = record {
+    tallies = same_tallies (shop.changes p.tallies) job.origin.slot;
+    refusals = omega arith;
+    overtakings = omega arith;
+    got = refl;
+    sent = refl;
+    failed = refl;
+  };
 }
 
 more_calls : {T : Type 0} (shop : Shop T) (number : ℕ) (job : Job) (calls : List Call) (call : Call) → AreCalls shop number job calls

@@ -20,8 +20,12 @@ more_turns shop ns n before now after turns turn = (now, (turns, turn))
 
 -- a worker that hasn't begun
 pub sets_out : {T : Type 0} (shop : Shop T) (s : Share T) → HasEnded shop s s
-sets_out shop s = record { jobs = []; turns = no_turns shop s; got = ap (λ (l : List Numbered). record s.got { got = l }) (sym (append-nil s.got.got));
-    count = omega arith }
+sets_out shop s = record {
+  jobs = [];
+  turns = no_turns shop s;
+  got = ap (λ (l : List Numbered). record s.got { got = l }) (sym (append-nil s.got.got));
+  count = omega arith;
+}
 
 -- one job more
 pub turns_on : {T : Type 0} (shop : Shop T) (n : Numbered) (before now after : Share T) → HasEnded shop before now → IsTurn shop n now after

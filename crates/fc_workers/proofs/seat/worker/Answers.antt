@@ -8,8 +8,13 @@ use Rattle.fc_workers.proofs.Turns.{sets_out, turns_on}
 use Rattle.fc_workers.proofs.seat.worker.Goals as goal
 
 pub loop-init : goal.loop-init
-loop-init g c = (tt, tt, ap (λ (s : Share _). s.got.channel) c.new-share.ensures ∙ c.requires, refl,
-    sets_out (shop g.B.Bench.changes g.B.Bench.ended g.B.Bench.called g.M.Moments.is_moment g.G.Gate.passed g.W.Wire.called) c.new-share.result)
+loop-init g c = (
+  tt,
+  tt,
+  ap (λ (s : Share _). s.got.channel) c.new-share.ensures ∙ c.requires,
+  refl,
+  sets_out (shop g.B.Bench.changes g.B.Bench.ended g.B.Bench.called g.M.Moments.is_moment g.G.Gate.passed g.W.Wire.called) c.new-share.result,
+)
 
 pub loop-preserved : goal.loop-preserved
 loop-preserved g c =
@@ -18,6 +23,10 @@ loop-preserved g c =
     let got = c.in-Some-next.ensures.got in
     let worked = subst (λ (x : Got). IsReplied s n.number n.job (record c.loop.share { got = x }) c.work.new.share) got c.work.ensures.worked in
     let h = c.loop.invariant.4 in
-    let gets = c.work.ensures.got ∙ got in
-    (tt, tt, ap (λ (x : Got). x.channel) gets ∙ c.loop.invariant.2, c.work.ensures.heads ∙ c.loop.invariant.3,
-        turns_on s n c.new-share.result c.loop.share c.work.new.share h (record { worked = worked; ends = c.work.ensures.ended }) gets)
+    let gets = c.work.ensures.got ∙ got in (
+      tt,
+      tt,
+      ap (λ (x : Got). x.channel) gets ∙ c.loop.invariant.2,
+      c.work.ensures.heads ∙ c.loop.invariant.3,
+      turns_on s n c.new-share.result c.loop.share c.work.new.share h (record { worked = worked; ends = c.work.ensures.ended }) gets,
+    )

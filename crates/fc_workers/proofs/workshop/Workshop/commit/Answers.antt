@@ -16,4 +16,4 @@ returns-clause-step g c number passed =
     let commit = subst (λ (r : Ran). IsSomeCommit r t answer) own c.commit-committed.ensures.committed in
     let is : IsCommitted s number t answer = record { gate = passed; now = c.now-now.result; moment = c.now-now.ensures; commits = commits; commit = commit } in
     commit_step s number c.args.job.now c.args.count t answer c.args.share.now c.commit-committed.new.tallies c.requires is c.commit-committed.ensures.changes
-        c.committed.ensures c.count_commit.ensures
+    c.committed.ensures c.count_commit.ensures

@@ -12,7 +12,7 @@ returns-in-Ok-clause-step g c number =
     let next = c.made.ensures ∙ ap (λ (r : Receipt). made r c.install-made.result) c.of-receipt.ensures in
     let is = subst (λ (p : Program). IsSomeInstall p c.install-made.result) c.in-Ok.ensures.ok c.install-made.ensures.made in
     install_step (shop g.B.Bench.changes g.B.Bench.ended g.B.Bench.called g.M.Moments.is_moment g.G.Gate.passed g.W.Wire.called) number c.args.job.now
-        c.args.program c.install-made.result c.args.share.now c.install-made.new.tallies c.requires.judged is c.install-made.ensures.changes next
+    c.args.program c.install-made.result c.args.share.now c.install-made.new.tallies c.requires.judged is c.install-made.ensures.changes next
 
 pub returns-clause-step : goal.returns-clause-step
 returns-clause-step g c number = refuse_step (shop g.B.Bench.changes g.B.Bench.ended g.B.Bench.called g.M.Moments.is_moment g.G.Gate.passed g.W.Wire.called)

@@ -18,12 +18,14 @@ slots-preserved g c =
     let word = c.peek.result in
     let less : length c.slots.words.items < 64 = omega arith in
     let new : c.try_push-fits.new.self.items ≡ c.slots.words.items ++ word ∷ [] = pushed c.try_push-fits.new.self.items c.slots.words.items word
-        c.try_push-fits.result c.try_push-fits.ensures.ok c.try_push-fits.ensures.full less in
+    c.try_push-fits.result c.try_push-fits.ensures.ok c.try_push-fits.ensures.full less in
     let at : c.new-slot.result ≡ length seen + length more = c.new-slot.ensures ∙
-        (c.len-in-slots.ensures.value ∙ (ap length c.slots.invariant.2.1 ∙ length-append seen more)) in
+    (c.len-in-slots.ensures.value ∙ (ap length c.slots.invariant.2.1 ∙ length-append seen more)) in
     let looks = subst (λ (k : ℕ). g.B.Bench.called (LooksAt k word)) at c.peek.ensures.called in
     let are = new ∙ (ap (λ (ws : List ℕ). ws ++ word ∷ []) c.slots.invariant.2.1 ∙ append_assoc seen more (word ∷ [])) in
     let one = length-append c.slots.words.items (word ∷ []) in
-    let long = ap length new in
-    (ap (λ (h : HeadSeat). h.table) c.peek.ensures.seen ∙ c.slots.invariant.0, omega (arith, one, long, less),
-        (more ++ word ∷ [], are, more_seen g.B.Bench.called (length seen) word more c.slots.invariant.2.2 looks))
+    let long = ap length new in (
+      ap (λ (h : HeadSeat). h.table) c.peek.ensures.seen ∙ c.slots.invariant.0,
+      omega (arith, one, long, less),
+      (more ++ word ∷ [], are, more_seen g.B.Bench.called (length seen) word more c.slots.invariant.2.2 looks),
+    )

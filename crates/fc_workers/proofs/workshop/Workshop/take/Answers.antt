@@ -9,9 +9,9 @@ pub returns-clause-step : goal.returns-clause-step
 returns-clause-step g c number =
     let s = (shop g.B.Bench.changes g.B.Bench.ended g.B.Bench.called g.M.Moments.is_moment g.G.Gate.passed g.W.Wire.called) in
     let taking : IsTakingWith g.B.Bench.called c.args.job.now c.take-taken.result =
-        (c.readings-readings.result, c.readings-readings.ensures, c.take-taken.ensures.taken) in
+    (c.readings-readings.result, c.readings-readings.ensures, c.take-taken.ensures.taken) in
     took_step s number c.args.job.now c.args.count c.take-taken.result c.args.share.now c.take-taken.new.tallies c.requires.ready taking
-        c.take-taken.ensures.changes c.took.ensures c.count_taking.ensures
+    c.take-taken.ensures.changes c.took.ensures c.count_taking.ensures
 
 pub returns-clause-ended : goal.returns-clause-ended
 returns-clause-ended g c = ap (λ (s : Share _). g.B.Bench.ended s.tallies) c.count_taking.ensures ∙
