@@ -90,7 +90,7 @@ Tells r bytes heard = IsReadAs bytes (λ m. IsHeardAs r m heard)
 -- a response that came before is acknowledged where it asks for that
 abbrev pub AcknowledgesRepeat : (List ℕ → Type 0) → List ℕ → Heard → Type 0
 AcknowledgesRepeat went bytes Repeat = (m : Message) → reading_of bytes ≡ Ok m → m.kind ≡ Confirmable → went (message_bytes (acknowledgement m.id))
-AcknowledgesRepeat went bytes other = Unit {0}
+AcknowledgesRepeat went bytes _ = Unit {0}
 
 -- what came answers a request, in its acknowledgement, or where that is awaited in a message of its own
 abbrev pub IsAwaited : Request → Bool → Message → Type 0
