@@ -11,7 +11,7 @@ use case::{CaseError, lines_of};
 use clap::{Arg, ArgAction, Command, Error};
 use fc_cli::Status;
 use fc_cli::command_line::{VERSION, exit_code, parse, words};
-use files::{Suite, all_paths, suite_of};
+use files::{all_paths, suite_of};
 use running::{Difference, check_case};
 use std::alloc::Global;
 use std::io::{BufWriter, Write};
@@ -67,7 +67,7 @@ fn obey<R: Runtime + AllocGlobal + Threads + Wait + Sync, E: Write>(
     Ok(status)
 }
 
-// Carries out the cases of these files. It ends `Refused` where something else comes of one than it says, and `Bad` where one can't be carried out.
+// Carries out the cases of these files. It ends `Refused` where something else comes of one than it says, and at once where one can't be carried out.
 fn check_files<R: Runtime + AllocGlobal + Threads + Wait + Sync, W: Write, E: Write>(
     rt: &R,
     out: &mut W,
@@ -76,22 +76,64 @@ fn check_files<R: Runtime + AllocGlobal + Threads + Wait + Sync, W: Write, E: Wr
 ) -> anyhow::Result<Status> {
     let mut status = Status::Done;
     for path in paths.iter().copied() {
-        let Some((suite, name)) = suite_of(path) else {
-            writeln!(err, "{path}: no name of a case")?;
-            return Ok(Status::Bad);
-        };
-        let text = fs::read(rt, path)?;
-        match check_text(rt, &text, suite.command) {
-            Ok(None) => writeln!(out, "ok {name}")?,
-            Ok(Some(difference)) => {
-                status = Status::Refused;
-                writeln!(out, "differs {name}: line {}", difference.line)?;
-                difference.tell(err, name)?;
-            }
-            Err(error) => return explain(err, path, &error),
+        match check_file(rt, out, err, path)? {
+            Status::Done => {}
+            Status::Refused => status = Status::Refused,
+            ended => return Ok(ended),
         }
     }
     Ok(status)
+}
+
+// Carries out the case of this file, and prints whether that comes of it which it says.
+fn check_file<R: Runtime + AllocGlobal + Threads + Wait + Sync, W: Write, E: Write>(
+    rt: &R,
+    out: &mut W,
+    err: &mut E,
+    path: &str,
+) -> anyhow::Result<Status> {
+    match suite_of(path) {
+        Some((suite, name)) => {
+            let text = fs::read(rt, path)?;
+            tell_found(out, err, name, check_text(rt, &text, suite.command))
+        }
+        None => tell_misnamed(err, path),
+    }
+}
+
+fn tell_misnamed<E: Write>(err: &mut E, path: &str) -> anyhow::Result<Status> {
+    writeln!(err, "{path}: no name of a case")?;
+    Ok(Status::Bad)
+}
+
+// Tells what was found of a case.
+fn tell_found<W: Write, E: Write>(
+    out: &mut W,
+    err: &mut E,
+    name: &str,
+    found: Result<Option<Difference>, CaseError>,
+) -> anyhow::Result<Status> {
+    match found {
+        Ok(None) => print_agreement(out, name),
+        Ok(Some(difference)) => tell_difference(out, err, name, &difference),
+        Err(error) => explain(err, name, &error),
+    }
+}
+
+fn print_agreement<W: Write>(out: &mut W, name: &str) -> anyhow::Result<Status> {
+    writeln!(out, "ok {name}")?;
+    Ok(Status::Done)
+}
+
+fn tell_difference<W: Write, E: Write>(
+    out: &mut W,
+    err: &mut E,
+    name: &str,
+    difference: &Difference,
+) -> anyhow::Result<Status> {
+    writeln!(out, "differs {name}: line {}", difference.line)?;
+    difference.tell(err, name)?;
+    Ok(Status::Refused)
 }
 
 // Carries out the case of this text.
@@ -105,14 +147,14 @@ fn check_text<R: Runtime + AllocGlobal + Threads + Wait + Sync>(
 }
 
 // Tells why a case isn't carried out.
-fn explain<E: Write>(err: &mut E, path: &str, error: &CaseError) -> anyhow::Result<Status> {
+fn explain<E: Write>(err: &mut E, name: &str, error: &CaseError) -> anyhow::Result<Status> {
     match error {
         CaseError::Memory(_) => {
             writeln!(err, "{error}")?;
             Ok(Status::Failed)
         }
         CaseError::BadLine(_) | CaseError::BadCommand(_) => {
-            writeln!(err, "{path}: {error}")?;
+            writeln!(err, "{name}: {error}")?;
             Ok(Status::Bad)
         }
     }
