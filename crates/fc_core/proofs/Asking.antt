@@ -286,14 +286,21 @@ no_block_is r s from m j b not_get not_put =
     let second = no_block methods.Get (method_in w.asked.action) w.asked.block2 within.block2 (λ e. not_get (code ∙ ap method_code e)) in
     ap (λ (x : Job). x.block) w.is ∙ (λ i. named_block (first i) (second i))
 
+-- it is another resource than a run
+abbrev IsElsewhere : Resource → Type 0
+IsElsewhere (resources.Run n) = ⊥
+IsElsewhere other = Unit {0}
+
+elsewhere : (at : Resource) (n : ℕ) → IsElsewhere at → at ≡ resources.Run n → ⊥
+elsewhere (resources.Run m) n w e = w
+elsewhere (resources.Program m) n w e = cc e
+elsewhere resources.Core n w e = cc e
+
 -- of a run, the value of Observe counts
 observed_by : (action : Action) (n : ℕ) (value : Option ℕ) → resource_in action ≡ resources.Run n → observe_at action value ≡ value
 observed_by (actions.Get k) n value e = refl
 observed_by (actions.Post k) n value e = refl
-observed_by (actions.Install k) n value e = absurd (cc e)
-observed_by (actions.Remove k) n value e = absurd (cc e)
-observed_by (actions.Describe k) n value e = absurd (cc e)
-observed_by actions.Discover n value e = absurd (cc e)
+observed_by other n value e = absurd (elsewhere (resource_in other) n tt e)
 
 pub observe_is : (r : Entry) (s : Seen) (from : Endpoint) (m : Message) (j : Job) (code n : ℕ) → n < 64 → BringsJob r s from m j → Requests m code (run_path n) → j.observe ≡ number_in option.OBSERVE m
 observe_is r s from m j code n lt b q =
