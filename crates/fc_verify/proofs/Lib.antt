@@ -24,4 +24,3 @@ pub mod Called
 mod Rows
 mod HeadRows
 pub mod Lowered
-mod Stopping
