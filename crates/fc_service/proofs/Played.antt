@@ -1,45 +1,69 @@
 -- Lines that are played, one after the other.
-use Rattle.std.proofs.Common.{◌≡◌, ℕ, List, [], ◌∷◌, Option, Some, None, Result, Ok, refl, sym, ap, ◌∙◌, subst}
+use Rattle.std.proofs.Common.{◌≡◌, ℕ, List, [], ◌∷◌, Option, Some, Result, Ok, Err, OnOk, refl, sym, subst}
+use Rattle.std.specs.Borrow.{Bor}
 use Rattle.std.specs.Io.BufRead.{first_piece}
 use Rattle.std.specs.Io.Iter.{YieldsKnownPiece}
-use Rattle.std.specs.Io.KnownBytes.{Appends}
-use Rattle.std.proofs.lemmas.List.{append-nil}
+use Rattle.std.specs.Io.KnownBytes.{Appends, IsAtEnd}
+use Rattle.std.proofs.KnownBytes.{Appends-nil, Appends-trans}
 use Rattle.coap_msg.specs.declared.types.Emission.{Emission}
+use Rattle.coap_msg.specs.declared.types.Endpoint.{Endpoint}
 use Rattle.fc_core.specs.History.{Begins}
+use Rattle.fc_core.specs.declared.front.Heard.{Heard}
 use Rattle.fc_help.specs.Region.{no_readings}
 use Rattle.fc_lines.specs.declared.line.Line.{Line}
 use Rattle.fc_lines.specs.Lines.{IsLine}
+use Rattle.fc_observe.specs.declared.observers.Ticked.{Ticked}
 use Rattle.fc_server.specs.Serving.{Serves}
-use Rattle.fc_server.specs.States.{ServerState}
-use Rattle.fc_service.proofs.Steps.{appended}
-use Rattle.fc_service.specs.Playing.{HavePlayed, IsCarriedOut, IsNextText, IsPlayed, PlayedLine, moment_of, output_by, output_of, printed_lines, readings_after}
-use Rattle.fc_service.specs.Settling.{AreSteps, SettlingStep, printed_steps}
-
-nothing_appended : (known : Option (List ℕ)) → Appends known known []
-nothing_appended None = tt
-nothing_appended (Some xs) = sym (append-nil xs)
-
--- no line yet
-pub starts : (serial id : ℕ) (had before : Option (List ℕ)) (first : ServerState) → Serves (Begins serial id) first [] → HavePlayed serial id had had before before no_readings first
-starts serial id had before first begins = record { lines = []; first = first; begins = begins; played = refl; read = refl; printed = nothing_appended before; readings_are = refl }
-
--- a line that was read, carried out, and settled
-pub line_played : (text : List ℕ) (line : Line) (before readings : List ℕ) (now : ℕ) (old mid new : ServerState) (a b c : Option (List ℕ)) → IsLine text line → now ≡ moment_of line → readings ≡ readings_after line before → ((sent : Option Emission) × IsCarriedOut readings line old sent mid × Appends a b (output_of sent)) → ((steps : List SettlingStep) × AreSteps now 0 readings steps mid new × Appends b c (printed_steps steps)) → (p : PlayedLine) × (p.text ≡ text) × IsPlayed p old new × (p.readings ≡ readings) × (readings ≡ readings_after p.line before) × Appends a c (output_by p)
-line_played text line before readings now old mid new a b c says at reads w x = (record { text = text; line = line; readings = readings; sent = w.0; steps = x.0 }, refl, record { says = says; answered = mid; carried_out = w.1; settled = subst (λ (n : ℕ). AreSteps n 0 readings x.0 mid new) at x.1 }, refl, reads, appended a b c (output_of w.0) (printed_steps x.0) w.2 x.2)
+use Rattle.fc_server.specs.declared.engine.Notified.{Notified}
+use Rattle.fc_service.specs.Alone.{HandsAlone, HearsAlone, NotifiesAlone, PassesAlone, PassesOverAlone, ResendsAlone}
+use Rattle.fc_service.specs.Playing.{HasPlayed, IsCarriedOutBy, IsHandedBy, IsNextText, IsPlayedBy, IsPlayedOut, PlayedLine, moment_of, output_by, output_of, printed_lines}
+use Rattle.fc_service.specs.declared.alone.Alone.{Alone}
+use Rattle.fc_service.specs.Settling.{AreSettled, AreStepsBy, SettlingStep, printed_steps}
 
 -- what a reader gives next
 pub next_text : {X E : Type 0} (bytes : X → List ℕ) (byte : ℕ) (had left : Option (List ℕ)) {r : Option (Result X E)} (x : X) {text : List ℕ} → text ≡ bytes x → byte ≡ 10 → r ≡ Some (Ok x) → YieldsKnownPiece bytes (first_piece byte) byte had r left → IsNextText text had left
 next_text {X} {E} bytes byte had left x same ten is y = subst (λ (t : List ℕ). IsNextText t had left) (sym same) (subst (λ (b : ℕ). YieldsKnownPiece {E = E} bytes (first_piece b) b had (Some (Ok x)) left) ten (subst (λ (r : Option (Result X E)). YieldsKnownPiece bytes (first_piece byte) byte had r left) is y))
 
--- one line more
-pub plays_on : (serial id : ℕ) (had mid left before now after : Option (List ℕ)) (readings later : List ℕ) (old new : ServerState) (text : List ℕ) → HavePlayed serial id had mid before now readings old → IsNextText text mid left
-    → ((p : PlayedLine) × (p.text ≡ text) × IsPlayed p old new × (p.readings ≡ later) × (later ≡ readings_after p.line readings) × Appends now after (output_by p)) → HavePlayed serial id had left before after later new
-plays_on serial id had mid left before now after readings later old new text h next x = record {
-  lines = x.0 ∷ h.lines;
-  first = h.first;
-  begins = h.begins;
-  played = (old, h.played, x.2, x.3 ∙ (x.4 ∙ ap (readings_after x.0.line) h.readings_are));
-  read = (mid, h.read, subst (λ (t : List ℕ). IsNextText t mid left) (sym x.1) next);
-  printed = appended before now after (printed_lines h.lines) (output_by x.0) h.printed x.5;
-  readings_are = sym x.3;
-}
+module _ {S : Type 0} (Hands : List ℕ → S → S → Type 0)
+    (Hears : ℕ → Endpoint → Bor (List ℕ) → S → S → Heard → Emission → Type 0) (Passes : ℕ → S → S → Type 0)
+    (Resends : ℕ → ℕ → S → S → Ticked → Type 0) (PassesOver : ℕ → ℕ → S → S → Type 0) (Notifies : ℕ → ℕ → S → S → Notified → Type 0) where
+  -- no line yet
+  pub no_lines : (s : S) (had before : Option (List ℕ)) → HasPlayed Hands Hears Passes Resends PassesOver Notifies s s had had before before
+  no_lines s had before = record { lines = []; played = refl; read = refl; printed = Appends-nil before }
+
+  -- a line that was read, carried out, and settled
+  pub line_played : (text : List ℕ) (line : Line) (now : ℕ) (old handed mid new : S) (a b c : Option (List ℕ)) → IsLine text line → now ≡ moment_of line
+      → IsHandedBy Hands Hears Passes Resends PassesOver Notifies line old handed
+      → ((sent : Option Emission) × IsCarriedOutBy Hands Hears Passes Resends PassesOver Notifies line handed sent mid × Appends a b (output_of sent))
+      → ((steps : List SettlingStep) × AreStepsBy Resends PassesOver Notifies now steps mid new × (AreSettled steps × Appends b c (printed_steps steps)))
+      → (p : PlayedLine) × (p.text ≡ text) × IsPlayedBy Hands Hears Passes Resends PassesOver Notifies p old new × Appends a c (output_by p)
+  line_played text line now old handed mid new a b c says at hands w x = (
+    record { text = text; line = line; sent = w.0; steps = x.0 },
+    refl,
+    record {
+      says = says;
+      handed = handed;
+      hands = hands;
+      answered = mid;
+      carried_out = w.1;
+      steps = subst (λ (n : ℕ). AreStepsBy Resends PassesOver Notifies n x.0 mid new) at x.1;
+      settled = x.2.0;
+    },
+    Appends-trans a b c (output_of w.0) (printed_steps x.0) w.2 x.2.1,
+  )
+
+  -- one line more
+  pub plays_on : (first old new : S) (had mid left before now after : Option (List ℕ)) (text : List ℕ) → HasPlayed Hands Hears Passes Resends PassesOver Notifies first old had mid before now → IsNextText text mid left
+      → ((p : PlayedLine) × (p.text ≡ text) × IsPlayedBy Hands Hears Passes Resends PassesOver Notifies p old new × Appends now after (output_by p)) → HasPlayed Hands Hears Passes Resends PassesOver Notifies first new had left before after
+  plays_on first old new had mid left before now after text h next x = record {
+    lines = x.0 ∷ h.lines;
+    played = (old, h.played, x.2);
+    read = (mid, h.read, subst (λ (t : List ℕ). IsNextText t mid left) (sym x.1) next);
+    printed = Appends-trans before now after (printed_lines h.lines) (output_by x.0) h.printed x.3;
+  }
+
+-- on one thread
+pub played_out : {A E : Type 0} (serial id : ℕ) (first last : Alone) (had before after : Option (List ℕ)) (r : Result A E) → Serves (Begins serial id) first.engine [] → first.handed ≡ record { readings = no_readings; random = 0 }
+    → OnOk r ((left : Option (List ℕ)) × HasPlayed HandsAlone HearsAlone PassesAlone ResendsAlone PassesOverAlone NotifiesAlone first last had left before after × IsAtEnd left) → OnOk r (IsPlayedOut serial id had before after)
+played_out serial id first last had before after (Ok x) begins handed w = record { first = first; last = last; begins = begins; handed = handed; left = w.0; played = w.1; end = w.2 }
+played_out serial id first last had before after (Err e) begins handed w = tt

@@ -1,55 +1,90 @@
--- Lists of steps on a server, and what is printed of them.
-use Rattle.std.proofs.Common.{◌≡◌, ℕ, Bool, List, [], ◌∷◌, ◌++◌, Option, Some, None, sym, ap, ◌∙◌, subst}
-use Rattle.std.specs.Option.{option_to_list}
-use Rattle.std.specs.Prelude.{flat_map}
-use Rattle.std.specs.Io.KnownBytes.{Appends}
-use Rattle.std.proofs.lemmas.List.{append-nil, append_assoc}
-use Rattle.std.proofs.lemmas.Grind.{flat_map-append}
-use Rattle.coap_msg.specs.declared.types.Emission.{Emission}
-use Rattle.fc_lines.specs.Emissions.{printed}
-use Rattle.fc_service.specs.Settling.{AreStepsBy, IsStepBy, SettlingStep, StepsSend, printed_steps, sent_in_step, sent_in_steps}
+-- Steps that lead from one place to the next, until all is settled.
+use Rattle.std.proofs.Common.{◌≡◌, ℕ, suc, add-one, ◌+◌, ◌<◌, ◌≤◌, Bool, true, false, List, [], ◌∷◌, ◌++◌, length, append-nil, append_assoc, arith, ap, sym, refl, ◌∙◌, inl, inr}
+use Rattle.std.specs.Prelude.{◌||◌, ◌⊎◌, if◌then◌else◌}
+use Rattle.std.specs.List.{list_any}
+use Rattle.std.proofs.Math.Bool.{or-true}
+use Rattle.fc_observe.specs.declared.observers.Ticked.{Ticked}
+use Rattle.fc_observe.specs.declared.observers.Ticked.TheVariants.{Quiet}
+use Rattle.fc_server.specs.declared.engine.Notified.{Notified}
+use Rattle.fc_server.specs.declared.engine.Notified.TheVariants.{Nobody, Starved}
+use Rattle.fc_service.specs.Settling.{AreSettled, AreStepsTo, Asked, Finding, IsPlace, IsStepBy, Moves, NobodyDue, NothingLate, Passed, Resent, SettlingStep, found_at, found_below, found_in_step, found_in_steps, is_starved}
+use Rattle.fc_service.specs.declared.settle.Settling.{Settling}
 
-pub sent_joined : (xs ys : List SettlingStep) → sent_in_steps (xs ++ ys) ≡ sent_in_steps ys ++ sent_in_steps xs
-sent_joined [] ys = sym (append-nil (sent_in_steps ys))
-sent_joined (x ∷ xs) ys = ap (λ (l : List Emission). l ++ option_to_list (sent_in_step x)) (sent_joined xs ys) ∙ append_assoc (sent_in_steps ys) (sent_in_steps xs) (option_to_list (sent_in_step x))
+-- ---- one step
 
-pub appended : (a b c : Option (List ℕ)) (x y : List ℕ) → Appends a b x → Appends b c y → Appends a c (x ++ y)
-appended None b c x y v w = tt
-appended (Some xs) None c x y v w = absurd v
-appended (Some xs) (Some ys) None x y v w = absurd w
-appended (Some xs) (Some ys) (Some zs) x y v w = w ∙ (ap (λ (l : List ℕ). l ++ y) v ∙ append_assoc xs x y)
+at_place : (s : Settling) (k : ℕ) (b : Bool) → s.shard ≡ k → s.notifies ≡ b → found_at s ≡ found_below k ++ (if b then NothingLate k ∷ [] else [])
+at_place s k b shard notifies = λ i. found_below (shard i) ++ (if notifies i then NothingLate (shard i) ∷ [] else [])
 
--- of a server, by what it does at a shard
-module _ {S : Type 0} (Resends : ℕ → ℕ → S → S → Option Emission → Type 0) (Notifies : ℕ → ℕ → S → S → Bool → Option Emission → Type 0) where
-  -- steps with what was printed of them
-  abbrev pub Printing : ℕ → S → S → Option (List ℕ) → Option (List ℕ) → Type 0
-  Printing now old new a b = (steps : List SettlingStep) × AreStepsBy Resends Notifies now steps old new × Appends a b (printed_steps steps)
+at_next : (s : Settling) (k : ℕ) → s.shard ≡ k + 1 → s.notifies ≡ false → found_at s ≡ found_below k ++ (NothingLate k ∷ NobodyDue k ∷ [])
+at_next s k next late = at_place s (suc k) false (next ∙ add-one k) late ∙ append-nil (found_below (suc k))
 
-  -- one step after steps that sent nothing
-  pub then_step : (now : ℕ) (old mid new : S) (out : Option Emission) → StepsSend Resends Notifies now old mid [] → ((step : SettlingStep) × IsStepBy Resends Notifies now step mid new × (sent_in_step step ≡ out)) → StepsSend Resends Notifies now old new (option_to_list out)
-  then_step now old mid new out w x = (x.0 ∷ w.0, (mid, x.1, w.1), λ i. w.2 i ++ option_to_list (x.2 i))
+is_place : (s : Settling) → s.shard < 8 → IsPlace s
+is_place s is = (omega (arith, is), λ end. absurd (omega (arith, is, end)))
 
-  pub joined : (now : ℕ) (old mid new : S) (xs ys : List SettlingStep) → AreStepsBy Resends Notifies now xs mid new → AreStepsBy Resends Notifies now ys old mid → AreStepsBy Resends Notifies now (xs ++ ys) old new
-  joined now old mid new [] ys is w = subst (AreStepsBy Resends Notifies now ys old) (sym is) w
-  joined now old mid new (x ∷ xs) ys is w = (is.0, is.1, joined now old mid is.0 xs ys is.2 w)
+is_next_place : (from to : Settling) → from.shard < 8 → to.shard ≡ from.shard + 1 → to.notifies ≡ false → IsPlace to
+is_next_place from to is next late = (omega (arith, is, next), λ end. late)
 
-  -- steps, and others after them
-  pub joined_steps : (now : ℕ) (old mid new : S) → ((steps : List SettlingStep) × AreStepsBy Resends Notifies now steps old mid) → ((steps : List SettlingStep) × AreStepsBy Resends Notifies now steps mid new) → (steps : List SettlingStep) × AreStepsBy Resends Notifies now steps old new
-  joined_steps now old mid new w x = (x.0 ++ w.0, joined now old mid new x.0 w.0 x.1 w.1)
+-- nothing was found, and it stays
+pub stays : (s : Settling) (step : SettlingStep) → s.shard < 8 → found_in_step step ≡ [] → Moves s step s
+stays s step is none = (is_place s is, inl (ap (λ (l : List Finding). found_at s ++ l) none ∙ append-nil (found_at s)))
 
-  -- steps after steps that sent nothing
-  pub then_steps : (now : ℕ) (old mid new : S) (out : Option Emission) → StepsSend Resends Notifies now old mid [] → StepsSend Resends Notifies now mid new (option_to_list out) → StepsSend Resends Notifies now old new (option_to_list out)
-  then_steps now old mid new out w x = (x.0 ++ w.0, joined now old mid new x.0 w.0 x.1 w.1, sent_joined x.0 w.0 ∙ (ap (λ (l : List Emission). l ++ sent_in_steps x.0) w.2 ∙ x.2))
+-- nothing is late: its observers are next
+pub finds_nothing_late : (from to : Settling) → from.shard < 8 → from.notifies ≡ false → to.shard ≡ from.shard → to.notifies ≡ true → Moves from (Resent from.shard Quiet) to
+finds_nothing_late from to is late same due = (
+  is_place to (omega (arith, is, same)),
+  inl (ap (λ (l : List Finding). l ++ (NothingLate from.shard ∷ [])) (at_place from from.shard false refl late ∙ append-nil (found_below from.shard)) ∙ sym (at_place to from.shard true same due)),
+)
 
-  -- what is printed after steps, and after those that sent one emission more
-  pub then_printed : (now : ℕ) (old mid new : S) (a b c : Option (List ℕ)) (e : Emission) → Printing now old mid a b → StepsSend Resends Notifies now mid new (e ∷ []) → Appends b c (printed e) → Printing now old new a c
-  then_printed now old mid new a b c e w x more =
-      let one : printed_steps x.0 ≡ printed e = ap (flat_map printed) x.2 ∙ append-nil (printed e) in
-      let all : printed_steps (x.0 ++ w.0) ≡ printed_steps w.0 ++ printed_steps x.0 = ap (flat_map printed) (sent_joined x.0 w.0) ∙ flat_map-append printed (sent_in_steps w.0) (sent_in_steps x.0) in
-      (x.0 ++ w.0, joined now old mid new x.0 w.0 x.1 w.1, subst (Appends a c) (ap (λ (l : List ℕ). printed_steps w.0 ++ l) (sym one) ∙ sym all) (appended a b c (printed_steps w.0) (printed e) w.2 more))
+-- nothing is late, and nobody due: the next shard is next
+pub passes_over : (from to : Settling) → from.shard < 8 → from.notifies ≡ false → to.shard ≡ from.shard + 1 → to.notifies ≡ false → Moves from (Passed from.shard) to
+passes_over from to is late next later = (
+  is_next_place from to is next later,
+  inl (ap (λ (l : List Finding). l ++ (NothingLate from.shard ∷ NobodyDue from.shard ∷ [])) (at_place from from.shard false refl late ∙ append-nil (found_below from.shard))
+      ∙ sym (at_next to from.shard next later)),
+)
 
-  -- and after those that sent nothing
-  pub then_nothing : (now : ℕ) (old mid new : S) (a b : Option (List ℕ)) → Printing now old mid a b → StepsSend Resends Notifies now mid new [] → Printing now old new a b
-  then_nothing now old mid new a b w x =
-      let all : printed_steps (x.0 ++ w.0) ≡ printed_steps w.0 = ap (flat_map printed) (sent_joined x.0 w.0 ∙ (ap (λ (l : List Emission). sent_in_steps w.0 ++ l) x.2 ∙ append-nil (sent_in_steps w.0))) in
-      (x.0 ++ w.0, joined now old mid new x.0 w.0 x.1 w.1, subst (Appends a b) (sym all) w.2)
+-- nobody is due: the next shard is next
+pub finds_nobody : (from to : Settling) → from.shard < 8 → from.notifies ≡ true → to.shard ≡ from.shard + 1 → to.notifies ≡ false → Moves from (Asked from.shard Nobody) to
+finds_nobody from to is due next later =
+    let k = from.shard in (
+      is_next_place from to is next later,
+      inl (ap (λ (l : List Finding). l ++ (NobodyDue k ∷ [])) (at_place from k true refl due)
+          ∙ (append_assoc (found_below k) (NothingLate k ∷ []) (NobodyDue k ∷ []) ∙ sym (at_next to k next later))),
+    )
+
+-- no message id is free: it goes to the end
+pub starves : (from to : Settling) (k : ℕ) → to.shard ≡ 8 → to.notifies ≡ false → Moves from (Asked k Starved) to
+starves from to k end late = ((omega (arith, end), λ at. late), inr refl)
+
+-- ---- steps
+
+found_more : (from to : Settling) (steps : List SettlingStep) (step : SettlingStep) → (found_in_steps steps ≡ found_at from) ⊎ (list_any is_starved steps ≡ true) → (found_at from ++ found_in_step step ≡ found_at to) ⊎ (is_starved step ≡ true)
+    → (found_in_steps (step ∷ steps) ≡ found_at to) ⊎ (list_any is_starved (step ∷ steps) ≡ true)
+found_more from to steps step (inl w) (inl m) = inl (ap (λ (l : List Finding). l ++ found_in_step step) w ∙ m)
+found_more from to steps step (inl w) (inr m) = inr (ap (λ (b : Bool). b || list_any is_starved steps) m)
+found_more from to steps step (inr w) m = inr (ap (λ (b : Bool). is_starved step || b) w ∙ or-true (is_starved step))
+
+found_all : (s : Settling) → IsPlace s → 8 ≤ s.shard → found_at s ≡ found_below 8
+found_all s is end = let at : s.shard ≡ 8 = omega (arith, is.0, end) in at_place s 8 false at (is.1 at) ∙ append-nil (found_below 8)
+
+settled_by : (s : Settling) (steps : List SettlingStep) → found_at s ≡ found_below 8 → (found_in_steps steps ≡ found_at s) ⊎ (list_any is_starved steps ≡ true) → AreSettled steps
+settled_by s steps all (inl w) = inl (w ∙ all)
+settled_by s steps all (inr w) = inr (inl w)
+
+-- all is settled at the end
+pub settled_at_end : (s : Settling) (steps : List SettlingStep) → IsPlace s → (found_in_steps steps ≡ found_at s) ⊎ (list_any is_starved steps ≡ true) → 8 ≤ s.shard → AreSettled steps
+settled_at_end s steps is w end = settled_by s steps (found_all s is end) w
+
+-- and where there were as many steps as there may be
+pub settled_at_bound : (steps : List SettlingStep) → 8192 ≤ length steps → AreSettled steps
+settled_at_bound steps many = inr (inr many)
+
+module _ {S : Type 0} (Resends : ℕ → ℕ → S → S → Ticked → Type 0) (PassesOver : ℕ → ℕ → S → S → Type 0) (Notifies : ℕ → ℕ → S → S → Notified → Type 0) where
+  -- no step yet
+  pub no_steps : (now : ℕ) (old : S) (s : Settling) → s.shard ≡ 0 → s.notifies ≡ false → AreStepsTo Resends PassesOver Notifies now [] old old s
+  no_steps now old s first late = (refl, is_place s (omega (arith, first)), inl (sym (at_place s 0 false first late)))
+
+  -- one step more
+  pub one_step : (now : ℕ) (old mid new : S) (from to : Settling) (steps : List SettlingStep) (step : SettlingStep) → AreStepsTo Resends PassesOver Notifies now steps old mid from
+      → IsStepBy Resends PassesOver Notifies now step mid new → Moves from step to → AreStepsTo Resends PassesOver Notifies now (step ∷ steps) old new to
+  one_step now old mid new from to steps step w is m = ((mid, is, w.0), m.0, found_more from to steps step w.2 m.1)

@@ -1,19 +1,29 @@
--- What a server on one thread does where it is fed, with what its jobs are handed, which no call changes. Which shard is asked is taken modulo 8.
-use Rattle.std.specs.Prelude.{◌≡◌, ◌%◌, ℕ, Bool, true, false, List, Option}
+-- What a server on one thread does where it is fed, with what its jobs are handed. Which shard is asked is taken modulo 8.
+use Rattle.std.specs.Prelude.{◌≡◌, ◌%◌, ℕ, true, List, None}
 use Rattle.std.specs.Borrow.{Bor}
 use Rattle.coap_msg.specs.declared.types.Emission.{Emission}
 use Rattle.coap_msg.specs.declared.types.Endpoint.{Endpoint}
 use Rattle.fc_core.specs.Exchanges.{advanced}
+use Rattle.fc_core.specs.Legal.{resent}
 use Rattle.fc_core.specs.Receiving.{delivered, emission_if}
 use Rattle.fc_core.specs.declared.front.Heard.{Heard}
-use Rattle.fc_core.specs.declared.front.Heard.TheVariants.{Reply}
+use Rattle.fc_observe.specs.declared.observers.Ticked.{Ticked}
+use Rattle.fc_server.specs.Notified.{is_given, notification_in}
 use Rattle.fc_server.specs.Serving.{AsksForTurn, Hears, Passes, TicksShard}
+use Rattle.fc_server.specs.declared.engine.Notified.{Notified}
+use Rattle.fc_service.specs.Clocks.{device_readings}
+use Rattle.fc_service.specs.Intakes.{is_reply}
 use Rattle.fc_service.specs.declared.alone.Alone.{Alone}
+use Rattle.fc_registry.specs.Shards.{shard_at}
+use Rattle.fc_registry.specs.Watches.{handed as handed_moment, is_quiet}
 
--- what was written is to be sent
-abbrev pub is_reply : Heard → Bool
-is_reply Reply = true
-is_reply other = false
+-- these readings are handed from now on, and zero for the random word
+abbrev pub HandsAlone : List ℕ → Alone → Alone → Type 0
+HandsAlone readings old new = (new.engine ≡ old.engine) × (new.handed ≡ record { readings = readings; random = 0 })
+
+-- the readings of a moment, and of what the sensors say, are handed from now on, and the low bits of the moment for the random word
+abbrev pub ReadiesAlone : (List ℕ → Type 0) → ℕ → Alone → Alone → Type 0
+ReadiesAlone sensors now old new = (sensed : List ℕ) × sensors sensed × (new.engine ≡ old.engine) × (new.handed ≡ record { readings = device_readings now sensed; random = now % 65536 })
 
 abbrev pub HearsAlone : ℕ → Endpoint → Bor (List ℕ) → Alone → Alone → Heard → Emission → Type 0
 HearsAlone now from bytes old new heard reply =
@@ -22,8 +32,13 @@ HearsAlone now from bytes old new heard reply =
 abbrev pub PassesAlone : ℕ → Alone → Alone → Type 0
 PassesAlone now old new = Passes now old.engine new.engine × (new.handed ≡ old.handed)
 
-abbrev pub ResendsAlone : ℕ → ℕ → Alone → Alone → Option Emission → Type 0
-ResendsAlone shard now old new sent = TicksShard (shard % 8) now old.engine new.engine sent × (new.handed ≡ old.handed)
+abbrev pub ResendsAlone : ℕ → ℕ → Alone → Alone → Ticked → Type 0
+ResendsAlone shard now old new ticked = TicksShard (shard % 8) now old.engine new.engine (resent ticked) × (new.handed ≡ old.handed)
 
-abbrev pub NotifiesAlone : ℕ → ℕ → Alone → Alone → Bool → Option Emission → Type 0
-NotifiesAlone shard now old new given sent = AsksForTurn old.handed.readings (shard % 8) now old.handed.random old.engine new.engine given sent × (new.handed ≡ old.handed)
+abbrev pub PassesOverAlone : ℕ → ℕ → Alone → Alone → Type 0
+PassesOverAlone shard now old new =
+    (is_quiet (handed_moment (shard_at old.engine.shards (shard % 8)) now) ≡ true) × TicksShard (shard % 8) now old.engine new.engine None × (new.handed ≡ old.handed)
+
+abbrev pub NotifiesAlone : ℕ → ℕ → Alone → Alone → Notified → Type 0
+NotifiesAlone shard now old new told =
+    AsksForTurn old.handed.readings (shard % 8) now old.handed.random old.engine new.engine (is_given told) (notification_in told) × (new.handed ≡ old.handed)

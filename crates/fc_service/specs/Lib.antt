@@ -1,6 +1,8 @@
+pub mod Intakes
 pub mod Alone
 pub mod Clocks
 pub mod Counting
-pub mod Playing
+pub mod Traffic
 pub mod Settling
+pub mod Playing
 pub mod Rounds

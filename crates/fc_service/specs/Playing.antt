@@ -5,48 +5,30 @@ use Rattle.std.specs.Io.BufRead.{DropsThrough, first_piece}
 use Rattle.std.specs.Io.KnownBytes.{Appends, IsAtEnd}
 use Rattle.coap_msg.specs.declared.types.Endpoint.{Endpoint}
 use Rattle.coap_msg.specs.declared.types.Emission.{Emission}
-use Rattle.fc_core.specs.Exchanges.{advanced}
 use Rattle.fc_core.specs.History.{Begins}
-use Rattle.fc_core.specs.Receiving.{delivered}
+use Rattle.fc_core.specs.declared.front.Heard.{Heard}
 use Rattle.fc_help.specs.Region.{no_readings}
-use Rattle.fc_server.specs.Serving.{Hears, Passes, Serves}
-use Rattle.fc_server.specs.States.{ServerState}
+use Rattle.fc_observe.specs.declared.observers.Ticked.{Ticked}
+use Rattle.fc_server.specs.Serving.{Serves}
+use Rattle.fc_server.specs.declared.engine.Notified.{Notified}
 use Rattle.fc_lines.specs.declared.line.Line.{Line}
 use Rattle.fc_lines.specs.declared.line.Line.TheVariants.{Deliver, Device, Tick}
 use Rattle.fc_lines.specs.Emissions.{endpoint_of, printed}
 use Rattle.fc_lines.specs.Lines.{IsLine}
-use Rattle.fc_service.specs.Settling.{AreSteps, SettlingStep, printed_steps}
+use Rattle.fc_service.specs.Alone.{HandsAlone, HearsAlone, NotifiesAlone, PassesAlone, PassesOverAlone, ResendsAlone}
+use Rattle.fc_service.specs.Intakes.{IsHeardBy}
+use Rattle.fc_service.specs.Settling.{AreSettled, AreStepsBy, SettlingStep, printed_steps}
+use Rattle.fc_service.specs.declared.alone.Alone.{Alone}
 
 -- what is printed of what is sent
 abbrev pub output_of : Option Emission → List ℕ
 output_of None = []
 output_of (Some emission) = printed emission
 
--- a datagram of these bytes was heard, whatever the history so far, and this was sent; its job's taking was handed these readings
-pub record IsHeard (readings : List ℕ) (now : ℕ) (from : Endpoint) (bytes : List ℕ) (old : ServerState) (sent : Option Emission) (new : ServerState) : Type 0 where
-  pub borrow : Bor (List ℕ)
-  pub bytes_are : borrow.now ≡ bytes
-  pub heard : Hears readings now from borrow (delivered (advanced old.front now) from bytes) old new sent
-
--- time passed, whatever the history so far, and nothing was sent
-pub record IsPassed (now : ℕ) (old : ServerState) (sent : Option Emission) (new : ServerState) : Type 0 where
-  pub nothing : sent ≡ None
-  pub passed : Passes now old new
-
--- a line was carried out, and this was sent
-abbrev pub IsCarriedOut : List ℕ → Line → ServerState → Option Emission → ServerState → Type 0
-IsCarriedOut readings (Deliver now peer bytes) old sent new = IsHeard readings now (endpoint_of peer) bytes.items old sent new
-IsCarriedOut readings (Tick now) old sent new = IsPassed now old sent new
-IsCarriedOut readings (Device now given) old sent new = IsPassed now old sent new
-
--- ---- lines that are played
-
--- a line that was played: its text, what it says, the readings that its takings were handed, what it was answered, and the steps that
--- followed
+-- a line that was played: its text, what it says, what it was answered, and the steps that followed
 pub record PlayedLine : Type 0 where
   pub text : List ℕ
   pub line : Line
-  pub readings : List ℕ
   pub sent : Option Emission
   pub steps : List SettlingStep
 
@@ -54,36 +36,17 @@ pub record PlayedLine : Type 0 where
 abbrev pub output_by : PlayedLine → List ℕ
 output_by p = output_of p.sent ++ printed_steps p.steps
 
+-- what lines printed, the oldest first, where the newest line is first
+abbrev pub printed_lines : List PlayedLine → List ℕ
+printed_lines [] = []
+printed_lines (p ∷ ps) = printed_lines ps ++ output_by p
+
 abbrev pub moment_of : Line → ℕ
 moment_of (Deliver now peer bytes) = now
 moment_of (Tick now) = now
 moment_of (Device now readings) = now
 
--- the readings from a line on, and those after lines, the newest first
-abbrev pub readings_after : Line → List ℕ → List ℕ
-readings_after (Device now readings) before = readings
-readings_after other before = before
-
-abbrev pub readings_at : List PlayedLine → List ℕ
-readings_at [] = no_readings
-readings_at (p ∷ ps) = p.readings
-
--- the text says the line, which was carried out; then what was late was sent again, and observers were notified
-pub record IsPlayed (p : PlayedLine) (old new : ServerState) : Type 0 where
-  pub says : IsLine p.text p.line
-  pub answered : ServerState
-  pub carried_out : IsCarriedOut p.readings p.line old p.sent answered
-  pub settled : AreSteps (moment_of p.line) 0 p.readings p.steps answered new
-
--- lines that were played one after the other, the newest first
-abbrev pub ArePlayed : List PlayedLine → ServerState → ServerState → Type 0
-ArePlayed [] old new = new ≡ old
-ArePlayed (p ∷ ps) old new = (mid : ServerState) × ArePlayed ps old mid × IsPlayed p mid new × (p.readings ≡ readings_after p.line (readings_at ps))
-
--- what they printed, the oldest first
-abbrev pub printed_lines : List PlayedLine → List ℕ
-printed_lines [] = []
-printed_lines (p ∷ ps) = printed_lines ps ++ output_by p
+-- ---- what is read
 
 -- a text is what stands before the first line feed of the bytes that a reader had, where they are known; it and the line feed were read
 abbrev pub IsNextText : List ℕ → Option (List ℕ) → Option (List ℕ) → Type 0
@@ -94,21 +57,51 @@ abbrev pub AreRead : List PlayedLine → Option (List ℕ) → Option (List ℕ)
 AreRead [] had left = left ≡ had
 AreRead (p ∷ ps) had left = (mid : Option (List ℕ)) × AreRead ps had mid × IsNextText p.text mid left
 
--- lines were read, and played on one server, which began at this serial and message id; and just what they sent was printed; these are
--- the readings then
-pub record HavePlayed (serial id : ℕ) (had left before after : Option (List ℕ)) (readings : List ℕ) (last : ServerState) : Type 0 where
-  pub lines : List PlayedLine
-  pub first : ServerState
-  pub begins : Serves (Begins serial id) first []
-  pub played : ArePlayed lines first last
-  pub read : AreRead lines had left
-  pub printed : Appends before after (printed_lines lines)
-  pub readings_are : readings ≡ readings_at lines
+-- ---- of a server, by what each call does to it; the first hands readings to its jobs
+module _ {S : Type 0} (Hands : List ℕ → S → S → Type 0)
+    (Hears : ℕ → Endpoint → Bor (List ℕ) → S → S → Heard → Emission → Type 0) (Passes : ℕ → S → S → Type 0)
+    (Resends : ℕ → ℕ → S → S → Ticked → Type 0) (PassesOver : ℕ → ℕ → S → S → Type 0) (Notifies : ℕ → ℕ → S → S → Notified → Type 0) where
+  -- the readings that a line tells are handed from then on
+  abbrev pub IsHandedBy : Line → S → S → Type 0
+  IsHandedBy (Device now readings) old new = Hands readings old new
+  IsHandedBy other old new = new ≡ old
 
--- all that a reader had was played
+  -- a line's datagram was heard, and this was to be sent at once; or time passed
+  abbrev pub IsCarriedOutBy : Line → S → Option Emission → S → Type 0
+  IsCarriedOutBy (Deliver now peer bytes) old sent new = IsHeardBy Hears now (record { from = endpoint_of peer; bytes = bytes.items }) old sent new
+  IsCarriedOutBy (Tick now) old sent new = Passes now old new × (sent ≡ None)
+  IsCarriedOutBy (Device now readings) old sent new = Passes now old new × (sent ≡ None)
+
+  -- the text says the line, which was carried out; then what was late was sent again, and observers were notified, until nothing was left
+  pub record IsPlayedBy (p : PlayedLine) (old new : S) : Type 0 where
+    pub says : IsLine p.text p.line
+    pub handed : S
+    pub hands : IsHandedBy p.line old handed
+    pub answered : S
+    pub carried_out : IsCarriedOutBy p.line handed p.sent answered
+    pub steps : AreStepsBy Resends PassesOver Notifies (moment_of p.line) p.steps answered new
+    pub settled : AreSettled p.steps
+
+  -- lines that were played one after the other, the newest first
+  abbrev pub ArePlayedBy : List PlayedLine → S → S → Type 0
+  ArePlayedBy [] old new = new ≡ old
+  ArePlayedBy (p ∷ ps) old new = (mid : S) × ArePlayedBy ps old mid × IsPlayedBy p mid new
+
+  -- the next lines that a reader had were played once, in order, and just what they sent was printed
+  pub record HasPlayed (old new : S) (had left before after : Option (List ℕ)) : Type 0 where
+    pub lines : List PlayedLine
+    pub played : ArePlayedBy lines old new
+    pub read : AreRead lines had left
+    pub printed : Appends before after (printed_lines lines)
+
+-- ---- a server on one thread
+
+-- all that a reader had was played on one thread, on a server that began at this serial and message id, and whose jobs were handed zeros first
 pub record IsPlayedOut (serial id : ℕ) (had before after : Option (List ℕ)) : Type 0 where
+  pub first : Alone
+  pub last : Alone
+  pub begins : Serves (Begins serial id) first.engine []
+  pub handed : first.handed ≡ record { readings = no_readings; random = 0 }
   pub left : Option (List ℕ)
-  pub readings : List ℕ
-  pub last : ServerState
-  pub lines : HavePlayed serial id had left before after readings last
+  pub played : HasPlayed HandsAlone HearsAlone PassesAlone ResendsAlone PassesOverAlone NotifiesAlone first last had left before after
   pub end : IsAtEnd left

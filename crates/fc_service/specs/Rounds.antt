@@ -1,65 +1,77 @@
--- What a server on one thread does with what it receives, round after round.
-use Rattle.std.specs.Prelude.{◌≡◌, ℕ, ◌+◌, ◌%◌, List, [], ◌∷◌, length, Option}
+-- What a server does with what it receives, round after round; and a server on one thread.
+use Rattle.std.specs.Prelude.{◌≡◌, ℕ, List, [], ◌∷◌, ◌++◌, Bool, Option, Some, None}
+use Rattle.std.specs.Borrow.{Bor}
 use Rattle.std.specs.Option.{option_to_list}
 use Rattle.coap_msg.specs.declared.types.Emission.{Emission}
 use Rattle.coap_msg.specs.declared.types.Endpoint.{Endpoint}
 use Rattle.fc_core.specs.History.{Begins}
+use Rattle.fc_core.specs.declared.front.Heard.{Heard}
+use Rattle.fc_observe.specs.declared.observers.Ticked.{Ticked}
 use Rattle.fc_server.specs.Serving.{Serves}
-use Rattle.fc_server.specs.States.{ServerState}
-use Rattle.fc_workers.specs.Answers.{saturated}
+use Rattle.fc_server.specs.declared.engine.Notified.{Notified}
+use Rattle.fc_service.specs.Alone.{HearsAlone, NotifiesAlone, PassesAlone, PassesOverAlone, ReadiesAlone, ResendsAlone}
+use Rattle.fc_service.specs.Intakes.{Incoming, IsHeardBy}
+use Rattle.fc_service.specs.Settling.{AreSettled, AreStepsBy, SettlingStep, sent_in_steps}
+use Rattle.fc_service.specs.Traffic.{AreSent, Comes, Sending, replies_to}
+use Rattle.fc_service.specs.declared.alone.Alone.{Alone}
 use Rattle.fc_service.specs.declared.replies.Replies.{Replies}
-use Rattle.fc_service.specs.Clocks.{device_readings}
-use Rattle.fc_service.specs.Playing.{IsHeard, IsPassed}
-use Rattle.fc_service.specs.Settling.{AreSteps, SettlingStep, sent_in_steps}
 
--- what is received: a datagram from an endpoint, or nothing in time
-pub data Reception : Type 0 where
-  Datagram : (from : Endpoint) (bytes : List ℕ) → Reception
-  Nothing : Reception
-
--- a round: what was received, and at which moment, what the sensors said, what it was answered, and the steps that followed
+-- a round: what was received, if anything was in time, and at which moment; what it was answered at once, and the steps that followed; and what was handed to the sink
 pub record Round : Type 0 where
-  pub received : Reception
+  pub received : Option Incoming
   pub now : ℕ
-  pub sensed : List ℕ
   pub sent : Option Emission
   pub steps : List SettlingStep
+  pub sendings : List Sending
 
-abbrev pub IsReceived : ℕ → List ℕ → Reception → ServerState → Option Emission → ServerState → Type 0
-IsReceived now sensed (Datagram from bytes) old sent new = IsHeard (device_readings now sensed) now from bytes old sent new
-IsReceived now sensed Nothing old sent new = IsPassed now old sent new
+-- what was received in rounds, and what was handed to the sink, the oldest first, where the newest round is first
+abbrev pub received_in : List Round → List Incoming
+received_in [] = []
+received_in (r ∷ rs) = received_in rs ++ option_to_list r.received
 
--- what was received was carried out; then what was late was sent again, and observers were notified, by the low bits of the moment. The readings of all of this are
--- the moment and what these sensors said
-pub record IsRound (sensors : List ℕ → Type 0) (r : Round) (old new : ServerState) : Type 0 where
-  pub said : sensors r.sensed
-  pub answered : ServerState
-  pub carried_out : IsReceived r.now r.sensed r.received old r.sent answered
-  pub settled : AreSteps r.now (r.now % 65536) (device_readings r.now r.sensed) r.steps answered new
+abbrev pub sendings_in : List Round → List Sending
+sendings_in [] = []
+sendings_in (r ∷ rs) = sendings_in rs ++ r.sendings
 
--- rounds one after the other, the newest first
-abbrev pub AreRounds : (List ℕ → Type 0) → List Round → ServerState → ServerState → Type 0
-AreRounds sensors [] old new = new ≡ old
-AreRounds sensors (r ∷ rs) old new = (mid : ServerState) × AreRounds sensors rs old mid × IsRound sensors r mid new
+-- ---- of a server, by which moments there are, by what each call does to it, and by what a sink tells
+module _ {S : Type 0} (IsMoment : ℕ → Type 0) (Readies : ℕ → S → S → Type 0)
+    (Hears : ℕ → Endpoint → Bor (List ℕ) → S → S → Heard → Emission → Type 0) (Passes : ℕ → S → S → Type 0)
+    (Resends : ℕ → ℕ → S → S → Ticked → Type 0) (PassesOver : ℕ → ℕ → S → S → Type 0) (Notifies : ℕ → ℕ → S → S → Notified → Type 0)
+    (Went : Emission → Bool → Type 0) where
+  -- what was received was heard; or nothing was, and time passed
+  abbrev pub IsReceivedBy : ℕ → Option Incoming → S → Option Emission → S → Type 0
+  IsReceivedBy now (Some incoming) old sent new = IsHeardBy Hears now incoming old sent new
+  IsReceivedBy now None old sent new = Passes now old new × (sent ≡ None)
 
--- how many emissions were to be sent
-abbrev pub emissions_of : List Round → ℕ
-emissions_of [] = 0
-emissions_of (r ∷ rs) = emissions_of rs + (length (option_to_list r.sent) + length (sent_in_steps r.steps))
+  -- the server was made ready; what was received was carried out; what was late was sent again, and observers were notified, until nothing was left; and just
+  -- what was to be sent was handed to the sink, in order
+  pub record IsRoundBy (r : Round) (old new : S) : Type 0 where
+    pub moment : IsMoment r.now
+    pub ready : S
+    pub readied : Readies r.now old ready
+    pub answered : S
+    pub carried_out : IsReceivedBy r.now r.received ready r.sent answered
+    pub steps : AreStepsBy Resends PassesOver Notifies r.now r.steps answered new
+    pub settled : AreSettled r.steps
+    pub sent : AreSent Went (option_to_list r.sent ++ sent_in_steps r.steps) r.sendings
 
--- as many more replies are counted, those that went out and those that didn't; each count stops at its greatest
-abbrev pub CountsMore : ℕ → Replies → Replies → Type 0
-CountsMore n before after = saturated (after.sent + after.failed) ≡ saturated ((before.sent + before.failed) + n)
+  -- rounds one after the other, the newest first
+  abbrev pub AreRoundsBy : List Round → S → S → Type 0
+  AreRoundsBy [] old new = new ≡ old
+  AreRoundsBy (r ∷ rs) old new = (mid : S) × AreRoundsBy rs old mid × IsRoundBy r mid new
 
--- rounds of one server, which began at this serial and message id: each reply is counted once
-pub record HaveServed (sensors : List ℕ → Type 0) (serial id : ℕ) (last : ServerState) (replies : Replies) : Type 0 where
-  pub rounds : List Round
-  pub first : ServerState
-  pub begins : Serves (Begins serial id) first []
-  pub served : AreRounds sensors rounds first last
-  pub counted : saturated (replies.sent + replies.failed) ≡ saturated (emissions_of rounds)
+  -- each datagram that a source gave was received in one round, in order; and the replies are just what was handed to the sink
+  pub record HasRun (before after : Option (List Incoming)) (old new : S) (replies : Replies) : Type 0 where
+    pub rounds : List Round
+    pub are_rounds : AreRoundsBy rounds old new
+    pub came : Comes before after (received_in rounds)
+    pub counted : replies ≡ replies_to (sendings_in rounds)
 
--- it has served, and this is what is counted
-pub record HasServed (sensors : List ℕ → Type 0) (serial id : ℕ) (replies : Replies) : Type 0 where
-  pub last : ServerState
-  pub rounds : HaveServed sensors serial id last replies
+-- ---- a server on one thread
+
+-- a server that began at this serial and message id has run on one thread, with these sensors
+pub record HasServed (sensors : List ℕ → Type 0) (moments : ℕ → Type 0) (went : Emission → Bool → Type 0) (serial id : ℕ) (before after : Option (List Incoming)) (replies : Replies) : Type 0 where
+  pub first : Alone
+  pub last : Alone
+  pub begins : Serves (Begins serial id) first.engine []
+  pub run : HasRun moments (ReadiesAlone sensors) HearsAlone PassesAlone ResendsAlone PassesOverAlone NotifiesAlone went before after first last replies

@@ -1,51 +1,95 @@
 -- What follows a datagram or a moment: shards send again what is late, and notify who is due.
-use Rattle.std.specs.Prelude.{◌≡◌, ◌⊎◌, ℕ, Bool, true, List, [], ◌∷◌, ◌++◌, flat_map, Option, None}
+use Rattle.std.specs.Prelude.{◌≡◌, ◌<◌, ◌≤◌, ◌⊎◌, if◌then◌else◌, ℕ, zero, suc, Bool, true, false, List, [], ◌∷◌, ◌++◌, length, flat_map, Option, None}
+use Rattle.std.specs.List.{list_any}
 use Rattle.std.specs.Option.{option_to_list}
 use Rattle.coap_msg.specs.declared.types.Emission.{Emission}
 use Rattle.fc_core.specs.Legal.{resent}
 use Rattle.fc_observe.specs.declared.observers.Ticked.{Ticked}
-use Rattle.fc_server.specs.Serving.{AsksForTurn, TicksShard}
-use Rattle.fc_server.specs.States.{ServerState}
-use Rattle.fc_workers.specs.Answers.{IsSomeQuiet, IsSomeTick}
+use Rattle.fc_observe.specs.declared.observers.Ticked.TheVariants.{Quiet}
+use Rattle.fc_server.specs.Notified.{notification_in}
+use Rattle.fc_server.specs.declared.engine.Notified.{Notified}
+use Rattle.fc_server.specs.declared.engine.Notified.TheVariants.{Nobody, Starved}
 use Rattle.fc_lines.specs.Emissions.{printed}
+use Rattle.fc_service.specs.declared.settle.Settling.{Settling}
 
--- a shard is ticked, or asked for a turn that is worked off, where it gives one; and this was sent
+-- a shard is ticked, and tells this; it is passed over, since nothing is late and nobody is due; or it is asked for a turn, and tells this
 pub data SettlingStep : Type 0 where
-  Resent : (shard : ℕ) (sent : Option Emission) → SettlingStep
-  Notified : (shard : ℕ) (given : Bool) (sent : Option Emission) → SettlingStep
+  Resent : (shard : ℕ) (ticked : Ticked) → SettlingStep
+  Passed : (shard : ℕ) → SettlingStep
+  Asked : (shard : ℕ) (told : Notified) → SettlingStep
 
 abbrev pub sent_in_step : SettlingStep → Option Emission
-sent_in_step (Resent shard sent) = sent
-sent_in_step (Notified shard given sent) = sent
+sent_in_step (Resent shard ticked) = resent ticked
+sent_in_step (Passed shard) = None
+sent_in_step (Asked shard told) = notification_in told
 
 -- what steps sent, the oldest emission first, where the newest step is first
 abbrev pub sent_in_steps : List SettlingStep → List Emission
 sent_in_steps [] = []
 sent_in_steps (step ∷ steps) = sent_in_steps steps ++ option_to_list (sent_in_step step)
 
--- of a server, by what it does where a shard is ticked, or asked for a turn, at a moment
-module _ {S : Type 0} (Resends : ℕ → ℕ → S → S → Option Emission → Type 0) (Notifies : ℕ → ℕ → S → S → Bool → Option Emission → Type 0) where
+-- what is printed of what they sent
+abbrev pub printed_steps : List SettlingStep → List ℕ
+printed_steps steps = flat_map printed (sent_in_steps steps)
+
+-- ---- when it ends
+
+-- nothing is late at a shard any more; no observer of it is due any more
+pub data Finding : Type 0 where
+  NothingLate : (shard : ℕ) → Finding
+  NobodyDue : (shard : ℕ) → Finding
+
+abbrev pub found_in_step : SettlingStep → List Finding
+found_in_step (Resent shard Quiet) = NothingLate shard ∷ []
+found_in_step (Passed shard) = NothingLate shard ∷ NobodyDue shard ∷ []
+found_in_step (Asked shard Nobody) = NobodyDue shard ∷ []
+found_in_step other = []
+
+-- what was found, the oldest first, where the newest step is first
+abbrev pub found_in_steps : List SettlingStep → List Finding
+found_in_steps [] = []
+found_in_steps (step ∷ steps) = found_in_steps steps ++ found_in_step step
+
+-- all that is to be found at the shards below n, in order
+abbrev pub found_below : ℕ → List Finding
+found_below zero = []
+found_below (suc n) = found_below n ++ (NothingLate n ∷ NobodyDue n ∷ [])
+
+-- no message id was free for a turn
+abbrev pub is_starved : SettlingStep → Bool
+is_starved (Asked shard Starved) = true
+is_starved other = false
+
+-- shard after shard, nothing is late and nobody is due; or no message id was free; or as many steps were taken as there may be
+abbrev pub AreSettled : List SettlingStep → Type 0
+AreSettled steps = (found_in_steps steps ≡ found_below 8) ⊎ ((list_any is_starved steps ≡ true) ⊎ (8192 ≤ length steps))
+
+-- ---- where it is: at a shard, where late notifications are sent again first, until nothing is late, and observers are notified then; or, at shard 8, at the end
+
+abbrev pub IsPlace : Settling → Type 0
+IsPlace s = (s.shard ≤ 8) × (s.shard ≡ 8 → s.notifies ≡ false)
+
+-- what was found up to there
+abbrev pub found_at : Settling → List Finding
+found_at s = found_below s.shard ++ (if s.notifies then NothingLate s.shard ∷ [] else [])
+
+-- a step goes from one place to another
+abbrev pub Moves : Settling → SettlingStep → Settling → Type 0
+Moves from step to = IsPlace to × ((found_at from ++ found_in_step step ≡ found_at to) ⊎ (is_starved step ≡ true))
+
+-- ---- of a server, by what it does where a shard is ticked, passed over, or asked for a turn, at a moment
+module _ {S : Type 0} (Resends : ℕ → ℕ → S → S → Ticked → Type 0) (PassesOver : ℕ → ℕ → S → S → Type 0) (Notifies : ℕ → ℕ → S → S → Notified → Type 0) where
+  -- a step at a shard, 0 to 7
   abbrev pub IsStepBy : ℕ → SettlingStep → S → S → Type 0
-  IsStepBy now (Resent shard sent) old new = Resends shard now old new sent
-  IsStepBy now (Notified shard given sent) old new = Notifies shard now old new given sent
+  IsStepBy now (Resent shard ticked) old new = (shard < 8) × Resends shard now old new ticked
+  IsStepBy now (Passed shard) old new = (shard < 8) × PassesOver shard now old new
+  IsStepBy now (Asked shard told) old new = (shard < 8) × Notifies shard now old new told
 
   -- steps that were taken one after the other, the newest first
   abbrev pub AreStepsBy : ℕ → List SettlingStep → S → S → Type 0
   AreStepsBy now [] old new = new ≡ old
   AreStepsBy now (step ∷ steps) old new = (mid : S) × IsStepBy now step mid new × AreStepsBy now steps old mid
 
-  -- some steps were taken, and sent these
-  abbrev pub StepsSend : ℕ → S → S → List Emission → Type 0
-  StepsSend now old new sent = (steps : List SettlingStep) × AreStepsBy now steps old new × (sent_in_steps steps ≡ sent)
-
--- on one thread, with this random word and these readings
-abbrev pub AreSteps : ℕ → ℕ → List ℕ → List SettlingStep → ServerState → ServerState → Type 0
-AreSteps now random readings steps old new = AreStepsBy TicksShard (λ (shard moment : ℕ). AsksForTurn readings shard moment random) now steps old new
-
--- some shard that is ticked at a moment sends this again, or nothing; or one is quiet, and sends nothing
-abbrev pub IsSomeResend : ℕ → Option Emission → Type 0
-IsSomeResend now sent = ((ticked : Ticked) × IsSomeTick now ticked × (sent ≡ resent ticked)) ⊎ (IsSomeQuiet now true × (sent ≡ None))
-
--- what is printed of what they sent
-abbrev pub printed_steps : List SettlingStep → List ℕ
-printed_steps steps = flat_map printed (sent_in_steps steps)
+  -- steps that led to a place
+  abbrev pub AreStepsTo : ℕ → List SettlingStep → S → S → Settling → Type 0
+  AreStepsTo now steps old new place = AreStepsBy now steps old new × IsPlace place × ((found_in_steps steps ≡ found_at place) ⊎ (list_any is_starved steps ≡ true))

@@ -1,11 +1,16 @@
 //! A server on one thread, where it is fed: the job of each datagram, and the turn of each observer, is worked off before the call answers.
 ghost use Rattle.std.specs.Prelude.{◌≡◌, ◌≤◌, [], IfOk};
 ghost use Rattle.fc_core.specs.History.{Begins};
+ghost use Rattle.fc_help.specs.Region.{no_readings};
 ghost use Rattle.fc_registry.specs.Slots.{last_serial};
 ghost use Rattle.fc_server.specs.Serving.{Serves};
-ghost use Rattle.fc_service.specs.Alone.{HearsAlone, NotifiesAlone, PassesAlone, ResendsAlone};
+ghost use Rattle.fc_service.specs.Alone.{HandsAlone, HearsAlone, NotifiesAlone, PassesAlone, PassesOverAlone, ReadiesAlone, ResendsAlone};
 
+use crate::clock::device_readings;
+use crate::lines::LineIntake;
 use crate::pool::Intake;
+use crate::rounds::Preparation;
+use crate::sensors::Sensors;
 use coap_msg::{Emission, Endpoint};
 use fc_core::Heard;
 use fc_help::{NO_READINGS, Readings};
@@ -14,20 +19,21 @@ use fc_registry::SHARDS;
 use fc_server::Engine;
 use fc_server::engine::Notified;
 use std::alloc::{AllocError, Global};
+use std::sync::Wait;
 
 /// What jobs are handed: the readings that a taking finds, and the random word that says how long a confirmable notification is waited for.
 #[derive(Clone, Copy)]
 pub(crate) struct Handed {
-    pub(crate) readings: Readings,
-    pub(crate) random: u16,
+    readings: Readings,
+    random: u16,
 }
 
 /// A server on one thread, and what its jobs are handed from now on. Which shard is asked is taken modulo 8.
 #[derive(Drop)]
 pub(crate) struct Alone {
     alloc: Global,
-    pub(crate) engine: Engine,
-    pub(crate) handed: Handed,
+    engine: Engine,
+    handed: Handed,
 }
 
 impl Alone {
@@ -37,7 +43,8 @@ impl Alone {
     /// There was no memory for it.
     pub(crate) fn new(alloc: Global, first_serial: u64, first_id: u16) -> Result<Alone, AllocError>
         requires { first_serial ≤ last_serial }
-        ensures { IfOk result (λ alone. Serves (Begins first_serial first_id) alone.engine []) }
+        ensures begins { IfOk result (λ alone. Serves (Begins first_serial first_id) alone.engine []) }
+        ensures handed { IfOk result (λ alone. alone.handed ≡ record { readings = no_readings; random = 0 }) }
     {
         Ok(Alone {
             alloc,
@@ -50,12 +57,42 @@ impl Alone {
     }
 }
 
+/// What the sensors say at the moment of a round is what its jobs read, and the low bits of the moment are the random word.
+#[derive(Drop)]
+pub(crate) struct Sensed<'a, Z: Sensors> {
+    pub(crate) sensors: &'a Z,
+}
+
+impl<'a, Z: Sensors> Preparation<Alone> for Sensed<'a, Z> {
+    ghost readies = { ReadiesAlone Z.are_sensed };
+
+    fn ready<R: Wait>(&self, rt: &R, intake: &mut Alone, now: u64) {
+        intake.handed = Handed {
+            readings: device_readings(now, &self.sensors.sense(rt, now)),
+            random: (now % 0x1_0000) as u16,
+        };
+    }
+}
+
+impl LineIntake for Alone {
+    ghost hands = { HandsAlone };
+
+    fn hand(&mut self, readings: &Readings) {
+        self.handed = Handed {
+            readings: *readings,
+            random: 0,
+        };
+    }
+}
+
 impl Intake for Alone {
     ghost hears = { HearsAlone };
 
     ghost passes = { PassesAlone };
 
     ghost resends = { ResendsAlone };
+
+    ghost passes_over = { PassesOverAlone };
 
     ghost notifies = { NotifiesAlone };
 

@@ -18,11 +18,14 @@
 #![tactic(auto)]
 
 mod alone;
+mod board;
 pub mod clock;
 pub mod command;
+mod lines;
 pub mod play;
 pub mod pool;
 pub mod replies;
+mod rounds;
 pub mod sensors;
 pub mod serve;
 mod settle;

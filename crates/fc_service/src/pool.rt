@@ -1,15 +1,15 @@
 //! Pools: a new server behind its locks, workers at it, and who feeds them with datagrams.
-ghost use Rattle.std.specs.Prelude.{◌≡◌, ◌+◌, ◌<◌, ◌≤◌, ℕ, ⊤, Bool, List, MatchBool, None, Option, vec_len, IfOk};
+ghost use Rattle.std.specs.Prelude.{◌≡◌, ◌+◌, ◌<◌, ◌≤◌, ℕ, ⊤, List, MatchBool, None, true, vec_len, IfOk};
 ghost use Rattle.std.specs.Borrow.{Bor};
 ghost use Rattle.coap_msg.specs.declared.types.Emission.{Emission};
 ghost use Rattle.coap_msg.specs.declared.types.Endpoint.{Endpoint};
 ghost use Rattle.fc_core.specs.declared.front.Heard.{Heard};
-ghost use Rattle.fc_core.specs.Legal.{resent};
+ghost use Rattle.fc_observe.specs.declared.observers.Ticked.{Ticked};
 ghost use Rattle.fc_registry.specs.Slots.{last_serial};
 ghost use Rattle.fc_server.specs.Notified.{is_given, notification_in};
-ghost use Rattle.fc_service.specs.Settling.{IsSomeResend};
-ghost use Rattle.fc_workers.specs.Answers.{IsSomeQuiet};
-ghost use Rattle.fc_workers.specs.Called.{shop};
+ghost use Rattle.fc_server.specs.declared.engine.Notified.{Notified};
+ghost use Rattle.fc_workers.specs.Answers.{IsSomeQuiet, IsSomeTick};
+ghost use Rattle.fc_workers.specs.Called.{AdvancesFront, AdvancesIfQuiet, AdvancesShard, shop};
 ghost use Rattle.fc_workers.specs.Closing.{HasCountedAll};
 ghost use Rattle.fc_workers.specs.Dispatch.{IsTakenIn, IsTurnAsked};
 ghost use Rattle.fc_workers.specs.Naming.{AreNamed};
@@ -40,11 +40,14 @@ pub trait Intake {
     // Time passed to a moment: the server before and after.
     ghost passes: { ℕ → Self → Self → Type 0 } = { λ now old new. ⊤ };
 
-    // A shard was advanced to a moment, and sends this again, or nothing.
-    ghost resends: { ℕ → ℕ → Self → Self → Option Emission → Type 0 } = { λ shard now old new sent. ⊤ };
+    // A shard was advanced to a moment, and tells this.
+    ghost resends: { ℕ → ℕ → Self → Self → Ticked → Type 0 } = { λ shard now old new ticked. ⊤ };
 
-    // A shard was asked at a moment for the observer that is due first: whether there was one, and what is sent of it.
-    ghost notifies: { ℕ → ℕ → Self → Self → Bool → Option Emission → Type 0 } = { λ shard now old new given sent. ⊤ };
+    // A shard was advanced to a moment at which nothing was late, and nobody due.
+    ghost passes_over: { ℕ → ℕ → Self → Self → Type 0 } = { λ shard now old new. ⊤ };
+
+    // A shard was asked at a moment for the observer that is due first, and tells this.
+    ghost notifies: { ℕ → ℕ → Self → Self → Notified → Type 0 } = { λ shard now old new told. ⊤ };
 
     /// Takes a datagram in, at a moment in milliseconds. Its reply is written over another; its job is worked off, here or by a worker; its signal goes to each
     /// shard. Tells `Reply` where what was written is to be sent, and `Job` where a worker has the job, or has sent what it came to.
@@ -57,17 +60,17 @@ pub trait Intake {
 
     /// Has a shard, 0 to 7, tell what it sends again at a moment in milliseconds.
     fn resend(&mut self, shard: u8, now: u64) -> Ticked
-        ensures { resends shard now self.old self.new (resent result) };
+        ensures { resends shard now self.old self.new result };
 
     /// Advances a shard, 0 to 7, to a moment in milliseconds where nothing is late and nobody is due. Tells whether it did.
     fn advance_if_quiet(&mut self, shard: u8, now: u64) -> bool
         ensures quiet { IsSomeQuiet now result }
-        ensures after { MatchBool result (resends shard now self.old self.new None) (self.new ≡ self.old) };
+        ensures after { MatchBool result (passes_over shard now self.old self.new) (self.new ≡ self.old) };
 
     /// Has the observer of a shard, 0 to 7, notified that is due first at a moment in milliseconds, here or by a worker. Tells what is to be sent of it: nothing
     /// where a worker has the turn, or has sent what it came to.
     fn notify(&mut self, shard: u8, now: u64) -> Notified
-        ensures { notifies shard now self.old self.new (is_given result) (notification_in result) };
+        ensures { notifies shard now self.old self.new result };
 }
 
 // A dispatcher, and the handle by which it waits.
@@ -79,11 +82,19 @@ struct Dispatching<'a, 'b, R: Wait, B: Bench, G: Gate, W: Wire, M: Moments> {
 
 impl<'a, 'b, R: Wait, B: Bench, G: Gate, W: Wire, M: Moments> Intake
     for Dispatching<'a, 'b, R, B, G, W, M> {
-    ghost hears = { λ now from bytes old new heard reply. IsTakenIn (shop B.changes B.ended B.called M.is_moment G.passed W.called) old.dispatcher.handover now from bytes.now heard reply old.dispatcher.done new.dispatcher.done };
+    ghost hears = { λ now from bytes old new heard reply.
+        IsTakenIn (shop B.changes B.ended B.called M.is_moment G.passed W.called) old.dispatcher.handover now from bytes.now heard reply old.dispatcher.done new.dispatcher.done
+        × (new.dispatcher.handover ≡ old.dispatcher.handover) };
 
-    ghost resends = { λ shard now old new sent. IsSomeResend now sent };
+    ghost passes = { λ now old new. B.called (AdvancesFront now) × (new ≡ old) };
 
-    ghost notifies = { λ shard now old new given sent. IsTurnAsked (shop B.changes B.ended B.called M.is_moment G.passed W.called) old.dispatcher.handover shard now given old.dispatcher.done new.dispatcher.done × (sent ≡ None) };
+    ghost resends = { λ shard now old new ticked. IsSomeTick now ticked × B.called (AdvancesShard shard now ticked) × (new ≡ old) };
+
+    ghost passes_over = { λ shard now old new. IsSomeQuiet now true × B.called (AdvancesIfQuiet shard now true) × (new ≡ old) };
+
+    ghost notifies = { λ shard now old new told.
+        IsTurnAsked (shop B.changes B.ended B.called M.is_moment G.passed W.called) old.dispatcher.handover shard now (is_given told) old.dispatcher.done new.dispatcher.done
+        × (notification_in told ≡ None) × (new.dispatcher.handover ≡ old.dispatcher.handover) };
 
     fn hear(&mut self, now: u64, from: Endpoint, bytes: &[u8], reply: &mut Emission) -> Heard {
         self.dispatcher.hear(self.rt, now, from, bytes, reply)

@@ -1,9 +1,10 @@
 //! What follows a datagram or a moment: what is late is sent again, and observers that are due are notified.
-ghost use Rattle.std.specs.Prelude.{◌≡◌, ◌+◌, ◌<◌, [], Bool};
+ghost use Rattle.std.specs.Prelude.{◌≡◌, ◌+◌, ◌<◌, ◌≤◌, ◌↔◌, [], false, true, IsTrue, List};
 ghost use Rattle.fc_core.specs.Legal.{resent};
+ghost use Rattle.fc_observe.specs.declared.observers.Ticked.{Ticked};
 ghost use Rattle.fc_server.specs.Notified.{notification_in};
-ghost use Rattle.std.specs.Option.{option_to_list};
-ghost use Rattle.fc_service.specs.Settling.{IsStepBy, SettlingStep, StepsSend, sent_in_step};
+ghost use Rattle.fc_server.specs.declared.engine.Notified.{Notified};
+ghost use Rattle.fc_service.specs.Settling.{Asked, AreStepsTo, IsPlace, IsStepBy, Moves, Resent, SettlingStep, sent_in_step, sent_in_steps};
 
 use crate::pool::Intake;
 use coap_msg::Emission;
@@ -11,7 +12,7 @@ use fc_observe::Ticked;
 use fc_registry::SHARDS;
 use fc_server::engine::Notified;
 
-/// More steps than there are at one moment: each of 32 observers of a slot is sent one notification again at most, and notified once, and
+/// More steps than there are at one moment: each of 32 observers of each of 64 slots is sent one notification again at most, and notified once, and
 /// a shard tells once of each that there is nothing left.
 pub(crate) const STEPS: u16 = 8192;
 
@@ -24,58 +25,33 @@ pub(crate) struct Settling {
 }
 
 impl Settling {
-    /// At the first shard.
-    pub(crate) fn new() -> Settling {
-        Settling {
+    /// At the first shard that has something to do at a moment in milliseconds; those before it are passed over. Most have nothing, and no room is made
+    /// for what they would send.
+    pub(crate) fn begin<N: Intake>(intake: &mut N, now: u64) -> Settling
+        ensures { (steps : List SettlingStep) × AreStepsTo N.resends N.passes_over N.notifies now steps intake.old intake.new result × (sent_in_steps steps ≡ []) }
+    {
+        let mut settling = Settling {
             shard: 0,
             notifies: false,
+        };
+        'quiet: while settling.shard < SHARDS && intake.advance_if_quiet(settling.shard, now) {
+            settling.pass();
         }
+        settling
     }
 
-    /// The next that is to be sent at a moment in milliseconds, shard after shard; none where nothing is left, or no message id is free.
-    pub(crate) fn next<N: Intake>(&mut self, intake: &mut N, now: u64) -> Option<Emission>
-        ensures { StepsSend N.resends N.notifies now intake.old intake.new (option_to_list result) }
+    /// Whether nothing is left.
+    pub(crate) fn is_at_end(&self) -> bool
+        ensures { IsTrue result ↔ 8 ≤ self.now.shard }
     {
-        self.skip_quiet(intake, now);
-        if self.shard >= SHARDS {
-            return None;
-        }
-        self.next_sent(intake, now)
+        self.shard >= SHARDS
     }
 
-    // Passes the shards that have nothing to do at a moment, up to one that has. Most have nothing, and no room is made for what they would send.
-    fn skip_quiet<N: Intake>(&mut self, intake: &mut N, now: u64)
-        ensures { StepsSend N.resends N.notifies now intake.old intake.new [] }
-    {
-        'quiet: while self.shard < SHARDS
-            && !self.notifies
-            && intake.advance_if_quiet(self.shard, now)
-        {
-            self.pass();
-        }
-    }
-
-    // The next that is to be sent, as `next` finds it, shard after shard.
+    /// Asks the shard that it is at: what is to be sent, if anything. Where no message id is free, nothing is left.
     #[inline(never)]
-    fn next_sent<N: Intake>(&mut self, intake: &mut N, now: u64) -> Option<Emission>
-        ensures { StepsSend N.resends N.notifies now intake.old intake.new (option_to_list result) }
-    {
-        for _ in 0..STEPS {
-            if self.shard >= SHARDS {
-                return None;
-            }
-            match self.step(intake, now) {
-                Some(emission) => return Some(emission),
-                None => {}
-            }
-        }
-        None
-    }
-
-    // Asks the shard that it is at.
-    fn step<N: Intake>(&mut self, intake: &mut N, now: u64) -> Option<Emission>
+    pub(crate) fn step<N: Intake>(&mut self, intake: &mut N, now: u64) -> Option<Emission>
         requires { self.old.shard < 8 }
-        ensures { (step : SettlingStep) × IsStepBy N.resends N.notifies now step intake.old intake.new × (sent_in_step step ≡ result) }
+        ensures { (step : SettlingStep) × IsStepBy N.resends N.passes_over N.notifies now step intake.old intake.new × (sent_in_step step ≡ result) × Moves self.old step self.new }
     {
         if self.notifies {
             return self.notify(intake, now);
@@ -89,8 +65,9 @@ impl Settling {
 
     // Has the first late notification of its shard sent again, or goes on to those that are due.
     fn resend<N: Intake>(&mut self, intake: &mut N, now: u64) -> Option<Emission>
-        requires { self.old.shard < 8 }
-        ensures { N.resends self.old.shard now intake.old intake.new result }
+        requires shard { self.old.shard < 8 }
+        requires late { self.old.notifies ≡ false }
+        ensures { (ticked : Ticked) × N.resends self.old.shard now intake.old intake.new ticked × (result ≡ resent ticked) × Moves self.old (Resent self.old.shard ticked) self.new }
     {
         let ticked = intake.resend(self.shard, now);
         self.resent(ticked)
@@ -98,8 +75,9 @@ impl Settling {
 
     // Has the first observer of its shard that is due notified, or goes on to the next shard; where no message id is free, to the end.
     fn notify<N: Intake>(&mut self, intake: &mut N, now: u64) -> Option<Emission>
-        requires { self.old.shard < 8 }
-        ensures { (given : Bool) × N.notifies self.old.shard now intake.old intake.new given result }
+        requires shard { self.old.shard < 8 }
+        requires due { self.old.notifies ≡ true }
+        ensures { (told : Notified) × N.notifies self.old.shard now intake.old intake.new told × (result ≡ notification_in told) × Moves self.old (Asked self.old.shard told) self.new }
     {
         let notified = intake.notify(self.shard, now);
         self.notified(notified)
@@ -108,7 +86,8 @@ impl Settling {
     // Goes on to the next shard.
     fn pass(&mut self)
         requires { self.old.shard < 8 }
-        ensures { self.new.shard ≡ self.old.shard + 1 }
+        ensures shard { self.new.shard ≡ self.old.shard + 1 }
+        ensures late { self.new.notifies ≡ false }
     {
         self.shard += 1;
         self.notifies = false;
@@ -116,7 +95,10 @@ impl Settling {
 
     // Goes on after its shard was ticked: what is to be sent.
     fn resent(&mut self, ticked: Ticked) -> Option<Emission>
-        ensures { result ≡ resent ticked }
+        requires shard { self.old.shard < 8 }
+        requires late { self.old.notifies ≡ false }
+        ensures sent { result ≡ resent ticked }
+        ensures moves { Moves self.old (Resent self.old.shard ticked) self.new }
     {
         match ticked {
             Ticked::Resend(emission) => Some(emission),
@@ -130,14 +112,16 @@ impl Settling {
 
     // Goes on after its shard was asked who is due: what is to be sent.
     fn notified(&mut self, notified: Notified) -> Option<Emission>
-        requires { self.old.shard < 8 }
-        ensures { result ≡ notification_in notified }
+        requires shard { self.old.shard < 8 }
+        requires due { self.old.notifies ≡ true }
+        ensures sent { result ≡ notification_in notified }
+        ensures moves { Moves self.old (Asked self.old.shard notified) self.new }
     {
         match notified {
             Notified::Sent(emission) => Some(emission),
             Notified::Unsent => None,
             Notified::Starved => {
-                self.shard = SHARDS;
+                self.end();
                 None
             }
             Notified::Nobody => {
@@ -145,5 +129,14 @@ impl Settling {
                 None
             }
         }
+    }
+
+    // Goes to the end.
+    fn end(&mut self)
+        ensures shard { self.new.shard ≡ 8 }
+        ensures late { self.new.notifies ≡ false }
+    {
+        self.shard = SHARDS;
+        self.notifies = false;
     }
 }

@@ -1,5 +1,8 @@
 //! Where a server's datagrams come from and go: a socket, or what a test puts in its place.
-ghost use Rattle.std.specs.Prelude.{◌≤◌, IfSome, length};
+ghost use Rattle.std.specs.Prelude.{◌≤◌, ⊤, Bool, IfSome, List, None, Option, length};
+ghost use Rattle.coap_msg.specs.declared.types.Emission.{Emission};
+ghost use Rattle.fc_service.specs.Intakes.{Incoming, incoming_in};
+ghost use Rattle.fc_service.specs.Traffic.{Comes};
 
 use coap_msg::{Emission, Endpoint};
 use fc_workers::Wire;
@@ -13,20 +16,29 @@ const RECEIVE_WAIT: u64 = 100;
 
 /// Where datagrams come from.
 pub trait Source {
+    // The datagrams that it has given so far, where they are known: of each what fitted the buffer.
+    ghost came: { Self → Option (List Incoming) } = { λ _. None };
+
     /// Waits a while for a datagram: how many bytes at the start of the buffer it is, and who sent it. What doesn't fit the
     /// buffer is lost. `None` where nothing came in time, or it couldn't be received.
-    fn receive(&self, buffer: &mut [u8]) -> Option<(usize, Endpoint)>
-        ensures { IfSome result (λ r. r.0 ≤ length buffer.new) };
+    fn receive(&mut self, buffer: &mut [u8]) -> Option<(usize, Endpoint)>
+        ensures fits { IfSome result (λ r. r.0 ≤ length buffer.new) }
+        ensures given { Comes (came self.old) (came self.new) (incoming_in buffer.new result) };
 }
 
 /// Where datagrams go.
 pub trait Sink {
+    // Which datagrams were handed to it: it says of one whether it was told to go out.
+    ghost went: { Emission → Bool → Type 0 } = { λ emission out. ⊤ };
+
     /// Sends a datagram. Tells whether it went out.
-    fn send(&self, emission: &Emission) -> bool;
+    fn send(&self, emission: &Emission) -> bool
+        ensures { went emission.now result };
 }
 
-impl Source for UdpSocket {
-    fn receive(&self, buffer: &mut [u8]) -> Option<(usize, Endpoint)> {
+/// What came to a socket of the system isn't known.
+impl<'a> Source for &'a UdpSocket {
+    fn receive(&mut self, buffer: &mut [u8]) -> Option<(usize, Endpoint)> {
         match self.recv_from(buffer) {
             Ok((count, SocketAddr::V4(from))) => Some((count, endpoint_of(&from))),
             Ok((_, SocketAddr::V6(_))) | Err(_) => None,

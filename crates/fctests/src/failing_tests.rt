@@ -48,12 +48,13 @@ static ANSWERS: [&[u8]; 8] = [
 #[derive(Drop)]
 struct Letters {
     fails: bool,
-    calls: AtomicUsize,
+    calls: usize,
 }
 
 impl Source for Letters {
-    fn receive(&self, buffer: &mut [u8]) -> Option<(usize, Endpoint)> {
-        let call = self.calls.fetch_add(1, Ordering::SeqCst);
+    fn receive(&mut self, buffer: &mut [u8]) -> Option<(usize, Endpoint)> {
+        let call = self.calls;
+        self.calls = call.saturating_add(1);
         if !self.fails {
             return put_datagram(REQUESTS.get(call)?, buffer);
         }
@@ -98,10 +99,7 @@ fn check_served<R: Abort + AllocGlobal + Threads + Wait + Clock + Sync>(
     let memory = Memory::new(alloc);
     let log = Logged::new(rt, LevelFilter::Info, &memory);
     let mut err = Vec::new(alloc);
-    let letters = Letters {
-        fails,
-        calls: AtomicUsize::new(0),
-    };
+    let mut letters = Letters { fails, calls: 0 };
     let matching = Matching {
         fails,
         sends: AtomicUsize::new(0),
@@ -109,7 +107,7 @@ fn check_served<R: Abort + AllocGlobal + Threads + Wait + Clock + Sync>(
     };
     let extent = Extent { workers, limit: 8 };
     let status = serve_at(
-        rt, alloc, &log, &mut err, &NoSensors, &letters, &matching, extent,
+        rt, alloc, &log, &mut err, &NoSensors, &mut letters, &matching, extent,
     );
     assert!(rt; status == Status::Done && err.is_empty());
     assert!(rt;

@@ -77,7 +77,10 @@ fn serve_sensing<R: Threads + Wait + Clock + Sync, Z: Sensors + Sync>(
     let memory = Memory::new(alloc);
     let log = Logged::new(rt, LevelFilter::Info, &memory);
     let mut err = Vec::new(alloc);
-    serve_at(rt, alloc, &log, &mut err, sensors, socket, socket, extent)
+    let mut source = socket;
+    serve_at(
+        rt, alloc, &log, &mut err, sensors, &mut source, socket, extent,
+    )
 }
 
 // Serves a program that replies its readings, while the file changes.

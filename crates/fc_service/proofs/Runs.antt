@@ -1,0 +1,58 @@
+-- Rounds, one after the other.
+use Rattle.std.proofs.Common.{◌≡◌, ℕ, Bool, List, [], ◌∷◌, Option, Some, None, refl, ap, sym, subst, ◌∙◌}
+use Rattle.std.specs.Borrow.{Bor}
+use Rattle.std.specs.Option.{option_to_list}
+use Rattle.coap_msg.specs.declared.types.Emission.{Emission}
+use Rattle.coap_msg.specs.declared.types.Endpoint.{Endpoint}
+use Rattle.fc_core.specs.declared.front.Heard.{Heard}
+use Rattle.fc_observe.specs.declared.observers.Ticked.{Ticked}
+use Rattle.fc_server.specs.declared.engine.Notified.{Notified}
+use Rattle.fc_service.proofs.Traffic.{more_came, more_replies, more_sent, none_came, none_sent}
+use Rattle.fc_service.specs.Counting.{no_replies}
+use Rattle.fc_service.specs.Intakes.{Incoming, IsHeardBy}
+use Rattle.fc_service.specs.Rounds.{HasRun, IsReceivedBy, received_in, sendings_in}
+use Rattle.fc_service.specs.Settling.{AreSettled, AreStepsBy, SettlingStep, sent_in_steps}
+use Rattle.fc_service.specs.Traffic.{Comes, Sends, counted_each}
+use Rattle.fc_service.specs.declared.replies.Replies.{Replies}
+
+module _ {S : Type 0} (IsMoment : ℕ → Type 0) (Readies : ℕ → S → S → Type 0)
+    (Hears : ℕ → Endpoint → Bor (List ℕ) → S → S → Heard → Emission → Type 0) (Passes : ℕ → S → S → Type 0)
+    (Resends : ℕ → ℕ → S → S → Ticked → Type 0) (PassesOver : ℕ → ℕ → S → S → Type 0) (Notifies : ℕ → ℕ → S → S → Notified → Type 0)
+    (Went : Emission → Bool → Type 0) where
+  abbrev Run : Option (List Incoming) → Option (List Incoming) → S → S → Replies → Type 0
+  Run before after old new replies = HasRun IsMoment Readies Hears Passes Resends PassesOver Notifies Went before after old new replies
+
+  pub no_rounds : (came : Option (List Incoming)) (s : S) (r : Replies) → r ≡ no_replies → Run came came s s r
+  no_rounds came s r none = record { rounds = []; are_rounds = refl; came = none_came came; counted = none }
+
+  one_round : (before mid after : Option (List Incoming)) (old last ready answered new : S) (a b c : Replies) (now : ℕ) (received : Option Incoming) → Run before mid old last a → IsMoment now
+      → Comes mid after (option_to_list received) → Readies now last ready
+      → ((sent : Option Emission) × IsReceivedBy IsMoment Readies Hears Passes Resends PassesOver Notifies Went now received ready sent answered × Sends Went (option_to_list sent) a b)
+      → ((steps : List SettlingStep) × AreStepsBy Resends PassesOver Notifies now steps answered new × AreSettled steps × Sends Went (sent_in_steps steps) b c)
+      → Run before after old new c
+  one_round before mid after old last ready answered new a b c now received h moment came readied x y =
+      let z = more_sent Went a b c (option_to_list x.0) (sent_in_steps y.0) x.2 y.3 in record {
+        rounds = record { received = received; now = now; sent = x.0; steps = y.0; sendings = z.0 } ∷ h.rounds;
+        are_rounds = (last, h.are_rounds, record { moment = moment; ready = ready; readied = readied; answered = answered; carried_out = x.1; steps = y.1; settled = y.2; sent = z.1 });
+        came = more_came before mid after (received_in h.rounds) (option_to_list received) h.came came;
+        counted = z.2 ∙ (ap (counted_each z.0) h.counted ∙ more_replies (sendings_in h.rounds) z.0);
+      }
+
+  -- one round more, of a datagram
+  pub heard_round : (before mid after : Option (List Incoming)) (old last ready heard answered new : S) (a b c d : Replies) (now : ℕ) (incoming : Incoming) → Run before mid old last a → IsMoment now
+      → Comes mid after (incoming ∷ []) → Readies now last ready
+      → ((sent : Option Emission) × IsHeardBy Hears now incoming ready sent heard × Sends Went (option_to_list sent) a b) → answered ≡ heard → c ≡ b
+      → ((steps : List SettlingStep) × AreStepsBy Resends PassesOver Notifies now steps answered new × AreSettled steps × Sends Went (sent_in_steps steps) c d)
+      → Run before after old new d
+  heard_round before mid after old last ready heard answered new a b c d now incoming h moment came readied x same counts y =
+      one_round before mid after old last ready answered new a c d now (Some incoming) h moment came readied
+      (x.0, subst (λ (s : S). IsHeardBy Hears now incoming ready x.0 s) (sym same) x.1, subst (λ (r : Replies). Sends Went (option_to_list x.0) a r) (sym counts) x.2) y
+
+  -- and of nothing but a moment
+  pub passed_round : (before mid after : Option (List Incoming)) (old last ready passed answered new : S) (a c d : Replies) (now : ℕ) → Run before mid old last a → IsMoment now
+      → Comes mid after [] → Readies now last ready → Passes now ready passed → answered ≡ passed → c ≡ a
+      → ((steps : List SettlingStep) × AreStepsBy Resends PassesOver Notifies now steps answered new × AreSettled steps × Sends Went (sent_in_steps steps) c d)
+      → Run before after old new d
+  passed_round before mid after old last ready passed answered new a c d now h moment came readied x same counts y =
+      one_round before mid after old last ready answered new a c d now None h moment came readied
+      (None, (subst (λ (s : S). Passes now ready s) (sym same) x, refl), subst (λ (r : Replies). Sends Went [] a r) (sym counts) (none_sent Went a)) y

@@ -1,0 +1,36 @@
+use Rattle.std.proofs.Common.{◌∷◌, Result, Ok, Err, OnOk, IsErr}
+use Rattle.std.specs.Io.KnownBytes.{Appends}
+use Rattle.std.specs.Prelude.{flat_map}
+use Rattle.fc_lines.specs.Emissions.{printed}
+use Rattle.fc_service.proofs.Settled.{done_at_bound, done_at_end, none_printed, one_printed}
+use Rattle.fc_service.proofs.lines.settle.Goals as goal
+
+-- nothing is said after an error
+failed : {A E : Type 0} (r : Result A E) (P : Type 0) → IsErr r → OnOk r P
+failed (Ok x) P e = absurd (let n = e in cc)
+failed (Err x) P e = tt
+
+pub steps-init : goal.steps-init
+steps-init g c = none_printed g.N.Intake.resends g.N.Intake.passes_over g.N.Intake.notifies c.args.now c.args.intake.now c.begin-settling.new.intake c.begin-settling.result _ c.begin-settling.ensures
+
+pub returns-then-is_at_end : goal.returns-then-is_at_end
+returns-then-is_at_end g c =
+    let w = done_at_end g.N.Intake.resends g.N.Intake.passes_over g.N.Intake.notifies (λ es. Appends (g.W.Write.contents c.args.out.now) (g.W.Write.contents c.steps.out) (flat_map printed es)) c.steps.taken c.args.now c.args.intake.now c.steps.intake c.steps.settling c.steps.invariant
+    (c.is_at_end.ensures.0 c.if-is_at_end.true) in
+    (w.0, w.1, (w.2, w.3))
+
+pub steps-preserved : goal.steps-preserved
+steps-preserved g c =
+    one_printed g.N.Intake.resends g.N.Intake.passes_over g.N.Intake.notifies c.steps.taken c.args.now c.args.intake.now c.steps.intake c.step.new.intake c.steps.settling c.step.new.self _ _ _ c.step.result
+    c.steps.invariant c.step.ensures c.in_ok-print_if_any.ensures
+
+pub returns-in_err-print_if_any : goal.returns-in_err-print_if_any
+returns-in_err-print_if_any g c =
+    let w = c.steps.invariant in
+    let x = c.step.ensures in
+    (x.0 ∷ w.0, (c.steps.intake, x.1, w.1.0), failed c.from_residual.result _ c.from_residual.ensures.0)
+
+pub returns : goal.returns
+returns g c =
+    let w = done_at_bound g.N.Intake.resends g.N.Intake.passes_over g.N.Intake.notifies (λ es. Appends (g.W.Write.contents c.args.out.now) (g.W.Write.contents c.steps.out) (flat_map printed es)) c.steps.taken c.args.now c.args.intake.now c.steps.intake c.steps.settling c.steps.invariant c.steps-test.false in
+    (w.0, w.1, (w.2, w.3))

@@ -1,0 +1,30 @@
+use Rattle.std.proofs.Common.{ℕ, Option, subst}
+use Rattle.coap_msg.specs.declared.types.Endpoint.{Endpoint}
+use Rattle.fc_service.proofs.Runs.{heard_round, passed_round}
+use Rattle.fc_service.specs.Intakes.{incoming_in}
+use Rattle.fc_service.specs.Traffic.{Comes}
+use Rattle.fc_service.proofs.rounds.run_rounds.Goals as goal
+use Rattle.fc_service.proofs.rounds.run_rounds.Goals.{in-Some-came, in-None-came}
+
+pub loop-preserved : goal.loop-preserved
+loop-preserved g c =
+    let before = g.S.Source.came c.loop.source in
+    let after = g.S.Source.came c.receive-came.new.self in
+    let buffer = c.receive-came.new.buffer in (
+      tt,
+      tt,
+      elim c.match-came.branch [
+        | in-Some-came w ↦
+            heard_round g.M.Moments.is_moment g.P.Preparation.readies g.N.Intake.hears g.N.Intake.passes g.N.Intake.resends g.N.Intake.passes_over g.N.Intake.notifies g.K.Sink.went
+            (g.S.Source.came c.args.source.now) before after c.args.intake.now c.loop.intake c.ready.new.intake w.hear.new.intake c.match-came.intake c.settle.new.intake c.loop.replies w.hear.new.replies c.match-came.replies c.settle.new.replies c.now-now.result _
+            c.loop.invariant.2 c.now-now.ensures
+            (subst (λ (o : Option (ℕ × Endpoint)). Comes before after (incoming_in buffer o)) w.in-Some-came.is c.receive-came.ensures.given)
+            c.ready.ensures w.hear.ensures w.intake-is w.replies-is c.settle.ensures
+        | in-None-came w ↦
+            passed_round g.M.Moments.is_moment g.P.Preparation.readies g.N.Intake.hears g.N.Intake.passes g.N.Intake.resends g.N.Intake.passes_over g.N.Intake.notifies g.K.Sink.went
+            (g.S.Source.came c.args.source.now) before after c.args.intake.now c.loop.intake c.ready.new.intake w.tick.new.self c.match-came.intake c.settle.new.intake c.loop.replies c.match-came.replies c.settle.new.replies c.now-now.result
+            c.loop.invariant.2 c.now-now.ensures
+            (subst (λ (o : Option (ℕ × Endpoint)). Comes before after (incoming_in buffer o)) w.in-None-came.is c.receive-came.ensures.given)
+            c.ready.ensures w.tick.ensures w.intake-is w.replies-is c.settle.ensures
+      ],
+    )

@@ -1,0 +1,20 @@
+use Rattle.fc_service.proofs.Settled.{done_at_bound, done_at_end, none_settled, one_settled}
+use Rattle.fc_service.specs.Traffic.{Sends}
+use Rattle.fc_service.proofs.rounds.settle.Goals as goal
+
+pub steps-init : goal.steps-init
+steps-init g c = none_settled g.N.Intake.resends g.N.Intake.passes_over g.N.Intake.notifies g.K.Sink.went c.args.now c.args.intake.now c.begin-settling.new.intake c.begin-settling.result c.args.replies.now c.begin-settling.ensures
+
+pub returns-then-is_at_end : goal.returns-then-is_at_end
+returns-then-is_at_end g c =
+    done_at_end g.N.Intake.resends g.N.Intake.passes_over g.N.Intake.notifies (λ es. Sends g.K.Sink.went es c.args.replies.now c.steps.replies) c.steps.taken c.args.now c.args.intake.now c.steps.intake c.steps.settling c.steps.invariant
+    (c.is_at_end.ensures.0 c.if-is_at_end.true)
+
+pub steps-preserved : goal.steps-preserved
+steps-preserved g c =
+    one_settled g.N.Intake.resends g.N.Intake.passes_over g.N.Intake.notifies g.K.Sink.went c.steps.taken c.args.now c.args.intake.now c.steps.intake c.step.new.intake c.steps.settling c.step.new.self c.args.replies.now c.steps.replies c.send_if_any.new.replies c.step.result
+    c.steps.invariant c.step.ensures c.send_if_any.ensures
+
+pub returns : goal.returns
+returns g c =
+    done_at_bound g.N.Intake.resends g.N.Intake.passes_over g.N.Intake.notifies (λ es. Sends g.K.Sink.went es c.args.replies.now c.steps.replies) c.steps.taken c.args.now c.args.intake.now c.steps.intake c.steps.settling c.steps.invariant c.steps-test.false

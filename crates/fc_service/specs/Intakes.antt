@@ -1,0 +1,32 @@
+-- What is taken in.
+use Rattle.std.specs.Prelude.{◌≡◌, ℕ, List, [], ◌∷◌, take, Bool, true, false, Option, Some, None}
+use Rattle.std.specs.Borrow.{Bor}
+use Rattle.coap_msg.specs.declared.types.Emission.{Emission}
+use Rattle.coap_msg.specs.declared.types.Endpoint.{Endpoint}
+use Rattle.fc_core.specs.Receiving.{emission_if}
+use Rattle.fc_core.specs.declared.front.Heard.{Heard}
+use Rattle.fc_core.specs.declared.front.Heard.TheVariants.{Reply}
+
+-- a datagram that was received: who sent it, and its bytes
+pub record Incoming : Type 0 where
+  pub from : Endpoint
+  pub bytes : List ℕ
+
+-- the datagram that was received into a buffer, where one was: so many bytes at its start, and who sent them
+abbrev pub incoming_in : List ℕ → Option (ℕ × Endpoint) → List Incoming
+incoming_in buffer None = []
+incoming_in buffer (Some r) = record { from = r.1; bytes = take r.0 buffer } ∷ []
+
+-- what was written is to be sent
+abbrev pub is_reply : Heard → Bool
+is_reply Reply = true
+is_reply other = false
+
+-- a datagram was heard once, whole and from its endpoint, and this was to be sent at once
+pub record IsHeardBy {S : Type 0} (Hears : ℕ → Endpoint → Bor (List ℕ) → S → S → Heard → Emission → Type 0) (now : ℕ) (incoming : Incoming) (old : S) (sent : Option Emission) (new : S) : Type 0 where
+  pub borrow : Bor (List ℕ)
+  pub bytes_are : borrow.now ≡ incoming.bytes
+  pub heard : Heard
+  pub reply : Emission
+  pub hears : Hears now incoming.from borrow old new heard reply
+  pub sent_is : sent ≡ emission_if (is_reply heard) reply

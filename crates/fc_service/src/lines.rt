@@ -1,0 +1,154 @@
+//! Lines: each is carried out by who takes them in, and what it sends is printed.
+ghost use Rattle.std.specs.Prelude.{◌≡◌, ◌++◌, ⊤, ℕ, List, Option, OnOk};
+ghost use Rattle.std.specs.Io.KnownBytes.{Appends, IsAtEnd};
+ghost use Rattle.coap_msg.specs.declared.types.Emission.{Emission};
+ghost use Rattle.fc_core.specs.Receiving.{emission_if};
+ghost use Rattle.fc_service.specs.Playing.{HasPlayed, IsCarriedOutBy, IsHandedBy, IsPlayedBy, PlayedLine, moment_of, output_by, output_of};
+ghost use Rattle.fc_service.specs.Settling.{AreSettled, AreStepsBy, SettlingStep, printed_steps};
+
+use crate::pool::Intake;
+use crate::rounds::is_reply;
+use crate::settle::{STEPS, Settling};
+use coap_msg::Emission;
+use fc_cli::stop::Stop;
+use fc_core::front::blank_emission;
+use fc_help::Readings;
+use fc_lines::emission::{endpoint, print};
+use fc_lines::line::{Line, LineError, parse};
+use std::alloc::{AllocError, Global};
+use std::io;
+use std::io::{BufRead, Write};
+
+/// An intake whose jobs are handed the readings that lines tell.
+pub(crate) trait LineIntake: Intake {
+    // Jobs are handed these readings from now on: the intake before and after.
+    ghost hands: { List ℕ → Self → Self → Type 0 } = { λ readings old new. ⊤ };
+
+    /// Hands these readings to the jobs from now on.
+    fn hand(&mut self, readings: &Readings)
+        ensures { hands readings.now self.old self.new };
+}
+
+/// Reads lines, carries out each in turn, and prints what it sends before the next is read: what the datagram is answered, and then what is sent again, and what
+/// observers are told, at the line's moment.
+///
+/// # Errors
+/// A line is bad, reading or writing failed, or there was no memory for a line.
+pub(crate) fn play_lines<N: LineIntake, R: BufRead + Drop, W: Write>(
+    alloc: Global,
+    intake: &mut N,
+    input: R,
+    out: &mut W,
+) -> Result<(), Stop>
+    ensures { OnOk result ((left : Option (List ℕ)) × HasPlayed N.hands N.hears N.passes N.resends N.passes_over N.notifies intake.old intake.new
+        (R.remaining input) left (W.contents out.old) (W.contents out.new) × IsAtEnd left) }
+{
+    let mut reply = blank_emission();
+    let mut number = 0u64;
+    for text in input.split(alloc, b'\n') {
+        number = number.saturating_add(1);
+        match text {
+            Ok(text) => play_line(alloc, intake, &mut reply, &text, number, out)?,
+            Err(error) => return Err(Stop::at_line(error, number)),
+        }
+    }
+    Ok(())
+}
+
+// Reads the line of this number, and carries it out.
+fn play_line<N: LineIntake, W: Write>(
+    alloc: Global,
+    intake: &mut N,
+    reply: &mut Emission,
+    text: &[u8],
+    number: u64,
+    out: &mut W,
+) -> Result<(), Stop>
+    ensures { OnOk result ((p : PlayedLine) × (p.text ≡ text.now)
+        × IsPlayedBy N.hands N.hears N.passes N.resends N.passes_over N.notifies p intake.old intake.new
+        × Appends (W.contents out.old) (W.contents out.new) (output_by p)) }
+{
+    match parse(alloc, text) {
+        Ok(line) => {
+            hand(intake, &line);
+            carry_out(intake, reply, &line, out)?;
+            settle(intake, moment(&line), out)?;
+            Ok(())
+        }
+        Err(LineError::Bad) => Err(Stop::BadLine(number)),
+        Err(LineError::NoMemory) => Err(Stop::Memory(AllocError)),
+    }
+}
+
+// Hands the readings that a line tells, if it tells any.
+fn hand<N: LineIntake>(intake: &mut N, line: &Line)
+    ensures { IsHandedBy N.hands N.hears N.passes N.resends N.passes_over N.notifies line.now intake.old intake.new }
+{
+    match line {
+        Line::Device { readings, .. } => intake.hand(readings),
+        Line::Tick { .. } | Line::Deliver { .. } => {}
+    }
+}
+
+// Carries out a line, and prints what it sends, which is written over another emission.
+fn carry_out<N: LineIntake, W: Write>(
+    intake: &mut N,
+    reply: &mut Emission,
+    line: &Line,
+    out: &mut W,
+) -> io::Result<()>
+    ensures { (sent : Option Emission) × IsCarriedOutBy N.hands N.hears N.passes N.resends N.passes_over N.notifies line.now intake.old sent intake.new
+        × OnOk result (Appends (W.contents out.old) (W.contents out.new) (output_of sent)) }
+{
+    match line {
+        Line::Tick { now } | Line::Device { now, .. } => {
+            intake.tick(*now);
+            Ok(())
+        }
+        Line::Deliver { now, peer, bytes } => {
+            let heard = intake.hear(*now, endpoint(*peer), bytes, reply);
+            print_if(out, is_reply(heard), reply)
+        }
+    }
+}
+
+// The moment of a line, in milliseconds.
+fn moment(line: &Line) -> u64
+    ensures { result ≡ moment_of line.now }
+{
+    match line {
+        Line::Tick { now } | Line::Deliver { now, .. } | Line::Device { now, .. } => *now,
+    }
+}
+
+// Prints what is sent again, and what observers are told, at a moment in milliseconds, until nothing is left.
+fn settle<N: Intake, W: Write>(intake: &mut N, now: u64, out: &mut W) -> io::Result<()>
+    ensures { (steps : List SettlingStep) × AreStepsBy N.resends N.passes_over N.notifies now steps intake.old intake.new
+        × OnOk result (AreSettled steps × Appends (W.contents out.old) (W.contents out.new) (printed_steps steps)) }
+{
+    let mut settling = Settling::begin(intake, now);
+    'steps: for taken in 0..STEPS {
+        if settling.is_at_end() {
+            return Ok(());
+        }
+        print_if_any(out, &settling.step(intake, now))?;
+    }
+    Ok(())
+}
+
+// Prints an emission, if there is one.
+fn print_if_any<W: Write>(out: &mut W, sent: &Option<Emission>) -> io::Result<()>
+    ensures { OnOk result (Appends (W.contents out.old) (W.contents out.new) (output_of sent.now)) }
+{
+    match sent {
+        Some(emission) => print(out, emission),
+        None => Ok(()),
+    }
+}
+
+// Prints an emission, where it is sent.
+fn print_if<W: Write>(out: &mut W, sent: bool, emission: &Emission) -> io::Result<()>
+    ensures { OnOk result (Appends (W.contents out.old) (W.contents out.new) (output_of (emission_if sent emission.now))) }
+{
+    if sent { print(out, emission) } else { Ok(()) }
+}

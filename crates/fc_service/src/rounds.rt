@@ -1,0 +1,143 @@
+//! Rounds of a server: what is received is taken in, or time passes, and then what is late is sent again, and observers that are due are notified.
+ghost use Rattle.std.specs.Prelude.{◌≡◌, ⊤, ℕ, [], ◌∷◌, List, Option};
+ghost use Rattle.std.specs.Option.{option_to_list};
+ghost use Rattle.coap_msg.specs.declared.types.Emission.{Emission};
+ghost use Rattle.fc_service.specs.Intakes.{IsHeardBy, is_reply};
+ghost use Rattle.fc_service.specs.Rounds.{HasRun};
+ghost use Rattle.fc_service.specs.Settling.{AreSettled, AreStepsBy, SettlingStep, sent_in_steps};
+ghost use Rattle.fc_service.specs.Traffic.{Sends};
+
+use crate::pool::Intake;
+use crate::replies::Replies;
+use crate::settle::{STEPS, Settling};
+use crate::socket::{Sink, Source};
+use coap_msg::types::DATAGRAM;
+use coap_msg::{Emission, Endpoint};
+use fc_core::Heard;
+use fc_core::front::blank_emission;
+use fc_workers::Moments;
+use std::sync::Wait;
+
+/// One byte more than a datagram may have: a longer one is seen to be too long, and ignored.
+const BUFFER: usize = DATAGRAM + 1;
+
+/// What an intake needs at the start of a round.
+pub(crate) trait Preparation<N: Intake> {
+    // An intake was made ready for a round at a moment: the intake before and after.
+    ghost readies: { ℕ → N → N → Type 0 } = { λ now old new. ⊤ };
+
+    /// Makes an intake ready for a round at a moment in milliseconds.
+    fn ready<R: Wait>(&self, rt: &R, intake: &mut N, now: u64)
+        ensures { readies now intake.old intake.new };
+}
+
+/// Nothing: who works a job off finds its readings then.
+#[derive(Drop)]
+pub(crate) struct Unprepared;
+
+impl<N: Intake> Preparation<N> for Unprepared {
+    ghost readies = { λ now old new. new ≡ old };
+
+    fn ready<R: Wait>(&self, rt: &R, intake: &mut N, now: u64) {
+        let _ = rt;
+        let _ = intake;
+        let _ = now;
+    }
+}
+
+/// Receives datagrams until so many came, 0 is never: each is taken in, in order, before the next is received, and answered where it needs no worker. After each,
+/// and where none came in time, what is late is sent again, and the observers that are due are notified. The replies that were handed to the sink, each counted once.
+pub(crate) fn run_rounds<R: Wait, N: Intake, P: Preparation<N>, S: Source, K: Sink, M: Moments>(
+    rt: &R,
+    intake: &mut N,
+    preparation: &P,
+    source: &mut S,
+    sink: &K,
+    moments: &M,
+    limit: u32,
+) -> Replies
+    ensures { HasRun M.is_moment P.readies N.hears N.passes N.resends N.passes_over N.notifies K.went (S.came source.old) (S.came source.new) intake.old intake.new result }
+{
+    let mut reply = blank_emission();
+    let mut buffer = [0; BUFFER];
+    let mut replies = Replies::none();
+    let mut received = 0u32;
+    for _ in rt.forever() {
+        if limit > 0 && received >= limit {
+            break;
+        }
+        let came = source.receive(&mut buffer);
+        let now = moments.now(rt);
+        preparation.ready(rt, intake, now);
+        match came {
+            Some((count, from)) => {
+                received = received.saturating_add(1);
+                let bytes = &buffer[..count];
+                hear(intake, now, from, bytes, &mut reply, sink, &mut replies);
+            }
+            None => intake.tick(now),
+        }
+        settle(intake, now, sink, &mut replies);
+    }
+    replies
+}
+
+// Has a datagram heard at a moment in milliseconds, and sends what it is answered at once, if anything, which is written over another emission.
+fn hear<N: Intake, K: Sink>(
+    intake: &mut N,
+    now: u64,
+    from: Endpoint,
+    bytes: &[u8],
+    reply: &mut Emission,
+    sink: &K,
+    replies: &mut Replies,
+)
+    ensures { (sent : Option Emission) × IsHeardBy N.hears now (record { from = from; bytes = bytes.now }) intake.old sent intake.new
+        × Sends K.went (option_to_list sent) replies.old replies.new }
+{
+    let heard = intake.hear(now, from, bytes, reply);
+    if is_reply(heard) {
+        send(reply, sink, replies);
+    }
+}
+
+// Sends what is late at a moment in milliseconds again, and has the observers that are due notified, until nothing is left.
+fn settle<N: Intake, K: Sink>(intake: &mut N, now: u64, sink: &K, replies: &mut Replies)
+    ensures { (steps : List SettlingStep) × AreStepsBy N.resends N.passes_over N.notifies now steps intake.old intake.new × AreSettled steps
+        × Sends K.went (sent_in_steps steps) replies.old replies.new }
+{
+    let mut settling = Settling::begin(intake, now);
+    'steps: for taken in 0..STEPS {
+        if settling.is_at_end() {
+            return;
+        }
+        send_if_any(&settling.step(intake, now), sink, replies);
+    }
+}
+
+// Hands an emission to the sink, if there is one, and counts whether it went out.
+fn send_if_any<K: Sink>(sent: &Option<Emission>, sink: &K, replies: &mut Replies)
+    ensures { Sends K.went (option_to_list sent.now) replies.old replies.new }
+{
+    match sent {
+        Some(emission) => send(emission, sink, replies),
+        None => {}
+    }
+}
+
+// Hands an emission to the sink, and counts whether it went out.
+fn send<K: Sink>(emission: &Emission, sink: &K, replies: &mut Replies)
+    ensures { Sends K.went (emission.now ∷ []) replies.old replies.new }
+{
+    replies.count_if_any(Some(sink.send(emission)));
+}
+
+/// Whether what was written is to be sent.
+pub(crate) fn is_reply(heard: Heard) -> bool
+    ensures { result ≡ is_reply heard }
+{
+    match heard {
+        Heard::Reply => true,
+        Heard::Nothing | Heard::Job | Heard::Signal { .. } => false,
+    }
+}
