@@ -1,6 +1,6 @@
 -- What each call does, as an event: on a job that came, on one that never came, on none.
 use Rattle.std.proofs.Common.{◌≡◌, ℕ, ◌<◌, ◌≤◌, ◌%◌, arith, max, get_or, List, ◌++◌, length, set, Bool, true, false, Option, Some, None, refl, sym, ap, ◌∙◌, subst, Bor}
-use Rattle.std.specs.Prelude.{◌==◌}
+use Rattle.std.specs.Prelude.{◌==◌, is_some}
 use Rattle.std.proofs.lemmas.List.{append-nil, get_or_default, get_or_past, set-get_or, set_past}
 use Rattle.coap_msg.specs.declared.types.Endpoint.{Endpoint}
 use Rattle.coap_msg.specs.declared.types.Emission.{Emission}
@@ -24,7 +24,7 @@ use Rattle.fc_core.specs.Rows.{around_of, Around, Move, Scene, call_if, move_of,
 use Rattle.fc_core.proofs.Rejections.{same_slot}
 use Rattle.fc_server.specs.Agreement.{Parts}
 use Rattle.fc_server.specs.Serving.{with_tasks}
-use Rattle.fc_server.specs.States.{Does, DrawsId, Responds, ServerState, common_in, front_after, front_drawn, scene_in, shards_moved}
+use Rattle.fc_server.specs.States.{Does, DrawsId, Responds, ServerState, Works, common_in, front_after, front_drawn, scene_in, shards_moved}
 use Rattle.fc_server.specs.Steps.{DeliveredTo, Done, EmitsAt, IsOfJob, IsSafeIn, brought_by, front_by, resent_by, sends_at, shard_by, shards_in, tasks_in, turns_at, words_in}
 
 -- ---- a move that changes no slot
@@ -131,6 +131,37 @@ draws_done k now old new tasks later was next same is d =
       safe = subst (λ (m : Move). AllSafe m.changes) (sym quiet) tt;
     }
 
+-- an event of this job, whatever it does at the front
+pub works_done : (e : Event) (k : ℕ) → names e ≡ Some k → (old new : ServerState) (tasks later : List Task) (was next : Task) (out : Option Emission) → was ≡ task_at tasks k → later ≡ set tasks k next → Works e old was new next out → Done e (with_tasks old tasks) out (with_tasks new later)
+works_done (Answer j now) k named old new tasks later was next out same is d =
+    let number : k ≡ j = cc in
+    responds_done j now old new tasks later was next out (same ∙ ap (task_at tasks) number) (is ∙ ap (λ (i : ℕ). set tasks i next) number) d
+works_done (Fresh j now) k named old new tasks later was next out same is d =
+    let number : k ≡ j = cc in
+    subst (λ (o : Option Emission). Done (Fresh j now) (with_tasks old tasks) o (with_tasks new later)) (sym d.1)
+    (draws_done j now old new tasks later was next (same ∙ ap (task_at tasks) number) (is ∙ ap (λ (i : ℕ). set tasks i next) number) d.0)
+works_done (Deliver now to b) k named old new tasks later was next out same is d = absurd (let n = named in cc)
+works_done (Tick now) k named old new tasks later was next out same is d = absurd (let n = named in cc)
+works_done (Due shard now) k named old new tasks later was next out same is d = absurd (let n = named in cc)
+works_done (Signal shard to id reset) k named old new tasks later was next out same is d = absurd (let n = named in cc)
+works_done (ShardTick shard now) k named old new tasks later was next out same is d = absurd (let n = named in cc)
+works_done other k named old new tasks later was next out same is d = does_done other k (refl, refl, named) old new tasks later was next out same is d
+
+-- an event that names no job does nothing to a task
+idles_by : (e : Event) (s : ServerState) (task : Task) → row e (scene_in s task) ≡ moves task.stage → None ≡ sends e (scene_in s task) → Does e s task s task None
+idles_by e s task quiet silent = does_quietly e s s task task task.stage quiet silent (ap (λ (m : Move). task_moved task m) (sym quiet)) refl
+
+true_isnt : {A : Type 0} → true ≡ false → A
+true_isnt e = absurd (cc e)
+
+pub idles : (e : Event) (s : ServerState) (task : Task) → is_some (names e) ≡ false → Works e s task s task None
+idles (Deliver now to b) s task none = idles_by (Deliver now to b) s task refl refl
+idles (Tick now) s task none = idles_by (Tick now) s task refl refl
+idles (Due shard now) s task none = idles_by (Due shard now) s task refl refl
+idles (Signal shard to id reset) s task none = idles_by (Signal shard to id reset) s task refl refl
+idles (ShardTick shard now) s task none = idles_by (ShardTick shard now) s task refl refl
+idles other s task none = true_isnt none
+
 -- ---- no job
 
 pub delivered_done : (now : ℕ) (to : Endpoint) (b : Bor (List ℕ)) (old new : Parts) (out : Option Emission) → DeliveredTo now to b.now old new out → Done (Deliver now to b) old out new
@@ -169,19 +200,11 @@ past_does e w =
     let quiet = gone_moves e slot ws in
     does_quietly e w w no_task no_task Gone quiet (gone_sends e slot ws) (ap (λ (m : Move). task_moved no_task m) (sym quiet)) refl
 
+past_works : (e : Event) (k : ℕ) (w : ServerState) → names e ≡ Some k → Works e w no_task w no_task None
+past_works (Answer j now) k w named = record { front = refl; task_is = refl; shards = refl; words = refl; emits = refl }
+past_works (Fresh j now) k w named = (record { front = refl; task_is = refl; shards = refl; words = refl }, refl)
+past_works other k w named = past_does other w
+
 -- an event of a job that never came
 pub past_done : (e : Event) (k : ℕ) (w : ServerState) (tasks : List Task) → names e ≡ Some k → length tasks ≤ k → Done e (with_tasks w tasks) None (with_tasks w tasks)
-past_done (Answer j now) k w tasks named le =
-    let is : k ≡ j = cc in
-    let past : length tasks ≤ j = subst (λ (i : ℕ). length tasks ≤ i) is le in
-    responds_done j now w w tasks tasks no_task no_task None (sym (get_or_past tasks j no_task past)) (sym (set_past tasks j no_task past)) (record { front = refl; task_is = refl; shards = refl; words = refl; emits = refl })
-past_done (Fresh j now) k w tasks named le =
-    let is : k ≡ j = cc in
-    let past : length tasks ≤ j = subst (λ (i : ℕ). length tasks ≤ i) is le in
-    draws_done j now w w tasks tasks no_task no_task (sym (get_or_past tasks j no_task past)) (sym (set_past tasks j no_task past)) (record { front = refl; task_is = refl; shards = refl; words = refl })
-past_done (Deliver now to b) k w tasks named le = absurd (let n = named in cc)
-past_done (Tick now) k w tasks named le = absurd (let n = named in cc)
-past_done (Due shard now) k w tasks named le = absurd (let n = named in cc)
-past_done (Signal shard to id reset) k w tasks named le = absurd (let n = named in cc)
-past_done (ShardTick shard now) k w tasks named le = absurd (let n = named in cc)
-past_done other k w tasks named le = does_done other k (refl, refl, named) w w tasks tasks no_task no_task None (sym (get_or_past tasks k no_task le)) (sym (set_past tasks k no_task le)) (past_does other w)
+past_done e k w tasks named le = works_done e k named w w tasks tasks no_task no_task None (sym (get_or_past tasks k no_task le)) (sym (set_past tasks k no_task le)) (past_works e k w named)

@@ -11,6 +11,7 @@ use Rattle.fc_core.specs.Contents.{Content}
 use Rattle.fc_core.specs.Exchanges.{FrontState, advanced}
 use Rattle.fc_core.specs.Ids.{drawn, free_id}
 use Rattle.fc_core.specs.Fits.{FitsStage}
+use Rattle.fc_core.specs.History.{AtFront, Answers, Draws, at_front}
 use Rattle.fc_core.specs.Legal.{AnswerEmits}
 use Rattle.fc_core.specs.Sound.{AllSafe}
 use Rattle.fc_core.specs.Stages.{content_at, drew, ended, needs_id}
@@ -75,3 +76,13 @@ pub record Responds (now : ℕ) (old : ServerState) (task : Task) (new : ServerS
   pub shards : new.shards ≡ old.shards
   pub words : new.words ≡ old.words
   pub emits : AnswerEmits (content_at task.stage) task.job (advanced old.front now) emitted
+
+-- what an event does to the task of its job, by what it does at the front: it answers the task, draws a message id for it, or does
+-- nothing there
+abbrev pub WorksAt : AtFront → Event → ServerState → Task → ServerState → Task → Option Emission → Type 0
+WorksAt (Answers k now) e old task new next emitted = Responds now old task new next emitted
+WorksAt (Draws k now) e old task new next emitted = DrawsId now old task new next × (emitted ≡ None)
+WorksAt other e old task new next emitted = Does e old task new next emitted
+
+abbrev pub Works : Event → ServerState → Task → ServerState → Task → Option Emission → Type 0
+Works e old task new next emitted = WorksAt (at_front e) e old task new next emitted

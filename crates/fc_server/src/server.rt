@@ -1,5 +1,5 @@
 //! The front, the shards and the machine, and one call an event.
-ghost use Rattle.std.specs.Prelude.{◌≡◌, ℕ, List, ◌<◌, ◌≤◌, if◌then◌else◌, [], false, length, slice_set, IfOk};
+ghost use Rattle.std.specs.Prelude.{◌≡◌, ℕ, List, ◌<◌, ◌≤◌, if◌then◌else◌, [], false, length, slice_set, IfOk, OnOk};
 ghost use Rattle.fc_registry.specs.Shards.{first_shards, shard_at};
 ghost use Rattle.fc_registry.specs.Slots.{last_serial};
 ghost use Rattle.fc_registry.specs.Watches.{handed, is_quiet, signal_call, signalled};
@@ -8,12 +8,12 @@ ghost use Rattle.fc_core.specs.Exchanges.{advanced, first_front};
 ghost use Rattle.fc_core.specs.Heads.{no_words};
 ghost use Rattle.fc_core.specs.Legal.{resent};
 ghost use Rattle.fc_core.specs.Receiving.{after_delivered, delivered, emission_if, heard};
-ghost use Rattle.fc_server.specs.States.{Responds, AtWork, Does, DrawsId};
+ghost use Rattle.fc_server.specs.States.{Responds, AtWork, Does, DrawsId, Works};
 ghost use Rattle.fc_server.specs.Steps.{shard_asked, shard_resent, shard_ticked, shard_turn};
 
 use coap_msg::{Emission, Endpoint};
 use fc_core::front::blank_emission;
-use fc_core::{Delivered, Front, Heads, Heard, Responded, Task};
+use fc_core::{Event, Front, Heads, Heard, Responded, Task};
 use fc_help::Readings;
 use fc_machine::Frame;
 use fc_observe::Ticked;
@@ -64,16 +64,6 @@ impl Server {
             heads: Heads::new(),
             frame: Frame::new(alloc)?,
         })
-    }
-
-    /// Takes a datagram in, at a moment in milliseconds.
-    pub fn deliver(&mut self, now: u64, endpoint: Endpoint, bytes: &[u8]) -> Delivered
-        ensures delivered { result ≡ delivered (advanced self.old.front now) endpoint bytes.now }
-        ensures front { self.new.front ≡ after_delivered (advanced self.old.front now) endpoint bytes.now }
-        ensures shards { self.new.shards ≡ self.old.shards }
-        ensures words { self.new.words ≡ self.old.words }
-    {
-        self.front.deliver(now, endpoint, bytes)
     }
 
     /// Takes a datagram in, at a moment in milliseconds, and writes the job that it brings, or the reply, over another.
@@ -148,6 +138,73 @@ impl Server {
         self.shards[usize::from(shard)].advance_if_quiet(now)
     }
 
+    /// Carries out an event on the task of its job: what is sent. An event that names no job does nothing to it.
+    ///
+    /// # Errors
+    /// There was no memory where the event says that there is, and nothing is said.
+    pub fn work(
+        &mut self,
+        alloc: Global,
+        event: &Event<'_>,
+        task: &mut Task,
+    ) -> Result<Option<Emission>, AllocError>
+        requires { AtWork self.old task.old }
+        ensures { IfOk result (λ emitted. Works event.now self.old task.old self.new task.new emitted) }
+    {
+        if event.job().is_none() {
+            return Ok(None);
+        }
+        match *event {
+            Event::Peek { slot, .. } => {
+                self.peek(task, slot);
+                Ok(None)
+            }
+            Event::Take {
+                memory,
+                readings,
+                ..
+            } => {
+                self.take_if(memory, &readings, task)?;
+                Ok(None)
+            }
+            Event::Commit { now, .. } => {
+                self.commit(now, task);
+                Ok(None)
+            }
+            Event::Install { memory, .. } => {
+                self.install_if(alloc, memory, task)?;
+                Ok(None)
+            }
+            Event::Remove { .. } => {
+                self.remove(task);
+                Ok(None)
+            }
+            Event::Receipt { .. } => {
+                self.describe(task);
+                Ok(None)
+            }
+            Event::Raise { .. } => {
+                self.raise(task);
+                Ok(None)
+            }
+            Event::Answer { now, .. } => Ok(self.answer(now, task)),
+            Event::Fresh { now, .. } => {
+                self.fresh(now, task);
+                Ok(None)
+            }
+            Event::Note { now, random, .. } => Ok(self.note(now, random, task)),
+            Event::GiveUp { now, .. } => {
+                self.give_up(now, task);
+                Ok(None)
+            }
+            Event::Lose { .. } => {
+                self.lose(task);
+                Ok(None)
+            }
+            _ => unreachable!(),
+        }
+    }
+
     /// A task looks at the head word of a slot.
     pub fn peek(&mut self, task: &mut Task, slot: u8)
         requires { AtWork self.old task.old }
@@ -180,8 +237,29 @@ impl Server {
         task.take(&mut self.shards[task.job.origin.slot.shard()], readings)
     }
 
-    /// A task takes its slot without memory.
-    pub fn refuse_take(&mut self, task: &mut Task)
+    // A task takes its slot, with these readings, where there is memory, or without.
+    fn take_if(
+        &mut self,
+        memory: bool,
+        readings: &Readings,
+        task: &mut Task,
+    ) -> Result<(), AllocError>
+        requires { AtWork self.old task.old }
+        ensures { OnOk result ((k : ℕ) → Does (Event.Take k memory readings.now) self.old task.old self.new task.new None) }
+    {
+        if !memory {
+            self.refuse_take(task);
+            return Ok(());
+        }
+        if self.take(readings, task) {
+            Ok(())
+        } else {
+            Err(AllocError)
+        }
+    }
+
+    // A task takes its slot without memory.
+    fn refuse_take(&mut self, task: &mut Task)
         requires { AtWork self.old task.old }
         ensures { (k : ℕ) (readings : List ℕ) → Does (Event.Take k false readings) self.old task.old self.new task.new None }
     {
@@ -206,8 +284,24 @@ impl Server {
         task.install(alloc, shard)
     }
 
-    /// A task installs without memory.
-    pub fn refuse_install(&mut self, task: &mut Task)
+    // A task verifies its image and installs the program, where there is memory, or without.
+    fn install_if(&mut self, alloc: Global, memory: bool, task: &mut Task) -> Result<(), AllocError>
+        requires { AtWork self.old task.old }
+        ensures { OnOk result ((k : ℕ) → Does (Event.Install k memory) self.old task.old self.new task.new None) }
+    {
+        if !memory {
+            self.refuse_install(task);
+            return Ok(());
+        }
+        if self.install(alloc, task) {
+            Ok(())
+        } else {
+            Err(AllocError)
+        }
+    }
+
+    // A task installs without memory.
+    fn refuse_install(&mut self, task: &mut Task)
         requires { AtWork self.old task.old }
         ensures { (k : ℕ) → Does (Event.Install k false) self.old task.old self.new task.new None }
     {
@@ -251,16 +345,16 @@ impl Server {
         task.give_up(&mut self.shards[task.job.origin.slot.shard()], now);
     }
 
-    /// A task's worker is lost.
-    pub fn lose(&mut self, task: &mut Task)
+    // A task's worker is lost.
+    fn lose(&mut self, task: &mut Task)
         requires { AtWork self.old task.old }
         ensures { (k : ℕ) → Does (Event.Lose k) self.old task.old self.new task.new None }
     {
         task.lose();
     }
 
-    /// A task is answered at a moment in milliseconds, where it stands there: what is sent.
-    pub fn answer(&mut self, now: u64, task: &mut Task) -> Option<Emission>
+    // A task is answered at a moment in milliseconds, where it stands there: what is sent.
+    fn answer(&mut self, now: u64, task: &mut Task) -> Option<Emission>
         requires { AtWork self.old task.old }
         ensures { Responds now self.old task.old self.new task.new result }
     {

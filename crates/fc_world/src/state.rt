@@ -10,8 +10,8 @@ ghost use Rattle.fc_server.specs.Steps.{DeliveredTo, Done, IsReached, Steps};
 ghost use Rattle.fc_world.specs.Parts.{parts};
 
 use coap_msg::{Emission, Endpoint};
-use fc_core::{Delivered, Event, Task};
-use fc_help::Readings;
+use fc_core::front::blank_emission;
+use fc_core::{Event, Heard, Task};
 use fc_observe::Ticked;
 use fc_registry::SHARDS;
 use fc_server::{Begin, Server};
@@ -34,11 +34,18 @@ impl State {
     ) -> Result<Option<Emission>, AllocError>
         ensures { IfOk result (λ emitted. DeliveredTo now endpoint bytes.now (parts self.old) (parts self.new) emitted) }
     {
-        match self.server.deliver(now, endpoint, bytes) {
-            Delivered::Nothing | Delivered::Signal { .. } => Ok(None),
-            Delivered::Reply(emission) => Ok(Some(emission)),
-            Delivered::Job(job) => {
-                self.tasks.push(Task::new(job))?;
+        let mut task = Task::blank();
+        let mut reply = blank_emission();
+        match self
+            .server
+            .hear(now, endpoint, bytes, &mut task.job, &mut reply)
+        {
+            Heard::Nothing => Ok(None),
+            Heard::Signal { .. } => Ok(None),
+            Heard::Reply => Ok(Some(reply)),
+            Heard::Job => {
+                task.begin();
+                self.tasks.push(task)?;
                 Ok(None)
             }
         }
@@ -84,120 +91,6 @@ impl State {
             Ticked::Removed | Ticked::Quiet => None,
         }
     }
-
-    fn take(&mut self, job: usize, memory: bool, readings: &Readings) -> Result<(), AllocError>
-        requires job { job < length self.old.tasks.items }
-        requires work { AtWork self.old.server (task_at self.old.tasks.items job) }
-        ensures { OnOk result (Done (Event.Take job memory readings.now) (parts self.old) None (parts self.new)) }
-    {
-        let task = &mut self.tasks[job];
-        if !memory {
-            self.server.refuse_take(task);
-            return Ok(());
-        }
-        if self.server.take(readings, task) {
-            Ok(())
-        } else {
-            Err(AllocError)
-        }
-    }
-
-    fn commit(&mut self, job: usize, now: u64)
-        requires job { job < length self.old.tasks.items }
-        requires work { AtWork self.old.server (task_at self.old.tasks.items job) }
-        ensures { Done (Event.Commit job now) (parts self.old) None (parts self.new) }
-    {
-        self.server.commit(now, &mut self.tasks[job]);
-    }
-
-    fn install(&mut self, alloc: Global, job: usize, memory: bool) -> Result<(), AllocError>
-        requires job { job < length self.old.tasks.items }
-        requires work { AtWork self.old.server (task_at self.old.tasks.items job) }
-        ensures { OnOk result (Done (Event.Install job memory) (parts self.old) None (parts self.new)) }
-    {
-        let task = &mut self.tasks[job];
-        if !memory {
-            self.server.refuse_install(task);
-            return Ok(());
-        }
-        if self.server.install(alloc, task) {
-            Ok(())
-        } else {
-            Err(AllocError)
-        }
-    }
-
-    fn peek(&mut self, job: usize, slot: u8)
-        requires job { job < length self.old.tasks.items }
-        requires work { AtWork self.old.server (task_at self.old.tasks.items job) }
-        ensures { Done (Event.Peek job slot) (parts self.old) None (parts self.new) }
-    {
-        self.server.peek(&mut self.tasks[job], slot);
-    }
-
-    fn remove(&mut self, job: usize)
-        requires job { job < length self.old.tasks.items }
-        requires work { AtWork self.old.server (task_at self.old.tasks.items job) }
-        ensures { Done (Event.Remove job) (parts self.old) None (parts self.new) }
-    {
-        self.server.remove(&mut self.tasks[job]);
-    }
-
-    fn describe(&mut self, job: usize)
-        requires job { job < length self.old.tasks.items }
-        requires work { AtWork self.old.server (task_at self.old.tasks.items job) }
-        ensures { Done (Event.Receipt job) (parts self.old) None (parts self.new) }
-    {
-        self.server.describe(&mut self.tasks[job]);
-    }
-
-    fn raise(&mut self, job: usize)
-        requires job { job < length self.old.tasks.items }
-        requires work { AtWork self.old.server (task_at self.old.tasks.items job) }
-        ensures { Done (Event.Raise job) (parts self.old) None (parts self.new) }
-    {
-        self.server.raise(&mut self.tasks[job]);
-    }
-
-    fn fresh(&mut self, job: usize, now: u64)
-        requires job { job < length self.old.tasks.items }
-        requires work { AtWork self.old.server (task_at self.old.tasks.items job) }
-        ensures { Done (Event.Fresh job now) (parts self.old) None (parts self.new) }
-    {
-        self.server.fresh(now, &mut self.tasks[job]);
-    }
-
-    fn note(&mut self, job: usize, now: u64, random: u16) -> Option<Emission>
-        requires job { job < length self.old.tasks.items }
-        requires work { AtWork self.old.server (task_at self.old.tasks.items job) }
-        ensures { Done (Event.Note job now random) (parts self.old) result (parts self.new) }
-    {
-        self.server.note(now, random, &mut self.tasks[job])
-    }
-
-    fn give_up(&mut self, job: usize, now: u64)
-        requires job { job < length self.old.tasks.items }
-        requires work { AtWork self.old.server (task_at self.old.tasks.items job) }
-        ensures { Done (Event.GiveUp job now) (parts self.old) None (parts self.new) }
-    {
-        self.server.give_up(now, &mut self.tasks[job]);
-    }
-
-    fn lose(&mut self, job: usize)
-        requires job { job < length self.old.tasks.items }
-        requires work { AtWork self.old.server (task_at self.old.tasks.items job) }
-        ensures { Done (Event.Lose job) (parts self.old) None (parts self.new) }
-    {
-        self.server.lose(&mut self.tasks[job]);
-    }
-
-    fn answer(&mut self, job: usize, now: u64) -> Option<Emission>
-        requires job { job < length self.old.tasks.items }
-        requires work { AtWork self.old.server (task_at self.old.tasks.items job) }
-        ensures { Done (Event.Answer job now) (parts self.old) result (parts self.new) }
-    {
-        self.server.answer(now, &mut self.tasks[job])
-    }
 }
 
 impl State {
@@ -239,62 +132,10 @@ impl State {
     ) -> Result<Option<Emission>, AllocError>
         requires job { job < length self.old.tasks.items }
         requires named { names event.now ≡ Some job }
-        requires reached { IsReached (parts self.old) }
-        ensures { IfOk result (λ o. Steps event.now (parts self.old) o (parts self.new)) }
+        requires work { AtWork self.old.server (task_at self.old.tasks.items job) }
+        ensures { IfOk result (λ o. Done event.now (parts self.old) o (parts self.new)) }
     {
-        match *event {
-            Event::Take {
-                job: _,
-                memory,
-                readings,
-            } => {
-                self.take(job, memory, &readings)?;
-                Ok(None)
-            }
-            Event::Commit { job: _, now } => {
-                self.commit(job, now);
-                Ok(None)
-            }
-            Event::Install { job: _, memory } => {
-                self.install(alloc, job, memory)?;
-                Ok(None)
-            }
-            Event::Peek { job: _, slot } => {
-                self.peek(job, slot);
-                Ok(None)
-            }
-            Event::Remove { job: _ } => {
-                self.remove(job);
-                Ok(None)
-            }
-            Event::Receipt { job: _ } => {
-                self.describe(job);
-                Ok(None)
-            }
-            Event::Raise { job: _ } => {
-                self.raise(job);
-                Ok(None)
-            }
-            Event::Fresh { job: _, now } => {
-                self.fresh(job, now);
-                Ok(None)
-            }
-            Event::Note {
-                job: _,
-                now,
-                random,
-            } => Ok(self.note(job, now, random)),
-            Event::GiveUp { job: _, now } => {
-                self.give_up(job, now);
-                Ok(None)
-            }
-            Event::Lose { job: _ } => {
-                self.lose(job);
-                Ok(None)
-            }
-            Event::Answer { job: _, now } => Ok(self.answer(job, now)),
-            _ => unreachable!(),
-        }
+        self.server.work(alloc, event, &mut self.tasks[job])
     }
 
     // Carries out an event that names no job.

@@ -1,7 +1,0 @@
-use Rattle.std.proofs.Common.{refl}
-use Rattle.fc_core.specs.declared.event.Event.TheVariants.{Remove}
-use Rattle.fc_world.proofs.Moving.{does_moves}
-use Rattle.fc_world.proofs.state.State.remove.Goals as goal
-
-pub returns : goal.returns
-returns c = does_moves (Remove c.args.job) c.args.job (refl, refl, refl) c.args.self.now.server c.remove.new.self c.args.self.now.tasks.items c.index_mut.result.now c.remove.new.task c.requires.job c.index_mut.ensures.value (c.remove.ensures c.args.job)
