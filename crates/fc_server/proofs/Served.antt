@@ -23,7 +23,7 @@ use Rattle.fc_core.specs.Receiving as x
 use Rattle.fc_core.specs.Receiving.{Received, after_delivered, brought, delivered, handed_on, next_opening, received, reply_or_nothing, sent}
 use Rattle.fc_core.specs.Stages.{new_task}
 use Rattle.fc_server.specs.Agreement.{Agrees, Parts}
-use Rattle.fc_server.specs.Serving.{TurnGiven, Delivers, Heard, Hears, IsReachable, AsksForTurn, Passes, TicksShard, Serves, next, signalled_below, turned, with_tasks, worked}
+use Rattle.fc_server.specs.Serving.{TurnGiven, Delivers, Heard, Hears, IsReachable, AsksForTurn, Passes, TicksShard, Serves, next, signalled_below, turned, with_tasks, worked, IsBegun, IsSignalled, WorksOff}
 use Rattle.fc_server.specs.States.{Responds, AtWork, Does, DrawsId, ServerState}
 use Rattle.fc_server.specs.Steps.{DeliveredTo, Done, IsOfJob, IsReached, resent_if, shard_asked, shard_changed, shard_resent, shard_ticked, shard_turn, turn_if}
 use Rattle.fc_server.proofs.Others.{delivered_done, does_done, draws_done, responds_done, shard_done, ticked_done}
@@ -199,6 +199,26 @@ pub heard_on : (readings : List ℕ) (now : ℕ) (to : Endpoint) (b : Bor (List 
 heard_on readings now to b old new d out none emits is front shards words h tasks v =
     let serves = subst (λ (o : Option Emission). Serves (next h (Deliver now to b) o) new (tasks ++ map new_task (jobs_by d))) (sym emits) (delivered_on now to b old new d is front shards words h tasks v) in
     subst (λ (y : Delivered). Heard readings h (length tasks) now to b y new out) (sym is) (heard_jobless readings h (length tasks) now to b new out d none (record { tasks = tasks ++ map new_task (jobs_by d); serves = serves }))
+
+-- a delivery that brings a job, which is worked off
+module _ (now : ℕ) (to : Endpoint) (b : Bor (List ℕ)) (old mid : ServerState) (job : Job) (is : delivered (advanced old.front now) to b.now ≡ Brings job) (front : mid.front ≡ after_delivered (advanced old.front now) to b.now) (shards : mid.shards ≡ old.shards) (words : mid.words ≡ old.words) where
+  pub begun_by : IsReachable old → IsBegun mid (new_task job)
+  begun_by s = record { history = next s.history (Deliver now to b) None; rest = s.tasks; serves = delivered_on now to b old mid (Brings job) is front shards words s.history s.tasks s.serves }
+
+  pub heard_job : (readings : List ℕ) (new : ServerState) (out : Option Emission) → WorksOff readings job.ask now mid (new_task job) new out → Hears readings now to b (delivered (advanced old.front now) to b.now) old new out
+  heard_job readings new out works h tasks v =
+      subst (λ (y : Delivered). Heard readings h (length tasks) now to b y new out) (sym is)
+      (works (next h (Deliver now to b) None) tasks (delivered_on now to b old mid (Brings job) is front shards words h tasks v))
+
+-- a delivery that brings a signal, which each shard gets
+module _ (now : ℕ) (to : Endpoint) (b : Bor (List ℕ)) (old mid : ServerState) (id : ℕ) (reset : Bool) (is : delivered (advanced old.front now) to b.now ≡ Signals id reset) (front : mid.front ≡ after_delivered (advanced old.front now) to b.now) (shards : mid.shards ≡ old.shards) (words : mid.words ≡ old.words) where
+  pub reached_by : IsReachable old → IsReachable mid
+  reached_by s = record { history = next s.history (Deliver now to b) None; tasks = s.tasks ++ []; serves = delivered_on now to b old mid (Signals id reset) is front shards words s.history s.tasks s.serves }
+
+  pub heard_signal : (readings : List ℕ) (new : ServerState) → IsSignalled to id reset mid new → Hears readings now to b (delivered (advanced old.front now) to b.now) old new None
+  heard_signal readings new signals h tasks v =
+      subst (λ (y : Delivered). Heard readings h (length tasks) now to b y new None) (sym is)
+      (refl, record { tasks = tasks ++ []; serves = signals (next h (Deliver now to b) None) (tasks ++ []) (delivered_on now to b old mid (Signals id reset) is front shards words h tasks v) })
 
 -- a server that heard a datagram is one that some history leaves
 heard_served : (readings : List ℕ) (h : History) (k now : ℕ) (to : Endpoint) (b : Bor (List ℕ)) (new : ServerState) (out : Option Emission) (d : Delivered) → Heard readings h k now to b d new out → IsReachable new

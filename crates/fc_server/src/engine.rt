@@ -76,16 +76,28 @@ impl Engine {
         ensures { Hears readings.now now endpoint bytes.entry (delivered (advanced self.old.front now) endpoint bytes.now)
             self.old self.new (emission_if result reply.new) }
     {
-        hear(
-            &mut self.server,
-            &mut self.task,
-            alloc,
-            now,
-            endpoint,
-            bytes,
-            readings,
-            reply,
-        )
+        match self
+            .server
+            .hear(now, endpoint, bytes, &mut self.task.job, reply)
+        {
+            Heard::Nothing => false,
+            Heard::Reply => true,
+            Heard::Signal { mid, reset } => {
+                signal(&mut self.server, endpoint, mid, reset);
+                false
+            }
+            Heard::Job => {
+                self.task.begin();
+                work_off(
+                    &mut self.server,
+                    alloc,
+                    now,
+                    &mut self.task,
+                    readings,
+                    reply,
+                )
+            }
+        }
     }
 
     /// Takes in a moment in milliseconds: what it does is the event Tick.
@@ -101,7 +113,7 @@ impl Engine {
         requires { shard < 8 }
         ensures { TicksShard shard now self.old self.new (resent result) }
     {
-        resend(&mut self.server, shard, now)
+        self.server.tick_shard(shard, now)
     }
 
     /// Advances a shard, 0 to 7, to a moment in milliseconds where no notification is late by then, and no observer is due: the event ShardTick, after which
@@ -111,7 +123,7 @@ impl Engine {
         ensures quiet { result ≡ is_quiet (handed (shard_at self.old.shards shard) now) }
         ensures after { MatchBool result (TicksShard shard now self.old self.new None) (self.new ≡ self.old) }
     {
-        advance_if_quiet(&mut self.server, shard, now)
+        self.server.advance_if_quiet(shard, now)
     }
 
     /// Asks a shard, 0 to 7, for the turn of an observer that is due at a moment in milliseconds, and works it off: the events Due, and,
@@ -120,14 +132,14 @@ impl Engine {
         requires { shard < 8 }
         ensures { AsksForTurn readings.now shard now random self.old self.new (is_given result) (notification_in result) }
     {
-        notify(
-            &mut self.server,
-            &mut self.task,
-            shard,
-            now,
-            readings,
-            random,
-        )
+        match self.server.due(shard, now) {
+            None => Notified::Nobody,
+            Some(job) => {
+                self.task.job = job;
+                self.task.begin();
+                tell(&mut self.server, now, readings, random, &mut self.task)
+            }
+        }
     }
 }
 
@@ -144,34 +156,6 @@ pub enum Notified {
     Nobody,
 }
 
-fn hear(
-    server: &mut Server,
-    task: &mut Task,
-    alloc: Global,
-    now: u64,
-    endpoint: Endpoint,
-    bytes: &[u8],
-    readings: &Readings,
-    reply: &mut Emission,
-) -> bool
-    requires { IsReachable server.old }
-    ensures { Hears readings.now now endpoint bytes.entry (delivered (advanced server.old.front now) endpoint bytes.now)
-        server.old server.new (emission_if result reply.new) }
-{
-    match server.hear(now, endpoint, bytes, &mut task.job, reply) {
-        Heard::Nothing => false,
-        Heard::Reply => true,
-        Heard::Signal { mid, reset } => {
-            signal(server, endpoint, mid, reset);
-            false
-        }
-        Heard::Job => {
-            task.begin();
-            work_off(server, alloc, now, task, readings, reply)
-        }
-    }
-}
-
 // Hands a signal to each shard.
 fn signal(server: &mut Server, endpoint: Endpoint, id: u16, reset: bool)
     requires { IsReachable server.old }
@@ -179,45 +163,6 @@ fn signal(server: &mut Server, endpoint: Endpoint, id: u16, reset: bool)
 {
     for shard in 0..SHARDS {
         server.signal(shard, endpoint, id, reset);
-    }
-}
-
-fn resend(server: &mut Server, shard: u8, now: u64) -> Ticked
-    requires shard { shard < 8 }
-    requires reachable { IsReachable server.old }
-    ensures { TicksShard shard now server.old server.new (resent result) }
-{
-    server.tick_shard(shard, now)
-}
-
-fn advance_if_quiet(server: &mut Server, shard: u8, now: u64) -> bool
-    requires shard { shard < 8 }
-    requires reachable { IsReachable server.old }
-    ensures quiet { result ≡ is_quiet (handed (shard_at server.old.shards shard) now) }
-    ensures after { MatchBool result (TicksShard shard now server.old server.new None) (server.new ≡ server.old) }
-{
-    server.advance_if_quiet(shard, now)
-}
-
-fn notify(
-    server: &mut Server,
-    task: &mut Task,
-    shard: u8,
-    now: u64,
-    readings: &Readings,
-    random: u16,
-) -> Notified
-    requires shard { shard < 8 }
-    requires reachable { IsReachable server.old }
-    ensures { AsksForTurn readings.now shard now random server.old server.new (is_given result) (notification_in result) }
-{
-    match server.due(shard, now) {
-        None => Notified::Nobody,
-        Some(job) => {
-            task.job = job;
-            task.begin();
-            tell(server, now, readings, random, task)
-        }
     }
 }
 
