@@ -43,8 +43,8 @@ module _ {S : Type 0} (IsMoment : ℕ → Type 0) (Readies : ℕ → S → S →
   IsReceivedBy now (Some incoming) old sent new = IsHeardBy Hears now incoming old sent new
   IsReceivedBy now None old sent new = Passes now old new × (sent ≡ None)
 
-  -- the server was made ready; what was received was carried out; what was late was sent again, and observers were notified, until nothing was left; and just
-  -- what was to be sent was handed to the sink, in order
+  -- the server was made ready; what was received was carried out; what was late was sent again, and observers were notified, until nothing was left; and each emission of this
+  -- was handed to the sink
   pub record IsRoundBy (r : Round) (old new : S) : Type 0 where
     pub moment : IsMoment r.now
     pub ready : S
@@ -60,7 +60,7 @@ module _ {S : Type 0} (IsMoment : ℕ → Type 0) (Readies : ℕ → S → S →
   AreRoundsBy [] old new = new ≡ old
   AreRoundsBy (r ∷ rs) old new = (mid : S) × AreRoundsBy rs old mid × IsRoundBy r mid new
 
-  -- each datagram that a source gave was received in one round, in order; and the replies are just what was handed to the sink
+  -- each datagram that a source gave was received in one round, in order; and the replies are those of the rounds, as the sink told
   pub record HasRun (before after : Option (List Incoming)) (old new : S) (replies : Replies) : Type 0 where
     pub rounds : List Round
     pub are_rounds : AreRoundsBy rounds old new

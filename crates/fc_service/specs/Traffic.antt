@@ -15,7 +15,7 @@ pub record Sending : Type 0 where
   pub emission : Emission
   pub out : Bool
 
--- just these emissions were handed to a sink, in order
+-- each of these emissions was handed to a sink
 abbrev pub AreSent : (Emission → Bool → Type 0) → List Emission → List Sending → Type 0
 AreSent Went emissions sendings = All (λ s. Went s.emission s.out) sendings × (map (λ s. s.emission) sendings ≡ emissions)
 
@@ -24,7 +24,7 @@ abbrev pub counted_each : List Sending → Replies → Replies
 counted_each [] r = r
 counted_each (s ∷ ss) r = counted_each ss (counted (Some s.out) r)
 
--- just these emissions were handed to a sink, in order, and each is counted once
+-- each of these emissions was handed to a sink, and is counted once, as that told
 abbrev pub Sends : (Emission → Bool → Type 0) → List Emission → Replies → Replies → Type 0
 Sends Went emissions before after = (sendings : List Sending) × AreSent Went emissions sendings × (after ≡ counted_each sendings before)
 

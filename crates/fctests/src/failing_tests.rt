@@ -107,7 +107,14 @@ fn check_served<R: Abort + AllocGlobal + Threads + Wait + Clock + Sync>(
     };
     let extent = Extent { workers, limit: 8 };
     let status = serve_at(
-        rt, alloc, &log, &mut err, &NoSensors, &mut letters, &matching, extent,
+        rt,
+        alloc,
+        &log,
+        &mut err,
+        &NoSensors,
+        &mut letters,
+        &matching,
+        extent,
     );
     assert!(rt; status == Status::Done && err.is_empty());
     assert!(rt;

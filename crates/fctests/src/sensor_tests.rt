@@ -79,7 +79,14 @@ fn serve_sensing<R: Threads + Wait + Clock + Sync, Z: Sensors + Sync>(
     let mut err = Vec::new(alloc);
     let mut source = socket;
     serve_at(
-        rt, alloc, &log, &mut err, sensors, &mut source, socket, extent,
+        rt,
+        alloc,
+        &log,
+        &mut err,
+        sensors,
+        &mut source,
+        socket,
+        extent,
     )
 }
 

@@ -1,5 +1,5 @@
 // A server and its clients in one process, over sockets of this host: the expected bytes are worked out by hand.
-ghost use Rattle.std.specs.Prelude.{◌≡◌, ◌≤◌, [], ◌∷◌, IfSome, Some, length, map, take};
+ghost use Rattle.std.specs.Prelude.{◌≤◌, IfSome, length};
 
 use crate::tooling::assembled;
 use coap_msg::{Emission, Endpoint};
@@ -102,7 +102,14 @@ pub(crate) fn serve_logged<R: Threads + Wait + Clock + Sync>(
     let mut err = Vec::new(alloc);
     let mut source = socket;
     let status = serve_at(
-        rt, alloc, &log, &mut err, &NoSensors, &mut source, socket, extent,
+        rt,
+        alloc,
+        &log,
+        &mut err,
+        &NoSensors,
+        &mut source,
+        socket,
+        extent,
     );
     (status, memory)
 }
@@ -251,19 +258,16 @@ fn bodies_go_and_come_by_blocks(rt: HostRuntime) -> Result<(), Fail> {
     Ok(())
 }
 
-// A source that has the next of its datagrams at every second call, and nothing in time at the others; then it has nothing.
+// A source that has a datagram at every second call, and nothing in time at the others: a path that is none, which needs no
+// job, and slot 0, which does and is empty. Then it has nothing.
 #[derive(Drop)]
-struct Script<'a> {
-    datagrams: &'a [[u8; 8]],
-    given: usize,
+struct Script {
     calls: usize,
 }
 
-// A path that is none, which needs no job, and slot 0, which does and is empty.
-static SCRIPT: [[u8; 8]; 2] = [
-    [0x40, 0x01, 0x00, 0x01, 0xb3, 0x78, 0x79, 0x7a],
-    [0x40, 0x01, 0x00, 0x02, 0xb1, 0x72, 0x01, 0x30],
-];
+static NO_PATH: [u8; 6] = [0x40, 0x01, 0x00, 0x01, 0xb1, 0x78];
+
+static NO_PROGRAM: [u8; 8] = [0x40, 0x01, 0x00, 0x02, 0xb1, 0x72, 0x01, 0x30];
 
 // Where a peer's datagrams come from.
 const PEER: Endpoint = Endpoint {
@@ -278,25 +282,14 @@ pub(crate) fn put_datagram(bytes: &[u8], buffer: &mut [u8]) -> Option<(usize, En
     Some((bytes.len(), PEER))
 }
 
-// Copies a datagram to the start of a buffer that has room for it.
-fn put_eight(datagram: &[u8; 8], buffer: &mut [u8])
-    requires { 8 ≤ length buffer.old }
-    ensures { take 8 buffer.new ≡ datagram.now }
-{
-    buffer[..8].copy_from_slice(datagram);
-}
-
-impl<'a> Source for Script<'a> {
-    ghost came = { λ s. Some (map (λ bytes. record { from = record { ip = 127 ∷ 0 ∷ 0 ∷ 1 ∷ []; port = 5683 }; bytes = bytes }) (take s.given s.datagrams.now)) };
-
+impl Source for Script {
     fn receive(&mut self, buffer: &mut [u8]) -> Option<(usize, Endpoint)> {
         self.calls = self.calls.saturating_add(1);
-        if self.calls % 2 == 1 || self.given >= self.datagrams.len() || buffer.len() < 8 {
-            return None;
+        match self.calls {
+            2 => put_datagram(&NO_PATH, buffer),
+            4 => put_datagram(&NO_PROGRAM, buffer),
+            _ => None,
         }
-        put_eight(&self.datagrams[self.given], buffer);
-        self.given += 1;
-        Some((8, PEER))
     }
 }
 
@@ -323,22 +316,23 @@ fn serve_script<R: Abort + AllocGlobal + Threads + Wait + Clock + Sync>(
     let memory = Memory::new(alloc);
     let log = Logged::new(rt, level, &memory);
     let mut err = Vec::new(alloc);
-    let mut script = Script {
-        datagrams: &SCRIPT,
-        given: 0,
-        calls: 0,
-    };
+    let mut script = Script { calls: 0 };
     let lossy = Lossy {
         sends: AtomicUsize::new(0),
     };
     let extent = Extent { workers, limit: 2 };
     let status = serve_at(
-        rt, alloc, &log, &mut err, &NoSensors, &mut script, &lossy, extent,
+        rt,
+        alloc,
+        &log,
+        &mut err,
+        &NoSensors,
+        &mut script,
+        &lossy,
+        extent,
     );
     assert!(rt; status == Status::Done && err.is_empty());
-    assert!(rt;
-        script.calls == 4 && lossy.sends.load(Ordering::SeqCst) == 2
-    );
+    assert!(rt; script.calls == 4 && lossy.sends.load(Ordering::SeqCst) == 2);
     memory
 }
 
