@@ -1,11 +1,11 @@
 -- What is taken in.
-use Rattle.std.specs.Prelude.{◌≡◌, ℕ, List, [], ◌∷◌, take, Bool, true, false, Option, Some, None}
+use Rattle.std.specs.Prelude.{◌≡◌, ◌⊎◌, ℕ, List, [], ◌∷◌, take, Bool, true, false, Option, Some, None}
 use Rattle.std.specs.Borrow.{Bor}
 use Rattle.coap_msg.specs.declared.types.Emission.{Emission}
 use Rattle.coap_msg.specs.declared.types.Endpoint.{Endpoint}
 use Rattle.fc_core.specs.Receiving.{emission_if}
 use Rattle.fc_core.specs.declared.front.Heard.{Heard}
-use Rattle.fc_core.specs.declared.front.Heard.TheVariants.{Reply}
+use Rattle.fc_core.specs.declared.front.Heard.TheVariants.{Job, Reply}
 
 -- a datagram that was received: who sent it, and its bytes
 pub record Incoming : Type 0 where
@@ -30,3 +30,8 @@ pub record IsHeardBy {S : Type 0} (Hears : ℕ → Endpoint → Bor (List ℕ) �
   pub reply : Emission
   pub hears : Hears now incoming.from borrow old new heard reply
   pub sent_is : sent ≡ emission_if (is_reply heard) reply
+
+-- who waits for workers heard a datagram as who is waited for did: it was told the same, and the same was written, unless this was a job
+abbrev pub IsWaitedFor : {S : Type 0} → (ℕ → Endpoint → Bor (List ℕ) → S → S → Heard → Emission → Type 0) → ℕ → Endpoint → Bor (List ℕ) → S → S → Heard → Emission → Type 0
+IsWaitedFor Hears now from bytes old new heard reply =
+    (told : Heard) × (written : Emission) × Hears now from bytes old new told written × ((told ≡ Job) ⊎ ((heard ≡ told) × (reply ≡ written)))

@@ -1,4 +1,9 @@
 //! Where who plays lines waits for the worker that has a line's job.
+ghost use Rattle.std.specs.Prelude.{◌≡◌, ◌⊎◌};
+ghost use Rattle.fc_server.specs.declared.engine.Notified.{Notified};
+ghost use Rattle.fc_server.specs.declared.engine.Notified.TheVariants.{Unsent};
+ghost use Rattle.fc_service.specs.Intakes.{IsWaitedFor};
+
 use crate::lines::LineIntake;
 use crate::pool::Intake;
 use coap_msg::{Emission, Endpoint};
@@ -116,6 +121,16 @@ pub(crate) struct Waiting<'a, 'b, R: Wait, N: Intake> {
 }
 
 impl<'a, 'b, R: Wait, N: Intake> Intake for Waiting<'a, 'b, R, N> {
+    ghost hears = { λ now from bytes old new heard reply. IsWaitedFor N.hears now from bytes old.intake.now new.intake.now heard reply };
+
+    ghost passes = { λ now old new. N.passes now old.intake.now new.intake.now };
+
+    ghost resends = { λ shard now old new ticked. N.resends shard now old.intake.now new.intake.now ticked };
+
+    ghost passes_over = { λ shard now old new. N.passes_over shard now old.intake.now new.intake.now };
+
+    ghost notifies = { λ shard now old new told. (asked : Notified) × N.notifies shard now old.intake.now new.intake.now asked × (asked ≡ told ⊎ asked ≡ Unsent) };
+
     fn hear(&mut self, now: u64, from: Endpoint, bytes: &[u8], reply: &mut Emission) -> Heard {
         self.board.begin(self.rt, now);
         match self.intake.hear(now, from, bytes, reply) {
