@@ -1,6 +1,4 @@
 pub mod Ids
-pub mod AskLaws
-pub mod BodyLaws
 pub mod Contents
 pub mod Heads
 pub mod Links
@@ -17,14 +15,5 @@ pub mod Fits
 pub mod History
 pub mod Sound
 pub mod Legal
-pub mod KeptLaws
 pub mod Laws
-pub mod SlotLaws
-pub mod ObserveLaws
-pub mod HeadLaws
 pub mod AnswerLaws
-pub mod ExchangeLaws
-pub mod TurnLaws
-pub mod ReplyLaws
-pub mod RefusalLaws
-pub mod ShardLaws

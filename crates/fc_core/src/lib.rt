@@ -23,27 +23,14 @@
 #![tactic(auto)]
 
 pub mod answer;
-pub mod answer_laws;
-pub mod ask_laws;
-pub mod body_laws;
 pub mod event;
-pub mod exchange_laws;
 pub mod front;
 pub mod heads;
 mod ids;
-pub mod laws;
-pub mod observe_laws;
-pub mod refusal_laws;
 mod reply;
-pub mod reply_laws;
-pub mod response_laws;
-pub mod shard_laws;
-pub mod slot_laws;
 pub mod stage;
 pub mod task;
 mod text;
-pub mod turn_laws;
-pub mod way_laws;
 
 pub use answer::{Answer, End, Words};
 pub use event::Event;

@@ -1,5 +1,0 @@
-use Rattle.fc_core.proofs.Reasons.{empty_misses}
-use Rattle.fc_core.proofs.answer_laws.empty_slots_are_missing.Goals as goal
-
-pub returns : goal.returns
-returns c = empty_misses

@@ -1,5 +1,0 @@
-use Rattle.fc_core.proofs.FirstBlocks.{errors_are_bare}
-use Rattle.fc_core.proofs.answer_laws.errors_carry_no_block.Goals as goal
-
-pub returns : goal.returns
-returns c = errors_are_bare

@@ -1,5 +1,0 @@
-use Rattle.fc_core.proofs.Asking.{jobs_come}
-use Rattle.fc_core.proofs.ask_laws.requests_bring_jobs.Goals as goal
-
-pub returns : goal.returns
-returns c = jobs_come

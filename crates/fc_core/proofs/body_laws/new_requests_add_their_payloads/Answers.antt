@@ -1,8 +1,0 @@
-use Rattle.fc_core.proofs.Bodies.{others_add_nothing, requests_add}
-use Rattle.fc_core.proofs.body_laws.new_requests_add_their_payloads.Goals as goal
-
-pub returns-clause-adds : goal.returns-clause-adds
-returns-clause-adds c = requests_add
-
-pub returns-clause-others : goal.returns-clause-others
-returns-clause-others c = others_add_nothing

@@ -1,5 +1,0 @@
-use Rattle.fc_core.proofs.Once.{jobs_apart}
-use Rattle.fc_core.proofs.exchange_laws.requests_are_carried_out_once.Goals as goal
-
-pub returns : goal.returns
-returns c = jobs_apart

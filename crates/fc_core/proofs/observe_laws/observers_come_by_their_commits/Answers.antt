@@ -1,8 +1,0 @@
-use Rattle.fc_core.proofs.Comers.{away_later, come_by_commits}
-use Rattle.fc_core.proofs.observe_laws.observers_come_by_their_commits.Goals as goal
-
-pub returns-clause-comes : goal.returns-clause-comes
-returns-clause-comes c = come_by_commits
-
-pub returns-clause-away : goal.returns-clause-away
-returns-clause-away c = away_later

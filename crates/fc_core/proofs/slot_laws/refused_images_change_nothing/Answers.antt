@@ -1,5 +1,0 @@
-use Rattle.fc_core.proofs.Causes.{refused_stays}
-use Rattle.fc_core.proofs.slot_laws.refused_images_change_nothing.Goals as goal
-
-pub returns : goal.returns
-returns c = refused_stays

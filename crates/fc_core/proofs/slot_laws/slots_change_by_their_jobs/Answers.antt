@@ -1,5 +1,0 @@
-use Rattle.fc_core.proofs.Causes.{does}
-use Rattle.fc_core.proofs.slot_laws.slots_change_by_their_jobs.Goals as goal
-
-pub returns : goal.returns
-returns c = does

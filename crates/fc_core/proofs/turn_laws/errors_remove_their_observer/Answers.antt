@@ -1,5 +1,0 @@
-use Rattle.fc_core.proofs.Erring.{observer_removed}
-use Rattle.fc_core.proofs.turn_laws.errors_remove_their_observer.Goals as goal
-
-pub returns : goal.returns
-returns c = λ s k now random id turn found x e. observer_removed s k now random id turn found e x

@@ -1,5 +1,0 @@
-use Rattle.fc_core.proofs.Stayers.{stays_or_removed}
-use Rattle.fc_core.proofs.turn_laws.observers_stay.Goals as goal
-
-pub returns : goal.returns
-returns c = stays_or_removed

@@ -1,0 +1,5 @@
+pub mod turns
+pub mod front
+pub mod jobs
+pub mod slots
+pub mod words

@@ -1,0 +1,15 @@
+pub mod Refusing
+pub mod Envelopes
+pub mod Unchanged
+pub mod Hushed
+pub mod Moments
+pub mod Repeats
+pub mod DrawnIds
+pub mod Once
+pub mod FirstBlocks
+pub mod Bodies
+pub mod Kept
+pub mod Asking
+pub mod BlockCauses
+pub mod Room
+pub mod AnswerCodes

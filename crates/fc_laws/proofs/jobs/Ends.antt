@@ -1,0 +1,170 @@
+-- A job is answered at most once, and one that has ended stays so.
+use Rattle.std.proofs.Common.{◌≡◌, ℕ, ◌+◌, ◌≤◌, List, [], ◌∷◌, ◌++◌, Bool, true, false, Option, Some, None, refl, sym, ap, ◌∙◌, subst, arith, if◌then◌else◌}
+use Rattle.coap_msg.specs.declared.types.Emission.{Emission}
+use Rattle.fc_registry.specs.declared.job.Ask.{Ask}
+use Rattle.fc_registry.specs.declared.job.Job.{Job}
+use Rattle.fc_registry.specs.Slots.{Slot, Present, Ticket}
+use Rattle.fc_registry.specs.Changes.{Change}
+use Rattle.fc_registry.specs.Calls.{commit_of, run_of, taking, ticket_of}
+use Rattle.fc_core.specs.declared.event.Event.{Event}
+use Rattle.fc_core.specs.declared.event.Event.TheVariants.{Take, Install, Raise, Answer, Lose}
+use Rattle.fc_core.specs.declared.stage.Stage.{Stage}
+use Rattle.fc_core.specs.declared.stage.Stage.TheVariants.{ToTake, ToCommit, ToInstall, ToRaise, ToAnswer, Gone, ToTell}
+use Rattle.fc_core.specs.declared.stage.TurnStage.TheVariants as turns
+use Rattle.fc_core.specs.Contents.{Content, Unavailable}
+use Rattle.fc_core.specs.History.{around, Entry, History, Then, Seen, seen, and_then, did, job, scene, slot_at, stage, task_at}
+use Rattle.fc_core.specs.Laws.{HasCome, Taking, answers_of, gives, is_answered, is_named, later, slot_of, takings_of}
+use Rattle.fc_core.specs.Stages.{first_by, took}
+use Rattle.fc_core.specs.Rows.{Around, Scene, row}
+use Rattle.fc_core.proofs.ByStep.{Step, by_move, by_step, event_by, move_by, stage_by}
+use Rattle.fc_core.proofs.ByStep as steps
+use Rattle.fc_laws.proofs.jobs.Along.{IsTold, along}
+use Rattle.fc_laws.proofs.jobs.Others.{is_here, kept_by, kept_later, named_stage, still_here}
+use Rattle.fc_laws.proofs.jobs.Steps.{becomes, gone_stays}
+
+abbrev at : Job → Slot → Around → Stage → Scene
+at job slot ws stage = record { job = job; slot = slot; around = ws; stage = stage }
+
+-- ---- answered at most once
+
+-- how often a job at this stage was answered
+abbrev FitsAnswers : ℕ → Stage → Type 0
+FitsAnswers n Gone = n ≤ 1
+FitsAnswers n other = n ≡ 0
+
+none_is_few : (n : ℕ) → n ≡ 0 → n ≤ 1
+none_is_few n f = omega (arith, f)
+
+at_most_once : (s : Stage) (n : ℕ) → FitsAnswers n s → n ≤ 1
+at_most_once Gone n f = f
+at_most_once other n f = none_is_few n f
+
+never_yet : (s : Stage) (n : ℕ) → n ≡ 0 → FitsAnswers n s
+never_yet Gone n is = omega arith
+never_yet other n is = is
+
+-- a job that isn't answered yet may need anything next
+step_answers : (k : ℕ) (c : Step) (job : Job) (slot : Slot) (ws : Around) (n : ℕ) → FitsAnswers n (stage_by c) → FitsAnswers (if is_answered (event_by k c) (stage_by c) then n + 1 else n) (move_by c job slot ws).stage
+step_answers k (steps.Answers now content) job slot ws n f = omega (arith, f)
+step_answers k (steps.Loses needs) job slot ws n f = at_most_once needs n f
+step_answers k other job slot ws n f = never_yet (move_by other job slot ws).stage n f
+
+row_answers : (e : Event) (job : Job) (slot : Slot) (ws : Around) (s : Stage) (n : ℕ) → FitsAnswers n s → FitsAnswers (if is_answered e s then n + 1 else n) (row e (at job slot ws s)).stage
+row_answers e job slot ws s n =
+    by_step (λ d st m. FitsAnswers n st → FitsAnswers (if is_answered d st then n + 1 else n) m.stage) job slot ws (λ k c asked. step_answers k c job slot ws n)
+    (λ d st rest f. subst (λ (b : Bool). FitsAnswers (if b then n + 1 else n) st) (sym rest.answered) f) e s
+
+gone_answered : (e : Event) → is_answered e Gone ≡ false
+gone_answered (Answer k now) = refl
+gone_answered other = refl
+
+first_answers : (ask : Ask) (serials : List ℕ) → FitsAnswers 0 (first_by ask serials)
+first_answers ask serials = never_yet (first_by ask serials) 0 refl
+
+abbrev once_more : Event → Seen → ℕ → ℕ → ℕ
+once_more e s k n = if is_answered e (stage s k) then n + 1 else n
+
+answers_told : IsTold answers_of once_more FitsAnswers 0
+answers_told = record {
+  begins = λ serial id k. refl;
+  then_is = λ h r k. refl;
+  still = λ e s k n is. ap (λ (b : Bool). if b then n + 1 else n) (ap (is_answered e) is ∙ gone_answered e);
+  gone = omega arith;
+  first = first_answers;
+  turns = λ turn. refl;
+  keeps = λ e s k n f. row_answers e (job s k) (slot_at s (slot_of s k)) (around s (slot_of s k)) (stage s k) n f;
+}
+
+answers_fit : (h : History) (k : ℕ) → FitsAnswers (answers_of h k) (stage (seen h) k)
+answers_fit = along answers_of once_more FitsAnswers 0 answers_told
+
+pub answered_once : (h : History) (k : ℕ) → answers_of h k ≤ 1
+answered_once h k = at_most_once (stage (seen h) k) (answers_of h k) (answers_fit h k)
+
+some_isnt_none : (P : Type 0) (n : ℕ) → n ≡ 0 → 1 ≤ n → P
+some_isnt_none P n f le = absurd (omega (arith, f))
+
+answered_by : (s : Stage) (n : ℕ) → FitsAnswers n s → 1 ≤ n → s ≡ Gone
+answered_by Gone n f le = refl
+answered_by other n f le = some_isnt_none (other ≡ Gone) n f le
+
+pub answered_gone : (h : History) (k : ℕ) → 1 ≤ answers_of h k → stage (seen h) k ≡ Gone
+answered_gone h k le = answered_by (stage (seen h) k) (answers_of h k) (answers_fit h k) le
+
+-- ---- ends
+
+row_gone : (e : Event) (job : Job) (slot : Slot) (ws : Around) (s : Stage) → s ≡ Gone → (row e (at job slot ws s)).stage ≡ Gone
+row_gone e job slot ws s is = ap (λ (x : Stage). (row e (at job slot ws x)).stage) is ∙ gone_stays e job slot ws
+
+pub gone_later : (h : History) (rs : List Entry) (k : ℕ) → HasCome (seen h) k → stage (seen h) k ≡ Gone → stage (seen (later h rs)) k ≡ Gone
+gone_later h rs k come is = kept_later (λ s. s ≡ Gone) row_gone rs h k come is
+
+pub lost_gone : (s : Seen) (k : ℕ) (o : Option Emission) → HasCome s k → stage (and_then (did (Lose k) o) s) k ≡ Gone
+lost_gone s k o come = named_stage (did (Lose k) o) s k come refl
+
+pub answer_gone : (s : Seen) (k now : ℕ) (o : Option Emission) (content : Content) → stage s k ≡ ToAnswer content → stage (and_then (did (Answer k now) o) s) k ≡ Gone
+answer_gone s k now o content is = named_stage (did (Answer k now) o) s k (is_here s k (ToAnswer content) is (λ e. absurd (cc e))) refl
+    ∙ ap (λ (x : Stage). (row (Answer k now) (at (job s k) (slot_at s (slot_of s k)) (around s (slot_of s k)) x)).stage) is
+
+pub raise_keeps : (s : Seen) (k word : ℕ) (o : Option Emission) (content : Content) → stage s k ≡ ToRaise word content → stage (and_then (did (Raise k) o) s) k ≡ ToAnswer content
+raise_keeps s k word o content is = named_stage (did (Raise k) o) s k (is_here s k (ToRaise word content) is (λ e. absurd (cc e))) refl
+    ∙ ap (λ (x : Stage). (row (Raise k) (at (job s k) (slot_at s (slot_of s k)) (around s (slot_of s k)) x)).stage) is
+
+-- ---- memory
+
+pub take_refused : (s : Seen) (k count : ℕ) (readings : List ℕ) (o : Option Emission) (p : Present) → stage s k ≡ ToTake count → (slot_at s (slot_of s k)).present ≡ Some p → stage (and_then (did (Take k false readings) o) s) k ≡ ToAnswer Unavailable
+take_refused s k count readings o p is holds = named_stage (did (Take k false readings) o) s k (is_here s k (ToTake count) is (λ e. absurd (cc e))) refl
+    ∙ (ap (λ (x : Stage). (row (Take k false readings) (at (job s k) (slot_at s (slot_of s k)) (around s (slot_of s k)) x)).stage) is
+    ∙ ap (λ (x : Option Present). took count (taking None (job s k) (slot_at s (slot_of s k)).serial x)) holds)
+
+-- a taking with memory keeps the readings that it is handed
+pub take_keeps : (s : Seen) (k count : ℕ) (readings : List ℕ) (o : Option Emission) (p : Present) → stage s k ≡ ToTake count → (slot_at s (slot_of s k)).present ≡ Some p → (t : Ticket) × (stage (and_then (did (Take k true readings) o) s) k ≡ ToCommit (count + 1) t) × ((run_of t).input.readings ≡ readings) × ((commit_of t).readings ≡ readings)
+take_keeps s k count readings o p is holds = (
+  ticket_of (job s k) readings (slot_at s (slot_of s k)).serial p,
+  named_stage (did (Take k true readings) o) s k (is_here s k (ToTake count) is (λ e. absurd (cc e))) refl
+      ∙ (ap (λ (x : Stage). (row (Take k true readings) (at (job s k) (slot_at s (slot_of s k)) (around s (slot_of s k)) x)).stage) is
+      ∙ ap (λ (x : Option Present). took count (taking (Some readings) (job s k) (slot_at s (slot_of s k)).serial x)) holds),
+  refl,
+  refl,
+)
+
+pub install_refused : (s : Seen) (k : ℕ) (o : Option Emission) → stage s k ≡ ToInstall → stage (and_then (did (Install k false) o) s) k ≡ ToAnswer Unavailable
+install_refused s k o is = named_stage (did (Install k false) o) s k (is_here s k ToInstall is (λ e. absurd (cc e))) refl
+    ∙ ap (λ (x : Stage). (row (Install k false) (at (job s k) (slot_at s (slot_of s k)) (around s (slot_of s k)) x)).stage) is
+
+-- a job that takes no more
+abbrev IsSettled : Stage → Type 0
+IsSettled (ToRaise word content) = Unit {0}
+IsSettled (ToAnswer content) = Unit {0}
+IsSettled Gone = Unit {0}
+IsSettled other = ⊥
+
+step_settled : (c : Step) (job : Job) (slot : Slot) (ws : Around) → IsSettled (stage_by c) → IsSettled (move_by c job slot ws).stage
+step_settled (steps.Raises word content) job slot ws f = tt
+step_settled (steps.Answers now content) job slot ws f = tt
+step_settled (steps.Loses needs) job slot ws f = tt
+step_settled other job slot ws f = absurd f
+
+row_settled : (e : Event) (job : Job) (slot : Slot) (ws : Around) (s : Stage) → IsSettled s → IsSettled (row e (at job slot ws s)).stage
+row_settled e job slot ws s = by_move (λ st m. IsSettled st → IsSettled m.stage) job slot ws (λ c asked. step_settled c job slot ws) (λ st f. f) e s
+
+settled_given : (e : Event) (job : Job) (slot : Slot) (ws : Around) (cs : List Change) (s : Stage) → IsSettled s → gives e (at job slot ws s) cs ≡ []
+settled_given (Take k true readings) job slot ws cs (ToTake count) f = absurd f
+settled_given (Take k true readings) job slot ws cs (ToTell turn turns.ToTake) f = absurd f
+settled_given (Take k false readings) job slot ws cs s f = refl
+settled_given other job slot ws cs s f = refl
+
+none_more : (b : Bool) (new ts : List Taking) → new ≡ [] → (if b then new ++ ts else ts) ≡ ts
+none_more true new ts is = ap (λ (l : List Taking). l ++ ts) is
+none_more false new ts is = refl
+
+settled_later : (rs : List Entry) (h : History) (k : ℕ) → HasCome (seen h) k → IsSettled (stage (seen h) k) → takings_of (later h rs) k ≡ takings_of h k
+unfolding seen
+settled_later [] h k come f = refl
+settled_later (r ∷ rs) h k come f =
+    let s = seen h in
+    settled_later rs (Then h r) k (still_here r s k come) (kept_by IsSettled row_settled r s k (task_at (and_then r s).tasks k) (becomes r s k) come f)
+    ∙ none_more (is_named k r.event) (gives r.event (scene s k) (s.changes (slot_of s k))) (takings_of h k) (settled_given r.event (job s k) (slot_at s (slot_of s k)) (around s (slot_of s k)) (s.changes (slot_of s k)) (stage s k) f)
+
+pub none_taken_later : (h : History) (rs : List Entry) (k : ℕ) (content : Content) → stage (seen h) k ≡ ToAnswer content → takings_of (later h rs) k ≡ takings_of h k
+none_taken_later h rs k content is = settled_later rs h k (is_here (seen h) k (ToAnswer content) is (λ e. absurd (cc e))) (subst IsSettled (sym is) tt)

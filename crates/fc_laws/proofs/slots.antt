@@ -1,0 +1,5 @@
+pub mod Changing
+pub mod Causes
+pub mod Writing
+pub mod Published
+pub mod Deletions

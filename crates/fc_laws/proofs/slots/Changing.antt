@@ -1,0 +1,256 @@
+-- A job changes its slot at most once, and then publishes its serial.
+use Rattle.std.proofs.Common.{◌≡◌, ℕ, ◌+◌, ◌-◌, ◌<◌, ◌≤◌, length, Bool, true, false, Option, Some, None, refl, sym, ap, ◌∙◌, subst, ◌⊎◌, inl, inr, ⊎_elim, arith, if◌then◌else◌, length-append}
+use Rattle.std.specs.Prelude.{List, [], ◌∷◌, ◌++◌, nat_lt}
+use Rattle.std.proofs.lemmas.Bool.{cases_Bool, cases_lt, eqb-true}
+use Rattle.fc_kinds.specs.Meaning.{Program}
+use Rattle.fc_verify.specs.Accepted.{Judgement, Accepts, Breaks, Untypable}
+use Rattle.fc_verify.specs.Judged.{judged}
+use Rattle.fc_registry.specs.declared.job.Job.{Job}
+use Rattle.fc_registry.specs.declared.commit.CommitOutcome.{CommitOutcome}
+use Rattle.fc_registry.specs.declared.commit.CommitOutcome.TheVariants.{Writes, Keeps, Overtakes, Ends}
+use Rattle.fc_registry.specs.Slots.{Slot, Present, Ticket, last_serial}
+use Rattle.fc_registry.specs.Calls.{clear_by, outcome, put_by, receipt_of, taking, readings_if}
+use Rattle.fc_core.specs.declared.event.Event.{Event}
+use Rattle.fc_core.specs.declared.event.Event.TheVariants.{Deliver, Due, ShardTick, Signal, Take, Tick}
+use Rattle.fc_core.specs.declared.stage.Stage.{Stage}
+use Rattle.fc_core.specs.declared.stage.Stage.TheVariants.{ToMatch, ToTake, ToCommit, ToInstall, ToRemove, ToList, ToRaise, ToAnswer, Gone, ToTell}
+use Rattle.fc_core.specs.declared.stage.TurnStage.TheVariants as turns
+use Rattle.fc_core.specs.Contents.{Content, Listed, Unavailable}
+use Rattle.fc_core.specs.Heads.{is_match, word_at}
+use Rattle.fc_core.specs.History.{around, Entry, History, Then, Seen, seen, and_then, job, scene, slot_at, stage}
+use Rattle.fc_core.specs.Laws.{HasCome, changes_by, is_named, is_job, is_stray, is_stray_at, own_of_named, slot_of, stage_named}
+use Rattle.fc_laws.specs.SlotLaws.{IsToRaise}
+use Rattle.fc_core.specs.Stages.{first_by, image_of, made, matched_by, removed, took}
+use Rattle.fc_core.specs.Rows.{Around, Scene, names, row, install_call, install_if}
+use Rattle.fc_core.specs.Steps.{Installs, Removes, changes_told, next_stage}
+use Rattle.fc_core.proofs.ByStep.{Step, by_move, by_step, move_by, stage_by, committed}
+use Rattle.fc_core.proofs.ByStep as steps
+use Rattle.fc_laws.proofs.turns.Telling.{after_turn}
+use Rattle.fc_laws.proofs.jobs.Along.{IsTold, along, gone_before}
+use Rattle.fc_laws.proofs.jobs.Others.{named_stage, own_slot}
+use Rattle.fc_laws.proofs.jobs.Strays.{strays_stay}
+
+abbrev at : Job → Slot → Around → Stage → Scene
+at job slot ws stage = record { job = job; slot = slot; around = ws; stage = stage }
+
+-- how many changes a job publishes at this stage
+abbrev raises : Stage → ℕ
+raises (ToRaise word content) = 1
+raises other = 0
+
+taking_raises : (kept : Option (List ℕ)) (job : Job) (slot : Slot) (n : ℕ) (p : Option Present) → 0 ≡ raises (took n (taking kept job slot.serial p))
+taking_raises kept job slot n None = refl
+taking_raises (Some readings) job slot n (Some p) = refl
+taking_raises None job slot n (Some p) = refl
+
+retaken_raises : (n : ℕ) (b : Bool) → 0 ≡ raises (if b then ToTake n else ToAnswer Unavailable)
+retaken_raises n true = refl
+retaken_raises n false = refl
+
+committed_raises : (n : ℕ) (t : Ticket) (now serial : ℕ) (ws : Around) (o : CommitOutcome) → length (committed o n t now serial ws).changes ≡ raises (committed o n t now serial ws).stage
+committed_raises n t now serial ws Writes = refl
+committed_raises n t now serial ws Keeps = refl
+committed_raises n t now serial ws Overtakes = retaken_raises n (nat_lt n 8)
+committed_raises n t now serial ws Ends = refl
+
+put_raises : (b : Bool) (slot : Slot) (p : Program) → length (changes_told (Installs p (put_by b slot p).answer)) ≡ raises (made (receipt_of p 0) (put_by b slot p).answer)
+put_raises true slot p = refl
+put_raises false slot p = refl
+
+installed_raises : (j : Judgement) (slot : Slot) → length (changes_told (install_call j slot)) ≡ raises (next_stage (install_call j slot))
+installed_raises (Accepts p) slot = put_raises (nat_lt slot.serial last_serial) slot p
+installed_raises (Breaks rule k) slot = refl
+installed_raises Untypable slot = refl
+
+verified_raises : (memory : Bool) (s : Scene) → length (changes_told (install_if memory (judged (image_of s.job.ask)) s.slot)) ≡ raises (next_stage (install_if memory (judged (image_of s.job.ask)) s.slot))
+verified_raises true s = installed_raises (judged (image_of s.job.ask)) s.slot
+verified_raises false s = refl
+
+clear_raises : (below : Bool) (serial : ℕ) (p : Option Present) → length (changes_told (Removes (clear_by below serial p).answer)) ≡ raises (removed (clear_by below serial p).answer)
+clear_raises below serial None = refl
+clear_raises true serial (Some p) = refl
+clear_raises false serial (Some p) = refl
+
+matched_raises : (b : Bool) (word : ℕ) → 0 ≡ raises (matched_by b word)
+matched_raises true word = refl
+matched_raises false word = refl
+
+listed_raises : (b : Bool) (words : List ℕ) → 0 ≡ raises (if b then ToList (record { items = words }) else ToAnswer (Listed words))
+listed_raises true words = refl
+listed_raises false words = refl
+
+step_raises : (c : Step) (job : Job) (slot : Slot) (ws : Around) → length (move_by c job slot ws).changes ≡ raises (move_by c job slot ws).stage
+step_raises (steps.Matches n) job slot ws = matched_raises (is_match (word_at ws.common.words n) job.etags.items) (word_at ws.common.words n)
+step_raises (steps.Lists n seen) job slot ws = listed_raises (nat_lt (length (seen.items ++ word_at ws.common.words n ∷ [])) 64) (seen.items ++ word_at ws.common.words n ∷ [])
+step_raises (steps.Takes memory readings n) job slot ws = taking_raises (readings_if memory readings) job slot n slot.present
+step_raises (steps.TakesTurn memory readings turn) job slot ws = after_turn (λ st. 0 ≡ raises st) (λ turn needs. refl) refl (readings_if memory readings) turn (at job slot ws (ToTell turn turns.ToTake))
+step_raises (steps.Commits now n t) job slot ws = committed_raises n t now slot.serial ws (outcome t slot)
+step_raises (steps.Installs memory) job slot ws = verified_raises memory (at job slot ws ToInstall)
+step_raises steps.Removes job slot ws = clear_raises (nat_lt slot.serial last_serial) slot.serial slot.present
+step_raises other job slot ws = refl
+
+true_isnt : true ≡ false → ⊥
+true_isnt e = cc e
+
+-- an event that isn't a stray makes as many changes as it leaves to publish
+row_raises : (e : Event) (k : ℕ) (job : Job) (slot : Slot) (ws : Around) (s : Stage) → names e ≡ Some k → is_stray_at e job.origin.slot s ≡ false → length (row e (at job slot ws s)).changes ≡ raises (row e (at job slot ws s)).stage
+row_raises e k job slot ws s =
+    by_step (λ d st m. names d ≡ Some k → is_stray_at d job.origin.slot st ≡ false → length m.changes ≡ raises m.stage) job slot ws
+    (λ j c asked named e. step_raises c job slot ws) (λ d st rest named e. absurd (true_isnt (sym (rest.stray k named) ∙ e))) e s
+
+-- ---- at most once
+
+-- how many changes a job at this stage made
+abbrev FitsChanges : ℕ → Stage → Type 0
+FitsChanges n (ToTake count) = n ≡ 0
+FitsChanges n (ToCommit count t) = n ≡ 0
+FitsChanges n ToInstall = n ≡ 0
+FitsChanges n ToRemove = n ≡ 0
+FitsChanges n ToMatch = n ≡ 0
+FitsChanges n (ToList seen) = n ≡ 0
+FitsChanges n other = n ≤ 1
+
+none_is_few : (n : ℕ) → n ≡ 0 → n ≤ 1
+none_is_few n f = omega (arith, f)
+
+one_change : (s : Stage) (n : ℕ) → FitsChanges n s → n ≤ 1
+one_change (ToTake count) n f = none_is_few n f
+one_change (ToCommit count t) n f = none_is_few n f
+one_change ToInstall n f = none_is_few n f
+one_change ToRemove n f = none_is_few n f
+one_change ToMatch n f = none_is_few n f
+one_change (ToList seen) n f = none_is_few n f
+one_change other n f = f
+
+none_and_none : (n m : ℕ) → n ≡ 0 → m ≡ 0 → n + m ≡ 0
+none_and_none n m is more = omega (arith, is, more)
+
+none_and_few : (n m r : ℕ) → n ≡ 0 → m ≡ r → r ≤ 1 → n + m ≤ 1
+none_and_few n m r is more few = omega (arith, is, more, few)
+
+zero_is_few : 0 ≤ 1
+zero_is_few = omega arith
+
+raises_few : (s : Stage) → raises s ≤ 1
+raises_few (ToRaise word content) = omega arith
+raises_few other = zero_is_few
+
+first_change : (s : Stage) (n m : ℕ) → n ≡ 0 → m ≡ raises s → FitsChanges (n + m) s
+first_change (ToTake count) n m is more = none_and_none n m is more
+first_change (ToCommit count t) n m is more = none_and_none n m is more
+first_change ToInstall n m is more = none_and_none n m is more
+first_change ToRemove n m is more = none_and_none n m is more
+first_change ToMatch n m is more = none_and_none n m is more
+first_change (ToList seen) n m is more = none_and_none n m is more
+first_change other n m is more = none_and_few n m (raises other) is more (raises_few other)
+
+no_change : (s : Stage) (n : ℕ) → FitsChanges n s → FitsChanges (n + 0) s
+no_change s n f = subst (λ (m : ℕ). FitsChanges m s) (let is : n ≡ n + 0 = omega arith in is) f
+
+few_still : (n : ℕ) → n ≤ 1 → n + 0 ≤ 1
+few_still n f = omega (arith, f)
+
+step_changes : (c : Step) (job : Job) (slot : Slot) (ws : Around) (n : ℕ) → FitsChanges n (stage_by c) → FitsChanges (n + length (move_by c job slot ws).changes) (move_by c job slot ws).stage
+step_changes steps.Describes job slot ws n f = few_still n f
+step_changes (steps.TakesTurn memory readings turn) job slot ws n f = after_turn (λ st. FitsChanges (n + 0) st) (λ turn needs. few_still n f) (few_still n f) (readings_if memory readings) turn (at job slot ws (ToTell turn turns.ToTake))
+step_changes (steps.Raises word content) job slot ws n f = few_still n f
+step_changes (steps.Answers now content) job slot ws n f = few_still n f
+step_changes (steps.Draws now turn found) job slot ws n f = few_still n f
+step_changes (steps.Notes now random turn found id) job slot ws n f = few_still n f
+step_changes (steps.GivesUp now turn needs) job slot ws n f = few_still n f
+step_changes (steps.Loses needs) job slot ws n f = few_still n (one_change needs n f)
+step_changes other job slot ws n f = first_change (move_by other job slot ws).stage n (length (move_by other job slot ws).changes) f (step_raises other job slot ws)
+
+row_changes : (e : Event) (job : Job) (slot : Slot) (ws : Around) (s : Stage) (n : ℕ) → FitsChanges n s → FitsChanges (n + length (row e (at job slot ws s)).changes) (row e (at job slot ws s)).stage
+row_changes e job slot ws s n =
+    by_move (λ st m. FitsChanges n st → FitsChanges (n + length m.changes) m.stage) job slot ws
+    (λ c asked. step_changes c job slot ws n) (λ st f. no_change st n f) e s
+
+gone_changes : (e : Event) (job : Job) (slot : Slot) (ws : Around) (n : ℕ) → n + length (row e (at job slot ws Gone)).changes ≡ n
+gone_changes (Take k memory readings) job slot ws n = omega arith
+gone_changes other job slot ws n = omega arith
+
+fits_none : (s : Stage) → FitsChanges 0 s
+fits_none (ToTake count) = refl
+fits_none (ToCommit count t) = refl
+fits_none ToInstall = refl
+fits_none ToRemove = refl
+fits_none ToMatch = refl
+fits_none (ToList seen) = refl
+fits_none other = zero_is_few
+
+abbrev more_changes : Event → Seen → ℕ → ℕ → ℕ
+more_changes e s k n = n + length (row e (scene s k)).changes
+
+number_is : (k : ℕ) (o : Option ℕ) → is_job k o ≡ true → o ≡ Some k
+number_is k None e = absurd (cc)
+number_is k (Some j) e = ap Some (eqb-true j k e)
+
+own_length : (r : Entry) (s : Seen) (k : ℕ) → names r.event ≡ Some k → length ((and_then r s).changes (slot_of s k)) ≡ length (row r.event (scene s k)).changes + length (s.changes (slot_of s k))
+own_length r s k named = ap length (own_slot r s k named) ∙ length-append (row r.event (scene s k)).changes (s.changes (slot_of s k))
+
+counted_by : (r : Entry) (s : Seen) (k n : ℕ) (b : Bool) → is_named k r.event ≡ b → (if b then n + (length ((and_then r s).changes (slot_of s k)) - length (s.changes (slot_of s k))) else n) ≡ (if b then more_changes r.event s k n else n)
+counted_by r s k n true e = omega (arith, own_length r s k (number_is k (names r.event) e))
+counted_by r s k n false e = refl
+
+counted : (h : History) (r : Entry) (k : ℕ) → changes_by (Then h r) k ≡ (if is_named k r.event then more_changes r.event (seen h) k (changes_by h k) else changes_by h k)
+unfolding seen
+counted h r k = counted_by r (seen h) k (changes_by h k) (is_named k r.event) refl
+
+is_told : IsTold changes_by more_changes FitsChanges 0
+is_told = record {
+  begins = λ serial id k. refl;
+  then_is = counted;
+  still = λ e s k n is. ap (λ (x : Stage). n + length (row e (at (job s k) (slot_at s (slot_of s k)) (around s (slot_of s k)) x)).changes) is ∙ gone_changes e (job s k) (slot_at s (slot_of s k)) (around s (slot_of s k)) n;
+  gone = omega arith;
+  first = λ ask serials. fits_none (first_by ask serials);
+  turns = λ turn. omega arith;
+  keeps = λ e s k n f. row_changes e (job s k) (slot_at s (slot_of s k)) (around s (slot_of s k)) (stage s k) n f;
+}
+
+pub changed_once : (h : History) (k : ℕ) → changes_by h k ≤ 1
+changed_once h k = one_change (stage (seen h) k) (changes_by h k) (along changes_by more_changes FitsChanges 0 is_told h k)
+
+-- ---- and it is published
+
+named_stray : (e : Event) (own k : ℕ) → names e ≡ Some k → is_stray_at e own Gone ≡ true
+named_stray (Deliver now to bytes) own k e = absurd (cc)
+named_stray (Due shard now) own k e = absurd (cc)
+named_stray (Signal shard to id reset) own k e = absurd (cc)
+named_stray (Tick now) own k e = absurd (cc)
+named_stray (ShardTick shard now) own k e = absurd (cc)
+named_stray other own k e = refl
+
+came : (r : Entry) (s : Seen) (k : ℕ) → names r.event ≡ Some k → is_stray_at r.event (slot_of s k) (stage s k) ≡ false → HasCome s k
+came r s k named stray = ⊎_elim
+    (λ (lt : k < length s.tasks). lt)
+    (λ (le : length s.tasks ≤ k). let is : is_stray_at r.event (slot_of s k) (stage s k) ≡ true = ap (is_stray_at r.event (slot_of s k)) (gone_before s k le) ∙ named_stray r.event (slot_of s k) k named in absurd (cc (stray, is)))
+    (cases_lt k (length s.tasks))
+
+stray_is : (r : Entry) (s : Seen) (k : ℕ) → names r.event ≡ Some k → is_stray s r.event ≡ is_stray_at r.event (slot_of s k) (stage s k)
+stray_is r s k named = ap (λ (o : Option ℕ). is_stray_at r.event (own_of_named s o) (stage_named s o)) named
+
+-- what an event that isn't a stray adds to its job's slot
+adds : (r : Entry) (s : Seen) (k : ℕ) → names r.event ≡ Some k → is_stray_at r.event (slot_of s k) (stage s k) ≡ false → length ((and_then r s).changes (slot_of s k)) ≡ raises (stage (and_then r s) k) + length (s.changes (slot_of s k))
+adds r s k named stray =
+    own_length r s k named ∙ ap (λ (n : ℕ). n + length (s.changes (slot_of s k)))
+    (row_raises r.event k (job s k) (slot_at s (slot_of s k)) (around s (slot_of s k)) (stage s k) named stray ∙ ap raises (sym (named_stage r s k (came r s k named stray) named)))
+
+none_isnt_more : (P : Type 0) (n m : ℕ) → m ≡ 0 + n → n < m → P
+none_isnt_more P n m is lt = absurd (omega (arith, is, lt))
+
+to_raise : (s : Stage) (n m : ℕ) → m ≡ raises s + n → n < m → IsToRaise s
+to_raise (ToRaise word content) n m is lt = tt
+to_raise other n m is lt = none_isnt_more (IsToRaise other) n m is lt
+
+pub changes_are_published : (r : Entry) (s : Seen) (k : ℕ) → names r.event ≡ Some k → length (s.changes (slot_of s k)) < length ((and_then r s).changes (slot_of s k)) → IsToRaise (stage (and_then r s) k)
+changes_are_published r s k named lt = ⊎_elim
+    (λ (stray : is_stray_at r.event (slot_of s k) (stage s k) ≡ true). let same = strays_stay r s (stray_is r s k named ∙ stray) in absurd (omega (arith, lt, ap (λ (x : Seen). length (x.changes (slot_of s k))) same)))
+    (λ (acts : is_stray_at r.event (slot_of s k) (stage s k) ≡ false). to_raise (stage (and_then r s) k) (length (s.changes (slot_of s k))) (length ((and_then r s).changes (slot_of s k))) (adds r s k named acts) lt)
+    (cases_Bool (is_stray_at r.event (slot_of s k) (stage s k)))
+
+pub only_changes_are_published : (r : Entry) (s : Seen) (k word : ℕ) (content : Content) → names r.event ≡ Some k → stage (and_then r s) k ≡ ToRaise word content → (stage s k ≡ ToRaise word content) ⊎ (length ((and_then r s).changes (slot_of s k)) ≡ length (s.changes (slot_of s k)) + 1)
+only_changes_are_published r s k word content named is = ⊎_elim
+    (λ (stray : is_stray_at r.event (slot_of s k) (stage s k) ≡ true). inl (sym (ap (λ (x : Seen). stage x k) (strays_stay r s (stray_is r s k named ∙ stray))) ∙ is))
+    (λ (acts : is_stray_at r.event (slot_of s k) (stage s k) ≡ false). inr (omega (arith, adds r s k named acts, ap raises is)))
+    (cases_Bool (is_stray_at r.event (slot_of s k) (stage s k)))

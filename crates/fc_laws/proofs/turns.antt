@@ -1,0 +1,14 @@
+pub mod EightShards
+pub mod Erring
+pub mod Resent
+pub mod Telling
+pub mod Observing
+pub mod Comers
+pub mod Turning
+pub mod Apart
+pub mod Notices
+pub mod Told
+pub mod Stayers
+pub mod Clocks
+pub mod Climbing
+pub mod TurnBlocks

@@ -1,0 +1,137 @@
+-- Who comes among the observers of a slot, and by which event.
+use Rattle.std.proofs.Common.{◌≡◌, ℕ, List, [], ◌∷◌, ◌++◌, Bool, true, false, Option, Some, None, max, refl, sym, ap, ◌∙◌, subst, ◌⊎◌, inl, inr, ⊎_elim, if◌then◌else◌}
+use Rattle.std.specs.Prelude.{◌==◌, ◌&&◌, ◌%◌, nat_eq}
+use Rattle.std.specs.Cmp.Lexicographic.{pointwise}
+use Rattle.std.proofs.lemmas.Bool.{cases_Bool, eqb-true}
+use Rattle.arrayvec.specs.ArrayVec.{ArrayVec}
+use Rattle.coap_msg.specs.declared.types.Emission.{Emission}
+use Rattle.coap_msg.specs.declared.types.Endpoint.{Endpoint}
+use Rattle.coap_msg.specs.Endpoints.{same_endpoint}
+use Rattle.fc_observe.specs.Calls.{Advance, ObserverCall, NextDue, Tick as TickObservers, after_calls, is_registration_of}
+use Rattle.fc_observe.specs.Laws.{RegistersNone}
+use Rattle.fc_observe.proofs.Hearing.{stays_gone}
+use Rattle.fc_observe.specs.declared.entry.Turn.{Turn}
+use Rattle.fc_registry.specs.Calls.{is_cancellation, observe_calls, observe_calls_by, is_registration, is_out_at, miss_calls}
+use Rattle.fc_registry.specs.Notes.{keeps_observer, note_at, note_calls, serial_told, told_call}
+use Rattle.fc_registry.specs.Slots.{Present, Ticket}
+use Rattle.fc_registry.specs.Watches.{signal_call}
+use Rattle.fc_core.specs.declared.event.Event.{Event}
+use Rattle.fc_core.specs.declared.event.Event.TheVariants.{Commit, Signal, ShardTick, Due}
+use Rattle.fc_core.specs.History.{Entry, History, Then, Seen, seen, and_then, around, calls_in, calls_named, due_in, is_place_of, job, late_in, scene, slot_at, stage, watch}
+use Rattle.fc_core.specs.Laws.{later, slot_of}
+use Rattle.fc_laws.specs.ObserveLaws.{NoneRegisters, Registers, is_held}
+use Rattle.fc_core.specs.Rows.{names, row}
+use Rattle.fc_core.proofs.Calling.{CallsBy, NoCall, OfCommit, OfGiveUp, OfNote, OfTaking, row_calls}
+use Rattle.fc_laws.proofs.turns.Observing.{asked}
+use Rattle.fc_core.proofs.Watches.{after_append}
+
+-- ---- the calls of an event of a shard
+
+signal_registers : (reset : Bool) (from to : Endpoint) (id : ℕ) (token : List ℕ) → is_registration_of to token (signal_call reset from id) ≡ false
+signal_registers true from to id token = refl
+signal_registers false from to id token = refl
+
+none_if : (b : Bool) (c : ObserverCall) (to : Endpoint) (token : List ℕ) → is_registration_of to token c ≡ false → RegistersNone to token (if b then c ∷ [] else [])
+none_if true c to token is = (is, tt)
+none_if false c to token is = tt
+
+miss_registers : (out : Bool) (turn : Turn) (present : Option Present) (moment : ℕ) (to : Endpoint) (token : List ℕ) → RegistersNone to token (miss_calls out turn present ++ Advance moment ∷ [])
+miss_registers true turn None moment to token = (refl, (refl, tt))
+miss_registers true turn (Some p) moment to token = (refl, tt)
+miss_registers false turn present moment to token = (refl, tt)
+
+told_registers : (b : Bool) (turn : Turn) (id random moment serial : ℕ) (bytes : ArrayVec ℕ) (to : Endpoint) (token : List ℕ) → is_registration_of to token (told_call b turn id random moment serial bytes) ≡ false
+told_registers true turn id random moment serial bytes to token = refl
+told_registers false turn id random moment serial bytes to token = refl
+
+note_registers : (turn : Turn) (id random moment : ℕ) (found : Option Ticket) (sent : Option Emission) (to : Endpoint) (token : List ℕ) → RegistersNone to token (note_calls turn id random moment found sent)
+note_registers turn id random moment found None to token = (refl, tt)
+note_registers turn id random moment found (Some e) to token = (told_registers (keeps_observer found) turn id random moment (serial_told found) e.bytes to token, (refl, tt))
+
+pub none_in : (e : Event) (s : Seen) (n : ℕ) (to : Endpoint) (token : List ℕ) → RegistersNone to token (calls_in e s n)
+none_in (Due shard now) s n to token =
+    let at = max (s.shard_moment shard) now in
+    none_if (is_place_of (due_in s shard at) shard n) (NextDue at (slot_at s n).noticed) to token refl
+none_in (Signal shard from id reset) s n to token = none_if ((n % 8) == shard) (signal_call reset from id) to token (signal_registers reset from to id token)
+none_in (ShardTick shard now) s n to token =
+    let at = max (s.shard_moment shard) now in
+    none_if (is_place_of (late_in s shard at) shard n) (TickObservers at) to token refl
+none_in other s n to token = tt
+
+-- ---- who registers
+
+-- a commit's calls register this client, or they don't
+module _ (to : Endpoint) (token : List ℕ) (moment : ℕ) (t : Ticket) where
+  abbrev is_client : Bool
+  is_client = same_endpoint t.origin.endpoint to && pointwise nat_eq t.token.items token
+
+  by_tests : (b c d : Bool) → is_registration t ≡ b → is_client ≡ d → RegistersNone to token (observe_calls_by b c moment t) ⊎ ((is_registration t ≡ true) × (is_client ≡ true))
+  by_tests true c true r own = inr (r, own)
+  by_tests true c false r own = inl (own, tt)
+  by_tests false true d r own = inl (refl, tt)
+  by_tests false false d r own = inl tt
+
+  registers_or_not : RegistersNone to token (observe_calls moment t) ⊎ ((is_registration t ≡ true) × (is_client ≡ true))
+  registers_or_not = subst (λ (b : Bool). RegistersNone to token (observe_calls_by b (is_cancellation t) moment t) ⊎ ((is_registration t ≡ true) × (is_client ≡ true))) refl (by_tests (is_registration t) (is_cancellation t) is_client refl refl)
+
+module _ (r : Entry) (s : Seen) (n : ℕ) (to : Endpoint) (token : List ℕ) where
+  -- the calls of the event that names this job
+  by_row : (k : ℕ) (cs : List ObserverCall) → names r.event ≡ Some k → slot_of s k ≡ n → CallsBy r.event (around s (slot_of s k)) (stage s k) cs → RegistersNone to token cs ⊎ Registers r s n to token
+  by_row k cs named slot (NoCall is) = inl (subst (RegistersNone to token) (sym is) tt)
+  by_row k cs named slot (OfTaking turn moment present t is) = inl (subst (RegistersNone to token) (sym is) (miss_registers (is_out_at turn moment t) turn present moment to token))
+  by_row k cs named slot (OfNote j now random id turn found event stands is) =
+      let moment = max (around s (slot_of s k)).moment now in
+      inl (subst (RegistersNone to token) (sym is) (note_registers turn id random moment found (note_at turn id moment found (around s (slot_of s k)).watch) to token))
+  by_row k cs named slot (OfGiveUp turn moment is) = inl (subst (RegistersNone to token) (sym is) (refl, tt))
+  by_row k cs named slot (OfCommit j now count moment t event stands is) =
+      let same : k ≡ j = cc (sym named ∙ ap names event) in
+      ⊎_elim
+      (λ (none : RegistersNone to token (observe_calls moment t)). inl (subst (RegistersNone to token) (sym is) none))
+      (λ (own : (is_registration t ≡ true) × (is_client to token moment t ≡ true)). inr (record { number = k; now = now; count = count; ticket = t; event = event ∙ ap (λ (i : ℕ). Commit i now) (sym same); at = stands; slot = slot; asks = asked t own.0; client = own.1 }))
+      (registers_or_not to token moment t)
+
+  by_slot : (k : ℕ) (b : Bool) → names r.event ≡ Some k → (slot_of s k == n) ≡ b → RegistersNone to token (if b then (row r.event (scene s k)).calls else []) ⊎ Registers r s n to token
+  by_slot k true named is = by_row k (row r.event (scene s k)).calls named (eqb-true (slot_of s k) n is) (row_calls r.event (job s k) (slot_at s (slot_of s k)) (around s (slot_of s k)) (stage s k))
+  by_slot k false named is = inl tt
+
+  by_name : (o : Option ℕ) → names r.event ≡ o → RegistersNone to token (calls_named o r.event s n) ⊎ Registers r s n to token
+  by_name None named = inl tt
+  by_name (Some k) named = by_slot k (slot_of s k == n) named refl
+
+  -- an event that doesn't register this client
+  pub registers_none : (Registers r s n to token → ⊥) → RegistersNone to token (calls_named (names r.event) r.event s n)
+  registers_none not = ⊎_elim
+      (λ (none : RegistersNone to token (calls_named (names r.event) r.event s n)). none)
+      (λ (own : Registers r s n to token). absurd (not own))
+      (by_name (names r.event) refl)
+
+  -- where the event doesn't register it, it stays away
+  stays_away : RegistersNone to token (calls_named (names r.event) r.event s n) → is_held to token (watch s n) ≡ false → is_held to token (watch (and_then r s) n) ≡ false
+  stays_away none away =
+      let named = calls_named (names r.event) r.event s n in
+      let of_shard = calls_in r.event s n in
+      let before = stays_gone to token of_shard (watch s n) (none_in r.event s n to token) away in
+      ap (is_held to token) (after_append n named (of_shard ++ s.calls n) ∙ ap (after_calls named) (after_append n of_shard (s.calls n)))
+      ∙ stays_gone to token named (after_calls of_shard (watch s n)) none before
+
+  pub come_by_commits : is_held to token (watch (and_then r s) n) ≡ true → (is_held to token (watch s n) ≡ true) ⊎ Registers r s n to token
+  come_by_commits there = ⊎_elim
+      (λ (was : is_held to token (watch s n) ≡ true). inl was)
+      (λ (away : is_held to token (watch s n) ≡ false). ⊎_elim
+      (λ (none : RegistersNone to token (calls_named (names r.event) r.event s n)). absurd (cc (there, stays_away none away)))
+      (λ (own : Registers r s n to token). inr own)
+      (by_name (names r.event) refl))
+      (cases_Bool (is_held to token (watch s n)))
+
+-- a client that isn't among them stays away until it registers
+stays_by : (b : Bool) → (b ≡ true → ⊥) → b ≡ false
+stays_by true not = absurd (not refl)
+stays_by false not = refl
+
+away_next : (r : Entry) (s : Seen) (n : ℕ) (to : Endpoint) (token : List ℕ) → (Registers r s n to token → ⊥) → is_held to token (watch s n) ≡ false → is_held to token (watch (and_then r s) n) ≡ false
+away_next r s n to token not away = stays_by (is_held to token (watch (and_then r s) n)) (λ there. ⊎_elim (λ (was : is_held to token (watch s n) ≡ true). absurd (cc (was, away))) not (come_by_commits r s n to token there))
+
+pub away_later : (rs : List Entry) (h : History) (n : ℕ) (to : Endpoint) (token : List ℕ) → NoneRegisters h rs n to token → is_held to token (watch (seen h) n) ≡ false → is_held to token (watch (seen (later h rs)) n) ≡ false
+unfolding seen
+away_later [] h n to token none away = away
+away_later (r ∷ rs) h n to token none away = away_later rs (Then h r) n to token none.1 (away_next r (seen h) n to token none.0 away)

@@ -1,0 +1,80 @@
+-- What the laws of bodies that come in blocks speak of.
+use Rattle.std.specs.Prelude.{◌≡◌, ℕ, List, [], ◌∷◌, ◌++◌, max, Option, Some, None, Ok}
+use Rattle.coap_msg.specs.declared.types.Emission.{Emission}
+use Rattle.coap_msg.specs.declared.types.Endpoint.{Endpoint}
+use Rattle.coap_msg.specs.Codes.{code}
+use Rattle.coap_msg.specs.Reading.{reading_of}
+use Rattle.coap_msg.specs.Wire.{Message}
+use Rattle.coap_opts.specs.Values.{Place}
+use Rattle.coap_opts.specs.declared.request.Action.TheVariants as actions
+use Rattle.coap_opts.specs.Verdict.{Asked, IsAsked, verdict}
+use Rattle.coap_block.specs.Transfers.{Addition}
+use Rattle.coap_block.specs.UnderWay.{FitsBehind}
+use Rattle.fc_registry.specs.declared.job.Ask.TheVariants.{Install as Installs}
+use Rattle.fc_registry.specs.declared.job.Job.{Job}
+use Rattle.fc_core.specs.declared.event.Event.{Event}
+use Rattle.fc_core.specs.declared.event.Event.TheVariants.{Deliver}
+use Rattle.fc_laws.specs.ExchangeLaws.{IsOpening}
+use Rattle.fc_core.specs.History.{Entry, Seen, and_then, front_at}
+use Rattle.fc_core.specs.Receiving.{Received, Settled, addition_of, request_received, told}
+use Rattle.coap_reply.specs.Responses.{Response, bare, settled_by}
+use Rattle.fc_core.specs.Stages.{new_task}
+
+-- what a new request is to a server that is handed a moment
+abbrev pub asked_at : Seen → ℕ → Endpoint → Message → Asked → Received
+asked_at s now to m r = request_received (front_at s now) to m r
+
+-- the payload that it adds
+abbrev pub addition_at : Seen → ℕ → Endpoint → Asked → Addition
+addition_at s now to r = addition_of (max s.moment now) to r
+
+-- the datagram is a request that is no repeat, and that passes every check of its options
+pub record IsAskedAnew (s : Seen) (now : ℕ) (to : Endpoint) (bytes : List ℕ) (m : Message) (r : Asked) : Type 0 where
+  pub opens : IsOpening s now to bytes
+  pub read : reading_of bytes ≡ Ok m
+  pub asks : verdict m ≡ IsAsked r
+
+-- the event delivers such a request
+abbrev pub Asks : Seen → Event → Message → Asked → Type 0
+Asks s (Deliver now to bytes) m r = IsAskedAnew s now to bytes.now m r
+Asks s other m r = ⊥
+
+-- its payload, as it is added
+abbrev pub addition_by : Seen → Event → Asked → List Addition
+addition_by s (Deliver now to bytes) r = addition_at s now to r ∷ []
+addition_by s other r = []
+
+-- its block fits the payloads before it, and makes this body with them
+abbrev pub FitsBy : Seen → Event → Asked → Place → List ℕ → Type 0
+FitsBy s (Deliver now to bytes) r b body = FitsBehind s.additions (addition_at s now to r) b body
+FitsBy s other r b body = ⊥
+
+-- a PUT of slot N with a block
+pub record PutsBlock (r : Asked) (n : ℕ) (b : Place) : Type 0 where
+  pub action : r.action ≡ actions.Install n
+  pub block : r.block1 ≡ Some b
+
+-- one job comes, which installs this body in slot N
+pub record BringsInstall (e : Entry) (s : Seen) (n : ℕ) (body : List ℕ) : Type 0 where
+  pub job : Job
+  pub tasks : (and_then e s).tasks ≡ s.tasks ++ (new_task job ∷ [])
+  pub asks : job.ask ≡ Installs (record { items = body })
+  pub slot : job.origin.slot ≡ n
+
+-- the answer 2.31 (Continue), with the block that was sent
+abbrev pub continue_by : Seen → Event → Message → Place → Option Emission
+continue_by s (Deliver now to bytes) m b = told (front_at s now) to m (settled_by (code 2 31) (Some b))
+continue_by s other m b = None
+
+-- a request with a block is answered at once, by this code alone
+abbrev pub SettlesBy : Seen → Event → Message → Asked → ℕ → Type 0
+SettlesBy s (Deliver now to bytes) m r answer = asked_at s now to m r ≡ Settled m r (bare answer)
+SettlesBy s other m r answer = ⊥
+
+-- what a block may be answered at once: 2.31 (Continue) with its Block1, or by the code of a refusal alone
+pub data IsAnswerAtOnce (b : Place) (response : Response) : Type 0 where
+  Continue : (is : response ≡ settled_by 95 (Some b)) → IsAnswerAtOnce b response
+  Unavailable : (is : response ≡ bare 163) → IsAnswerAtOnce b response
+  Incomplete : (is : response ≡ bare 136) → IsAnswerAtOnce b response
+  BadRequest : (is : response ≡ bare 128) → IsAnswerAtOnce b response
+  TooLarge : (is : response ≡ bare 141) → IsAnswerAtOnce b response

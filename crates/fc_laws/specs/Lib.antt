@@ -1,0 +1,11 @@
+pub mod AskLaws
+pub mod BodyLaws
+pub mod KeptLaws
+pub mod SlotLaws
+pub mod ObserveLaws
+pub mod HeadLaws
+pub mod ExchangeLaws
+pub mod TurnLaws
+pub mod ReplyLaws
+pub mod RefusalLaws
+pub mod ShardLaws

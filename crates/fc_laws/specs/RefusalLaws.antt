@@ -1,0 +1,133 @@
+-- What a refusal leaves as it was, and the three things that it doesn't.
+use Rattle.std.specs.Prelude.{◌≡◌, ◌⊎◌, ℕ, ◌%◌, ◌≤◌, Bool, true, false, List, [], length, max, Option, Some, None, Ok, Err}
+use Rattle.std.specs.Borrow.{Bor}
+use Rattle.coap_msg.specs.declared.types.Bad.TheVariants as bad
+use Rattle.coap_msg.specs.declared.types.Emission.{Emission}
+use Rattle.coap_msg.specs.declared.types.Endpoint.{Endpoint}
+use Rattle.coap_msg.specs.Reading.{reading_of}
+use Rattle.coap_msg.specs.Wire.{Message}
+use Rattle.coap_opts.specs.Verdict.{IsIgnored, IsSilent, verdict}
+use Rattle.coap_block.specs.Transfers.{transfers}
+use Rattle.coap_block.specs.UnderWay.{bytes_held}
+use Rattle.coap_block.specs.Uploads.{same_key}
+use Rattle.fc_kinds.specs.Meaning.{Program}
+use Rattle.fc_observe.specs.declared.entry.Entry.{Entry as ObserverEntry}
+use Rattle.fc_observe.specs.declared.entry.Turn.{Turn}
+use Rattle.fc_observe.specs.Observers.{at_moment, entry_out, turn_missed}
+use Rattle.fc_registry.specs.Calls.{wants}
+use Rattle.fc_registry.specs.Slots.{Present, Ticket}
+use Rattle.fc_verify.specs.Accepted.{Accepts}
+use Rattle.fc_verify.specs.Judged.{judged}
+use Rattle.fc_core.specs.Contents.{Content}
+use Rattle.fc_core.specs.declared.event.Event.{Event}
+use Rattle.fc_core.specs.declared.event.Event.TheVariants.{Answer, Commit, Deliver, Fresh, Install, Note, Receipt, Remove, Take}
+use Rattle.fc_core.specs.declared.stage.Stage.TheVariants.{ToAnswer, ToCommit, ToDescribe, ToInstall, ToRemove, ToTake, ToTell}
+use Rattle.fc_core.specs.declared.stage.TurnStage.TheVariants as turns
+use Rattle.fc_laws.specs.ExchangeLaws.{FindsNoExchange, IsOpening, OpensOne}
+use Rattle.fc_core.specs.History.{Entry, Seen, and_then, job, slot_at, stage, watch}
+use Rattle.fc_core.specs.Ids.{free_id}
+use Rattle.fc_core.specs.Laws.{slot_of}
+use Rattle.fc_laws.specs.ReplyLaws.{Refuses, Rejects}
+use Rattle.fc_core.specs.Stages.{image_of}
+use Rattle.fc_laws.specs.TurnLaws.{moment_at}
+
+-- ---- what is refused
+
+-- a datagram that isn't a request is ignored, or rejected by a Reset message; or a request finds no room for its exchange
+pub data IsTurnedDown (s : Seen) (e : Event) : Type 0 where
+  IsNoMessage : (now : ℕ) (to : Endpoint) (bytes : Bor (List ℕ)) (event : e ≡ Deliver now to bytes) (read : reading_of bytes.now ≡ Err bad.Ignore)
+      → IsTurnedDown s e
+  IsNoRequest : (now : ℕ) (to : Endpoint) (bytes : Bor (List ℕ)) (m : Message) (event : e ≡ Deliver now to bytes) (read : reading_of bytes.now ≡ Ok m)
+      (ignored : verdict m ≡ IsIgnored) → IsTurnedDown s e
+  IsRejected : (to : Endpoint) (id : ℕ) (rejects : Rejects e to id) → IsTurnedDown s e
+  FindsNoRoom : (m : Message) (crowded : FindsNoExchange s e m) → IsTurnedDown s e
+
+-- the call that the event is for job k is refused: no ticket, since the slot is empty or memory is refused; no commit, since the slot has
+-- changed or is at its last serial; no install, since the image isn't accepted, memory is refused or the slot is at its last serial;
+-- nothing removed or described; no answer sent, since it is late or has no message id; and of a turn no message id, or it is out no longer
+pub data IsRefusedCall (s : Seen) (k : ℕ) (e : Event) (emitted : Option Emission) : Type 0 where
+  NothingTaken : (count : ℕ) (memory : Bool) (readings : List ℕ) (event : e ≡ Take k memory readings) (at : stage s k ≡ ToTake count)
+      (why : (memory ≡ false) ⊎ ((slot_at s (slot_of s k)).present ≡ None)) → IsRefusedCall s k e emitted
+  NotCommitted : (now count : ℕ) (t : Ticket) (event : e ≡ Commit k now) (at : stage s k ≡ ToCommit count t) (wants : wants t ≡ true)
+      (why : ((slot_at s (slot_of s k)).serial ≡ t.serial → ⊥) ⊎ (9223372036854775807 ≤ (slot_at s (slot_of s k)).serial)) → IsRefusedCall s k e emitted
+  NotAccepted : (memory : Bool) (event : e ≡ Install k memory) (at : stage s k ≡ ToInstall)
+      (why : (p : Program) → judged (image_of (job s k).ask) ≡ Accepts p → ⊥) → IsRefusedCall s k e emitted
+  NotInstalled : (memory : Bool) (event : e ≡ Install k memory) (at : stage s k ≡ ToInstall)
+      (why : (memory ≡ false) ⊎ (9223372036854775807 ≤ (slot_at s (slot_of s k)).serial)) → IsRefusedCall s k e emitted
+  NotRemoved : (event : e ≡ Remove k) (at : stage s k ≡ ToRemove) (why : ((slot_at s (slot_of s k)).present ≡ None) ⊎
+      (9223372036854775807 ≤ (slot_at s (slot_of s k)).serial)) → IsRefusedCall s k e emitted
+  NotDescribed : (event : e ≡ Receipt k) (at : stage s k ≡ ToDescribe) (empty : (slot_at s (slot_of s k)).present ≡ None) → IsRefusedCall s k e emitted
+  NotSent : (now : ℕ) (content : Content) (event : e ≡ Answer k now) (at : stage s k ≡ ToAnswer content) (none : emitted ≡ None) → IsRefusedCall s k e emitted
+  HasNoId : (now : ℕ) (turn : Turn) (found : Option Ticket) (event : e ≡ Fresh k now) (at : stage s k ≡ ToTell turn (turns.ToDraw found))
+      (none : free_id s.ids (max s.moment now) ≡ None) → IsRefusedCall s k e emitted
+  HasNoTicket : (turn : Turn) (readings : List ℕ) (p : Present) (event : e ≡ Take k false readings) (at : stage s k ≡ ToTell turn turns.ToTake)
+      (found : (slot_at s (slot_of s k)).present ≡ Some p) → IsRefusedCall s k e emitted
+  IsStaleTaking : (turn : Turn) (memory : Bool) (readings : List ℕ) (event : e ≡ Take k memory readings) (at : stage s k ≡ ToTell turn turns.ToTake)
+      (stale : entry_out turn (at_moment (s.shard_moment (slot_of s k % 8)) (watch s (slot_of s k))) ≡ None) → IsRefusedCall s k e emitted
+  IsStaleNote : (now random id : ℕ) (turn : Turn) (found : Option Ticket) (event : e ≡ Note k now random)
+      (at : stage s k ≡ ToTell turn (turns.ToNote found id)) (stale : entry_out turn (at_moment (moment_at s k now) (watch s (slot_of s k))) ≡ None)
+      → IsRefusedCall s k e emitted
+
+-- a check of its options refuses a new request, by a code or in silence
+pub data IsRefusedByCheck (s : Seen) (e : Event) : Type 0 where
+  ByCode : (m : Message) (answer : ℕ) (refuses : Refuses s e m answer) → IsRefusedByCheck s e
+  InSilence : (now : ℕ) (to : Endpoint) (bytes : Bor (List ℕ)) (event : e ≡ Deliver now to bytes) (opens : IsOpening s now to bytes.now)
+      (silent : verdict opens.message ≡ IsSilent) → IsRefusedByCheck s e
+
+-- the taking of a turn that is out finds the slot empty
+pub record FindsTurnMissing (s : Seen) (k : ℕ) (e : Event) (turn : Turn) : Type 0 where
+  pub memory : Bool
+  pub readings : List ℕ
+  pub event : e ≡ Take k memory readings
+  pub at : stage s k ≡ ToTell turn turns.ToTake
+  pub empty : (slot_at s (slot_of s k)).present ≡ None
+  pub entry : ObserverEntry
+  pub out : entry_out turn (at_moment (s.shard_moment (slot_of s k % 8)) (watch s (slot_of s k))) ≡ Some entry
+
+-- ---- what it leaves
+
+-- no job comes, no slot changes, and no head word rises
+pub record LeavesSlots (before after : Seen) : Type 0 where
+  pub jobs : length after.tasks ≡ length before.tasks
+  pub slots : (n : ℕ) → after.changes n ≡ before.changes n
+  pub words : after.words ≡ before.words
+
+-- no observer comes, goes or changes
+abbrev pub LeavesObservers : Seen → Seen → Type 0
+LeavesObservers before after = (n : ℕ) → (watch after n).held ≡ (watch before n).held
+
+-- all is as it was, whatever moments were handed in and message ids drawn
+pub record LeavesAll (before after : Seen) : Type 0 where
+  pub slots : LeavesSlots before after
+  pub observers : LeavesObservers before after
+  pub exchanges : after.exchanges ≡ before.exchanges
+  pub additions : after.additions ≡ before.additions
+
+-- all but that the request has its exchange
+pub record LeavesAllButExchange (r : Entry) (s : Seen) : Type 0 where
+  pub slots : LeavesSlots s (and_then r s)
+  pub observers : LeavesObservers s (and_then r s)
+  pub exchange : OpensOne r s
+  pub additions : (and_then r s).additions ≡ s.additions
+
+-- all but that, and that the transfer of this endpoint and slot is gone
+pub record LeavesAllButTransfer (r : Entry) (s : Seen) (to : Endpoint) (n : ℕ) : Type 0 where
+  pub slots : LeavesSlots s (and_then r s)
+  pub observers : LeavesObservers s (and_then r s)
+  pub exchange : OpensOne r s
+  pub gone : bytes_held (and_then r s).moment to n (transfers (and_then r s).additions) ≡ None
+  pub others : (from : Endpoint) (m : ℕ) → same_key to n from m ≡ false →
+      bytes_held (and_then r s).moment from m (transfers (and_then r s).additions) ≡ bytes_held (and_then r s).moment from m (transfers s.additions)
+
+-- all but that the observer whose turn it is keeps that its taking found the slot empty
+pub record LeavesAllButTurn (r : Entry) (s : Seen) (n : ℕ) (turn : Turn) : Type 0 where
+  pub slots : LeavesSlots s (and_then r s)
+  pub others : (m : ℕ) → (m ≡ n → ⊥) → (watch (and_then r s) m).held ≡ (watch s m).held
+  pub missing : watch (and_then r s) n ≡ turn_missed turn (at_moment (s.shard_moment (n % 8)) (watch s n))
+  pub exchanges : (and_then r s).exchanges ≡ s.exchanges
+  pub additions : (and_then r s).additions ≡ s.additions
+
+-- who sent what an event delivers
+abbrev pub sender : Event → Endpoint
+sender (Deliver now to bytes) = to
+sender other = record { ip = []; port = 0 }

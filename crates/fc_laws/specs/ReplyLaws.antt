@@ -1,0 +1,54 @@
+-- What the laws of refusals and of answers speak of.
+use Rattle.std.specs.Prelude.{◌≡◌, ℕ, ◌/◌, ◌%◌, ◌≤◌, ◌⊎◌, List, [], ◌∷◌, Ok, Err}
+use Rattle.coap_msg.specs.declared.types.Bad.TheVariants as bad
+use Rattle.coap_msg.specs.declared.types.Emission.{Emission}
+use Rattle.coap_msg.specs.declared.types.Endpoint.{Endpoint}
+use Rattle.coap_msg.specs.declared.types.MessageType.{MessageType}
+use Rattle.coap_msg.specs.declared.types.MessageType.TheVariants.{Confirmable}
+use Rattle.coap_msg.specs.Reading.{reading_of}
+use Rattle.coap_msg.specs.Wire.{Message}
+use Rattle.coap_opts.specs.Verdict.{IsRefused, verdict}
+use Rattle.coap_reply.specs.Responses.{Response, sent_in}
+use Rattle.fc_registry.specs.declared.job.Job.{Job}
+use Rattle.fc_core.specs.declared.event.Event.{Event}
+use Rattle.fc_core.specs.declared.event.Event.TheVariants.{Deliver}
+use Rattle.fc_core.specs.Contents.{Content}
+use Rattle.fc_laws.specs.ExchangeLaws.{IsOpening}
+use Rattle.fc_core.specs.History.{Seen}
+use Rattle.fc_core.specs.Replies.{Says}
+
+-- ---- refusals
+
+-- the datagram is a request and no repeat, there is room for its exchange, and a check of its options refuses it by this code
+pub record IsRefusedAnew (s : Seen) (now : ℕ) (to : Endpoint) (bytes : List ℕ) (m : Message) (answer : ℕ) : Type 0 where
+  pub opens : IsOpening s now to bytes
+  pub read : reading_of bytes ≡ Ok m
+  pub refuses : verdict m ≡ IsRefused answer
+
+-- the event delivers such a request
+abbrev pub Refuses : Seen → Event → Message → ℕ → Type 0
+Refuses s (Deliver now to bytes) m answer = IsRefusedAnew s now to bytes.now m answer
+Refuses s other m answer = ⊥
+
+-- the datagram is a confirmable message of this id with a format error, or one that is no request: a ping, whose code is 0.00, or of a
+-- class other than 0 (RFC 7252, 4.2)
+pub data IsRejected (bytes : List ℕ) (id : ℕ) : Type 0 where
+  FormatError : (read : reading_of bytes ≡ Err (bad.Reset id)) → IsRejected bytes id
+  NoRequest : (m : Message) (read : reading_of bytes ≡ Ok m) (kind : m.kind ≡ Confirmable) (code : (m.code ≡ 0) ⊎ (32 ≤ m.code)) (own : m.id ≡ id) → IsRejected bytes id
+
+-- the event delivers such a datagram from an endpoint
+abbrev pub Rejects : Event → Endpoint → ℕ → Type 0
+Rejects (Deliver now from bytes) to id = (from ≡ to) × IsRejected bytes.now id
+Rejects other to id = ⊥
+
+-- a Reset message of this id: version 1, type 3, no token, code 0.00 (RFC 7252, 3)
+abbrev pub reset_to : Endpoint → ℕ → Emission
+reset_to to id = record { to = to; bytes = record { items = 112 ∷ 0 ∷ (id / 256) ∷ (id % 256) ∷ [] } }
+
+-- ---- answers
+
+-- the emission answers the job by this content: to its client's endpoint, by this type and message id, with the request's token
+pub record IsAnswerTo (j : Job) (content : Content) (kind : MessageType) (id : ℕ) (e : Emission) : Type 0 where
+  pub response : Response
+  pub says : Says j content response
+  pub is : e ≡ sent_in (record { to = j.origin.endpoint; kind = kind; id = id; token = j.token.items }) response

@@ -1,0 +1,146 @@
+-- What the laws of turns speak of.
+use Rattle.std.specs.Prelude.{◌≡◌, ℕ, ◌+◌, ◌*◌, ◌%◌, ◌<◌, ◌≤◌, ◌&&◌, nat_eq, nat_le, max, Bool, true, if◌then◌else◌, List, Option, None, Some}
+use Rattle.std.specs.Cmp.Lexicographic.{pointwise}
+use Rattle.std.specs.List.{Contains}
+use Rattle.arrayvec.specs.ArrayVec.{ArrayVec}
+use Rattle.coap_msg.specs.declared.types.Emission.{Emission}
+use Rattle.coap_msg.specs.declared.types.Endpoint.{Endpoint}
+use Rattle.coap_msg.specs.Endpoints.{same_endpoint}
+use Rattle.coap_msg.specs.declared.types.MessageType.{MessageType}
+use Rattle.coap_msg.specs.declared.types.MessageType.TheVariants.{Confirmable, NonConfirmable}
+use Rattle.coap_reply.specs.Blocks.{cut_for}
+use Rattle.coap_reply.specs.Responses.{Response, ran_response, sent_in}
+use Rattle.fc_observe.specs.declared.entry.Entry.{Entry as ObserverEntry}
+use Rattle.fc_observe.specs.declared.entry.Phase.TheVariants.{Outstanding, TurnOut}
+use Rattle.fc_observe.specs.declared.entry.Turn.{Turn}
+use Rattle.fc_observe.specs.Observers.{ObserverList, at_moment, entry_out, late_entry}
+use Rattle.fc_observe.specs.Entries.{is_entry_of}
+use Rattle.fc_registry.specs.Calls.{meaning_at}
+use Rattle.fc_registry.specs.Slots.{Ticket}
+use Rattle.fc_core.specs.declared.event.Event.TheVariants.{Commit, Note, ShardTick, Signal}
+use Rattle.fc_core.specs.declared.stage.Stage.TheVariants.{ToCommit, ToTell}
+use Rattle.fc_core.specs.declared.stage.TurnStage.TheVariants.{ToNote}
+use Rattle.fc_core.specs.History.{Entry, Seen, late_in, stage, watch}
+use Rattle.fc_core.specs.Laws.{slot_of}
+use Rattle.fc_laws.specs.ObserveLaws.{is_held}
+
+-- the moment of the shard of a job's slot, after it is handed one
+abbrev pub moment_at : Seen → ℕ → ℕ → ℕ
+moment_at s k now = max (s.shard_moment (slot_of s k % 8)) now
+
+-- a ticket's response: with the serial that its taking found as ETag and sequence number, where its run means a 2.05 Content
+abbrev pub response_of : Ticket → Response
+response_of t = ran_response (meaning_at t).code (cut_for t.block (meaning_at t).reply) t.serial true
+
+-- the emission is a notification of the entry that has this turn out at a moment: it goes to that entry's endpoint, with its token,
+-- and is confirmable where 24 hours passed since its last that was
+pub record Notifies (turn : Turn) (id at : ℕ) (w : ObserverList) (response : Response) (e : Emission) : Type 0 where
+  pub entry : ObserverEntry
+  pub held : Contains w.held entry
+  pub out : entry_out turn (at_moment at w) ≡ Some entry
+  pub is : e ≡ sent_in (record {
+    to = entry.endpoint;
+    kind = if nat_le (entry.confirmed + 86400000) at then Confirmable else NonConfirmable;
+    id = id;
+    token = entry.token.items;
+  }) response
+
+-- of an observer of the slot of this job
+abbrev pub NotifiesOf : Seen → ℕ → ℕ → Turn → ℕ → Response → Emission → Type 0
+NotifiesOf s k now turn id response e = Notifies turn id (moment_at s k now) (watch s (slot_of s k)) response e
+
+-- its turn, if it is this one, was given a window of 247,000 ms before, or earlier
+abbrev pub HasLapsed : Turn → ℕ → ObserverEntry → Type 0
+HasLapsed turn at o = (since : ℕ) (missing : Bool) → o.phase ≡ TurnOut turn.number since missing → since + 247000 ≤ at
+
+-- an emission to an observer that is in a list: to the endpoint of one of its entries, with its token
+pub record IsToHeld (w : ObserverList) (e : Emission) : Type 0 where
+  pub entry : ObserverEntry
+  pub held : is_held entry.endpoint entry.token.items w ≡ true
+  pub kind : MessageType
+  pub id : ℕ
+  pub response : Response
+  pub is : e ≡ sent_in (record { to = entry.endpoint; kind = kind; id = id; token = entry.token.items }) response
+
+-- an emission is the outstanding notification of an observer that is in a list, sent again as it was less than four times
+pub record Resends (w : ObserverList) (e : Emission) : Type 0 where
+  pub entry : ObserverEntry
+  pub held : is_held entry.endpoint entry.token.items w ≡ true
+  pub sent_at : ℕ
+  pub timeout : ℕ
+  pub retransmissions : ℕ
+  pub bytes : ArrayVec ℕ
+  pub outstanding : entry.phase ≡ Outstanding sent_at timeout retransmissions bytes
+  pub few : retransmissions < 4
+  pub is : e ≡ record { to = entry.endpoint; bytes = bytes }
+
+-- ---- who is taken from a list
+
+-- by the commit of its own GET with Observe 1
+pub record Cancels (r : Entry) (s : Seen) (n : ℕ) (to : Endpoint) (token : List ℕ) : Type 0 where
+  pub number : ℕ
+  pub now : ℕ
+  pub count : ℕ
+  pub ticket : Ticket
+  pub event : r.event ≡ Commit number now
+  pub at : stage s number ≡ ToCommit count ticket
+  pub slot : slot_of s number ≡ n
+  pub asks : ticket.observe ≡ Some 1
+  pub client : (same_endpoint ticket.origin.endpoint to && pointwise nat_eq ticket.token.items token) ≡ true
+
+-- by a Reset message that answers the last notification that it was sent
+pub record Resets (r : Entry) (s : Seen) (n : ℕ) (to : Endpoint) (token : List ℕ) : Type 0 where
+  pub shard : ℕ
+  pub id : ℕ
+  pub entry : ObserverEntry
+  pub event : r.event ≡ Signal shard entry.endpoint id true
+  pub slot : n % 8 ≡ shard
+  pub held : Contains (watch s n).held entry
+  pub own : is_entry_of to token entry ≡ true
+  pub last : entry.id ≡ Some id
+
+-- by a tick of the shard to which its notification is late, after it was sent again four times
+pub record TimesOut (r : Entry) (s : Seen) (n : ℕ) (to : Endpoint) (token : List ℕ) : Type 0 where
+  pub shard : ℕ
+  pub now : ℕ
+  pub place : ℕ
+  pub entry : ObserverEntry
+  pub sent_at : ℕ
+  pub timeout : ℕ
+  pub retransmissions : ℕ
+  pub bytes : ArrayVec ℕ
+  pub event : r.event ≡ ShardTick shard now
+  pub slot : 8 * place + shard ≡ n
+  pub first : late_in s shard (max (s.shard_moment shard) now) ≡ Some place
+  pub late : late_entry (at_moment (max (s.shard_moment shard) now) (watch s n)) ≡ Some entry
+  pub own : is_entry_of to token entry ≡ true
+  pub outstanding : entry.phase ≡ Outstanding sent_at timeout retransmissions bytes
+  pub four : 4 ≤ retransmissions
+
+-- a turn that found the slot empty, or whose run means no 2.05 Content
+abbrev pub IsNoContent : Option Ticket → Type 0
+IsNoContent None = Unit {0}
+IsNoContent (Some t) = (meaning_at t).code ≡ 69 → ⊥
+
+-- by the notification of a turn that it has out, which is no 2.05 Content
+pub record IsTurnedAway (r : Entry) (s : Seen) (n : ℕ) (to : Endpoint) (token : List ℕ) : Type 0 where
+  pub number : ℕ
+  pub now : ℕ
+  pub random : ℕ
+  pub id : ℕ
+  pub turn : Turn
+  pub found : Option Ticket
+  pub entry : ObserverEntry
+  pub event : r.event ≡ Note number now random
+  pub at : stage s number ≡ ToTell turn (ToNote found id)
+  pub slot : slot_of s number ≡ n
+  pub out : entry_out turn (at_moment (moment_at s number now) (watch s n)) ≡ Some entry
+  pub own : is_entry_of to token entry ≡ true
+  pub answer : IsNoContent found
+
+-- the event takes the client of this endpoint and token from the observers of slot n, in one of these four ways
+pub data Removes (r : Entry) (s : Seen) (n : ℕ) (to : Endpoint) (token : List ℕ) : Type 0 where
+  ByCancellation : (w : Cancels r s n to token) → Removes r s n to token
+  ByReset : (w : Resets r s n to token) → Removes r s n to token
+  ByTimeout : (w : TimesOut r s n to token) → Removes r s n to token
+  ByAnswer : (w : IsTurnedAway r s n to token) → Removes r s n to token

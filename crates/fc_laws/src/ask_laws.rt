@@ -1,0 +1,81 @@
+//! What a history promises of what a job asks: each function is a law, and its contract says it.
+ghost use Rattle.coap_msg.specs.Wire.{Message};
+ghost use Rattle.coap_msg.specs.declared.types.Endpoint.{Endpoint};
+ghost use Rattle.coap_msg.specs.declared.types.MessageType.TheVariants.{Confirmable};
+ghost use Rattle.coap_opts.specs.Verdict.{Asked, block_in, etags, number_in};
+ghost use Rattle.coap_opts.specs.declared.number.TheConstants as option;
+ghost use Rattle.fc_laws.specs.AskLaws.{BringsJob, IsPlain, Requests, core_path, program_path, request_in, run_path};
+ghost use Rattle.fc_laws.specs.BodyLaws.{Asks};
+ghost use Rattle.fc_core.specs.History.{Entry, Seen};
+ghost use Rattle.fc_help.specs.declared.request.Method.TheVariants.{Get, Post};
+ghost use Rattle.fc_registry.specs.declared.job.Ask.TheVariants.{Describe, Discover, Install, Remove, Run};
+ghost use Rattle.fc_registry.specs.declared.job.Job.{Job};
+ghost use Rattle.std.specs.Prelude.{ℕ, ◌≡◌, ◌≢◌, ◌↔◌, ◌<◌, ◌≤◌, [], None, Some, length, max, true};
+
+/// A job asks what its message says (RFC 7252, 5.8). A GET, code 1, and a POST, code 2, of `/r/N` have slot N's program answer the
+/// message's Content-Format, query and payload. Of `/p/N` a PUT, code 3, without Block1 installs the payload, a DELETE, code 4, removes the
+/// program, and a GET describes it; a GET of `/.well-known/core` lists the slots. No other code brings a job.
+pub fn jobs_ask_what_their_messages_say()
+    ensures get { (r : Entry) (s : Seen) (from : Endpoint) (m : Message) (j : Job) (n : ℕ) → n < 64 →
+        BringsJob r s from m j → Requests m 1 (run_path n) → j.ask ≡ Run (request_in Get n m) }
+    ensures post { (r : Entry) (s : Seen) (from : Endpoint) (m : Message) (j : Job) (n : ℕ) → n < 64 →
+        BringsJob r s from m j → Requests m 2 (run_path n) → j.ask ≡ Run (request_in Post n m) }
+    ensures put { (r : Entry) (s : Seen) (from : Endpoint) (m : Message) (j : Job) (n : ℕ) → n < 64 →
+        BringsJob r s from m j → Requests m 3 (program_path n) → block_in option.BLOCK1 m ≡ None →
+        j.ask ≡ Install (record { items = m.payload }) }
+    ensures delete { (r : Entry) (s : Seen) (from : Endpoint) (m : Message) (j : Job) (n : ℕ) → n < 64 →
+        BringsJob r s from m j → Requests m 4 (program_path n) → j.ask ≡ Remove }
+    ensures describe { (r : Entry) (s : Seen) (from : Endpoint) (m : Message) (j : Job) (n : ℕ) → n < 64 →
+        BringsJob r s from m j → Requests m 1 (program_path n) → j.ask ≡ Describe }
+    ensures list { (r : Entry) (s : Seen) (from : Endpoint) (m : Message) (j : Job) →
+        BringsJob r s from m j → Requests m 1 core_path → j.ask ≡ Discover }
+    ensures only { (r : Entry) (s : Seen) (from : Endpoint) (m : Message) (j : Job) →
+        BringsJob r s from m j → (1 ≤ m.code) × (m.code ≤ 4) }
+{}
+
+/// A job is of its message's endpoint, message id, token and slot, and of the exchange that its delivery opens; it is confirmable
+/// exactly where the message is, and no turn of an observer.
+pub fn jobs_are_of_their_messages()
+    ensures endpoint { (r : Entry) (s : Seen) (from : Endpoint) (m : Message) (j : Job) →
+        BringsJob r s from m j → j.origin.endpoint ≡ from }
+    ensures id { (r : Entry) (s : Seen) (from : Endpoint) (m : Message) (j : Job) →
+        BringsJob r s from m j → j.origin.id ≡ m.id }
+    ensures token { (r : Entry) (s : Seen) (from : Endpoint) (m : Message) (j : Job) →
+        BringsJob r s from m j → j.token.items ≡ m.token }
+    ensures run_slot { (r : Entry) (s : Seen) (from : Endpoint) (m : Message) (j : Job) (code n : ℕ) → n < 64 →
+        BringsJob r s from m j → Requests m code (run_path n) → j.origin.slot ≡ n }
+    ensures program_slot { (r : Entry) (s : Seen) (from : Endpoint) (m : Message) (j : Job) (code n : ℕ) → n < 64 →
+        BringsJob r s from m j → Requests m code (program_path n) → j.origin.slot ≡ n }
+    ensures exchange { (r : Entry) (s : Seen) (from : Endpoint) (m : Message) (j : Job) (b : BringsJob r s from m j) →
+        j.origin.opening ≡ record { number = length s.exchanges; at = max s.moment b.now } }
+    ensures confirmable { (r : Entry) (s : Seen) (from : Endpoint) (m : Message) (j : Job) →
+        BringsJob r s from m j → ((j.confirmable ≡ true) ↔ (m.kind ≡ Confirmable)) }
+    ensures turn { (r : Entry) (s : Seen) (from : Endpoint) (m : Message) (j : Job) →
+        BringsJob r s from m j → j.turn ≡ None }
+{}
+
+/// The block of a job is a GET's Block2 or a PUT's Block1 (RFC 7959, 2.1); its Observe is that of a request of `/r/N` (RFC 7641, 2).
+/// Its ETags are the first four of eight bytes (RFC 7252, 5.10.6), and none where its client registers, by Observe 0, or cancels, by 1.
+pub fn jobs_have_their_messages_options()
+    ensures block2 { (r : Entry) (s : Seen) (from : Endpoint) (m : Message) (j : Job) →
+        BringsJob r s from m j → m.code ≡ 1 → j.block ≡ block_in option.BLOCK2 m }
+    ensures block1 { (r : Entry) (s : Seen) (from : Endpoint) (m : Message) (j : Job) →
+        BringsJob r s from m j → m.code ≡ 3 → j.block ≡ block_in option.BLOCK1 m }
+    ensures no_block { (r : Entry) (s : Seen) (from : Endpoint) (m : Message) (j : Job) →
+        BringsJob r s from m j → m.code ≢ 1 → m.code ≢ 3 → j.block ≡ None }
+    ensures observe { (r : Entry) (s : Seen) (from : Endpoint) (m : Message) (j : Job) (code n : ℕ) → n < 64 →
+        BringsJob r s from m j → Requests m code (run_path n) → j.observe ≡ number_in option.OBSERVE m }
+    ensures etags { (r : Entry) (s : Seen) (from : Endpoint) (m : Message) (j : Job) →
+        BringsJob r s from m j → IsPlain m → j.etags.items ≡ etags m }
+    ensures registration { (r : Entry) (s : Seen) (from : Endpoint) (m : Message) (j : Job) (code n : ℕ) → n < 64 →
+        BringsJob r s from m j → Requests m code (run_path n) → number_in option.OBSERVE m ≡ Some 0 → j.etags.items ≡ [] }
+    ensures cancellation { (r : Entry) (s : Seen) (from : Endpoint) (m : Message) (j : Job) (code n : ℕ) → n < 64 →
+        BringsJob r s from m j → Requests m code (run_path n) → number_in option.OBSERVE m ≡ Some 1 → j.etags.items ≡ [] }
+{}
+
+/// A job does come of each request without Block1 that is no repeat, that passes the checks of its options, and for whose exchange there is
+/// room.
+pub fn requests_bring_jobs()
+    ensures { (r : Entry) (s : Seen) (m : Message) (q : Asked) → Asks s r.event m q → block_in option.BLOCK1 m ≡ None
+        → (from : Endpoint) × (j : Job) × BringsJob r s from m j }
+{}

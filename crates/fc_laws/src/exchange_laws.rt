@@ -1,0 +1,86 @@
+//! What a history promises of exchanges and message ids: each function is a law, and its contract says it.
+ghost use Rattle.coap_dedup.specs.Exchanges.{Exchange};
+ghost use Rattle.fc_laws.specs.ExchangeLaws.{AreApart, AreInOrder, FindsNoExchange, Opens, OpensOne, Repeats, arrivals, bare_by, draws_of, first_id, repeat_emits};
+ghost use Rattle.fc_core.specs.Contents.{Content};
+ghost use Rattle.fc_core.specs.History.{Entry, History, Seen, Then, and_then, did, job, seen, stage};
+ghost use Rattle.fc_laws.specs.KeptLaws.{AnswersJob, HasId, answers, answers_with, emitted_bytes, exchange_of_job, opened_at};
+ghost use Rattle.fc_core.specs.declared.event.Event.TheVariants.{Answer};
+ghost use Rattle.fc_core.specs.declared.stage.Stage.TheVariants.{ToAnswer};
+ghost use Rattle.coap_msg.specs.Wire.{Message};
+ghost use Rattle.coap_msg.specs.declared.types.Emission.{Emission};
+ghost use Rattle.fc_core.specs.Laws.{HasCome};
+ghost use Rattle.fc_core.specs.Legal.{Emits};
+ghost use Rattle.std.specs.Prelude.{ℕ, ◌+◌, ◌<◌, ◌≤◌, ◌≡◌, ◌++◌, ◌∷◌, [], None, Option, Some, is_some, max, true};
+
+/// A repeat, which is a request of an endpoint and message id of which an exchange was opened less than 247,000 ms before,
+/// opens no exchange, brings no job, adds no payload to a transfer and draws no message id. It emits the bytes that are kept of that exchange, where its
+/// request was confirmable and was answered, and else nothing.
+pub fn repeats_do_nothing()
+    ensures exchanges { (r : Entry) (s : Seen) (e : Exchange) → Repeats s r.event e
+        → (and_then r s).exchanges ≡ s.exchanges }
+    ensures tasks { (r : Entry) (s : Seen) (e : Exchange) → Repeats s r.event e
+        → (and_then r s).tasks ≡ s.tasks }
+    ensures additions { (r : Entry) (s : Seen) (e : Exchange) → Repeats s r.event e
+        → (and_then r s).additions ≡ s.additions }
+    ensures ids { (r : Entry) (s : Seen) (e : Exchange) → Repeats s r.event e → (and_then r s).ids ≡ s.ids }
+    ensures emitted { (r : Entry) (s : Seen) (e : Exchange) → Repeats s r.event e → Emits s r.event r.emitted
+        → r.emitted ≡ repeat_emits r.event e }
+{}
+
+/// An event opens an exchange exactly where it delivers a request that is no repeat, and there is room for it: fewer than
+/// 1,024 exchanges were opened less than 247,000 ms before. It is of the delivery's endpoint, message id and type, and opened at
+/// the front's moment; none is ever lost.
+pub fn new_requests_open_exchanges()
+    ensures opens { (r : Entry) (s : Seen) → Opens s r.event → OpensOne r s }
+    ensures others { (r : Entry) (s : Seen) → (Opens s r.event → ⊥)
+        → arrivals (and_then r s) ≡ arrivals s }
+{}
+
+/// A request that is no repeat and that finds no room, since 1,024 exchanges were opened less than 247,000 ms before, is answered 5.03
+/// (Service Unavailable), whose byte is 163. It opens no exchange, so that nothing of it is kept, brings no job, and adds no payload to a
+/// transfer.
+pub fn requests_without_room_are_unavailable()
+    ensures exchanges { (r : Entry) (s : Seen) (m : Message) → FindsNoExchange s r.event m
+        → (and_then r s).exchanges ≡ s.exchanges }
+    ensures tasks { (r : Entry) (s : Seen) (m : Message) → FindsNoExchange s r.event m → (and_then r s).tasks ≡ s.tasks }
+    ensures additions { (r : Entry) (s : Seen) (m : Message) → FindsNoExchange s r.event m
+        → (and_then r s).additions ≡ s.additions }
+    ensures emitted { (r : Entry) (s : Seen) (m : Message) → FindsNoExchange s r.event m → Emits s r.event r.emitted
+        → r.emitted ≡ bare_by s r.event m 163 }
+{}
+
+/// A request is carried out at most once in its window: two jobs of requests with one endpoint and message id came at least 247,000 ms
+/// apart. A turn of an observer is no request.
+pub fn requests_are_carried_out_once()
+    ensures { (h : History) (j k : ℕ) → j < k → HasCome (seen h) k
+        → (job (seen h) j).turn ≡ None → (job (seen h) k).turn ≡ None
+        → (job (seen h) j).origin.endpoint ≡ (job (seen h) k).origin.endpoint
+        → (job (seen h) j).origin.id ≡ (job (seen h) k).origin.id
+        → (job (seen h) j).origin.opening.at + 247000 ≤ (job (seen h) k).origin.opening.at }
+{}
+
+/// The server draws its message ids in order: the id after 65,535 is 0. No id is drawn twice less than 247,000 ms apart.
+pub fn message_ids_come_in_order()
+    ensures order { (h : History) → first_id h < 65536 → AreInOrder (first_id h) (draws_of h) }
+    ensures apart { (h : History) → first_id h < 65536 → AreApart (draws_of h) }
+{}
+
+/// The answer of a job goes out less than 247,000 ms after its request was opened, and never later. Until then it does go out, where
+/// its request was confirmable or a message id of the server's own is free.
+pub fn answers_go_out_in_time()
+    ensures late { (s : Seen) (k now : ℕ) (e : Emission) → Emits s (Answer k now) (Some e)
+        → max s.moment now < opened_at s k + 247000 }
+    ensures in_time { (s : Seen) (k now : ℕ) (content : Content) (o : Option Emission) → stage s k ≡ ToAnswer content
+        → max s.moment now < opened_at s k + 247000 → HasId s k now → Emits s (Answer k now) o → is_some o ≡ true }
+{}
+
+/// What is kept as the answer of an exchange is the bytes that went out: those that its delivery emitted, where it was answered at
+/// once, or those that the Answer of its job emitted. No other event touches an answer that is kept.
+pub fn kept_answers_are_what_went_out()
+    ensures opened { (h : History) (r : Entry) → Opens (seen h) r.event → Emits (seen h) r.event r.emitted
+        → answers (seen (Then h r)) ≡ answers (seen h) ++ emitted_bytes r.emitted ∷ [] }
+    ensures answered { (h : History) (k now : ℕ) (content : Content) (o : Option Emission) → stage (seen h) k ≡ ToAnswer content
+        → answers (seen (Then h (did (Answer k now) o))) ≡ answers_with o (exchange_of_job (seen h) k) (answers (seen h)) }
+    ensures others { (h : History) (r : Entry) → (Opens (seen h) r.event → ⊥) → (AnswersJob (seen h) r.event → ⊥)
+        → answers (seen (Then h r)) ≡ answers (seen h) }
+{}

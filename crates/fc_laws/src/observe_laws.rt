@@ -1,0 +1,119 @@
+//! What a history promises of the observers of slots: each function is a law, and its contract says it.
+ghost use Rattle.std.specs.Prelude.{◌≡◌, ℕ, ◌+◌, ◌*◌, ◌%◌, ◌<◌, ◌∷◌, ◌⊎◌, Bool, List, Option, None, Some, max, true, false};
+ghost use Rattle.coap_msg.specs.declared.types.Emission.{Emission};
+ghost use Rattle.coap_msg.specs.declared.types.Endpoint.{Endpoint};
+ghost use Rattle.fc_help.specs.declared.request.Method.TheVariants.{Get};
+ghost use Rattle.fc_observe.specs.Observers.{after_ack, after_reset, after_tick, at_moment, cancelled, registered, turn_given, turn_given_up};
+ghost use Rattle.fc_observe.specs.declared.entry.Turn.{Turn};
+ghost use Rattle.fc_registry.specs.Calls.{szx_of};
+ghost use Rattle.fc_registry.specs.Slots.{Ticket};
+ghost use Rattle.fc_core.specs.declared.event.Event.TheVariants.{Commit, Due, Fresh, GiveUp, Signal, ShardTick, Lose};
+ghost use Rattle.fc_core.specs.declared.stage.Stage.TheVariants.{ToAnswer, ToCommit, ToTell, Gone};
+ghost use Rattle.fc_core.specs.declared.stage.TurnStage.{TurnStage};
+ghost use Rattle.fc_core.specs.declared.stage.TurnStage.TheVariants.{ToDraw, ToNote};
+ghost use Rattle.fc_laws.specs.ExchangeLaws.{draws_of, first_id};
+ghost use Rattle.fc_core.specs.Ids.{free_id};
+ghost use Rattle.fc_core.specs.History.{Entry, History, Seen, Then, seen, and_then, did, due_in, is_due_at, is_late_at, late_in, slot_at, stage, watch};
+ghost use Rattle.fc_core.specs.Laws.{later, slot_of};
+ghost use Rattle.fc_laws.specs.ObserveLaws.{AsksToObserve, BringsTurn, NoneRegisters, Registers, is_among, is_held};
+ghost use Rattle.fc_core.specs.Stages.{run_content};
+
+/// The commit of a GET with Observe 0 whose run means a 2.05 Content, and that asks no block or the first, registers its client at
+/// the moment of its shard; its answer says that the client observes exactly where it is among the observers then. That of a GET
+/// with Observe 1 removes the client, whatever the code. Any other commit leaves the observers of its slot, and each commit those
+/// of the other slots.
+pub fn commits_register_and_cancel()
+    ensures registered { (s : Seen) (k now n : ℕ) (t : Ticket) (o : Option Emission) → stage s k ≡ ToCommit n t
+        → t.request.method ≡ Get → AsksToObserve t → watch (and_then (did (Commit k now) o) s) (slot_of s k)
+        ≡ registered t.origin.endpoint t.token t.request (szx_of t.block) t.serial
+        (at_moment (max (s.shard_moment (slot_of s k % 8)) now) (watch s (slot_of s k))) }
+    ensures told { (s : Seen) (k now n : ℕ) (t : Ticket) (o : Option Emission) → stage s k ≡ ToCommit n t
+        → t.request.method ≡ Get → AsksToObserve t → stage (and_then (did (Commit k now) o) s) k
+        ≡ ToAnswer (run_content t (is_among t (watch (and_then (did (Commit k now) o) s) (slot_of s k)))) }
+    ensures cancelled { (s : Seen) (k now n : ℕ) (t : Ticket) (o : Option Emission) → stage s k ≡ ToCommit n t
+        → t.request.method ≡ Get → t.observe ≡ Some 1 → watch (and_then (did (Commit k now) o) s) (slot_of s k)
+        ≡ cancelled t.origin.endpoint t.token.items (watch s (slot_of s k)) }
+    ensures others { (s : Seen) (k now n : ℕ) (t : Ticket) (o : Option Emission) → stage s k ≡ ToCommit n t
+        → (AsksToObserve t → ⊥) → (t.observe ≡ Some 1 → ⊥)
+        → watch (and_then (did (Commit k now) o) s) (slot_of s k) ≡ watch s (slot_of s k) }
+    ensures elsewhere { (s : Seen) (k now m : ℕ) (o : Option Emission) → (m ≡ slot_of s k → ⊥)
+        → watch (and_then (did (Commit k now) o) s) m ≡ watch s m }
+{}
+
+/// A client comes among the observers of a slot only by the commit of its own GET there, with Observe 0. So one that was removed,
+/// however that was, isn't among them until it registers anew.
+pub fn observers_come_by_their_commits()
+    ensures comes { (r : Entry) (s : Seen) (n : ℕ) (to : Endpoint) (token : List ℕ) → is_held to token (watch (and_then r s) n) ≡ true
+        → (is_held to token (watch s n) ≡ true) ⊎ Registers r s n to token }
+    ensures away { (rs : List Entry) (h : History) (n : ℕ) (to : Endpoint) (token : List ℕ) → NoneRegisters h rs n to token
+        → is_held to token (watch (seen h) n) ≡ false → is_held to token (watch (seen (later h rs)) n) ≡ false }
+{}
+
+/// A signal is for the observers of its shard's slots alone: a Reset message removes just the entries whose last notification it
+/// answers, in each of these slots, and an Acknowledgement ends their wait.
+pub fn signals_are_for_their_shard()
+    ensures reset { (s : Seen) (i n id : ℕ) (to : Endpoint) (o : Option Emission) → n % 8 ≡ i
+        → watch (and_then (did (Signal i to id true) o) s) n ≡ after_reset to id (watch s n) }
+    ensures acknowledged { (s : Seen) (i n id : ℕ) (to : Endpoint) (o : Option Emission) → n % 8 ≡ i
+        → watch (and_then (did (Signal i to id false) o) s) n ≡ after_ack to id (watch s n) }
+    ensures elsewhere { (s : Seen) (i n id : ℕ) (to : Endpoint) (o : Option Emission) (reset : Bool) → (n % 8 ≡ i → ⊥)
+        → watch (and_then (did (Signal i to id reset) o) s) n ≡ watch s n }
+{}
+
+/// A shard that is asked for a turn gives it to the first of its slots that has an observer due, there to the first that is, and to no
+/// other; and that brings one job, which answers the observer's request anew. Where none is due no job comes.
+pub fn turns_are_for_the_first_that_is_due()
+    ensures found { (s : Seen) (i at k : ℕ) → due_in s i at ≡ Some k
+        → (is_due_at s i at k ≡ true) × ((j : ℕ) → j < k → is_due_at s i at j ≡ false) }
+    ensures not_found { (s : Seen) (i at : ℕ) → i < 8 → due_in s i at ≡ None → (j : ℕ) → j < 8 → is_due_at s i at j ≡ false }
+    ensures brings { (s : Seen) (i k now : ℕ) (o : Option Emission) → due_in s i (max (s.shard_moment i) now) ≡ Some k
+        → BringsTurn s (8 * k + i) (max (s.shard_moment i) now) (and_then (did (Due i now) o) s) }
+    ensures gives { (s : Seen) (i k now : ℕ) (o : Option Emission) → due_in s i (max (s.shard_moment i) now) ≡ Some k
+        → watch (and_then (did (Due i now) o) s) (8 * k + i)
+        ≡ turn_given (slot_at s (8 * k + i)).noticed (at_moment (max (s.shard_moment i) now) (watch s (8 * k + i))) }
+    ensures others { (s : Seen) (i k now : ℕ) (o : Option Emission) (n : ℕ) → due_in s i (max (s.shard_moment i) now) ≡ Some k
+        → (n ≡ 8 * k + i → ⊥) → watch (and_then (did (Due i now) o) s) n ≡ watch s n }
+    ensures nobody { (s : Seen) (i now n : ℕ) (o : Option Emission) → due_in s i (max (s.shard_moment i) now) ≡ None
+        → watch (and_then (did (Due i now) o) s) n ≡ watch s n }
+    ensures no_job { (s : Seen) (i now : ℕ) (o : Option Emission) → due_in s i (max (s.shard_moment i) now) ≡ None
+        → (and_then (did (Due i now) o) s).tasks ≡ s.tasks }
+{}
+
+/// A turn that needs a message id draws the next of the server's own, unless that was drawn less than 247,000 ms before: then it needs
+/// one still.
+pub fn turns_draw_message_ids()
+    ensures drawn { (s : Seen) (k now id : ℕ) (turn : Turn) (found : Option Ticket) (o : Option Emission) → stage s k ≡ ToTell turn (ToDraw found)
+        → free_id s.ids (max s.moment now) ≡ Some id → stage (and_then (did (Fresh k now) o) s) k ≡ ToTell turn (ToNote found id) }
+    ensures none { (s : Seen) (k now : ℕ) (turn : Turn) (found : Option Ticket) (o : Option Emission) → stage s k ≡ ToTell turn (ToDraw found)
+        → free_id s.ids (max s.moment now) ≡ None → stage (and_then (did (Fresh k now) o) s) k ≡ ToTell turn (ToDraw found) }
+    ensures draws { (h : History) (k now id : ℕ) (turn : Turn) (found : Option Ticket) (o : Option Emission) → first_id h < 65536
+        → stage (seen h) k ≡ ToTell turn (ToDraw found) → free_id (seen h).ids (max (seen h).moment now) ≡ Some id
+        → draws_of (Then h (did (Fresh k now) o)) ≡ record { id = id; at = max (seen h).moment now } ∷ draws_of h }
+{}
+
+/// A turn that is given up is its observer's no longer, from the moment of its shard on, and its job is gone; no other slot's observers
+/// change. A job whose worker is lost leaves the observers of every slot.
+pub fn turns_are_given_up_or_lost()
+    ensures given_up { (s : Seen) (k now : ℕ) (turn : Turn) (needs : TurnStage) (o : Option Emission) → stage s k ≡ ToTell turn needs
+        → watch (and_then (did (GiveUp k now) o) s) (slot_of s k)
+        ≡ turn_given_up turn (at_moment (max (s.shard_moment (slot_of s k % 8)) now) (watch s (slot_of s k))) }
+    ensures gone { (s : Seen) (k now : ℕ) (turn : Turn) (needs : TurnStage) (o : Option Emission) → stage s k ≡ ToTell turn needs
+        → stage (and_then (did (GiveUp k now) o) s) k ≡ Gone }
+    ensures elsewhere { (s : Seen) (k now m : ℕ) (o : Option Emission) → (m ≡ slot_of s k → ⊥)
+        → watch (and_then (did (GiveUp k now) o) s) m ≡ watch s m }
+    ensures lost { (s : Seen) (k n : ℕ) (o : Option Emission) → watch (and_then (did (Lose k) o) s) n ≡ watch s n }
+{}
+
+/// A tick of a shard is for the first of its slots that has a late notification, and for no other.
+pub fn ticks_are_for_the_first_that_is_late()
+    ensures found { (s : Seen) (i at k : ℕ) → late_in s i at ≡ Some k
+        → (is_late_at s i at k ≡ true) × ((j : ℕ) → j < k → is_late_at s i at j ≡ false) }
+    ensures not_found { (s : Seen) (i at : ℕ) → i < 8 → late_in s i at ≡ None → (j : ℕ) → j < 8 → is_late_at s i at j ≡ false }
+    ensures first { (s : Seen) (i k now : ℕ) (o : Option Emission) → late_in s i (max (s.shard_moment i) now) ≡ Some k
+        → watch (and_then (did (ShardTick i now) o) s) (8 * k + i)
+        ≡ after_tick (at_moment (max (s.shard_moment i) now) (watch s (8 * k + i))) }
+    ensures others { (s : Seen) (i k n now : ℕ) (o : Option Emission) → late_in s i (max (s.shard_moment i) now) ≡ Some k
+        → (n ≡ 8 * k + i → ⊥) → watch (and_then (did (ShardTick i now) o) s) n ≡ watch s n }
+    ensures none { (s : Seen) (i n now : ℕ) (o : Option Emission) → late_in s i (max (s.shard_moment i) now) ≡ None
+        → watch (and_then (did (ShardTick i now) o) s) n ≡ watch s n }
+{}

@@ -1,0 +1,121 @@
+//! What a history promises of turns and of the notifications of observers: each function is a law, and its contract says it.
+ghost use Rattle.std.specs.Prelude.{◌≡◌, ℕ, ◌+◌, ◌*◌, ◌%◌, ◌<◌, ◌≤◌, ◌⊎◌, List, None, Option, Some, false, is_some, length, max, true};
+ghost use Rattle.std.specs.List.{All};
+ghost use Rattle.coap_msg.specs.declared.types.Emission.{Emission};
+ghost use Rattle.coap_msg.specs.declared.types.Endpoint.{Endpoint};
+ghost use Rattle.fc_observe.specs.declared.entry.Entry.{Entry as ObserverEntry};
+ghost use Rattle.fc_observe.specs.declared.entry.Turn.{Turn};
+ghost use Rattle.fc_observe.specs.Observers.{at_moment, entry_out};
+ghost use Rattle.fc_registry.specs.Calls.{meaning_at};
+ghost use Rattle.fc_registry.specs.Slots.{Ticket};
+ghost use Rattle.coap_reply.specs.Responses.{bare};
+ghost use Rattle.fc_core.specs.History.{Entry, History, Seen, Then, and_then, did, job, late_in, seen, stage, watch};
+ghost use Rattle.fc_core.specs.Laws.{HasCome, IsNewest, later, slot_of, takings_of};
+ghost use Rattle.fc_core.specs.Legal.{Emits};
+ghost use Rattle.fc_laws.specs.ObserveLaws.{NoneRegisters, is_held};
+ghost use Rattle.fc_observe.specs.Entries.{is_entry_of};
+ghost use Rattle.fc_laws.specs.TurnLaws.{HasLapsed, IsNoContent, IsToHeld, NotifiesOf, Removes, Resends, moment_at, response_of};
+ghost use Rattle.fc_core.specs.declared.event.Event.TheVariants.{GiveUp, Lose, Note, ShardTick};
+ghost use Rattle.fc_core.specs.declared.stage.Stage.TheVariants.{Gone, ToTell};
+ghost use Rattle.fc_core.specs.declared.stage.TurnStage.{TurnStage};
+ghost use Rattle.fc_core.specs.declared.stage.TurnStage.TheVariants.{ToNote};
+
+/// The job of a turn is told of its own turn until it is gone, and no request's job is. Once it has notified its observer, whether or
+/// not that sent anything, was given up or lost, it is gone for ever: so a turn notifies once at most.
+pub fn turns_stand_apart()
+    ensures turn { (h : History) (k number : ℕ) → (job (seen h) k).turn ≡ Some number
+        → ((needs : TurnStage) × (stage (seen h) k ≡ ToTell (record { slot = slot_of (seen h) k; number = number }) needs))
+        ⊎ (stage (seen h) k ≡ Gone) }
+    ensures request { (h : History) (k : ℕ) (turn : Turn) (needs : TurnStage) → (job (seen h) k).turn ≡ None
+        → stage (seen h) k ≡ ToTell turn needs → ⊥ }
+    ensures noted { (h : History) (rs : List Entry) (k now random id : ℕ) (turn : Turn) (found : Option Ticket) (o : Option Emission)
+        → stage (seen h) k ≡ ToTell turn (ToNote found id)
+        → stage (seen (later (Then h (did (Note k now random) o)) rs)) k ≡ Gone }
+    ensures given_up { (h : History) (rs : List Entry) (k now : ℕ) (turn : Turn) (needs : TurnStage) (o : Option Emission)
+        → stage (seen h) k ≡ ToTell turn needs → stage (seen (later (Then h (did (GiveUp k now) o)) rs)) k ≡ Gone }
+    ensures lost { (h : History) (rs : List Entry) (k : ℕ) (o : Option Emission) → HasCome (seen h) k
+        → stage (seen (later (Then h (did (Lose k) o)) rs)) k ≡ Gone }
+{}
+
+/// What a turn notifies its observer of is the last ticket that it took, and it took no other: the code that the ticket's program means
+/// for the request, the variables and the readings that were found, a 2.05 Content with the reply that it means, cut as the request asks, and the
+/// serial found as its ETag and sequence number. A turn that found its slot empty notifies of a bare 4.04 (Not Found).
+/// A turn asks for no block but the first, so that a run that means a 2.05 Content is told as one.
+pub fn notifications_are_of_the_last_taking()
+    ensures newest { (h : History) (k id : ℕ) (turn : Turn) (t : Ticket) → stage (seen h) k ≡ ToTell turn (ToNote (Some t) id)
+        → (length (takings_of h k) ≡ 1) × IsNewest (takings_of h k) t }
+    ensures found { (h : History) (k now random id : ℕ) (turn : Turn) (t : Ticket) (e : Emission)
+        → stage (seen h) k ≡ ToTell turn (ToNote (Some t) id) → Emits (seen h) (Note k now random) (Some e)
+        → NotifiesOf (seen h) k now turn id (response_of t) e }
+    ensures empty { (h : History) (k now random id : ℕ) (turn : Turn) (e : Emission) → stage (seen h) k ≡ ToTell turn (ToNote None id)
+        → Emits (seen h) (Note k now random) (Some e) → NotifiesOf (seen h) k now turn id (bare 132) e }
+    ensures content { (h : History) (k id : ℕ) (turn : Turn) (t : Ticket) → stage (seen h) k ≡ ToTell turn (ToNote (Some t) id)
+        → (meaning_at t).code ≡ 69 → (response_of t).code ≡ 69 }
+{}
+
+/// A turn that is to notify sends exactly where it is out at the moment of its shard, whatever its taking found. So one that was given
+/// up, has notified before or was given 247,000 ms before sends nothing.
+pub fn notes_emit_where_turns_are_out()
+    ensures where_out { (h : History) (k now random id : ℕ) (turn : Turn) (found : Option Ticket) (o : Option Emission)
+        → stage (seen h) k ≡ ToTell turn (ToNote found id) → Emits (seen h) (Note k now random) o
+        → is_some o ≡ is_some (entry_out turn (at_moment (moment_at (seen h) k now) (watch (seen h) (slot_of (seen h) k)))) }
+    ensures given_up { (h : History) (rs : List Entry) (k now next random : ℕ) (turn : Turn) (needs : TurnStage) (e o : Option Emission)
+        → stage (seen h) k ≡ ToTell turn needs
+        → Emits (seen (later (Then h (did (GiveUp k now) e)) rs)) (Note k next random) o → o ≡ None }
+    ensures once { (h : History) (rs : List Entry) (k now random next again id : ℕ) (turn : Turn) (found : Option Ticket)
+        (e o : Option Emission) → stage (seen h) k ≡ ToTell turn (ToNote found id)
+        → Emits (seen (later (Then h (did (Note k now random) e)) rs)) (Note k next again) o → o ≡ None }
+    ensures lapsed { (h : History) (k now random id : ℕ) (turn : Turn) (found : Option Ticket) (o : Option Emission)
+        → stage (seen h) k ≡ ToTell turn (ToNote found id) → Emits (seen h) (Note k now random) o
+        → All (HasLapsed turn (moment_at (seen h) k now)) (watch (seen h) (slot_of (seen h) k)).held → o ≡ None }
+{}
+
+/// The serials that one observer is sent rise: the ticket that a turn notifies of has a serial above the last that the observer who has
+/// the turn was sent. So of two notifications to one endpoint and token, of the same slot and with no registration between them, the
+/// later has the greater serial.
+pub fn serials_rise_for_observers()
+    ensures above { (h : History) (k now id : ℕ) (turn : Turn) (t : Ticket) (o : ObserverEntry)
+        → stage (seen h) k ≡ ToTell turn (ToNote (Some t) id)
+        → entry_out turn (at_moment now (watch (seen h) (slot_of (seen h) k))) ≡ Some o → o.serial < t.serial }
+    ensures rise { (h : History) (rs : List Entry) (g : History) (k now random id j next other : ℕ) (turn next_turn : Turn)
+        (t u : Ticket) (o x : ObserverEntry) (to : Endpoint) (token : List ℕ) (e : Option Emission)
+        → stage (seen h) k ≡ ToTell turn (ToNote (Some t) id)
+        → entry_out turn (at_moment (moment_at (seen h) k now) (watch (seen h) (slot_of (seen h) k))) ≡ Some o
+        → is_entry_of to token o ≡ true
+        → NoneRegisters (Then h (did (Note k now random) e)) rs (slot_of (seen h) k) to token
+        → g ≡ later (Then h (did (Note k now random) e)) rs
+        → stage (seen g) j ≡ ToTell next_turn (ToNote (Some u) other) → slot_of (seen g) j ≡ slot_of (seen h) k
+        → entry_out next_turn (at_moment next (watch (seen g) (slot_of (seen h) k))) ≡ Some x
+        → is_entry_of to token x ≡ true → t.serial < u.serial }
+{}
+
+/// Only an observer that is in the list of a slot is sent notifications of it, and these again. So one that was removed hears nothing
+/// more before it registers anew.
+pub fn removed_observers_hear_nothing()
+    ensures notified { (h : History) (k now random id : ℕ) (turn : Turn) (found : Option Ticket) (e : Emission)
+        → stage (seen h) k ≡ ToTell turn (ToNote found id) → Emits (seen h) (Note k now random) (Some e)
+        → IsToHeld (watch (seen h) (slot_of (seen h) k)) e }
+    ensures resent { (s : Seen) (i now : ℕ) (e : Emission) → Emits s (ShardTick i now) (Some e)
+        → (k : ℕ) × (late_in s i (max (s.shard_moment i) now) ≡ Some k) × Resends (watch s (8 * k + i)) e }
+{}
+
+/// An observer stays in the list of its slot, unless its own GET with Observe 1 is committed, a Reset message answers its last
+/// notification, that is late after four retransmissions, or its turn notifies it of anything but a 2.05 Content.
+pub fn observers_stay()
+    ensures { (r : Entry) (s : Seen) (n : ℕ) (to : Endpoint) (token : List ℕ) → is_held to token (watch s n) ≡ true
+        → (is_held to token (watch (and_then r s) n) ≡ true) ⊎ Removes r s n to token }
+{}
+
+/// A notification that isn't a 2.05 Content removes the observer that it goes to from the list of its slot (RFC 7641, 4.2).
+pub fn errors_remove_their_observer()
+    ensures { (s : Seen) (k now random id : ℕ) (turn : Turn) (found : Option Ticket) (x : ObserverEntry) (e : Emission)
+        → stage s k ≡ ToTell turn (ToNote found id) → IsNoContent found
+        → entry_out turn (at_moment (moment_at s k now) (watch s (slot_of s k))) ≡ Some x
+        → Emits s (Note k now random) (Some e)
+        → is_held x.endpoint x.token.items (watch (and_then (did (Note k now random) (Some e)) s) (slot_of s k)) ≡ false }
+{}
+
+/// The observers of a slot are at no later moment than their shard.
+pub fn observers_follow_their_shard()
+    ensures { (h : History) (n : ℕ) → (watch (seen h) n).moment ≤ (seen h).shard_moment (n % 8) }
+{}
