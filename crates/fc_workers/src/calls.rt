@@ -2,12 +2,11 @@
 ghost use Rattle.std.specs.Prelude.{◌≡◌, ℕ, ◌+◌, ⊤, if◌then◌else◌};
 ghost use Rattle.fc_registry.specs.Slots.{IsOwned, Shard as Seen, slot_in, with_slot};
 ghost use Rattle.fc_registry.specs.Changes.{after_changes};
-ghost use Rattle.fc_registry.specs.Calls.{CommitsTo, TakesAt, after_taking, install_in, receipt_at, remove_from};
+ghost use Rattle.fc_registry.specs.Calls.{TakesAt, after_taking, install_in, receipt_at, remove_from};
 ghost use Rattle.fc_registry.specs.Notes.{NotesTo};
-ghost use Rattle.fc_registry.specs.Turns.{due_job};
-ghost use Rattle.fc_registry.specs.Watches.{after_due, after_given_up, after_tick, due_place, handed, is_quiet, late_place, signal_call, signalled, ticked_in};
 ghost use Rattle.fc_workers.specs.Answers.{commit_changes, install_changes, removal_changes};
 ghost use Rattle.fc_workers.specs.Counts.{HasEightSlots, serials};
+ghost use Rattle.fc_workers.specs.Doings.{CommitsAt, GivesTurnAt, GivesUpAt, HandsOn, PassesIfQuiet, TicksAt};
 
 use coap_msg::Endpoint;
 use fc_help::Readings;
@@ -84,7 +83,7 @@ impl<'a> ShardCall for Commit<'a> {
 
     ghost may_ask = { λ call shard. IsOwned shard call.ticket.now.origin.slot };
 
-    ghost does = { λ call before committed after. CommitsTo call.outcome.now call.ticket.now before call.now committed after };
+    ghost does = { λ call. CommitsAt call.now call.outcome.now call.ticket.now };
 
     ghost changes = { commit_changes };
 
@@ -195,8 +194,9 @@ pub struct Signal {
 impl ShardCall for Signal {
     type Answer = ();
 
-    ghost does = { λ call before answer after. after ≡ signalled (signal_call call.reset call.endpoint call.id) before };
+    ghost does = { λ call before answer after. HandsOn call.reset call.endpoint call.id before after };
 
+    #[tactic(auto, unfolding(crate::specs::Doings::HandsOn))]
     fn call(self, shard: &mut Shard) {
         shard.signal(self.endpoint, self.id, self.reset);
     }
@@ -211,8 +211,7 @@ pub struct Tick {
 impl ShardCall for Tick {
     type Answer = Ticked;
 
-    ghost does = { λ call before ticked after. let at = handed before call.now in
-        (ticked ≡ ticked_in (late_place at) at) × (after ≡ after_tick (late_place at) at) };
+    ghost does = { λ call. TicksAt call.now };
 
     fn call(self, shard: &mut Shard) -> Ticked {
         shard.tick(self.now)
@@ -228,8 +227,7 @@ pub struct AdvanceIfQuiet {
 impl ShardCall for AdvanceIfQuiet {
     type Answer = bool;
 
-    ghost does = { λ call before quiet after. let at = handed before call.now in
-        (quiet ≡ is_quiet at) × (after ≡ (if quiet then at else before)) };
+    ghost does = { λ call. PassesIfQuiet call.now };
 
     fn call(self, shard: &mut Shard) -> bool {
         shard.advance_if_quiet(self.now)
@@ -245,8 +243,7 @@ pub struct NextDue {
 impl ShardCall for NextDue {
     type Answer = Option<Job>;
 
-    ghost does = { λ call before job after. let at = handed before call.now in
-        (job ≡ due_job (due_place at) at) × (after ≡ after_due (due_place at) at) };
+    ghost does = { λ call. GivesTurnAt call.now };
 
     fn call(self, shard: &mut Shard) -> Option<Job> {
         shard.next_due(self.now)
@@ -287,8 +284,9 @@ impl ShardCall for GiveUp {
 
     ghost may_ask = { λ call shard. IsOwned shard call.turn.slot };
 
-    ghost does = { λ call before answer after. after ≡ after_given_up call.turn (handed before call.now) };
+    ghost does = { λ call before answer after. GivesUpAt call.now call.turn before after };
 
+    #[tactic(auto, unfolding(crate::specs::Doings::GivesUpAt))]
     fn call(self, shard: &mut Shard) {
         shard.give_up(self.turn, self.now);
     }

@@ -1,7 +1,7 @@
 //! A shard behind a lock.
 ghost use Rattle.std.specs.Prelude.{◌≡◌, ℕ, ◌+◌, ◌*◌, ◌<◌};
 ghost use Rattle.fc_registry.specs.Slots.{Shard as Seen};
-ghost use Rattle.fc_workers.specs.Asked.{IsSomeDoing};
+ghost use Rattle.fc_workers.specs.Asked.{IsAsked};
 ghost use Rattle.fc_workers.specs.Counts.{HasEightSlots, counts, serials};
 
 use crate::books::{BookOf, Books};
@@ -55,7 +55,7 @@ impl<const INDEX: u8, B: Books> LockedShard<INDEX, B> {
     pub(crate) fn ask<C: ShardCall, R: Wait>(&self, rt: &R, call: C) -> C::Answer
         requires may { (shard : Seen) → shard.index ≡ INDEX → C.may_ask call shard }
         requires none { (answer : C.Answer) → C.changes answer ≡ 0 }
-        ensures { IsSomeDoing (C.does call) result }
+        ensures { IsAsked INDEX (C.does call) result }
     {
         self.state.lock(rt).counted.ask(call)
     }
@@ -68,7 +68,7 @@ impl<const INDEX: u8, B: Books> LockedShard<INDEX, B> {
         tally: &mut Tally<BookOf<B, INDEX>>,
     ) -> C::Answer
         requires { (shard : Seen) → shard.index ≡ INDEX → C.may_ask call shard }
-        ensures does { IsSomeDoing (C.does call) result }
+        ensures does { IsAsked INDEX (C.does call) result }
         ensures tally { tally.new ≡ counts tally.old (C.changes result) }
     {
         self.state.lock(rt).counted.change(call, tally)

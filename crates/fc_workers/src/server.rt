@@ -18,7 +18,7 @@ ghost use Rattle.fc_core.specs.Contents.{IsOf};
 ghost use Rattle.fc_core.specs.Receiving.{emission_if};
 ghost use Rattle.fc_registry.specs.Shards.{shard_at};
 ghost use Rattle.fc_registry.specs.Slots.{IsOwned, Shard as Seen, last_serial};
-ghost use Rattle.fc_workers.specs.Asked.{IsServerCall, IsSomeDoing};
+ghost use Rattle.fc_workers.specs.Asked.{AdvancesTo, IsAsked, IsServerCall};
 ghost use Rattle.fc_workers.specs.Naming.{AreNamed};
 ghost use Rattle.fc_workers.specs.Counts.{no_changes, serials, sums};
 ghost use Rattle.fc_workers.specs.Answers.{AreTallied, IsSomeCommit, IsSomeInstall, IsSomeNote, IsSomeReceipt, IsSomeRemoval, IsSomeTaking, IsSomeTick, IsSomeTurn, commit_changes, install_changes, removal_changes, saturated};
@@ -176,11 +176,11 @@ impl<'a, B: Books, D: Device> Locked<'a, B, D> {
         Ok((server, reserve))
     }
 
-    /// Asks the shard of an index, 0 to 7, what changes no slot, under its lock and none of the others.
+    /// Asks the shard of an index, 0 to 7, what changes no slot, under its lock and none of the others. An index above is taken for 7.
     pub fn ask<C: ShardCall, R: Wait>(&self, rt: &R, index: u8, call: C) -> C::Answer
         requires may { (shard : Seen) → (index < 8 → shard.index ≡ index) → C.may_ask call shard }
         requires none { (answer : C.Answer) → C.changes answer ≡ 0 }
-        ensures { IsSomeDoing (C.does call) result }
+        ensures { IsAsked index (C.does call) result }
     {
         match index {
             0 => self.shard0.ask(rt, call),
@@ -203,7 +203,7 @@ impl<'a, B: Books, D: Device> Locked<'a, B, D> {
         tallies: &mut Tallies<B>,
     ) -> C::Answer
         requires { (shard : Seen) → IsOwned shard slot → C.may_ask call shard }
-        ensures does { IsSomeDoing (C.does call) result }
+        ensures does { IsAsked (slot % 8) (C.does call) result }
         ensures changes { AreTallied (slice_index tallies.old.changes) (slice_index tallies.new.changes)
             slot (C.changes result) }
         ensures ended { tallies.new.ended ≡ tallies.old.ended }
@@ -273,7 +273,7 @@ impl<'a, B: Books, D: Device> Bench for Locked<'a, B, D> {
 
     fn tick<R: Wait>(&self, rt: &R, now: u64) {
         let mut front = self.front.lock(rt);
-        front.tick(now);
+        advance(&mut front, now);
     }
 
     fn fresh_id<R: Wait>(&self, rt: &R, now: u64) -> Option<u16> {
@@ -403,6 +403,14 @@ impl<'a, B: Books, D: Device> Bench for Locked<'a, B, D> {
         let mut front = self.front.lock(rt);
         is_sent(front.respond(now, job, answer, reply))
     }
+}
+
+// Advances a front to a moment in milliseconds.
+#[tactic(auto, unfolding(crate::specs::Asked::AdvancesTo))]
+fn advance(front: &mut Front, now: u64)
+    ensures { AdvancesTo now front.old front.new }
+{
+    front.tick(now);
 }
 
 // Whether an answer is sent.
