@@ -10,7 +10,8 @@ use Rattle.fc_verify.specs.Stages.{Fails, Stops, AtInsn}
 
 -- it stops at its instruction
 pub at_insn : {T : Type 0} (r : Result T Untyped) (vars : ℕ) (code : List Insn) (beginning : Option Loop) (inside : Bool) (insn : Insn) (found kinds : List Kind) → settled code beginning found ≡ Some kinds
-    → IfErr r (λ u. u.known ≡ kinds) → IfErr r (λ u. Fails vars inside insn kinds u.demand) → IfErr r (λ u. Stops vars code beginning inside insn found u.known u.demand)
+    → IfErr r (λ u. u.known ≡ kinds) → IfErr r (λ u. Fails vars inside insn kinds u.demand)
+    → IfErr r (λ u. Stops vars code beginning inside insn found u.known u.demand)
 at_insn (Ok x) vars code beginning inside insn found kinds e k f = tt
 at_insn (Err u) vars code beginning inside insn found kinds e k f = subst (λ ks. Stops vars code beginning inside insn found ks u.demand) (sym k) (AtInsn e f)
 

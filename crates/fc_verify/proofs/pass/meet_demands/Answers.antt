@@ -3,4 +3,5 @@ use Rattle.fc_verify.specs.Stages.{GivesNoNumber, NoNumber}
 use Rattle.fc_verify.proofs.pass.meet_demands.Goals as goal
 
 pub returns-in-Some-clause-fails : goal.returns-in-Some-clause-fails
-returns-in-Some-clause-fails c = NoNumber c.checked.new.regs c.in_ok-checked.ensures.after (subst (GivesNoNumber c.args.inside c.args.insn.now c.checked.new.regs) (sym c.against_loop.ensures.demand) c.in-Some.ensures)
+returns-in-Some-clause-fails c = NoNumber c.checked.new.regs c.in_ok-checked.ensures.after
+    (subst (GivesNoNumber c.args.inside c.args.insn.now c.checked.new.regs) (sym c.against_loop.ensures.demand) c.in-Some.ensures)
