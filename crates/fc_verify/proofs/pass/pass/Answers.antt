@@ -21,13 +21,13 @@ returns-in-Some-clause-stops c = subst (λ (o : Option Loop). IfErr c.pass_head.
 pub returns-in-None-clause-passed : goal.returns-in-None-clause-passed
 returns-in-None-clause-passed c =
     subst (λ (o : Option Loop). IfOk c.meet_demands.result (λ u. passed_by c.args.vars_size c.args.code.now o c.args.inside c.args.slot c.args.insn.now
-        c.args.regs.now c.args.states.now ≡ Some c.meet_demands.new.states)) (sym c.in-None.is)
+    c.args.regs.now c.args.states.now ≡ Some c.meet_demands.new.states)) (sym c.in-None.is)
     (subst (λ (q : Option (List Kind)). IfOk c.meet_demands.result (λ u. with_some q
-        (λ kinds. met_by c.args.vars_size c.args.inside c.args.slot c.args.insn.now kinds c.args.states.now) ≡ Some c.meet_demands.new.states))
-        (sym (settled_none c.args.code.now c.args.regs.now)) c.meet_demands.ensures.passed)
+    (λ kinds. met_by c.args.vars_size c.args.inside c.args.slot c.args.insn.now kinds c.args.states.now) ≡ Some c.meet_demands.new.states))
+    (sym (settled_none c.args.code.now c.args.regs.now)) c.meet_demands.ensures.passed)
 
 pub returns-in-None-clause-stops : goal.returns-in-None-clause-stops
 returns-in-None-clause-stops c =
     at_insn c.meet_demands.result c.args.vars_size c.args.code.now c.args.beginning.now c.args.inside c.args.insn.now c.args.regs.now c.args.regs.now
     (ap (λ (o : Option Loop). settled c.args.code.now o c.args.regs.now) c.in-None.is ∙ settled_none c.args.code.now c.args.regs.now)
-        c.meet_demands.ensures.known c.meet_demands.ensures.fails
+    c.meet_demands.ensures.known c.meet_demands.ensures.fails
