@@ -175,6 +175,14 @@ impl Observers {
         ensures observer { option_map interest result ≡ option_map interest_of (entry_out turn self.now) }
         ensures confirmable { IfSome result (λ o. o.confirmable ≡ must_confirm_turn turn self.now) }
     {
+        self.observer_out(turn)
+    }
+
+    // Lends it by its place.
+    fn observer_out(&self, turn: Turn) -> Option<Observer<'_>>
+        ensures observer { option_map interest result ≡ option_map interest_of (entry_out turn self.now) }
+        ensures confirmable { IfSome result (λ o. o.confirmable ≡ must_confirm_turn turn self.now) }
+    {
         let place = self.at(turn)?;
         Some(self.held[place].observer(self.moment))
     }

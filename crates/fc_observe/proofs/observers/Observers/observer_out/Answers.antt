@@ -5,7 +5,7 @@ use Rattle.fc_observe.specs.Entries.{must_confirm}
 use Rattle.fc_observe.specs.Observers.{ObserverList, must_confirm_by}
 use Rattle.fc_observe.specs.Views.{Interest, interest, interest_of}
 use Rattle.fc_observe.proofs.Places.{none_out, out_there}
-use Rattle.fc_observe.proofs.observers.Observers.out.Goals as goal
+use Rattle.fc_observe.proofs.observers.Observers.observer_out.Goals as goal
 
 pub returns-in_err-place-clause-observer : goal.returns-in_err-place-clause-observer
 returns-in_err-place-clause-observer c =
