@@ -10,23 +10,23 @@ use Rattle.fcvectors.specs.declared.line.CaseLine.{CaseLine}
 use Rattle.fcvectors.specs.declared.line.CaseLine.TheVariants.{Blank, Command, Piece, Ending}
 use Rattle.fcvectors.specs.declared.case.Output.{Output}
 use Rattle.fcvectors.specs.declared.case.Vector.{Vector}
-use Rattle.fcvectors.specs.Lines.{IsLine, copies_bytes}
+use Rattle.fcvectors.specs.Lines.{IsCaseLine, copies_bytes}
 
 -- the lines of a text, each as it is written
 abbrev pub AreWritten : List (List ℕ) → List CaseLine → Type 0
 AreWritten [] [] = ⊤
-AreWritten (text ∷ texts) (line ∷ lines) = IsLine text line × AreWritten texts lines
+AreWritten (text ∷ texts) (line ∷ lines) = IsCaseLine text line × AreWritten texts lines
 AreWritten texts lines = ⊥
 
 abbrev pub AreLines : List ℕ → List CaseLine → Type 0
 AreLines text lines = AreWritten (slice_split (λ byte. byte == 10) text) lines
 
 -- what a line has of a stream
-abbrev pub line_bytes : Stream → CaseLine → List ℕ
-line_bytes Stdin (Piece Stdin copies) = copies_bytes copies
-line_bytes Stdout (Piece Stdout copies) = copies_bytes copies
-line_bytes Stderr (Piece Stderr copies) = copies_bytes copies
-line_bytes stream line = []
+abbrev pub piece_bytes : Stream → CaseLine → List ℕ
+piece_bytes Stdin (Piece Stdin copies) = copies_bytes copies
+piece_bytes Stdout (Piece Stdout copies) = copies_bytes copies
+piece_bytes Stderr (Piece Stderr copies) = copies_bytes copies
+piece_bytes stream line = []
 
 -- the status behind a line
 abbrev pub status_after : Status → CaseLine → Status
@@ -41,9 +41,9 @@ last_status lines = fold status_after Done lines
 
 -- a vector's streams are those of its lines, in order, and its status is that of their last ending
 pub record IsVectorOf (lines : List CaseLine) (vector : Vector) : Type 0 where
-  pub stdin : vector.stdin.items ≡ flat_map (line_bytes Stdin) lines
-  pub stdout : vector.output.stdout.items ≡ flat_map (line_bytes Stdout) lines
-  pub stderr : vector.output.stderr.items ≡ flat_map (line_bytes Stderr) lines
+  pub stdin : vector.stdin.items ≡ flat_map (piece_bytes Stdin) lines
+  pub stdout : vector.output.stdout.items ≡ flat_map (piece_bytes Stdout) lines
+  pub stderr : vector.output.stderr.items ≡ flat_map (piece_bytes Stderr) lines
   pub status : vector.output.status ≡ last_status lines
 
 -- `..` and a line feed

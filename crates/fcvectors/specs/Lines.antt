@@ -17,8 +17,8 @@ hash = 35
 abbrev pub dollar : ℕ
 dollar = 36
 
-abbrev pub equals : ℕ
-equals = 61
+abbrev pub equals_sign : ℕ
+equals_sign = 61
 
 abbrev pub greater : ℕ
 greater = 62
@@ -33,11 +33,11 @@ abbrev pub backslash : ℕ
 backslash = 92
 
 -- a mark, a space and a text; or the mark alone, and no text
-abbrev pub IsMarked : ℕ → List ℕ → List ℕ → Type 0
-IsMarked mark line text = (line ≡ mark ∷ (space ∷ text)) ⊎ ((line ≡ mark ∷ []) × (text ≡ []))
+abbrev pub HasMark : ℕ → List ℕ → List ℕ → Type 0
+HasMark mark line text = (line ≡ mark ∷ (space ∷ text)) ⊎ ((line ≡ mark ∷ []) × (text ≡ []))
 
-abbrev pub IsUnmarked : ℕ → List ℕ → Type 0
-IsUnmarked mark line = (text : List ℕ) → IsMarked mark line text → ⊥
+abbrev pub HasNoMark : ℕ → List ℕ → Type 0
+HasNoMark mark line = (text : List ℕ) → HasMark mark line text → ⊥
 
 -- nothing, or a comment
 abbrev pub IsBlank : List ℕ → Type 0
@@ -45,9 +45,9 @@ IsBlank line = (line ≡ []) ⊎ ((rest : List ℕ) × (line ≡ hash ∷ rest))
 
 -- the line is a piece of this stream
 abbrev pub IsPieceOf : List ℕ → Stream → List ℕ → Type 0
-IsPieceOf line Stdin piece = (piece ≡ line) × IsUnmarked greater line × IsUnmarked exclamation line
-IsPieceOf line Stdout piece = IsMarked greater line piece
-IsPieceOf line Stderr piece = IsMarked exclamation line piece
+IsPieceOf line Stdin piece = (piece ≡ line) × HasNoMark greater line × HasNoMark exclamation line
+IsPieceOf line Stdout piece = HasMark greater line piece
+IsPieceOf line Stderr piece = HasMark exclamation line piece
 
 -- `*N*TEXT`: N copies of the text; or a text that begins with no star, once
 abbrev pub IsCounted : List ℕ → ℕ → List ℕ → Type 0
@@ -69,12 +69,12 @@ IsWordOf Bad word = word ≡ 98 ∷ 97 ∷ 100 ∷ []
 IsWordOf Failed word = word ≡ 102 ∷ 97 ∷ 105 ∷ 108 ∷ 101 ∷ 100 ∷ []
 
 -- the line of a case is written so
-abbrev pub IsLine : List ℕ → CaseLine → Type 0
-IsLine line Blank = IsBlank line
-IsLine line (Command command) = IsMarked dollar line command.now
-IsLine line (Ending status) = (word : List ℕ) × IsMarked equals line word × IsWordOf status word
-IsLine line (Piece stream copies) = (piece : List ℕ) × IsPieceOf line stream piece × IsPiece piece copies
-    × IsUnmarked dollar line × IsUnmarked equals line × (IsBlank line → ⊥)
+abbrev pub IsCaseLine : List ℕ → CaseLine → Type 0
+IsCaseLine line Blank = IsBlank line
+IsCaseLine line (Command command) = HasMark dollar line command.now
+IsCaseLine line (Ending status) = (word : List ℕ) × HasMark equals_sign line word × IsWordOf status word
+IsCaseLine line (Piece stream copies) = (piece : List ℕ) × IsPieceOf line stream piece × IsPiece piece copies
+    × HasNoMark dollar line × HasNoMark equals_sign line × (IsBlank line → ⊥)
 
 -- the bytes of one of the copies, and of all
 abbrev pub copy_bytes : Copies → List ℕ

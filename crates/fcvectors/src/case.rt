@@ -1,7 +1,7 @@
 //! Cases: files of vectors.
 ghost use Rattle.std.specs.Prelude.{◌≡◌, ◌++◌, ◌∷◌, [], IfOk, IfSome, OnOk, IsTrue};
 ghost use Rattle.std.specs.List.{flat_map};
-ghost use Rattle.fcvectors.specs.Cases.{AreLines, Allows, AllowsTold, IsVectorOf, dots, last_status, line_bytes, status_after};
+ghost use Rattle.fcvectors.specs.Cases.{AreLines, Allows, AllowsTold, IsVectorOf, dots, last_status, piece_bytes, status_after};
 
 use crate::line::{CaseLine, Stream, parse};
 use fc_cli::Status;
@@ -106,7 +106,7 @@ fn command_of<'a>(lines: &[CaseLine<'a>]) -> Option<&'a [u8]> {
 
 // The bytes of a stream, by its pieces in order.
 fn bytes_of(alloc: Global, lines: &[CaseLine<'_>], stream: Stream) -> Result<Vec<u8>, AllocError>
-    ensures { IfOk result (λ bytes. bytes.items ≡ flat_map (line_bytes stream) lines.now) }
+    ensures { IfOk result (λ bytes. bytes.items ≡ flat_map (piece_bytes stream) lines.now) }
 {
     let mut bytes = Vec::new(alloc);
     for line in lines {
@@ -117,7 +117,7 @@ fn bytes_of(alloc: Global, lines: &[CaseLine<'_>], stream: Stream) -> Result<Vec
 
 // Appends what a line has of a stream.
 fn append_piece(line: &CaseLine<'_>, stream: Stream, bytes: &mut Vec<u8>) -> Result<(), AllocError>
-    ensures { OnOk result (bytes.new.items ≡ bytes.old.items ++ line_bytes stream line.now) }
+    ensures { OnOk result (bytes.new.items ≡ bytes.old.items ++ piece_bytes stream line.now) }
 {
     match line {
         CaseLine::Piece(of, copies) if *of == stream => copies.append_to(bytes),

@@ -1,6 +1,6 @@
 //! The lines of a case.
 ghost use Rattle.std.specs.Prelude.{◌≡◌, ◌++◌, List, ℕ, IfSome, MatchOption, OnOk};
-ghost use Rattle.fcvectors.specs.Lines.{IsLine, IsMarked, IsPieceOf, IsCounted, IsPiece, IsWordOf, copies_bytes, copy_bytes};
+ghost use Rattle.fcvectors.specs.Lines.{IsCaseLine, HasMark, IsPieceOf, IsCounted, IsPiece, IsWordOf, copies_bytes, copy_bytes};
 
 use fc_cli::Status;
 use fc_lines::line::number;
@@ -66,7 +66,7 @@ impl Copies<'_> {
 /// which is N copies of it; where `\` ends it no line feed stands behind each.
 /// `None` where it is none of them.
 pub(crate) fn parse(line: &[u8]) -> Option<CaseLine<'_>>
-    ensures { IfSome result (IsLine line.now) }
+    ensures { IfSome result (IsCaseLine line.now) }
 {
     if line.is_empty() || line.starts_with(b"#") {
         return Some(CaseLine::Blank);
@@ -96,7 +96,7 @@ fn piece_of(line: &[u8]) -> (Stream, &[u8])
 
 // What stands behind a mark and a space; nothing behind a mark alone.
 fn after_mark(line: &[u8], mark: u8) -> Option<&[u8]>
-    ensures { MatchOption result ((text : List ℕ) → IsMarked mark line.now text → ⊥) (λ text. IsMarked mark line.now text.now) }
+    ensures { MatchOption result ((text : List ℕ) → HasMark mark line.now text → ⊥) (λ text. HasMark mark line.now text.now) }
 {
     let (first, rest) = line.split_first()?;
     if *first != mark {

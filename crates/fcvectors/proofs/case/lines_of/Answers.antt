@@ -1,14 +1,14 @@
 use Rattle.std.proofs.Common.{rules, tests, ◌≡◌, ◌++◌, List, ℕ, Bor, [], ◌∷◌, map, sym, subst}
 use Rattle.std.proofs.lemmas.Iterator.Consumers.{YieldsList-at, YieldsList-end}
 use Rattle.std.proofs.lemmas.Iterator.Splits.{YieldsList-from_slice_split}
-use Rattle.fcvectors.specs.Lines.{IsLine}
+use Rattle.fcvectors.specs.Lines.{IsCaseLine}
 use Rattle.fcvectors.specs.Cases.{AreLines, AreWritten}
 use Rattle.fcvectors.specs.declared.line.CaseLine.{CaseLine}
 use Rattle.fcvectors.proofs.case.lines_of.Goals as goal
 
 -- one line more
 written_snoc : (texts : List (Bor (List ℕ))) (lines : List CaseLine) (text : Bor (List ℕ)) (line : CaseLine)
-    → AreWritten (map (λ (b : Bor (List ℕ)). b.now) texts) lines → IsLine text.now line
+    → AreWritten (map (λ (b : Bor (List ℕ)). b.now) texts) lines → IsCaseLine text.now line
     → AreWritten (map (λ (b : Bor (List ℕ)). b.now) (texts ++ (text ∷ []))) (lines ++ (line ∷ []))
 written_snoc [] [] text line are is = (is, tt)
 written_snoc (first ∷ texts) (its ∷ lines) text line are is = (are.0, written_snoc texts lines text line are.1 is)
