@@ -59,7 +59,8 @@ impl Model for Shard {
     ghost view = { λ s. record { index = s.index; now = s.now; slots = map as_seen s.slots.items; watches = s.watches.items } };
 
     ghost invariant = { λ s. (length s.slots.items ≡ 8) × All (λ x. IsRing (as_seen x)) s.slots.items × (length s.watches.items ≡ 8) × (s.index < 8)
-        × AreSentUpTo (map as_seen s.slots.items) s.watches.items × AreWatched s.watched s.watches.items };
+        × AreSentUpTo (map as_seen s.slots.items) s.watches.items
+        × AreWatched s.watched s.watches.items };
 }
 
 /// What a taking found.

@@ -66,7 +66,7 @@ fn write_turn(observer: &Observer<'_>, number: u64, slot: SlotNumber, job: &mut 
     job.etags.clear();
     job.block = first_block(observer.szx);
     job.observe = None;
-    write_run(observer.request, &mut job.ask);
+    ask_anew(observer.request, &mut job.ask);
 }
 
 // Writes a token over another.
@@ -78,7 +78,7 @@ fn write_token(token: &Token, over: &mut Token)
 }
 
 // Writes that a request is to be answered over another ask.
-fn write_run(request: &Request, ask: &mut Ask)
+fn ask_anew(request: &Request, ask: &mut Ask)
     ensures { ask.new ≡ Run request.now }
 {
     match ask {
