@@ -12,8 +12,8 @@ ghost use Rattle.fc_laws.specs.RefusalLaws.{FindsTurnMissing, IsRefusedByCheck, 
 
 use coap_block::laws::blocks_leave_other_transfers;
 
-/// After a refusal all but the moment and a drawn message id is as before, with three exceptions: a request that a check refuses keeps its
-/// exchange, though not where it was answered 5.03 (Service Unavailable) since there was no room for that; a block that is refused
+/// After a refusal all but the moment, a drawn message id, and the stage of the job whose call was refused is as before, with three
+/// exceptions: a request that a check refuses keeps its exchange, though not where it was answered 5.03 (Service Unavailable) since there was no room for that; a block that is refused
 /// keeps it too, and the transfer of its endpoint and slot is gone; and a turn keeps that its taking found the slot empty.
 pub fn refusals_leave_all_else()
     ensures turned_down { (r : Entry) (s : Seen) → IsTurnedDown s r.event → LeavesAll s (and_then r s) }

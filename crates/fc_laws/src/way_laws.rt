@@ -1,16 +1,16 @@
 //! Which way a job goes, from its coming to its answer: each function is a law, and its contract says it.
-ghost use Rattle.std.specs.Prelude.{◌≡◌, ℕ, ◌+◌, ◌<◌, ◌≤◌, ◌∷◌, ◌++◌, ◌⊎◌, [], Bool, List, None, Option, Some, false, is_none, length, true};
+ghost use Rattle.std.specs.Prelude.{◌≡◌, ℕ, ◌+◌, ◌<◌, ◌≤◌, ◌∷◌, ◌++◌, ◌⊎◌, [], List, None, Option, Some, false, is_none, length, true};
 ghost use Rattle.arrayvec.specs.ArrayVec.{ArrayVec};
 ghost use Rattle.coap_msg.specs.declared.types.Emission.{Emission};
 ghost use Rattle.fc_core.specs.AnswerLaws.{HasSerial};
-ghost use Rattle.fc_core.specs.Contents.{Content, Deleted, Described, Listed, Made, Missing, Ran, Rejected, Untyped};
+ghost use Rattle.fc_core.specs.Contents.{Deleted, Described, Listed, Made, Missing, Rejected, Untyped};
 ghost use Rattle.fc_core.specs.Heads.{head_word, word_at};
 ghost use Rattle.fc_core.specs.History.{Seen, and_then, did, job, slot_at, stage};
 ghost use Rattle.fc_core.specs.Laws.{slot_of};
 ghost use Rattle.fc_core.specs.Stages.{image_of, new_task, run_content};
-ghost use Rattle.fc_core.specs.declared.event.Event.TheVariants.{Commit, Install, Peek, Receipt, Remove, Take};
+ghost use Rattle.fc_core.specs.declared.event.Event.TheVariants.{Commit, Install, Peek, Receipt, Remove};
 ghost use Rattle.fc_core.specs.declared.stage.Stage.TheVariants.{ToAnswer, ToCommit, ToDescribe, ToInstall, ToList, ToMatch, ToRaise, ToRemove, ToTake, ToTell};
-ghost use Rattle.fc_core.specs.declared.stage.TurnStage.TheVariants.{ToDraw, ToTake as TakesForTurn};
+ghost use Rattle.fc_core.specs.declared.stage.TurnStage.TheVariants.{ToTake as TakesForTurn};
 ghost use Rattle.fc_help.specs.Request.{Request};
 ghost use Rattle.fc_isa.specs.declared.rule.Rule.{Rule};
 ghost use Rattle.fc_kinds.specs.Meaning.{Program};

@@ -80,8 +80,8 @@ pub fn notifications_end_their_turns()
         note_calls turn id random at None (Some e) ≡ End turn ∷ Advance at ∷ [] }
 {}
 
-/// A turn's job asks what its observer's registration asked, from the first block on: of the size of the Block2 option of the registration,
-/// where it had one (RFC 7959, 2.6). A registration keeps that size.
+/// A turn's job asks what a registration asked that its slot has, from the first block on: of the size of the Block2 option of that
+/// registration, where it had one (RFC 7959, 2.6). A registration keeps that size.
 pub fn turns_ask_what_was_registered()
     ensures turn { (shard : Shard) (k : ℕ) (j : Job) → due_job (Some k) shard ≡ Some j →
         Any (λ (o : Entry). IsTurnFor j (interest_of o)) (watch_at shard k).held }

@@ -1,12 +1,11 @@
 //! Shards of slots.
-ghost use Rattle.std.specs.Prelude.{◌≡◌, if◌then◌else◌, ℕ, ◌+◌, ◌/◌, ◌<◌, ◌≤◌, ◌↔◌, [], ◌∷◌, true, false, length, map, replicate, IfOk, IfSome, IsTrue};
-ghost use Rattle.fc_machine.specs.Ran.{meaning_of};
+ghost use Rattle.std.specs.Prelude.{◌≡◌, if◌then◌else◌, ℕ, ◌+◌, ◌/◌, ◌<◌, ◌≤◌, ◌↔◌, ◌∷◌, true, false, length, map, replicate, IfOk, IfSome};
 ghost use Rattle.fc_registry.specs.Slots.{IsOwned, slot_in, with_slot, new_slot, last_serial, version_in, vars_in};
-ghost use Rattle.fc_registry.specs.Changes.{Committed as Wrote, after_changes};
-ghost use Rattle.fc_registry.specs.Calls.{TakesAt, CommitsTo, IsCommit, ComesTo, IsOwn, IsCurrent, commit_calls, commit_of, is_observed, is_post, observe_calls, mark_of, install_in, receipt_at, remove_from, request_of, run_of, wants_by, IsFinding, IsTurnTaking, after_taking, turn_calls};
-ghost use Rattle.fc_registry.specs.Views.{as_seen, present_of};
+ghost use Rattle.fc_registry.specs.Changes.{after_changes};
+ghost use Rattle.fc_registry.specs.Calls.{TakesAt, CommitsTo, install_in, receipt_at, remove_from, after_taking};
+ghost use Rattle.fc_registry.specs.Views.{as_seen};
 ghost use Rattle.fc_registry.specs.Record.{IsRing};
-ghost use Rattle.fc_observe.specs.Calls.{after_calls, observers_after};
+ghost use Rattle.fc_observe.specs.Calls.{observers_after};
 ghost use Rattle.fc_registry.specs.Notes.{IsKeptUnlessSent, NotesTo, noted_as};
 ghost use Rattle.fc_registry.specs.Turns.{due_job, written_if};
 ghost use Rattle.fc_registry.specs.Watches.{AreWatched, IsSentUpTo, after_due, after_given_up, after_tick, due_place, handed, is_due_at, is_quiet, is_quiet_at, late_place, new_watches, noticed_at, signal_call, signalled, ticked_in, watch_at};

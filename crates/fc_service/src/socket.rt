@@ -2,7 +2,7 @@
 ghost use Rattle.std.specs.Prelude.{◌≤◌, ⊤, Bool, IfSome, List, None, Option, length};
 ghost use Rattle.coap_msg.specs.declared.types.Emission.{Emission};
 ghost use Rattle.fc_service.specs.Intakes.{Incoming, incoming_in};
-ghost use Rattle.fc_service.specs.Traffic.{Comes};
+ghost use Rattle.fc_service.specs.Traffic.{Comes, IsHanded};
 
 use coap_msg::{Emission, Endpoint};
 use fc_workers::Wire;
@@ -82,6 +82,8 @@ pub(crate) struct Replying<'a, K: Sink> {
 }
 
 impl<'a, K: Sink> Wire for Replying<'a, K> {
+    ghost called = { IsHanded K.went };
+
     fn send<R: Wait>(&self, rt: &R, number: u64, emission: &Emission) -> bool {
         let _ = rt;
         let _ = number;
