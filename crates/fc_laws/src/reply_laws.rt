@@ -46,7 +46,8 @@ pub fn refusals_are_answered_by_their_code()
 {}
 
 /// An answer goes to its client's endpoint, with the token of the request: to a confirmable request in its Acknowledgement, by the
-/// request's own message id, and to another in a non-confirmable message, by the next id of the server's own (RFC 7252, 5.2 and 5.3).
+/// request's own message id, and to another in a non-confirmable message, by the next id of the server's own (RFC 7252, 5.2 and 5.3);
+/// where that isn't free, nothing goes.
 pub fn answers_go_to_their_clients()
     ensures confirmable { (s : Seen) (k now : ℕ) (content : Content) (e : Emission) → stage s k ≡ ToAnswer content
         → (job s k).confirmable ≡ true → Emits s (Answer k now) (Some e)
@@ -59,6 +60,8 @@ pub fn answers_go_to_their_clients()
     ensures other_at_once { (f : FrontState) (to : Endpoint) (m : Message) (response : Response) (id : ℕ) → m.kind ≡ NonConfirmable
         → free_id f.ids f.now ≡ Some id
         → told f to m response ≡ Some (sent_in (record { to = to; kind = NonConfirmable; id = id; token = m.token }) response) }
+    ensures none_at_once { (f : FrontState) (to : Endpoint) (m : Message) (response : Response) → m.kind ≡ NonConfirmable
+        → free_id f.ids f.now ≡ None → told f to m response ≡ None }
 {}
 
 /// An Acknowledgement or a Reset message is handed on with the message id that it answers, and with which of the two it is. It gets no

@@ -59,3 +59,8 @@ answers_at_once f to m response id kind free =
     ap (λ (b : Bool). told_by (reply_id b m.id (free_id f.ids f.now)) to m response) (ap is_confirmable kind)
     ∙ (ap (λ (x : Option ℕ). told_by x to m response) free
     ∙ ap (λ (b : Bool). Some (sent_in (record { to = to; kind = reply_kind b; id = id; token = m.token }) response)) (ap is_confirmable kind))
+
+pub hushed_at_once : (f : FrontState) (to : Endpoint) (m : Message) (response : Response) → m.kind ≡ NonConfirmable → free_id f.ids f.now ≡ None → told f to m response ≡ None
+hushed_at_once f to m response kind free =
+    ap (λ (b : Bool). told_by (reply_id b m.id (free_id f.ids f.now)) to m response) (ap is_confirmable kind)
+    ∙ ap (λ (x : Option ℕ). told_by x to m response) free
