@@ -60,9 +60,13 @@ abbrev pub is_starved : SettlingStep → Bool
 is_starved (Asked shard Starved) = true
 is_starved other = false
 
+-- how many steps are taken at one moment at most
+abbrev pub most_steps : ℕ
+most_steps = 8192
+
 -- shard after shard, nothing is late and nobody is due; or no message id was free; or as many steps were taken as there may be
 abbrev pub AreSettled : List SettlingStep → Type 0
-AreSettled steps = (found_in_steps steps ≡ found_below 8) ⊎ ((list_any is_starved steps ≡ true) ⊎ (8192 ≤ length steps))
+AreSettled steps = (found_in_steps steps ≡ found_below 8) ⊎ ((list_any is_starved steps ≡ true) ⊎ (most_steps ≤ length steps))
 
 -- ---- where it is: at a shard, where late notifications are sent again first, until nothing is late, and observers are notified then; or, at shard 8, at the end
 

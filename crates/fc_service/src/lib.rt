@@ -21,6 +21,7 @@ mod alone;
 mod board;
 pub mod clock;
 pub mod command;
+pub mod laws;
 mod lines;
 pub mod play;
 pub mod pool;

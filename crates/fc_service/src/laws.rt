@@ -1,0 +1,27 @@
+//! What the definitions of the service come to, in plainer words: each function is a law, and its contract says it.
+ghost use Rattle.std.specs.Prelude.{◌≡◌, ◌+◌, ◌*◌, ◌≤◌, ℕ, ◌∷◌, Bool, List, false, length, true};
+ghost use Rattle.fc_core.specs.declared.front.Heard.TheVariants.{Job, Nothing, Reply, Signal};
+ghost use Rattle.fc_service.specs.Clocks.{device_readings, no_sensors};
+ghost use Rattle.fc_service.specs.Intakes.{is_reply};
+ghost use Rattle.fc_service.specs.Settling.{most_steps};
+
+/// Settling takes more steps at one moment than there are: each of the 32 observers of 64 slots is sent one notification again at most, and notified once,
+/// and each of 8 shards tells once that nothing is late and once that nobody is due.
+pub fn settling_has_steps_for_all()
+    ensures { 64 * (32 + 32) + 8 * 2 ≤ most_steps }
+{}
+
+/// The readings of a device have 64 bytes: the moment in milliseconds in eight bytes, the least first, and the 56 that its sensors say, zeros where it has none.
+pub fn readings_are_the_clock_and_the_sensors()
+    ensures clock { (sensed : List ℕ) → device_readings 258 sensed ≡ 2 ∷ 1 ∷ 0 ∷ 0 ∷ 0 ∷ 0 ∷ 0 ∷ 0 ∷ sensed }
+    ensures sensors { (now : ℕ) (sensed : List ℕ) → length sensed ≡ 56 → length (device_readings now sensed) ≡ 64 }
+    ensures none { length no_sensors ≡ 56 }
+{}
+
+/// What is answered at once is sent by who heard it; a job's reply, a signal and what is ignored are not.
+pub fn replies_are_sent_by_who_heard()
+    ensures reply { is_reply Reply ≡ true }
+    ensures job { is_reply Job ≡ false }
+    ensures signal { (id : ℕ) (reset : Bool) → is_reply (Signal id reset) ≡ false }
+    ensures nothing { is_reply Nothing ≡ false }
+{}
