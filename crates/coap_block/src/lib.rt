@@ -1,4 +1,4 @@
-//! Block-wise transfers (RFC 7959): a PUT's blocks are joined to its body, and a GET's response body is cut into blocks.
+//! Block-wise transfers (RFC 7959): uploads in blocks, and bodies cut into blocks.
 //!
 //! [`Uploads`] holds the transfers that are under way; [`Uploads::add`] joins a block to its transfer, or says why the block is
 //! refused. [`slice`] gives the block of a body that a GET asks.
@@ -29,6 +29,16 @@
 //!     Some((cut.bytes, more))
 //! }
 //! ```
+//!
+//! # What is proved
+//!
+//! - A block is joined to the transfer of its endpoint and slot, or refused by the first check that fails, each exactly where its cause
+//!   holds. More than 8,208 bytes are refused.
+//! - What is held of an endpoint and slot is the payloads since its last block number 0, joined, whatever came before. Of one endpoint and
+//!   slot at most one transfer is held, and at most 16 are held.
+//! - A body is cut as the asked block says, and the cuts by one size joined are the body.
+//!
+//! By the contracts of `Uploads::add`, `slice`, `laws`.
 #![tactic(auto)]
 
 pub mod cut;

@@ -1,4 +1,32 @@
-//! A CoAP client that asks one thing, by requests, replies, blocks and resending, or observes one.
+//! A client's requests, what it makes of replies, and the fetch over both; an observer; a server as a client has it.
+//!
+//! # What is proved
+//!
+//! - A text is a path exactly where it is a slash before each segment of 1 to 255 bytes.
+//! - Each request of an errand is a message that fits a datagram, of the whole body, a block of it, or a block option that asks for a
+//!   further block of the answer, in the size that the server named last.
+//! - A datagram answers a request in its acknowledgement or in a message of its own, acknowledges it, rejects it, or none of these. What
+//!   comes after each answer, nothing where it has a critical option that isn't known, or two Block1 or two Block2.
+//! - What a fetch gives is what a list of replies leads to: for each of them the request that the ones before have led to was handed to
+//!   `Peer::send`, and its datagram came from `Peer::receive`. A separate one is that of a request whose acknowledgement came, unless it
+//!   was non-confirmable, and its id is none of those before; and it was acknowledged where it is confirmable, and again where it comes
+//!   again.
+//! - An answer that doesn't fit what was asked ends the fetch, by a clause. Where a fetch ends by a success, requests that were handed over
+//!   bring the whole body, joined; each block of it goes behind a success that says that the one before was taken; and the answer is the
+//!   payloads of blocks of one ETag, or of none, each of which begins where the ones before it end, and behind the last of which there is
+//!   none. What a result rests on is begun again once at most, and only for a GET.
+//! - An observer's registration and deregistration are messages that fit a datagram, with its token. What a response is to it, exactly, by
+//!   RFC 7641's comparison: a newer state, one answer for what isn't newer and for a repeat of what was shown, the last, or one that can't
+//!   be shown.
+//! - What an observer shows next came by `Peer::receive`, is a response with its token in a message of its own, was acknowledged where it
+//!   is confirmable, and is a state newer than what was shown last, at a moment that the peer told, or the last, of which no clause says
+//!   that it is newer. A deregistration that ends well was sent and acknowledged.
+//! - Of that comparison: that 0 is newer than 16,777,215, that what is ahead by 8,388,607 is newer, of two 8,388,608 apart neither within
+//!   128 s, nor the same number, and any 128,001 ms later; that of two at one moment at most one is newer; and that what can be shown is
+//!   the last where it has no Observe, or one of four bytes.
+//!
+//! By the contracts of `Path::parse`, `Errand::new`, `Errand::write`, `is_reply`, `is_separate`, `next_of`, `fetch`, `laws`;
+//! `Observer::register`, `deregister`, `notice_of`, `is_newer`, `Watch::notice_of`, `keep`, `next`.
 #![tactic(auto)]
 
 pub mod errand;

@@ -1,4 +1,4 @@
-//! Exchanges: the requests that were opened, and what they were answered (RFC 7252, 4.5).
+//! Exchanges: requests that were opened, in order of arrival and by an index of their keys, and what they were answered (RFC 7252, 4.5).
 //!
 //! [`Exchanges`] holds the requests that are less than a window old. [`Exchanges::look`] tells of a request whether it is
 //! new or a repeat; [`Exchanges::open`] and [`Exchanges::close`] begin an exchange and keep its answer.
@@ -30,6 +30,16 @@
 //!     }
 //! }
 //! ```
+//!
+//! # What is proved
+//!
+//! - A request is new, with room for it or without, or repeats an exchange that is less than 247,000 ms old: one in progress, or one whose
+//!   answer is kept (`look`).
+//! - A new one is opened where fewer than 1,024 are held (`open`), and each answer is kept for its own exchange (`close`).
+//! - What `probes` tells is 11 at most, however many are held. That this is the number of keys which the last look compared is no clause of
+//!   `look`.
+//!
+//! By the contracts of `Exchanges::look`, `open`, `close`, `expire`, `probes`.
 #![tactic(auto)]
 
 pub mod exchange;

@@ -1,4 +1,4 @@
-//! CoAP messages, and how a datagram spells one (RFC 7252, 3).
+//! CoAP messages, and how a datagram spells one (RFC 7252, 3); endpoints and emissions.
 //!
 //! [`read`] parses a datagram into a zero-copy [`Message`]; [`write`] emits the one encoding of an [`Outgoing`], and [`writer`]
 //! has its steps for who writes options of another type. A clause sees a message as `specs/Wire`'s record: type, code, id,
@@ -13,6 +13,14 @@
 //!     (message.code() == Code::GET).then_some(message.id())
 //! }
 //! ```
+//!
+//! # What is proved
+//!
+//! - Every message: what is read is spelled so, what is spelled so is read, and each message has one spelling.
+//! - A reset is answered exactly at a format error in a confirmable message.
+//! - What is written is the one spelling, also step by step. Each named code is its class and detail.
+//!
+//! By the contracts of `read`, `write`, `Options`, `Message::values`, `writer`, `laws`.
 #![tactic(auto)]
 
 pub mod code;

@@ -1,4 +1,5 @@
-//! What a CoAP message asks (RFC 7252, 5.4 and 5.10; RFC 7641; RFC 7959).
+//! What a CoAP message asks, or what else is done about it; values of options; replies with their options (RFC 7252, 5.4 and 5.10; RFC
+//! 7641; RFC 7959).
 //!
 //! [`classify`] says of a message whether it is a request that the server carries out, and with which fields, or what is
 //! answered to it: the first check that fails decides. What is served is one table, [`served`]. A [`Reply`] carries any set of
@@ -20,6 +21,18 @@
 //!     }
 //! }
 //! ```
+//!
+//! # What is proved
+//!
+//! - Each message is classified by the first check that fails, in order, or as the request with its fields. The checks and their codes are
+//!   said by literals.
+//! - What each field of an accepted request is, said of its message's options, and what it is within; that a refusal is an error's code;
+//!   what is done with a message that is no request.
+//! - A reply with any set of options is a message and is written in its one spelling.
+//! - Integers, blocks and paths are read and written exactly, a block's value by its number, M and size.
+//! - Each named option is its number, with the lengths of its value and the methods that it is of.
+//!
+//! By the contracts of `classify`, `Reply::write`, `decode_uint`, `encode_uint`, `Block`, `laws`.
 #![tactic(auto)]
 
 pub mod block;

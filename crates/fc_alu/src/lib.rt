@@ -12,6 +12,13 @@
 //!     arithmetic(AluOp::Mod, Width::W64, dividend, divisor)
 //! }
 //! ```
+//!
+//! # What is proved
+//!
+//! - Each arithmetic operation and each comparison, at 32 and at 64 bits, gives what whole numbers, powers of two and remainders say. Rows
+//!   beside the definitions are tests.
+//!
+//! By the contracts of `alu`, `truth`.
 #![tactic(auto)]
 
 pub mod byte_order;

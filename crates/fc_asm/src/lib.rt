@@ -1,4 +1,4 @@
-//! Instructions as text, one a line, and back.
+//! The assembler and the disassembler: instructions as text, one a line, and back.
 //!
 //! ```rust
 //! use fc_asm::{AsmError, assemble, disassemble};
@@ -10,6 +10,14 @@
 //!     Ok(disassemble(alloc, &program)?)
 //! }
 //! ```
+//!
+//! # What is proved
+//!
+//! - A text means its program, or has a fault: the first faulty line, and in it A1 (the first word names no instruction) before A2
+//!   (operands too few, too many or of another sort) before A3 (a number out of its range).
+//! - A program is listed as the definitions say, and its listing is assembled to that program, for every program.
+//!
+//! By the contracts of `assemble`, `disassemble`.
 #![tactic(auto)]
 
 pub mod assembling;

@@ -1,4 +1,4 @@
-//! The core of the server: what each datagram brings, and what each job is answered.
+//! The core of the server: the front (exchanges, message ids), answers, events, stages, tasks; the definitions of history and legality.
 //!
 //! [`Front`] keeps the exchanges: it reads datagrams, hands out jobs, and writes replies. Every moment and every byte is
 //! an argument: there is no clock and no socket here. `specs/` has the definitions that the list of all events is judged
@@ -20,6 +20,16 @@
 //!     }
 //! }
 //! ```
+//!
+//! # What is proved
+//!
+//! - Each delivery and answer is as the definitions say, repeats and message ids among them. A job is moved by each event as its stage
+//!   says.
+//! - A run's answer can't be made without the mark of its commit, and answers its own job alone. The block of its reply that is asked goes
+//!   with a success alone.
+//! - A PUT in blocks is carried out exactly where its last block fits, with the payloads since block number 0, joined.
+//!
+//! By the contracts of `Front::deliver`, `hear`, `answer`, `respond`, `tick`, `fresh_id`, `Heads`, `Task`, `Answer::ran`.
 #![tactic(auto)]
 
 pub mod answer;

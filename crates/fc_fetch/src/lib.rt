@@ -1,4 +1,16 @@
-//! What the client's program does: it asks a server, and prints the answer; or observes a resource, and prints each of its states.
+//! What the client's program does: it reads where a request goes, asks a server, and prints the answer; or observes, and prints each state.
+//!
+//! # What is proved
+//!
+//! - What a client prints of an answer, in hex or as text, and that it is done at a success alone.
+//! - An observer prints a line for each of a list of messages and nothing else: its registration was sent, each of them came with its
+//!   token, each state is newer than the one before it (RFC 7641, 3.4), none is one of those before it again, by its message id within 247
+//!   s, each can be shown, and each but the last is a state.
+//! - Where it ends for its count there are just so many, and there, and where it ends for its time, the last is a state as well, and the
+//!   deregistration was sent and acknowledged. Where it ends otherwise, the last is an error or has no sequence number.
+//! - No clause says that all that came and are newer are printed, nor that it deregisters where it fails.
+//!
+//! By the contracts of `printing::write_answer`, `write_note`, `client::print_answer`, `observer::print_notes`, `print_to_end`.
 #![tactic(auto)]
 
 pub mod address;

@@ -1,4 +1,4 @@
-//! Head words without a lock: a word for each of the 64 slots, which only rises.
+//! Head words that only rise, one for each of the 64 slots, read and raised without a lock; a seat at them for each thread.
 //!
 //! A worker looks at the words and raises them through a [`HeadSeat`] of its own. A seat's view is two lists of 64 words: for each slot
 //! the greatest that the seat has seen, and the greatest that it raised itself. Under every schedule a word is the greatest
@@ -20,6 +20,15 @@
 //!     heads.peek(5, seat)
 //! }
 //! ```
+//!
+//! # What is proved
+//!
+//! - A look at a head word tells no less than the seat has seen of it, a raise leaves it no less than the word handed in, and two seats
+//!   that meet have seen what either had.
+//! - Under every schedule a word is the greatest that was raised, or 0, and nobody has seen more.
+//! - None of these calls takes a lock or waits.
+//!
+//! By the contracts of `Heads::peek`, `raise`, `meet`, `seat`, `new_seat`, `new`.
 #![tactic(auto)]
 
 pub mod heads;

@@ -1,4 +1,4 @@
-//! What a run is given beside its program: the request, the readings, the slot's variables, and the helpers that it may call.
+//! What a run is given beside its program: the request, the readings, the variables, and the helpers with the room of a reply.
 //!
 //! ```rust
 //! use fc_help::{Method, Request, Vars};
@@ -11,6 +11,15 @@
 //!     )
 //! }
 //! ```
+//!
+//! # What is proved
+//!
+//! - A request is laid out as the region of memory that a program finds it in; requests and variables are compared and copied whole, and
+//!   readings compared.
+//! - What each helper takes and answers, that the table has just these in their order, and how much room a reply has.
+//! - Each byte of the region and of the readings is told by its place, and each helper by its number.
+//!
+//! By the contracts of `Request`, `Request::region`, `Vars`, `helper_of`, `signature_of`, `HELPERS`, `room_of`, `laws`.
 #![tactic(auto)]
 
 pub mod helper;

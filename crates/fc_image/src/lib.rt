@@ -1,4 +1,4 @@
-//! Images of programs: the header, and the shape of the control flow with its greatest number of steps.
+//! Images of programs: the header, and the shape of the control flow: jumps, functions and frames, counted loops, and the longest path.
 //!
 //! ```rust
 //! use fc_image::Head;
@@ -9,6 +9,19 @@
 //!     Ok(Head::new(0, 2, 2, ImageVersion::One)?.bytes())
 //! }
 //! ```
+//!
+//! # What is proved
+//!
+//! - The header's rules come in their order, by the limits of the version that its magic names: 512 slots and four frames, or 1,024 and
+//!   eight (`slots_allowed`, `frames_allowed`).
+//! - The bytes of a header are read as that header, and a header that is read is written again as it stood.
+//! - Of all instructions, calls among them, the rules of the control flow come in their order, in the second version with counted loops.
+//!   The cost is the greatest number of steps on any path from slot 0 to the exit, which goes through a body as often as its loop turns.
+//! - Of a jump back that isn't a counted loop's it is told which part of the form it lacks, or which slot is in its way, and how.
+//! - A jump is a counted loop's exactly where it and the addition before it have that form, by literals. A program that is accepted with
+//!   such jumps has the loops that these are, nested or apart.
+//!
+//! By the contracts of `head`, `Head::new`, `Head::bytes`, `shape`, `why_uncounted`, `laws`.
 #![tactic(auto)]
 
 pub mod control_flow;

@@ -1,4 +1,4 @@
-//! The instructions of resource programs, and how eight bytes spell one (RFC 9669, 3).
+//! Rules and faults of images; instructions of programs, and how eight bytes spell one (RFC 9669, 3).
 //!
 //! ```rust
 //! use fc_isa::{DecodeError, Insn, decode};
@@ -10,6 +10,14 @@
 //!     Ok(matches!(program.last(), Some(Insn::Exit)))
 //! }
 //! ```
+//!
+//! # What is proved
+//!
+//! - What is decoded is spelled so, and what is spelled so is decoded, for all 117 opcodes. A fault is the least slot's least rule.
+//! - A program is written in its one spelling.
+//! - The table of opcodes has 117 known rows, and a row fixes which fields are used.
+//!
+//! By the contracts of `decode`, `encode`, `is_program`, `SHAPES`, `laws`.
 #![tactic(auto)]
 
 pub mod decoding;

@@ -1,4 +1,4 @@
-//! Jobs for workers, each numbered, and each got by one worker, once.
+//! Jobs, numbered, from one sender to many workers, each to one of them, once.
 //!
 //! A channel of 256 places stands between the one who sends, who has the `Sent`, and the workers, who have a `Got` each.
 //! A job gets the next number when it is sent, from 0 on. Where a call returns, the `Sent` lists all that was sent, and a
@@ -22,6 +22,15 @@
 //!     Some(job.origin.slot)
 //! }
 //! ```
+//!
+//! # What is proved
+//!
+//! - A job is sent under the next number, from 0 on, or handed back. What a worker gets is listed with its number, which is new to that
+//!   worker.
+//! - The channel's rule, which every send and receive keeps: what was got was sent under that number, and no number is got twice. That a
+//!   call returns is not claimed.
+//!
+//! By the contracts of `Jobs::new`, `send`, `next`.
 #![tactic(auto)]
 
 mod ends;

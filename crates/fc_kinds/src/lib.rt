@@ -1,4 +1,4 @@
-//! What programs mean, and the kinds that a typing gives to their registers.
+//! What programs mean on the machine, and the kinds of registers: what each instruction makes of them, and typings.
 //!
 //! `specs/` has the machine (values, configurations, steps, the meaning of a run) and the typing rules; the
 //! code has what the verifier computes of them: the kinds after an instruction.
@@ -12,6 +12,15 @@
 //!     state[0]
 //! }
 //! ```
+//!
+//! # What is proved
+//!
+//! - Of every instruction: the registers' kinds after it, and on each way of a jump.
+//! - Joins are least. Effects, refinement and what a call hands on are monotone, and contain what the machine's step gives.
+//! - A run has at most one meaning, and its reply's code is its method's success, 4.00, 4.03, 4.04 or 5.00.
+//! - At the entry R4 is unset in version 1, and points in version 2 to the readings, which are read and never written.
+//!
+//! By the contracts of `after`, `refine`, `join`, `enter`, `entry`, `laws`.
 #![tactic(auto)]
 
 mod arithmetic;

@@ -1,4 +1,4 @@
-//! Observers of one slot (RFC 7641): who is to be notified of its changes, and which notifications wait for an acknowledgement.
+//! The observers of a slot (RFC 7641): who is due, whose turn is out, and which notifications wait for an acknowledgement.
 //!
 //! [`Observers`] is the list of observers, in order of registration. A change of the slot makes observers due; each gets a turn by
 //! [`Observers::next_due`], in which its request is answered anew. The turn keeps whether its taking, which looks into the slot,
@@ -49,6 +49,28 @@
 //!     }
 //! }
 //! ```
+//!
+//! # What is proved
+//!
+//! - A slot has at most 32 observers, and one of an endpoint and token: a registration is new, takes that one's place, or finds 32 others.
+//!   Where fewer than 32 observe a slot it is entered.
+//! - The first that is due gets the turn. An observer is due exactly where it was last sent less than the slot's noticed serial, none of
+//!   its confirmable notifications is outstanding, none of its turns is out and none was given up at this moment. So a change of readings
+//!   makes none due.
+//! - A turn is one observer's, and is no longer out once its notification is sent, its observer is removed or it is given up, which it is
+//!   after 247,000 ms. While it is out, a turn keeps that its taking found the slot empty.
+//! - Each entry after a call was there before it, as it is or changed as the call says, or is registered by it. Its message id is that of
+//!   its last notification.
+//! - A notification is confirmable where 86,400,000 ms have passed since its observer's registration or last confirmable one. It is sent
+//!   again after t, 2t, 4t and 8t, the same bytes, t being 2,000 to 3,000 ms, and 16t later its observer is removed. A tick sends the first
+//!   that is late.
+//! - An acknowledgement ends the wait of just those whose last notification it answers; a reset removes just those. Who was removed hears
+//!   nothing before it registers again.
+//! - The serials that an observer is sent rise, where each notification's is at least the noticed serial of its turn.
+//! - A list is told to be quiet exactly where nothing is late and nobody is due, whatever it keeps of the last look.
+//!
+//! By the contracts of `Observers::register`, `next_due`, `check_quiet`, `out`, `miss`, `sent`, `end`, `give_up`, `reset`, `acked`, `tick`,
+//! `laws`.
 #![tactic(auto)]
 
 pub mod entry;

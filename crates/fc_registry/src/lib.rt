@@ -1,4 +1,4 @@
-//! Shards: the slots, and the calls by which jobs read and change them.
+//! Jobs; shards of slots, each with its observers; tickets, commits, installs; the ring of a slot's last commits.
 //!
 //! Shard `n mod 8` owns slot `n`. A job takes a ticket, which is what it found; it runs the ticket's program; and its
 //! commit writes where nothing has changed since. No call waits, and of a made shard's calls only a taking asks for
@@ -21,6 +21,28 @@
 //!     }
 //! }
 //! ```
+//!
+//! # What is proved
+//!
+//! - A taking gives what the slot holds, with the readings that are handed in. Its ticket has its job's client and turn, the token, the
+//!   block and the Observe of its request, and these readings.
+//! - A run with other readings than its ticket's is no run of it (`Stranger`). A commit writes the meaning's variables, to its slot alone,
+//!   where nothing has changed since.
+//! - An install sets zeros and raises the serial by one; a removal of a program leaves none and raises it as well. A receipt is that of the
+//!   present program, with the serial of its install. Serials count changes, and a slot's noticed serial is that of its last install,
+//!   removal or commit with a notice.
+//! - A slot's ring holds the last eight commits of its program, each of which begins with what the one before it left, and left what the
+//!   program means for its request and its readings, which are its ticket's.
+//! - A turn goes to the first observer that is due, as a job that answers its request anew and asks for blocks of the size that was
+//!   registered; a tick to the first notification that is late, by slot and then by registration; a signal to the observers of every slot.
+//! - A commit of a GET that asks for it registers its client, or removes it, and says whether there was room.
+//! - A turn that is out tells its observer what its ticket's run means, or 4.04 where its taking found the slot empty, and is over. What
+//!   isn't a 2.05 Content has no sequence number, and removes the observer. A turn that is out no longer tells nothing, and a ticket of
+//!   another turn is refused.
+//! - No observer was sent a serial above its slot's. A shard that is passed as quiet has nothing to send again, and nobody who is due.
+//!
+//! By the contracts of `Shard::take`, `commit`, `install`, `remove`, `receipt`, `next_due`, `note`, `give_up`, `signal`, `tick`,
+//! `rings_are_chains`, `no_observer_is_ahead`, `laws`.
 #![tactic(auto)]
 
 mod body;

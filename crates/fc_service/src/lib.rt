@@ -1,4 +1,4 @@
-//! What the server's program does: its command line, lines that are played, and a socket that is served.
+//! What the server's program does: its command line, lines that are played, a socket that is served, its clock, its sensors and its log.
 //!
 //! ```rust
 //! use fc_cli::Status;
@@ -15,6 +15,34 @@
 //!     }
 //! }
 //! ```
+//!
+//! # What is proved
+//!
+//! - **Lines**: those of a reader, all of them where its bytes are known, are read one after the other, and each is carried out once, in
+//!   order, on one server: it is what the server does at its event, then what its shards send again or tell observers. Just what they send
+//!   is printed, in that order. Its takings are handed the readings of the last line that said some, itself included, or zeros (`play`).
+//! - **Lines by workers**: each is handed once, in order, before the next is read, to who takes it in, and what this answers at once is
+//!   printed; of a job, what is printed is some emission, or nothing (`play_lines`, by `HasPlayed`, read with the relations of `Waiting`).
+//! - **A server on a socket** receives by one loop, whatever takes its datagrams in: a server on one thread, or the dispatcher of workers
+//!   (`run_rounds`, by `HasRun`). Its rounds follow one another on one server. In each, at a moment that was asked for, what was received
+//!   is heard, once, whole and from its endpoint, or time passes where nothing came; then the shards are asked, 0 to 7, until each has told
+//!   that nothing is late and that nobody is due, a message id is lacking, or 8,192 steps were taken; and each emission of this, the reply
+//!   first, was handed to the sink, and is counted once, as the sink told. What was received in the rounds, in order, is what the source
+//!   gave, where that is known: of a socket of the system it isn't. That nothing else goes to the sink, and in which order, no clause says
+//!   (`Source::came`, `Sink::went`).
+//! - **By one worker** these are lists of events of one server, which begins at the serial and the message id that it is given: each round
+//!   is the list of its datagram, or of its moment, and of what its shards are asked. Its readings are each round's moment and what its
+//!   sensors said. No clause says that with `--readings` this is the file's; without it these are zeros (`serve_alone`, by `HasServed`).
+//! - **By more workers** the loop takes each datagram in by one call of a dispatcher, in order, and asks it for each turn by one; no other
+//!   call of a round changes what was dispatched (`run_rounds`, read with the relations of `Dispatching`).
+//! - **A pool** gives at its end eight shards, the serials that each began with, and changes; the serials of each shard have risen by just
+//!   these, which are told up to 2^64 - 1. That its workers worked at these shards is no clause.
+//! - **Readings** are some moment in eight bytes, the least first, and what the sensors said: zeros where there are none. What is read of a
+//!   file is what one call of its reader gave, 56 bytes at most, and zeros behind.
+//! - **Replies** of a server on a socket are counted and added exactly, up to 2^64 - 1, and told as `sent S failed F`.
+//!
+//! By the contracts of `play::play`, `lines::play_lines`, `rounds::run_rounds`, `serve::serve_alone`, `pool::run_pool`,
+//! `clock::SensingDevice`, `sensors::read_sensed`, `Replies`, `laws`.
 #![tactic(auto)]
 
 mod alone;

@@ -1,4 +1,20 @@
-//! What the assembler's program does with texts and images.
+//! What the assembler's program does with texts and images: expands, assembles, lists, judges and explains, and runs.
+//!
+//! # What is proved
+//!
+//! - An image is the header of the version that is asked for and the slots of what the text means, with the budget that is given or the
+//!   longest path.
+//! - A listing is that of the program that the image's slots spell, also with its slots' numbers.
+//! - What is told of a refused image is a fault that the verifier may tell, and by its rule the slot's bytes (V06 to V10), its instruction
+//!   (V11 to V14, V17), for a jump back (V12) also why it isn't a counted loop's, the cost exactly where no rule of the control flow is
+//!   broken with a budget of 65,536 (V16), or its instruction, what is known of the registers before it and the demand that isn't met (V20
+//!   to V28). The registers that are told decide whether the instruction's demands are met.
+//! - A run's report is that of the meaning of the program, request, readings and variables.
+//! - A text without `:`, `'`, `"`, `0x`, `.c` and what may be a call by name is expanded to itself, with spaces for tabs and carriage
+//!   returns.
+//!
+//! By the contracts of `tools::image_of`, `priced_image_of`, `listing_of`, `numbered_listing_of`, `diagnosis::diagnose`, `running::report`,
+//! `expand`, `laws`.
 #![tactic(auto)]
 
 pub mod asked;

@@ -24,6 +24,17 @@
 //!     Ok(world.emissions.pop().flatten())
 //! }
 //! ```
+//!
+//! # What is proved
+//!
+//! - For every list of events: each emission is legal, and there is one entry an event.
+//! - Each of the 64 slots and of the eight shards' moments is what the history says. A slot's commits are a chain, of which its ring has
+//!   the last.
+//! - Each taking that found a program has a meaning within its longest path, which is within its budget. A job that took again runs with,
+//!   and is answered by, the readings of its last taking.
+//! - `run_world_from` says the same of a server that begins at another serial and message id.
+//!
+//! By the contracts of `run_world`, `run_world_from`.
 #![tactic(auto)]
 
 pub mod run;

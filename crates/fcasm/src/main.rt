@@ -1,4 +1,4 @@
-//! The assembler's program: it parses its command line, and calls the service.
+//! The assembler's `main`: it parses its command line, and calls the tools.
 #![tactic(auto)]
 
 use clap::{Arg, ArgAction, ArgMatches, Command, value_parser};

@@ -1,4 +1,4 @@
-//! The server's program: it parses its command line, and calls the service.
+//! The server's `main`: it parses its command line, and calls the service.
 #![tactic(auto)]
 
 use clap::ArgMatches;

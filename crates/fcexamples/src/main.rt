@@ -1,4 +1,4 @@
-//! The program of the worked examples: each is assembled, checked, installed in slot 0 of a server, and asked.
+//! The worked programs of docs/PROGRAMS.md, and a `main` that assembles and checks each, installs it in slot 0 of a server, and asks it.
 #![tactic(auto)]
 
 use clap::{Arg, Command, Error};

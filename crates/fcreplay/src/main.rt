@@ -1,4 +1,4 @@
-//! The replayer's program: it carries out a list of events, and prints what each emits and what the slots are at the end.
+//! The `main` that replays lists of events: it prints what each emits and what the slots are at the end.
 #![tactic(auto)]
 
 use clap::{Command, Error};

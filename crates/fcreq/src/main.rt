@@ -1,4 +1,4 @@
-//! The client's program: it parses its command line, and asks the service.
+//! The client's `main`: it parses its command line, and asks a server.
 #![tactic(auto)]
 
 use clap::{Arg, ArgAction, ArgMatches, Command, Error, value_parser};

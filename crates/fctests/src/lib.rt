@@ -1,6 +1,7 @@
-//! The tests that cross crates, and those of crates that would be proved twice for theirs: what each datagram, image and number here is
-//! to give follows from the RFCs of the protocol and of the instructions, worked out by hand. What the programs print of lines, lists of
-//! events, texts and images is data of fcvectors.
+//! The tests that cross crates, and those of crates that would be proved twice for theirs.
+//!
+//! What each datagram, image and number here is to give follows from the RFCs of the protocol and of the instructions, worked out by hand.
+//! What the programs print of lines, lists of events, texts and images is data of fcvectors.
 #![tactic(auto)]
 
 #[cfg(test)]

@@ -1,4 +1,15 @@
-//! The program of the vectors: cases that are files of data, each carried out by the library's function that a program calls.
+//! Cases of lines, events, texts and images as data, and a `main` that carries each out by the library's function that a program calls, and
+//! compares what it prints.
+//!
+//! # What is proved
+//!
+//! - Each line of a case says what is parsed of it. A vector's streams are those of its lines, in order, and its status that of their last
+//!   ending.
+//! - An output that is allowed has the status and prints the bytes that the vector says, and tells them, or begins with what is before
+//!   `..`.
+//! - That each vector is carried out is shown by the stored run, which has a case that differs.
+//!
+//! By the contracts of `line::parse`, `case::lines_of`, `vector_of`, `Output::allows`.
 #![tactic(auto)]
 
 mod case;
