@@ -48,7 +48,7 @@ impl Model for Uploads {
 }
 
 impl Uploads {
-    /// No transfer, and room for 16.
+    /// Makes a table of no transfer, with room for 16.
     ///
     /// # Errors
     /// There was no memory for them.

@@ -50,7 +50,7 @@ impl<'a> Errand<'a> {
     ghost use Rattle.coap_client.specs.Parts.{first_part, has_more, part_options, part_payload};
     ghost use Rattle.coap_client.specs.Requests.{IsBlock, IsPartOf, part_request};
 
-    /// The errand of these, where its requests fit a datagram: the segments of the path and the arguments of the query, each with
+    /// Builds the errand of these, where its requests fit a datagram: the segments of the path and the arguments of the query, each with
     /// five bytes more, and what goes of the body at once have at most 1,262 bytes together. Of a PUT's body 1,024 bytes go at once.
     pub fn new(
         confirmable: bool,
@@ -78,7 +78,7 @@ impl<'a> Errand<'a> {
         }
     }
 
-    /// The first part of the fetch.
+    /// Returns the first part of the fetch.
     pub fn first_part(&self) -> Part
         ensures first { result ≡ first_part self.now.method (length self.now.payload.now) }
         ensures own { IsPartOf self.now result }
@@ -93,7 +93,7 @@ impl<'a> Errand<'a> {
         }
     }
 
-    /// Whether the block of the body of this number and size has another one behind it.
+    /// Returns whether the block of the body of this number and size has another one behind it.
     pub fn has_more(&self, number: u32, szx: u8) -> bool
         requires { IsBlock number szx }
         ensures { result ≡ has_more (length self.now.payload.now) number szx }

@@ -50,7 +50,7 @@ pub enum Notice {
     Misfit,
 }
 
-/// Whether a message answers the request of this id and token in its acknowledgement.
+/// Returns whether a message answers the request of this id and token in its acknowledgement.
 pub fn is_reply_with(token: &[u8], id: u16, message: &Message<'_>) -> bool
     ensures { IsTrue result ↔ IsReplyWith token.now id message.now }
 {
@@ -60,7 +60,7 @@ pub fn is_reply_with(token: &[u8], id: u16, message: &Message<'_>) -> bool
         && is_response(message.code())
 }
 
-/// Whether a message answers a request of this token, and is no acknowledgement.
+/// Returns whether a message is a response with this token (RFC 7641, 3.2), and is no acknowledgement.
 pub fn is_notification(token: &[u8], message: &Message<'_>) -> bool
     ensures { IsTrue result ↔ IsOwnResponse token.now message.now }
 {
@@ -73,7 +73,7 @@ fn is_response(code: Code) -> bool
     matches!(code.class(), SUCCESS | CLIENT_ERROR | SERVER_ERROR)
 }
 
-/// Whether a state of the second sequence number, at the second moment in milliseconds, is newer than one of the first, at the first (RFC 7641, 3.4).
+/// Returns whether a state of the second sequence number, at the second moment in milliseconds, is newer than one of the first, at the first (RFC 7641, 3.4).
 pub fn is_newer(first: u32, first_at: u64, second: u32, second_at: u64) -> bool
     ensures { result ≡ spec.is_newer first first_at second second_at }
 {
@@ -82,7 +82,7 @@ pub fn is_newer(first: u32, first_at: u64, second: u32, second_at: u64) -> bool
         || second_at.saturating_sub(first_at) > OLD
 }
 
-/// What a response is, whatever was shown before.
+/// Classifies a response to an observer, whatever was shown before.
 pub fn notice_of(message: &Message<'_>) -> Notice
     ensures { result ≡ spec.notice_of message.now }
 {

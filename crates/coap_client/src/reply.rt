@@ -41,14 +41,14 @@ pub enum Next {
     Misfit,
 }
 
-/// Whether a message answers the request of this id, which had no token, in its acknowledgement.
+/// Returns whether a message is the piggybacked response to the request of this id, which had no token (RFC 7252, 5.2.1).
 pub fn is_reply(id: u16, message: &Message<'_>) -> bool
     ensures { IsTrue result ↔ IsReply id message.now }
 {
     message.kind() == MessageType::Acknowledgement && message.id() == id && is_response(message)
 }
 
-/// Whether a message acknowledges the request of this id, and doesn't answer it: the answer comes in a message of its own.
+/// Returns whether a message acknowledges the request of this id, and doesn't answer it: a separate response is to come.
 pub fn is_empty_acknowledgement(id: u16, message: &Message<'_>) -> bool
     ensures { IsTrue result ↔ IsEmptyAcknowledgement id message.now }
 {
@@ -57,7 +57,7 @@ pub fn is_empty_acknowledgement(id: u16, message: &Message<'_>) -> bool
         && message.code() == Code::EMPTY
 }
 
-/// Whether a message answers a request that had no token, and is no acknowledgement.
+/// Returns whether a message is a separate response to a request that had no token, and is no acknowledgement (RFC 7252, 5.2.2).
 pub fn is_separate(message: &Message<'_>) -> bool
     ensures { IsTrue result ↔ IsSeparate message.now }
 {
@@ -75,7 +75,7 @@ fn is_response(message: &Message<'_>) -> bool
         )
 }
 
-/// Whether messages of this type begin an exchange: they are confirmable, or non-confirmable.
+/// Returns whether messages of this type begin an exchange: they are confirmable, or non-confirmable.
 pub fn begins_exchange(kind: MessageType) -> bool
     ensures { result ≡ spec.begins_exchange kind }
 {
@@ -85,14 +85,14 @@ pub fn begins_exchange(kind: MessageType) -> bool
     }
 }
 
-/// Whether a message rejects the request of this id.
+/// Returns whether a message is a Reset of the request of this id (RFC 7252, 4.2).
 pub fn is_reset(id: u16, message: &Message<'_>) -> bool
     ensures { IsTrue result ↔ IsReset id message.now }
 {
     message.kind() == MessageType::Reset && message.id() == id && message.code() == Code::EMPTY
 }
 
-/// What comes after this answer to a part, where the blocks of the answer so far have this ETag.
+/// Returns what comes after this answer to a part, where the blocks of the answer so far have this ETag.
 pub fn next_of(errand: &Errand<'_>, part: Part, etag: &[u8], message: &Message<'_>) -> Next
     requires { IsPartOf errand.now part }
     ensures { result ≡ spec.next_of (length errand.now.payload.now) part etag.now message.now }
@@ -116,7 +116,7 @@ pub fn next_of(errand: &Errand<'_>, part: Part, etag: &[u8], message: &Message<'
     }
 }
 
-/// The ETag of an answer; empty where it has none.
+/// Returns the ETag of an answer; empty where it has none (RFC 7252, 5.10.6).
 pub fn etag_of<'a>(message: &Message<'a>) -> &'a [u8]
     ensures { result.now ≡ spec.etag_of message.now }
 {

@@ -20,7 +20,7 @@ pub struct Server<'a, C: Clock> {
 }
 
 impl<'a, C: Clock> Server<'a, C> {
-    /// The server at this address and port.
+    /// Connects to the server at this address and port.
     ///
     /// # Errors
     /// There is no socket, or the clock can't be read.

@@ -26,7 +26,7 @@ pub struct Watch {
 }
 
 impl Watch {
-    /// The watch of an observer that has shown this message first, a state of this sequence number, at this moment in milliseconds.
+    /// Begins the watch of an observer that has shown this message first, a state of this sequence number, at this moment in milliseconds.
     ///
     /// # Errors
     /// There was no memory for its mark.
@@ -53,7 +53,7 @@ impl Watch {
         })
     }
 
-    /// What a response in a message of its own is, at this moment in milliseconds.
+    /// Classifies a response in a message of its own, at this moment in milliseconds.
     pub fn notice_of(&self, at: u64, message: &Message<'_>) -> Notice
         ensures { result ≡ notice_after self.now at message.now }
     {

@@ -62,7 +62,7 @@ impl Model for Exchanges {
 }
 
 impl Exchanges {
-    /// No exchange, and room for 1,024.
+    /// Makes a table of no exchange, with room for 1,024 (RFC 7252, 4.5).
     ///
     /// # Errors
     /// There was no memory for them.
@@ -138,7 +138,7 @@ impl Exchanges {
         self.requests.expire(now);
     }
 
-    /// How many keys the last [`Exchanges::look`] compared: 11 at most, and 0 before the first.
+    /// Counts the keys that the last [`Exchanges::look`] compared: 11 at most, and 0 before the first.
     pub fn probes(&self) -> u32
         ensures { result ≤ 11 }
     {

@@ -54,7 +54,7 @@ impl Code {
     /// 5.05 (RFC 7252, 5.9.3.6).
     pub const PROXYING_NOT_SUPPORTED: Code = Code { byte: 0xa5 };
 
-    /// The code of a class, 0 to 7, and a detail, 0 to 31.
+    /// Makes the code of a class, 0 to 7, and a detail, 0 to 31 (RFC 7252, 3).
     pub fn new(class: u8, detail: u8) -> Code
         requires class { class < 8 }
         requires detail { detail < 32 }
@@ -65,7 +65,7 @@ impl Code {
         }
     }
 
-    /// The class, 0 to 7: 0 of requests and the empty message, 2 of success, 4 and 5 of errors.
+    /// Returns the class, 0 to 7: 0 of requests and the empty message, 2 of success, 4 and 5 of errors.
     pub fn class(self) -> u8
         ensures class { result ≡ self.byte / 32 }
         ensures below { result < 8 }
@@ -73,7 +73,7 @@ impl Code {
         self.byte / 32
     }
 
-    /// The detail, 0 to 31.
+    /// Returns the detail, 0 to 31.
     pub fn detail(self) -> u8
         ensures detail { result ≡ self.byte % 32 }
         ensures below { result < 32 }

@@ -56,28 +56,28 @@ impl<'a> Message<'a> {
         }
     }
 
-    /// The type.
+    /// Returns the type: confirmable, non-confirmable, acknowledgement or reset.
     pub fn kind(&self) -> MessageType
         ensures { result ≡ self.now.kind }
     {
         self.kind
     }
 
-    /// The code.
+    /// Returns the code.
     pub fn code(&self) -> Code
         ensures { result.byte ≡ self.now.code }
     {
         self.code
     }
 
-    /// The message id.
+    /// Returns the message id.
     pub fn id(&self) -> u16
         ensures { result ≡ self.now.id }
     {
         self.id
     }
 
-    /// The token, 0 to 8 bytes.
+    /// Returns the token, 0 to 8 bytes.
     pub fn token(&self) -> &'a [u8]
         ensures token { result.now ≡ self.now.token }
         ensures short { length result.now ≤ 8 }
@@ -85,21 +85,21 @@ impl<'a> Message<'a> {
         self.token
     }
 
-    /// The options, each with its number and its value, in order. They are read where they stand, a second time.
+    /// Iterates over the options, each with its number and its value, in order. They are read where they stand, a second time.
     pub fn options(&self) -> Options<'a>
         ensures { result ≡ self.now.options }
     {
         Options::new(self.options)
     }
 
-    /// The values of the options of this number, in order; none where there is no such option.
+    /// Iterates over the values of the options of this number, in order; none where there is no such option.
     pub fn values(&self, number: u16) -> Values<'a>
         ensures { result ≡ values_in number self.now.options }
     {
         Values::new(number, self.options())
     }
 
-    /// The payload; empty where there is none.
+    /// Returns the payload; empty where there is none.
     pub fn payload(&self) -> &'a [u8]
         ensures { result.now ≡ self.now.payload }
     {

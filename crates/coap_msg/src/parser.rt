@@ -12,7 +12,7 @@ use crate::wire::{
     ACKNOWLEDGEMENT, CONFIRMABLE, HEADER, NON_CONFIRMABLE, PAYLOAD_MARKER, RESET, number_of,
 };
 
-/// The message that a datagram spells (RFC 7252, 3), lent from its bytes.
+/// Parses the message that a datagram spells (RFC 7252, 3), lent from its bytes.
 ///
 /// # Errors
 /// What is to be done about a datagram that spells none: a confirmable message with a format error is rejected, by its

@@ -29,7 +29,7 @@ impl Block {
     ghost use Rattle.std.specs.Prelude.{◌≡◌, ◌≤◌, length};
     ghost use Rattle.coap_opts.specs.Values.{block_size, block_value, place_in, uint_bytes, uint_value};
 
-    /// The block of this number, of which more follow or don't, and whose size has this exponent less 4.
+    /// Makes the block option's value of this number, of which more follow or don't, and whose size has this exponent less 4 (RFC 7959, 2.2).
     pub fn new(number: u32, more: bool, szx: u8) -> Block
         requires number { number < 2 ^ 20 }
         requires szx { szx < 8 }
@@ -60,7 +60,7 @@ impl Block {
         encode_uint(u64::from(16 * self.number + more + u32::from(self.szx)))
     }
 
-    /// Its number, from 0 on; it has 20 bits.
+    /// Returns its block number, from 0 on; it has 20 bits.
     pub fn number(self) -> u32
         ensures number { result ≡ self.number }
         ensures limit { result < 2 ^ 20 }
@@ -68,14 +68,14 @@ impl Block {
         self.number
     }
 
-    /// Whether more blocks follow.
+    /// Returns the M bit: whether more blocks follow.
     pub fn more(self) -> bool
         ensures { result ≡ self.more }
     {
         self.more
     }
 
-    /// The exponent of its size less 4, 0 to 7; 7 is reserved.
+    /// Returns the SZX field: the exponent of its size less 4, 0 to 7; 7 is reserved.
     pub fn szx(self) -> u8
         ensures szx { result ≡ self.szx }
         ensures limit { result < 8 }
@@ -83,7 +83,7 @@ impl Block {
         self.szx
     }
 
-    /// How many bytes a block has: 16 to 1,024, and 2,048 where the size is the reserved one.
+    /// Returns how many bytes a block has: 16 to 1,024, and 2,048 where the size is the reserved one.
     pub fn size(self) -> usize
         ensures { result ≡ block_size self.szx }
     {

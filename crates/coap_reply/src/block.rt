@@ -24,7 +24,7 @@ pub struct BodyBlock {
 }
 
 impl BodyBlock {
-    /// The block of an answer that is asked; where none is asked, the answer, or of one above 1,024 bytes the first block. `None`
+    /// Cuts the block of an answer that is asked; where none is asked, the answer, or of one above 1,024 bytes the first block. `None`
     /// where a block that isn't the first begins at or past the end. The reserved size counts as the greatest.
     pub fn cut(body: &[u8], asked: Option<Block>) -> Option<BodyBlock>
         ensures { option_map part_of result ≡ cut_for asked body.now }

@@ -38,7 +38,7 @@ impl<'a> Model for Envelope<'a> {
     ghost invariant = { λ e. length e.token.now ≤ 8 };
 }
 
-/// The type of a reply: a confirmable request is answered in its acknowledgement (RFC 7252, 5.2.1), another by a non-confirmable
+/// Returns the type of a reply: a confirmable request is answered in its acknowledgement (RFC 7252, 5.2.1), another by a non-confirmable
 /// message (RFC 7252, 5.2.3).
 pub fn reply_kind(confirmable: bool) -> MessageType
     ensures { result ≡ spec.reply_kind confirmable }

@@ -10,7 +10,7 @@ use crate::operand::{both, extension, imm, offset, operand, register, target, wi
 use fc_isa::{AluOp, Insn, Jump, LoadType, Relation, Size, Target, Width};
 use std::alloc::{AllocError, Global};
 
-/// The words of a line: what stands between spaces and commas, before a comment.
+/// Splits a line into its words: what stands between spaces and commas, before a comment.
 pub fn words<'a>(alloc: Global, line: &'a str) -> Result<Vec<&'a str>, AllocError>
     ensures { IfOk result (λ v. map (λ word. word.now) v.items ≡ words_of line.now) }
 {
@@ -43,7 +43,7 @@ fn push_words<'a>(words: &mut Vec<&'a str>, part: &'a str) -> Result<(), AllocEr
     Ok(())
 }
 
-/// The instruction that the words of a line name; a blank line names none.
+/// Parses the instruction that the words of a line name; a blank line names none.
 pub fn read(names: &Names, words: &[&str]) -> Result<Option<Insn>, Mistake>
     ensures { result ≡ meaning (map (λ word. word.now) words.now) }
 {

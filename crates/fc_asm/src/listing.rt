@@ -10,7 +10,7 @@ use fc_isa::{Insn, Operand, Reg, SignExtension, Target, Width};
 use std::alloc::{AllocError, Global};
 use std::fmt;
 
-/// The listing of a program: one instruction a line, as the assembler reads it.
+/// Disassembles a program: one instruction a line, as the assembler reads it.
 ///
 /// # Errors
 /// Memory was refused.

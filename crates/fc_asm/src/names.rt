@@ -17,7 +17,7 @@ pub struct Names {
 }
 
 impl Names {
-    /// All of them.
+    /// Makes the table of all mnemonics.
     ///
     /// # Errors
     /// Memory was refused.
@@ -29,7 +29,7 @@ impl Names {
         Ok(Names { by_name })
     }
 
-    /// The mnemonic of this name.
+    /// Looks up the mnemonic of this name.
     pub fn find(&self, word: &str) -> Option<Mnemonic>
         ensures { result ≡ mnemonic_named word.now }
     {

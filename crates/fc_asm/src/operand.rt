@@ -5,7 +5,7 @@ ghost use Rattle.fc_asm.specs.Operands.{both_of, graver, imm_from, is_digits, wr
 use crate::error::Mistake;
 use fc_isa::{Operand, Reg, SignExtension, Target, Width};
 
-/// `r0` to `r10`.
+/// Parses a register, `r0` to `r10`.
 pub fn register(word: &str) -> Result<Reg, Mistake>
     ensures { result ≡ register_from word.now }
 {
@@ -19,7 +19,7 @@ const REGISTERS: [&'static str; 11] = [
     "r0", "r1", "r2", "r3", "r4", "r5", "r6", "r7", "r8", "r9", "r10",
 ];
 
-/// `r0` to `r9`, which a program may write.
+/// Parses a destination register, `r0` to `r9`, which a program may write.
 pub fn target(word: &str) -> Result<Target, Mistake>
     ensures { result ≡ target_from word.now }
 {
@@ -31,7 +31,7 @@ pub fn target(word: &str) -> Result<Target, Mistake>
     }
 }
 
-/// A number of 32 bits with a sign.
+/// Parses a number of 32 bits with a sign.
 pub fn imm(word: &str) -> Result<i32, Mistake>
     ensures { result ≡ imm_from word.now }
 {
@@ -44,7 +44,7 @@ pub fn imm(word: &str) -> Result<i32, Mistake>
     }
 }
 
-/// A number of 16 bits with a sign.
+/// Parses a number of 16 bits with a sign.
 pub fn offset(word: &str) -> Result<i16, Mistake>
     ensures { result ≡ offset_from word.now }
 {
@@ -57,7 +57,7 @@ pub fn offset(word: &str) -> Result<i16, Mistake>
     }
 }
 
-/// A number of 64 bits without a sign; `-0` is zero.
+/// Parses a number of 64 bits without a sign; `-0` is zero.
 pub fn wide(word: &str) -> Result<u64, Mistake>
     ensures { result ≡ wide_from word.now }
 {
@@ -80,7 +80,7 @@ pub fn wide(word: &str) -> Result<u64, Mistake>
     }
 }
 
-/// A register or a number.
+/// Parses a register or a number.
 pub fn operand(word: &str) -> Result<Operand, Mistake>
     ensures { result ≡ operand_from word.now }
 {
@@ -90,7 +90,7 @@ pub fn operand(word: &str) -> Result<Operand, Mistake>
     }
 }
 
-/// How many bits are extended to this width.
+/// Parses how many bits are extended to this width.
 pub fn extension(width: Width, word: &str) -> Result<SignExtension, Mistake>
     ensures { result ≡ extension_from width word.now }
 {
@@ -102,7 +102,7 @@ pub fn extension(width: Width, word: &str) -> Result<SignExtension, Mistake>
     }
 }
 
-/// Both, or the graver mistake.
+/// Joins two results: both, or the graver mistake.
 pub fn both<A: Drop, B: Drop>(
     a: Result<A, Mistake>,
     b: Result<B, Mistake>,

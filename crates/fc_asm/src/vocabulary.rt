@@ -8,7 +8,7 @@ use crate::names::Names;
 use crate::operand::register;
 use std::alloc::{AllocError, Global};
 
-/// The operands that an instruction of this name takes, in their order; a word that names no instruction has none. `DST` is a register that
+/// Returns the operands that an instruction of this name takes, in their order; a word that names no instruction has none. `DST` is a register that
 /// may be written, `SRC` and `BASE` are registers, `TARGET` and `OFFSET` are numbers, and so are the other words.
 ///
 /// # Errors
@@ -38,7 +38,7 @@ fn operands(mnemonic: Mnemonic) -> &'static str {
     }
 }
 
-/// Whether it is one of `r0` to `r10`.
+/// Returns whether it is one of `r0` to `r10`.
 pub fn is_register(word: &str) -> bool
     ensures { result ≡ is_ok (register_from word.now) }
 {

@@ -15,7 +15,7 @@ use std::rt::Runtime;
 /// The version that `--version` tells, and by which kit it is proved.
 pub const VERSION: &str = "0.1.0, proved with rattle-kit-13f logic dac8208d650f15bf";
 
-/// The words of the command line. `None` where one of them isn't UTF-8, which `err` is told.
+/// Reads the words of the command line. `None` where one of them isn't UTF-8, which `err` is told.
 ///
 /// # Errors
 /// The words can't be had, there was no memory for them, or `err` failed.
@@ -66,7 +66,7 @@ pub fn parse<'a, R: Runtime>(
     }
 }
 
-/// The exit code of a program that ended so; `err` is told why where it failed.
+/// Returns the exit code of a program that ended so; `err` is told why where it failed.
 pub fn exit_code<E: Write>(err: &mut E, ended: anyhow::Result<Status>) -> ExitCode
     ensures ended { IfOk ended (λ status. exit_status result ≡ status_number status) }
     ensures failed { IfErr ended (λ _. exit_status result ≡ 3) }

@@ -27,7 +27,7 @@ pub enum Stop {
 }
 
 impl Stop {
-    /// Why reading the line of this number failed: it is bad where the reader says that its bytes are no line's, by `InvalidData`, as where it is too long.
+    /// Explains why reading the line of this number failed: it is bad where the reader says that its bytes are no line's, by `InvalidData`, as where it is too long.
     pub fn at_line(error: io::Error, number: u64) -> Stop
         ensures bad { error_kind error ≡ ErrorKind.InvalidData → result ≡ Stop.BadLine number }
         ensures failed { error_kind error ≢ ErrorKind.InvalidData → result ≡ Stop.Input error }
@@ -38,7 +38,7 @@ impl Stop {
         }
     }
 
-    /// How the program ends.
+    /// Returns how the program ends.
     pub fn status(&self) -> Status
         ensures { result ≡ status_of self.now }
     {

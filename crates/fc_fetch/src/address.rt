@@ -56,7 +56,7 @@ impl From<AllocError> for AddressError {
 }
 
 impl Address {
-    /// The address that a text says: a path, at a port of 127.0.0.1, or a URI of the scheme coap, whose port is 5683 where it says none.
+    /// Parses the address that a text says: a path, at a port of 127.0.0.1, or a URI of the scheme coap, whose port is 5683 where it says none.
     ///
     /// # Errors
     /// What [`AddressError`] says.

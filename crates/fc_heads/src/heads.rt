@@ -48,7 +48,7 @@ impl Model for HeadSeat {
 }
 
 impl Heads {
-    /// Words of which none was raised, and a first seat at them.
+    /// Makes words of which none was raised, and a first seat at them.
     ///
     /// # Errors
     /// There was no memory for them.
@@ -59,7 +59,7 @@ impl Heads {
         Ok((Heads { words }, HeadSeat { seat }))
     }
 
-    /// Another seat, which has seen and raised nothing.
+    /// Makes another seat, which has seen and raised nothing.
     ///
     /// # Errors
     /// None today: it asks for no memory.
@@ -73,7 +73,7 @@ impl Heads {
         })
     }
 
-    /// Another seat, which has seen and raised nothing, for a thread that has none to make it from.
+    /// Makes another seat, which has seen and raised nothing, for a thread that has none to make it from.
     pub fn new_seat(&self) -> HeadSeat
         ensures { result ≡ record { table = self.now; view = fresh } }
     {

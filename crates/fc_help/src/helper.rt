@@ -76,7 +76,7 @@ pub const HELPERS: [Signature; 7] = [
     },
 ];
 
-/// The helper of a number, 1 to 7.
+/// Looks up the helper of a number, 1 to 7 (RFC 9669, 4.3.1).
 pub fn helper_of(number: i32) -> Option<Helper>
     ensures helper { result ≡ helper_of number }
     ensures number { MatchOption result (helper_of number ≡ None) (λ helper. helper_number helper ≡ number) }
@@ -93,7 +93,7 @@ pub fn helper_of(number: i32) -> Option<Helper>
     }
 }
 
-/// What a helper takes and answers.
+/// Returns the signature of a helper: what it takes and answers.
 pub fn signature_of(helper: Helper) -> Signature
     ensures { result ≡ signature_of helper }
 {
@@ -108,7 +108,7 @@ pub fn signature_of(helper: Helper) -> Signature
     }
 }
 
-/// The most bytes that a reply has: 4,096 to a GET, 1,024 to a POST.
+/// Returns the most bytes that a reply has: 4,096 to a GET, 1,024 to a POST.
 pub fn room_of(method: Method) -> usize
     ensures { result ≡ room_of method }
 {

@@ -10,7 +10,7 @@ pub type Readings = [u8; READINGS];
 /// Zeros, where a device hands in nothing.
 pub const NO_READINGS: Readings = [0; READINGS];
 
-/// Whether they are the same.
+/// Compares readings: whether they are the same.
 pub fn are_same_readings(readings: &[u8], other: &[u8]) -> bool
     ensures { IsTrue result ↔ (readings.now ≡ other.now) }
 {

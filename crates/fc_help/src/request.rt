@@ -122,7 +122,7 @@ fn method_byte(method: Method) -> u8
 }
 
 impl Request {
-    /// A GET or POST of this slot's resource: the Content-Format of its payload, where that is said, the values of its
+    /// Makes a GET or POST of this slot's resource: the Content-Format of its payload, where that is said, the values of its
     /// Uri-Query options joined by `&`, at most 64 bytes, and its payload, at most 1,024 bytes.
     pub fn new(
         method: Method,
@@ -175,7 +175,7 @@ impl Request {
         self.payload_size = payload.len() as u16;
     }
 
-    /// The region of memory that a program finds the request in.
+    /// Returns the region of memory that a program finds the request in.
     pub fn region(&self) -> &[u8]
         ensures region { result.now ≡ region_of self.now }
         ensures size { length result.now ≡ 1104 }
@@ -184,28 +184,28 @@ impl Request {
         self.region.as_slice()
     }
 
-    /// The method.
+    /// Returns the method.
     pub fn method(&self) -> Method
         ensures { result ≡ self.now.method }
     {
         self.method
     }
 
-    /// The slot whose resource is asked.
+    /// Returns the slot whose resource is asked.
     pub fn slot(&self) -> u8
         ensures { result ≡ self.now.slot }
     {
         self.slot
     }
 
-    /// The Content-Format of the payload, where the request says it (RFC 7252, 5.10.3).
+    /// Returns the Content-Format of the payload, where the request says it (RFC 7252, 5.10.3).
     pub fn content_format(&self) -> Option<u16>
         ensures { result ≡ self.now.content_format }
     {
         self.content_format
     }
 
-    /// The values of the Uri-Query options, joined by `&` (RFC 7252, 5.10.1).
+    /// Returns the values of the Uri-Query options, joined by `&` (RFC 7252, 5.10.1).
     pub fn query(&self) -> &[u8]
         ensures query { result.now ≡ self.now.query }
         ensures limit { length result.now ≤ QUERY }
@@ -213,7 +213,7 @@ impl Request {
         &self.region.as_slice()[HEAD..HEAD + self.query_size as usize]
     }
 
-    /// The payload.
+    /// Returns the payload.
     pub fn payload(&self) -> &[u8]
         ensures payload { result.now ≡ self.now.payload }
         ensures limit { length result.now ≤ PAYLOAD }
@@ -221,7 +221,7 @@ impl Request {
         &self.region.as_slice()[BEFORE_PAYLOAD..BEFORE_PAYLOAD + self.payload_size as usize]
     }
 
-    /// Whether it is the same request.
+    /// Returns whether it is the same request, compared whole.
     pub fn is(&self, other: &Request) -> bool
         ensures { IsTrue result ↔ (self.now ≡ other.now) }
     {
@@ -232,7 +232,7 @@ impl Request {
             && self.payload() == other.payload()
     }
 
-    /// Another copy.
+    /// Makes another copy.
     pub fn copy(&self) -> Request
         ensures { result ≡ self.now }
     {

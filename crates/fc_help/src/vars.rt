@@ -22,7 +22,7 @@ impl Model for Vars {
 }
 
 impl Vars {
-    /// This many zero bytes.
+    /// Makes variables of this many zero bytes.
     pub fn zeros(size: u16) -> Self
         requires { size ≤ 256 }
         ensures { result ≡ replicate size 0 }
@@ -34,7 +34,7 @@ impl Vars {
         Vars { bytes }
     }
 
-    /// These bytes, at most 256.
+    /// Makes variables of these bytes, at most 256.
     pub fn of(bytes: &[u8]) -> Self
         requires { length bytes.now ≤ VARS }
         ensures { result ≡ bytes.now }
@@ -46,21 +46,21 @@ impl Vars {
         vars
     }
 
-    /// The bytes.
+    /// Returns the bytes.
     pub fn as_slice(&self) -> &[u8]
         ensures { result.now ≡ self.now }
     {
         self.bytes.as_slice()
     }
 
-    /// Whether the bytes are the same.
+    /// Returns whether the bytes are the same.
     pub fn is(&self, other: &Vars) -> bool
         ensures { IsTrue result ↔ (self.now ≡ other.now) }
     {
         self.bytes.as_slice() == other.bytes.as_slice()
     }
 
-    /// Another copy.
+    /// Makes another copy.
     pub fn copy(&self) -> Vars
         ensures { result ≡ self.now }
     {

@@ -8,7 +8,7 @@ use crate::loops::{Loop, loop_at};
 use crate::table::SLOTS;
 use fc_isa::{ImageVersion, Insn};
 
-/// The loop that begins at each slot of a program of a version.
+/// Finds the loop that begins at each slot of a program of a version.
 pub fn loops_by_head(version: ImageVersion, code: &[Insn]) -> [Option<Loop>; SLOTS]
     requires { length code.now ≤ 1024 }
     ensures { AreHeads (loops_in version code.now) result }

@@ -10,7 +10,7 @@ use fc_isa::{Fault, ImageVersion, Rule};
 /// The size of a header in bytes: an image's slots stand behind it.
 pub const HEADER_SIZE: usize = 16;
 
-/// What the header of an image says.
+/// Parses the header of an image.
 ///
 /// # Errors
 /// The least rule of the header, 1 to 5, that the image breaks, at slot 0.

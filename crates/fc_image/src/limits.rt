@@ -28,7 +28,7 @@ fn frames_allowed(version: ImageVersion) -> u8
     }
 }
 
-/// Whether the programs of a version may have counted loops.
+/// Returns whether the programs of a version may have counted loops.
 pub fn loops_allowed(version: ImageVersion) -> bool
     ensures { result ≡ loops_allowed version }
 {
@@ -65,7 +65,7 @@ impl Head {
     ghost use Rattle.fc_image.specs.Head.{frames_allowed, slots_allowed};
     ghost use Rattle.fc_image.specs.Written.{IsHead, head_bytes, head_of, limit_fault};
 
-    /// The header of these numbers: the size of the variables in bytes, the count of slots, and the budget of steps; and of this
+    /// Checks the header of these numbers: the size of the variables in bytes, the count of slots, and the budget of steps; and of this
     /// version.
     ///
     /// # Errors
@@ -98,7 +98,7 @@ impl Head {
         }
     }
 
-    /// The same header with another budget.
+    /// Makes the same header with another budget.
     pub fn with_budget(&self, budget: u32) -> Self
         requires some { 1 ≤ budget }
         requires limit { budget ≤ 65536 }
@@ -107,7 +107,7 @@ impl Head {
         Head { budget, ..*self }
     }
 
-    /// The sixteen bytes that an image of this header begins with.
+    /// Encodes the header: the sixteen bytes that its image begins with.
     pub fn bytes(&self) -> [u8; 16]
         ensures { result ≡ head_bytes self.now }
     {
@@ -124,14 +124,14 @@ impl Head {
         ]
     }
 
-    /// The version of its format.
+    /// Returns the version of its format.
     pub fn version(&self) -> ImageVersion
         ensures { result ≡ self.now.version }
     {
         self.version
     }
 
-    /// The most stack frames that the program's calls may nest.
+    /// Returns the most stack frames that the program's calls may nest.
     pub fn frames(&self) -> u8
         ensures value { result ≡ frames_allowed self.now.version }
         ensures limit { result ≤ 8 }
@@ -139,7 +139,7 @@ impl Head {
         frames_allowed(self.version)
     }
 
-    /// The size of the variables in bytes.
+    /// Returns the size of the variables in bytes.
     pub fn vars_size(&self) -> u16
         ensures value { result ≡ self.now.vars_size }
         ensures limit { result ≤ 256 }
@@ -148,7 +148,7 @@ impl Head {
         self.vars_size
     }
 
-    /// The count of slots.
+    /// Returns the count of slots.
     pub fn count(&self) -> u16
         ensures value { result ≡ self.now.count }
         ensures allowed { result ≤ slots_allowed self.now.version }
@@ -160,7 +160,7 @@ impl Head {
         self.count
     }
 
-    /// The greatest number of steps that a run may take.
+    /// Returns the greatest number of steps that a run may take.
     pub fn budget(&self) -> u32
         ensures value { result ≡ self.now.budget }
         ensures some { 1 ≤ result }

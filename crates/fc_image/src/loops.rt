@@ -147,7 +147,7 @@ pub(crate) fn is_exit(insn: &Insn) -> bool
     matches!(insn, Insn::Exit)
 }
 
-/// Whether an instruction writes a register: a call writes R0 to R5.
+/// Returns whether an instruction writes a register: a call writes R0 to R5.
 pub fn writes(insn: &Insn, register: usize) -> bool
     ensures { result ≡ writes insn.now register }
 {
@@ -163,7 +163,7 @@ fn is_that(dst: Option<Target>, register: usize) -> bool
     }
 }
 
-/// The register that an instruction computes.
+/// Returns the register that an instruction computes.
 pub fn computes(insn: &Insn) -> Option<Target>
     ensures { result ≡ computes insn.now }
 {
@@ -174,7 +174,7 @@ pub fn computes(insn: &Insn) -> Option<Target>
     }
 }
 
-/// Whether an instruction calls a helper, or a function of the program.
+/// Returns whether an instruction calls a helper, or a function of the program.
 pub fn is_call(insn: &Insn) -> bool
     ensures { result ≡ is_call insn.now }
 {

@@ -46,7 +46,7 @@ pub enum Disturbance {
     Skip,
 }
 
-/// Why the instruction at a slot isn't the jump back of a counted loop, if it isn't.
+/// Explains why the instruction at a slot isn't the jump back of a counted loop, if it isn't.
 pub fn why_uncounted(
     version: ImageVersion,
     code: &[Insn],

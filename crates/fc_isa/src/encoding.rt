@@ -8,7 +8,7 @@ use crate::fields::Fields;
 use crate::insn::Insn;
 use std::alloc::{AllocError, Global};
 
-/// The bytes that spell a program: eight for each slot.
+/// Encodes a program: eight bytes for each slot (RFC 9669, 3).
 ///
 /// # Errors
 /// Memory was refused.

@@ -20,7 +20,7 @@ impl Model for Reg {
 }
 
 impl Reg {
-    /// The register of this number.
+    /// Makes the register of this number.
     #[inline(always)]
     pub fn new(number: u8) -> Self
         requires { number < 11 }
@@ -29,7 +29,7 @@ impl Reg {
         Reg { number }
     }
 
-    /// The register's number, to index an array of eleven by.
+    /// Returns the register's number, to index an array of eleven by.
     #[inline(always)]
     pub fn index(self) -> usize
         ensures number { result ≡ self }
@@ -38,7 +38,7 @@ impl Reg {
         self.number as usize
     }
 
-    /// The register's number.
+    /// Returns the register's number.
     #[inline(always)]
     pub fn number(self) -> u8
         ensures number { result ≡ self }
@@ -65,7 +65,7 @@ impl Model for Target {
 }
 
 impl Target {
-    /// The register of this number.
+    /// Makes the register of this number.
     #[inline(always)]
     pub fn new(number: u8) -> Self
         requires { number < 10 }
@@ -74,7 +74,7 @@ impl Target {
         Target { number }
     }
 
-    /// The register's number, to index an array of eleven by.
+    /// Returns the register's number, to index an array of eleven by.
     #[inline(always)]
     pub fn index(self) -> usize
         ensures number { result ≡ self }
@@ -83,7 +83,7 @@ impl Target {
         self.number as usize
     }
 
-    /// The register's number.
+    /// Returns the register's number.
     #[inline(always)]
     pub fn number(self) -> u8
         ensures number { result ≡ self }

@@ -4,7 +4,7 @@ ghost use Rattle.fc_isa.specs.Program as programs;
 
 use crate::insn::Insn;
 
-/// Whether each wide load has its second half behind it, and none stands elsewhere. The empty list is a program.
+/// Checks that each wide load has its second half behind it, and that none stands elsewhere. The empty list is a program.
 pub fn is_program(slots: &[Insn]) -> bool
     ensures { result ≡ programs.is_program slots.now }
 {

@@ -62,7 +62,7 @@ pub enum Rule {
 }
 
 impl Rule {
-    /// The rule's number.
+    /// Returns the rule's number.
     pub fn number(self) -> u8
         ensures { result ≡ number_of self }
     {

@@ -99,7 +99,7 @@ pub struct Uses {
 }
 
 impl Shape {
-    /// The form of the instructions with this opcode.
+    /// Looks up the form of the instructions with this opcode.
     #[tactic(none)]
     pub fn of(opcode: u8) -> Self
         ensures { result ≡ shape_of opcode }
@@ -160,7 +160,7 @@ impl Shape {
         )
     }
 
-    /// Which fields of its slot the form uses, as the table of instructions has them, row by row: an immediate stands where no
+    /// Tells which fields of its slot the form uses, as the table of instructions has them, row by row: an immediate stands where no
     /// register does.
     pub fn uses(self) -> Uses
         ensures { result ≡ uses self }

@@ -11,7 +11,7 @@ use std::io::Write;
 /// The port of CoAP (RFC 7252, 6.1).
 const PORT: u16 = 5683;
 
-/// The endpoint of a peer: 127.0.0.peer, at the port of CoAP.
+/// Returns the endpoint of a peer: 127.0.0.peer, at the port of CoAP.
 pub fn endpoint(peer: u8) -> Endpoint
     ensures { result ≡ endpoint_of peer }
 {

@@ -10,7 +10,7 @@ use std::alloc::Global;
 use std::io;
 use std::io::Write;
 
-/// The bytes that hex digits of either case spell, two a byte.
+/// Decodes the bytes that hex digits of either case spell, two a byte.
 ///
 /// # Errors
 /// They are no such digits, or there was no memory for the bytes.

@@ -17,7 +17,7 @@ pub struct LineLimit<R: Read + Drop> {
 }
 
 impl<R: Read + Drop> LineLimit<R> {
-    /// A reader at the beginning of a line.
+    /// Makes a reader at the beginning of a line.
     pub fn new(inner: R) -> LineLimit<R> {
         LineLimit { inner, length: 0 }
     }

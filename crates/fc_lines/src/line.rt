@@ -67,7 +67,7 @@ fn is_device(second: &[u8]) -> bool
     second == b"dev".as_slice()
 }
 
-/// The device's readings, 64 bytes, by 128 hex digits of either case.
+/// Parses the device's readings, 64 bytes, by 128 hex digits of either case.
 pub fn readings(digits: &[u8]) -> Option<[u8; 64]>
     ensures { MatchOption result ((bytes : List ℕ) → decode_sized digits.now 64 ≡ Ok bytes → ⊥)
         (λ readings. decode_sized digits.now 64 ≡ Ok readings) }
@@ -103,7 +103,7 @@ fn are_dashes(second: &[u8], third: &[u8]) -> bool
     second == b"-".as_slice() && third == b"-".as_slice()
 }
 
-/// The number that decimal digits write. A sign is no digit.
+/// Parses the number that decimal digits write. A sign is no digit.
 pub fn number(text: &[u8]) -> Option<u64>
     ensures { MatchOption result (IsNoNumber text.now (2 ^ 64)) (IsNumber text.now) }
 {
@@ -116,7 +116,7 @@ pub fn number(text: &[u8]) -> Option<u64>
     digits.parse::<u64>().ok()
 }
 
-/// The number below 256 that decimal digits write.
+/// Parses the number below 256 that decimal digits write.
 pub fn byte(text: &[u8]) -> Option<u8>
     ensures { MatchOption result (IsNoNumber text.now 256) (IsNumber text.now) }
 {

@@ -50,7 +50,7 @@ impl<'a> ListedEvent<'a> {
         Ok(listed)
     }
 
-    /// The event that the line says, where it says one.
+    /// Parses the event that the line says, where it says one.
     pub fn event(&self) -> Option<Event<'_>>
         ensures { IfSome result (AreOfEvent self.now.words) }
     {
@@ -67,7 +67,7 @@ impl<'a> ListedEvent<'a> {
     }
 }
 
-/// How a server begins, where a line says it: `Begin serial=S id=I`, its parts in any order.
+/// Parses how a server begins, where a line says it: `Begin serial=S id=I`, its parts in any order.
 ///
 /// # Errors
 /// There was no memory.

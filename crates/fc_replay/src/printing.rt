@@ -23,7 +23,7 @@ pub struct SlotLine<'a> {
     pub vars: &'a [u8],
 }
 
-/// What is told of a slot of this shard.
+/// Writes what is told of a slot of this shard.
 pub fn slot_line(shard: &Shard, slot: SlotNumber) -> SlotLine<'_>
     ensures { IsSlotLine (slot_in shard.entry.now slot) result }
 {

@@ -60,7 +60,7 @@ pub enum AskedError {
 }
 
 impl AskedError {
-    /// How a program ends that is asked so.
+    /// Returns how a program ends that is asked so.
     pub fn status(self) -> Status {
         match self {
             AskedError::NoHex(_) | AskedError::TooLong { .. } => Status::Bad,
@@ -70,7 +70,7 @@ impl AskedError {
 }
 
 impl Asked {
-    /// A GET or POST of slot 0 with this payload and query, and these variables, if they are given: hex digits of either case. The
+    /// Parses a GET or POST of slot 0 with this payload and query, and these variables, if they are given: hex digits of either case. The
     /// readings are zeros.
     ///
     /// # Errors
@@ -97,7 +97,7 @@ impl Asked {
         })
     }
 
-    /// The same, but these hex digits of either case spell how the readings begin: 64 bytes at most, and zeros after them.
+    /// Makes the same, but these hex digits of either case spell how the readings begin: 64 bytes at most, and zeros after them.
     ///
     /// # Errors
     /// They aren't hex digits, or spell more bytes; or memory was refused.

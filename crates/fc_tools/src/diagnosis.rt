@@ -181,7 +181,7 @@ fn slot_bytes(image: &[u8], slot: usize) -> [u8; 8]
     bytes
 }
 
-/// The cost of a program: the greatest number of steps on any path to its exit.
+/// Computes the cost of a program: the greatest number of steps on any path to its exit.
 ///
 /// # Errors
 /// The least rule of the control flow, 11 to 17, that a slot breaks, with what shows it.

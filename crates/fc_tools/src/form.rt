@@ -28,7 +28,7 @@ pub enum Form {
 }
 
 impl Form {
-    /// The mistake that the line has.
+    /// Returns the mistake that the line has.
     pub fn mistake(self) -> Mistake {
         match self {
             Form::DoubleLabel | Form::DoubleConstant | Form::TakenConstant => Mistake::UnknownWord,
@@ -38,7 +38,7 @@ impl Form {
         }
     }
 
-    /// What is wrong, in words.
+    /// Returns what is wrong, in words.
     pub fn text(self) -> &'static str {
         match self {
             Form::UnknownLabel => "a jump or `callf` to a label that no line has",
@@ -57,7 +57,7 @@ impl Form {
         }
     }
 
-    /// What to change.
+    /// Returns what to change.
     pub fn correction(self) -> &'static str {
         match self {
             Form::UnknownLabel => "write `NAME:` in front of the instruction that it is to lead to",

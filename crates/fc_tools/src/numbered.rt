@@ -8,7 +8,7 @@ use fc_asm::disassemble;
 use fc_isa::Insn;
 use std::alloc::{AllocError, Global};
 
-/// The listing of a program, each line behind the number of its first slot, as `3: exit`. A wide load has two slots.
+/// Disassembles a program, each line behind the number of its first slot, as `3: exit`. A wide load has two slots.
 ///
 /// # Errors
 /// Memory was refused.
@@ -38,7 +38,7 @@ fn push_numbered(
     write!(text, "{slot}: {line}")
 }
 
-/// The line of an instruction in a listing, its line feed included; the second slot of a wide load has none.
+/// Writes the line of an instruction in a listing, its line feed included; the second slot of a wide load has none.
 ///
 /// # Errors
 /// Memory was refused.

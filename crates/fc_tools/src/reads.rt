@@ -13,7 +13,7 @@ pub enum Reads {
     Two(Reg, Reg),
 }
 
-/// The registers that an instruction reads: what is known of them decides whether its demands are met.
+/// Returns the registers that an instruction reads: what is known of them decides whether its demands are met.
 pub fn registers_read(insn: Insn) -> Reads
     ensures { registers_in result ≡ read_by insn }
 {

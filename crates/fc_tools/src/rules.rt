@@ -5,7 +5,7 @@ use fc_asm::Mistake;
 use fc_isa::Rule;
 use fc_verify::Demand;
 
-/// What an image has done that breaks a rule.
+/// Returns what an image has done that breaks a rule.
 pub fn broken_text(diagnosis: &Diagnosis) -> &'static str {
     match diagnosis.cause {
         Cause::Typing {
@@ -58,7 +58,7 @@ fn rule_text(rule: Rule) -> &'static str {
     }
 }
 
-/// What to change in an image that breaks a rule: with the greatest budget there is none that would do.
+/// Returns what to change in an image that breaks a rule: with the greatest budget there is none that would do.
 pub fn remedy(diagnosis: &Diagnosis) -> &'static str {
     match &diagnosis.cause {
         Cause::Cost { budget, .. } if *budget == GREATEST_BUDGET =>
@@ -118,7 +118,7 @@ fn rule_remedy(rule: Rule) -> &'static str {
     }
 }
 
-/// What is wrong with a line that has this mistake.
+/// Returns what is wrong with a line that has this mistake.
 pub fn mistake_text(mistake: Mistake) -> &'static str {
     match mistake {
         Mistake::UnknownWord => "the first word names no instruction, or the text isn't UTF-8",
@@ -128,7 +128,7 @@ pub fn mistake_text(mistake: Mistake) -> &'static str {
     }
 }
 
-/// What to change in a line that has this mistake.
+/// Returns what to change in a line that has this mistake.
 pub fn correction(mistake: Mistake) -> &'static str {
     match mistake {
         Mistake::UnknownWord => "write an instruction's name first",

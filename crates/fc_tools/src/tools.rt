@@ -385,7 +385,7 @@ fn diagnosis_of(alloc: Global, image: &[u8]) -> Result<Diagnosis, AllocError>
     }
 }
 
-/// The image of a text's program. A text that isn't UTF-8 has an unknown word in its first line.
+/// Assembles the image of a text's program. A text that isn't UTF-8 has an unknown word in its first line.
 ///
 /// # Errors
 /// The first line of the text that has a mistake, with the first of these that it has: an unknown first word (A1), a bad
@@ -405,7 +405,7 @@ pub fn image_of(
     image_with(alloc, &head, &program)
 }
 
-/// The image of a text's program whose budget is the program's cost: the least budget that the program may have.
+/// Assembles the image of a text's program whose budget is the program's cost: the least budget that the program may have.
 ///
 /// # Errors
 /// As of `image_of`; and after the header's rules the first rule of the control flow, 11 to 17, that the program breaks with the
@@ -472,7 +472,7 @@ fn header_error(fault: Fault) -> ToolError {
     })
 }
 
-/// The listing of an image's program.
+/// Disassembles an image's program.
 ///
 /// # Errors
 /// The first rule of the header or of a slot that the image breaks, with its slot; or memory was refused.
@@ -484,7 +484,7 @@ pub fn listing_of(alloc: Global, image: &[u8]) -> Result<String, ToolError>
     Ok(disassemble(alloc, &program)?)
 }
 
-/// The listing of an image's program, each line behind the number of its slot.
+/// Disassembles an image's program, each line behind the number of its slot.
 ///
 /// # Errors
 /// As of `listing_of`.

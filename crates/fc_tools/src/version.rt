@@ -4,7 +4,7 @@ ghost use Rattle.fc_tools.specs.Tools.{NamesVersion};
 
 use fc_isa::ImageVersion;
 
-/// The version that an image is made of: that of the word `1` or `2`, and the first where no word is given. Another word names none.
+/// Parses the version that an image is made of: that of the word `1` or `2`, and the first where no word is given. Another word names none.
 pub fn version_named(word: Option<&str>) -> Option<ImageVersion>
     ensures { IfSome result (NamesVersion (option_copied word.entry)) }
 {
