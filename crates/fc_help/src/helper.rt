@@ -1,6 +1,6 @@
 //! The helpers: what a program may call of its host.
 ghost use Rattle.std.specs.Prelude.{MatchOption, None, ◌≡◌};
-ghost use Rattle.fc_help.specs.Helpers.{helper_number, helper_of, room_of, signature_of};
+ghost use Rattle.fc_help.specs.Helpers.{helper_number, helper_of, room_of, signature, signature_of};
 
 use crate::request::Method;
 
@@ -43,39 +43,6 @@ pub struct Signature {
     pub most: u64,
 }
 
-/// What the helpers take and answer, by their numbers from 1 on, as the law
-/// [`crate::laws::table_has_each_signature`] says.
-pub const HELPERS: [Signature; 7] = [
-    Signature {
-        arguments: Arguments::NoArgument,
-        most: 1024,
-    },
-    Signature {
-        arguments: Arguments::OneNumber,
-        most: u64::MAX,
-    },
-    Signature {
-        arguments: Arguments::OneNumber,
-        most: u64::MAX,
-    },
-    Signature {
-        arguments: Arguments::TwoNumbers,
-        most: 1,
-    },
-    Signature {
-        arguments: Arguments::Bytes,
-        most: 1,
-    },
-    Signature {
-        arguments: Arguments::OneNumber,
-        most: 1,
-    },
-    Signature {
-        arguments: Arguments::NoArgument,
-        most: 0,
-    },
-];
-
 /// Looks up the helper of a number, 1 to 7 (RFC 9669, 4.3.1).
 pub fn helper_of(number: i32) -> Option<Helper>
     ensures helper { result ≡ helper_of number }
@@ -98,14 +65,20 @@ pub fn signature_of(helper: Helper) -> Signature
     ensures { result ≡ signature_of helper }
 {
     match helper {
-        Helper::PayloadLen => HELPERS[0],
-        Helper::PayloadByte => HELPERS[1],
-        Helper::VarGet => HELPERS[2],
-        Helper::VarPut => HELPERS[3],
-        Helper::ReplyPut => HELPERS[4],
-        Helper::ReplyByte => HELPERS[5],
-        Helper::Notify => HELPERS[6],
+        Helper::PayloadLen => make_signature(Arguments::NoArgument, 1024),
+        Helper::PayloadByte => make_signature(Arguments::OneNumber, u64::MAX),
+        Helper::VarGet => make_signature(Arguments::OneNumber, u64::MAX),
+        Helper::VarPut => make_signature(Arguments::TwoNumbers, 1),
+        Helper::ReplyPut => make_signature(Arguments::Bytes, 1),
+        Helper::ReplyByte => make_signature(Arguments::OneNumber, 1),
+        Helper::Notify => make_signature(Arguments::NoArgument, 0),
     }
+}
+
+fn make_signature(arguments: Arguments, most: u64) -> Signature
+    ensures { result ≡ signature arguments most }
+{
+    Signature { arguments, most }
 }
 
 /// Returns the most bytes that a reply has: 4,096 to a GET, 1,024 to a POST.

@@ -1,19 +1,12 @@
 //! What helpers are, and what programs find in memory, for the crates above: each function is a law, and its contract says it.
-ghost use Rattle.std.specs.Prelude.{List, None, Some, length, map, pos, slice_index, ℕ, ◌*◌, ◌+◌, ◌-◌, ◌<◌, ◌^◌, ◌≡◌, ◌≤◌};
-ghost use Rattle.fc_help.specs.Helpers.{helper_of, helpers, room_of, signature_of};
+ghost use Rattle.std.specs.Prelude.{List, None, Some, length, pos, slice_index, ℕ, ◌*◌, ◌+◌, ◌-◌, ◌<◌, ◌^◌, ◌≡◌, ◌≤◌};
+ghost use Rattle.fc_help.specs.Helpers.{helper_of, room_of, signature_of};
 ghost use Rattle.fc_help.specs.Region.{readings_region, region_of};
 ghost use Rattle.fc_help.specs.Layout.{FitsRegion};
 ghost use Rattle.fc_help.specs.Request.{Request};
 ghost use Rattle.fc_help.specs.declared.helper.Arguments.TheVariants.{Bytes, NoArgument, OneNumber, TwoNumbers};
 ghost use Rattle.fc_help.specs.declared.helper.Helper.TheVariants.{Notify, PayloadByte, PayloadLen, ReplyByte, ReplyPut, VarGet, VarPut};
 ghost use Rattle.fc_help.specs.declared.request.Method.TheVariants.{Get, Post};
-
-use crate::helper::HELPERS;
-
-/// The table has the signature of each helper, in the order of their numbers, and nothing else.
-pub fn table_has_each_signature()
-    ensures { HELPERS ≡ map signature_of helpers }
-{}
 
 /// The helpers by their numbers, 1 to 7; no other number is one. A reply to a GET has room for 4,096 bytes, and one to a POST for 1,024.
 pub fn helpers_have_their_numbers()

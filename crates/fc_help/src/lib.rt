@@ -16,10 +16,10 @@
 //!
 //! - A request is laid out as the region of memory that a program finds it in; requests and variables are compared and copied whole, and
 //!   readings compared.
-//! - What each helper takes and answers, that the table has just these in their order, and how much room a reply has.
+//! - What each helper takes and answers, and how much room a reply has.
 //! - Each byte of the region and of the readings is told by its place, and each helper by its number.
 //!
-//! By the contracts of `Request`, `Request::region`, `Vars`, `helper_of`, `signature_of`, `HELPERS`, `room_of`, `laws`.
+//! By the contracts of `Request`, `Request::region`, `Vars`, `helper_of`, `signature_of`, `room_of`, `laws`.
 #![tactic(auto)]
 
 pub mod helper;
@@ -28,7 +28,7 @@ pub mod readings;
 pub mod request;
 pub mod vars;
 
-pub use helper::{Arguments, HELPERS, Helper, Signature, helper_of, room_of, signature_of};
+pub use helper::{Arguments, Helper, Signature, helper_of, room_of, signature_of};
 pub use readings::{NO_READINGS, READINGS, Readings, are_same_readings};
 pub use request::{Method, Request};
 pub use vars::Vars;
