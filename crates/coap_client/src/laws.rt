@@ -65,5 +65,6 @@ pub fn without_observe_it_is_the_last()
 
 /// What can be shown and has an Observe of four bytes, which is none, is the last one.
 pub fn by_a_long_observe_it_is_the_last()
-    ensures { (m : Message) (value : List ℕ) → can_be_shown m ≡ true → first_or_none (values_in 6 m.options) ≡ Some value → length value ≡ 4 → notice_of m ≡ Last }
+    ensures { (m : Message) (value : List ℕ) → can_be_shown m ≡ true
+        → first_or_none (values_in 6 m.options) ≡ Some value → length value ≡ 4 → notice_of m ≡ Last }
 {}

@@ -141,8 +141,10 @@ pub fn other_messages_have_their_verdicts()
 /// A block's value is 16 times its number, 8 more where blocks follow, and the exponent of its size less 4, by no more bytes than it needs
 /// (RFC 7959, 2.2); it is read again from there. Sizes are 16 to 1,024 bytes.
 pub fn blocks_have_their_values()
-    ensures last { (number szx : ℕ) → block_bytes (record { number = number; more = false; szx = szx }) ≡ uint_bytes (16 * number + szx) }
-    ensures more { (number szx : ℕ) → block_bytes (record { number = number; more = true; szx = szx }) ≡ uint_bytes (16 * number + 8 + szx) }
+    ensures last { (number szx : ℕ)
+        → block_bytes (record { number = number; more = false; szx = szx }) ≡ uint_bytes (16 * number + szx) }
+    ensures more { (number szx : ℕ)
+        → block_bytes (record { number = number; more = true; szx = szx }) ≡ uint_bytes (16 * number + 8 + szx) }
     ensures again { (b : Place) → b.number < 2 ^ 20 → b.szx < 8 → place_in (block_bytes b) ≡ b }
     ensures least { block_size 0 ≡ 16 }
     ensures greatest { block_size 6 ≡ 1024 }

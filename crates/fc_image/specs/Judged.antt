@@ -1,10 +1,12 @@
 -- What the tables of a program say of it.
-use Rattle.std.specs.Prelude.{◌≡◌, min, length, List, ℕ, Option, Some, None, MatchOption}
+use Rattle.std.specs.Prelude.{◌≡◌, ◌≤◌, min, length, List, ℕ, Option, Some, None, MatchOption}
 use Rattle.fc_isa.specs.declared.insn.Insn.{Insn}
 use Rattle.fc_isa.specs.declared.version.ImageVersion.{ImageVersion}
 use Rattle.fc_image.specs.declared.table.Tables.{Tables}
 use Rattle.fc_image.specs.Functions.{frames}
-use Rattle.fc_image.specs.Paths.{longest}
+use Rattle.fc_image.specs.Head.{Head, frames_allowed}
+use Rattle.fc_image.specs.Paths.{IsLongest, longest}
+use Rattle.fc_image.specs.ShapeRules.{IsShaped}
 use Rattle.fc_image.specs.Spans.{AreSpans}
 use Rattle.fc_image.specs.Tables.{AreStarts, AreCounts}
 use Rattle.fc_isa.specs.declared.rule.Rule.{Rule}
@@ -21,3 +23,7 @@ pub record AreTables (version : ImageVersion) (code : List Insn) (t : Tables) : 
 -- a fault or none, as a slot and a rule say
 abbrev pub IsSame : Option (ℕ × Rule) → Option Fault → Type 0
 IsSame found fault = MatchOption fault (found ≡ None) (λ f. found ≡ Some (f.slot, f.rule))
+
+-- it keeps the rules of the control flow, with no more frames than its version allows, and this is the greatest number of steps on any path, within the budget
+abbrev pub IsCostOf : Head → List Insn → ℕ → Type 0
+IsCostOf head code cost = IsShaped head.version code × (frames code ≤ frames_allowed head.version) × IsLongest head.version code cost × (cost ≤ head.budget)

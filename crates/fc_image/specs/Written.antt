@@ -30,6 +30,10 @@ limit_fault h =
     if is_bad_count h.version h.count then Some SlotCount else (if is_bad_size h.vars_size then Some VarsSize else (
     if is_bad_budget h.budget then Some Budget else None))
 
+-- the header of these numbers, which break no rule
+abbrev pub IsWithinLimits : ℕ → ℕ → ℕ → ImageVersion → Head → Type 0
+IsWithinLimits vars_size count budget version h = (h ≡ head_of vars_size count budget version) × (limit_fault (head_of vars_size count budget version) ≡ None)
+
 -- the sixteen bytes that say these numbers: the magic, the numbers, four zeros
 abbrev pub head_bytes : Head → List ℕ
 head_bytes h =

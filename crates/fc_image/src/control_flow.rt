@@ -3,14 +3,12 @@ ghost use Rattle.std.specs.Prelude.{IfErr, IfOk, List, MatchOption, None, Some, 
 ghost use Rattle.fc_isa.specs.declared.insn.Insn.{Insn as Instruction};
 ghost use Rattle.fc_isa.specs.Flow.{call_offset, jump_offset, target};
 ghost use Rattle.fc_isa.specs.Program.{is_program};
-ghost use Rattle.fc_image.specs.Functions.{frames, with_offset};
-ghost use Rattle.fc_image.specs.Head.{frames_allowed};
-ghost use Rattle.fc_image.specs.Judged.{AreTables};
-ghost use Rattle.fc_image.specs.Paths.{IsLongest, longest};
+ghost use Rattle.fc_image.specs.Functions.{with_offset};
+ghost use Rattle.fc_image.specs.Judged.{AreTables, IsCostOf, IsSame};
+ghost use Rattle.fc_image.specs.Paths.{longest};
 ghost use Rattle.fc_image.specs.Spans.{AreSpans};
 ghost use Rattle.fc_image.specs.Tables.{AreCounts};
-ghost use Rattle.fc_image.specs.ShapeRules.{IsShaped, breaks_back, breaks_shape, calls_no_helper, shape_fault, first_broken, is_later, is_place, least, leaves};
-ghost use Rattle.fc_image.specs.Judged.{IsSame};
+ghost use Rattle.fc_image.specs.ShapeRules.{breaks_back, breaks_shape, calls_no_helper, shape_fault, first_broken, is_later, is_place, least, leaves};
 
 use crate::flow::{call_offset, jump_offset, target};
 use crate::functions::{crosses, is_open_end};
@@ -29,7 +27,7 @@ use fc_isa::{Fault, Insn, Rule};
 pub fn shape(head: &Head, code: &[Insn]) -> Result<u32, Fault>
     requires count { length code.now ≡ head.now.count }
     requires whole { is_program code.now ≡ true }
-    ensures shape { IfOk result (λ cost. IsShaped head.now.version code.now × (frames code.now ≤ frames_allowed head.now.version) × IsLongest head.now.version code.now cost × (cost ≤ head.now.budget)) }
+    ensures shape { IfOk result (IsCostOf head.now code.now) }
     ensures cost { IfOk result (λ cost. (shape_fault head.now code.now ≡ None) × (cost ≡ longest head.now.version code.now)) }
     ensures fault { IfErr result (λ f. shape_fault head.now code.now ≡ Some (f.slot, f.rule)) }
 {

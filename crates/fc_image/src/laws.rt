@@ -32,7 +32,8 @@ pub fn read_head_is_written(image: &[u8])
 
 /// A program that keeps the rules of the control flow has a longest path, and `longest` is its number of steps.
 pub fn longest_is_longest()
-    ensures { (version : ImageVersion) (code : List Insn) → 0 < length code → is_program code ≡ true → IsShaped version code → IsLongest version code (longest version code) }
+    ensures { (version : ImageVersion) (code : List Insn) → 0 < length code → is_program code ≡ true → IsShaped version code
+        → IsLongest version code (longest version code) }
 {}
 
 /// The loops of a program that keeps the rules of the control flow are nested or apart, a path comes into each by its head and

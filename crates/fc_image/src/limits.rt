@@ -63,7 +63,7 @@ impl Model for Head {
 impl Head {
     ghost use Rattle.std.specs.Prelude.{IfErr, IfOk, None, Some, ◌%◌, ◌≡◌, ◌≤◌};
     ghost use Rattle.fc_image.specs.Head.{frames_allowed, slots_allowed};
-    ghost use Rattle.fc_image.specs.Written.{IsHead, head_bytes, head_of, limit_fault};
+    ghost use Rattle.fc_image.specs.Written.{IsHead, IsWithinLimits, head_bytes, head_of, limit_fault};
 
     /// Checks the header of these numbers: the size of the variables in bytes, the count of slots, and the budget of steps; and of this
     /// version.
@@ -76,7 +76,7 @@ impl Head {
         budget: u32,
         version: ImageVersion,
     ) -> Result<Self, Fault>
-        ensures head { IfOk result (λ h. (h ≡ head_of vars_size count budget version) × (limit_fault (head_of vars_size count budget version) ≡ None)) }
+        ensures head { IfOk result (IsWithinLimits vars_size count budget version) }
         ensures fault { IfErr result (λ f. (limit_fault (head_of vars_size count budget version) ≡ Some f.rule) × (f.slot ≡ 0)) }
     {
         match broken_limit(version, vars_size, count, budget) {

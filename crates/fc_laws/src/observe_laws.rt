@@ -82,9 +82,11 @@ pub fn turns_are_for_the_first_that_is_due()
 /// A turn that needs a message id draws the next of the server's own, unless that was drawn less than 247,000 ms before: then it needs
 /// one still.
 pub fn turns_draw_message_ids()
-    ensures drawn { (s : Seen) (k now id : ℕ) (turn : Turn) (found : Option Ticket) (o : Option Emission) → stage s k ≡ ToTell turn (ToDraw found)
+    ensures drawn { (s : Seen) (k now id : ℕ) (turn : Turn) (found : Option Ticket) (o : Option Emission)
+        → stage s k ≡ ToTell turn (ToDraw found)
         → free_id s.ids (max s.moment now) ≡ Some id → stage (and_then (did (Fresh k now) o) s) k ≡ ToTell turn (ToNote found id) }
-    ensures none { (s : Seen) (k now : ℕ) (turn : Turn) (found : Option Ticket) (o : Option Emission) → stage s k ≡ ToTell turn (ToDraw found)
+    ensures none { (s : Seen) (k now : ℕ) (turn : Turn) (found : Option Ticket) (o : Option Emission)
+        → stage s k ≡ ToTell turn (ToDraw found)
         → free_id s.ids (max s.moment now) ≡ None → stage (and_then (did (Fresh k now) o) s) k ≡ ToTell turn (ToDraw found) }
     ensures draws { (h : History) (k now id : ℕ) (turn : Turn) (found : Option Ticket) (o : Option Emission) → first_id h < 65536
         → stage (seen h) k ≡ ToTell turn (ToDraw found) → free_id (seen h).ids (max (seen h).moment now) ≡ Some id

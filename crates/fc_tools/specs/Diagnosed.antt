@@ -1,11 +1,12 @@
 -- What is told of an image that isn't accepted.
-use Rattle.std.specs.Prelude.{◌≡◌, ℕ, ◌+◌, ◌*◌, ◌≤◌, List, Option, take, drop, Some, None, slice_get}
+use Rattle.std.specs.Prelude.{◌≡◌, ℕ, ◌+◌, ◌*◌, ◌≤◌, List, Option, take, drop, true, Some, None, slice_get}
 use Rattle.fc_isa.specs.declared.insn.Insn.{Insn}
 use Rattle.fc_isa.specs.declared.rule.Fault.{Fault}
+use Rattle.fc_isa.specs.declared.rule.Rule.{Rule}
 use Rattle.fc_isa.specs.Rules.{number_of}
 use Rattle.fc_image.specs.Head.{Head, head_fault, loops_allowed, stated}
 use Rattle.fc_image.specs.Paths.{longest}
-use Rattle.fc_image.specs.ShapeRules.{shape_fault}
+use Rattle.fc_image.specs.ShapeRules.{breaks_shape, shape_fault}
 use Rattle.fc_image.specs.Uncounted.{IsUncountedBy}
 use Rattle.fc_kinds.specs.Meaning.{Program}
 use Rattle.fc_verify.specs.Accepted.{Accepts}
@@ -36,6 +37,10 @@ at_most head = record head { budget = 65536 }
 abbrev pub IsCost : Head → List Insn → Option ℕ → Type 0
 IsCost head code (Some cost) = (shape_fault (at_most head) code ≡ None) × (cost ≡ longest head.version code)
 IsCost head code None = shape_fault (at_most head) code ≡ None → ⊥
+
+-- the instruction at this slot breaks this rule of the control flow
+abbrev pub BreaksFlow : Head → List Insn → ℕ → Rule → Type 0
+BreaksFlow head code slot rule = (insn : Insn) → slice_get code slot ≡ Some insn → breaks_shape head code slot insn rule ≡ true
 
 -- what a program of this header shows of a fault of its control flow
 abbrev pub IsShapeShown : Head → List Insn → Fault → CauseShown → Type 0

@@ -7,7 +7,9 @@ use Rattle.fc_help.specs.Region.{padded}
 use Rattle.fc_help.specs.Request.{Request}
 use Rattle.fc_help.specs.Layout.{request_with}
 use Rattle.fc_help.specs.declared.request.Method.{Method}
-use Rattle.fc_kinds.specs.Meaning.{Meaning}
+use Rattle.fc_kinds.specs.Meaning.{Meaning, Program}
+use Rattle.fc_machine.specs.Ran.{meaning_of, ran}
+use Rattle.fc_tools.specs.declared.asked.Asked.{Asked}
 
 -- the digits spell the payload and the query of this request of slot 0
 pub record IsAskedBy (method : Method) (payload query : List ℕ) (r : Request) : Type 0 where
@@ -47,3 +49,7 @@ AreHex digits vars = ⊥
 abbrev pub found_by : ℕ → Option (List ℕ) → List ℕ
 found_by size None = replicate size 0
 found_by size (Some vars) = vars
+
+-- what is told of one run of a program that is asked so
+abbrev pub report_of : Program → Asked → List ℕ
+report_of program asked = report_text (meaning_of (ran program asked.request (found_by program.vars_size asked.vars) asked.readings))

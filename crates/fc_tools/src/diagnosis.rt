@@ -1,9 +1,8 @@
 //! Why an image isn't accepted, with what shows that.
 ghost use Rattle.std.specs.Prelude.{IfErr, IfOk, Some, None, length, true, ◌≡◌, ◌+◌, ◌*◌, ◌<◌, ◌≤◌, take, drop, slice_get};
-ghost use Rattle.fc_image.specs.Functions.{frames};
-ghost use Rattle.fc_image.specs.Head.{frames_allowed};
-ghost use Rattle.fc_image.specs.Paths.{IsLongest, longest};
-ghost use Rattle.fc_image.specs.ShapeRules.{IsShaped, breaks_shape, shape_fault};
+ghost use Rattle.fc_image.specs.Judged.{IsCostOf};
+ghost use Rattle.fc_image.specs.Paths.{longest};
+ghost use Rattle.fc_image.specs.ShapeRules.{shape_fault};
 ghost use Rattle.fc_isa.specs.declared.insn.Insn.{Insn as Instruction};
 ghost use Rattle.fc_isa.specs.declared.rule.Rule.TheVariants.{BackwardJump};
 ghost use Rattle.fc_isa.specs.Encoding.{IsFirstFault};
@@ -12,7 +11,7 @@ ghost use Rattle.fc_isa.specs.Rules.{number_of};
 ghost use Rattle.fc_verify.specs.Accepted.{slots_of};
 ghost use Rattle.fc_verify.specs.Runs.{IsUntypedProgram};
 ghost use Rattle.fc_verify.specs.Stages.{IsCodeOf, IsHeadOf};
-ghost use Rattle.fc_tools.specs.Diagnosed.{IsAcceptable, IsCost, IsRejection, IsShapeCause};
+ghost use Rattle.fc_tools.specs.Diagnosed.{BreaksFlow, IsAcceptable, IsCost, IsRejection, IsShapeCause};
 
 use fc_image::laws::shape_fault_is_first;
 use fc_image::uncounted::{Uncounted, why_uncounted};
@@ -188,7 +187,7 @@ fn slot_bytes(image: &[u8], slot: usize) -> [u8; 8]
 pub fn shape_cost(head: &Head, code: &[Insn]) -> Result<u32, Diagnosis>
     requires count { length code.now ≡ head.now.count }
     requires whole { is_program code.now ≡ true }
-    ensures shape { IfOk result (λ cost. IsShaped head.now.version code.now × (frames code.now ≤ frames_allowed head.now.version) × IsLongest head.now.version code.now cost × (cost ≤ head.now.budget)) }
+    ensures shape { IfOk result (IsCostOf head.now code.now) }
     ensures cost { IfOk result (λ cost. (shape_fault head.now code.now ≡ None) × (cost ≡ longest head.now.version code.now)) }
     ensures fault { IfErr result (λ d. shape_fault head.now code.now ≡ Some (d.fault.slot, d.fault.rule)) }
     ensures cause { IfErr result (λ d. IsShapeCause head.now code.now d.fault d.cause) }
@@ -209,7 +208,7 @@ fn shape_cause(head: &Head, code: &[Insn], fault: Fault) -> Cause
     requires whole { is_program code.now ≡ true }
     requires slot { fault.slot < length code.now }
     requires rule { (11 ≤ number_of fault.rule) × (number_of fault.rule ≤ 17) }
-    requires broken { (insn : Instruction) → slice_get code.now fault.slot ≡ Some insn → breaks_shape head.now code.now fault.slot insn fault.rule ≡ true }
+    requires broken { BreaksFlow head.now code.now fault.slot fault.rule }
     ensures { IsShapeCause head.now code.now fault result }
 {
     match fault.rule {
@@ -228,7 +227,7 @@ fn shape_cause(head: &Head, code: &[Insn], fault: Fault) -> Cause
 fn back(head: &Head, code: &[Insn], slot: usize) -> Cause
     requires count { length code.now ≡ head.now.count }
     requires slot { slot < length code.now }
-    requires broken { (insn : Instruction) → slice_get code.now slot ≡ Some insn → breaks_shape head.now code.now slot insn BackwardJump ≡ true }
+    requires broken { BreaksFlow head.now code.now slot BackwardJump }
     ensures { IsShapeCause head.now code.now (record { rule = BackwardJump; slot = slot }) result }
 {
     // The checker learns from this call how many slots there are at most.
@@ -253,7 +252,8 @@ fn cost_of(head: &Head, code: &[Insn]) -> Option<u32>
 fn typing(code: &[Insn], untyped: &Untyped) -> Diagnosis
     requires { untyped.now.fault.slot < length code.now }
     ensures fault { result.fault ≡ untyped.now.fault }
-    ensures cause { (insn : Insn) → slice_get code.now untyped.now.fault.slot ≡ Some insn → result.cause ≡ Cause.Typing insn untyped.now.known untyped.now.demand }
+    ensures cause { (insn : Insn) → slice_get code.now untyped.now.fault.slot ≡ Some insn
+        → result.cause ≡ Cause.Typing insn untyped.now.known untyped.now.demand }
 {
     Diagnosis {
         fault: untyped.fault,

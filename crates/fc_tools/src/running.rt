@@ -1,7 +1,7 @@
 //! Running a program once, as the server does.
 ghost use Rattle.std.specs.Prelude.{IfOk, length, string_bytes, ◌≡◌};
 ghost use Rattle.fc_machine.specs.Ran.{meaning_of, ran};
-ghost use Rattle.fc_tools.specs.Runs.{found_by, hex_or_dash, report_text};
+ghost use Rattle.fc_tools.specs.Runs.{found_by, hex_or_dash, report_of, report_text};
 
 use crate::asked::Asked;
 use crate::tools::ToolError;
@@ -17,7 +17,7 @@ use std::alloc::{AllocError, Global};
 /// # Errors
 /// The variables that are given have another size than the program's; or memory was refused.
 pub fn report(alloc: Global, program: &Verified, asked: &Asked) -> Result<String, ToolError>
-    ensures { IfOk result (λ s. string_bytes s ≡ report_text (meaning_of (ran program.now asked.now.request (found_by program.now.vars_size asked.now.vars) asked.now.readings))) }
+    ensures { IfOk result (λ s. string_bytes s ≡ report_of program.now asked.now) }
 {
     let found = variables(program, &asked.vars)?;
     let mut frame = Frame::new(alloc)?;
