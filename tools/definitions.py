@@ -9,8 +9,9 @@ from pathlib import Path
 NAME = r"[^\s(){}\[\];,.\"]+"
 TOKEN = re.compile(rf'"[^"]*"|[(){{}}\[\];,]|(?:{NAME})?(?:\.{NAME})+|{NAME}|\.')
 CLOSER = {"(": ")", "{": "}", "[": "]"}
-WORDS = {"record", "let", "in", "λ", "=", ":", "where", "→", "×", "⊥", "Type", "Unit"}
+WORDS = {"record", "let", "in", "λ", "=", ":", "where", "→", "×", "⊥", "absurd", "Type", "Unit", "tt"}
 ITEM = re.compile(r"(?:(?:abbrev|unfoldable) )?pub (?:(record|data) )?(?!mod )(\S+)")
+MODULE = re.compile(r"^(module _ [^\n]*(?:\n    [^\n]*)*? where)\n((?:  [^\n]*\n|\n(?=  ))*)", re.M)
 CASE = re.compile(r"  (\S+) :")
 USE = re.compile(r"^\s*(?:ghost )?use (\w+(?:\.\w+)+)(?:\.\{([^}]*)\})?(?: as (\S+?))?;?$", re.M)
 CODE_ITEM = re.compile(r"^(?:pub(?:\([a-z]+\))? )?(struct|enum|type|const) (\w+)", re.M)
@@ -31,6 +32,7 @@ class Item:
     name: str
     text: str  # with the comment above it
     section: str = ""  # the last heading before it
+    block: str = ""  # the `module _ .. where` that it stands in, if it does
     names: set = field(default_factory=set)  # the keys of what it names
     fault: str = ""  # why that isn't known, if so
 
@@ -161,21 +163,21 @@ class Reader:
         bound |= names
         return end
 
-    def head(self, these, at):
-        """Reads the parameters and the type of a record or a data type, and returns its parameters."""
-        bound = set()
+    def head(self, these, at, bound=frozenset()):
+        """Reads the parameters and the type of a record or a data type, and returns what is bound behind them."""
+        bound = {*bound}
         while these[at] in CLOSER:
             at = self.bracket(these, at, bound) + 1
         self.term(these, at, bound)
         return bound
 
-    def clause(self, these, own):
+    def clause(self, these, own, bound):
         """Reads one case of a function."""
         depth = 0
         for at, it in enumerate(these):
             depth += (it in CLOSER) - (it in CLOSER.values())
             if it == "=" and depth == 0:
-                self.term(these, at + 1, self.pattern([one for one in these[:at] if one != own]))
+                self.term(these, at + 1, bound | self.pattern([one for one in these[:at] if one != own], bound))
                 return
         raise Unknown("a case without `=`")
 
@@ -201,27 +203,37 @@ class Definitions:
         self.about = " ".join(it[3:] for it in about[0].splitlines()) if about else ""
         self.items, self.kinds, self.owners = {}, {}, {}
         section = ""
-        for block in self.blocks():
+        for head, block in self.blocks():
             if block[0].startswith("-- ----"):
                 section, block = block[0], block[1:]
-            for head in [it for it in map(ITEM.match, block) if it][:1]:
-                kind, name = head.groups()
-                self.items[name] = Item(crate, self.module, name, "\n".join(block), section)
+            for item in [it for it in map(ITEM.match, block) if it][:1]:
+                kind, name = item.groups()
+                self.items[name] = Item(crate, self.module, name, "\n".join(block), section, head)
                 self.kinds[name] = kind
                 cases = [it[1] for it in map(CASE.match, block) if it] if kind == "data" else []
                 self.owners |= dict.fromkeys([name, *cases], name)
 
+    def parts(self):
+        """Yields the texts outside of `module _ .. where`, and that of each such block without its indent, behind its head."""
+        end = 0
+        for it in MODULE.finditer(self.text):
+            yield "", self.text[end : it.start()]
+            yield it[1], re.sub(r"^  ", "", it[2], flags=re.M)
+            end = it.end()
+        yield "", self.text[end:]
+
     def blocks(self):
-        """Yields the lines of each definition, with the comment above it, and headings."""
-        block = []
-        for line in [*self.text.splitlines(), ""]:
-            is_comment = line.startswith("--") and not all(it.startswith("--") for it in block)
-            is_next = ITEM.match(line) and any(map(ITEM.match, block))
-            if block and (not line or is_comment or is_next):
-                yield block
-                block = []
-            if line:
-                block.append(line)
+        """Yields the lines of each definition, with the comment above it, and headings, behind the head of the block that they stand in."""
+        for head, text in self.parts():
+            block = []
+            for line in [*text.splitlines(), ""]:
+                is_comment = line.startswith("--") and not all(it.startswith("--") for it in block)
+                is_next = ITEM.match(line) and any(map(ITEM.match, block))
+                if block and (not line or is_comment or is_next):
+                    yield head, block
+                    block = []
+                if line:
+                    block.append(line)
 
     def own(self, name):
         return self.owners.get(name)
@@ -233,32 +245,38 @@ class Definitions:
             reader = Reader(scope)
             lines = [it for it in item.text.splitlines() if not it.startswith(("--", "infix"))]
             try:
-                {"record": read_record, "data": read_data, None: read_function}[self.kinds[name]](reader, name, lines)
+                bound = read_head(reader, item.block)
+                {"record": read_record, "data": read_data, None: read_function}[self.kinds[name]](reader, name, lines, bound)
             except (Unknown, ValueError, StopIteration, IndexError) as it:
                 item.fault = f"crates/{self.crate}/{self.module}.antt: {name}: {it}"
             item.names = reader.found - {item.key}
 
 
-def read_record(reader, name, lines):
+def read_head(reader, head):
+    """Reads the parameters of a `module _ .. where`, and returns them."""
+    return reader.head(tokens(head), 2) if head else set()
+
+
+def read_record(reader, name, lines, bound):
     parts = " ".join(tokens("\n".join(lines))).split("pub ")[1:]
-    bound = reader.head(parts[0].split(), 2)
+    bound = reader.head(parts[0].split(), 2, bound)
     for one in map(str.split, parts[1:]):
         reader.term(one, 2, bound)
         bound.add(one[0])
 
 
-def read_data(reader, name, lines):
-    bound = reader.head(tokens(lines[0]), 3)
+def read_data(reader, name, lines, bound):
+    bound = reader.head(tokens(lines[0]), 3, bound)
     for one in re.split(r"\n(?=  \S+ :)", "\n".join(lines[1:])):
         reader.term(tokens(one), 2, bound)
 
 
-def read_function(reader, name, lines):
+def read_function(reader, name, lines, bound):
     first, *cases = re.split(r"\n(?=[^\s)}\]])", "\n".join(lines))
     these = tokens(first)
-    reader.term(these, these.index(":") + 1)
+    reader.term(these, these.index(":") + 1, bound)
     for one in cases:
-        reader.clause(tokens(one), next(filter(None, name.split("◌"))))
+        reader.clause(tokens(one), next(filter(None, name.split("◌"))), bound)
 
 
 class Code:
