@@ -1,6 +1,7 @@
 pub mod Refusing
 pub mod Envelopes
 pub mod Unchanged
+pub mod RefusedCalls
 pub mod Hushed
 pub mod Moments
 pub mod Repeats

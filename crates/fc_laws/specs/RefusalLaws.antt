@@ -1,5 +1,5 @@
 -- What a refusal leaves as it was, and the three things that it doesn't.
-use Rattle.std.specs.Prelude.{◌≡◌, ◌⊎◌, ℕ, ◌%◌, ◌≤◌, Bool, true, false, List, [], length, max, Option, Some, None, Ok, Err}
+use Rattle.std.specs.Prelude.{◌≡◌, ◌⊎◌, ℕ, ◌%◌, ◌≤◌, Bool, true, false, List, [], max, slice_set, Option, Some, None, Ok, Err}
 use Rattle.std.specs.Borrow.{Bor}
 use Rattle.coap_msg.specs.declared.types.Bad.TheVariants as bad
 use Rattle.coap_msg.specs.declared.types.Emission.{Emission}
@@ -21,6 +21,7 @@ use Rattle.fc_verify.specs.Judged.{judged}
 use Rattle.fc_core.specs.Contents.{Content}
 use Rattle.fc_core.specs.declared.event.Event.{Event}
 use Rattle.fc_core.specs.declared.event.Event.TheVariants.{Answer, Commit, Deliver, Fresh, Install, Note, Receipt, Remove, Take}
+use Rattle.fc_core.specs.declared.stage.Stage.{Stage}
 use Rattle.fc_core.specs.declared.stage.Stage.TheVariants.{ToAnswer, ToCommit, ToDescribe, ToInstall, ToRemove, ToTake, ToTell}
 use Rattle.fc_core.specs.declared.stage.TurnStage.TheVariants as turns
 use Rattle.fc_laws.specs.ExchangeLaws.{FindsNoExchange, IsOpening, OpensOne}
@@ -86,46 +87,60 @@ pub record FindsTurnMissing (s : Seen) (k : ℕ) (e : Event) (turn : Turn) : Typ
 
 -- ---- what it leaves
 
--- no job comes, no slot changes, and no head word rises
+-- no slot changes, and no head word rises
 pub record LeavesSlots (before after : Seen) : Type 0 where
-  pub jobs : length after.tasks ≡ length before.tasks
+  pub first : after.first_serial ≡ before.first_serial
   pub slots : (n : ℕ) → after.changes n ≡ before.changes n
   pub words : after.words ≡ before.words
 
--- no observer comes, goes or changes
-abbrev pub LeavesObservers : Seen → Seen → Type 0
-LeavesObservers before after = (n : ℕ) → (watch after n).held ≡ (watch before n).held
+-- no exchange is opened or answered, and no payload is added to a transfer
+pub record LeavesFront (before after : Seen) : Type 0 where
+  pub exchanges : after.exchanges ≡ before.exchanges
+  pub additions : after.additions ≡ before.additions
+
+-- the jobs are those that there were, each at its stage, and so are the observers of each slot, with all that is kept of them
+pub record LeavesJobs (before after : Seen) : Type 0 where
+  pub tasks : after.tasks ≡ before.tasks
+  pub observers : (n : ℕ) → watch after n ≡ watch before n
 
 -- all is as it was, whatever moments were handed in and message ids drawn
 pub record LeavesAll (before after : Seen) : Type 0 where
   pub slots : LeavesSlots before after
-  pub observers : LeavesObservers before after
-  pub exchanges : after.exchanges ≡ before.exchanges
-  pub additions : after.additions ≡ before.additions
+  pub jobs : LeavesJobs before after
+  pub front : LeavesFront before after
+
+-- all but the stage of job k, and the moment that was handed to the observers of a slot
+pub record LeavesAllButStage (k : ℕ) (before after : Seen) : Type 0 where
+  pub slots : LeavesSlots before after
+  pub at : Stage
+  pub tasks : after.tasks ≡ slice_set before.tasks k (record { job = job before k; stage = at })
+  pub observers : (n : ℕ) → watch after n ≡ record (watch before n) { moment = (watch after n).moment }
+  pub front : LeavesFront before after
 
 -- all but that the request has its exchange
 pub record LeavesAllButExchange (r : Entry) (s : Seen) : Type 0 where
   pub slots : LeavesSlots s (and_then r s)
-  pub observers : LeavesObservers s (and_then r s)
+  pub jobs : LeavesJobs s (and_then r s)
   pub exchange : OpensOne r s
   pub additions : (and_then r s).additions ≡ s.additions
 
 -- all but that, and that the transfer of this endpoint and slot is gone
 pub record LeavesAllButTransfer (r : Entry) (s : Seen) (to : Endpoint) (n : ℕ) : Type 0 where
   pub slots : LeavesSlots s (and_then r s)
-  pub observers : LeavesObservers s (and_then r s)
+  pub jobs : LeavesJobs s (and_then r s)
   pub exchange : OpensOne r s
   pub gone : bytes_held (and_then r s).moment to n (transfers (and_then r s).additions) ≡ None
   pub others : (from : Endpoint) (m : ℕ) → same_key to n from m ≡ false →
       bytes_held (and_then r s).moment from m (transfers (and_then r s).additions) ≡ bytes_held (and_then r s).moment from m (transfers s.additions)
 
--- all but that the observer whose turn it is keeps that its taking found the slot empty
-pub record LeavesAllButTurn (r : Entry) (s : Seen) (n : ℕ) (turn : Turn) : Type 0 where
-  pub slots : LeavesSlots s (and_then r s)
-  pub others : (m : ℕ) → (m ≡ n → ⊥) → (watch (and_then r s) m).held ≡ (watch s m).held
-  pub missing : watch (and_then r s) n ≡ turn_missed turn (at_moment (s.shard_moment (n % 8)) (watch s n))
-  pub exchanges : (and_then r s).exchanges ≡ s.exchanges
-  pub additions : (and_then r s).additions ≡ s.additions
+-- all but the stage of job k, and that the observer whose turn it is keeps that its taking found the slot empty
+pub record LeavesAllButTurn (k : ℕ) (turn : Turn) (before after : Seen) : Type 0 where
+  pub slots : LeavesSlots before after
+  pub at : Stage
+  pub tasks : after.tasks ≡ slice_set before.tasks k (record { job = job before k; stage = at })
+  pub others : (n : ℕ) → (n ≡ slot_of before k → ⊥) → watch after n ≡ watch before n
+  pub missing : watch after (slot_of before k) ≡ turn_missed turn (at_moment (before.shard_moment (slot_of before k % 8)) (watch before (slot_of before k)))
+  pub front : LeavesFront before after
 
 -- who sent what an event delivers
 abbrev pub sender : Event → Endpoint

@@ -6,9 +6,8 @@ ghost use Rattle.coap_opts.specs.Verdict.{Asked};
 ghost use Rattle.fc_observe.specs.declared.entry.Turn.{Turn};
 ghost use Rattle.fc_laws.specs.BodyLaws.{Asks, SettlesBy};
 ghost use Rattle.fc_core.specs.History.{Entry, Seen, and_then};
-ghost use Rattle.fc_core.specs.Laws.{slot_of};
 ghost use Rattle.fc_core.specs.Receiving.{slot_asked};
-ghost use Rattle.fc_laws.specs.RefusalLaws.{FindsTurnMissing, IsRefusedByCheck, IsRefusedCall, IsTurnedDown, LeavesAll, LeavesAllButExchange, LeavesAllButTransfer, LeavesAllButTurn, sender};
+ghost use Rattle.fc_laws.specs.RefusalLaws.{FindsTurnMissing, IsRefusedByCheck, IsRefusedCall, IsTurnedDown, LeavesAll, LeavesAllButExchange, LeavesAllButStage, LeavesAllButTransfer, LeavesAllButTurn, sender};
 
 use coap_block::laws::blocks_leave_other_transfers;
 
@@ -17,13 +16,13 @@ use coap_block::laws::blocks_leave_other_transfers;
 /// keeps it too, and the transfer of its endpoint and slot is gone; and a turn keeps that its taking found the slot empty.
 pub fn refusals_leave_all_else()
     ensures turned_down { (r : Entry) (s : Seen) → IsTurnedDown s r.event → LeavesAll s (and_then r s) }
-    ensures refused_calls { (r : Entry) (s : Seen) (k : ℕ) → IsRefusedCall s k r.event r.emitted → LeavesAll s (and_then r s) }
+    ensures refused_calls { (r : Entry) (s : Seen) (k : ℕ) → IsRefusedCall s k r.event r.emitted → LeavesAllButStage k s (and_then r s) }
     ensures but_exchanges { (r : Entry) (s : Seen) → IsRefusedByCheck s r.event → LeavesAllButExchange r s }
     ensures but_transfers { (r : Entry) (s : Seen) (m : Message) (q : Asked) (b : Place) (answer : ℕ) → Asks s r.event m q
         → q.block1 ≡ Some b → SettlesBy s r.event m q answer
         → LeavesAllButTransfer r s (sender r.event) (slot_asked q.action) }
     ensures but_turns { (r : Entry) (s : Seen) (k : ℕ) (turn : Turn) → FindsTurnMissing s k r.event turn
-        → LeavesAllButTurn r s (slot_of s k) turn }
+        → LeavesAllButTurn k turn s (and_then r s) }
 {
     blocks_leave_other_transfers();
 }

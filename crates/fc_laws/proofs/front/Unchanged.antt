@@ -1,5 +1,5 @@
 -- What a refusal leaves as it was.
-use Rattle.std.proofs.Common.{◌≡◌, ℕ, ◌≤◌, List, [], ◌∷◌, ◌++◌, length, map, cond, not, Bool, true, false, Option, Some, None, Ok, Err, refl, sym, ap, ◌∙◌, subst, max, arith}
+use Rattle.std.proofs.Common.{◌≡◌, ℕ, ◌≤◌, List, [], ◌∷◌, ◌++◌, map, cond, not, Bool, true, false, Option, Some, None, Ok, Err, refl, sym, ap, ◌∙◌, subst, max, arith}
 use Rattle.std.specs.Prelude.{filter, find}
 use Rattle.std.specs.Borrow.{Bor}
 use Rattle.std.specs.Option.{option_map}
@@ -60,14 +60,15 @@ module _ (s : Seen) (now : ℕ) (to : Endpoint) (bytes : Bor (List ℕ)) (o : Op
 
   left_by : (x : Received) → received_at s now to bytes.now ≡ x → IsNothing x → LeavesAll s (and_then (did (Deliver now to bytes) o) s)
   left_by x is w = record {
-    slots = record {
-      jobs = ap (λ (y : Received). length (s.tasks ++ map new_task (brought y (next_opening (front_at s now)) to))) is ∙ ap length (nothing_brought x w);
-      slots = λ n. refl;
-      words = refl;
+    slots = record { first = refl; slots = λ n. refl; words = refl };
+    jobs = record {
+      tasks = ap (λ (y : Received). s.tasks ++ map new_task (brought y (next_opening (front_at s now)) to)) is ∙ nothing_brought x w;
+      observers = λ n. refl;
     };
-    observers = λ n. refl;
-    exchanges = ap (λ (y : Received). exchanges_received y to o s now) is ∙ nothing_opened x w;
-    additions = ap (λ (y : Received). added_by y (max s.moment now) to ++ s.additions) is ∙ nothing_added x w;
+    front = record {
+      exchanges = ap (λ (y : Received). exchanges_received y to o s now) is ∙ nothing_opened x w;
+      additions = ap (λ (y : Received). added_by y (max s.moment now) to ++ s.additions) is ∙ nothing_added x w;
+    };
   }
 
 rejected_left : (e : Event) (o : Option Emission) (s : Seen) (to : Endpoint) (id : ℕ) → Rejects e to id → LeavesAll s (and_then (did e o) s)
@@ -95,12 +96,8 @@ turned_down_left r s w = turned_by r.event r.emitted s w
 
 code_left : (e : Event) (o : Option Emission) (s : Seen) (m : Message) (answer : ℕ) → Refuses s e m answer → LeavesAllButExchange (did e o) s
 code_left (Deliver now to bytes) o s m answer w = record {
-  slots = record {
-    jobs = ap length (refused_brings (did (Deliver now to bytes) o) s m answer w);
-    slots = λ n. refl;
-    words = refl;
-  };
-  observers = λ n. refl;
+  slots = record { first = refl; slots = λ n. refl; words = refl };
+  jobs = record { tasks = refused_brings (did (Deliver now to bytes) o) s m answer w; observers = λ n. refl };
   exchange = requests_open (did (Deliver now to bytes) o) s w.opens;
   additions = ap (λ (y : Received). added_by y (max s.moment now) to ++ s.additions) (refused_is s now to bytes.now m answer w);
 }
@@ -112,12 +109,11 @@ silence_left o s now to bytes w silent =
     let is : received_at s now to bytes.now ≡ Silenced w.message = opening_is s now to bytes.now w
     ∙ ap (λ (v : Verdict). new_as (front_at s now) to v w.message) silent in
     record {
-      slots = record {
-        jobs = ap (λ (y : Received). length (s.tasks ++ map new_task (brought y (next_opening (front_at s now)) to))) is ∙ ap length (append-nil s.tasks);
-        slots = λ n. refl;
-        words = refl;
+      slots = record { first = refl; slots = λ n. refl; words = refl };
+      jobs = record {
+        tasks = ap (λ (y : Received). s.tasks ++ map new_task (brought y (next_opening (front_at s now)) to)) is ∙ append-nil s.tasks;
+        observers = λ n. refl;
       };
-      observers = λ n. refl;
       exchange = requests_open (did (Deliver now to bytes) o) s w;
       additions = ap (λ (y : Received). added_by y (max s.moment now) to ++ s.additions) is;
     }
@@ -211,12 +207,8 @@ module _ (s : Seen) (now : ℕ) (to : Endpoint) (bytes : Bor (List ℕ)) (o : Op
       (live at (after_block held at to n b q.payload)) ≡ find (is_transfer_of from k) (live at held))
       → LeavesAllButTransfer (did (Deliver now to bytes) o) s to n
   block_left rest = record {
-    slots = record {
-      jobs = ap length (settles_waits (Deliver now to bytes) o s m q answer w is);
-      slots = λ k. refl;
-      words = refl;
-    };
-    observers = λ k. refl;
+    slots = record { first = refl; slots = λ k. refl; words = refl };
+    jobs = record { tasks = settles_waits (Deliver now to bytes) o s m q answer w is; observers = λ k. refl };
     exchange = requests_open (did (Deliver now to bytes) o) s w.opens;
     gone = block_gone;
     others = λ from k other. ap (bytes_held at from k) after_is ∙ ap (option_map (λ (t : Transfer). t.body.items)) (rest from k other);

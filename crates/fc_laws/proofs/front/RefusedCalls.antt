@@ -1,0 +1,221 @@
+-- What a call that is refused leaves as it was.
+use Rattle.std.proofs.Common.{◌≡◌, ℕ, ◌≤◌, List, [], ◌∷◌, ◌++◌, Bool, true, false, Option, Some, None, refl, sym, ap, ◌∙◌, subst, ◌⊎◌, inl, inr, ⊎_elim, if◌then◌else◌}
+use Rattle.std.specs.Prelude.{◌==◌, is_some, nat_lt}
+use Rattle.std.specs.Option.{option_map}
+use Rattle.std.proofs.lemmas.Bool.{le-ltb, ne_eqb}
+use Rattle.std.proofs.lemmas.List.{append-nil}
+use Rattle.coap_dedup.specs.Exchanges.{Exchange}
+use Rattle.coap_msg.specs.declared.types.Emission.{Emission}
+use Rattle.fc_kinds.specs.Meaning.{Program}
+use Rattle.fc_verify.specs.Accepted.{Judgement, Accepts, Breaks, Untypable}
+use Rattle.fc_verify.specs.Judged.{judged}
+use Rattle.fc_observe.specs.declared.entry.Entry.{Entry as ObserverEntry}
+use Rattle.fc_observe.specs.declared.entry.Turn.{Turn}
+use Rattle.fc_observe.specs.Calls.{ObserverCall, Advance, observers}
+use Rattle.fc_observe.specs.Observers.{ObserverList, at_moment, entry_out, is_missing, must_confirm_turn}
+use Rattle.fc_observe.specs.Views.{interest_of}
+use Rattle.fc_registry.specs.Calls.{clear_by, commits, is_out_at, miss_calls, outcome_by, put_by}
+use Rattle.fc_registry.specs.Changes.{Change}
+use Rattle.fc_registry.specs.Notes.{note_to, observer_told, told_calls}
+use Rattle.fc_registry.specs.Slots.{Present, Ticket, last_serial}
+use Rattle.fc_core.specs.declared.event.Event.{Event}
+use Rattle.fc_core.specs.declared.event.Event.TheVariants.{Answer, Commit, Fresh, Install, Note, Receipt, Remove, Take}
+use Rattle.fc_core.specs.declared.stage.Stage.{Stage}
+use Rattle.fc_core.specs.declared.stage.Stage.TheVariants.{ToAnswer, ToCommit, ToDescribe, ToInstall, ToRemove, ToTake, ToTell}
+use Rattle.fc_core.specs.declared.stage.TurnStage.TheVariants as turns
+use Rattle.fc_core.specs.Heads.{published}
+use Rattle.fc_core.specs.History.{Entry, Seen, additions_by, and_then, answered_in, at_front, calls_in, calls_named, changes_after, did, exchanges_by, job, scene, stage, tasks_brought, tasks_moved, watch, words_seen}
+use Rattle.fc_core.specs.Laws.{slot_of}
+use Rattle.fc_core.specs.Rows.{Move, Scene, call_at, install_if, move_of, names, row}
+use Rattle.fc_core.specs.Stages.{content_at, image_of}
+use Rattle.fc_core.specs.Steps.{Commits, Installs, Removes}
+use Rattle.fc_laws.specs.RefusalLaws.{HasNoId, HasNoTicket, IsRefusedCall, IsStaleNote, IsStaleTaking, LeavesAllButStage, NotAccepted, NotCommitted, NotDescribed, NotInstalled, NotRemoved, NotSent, NothingTaken}
+use Rattle.fc_laws.specs.TurnLaws.{moment_at}
+
+-- ---- a move that changes nothing
+
+-- it calls nothing on the slot's observers, or hands them a moment
+data IsQuiet (calls : List ObserverCall) : Type 0 where
+  Nothing : (is : calls ≡ []) → IsQuiet calls
+  Moment : (at : ℕ) (is : calls ≡ Advance at ∷ []) → IsQuiet calls
+
+record IsStill (m : Move) : Type 0 where
+  changes : m.changes ≡ []
+  calls : IsQuiet m.calls
+  raises : m.raises ≡ None
+
+changes_still : (b : Bool) (cs own : List Change) → cs ≡ [] → (if b then cs ++ own else own) ≡ own
+changes_still true cs own is = ap (λ (x : List Change). x ++ own) is
+changes_still false cs own is = refl
+
+-- the observers of slot n after these calls are as they were, but for their moment
+abbrev AreLeft : ℕ → List ObserverCall → List ObserverCall → Type 0
+AreLeft n own calls = observers n calls ≡ record (observers n own) { moment = (observers n calls).moment }
+
+observers_still : (b : Bool) (cs own : List ObserverCall) (n : ℕ) → IsQuiet cs → AreLeft n own ((if b then cs else []) ++ own)
+observers_still true cs own n (Nothing is) = subst (λ (x : List ObserverCall). AreLeft n own (x ++ own)) (sym is) refl
+observers_still true cs own n (Moment at is) = subst (λ (x : List ObserverCall). AreLeft n own (x ++ own)) (sym is) refl
+observers_still false cs own n q = refl
+
+-- what an event is that names job k, and does nothing at the front but let an id be drawn
+record IsOf (k : ℕ) (e : Event) (o : Option Emission) (s : Seen) : Type 0 where
+  named : names e ≡ Some k
+  brought : tasks_brought e s ≡ []
+  calm : (n : ℕ) → calls_in e s n ≡ []
+  added : additions_by (at_front e) s ≡ []
+  kept : exchanges_by (at_front e) o s ≡ s.exchanges
+
+left : (k : ℕ) (e : Event) (o : Option Emission) (s : Seen) → IsOf k e o s → IsStill (row e (scene s k)) → LeavesAllButStage k s (and_then (did e o) s)
+left k e o s of still = record {
+  slots = record {
+    first = refl;
+    slots = λ n.
+        ap (λ (x : Option ℕ). changes_after x e s n) of.named
+        ∙ changes_still (slot_of s k == n) (row e (scene s k)).changes (s.changes n) still.changes;
+    words = ap (λ (x : Option ℕ). words_seen x e s) of.named ∙ ap (λ (x : Option ℕ). published x (slot_of s k) s.words) still.raises;
+  };
+  at = (row e (scene s k)).stage;
+  tasks =
+      ap (λ (x : Option ℕ). tasks_moved x e s ++ tasks_brought e s) of.named
+      ∙ (ap (λ ts. tasks_moved (Some k) e s ++ ts) of.brought ∙ append-nil (tasks_moved (Some k) e s));
+  observers = λ n.
+      subst (AreLeft n (s.calls n))
+      (sym (ap (λ (x : Option ℕ). calls_named x e s n ++ (calls_in e s n ++ s.calls n)) of.named
+      ∙ ap (λ (x : List ObserverCall). calls_named (Some k) e s n ++ (x ++ s.calls n)) (of.calm n)))
+      (observers_still (slot_of s k == n) (row e (scene s k)).calls (s.calls n) n still.calls);
+  front = record { exchanges = of.kept; additions = ap (λ xs. xs ++ s.additions) of.added };
+}
+
+-- ---- the moves of the calls that are refused
+
+-- the move of an event of a job that is at this stage
+abbrev move_at : Event → Scene → Stage → Move
+move_at e s x = move_of e s (call_at e s x)
+
+uncommitted : (k now count : ℕ) (t : Ticket) (s : Scene) (c b : Bool) → (c ≡ false) ⊎ (b ≡ false)
+    → IsStill (move_of (Commit k now) s (Some (Commits count t (commits (outcome_by true c b) t s.slot.serial s.around.watch).answer)))
+uncommitted k now count t s false b w = record { changes = refl; calls = Nothing refl; raises = refl }
+uncommitted k now count t s true false w = record { changes = refl; calls = Nothing refl; raises = refl }
+uncommitted k now count t s true true (inl is) = absurd (cc is)
+uncommitted k now count t s true true (inr is) = absurd (cc is)
+
+unaccepted : (k : ℕ) (s : Scene) (memory : Bool) (j : Judgement) → ((p : Program) → j ≡ Accepts p → ⊥)
+    → IsStill (move_of (Install k memory) s (Some (install_if memory j s.slot)))
+unaccepted k s false j why = record { changes = refl; calls = Nothing refl; raises = refl }
+unaccepted k s true (Accepts p) why = absurd (why p refl)
+unaccepted k s true (Breaks rule slot) why = record { changes = refl; calls = Nothing refl; raises = refl }
+unaccepted k s true Untypable why = record { changes = refl; calls = Nothing refl; raises = refl }
+
+at_end : (k : ℕ) (s : Scene) (p : Program) (b : Bool) → b ≡ false → IsStill (move_of (Install k true) s (Some (Installs p (put_by b s.slot p).answer)))
+at_end k s p true is = absurd (cc is)
+at_end k s p false is = record { changes = refl; calls = Nothing refl; raises = refl }
+
+uninstalled : (k : ℕ) (s : Scene) (memory : Bool) (j : Judgement) → (memory ≡ false) ⊎ (last_serial ≤ s.slot.serial)
+    → IsStill (move_of (Install k memory) s (Some (install_if memory j s.slot)))
+uninstalled k s false j why = record { changes = refl; calls = Nothing refl; raises = refl }
+uninstalled k s true (Accepts p) (inl is) = absurd (cc is)
+uninstalled k s true (Accepts p) (inr last) = at_end k s p (nat_lt s.slot.serial last_serial) (le-ltb s.slot.serial last_serial last)
+uninstalled k s true (Breaks rule slot) why = record { changes = refl; calls = Nothing refl; raises = refl }
+uninstalled k s true Untypable why = record { changes = refl; calls = Nothing refl; raises = refl }
+
+unremoved : (k serial : ℕ) (s : Scene) (b : Bool) (o : Option Present) → (o ≡ None) ⊎ (b ≡ false)
+    → IsStill (move_of (Remove k) s (Some (Removes (clear_by b serial o).answer)))
+unremoved k serial s b None why = record { changes = refl; calls = Nothing refl; raises = refl }
+unremoved k serial s false (Some p) why = record { changes = refl; calls = Nothing refl; raises = refl }
+unremoved k serial s true (Some p) (inl is) = absurd (cc is)
+unremoved k serial s true (Some p) (inr is) = absurd (cc is)
+
+present_missed : (b : Bool) (turn : Turn) (p : Present) → miss_calls b turn (Some p) ≡ []
+present_missed true turn p = refl
+present_missed false turn p = refl
+
+-- nobody is told of a turn that is out no longer
+none_if : (b : Bool) (o : Option ObserverEntry) → o ≡ None → (if b then option_map interest_of o else None) ≡ None
+none_if true o is = ap (option_map interest_of) is
+none_if false o is = refl
+
+none_told : (found : Option Ticket) (turn : Turn) (w : ObserverList) → entry_out turn w ≡ None → observer_told found turn w ≡ None
+none_told None turn w stale = none_if (is_missing turn w) (entry_out turn w) stale
+none_told (Some t) turn w stale = ap (option_map interest_of) stale
+
+unanswered : (b : Bool) (number : ℕ) (o : Option Emission) (xs : List Exchange) → o ≡ None → (if b then answered_in number o xs else xs) ≡ xs
+unanswered true number o xs is = ap (λ (x : Option Emission). answered_in number x xs) is
+unanswered false number o xs is = refl
+
+-- ---- each of them
+
+module _ (k : ℕ) (o : Option Emission) (s : Seen) where
+  -- of an event that comes at this stage of its job
+  at_stage : (e : Event) (x : Stage) → IsOf k e o s → stage s k ≡ x → IsStill (move_at e (scene s k) x) → LeavesAllButStage k s (and_then (did e o) s)
+  at_stage e x of at still = left k e o s of (subst (λ (y : Stage). IsStill (move_at e (scene s k) y)) (sym at) still)
+
+  by_call : (e : Event) → IsRefusedCall s k e o → LeavesAllButStage k s (and_then (did e o) s)
+  by_call e (NothingTaken count memory readings is at why) = subst (λ (x : Event). LeavesAllButStage k s (and_then (did x o) s)) (sym is)
+      (at_stage (Take k memory readings) (ToTake count) (record { named = refl; brought = refl; calm = λ n. refl; added = refl; kept = refl }) at
+      (record { changes = refl; calls = Nothing refl; raises = refl }))
+  by_call e (NotCommitted now count t is at wanted why) = subst (λ (x : Event). LeavesAllButStage k s (and_then (did x o) s)) (sym is)
+      (at_stage (Commit k now) (ToCommit count t) (record { named = refl; brought = refl; calm = λ n. refl; added = refl; kept = refl }) at
+      (subst
+      (λ (b : Bool). IsStill (move_of (Commit k now) (scene s k) (Some (Commits count t
+      (commits (outcome_by b ((scene s k).slot.serial == t.serial) (nat_lt (scene s k).slot.serial last_serial)) t (scene s k).slot.serial
+      (scene s k).around.watch).answer))))
+      (sym wanted)
+      (uncommitted k now count t (scene s k) ((scene s k).slot.serial == t.serial) (nat_lt (scene s k).slot.serial last_serial)
+      (⊎_elim (λ ne. inl (ne_eqb (scene s k).slot.serial t.serial ne)) (λ last. inr (le-ltb (scene s k).slot.serial last_serial last)) why))))
+  by_call e (NotAccepted memory is at why) = subst (λ (x : Event). LeavesAllButStage k s (and_then (did x o) s)) (sym is)
+      (at_stage (Install k memory) ToInstall (record { named = refl; brought = refl; calm = λ n. refl; added = refl; kept = refl }) at
+      (unaccepted k (scene s k) memory (judged (image_of (job s k).ask)) why))
+  by_call e (NotInstalled memory is at why) = subst (λ (x : Event). LeavesAllButStage k s (and_then (did x o) s)) (sym is)
+      (at_stage (Install k memory) ToInstall (record { named = refl; brought = refl; calm = λ n. refl; added = refl; kept = refl }) at
+      (uninstalled k (scene s k) memory (judged (image_of (job s k).ask)) why))
+  by_call e (NotRemoved is at why) = subst (λ (x : Event). LeavesAllButStage k s (and_then (did x o) s)) (sym is)
+      (at_stage (Remove k) ToRemove (record { named = refl; brought = refl; calm = λ n. refl; added = refl; kept = refl }) at
+      (unremoved k (scene s k).slot.serial (scene s k) (nat_lt (scene s k).slot.serial last_serial) (scene s k).slot.present
+      (⊎_elim (λ empty. inl empty) (λ last. inr (le-ltb (scene s k).slot.serial last_serial last)) why)))
+  by_call e (NotDescribed is at empty) = subst (λ (x : Event). LeavesAllButStage k s (and_then (did x o) s)) (sym is)
+      (at_stage (Receipt k) ToDescribe (record { named = refl; brought = refl; calm = λ n. refl; added = refl; kept = refl }) at
+      (record { changes = refl; calls = Nothing refl; raises = refl }))
+  by_call e (NotSent now content is at none) = subst (λ (x : Event). LeavesAllButStage k s (and_then (did x o) s)) (sym is)
+      (at_stage (Answer k now) (ToAnswer content)
+      (record {
+        named = refl;
+        brought = refl;
+        calm = λ n. refl;
+        added = refl;
+        kept = unanswered (is_some (content_at (stage s k))) (job s k).origin.opening.number o s.exchanges none;
+      })
+      at
+      (record { changes = refl; calls = Nothing refl; raises = refl }))
+  by_call e (HasNoId now turn found is at none) = subst (λ (x : Event). LeavesAllButStage k s (and_then (did x o) s)) (sym is)
+      (at_stage (Fresh k now) (ToTell turn (turns.ToDraw found)) (record { named = refl; brought = refl; calm = λ n. refl; added = refl; kept = refl }) at
+      (record { changes = refl; calls = Nothing refl; raises = refl }))
+  by_call e (HasNoTicket turn readings p is at found) = subst (λ (x : Event). LeavesAllButStage k s (and_then (did x o) s)) (sym is)
+      (at_stage (Take k false readings) (ToTell turn turns.ToTake) (record { named = refl; brought = refl; calm = λ n. refl; added = refl; kept = refl }) at
+      (record {
+        changes = refl;
+        calls = let now = (scene s k).around.moment in let out = is_out_at turn now (scene s k).around.watch in
+            Moment now (ap (λ (x : Option Present). miss_calls out turn x ++ Advance now ∷ []) found
+            ∙ ap (λ (x : List ObserverCall). x ++ Advance now ∷ []) (present_missed out turn p));
+        raises = refl;
+      }))
+  by_call e (IsStaleTaking turn memory readings is at stale) = subst (λ (x : Event). LeavesAllButStage k s (and_then (did x o) s)) (sym is)
+      (at_stage (Take k memory readings) (ToTell turn turns.ToTake) (record { named = refl; brought = refl; calm = λ n. refl; added = refl; kept = refl }) at
+      (record {
+        changes = refl;
+        calls = let now = (scene s k).around.moment in
+            Moment now (ap (λ (x : Option ObserverEntry). miss_calls (is_some x) turn (scene s k).slot.present ++ Advance now ∷ []) stale);
+        raises = refl;
+      }))
+  by_call e (IsStaleNote now random id turn found is at stale) = subst (λ (x : Event). LeavesAllButStage k s (and_then (did x o) s)) (sym is)
+      (at_stage (Note k now random) (ToTell turn (turns.ToNote found id))
+      (record { named = refl; brought = refl; calm = λ n. refl; added = refl; kept = refl }) at
+      (record {
+        changes = refl;
+        calls = let now_at = moment_at s k now in let w = at_moment now_at (watch s (slot_of s k)) in
+            Moment now_at (ap (λ (x : Option Emission). told_calls turn id random now_at found x ++ Advance now_at ∷ [])
+            (ap (option_map (note_to id (must_confirm_turn turn w) found)) (none_told found turn w stale)));
+        raises = refl;
+      }))
+
+pub refused_call_left : (r : Entry) (s : Seen) (k : ℕ) → IsRefusedCall s k r.event r.emitted → LeavesAllButStage k s (and_then r s)
+refused_call_left r s k w = by_call k r.emitted s r.event w
