@@ -35,6 +35,7 @@ class Item:
     block: str = ""  # the `module _ .. where` that it stands in, if it does
     names: set = field(default_factory=set)  # the keys of what it names
     fault: str = ""  # why that isn't known, if so
+    law: str = ""  # the law that says what it is, where that stands in place of its cases
 
     @property
     def key(self):
@@ -344,6 +345,28 @@ def code_uses(text):
             name, _, other = one.partition(" as ")
             found[other or name] = (path, name)
     return found
+
+
+def contract_of(file, name):
+    """Returns a function's doc comment, and its signature with its clauses."""
+    found = re.search(rf"^pub fn {name}\(.*?(?=^\{{)", file.text, re.M | re.S)
+    if not found:
+        raise Unknown(f"crates/{file.crate}/{file.module}.rt has no function {name}")
+    return re.search(r"(?:^///.*\n)*\Z", file.text[: found.start()], re.M)[0], found[0].rstrip()
+
+
+def clauses_of(contract):
+    """Returns the clauses of a contract: the label of each, if it has one, and its text, without the indent of its lines."""
+    found = re.findall(r"^    (?:ensures|requires) (\w*) *\{ (.*?) \}$", contract, re.M | re.S)
+    return [(label, re.sub(r"\n +", "\n    ", text)) for label, text in found]
+
+
+def names_in(house, file, contract):
+    """Returns the keys of what the clauses of a contract name."""
+    reader = Reader(Scope(house, file.crate, file.module, uses_of(file.text)))
+    for _, clause in clauses_of(contract):
+        reader.term(tokens(clause), bound={"result", *re.findall(r"(\w+): ", contract.partition("\n    ensures")[0])})
+    return reader.found
 
 
 class House:

@@ -4,6 +4,7 @@ use Rattle.std.specs.Prelude.{slice_index}
 use Rattle.std.proofs.lemmas.Bool.{leb-true, eqb-true, eqb-false, le-leb, eq-eqb, and_from, and_parts}
 use Rattle.coap_msg.specs.declared.types.MessageType.{MessageType}
 use Rattle.coap_msg.specs.declared.types.MessageType.TheVariants.{Confirmable, NonConfirmable, Acknowledgement, Reset}
+use Rattle.coap_msg.specs.declared.types.Bad.{Bad}
 use Rattle.coap_msg.specs.declared.types.Bad.TheVariants as bad
 use Rattle.coap_msg.specs.Wire.{Message, type_number, first_byte, options_bytes, payload_bytes, message_bytes, AreOptions, IsMessage, SpellsMessage}
 use Rattle.coap_msg.specs.Reading.{SpellsNone, id_of, IsBad, type_of, token_length, split, options_at, payload_at, message_by, is_sized, message_of, bad_of, reading_of}
@@ -194,3 +195,41 @@ read_none bytes e = rw e refl
 
 pub written_again : (m : Message) → IsMessage m → reading_of (message_bytes m) ≡ Ok m
 written_again m h = read_some (message_bytes m) m (message_of-of m h)
+
+-- ---- what is read is right, and nothing else is
+
+message_read : (bytes : List ℕ) (m : Message) (o : Option Message) → AreBytes bytes → message_of bytes ≡ o → reading_of bytes ≡ Ok m → SpellsMessage bytes m
+message_read bytes m None b found is = absurd (cc (read_none bytes found, is))
+message_read bytes m (Some own) b found is = let same : own ≡ m = cc (read_some bytes own found, is) in found_is_spelled bytes m b (found ∙ ap Some same)
+
+pub read_is_spelled : (bytes : List ℕ) (m : Message) → AreBytes bytes → reading_of bytes ≡ Ok m → SpellsMessage bytes m
+read_is_spelled bytes m b is = message_read bytes m (message_of bytes) b refl is
+
+pub spelled_is_read : (bytes : List ℕ) (m : Message) → SpellsMessage bytes m → reading_of bytes ≡ Ok m
+spelled_is_read bytes m s = read_some bytes m (spelled_is_found bytes m s)
+
+none_read : (bytes : List ℕ) (e : Bad) (o : Option Message) → message_of bytes ≡ o → reading_of bytes ≡ Err e → IsBad bytes e
+none_read bytes e None found is = let same : bad_of bytes ≡ e = cc (read_none bytes found, is) in subst (IsBad bytes) same (bad_is_bad bytes found)
+none_read bytes e (Some own) found is = absurd (cc (read_some bytes own found, is))
+
+pub read_is_bad : (bytes : List ℕ) (e : Bad) → reading_of bytes ≡ Err e → IsBad bytes e
+read_is_bad bytes e is = none_read bytes e (message_of bytes) refl is
+
+one_bad : (bytes : List ℕ) (x y : Bad) → IsBad bytes x → IsBad bytes y → x ≡ y
+one_bad bytes bad.Ignore bad.Ignore p q = refl
+one_bad bytes bad.Ignore (bad.Reset id) p q = absurd (p.1 q.1)
+one_bad bytes (bad.Reset id) bad.Ignore p q = absurd (q.1 p.1)
+one_bad bytes (bad.Reset id) (bad.Reset other) p q = ap bad.Reset (cc (p.2, q.2))
+
+spells_none : (bytes : List ℕ) (e : Bad) → IsBad bytes e → SpellsNone bytes
+spells_none bytes bad.Ignore is = is.0
+spells_none bytes (bad.Reset id) is = is.0
+
+not_found : (bytes : List ℕ) (o : Option Message) → AreBytes bytes → SpellsNone bytes → message_of bytes ≡ o → message_of bytes ≡ None
+not_found bytes None b none found = found
+not_found bytes (Some m) b none found = absurd (none m (found_is_spelled bytes m b found))
+
+pub bad_is_read : (bytes : List ℕ) (e : Bad) → AreBytes bytes → IsBad bytes e → reading_of bytes ≡ Err e
+bad_is_read bytes e b is =
+    let none = not_found bytes (message_of bytes) b (spells_none bytes e is) refl in
+    read_none bytes none ∙ ap Err (one_bad bytes (bad_of bytes) e (bad_is_bad bytes none) is)

@@ -1,7 +1,8 @@
 //! Laws of what the definitions say, for the crates above: each function is a law, and its contract says it.
-ghost use Rattle.std.specs.Prelude.{◌≡◌, ◌≤◌, ◌+◌, ℕ, List, Ok, Some, length};
+ghost use Rattle.std.specs.Prelude.{◌≡◌, ◌↔◌, ◌≤◌, ◌+◌, ℕ, Err, List, Ok, Some, length};
+ghost use Rattle.coap_msg.specs.declared.types.Bad.{Bad};
 ghost use Rattle.coap_msg.specs.Wire.{IsMessage, Message, SpellsMessage, message_bytes, option_bytes, options_bytes};
-ghost use Rattle.coap_msg.specs.Reading.{message_of, reading_of};
+ghost use Rattle.coap_msg.specs.Reading.{IsBad, message_of, reading_of};
 ghost use Rattle.coap_msg.specs.Codes.{code};
 
 use crate::code::Code;
@@ -15,6 +16,13 @@ pub fn written_is_read()
 pub fn messages_have_one_spelling(bytes: &[u8])
     ensures found { (m : Message) → SpellsMessage bytes.now m → message_of bytes.now ≡ Some m }
     ensures spelled { (m : Message) → message_of bytes.now ≡ Some m → SpellsMessage bytes.now m }
+{}
+
+/// Bytes are read as the message that they spell, and as nothing else; where they spell none, a confirmable message with a format error is
+/// to be rejected by its message id, and all else is to be ignored (RFC 7252, 4.2 and 4.3).
+pub fn readings_are_right(bytes: &[u8])
+    ensures message { (m : Message) → ((reading_of bytes.now ≡ Ok m) ↔ SpellsMessage bytes.now m) }
+    ensures bad { (e : Bad) → ((reading_of bytes.now ≡ Err e) ↔ IsBad bytes.now e) }
 {}
 
 /// How many bytes a message takes at most, for who is to write one.
