@@ -20,7 +20,7 @@ use Rattle.fc_core.specs.Contents.{Content}
 use Rattle.fc_core.specs.AnswerLaws.{row_moment}
 use Rattle.fc_core.specs.Laws.{gives, is_answered, is_stray_at}
 use Rattle.fc_core.specs.Heads.{word_at}
-use Rattle.fc_core.specs.Rows.{Around, Move, Scene, call_if, call_of, install_if, move_of, moves, names, row}
+use Rattle.fc_core.specs.Rows.{Around, Move, Scene, call_if, install_if, move_of, moves, names, row, call_at}
 use Rattle.fc_core.specs.Stages.{after_commit, image_of}
 use Rattle.fc_core.specs.Steps.{Call, changes_told}
 use Rattle.fc_core.specs.Steps as calls
@@ -128,13 +128,13 @@ committed o count t now serial ws = record {
 
 -- what is true of an event that is no call for a job: it is a stray, answers nothing, hands on no moment and gives no ticket
 pub record Rests (e : Event) (job : Job) (s : Stage) : Type 0 where
-  pub none : (slot : Slot) (ws : Around) → call_of e (at job slot ws s) ≡ None
+  pub none : (slot : Slot) (ws : Around) → call_at e (at job slot ws s) (at job slot ws s).stage ≡ None
   pub stray : (k : ℕ) → names e ≡ Some k → is_stray_at e job.origin.slot s ≡ true
   pub answered : is_answered e s ≡ false
   pub moments : row_moment e s ≡ []
   pub given : (slot : Slot) (ws : Around) (cs : List Change) → gives e (at job slot ws s) cs ≡ []
 
-rests : {e : Event} {job : Job} {s : Stage} → ((slot : Slot) (ws : Around) → call_of e (at job slot ws s) ≡ None) → ((k : ℕ) → names e ≡ Some k → is_stray_at e job.origin.slot s ≡ true) → is_answered e s ≡ false → row_moment e s ≡ [] → ((slot : Slot) (ws : Around) (cs : List Change) → gives e (at job slot ws s) cs ≡ []) → Rests e job s
+rests : {e : Event} {job : Job} {s : Stage} → ((slot : Slot) (ws : Around) → call_at e (at job slot ws s) (at job slot ws s).stage ≡ None) → ((k : ℕ) → names e ≡ Some k → is_stray_at e job.origin.slot s ≡ true) → is_answered e s ≡ false → row_moment e s ≡ [] → ((slot : Slot) (ws : Around) (cs : List Change) → gives e (at job slot ws s) cs ≡ []) → Rests e job s
 rests none stray answered moments given = record { none = none; stray = stray; answered = answered; moments = moments; given = given }
 
 no_job : {A : Type 0} {k : ℕ} → None ≡ Some k → A

@@ -2,7 +2,7 @@
 use Rattle.std.specs.Prelude.{ℕ, ◌+◌, Bool, nat_lt, List, [], filter, max}
 use Rattle.coap_dedup.specs.Exchanges.{Exchange}
 use Rattle.coap_msg.specs.Windows.{window}
-use Rattle.coap_dedup.specs.Exchanges.{Table, is_live as is_held}
+use Rattle.coap_dedup.specs.Exchanges.{is_live as is_held}
 use Rattle.coap_block.specs.declared.transfer.Transfer.{Transfer}
 use Rattle.fc_registry.specs.declared.job.Opening.{Opening}
 use Rattle.fc_core.specs.Ids.{Ids, first_ids}
@@ -22,9 +22,6 @@ pub record FrontState : Type 0 where
 -- a front with no exchange and no transfer, which will draw this message id first
 abbrev pub first_front : ℕ → FrontState
 first_front id = record { now = 0; opened = 0; held = []; transfers = []; ids = first_ids id }
-
-abbrev pub table_of : FrontState → Table
-table_of f = record { now = f.now; opened = f.opened; held = f.held }
 
 -- a front that was handed a moment, never an earlier one
 abbrev pub handed : FrontState → ℕ → FrontState

@@ -177,20 +177,6 @@ abbrev pub tasks_by : AtFront → Seen → List Task
 tasks_by (Receives now to bytes) s = map new_task (brought (received_at s now to bytes) (next_opening (front_at s now)) to)
 tasks_by other s = []
 
--- the same, of an event
-
-abbrev pub moment_after : Event → Seen → ℕ
-moment_after e s = moment_by (at_front e) s
-
-abbrev pub exchanges_after : Event → Option Emission → Seen → List Exchange
-exchanges_after e emitted s = exchanges_by (at_front e) emitted s
-
-abbrev pub added_in : Event → Seen → List Addition
-added_in e s = additions_by (at_front e) s
-
-abbrev pub ids_after : Event → Seen → Ids
-ids_after e s = ids_by (at_front e) s
-
 -- ---- the jobs and their slots
 
 abbrev pub tasks_moved : Option ℕ → Event → Seen → List Task
@@ -224,9 +210,6 @@ abbrev pub hands_by : AtShard → ℕ → Option ℕ
 hands_by (AsksTurn shard now) i = if (shard == i) && nat_lt i 8 then Some now else None
 hands_by (Ticks shard now) i = if (shard == i) && nat_lt i 8 then Some now else None
 hands_by other i = None
-
-abbrev pub shard_hands : Event → ℕ → Option ℕ
-shard_hands e i = hands_by (at_shard e) i
 
 -- the greatest word raised for each slot
 abbrev pub words_seen : Option ℕ → Event → Seen → List ℕ
@@ -270,9 +253,6 @@ calls_by (Ticks shard now) s n =
     else []
 calls_by Calm s n = []
 
-abbrev pub calls_in : Event → Seen → ℕ → List ObserverCall
-calls_in e s n = calls_by (at_shard e) s n
-
 -- the job of the turn that is given at a place of shard i, if there is one
 abbrev pub turn_at : Option ℕ → Seen → ℕ → ℕ → Option Job
 turn_at None s i at = None
@@ -297,14 +277,14 @@ calls_named (Some k) e s n = if (job s k).origin.slot == n then (row e (scene s 
 abbrev pub and_then : Entry → Seen → Seen
 and_then r s = record {
   first_serial = s.first_serial;
-  moment = moment_after r.event s;
-  exchanges = exchanges_after r.event r.emitted s;
-  additions = added_in r.event s ++ s.additions;
-  ids = ids_after r.event s;
+  moment = moment_by (at_front r.event) s;
+  exchanges = exchanges_by (at_front r.event) r.emitted s;
+  additions = additions_by (at_front r.event) s ++ s.additions;
+  ids = ids_by (at_front r.event) s;
   tasks = tasks_moved (names r.event) r.event s ++ tasks_brought r.event s;
   changes = λ n. changes_after (names r.event) r.event s n;
-  shard_moment = λ i. handed (shard_hands r.event i) (shard_moment_after (names r.event) r.event s i);
-  calls = λ n. calls_named (names r.event) r.event s n ++ (calls_in r.event s n ++ s.calls n);
+  shard_moment = λ i. handed (hands_by (at_shard r.event) i) (shard_moment_after (names r.event) r.event s i);
+  calls = λ n. calls_named (names r.event) r.event s n ++ (calls_by (at_shard r.event) s n ++ s.calls n);
   words = words_seen (names r.event) r.event s;
 }
 

@@ -1,5 +1,5 @@
 -- The message ids of the server's own, drawn in order.
-use Rattle.std.specs.Prelude.{ℕ, ◌+◌, ◌%◌, Bool, true, false, nat_lt, List, replicate, slice_index_or, slice_set, Option, Some, None}
+use Rattle.std.specs.Prelude.{ℕ, ◌+◌, ◌%◌, Bool, true, false, nat_lt, List, replicate, slice_index_or, slice_set, Option, Some, None, if◌then◌else◌}
 use Rattle.coap_msg.specs.Windows.{window}
 
 -- the id that is next, and when each was last drawn
@@ -23,21 +23,14 @@ abbrev pub is_recent : ℕ → Option ℕ → Bool
 is_recent at None = false
 is_recent at (Some drawn) = nat_lt at (drawn + window)
 
-abbrev pub free_by : Bool → ℕ → Option ℕ
-free_by true id = None
-free_by false id = Some id
-
 -- the id that is free at a moment, if the next one is
 abbrev pub free_id : Ids → ℕ → Option ℕ
-free_id ids at = free_by (is_recent at (last_drawn ids)) ids.next
-
-abbrev pub drawn_by : Bool → Ids → ℕ → Ids
-drawn_by true ids at = ids
-drawn_by false ids at = record { next = (ids.next + 1) % 65536; last = slice_set ids.last ids.next (Some at) }
+free_id ids at = if is_recent at (last_drawn ids) then None else Some ids.next
 
 -- a draw gives the id that is free, and draws nothing where none is
 abbrev pub drawn : Ids → ℕ → Ids
-drawn ids at = drawn_by (is_recent at (last_drawn ids)) ids at
+drawn ids at =
+    if is_recent at (last_drawn ids) then ids else record { next = (ids.next + 1) % 65536; last = slice_set ids.last ids.next (Some at) }
 
 -- the id of a message that answers a request: the request's for an acknowledgement, else the one that is free
 abbrev pub reply_id : Bool → ℕ → Option ℕ → Option ℕ

@@ -35,9 +35,9 @@ use Rattle.fc_core.specs.declared.front.Delivered.{Delivered}
 use Rattle.fc_core.specs.declared.front.Delivered.TheVariants.{Nothing, Reply, Job as Brings, Signal}
 use Rattle.fc_core.specs.declared.front.Heard.{Heard}
 use Rattle.fc_core.specs.declared.front.Heard.TheVariants as hearing
-use Rattle.coap_reply.specs.Responses.{Envelope, Response, bare, reply_kind, sent_in, settled_by, reset_of}
+use Rattle.coap_reply.specs.Responses.{Response, bare, reply_kind, sent_in, settled_by, reset_of}
 use Rattle.fc_core.specs.Ids.{Ids, free_id, reply_id, drawn_for}
-use Rattle.fc_core.specs.Exchanges.{FrontState, table_of}
+use Rattle.fc_core.specs.Exchanges.{FrontState}
 
 -- ---- classification
 
@@ -96,7 +96,7 @@ looked (IsAgain bytes) m new = Again bytes
 looked IsFull m new = Full m
 
 abbrev pub look_in : FrontState → Endpoint → Message → Look
-look_in f to m = look_at (table_of f) to m.id
+look_in f to m = look_at (record { now = f.now; opened = f.opened; held = f.held }) to m.id
 
 abbrev pub received_as : FrontState → Endpoint → Message → Verdict → Received
 received_as f to m (IsAsked asked) = looked (look_in f to m) m (request_received f to m asked)
@@ -175,14 +175,10 @@ JobWithin job = (job.origin.slot < 64) × AskWithin job.ask
 
 -- ---- what it sends
 
--- the envelope of a reply to a request, by this message id
-abbrev pub envelope_to : Endpoint → Message → ℕ → Envelope
-envelope_to to m id = record { to = to; kind = reply_kind (is_confirmable m.kind); id = id; token = m.token }
-
 -- a reply; nothing where it gets no message id
 abbrev pub told_by : Option ℕ → Endpoint → Message → Response → Option Emission
 told_by None to m response = None
-told_by (Some id) to m response = Some (sent_in (envelope_to to m id) response)
+told_by (Some id) to m response = Some (sent_in (record { to = to; kind = reply_kind (is_confirmable m.kind); id = id; token = m.token }) response)
 
 abbrev pub id_in : FrontState → Bool → ℕ → Option ℕ
 id_in f confirmable id = reply_id confirmable id (free_id f.ids f.now)

@@ -95,9 +95,6 @@ call_at (GiveUp job now) s (ToTell turn needs) = Some (GivesUp turn needs)
 call_at (Lose job) s needs = Some (Loses needs)
 call_at other s needs = None
 
-abbrev pub call_of : Event → Scene → Option Call
-call_of e s = call_at e s s.stage
-
 -- ---- its move
 
 -- where it leaves the job, the changes of the job's slot and the calls on the slot's observers, the newest first, the moment
@@ -148,7 +145,7 @@ move_of e s (Some c) = record {
 
 -- the row of an event: the move of its call
 abbrev pub row : Event → Scene → Move
-row e s = move_of e s (call_of e s)
+row e s = move_of e s (call_at e s s.stage)
 
 -- the notification that a turn sends at this stage
 abbrev pub notification : ℕ → Scene → Stage → Option Emission

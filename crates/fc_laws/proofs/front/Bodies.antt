@@ -24,7 +24,7 @@ use Rattle.fc_core.specs.declared.event.Event.TheVariants.{Deliver, Answer, Fres
 use Rattle.coap_reply.specs.Blocks.{cut_for}
 use Rattle.fc_laws.specs.BodyLaws.{Asks, BringsInstall, FitsBy, IsAskedAnew, PutsBlock, addition_at, addition_by, asked_at, continue_by}
 use Rattle.fc_laws.specs.ExchangeLaws.{IsAsking}
-use Rattle.fc_core.specs.History.{Entry, History, Begins, Then, Seen, added_in, and_then, did, front_at, moment_after, received_at, seen, stage}
+use Rattle.fc_core.specs.History.{Entry, History, Begins, Then, Seen, and_then, did, front_at, received_at, seen, stage, at_front, moment_by, additions_by}
 use Rattle.fc_core.specs.Legal.{Emits}
 use Rattle.fc_core.specs.Receiving.{Received, Silenced, Refused, Settled, Opened, add_in, added_by, addition_of, ask_by, brought, job_of, look_in, looked, next_opening, received_added, received_as, received_read, request_received, sent, slot_asked}
 use Rattle.coap_reply.specs.Responses.{settled_by}
@@ -46,7 +46,7 @@ answered_rises : (answers : Bool) (moment now : ℕ) (h : List Addition) → Ris
 answered_rises true moment now h w = rises_later moment (max moment now) h (le-max_left moment now) w
 answered_rises false moment now h w = w
 
-rises_on : (e : Event) (s : Seen) → RisesTo s.moment s.additions → RisesTo (moment_after e s) (added_in e s ++ s.additions)
+rises_on : (e : Event) (s : Seen) → RisesTo s.moment s.additions → RisesTo (moment_by (at_front e) s) (additions_by (at_front e) s ++ s.additions)
 rises_on (Deliver now to bytes) s w = with_added (received_at s now to bytes.now) (max s.moment now) to s.additions (rises_later s.moment (max s.moment now) s.additions (le-max_left s.moment now) w)
 rises_on (Answer k now) s w = answered_rises (is_some (content_at (stage s k))) s.moment now s.additions w
 rises_on (Fresh k now) s w = answered_rises (needs_id (stage s k)) s.moment now s.additions w
@@ -113,7 +113,7 @@ added_anyway IsBadLength m r at to = refl
 added_anyway IsTooLarge m r at to = refl
 added_anyway IsFull m r at to = refl
 
-asked_adds : (s : Seen) (e : Event) (m : Message) (r : Asked) → Asks s e m r → added_in e s ≡ addition_by s e r
+asked_adds : (s : Seen) (e : Event) (m : Message) (r : Asked) → Asks s e m r → additions_by (at_front e) s ≡ addition_by s e r
 asked_adds s (Deliver now to bytes) m r w =
     ap (λ (x : Received). added_by x (max s.moment now) to) (anew_is s now to bytes.now m r w)
     ∙ added_anyway (add_in (front_at s now) to r) m r (max s.moment now) to
@@ -142,7 +142,7 @@ read_adds s now to bytes (Ok m) at read not = message_adds s now to bytes m (ver
 read_adds s now to bytes (Err bad.Ignore) at read not = refl
 read_adds s now to bytes (Err (bad.Reset id)) at read not = refl
 
-adds_none : (s : Seen) (e : Event) → ((m : Message) (r : Asked) → Asks s e m r → ⊥) → added_in e s ≡ []
+adds_none : (s : Seen) (e : Event) → ((m : Message) (r : Asked) → Asks s e m r → ⊥) → additions_by (at_front e) s ≡ []
 adds_none s (Deliver now to bytes) not =
     ap (λ (x : Received). added_by x (max s.moment now) to) (received_of (front_at s now) to bytes.now (reading_of bytes.now) refl)
     ∙ read_adds s now to bytes.now (reading_of bytes.now) (max s.moment now) refl not

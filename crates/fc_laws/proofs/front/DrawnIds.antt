@@ -16,8 +16,8 @@ use Rattle.fc_core.specs.declared.stage.TurnStage.TheVariants as turns
 use Rattle.fc_core.specs.Contents.{Content}
 use Rattle.fc_core.specs.Exchanges.{opening_is_live}
 use Rattle.fc_laws.specs.ExchangeLaws.{AllBefore, AreApart, AreInOrder, Draw, draws_by, draws_of, first_id}
-use Rattle.fc_core.specs.History.{History, Begins, Then, Seen, seen, and_then, did, ids_after, ids_answered, job, moment_after, received_at, stage}
-use Rattle.fc_core.specs.Ids.{Ids, drawn, drawn_by, drawn_for, free_by, free_id, is_recent, last_drawn, no_draws}
+use Rattle.fc_core.specs.History.{History, Begins, Then, Seen, seen, and_then, did, ids_answered, job, received_at, stage, at_front, moment_by, ids_by}
+use Rattle.fc_core.specs.Ids.{Ids, drawn, drawn_for, free_id, is_recent, last_drawn, no_draws}
 use Rattle.fc_core.specs.Receiving.{Received, Full, Refused, Settled, is_confirmable}
 use Rattle.fc_core.specs.Receiving as receiving
 use Rattle.fc_core.specs.Stages.{content_at, needs_id}
@@ -27,7 +27,7 @@ data Draws (old : Ids) (at : ℕ) (new : Ids) : Type 0 where
   Same : (is : new ≡ old) → Draws old at new
   Next : (fresh : is_recent at (last_drawn old) ≡ false) (is : new ≡ record { next = (old.next + 1) % 65536; last = set old.last old.next (Some at) }) → Draws old at new
 
-draw_if : (old : Ids) (at : ℕ) (b : Bool) → is_recent at (last_drawn old) ≡ b → Draws old at (drawn_by b old at)
+draw_if : (old : Ids) (at : ℕ) (b : Bool) → is_recent at (last_drawn old) ≡ b → Draws old at (if b then old else record { next = (old.next + 1) % 65536; last = set old.last old.next (Some at) })
 draw_if old at true e = Same refl
 draw_if old at false e = Next e refl
 
@@ -50,7 +50,7 @@ draw_needed : (b : Bool) (old : Ids) (m now : ℕ) → Draws old (if b then max 
 draw_needed true old m now = draw_if old (max m now) (is_recent (max m now) (last_drawn old)) refl
 draw_needed false old m now = Same refl
 
-event_draws : (e : Event) (s : Seen) → Draws s.ids (moment_after e s) (ids_after e s)
+event_draws : (e : Event) (s : Seen) → Draws s.ids (moment_by (at_front e) s) (ids_by (at_front e) s)
 event_draws (Deliver now to bytes) s = draw_received (received_at s now to bytes.now) s.ids (max s.moment now)
 event_draws (Answer k now) s = draw_answered (content_at (stage s k)) (opening_is_live (max s.moment now) (job s k).origin.opening) (job s k).confirmable s.ids s.moment now
 event_draws (Fresh k now) s = draw_needed (needs_id (stage s k)) s.ids s.moment now
@@ -101,7 +101,7 @@ rises_if : (b : Bool) (m now : ℕ) → m ≤ (if b then max m now else m)
 rises_if true m now = le-max_left m now
 rises_if false m now = omega arith
 
-moment_rises : (e : Event) (s : Seen) → s.moment ≤ moment_after e s
+moment_rises : (e : Event) (s : Seen) → s.moment ≤ moment_by (at_front e) s
 moment_rises (Deliver now to bytes) s = le-max_left s.moment now
 moment_rises (Tick now) s = le-max_left s.moment now
 moment_rises (Answer k now) s = rises_if (is_some (content_at (stage s k))) s.moment now
@@ -133,11 +133,12 @@ none_room = length-replicate {A = Option ℕ} 65536 None
 all_kept : (h : History) → first_id h < 65536 → AreKept (first_id h) (seen h).ids (seen h).moment (draws_of h)
 unfolding seen
 all_kept (Begins serial id) lt = record { next = omega (arith, lt); room = none_room; kept = tt; past = tt; order = tt; apart = tt }
-all_kept (Then h r) lt = step (first_id h) (seen h).ids (and_then r (seen h)).ids (seen h).moment (moment_after r.event (seen h)) (draws_of h) (moment_rises r.event (seen h)) (all_kept h lt) (event_draws r.event (seen h))
+all_kept (Then h r) lt = step (first_id h) (seen h).ids (and_then r (seen h)).ids (seen h).moment (moment_by (at_front r.event) (seen h)) (draws_of h) (moment_rises r.event (seen h)) (all_kept h lt) (event_draws r.event (seen h))
 
 -- ---- a turn's draw
 
-by_test : (ids : Ids) (at id : ℕ) (b : Bool) → ids.next < 65536 → free_by b ids.next ≡ Some id → (((drawn_by b ids at).next == ids.next) ≡ false) × (ids.next ≡ id)
+by_test : (ids : Ids) (at id : ℕ) (b : Bool) → ids.next < 65536 → (if b then None else Some ids.next) ≡ Some id
+    → (((if b then ids else record { next = (ids.next + 1) % 65536; last = set ids.last ids.next (Some at) }).next == ids.next) ≡ false) × (ids.next ≡ id)
 by_test ids at id true lt free = absurd (cc free)
 by_test ids at id false lt free = (ne_eqb ((ids.next + 1) % 65536) ids.next (λ q. omega (arith, q, lt)), cc free)
 

@@ -20,7 +20,7 @@ use Rattle.fc_core.specs.declared.stage.Stage.{Stage}
 use Rattle.fc_core.specs.declared.stage.Stage.TheVariants.{ToAnswer}
 use Rattle.fc_core.specs.Exchanges.{FrontState, opening_is_live}
 use Rattle.fc_laws.specs.ExchangeLaws.{Opens}
-use Rattle.fc_core.specs.History.{Entry, History, Begins, Then, Seen, seen, answered_in, did, exchanges_after, exchanges_received, front_at, job, received_at, stage}
+use Rattle.fc_core.specs.History.{Entry, History, Begins, Then, Seen, seen, answered_in, did, exchanges_received, front_at, job, received_at, stage, at_front, exchanges_by}
 use Rattle.fc_core.specs.Ids.{free_id}
 use Rattle.fc_laws.specs.KeptLaws.{AnswersJob, HasId, answers, answers_with, emitted_bytes, exchange_of_job, opened_at}
 use Rattle.fc_core.specs.Legal.{AnswerEmits, Emits, IsAnswered}
@@ -89,7 +89,7 @@ numbered_more from [] (Refused m answer) at to number w is = (omega (arith, is),
 numbered_more from [] other at to number w is = tt
 numbered_more from (e ∷ es) x at to number w is = (w.0, numbered_more (from + 1) es x at to number w.1 (omega (arith, is)))
 
-numbered_by : (e : Event) (o : Option Emission) (s : Seen) → AreNumbered 0 s.exchanges → AreNumbered 0 (exchanges_after e o s)
+numbered_by : (e : Event) (o : Option Emission) (s : Seen) → AreNumbered 0 s.exchanges → AreNumbered 0 (exchanges_by (at_front e) o s)
 numbered_by (Deliver now to bytes) o s w = let x = received_at s now to bytes.now in
     numbered_kept (length s.exchanges) (kept_of x o) (s.exchanges ++ opened_by x (next_opening (front_at s now)) to) (numbered_more 0 s.exchanges x (max s.moment now) to (length s.exchanges) w (omega arith))
 numbered_by (Answer k now) o s w = numbered_if (is_some (content_at (stage s k))) (exchange_of_job s k) o s.exchanges w
@@ -172,7 +172,7 @@ received_answers s now to x o w =
     kept_answers (length s.exchanges) (kept_of x o) (s.exchanges ++ new) (numbered_more 0 s.exchanges x (max s.moment now) to (length s.exchanges) w (omega arith))
     ∙ ap (answers_with (kept_of x o) (length s.exchanges)) (map-append answer_of s.exchanges new)
 
-opened_keeps : (s : Seen) (e : Event) (o : Option Emission) → AreNumbered 0 s.exchanges → Opens s e → Emits s e o → map answer_of (exchanges_after e o s) ≡ answers s ++ emitted_bytes o ∷ []
+opened_keeps : (s : Seen) (e : Event) (o : Option Emission) → AreNumbered 0 s.exchanges → Opens s e → Emits s e o → map answer_of (exchanges_by (at_front e) o s) ≡ answers s ++ emitted_bytes o ∷ []
 opened_keeps s (Deliver now to bytes) o w opens legal =
     received_answers s now to (received_at s now to bytes.now) o w
     ∙ subst (λ (x : Received). KeepsSent x (front_at s now) to (next_opening (front_at s now))) (sym (opening_is s now to bytes.now opens)) (new_keeps (verdict opens.message) opens.message (front_at s now) to (next_opening (front_at s now))) o (answers s) (length s.exchanges) (length-map s.exchanges answer_of) legal
@@ -198,7 +198,7 @@ not_answered : (st : Stage) (o : Option Emission) (n : ℕ) (es : List Exchange)
 not_answered (ToAnswer content) o n es never = absurd (never content refl)
 not_answered other o n es never = refl
 
-others_keep : (s : Seen) (e : Event) (o : Option Emission) → AreNumbered 0 s.exchanges → (Opens s e → ⊥) → (AnswersJob s e → ⊥) → map answer_of (exchanges_after e o s) ≡ answers s
+others_keep : (s : Seen) (e : Event) (o : Option Emission) → AreNumbered 0 s.exchanges → (Opens s e → ⊥) → (AnswersJob s e → ⊥) → map answer_of (exchanges_by (at_front e) o s) ≡ answers s
 others_keep s (Deliver now to bytes) o w not never =
     let x = received_at s now to bytes.now in
     let none = opened_none s now to bytes.now not in

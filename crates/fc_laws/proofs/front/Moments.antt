@@ -9,7 +9,7 @@ use Rattle.fc_core.specs.declared.stage.Stage.{Stage}
 use Rattle.fc_core.specs.declared.stage.Stage.TheVariants.{ToAnswer, ToTell}
 use Rattle.fc_core.specs.declared.stage.TurnStage.TheVariants as turns
 use Rattle.fc_core.specs.AnswerLaws.{answer_moment, draw_moment, row_moment, greatest, is_of_shard, own_moment, moments_in, moments_of, shard_moments_of}
-use Rattle.fc_core.specs.History.{around, History, Begins, Then, Seen, seen, job, moment_after, scene, shard_hands, shard_moment_after, slot_at, stage}
+use Rattle.fc_core.specs.History.{around, History, Begins, Then, Seen, seen, job, scene, shard_moment_after, slot_at, stage, at_front, moment_by, at_shard, hands_by}
 use Rattle.fc_core.specs.Laws.{slot_of, stage_named}
 use Rattle.fc_core.specs.Stages.{content_at, needs_id}
 use Rattle.fc_core.specs.Rows.{Around, Scene, handed, names, row}
@@ -24,7 +24,7 @@ draw_handed : (st : Stage) (m now : ℕ) (ms : List ℕ) → m ≡ greatest ms �
 draw_handed (ToTell turn (turns.ToDraw found)) m now ms is = ap (λ (x : ℕ). max x now) is
 draw_handed other m now ms is = is
 
-front_handed : (e : Event) (s : Seen) (ms : List ℕ) → s.moment ≡ greatest ms → moment_after e s ≡ greatest (moments_in e s ++ ms)
+front_handed : (e : Event) (s : Seen) (ms : List ℕ) → s.moment ≡ greatest ms → moment_by (at_front e) s ≡ greatest (moments_in e s ++ ms)
 front_handed (Deliver now to bytes) s ms is = ap (λ (x : ℕ). max x now) is
 front_handed (Tick now) s ms is = ap (λ (x : ℕ). max x now) is
 front_handed (Answer k now) s ms is = answer_handed (stage s k) s.moment now ms is
@@ -63,7 +63,7 @@ handed_if : (b : Bool) (now m : ℕ) (ms : List ℕ) → m ≡ greatest ms → h
 handed_if true now m ms is = ap (λ (x : ℕ). max x now) is
 handed_if false now m ms is = is
 
-handed_more : (e : Event) (i m : ℕ) (ms : List ℕ) → m ≡ greatest ms → handed (shard_hands e i) m ≡ greatest (own_moment e i ++ ms)
+handed_more : (e : Event) (i m : ℕ) (ms : List ℕ) → m ≡ greatest ms → handed (hands_by (at_shard e) i) m ≡ greatest (own_moment e i ++ ms)
 handed_more (Due shard now) i m ms is = handed_if ((shard == i) && nat_lt i 8) now m ms is
 handed_more (ShardTick shard now) i m ms is = handed_if ((shard == i) && nat_lt i 8) now m ms is
 handed_more other i m ms is = is

@@ -29,7 +29,7 @@ use Rattle.fc_core.specs.declared.event.Event.{Event}
 use Rattle.fc_core.specs.declared.event.Event.TheVariants.{Deliver, Due, Answer}
 use Rattle.fc_core.specs.declared.stage.Task.{Task}
 use Rattle.fc_laws.specs.ExchangeLaws.{is_within, repeated}
-use Rattle.fc_core.specs.History.{Entry, History, Begins, Then, Seen, seen, and_then, answered_in, due_in, exchanges_after, front_at, job, no_task, received_at, slot_at, stage, tasks_brought, tasks_moved, turn_at, watch}
+use Rattle.fc_core.specs.History.{Entry, History, Begins, Then, Seen, seen, and_then, answered_in, due_in, front_at, job, no_task, received_at, slot_at, stage, tasks_brought, tasks_moved, turn_at, watch, at_front, exchanges_by}
 use Rattle.fc_core.specs.Laws.{HasCome}
 use Rattle.coap_block.specs.Uploads.{Add, Continues, IsWhole, IsIncomplete, IsBadLength, IsTooLarge, IsFull}
 use Rattle.fc_core.specs.Receiving.{Received, Silenced, Refused, Opened, add_in, received_added, request_received, brought, kept_of, look_in, looked, next_opening, opened_by, received_as, received_read}
@@ -92,7 +92,7 @@ kept_if : (o : Origin) (n : ℕ) (emitted : Option Emission) (es : List Exchange
 kept_if o n emitted es true a = kept_in o n emitted es a
 kept_if o n emitted es false a = a
 
-still_open : (o : Origin) (e : Event) (emitted : Option Emission) (s : Seen) → Any (IsOf o) s.exchanges → Any (IsOf o) (exchanges_after e emitted s)
+still_open : (o : Origin) (e : Event) (emitted : Option Emission) (s : Seen) → Any (IsOf o) s.exchanges → Any (IsOf o) (exchanges_by (at_front e) emitted s)
 still_open o (Deliver now to bytes) emitted s a =
     let x = received_at s now to bytes.now in
     kept_in o (length s.exchanges) (kept_of x emitted) (s.exchanges ++ opened_by x (next_opening (front_at s now)) to) (any_left (IsOf o) s.exchanges (opened_by x (next_opening (front_at s now)) to) a)
@@ -172,14 +172,14 @@ each_weaker : {X : Type 0} (P Q : X → Type 0) (xs : List X) → ((x : X) → P
 each_weaker P Q [] f w = tt
 each_weaker P Q (x ∷ xs) f w = (f x w.0, each_weaker P Q xs f w.1)
 
-brought_new : (e : Event) (emitted : Option Emission) (s : Seen) → Each (λ t. t.job.turn ≡ None → IsNewJob s (exchanges_after e emitted s) t.job) (tasks_brought e s)
+brought_new : (e : Event) (emitted : Option Emission) (s : Seen) → Each (λ t. t.job.turn ≡ None → IsNewJob s (exchanges_by (at_front e) emitted s) t.job) (tasks_brought e s)
 brought_new (Deliver now to bytes) emitted s =
-    let es = exchanges_after (Deliver now to bytes) emitted s in
+    let es = exchanges_by (at_front (Deliver now to bytes)) emitted s in
     each_weaker (λ t. IsNewJob s es t.job) (λ t. t.job.turn ≡ None → IsNewJob s es t.job) (tasks_brought (Deliver now to bytes) s) (λ t w is. w)
     (new_tasks s now to (received_at s now to bytes.now) emitted (brought (received_at s now to bytes.now) (next_opening (front_at s now)) to) (new_in s now to bytes.now))
 brought_new (Due shard now) emitted s =
     let at = max (s.shard_moment shard) now in
-    due_isnt s (exchanges_after (Due shard now) emitted s) shard at (due_in s shard at)
+    due_isnt s (exchanges_by (at_front (Due shard now)) emitted s) shard at (due_in s shard at)
 brought_new other emitted s = tt
 
 one_turn : (o : Option Job) → length (map new_task (option_to_list o) ++ []) ≤ 1

@@ -24,7 +24,7 @@ use Rattle.fc_core.specs.declared.stage.Stage.{Stage}
 use Rattle.fc_core.specs.declared.stage.Stage.TheVariants.{ToAnswer, ToCommit, ToDescribe, ToInstall, ToRemove, ToTake, ToTell}
 use Rattle.fc_core.specs.declared.stage.TurnStage.TheVariants as turns
 use Rattle.fc_core.specs.Heads.{published}
-use Rattle.fc_core.specs.History.{Entry, Seen, additions_by, and_then, answered_in, at_front, calls_in, calls_named, changes_after, did, exchanges_by, job, scene, stage, tasks_brought, tasks_moved, watch, words_seen}
+use Rattle.fc_core.specs.History.{Entry, Seen, additions_by, and_then, answered_in, at_front, calls_named, changes_after, did, exchanges_by, job, scene, stage, tasks_brought, tasks_moved, watch, words_seen, at_shard, calls_by}
 use Rattle.fc_core.specs.Laws.{slot_of}
 use Rattle.fc_core.specs.Rows.{Move, Scene, call_at, install_if, move_of, names, row}
 use Rattle.fc_core.specs.Stages.{content_at, image_of}
@@ -61,7 +61,7 @@ observers_still false cs own n q = refl
 record IsOf (k : ℕ) (e : Event) (o : Option Emission) (s : Seen) : Type 0 where
   named : names e ≡ Some k
   brought : tasks_brought e s ≡ []
-  calm : (n : ℕ) → calls_in e s n ≡ []
+  calm : (n : ℕ) → calls_by (at_shard e) s n ≡ []
   added : additions_by (at_front e) s ≡ []
   kept : exchanges_by (at_front e) o s ≡ s.exchanges
 
@@ -80,7 +80,7 @@ left k e o s of still = record {
       ∙ (ap (λ ts. tasks_moved (Some k) e s ++ ts) of.brought ∙ append-nil (tasks_moved (Some k) e s));
   observers = λ n.
       subst (AreLeft n (s.calls n))
-      (sym (ap (λ (x : Option ℕ). calls_named x e s n ++ (calls_in e s n ++ s.calls n)) of.named
+      (sym (ap (λ (x : Option ℕ). calls_named x e s n ++ (calls_by (at_shard e) s n ++ s.calls n)) of.named
       ∙ ap (λ (x : List ObserverCall). calls_named (Some k) e s n ++ (x ++ s.calls n)) (of.calm n)))
       (observers_still (slot_of s k == n) (row e (scene s k)).calls (s.calls n) n still.calls);
   front = record { exchanges = of.kept; additions = ap (λ xs. xs ++ s.additions) of.added };

@@ -14,7 +14,7 @@ use Rattle.coap_reply.specs.Responses.{reset_of, sent_in}
 use Rattle.fc_core.specs.declared.event.Event.{Event}
 use Rattle.fc_core.specs.declared.event.Event.TheVariants.{Deliver}
 use Rattle.fc_laws.specs.ExchangeLaws.{bare_by}
-use Rattle.fc_core.specs.History.{Entry, Seen, and_then, exchanges_after, exchanges_received, front_at, received_at, tasks_brought, tasks_moved}
+use Rattle.fc_core.specs.History.{Entry, Seen, and_then, exchanges_received, front_at, received_at, tasks_brought, tasks_moved, at_front, exchanges_by}
 use Rattle.fc_core.specs.Legal.{Emits}
 use Rattle.fc_core.specs.Receiving.{Received, Refused, Rejected, brought, next_opening, received_as, sent}
 use Rattle.fc_laws.specs.ReplyLaws.{FormatError, IsRefusedAnew, IsRejected, NoRequest, Refuses, Rejects, reset_to}
@@ -79,7 +79,7 @@ rejected_brings_by : (s : Seen) (e : Event) (to : Endpoint) (id : ℕ) → Rejec
 rejected_brings_by s (Deliver now from bytes) to id w = ap (λ (x : Received). s.tasks ++ map new_task (brought x (next_opening (front_at s now)) from)) (rejected_is s now from bytes.now id w.1) ∙ append-nil s.tasks
 rejected_brings_by s other to id w = absurd w
 
-rejected_opens_by : (s : Seen) (e : Event) (to : Endpoint) (id : ℕ) (o : Option Emission) → Rejects e to id → exchanges_after e o s ≡ s.exchanges
+rejected_opens_by : (s : Seen) (e : Event) (to : Endpoint) (id : ℕ) (o : Option Emission) → Rejects e to id → exchanges_by (at_front e) o s ≡ s.exchanges
 rejected_opens_by s (Deliver now from bytes) to id o w = ap (λ (x : Received). exchanges_received x from o s now) (rejected_is s now from bytes.now id w.1) ∙ append-nil s.exchanges
 rejected_opens_by s other to id o w = absurd w
 

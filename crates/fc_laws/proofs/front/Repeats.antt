@@ -20,7 +20,7 @@ use Rattle.fc_core.specs.declared.event.Event.{Event}
 use Rattle.fc_core.specs.declared.event.Event.TheVariants.{Deliver, Answer}
 use Rattle.fc_core.specs.Exchanges.{FrontState}
 use Rattle.fc_laws.specs.ExchangeLaws.{Arrival, ArrivesBy, IsAsking, IsOpening, IsRepeat, Opens, OpensOne, Repeats, again, arrival_of, arrivals, is_within, repeat_emits, repeated}
-use Rattle.fc_core.specs.History.{Entry, Seen, added_in, and_then, answered_in, exchanges_after, exchanges_received, front_at, ids_after, job, received_at, stage, tasks_brought, tasks_moved}
+use Rattle.fc_core.specs.History.{Entry, Seen, and_then, answered_in, exchanges_received, front_at, job, received_at, stage, tasks_brought, tasks_moved, at_front, exchanges_by, additions_by, ids_by}
 use Rattle.fc_core.specs.Ids.{Ids}
 use Rattle.fc_core.specs.Legal.{Emits}
 use Rattle.coap_block.specs.Transfers.{Addition}
@@ -112,7 +112,7 @@ kept_nothing : (o : Option Emission) (n : ℕ) (new old : List Exchange) → o �
 kept_nothing None n new old is none = ap (λ (l : List Exchange). old ++ l) none ∙ append-nil old
 kept_nothing (Some emission) n new old is none = absurd (cc)
 
-opens_nothing : (s : Seen) (e : Event) (x : Exchange) (o : Option Emission) → Repeats s e x → exchanges_after e o s ≡ s.exchanges
+opens_nothing : (s : Seen) (e : Event) (x : Exchange) (o : Option Emission) → Repeats s e x → exchanges_by (at_front e) o s ≡ s.exchanges
 opens_nothing s (Deliver now to bytes) x o w =
     let i = idle s now to bytes.now x w in
     kept_nothing (kept_of (received_at s now to bytes.now) o) (length s.exchanges) (opened_by (received_at s now to bytes.now) (next_opening (front_at s now)) to) s.exchanges (i.keeps o) (i.opens (next_opening (front_at s now)) to)
@@ -122,11 +122,11 @@ brings_nothing : (s : Seen) (e : Event) (x : Exchange) → Repeats s e x → tas
 brings_nothing s (Deliver now to bytes) x w = ap (λ (l : List Job). s.tasks ++ map new_task l) ((idle s now to bytes.now x w).brings (next_opening (front_at s now)) to) ∙ append-nil s.tasks
 brings_nothing s other x w = absurd w
 
-draws_nothing : (s : Seen) (e : Event) (x : Exchange) → Repeats s e x → ids_after e s ≡ s.ids
+draws_nothing : (s : Seen) (e : Event) (x : Exchange) → Repeats s e x → ids_by (at_front e) s ≡ s.ids
 draws_nothing s (Deliver now to bytes) x w = (idle s now to bytes.now x w).draws s.ids (max s.moment now)
 draws_nothing s other x w = absurd w
 
-adds_nothing : (s : Seen) (e : Event) (x : Exchange) → Repeats s e x → added_in e s ++ s.additions ≡ s.additions
+adds_nothing : (s : Seen) (e : Event) (x : Exchange) → Repeats s e x → additions_by (at_front e) s ++ s.additions ≡ s.additions
 adds_nothing s (Deliver now to bytes) x w = ap (λ (l : List Addition). l ++ s.additions) ((idle s now to bytes.now x w).adds (max s.moment now) to)
 adds_nothing s other x w = absurd w
 
@@ -194,7 +194,7 @@ opening_is s now to bytes w =
     request_is s now to bytes w.message None w.read w.asks w.new
     ∙ ap (λ b. looked (look_by None b) w.message (new_as (front_at s now) to (verdict w.message) w.message)) (and_from (nat_lt (length (filter (is_within at) s.exchanges)) 1024) (nat_lt (length s.exchanges) 18446744073709551615) (lt-ltb (length (filter (is_within at) s.exchanges)) 1024 w.room) (lt-ltb (length s.exchanges) 18446744073709551615 w.numbers))
 
-opens_one : (s : Seen) (e : Event) (o : Option Emission) → Opens s e → (a : Arrival) × ArrivesBy s e a × (map arrival_of (exchanges_after e o s) ≡ arrivals s ++ a ∷ [])
+opens_one : (s : Seen) (e : Event) (o : Option Emission) → Opens s e → (a : Arrival) × ArrivesBy s e a × (map arrival_of (exchanges_by (at_front e) o s) ≡ arrivals s ++ a ∷ [])
 opens_one s (Deliver now to bytes) o w = (
   arrival_by w.message (next_opening (front_at s now)) to,
   record { message = w.message; read = w.read; arrival_is = refl },
@@ -266,7 +266,7 @@ opened_none s now to bytes not =
     ap (λ x. length (opened_by x (next_opening (front_at s now)) to)) (received_of (front_at s now) to bytes (reading_of bytes) refl)
     ∙ read_opens s now to bytes (reading_of bytes) (next_opening (front_at s now)) refl not
 
-opens_none : (s : Seen) (e : Event) (o : Option Emission) → (Opens s e → ⊥) → map arrival_of (exchanges_after e o s) ≡ arrivals s
+opens_none : (s : Seen) (e : Event) (o : Option Emission) → (Opens s e → ⊥) → map arrival_of (exchanges_by (at_front e) o s) ≡ arrivals s
 opens_none s (Deliver now to bytes) o not = received_arrivals s now to (received_at s now to bytes.now) o ∙ no_arrival (arrivals s) (opened_by (received_at s now to bytes.now) (next_opening (front_at s now)) to) (opened_none s now to bytes.now not)
 opens_none s (Answer k now) o not = same_arrivals o s.exchanges (is_some (content_at (stage s k))) (job s k).origin.opening.number
 opens_none s other o not = refl

@@ -11,7 +11,7 @@ use Rattle.coap_dedup.specs.Exchanges.{look_by}
 use Rattle.fc_core.specs.declared.event.Event.{Event}
 use Rattle.fc_core.specs.declared.event.Event.TheVariants.{Deliver}
 use Rattle.fc_laws.specs.ExchangeLaws.{FindsNoExchange, IsCrowdedOut, bare_by, is_within}
-use Rattle.fc_core.specs.History.{Entry, Seen, added_in, and_then, exchanges_after, exchanges_received, front_at, received_at, tasks_brought, tasks_moved}
+use Rattle.fc_core.specs.History.{Entry, Seen, and_then, exchanges_received, front_at, received_at, tasks_brought, tasks_moved, at_front, exchanges_by, additions_by}
 use Rattle.fc_core.specs.Legal.{Emits}
 use Rattle.fc_core.specs.Receiving.{Received, Full, added_by, brought, looked, next_opening, sent}
 use Rattle.fc_core.specs.Stages.{new_task}
@@ -28,7 +28,7 @@ full_is s now to bytes m w =
     request_is s now to bytes m None w.read w.asks w.new
     ∙ ap (λ b. looked (look_by None b) m (new_as (front_at s now) to (verdict m) m)) (no_room s (max s.moment now) w.full)
 
-full_opens : (s : Seen) (e : Event) (m : Message) (o : Option Emission) → FindsNoExchange s e m → exchanges_after e o s ≡ s.exchanges
+full_opens : (s : Seen) (e : Event) (m : Message) (o : Option Emission) → FindsNoExchange s e m → exchanges_by (at_front e) o s ≡ s.exchanges
 full_opens s (Deliver now to bytes) m o w = ap (λ (x : Received). exchanges_received x to o s now) (full_is s now to bytes.now m w) ∙ append-nil s.exchanges
 full_opens s other m o w = absurd w
 
@@ -36,7 +36,7 @@ full_brings : (s : Seen) (e : Event) (m : Message) → FindsNoExchange s e m →
 full_brings s (Deliver now to bytes) m w = ap (λ (x : Received). s.tasks ++ map new_task (brought x (next_opening (front_at s now)) to)) (full_is s now to bytes.now m w) ∙ append-nil s.tasks
 full_brings s other m w = absurd w
 
-full_adds : (s : Seen) (e : Event) (m : Message) → FindsNoExchange s e m → added_in e s ++ s.additions ≡ s.additions
+full_adds : (s : Seen) (e : Event) (m : Message) → FindsNoExchange s e m → additions_by (at_front e) s ++ s.additions ≡ s.additions
 full_adds s (Deliver now to bytes) m w = ap (λ (x : Received). added_by x (max s.moment now) to ++ s.additions) (full_is s now to bytes.now m w)
 full_adds s other m w = absurd w
 

@@ -13,7 +13,7 @@ use Rattle.fc_core.specs.declared.stage.TurnStage.TheVariants as turns
 use Rattle.fc_core.specs.Contents.{Content}
 use Rattle.fc_core.specs.Stages.{content_at, needs_id}
 use Rattle.fc_core.specs.Rows.{Around, Move, Scene, handed, task_moved, moves, names, notification, row, words_after}
-use Rattle.fc_core.specs.History.{Entry, Seen, added_in, and_then, calls_in, calls_named, changes_after, did, exchanges_after, ids_after, job, moment_after, no_task, scene, shard_hands, shard_moment_after, stage, task_at, tasks_brought, tasks_moved, words_seen}
+use Rattle.fc_core.specs.History.{Entry, Seen, and_then, calls_named, changes_after, did, job, no_task, scene, shard_moment_after, stage, task_at, tasks_brought, tasks_moved, words_seen, at_front, moment_by, exchanges_by, additions_by, ids_by, at_shard, hands_by, calls_by}
 use Rattle.coap_block.specs.Transfers.{Addition}
 use Rattle.fc_core.specs.Laws.{is_stray, is_stray_at}
 use Rattle.fc_core.specs.Legal.{Emits, AnswerEmits}
@@ -83,7 +83,7 @@ all_same : (a b : Seen) → a.first_serial ≡ b.first_serial → a.moment ≡ b
 all_same a b f m x p d t c h v w = λ i. record { first_serial = f i; moment = m i; exchanges = x i; additions = p i; ids = d i; tasks = t i; changes = λ n. c n i; shard_moment = λ n. h n i; calls = λ n. v n i; words = w i }
 
 -- an event of a job that changes nothing of the front
-named_still : (s : Seen) (e : Event) (o : Option Emission) (k : ℕ) → names e ≡ Some k → is_stray_at e (job s k).origin.slot (stage s k) ≡ true → moment_after e s ≡ s.moment → exchanges_after e o s ≡ s.exchanges → added_in e s ≡ [] → ids_after e s ≡ s.ids → tasks_brought e s ≡ [] → ((i : ℕ) → shard_hands e i ≡ None) → ((n : ℕ) → calls_in e s n ≡ []) → and_then (did e o) s ≡ s
+named_still : (s : Seen) (e : Event) (o : Option Emission) (k : ℕ) → names e ≡ Some k → is_stray_at e (job s k).origin.slot (stage s k) ≡ true → moment_by (at_front e) s ≡ s.moment → exchanges_by (at_front e) o s ≡ s.exchanges → additions_by (at_front e) s ≡ [] → ids_by (at_front e) s ≡ s.ids → tasks_brought e s ≡ [] → ((i : ℕ) → hands_by (at_shard e) i ≡ None) → ((n : ℕ) → calls_by (at_shard e) s n ≡ []) → and_then (did e o) s ≡ s
 named_still s e o k is stray m x p d b g q =
     let still : row e (scene s k) ≡ moves (stage s k) = row_still e (job s k) (scene s k).slot (scene s k).around (stage s k) stray in
     all_same (and_then (did e o) s) s refl m x (ap (λ (l : List Addition). l ++ s.additions) p) d

@@ -22,7 +22,7 @@ use Rattle.fc_core.specs.declared.event.Event.TheVariants.{Due, Note, ShardTick,
 use Rattle.fc_core.specs.declared.stage.Stage.{Stage}
 use Rattle.fc_core.specs.declared.stage.Stage.TheVariants.{ToTell}
 use Rattle.fc_core.specs.declared.stage.TurnStage.TheVariants as turns
-use Rattle.fc_core.specs.History.{Entry, History, Then, Seen, seen, and_then, around, calls_by, calls_in, calls_named, did, due_in, is_place_of, job, late_in, scene, slot_at, stage, watch}
+use Rattle.fc_core.specs.History.{Entry, History, Then, Seen, seen, and_then, around, calls_by, calls_named, did, due_in, is_place_of, job, late_in, scene, slot_at, stage, watch, at_shard}
 use Rattle.fc_core.specs.Laws.{later, slot_of}
 use Rattle.fc_laws.specs.ObserveLaws.{NoneRegisters, Registers}
 use Rattle.fc_core.specs.Rows.{names, row}
@@ -65,7 +65,7 @@ signal_above : (reset : Bool) (to : Endpoint) (id : ℕ) (w : ObserverList) → 
 signal_above true to id w = (λ k d lt. tt, tt)
 signal_above false to id w = (λ k d lt. tt, tt)
 
-shard_above : (e : Event) (s : Seen) (n : ℕ) (w : ObserverList) → AreAbove (calls_in e s n) w
+shard_above : (e : Event) (s : Seen) (n : ℕ) (w : ObserverList) → AreAbove (calls_by (at_shard e) s n) w
 shard_above (Due shard now) s n w =
     let m = max (s.shard_moment shard) now in
     one_above (is_place_of (due_in s shard m) shard n) (NextDue m (slot_at s n).noticed) w (λ k d lt. tt, tt)
@@ -107,7 +107,7 @@ module _ (n m : ℕ) (to : Endpoint) (token : List ℕ) where
     e = r.event
 
     abbrev of_shard : List ObserverCall
-    of_shard = calls_in e (seen h) n
+    of_shard = calls_by (at_shard e) (seen h) n
 
     from_by : (o : Option ℕ) → names e ≡ o → All (SentFrom m to token) (watch (and_then r (seen h)) n).held
     from_by None named =

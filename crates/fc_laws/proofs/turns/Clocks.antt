@@ -20,7 +20,7 @@ use Rattle.fc_core.specs.declared.event.Event.{Event}
 use Rattle.fc_core.specs.declared.event.Event.TheVariants.{Due, ShardTick, Signal}
 use Rattle.fc_core.specs.declared.stage.Stage.{Stage}
 use Rattle.fc_core.specs.declared.stage.Stage.TheVariants.{ToInstall}
-use Rattle.fc_core.specs.History.{Entry, History, Begins, Then, Seen, seen, and_then, around, calls_in, calls_named, due_in, is_due_at, is_late_at, is_place_of, job, late_in, scene, shard_hands, shard_moment_after, slot_at, stage, watch}
+use Rattle.fc_core.specs.History.{Entry, History, Begins, Then, Seen, seen, and_then, around, calls_named, due_in, is_due_at, is_late_at, is_place_of, job, late_in, scene, shard_moment_after, slot_at, stage, watch, at_shard, hands_by, calls_by}
 use Rattle.fc_core.specs.Laws.{slot_of}
 use Rattle.fc_core.specs.Rows.{Around, Scene, handed, names, row}
 use Rattle.fc_laws.specs.TurnLaws.{moment_at}
@@ -142,7 +142,7 @@ shard_is k i n low is =
 module _ (s : Seen) where
   -- the moment of a shard after an event
   abbrev later : Event → ℕ → ℕ
-  later e i = handed (shard_hands e i) (shard_moment_after (names e) e s i)
+  later e i = handed (hands_by (at_shard e) i) (shard_moment_after (names e) e s i)
 
   named_rises : (o : Option ℕ) (e : Event) (i : ℕ) → s.shard_moment i ≤ shard_moment_after o e s i
   named_rises None e i = omega arith
@@ -155,7 +155,7 @@ module _ (s : Seen) where
   shard_rises : (e : Event) (i : ℕ) → s.shard_moment i ≤ later e i
   shard_rises e i =
       let before = named_rises (names e) e i in
-      let own = handed_rises (shard_hands e i) (shard_moment_after (names e) e s i) in
+      let own = handed_rises (hands_by (at_shard e) i) (shard_moment_after (names e) e s i) in
       omega (arith, before, own)
 
   -- the calls of the job that it names
@@ -163,7 +163,7 @@ module _ (s : Seen) where
   own_moment e k named =
       let i = slot_of s k % 8 in
       let is = (λ j. shard_moment_after (named j) e s i) ∙ ap (λ (b : Bool). if b then handed (row e (scene s k)).hands (s.shard_moment i) else s.shard_moment i) (eq-eqb i i refl) in
-      let own = handed_rises (shard_hands e i) (shard_moment_after (names e) e s i) in
+      let own = handed_rises (hands_by (at_shard e) i) (shard_moment_after (names e) e s i) in
       omega (arith, is, own)
 
   slot_reaches : (e : Event) (k n : ℕ) (b : Bool) → names e ≡ Some k → (slot_of s k == n) ≡ b → Each (ReachesTo (later e (n % 8))) (if b then (row e (scene s k)).calls else [])
@@ -202,7 +202,7 @@ module _ (s : Seen) where
   signal_reaches m id to false true = (tt, tt)
   signal_reaches m id to reset false = tt
 
-  shard_reach : (e : Event) (n : ℕ) → Each (ReachesTo (later e (n % 8))) (calls_in e s n)
+  shard_reach : (e : Event) (n : ℕ) → Each (ReachesTo (later e (n % 8))) (calls_by (at_shard e) s n)
   shard_reach (Due shard now) n = due_reaches shard now n (is_place_of (due_in s shard (max (s.shard_moment shard) now)) shard n) refl
   shard_reach (ShardTick shard now) n = tick_reaches shard now n (is_place_of (late_in s shard (max (s.shard_moment shard) now)) shard n) refl
   shard_reach (Signal shard to id reset) n = signal_reaches (later (Signal shard to id reset) (n % 8)) id to reset ((n % 8) == shard)
@@ -212,7 +212,7 @@ module _ (s : Seen) where
   follows_after r n before =
       let e = r.event in
       let named = calls_named (names e) e s n in
-      let of_shard = calls_in e s n in
+      let of_shard = calls_by (at_shard e) s n in
       let is = after_append n named (of_shard ++ s.calls n) ∙ ap (after_calls named) (after_append n of_shard (s.calls n)) in
       let rises = shard_rises e (n % 8) in
       let here : (watch s n).moment ≤ later e (n % 8) = omega (arith, before, rises) in

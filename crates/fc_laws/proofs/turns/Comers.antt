@@ -17,7 +17,7 @@ use Rattle.fc_registry.specs.Slots.{Present, Ticket}
 use Rattle.fc_registry.specs.Watches.{signal_call}
 use Rattle.fc_core.specs.declared.event.Event.{Event}
 use Rattle.fc_core.specs.declared.event.Event.TheVariants.{Commit, Signal, ShardTick, Due}
-use Rattle.fc_core.specs.History.{Entry, History, Then, Seen, seen, and_then, around, calls_in, calls_named, due_in, is_place_of, job, late_in, scene, slot_at, stage, watch}
+use Rattle.fc_core.specs.History.{Entry, History, Then, Seen, seen, and_then, around, calls_named, due_in, is_place_of, job, late_in, scene, slot_at, stage, watch, at_shard, calls_by}
 use Rattle.fc_core.specs.Laws.{later, slot_of}
 use Rattle.fc_laws.specs.ObserveLaws.{NoneRegisters, Registers, is_held}
 use Rattle.fc_core.specs.Rows.{names, row}
@@ -48,7 +48,7 @@ note_registers : (turn : Turn) (id random moment : ℕ) (found : Option Ticket) 
 note_registers turn id random moment found None to token = (refl, tt)
 note_registers turn id random moment found (Some e) to token = (told_registers (keeps_observer found) turn id random moment (serial_told found) e.bytes to token, (refl, tt))
 
-pub none_in : (e : Event) (s : Seen) (n : ℕ) (to : Endpoint) (token : List ℕ) → RegistersNone to token (calls_in e s n)
+pub none_in : (e : Event) (s : Seen) (n : ℕ) (to : Endpoint) (token : List ℕ) → RegistersNone to token (calls_by (at_shard e) s n)
 none_in (Due shard now) s n to token =
     let at = max (s.shard_moment shard) now in
     none_if (is_place_of (due_in s shard at) shard n) (NextDue at (slot_at s n).noticed) to token refl
@@ -109,7 +109,7 @@ module _ (r : Entry) (s : Seen) (n : ℕ) (to : Endpoint) (token : List ℕ) whe
   stays_away : RegistersNone to token (calls_named (names r.event) r.event s n) → is_held to token (watch s n) ≡ false → is_held to token (watch (and_then r s) n) ≡ false
   stays_away none away =
       let named = calls_named (names r.event) r.event s n in
-      let of_shard = calls_in r.event s n in
+      let of_shard = calls_by (at_shard r.event) s n in
       let before = stays_gone to token of_shard (watch s n) (none_in r.event s n to token) away in
       ap (is_held to token) (after_append n named (of_shard ++ s.calls n) ∙ ap (after_calls named) (after_append n of_shard (s.calls n)))
       ∙ stays_gone to token named (after_calls of_shard (watch s n)) none before

@@ -21,7 +21,7 @@ use Rattle.fc_registry.specs.Notes.{keeps_observer, note_at, note_calls, serial_
 use Rattle.fc_registry.specs.Slots.{Present, Ticket}
 use Rattle.fc_core.specs.declared.event.Event.{Event}
 use Rattle.fc_core.specs.declared.event.Event.TheVariants.{Commit, Due, Note, ShardTick, Signal}
-use Rattle.fc_core.specs.History.{Entry, Seen, and_then, around, calls_by, calls_in, calls_named, due_in, is_place_of, job, late_in, scene, slot_at, stage, watch}
+use Rattle.fc_core.specs.History.{Entry, Seen, and_then, around, calls_by, calls_named, due_in, is_place_of, job, late_in, scene, slot_at, stage, watch, at_shard}
 use Rattle.fc_core.specs.Laws.{slot_of}
 use Rattle.fc_laws.specs.ObserveLaws.{is_held}
 use Rattle.fc_core.specs.Rows.{names, row}
@@ -176,7 +176,7 @@ module _ (r : Entry) (s : Seen) (n : ℕ) (to : Endpoint) (token : List ℕ) whe
       })))
       (stays_or_goes to token (TickObservers at) w some)
 
-  by_shard : (d : Event) → r.event ≡ d → is_held to token w ≡ true → Stays (calls_in d s n)
+  by_shard : (d : Event) → r.event ≡ d → is_held to token w ≡ true → Stays (calls_by (at_shard d) s n)
   by_shard (Due shard now) event some =
       let at = max (s.shard_moment shard) now in
       inl (one_if to token (is_place_of (due_in s shard at) shard n) (NextDue at (slot_at s n).noticed) w (λ x. x) some)
@@ -190,8 +190,8 @@ module _ (r : Entry) (s : Seen) (n : ℕ) (to : Endpoint) (token : List ℕ) whe
   stays_as u v is some = subst (λ (x : ObserverList). (is_held to token x ≡ true) ⊎ Removes r s n to token) (sym is) some
 
   by_name : (o : Option ℕ) → names r.event ≡ o → is_held to token w ≡ true → (is_held to token (watch (and_then r s) n) ≡ true) ⊎ Removes r s n to token
-  by_name None named some = stays_as (watch (and_then r s) n) (after_calls (calls_in r.event s n) w)
-      ((λ i. observers n (calls_named (named i) r.event s n ++ (calls_in r.event s n ++ s.calls n))) ∙ after_append n (calls_in r.event s n) (s.calls n))
+  by_name None named some = stays_as (watch (and_then r s) n) (after_calls (calls_by (at_shard r.event) s n) w)
+      ((λ i. observers n (calls_named (named i) r.event s n ++ (calls_by (at_shard r.event) s n ++ s.calls n))) ∙ after_append n (calls_by (at_shard r.event) s n) (s.calls n))
       (by_shard r.event refl some)
   by_name (Some k) named some =
       let calls = calls_named (Some k) r.event s n in

@@ -27,7 +27,7 @@ use Rattle.fc_core.specs.declared.stage.Task.{Task}
 use Rattle.fc_core.specs.declared.stage.TurnStage.{TurnStage}
 use Rattle.fc_core.specs.declared.stage.TurnStage.TheVariants as turns
 use Rattle.fc_core.specs.Fits.{FitsStage}
-use Rattle.fc_core.specs.History.{Entry, History, Begins, Then, Seen, seen, and_then, around, calls_by, calls_in, calls_named, common, due_in, front_at, is_place_of, job, no_task, received_at, scene, slot_at, stage, task_at, tasks_brought, tasks_moved, turn_at, watch}
+use Rattle.fc_core.specs.History.{Entry, History, Begins, Then, Seen, seen, and_then, around, calls_by, calls_named, common, due_in, front_at, is_place_of, job, no_task, received_at, scene, slot_at, stage, task_at, tasks_brought, tasks_moved, turn_at, watch, at_shard}
 use Rattle.fc_core.specs.Laws.{slot_of}
 use Rattle.fc_core.specs.Receiving.{Received, Opened, brought, job_of, next_opening}
 use Rattle.fc_core.specs.Sound.{IsSound}
@@ -164,8 +164,8 @@ module _ (r : Entry) (s : Seen) where
   still_known : (t : Task) → KnowsTask s t → KnowsTask after t
   still_known t w =
       let n = t.job.origin.slot in
-      lasts n (calls_named (names e) e s n) (calls_in e s n ++ s.calls n) (slot_at after n).serial (slot_at after n).serial t.stage (omega arith)
-      (lasts n (calls_in e s n) (s.calls n) (slot_at s n).serial (slot_at after n).serial t.stage (serial_rises n) w)
+      lasts n (calls_named (names e) e s n) (calls_by (at_shard e) s n ++ s.calls n) (slot_at after n).serial (slot_at after n).serial t.stage (omega arith)
+      (lasts n (calls_by (at_shard e) s n) (s.calls n) (slot_at s n).serial (slot_at after n).serial t.stage (serial_rises n) w)
 
   -- the calls of the event that names a job
   own_calls : (k : ℕ) → names e ≡ Some k → after.calls (slot_of s k) ≡ (row e (scene s k)).calls ++ s.calls (slot_of s k)
@@ -208,7 +208,7 @@ module _ (r : Entry) (s : Seen) where
 
     due_calls : after.calls n ≡ NextDue moment noticed ∷ s.calls n
     due_calls =
-        (λ i. calls_named (names (is i)) (is i) s n ++ (calls_in (is i) s n ++ s.calls n))
+        (λ i. calls_named (names (is i)) (is i) s n ++ (calls_by (at_shard (is i)) s n ++ s.calls n))
         ∙ (ap (λ (p : Option ℕ). (if is_place_of p shard n then NextDue moment noticed ∷ [] else []) ++ s.calls n) due
         ∙ ap (λ (b : Bool). (if b then NextDue moment noticed ∷ [] else []) ++ s.calls n) (eq-eqb n n refl))
 
