@@ -1,10 +1,11 @@
 -- What a server on one thread does with a job is a list of events.
-use Rattle.std.proofs.Common.{◌≡◌, ℕ, List, [], ◌∷◌, ◌++◌, length, map, set, ◌<◌, Bool, true, false, Option, Some, None, refl, sym, ap, ◌∙◌, subst, Bor}
+use Rattle.std.proofs.Common.{◌≡◌, ◌≢◌, ℕ, List, [], ◌∷◌, ◌++◌, length, map, set, ◌<◌, Bool, true, false, Option, Some, None, refl, sym, ap, ◌∙◌, subst, Bor}
 use Rattle.std.specs.Option.{option_to_list}
 use Rattle.std.specs.Prelude.{nat_lt}
 use Rattle.std.proofs.lemmas.Bool.{lt-ltb}
 use Rattle.std.proofs.lemmas.List.{append-nil}
 use Rattle.std.proofs.Math.Seq.{get_or-append_seam, set-append_seam}
+use Rattle.arrayvec.specs.ArrayVec.{ArrayVec}
 use Rattle.coap_msg.specs.declared.types.Endpoint.{Endpoint}
 use Rattle.coap_msg.specs.declared.types.Emission.{Emission}
 use Rattle.fc_registry.specs.declared.job.Job.{Job}
@@ -15,13 +16,15 @@ use Rattle.fc_core.specs.declared.event.Event.{Event}
 use Rattle.fc_core.specs.declared.event.Event.TheVariants.{Deliver, Peek, Take, Commit, Install, Remove, Receipt, Raise, Answer, Due, Fresh, Note, GiveUp, Signal, Tick, ShardTick}
 use Rattle.fc_core.specs.declared.front.Delivered.{Delivered}
 use Rattle.fc_core.specs.declared.front.Delivered.TheVariants.{Reply, Job as Brings, Signal as Signals}
+use Rattle.fc_core.specs.declared.stage.Stage.{Stage}
+use Rattle.fc_core.specs.declared.stage.Stage.TheVariants.{ToMatch, ToTake, ToInstall, ToRemove, ToDescribe, ToList}
 use Rattle.fc_core.specs.declared.stage.Task.{Task}
 use Rattle.fc_core.specs.Exchanges.{FrontState, advanced}
 use Rattle.fc_core.specs.Fits.{FitsStage}
 use Rattle.fc_core.specs.History.{History, Seen, seen, task_at, no_task}
 use Rattle.fc_core.specs.Receiving as x
 use Rattle.fc_core.specs.Receiving.{Received, after_delivered, brought, delivered, handed_on, next_opening, received, reply_or_nothing, sent}
-use Rattle.fc_core.specs.Stages.{new_task}
+use Rattle.fc_core.specs.Stages.{first_stage, new_task}
 use Rattle.fc_server.specs.Agreement.{Agrees, Parts}
 use Rattle.fc_server.specs.Serving.{TurnGiven, Delivers, Heard, Hears, IsReachable, AsksForTurn, Passes, TicksShard, Serves, next, signalled_below, turned, with_tasks, worked, IsBegun, IsSignalled, WorksOff}
 use Rattle.fc_server.specs.States.{Responds, AtWork, Does, DrawsId, ServerState}
@@ -51,6 +54,9 @@ reached_at_work p k r = at_seen r.seen p k (task_at p.tasks k) r.agrees (ap (λ 
 
 pub at_work : {h : History} {s : ServerState} (rest : List Task) {task : Task} → Serves h s (rest ++ task ∷ []) → AtWork s task
 at_work {h} {s} rest {task} v = at_seen (seen h) (with_tasks s (rest ++ task ∷ [])) (length rest) task v.agrees (ap (λ (ts : List Task). task_at ts (length rest)) (sym v.agrees.tasks) ∙ seam rest task)
+
+pub begun_on : {h : History} {s : ServerState} (rest : List Task) {task : Task} → Serves h s (rest ++ task ∷ []) → IsBegun s task
+begun_on {h} rest v = record { history = h; rest = rest; serves = v }
 
 -- one event more
 serves_on : (h : History) (e : Event) (old : ServerState) (tasks : List Task) (out : Option Emission) (new : ServerState) (later : List Task) → Done e (with_tasks old tasks) out (with_tasks new later) → Serves h old tasks → Serves (next h e out) new later
@@ -205,7 +211,7 @@ module _ (now : ℕ) (to : Endpoint) (b : Bor (List ℕ)) (old mid : ServerState
   pub begun_by : IsReachable old → IsBegun mid (new_task job)
   begun_by s = record { history = next s.history (Deliver now to b) None; rest = s.tasks; serves = delivered_on now to b old mid (Brings job) is front shards words s.history s.tasks s.serves }
 
-  pub heard_job : (readings : List ℕ) (new : ServerState) (out : Option Emission) → WorksOff readings job.ask now mid (new_task job) new out → Hears readings now to b (delivered (advanced old.front now) to b.now) old new out
+  pub heard_job : (readings : List ℕ) (new : ServerState) (out : Option Emission) → WorksOff readings (first_stage job) now mid (new_task job) new out → Hears readings now to b (delivered (advanced old.front now) to b.now) old new out
   heard_job readings new out works h tasks v =
       subst (λ (y : Delivered). Heard readings h (length tasks) now to b y new out) (sym is)
       (works (next h (Deliver now to b) None) tasks (delivered_on now to b old mid (Brings job) is front shards words h tasks v))
@@ -222,7 +228,7 @@ module _ (now : ℕ) (to : Endpoint) (b : Bor (List ℕ)) (old mid : ServerState
 
 -- a server that heard a datagram is one that some history leaves
 heard_served : (readings : List ℕ) (h : History) (k now : ℕ) (to : Endpoint) (b : Bor (List ℕ)) (new : ServerState) (out : Option Emission) (d : Delivered) → Heard readings h k now to b d new out → IsReachable new
-heard_served readings h k now to b new out (Brings job) w = record { history = worked readings job.ask job.origin.slot k w.memory now out (next h (Deliver now to b) None); tasks = w.tasks; serves = w.serves }
+heard_served readings h k now to b new out (Brings job) w = record { history = worked readings (first_stage job) job.origin.slot k w.memory now out (next h (Deliver now to b) None); tasks = w.tasks; serves = w.serves }
 heard_served readings h k now to b new out (Signals id reset) w = record { history = signalled_below to id reset 8 (next h (Deliver now to b) None); tasks = w.1.tasks; serves = w.1.serves }
 heard_served readings h k now to b new out other w = record { history = next h (Deliver now to b) out; tasks = w.tasks; serves = w.serves }
 
@@ -248,3 +254,17 @@ asked_served true readings h k now random new out w = record { history = turned 
 
 pub notified_served : (readings : List ℕ) (shard now random : ℕ) (old new : ServerState) (given : Bool) (out : Option Emission) → IsReachable old → AsksForTurn readings shard now random old new given out → IsReachable new
 notified_served readings shard now random old new given out s notifies = asked_served given readings (next s.history (Due shard now) None) (length s.tasks) now random new out (notifies.asked s.history s.tasks s.serves)
+
+-- ---- a job that is to be answered
+
+-- at a stage that none of these is there is no call before the answer
+pub worked_at_once : (readings : List ℕ) (stage : Stage) (slot k : ℕ) (memory : Bool) (now : ℕ) (out : Option Emission) (h : History) → stage ≢ ToMatch
+    → ((count : ℕ) → stage ≢ ToTake count) → stage ≢ ToInstall → stage ≢ ToRemove → stage ≢ ToDescribe → ((seen : ArrayVec ℕ) → stage ≢ ToList seen)
+    → worked readings stage slot k memory now out h ≡ next h (Answer k now) out
+worked_at_once readings ToMatch slot k memory now out h a b c d e f = absurd (a refl)
+worked_at_once readings (ToTake count) slot k memory now out h a b c d e f = absurd (b count refl)
+worked_at_once readings ToInstall slot k memory now out h a b c d e f = absurd (c refl)
+worked_at_once readings ToRemove slot k memory now out h a b c d e f = absurd (d refl)
+worked_at_once readings ToDescribe slot k memory now out h a b c d e f = absurd (e refl)
+worked_at_once readings (ToList seen) slot k memory now out h a b c d e f = absurd (f seen refl)
+worked_at_once readings other slot k memory now out h a b c d e f = refl

@@ -4,15 +4,16 @@ use Rattle.std.specs.Prelude.{◌≡◌, ℕ, zero, suc, Bool, true, false, List
 use Rattle.std.specs.Borrow.{Bor}
 use Rattle.coap_msg.specs.declared.types.Emission.{Emission}
 use Rattle.coap_msg.specs.declared.types.Endpoint.{Endpoint}
-use Rattle.fc_registry.specs.declared.job.Ask.{Ask}
-use Rattle.fc_registry.specs.declared.job.Ask.TheVariants.{Run, Install as Installs, Remove as Removes, Describe, Discover}
 use Rattle.fc_core.specs.declared.event.Event.{Event}
 use Rattle.fc_core.specs.declared.event.Event.TheVariants.{Deliver, Peek, Take, Commit, Install, Remove, Receipt, Raise, Answer, Due, Fresh, Note, GiveUp, Signal, Tick, ShardTick}
 use Rattle.fc_core.specs.declared.front.Delivered.{Delivered}
 use Rattle.fc_core.specs.declared.front.Delivered.TheVariants.{Job as Brings, Signal as Signals}
+use Rattle.fc_core.specs.declared.stage.Stage.{Stage}
+use Rattle.fc_core.specs.declared.stage.Stage.TheVariants.{ToMatch, ToTake, ToInstall, ToRemove, ToDescribe, ToList}
 use Rattle.fc_core.specs.declared.stage.Task.{Task}
 use Rattle.fc_core.specs.History.{History, Then, did, seen}
 use Rattle.fc_core.specs.Legal.{AllMean, IsLegal}
+use Rattle.fc_core.specs.Stages.{first_stage}
 use Rattle.fc_server.specs.Agreement.{Agrees, Parts}
 use Rattle.fc_server.specs.States.{ServerState}
 
@@ -34,20 +35,25 @@ abbrev pub peeked_below : ℕ → ℕ → History → History
 peeked_below k zero h = h
 peeked_below k (suc n) h = next (peeked_below k n h) (Peek k n) None
 
--- the events of a job of this number, which is of this slot, that is worked off at once; its taking is handed these readings
-abbrev pub worked : List ℕ → Ask → ℕ → ℕ → Bool → ℕ → Option Emission → History → History
-worked readings (Run request) slot k memory now out h =
-    next (next (next (next (next h (Peek k slot) None) (Take k memory readings) None) (Commit k now) None) (Raise k) None) (Answer k now) out
-worked readings (Installs image) slot k memory now out h = next (next (next h (Install k memory) None) (Raise k) None) (Answer k now) out
-worked readings Removes slot k memory now out h = next (next (next h (Remove k) None) (Raise k) None) (Answer k now) out
-worked readings Describe slot k memory now out h = next (next h (Receipt k) None) (Answer k now) out
-worked readings Discover slot k memory now out h = next (peeked_below k 64 h) (Answer k now) out
+-- the events of a run: its taking is handed these readings
+abbrev pub run_through : List ℕ → ℕ → Bool → ℕ → Option Emission → History → History
+run_through readings k memory now out h = next (next (next (next h (Take k memory readings) None) (Commit k now) None) (Raise k) None) (Answer k now) out
 
--- a job of this number was worked off
-pub record Worked (readings : List ℕ) (h : History) (k : ℕ) (ask : Ask) (slot now : ℕ) (new : ServerState) (out : Option Emission) : Type 0 where
+-- the events of a job of this number, which is of this slot, that is worked off at once: those that its first stage needs, and its answer
+abbrev pub worked : List ℕ → Stage → ℕ → ℕ → Bool → ℕ → Option Emission → History → History
+worked readings ToMatch slot k memory now out h = run_through readings k memory now out (next h (Peek k slot) None)
+worked readings (ToTake count) slot k memory now out h = run_through readings k memory now out h
+worked readings ToInstall slot k memory now out h = next (next (next h (Install k memory) None) (Raise k) None) (Answer k now) out
+worked readings ToRemove slot k memory now out h = next (next (next h (Remove k) None) (Raise k) None) (Answer k now) out
+worked readings ToDescribe slot k memory now out h = next (next h (Receipt k) None) (Answer k now) out
+worked readings (ToList seen) slot k memory now out h = next (peeked_below k 64 h) (Answer k now) out
+worked readings other slot k memory now out h = next h (Answer k now) out
+
+-- a job of this number was worked off, from its first stage
+pub record Worked (readings : List ℕ) (h : History) (k : ℕ) (first : Stage) (slot now : ℕ) (new : ServerState) (out : Option Emission) : Type 0 where
   pub memory : Bool
   pub tasks : List Task
-  pub serves : Serves (worked readings ask slot k memory now out h) new tasks
+  pub serves : Serves (worked readings first slot k memory now out h) new tasks
 
 -- an event that brings no job
 pub record Delivers (h : History) (e : Event) (new : ServerState) (out : Option Emission) : Type 0 where
@@ -71,7 +77,8 @@ IsSignalled to id reset old new = (h : History) → (tasks : List Task) → Serv
 -- a delivery that brings a job: its delivery, and then the job is worked off; one that brings a signal: its delivery, and then each
 -- shard gets it; any other: its delivery
 abbrev pub Heard : List ℕ → History → ℕ → ℕ → Endpoint → Bor (List ℕ) → Delivered → ServerState → Option Emission → Type 0
-Heard readings h k now to bytes (Brings job) new out = Worked readings (next h (Deliver now to bytes) None) k job.ask job.origin.slot now new out
+Heard readings h k now to bytes (Brings job) new out =
+    Worked readings (next h (Deliver now to bytes) None) k (first_stage job) job.origin.slot now new out
 Heard readings h k now to bytes (Signals id reset) new out = (out ≡ None) × Signalled (next h (Deliver now to bytes) None) to id reset new
 Heard readings h k now to bytes other new out = Delivers h (Deliver now to bytes) new out
 
@@ -115,9 +122,10 @@ pub record AsksForTurn (readings : List ℕ) (shard now random : ℕ) (old new :
 abbrev pub Turns : List ℕ → ℕ → ℕ → ServerState → Task → ServerState → Option Emission → Type 0
 Turns readings now random old task new out = (h : History) → (rest : List Task) → Serves h old (rest ++ task ∷ []) → Turned readings h (length rest) now random new out
 
--- the job at work is the last that came
-abbrev pub WorksOff : List ℕ → Ask → ℕ → ServerState → Task → ServerState → Option Emission → Type 0
-WorksOff readings ask now old task new out = (h : History) → (rest : List Task) → Serves h old (rest ++ task ∷ []) → Worked readings h (length rest) ask task.job.origin.slot now new out
+-- the job at work is the last that came, and stands at this stage
+abbrev pub WorksOff : List ℕ → Stage → ℕ → ServerState → Task → ServerState → Option Emission → Type 0
+WorksOff readings stage now old task new out = (h : History) → (rest : List Task) → Serves h old (rest ++ task ∷ [])
+    → Worked readings h (length rest) stage task.job.origin.slot now new out
 
 -- some history leaves this server with this job, which is not yet worked off
 pub record IsBegun (s : ServerState) (task : Task) : Type 0 where

@@ -1,11 +1,10 @@
 //! A server on one thread: each datagram that it hears is worked off to its answer.
 ghost use Rattle.std.specs.Prelude.{◌≡◌, ℕ, ◌<◌, ◌≤◌, List, [], true, None, IfOk, MatchBool};
 ghost use Rattle.arrayvec.specs.ArrayVec.{ArrayVec};
-ghost use Rattle.fc_help.specs.Request.{Request};
-ghost use Rattle.fc_registry.specs.declared.job.Ask.{Ask};
 ghost use Rattle.fc_registry.specs.Shards.{shard_at};
 ghost use Rattle.fc_registry.specs.Slots.{last_serial};
 ghost use Rattle.fc_registry.specs.Watches.{handed, is_quiet};
+ghost use Rattle.fc_core.specs.declared.stage.Stage.{Stage};
 ghost use Rattle.fc_core.specs.Exchanges.{advanced};
 ghost use Rattle.fc_core.specs.History.{Begins};
 ghost use Rattle.fc_core.specs.Receiving.{delivered, emission_if};
@@ -16,10 +15,10 @@ ghost use Rattle.fc_server.specs.Serving.{IsSignalled};
 
 use crate::server::Server;
 use coap_msg::{Emission, Endpoint};
-use fc_core::{Heard, Task};
+use fc_core::{Heard, Stage, Task};
 use fc_help::Readings;
 use fc_observe::Ticked;
-use fc_registry::{Ask, SHARDS, SLOTS};
+use fc_registry::{SHARDS, SLOTS};
 use std::alloc::{AllocError, Global};
 use std::marker::Model;
 
@@ -60,9 +59,9 @@ impl Engine {
 
     /// Takes in a datagram from an endpoint at a moment in milliseconds, works off the job that it brings, whose taking is handed these readings, and writes
     /// what is to be sent over another emission. Tells whether anything is. What it does is a list of events: Deliver, and where it
-    /// brings a job that runs a program Peek of its slot, Take, Commit, Raise and Answer; one that installs Install, Raise and
-    /// Answer; one that removes Remove, Raise and Answer; one that describes Receipt and Answer; one that lists what is there
-    /// Peek of each slot and Answer; and where it brings a signal, Signal of each shard. Whatever the history was, with these it is legal,
+    /// brings a job those that the job's first stage needs: of a run Take, Commit, Raise and Answer, after a Peek of its slot where its client has answers;
+    /// of an install Install, Raise and Answer; of a removal Remove, Raise and Answer; of a description Receipt and Answer; of a list of what is there
+    /// Peek of each slot and Answer; and of any other Answer. Where it brings a signal, Signal of each shard. Whatever the history was, with these it is legal,
     /// and the server is what it leaves.
     pub fn hear(
         &mut self,
@@ -198,7 +197,7 @@ fn told(sent: Option<Emission>, starved: bool) -> Notified
     }
 }
 
-// Works a job off, which the front has just brought. Tells whether anything is sent.
+// Works a job off, which the front has just brought, by what it needs first. Tells whether anything is sent.
 fn work_off(
     server: &mut Server,
     alloc: Global,
@@ -208,15 +207,32 @@ fn work_off(
     reply: &mut Emission,
 ) -> bool
     requires { IsBegun server.old task.old }
-    ensures { WorksOff readings.now task.old.job.ask now server.old task.old server.new (emission_if result reply.new) }
+    ensures { WorksOff readings.now task.old.stage now server.old task.old server.new (emission_if result reply.new) }
 {
-    match &task.job.ask {
-        Ask::Run(_) => run(server, now, task, readings, reply),
-        Ask::Install(_) => install(server, alloc, now, task, reply),
-        Ask::Remove => remove(server, now, task, reply),
-        Ask::Describe => describe(server, now, task, reply),
-        Ask::Discover => discover(server, now, task, reply),
+    match &task.stage {
+        Stage::ToMatch => look_and_run(server, now, task, readings, reply),
+        Stage::ToTake(_) => run(server, now, task, readings, reply),
+        Stage::ToInstall => install(server, alloc, now, task, reply),
+        Stage::ToRemove => remove(server, now, task, reply),
+        Stage::ToDescribe => describe(server, now, task, reply),
+        Stage::ToList(_) => discover(server, now, task, reply),
+        _ => server.respond(now, task, reply),
     }
+}
+
+fn look_and_run(
+    server: &mut Server,
+    now: u64,
+    task: &mut Task,
+    readings: &Readings,
+    reply: &mut Emission,
+) -> bool
+    requires { IsBegun server.old task.old }
+    ensures { WorksOff readings.now Stage.ToMatch now server.old task.old server.new (emission_if result reply.new) }
+{
+    let slot = task.job.origin.slot.number();
+    server.peek(task, slot);
+    run(server, now, task, readings, reply)
 }
 
 fn run(
@@ -227,10 +243,8 @@ fn run(
     reply: &mut Emission,
 ) -> bool
     requires { IsBegun server.old task.old }
-    ensures { (request : Request) → WorksOff readings.now (Ask.Run request) now server.old task.old server.new (emission_if result reply.new) }
+    ensures { (count : ℕ) → WorksOff readings.now (Stage.ToTake count) now server.old task.old server.new (emission_if result reply.new) }
 {
-    let slot = task.job.origin.slot.number();
-    server.peek(task, slot);
     server.take(readings, task);
     server.commit(now, task);
     server.raise(task);
@@ -245,7 +259,7 @@ fn install(
     reply: &mut Emission,
 ) -> bool
     requires { IsBegun server.old task.old }
-    ensures { (image : ArrayVec ℕ) (readings : List ℕ) → WorksOff readings (Ask.Install image) now server.old task.old server.new (emission_if result reply.new) }
+    ensures { (readings : List ℕ) → WorksOff readings Stage.ToInstall now server.old task.old server.new (emission_if result reply.new) }
 {
     server.install(alloc, task);
     server.raise(task);
@@ -254,7 +268,7 @@ fn install(
 
 fn remove(server: &mut Server, now: u64, task: &mut Task, reply: &mut Emission) -> bool
     requires { IsBegun server.old task.old }
-    ensures { (readings : List ℕ) → WorksOff readings Ask.Remove now server.old task.old server.new (emission_if result reply.new) }
+    ensures { (readings : List ℕ) → WorksOff readings Stage.ToRemove now server.old task.old server.new (emission_if result reply.new) }
 {
     server.remove(task);
     server.raise(task);
@@ -263,7 +277,7 @@ fn remove(server: &mut Server, now: u64, task: &mut Task, reply: &mut Emission) 
 
 fn describe(server: &mut Server, now: u64, task: &mut Task, reply: &mut Emission) -> bool
     requires { IsBegun server.old task.old }
-    ensures { (readings : List ℕ) → WorksOff readings Ask.Describe now server.old task.old server.new (emission_if result reply.new) }
+    ensures { (readings : List ℕ) → WorksOff readings Stage.ToDescribe now server.old task.old server.new (emission_if result reply.new) }
 {
     server.describe(task);
     server.respond(now, task, reply)
@@ -271,7 +285,7 @@ fn describe(server: &mut Server, now: u64, task: &mut Task, reply: &mut Emission
 
 fn discover(server: &mut Server, now: u64, task: &mut Task, reply: &mut Emission) -> bool
     requires { IsBegun server.old task.old }
-    ensures { (readings : List ℕ) → WorksOff readings Ask.Discover now server.old task.old server.new (emission_if result reply.new) }
+    ensures { (seen : ArrayVec ℕ) (readings : List ℕ) → WorksOff readings (Stage.ToList seen) now server.old task.old server.new (emission_if result reply.new) }
 {
     for slot in 0..SLOTS {
         server.peek(task, slot);

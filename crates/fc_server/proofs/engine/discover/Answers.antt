@@ -16,7 +16,7 @@ pub respond-requires : goal.respond-requires
 respond-requires c = at_work c.requires.rest (c.loop-slot.invariant c.requires.history c.requires.rest c.requires.serves)
 
 pub returns : goal.returns
-returns c = λ readings h rest v.
+returns c = λ seen readings h rest v.
     let all : c.loop-slot.slot ≡ 64 = omega (arith, c.loop-slot.auto.slot-end, c.loop-slot-test.false) in
-    let seen = subst (λ (n : ℕ). Serves (peeked_below (length rest) n h) c.loop-slot.server (rest ++ c.loop-slot.task ∷ [])) all (c.loop-slot.invariant h rest v) in
-    record { memory = true; tasks = rest ++ c.respond.new.task ∷ []; serves = answered_on rest seen c.args.now _ c.respond.ensures }
+    let listed = subst (λ (n : ℕ). Serves (peeked_below (length rest) n h) c.loop-slot.server (rest ++ c.loop-slot.task ∷ [])) all (c.loop-slot.invariant h rest v) in
+    record { memory = true; tasks = rest ++ c.respond.new.task ∷ []; serves = answered_on rest listed c.args.now _ c.respond.ensures }

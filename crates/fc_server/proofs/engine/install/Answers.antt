@@ -17,7 +17,7 @@ respond-requires c =
     at_work rest (raised_on rest installed (c.raise.ensures (length rest)))
 
 pub returns : goal.returns
-returns c = λ image readings h rest v.
+returns c = λ readings h rest v.
     let installed = installed_on rest v c.install.result (c.install.ensures (length rest)) in
     let raised = raised_on rest installed (c.raise.ensures (length rest)) in
     record { memory = c.install.result; tasks = rest ++ c.respond.new.task ∷ []; serves = answered_on rest raised c.args.now _ c.respond.ensures }

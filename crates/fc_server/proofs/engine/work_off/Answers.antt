@@ -1,20 +1,51 @@
-use Rattle.std.proofs.Common.{length, sym, subst}
-use Rattle.fc_registry.specs.declared.job.Ask.{Ask}
+use Rattle.std.proofs.Common.{length, ◌++◌, ◌∷◌, [], true, sym, subst}
+use Rattle.fc_core.specs.History.{History}
+use Rattle.fc_core.specs.declared.stage.Stage.{Stage}
 use Rattle.fc_core.specs.Receiving.{emission_if}
-use Rattle.fc_server.specs.Serving.{Worked}
+use Rattle.fc_server.specs.Serving.{Serves, Worked}
+use Rattle.fc_server.proofs.Served.{answered_on, at_work, worked_at_once}
 use Rattle.fc_server.proofs.engine.work_off.Goals as goal
 
-pub returns-in-Run : goal.returns-in-Run
-returns-in-Run c = λ h rest v. subst (λ (a : Ask). Worked c.args.readings.now h (length rest) a c.args.task.now.job.origin.slot c.args.now c.run.new.server (emission_if c.run.result c.run.new.reply)) (sym c.in-Run.is) (c.run.ensures c.in-Run.field-0 h rest v)
+pub returns-in-ToMatch : goal.returns-in-ToMatch
+returns-in-ToMatch c = λ h rest v.
+    let out = emission_if c.look_and_run.result c.look_and_run.new.reply in
+    subst (λ (st : Stage). Worked c.args.readings.now h (length rest) st c.args.task.now.job.origin.slot c.args.now c.look_and_run.new.server out) (sym c.in-ToMatch.is) (c.look_and_run.ensures h rest v)
 
-pub returns-in-Install : goal.returns-in-Install
-returns-in-Install c = λ h rest v. subst (λ (a : Ask). Worked c.args.readings.now h (length rest) a c.args.task.now.job.origin.slot c.args.now c.install.new.server (emission_if c.install.result c.install.new.reply)) (sym c.in-Install.is) (c.install.ensures c.in-Install.field-0 c.args.readings.now h rest v)
+pub returns-in-ToTake : goal.returns-in-ToTake
+returns-in-ToTake c = λ h rest v.
+    let out = emission_if c.run.result c.run.new.reply in
+    subst (λ (st : Stage). Worked c.args.readings.now h (length rest) st c.args.task.now.job.origin.slot c.args.now c.run.new.server out) (sym c.in-ToTake.is) (c.run.ensures c.in-ToTake.field-0 h rest v)
 
-pub returns-in-Remove : goal.returns-in-Remove
-returns-in-Remove c = λ h rest v. subst (λ (a : Ask). Worked c.args.readings.now h (length rest) a c.args.task.now.job.origin.slot c.args.now c.remove.new.server (emission_if c.remove.result c.remove.new.reply)) (sym c.in-Remove.is) (c.remove.ensures c.args.readings.now h rest v)
+pub returns-in-ToInstall : goal.returns-in-ToInstall
+returns-in-ToInstall c = λ h rest v.
+    let out = emission_if c.install.result c.install.new.reply in
+    subst (λ (st : Stage). Worked c.args.readings.now h (length rest) st c.args.task.now.job.origin.slot c.args.now c.install.new.server out) (sym c.in-ToInstall.is) (c.install.ensures c.args.readings.now h rest v)
 
-pub returns-in-Describe : goal.returns-in-Describe
-returns-in-Describe c = λ h rest v. subst (λ (a : Ask). Worked c.args.readings.now h (length rest) a c.args.task.now.job.origin.slot c.args.now c.describe.new.server (emission_if c.describe.result c.describe.new.reply)) (sym c.in-Describe.is) (c.describe.ensures c.args.readings.now h rest v)
+pub returns-in-ToRemove : goal.returns-in-ToRemove
+returns-in-ToRemove c = λ h rest v.
+    let out = emission_if c.remove.result c.remove.new.reply in
+    subst (λ (st : Stage). Worked c.args.readings.now h (length rest) st c.args.task.now.job.origin.slot c.args.now c.remove.new.server out) (sym c.in-ToRemove.is) (c.remove.ensures c.args.readings.now h rest v)
 
-pub returns-in-Discover : goal.returns-in-Discover
-returns-in-Discover c = λ h rest v. subst (λ (a : Ask). Worked c.args.readings.now h (length rest) a c.args.task.now.job.origin.slot c.args.now c.discover.new.server (emission_if c.discover.result c.discover.new.reply)) (sym c.in-Discover.is) (c.discover.ensures c.args.readings.now h rest v)
+pub returns-in-ToDescribe : goal.returns-in-ToDescribe
+returns-in-ToDescribe c = λ h rest v.
+    let out = emission_if c.describe.result c.describe.new.reply in
+    subst (λ (st : Stage). Worked c.args.readings.now h (length rest) st c.args.task.now.job.origin.slot c.args.now c.describe.new.server out) (sym c.in-ToDescribe.is) (c.describe.ensures c.args.readings.now h rest v)
+
+pub returns-in-ToList : goal.returns-in-ToList
+returns-in-ToList c = λ h rest v.
+    let out = emission_if c.discover.result c.discover.new.reply in
+    subst (λ (st : Stage). Worked c.args.readings.now h (length rest) st c.args.task.now.job.origin.slot c.args.now c.discover.new.server out) (sym c.in-ToList.is) (c.discover.ensures c.in-ToList.field-0 c.args.readings.now h rest v)
+
+pub respond-requires : goal.respond-requires
+respond-requires c = at_work c.requires.rest c.requires.serves
+
+pub returns-in_default : goal.returns-in_default
+returns-in_default c = λ h rest v.
+    let n = c.in_default in
+    let all = rest ++ c.respond.new.task ∷ [] in
+    let out = emission_if c.respond.result c.respond.new.reply in
+    let task = c.args.task.now in
+    let at_once = worked_at_once c.args.readings.now task.stage task.job.origin.slot (length rest) true c.args.now out h
+    n.not-ToMatch n.not-ToTake n.not-ToInstall n.not-ToRemove n.not-ToDescribe n.not-ToList in
+    let done = answered_on rest v c.args.now out c.respond.ensures in
+    record { memory = true; tasks = all; serves = subst (λ (x : History). Serves x c.respond.new.self all) (sym at_once) done }

@@ -64,7 +64,8 @@ hears_job c =
     let e = c.hear.ensures in
     let job = c.hear.new.job in
     let is = sym e.delivered ∙ ap (λ (r : Hearing). heard r job c.hear.new.reply) c.in-Job.is in
-    let works = subst (λ (t : Task). WorksOff c.args.readings.now t.job.ask c.args.now c.hear.new.self t c.work_off.new.server (emission_if c.work_off.result c.work_off.new.reply)) c.begin.ensures c.work_off.ensures in
+    let out = emission_if c.work_off.result c.work_off.new.reply in
+    let works = subst (λ (t : Task). WorksOff c.args.readings.now t.stage c.args.now c.hear.new.self t c.work_off.new.server out) c.begin.ensures c.work_off.ensures in
     heard_job c.args.now c.args.endpoint c.args.bytes c.self.inside.server c.hear.new.self job is e.front e.shards e.words c.args.readings.now c.work_off.new.server (emission_if c.work_off.result c.work_off.new.reply) works
 
 pub invariant_of-self-in-Job : goal.invariant_of-self-in-Job

@@ -1,0 +1,24 @@
+use Rattle.std.proofs.Common.{ℕ, length, subst}
+use Rattle.fc_core.specs.declared.stage.Stage.TheVariants.{ToMatch}
+use Rattle.fc_core.specs.Receiving.{emission_if}
+use Rattle.fc_server.specs.Serving.{Serves, worked}
+use Rattle.fc_server.proofs.Served.{at_work, begun_on, peeked_on}
+use Rattle.fc_server.proofs.engine.look_and_run.Goals as goal
+
+pub peek-requires : goal.peek-requires
+peek-requires c = at_work c.requires.rest c.requires.serves
+
+pub run-requires : goal.run-requires
+run-requires c =
+    let rest = c.requires.rest in
+    begun_on rest (peeked_on rest c.requires.serves c.number-slot.result (c.peek.ensures (length rest)))
+
+pub returns : goal.returns
+returns c = λ h rest v.
+    let out = emission_if c.run.result c.run.new.reply in
+    let w = c.run.ensures 0 _ rest (peeked_on rest v c.number-slot.result (c.peek.ensures (length rest))) in
+    record {
+      memory = w.memory;
+      tasks = w.tasks;
+      serves = subst (λ (n : ℕ). Serves (worked c.args.readings.now ToMatch n (length rest) w.memory c.args.now out h) c.run.new.server w.tasks) c.number-slot.ensures.number w.serves;
+    }
