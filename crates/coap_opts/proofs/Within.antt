@@ -11,7 +11,7 @@ use Rattle.coap_msg.specs.declared.types.MessageType.TheVariants as kind
 use Rattle.coap_msg.specs.declared.code.TheConstants.Code.{GET, PUT, BAD_OPTION}
 use Rattle.coap_opts.specs.declared.number.TheConstants as option
 use Rattle.coap_opts.specs.declared.request.Method.{Method}
-use Rattle.coap_opts.specs.declared.request.Method.TheVariants.{Get, Post, Put, Delete}
+use Rattle.coap_opts.specs.declared.request.Method.TheVariants.{Get, Put}
 use Rattle.coap_opts.specs.declared.request.Resource.{Resource}
 use Rattle.coap_opts.specs.declared.request.Resource.TheVariants.{Run, Program, Core}
 use Rattle.coap_opts.specs.declared.request.Action.{Action}
@@ -39,28 +39,31 @@ fields m action = record {
   payload = m.payload;
 }
 
+-- the resource and the method of an action
+abbrev row_of : Action → Resource × Method
+row_of found = (resource_in found, method_in found)
+
+-- any action's are these
+abbrev row_at : Resource → Method → Action → Resource × Method
+row_at at method found = (at, method)
+
+-- an action is found by its own resource and method alone
+rows_agree : (at : Resource) (method : Method) → option_map row_of (action_of at method) ≡ option_map (row_at at method) (action_of at method)
+rows_agree (Run n) Get = refl
+rows_agree (Program n) Get = refl
+rows_agree Core Get = refl
+rows_agree at other = refl
+
 -- what is asked has its method and its resource
 pub action_only : (at : Resource) (method : Method) (found : Action) → action_of at method ≡ Some found → (at ≡ resource_in found) × (method ≡ method_in found)
-action_only (Run n) Get found h = let same : actions.Get n ≡ found = cc h in (ap resource_in same, ap method_in same)
-action_only (Run n) Post found h = let same : actions.Post n ≡ found = cc h in (ap resource_in same, ap method_in same)
-action_only (Run n) Put found h = absurd (cc h)
-action_only (Run n) Delete found h = absurd (cc h)
-action_only (Program n) Get found h = let same : actions.Describe n ≡ found = cc h in (ap resource_in same, ap method_in same)
-action_only (Program n) Post found h = absurd (cc h)
-action_only (Program n) Put found h = let same : actions.Install n ≡ found = cc h in (ap resource_in same, ap method_in same)
-action_only (Program n) Delete found h = let same : actions.Remove n ≡ found = cc h in (ap resource_in same, ap method_in same)
-action_only Core Get found h = let same : actions.Discover ≡ found = cc h in (ap resource_in same, ap method_in same)
-action_only Core Post found h = absurd (cc h)
-action_only Core Put found h = absurd (cc h)
-action_only Core Delete found h = absurd (cc h)
+action_only at method found h =
+    let same = subst (λ (o : Option Action). option_map row_of o ≡ option_map (row_at at method) o) h (rows_agree at method) in
+    let pair : row_at at method found ≡ row_of found = cc same in
+    (ap (λ (p : Resource × Method). p.0) pair, ap (λ (p : Resource × Method). p.1) pair)
 
 pub action_served : (action : Action) → action_of (resource_in action) (method_in action) ≡ Some action
 action_served (actions.Get n) = refl
-action_served (actions.Post n) = refl
-action_served (actions.Install n) = refl
-action_served (actions.Remove n) = refl
-action_served (actions.Describe n) = refl
-action_served actions.Discover = refl
+action_served other = refl
 
 -- the parts of which an action is found
 record IsActionOf (m : Message) (action : Action) : Type 0 where
@@ -143,10 +146,7 @@ observe_by (actions.Get n) None h = tt
 observe_by (actions.Get n) (Some v) h = refl
 observe_by (actions.Post n) None h = tt
 observe_by (actions.Post n) (Some v) h = absurd (cc (h v refl))
-observe_by (actions.Install n) value h = tt
-observe_by (actions.Remove n) value h = tt
-observe_by (actions.Describe n) value h = tt
-observe_by actions.Discover value h = tt
+observe_by other value h = tt
 
 no_tags : (method : Method) (tags : List (List ℕ)) → ((v : List ℕ) → first_of tags ≡ Some v → method ≡ Get) → method ≢ Get → take 4 (map uint_value (filter (λ v. length v == 8) tags)) ≡ []
 no_tags method [] h n = refl

@@ -12,7 +12,7 @@ use Rattle.fc_machine.specs.Ran.{Ran, ran}
 use Rattle.fc_help.specs.Request.{Request}
 use Rattle.fc_observe.specs.Observers.{ObserverList}
 use Rattle.fc_registry.specs.declared.job.Ask.{Ask}
-use Rattle.fc_registry.specs.declared.job.Ask.TheVariants.{Run, Install, Remove, Describe, Discover}
+use Rattle.fc_registry.specs.declared.job.Ask.TheVariants.{Run, Discover}
 use Rattle.fc_registry.specs.declared.job.Job.{Job}
 use Rattle.fc_registry.specs.declared.job.Origin.{Origin}
 use Rattle.fc_registry.specs.declared.receipt.Receipt.{Receipt}
@@ -330,10 +330,8 @@ is_run r t p request vars readings e by for on with_them = e ∙ λ i. ran (by i
 first_ready : (job : Job) (ask : Ask) (serials : List ℕ) → IsReady job (first_by ask serials)
 first_ready job (Run request) [] = omega arith
 first_ready job (Run request) (x ∷ xs) = tt
-first_ready job (Install image) serials = tt
-first_ready job Remove serials = tt
-first_ready job Describe serials = tt
 first_ready job Discover serials = omega arith
+first_ready job other serials = tt
 
 no_calls : {T : Type 0} (shop : Shop T) (number : ℕ) (job : Job) → AreCalls shop number job []
 unfolding AreCalls

@@ -12,9 +12,8 @@ use crate::share::Share;
 use crate::tools::Tools;
 use crate::workshop::{Gate, Moments, Wire, Workshop};
 use coap_msg::{Emission, Endpoint};
-use fc_core::Heard;
 use fc_core::front::blank_job;
-use fc_core::heads::{is_present, serial_in};
+use fc_core::{Heard, Stage};
 use fc_jobs::{Jobs, Sent};
 use fc_observe::Ticked;
 use fc_registry::{Ask, Job, SHARDS};
@@ -222,26 +221,26 @@ impl<'a, B: Bench, G: Gate, W: Wire, M: Moments> Dispatcher<'a, B, G, W, M> {
         match self.handover {
             Handover::Every => self.jobs.await_worker(rt),
             Handover::Dear(least) => {
-                self.jobs.is_served() && self.needs_run() && self.cost(rt) >= least
+                self.jobs.is_served() && self.is_to_take() && self.cost(rt) >= least
             }
             Handover::Never => false,
         }
     }
 
-    // Whether its job needs a run: it asks for one, and its slot's head word doesn't answer it by one of its entity tags. No lock is taken.
-    fn needs_run(&mut self) -> bool
+    // Whether its job takes first: it asks for a run, and its slot's head word doesn't answer it by one of its entity tags. No lock is taken.
+    fn is_to_take(&mut self) -> bool
         ensures done { self.new.done ≡ self.old.done }
         ensures job { self.new.job ≡ self.old.job }
         ensures handover { self.new.handover ≡ self.old.handover }
     {
-        match &self.job.ask {
-            Ask::Run(_) if self.job.etags.is_empty() => true,
-            Ask::Run(_) => {
+        match Stage::asked(&self.job) {
+            Stage::ToTake(_) => true,
+            Stage::ToMatch => {
                 let slot = self.job.origin.slot;
                 let word = self.workshop.bench.peek(slot, &mut self.tools.heads);
-                !is_present(word) || !self.job.etags.as_slice().contains(&serial_in(word))
+                matches!(Stage::matched(&self.job, word), Stage::ToTake(_))
             }
-            Ask::Install(_) | Ask::Remove | Ask::Describe | Ask::Discover => false,
+            _ => false,
         }
     }
 
@@ -254,7 +253,7 @@ impl<'a, B: Bench, G: Gate, W: Wire, M: Moments> Dispatcher<'a, B, G, W, M> {
                 Some(receipt) => receipt.cost,
                 None => 0,
             },
-            Ask::Install(_) | Ask::Remove | Ask::Describe | Ask::Discover => 0,
+            _ => 0,
         }
     }
 
