@@ -8,6 +8,7 @@ ghost use Rattle.fc_registry.specs.Notes.{note_at, note_calls};
 ghost use Rattle.fc_registry.specs.Watches.{handed, watch_at, with_calls};
 ghost use Rattle.fc_core.specs.declared.event.Event.{Event};
 ghost use Rattle.fc_core.specs.Fits.{FitsStage, HasListed, HasNext, TellsOwn};
+ghost use Rattle.fc_core.specs.Receiving.{emission_if};
 ghost use Rattle.fc_core.specs.Sound.{AllSafe};
 ghost use Rattle.fc_core.specs.Stages.{after_list, content_at, drew, ended, had_memory, image_of, needs_id, new_task, turn_to_take, without_memory};
 ghost use Rattle.fc_core.specs.Steps.{changes_told, next_stage};
@@ -21,7 +22,7 @@ use coap_msg::Emission;
 use fc_help::{NO_READINGS, Readings};
 use fc_machine::{Frame, run};
 use fc_observe::Turn;
-use fc_registry::{Ask, Job, Noted, Notification, Receipt, Shard, SlotNumber, Taken, Ticket};
+use fc_registry::{Ask, Job, NoteOutcome, Notification, Receipt, Shard, SlotNumber, Taken, Ticket};
 use fc_verify::{Refusal, Verified, verify};
 use std::alloc::{AllocError, Global};
 use std::mem;
@@ -281,30 +282,32 @@ impl Task {
         }
     }
 
-    /// Runs the program of its turn's ticket, if it has one, and notifies the turn's observer at its shard, at a moment in milliseconds:
-    /// what is sent, where the turn is out still. With that it is over.
+    /// Runs the program of its turn's ticket, if it has one, and notifies the turn's observer at its shard, at a moment in milliseconds,
+    /// where the turn is out still: what is sent is written over another emission. Tells whether anything is. With that it is over.
     pub fn note(
         &mut self,
         frame: &mut Frame,
         shard: &mut Shard,
         now: u64,
         random: u16,
-    ) -> Option<Emission>
+        emission: &mut Emission,
+    ) -> bool
         requires owned { IsOwned shard.old self.old.job.origin.slot }
         requires fits { FitsStage self.old.job (slot_in shard.old self.old.job.origin.slot) self.old.stage }
         ensures task { (k : ℕ) → TaskMoves (Event.Note k now random) shard.old self.old self.new }
         ensures shard { (k : ℕ) → ShardMoves (Event.Note k now random) shard.old self.old shard.new }
-        ensures sent { (common : Common) → result ≡ notification now (scene_of shard.old common self.old) self.old.stage }
+        ensures sent { (common : Common) →
+            emission_if result emission.new ≡ notification now (scene_of shard.old common self.old) self.old.stage }
     {
-        match self.leave() {
-            Stage::ToTell(turn, TurnStage::ToNote(found, id)) => {
-                note(frame, shard, turn, id, now, random, &found)
-            }
-            other => {
-                self.stage = other;
-                None
-            }
-        }
+        let Stage::ToTell(turn, needs) = &self.stage else {
+            return false;
+        };
+        let TurnStage::ToNote(found, id) = needs else {
+            return false;
+        };
+        let sent = note(frame, shard, *turn, *id, now, random, found, emission);
+        self.stage = Stage::Gone;
+        sent
     }
 
     /// Gives up its turn at its shard, at a moment in milliseconds, and so ends it.
@@ -397,7 +400,7 @@ fn run_and_commit(
     Stage::committed(count, &outcome, ticket, committed)
 }
 
-// Notifies the observer of a turn of what its taking found.
+// Notifies the observer of a turn of what its taking found: what is sent is written over another emission. Tells whether anything is.
 fn note(
     frame: &mut Frame,
     shard: &mut Shard,
@@ -406,11 +409,13 @@ fn note(
     now: u64,
     random: u16,
     found: &Option<Ticket>,
-) -> Option<Emission>
+    emission: &mut Emission,
+) -> bool
     requires owned { IsOwned shard.old turn.slot }
     requires own { TellsOwn turn (slot_in shard.old turn.slot).serial found.now }
-    ensures sent { result ≡ note_at turn id (max shard.old.now now) found.now (watch_at shard.old (turn.slot / 8)) }
-    ensures shard { shard.new ≡ with_calls (note_calls turn id random (max shard.old.now now) found.now result) turn.slot (handed shard.old now) }
+    ensures sent { emission_if result emission.new ≡ note_at turn id (max shard.old.now now) found.now (watch_at shard.old (turn.slot / 8)) }
+    ensures shard { let sent = emission_if result emission.new in
+        shard.new ≡ with_calls (note_calls turn id random (max shard.old.now now) found.now sent) turn.slot (handed shard.old now) }
 {
     let noted = match found {
         Some(ticket) => {
@@ -421,13 +426,14 @@ fn note(
                 ticket.vars(),
                 ticket.readings(),
             );
-            shard.note(turn, id, now, random, &Notification::Ran(&outcome, ticket))
+            let ran = Notification::Ran(&outcome, ticket);
+            shard.write_note(turn, id, now, random, &ran, emission)
         }
-        None => shard.note(turn, id, now, random, &Notification::Gone),
+        None => shard.write_note(turn, id, now, random, &Notification::Gone, emission),
     };
     match noted {
-        Noted::Send(emission) => Some(emission),
-        Noted::Stale | Noted::Stranger => None,
+        NoteOutcome::Sent => true,
+        NoteOutcome::Stale | NoteOutcome::Stranger => false,
     }
 }
 

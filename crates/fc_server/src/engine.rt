@@ -1,6 +1,7 @@
 //! A server on one thread: each datagram that it hears is worked off to its answer.
 ghost use Rattle.std.specs.Prelude.{◌≡◌, ℕ, ◌<◌, ◌≤◌, List, [], true, None, IfOk, MatchBool};
 ghost use Rattle.arrayvec.specs.ArrayVec.{ArrayVec};
+ghost use Rattle.coap_msg.specs.declared.types.Emission.{Emission as Emitted};
 ghost use Rattle.fc_registry.specs.Shards.{shard_at};
 ghost use Rattle.fc_registry.specs.Slots.{last_serial};
 ghost use Rattle.fc_registry.specs.Watches.{handed, is_quiet};
@@ -10,7 +11,7 @@ ghost use Rattle.fc_core.specs.History.{Begins};
 ghost use Rattle.fc_core.specs.Receiving.{delivered, emission_if};
 ghost use Rattle.fc_core.specs.Legal.{resent};
 ghost use Rattle.fc_server.specs.Serving.{Hears, IsBegun, IsReachable, AsksForTurn, Passes, TicksShard, Serves, Turns, WorksOff};
-ghost use Rattle.fc_server.specs.Notified.{is_given, notification_in};
+ghost use Rattle.fc_server.specs.Notified.{is_given, notification_in, notified_as};
 ghost use Rattle.fc_server.specs.Serving.{IsSignalled};
 
 use crate::server::Server;
@@ -126,27 +127,34 @@ impl Engine {
     }
 
     /// Asks a shard, 0 to 7, for the turn of an observer that is due at a moment in milliseconds, and works it off: the events Due, and,
-    /// where it brings a turn, Take with these readings, Fresh, Note and GiveUp of it. The random word says how long a confirmable notification is waited for.
-    pub fn notify(&mut self, shard: u8, now: u64, readings: &Readings, random: u16) -> Notified
+    /// where it brings a turn, Take with these readings, Fresh, Note and GiveUp of it. What is sent is written over another emission. The random word says
+    /// how long a confirmable notification is waited for.
+    pub fn notify(
+        &mut self,
+        shard: u8,
+        now: u64,
+        readings: &Readings,
+        random: u16,
+        emission: &mut Emission,
+    ) -> NotifyOutcome
         requires { shard < 8 }
-        ensures { AsksForTurn readings.now shard now random self.old self.new (is_given result) (notification_in result) }
+        ensures { let told = notified_as result emission.new in
+            AsksForTurn readings.now shard now random self.old self.new (is_given told) (notification_in told) }
     {
-        match self.server.due(shard, now) {
-            None => Notified::Nobody,
-            Some(job) => {
-                self.task.job = job;
-                self.task.begin();
-                tell(&mut self.server, now, readings, random, &mut self.task)
-            }
+        if !self.server.due(shard, now, &mut self.task.job) {
+            return NotifyOutcome::Nobody;
         }
+        let task = &mut self.task;
+        task.begin();
+        tell(&mut self.server, now, readings, random, task, emission)
     }
 }
 
-/// What became of a shard that was asked for a turn.
-#[derive(Drop)]
-pub enum Notified {
-    /// An observer is notified by this.
-    Sent(Emission),
+/// What became of a shard that was asked for a turn, where what is sent is written over an emission of the caller's.
+#[derive(Clone, Copy, PartialEq, Eq)]
+pub enum NotifyOutcome {
+    /// An observer is notified by what was written.
+    Sent,
     /// There was a turn, of which nothing is sent: it was given up, since there was no memory for its taking.
     Unsent,
     /// There was a turn, which was given up, since no message id was free.
@@ -165,35 +173,38 @@ fn signal(server: &mut Server, endpoint: Endpoint, id: u16, reset: bool)
     }
 }
 
-// Works a turn off, which a shard has just given.
+// Works a turn off, which a shard has just given: what is sent is written over another emission.
 fn tell(
     server: &mut Server,
     now: u64,
     readings: &Readings,
     random: u16,
     task: &mut Task,
-) -> Notified
+    emission: &mut Emission,
+) -> NotifyOutcome
     requires { IsBegun server.old task.old }
-    ensures turns { Turns readings.now now random server.old task.old server.new (notification_in result) }
-    ensures given { is_given result ≡ true }
+    ensures turns { Turns readings.now now random server.old task.old server.new (notification_in (notified_as result emission.new)) }
+    ensures given { is_given (notified_as result emission.new) ≡ true }
 {
     server.take(readings, task);
     server.fresh(now, task);
     let starved = task.needs_id();
-    let sent = server.note(now, random, task);
+    let sent = server.note(now, random, task, emission);
     server.give_up(now, task);
     told(sent, starved)
 }
 
-// What became of a turn that sent this, and for which a message id was free or not.
-fn told(sent: Option<Emission>, starved: bool) -> Notified
-    ensures sent { notification_in result ≡ sent }
-    ensures given { is_given result ≡ true }
+// What became of a turn of which what was written is sent or not, and for which a message id was free or not.
+fn told(sent: bool, starved: bool) -> NotifyOutcome
+    ensures sent { (e : Emitted) → notification_in (notified_as result e) ≡ emission_if sent e }
+    ensures given { (e : Emitted) → is_given (notified_as result e) ≡ true }
 {
-    match sent {
-        Some(emission) => Notified::Sent(emission),
-        None if starved => Notified::Starved,
-        None => Notified::Unsent,
+    if sent {
+        NotifyOutcome::Sent
+    } else if starved {
+        NotifyOutcome::Starved
+    } else {
+        NotifyOutcome::Unsent
     }
 }
 

@@ -2,6 +2,7 @@
 ghost use Rattle.std.specs.Prelude.{◌≡◌, ℕ, List, ◌<◌, ◌≤◌, if◌then◌else◌, [], false, length, slice_set, IfOk, OnOk};
 ghost use Rattle.fc_registry.specs.Shards.{first_shards, shard_at};
 ghost use Rattle.fc_registry.specs.Slots.{last_serial};
+ghost use Rattle.fc_registry.specs.Turns.{written_if};
 ghost use Rattle.fc_registry.specs.Watches.{handed, is_quiet, signal_call, signalled};
 ghost use Rattle.fc_core.specs.declared.event.Event.{Event};
 ghost use Rattle.fc_core.specs.Exchanges.{advanced, first_front};
@@ -92,15 +93,17 @@ impl Server {
         self.front.tick(now);
     }
 
-    /// A shard is asked for the turn of an observer that is due at a moment in milliseconds: the job that answers its request anew.
-    pub fn due(&mut self, shard: u8, now: u64) -> Option<Job>
+    /// A shard is asked for the turn of an observer that is due at a moment in milliseconds: the job that answers its request anew is
+    /// written over another. Tells whether there is one; else the job stays as it was.
+    pub fn due(&mut self, shard: u8, now: u64, job: &mut Job) -> bool
         requires { shard < length self.old.shards }
-        ensures job { result ≡ shard_turn now (shard_at self.old.shards shard) }
+        ensures job { written_if result job.new ≡ shard_turn now (shard_at self.old.shards shard) }
+        ensures kept { result ≡ false → job.new ≡ job.old }
         ensures front { self.new.front ≡ self.old.front }
         ensures shards { self.new.shards ≡ slice_set self.old.shards shard (shard_asked now (shard_at self.old.shards shard)) }
         ensures words { self.new.words ≡ self.old.words }
     {
-        self.shards[usize::from(shard)].next_due(now)
+        self.shards[usize::from(shard)].write_due(now, job)
     }
 
     /// Hands an Acknowledgement or a Reset message to the observers of a shard's slots.
@@ -192,7 +195,7 @@ impl Server {
                 self.fresh(now, task);
                 Ok(None)
             }
-            Event::Note { now, random, .. } => Ok(self.note(now, random, task)),
+            Event::Note { now, random, .. } => Ok(self.tell(now, random, task)),
             Event::GiveUp { now, .. } => {
                 self.give_up(now, task);
                 Ok(None)
@@ -327,14 +330,28 @@ impl Server {
         }
     }
 
-    /// A task runs the program that its turn's taking found, if it found one, and notifies the turn's observer, at a moment in
-    /// milliseconds: what is sent, where the turn is out still.
-    pub fn note(&mut self, now: u64, random: u16, task: &mut Task) -> Option<Emission>
+    // A task notifies its turn's observer, at a moment in milliseconds: what is sent.
+    fn tell(&mut self, now: u64, random: u16, task: &mut Task) -> Option<Emission>
         requires { AtWork self.old task.old }
         ensures { (k : ℕ) → Does (Event.Note k now random) self.old task.old self.new task.new result }
     {
+        let mut emission = blank_emission();
+        if self.note(now, random, task, &mut emission) {
+            Some(emission)
+        } else {
+            None
+        }
+    }
+
+    /// A task runs the program that its turn's taking found, if it found one, and notifies the turn's observer, at a moment in
+    /// milliseconds, where the turn is out still: what is sent is written over another emission. Tells whether anything is.
+    pub fn note(&mut self, now: u64, random: u16, task: &mut Task, emission: &mut Emission) -> bool
+        requires { AtWork self.old task.old }
+        ensures { (k : ℕ) →
+            Does (Event.Note k now random) self.old task.old self.new task.new (emission_if result emission.new) }
+    {
         let shard = &mut self.shards[task.job.origin.slot.shard()];
-        task.note(&mut self.frame, shard, now, random)
+        task.note(&mut self.frame, shard, now, random, emission)
     }
 
     /// A task gives up its turn, at a moment in milliseconds.

@@ -14,7 +14,7 @@ use Rattle.fc_lines.specs.declared.line.Line.{Line}
 use Rattle.fc_lines.specs.Lines.{IsLine}
 use Rattle.fc_observe.specs.declared.observers.Ticked.{Ticked}
 use Rattle.fc_server.specs.Serving.{Serves}
-use Rattle.fc_server.specs.declared.engine.Notified.{Notified}
+use Rattle.fc_server.specs.Notified.{Notified}
 use Rattle.fc_service.specs.Alone.{HandsAlone, HearsAlone, NotifiesAlone, PassesAlone, PassesOverAlone, ResendsAlone}
 use Rattle.fc_service.specs.Playing.{HasPlayed, IsCarriedOutBy, IsHandedBy, IsNextText, IsPlayedBy, IsPlayedOut, PlayedLine, moment_of, output_by, output_of, printed_lines}
 use Rattle.fc_service.specs.declared.alone.Alone.{Alone}

@@ -8,7 +8,7 @@ use Rattle.std.proofs.lemmas.Grind.{flat_map-append}
 use Rattle.coap_msg.specs.declared.types.Emission.{Emission}
 use Rattle.fc_lines.specs.Emissions.{printed}
 use Rattle.fc_observe.specs.declared.observers.Ticked.{Ticked}
-use Rattle.fc_server.specs.declared.engine.Notified.{Notified}
+use Rattle.fc_server.specs.Notified.{Notified}
 use Rattle.fc_service.proofs.Steps.{one_step, settled_at_bound, settled_at_end}
 use Rattle.fc_service.proofs.Traffic.{more_sent, none_sent}
 use Rattle.fc_service.specs.Playing.{output_of}

@@ -5,8 +5,7 @@ use Rattle.std.specs.List.{list_any}
 use Rattle.std.proofs.Math.Bool.{or-true}
 use Rattle.fc_observe.specs.declared.observers.Ticked.{Ticked}
 use Rattle.fc_observe.specs.declared.observers.Ticked.TheVariants.{Quiet}
-use Rattle.fc_server.specs.declared.engine.Notified.{Notified}
-use Rattle.fc_server.specs.declared.engine.Notified.TheVariants.{Nobody, Starved}
+use Rattle.fc_server.specs.Notified.{Notified, Nobody, Starved}
 use Rattle.fc_service.specs.Settling.{AreSettled, AreStepsTo, Asked, Finding, IsPlace, IsStepBy, Moves, NobodyDue, NothingLate, Passed, Resent, SettlingStep, found_at, found_below, found_in_step, found_in_steps, is_starved}
 use Rattle.fc_service.specs.declared.settle.Settling.{Settling}
 

@@ -8,9 +8,8 @@ use Rattle.fc_core.specs.Legal.{resent}
 use Rattle.fc_core.specs.Receiving.{delivered, emission_if}
 use Rattle.fc_core.specs.declared.front.Heard.{Heard}
 use Rattle.fc_observe.specs.declared.observers.Ticked.{Ticked}
-use Rattle.fc_server.specs.Notified.{is_given, notification_in}
+use Rattle.fc_server.specs.Notified.{Notified, is_given, notification_in}
 use Rattle.fc_server.specs.Serving.{AsksForTurn, Hears, Passes, TicksShard}
-use Rattle.fc_server.specs.declared.engine.Notified.{Notified}
 use Rattle.fc_service.specs.Clocks.{device_readings}
 use Rattle.fc_service.specs.Intakes.{is_reply}
 use Rattle.fc_service.specs.declared.alone.Alone.{Alone}

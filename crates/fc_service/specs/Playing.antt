@@ -10,7 +10,7 @@ use Rattle.fc_core.specs.declared.front.Heard.{Heard}
 use Rattle.fc_help.specs.Region.{no_readings}
 use Rattle.fc_observe.specs.declared.observers.Ticked.{Ticked}
 use Rattle.fc_server.specs.Serving.{Serves}
-use Rattle.fc_server.specs.declared.engine.Notified.{Notified}
+use Rattle.fc_server.specs.Notified.{Notified}
 use Rattle.fc_lines.specs.declared.line.Line.{Line}
 use Rattle.fc_lines.specs.declared.line.Line.TheVariants.{Deliver, Device, Tick}
 use Rattle.fc_lines.specs.Emissions.{endpoint_of, printed}

@@ -8,7 +8,7 @@ use Rattle.fc_core.specs.History.{Begins}
 use Rattle.fc_core.specs.declared.front.Heard.{Heard}
 use Rattle.fc_observe.specs.declared.observers.Ticked.{Ticked}
 use Rattle.fc_server.specs.Serving.{Serves}
-use Rattle.fc_server.specs.declared.engine.Notified.{Notified}
+use Rattle.fc_server.specs.Notified.{Notified}
 use Rattle.fc_service.specs.Alone.{HearsAlone, NotifiesAlone, PassesAlone, PassesOverAlone, ReadiesAlone, ResendsAlone}
 use Rattle.fc_service.specs.Intakes.{Incoming, IsHeardBy}
 use Rattle.fc_service.specs.Settling.{AreSettled, AreStepsBy, SettlingStep, sent_in_steps}

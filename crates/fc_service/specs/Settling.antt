@@ -6,9 +6,7 @@ use Rattle.coap_msg.specs.declared.types.Emission.{Emission}
 use Rattle.fc_core.specs.Legal.{resent}
 use Rattle.fc_observe.specs.declared.observers.Ticked.{Ticked}
 use Rattle.fc_observe.specs.declared.observers.Ticked.TheVariants.{Quiet}
-use Rattle.fc_server.specs.Notified.{notification_in}
-use Rattle.fc_server.specs.declared.engine.Notified.{Notified}
-use Rattle.fc_server.specs.declared.engine.Notified.TheVariants.{Nobody, Starved}
+use Rattle.fc_server.specs.Notified.{Notified, Nobody, Starved, notification_in}
 use Rattle.fc_lines.specs.Emissions.{printed}
 use Rattle.fc_service.specs.declared.settle.Settling.{Settling}
 

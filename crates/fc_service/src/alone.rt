@@ -17,7 +17,7 @@ use fc_help::{NO_READINGS, Readings};
 use fc_observe::Ticked;
 use fc_registry::SHARDS;
 use fc_server::Engine;
-use fc_server::engine::Notified;
+use fc_server::engine::NotifyOutcome;
 use std::alloc::{AllocError, Global};
 use std::sync::Wait;
 
@@ -119,12 +119,13 @@ impl Intake for Alone {
         self.engine.advance_if_quiet(shard % SHARDS, now)
     }
 
-    fn notify(&mut self, shard: u8, now: u64) -> Notified {
+    fn notify(&mut self, shard: u8, now: u64, emission: &mut Emission) -> NotifyOutcome {
         self.engine.notify(
             shard % SHARDS,
             now,
             &self.handed.readings,
             self.handed.random,
+            emission,
         )
     }
 }

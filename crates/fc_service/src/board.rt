@@ -1,7 +1,6 @@
 //! Where who plays lines waits for the worker that has a line's job.
 ghost use Rattle.std.specs.Prelude.{◌≡◌, ◌⊎◌};
-ghost use Rattle.fc_server.specs.declared.engine.Notified.{Notified};
-ghost use Rattle.fc_server.specs.declared.engine.Notified.TheVariants.{Unsent};
+ghost use Rattle.fc_server.specs.Notified.{Notified, Unsent};
 ghost use Rattle.fc_service.specs.Intakes.{IsWaitedFor};
 
 use crate::lines::LineIntake;
@@ -11,7 +10,7 @@ use fc_core::Heard;
 use fc_core::front::blank_emission;
 use fc_help::{NO_READINGS, Readings};
 use fc_observe::Ticked;
-use fc_server::engine::Notified;
+use fc_server::engine::NotifyOutcome;
 use fc_workers::{Device, Moments, Wire};
 use std::sync::atomic::{AtomicU64, Ordering};
 use std::sync::{Condvar, Mutex, Wait};
@@ -158,12 +157,15 @@ impl<'a, 'b, R: Wait, N: Intake> Intake for Waiting<'a, 'b, R, N> {
     }
 
     // A turn of which nothing is sent had no message id, or no memory.
-    fn notify(&mut self, shard: u8, now: u64) -> Notified {
+    fn notify(&mut self, shard: u8, now: u64, emission: &mut Emission) -> NotifyOutcome {
         self.board.begin(self.rt, now);
-        match self.intake.notify(shard, now) {
-            Notified::Unsent => match self.board.wait(self.rt) {
-                Some(emission) => Notified::Sent(emission),
-                None => Notified::Starved,
+        match self.intake.notify(shard, now, emission) {
+            NotifyOutcome::Unsent => match self.board.wait(self.rt) {
+                Some(sent) => {
+                    *emission = sent;
+                    NotifyOutcome::Sent
+                }
+                None => NotifyOutcome::Starved,
             },
             told => told,
         }

@@ -72,7 +72,7 @@ fn play_line<N: LineIntake, W: Write>(
         Ok(line) => {
             hand(intake, &line);
             carry_out(intake, reply, &line, out)?;
-            settle(intake, moment(&line), out)?;
+            settle(intake, moment(&line), reply, out)?;
             Ok(())
         }
         Err(LineError::Bad) => Err(Stop::BadLine(number)),
@@ -121,8 +121,13 @@ fn moment(line: &Line) -> u64
     }
 }
 
-// Prints what is sent again, and what observers are told, at a moment in milliseconds, until nothing is left.
-fn settle<N: Intake, W: Write>(intake: &mut N, now: u64, out: &mut W) -> io::Result<()>
+// Prints what is sent again, and what observers are told, at a moment in milliseconds, until nothing is left. Each is written over an emission.
+fn settle<N: Intake, W: Write>(
+    intake: &mut N,
+    now: u64,
+    emission: &mut Emission,
+    out: &mut W,
+) -> io::Result<()>
     ensures { (steps : List SettlingStep) × AreStepsBy N.resends N.passes_over N.notifies now steps intake.old intake.new
         × OnOk result (AreSettled steps × Appends (W.contents out.old) (W.contents out.new) (printed_steps steps)) }
 {
@@ -131,19 +136,10 @@ fn settle<N: Intake, W: Write>(intake: &mut N, now: u64, out: &mut W) -> io::Res
         if settling.is_at_end() {
             return Ok(());
         }
-        print_if_any(out, &settling.step(intake, now))?;
+        let sent = settling.step(intake, now, emission);
+        print_if(out, sent, emission)?;
     }
     Ok(())
-}
-
-// Prints an emission, if there is one.
-fn print_if_any<W: Write>(out: &mut W, sent: &Option<Emission>) -> io::Result<()>
-    ensures { OnOk result (Appends (W.contents out.old) (W.contents out.new) (output_of sent.now)) }
-{
-    match sent {
-        Some(emission) => print(out, emission),
-        None => Ok(()),
-    }
 }
 
 // Prints an emission, where it is sent.

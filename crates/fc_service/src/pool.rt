@@ -6,8 +6,7 @@ ghost use Rattle.coap_msg.specs.declared.types.Endpoint.{Endpoint};
 ghost use Rattle.fc_core.specs.declared.front.Heard.{Heard};
 ghost use Rattle.fc_observe.specs.declared.observers.Ticked.{Ticked};
 ghost use Rattle.fc_registry.specs.Slots.{last_serial};
-ghost use Rattle.fc_server.specs.Notified.{is_given, notification_in};
-ghost use Rattle.fc_server.specs.declared.engine.Notified.{Notified};
+ghost use Rattle.fc_server.specs.Notified.{Notified, is_given, notification_in, notified_as};
 ghost use Rattle.fc_workers.specs.Answers.{IsSomeQuiet, IsSomeTick};
 ghost use Rattle.fc_workers.specs.Called.{AdvancesFront, AdvancesIfQuiet, AdvancesShard, shop};
 ghost use Rattle.fc_workers.specs.Closing.{HasCountedAll};
@@ -19,7 +18,7 @@ use coap_msg::{Emission, Endpoint};
 use fc_core::Heard;
 use fc_observe::Ticked;
 use fc_server::Begin;
-use fc_server::engine::Notified;
+use fc_server::engine::NotifyOutcome;
 use fc_workers::{
     Bench, Blanks, Books, Closed, Device, Dispatcher, Gate, Handover, Locked, Moments, Reserve,
     Share, Tallies, Wire, Workshop, feed_workers, make_seats,
@@ -67,10 +66,10 @@ pub trait Intake {
         ensures quiet { IsSomeQuiet now result }
         ensures after { MatchBool result (passes_over shard now self.old self.new) (self.new ≡ self.old) };
 
-    /// Has the observer of a shard, 0 to 7, notified that is due first at a moment in milliseconds, here or by a worker. Tells what is to be sent of it: nothing
-    /// where a worker has the turn, or has sent what it came to.
-    fn notify(&mut self, shard: u8, now: u64) -> Notified
-        ensures { notifies shard now self.old self.new result };
+    /// Has the observer of a shard, 0 to 7, notified that is due first at a moment in milliseconds, here or by a worker. What is to be sent of it is written over
+    /// another emission: nothing where a worker has the turn, or has sent what it came to.
+    fn notify(&mut self, shard: u8, now: u64, emission: &mut Emission) -> NotifyOutcome
+        ensures { notifies shard now self.old self.new (notified_as result emission.new) };
 }
 
 // A dispatcher, and the handle by which it waits.
@@ -112,11 +111,12 @@ impl<'a, 'b, R: Wait, B: Bench, G: Gate, W: Wire, M: Moments> Intake
         self.dispatcher.advance_if_quiet(self.rt, shard, now)
     }
 
-    fn notify(&mut self, shard: u8, now: u64) -> Notified {
+    fn notify(&mut self, shard: u8, now: u64, emission: &mut Emission) -> NotifyOutcome {
+        let _ = emission;
         if self.dispatcher.notify(self.rt, shard, now) {
-            Notified::Unsent
+            NotifyOutcome::Unsent
         } else {
-            Notified::Nobody
+            NotifyOutcome::Nobody
         }
     }
 }

@@ -2,6 +2,7 @@
 ghost use Rattle.std.specs.Prelude.{◌≡◌, ⊤, ℕ, [], ◌∷◌, List, Option};
 ghost use Rattle.std.specs.Option.{option_to_list};
 ghost use Rattle.coap_msg.specs.declared.types.Emission.{Emission};
+ghost use Rattle.fc_core.specs.Receiving.{emission_if};
 ghost use Rattle.fc_service.specs.Intakes.{IsHeardBy, is_reply};
 ghost use Rattle.fc_service.specs.Rounds.{HasRun};
 ghost use Rattle.fc_service.specs.Settling.{AreSettled, AreStepsBy, SettlingStep, sent_in_steps};
@@ -77,7 +78,7 @@ pub(crate) fn run_rounds<R: Wait, N: Intake, P: Preparation<N>, S: Source, K: Si
             }
             None => intake.tick(now),
         }
-        settle(intake, now, sink, &mut replies);
+        settle(intake, now, &mut reply, sink, &mut replies);
     }
     replies
 }
@@ -101,8 +102,14 @@ fn hear<N: Intake, K: Sink>(
     }
 }
 
-// Sends what is late at a moment in milliseconds again, and has the observers that are due notified, until nothing is left.
-fn settle<N: Intake, K: Sink>(intake: &mut N, now: u64, sink: &K, replies: &mut Replies)
+// Sends what is late at a moment in milliseconds again, and has the observers that are due notified, until nothing is left. Each is written over an emission.
+fn settle<N: Intake, K: Sink>(
+    intake: &mut N,
+    now: u64,
+    emission: &mut Emission,
+    sink: &K,
+    replies: &mut Replies,
+)
     ensures { (steps : List SettlingStep) × AreStepsBy N.resends N.passes_over N.notifies now steps intake.old intake.new × AreSettled steps
         × Sends K.went (sent_in_steps steps) replies.old replies.new }
 {
@@ -111,17 +118,17 @@ fn settle<N: Intake, K: Sink>(intake: &mut N, now: u64, sink: &K, replies: &mut 
         if settling.is_at_end() {
             return;
         }
-        send_if_any(&settling.step(intake, now), sink, replies);
+        let sent = settling.step(intake, now, emission);
+        send_if(sent, emission, sink, replies);
     }
 }
 
-// Hands an emission to the sink, if there is one, and counts whether it went out.
-fn send_if_any<K: Sink>(sent: &Option<Emission>, sink: &K, replies: &mut Replies)
-    ensures { Sends K.went (option_to_list sent.now) replies.old replies.new }
+// Hands an emission to the sink, where it is to be sent, and counts whether it went out.
+fn send_if<K: Sink>(sent: bool, emission: &Emission, sink: &K, replies: &mut Replies)
+    ensures { Sends K.went (option_to_list (emission_if sent emission.now)) replies.old replies.new }
 {
-    match sent {
-        Some(emission) => send(emission, sink, replies),
-        None => {}
+    if sent {
+        send(emission, sink, replies);
     }
 }
 

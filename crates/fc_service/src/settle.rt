@@ -1,16 +1,17 @@
 //! What follows a datagram or a moment: what is late is sent again, and observers that are due are notified.
 ghost use Rattle.std.specs.Prelude.{◌≡◌, ◌+◌, ◌<◌, ◌≤◌, ◌↔◌, [], false, true, IsTrue, List};
+ghost use Rattle.coap_msg.specs.declared.types.Emission.{Emission as Emitted};
 ghost use Rattle.fc_core.specs.Legal.{resent};
+ghost use Rattle.fc_core.specs.Receiving.{emission_if};
 ghost use Rattle.fc_observe.specs.declared.observers.Ticked.{Ticked};
-ghost use Rattle.fc_server.specs.Notified.{notification_in};
-ghost use Rattle.fc_server.specs.declared.engine.Notified.{Notified};
+ghost use Rattle.fc_server.specs.Notified.{Notified, notification_in, notified_as};
 ghost use Rattle.fc_service.specs.Settling.{Asked, AreStepsTo, IsPlace, IsStepBy, Moves, Resent, SettlingStep, sent_in_step, sent_in_steps};
 
 use crate::pool::Intake;
 use coap_msg::Emission;
 use fc_observe::Ticked;
 use fc_registry::SHARDS;
-use fc_server::engine::Notified;
+use fc_server::engine::NotifyOutcome;
 
 /// More steps than there are at one moment: each of 32 observers of each of 64 slots is sent one notification again at most, and notified once, and
 /// a shard tells once of each that there is nothing left.
@@ -47,40 +48,50 @@ impl Settling {
         self.shard >= SHARDS
     }
 
-    /// Asks the shard that it is at: what is to be sent, if anything. Where no message id is free, nothing is left.
+    /// Asks the shard that it is at: what is to be sent, if anything, is written over another emission. Tells whether anything is. Where no message id is free,
+    /// nothing is left.
     #[inline(never)]
-    pub(crate) fn step<N: Intake>(&mut self, intake: &mut N, now: u64) -> Option<Emission>
+    pub(crate) fn step<N: Intake>(
+        &mut self,
+        intake: &mut N,
+        now: u64,
+        emission: &mut Emission,
+    ) -> bool
         requires { self.old.shard < 8 }
-        ensures { (step : SettlingStep) × IsStepBy N.resends N.passes_over N.notifies now step intake.old intake.new × (sent_in_step step ≡ result) × Moves self.old step self.new }
+        ensures { (step : SettlingStep) × IsStepBy N.resends N.passes_over N.notifies now step intake.old intake.new
+            × (sent_in_step step ≡ emission_if result emission.new) × Moves self.old step self.new }
     {
         if self.notifies {
-            return self.notify(intake, now);
+            return self.notify(intake, now, emission);
         }
         if intake.advance_if_quiet(self.shard, now) {
             self.pass();
-            return None;
+            return false;
         }
-        self.resend(intake, now)
+        self.resend(intake, now, emission)
     }
 
-    // Has the first late notification of its shard sent again, or goes on to those that are due.
-    fn resend<N: Intake>(&mut self, intake: &mut N, now: u64) -> Option<Emission>
+    // Has the first late notification of its shard sent again, or goes on to those that are due. Few are late, so no room is made for one where none is.
+    #[inline(never)]
+    fn resend<N: Intake>(&mut self, intake: &mut N, now: u64, emission: &mut Emission) -> bool
         requires shard { self.old.shard < 8 }
         requires late { self.old.notifies ≡ false }
-        ensures { (ticked : Ticked) × N.resends self.old.shard now intake.old intake.new ticked × (result ≡ resent ticked) × Moves self.old (Resent self.old.shard ticked) self.new }
+        ensures { (ticked : Ticked) × N.resends self.old.shard now intake.old intake.new ticked
+            × (emission_if result emission.new ≡ resent ticked) × Moves self.old (Resent self.old.shard ticked) self.new }
     {
         let ticked = intake.resend(self.shard, now);
-        self.resent(ticked)
+        self.resent(ticked, emission)
     }
 
     // Has the first observer of its shard that is due notified, or goes on to the next shard; where no message id is free, to the end.
-    fn notify<N: Intake>(&mut self, intake: &mut N, now: u64) -> Option<Emission>
+    fn notify<N: Intake>(&mut self, intake: &mut N, now: u64, emission: &mut Emission) -> bool
         requires shard { self.old.shard < 8 }
         requires due { self.old.notifies ≡ true }
-        ensures { (told : Notified) × N.notifies self.old.shard now intake.old intake.new told × (result ≡ notification_in told) × Moves self.old (Asked self.old.shard told) self.new }
+        ensures { (told : Notified) × N.notifies self.old.shard now intake.old intake.new told
+            × (emission_if result emission.new ≡ notification_in told) × Moves self.old (Asked self.old.shard told) self.new }
     {
-        let notified = intake.notify(self.shard, now);
-        self.notified(notified)
+        let outcome = intake.notify(self.shard, now, emission);
+        self.notified(outcome)
     }
 
     // Goes on to the next shard.
@@ -93,40 +104,43 @@ impl Settling {
         self.notifies = false;
     }
 
-    // Goes on after its shard was ticked: what is to be sent.
-    fn resent(&mut self, ticked: Ticked) -> Option<Emission>
+    // Goes on after its shard was ticked: what is to be sent is written over another emission. Tells whether anything is.
+    fn resent(&mut self, ticked: Ticked, emission: &mut Emission) -> bool
         requires shard { self.old.shard < 8 }
         requires late { self.old.notifies ≡ false }
-        ensures sent { result ≡ resent ticked }
+        ensures sent { emission_if result emission.new ≡ resent ticked }
         ensures moves { Moves self.old (Resent self.old.shard ticked) self.new }
     {
         match ticked {
-            Ticked::Resend(emission) => Some(emission),
-            Ticked::Removed => None,
+            Ticked::Resend(again) => {
+                *emission = again;
+                true
+            }
+            Ticked::Removed => false,
             Ticked::Quiet => {
                 self.notifies = true;
-                None
+                false
             }
         }
     }
 
-    // Goes on after its shard was asked who is due: what is to be sent.
-    fn notified(&mut self, notified: Notified) -> Option<Emission>
+    // Goes on after its shard was asked who is due. Tells whether what was written is to be sent.
+    fn notified(&mut self, outcome: NotifyOutcome) -> bool
         requires shard { self.old.shard < 8 }
         requires due { self.old.notifies ≡ true }
-        ensures sent { result ≡ notification_in notified }
-        ensures moves { Moves self.old (Asked self.old.shard notified) self.new }
+        ensures sent { (e : Emitted) → emission_if result e ≡ notification_in (notified_as outcome e) }
+        ensures moves { (e : Emitted) → Moves self.old (Asked self.old.shard (notified_as outcome e)) self.new }
     {
-        match notified {
-            Notified::Sent(emission) => Some(emission),
-            Notified::Unsent => None,
-            Notified::Starved => {
+        match outcome {
+            NotifyOutcome::Sent => true,
+            NotifyOutcome::Unsent => false,
+            NotifyOutcome::Starved => {
                 self.end();
-                None
+                false
             }
-            Notified::Nobody => {
+            NotifyOutcome::Nobody => {
                 self.pass();
-                None
+                false
             }
         }
     }

@@ -64,8 +64,10 @@ impl State {
         if shard >= SHARDS {
             return Ok(());
         }
-        if let Some(job) = self.server.due(shard, now) {
-            self.tasks.push(Task::new(job))?;
+        let mut task = Task::blank();
+        if self.server.due(shard, now, &mut task.job) {
+            task.begin();
+            self.tasks.push(task)?;
         }
         Ok(())
     }

@@ -1,5 +1,6 @@
 use Rattle.std.proofs.Common.{Option, [], ◌∷◌, ◌++◌, length, sym, subst}
 use Rattle.coap_msg.specs.declared.types.Emission.{Emission}
+use Rattle.fc_core.specs.Receiving.{emission_if}
 use Rattle.fc_server.specs.Serving.{Turned}
 use Rattle.fc_server.proofs.Served.{at_work, drew_on, given_up_on, noted_on, took_on}
 use Rattle.fc_server.proofs.engine.tell.Goals as goal
@@ -20,12 +21,12 @@ give_up-requires c =
     let rest = c.requires.rest in
     let took = took_on rest c.requires.serves c.take.result _ (c.take.ensures (length rest)) in
     let drew = drew_on rest took c.args.now c.fresh.ensures in
-    at_work rest (noted_on rest drew c.args.now c.args.random c.note-sent.result (c.note-sent.ensures (length rest)))
+    at_work rest (noted_on rest drew c.args.now c.args.random (emission_if c.note-sent.result c.note-sent.new.emission) (c.note-sent.ensures (length rest)))
 
 pub returns-clause-turns : goal.returns-clause-turns
 returns-clause-turns c = λ h rest v.
     let took = took_on rest v c.take.result _ (c.take.ensures (length rest)) in
     let drew = drew_on rest took c.args.now c.fresh.ensures in
-    let noted = noted_on rest drew c.args.now c.args.random c.note-sent.result (c.note-sent.ensures (length rest)) in
+    let noted = noted_on rest drew c.args.now c.args.random (emission_if c.note-sent.result c.note-sent.new.emission) (c.note-sent.ensures (length rest)) in
     let up = given_up_on rest noted c.args.now (c.give_up.ensures (length rest)) in
-    subst (λ (out : Option Emission). Turned c.args.readings.now h (length rest) c.args.now c.args.random c.give_up.new.self out) (sym c.told.ensures.sent) (record { memory = c.take.result; tasks = rest ++ c.give_up.new.task ∷ []; serves = up })
+    subst (λ (out : Option Emission). Turned c.args.readings.now h (length rest) c.args.now c.args.random c.give_up.new.self out) (sym (c.told.ensures.sent c.note-sent.new.emission)) (record { memory = c.take.result; tasks = rest ++ c.give_up.new.task ∷ []; serves = up })

@@ -1,6 +1,7 @@
 use Rattle.std.proofs.Common.{◌∷◌, Result, Ok, Err, OnOk, IsErr}
 use Rattle.std.specs.Io.KnownBytes.{Appends}
 use Rattle.std.specs.Prelude.{flat_map}
+use Rattle.fc_core.specs.Receiving.{emission_if}
 use Rattle.fc_lines.specs.Emissions.{printed}
 use Rattle.fc_service.proofs.Settled.{done_at_bound, done_at_end, none_printed, one_printed}
 use Rattle.fc_service.proofs.lines.settle.Goals as goal
@@ -21,13 +22,13 @@ returns-then-is_at_end g c =
 
 pub steps-preserved : goal.steps-preserved
 steps-preserved g c =
-    one_printed g.N.Intake.resends g.N.Intake.passes_over g.N.Intake.notifies c.steps.taken c.args.now c.args.intake.now c.steps.intake c.step.new.intake c.steps.settling c.step.new.self _ _ _ c.step.result
-    c.steps.invariant c.step.ensures c.in_ok-print_if_any.ensures
+    one_printed g.N.Intake.resends g.N.Intake.passes_over g.N.Intake.notifies c.steps.taken c.args.now c.args.intake.now c.steps.intake c.step-sent.new.intake c.steps.settling c.step-sent.new.self _ _ _ (emission_if c.step-sent.result c.step-sent.new.emission)
+    c.steps.invariant c.step-sent.ensures c.in_ok-print_if.ensures
 
-pub returns-in_err-print_if_any : goal.returns-in_err-print_if_any
-returns-in_err-print_if_any g c =
+pub returns-in_err-print_if : goal.returns-in_err-print_if
+returns-in_err-print_if g c =
     let w = c.steps.invariant in
-    let x = c.step.ensures in
+    let x = c.step-sent.ensures in
     (x.0 ∷ w.0, (c.steps.intake, x.1, w.1.0), failed c.from_residual.result _ c.from_residual.ensures.0)
 
 pub returns : goal.returns

@@ -1,3 +1,4 @@
+use Rattle.fc_core.specs.Receiving.{emission_if}
 use Rattle.fc_service.proofs.Settled.{done_at_bound, done_at_end, none_settled, one_settled}
 use Rattle.fc_service.specs.Traffic.{Sends}
 use Rattle.fc_service.proofs.rounds.settle.Goals as goal
@@ -12,8 +13,8 @@ returns-then-is_at_end g c =
 
 pub steps-preserved : goal.steps-preserved
 steps-preserved g c =
-    one_settled g.N.Intake.resends g.N.Intake.passes_over g.N.Intake.notifies g.K.Sink.went c.steps.taken c.args.now c.args.intake.now c.steps.intake c.step.new.intake c.steps.settling c.step.new.self c.args.replies.now c.steps.replies c.send_if_any.new.replies c.step.result
-    c.steps.invariant c.step.ensures c.send_if_any.ensures
+    one_settled g.N.Intake.resends g.N.Intake.passes_over g.N.Intake.notifies g.K.Sink.went c.steps.taken c.args.now c.args.intake.now c.steps.intake c.step-sent.new.intake c.steps.settling c.step-sent.new.self c.args.replies.now c.steps.replies c.send_if.new.replies (emission_if c.step-sent.result c.step-sent.new.emission)
+    c.steps.invariant c.step-sent.ensures c.send_if.ensures
 
 pub returns : goal.returns
 returns g c =

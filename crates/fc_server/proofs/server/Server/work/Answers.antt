@@ -36,7 +36,7 @@ pub returns-in_ok-install_if-in-Install : goal.returns-in_ok-install_if-in-Insta
 returns-in_ok-install_if-in-Install c = subst (λ (e : Event). Works e c.args.self.now c.args.task.now c.install_if.new.self c.install_if.new.task None) (sym c.in-Install.is) (c.in_ok-install_if-in-Install.ensures _)
 
 pub returns-in-Note : goal.returns-in-Note
-returns-in-Note c = subst (λ (e : Event). Works e c.args.self.now c.args.task.now c.note.new.self c.note.new.task c.note.result) (sym c.in-Note.is) (c.note.ensures _)
+returns-in-Note c = subst (λ (e : Event). Works e c.args.self.now c.args.task.now c.tell.new.self c.tell.new.task c.tell.result) (sym c.in-Note.is) (c.tell.ensures _)
 
 pub returns-in-Answer : goal.returns-in-Answer
 returns-in-Answer c = subst (λ (e : Event). Works e c.args.self.now c.args.task.now c.answer.new.self c.answer.new.task c.answer.result) (sym c.in-Answer.is) c.answer.ensures
