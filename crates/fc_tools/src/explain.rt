@@ -1,13 +1,13 @@
 //! Why an image or a text is refused, in a few lines.
 use crate::diagnosis::{Cause, Diagnosis};
-use crate::form::BadForm;
 use crate::known::Known;
 use crate::loops::{write_entry, write_insn, write_reason};
 use crate::reads::{Reads, registers_read};
 use crate::rules::{broken_text, correction, mistake_text, remedy};
-use crate::words::{first_word, split_label};
 use fc_asm::Mistake;
 use fc_asm::vocabulary::operands_of;
+use fc_expand::BadForm;
+use fc_expand::words::{first_word, split_label};
 use fc_isa::{Insn, Reg};
 use fc_kinds::Regs;
 use fc_verify::Demand;

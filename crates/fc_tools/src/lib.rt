@@ -1,4 +1,4 @@
-//! What the assembler's program does with texts and images: expands, assembles, lists, judges and explains, and runs.
+//! What the assembler's program does with texts and images: it assembles, lists, judges and explains, and runs them.
 //!
 //! # What is proved
 //!
@@ -10,30 +10,21 @@
 //!   broken with a budget of 65,536 (V16), or its instruction, what is known of the registers before it and the demand that isn't met (V20
 //!   to V28). The registers that are told decide whether the instruction's demands are met.
 //! - A run's report is that of the meaning of the program, request, readings and variables.
-//! - A text without `:`, `'`, `"`, `0x`, `.c` and what may be a call by name is expanded to itself, with spaces for tabs and carriage
-//!   returns.
 //!
 //! By the contracts of `tools::image_of`, `priced_image_of`, `listing_of`, `numbered_listing_of`, `diagnosis::diagnose`, `running::report`,
-//! `expand`, `laws`.
+//! `laws`.
 #![tactic(auto)]
 
 pub mod asked;
 pub mod budget;
-mod constant;
 pub mod diagnosis;
-pub mod expand;
 pub mod explain;
-pub mod form;
-mod helper;
 pub mod known;
 pub mod laws;
 mod loops;
 pub mod numbered;
-mod pieces;
-mod plain;
 pub mod reads;
 pub mod rules;
 pub mod running;
 pub mod tools;
 pub mod version;
-mod words;

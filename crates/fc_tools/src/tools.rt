@@ -14,13 +14,12 @@ use crate::budget::Budget;
 use crate::diagnosis::{
     Cause, Diagnosis, GREATEST_BUDGET, Rejection, diagnose, read_code, read_head, shape_cost,
 };
-use crate::expand::{ExpandError, expand as expand_text};
 use crate::explain::{explain, explain_form, explain_line};
-use crate::form::BadForm;
 use crate::numbered::numbered;
 use crate::running::report;
 use fc_asm::{AsmError, Mistake, assemble, disassemble};
 use fc_cli::status::{Status, tell};
+use fc_expand::{BadForm, ExpandError, expand as expand_text};
 use fc_image::{HEADER_SIZE, Head};
 use fc_isa::{Fault, ImageVersion, Insn, encode};
 use fc_verify::{Refusal, verify};

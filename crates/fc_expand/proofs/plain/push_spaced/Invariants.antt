@@ -1,6 +1,6 @@
 use Rattle.std.proofs.Common.{◌≡◌, ◌++◌, map, take}
-use Rattle.fc_tools.specs.Expanded.{as_space}
-use Rattle.fc_tools.proofs.plain.push_spaced.Given as goal
+use Rattle.fc_expand.specs.Expanded.{as_space}
+use Rattle.fc_expand.proofs.plain.push_spaced.Given as goal
 
 abbrev pub invariant-loop-byte : goal.invariant-loop-byte
 invariant-loop-byte l = l.out.items ≡ l.initial.out.items ++ map as_space (take l.byte-index l.bytes)

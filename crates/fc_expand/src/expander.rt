@@ -1,6 +1,6 @@
-//! From a text with labels, constants, names of helpers, hexadecimal numbers, characters and texts to one that the assembler takes.
+//! The pass over a text: each line with its labels, constants and names replaced.
 ghost use Rattle.std.specs.Prelude.{IfOk, length, map, true, ◌≡◌, ◌≤◌};
-ghost use Rattle.fc_tools.specs.Expanded.{as_space, is_plain, is_plain_but_for_tabs};
+ghost use Rattle.fc_expand.specs.Expanded.{as_space, is_plain, is_plain_but_for_tabs};
 
 use crate::constant::{Constant, constants_of, expand_constant, value_of};
 use crate::form::{BadForm, Form};

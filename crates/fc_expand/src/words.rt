@@ -1,6 +1,6 @@
 //! The words of a line, and its label.
 ghost use Rattle.std.specs.Prelude.{length, ◌≤◌, ◌≡◌};
-ghost use Rattle.fc_tools.specs.Expanded.{is_space, is_tab, parts_words};
+ghost use Rattle.fc_expand.specs.Expanded.{is_space, is_tab, parts_words};
 
 /// A tab or a carriage return, which stand for a space.
 pub(crate) fn is_tab(byte: u8) -> bool
@@ -17,7 +17,7 @@ pub(crate) fn is_space(byte: u8) -> bool
 }
 
 /// A line's label, if it has one, and what is behind that.
-pub(crate) fn split_label(code: &[u8]) -> (Option<&[u8]>, &[u8]) {
+pub fn split_label(code: &[u8]) -> (Option<&[u8]>, &[u8]) {
     let Some(colon) = code.iter().position(|byte| *byte == b':') else {
         return (None, code);
     };
@@ -77,7 +77,7 @@ pub(crate) fn parts_words(byte: u8) -> bool
 }
 
 /// The first word of a line, or nothing.
-pub(crate) fn first_word(body: &[u8]) -> &[u8] {
+pub fn first_word(body: &[u8]) -> &[u8] {
     split_word(body).0
 }
 

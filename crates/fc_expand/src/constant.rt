@@ -1,5 +1,5 @@
 //! The constants of a text: lines `.const NAME NUMBER`.
-use crate::expand::{Label, is_constant};
+use crate::expander::{Label, is_constant};
 use crate::form::Form;
 use crate::helper::number_of_helper;
 use crate::pieces::{LineError, is_number, number_piece};

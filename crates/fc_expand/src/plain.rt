@@ -1,6 +1,6 @@
 //! Texts that have nothing to be expanded.
 ghost use Rattle.std.specs.Prelude.{OnOk, map, ◌++◌, ◌≡◌};
-ghost use Rattle.fc_tools.specs.Expanded.{as_space, begins_mark, begins_number, is_mark, is_pair, is_plain_but_for_tabs};
+ghost use Rattle.fc_expand.specs.Expanded.{as_space, begins_mark, begins_number, is_mark, is_pair, is_plain_but_for_tabs};
 
 use crate::words::{is_tab, parts_words};
 use std::alloc::AllocError;

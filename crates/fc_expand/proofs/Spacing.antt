@@ -2,7 +2,7 @@
 use Rattle.std.proofs.Common.{arith, length-drop, take_all, ◌≡◌, ℕ, zero, suc, ◌+◌, ◌<◌, ◌-◌, take, length, ◌&&◌, not, Bool, true, false, List, [], ◌∷◌, drop, map, refl, sym, ap, ◌∙◌}
 use Rattle.std.specs.Prelude.{if◌then◌else◌}
 use Rattle.std.proofs.lemmas.Bool.{and_parts}
-use Rattle.fc_tools.specs.Expanded.{as_space, begins_mark, has_no_tab, is_plain, is_plain_but_for_tabs, is_tab}
+use Rattle.fc_expand.specs.Expanded.{as_space, begins_mark, has_no_tab, is_plain, is_plain_but_for_tabs, is_tab}
 
 plain_step : (at : ℕ) (text : List ℕ) → at < length text → begins_mark (drop at text) ≡ false → is_plain_but_for_tabs (drop (suc at) text) ≡ is_plain_but_for_tabs (drop at text)
 plain_step at [] h e = absurd (omega (arith, h))
