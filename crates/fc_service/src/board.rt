@@ -11,7 +11,7 @@ use fc_core::front::blank_emission;
 use fc_help::{NO_READINGS, Readings};
 use fc_observe::Ticked;
 use fc_server::engine::NotifyOutcome;
-use fc_workers::{Device, Moments, Wire};
+use fc_workers::{CallLog, Device, Moments, Wire};
 use std::sync::atomic::{AtomicU64, Ordering};
 use std::sync::{Condvar, Mutex, Wait};
 
@@ -69,15 +69,17 @@ impl Board {
 }
 
 impl Wire for Board {
-    fn send<R: Wait>(&self, rt: &R, number: u64, emission: &Emission) -> bool {
+    fn send<R: Wait>(&self, rt: &R, number: u64, emission: &Emission, log: &mut CallLog) -> bool {
         let _ = number;
+        let _ = log;
         let mut work = self.work.lock(rt);
         work.reply = Some(copy(emission));
         true
     }
 
-    fn ended<R: Wait>(&self, rt: &R, number: u64) {
+    fn ended<R: Wait>(&self, rt: &R, number: u64, log: &mut CallLog) {
         let _ = number;
+        let _ = log;
         let mut work = self.work.lock(rt);
         work.busy = false;
         self.done.notify_all();

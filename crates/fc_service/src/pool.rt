@@ -10,7 +10,7 @@ ghost use Rattle.fc_server.specs.Notified.{Notified, is_given, notification_in, 
 ghost use Rattle.fc_workers.specs.Answers.{IsSomeQuiet, IsSomeTick};
 ghost use Rattle.fc_workers.specs.Called.{AdvancesFront, AdvancesIfQuiet, AdvancesShard, shop};
 ghost use Rattle.fc_workers.specs.Closing.{HasCountedAll};
-ghost use Rattle.fc_workers.specs.Dispatch.{IsTakenIn, IsTurnAsked};
+ghost use Rattle.fc_workers.specs.Dispatch.{HasCalled, IsTakenIn, IsTurnAsked};
 ghost use Rattle.fc_workers.specs.Naming.{AreNamed};
 
 use crate::replies::Replies;
@@ -20,8 +20,8 @@ use fc_observe::Ticked;
 use fc_server::Begin;
 use fc_server::engine::NotifyOutcome;
 use fc_workers::{
-    Bench, Blanks, Books, Closed, Device, Dispatcher, Gate, Handover, Locked, Moments, Reserve,
-    Share, Tallies, Wire, Workshop, feed_workers, make_seats,
+    Bench, Blanks, Books, CallLog, Closed, Device, Dispatcher, Gate, Handover, Locked, Moments,
+    Reserve, Share, Tallies, Wire, Workshop, feed_workers, make_seats,
 };
 use std::alloc::{AllocError, Global};
 use std::io::Write;
@@ -82,17 +82,19 @@ struct Dispatching<'a, 'b, R: Wait, B: Bench, G: Gate, W: Wire, M: Moments> {
 impl<'a, 'b, R: Wait, B: Bench, G: Gate, W: Wire, M: Moments> Intake
     for Dispatching<'a, 'b, R, B, G, W, M> {
     ghost hears = { λ now from bytes old new heard reply.
-        IsTakenIn (shop B.changes B.ended B.called M.is_moment G.passed W.called) old.dispatcher.handover now from bytes.now heard reply old.dispatcher.done new.dispatcher.done
+        IsTakenIn (shop B.changes B.ended B.called B.logged M.is_moment M.is_random G.passed W.called) old.dispatcher.handover now from bytes.now heard reply old.dispatcher.done new.dispatcher.done
         × (new.dispatcher.handover ≡ old.dispatcher.handover) };
 
     ghost passes = { λ now old new. B.called (AdvancesFront now) × (new ≡ old) };
 
-    ghost resends = { λ shard now old new ticked. IsSomeTick now ticked × B.called (AdvancesShard shard now ticked) × (new ≡ old) };
+    ghost resends = { λ shard now old new ticked. IsSomeTick now ticked
+        × B.logged (AdvancesShard shard now ticked) old.dispatcher.done.share.log new.dispatcher.done.share.log
+        × HasCalled old.dispatcher.done new.dispatcher.done × (new.dispatcher.handover ≡ old.dispatcher.handover) };
 
     ghost passes_over = { λ shard now old new. IsSomeQuiet now true × B.called (AdvancesIfQuiet shard now true) × (new ≡ old) };
 
     ghost notifies = { λ shard now old new told.
-        IsTurnAsked (shop B.changes B.ended B.called M.is_moment G.passed W.called) old.dispatcher.handover shard now (is_given told) old.dispatcher.done new.dispatcher.done
+        IsTurnAsked (shop B.changes B.ended B.called B.logged M.is_moment M.is_random G.passed W.called) old.dispatcher.handover shard now (is_given told) old.dispatcher.done new.dispatcher.done
         × (notification_in told ≡ None) × (new.dispatcher.handover ≡ old.dispatcher.handover) };
 
     fn hear(&mut self, now: u64, from: Endpoint, bytes: &[u8], reply: &mut Emission) -> Heard {
@@ -168,9 +170,10 @@ pub struct Pool<'a, W: Wire, M: Moments, D: Device> {
 struct Open;
 
 impl Gate for Open {
-    fn between<R: Wait>(&self, rt: &R, number: u64) {
+    fn between<R: Wait>(&self, rt: &R, number: u64, log: &mut CallLog) {
         let _ = rt;
         let _ = number;
+        let _ = log;
     }
 }
 

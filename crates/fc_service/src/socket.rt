@@ -5,7 +5,7 @@ ghost use Rattle.fc_service.specs.Intakes.{Incoming, incoming_in};
 ghost use Rattle.fc_service.specs.Traffic.{Comes, IsHanded};
 
 use coap_msg::{Emission, Endpoint};
-use fc_workers::Wire;
+use fc_workers::{CallLog, Wire};
 use std::io;
 use std::net::{Ipv4Addr, Net, SocketAddr, SocketAddrV4, UdpSocket};
 use std::sync::Wait;
@@ -82,16 +82,18 @@ pub(crate) struct Replying<'a, K: Sink> {
 }
 
 impl<'a, K: Sink> Wire for Replying<'a, K> {
-    ghost called = { IsHanded K.went };
+    ghost called = { λ call before after. IsHanded K.went call };
 
-    fn send<R: Wait>(&self, rt: &R, number: u64, emission: &Emission) -> bool {
+    fn send<R: Wait>(&self, rt: &R, number: u64, emission: &Emission, log: &mut CallLog) -> bool {
         let _ = rt;
         let _ = number;
+        let _ = log;
         self.sink.send(emission)
     }
 
-    fn ended<R: Wait>(&self, rt: &R, number: u64) {
+    fn ended<R: Wait>(&self, rt: &R, number: u64, log: &mut CallLog) {
         let _ = rt;
         let _ = number;
+        let _ = log;
     }
 }

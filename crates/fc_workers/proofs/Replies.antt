@@ -13,6 +13,7 @@ use Rattle.fc_registry.specs.Notes.{sent_of}
 use Rattle.fc_registry.specs.Slots.{Ticket}
 use Rattle.fc_workers.specs.declared.share.Share.{Share}
 use Rattle.fc_workers.specs.Answers.{IsSomeNote}
+use Rattle.fc_workers.specs.declared.call_log.CallLog.{CallLog}
 use Rattle.fc_workers.specs.Called.{SendsReply, Shop}
 use Rattle.fc_workers.specs.Outgoing.{IsNote, GoesOut, IsFoundTold, IsSent, IsTurnReply, with_reply}
 use Rattle.fc_workers.specs.Work.{IsWorked, IsWorkedAs}
@@ -33,20 +34,20 @@ sent_is_note now told turn id StaleNote e note is = nothing_out e is
 sent_is_note now told turn id Stranger e note is = nothing_out e is
 
 module _ {T : Type 0} (s : Shop T) where
-  told_is_reply : (turn : Turn) (found : Option Ticket) (e : Emission) → IsFoundTold s turn found (Some e) → GoesOut e
-  told_is_reply turn found e (inl n) = inr (sent_is_note n.noted.now n.told turn n.id n.noted.noted e n.noted.note n.noted.reply_is)
-  told_is_reply turn found e (inr n) = nothing_out e n.given_up.nothing
+  told_is_reply : (turn : Turn) (found : Option Ticket) (e : Emission) (before after : CallLog) → IsFoundTold s turn found (Some e) before after → GoesOut e
+  told_is_reply turn found e before after (inl n) = inr (sent_is_note n.noted.now n.told turn n.id n.noted.noted e n.noted.note n.noted.reply_is)
+  told_is_reply turn found e before after (inr n) = nothing_out e n.given_up.nothing
 
-  turn_is_reply : (turn : Turn) (taken : Taken) (e : Emission) → IsTurnReply s turn taken (Some e) → GoesOut e
-  turn_is_reply turn (Given t) e is = told_is_reply turn (Some t) e is
-  turn_is_reply turn Missing e is = told_is_reply turn None e is
-  turn_is_reply turn Stale e is = nothing_out e is
-  turn_is_reply turn Refused e is = nothing_out e is.nothing
+  turn_is_reply : (turn : Turn) (taken : Taken) (e : Emission) (before after : CallLog) → IsTurnReply s turn taken (Some e) before after → GoesOut e
+  turn_is_reply turn (Given t) e before after is = told_is_reply turn (Some t) e before after is
+  turn_is_reply turn Missing e before after is = told_is_reply turn None e before after is
+  turn_is_reply turn Stale e before after is = nothing_out e is.0
+  turn_is_reply turn Refused e before after is = nothing_out e is.nothing
 
   worked_is_reply : (turn : Option ℕ) (number : ℕ) (job : Job) (before after : Share T) (e : Emission) → IsWorkedAs s turn number job before after (Some e)
       → GoesOut e
   worked_is_reply None number job before after e w = inl (record { now = w.answered.now; job = job; content = w.content; answer = w.answered.answer })
-  worked_is_reply (Some turn) number job before after e w = turn_is_reply (turn_of job turn) w.taken e w.told
+  worked_is_reply (Some turn) number job before after e w = turn_is_reply (turn_of job turn) w.taken e w.log after.log w.told
 
   -- what a job that was worked off sends is a reply
   pub goes_out : (number : ℕ) (job : Job) (before after : Share T) {reply : Option Emission} (e : Emission) → IsWorked s number job before after reply
@@ -55,9 +56,11 @@ module _ {T : Type 0} (s : Shop T) where
       (subst (λ (r : Option Emission). IsWorked s number job before after r) is w)
 
   -- it was sent and counted, or there was nothing to send
-  pub sends_reply : (number : ℕ) (before : Share T) {reply : Option Emission} (e : Emission) (out : Bool) {after : Share T} → s.wire (SendsReply number e out)
-      → reply ≡ Some e → after ≡ with_reply out before → IsSent s number reply before after
-  sends_reply number before e out {after} sends is counted = subst (λ (r : Option Emission). IsSent s number r before after) (sym is) (out, sends, counted)
+  pub sends_reply : (number : ℕ) (before : Share T) {reply : Option Emission} (e : Emission) (out : Bool) (log : CallLog) {after : Share T}
+      → s.wire (SendsReply number e out) before.log log → reply ≡ Some e → after ≡ with_reply out (record before { log = log })
+      → IsSent s number reply before after
+  sends_reply number before e out log {after} sends is counted =
+      subst (λ (r : Option Emission). IsSent s number r before after) (sym is) (out, log, sends, counted)
 
   pub sends_nothing : (number : ℕ) (before : Share T) {reply : Option Emission} {after : Share T} → reply ≡ None → after ≡ before
       → IsSent s number reply before after

@@ -36,15 +36,16 @@ use Rattle.fc_core.specs.Ends.{refused, refused_by}
 use Rattle.fc_core.specs.Stages.{asked_stage, first_by, image_of, listed, matched, matched_by, run_content, removed, told, took, after_commit, made, takings}
 use Rattle.fc_core.specs.Steps.{Call, Takes, Commits, Installs, Lists, Matches, Rejects, Refuses, Removes, Describes, Raises}
 use Rattle.fc_workers.specs.declared.share.Share.{Share}
-use Rattle.fc_workers.specs.Answers.{AreTallied, commit_changes, commit_overtakings, ended_by, install_changes, removal_changes, saturated, taking_refusals, IsTakingWith, IsSomeInstall, IsSomeReceipt, IsSomeRemoval}
-use Rattle.fc_workers.specs.Called.{BenchCall, LooksAt, RaisesWord, Shop}
+use Rattle.fc_workers.specs.Answers.{AreTallied, commit_changes, commit_overtakings, ended_by, install_changes, removal_changes, saturated, taking_refusals, IsTakingWith, IsSomeInstall, IsSomeReceipt, IsSomeRemoval, IsSomeTaking}
+use Rattle.fc_workers.specs.declared.call_log.CallLog.{CallLog}
+use Rattle.fc_workers.specs.Called.{BenchCall, InstallsProgram, LooksAt, RaisesWord, RemovesProgram, Shop, TellsReceipt}
 use Rattle.fc_workers.specs.Steps.{AreSeen, Follows, IsReady, IsStep, ListsOn, taken_at}
 use Rattle.fc_workers.specs.Work.{AreCalls, IsCallAt, IsCommitted, IsWorkedOff, HasCounted, stage_after, change_by, overtaking_by, refusal_by, taking_by, total}
 
 -- the calls so far, and where they led the job
 pub record Walked {T : Type 0} (shop : Shop T) (number : ℕ) (job : Job) (stage : Stage) (before now : Share T) : Type 0 where
   pub calls : List Call
-  pub are : AreCalls shop number job calls
+  pub are : AreCalls shop number job calls before.log now.log
   pub stands : stage ≡ stage_after job calls
   pub ready : IsReady job stage
   pub few : total taking_by calls ≤ taken_at stage
@@ -84,9 +85,9 @@ by_turn_follows : (turn : Option ℕ) (kept : Option (List ℕ)) (job : Job) (n 
 by_turn_follows None kept job n slot now w less = taking_follows kept job n slot.serial slot.present less
 by_turn_follows (Some number) kept job n slot now w less = turn_follows (is_out_at (turn_of job number) now w) kept job n slot.serial slot.present less
 
-took_follows : (Called : BenchCall → Type 0) (job : Job) (n : ℕ) (x : Taken) → n < takings → IsTakingWith Called job x → Follows job (ToTake n) 1 (took n x)
-took_follows Called job n x less is = subst (λ (x : Taken). Follows job (ToTake n) 1 (took n x)) (sym is.2.taking.1)
-    (by_turn_follows job.turn (readings_if is.2.taking.0 is.0) job n is.2.slot is.2.now is.2.watch less)
+took_follows : (job : Job) (n : ℕ) (readings : List ℕ) (x : Taken) → n < takings → IsSomeTaking job readings x → Follows job (ToTake n) 1 (took n x)
+took_follows job n readings x less is = subst (λ (x : Taken). Follows job (ToTake n) 1 (took n x)) (sym is.taking.1)
+    (by_turn_follows job.turn (readings_if is.taking.0 readings) job n is.slot is.now is.watch less)
 
 -- a request's taking is never stale
 finding_ends : (kept : Option (List ℕ)) (job : Job) (serial ended : ℕ) (p : Option Present) → ended_by (taking kept job serial p) ended ≡ ended
@@ -94,11 +95,12 @@ finding_ends kept job serial ended None = refl
 finding_ends (Some readings) job serial ended (Some p) = refl
 finding_ends None job serial ended (Some p) = refl
 
-pub asked_ends : (Called : BenchCall → Type 0) (job : Job) (x : Taken) (ended : ℕ) → job.turn ≡ None → IsTakingWith Called job x → ended_by x ended ≡ ended
-asked_ends Called job x ended none is =
-    let found : x ≡ taking (readings_if is.2.taking.0 is.0) job is.2.slot.serial is.2.slot.present = is.2.taking.1 ∙ ap
-    (λ (o : Option ℕ). taking_of_job o (readings_if is.2.taking.0 is.0) job is.2.slot is.2.now is.2.watch) none in
-    ap (λ (y : Taken). ended_by y ended) found ∙ finding_ends (readings_if is.2.taking.0 is.0) job is.2.slot.serial ended is.2.slot.present
+pub asked_ends : (job : Job) (readings : List ℕ) (x : Taken) (ended : ℕ) → job.turn ≡ None → IsSomeTaking job readings x → ended_by x ended ≡ ended
+asked_ends job readings x ended none is =
+    let kept = readings_if is.taking.0 readings in
+    let found : x ≡ taking kept job is.slot.serial is.slot.present = is.taking.1 ∙ ap
+    (λ (o : Option ℕ). taking_of_job o kept job is.slot is.now is.watch) none in
+    ap (λ (y : Taken). ended_by y ended) found ∙ finding_ends kept job is.slot.serial ended is.slot.present
 
 retaken_follows : (job : Job) (n : ℕ) (t : Ticket) (b : Bool) → nat_lt n takings ≡ b → n ≤ takings
     → Follows job (ToCommit n t) 0 (if b then ToTake n else ToAnswer Unavailable)
@@ -151,14 +153,16 @@ module _ {T : Type 0} (shop : Shop T) (number : ℕ) (job : Job) where
   is_step old {new} {next} {before} {after} {counted} e c s = subst (λ (x : Stage). IsStep shop number job old x before after) (sym e)
       (subst (λ (p : Share T). IsStep shop number job old next before p) (sym c) s)
 
-  pub took_step : (n : ℕ) (x : Taken) (p : Share T) (tallies : T) {next : Stage} {after : Share T} → n < takings → IsTakingWith shop.bench job x
+  pub took_step : (n : ℕ) (x : Taken) (p : Share T) (tallies : T) (log : CallLog) {next : Stage} {after : Share T} → n < takings
+      → IsTakingWith shop.bench shop.logged job x p.log log
       → ((shard : ℕ) → shard < 8 → shop.changes tallies shard ≡ shop.changes p.tallies shard) → next ≡ took n x
-      → after ≡ record p { tallies = tallies; refusals = saturated (p.refusals + taking_refusals x) } → IsStep shop number job (ToTake n) next p after
-  took_step n x p tallies less is same e c = is_step (ToTake n) e c (record {
+      → after ≡ record p { tallies = tallies; log = log; refusals = saturated (p.refusals + taking_refusals x) }
+      → IsStep shop number job (ToTake n) next p after
+  took_step n x p tallies log less is same e c = is_step (ToTake n) e c (record {
     call = Takes n x;
     is = (refl, is);
     next = refl;
-    follows = took_follows shop.bench job n x less is;
+    follows = took_follows job n is.readings x less is.is;
     counted = record {
       tallies = λ shard lt. same shard lt ∙ same_tallies (shop.changes p.tallies) job.origin.slot shard lt;
       refusals = omega arith;
@@ -169,11 +173,12 @@ module _ {T : Type 0} (shop : Shop T) (number : ℕ) (job : Job) where
     };
   })
 
-  pub commit_step : (n : ℕ) (t : Ticket) (x : Committed) (p : Share T) (tallies : T) {next : Stage} {after : Share T} → IsReady job (ToCommit n t)
-      → IsCommitted shop number t x → AreTallied (shop.changes p.tallies) (shop.changes tallies) t.origin.slot (commit_changes x) → next ≡ after_commit n t x
-      → after ≡ record p { tallies = tallies; overtakings = saturated (p.overtakings + commit_overtakings x) }
+  pub commit_step : (n : ℕ) (t : Ticket) (x : Committed) (p : Share T) (tallies : T) (log : CallLog) {next : Stage} {after : Share T}
+      → IsReady job (ToCommit n t) → IsCommitted shop number t x p.log log
+      → AreTallied (shop.changes p.tallies) (shop.changes tallies) t.origin.slot (commit_changes x) → next ≡ after_commit n t x
+      → after ≡ record p { tallies = tallies; log = log; overtakings = saturated (p.overtakings + commit_overtakings x) }
       → IsStep shop number job (ToCommit n t) next p after
-  commit_step n t x p tallies ready is rises e c = is_step (ToCommit n t) e c (record {
+  commit_step n t x p tallies log ready is rises e c = is_step (ToCommit n t) e c (record {
     call = Commits n t x;
     is = (refl, is);
     next = refl;
@@ -189,12 +194,12 @@ module _ {T : Type 0} (shop : Shop T) (number : ℕ) (job : Job) where
     };
   })
 
-  pub install_step : (program : Program) (x : Made) (p : Share T) (tallies : T) {next : Stage} → judged (image_of job.ask) ≡ Accepts program
-      → IsSomeInstall program x → AreTallied (shop.changes p.tallies) (shop.changes tallies) job.origin.slot (install_changes x)
-      → next ≡ made (receipt_of program 0) x → IsStep shop number job ToInstall next p (record p { tallies = tallies })
-  install_step program x p tallies accepted is rises e = is_step ToInstall e refl (record {
+  pub install_step : (program : Program) (x : Made) (p : Share T) (tallies : T) (log : CallLog) {next : Stage} → judged (image_of job.ask) ≡ Accepts program
+      → shop.logged (InstallsProgram job program x) p.log log → IsSomeInstall program x → AreTallied (shop.changes p.tallies) (shop.changes tallies) job.origin.slot (install_changes x)
+      → next ≡ made (receipt_of program 0) x → IsStep shop number job ToInstall next p (record p { tallies = tallies; log = log })
+  install_step program x p tallies log accepted installs is rises e = is_step ToInstall e refl (record {
     call = Installs program x;
-    is = (refl, (accepted, is));
+    is = (refl, (accepted, installs, is));
     next = refl;
     follows = made_follows job (receipt_of program 0) x;
     counted = record {
@@ -207,12 +212,12 @@ module _ {T : Type 0} (shop : Shop T) (number : ℕ) (job : Job) where
     };
   })
 
-  pub remove_step : (x : Removal) (p : Share T) (tallies : T) {next : Stage} → IsSomeRemoval x
+  pub remove_step : (x : Removal) (p : Share T) (tallies : T) (log : CallLog) {next : Stage} → shop.logged (RemovesProgram job x) p.log log → IsSomeRemoval x
       → AreTallied (shop.changes p.tallies) (shop.changes tallies) job.origin.slot (removal_changes x) → next ≡ removed x
-      → IsStep shop number job ToRemove next p (record p { tallies = tallies })
-  remove_step x p tallies is rises e = is_step ToRemove e refl (record {
+      → IsStep shop number job ToRemove next p (record p { tallies = tallies; log = log })
+  remove_step x p tallies log removes is rises e = is_step ToRemove e refl (record {
     call = Removes x;
-    is = (refl, is);
+    is = (refl, (removes, is));
     next = refl;
     follows = removed_follows job x;
     counted = record {
@@ -237,11 +242,11 @@ module _ {T : Type 0} (shop : Shop T) (number : ℕ) (job : Job) where
     failed = refl;
   }
 
-  pub describe_step : (x : Option Receipt) (p : Share T) {next : Stage} → IsSomeReceipt x → next ≡ ToAnswer (told x)
+  pub describe_step : (x : Option Receipt) (p : Share T) {next : Stage} → shop.bench (TellsReceipt job x) → IsSomeReceipt x → next ≡ ToAnswer (told x)
       → IsStep shop number job ToDescribe next p p
-  describe_step x p is e = is_step ToDescribe e refl (record {
+  describe_step x p tells is e = is_step ToDescribe e refl (record {
     call = Describes x;
-    is = (refl, is);
+    is = (refl, (tells, is, refl));
     next = refl;
     follows = told_follows job x;
     counted = unchanged (Describes x) p refl refl refl;
@@ -251,7 +256,7 @@ module _ {T : Type 0} (shop : Shop T) (number : ℕ) (job : Job) where
       → IsStep shop number job ToMatch next p p
   match_step word p looks e = is_step ToMatch e refl (record {
     call = Matches job.etags.items word;
-    is = (refl, (refl, looks));
+    is = (refl, (refl, looks, refl));
     next = refl;
     follows = matched_follows job (is_match word job.etags.items) word;
     counted = unchanged (Matches job.etags.items word) p refl refl refl;
@@ -261,7 +266,7 @@ module _ {T : Type 0} (shop : Shop T) (number : ℕ) (job : Job) where
       → next ≡ listed (seen.items ++ word ∷ []) → IsStep shop number job (ToList seen) next p p
   list_step seen word p looks lt e = is_step (ToList seen) e refl (record {
     call = Lists seen word;
-    is = (refl, looks);
+    is = (refl, (looks, refl));
     next = refl;
     follows = listed_follows job seen (seen.items ++ word ∷ []) (nat_lt (length (seen.items ++ word ∷ [])) 64) (length-append seen.items (word ∷ [])) lt refl;
     counted = unchanged (Lists seen word) p refl refl refl;
@@ -272,7 +277,7 @@ module _ {T : Type 0} (shop : Shop T) (number : ℕ) (job : Job) where
       → IsStep shop number job ToInstall next p p
   reject_step f p is e = is_step ToInstall e refl (record {
     call = Rejects (refused (Broken f));
-    is = (refl, (f, is, refl));
+    is = (refl, ((f, is, refl), refl));
     next = refl;
     follows = rejected_follows job f (nat_lt (number_of f.rule) 20);
     counted = record {
@@ -290,7 +295,7 @@ module _ {T : Type 0} (shop : Shop T) (number : ℕ) (job : Job) where
       → after ≡ record p { refusals = saturated (p.refusals + 1) } → IsStep shop number job ToInstall next p after
   refuse_step p is e c = is_step ToInstall e c (record {
     call = Refuses;
-    is = (refl, is);
+    is = (refl, (is, refl));
     next = refl;
     follows = record { ready = tt; fewer = omega arith; few = omega arith };
     counted = record {
@@ -303,9 +308,9 @@ module _ {T : Type 0} (shop : Shop T) (number : ℕ) (job : Job) where
     };
   })
 
-  pub raise_step : (word : ℕ) (content : Content) (p : Share T) → shop.bench (RaisesWord job.origin.slot word) → IsOf job content
-      → IsStep shop number job (ToRaise word content) (ToAnswer content) p p
-  raise_step word content p raises own = record {
+  pub raise_step : (word : ℕ) (content : Content) (p : Share T) (log : CallLog) → shop.logged (RaisesWord job.origin.slot word) p.log log → IsOf job content
+      → IsStep shop number job (ToRaise word content) (ToAnswer content) p (record p { log = log })
+  raise_step word content p log raises own = record {
     call = Raises word content;
     is = (refl, raises);
     next = refl;
@@ -333,14 +338,14 @@ first_ready job (Run request) (x ∷ xs) = tt
 first_ready job Discover serials = omega arith
 first_ready job other serials = tt
 
-no_calls : {T : Type 0} (shop : Shop T) (number : ℕ) (job : Job) → AreCalls shop number job []
+no_calls : {T : Type 0} (shop : Shop T) (number : ℕ) (job : Job) (log : CallLog) → AreCalls shop number job [] log log
 unfolding AreCalls
-no_calls shop number job = tt
+no_calls shop number job log = refl
 
 pub sets_out : {T : Type 0} (shop : Shop T) (number : ℕ) (job : Job) (p : Share T) → Walked shop number job (asked_stage job) p p
 sets_out shop number job p = record {
   calls = [];
-  are = no_calls shop number job;
+  are = no_calls shop number job p.log;
   stands = refl;
   ready = first_ready job job.ask job.etags.items;
   few = omega arith;
@@ -354,10 +359,11 @@ sets_out shop number job p = record {
   };
 }
 
-more_calls : {T : Type 0} (shop : Shop T) (number : ℕ) (job : Job) (calls : List Call) (call : Call) → AreCalls shop number job calls
-    → IsCallAt shop number job (stage_after job calls) call → AreCalls shop number job (call ∷ calls)
+more_calls : {T : Type 0} (shop : Shop T) (number : ℕ) (job : Job) (calls : List Call) (call : Call) (before now after : CallLog)
+    → AreCalls shop number job calls before now → IsCallAt shop number job (stage_after job calls) call now after
+    → AreCalls shop number job (call ∷ calls) before after
 unfolding AreCalls
-more_calls shop number job calls call are is = (are, is)
+more_calls shop number job calls call before now after are is = (now, are, is)
 
 tallied_on : (b : Bool) (before now after x y : ℕ) → now ≡ before + (if b then x else 0) → after ≡ now + (if b then 0 + y else 0)
     → after ≡ before + (if b then x + y else 0)
@@ -383,7 +389,8 @@ walks_on shop number job {stage} {at} {next} {before} {now} {after} e w s =
     let here = sym e ∙ w.stands in
     record {
       calls = s.call ∷ w.calls;
-      are = more_calls shop number job w.calls s.call w.are (subst (λ (x : Stage). IsCallAt shop number job x s.call) here s.is);
+      are = more_calls shop number job w.calls s.call before.log now.log after.log w.are
+          (subst (λ (x : Stage). IsCallAt shop number job x s.call now.log after.log) here s.is);
       stands = s.next;
       ready = s.follows.ready;
       few = omega (arith, subst (λ (x : Stage). total taking_by w.calls ≤ taken_at x) e w.few, s.follows.few);

@@ -32,7 +32,8 @@ use Rattle.fc_registry.specs.declared.receipt.Receipt.{Receipt}
 use Rattle.fc_registry.specs.declared.shard.Removal.{Removal}
 use Rattle.fc_registry.specs.declared.shard.Removal.TheVariants.{Removed}
 use Rattle.fc_registry.specs.Calls.{IsTaking, IsCommit, install_in, receipt_at, remove_from}
-use Rattle.fc_workers.specs.Called.{BenchCall, GivesReadings}
+use Rattle.fc_workers.specs.declared.call_log.CallLog.{CallLog}
+use Rattle.fc_workers.specs.Called.{BenchCall, GivesReadings, LoggedCall, TakesForJob}
 
 -- a delivery at a moment to some front brings this
 pub record IsSomeDelivery (now : ℕ) (to : Endpoint) (bytes : List ℕ) (brings : Delivered) : Type 0 where
@@ -58,9 +59,13 @@ pub record IsSomeTaking (job : Job) (readings : List ℕ) (taken : Taken) : Type
   pub watch : ObserverList
   pub taking : IsTaking job readings slot now watch taken
 
--- with readings that the bench gave
-abbrev pub IsTakingWith : (BenchCall → Type 0) → Job → Taken → Type 0
-IsTakingWith Called job taken = (readings : List ℕ) × Called (GivesReadings readings) × IsSomeTaking job readings taken
+-- the job took with readings that the bench gave, and this was answered
+pub record IsTakingWith (Called : BenchCall → Type 0) (Logged : LoggedCall → CallLog → CallLog → Type 0) (job : Job) (taken : Taken) (before after : CallLog)
+    : Type 0 where
+  pub readings : List ℕ
+  pub given : Called (GivesReadings readings)
+  pub takes : Logged (TakesForJob job readings taken) before after
+  pub is : IsSomeTaking job readings taken
 
 -- some shard gives this turn at a moment, or none
 pub record IsSomeTurn (now : ℕ) (job : Option Job) : Type 0 where

@@ -14,8 +14,9 @@ use Rattle.fc_registry.specs.declared.receipt.Receipt.{Receipt}
 use Rattle.fc_workers.specs.declared.dispatch.Dispatched.{Dispatched}
 use Rattle.fc_workers.specs.declared.dispatch.Handover.{Handover}
 use Rattle.fc_workers.specs.declared.dispatch.Handover.TheVariants.{Every, Dear, Never}
+use Rattle.fc_workers.specs.declared.call_log.CallLog.{CallLog}
 use Rattle.fc_workers.specs.Answers.{IsSomeDelivery, IsSomeReceipt, IsSomeTurn, saturated}
-use Rattle.fc_workers.specs.Called.{GivesTurn, HandsSignal, Shop}
+use Rattle.fc_workers.specs.Called.{GivesTurn, HandsSignal, HearsDatagram, Shop}
 use Rattle.fc_workers.specs.Work.{IsReplied}
 
 -- it asks for a run
@@ -39,6 +40,14 @@ MayGo Never job = ⊥
 -- the number of a job that isn't sent to the workers
 abbrev pub unsent : ℕ
 unsent = 18446744073709551615
+
+-- a dispatcher whose log is at this state
+abbrev pub logged_at : {T : Type 0} → CallLog → Dispatched T → Dispatched T
+logged_at log done = record done { share = record done.share { log = log } }
+
+-- it has done nothing but make calls
+abbrev pub HasCalled : {T : Type 0} → Dispatched T → Dispatched T → Type 0
+HasCalled before after = after ≡ logged_at after.share.log before
 
 module _ {T : Type 0} (s : Shop T) where
   -- a job was sent to the workers, under the next number
@@ -70,8 +79,10 @@ module _ {T : Type 0} (s : Shop T) where
   pub record IsTakenIn (handover : Handover) (now : ℕ) (from : Endpoint) (bytes : List ℕ) (result : Heard) (reply : Emission)
       (before after : Dispatched T) : Type 0 where
     pub job : Job
+    pub log : CallLog
+    pub hears : s.logged (HearsDatagram now from bytes (heard result job reply)) before.share.log log
     pub delivery : IsSomeDelivery now from bytes (heard result job reply)
-    pub done : IsDone handover from (heard result job reply) before after
+    pub done : IsDone handover from (heard result job reply) (logged_at log before) after
 
   -- a turn that a shard gave is dispatched; where it gave none, none is
   abbrev pub IsTurnDone : Handover → Option Job → Bool → Dispatched T → Dispatched T → Type 0
@@ -81,6 +92,7 @@ module _ {T : Type 0} (s : Shop T) where
   -- a shard, as some shard does, gave this turn at a moment, or none, and it is dispatched
   pub record IsTurnAsked (handover : Handover) (shard now : ℕ) (given : Bool) (before after : Dispatched T) : Type 0 where
     pub turn : Option Job
-    pub asks : s.bench (GivesTurn shard now turn)
+    pub log : CallLog
+    pub asks : s.logged (GivesTurn shard now turn) before.share.log log
     pub turn_is : IsSomeTurn now turn
-    pub done : IsTurnDone handover turn given before after
+    pub done : IsTurnDone handover turn given (logged_at log before) after

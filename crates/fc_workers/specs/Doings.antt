@@ -1,13 +1,30 @@
--- What each call of a shard does: the shard before, what it answers, and the shard after.
-use Rattle.std.specs.Prelude.{◌≡◌, ℕ, Bool, if◌then◌else◌, Option}
+-- What each call of a shard does: the shard before, what it answers, and the shard after; and what each call of a front does.
+use Rattle.std.specs.Prelude.{◌≡◌, ℕ, Bool, false, if◌then◌else◌, List, Option}
+use Rattle.coap_msg.specs.declared.types.Emission.{Emission}
 use Rattle.coap_msg.specs.declared.types.Endpoint.{Endpoint}
+use Rattle.fc_core.specs.declared.front.Answered.{Answered}
+use Rattle.fc_core.specs.declared.front.Delivered.{Delivered}
+use Rattle.fc_core.specs.Answering.{AnswersIn, after_answered, emission_of}
+use Rattle.fc_core.specs.Contents.{Content}
+use Rattle.fc_core.specs.Exchanges.{FrontState, advanced}
+use Rattle.fc_core.specs.Ids.{drawn_for, free_id}
+use Rattle.fc_core.specs.Receiving.{after_delivered, delivered}
+use Rattle.fc_kinds.specs.Meaning.{Program}
 use Rattle.fc_machine.specs.Ran.{Ran}
 use Rattle.fc_observe.specs.declared.entry.Turn.{Turn}
 use Rattle.fc_observe.specs.declared.observers.Ticked.{Ticked}
 use Rattle.fc_registry.specs.declared.commit.Committed.{Committed}
 use Rattle.fc_registry.specs.declared.job.Job.{Job}
-use Rattle.fc_registry.specs.Calls.{CommitsTo}
-use Rattle.fc_registry.specs.Slots.{Shard, Ticket}
+use Rattle.fc_registry.specs.declared.note.Noted.{Noted}
+use Rattle.fc_registry.specs.declared.note.Notification.{Notification}
+use Rattle.fc_registry.specs.declared.receipt.Receipt.{Receipt}
+use Rattle.fc_registry.specs.declared.shard.Made.{Made}
+use Rattle.fc_registry.specs.declared.shard.Removal.{Removal}
+use Rattle.fc_registry.specs.declared.shard.Taken.{Taken}
+use Rattle.fc_registry.specs.Calls.{CommitsTo, TakesAt, after_taking, install_in, receipt_at, remove_from}
+use Rattle.fc_registry.specs.Changes.{after_changes}
+use Rattle.fc_registry.specs.Notes.{NotesTo}
+use Rattle.fc_registry.specs.Slots.{Shard, Ticket, slot_in, with_slot}
 use Rattle.fc_registry.specs.Turns.{due_job}
 use Rattle.fc_registry.specs.Watches.{after_due, after_given_up, after_tick, due_place, handed, is_quiet, late_place, signal_call, signalled, ticked_in}
 
@@ -40,3 +57,54 @@ HandsOn reset from id before after = after ≡ signalled (signal_call reset from
 -- a turn is given up at a moment
 unfoldable pub GivesUpAt : ℕ → Turn → Shard → Shard → Type 0
 GivesUpAt now turn before after = after ≡ after_given_up turn (handed before now)
+
+-- a job takes what it finds in its slot, with these readings
+abbrev pub TakesTo : Job → List ℕ → Shard → Taken → Shard → Type 0
+TakesTo job readings before taken after = TakesAt job readings before taken × (after ≡ after_taking job before)
+
+-- a program is installed in the slot of a job
+abbrev pub InstallsTo : Job → Program → Shard → Made → Shard → Type 0
+InstallsTo job program before made after =
+    let slot = job.origin.slot in
+    let called = install_in (slot_in before slot) program in
+    (made ≡ called.answer) × (after ≡ with_slot before slot (after_changes (slot_in before slot) called.changes))
+
+-- the program of the slot of a job is removed
+abbrev pub RemovesFrom : Job → Shard → Removal → Shard → Type 0
+RemovesFrom job before removal after =
+    let slot = job.origin.slot in
+    let called = remove_from (slot_in before slot) in
+    (removal ≡ called.answer) × (after ≡ with_slot before slot (after_changes (slot_in before slot) called.changes))
+
+-- what the program in the slot of a job is
+abbrev pub DescribesTo : Job → Shard → Option Receipt → Shard → Type 0
+DescribesTo job before receipt after = (receipt ≡ receipt_at (slot_in before job.origin.slot).present) × (after ≡ before)
+
+-- the observer of a turn is notified at a moment, by this message id
+abbrev pub NotesAt : Turn → ℕ → ℕ → ℕ → Notification → Shard → Noted → Shard → Type 0
+NotesAt turn id now random told before noted after = NotesTo told turn id random before now noted after
+
+-- ---- the front
+
+-- a datagram is taken in at a moment, and brings this
+abbrev pub HearsAt : ℕ → Endpoint → List ℕ → Delivered → FrontState → FrontState → Type 0
+HearsAt now from bytes brings before after =
+    let at = advanced before now in
+    (brings ≡ delivered at from bytes) × (after ≡ after_delivered at from bytes)
+
+-- a front is advanced to a moment. It is no abbreviation, so that no other call of a front is one
+unfoldable pub AdvancesTo : ℕ → FrontState → FrontState → Type 0
+AdvancesTo now before after = after ≡ advanced before now
+
+-- a message id is drawn at a moment, or none is free
+abbrev pub DrawsAt : ℕ → Option ℕ → FrontState → FrontState → Type 0
+DrawsAt now id before after =
+    let at = advanced before now in
+    (id ≡ free_id at.ids at.now) × (after ≡ record at { ids = drawn_for false at.ids at.now })
+
+-- a job is answered at a moment, and this is to be sent, or nothing
+pub record AnswersAt (now : ℕ) (job : Job) (content : Content) (sent : Option Emission) (before after : FrontState) : Type 0 where
+  pub answered : Answered
+  pub answers : AnswersIn (advanced before now) job content answered
+  pub sent_is : sent ≡ emission_of answered
+  pub after_is : after ≡ after_answered job sent (advanced before now)

@@ -15,7 +15,8 @@ use Rattle.fc_registry.specs.Slots.{Ticket}
 use Rattle.fc_core.specs.Contents.{Content}
 use Rattle.fc_workers.specs.declared.share.Share.{Share}
 use Rattle.fc_workers.specs.Answers.{IsSomeAnswer, IsSomeDraw, IsSomeNote, saturated}
-use Rattle.fc_workers.specs.Called.{GivesUpTurn, SendsReply, Shop}
+use Rattle.fc_workers.specs.declared.call_log.CallLog.{CallLog}
+use Rattle.fc_workers.specs.Called.{AnswersRequest, DrawsId, GivesUpTurn, NotesTurn, SendsReply, Shop}
 
 -- what is told is the run of the ticket that was found, or that the slot was found empty
 abbrev pub SaysFound : Notification → Option Ticket → Type 0
@@ -30,61 +31,70 @@ module _ {T : Type 0} (s : Shop T) where
   -- ---- a request
 
   -- at some moment of the workshop's some front answers the job so, and this is to go out, or nothing
-  pub record GivesAnswer (job : Job) (content : Content) (reply : Option Emission) : Type 0 where
+  pub record GivesAnswer (job : Job) (content : Content) (reply : Option Emission) (before after : CallLog) : Type 0 where
     pub now : ℕ
     pub moment : s.moment now
+    pub answers : s.logged (AnswersRequest now job content reply) before after
     pub answer : IsSomeAnswer now job content reply
 
   -- ---- a turn
 
   -- at some moment of the workshop's this is told the observer of the turn, by this message id, and this is to go out, or nothing
-  pub record IsNoteSent (told : Notification) (turn : Turn) (id : ℕ) (reply : Option Emission) : Type 0 where
+  pub record IsNoteSent (told : Notification) (turn : Turn) (id : ℕ) (reply : Option Emission) (before after : CallLog) : Type 0 where
     pub now : ℕ
     pub moment : s.moment now
+    pub random : ℕ
+    pub random_is : s.random random
     pub noted : Noted
+    pub notes : s.logged (NotesTurn turn id now random told noted) before after
     pub note : IsSomeNote now told turn id noted
     pub reply_is : reply ≡ sent_of noted
 
   -- what was found is told by a message id that some front drew
-  pub record IsNotification (turn : Turn) (found : Option Ticket) (reply : Option Emission) : Type 0 where
+  pub record IsNotification (turn : Turn) (found : Option Ticket) (reply : Option Emission) (before after : CallLog) : Type 0 where
     pub drawn : ℕ
     pub moment : s.moment drawn
     pub id : ℕ
+    pub log : CallLog
+    pub draws : s.logged (DrawsId drawn (Some id)) before log
     pub draw : IsSomeDraw drawn (Some id)
     pub told : Notification
     pub tells : SaysFound told found
-    pub noted : IsNoteSent told turn id reply
+    pub noted : IsNoteSent told turn id reply log after
 
   -- at some moment of the workshop's the turn was given up, and nothing goes out
-  pub record IsGivenUp (turn : Turn) (reply : Option Emission) : Type 0 where
+  pub record IsGivenUp (turn : Turn) (reply : Option Emission) (before after : CallLog) : Type 0 where
     pub now : ℕ
     pub moment : s.moment now
-    pub gives_up : s.bench (GivesUpTurn turn now)
+    pub gives_up : s.logged (GivesUpTurn turn now) before after
     pub nothing : reply ≡ None
 
   -- no message id was free, and the turn was given up
-  pub record IsStarved (turn : Turn) (reply : Option Emission) : Type 0 where
+  pub record IsStarved (turn : Turn) (reply : Option Emission) (before after : CallLog) : Type 0 where
     pub now : ℕ
     pub moment : s.moment now
+    pub log : CallLog
+    pub draws : s.logged (DrawsId now None) before log
     pub draw : IsSomeDraw now None
-    pub given_up : IsGivenUp turn reply
+    pub given_up : IsGivenUp turn reply log after
 
-  abbrev pub IsFoundTold : Turn → Option Ticket → Option Emission → Type 0
-  IsFoundTold turn found reply = IsNotification turn found reply ⊎ IsStarved turn reply
+  abbrev pub IsFoundTold : Turn → Option Ticket → Option Emission → CallLog → CallLog → Type 0
+  IsFoundTold turn found reply before after = IsNotification turn found reply before after ⊎ IsStarved turn reply before after
 
   -- by what the turn's taking answered: where memory was refused the turn is given up, and where it is stale nothing is left to do
-  abbrev pub IsTurnReply : Turn → Taken → Option Emission → Type 0
-  IsTurnReply turn (Given t) reply = IsFoundTold turn (Some t) reply
-  IsTurnReply turn Missing reply = IsFoundTold turn None reply
-  IsTurnReply turn Stale reply = reply ≡ None
-  IsTurnReply turn Refused reply = IsGivenUp turn reply
+  abbrev pub IsTurnReply : Turn → Taken → Option Emission → CallLog → CallLog → Type 0
+  IsTurnReply turn (Given t) reply before after = IsFoundTold turn (Some t) reply before after
+  IsTurnReply turn Missing reply before after = IsFoundTold turn None reply before after
+  IsTurnReply turn Stale reply before after = (reply ≡ None) × (after ≡ before)
+  IsTurnReply turn Refused reply before after = IsGivenUp turn reply before after
 
   -- ---- sending it
 
-  -- a reply was sent under its job's number, and is counted by whether it went out; where there is none, nothing is counted
+  -- a reply was sent once, under its job's number, and is counted by whether it went out; where there is none, nothing was called and nothing is counted
   abbrev pub IsSent : ℕ → Option Emission → Share T → Share T → Type 0
   IsSent number None before after = after ≡ before
-  IsSent number (Some reply) before after = (out : Bool) × s.wire (SendsReply number reply out) × (after ≡ with_reply out before)
+  IsSent number (Some reply) before after =
+      (out : Bool) × (log : CallLog) × s.wire (SendsReply number reply out) before.log log × (after ≡ with_reply out (record before { log = log }))
 
 -- ---- a reply
 

@@ -3,6 +3,7 @@ use Rattle.std.specs.Prelude.{◌≡◌, ℕ, ◌+◌, ◌<◌, List, [], ◌∷
 use Rattle.std.specs.List.{All}
 use Rattle.fc_jobs.specs.Ends.{Channel, Got, nothing_got, with_got}
 use Rattle.fc_jobs.specs.declared.protocol.Numbered.{Numbered}
+use Rattle.fc_workers.specs.declared.call_log.CallLog.{CallLog}
 use Rattle.fc_workers.specs.declared.seat.Seat.{Seat}
 use Rattle.fc_workers.specs.declared.share.Share.{Share}
 use Rattle.fc_workers.specs.Answers.{HasRisen, saturated}
@@ -10,8 +11,8 @@ use Rattle.fc_workers.specs.Called.{Shop}
 use Rattle.fc_workers.specs.Work.{IsReplied}
 
 -- the share of a worker that hasn't begun
-abbrev pub new_share : {T : Type 0} → Got → T → Share T
-new_share got tallies = record { tallies = tallies; got = got; sent = 0; failed = 0; refusals = 0; overtakings = 0 }
+abbrev pub new_share : {T : Type 0} → Got → T → CallLog → Share T
+new_share got tallies log = record { tallies = tallies; log = log; got = got; sent = 0; failed = 0; refusals = 0; overtakings = 0 }
 
 -- a seat for each of these tallies, whose worker has got nothing yet
 pub record AreNewSeats {T : Type 0} (channel : Channel) (tallies : List T) (seats : List (Seat T)) : Type 0 where
@@ -36,9 +37,10 @@ module _ {T : Type 0} (s : Shop T) where
     pub got : after.got ≡ record before.got { got = before.got.got ++ reverse jobs }
     pub count : HasRisen (s.ended before.tallies) (length jobs) (s.ended after.tallies)
 
-  -- the share of the worker at a seat
-  abbrev pub IsShareOf : Seat T → Share T → Type 0
-  IsShareOf seat share = HasEnded (new_share seat.got seat.tallies) share
+  -- the share of the worker at a seat, whose log is new
+  pub record IsShareOf (seat : Seat T) (share : Share T) : Type 0 where
+    pub log : CallLog
+    pub ended : HasEnded (new_share seat.got seat.tallies log) share
 
   -- each seat's share, in the order of the seats
   pub record AreSharesOf (seats : List (Seat T)) (shares : List (Share T)) : Type 0 where

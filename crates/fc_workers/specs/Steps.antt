@@ -53,7 +53,7 @@ pub record Follows (job : Job) (old : Stage) (takes : ℕ) (new : Stage) : Type 
 -- a call for the job of this number, and the stage and the share that it leaves
 pub record IsStep {T : Type 0} (s : Shop T) (number : ℕ) (job : Job) (old new : Stage) (before after : Share T) : Type 0 where
   pub call : Call
-  pub is : IsCallAt s number job old call
+  pub is : IsCallAt s number job old call before.log after.log
   pub next : new ≡ next_stage call
   pub follows : Follows job old (taking_by call) new
   pub counted : HasCounted s job.origin.slot (call ∷ []) before after

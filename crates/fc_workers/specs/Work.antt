@@ -1,5 +1,5 @@
 -- What is done with a job whose shard others change too: a list of calls, the newest first, each at the stage that needs it,
--- and answered as its shard answers at some slot.
+-- and answered as its shard answers at some slot. Each leads the worker's log on from where the one before it left it: so there were no others.
 use Rattle.std.specs.Prelude.{◌≡◌, ℕ, ◌+◌, ◌<◌, ◌≤◌, List, [], ◌∷◌, length, Option, Some, None}
 use Rattle.coap_msg.specs.declared.types.Emission.{Emission}
 use Rattle.fc_isa.specs.declared.rule.Fault.{Fault}
@@ -20,7 +20,8 @@ use Rattle.fc_core.specs.Ends.{refused}
 use Rattle.fc_core.specs.Stages.{asked_stage, image_of, takings}
 use Rattle.fc_core.specs.Steps.{Call, Matches, Lists, Takes, Commits, Installs, Rejects, Refuses, Removes, Describes, Raises, called_at, next_stage}
 use Rattle.fc_workers.specs.Answers.{IsTakingWith, IsSomeCommit, IsSomeInstall, IsSomeReceipt, IsSomeRemoval, AreTallied, HasRisen, commit_changes, commit_overtakings, install_changes, removal_changes, taking_refusals}
-use Rattle.fc_workers.specs.Called.{CommitsRun, EndsJob, LooksAt, RaisesWord, Shop}
+use Rattle.fc_workers.specs.declared.call_log.CallLog.{CallLog}
+use Rattle.fc_workers.specs.Called.{CommitsRun, EndsJob, InstallsProgram, LooksAt, RaisesWord, RemovesProgram, Shop, TellsReceipt}
 use Rattle.fc_workers.specs.Outgoing.{GivesAnswer, IsSent, IsTurnReply}
 use Rattle.fc_workers.specs.declared.share.Share.{Share}
 
@@ -60,38 +61,42 @@ stage_after job (call ∷ calls) = next_stage call
 module _ {T : Type 0} (s : Shop T) where
   -- ---- a call
 
-  -- a ticket's own run was committed, at some moment of the workshop's, after the gate had let the job of this number go on
-  pub record IsCommitted (number : ℕ) (t : Ticket) (committed : Committed) : Type 0 where
-    pub gate : s.gate number
+  -- the gate let the job of this number go on, and then a ticket's own run was committed, at some moment of the workshop's
+  pub record IsCommitted (number : ℕ) (t : Ticket) (committed : Committed) (before after : CallLog) : Type 0 where
+    pub passed : CallLog
+    pub gate : s.gate number before passed
     pub now : ℕ
     pub moment : s.moment now
-    pub commits : s.bench (CommitsRun now (run_of t) t committed)
+    pub commits : s.logged (CommitsRun now (run_of t) t committed) passed after
     pub commit : IsSomeCommit (run_of t) t committed
 
-  -- a call for the job of this number. A look is at the head word of its slot, whose client has the answers of the job's serials, or of the next one
+  -- a call for the job of this number, by the logs before and after it. A look is at the head word of its slot, whose client has the answers of the job's serials, or of the next one
   -- in a list; its slot's word is raised to the word that the stage told; and what else is answered is true of some slot. An answer, a loss and
   -- the calls of a turn are in no request's list
-  abbrev pub IsCallOf : ℕ → Job → Call → Type 0
-  IsCallOf number job (Matches serials word) = (serials ≡ job.etags.items) × s.bench (LooksAt job.origin.slot word)
-  IsCallOf number job (Lists seen word) = s.bench (LooksAt (length seen.items) word)
-  IsCallOf number job (Takes count taken) = IsTakingWith s.bench job taken
-  IsCallOf number job (Commits count t committed) = IsCommitted number t committed
-  IsCallOf number job (Installs p answer) = (judged (image_of job.ask) ≡ Accepts p) × IsSomeInstall p answer
-  IsCallOf number job (Rejects content) = (f : Fault) × IsRefusal (image_of job.ask) (Broken f) × (content ≡ refused (Broken f))
-  IsCallOf number job Refuses = IsRefusal (image_of job.ask) NoMemory
-  IsCallOf number job (Removes removal) = IsSomeRemoval removal
-  IsCallOf number job (Describes receipt) = IsSomeReceipt receipt
-  IsCallOf number job (Raises word content) = s.bench (RaisesWord job.origin.slot word)
-  IsCallOf number job other = ⊥
+  abbrev pub IsCallOf : ℕ → Job → Call → CallLog → CallLog → Type 0
+  IsCallOf number job (Matches serials word) before after = (serials ≡ job.etags.items) × s.bench (LooksAt job.origin.slot word) × (after ≡ before)
+  IsCallOf number job (Lists seen word) before after = s.bench (LooksAt (length seen.items) word) × (after ≡ before)
+  IsCallOf number job (Takes count taken) before after = IsTakingWith s.bench s.logged job taken before after
+  IsCallOf number job (Commits count t committed) before after = IsCommitted number t committed before after
+  IsCallOf number job (Installs p answer) before after =
+      (judged (image_of job.ask) ≡ Accepts p) × s.logged (InstallsProgram job p answer) before after × IsSomeInstall p answer
+  IsCallOf number job (Rejects content) before after =
+      ((f : Fault) × IsRefusal (image_of job.ask) (Broken f) × (content ≡ refused (Broken f))) × (after ≡ before)
+  IsCallOf number job Refuses before after = IsRefusal (image_of job.ask) NoMemory × (after ≡ before)
+  IsCallOf number job (Removes removal) before after = s.logged (RemovesProgram job removal) before after × IsSomeRemoval removal
+  IsCallOf number job (Describes receipt) before after = s.bench (TellsReceipt job receipt) × IsSomeReceipt receipt × (after ≡ before)
+  IsCallOf number job (Raises word content) before after = s.logged (RaisesWord job.origin.slot word) before after
+  IsCallOf number job other before after = ⊥
 
   -- the call is the one that the stage needs, and its answer is true
-  abbrev pub IsCallAt : ℕ → Job → Stage → Call → Type 0
-  IsCallAt number job stage call = (stage ≡ called_at call) × IsCallOf number job call
+  abbrev pub IsCallAt : ℕ → Job → Stage → Call → CallLog → CallLog → Type 0
+  IsCallAt number job stage call before after = (stage ≡ called_at call) × IsCallOf number job call before after
 
-  -- each is the call that the stage needs where the ones before it have led
-  unfoldable pub AreCalls : ℕ → Job → List Call → Type 0
-  AreCalls number job [] = Unit {0}
-  AreCalls number job (call ∷ calls) = AreCalls number job calls × IsCallAt number job (stage_after job calls) call
+  -- each is the call that the stage needs where the ones before it have led, and none was made but these, from one log to the other
+  unfoldable pub AreCalls : ℕ → Job → List Call → CallLog → CallLog → Type 0
+  AreCalls number job [] before after = after ≡ before
+  AreCalls number job (call ∷ calls) before after =
+      (now : CallLog) × AreCalls number job calls before now × IsCallAt number job (stage_after job calls) call now after
 
   -- a worker's share, before and after these calls for a job of slot n
   pub record HasCounted (n : ℕ) (calls : List Call) (before after : Share T) : Type 0 where
@@ -107,7 +112,7 @@ module _ {T : Type 0} (s : Shop T) where
   -- a job's calls, from its first stage to this answer
   pub record IsWorkedOff (number : ℕ) (job : Job) (content : Content) (before after : Share T) : Type 0 where
     pub calls : List Call
-    pub are : AreCalls number job calls
+    pub are : AreCalls number job calls before.log after.log
     pub ends : stage_after job calls ≡ ToAnswer content
     pub few : total taking_by calls ≤ takings
     pub own : IsOf job content
@@ -120,17 +125,19 @@ module _ {T : Type 0} (s : Shop T) where
     pub sent : after.sent ≡ before.sent
     pub failed : after.failed ≡ before.failed
 
-  -- a request's job was worked off to some answer, and this is to go out for it, or nothing
+  -- a request's job was worked off to some answer, and then answered once so, and this is to go out for it, or nothing
   pub record IsRequestWorked (number : ℕ) (job : Job) (before after : Share T) (reply : Option Emission) : Type 0 where
     pub content : Content
-    pub worked : IsWorkedOff number job content before after
-    pub answered : GivesAnswer s job content reply
+    pub log : CallLog
+    pub worked : IsWorkedOff number job content before (record after { log = log })
+    pub answered : GivesAnswer s job content reply log after.log
 
-  -- a turn's job was worked off, and this is to go out for it, or nothing: it took once, and what it found is told. It changes no slot
+  -- a turn's job was worked off, and this is to go out for it, or nothing: it took once, and then what it found was told once. It changes no slot
   pub record IsTurnWorked (job : Job) (turn : Turn) (before after : Share T) (reply : Option Emission) : Type 0 where
     pub taken : Taken
-    pub taking : IsTakingWith s.bench job taken
-    pub told : IsTurnReply s turn taken reply
+    pub log : CallLog
+    pub taking : IsTakingWith s.bench s.logged job taken before.log log
+    pub told : IsTurnReply s turn taken reply log after.log
     pub kept : IsQuiet before after
 
   abbrev pub IsWorkedAs : Option ℕ → ℕ → Job → Share T → Share T → Option Emission → Type 0
@@ -141,10 +148,12 @@ module _ {T : Type 0} (s : Shop T) where
   abbrev pub IsWorked : ℕ → Job → Share T → Share T → Option Emission → Type 0
   IsWorked number job before after reply = IsWorkedAs job.turn number job before after reply
 
-  -- it was worked off, its reply, if it has one, was sent and counted, and who waits for the job was told that it has ended
+  -- it was worked off, then its reply, if it has one, was sent once and counted, and last who waits for the job was told once that it has ended.
+  -- Nobody was called besides
   pub record IsReplied (number : ℕ) (job : Job) (before after : Share T) : Type 0 where
     pub reply : Option Emission
     pub share : Share T
+    pub log : CallLog
     pub worked : IsWorked number job before share reply
-    pub sent : IsSent s number reply share after
-    pub over : s.wire (EndsJob number)
+    pub sent : IsSent s number reply share (record after { log = log })
+    pub over : s.wire (EndsJob number) log after.log

@@ -4,9 +4,13 @@ ghost use Rattle.atomic_table.specs.Seated.{TableId};
 ghost use Rattle.fc_core.specs.Contents.{IsOf};
 ghost use Rattle.fc_core.specs.Receiving.{emission_if, heard};
 ghost use Rattle.fc_heads.specs.Heads.{IsRaised, fresh, peeked, word_of};
-ghost use Rattle.fc_workers.specs.Called.{AdvancesFront, AdvancesIfQuiet, AdvancesShard, BenchCall, CommitsRun, GivesReadings, GivesTurn, GivesUpTurn, HandsSignal, LooksAt, RaisesWord};
+ghost use Rattle.fc_workers.specs.Called.{AdvancesFront, AdvancesIfQuiet, BenchCall, GivesReadings, HandsSignal, LooksAt, TellsReceipt};
+ghost use Rattle.fc_workers.specs.Called.{AdvancesShard, AnswersRequest, CommitsRun, DrawsId, GivesTurn, GivesUpTurn, HearsDatagram, InstallsProgram};
+ghost use Rattle.fc_workers.specs.Called.{LoggedCall, NotesTurn, RaisesWord, RemovesProgram, TakesForJob};
+ghost use Rattle.fc_workers.specs.declared.call_log.CallLog.{CallLog as Log};
 ghost use Rattle.fc_workers.specs.Answers.{AreTallied, IsSomeAnswer, IsSomeCommit, IsSomeDelivery, IsSomeDraw, IsSomeInstall, IsSomeNote, IsSomeQuiet, IsSomeReceipt, IsSomeRemoval, IsSomeTaking, IsSomeTick, IsSomeTurn, commit_changes, ended_by, install_changes, removal_changes, saturated};
 
+use crate::call_log::CallLog;
 use coap_msg::{Emission, Endpoint};
 use fc_core::{Answer, Heard};
 use fc_heads::HeadSeat;
@@ -24,7 +28,8 @@ use std::sync::{Arc, Wait};
 /// next's: what others change in between is not said here. What a call does is said by who implements this.
 ///
 /// Each worker hands in tallies of its own. They count the changes of each shard that its calls answered, and the jobs
-/// that it ended.
+/// that it ended. It hands in its log with each call of which it matters how
+/// often it is made, and when: so a clause says which of these it made, and in which order.
 pub trait Bench {
     /// What one worker changed, and how many jobs it ended.
     type Tallies: Drop;
@@ -38,8 +43,11 @@ pub trait Bench {
     // Which head words it has.
     ghost heads: { Self → TableId };
 
-    // Which calls were made. It says of a call that it was made, with what it was handed and what it answered.
+    // Which calls were made, of those that are as made once however often they are. It says of a call that it was made, with what it was handed and what it answered.
     ghost called: { BenchCall → Type 0 } = { λ _. ⊤ };
+
+    // Which of the others were made, each from one state of the caller's log to the next, with what it was handed and what it answered.
+    ghost logged: { LoggedCall → Log → Log → Type 0 } = { λ call before after. ⊤ };
 
     /// Takes a datagram in, at a moment in milliseconds, as [`Front::hear`](fc_core::Front::hear) does: the job that it brings, or the
     /// reply, is written over another.
@@ -51,16 +59,19 @@ pub trait Bench {
         bytes: &[u8],
         job: &mut Job,
         reply: &mut Emission,
+        log: &mut CallLog,
     ) -> Heard
-        ensures { IsSomeDelivery now endpoint bytes.now (heard result job.new reply.new) };
+        ensures heard { IsSomeDelivery now endpoint bytes.now (heard result job.new reply.new) }
+        ensures logged { logged (HearsDatagram now endpoint bytes.now (heard result job.new reply.new)) log.old log.new };
 
     /// Advances the front to a moment in milliseconds, as [`Front::tick`](fc_core::Front::tick) does.
     fn tick<R: Wait>(&self, rt: &R, now: u64)
         ensures { called (AdvancesFront now) };
 
     /// A message id of the server's own, at a moment in milliseconds, as [`Front::fresh_id`](fc_core::Front::fresh_id) gives it.
-    fn fresh_id<R: Wait>(&self, rt: &R, now: u64) -> Option<u16>
-        ensures { IsSomeDraw now result };
+    fn fresh_id<R: Wait>(&self, rt: &R, now: u64, log: &mut CallLog) -> Option<u16>
+        ensures drawn { IsSomeDraw now result }
+        ensures logged { logged (DrawsId now result) log.old log.new };
 
     /// The readings of the device.
     fn readings<R: Wait>(&self, rt: &R) -> Readings
@@ -74,8 +85,10 @@ pub trait Bench {
         job: &Job,
         readings: &Readings,
         tallies: &mut Self::Tallies,
+        log: &mut CallLog,
     ) -> Taken
         ensures taken { IsSomeTaking job.now readings.now result }
+        ensures logged { logged (TakesForJob job.now readings.now result) log.old log.new }
         ensures changes { (shard : ℕ) → shard < 8 →
             changes tallies.new shard ≡ changes tallies.old shard }
         ensures ended { ended tallies.new ≡ ended_by result (ended tallies.old) };
@@ -88,9 +101,10 @@ pub trait Bench {
         outcome: &Outcome<'_>,
         ticket: &Ticket,
         tallies: &mut Self::Tallies,
+        log: &mut CallLog,
     ) -> Committed
         ensures committed { IsSomeCommit outcome.now ticket.now result }
-        ensures called { called (CommitsRun now outcome.now ticket.now result) }
+        ensures logged { logged (CommitsRun now outcome.now ticket.now result) log.old log.new }
         ensures changes { AreTallied (changes tallies.old) (changes tallies.new)
             ticket.now.origin.slot (commit_changes result) }
         ensures ended { ended tallies.new ≡ ended tallies.old };
@@ -102,15 +116,24 @@ pub trait Bench {
         job: &Job,
         program: Arc<Verified>,
         tallies: &mut Self::Tallies,
+        log: &mut CallLog,
     ) -> Made
         ensures made { IsSomeInstall program.value result }
+        ensures logged { logged (InstallsProgram job.now program.value result) log.old log.new }
         ensures changes { AreTallied (changes tallies.old) (changes tallies.new)
             job.now.origin.slot (install_changes result) }
         ensures ended { ended tallies.new ≡ ended tallies.old };
 
     /// Removes the program of the slot of a job, as [`Shard::remove`](fc_registry::Shard::remove) does.
-    fn remove<R: Wait>(&self, rt: &R, job: &Job, tallies: &mut Self::Tallies) -> Removal
+    fn remove<R: Wait>(
+        &self,
+        rt: &R,
+        job: &Job,
+        tallies: &mut Self::Tallies,
+        log: &mut CallLog,
+    ) -> Removal
         ensures removal { IsSomeRemoval result }
+        ensures logged { logged (RemovesProgram job.now result) log.old log.new }
         ensures changes { AreTallied (changes tallies.old) (changes tallies.new)
             job.now.origin.slot (removal_changes result) }
         ensures ended { ended tallies.new ≡ ended tallies.old };
@@ -120,9 +143,9 @@ pub trait Bench {
         ensures { called (HandsSignal shard endpoint id reset) };
 
     /// Advances a shard, 0 to 7, to a moment in milliseconds, as [`Shard::tick`](fc_registry::Shard::tick) does.
-    fn tick_shard<R: Wait>(&self, rt: &R, shard: u8, now: u64) -> Ticked
+    fn tick_shard<R: Wait>(&self, rt: &R, shard: u8, now: u64, log: &mut CallLog) -> Ticked
         ensures ticked { IsSomeTick now result }
-        ensures called { called (AdvancesShard shard now result) };
+        ensures logged { logged (AdvancesShard shard now result) log.old log.new };
 
     /// Advances a shard, 0 to 7, to a moment in milliseconds where nothing is late and nobody is due, as
     /// [`Shard::advance_if_quiet`](fc_registry::Shard::advance_if_quiet) does. Tells whether it did.
@@ -131,9 +154,9 @@ pub trait Bench {
         ensures called { called (AdvancesIfQuiet shard now result) };
 
     /// Asks a shard, 0 to 7, for a turn at a moment in milliseconds, as [`Shard::next_due`](fc_registry::Shard::next_due) gives it.
-    fn next_due<R: Wait>(&self, rt: &R, shard: u8, now: u64) -> Option<Job>
+    fn next_due<R: Wait>(&self, rt: &R, shard: u8, now: u64, log: &mut CallLog) -> Option<Job>
         ensures turn { IsSomeTurn now result }
-        ensures called { called (GivesTurn shard now result) };
+        ensures logged { logged (GivesTurn shard now result) log.old log.new };
 
     /// Notifies the observer of a turn, at a moment in milliseconds, as [`Shard::note`](fc_registry::Shard::note) does, and ends its job.
     fn note<R: Wait>(
@@ -145,24 +168,34 @@ pub trait Bench {
         random: u16,
         told: &Notification<'_>,
         tallies: &mut Self::Tallies,
+        log: &mut CallLog,
     ) -> Noted
         requires { turn.slot < 64 }
         ensures noted { IsSomeNote now told.now turn id result }
+        ensures logged { logged (NotesTurn turn id now random told.now result) log.old log.new }
         ensures changes { (shard : ℕ) → shard < 8 →
             changes tallies.new shard ≡ changes tallies.old shard }
         ensures ended { ended tallies.new ≡ saturated (ended tallies.old + 1) };
 
     /// Gives up a turn, at a moment in milliseconds, as [`Shard::give_up`](fc_registry::Shard::give_up) does, and ends its job.
-    fn give_up<R: Wait>(&self, rt: &R, turn: Turn, now: u64, tallies: &mut Self::Tallies)
+    fn give_up<R: Wait>(
+        &self,
+        rt: &R,
+        turn: Turn,
+        now: u64,
+        tallies: &mut Self::Tallies,
+        log: &mut CallLog,
+    )
         requires { turn.slot < 64 }
-        ensures called { called (GivesUpTurn turn now) }
+        ensures logged { logged (GivesUpTurn turn now) log.old log.new }
         ensures changes { (shard : ℕ) → shard < 8 →
             changes tallies.new shard ≡ changes tallies.old shard }
         ensures ended { ended tallies.new ≡ saturated (ended tallies.old + 1) };
 
     /// What the program in the slot of a job is, as [`Shard::receipt`](fc_registry::Shard::receipt) tells it.
     fn receipt<R: Wait>(&self, rt: &R, job: &Job) -> Option<Receipt>
-        ensures { IsSomeReceipt result };
+        ensures receipt { IsSomeReceipt result }
+        ensures called { called (TellsReceipt job.now result) };
 
     /// A seat at the head words for a worker, which has seen and raised nothing.
     fn head_seat(&self) -> HeadSeat
@@ -176,10 +209,10 @@ pub trait Bench {
         ensures called { called (LooksAt slot result) };
 
     /// Raises the head word of the slot of a job, as [`Heads::raise`](fc_heads::Heads::raise) does: it is then no less than the word handed in. No lock is taken.
-    fn raise(&self, job: &Job, word: u64, seat: &mut HeadSeat)
+    fn raise(&self, job: &Job, word: u64, seat: &mut HeadSeat, log: &mut CallLog)
         requires { seat.old.table ≡ heads self.now }
         ensures raised { IsRaised job.now.origin.slot word seat.old seat.new }
-        ensures called { called (RaisesWord job.now.origin.slot word) };
+        ensures logged { logged (RaisesWord job.now.origin.slot word) log.old log.new };
 
     /// Answers a job, at a moment in milliseconds, as [`Front::respond`](fc_core::Front::respond) does, and ends it: what is to be sent is
     /// written over another emission. Tells whether anything is.
@@ -191,9 +224,11 @@ pub trait Bench {
         answer: &Answer,
         reply: &mut Emission,
         tallies: &mut Self::Tallies,
+        log: &mut CallLog,
     ) -> bool
         requires { IsOf job.now answer.now }
         ensures sent { IsSomeAnswer now job.now answer.now (emission_if result reply.new) }
+        ensures logged { logged (AnswersRequest now job.now answer.now (emission_if result reply.new)) log.old log.new }
         ensures changes { (shard : ℕ) → shard < 8 →
             changes tallies.new shard ≡ changes tallies.old shard }
         ensures ended { ended tallies.new ≡ saturated (ended tallies.old + 1) };

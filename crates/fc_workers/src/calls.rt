@@ -1,12 +1,9 @@
 //! The calls of a shard: each is one question to the shard that it is handed, and what it does is said of the shard alone.
 ghost use Rattle.std.specs.Prelude.{◌≡◌, ℕ, ◌+◌, ⊤, if◌then◌else◌};
-ghost use Rattle.fc_registry.specs.Slots.{IsOwned, Shard as Seen, slot_in, with_slot};
-ghost use Rattle.fc_registry.specs.Changes.{after_changes};
-ghost use Rattle.fc_registry.specs.Calls.{TakesAt, after_taking, install_in, receipt_at, remove_from};
-ghost use Rattle.fc_registry.specs.Notes.{NotesTo};
+ghost use Rattle.fc_registry.specs.Slots.{IsOwned, Shard as Seen};
 ghost use Rattle.fc_workers.specs.Answers.{commit_changes, install_changes, removal_changes};
 ghost use Rattle.fc_workers.specs.Counts.{HasEightSlots, serials};
-ghost use Rattle.fc_workers.specs.Doings.{CommitsAt, GivesTurnAt, GivesUpAt, HandsOn, PassesIfQuiet, TicksAt};
+ghost use Rattle.fc_workers.specs.Doings.{CommitsAt, DescribesTo, GivesTurnAt, GivesUpAt, HandsOn, InstallsTo, NotesAt, PassesIfQuiet, RemovesFrom, TakesTo, TicksAt};
 
 use coap_msg::Endpoint;
 use fc_help::Readings;
@@ -63,7 +60,7 @@ impl<'a> ShardCall for Take<'a> {
 
     ghost may_ask = { λ call shard. IsOwned shard call.job.now.origin.slot };
 
-    ghost does = { λ call before taken after. TakesAt call.job.now call.readings.now before taken × (after ≡ after_taking call.job.now before) };
+    ghost does = { λ call. TakesTo call.job.now call.readings.now };
 
     fn call(self, shard: &mut Shard) -> Taken {
         shard.take(self.job, self.readings)
@@ -115,9 +112,7 @@ impl<'a> ShardCall for Install<'a> {
 
     ghost may_ask = { λ call shard. IsOwned shard call.job.now.origin.slot };
 
-    ghost does = { λ call before made after. let called = install_in (slot_in before call.job.now.origin.slot) call.program.value in
-        (made ≡ called.answer)
-        × (after ≡ with_slot before call.job.now.origin.slot (after_changes (slot_in before call.job.now.origin.slot) called.changes)) };
+    ghost does = { λ call. InstallsTo call.job.now call.program.value };
 
     ghost changes = { install_changes };
 
@@ -146,9 +141,7 @@ impl<'a> ShardCall for Remove<'a> {
 
     ghost may_ask = { λ call shard. IsOwned shard call.job.now.origin.slot };
 
-    ghost does = { λ call before removal after. let called = remove_from (slot_in before call.job.now.origin.slot) in
-        (removal ≡ called.answer)
-        × (after ≡ with_slot before call.job.now.origin.slot (after_changes (slot_in before call.job.now.origin.slot) called.changes)) };
+    ghost does = { λ call. RemovesFrom call.job.now };
 
     ghost changes = { removal_changes };
 
@@ -176,7 +169,7 @@ impl<'a> ShardCall for Describe<'a> {
 
     ghost may_ask = { λ call shard. IsOwned shard call.job.now.origin.slot };
 
-    ghost does = { λ call before receipt after. (receipt ≡ receipt_at (slot_in before call.job.now.origin.slot).present) × (after ≡ before) };
+    ghost does = { λ call. DescribesTo call.job.now };
 
     fn call(self, shard: &mut Shard) -> Option<Receipt> {
         shard.receipt(self.job.origin.slot)
@@ -265,7 +258,7 @@ impl<'a> ShardCall for Note<'a> {
 
     ghost may_ask = { λ call shard. IsOwned shard call.turn.slot };
 
-    ghost does = { λ call before noted after. NotesTo call.told.now call.turn call.id call.random before call.now noted after };
+    ghost does = { λ call. NotesAt call.turn call.id call.now call.random call.told.now };
 
     fn call(self, shard: &mut Shard) -> Noted {
         shard.note(self.turn, self.id, self.now, self.random, self.told)

@@ -3,7 +3,7 @@ ghost use Rattle.std.specs.Prelude.{◌≡◌, ◌<◌, ◌≤◌, ℕ, true, Ma
 ghost use Rattle.fc_jobs.specs.Ends.{with_sent};
 ghost use Rattle.fc_workers.specs.Answers.{IsSomeQuiet, IsSomeTick};
 ghost use Rattle.fc_workers.specs.Called.{AdvancesFront, AdvancesIfQuiet, AdvancesShard, shop};
-ghost use Rattle.fc_workers.specs.Dispatch.{AreSignalled, IsDear, IsDispatched, IsTakenIn, IsTurnAsked, IsWorkedHere, MayGo};
+ghost use Rattle.fc_workers.specs.Dispatch.{AreSignalled, HasCalled, IsDear, IsDispatched, IsTakenIn, IsTurnAsked, IsWorkedHere, MayGo};
 ghost use Rattle.fc_workers.specs.Shares.{new_share};
 
 use crate::bench::Bench;
@@ -66,7 +66,7 @@ impl<'a, B: Bench, G: Gate, W: Wire, M: Moments> Dispatcher<'a, B, G, W, M> {
         handover: Handover,
     ) -> Dispatcher<'a, B, G, W, M>
         requires { sent.channel ≡ jobs.now }
-        ensures done { result.done ≡ record { sent = sent; share = new_share seat.got seat.tallies } }
+        ensures done { result.done ≡ record { sent = sent; share = new_share seat.got seat.tallies result.done.share.log } }
         ensures handover { result.handover ≡ handover }
     {
         let Seat {
@@ -105,13 +105,14 @@ impl<'a, B: Bench, G: Gate, W: Wire, M: Moments> Dispatcher<'a, B, G, W, M> {
         bytes: &[u8],
         reply: &mut Emission,
     ) -> Heard
-        ensures taken_in { IsTakenIn (shop B.changes B.ended B.called M.is_moment G.passed W.called) self.old.handover now from bytes.now result reply.new self.old.done self.new.done }
+        ensures taken_in { IsTakenIn (shop B.changes B.ended B.called B.logged M.is_moment M.is_random G.passed W.called) self.old.handover now from bytes.now result reply.new self.old.done self.new.done }
         ensures handover { self.new.handover ≡ self.old.handover }
     {
+        let log = &mut self.done.share.log;
         let heard = self
             .workshop
             .bench
-            .hear(rt, now, from, bytes, &mut self.job, reply);
+            .hear(rt, now, from, bytes, &mut self.job, reply, log);
         match heard {
             Heard::Nothing | Heard::Reply => {}
             Heard::Job => self.dispatch(rt),
@@ -128,11 +129,14 @@ impl<'a, B: Bench, G: Gate, W: Wire, M: Moments> Dispatcher<'a, B, G, W, M> {
     }
 
     /// Advances a shard, 0 to 7, to a moment in milliseconds: what it sends again, if anything.
-    pub fn resend<R: Wait>(&self, rt: &R, shard: u8, now: u64) -> Ticked
+    pub fn resend<R: Wait>(&mut self, rt: &R, shard: u8, now: u64) -> Ticked
         ensures ticked { IsSomeTick now result }
-        ensures called { B.called (AdvancesShard shard now result) }
+        ensures logged { B.logged (AdvancesShard shard now result) self.old.done.share.log self.new.done.share.log }
+        ensures kept { HasCalled self.old.done self.new.done }
+        ensures handover { self.new.handover ≡ self.old.handover }
     {
-        self.workshop.bench.tick_shard(rt, shard, now)
+        let log = &mut self.done.share.log;
+        self.workshop.bench.tick_shard(rt, shard, now, log)
     }
 
     /// Advances a shard, 0 to 7, to a moment in milliseconds where nothing is late and nobody is due. Tells whether it did.
@@ -145,10 +149,11 @@ impl<'a, B: Bench, G: Gate, W: Wire, M: Moments> Dispatcher<'a, B, G, W, M> {
 
     /// Asks a shard, 0 to 7, for the turn of the observer that is due first at a moment in milliseconds, and dispatches it. Tells whether there was one.
     pub fn notify<R: Wait>(&mut self, rt: &R, shard: u8, now: u64) -> bool
-        ensures asked { IsTurnAsked (shop B.changes B.ended B.called M.is_moment G.passed W.called) self.old.handover shard now result self.old.done self.new.done }
+        ensures asked { IsTurnAsked (shop B.changes B.ended B.called B.logged M.is_moment M.is_random G.passed W.called) self.old.handover shard now result self.old.done self.new.done }
         ensures handover { self.new.handover ≡ self.old.handover }
     {
-        match self.workshop.bench.next_due(rt, shard, now) {
+        let log = &mut self.done.share.log;
+        match self.workshop.bench.next_due(rt, shard, now, log) {
             Some(job) => {
                 self.job = job;
                 self.dispatch(rt);
@@ -160,7 +165,7 @@ impl<'a, B: Bench, G: Gate, W: Wire, M: Moments> Dispatcher<'a, B, G, W, M> {
 
     // Sends its job to the workers, or works it off.
     fn dispatch<R: Wait>(&mut self, rt: &R)
-        ensures dispatched { IsDispatched (shop B.changes B.ended B.called M.is_moment G.passed W.called) self.old.handover self.old.job self.old.done self.new.done }
+        ensures dispatched { IsDispatched (shop B.changes B.ended B.called B.logged M.is_moment M.is_random G.passed W.called) self.old.handover self.old.job self.old.done self.new.done }
         ensures handover { self.new.handover ≡ self.old.handover }
     {
         let handed = self.hand_over(rt);
@@ -203,7 +208,7 @@ impl<'a, B: Bench, G: Gate, W: Wire, M: Moments> Dispatcher<'a, B, G, W, M> {
 
     // Works its job off.
     fn work<R: Wait>(&mut self, rt: &R)
-        ensures worked { IsWorkedHere (shop B.changes B.ended B.called M.is_moment G.passed W.called) self.old.job self.old.done self.new.done }
+        ensures worked { IsWorkedHere (shop B.changes B.ended B.called B.logged M.is_moment M.is_random G.passed W.called) self.old.job self.old.done self.new.done }
         ensures handover { self.new.handover ≡ self.old.handover }
     {
         let done = &mut self.done;
@@ -259,7 +264,7 @@ impl<'a, B: Bench, G: Gate, W: Wire, M: Moments> Dispatcher<'a, B, G, W, M> {
 
     // Hands a signal to each shard.
     fn signal<R: Wait>(&self, rt: &R, from: Endpoint, id: u16, reset: bool)
-        ensures { AreSignalled (shop B.changes B.ended B.called M.is_moment G.passed W.called) from id reset }
+        ensures { AreSignalled (shop B.changes B.ended B.called B.logged M.is_moment M.is_random G.passed W.called) from id reset }
     {
         'shards: for shard in 0..SHARDS {
             self.workshop.bench.signal(rt, shard, from, id, reset);

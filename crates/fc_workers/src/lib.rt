@@ -6,7 +6,8 @@
 //! [`Bench`] says of each call what the shard answers at some slot, and the next stage is told by that answer alone
 //! (`fc_core`'s `Stage`). `specs/Work.antt` says which calls a job's answer ends, and `specs/Shares.antt` what a worker's
 //! [`Share`] says of its jobs: it has worked off and ended just those that its `Got` gained, and its tallies have risen by
-//! the changes that their calls answered.
+//! the changes that their calls answered. Each call of which it matters how often it is made, and when, is handed the worker's [`CallLog`]: so it is said
+//! that these calls were made in this order, and no others.
 //!
 //! What a call is answered by isn't said: that a bench takes from the job's own slot is its implementation's. Nor is it said that
 //! a call returns, or when.
@@ -40,29 +41,31 @@
 //!
 //! # What is proved
 //!
+//! - **A worker's calls**: each of those that its log has leads the log on from where the one before it left it. So none was made twice, or
+//!   out of order, or besides. Looks at head words, receipts and readings, which change nothing, aren't in the log.
 //! - **A request's job** comes to what it is to be answered by a list of calls from its first stage: each is the call that its stage needs,
 //!   answered as the shard does at some slot, and eight take at most. A look is at the head word of the job's slot, or, for a list, of each
 //!   slot in order, and the word of the job's slot is raised to the one that its change told.
 //! - Each taking is handed readings that some call of the bench gave: a worker that takes with zeros of its own has no proof. That it asks
 //!   anew before each taking is no clause.
-//! - Each run is committed at a moment that was asked for, after the gate had let the job go on. Some front answers the job so, at a moment
-//!   that was asked for, by a datagram or by none.
-//! - **A turn's job** takes once and changes no slot. Some shard tells its observer what was found, by a message id that some front drew,
-//!   and sends a datagram or none; or the taking was stale: then there is none; or no id was free, or memory was refused: then there is
-//!   none, and that turn was given up at a moment that was asked for.
-//! - **The wire**: where a job comes to a datagram, the wire was handed it under the job's number, and one reply more is counted by what
-//!   that call told, among those that went out or among those that didn't. That it was handed it only once is tested. The wire was told
-//!   that the job has ended. What the wire is handed is what some front answers some job by, or some shard tells some observer.
+//! - Each run is committed at a moment that was asked for, after the gate had let the job go on, once for each. Then some front answers the
+//!   job so, once, at a moment that was asked for, by a datagram or by none.
+//! - **A turn's job** takes once and changes no slot. Some shard tells its observer what was found, once, by a message id that some front
+//!   drew, and with a random word that was asked for, and sends a datagram or none; or the taking was stale: then there is none; or no id was
+//!   free, or memory was refused: then there is none, and that turn was given up at a moment that was asked for.
+//! - **The wire**: where a job comes to a datagram, the wire was handed it once, under the job's number, and one reply more is counted by what
+//!   that call told, among those that went out or among those that didn't. Last, the wire was told once that the job has ended. What the wire
+//!   is handed is what some front answers some job by, or some shard tells some observer.
 //! - **A worker's share** has ended as many jobs as it got, up to 2^64 - 1, and its tallies have risen by the changes that their calls
 //!   answered. Each seat of a pool comes back as its share.
-//! - **A dispatcher** sends the job that a delivery or a turn brings to the workers, under the next number, where its handover lets it go
-//!   (what a dear run costs, by a receipt that some shard could give), or works it off and ends it, and does neither where there is none.
-//!   It hands a signal to each of eight shards, as it was heard, asks the shard that it is told to, and advances the front to the moment
-//!   that it is handed.
-//! - **A server behind nine locks**, of which a call takes one, is handed the job whose slot a call changes or tells of. It answers a
-//!   delivery, a draw of a message id, a turn, a tick, a notification and a job at the moment that it is handed or a later one, each as
-//!   some front or shard does, and counts each change of a slot on the worker's tally; closed, the serials of each shard have risen by just
-//!   what was counted.
+//! - **A dispatcher** has each datagram heard once. It sends the job that a delivery or a turn brings to the workers, under the next number,
+//!   where its handover lets it go (what a dear run costs, by a receipt that some shard could give), or works it off and ends it, and does
+//!   neither where there is none. It hands a signal to each of eight shards, as it was heard, asks the shard that it is told to, and advances
+//!   the front to the moment that it is handed.
+//! - **A server behind nine locks**, of which a call takes one, takes, installs, removes and tells of a program at the shard of the job's slot,
+//!   and notifies and gives up at that of the turn's, with what it is handed. It answers a delivery, a draw of a message id, a turn, a tick, a
+//!   notification and a job at the moment that it is handed or a later one, each as some front or shard does, and counts each change of a
+//!   slot on the worker's tally; closed, the serials of each shard have risen by just what was counted.
 //! - The readings that it gives are what some call of its device gave: a moment that was asked for, in eight bytes, the least first, and
 //!   what its sensors said, which are zeros where it has none.
 //! - A look at a head word tells no less than its worker has seen of that slot's, and a raise leaves it no less than the word of the new
@@ -77,6 +80,7 @@
 pub mod bench;
 pub mod blanks;
 pub mod books;
+pub mod call_log;
 pub mod calls;
 pub mod closed;
 pub mod counted;
@@ -98,6 +102,7 @@ pub mod workshop;
 pub use bench::Bench;
 pub use blanks::Blanks;
 pub use books::{BookOf, Books};
+pub use call_log::CallLog;
 pub use calls::ShardCall;
 pub use closed::Closed;
 pub use counted::Counted;

@@ -27,11 +27,12 @@ impl<'a, B: Bench, G: Gate, W: Wire, M: Moments> Workshop<'a, B, G, W, M> {
         share: &mut Share<B::Tallies>,
     ) -> Option<Emission>
         requires { turn.slot < 64 }
-        ensures worked { IsTurnWorked (shop B.changes B.ended B.called M.is_moment G.passed W.called) job.now turn share.old share.new result }
+        ensures worked { IsTurnWorked (shop B.changes B.ended B.called B.logged M.is_moment M.is_random G.passed W.called) job.now turn share.old share.new result }
         ensures ended { B.ended share.new.tallies ≡ saturated (B.ended share.old.tallies + 1) }
     {
         let readings = self.bench.readings(rt);
-        let taken = self.bench.take(rt, job, &readings, &mut share.tallies);
+        let log = &mut share.log;
+        let taken = self.bench.take(rt, job, &readings, &mut share.tallies, log);
         share.count_taking(&taken);
         match taken {
             Taken::Given(ticket) => self.tell(rt, frame, turn, Some(ticket), share),
@@ -51,11 +52,12 @@ impl<'a, B: Bench, G: Gate, W: Wire, M: Moments> Workshop<'a, B, G, W, M> {
         share: &mut Share<B::Tallies>,
     ) -> Option<Emission>
         requires { turn.slot < 64 }
-        ensures told { IsFoundTold (shop B.changes B.ended B.called M.is_moment G.passed W.called) turn found result }
-        ensures kept { IsQuiet (shop B.changes B.ended B.called M.is_moment G.passed W.called) share.old share.new }
+        ensures told { IsFoundTold (shop B.changes B.ended B.called B.logged M.is_moment M.is_random G.passed W.called) turn found result share.old.log share.new.log }
+        ensures kept { IsQuiet (shop B.changes B.ended B.called B.logged M.is_moment M.is_random G.passed W.called) share.old share.new }
         ensures ended { B.ended share.new.tallies ≡ saturated (B.ended share.old.tallies + 1) }
     {
-        let Some(id) = self.bench.fresh_id(rt, self.moments.now(rt)) else {
+        let now = self.moments.now(rt);
+        let Some(id) = self.bench.fresh_id(rt, now, &mut share.log) else {
             return self.give_up(rt, turn, share);
         };
         match &found {
@@ -83,15 +85,16 @@ impl<'a, B: Bench, G: Gate, W: Wire, M: Moments> Workshop<'a, B, G, W, M> {
         share: &mut Share<B::Tallies>,
     ) -> Option<Emission>
         requires { turn.slot < 64 }
-        ensures noted { IsNoteSent (shop B.changes B.ended B.called M.is_moment G.passed W.called) told.now turn id result }
-        ensures kept { IsQuiet (shop B.changes B.ended B.called M.is_moment G.passed W.called) share.old share.new }
+        ensures noted { IsNoteSent (shop B.changes B.ended B.called B.logged M.is_moment M.is_random G.passed W.called) told.now turn id result share.old.log share.new.log }
+        ensures kept { IsQuiet (shop B.changes B.ended B.called B.logged M.is_moment M.is_random G.passed W.called) share.old share.new }
         ensures ended { B.ended share.new.tallies ≡ saturated (B.ended share.old.tallies + 1) }
     {
         let now = self.moments.now(rt);
         let random = self.moments.random(rt);
+        let log = &mut share.log;
         match self
             .bench
-            .note(rt, turn, id, now, random, told, &mut share.tallies)
+            .note(rt, turn, id, now, random, told, &mut share.tallies, log)
         {
             Noted::Send(emission) => Some(emission),
             Noted::Stale | Noted::Stranger => None,
@@ -106,12 +109,13 @@ impl<'a, B: Bench, G: Gate, W: Wire, M: Moments> Workshop<'a, B, G, W, M> {
         share: &mut Share<B::Tallies>,
     ) -> Option<Emission>
         requires { turn.slot < 64 }
-        ensures given_up { IsGivenUp (shop B.changes B.ended B.called M.is_moment G.passed W.called) turn result }
-        ensures kept { IsQuiet (shop B.changes B.ended B.called M.is_moment G.passed W.called) share.old share.new }
+        ensures given_up { IsGivenUp (shop B.changes B.ended B.called B.logged M.is_moment M.is_random G.passed W.called) turn result share.old.log share.new.log }
+        ensures kept { IsQuiet (shop B.changes B.ended B.called B.logged M.is_moment M.is_random G.passed W.called) share.old share.new }
         ensures ended { B.ended share.new.tallies ≡ saturated (B.ended share.old.tallies + 1) }
     {
-        self.bench
-            .give_up(rt, turn, self.moments.now(rt), &mut share.tallies);
+        let log = &mut share.log;
+        let now = self.moments.now(rt);
+        self.bench.give_up(rt, turn, now, &mut share.tallies, log);
         None
     }
 }

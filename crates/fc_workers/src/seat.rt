@@ -53,7 +53,7 @@ pub fn worker<B: Bench, G: Gate, W: Wire, M: Moments, R: Wait>(
     seat: Seat<B::Tallies>,
 ) -> Share<B::Tallies>
     requires { seat.got.channel ≡ jobs.now }
-    ensures { IsShareOf (shop B.changes B.ended B.called M.is_moment G.passed W.called) seat result }
+    ensures { IsShareOf (shop B.changes B.ended B.called B.logged M.is_moment M.is_random G.passed W.called) seat result }
 {
     let Seat {
         got,
@@ -84,15 +84,16 @@ impl<'a, B: Bench, G: Gate, W: Wire, M: Moments> Workshop<'a, B, G, W, M> {
     )
         requires { tools.old.heads.table ≡ B.heads self.now.bench.now }
         ensures heads { tools.new.heads.table ≡ tools.old.heads.table }
-        ensures worked { IsReplied (shop B.changes B.ended B.called M.is_moment G.passed W.called) number job.now share.old share.new }
+        ensures worked { IsReplied (shop B.changes B.ended B.called B.logged M.is_moment M.is_random G.passed W.called) number job.now share.old share.new }
         ensures ended { B.ended share.new.tallies ≡ saturated (B.ended share.old.tallies + 1) }
         ensures got { share.new.got ≡ share.old.got }
     {
         let replies = self.reply(rt, tools, number, job, share);
         if replies {
-            share.count_reply(self.wire.send(rt, number, &tools.reply));
+            let out = self.wire.send(rt, number, &tools.reply, &mut share.log);
+            share.count_reply(out);
         }
-        self.wire.ended(rt, number);
+        self.wire.ended(rt, number, &mut share.log);
     }
 
     // Works a job off, and writes what is to be sent. Tells whether anything is.
@@ -106,7 +107,7 @@ impl<'a, B: Bench, G: Gate, W: Wire, M: Moments> Workshop<'a, B, G, W, M> {
     ) -> bool
         requires { tools.old.heads.table ≡ B.heads self.now.bench.now }
         ensures heads { tools.new.heads.table ≡ tools.old.heads.table }
-        ensures worked { IsWorked (shop B.changes B.ended B.called M.is_moment G.passed W.called) number job.now share.old share.new (emission_if result tools.new.reply) }
+        ensures worked { IsWorked (shop B.changes B.ended B.called B.logged M.is_moment M.is_random G.passed W.called) number job.now share.old share.new (emission_if result tools.new.reply) }
         ensures ended { B.ended share.new.tallies ≡ saturated (B.ended share.old.tallies + 1) }
         ensures got { share.new.got ≡ share.old.got }
     {
@@ -132,13 +133,15 @@ impl<'a, B: Bench, G: Gate, W: Wire, M: Moments> Workshop<'a, B, G, W, M> {
         requires asked { job.now.turn ≡ None }
         requires heads { tools.old.heads.table ≡ B.heads self.now.bench.now }
         ensures heads { tools.new.heads.table ≡ tools.old.heads.table }
-        ensures worked { IsRequestWorked (shop B.changes B.ended B.called M.is_moment G.passed W.called) number job.now share.old share.new (emission_if result tools.new.reply) }
+        ensures worked { IsRequestWorked (shop B.changes B.ended B.called B.logged M.is_moment M.is_random G.passed W.called) number job.now share.old share.new (emission_if result tools.new.reply) }
         ensures ended { B.ended share.new.tallies ≡ saturated (B.ended share.old.tallies + 1) }
         ensures got { share.new.got ≡ share.old.got }
     {
         let answer = self.work_off(rt, tools, number, job, share);
         let now = self.moments.now(rt);
-        self.bench.respond(rt, now, job, &answer, &mut tools.reply, &mut share.tallies)
+        let Share { tallies, log, .. } = share;
+        self.bench
+            .respond(rt, now, job, &answer, &mut tools.reply, tallies, log)
     }
 }
 

@@ -18,7 +18,8 @@ ghost use Rattle.fc_core.specs.Contents.{IsOf};
 ghost use Rattle.fc_core.specs.Receiving.{emission_if};
 ghost use Rattle.fc_registry.specs.Shards.{shard_at};
 ghost use Rattle.fc_registry.specs.Slots.{IsOwned, Shard as Seen, last_serial};
-ghost use Rattle.fc_workers.specs.Asked.{AdvancesTo, IsAsked, IsServerCall};
+ghost use Rattle.fc_workers.specs.Asked.{IsAsked, IsLoggedCall, IsServerCall};
+ghost use Rattle.fc_workers.specs.Doings.{AdvancesTo};
 ghost use Rattle.fc_workers.specs.Naming.{AreNamed};
 ghost use Rattle.fc_workers.specs.Counts.{no_changes, serials, sums};
 ghost use Rattle.fc_workers.specs.Answers.{AreTallied, IsSomeCommit, IsSomeInstall, IsSomeNote, IsSomeReceipt, IsSomeRemoval, IsSomeTaking, IsSomeTick, IsSomeTurn, commit_changes, install_changes, removal_changes, saturated};
@@ -26,6 +27,7 @@ ghost use Rattle.fc_workers.specs.Answers.{AreTallied, IsSomeCommit, IsSomeInsta
 use crate::bench::Bench;
 use crate::blanks::Blanks;
 use crate::books::{BookOf, Books};
+use crate::call_log::CallLog;
 use crate::calls::{
     AdvanceIfQuiet, Change, Commit, Describe, GiveUp, Install, NextDue, Note, Remove, ShardCall,
     Signal, Take, Tick,
@@ -250,6 +252,8 @@ impl<'a, B: Books, D: Device> Locked<'a, B, D> {
 impl<'a, B: Books, D: Device> Bench for Locked<'a, B, D> {
     ghost called = { IsServerCall D.are_readings };
 
+    ghost logged = { λ call before after. IsLoggedCall call };
+
     type Tallies = Tallies<B>;
 
     ghost changes = { λ t. slice_index t.changes };
@@ -266,7 +270,9 @@ impl<'a, B: Books, D: Device> Bench for Locked<'a, B, D> {
         bytes: &[u8],
         job: &mut Job,
         reply: &mut Emission,
+        log: &mut CallLog,
     ) -> Heard {
+        let _ = log;
         let mut front = self.front.lock(rt);
         front.hear(now, endpoint, bytes, job, reply)
     }
@@ -276,7 +282,8 @@ impl<'a, B: Books, D: Device> Bench for Locked<'a, B, D> {
         advance(&mut front, now);
     }
 
-    fn fresh_id<R: Wait>(&self, rt: &R, now: u64) -> Option<u16> {
+    fn fresh_id<R: Wait>(&self, rt: &R, now: u64, log: &mut CallLog) -> Option<u16> {
+        let _ = log;
         let mut front = self.front.lock(rt);
         front.fresh_id(now)
     }
@@ -291,7 +298,9 @@ impl<'a, B: Books, D: Device> Bench for Locked<'a, B, D> {
         job: &Job,
         readings: &Readings,
         tallies: &mut Tallies<B>,
+        log: &mut CallLog,
     ) -> Taken {
+        let _ = log;
         let taken = self.ask(rt, shard_of(job.origin.slot), Take { job, readings });
         tallies.end_taking(&taken);
         taken
@@ -306,7 +315,8 @@ impl<'a, B: Books, D: Device> Bench for Locked<'a, B, D> {
         self.ask(rt, shard, signal);
     }
 
-    fn tick_shard<R: Wait>(&self, rt: &R, shard: u8, now: u64) -> Ticked {
+    fn tick_shard<R: Wait>(&self, rt: &R, shard: u8, now: u64, log: &mut CallLog) -> Ticked {
+        let _ = log;
         self.ask(rt, shard, Tick { now })
     }
 
@@ -314,7 +324,8 @@ impl<'a, B: Books, D: Device> Bench for Locked<'a, B, D> {
         self.ask(rt, shard, AdvanceIfQuiet { now })
     }
 
-    fn next_due<R: Wait>(&self, rt: &R, shard: u8, now: u64) -> Option<Job> {
+    fn next_due<R: Wait>(&self, rt: &R, shard: u8, now: u64, log: &mut CallLog) -> Option<Job> {
+        let _ = log;
         self.ask(rt, shard, NextDue { now })
     }
 
@@ -327,7 +338,9 @@ impl<'a, B: Books, D: Device> Bench for Locked<'a, B, D> {
         random: u16,
         told: &Notification<'_>,
         tallies: &mut Tallies<B>,
+        log: &mut CallLog,
     ) -> Noted {
+        let _ = log;
         tallies.end_job();
         let note = Note {
             turn,
@@ -339,7 +352,15 @@ impl<'a, B: Books, D: Device> Bench for Locked<'a, B, D> {
         self.ask(rt, turn.slot % SHARDS, note)
     }
 
-    fn give_up<R: Wait>(&self, rt: &R, turn: Turn, now: u64, tallies: &mut Tallies<B>) {
+    fn give_up<R: Wait>(
+        &self,
+        rt: &R,
+        turn: Turn,
+        now: u64,
+        tallies: &mut Tallies<B>,
+        log: &mut CallLog,
+    ) {
+        let _ = log;
         tallies.end_job();
         self.ask(rt, turn.slot % SHARDS, GiveUp { turn, now });
     }
@@ -351,7 +372,9 @@ impl<'a, B: Books, D: Device> Bench for Locked<'a, B, D> {
         outcome: &Outcome<'_>,
         ticket: &Ticket,
         tallies: &mut Tallies<B>,
+        log: &mut CallLog,
     ) -> Committed {
+        let _ = log;
         let commit = Commit {
             now,
             outcome,
@@ -366,11 +389,20 @@ impl<'a, B: Books, D: Device> Bench for Locked<'a, B, D> {
         job: &Job,
         program: Arc<Verified>,
         tallies: &mut Tallies<B>,
+        log: &mut CallLog,
     ) -> Made {
+        let _ = log;
         self.change(rt, job.origin.slot, Install { job, program }, tallies)
     }
 
-    fn remove<R: Wait>(&self, rt: &R, job: &Job, tallies: &mut Tallies<B>) -> Removal {
+    fn remove<R: Wait>(
+        &self,
+        rt: &R,
+        job: &Job,
+        tallies: &mut Tallies<B>,
+        log: &mut CallLog,
+    ) -> Removal {
+        let _ = log;
         self.change(rt, job.origin.slot, Remove { job }, tallies)
     }
 
@@ -386,7 +418,8 @@ impl<'a, B: Books, D: Device> Bench for Locked<'a, B, D> {
         self.heads.peek(slot.number(), seat)
     }
 
-    fn raise(&self, job: &Job, word: u64, seat: &mut HeadSeat) {
+    fn raise(&self, job: &Job, word: u64, seat: &mut HeadSeat, log: &mut CallLog) {
+        let _ = log;
         self.heads.raise(job.origin.slot.number(), word, seat);
     }
 
@@ -398,7 +431,9 @@ impl<'a, B: Books, D: Device> Bench for Locked<'a, B, D> {
         answer: &Answer,
         reply: &mut Emission,
         tallies: &mut Tallies<B>,
+        log: &mut CallLog,
     ) -> bool {
+        let _ = log;
         tallies.end_job();
         let mut front = self.front.lock(rt);
         is_sent(front.respond(now, job, answer, reply))
@@ -406,7 +441,7 @@ impl<'a, B: Books, D: Device> Bench for Locked<'a, B, D> {
 }
 
 // Advances a front to a moment in milliseconds.
-#[tactic(auto, unfolding(crate::specs::Asked::AdvancesTo))]
+#[tactic(auto, unfolding(crate::specs::Doings::AdvancesTo))]
 fn advance(front: &mut Front, now: u64)
     ensures { AdvancesTo now front.old front.new }
 {

@@ -3,14 +3,16 @@ ghost use Rattle.std.specs.Prelude.{◌≡◌, ◌+◌, if◌then◌else◌};
 ghost use Rattle.fc_workers.specs.Answers.{commit_overtakings, saturated, taking_refusals};
 ghost use Rattle.fc_workers.specs.Shares.{new_share};
 
+use crate::call_log::CallLog;
 use fc_jobs::Got;
 use fc_registry::{Committed, Taken};
 
-/// What a worker has done: its bench's tallies, the jobs that it got, how many replies went out and how many didn't, how often
+/// What a worker has done: its bench's tallies, the log of its calls, the jobs that it got, how many replies went out and how many didn't, how often
 /// memory was refused, and how often a commit was overtaken. Each count stops at 2^64 - 1.
 #[derive(Drop)]
 pub struct Share<T: Drop> {
     pub tallies: T,
+    pub log: CallLog,
     pub got: Got,
     pub sent: u64,
     pub failed: u64,
@@ -21,10 +23,11 @@ pub struct Share<T: Drop> {
 impl<T: Drop> Share<T> {
     /// The share of a worker that hasn't begun.
     pub fn new(got: Got, tallies: T) -> Share<T>
-        ensures { result ≡ new_share got tallies }
+        ensures { result ≡ new_share got tallies result.log }
     {
         Share {
             tallies,
+            log: CallLog::new(),
             got,
             sent: 0,
             failed: 0,

@@ -41,7 +41,7 @@ impl<'a, B: Bench, G: Gate, W: Wire, M: Moments> Workshop<'a, B, G, W, M> {
         requires asked { job.now.turn ≡ None }
         requires heads { tools.old.heads.table ≡ B.heads self.now.bench.now }
         ensures heads { tools.new.heads.table ≡ tools.old.heads.table }
-        ensures worked { IsWorkedOff (shop B.changes B.ended B.called M.is_moment G.passed W.called) number job.now result share.old share.new }
+        ensures worked { IsWorkedOff (shop B.changes B.ended B.called B.logged M.is_moment M.is_random G.passed W.called) number job.now result share.old share.new }
         ensures ended { B.ended share.new.tallies ≡ B.ended share.old.tallies }
     {
         let mut stage = Stage::asked(job);
@@ -56,8 +56,7 @@ impl<'a, B: Bench, G: Gate, W: Wire, M: Moments> Workshop<'a, B, G, W, M> {
                     stage = self.take(rt, job, count, share);
                 }
                 Stage::ToCommit(count, ticket) => {
-                    self.gate.between(rt, number);
-                    stage = self.commit(rt, &mut tools.frame, job, *count, ticket, share);
+                    stage = self.commit(rt, &mut tools.frame, number, job, *count, ticket, share);
                 }
                 Stage::ToInstall => stage = self.install(rt, job, share),
                 Stage::ToRemove => stage = self.remove(rt, job, share),
@@ -67,7 +66,8 @@ impl<'a, B: Bench, G: Gate, W: Wire, M: Moments> Workshop<'a, B, G, W, M> {
                     stage = Stage::ToAnswer(Answer::other(End::Core(words)));
                 }
                 Stage::ToRaise(word, _) => {
-                    self.bench.raise(job, *word, &mut tools.heads);
+                    let log = &mut share.log;
+                    self.bench.raise(job, *word, &mut tools.heads, log);
                     stage = raised(stage);
                 }
                 Stage::ToAnswer(_) => return content(stage),
@@ -96,10 +96,11 @@ impl<'a, B: Bench, G: Gate, W: Wire, M: Moments> Workshop<'a, B, G, W, M> {
     // Removes the program of the job's slot.
     #[inline(never)]
     fn remove<R: Wait>(&self, rt: &R, job: &Job, share: &mut Share<B::Tallies>) -> Stage
-        ensures step { (number : ℕ) → IsStep (shop B.changes B.ended B.called M.is_moment G.passed W.called) number job.now ToRemove result share.old share.new }
+        ensures step { (number : ℕ) → IsStep (shop B.changes B.ended B.called B.logged M.is_moment M.is_random G.passed W.called) number job.now ToRemove result share.old share.new }
         ensures ended { B.ended share.new.tallies ≡ B.ended share.old.tallies }
     {
-        let removal = self.bench.remove(rt, job, &mut share.tallies);
+        let log = &mut share.log;
+        let removal = self.bench.remove(rt, job, &mut share.tallies, log);
         Stage::removed(removal)
     }
 
@@ -107,30 +108,33 @@ impl<'a, B: Bench, G: Gate, W: Wire, M: Moments> Workshop<'a, B, G, W, M> {
     fn take<R: Wait>(&self, rt: &R, job: &Job, count: u8, share: &mut Share<B::Tallies>) -> Stage
         requires ready { IsReady job.now (ToTake count) }
         requires asked { job.now.turn ≡ None }
-        ensures step { (number : ℕ) → IsStep (shop B.changes B.ended B.called M.is_moment G.passed W.called) number job.now (ToTake count) result share.old share.new }
+        ensures step { (number : ℕ) → IsStep (shop B.changes B.ended B.called B.logged M.is_moment M.is_random G.passed W.called) number job.now (ToTake count) result share.old share.new }
         ensures ended { B.ended share.new.tallies ≡ B.ended share.old.tallies }
     {
         let readings = self.bench.readings(rt);
-        let taken = self.bench.take(rt, job, &readings, &mut share.tallies);
+        let log = &mut share.log;
+        let taken = self.bench.take(rt, job, &readings, &mut share.tallies, log);
         share.count_taking(&taken);
         Stage::took(count, taken)
     }
 
-    // Runs a ticket's program, and commits the run.
+    // Runs a ticket's program, and commits the run once the gate lets the job go on.
     fn commit<R: Wait>(
         &self,
         rt: &R,
         frame: &mut Frame,
+        number: u64,
         job: &Job,
         count: u8,
         ticket: &Ticket,
         share: &mut Share<B::Tallies>,
     ) -> Stage
         requires { IsReady job.now (ToCommit count ticket.now) }
-        ensures step { (number : ℕ) → G.passed number
-            → IsStep (shop B.changes B.ended B.called M.is_moment G.passed W.called) number job.now (ToCommit count ticket.now) result share.old share.new }
+        ensures step { IsStep (shop B.changes B.ended B.called B.logged M.is_moment M.is_random G.passed W.called) number job.now (ToCommit count ticket.now) result share.old share.new }
         ensures ended { B.ended share.new.tallies ≡ B.ended share.old.tallies }
     {
+        let log = &mut share.log;
+        self.gate.between(rt, number, log);
         let outcome = run(
             frame,
             ticket.program(),
@@ -141,7 +145,7 @@ impl<'a, B: Bench, G: Gate, W: Wire, M: Moments> Workshop<'a, B, G, W, M> {
         let now = self.moments.now(rt);
         let committed = self
             .bench
-            .commit(rt, now, &outcome, ticket, &mut share.tallies);
+            .commit(rt, now, &outcome, ticket, &mut share.tallies, log);
         share.count_commit(&committed);
         Stage::committed(count, &outcome, ticket, committed)
     }
@@ -149,7 +153,7 @@ impl<'a, B: Bench, G: Gate, W: Wire, M: Moments> Workshop<'a, B, G, W, M> {
     // Verifies the job's image, and installs the program.
     #[inline(never)]
     fn install<R: Wait>(&self, rt: &R, job: &Job, share: &mut Share<B::Tallies>) -> Stage
-        ensures step { (number : ℕ) → IsStep (shop B.changes B.ended B.called M.is_moment G.passed W.called) number job.now ToInstall result share.old share.new }
+        ensures step { (number : ℕ) → IsStep (shop B.changes B.ended B.called B.logged M.is_moment M.is_random G.passed W.called) number job.now ToInstall result share.old share.new }
         ensures ended { B.ended share.new.tallies ≡ B.ended share.old.tallies }
     {
         match verify(self.alloc, image(&job.ask)) {
@@ -172,13 +176,16 @@ impl<'a, B: Bench, G: Gate, W: Wire, M: Moments> Workshop<'a, B, G, W, M> {
     ) -> Stage
         requires accepted { IsAccepted (image_of job.now.ask) program }
         requires judged { judged (image_of job.now.ask) ≡ Accepts program }
-        ensures step { (number : ℕ) → IsStep (shop B.changes B.ended B.called M.is_moment G.passed W.called) number job.now ToInstall result share.old share.new }
+        ensures step { (number : ℕ) → IsStep (shop B.changes B.ended B.called B.logged M.is_moment M.is_random G.passed W.called) number job.now ToInstall result share.old share.new }
         ensures ended { B.ended share.new.tallies ≡ B.ended share.old.tallies }
     {
         let receipt = Receipt::of(&program, 0);
         match Arc::new(self.alloc, program) {
             Ok(program) => {
-                let made = self.bench.install(rt, job, program, &mut share.tallies);
+                let log = &mut share.log;
+                let made = self
+                    .bench
+                    .install(rt, job, program, &mut share.tallies, log);
                 Stage::made(receipt, made)
             }
             Err(_) => {

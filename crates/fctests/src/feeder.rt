@@ -6,7 +6,7 @@ use fc_core::Heard;
 use fc_core::front::{blank_emission, blank_job};
 use fc_jobs::{Jobs, Sent};
 use fc_registry::{Job, SlotNumber};
-use fc_workers::Bench;
+use fc_workers::{Bench, CallLog};
 use std::alloc::{AllocError, Global};
 use std::sync::Wait;
 
@@ -98,7 +98,11 @@ impl<'a, B: Bench> Feeder<'a, B> {
     pub(crate) fn job<R: Wait>(&self, rt: &R, now: u64, bytes: &[u8]) -> Option<Job> {
         let mut job = blank_job();
         let mut reply = blank_emission();
-        match self.bench.hear(rt, now, PEER, bytes, &mut job, &mut reply) {
+        let mut log = CallLog::new();
+        match self
+            .bench
+            .hear(rt, now, PEER, bytes, &mut job, &mut reply, &mut log)
+        {
             Heard::Job => Some(job),
             Heard::Reply | Heard::Nothing | Heard::Signal { .. } => None,
         }

@@ -6,7 +6,7 @@ use crate::overtaking_tests::{COUNTER, CREATED, Held, Replies, Reply, Seen, Tria
 use fc_jobs::Sent;
 use fc_registry::{Job, Shard, SlotNumber};
 use fc_workers::{
-    Bench, Books, Device, Gate, Locked, ShardCall, Workshop, feed_workers, make_seats,
+    Bench, Books, CallLog, Device, Gate, Locked, ShardCall, Workshop, feed_workers, make_seats,
 };
 use std::alloc::{AllocError, Global};
 use std::sync::Wait;
@@ -57,9 +57,10 @@ impl<'a, B: Books, D: Device> Locks for Locked<'a, B, D> {
 struct Open;
 
 impl Gate for Open {
-    fn between<R: Wait>(&self, rt: &R, number: u64) {
+    fn between<R: Wait>(&self, rt: &R, number: u64, log: &mut CallLog) {
         let _ = rt;
         let _ = number;
+        let _ = log;
     }
 }
 

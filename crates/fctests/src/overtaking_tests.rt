@@ -12,7 +12,7 @@ use fc_jobs::Sent;
 use fc_registry::SlotNumber;
 use fc_verify::{Verified, verify};
 use fc_workers::{
-    Bench, Blanks, Books, Device, Gate, Locked, Moments, Share, Wire, Workshop, feed_workers,
+    Bench, Blanks, Books, CallLog, Device, Gate, Locked, Moments, Share, Wire, Workshop, feed_workers,
     make_seats,
 };
 use std::alloc::{AllocError, Global};
@@ -116,7 +116,14 @@ impl Replies {
 }
 
 impl Wire for Replies {
-    fn send<R: Wait>(&self, rt: &R, number: u64, emission: &Emission) -> bool {
+    fn send<R: Wait>(
+        &self,
+        rt: &R,
+        number: u64,
+        emission: &Emission,
+        log: &mut CallLog,
+    ) -> bool {
+        let _ = log;
         let Some(&code) = emission.bytes.as_slice().get(1) else {
             return false;
         };
@@ -124,7 +131,8 @@ impl Wire for Replies {
         all.try_push(Reply { job: number, code }).is_ok()
     }
 
-    fn ended<R: Wait>(&self, rt: &R, number: u64) {
+    fn ended<R: Wait>(&self, rt: &R, number: u64, log: &mut CallLog) {
+        let _ = log;
         let _ = rt;
         let _ = number;
     }
@@ -157,7 +165,8 @@ struct Holding<'c, 'r, C: Clock> {
 }
 
 impl<'c, 'r, C: Clock> Gate for Holding<'c, 'r, C> {
-    fn between<R: Wait>(&self, rt: &R, number: u64) {
+    fn between<R: Wait>(&self, rt: &R, number: u64, log: &mut CallLog) {
+        let _ = log;
         if number == 1 {
             self.replies.wait_for(rt, self.clock, 2);
         }
@@ -262,7 +271,7 @@ struct Changing<'a, B: Bench> {
 }
 
 impl<'a, B: Bench> Gate for Changing<'a, B> {
-    fn between<R: Wait>(&self, rt: &R, number: u64) {
+    fn between<R: Wait>(&self, rt: &R, number: u64, log: &mut CallLog) {
         let mut turn = self.turn.lock(rt);
         if turn.job != number {
             turn.job = number;
@@ -273,7 +282,9 @@ impl<'a, B: Bench> Gate for Changing<'a, B> {
             return;
         }
         if let Ok(counter) = Arc::try_clone(&self.counter) {
-            let _made = self.bench.install(rt, &job(0), counter, &mut turn.tallies);
+            let _made = self
+                .bench
+                .install(rt, &job(0), counter, &mut turn.tallies, log);
         }
     }
 }
@@ -304,7 +315,8 @@ impl Overtaken {
         };
         let counter = Arc::new(alloc, verify(alloc, COUNTER)?)?;
         let installed = Arc::try_clone(&counter)?;
-        let _made = bench.install(rt, &job(0), installed, &mut others);
+        let mut log = CallLog::new();
+        let _made = bench.install(rt, &job(0), installed, &mut others, &mut log);
         let gate = Changing {
             bench,
             counter,

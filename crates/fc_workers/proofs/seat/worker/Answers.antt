@@ -1,8 +1,9 @@
-use Rattle.std.proofs.Common.{◌∙◌, ap, refl, subst}
+use Rattle.std.proofs.Common.{◌∙◌, ap, refl, rules, subst}
 use Rattle.fc_jobs.specs.Ends.{Got}
 use Rattle.fc_jobs.specs.declared.protocol.Numbered.{Numbered}
 use Rattle.fc_workers.specs.declared.share.Share.{Share}
 use Rattle.fc_workers.specs.Called.{shop}
+use Rattle.fc_workers.specs.Shares.{HasEnded}
 use Rattle.fc_workers.specs.Work.{IsReplied}
 use Rattle.fc_workers.proofs.Turns.{sets_out, turns_on}
 use Rattle.fc_workers.proofs.seat.worker.Goals as goal
@@ -13,12 +14,12 @@ loop-init g c = (
   tt,
   ap (λ (s : Share _). s.got.channel) c.new-share.ensures ∙ c.requires,
   refl,
-  sets_out (shop g.B.Bench.changes g.B.Bench.ended g.B.Bench.called g.M.Moments.is_moment g.G.Gate.passed g.W.Wire.called) c.new-share.result,
+  sets_out (shop g.B.Bench.changes g.B.Bench.ended g.B.Bench.called g.B.Bench.logged g.M.Moments.is_moment g.M.Moments.is_random g.G.Gate.passed g.W.Wire.called) c.new-share.result,
 )
 
 pub loop-preserved : goal.loop-preserved
 loop-preserved g c =
-    let s = (shop g.B.Bench.changes g.B.Bench.ended g.B.Bench.called g.M.Moments.is_moment g.G.Gate.passed g.W.Wire.called) in
+    let s = (shop g.B.Bench.changes g.B.Bench.ended g.B.Bench.called g.B.Bench.logged g.M.Moments.is_moment g.M.Moments.is_random g.G.Gate.passed g.W.Wire.called) in
     let n : Numbered = record { number = c.in-Some-next.number; job = c.in-Some-next.job } in
     let got = c.in-Some-next.ensures.got in
     let worked = subst (λ (x : Got). IsReplied s n.number n.job (record c.loop.share { got = x }) c.work.new.share) got c.work.ensures.worked in
@@ -30,3 +31,9 @@ loop-preserved g c =
       c.work.ensures.heads ∙ c.loop.invariant.3,
       turns_on s n c.new-share.result c.loop.share c.work.new.share h (record { worked = worked; ends = c.work.ensures.ended }) gets,
     )
+
+pub returns : goal.returns
+returns g c =
+    let s = (shop g.B.Bench.changes g.B.Bench.ended g.B.Bench.called g.B.Bench.logged g.M.Moments.is_moment g.M.Moments.is_random g.G.Gate.passed g.W.Wire.called) in
+    let ended : HasEnded s c.new-share.result c.match-next.share = search rules in
+    record { log = c.new-share.result.log; ended = subst (λ (x : Share _). HasEnded s x c.match-next.share) c.new-share.ensures ended }

@@ -3,7 +3,7 @@ use Rattle.fc_kinds.specs.Meaning.{Program}
 use Rattle.fc_registry.specs.declared.receipt.Receipt.{Receipt}
 use Rattle.fc_core.specs.Stages.{made}
 use Rattle.fc_workers.specs.Answers.{IsSomeInstall}
-use Rattle.fc_workers.specs.Called.{shop}
+use Rattle.fc_workers.specs.Called.{InstallsProgram, shop}
 use Rattle.fc_workers.proofs.Steps.{install_step, refuse_step}
 use Rattle.fc_workers.proofs.workshop.Workshop.install_program.Goals as goal
 
@@ -11,9 +11,12 @@ pub returns-in-Ok-clause-step : goal.returns-in-Ok-clause-step
 returns-in-Ok-clause-step g c number =
     let next = c.made.ensures ∙ ap (λ (r : Receipt). made r c.install-made.result) c.of-receipt.ensures in
     let is = subst (λ (p : Program). IsSomeInstall p c.install-made.result) c.in-Ok.ensures.ok c.install-made.ensures.made in
-    install_step (shop g.B.Bench.changes g.B.Bench.ended g.B.Bench.called g.M.Moments.is_moment g.G.Gate.passed g.W.Wire.called) number c.args.job.now
-    c.args.program c.install-made.result c.args.share.now c.install-made.new.tallies c.requires.judged is c.install-made.ensures.changes next
+    let installs = subst (λ (p : Program). g.B.Bench.logged (InstallsProgram c.args.job.now p c.install-made.result) c.args.share.now.log c.install-made.new.log)
+    c.in-Ok.ensures.ok c.install-made.ensures.logged in
+    install_step (shop g.B.Bench.changes g.B.Bench.ended g.B.Bench.called g.B.Bench.logged g.M.Moments.is_moment g.M.Moments.is_random g.G.Gate.passed g.W.Wire.called) number c.args.job.now
+    c.args.program c.install-made.result c.args.share.now c.install-made.new.tallies c.install-made.new.log c.requires.judged installs is
+    c.install-made.ensures.changes next
 
 pub returns-clause-step : goal.returns-clause-step
-returns-clause-step g c number = refuse_step (shop g.B.Bench.changes g.B.Bench.ended g.B.Bench.called g.M.Moments.is_moment g.G.Gate.passed g.W.Wire.called)
+returns-clause-step g c number = refuse_step (shop g.B.Bench.changes g.B.Bench.ended g.B.Bench.called g.B.Bench.logged g.M.Moments.is_moment g.M.Moments.is_random g.G.Gate.passed g.W.Wire.called)
     number c.args.job.now c.args.share.now c.requires.accepted.shapely.program.head c.unavailable.ensures c.count_refusal.ensures

@@ -1,0 +1,15 @@
+//! Which calls a worker made, in order.
+
+/// A worker's log of the calls that it makes of its bench, its gate and its wire. Each of these is handed the log, and says from which of its states to which it led:
+/// so a clause says which calls were made, in which order, and that no other was. Nothing is kept in it.
+#[derive(Drop)]
+pub struct CallLog {
+    state: u8,
+}
+
+impl CallLog {
+    /// The log of a worker that has called nobody.
+    pub fn new() -> CallLog {
+        CallLog { state: 0 }
+    }
+}
