@@ -12,8 +12,8 @@ use fc_jobs::Sent;
 use fc_registry::SlotNumber;
 use fc_verify::{Verified, verify};
 use fc_workers::{
-    Bench, Blanks, Books, CallLog, Device, Gate, Locked, Moments, Share, Wire, Workshop, feed_workers,
-    make_seats,
+    Bench, Blanks, Books, CallLog, Device, Gate, Locked, Moments, Share, Wire, Workshop,
+    feed_workers, make_seats,
 };
 use std::alloc::{AllocError, Global};
 use std::marker::Brand;
@@ -116,13 +116,7 @@ impl Replies {
 }
 
 impl Wire for Replies {
-    fn send<R: Wait>(
-        &self,
-        rt: &R,
-        number: u64,
-        emission: &Emission,
-        log: &mut CallLog,
-    ) -> bool {
+    fn send<R: Wait>(&self, rt: &R, number: u64, emission: &Emission, log: &mut CallLog) -> bool {
         let _ = log;
         let Some(&code) = emission.bytes.as_slice().get(1) else {
             return false;
