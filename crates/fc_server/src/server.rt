@@ -201,7 +201,7 @@ impl Server {
                 Ok(None)
             }
             Event::Lose { .. } => {
-                self.lose(task);
+                task.lose();
                 Ok(None)
             }
             _ => unreachable!(),
@@ -251,7 +251,7 @@ impl Server {
         ensures { OnOk result ((k : ℕ) → Does (Event.Take k memory readings.now) self.old task.old self.new task.new None) }
     {
         if !memory {
-            self.refuse_take(task);
+            task.refuse_take(&mut self.shards[task.job.origin.slot.shard()]);
             return Ok(());
         }
         if self.take(readings, task) {
@@ -259,14 +259,6 @@ impl Server {
         } else {
             Err(AllocError)
         }
-    }
-
-    // A task takes its slot without memory.
-    fn refuse_take(&mut self, task: &mut Task)
-        requires { AtWork self.old task.old }
-        ensures { (k : ℕ) (readings : List ℕ) → Does (Event.Take k false readings) self.old task.old self.new task.new None }
-    {
-        task.refuse_take(&mut self.shards[task.job.origin.slot.shard()]);
     }
 
     /// A task runs its ticket's program, and commits at a moment in milliseconds.
@@ -293,7 +285,7 @@ impl Server {
         ensures { OnOk result ((k : ℕ) → Does (Event.Install k memory) self.old task.old self.new task.new None) }
     {
         if !memory {
-            self.refuse_install(task);
+            task.refuse_install();
             return Ok(());
         }
         if self.install(alloc, task) {
@@ -301,14 +293,6 @@ impl Server {
         } else {
             Err(AllocError)
         }
-    }
-
-    // A task installs without memory.
-    fn refuse_install(&mut self, task: &mut Task)
-        requires { AtWork self.old task.old }
-        ensures { (k : ℕ) → Does (Event.Install k false) self.old task.old self.new task.new None }
-    {
-        task.refuse_install();
     }
 
     /// A task publishes the new head word of its slot.
@@ -360,14 +344,6 @@ impl Server {
         ensures { (k : ℕ) → Does (Event.GiveUp k now) self.old task.old self.new task.new None }
     {
         task.give_up(&mut self.shards[task.job.origin.slot.shard()], now);
-    }
-
-    // A task's worker is lost.
-    fn lose(&mut self, task: &mut Task)
-        requires { AtWork self.old task.old }
-        ensures { (k : ℕ) → Does (Event.Lose k) self.old task.old self.new task.new None }
-    {
-        task.lose();
     }
 
     // A task is answered at a moment in milliseconds, where it stands there: what is sent.

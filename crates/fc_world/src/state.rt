@@ -1,11 +1,10 @@
 //! The state of a world, and what each event does to it.
-ghost use Rattle.std.specs.Prelude.{◌≡◌, ◌<◌, ◌≤◌, [], None, Some, length, IfOk, OnOk};
+ghost use Rattle.std.specs.Prelude.{◌≡◌, ◌≤◌, [], None, Some, length, IfOk, OnOk};
 ghost use Rattle.fc_core.specs.declared.event.Event.{Event};
-ghost use Rattle.fc_core.specs.History.{Begins, task_at};
+ghost use Rattle.fc_core.specs.History.{Begins};
 ghost use Rattle.fc_core.specs.Rows.{names};
 ghost use Rattle.fc_registry.specs.Slots.{last_serial};
 ghost use Rattle.fc_server.specs.Serving.{Serves};
-ghost use Rattle.fc_server.specs.States.{AtWork};
 ghost use Rattle.fc_server.specs.Steps.{DeliveredTo, Done, IsReached, Steps};
 ghost use Rattle.fc_world.specs.Parts.{parts};
 
@@ -49,12 +48,6 @@ impl State {
                 Ok(None)
             }
         }
-    }
-
-    fn tick(&mut self, now: u64)
-        ensures { Done (Event.Tick now) (parts self.old) None (parts self.new) }
-    {
-        self.server.tick(now);
     }
 
     fn due(&mut self, shard: u8, now: u64) -> Result<(), AllocError>
@@ -122,21 +115,6 @@ impl State {
         if job >= self.tasks.len() {
             return Ok(None);
         }
-        self.work(alloc, job, event)
-    }
-
-    // Carries out an event of the job of this number.
-    fn work(
-        &mut self,
-        alloc: Global,
-        job: usize,
-        event: &Event<'_>,
-    ) -> Result<Option<Emission>, AllocError>
-        requires job { job < length self.old.tasks.items }
-        requires named { names event.now ≡ Some job }
-        requires work { AtWork self.old.server (task_at self.old.tasks.items job) }
-        ensures { IfOk result (λ o. Done event.now (parts self.old) o (parts self.new)) }
-    {
         self.server.work(alloc, event, &mut self.tasks[job])
     }
 
@@ -156,7 +134,7 @@ impl State {
                 Ok(emitted)
             }
             Event::Tick { now } => {
-                self.tick(now);
+                self.server.tick(now);
                 Ok(None)
             }
             Event::Due { shard, now } => {

@@ -3,8 +3,5 @@ use Rattle.fc_core.specs.declared.event.Event.TheVariants.{Take}
 use Rattle.fc_server.specs.States.{Does}
 use Rattle.fc_server.proofs.server.Server.take_if.Goals as goal
 
-pub returns-then-not-memory : goal.returns-then-not-memory
-returns-then-not-memory c = λ k. subst (λ (m : Bool). Does (Take k m c.args.readings.now) c.args.self.now c.args.task.now c.refuse_take.new.self c.refuse_take.new.task None) (sym c.if-not-memory.true) (c.refuse_take.ensures k c.args.readings.now)
-
 pub returns-then-take : goal.returns-then-take
 returns-then-take c = λ k. subst (λ (m : Bool). Does (Take k m c.args.readings.now) c.args.self.now c.args.task.now c.take.new.self c.take.new.task None) (c.if-take.true ∙ sym c.if-not-memory.false) (c.take.ensures k)

@@ -26,9 +26,6 @@ returns-in-Raise c = subst (λ (e : Event). Works e c.args.self.now c.args.task.
 pub returns-in-GiveUp : goal.returns-in-GiveUp
 returns-in-GiveUp c = subst (λ (e : Event). Works e c.args.self.now c.args.task.now c.give_up.new.self c.give_up.new.task None) (sym c.in-GiveUp.is) (c.give_up.ensures _)
 
-pub returns-in-Lose : goal.returns-in-Lose
-returns-in-Lose c = subst (λ (e : Event). Works e c.args.self.now c.args.task.now c.lose.new.self c.lose.new.task None) (sym c.in-Lose.is) (c.lose.ensures _)
-
 pub returns-in_ok-take_if-in-Take : goal.returns-in_ok-take_if-in-Take
 returns-in_ok-take_if-in-Take c = subst (λ (e : Event). Works e c.args.self.now c.args.task.now c.take_if.new.self c.take_if.new.task None) (sym c.in-Take.is) (c.in_ok-take_if-in-Take.ensures _)
 
