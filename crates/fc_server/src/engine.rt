@@ -1,5 +1,5 @@
 //! A server on one thread: each datagram that it hears is worked off to its answer.
-ghost use Rattle.std.specs.Prelude.{◌≡◌, ℕ, ◌<◌, ◌≤◌, List, [], true, None, IfOk, MatchBool};
+ghost use Rattle.std.specs.Prelude.{◌≡◌, ℕ, ◌<◌, ◌≤◌, List, [], true, None, max, IfOk, MatchBool};
 ghost use Rattle.arrayvec.specs.ArrayVec.{ArrayVec};
 ghost use Rattle.coap_msg.specs.declared.types.Emission.{Emission as Emitted};
 ghost use Rattle.fc_registry.specs.Shards.{shard_at};
@@ -8,6 +8,7 @@ ghost use Rattle.fc_registry.specs.Watches.{handed, is_quiet};
 ghost use Rattle.fc_core.specs.declared.stage.Stage.{Stage};
 ghost use Rattle.fc_core.specs.Exchanges.{advanced};
 ghost use Rattle.fc_core.specs.History.{Begins};
+ghost use Rattle.fc_core.specs.Ids.{free_id};
 ghost use Rattle.fc_core.specs.Receiving.{delivered, emission_if};
 ghost use Rattle.fc_core.specs.Legal.{resent};
 ghost use Rattle.fc_server.specs.Serving.{Hears, IsBegun, IsReachable, AsksForTurn, Passes, TicksShard, Serves, Turns, WorksOff};
@@ -138,8 +139,9 @@ impl Engine {
         emission: &mut Emission,
     ) -> NotifyOutcome
         requires { shard < 8 }
-        ensures { let told = notified_as result emission.new in
+        ensures asked { let told = notified_as result emission.new in
             AsksForTurn readings.now shard now random self.old self.new (is_given told) (notification_in told) }
+        ensures starved { result ≡ NotifyOutcome.Starved → free_id self.old.front.ids (max self.old.front.now now) ≡ None }
     {
         if !self.server.due(shard, now, &mut self.task.job) {
             return NotifyOutcome::Nobody;
@@ -185,6 +187,7 @@ fn tell(
     requires { IsBegun server.old task.old }
     ensures turns { Turns readings.now now random server.old task.old server.new (notification_in (notified_as result emission.new)) }
     ensures given { is_given (notified_as result emission.new) ≡ true }
+    ensures starved { result ≡ NotifyOutcome.Starved → free_id server.old.front.ids (max server.old.front.now now) ≡ None }
 {
     server.take(readings, task);
     server.fresh(now, task);
@@ -198,6 +201,7 @@ fn tell(
 fn told(sent: bool, starved: bool) -> NotifyOutcome
     ensures sent { (e : Emitted) → notification_in (notified_as result e) ≡ emission_if sent e }
     ensures given { (e : Emitted) → is_given (notified_as result e) ≡ true }
+    ensures starved { result ≡ NotifyOutcome.Starved → starved ≡ true }
 {
     if sent {
         NotifyOutcome::Sent

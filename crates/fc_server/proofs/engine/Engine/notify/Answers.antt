@@ -1,6 +1,8 @@
-use Rattle.std.proofs.Common.{◌≡◌, Bool, true, false, [], ◌∷◌, ◌++◌, Option, None, Some, length, refl, ap, sym, subst, ◌∙◌}
+use Rattle.std.proofs.Common.{◌≡◌, Bool, true, false, [], ◌∷◌, ◌++◌, Option, None, Some, length, max, refl, ap, sym, subst, ◌∙◌}
 use Rattle.fc_core.specs.declared.event.Event.TheVariants.{Due}
 use Rattle.fc_core.specs.declared.stage.Task.{Task}
+use Rattle.fc_core.specs.Exchanges.{FrontState}
+use Rattle.fc_core.specs.Ids.{free_id}
 use Rattle.fc_registry.specs.declared.job.Job.{Job}
 use Rattle.fc_registry.specs.Turns.{written_if}
 use Rattle.fc_server.specs.Notified.{is_given, notification_in, notified_as}
@@ -45,8 +47,8 @@ asked_none c =
 pub invariant_of-self : goal.invariant_of-self
 invariant_of-self c = notified_served c.args.readings.now c.args.shard c.args.now c.args.random c.self.inside.server c.due.new.self false None c.self.invariant (asked_none c)
 
-pub returns-then-not-due : goal.returns-then-not-due
-returns-then-not-due c = subst (λ (s : ServerState). AsksForTurn c.args.readings.now c.args.shard c.args.now c.args.random s c.due.new.self false None) c.self.view_is (asked_none c)
+pub returns-then-not-due-clause-asked : goal.returns-then-not-due-clause-asked
+returns-then-not-due-clause-asked c = subst (λ (s : ServerState). AsksForTurn c.args.readings.now c.args.shard c.args.now c.args.random s c.due.new.self false None) c.self.view_is (asked_none c)
 
 -- a turn is worked off
 asked_some : (c : goal.After-tell) → let told = notified_as c.tell.result c.tell.new.emission in
@@ -68,7 +70,12 @@ invariant_of-self-2 c =
     let told = notified_as c.tell.result c.tell.new.emission in
     notified_served c.args.readings.now c.args.shard c.args.now c.args.random c.self.inside.server c.tell.new.server (is_given told) (notification_in told) c.self.invariant (asked_some c)
 
-pub returns : goal.returns
-returns c =
+pub returns-clause-asked : goal.returns-clause-asked
+returns-clause-asked c =
     let told = notified_as c.tell.result c.tell.new.emission in
     subst (λ (s : ServerState). AsksForTurn c.args.readings.now c.args.shard c.args.now c.args.random s c.tell.new.server (is_given told) (notification_in told)) c.self.view_is (asked_some c)
+
+pub returns-clause-starved : goal.returns-clause-starved
+returns-clause-starved c = λ is.
+    subst (λ (s : ServerState). free_id s.front.ids (max s.front.now c.args.now) ≡ None) c.self.view_is
+    (subst (λ (f : FrontState). free_id f.ids (max f.now c.args.now) ≡ None) c.due.ensures.front (c.tell.ensures.starved is))
