@@ -5,10 +5,13 @@ ghost use Rattle.fc_core.specs.Contents.{IsOf};
 ghost use Rattle.fc_core.specs.Receiving.{emission_if, heard};
 ghost use Rattle.fc_heads.specs.Heads.{IsRaised, fresh, peeked, word_of};
 ghost use Rattle.fc_workers.specs.Called.{AdvancesFront, AdvancesIfQuiet, BenchCall, GivesReadings, HandsSignal, LooksAt, TellsReceipt};
-ghost use Rattle.fc_workers.specs.Called.{AdvancesShard, AnswersRequest, CommitsRun, DrawsId, GivesTurn, GivesUpTurn, HearsDatagram, InstallsProgram};
+ghost use Rattle.fc_workers.specs.Called.{AdvancesShard, AnswersRequest, CommitsRun, DrawsId, GivesTurn, GivesUpTurn, HearsDatagram};
+ghost use Rattle.fc_workers.specs.Called.{InstallsProgram};
 ghost use Rattle.fc_workers.specs.Called.{LoggedCall, NotesTurn, RaisesWord, RemovesProgram, TakesForJob};
 ghost use Rattle.fc_workers.specs.declared.call_log.CallLog.{CallLog as Log};
-ghost use Rattle.fc_workers.specs.Answers.{AreTallied, IsSomeAnswer, IsSomeCommit, IsSomeDelivery, IsSomeDraw, IsSomeInstall, IsSomeNote, IsSomeQuiet, IsSomeReceipt, IsSomeRemoval, IsSomeTaking, IsSomeTick, IsSomeTurn, commit_changes, ended_by, install_changes, removal_changes, saturated};
+ghost use Rattle.fc_workers.specs.Answers.{AreTallied, IsSomeAnswer, IsSomeCommit, IsSomeDelivery, IsSomeDraw, IsSomeInstall, IsSomeNote};
+ghost use Rattle.fc_workers.specs.Answers.{IsSomeQuiet, IsSomeReceipt, IsSomeRemoval, IsSomeTaking, IsSomeTick, IsSomeTurn, commit_changes};
+ghost use Rattle.fc_workers.specs.Answers.{ended_by, install_changes, removal_changes, saturated};
 
 use crate::call_log::CallLog;
 use coap_msg::{Emission, Endpoint};

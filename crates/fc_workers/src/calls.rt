@@ -3,7 +3,8 @@ ghost use Rattle.std.specs.Prelude.{◌≡◌, ℕ, ◌+◌, ⊤, if◌then◌el
 ghost use Rattle.fc_registry.specs.Slots.{IsOwned, Shard as Seen};
 ghost use Rattle.fc_workers.specs.Answers.{commit_changes, install_changes, removal_changes};
 ghost use Rattle.fc_workers.specs.Counts.{HasEightSlots, serials};
-ghost use Rattle.fc_workers.specs.Doings.{CommitsAt, DescribesTo, GivesTurnAt, GivesUpAt, HandsOn, InstallsTo, NotesAt, PassesIfQuiet, RemovesFrom, TakesTo, TicksAt};
+ghost use Rattle.fc_workers.specs.Doings.{CommitsAt, DescribesTo, GivesTurnAt, GivesUpAt, HandsOn, InstallsTo, NotesAt, PassesIfQuiet};
+ghost use Rattle.fc_workers.specs.Doings.{RemovesFrom, TakesTo, TicksAt};
 
 use coap_msg::Endpoint;
 use fc_help::Readings;

@@ -105,7 +105,8 @@ impl<'a, B: Bench, G: Gate, W: Wire, M: Moments> Dispatcher<'a, B, G, W, M> {
         bytes: &[u8],
         reply: &mut Emission,
     ) -> Heard
-        ensures taken_in { IsTakenIn (shop B.changes B.ended B.called B.logged M.is_moment M.is_random G.passed W.called) self.old.handover now from bytes.now result reply.new self.old.done self.new.done }
+        ensures taken_in { IsTakenIn (shop B.changes B.ended B.called B.logged M.is_moment M.is_random G.passed W.called)
+            self.old.handover now from bytes.now result reply.new self.old.done self.new.done }
         ensures handover { self.new.handover ≡ self.old.handover }
     {
         let log = &mut self.done.share.log;
@@ -149,7 +150,8 @@ impl<'a, B: Bench, G: Gate, W: Wire, M: Moments> Dispatcher<'a, B, G, W, M> {
 
     /// Asks a shard, 0 to 7, for the turn of the observer that is due first at a moment in milliseconds, and dispatches it. Tells whether there was one.
     pub fn notify<R: Wait>(&mut self, rt: &R, shard: u8, now: u64) -> bool
-        ensures asked { IsTurnAsked (shop B.changes B.ended B.called B.logged M.is_moment M.is_random G.passed W.called) self.old.handover shard now result self.old.done self.new.done }
+        ensures asked { IsTurnAsked (shop B.changes B.ended B.called B.logged M.is_moment M.is_random G.passed W.called)
+            self.old.handover shard now result self.old.done self.new.done }
         ensures handover { self.new.handover ≡ self.old.handover }
     {
         let log = &mut self.done.share.log;
@@ -165,7 +167,8 @@ impl<'a, B: Bench, G: Gate, W: Wire, M: Moments> Dispatcher<'a, B, G, W, M> {
 
     // Sends its job to the workers, or works it off.
     fn dispatch<R: Wait>(&mut self, rt: &R)
-        ensures dispatched { IsDispatched (shop B.changes B.ended B.called B.logged M.is_moment M.is_random G.passed W.called) self.old.handover self.old.job self.old.done self.new.done }
+        ensures dispatched { IsDispatched (shop B.changes B.ended B.called B.logged M.is_moment M.is_random G.passed W.called)
+            self.old.handover self.old.job self.old.done self.new.done }
         ensures handover { self.new.handover ≡ self.old.handover }
     {
         let handed = self.hand_over(rt);
@@ -208,7 +211,8 @@ impl<'a, B: Bench, G: Gate, W: Wire, M: Moments> Dispatcher<'a, B, G, W, M> {
 
     // Works its job off.
     fn work<R: Wait>(&mut self, rt: &R)
-        ensures worked { IsWorkedHere (shop B.changes B.ended B.called B.logged M.is_moment M.is_random G.passed W.called) self.old.job self.old.done self.new.done }
+        ensures worked { IsWorkedHere (shop B.changes B.ended B.called B.logged M.is_moment M.is_random G.passed W.called)
+            self.old.job self.old.done self.new.done }
         ensures handover { self.new.handover ≡ self.old.handover }
     {
         let done = &mut self.done;

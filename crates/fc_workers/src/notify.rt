@@ -27,7 +27,8 @@ impl<'a, B: Bench, G: Gate, W: Wire, M: Moments> Workshop<'a, B, G, W, M> {
         share: &mut Share<B::Tallies>,
     ) -> Option<Emission>
         requires { turn.slot < 64 }
-        ensures worked { IsTurnWorked (shop B.changes B.ended B.called B.logged M.is_moment M.is_random G.passed W.called) job.now turn share.old share.new result }
+        ensures worked { IsTurnWorked (shop B.changes B.ended B.called B.logged M.is_moment M.is_random G.passed W.called)
+            job.now turn share.old share.new result }
         ensures ended { B.ended share.new.tallies ≡ saturated (B.ended share.old.tallies + 1) }
     {
         let readings = self.bench.readings(rt);
@@ -52,7 +53,8 @@ impl<'a, B: Bench, G: Gate, W: Wire, M: Moments> Workshop<'a, B, G, W, M> {
         share: &mut Share<B::Tallies>,
     ) -> Option<Emission>
         requires { turn.slot < 64 }
-        ensures told { IsFoundTold (shop B.changes B.ended B.called B.logged M.is_moment M.is_random G.passed W.called) turn found result share.old.log share.new.log }
+        ensures told { IsFoundTold (shop B.changes B.ended B.called B.logged M.is_moment M.is_random G.passed W.called)
+            turn found result share.old.log share.new.log }
         ensures kept { IsQuiet (shop B.changes B.ended B.called B.logged M.is_moment M.is_random G.passed W.called) share.old share.new }
         ensures ended { B.ended share.new.tallies ≡ saturated (B.ended share.old.tallies + 1) }
     {
@@ -85,7 +87,8 @@ impl<'a, B: Bench, G: Gate, W: Wire, M: Moments> Workshop<'a, B, G, W, M> {
         share: &mut Share<B::Tallies>,
     ) -> Option<Emission>
         requires { turn.slot < 64 }
-        ensures noted { IsNoteSent (shop B.changes B.ended B.called B.logged M.is_moment M.is_random G.passed W.called) told.now turn id result share.old.log share.new.log }
+        ensures noted { IsNoteSent (shop B.changes B.ended B.called B.logged M.is_moment M.is_random G.passed W.called)
+            told.now turn id result share.old.log share.new.log }
         ensures kept { IsQuiet (shop B.changes B.ended B.called B.logged M.is_moment M.is_random G.passed W.called) share.old share.new }
         ensures ended { B.ended share.new.tallies ≡ saturated (B.ended share.old.tallies + 1) }
     {
@@ -109,7 +112,8 @@ impl<'a, B: Bench, G: Gate, W: Wire, M: Moments> Workshop<'a, B, G, W, M> {
         share: &mut Share<B::Tallies>,
     ) -> Option<Emission>
         requires { turn.slot < 64 }
-        ensures given_up { IsGivenUp (shop B.changes B.ended B.called B.logged M.is_moment M.is_random G.passed W.called) turn result share.old.log share.new.log }
+        ensures given_up { IsGivenUp (shop B.changes B.ended B.called B.logged M.is_moment M.is_random G.passed W.called)
+            turn result share.old.log share.new.log }
         ensures kept { IsQuiet (shop B.changes B.ended B.called B.logged M.is_moment M.is_random G.passed W.called) share.old share.new }
         ensures ended { B.ended share.new.tallies ≡ saturated (B.ended share.old.tallies + 1) }
     {

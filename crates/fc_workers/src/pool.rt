@@ -75,7 +75,8 @@ pub fn run_workers<
 where
     B::Tallies: Send,
     requires { All (λ s. s.got.channel ≡ jobs.now) seats.items }
-    ensures { IfOk result (λ v. AreSharesOf (shop B.changes B.ended B.called B.logged M.is_moment M.is_random G.passed W.called) seats.items v.items) }
+    ensures { IfOk result (λ v. AreSharesOf (shop B.changes B.ended B.called B.logged M.is_moment M.is_random G.passed W.called)
+        seats.items v.items) }
 {
     thread::map_vec(
         rt,
@@ -98,7 +99,8 @@ struct SharesOf<B: Bench, G: Gate, W: Wire, M: Moments> {
 
 impl<B: Bench, G: Gate, W: Wire, M: Moments> Promise<Result<Vec<Share<B::Tallies>>, AllocError>>
     for SharesOf<B, G, W, M> {
-    ghost kept_by = { λ p r. IfOk r (λ v. AreSharesOf (shop B.changes B.ended B.called B.logged M.is_moment M.is_random G.passed W.called) p.seats.value.items v.items) };
+    ghost kept_by = { λ p r. IfOk r (λ v. AreSharesOf (shop B.changes B.ended B.called B.logged M.is_moment M.is_random G.passed W.called)
+        p.seats.value.items v.items) };
 }
 
 /// Runs a worker at each seat, as `run_workers` does, and beside them a feeder, in the caller's own thread: what the feeder
@@ -128,7 +130,8 @@ where
     requires seats { All (λ s. s.got.channel ≡ jobs.now) seats.items }
     requires feed { F.IsAlwaysCallable feed }
     ensures fed { (has_workers : Bool) × F.post feed has_workers result.0 }
-    ensures shares { IfOk result.1 (λ v. AreSharesOf (shop B.changes B.ended B.called B.logged M.is_moment M.is_random G.passed W.called) seats.items v.items) }
+    ensures shares { IfOk result.1 (λ v. AreSharesOf (shop B.changes B.ended B.called B.logged M.is_moment M.is_random G.passed W.called)
+        seats.items v.items) }
 {
     thread::scope(
         thread::scope_env(),
@@ -136,7 +139,8 @@ where
         move |scope| -> (X, Result<Vec<Share<B::Tallies>>, AllocError>)
             requires { All (λ s. s.got.channel ≡ jobs.now) seats.items × F.IsAlwaysCallable feed }
             ensures { ((has_workers : Bool) × F.post feed has_workers result.0)
-                × IfOk result.1 (λ v. AreSharesOf (shop B.changes B.ended B.called B.logged M.is_moment M.is_random G.passed W.called) seats.items v.items) }
+                × IfOk result.1 (λ v. AreSharesOf (shop B.changes B.ended B.called B.logged M.is_moment M.is_random G.passed W.called)
+                seats.items v.items) }
         {
             let has_seats = !seats.is_empty();
             let promise = SharesOf::<B, G, W, M> {
@@ -149,7 +153,9 @@ where
                 promise,
                 move || -> Result<Vec<Share<B::Tallies>>, AllocError>
                     requires { All (λ s. s.got.channel ≡ jobs.now) seats.items }
-                    ensures { IfOk result (λ v. AreSharesOf (shop B.changes B.ended B.called B.logged M.is_moment M.is_random G.passed W.called) seats.items v.items) }
+                    ensures { IfOk result
+                        (λ v. AreSharesOf (shop B.changes B.ended B.called B.logged M.is_moment M.is_random G.passed W.called)
+                        seats.items v.items) }
                 {
                     let shares = run_workers(rt, workshop, jobs, seats);
                     jobs.dismiss(rt);

@@ -84,7 +84,8 @@ impl<'a, B: Bench, G: Gate, W: Wire, M: Moments> Workshop<'a, B, G, W, M> {
     )
         requires { tools.old.heads.table ≡ B.heads self.now.bench.now }
         ensures heads { tools.new.heads.table ≡ tools.old.heads.table }
-        ensures worked { IsReplied (shop B.changes B.ended B.called B.logged M.is_moment M.is_random G.passed W.called) number job.now share.old share.new }
+        ensures worked { IsReplied (shop B.changes B.ended B.called B.logged M.is_moment M.is_random G.passed W.called)
+            number job.now share.old share.new }
         ensures ended { B.ended share.new.tallies ≡ saturated (B.ended share.old.tallies + 1) }
         ensures got { share.new.got ≡ share.old.got }
     {
@@ -107,7 +108,8 @@ impl<'a, B: Bench, G: Gate, W: Wire, M: Moments> Workshop<'a, B, G, W, M> {
     ) -> bool
         requires { tools.old.heads.table ≡ B.heads self.now.bench.now }
         ensures heads { tools.new.heads.table ≡ tools.old.heads.table }
-        ensures worked { IsWorked (shop B.changes B.ended B.called B.logged M.is_moment M.is_random G.passed W.called) number job.now share.old share.new (emission_if result tools.new.reply) }
+        ensures worked { IsWorked (shop B.changes B.ended B.called B.logged M.is_moment M.is_random G.passed W.called)
+            number job.now share.old share.new (emission_if result tools.new.reply) }
         ensures ended { B.ended share.new.tallies ≡ saturated (B.ended share.old.tallies + 1) }
         ensures got { share.new.got ≡ share.old.got }
     {
@@ -133,7 +135,8 @@ impl<'a, B: Bench, G: Gate, W: Wire, M: Moments> Workshop<'a, B, G, W, M> {
         requires asked { job.now.turn ≡ None }
         requires heads { tools.old.heads.table ≡ B.heads self.now.bench.now }
         ensures heads { tools.new.heads.table ≡ tools.old.heads.table }
-        ensures worked { IsRequestWorked (shop B.changes B.ended B.called B.logged M.is_moment M.is_random G.passed W.called) number job.now share.old share.new (emission_if result tools.new.reply) }
+        ensures worked { IsRequestWorked (shop B.changes B.ended B.called B.logged M.is_moment M.is_random G.passed W.called)
+            number job.now share.old share.new (emission_if result tools.new.reply) }
         ensures ended { B.ended share.new.tallies ≡ saturated (B.ended share.old.tallies + 1) }
         ensures got { share.new.got ≡ share.old.got }
     {

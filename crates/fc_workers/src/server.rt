@@ -22,7 +22,8 @@ ghost use Rattle.fc_workers.specs.Asked.{IsAsked, IsLoggedCall, IsServerCall};
 ghost use Rattle.fc_workers.specs.Doings.{AdvancesTo};
 ghost use Rattle.fc_workers.specs.Naming.{AreNamed};
 ghost use Rattle.fc_workers.specs.Counts.{no_changes, serials, sums};
-ghost use Rattle.fc_workers.specs.Answers.{AreTallied, IsSomeCommit, IsSomeInstall, IsSomeNote, IsSomeReceipt, IsSomeRemoval, IsSomeTaking, IsSomeTick, IsSomeTurn, commit_changes, install_changes, removal_changes, saturated};
+ghost use Rattle.fc_workers.specs.Answers.{AreTallied, IsSomeCommit, IsSomeInstall, IsSomeNote, IsSomeReceipt, IsSomeRemoval, IsSomeTaking};
+ghost use Rattle.fc_workers.specs.Answers.{IsSomeTick, IsSomeTurn, commit_changes, install_changes, removal_changes, saturated};
 
 use crate::bench::Bench;
 use crate::blanks::Blanks;

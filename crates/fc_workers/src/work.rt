@@ -41,7 +41,8 @@ impl<'a, B: Bench, G: Gate, W: Wire, M: Moments> Workshop<'a, B, G, W, M> {
         requires asked { job.now.turn ≡ None }
         requires heads { tools.old.heads.table ≡ B.heads self.now.bench.now }
         ensures heads { tools.new.heads.table ≡ tools.old.heads.table }
-        ensures worked { IsWorkedOff (shop B.changes B.ended B.called B.logged M.is_moment M.is_random G.passed W.called) number job.now result share.old share.new }
+        ensures worked { IsWorkedOff (shop B.changes B.ended B.called B.logged M.is_moment M.is_random G.passed W.called)
+            number job.now result share.old share.new }
         ensures ended { B.ended share.new.tallies ≡ B.ended share.old.tallies }
     {
         let mut stage = Stage::asked(job);
@@ -96,7 +97,8 @@ impl<'a, B: Bench, G: Gate, W: Wire, M: Moments> Workshop<'a, B, G, W, M> {
     // Removes the program of the job's slot.
     #[inline(never)]
     fn remove<R: Wait>(&self, rt: &R, job: &Job, share: &mut Share<B::Tallies>) -> Stage
-        ensures step { (number : ℕ) → IsStep (shop B.changes B.ended B.called B.logged M.is_moment M.is_random G.passed W.called) number job.now ToRemove result share.old share.new }
+        ensures step { (number : ℕ) → IsStep (shop B.changes B.ended B.called B.logged M.is_moment M.is_random G.passed W.called)
+            number job.now ToRemove result share.old share.new }
         ensures ended { B.ended share.new.tallies ≡ B.ended share.old.tallies }
     {
         let log = &mut share.log;
@@ -108,7 +110,8 @@ impl<'a, B: Bench, G: Gate, W: Wire, M: Moments> Workshop<'a, B, G, W, M> {
     fn take<R: Wait>(&self, rt: &R, job: &Job, count: u8, share: &mut Share<B::Tallies>) -> Stage
         requires ready { IsReady job.now (ToTake count) }
         requires asked { job.now.turn ≡ None }
-        ensures step { (number : ℕ) → IsStep (shop B.changes B.ended B.called B.logged M.is_moment M.is_random G.passed W.called) number job.now (ToTake count) result share.old share.new }
+        ensures step { (number : ℕ) → IsStep (shop B.changes B.ended B.called B.logged M.is_moment M.is_random G.passed W.called)
+            number job.now (ToTake count) result share.old share.new }
         ensures ended { B.ended share.new.tallies ≡ B.ended share.old.tallies }
     {
         let readings = self.bench.readings(rt);
@@ -130,7 +133,8 @@ impl<'a, B: Bench, G: Gate, W: Wire, M: Moments> Workshop<'a, B, G, W, M> {
         share: &mut Share<B::Tallies>,
     ) -> Stage
         requires { IsReady job.now (ToCommit count ticket.now) }
-        ensures step { IsStep (shop B.changes B.ended B.called B.logged M.is_moment M.is_random G.passed W.called) number job.now (ToCommit count ticket.now) result share.old share.new }
+        ensures step { IsStep (shop B.changes B.ended B.called B.logged M.is_moment M.is_random G.passed W.called)
+            number job.now (ToCommit count ticket.now) result share.old share.new }
         ensures ended { B.ended share.new.tallies ≡ B.ended share.old.tallies }
     {
         let log = &mut share.log;
@@ -153,7 +157,8 @@ impl<'a, B: Bench, G: Gate, W: Wire, M: Moments> Workshop<'a, B, G, W, M> {
     // Verifies the job's image, and installs the program.
     #[inline(never)]
     fn install<R: Wait>(&self, rt: &R, job: &Job, share: &mut Share<B::Tallies>) -> Stage
-        ensures step { (number : ℕ) → IsStep (shop B.changes B.ended B.called B.logged M.is_moment M.is_random G.passed W.called) number job.now ToInstall result share.old share.new }
+        ensures step { (number : ℕ) → IsStep (shop B.changes B.ended B.called B.logged M.is_moment M.is_random G.passed W.called)
+            number job.now ToInstall result share.old share.new }
         ensures ended { B.ended share.new.tallies ≡ B.ended share.old.tallies }
     {
         match verify(self.alloc, image(&job.ask)) {
@@ -176,7 +181,8 @@ impl<'a, B: Bench, G: Gate, W: Wire, M: Moments> Workshop<'a, B, G, W, M> {
     ) -> Stage
         requires accepted { IsAccepted (image_of job.now.ask) program }
         requires judged { judged (image_of job.now.ask) ≡ Accepts program }
-        ensures step { (number : ℕ) → IsStep (shop B.changes B.ended B.called B.logged M.is_moment M.is_random G.passed W.called) number job.now ToInstall result share.old share.new }
+        ensures step { (number : ℕ) → IsStep (shop B.changes B.ended B.called B.logged M.is_moment M.is_random G.passed W.called)
+            number job.now ToInstall result share.old share.new }
         ensures ended { B.ended share.new.tallies ≡ B.ended share.old.tallies }
     {
         let receipt = Receipt::of(&program, 0);

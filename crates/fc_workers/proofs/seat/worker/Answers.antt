@@ -14,12 +14,14 @@ loop-init g c = (
   tt,
   ap (λ (s : Share _). s.got.channel) c.new-share.ensures ∙ c.requires,
   refl,
-  sets_out (shop g.B.Bench.changes g.B.Bench.ended g.B.Bench.called g.B.Bench.logged g.M.Moments.is_moment g.M.Moments.is_random g.G.Gate.passed g.W.Wire.called) c.new-share.result,
+  sets_out (shop g.B.Bench.changes g.B.Bench.ended g.B.Bench.called g.B.Bench.logged
+      g.M.Moments.is_moment g.M.Moments.is_random g.G.Gate.passed g.W.Wire.called) c.new-share.result,
 )
 
 pub loop-preserved : goal.loop-preserved
 loop-preserved g c =
-    let s = (shop g.B.Bench.changes g.B.Bench.ended g.B.Bench.called g.B.Bench.logged g.M.Moments.is_moment g.M.Moments.is_random g.G.Gate.passed g.W.Wire.called) in
+    let s = (shop g.B.Bench.changes g.B.Bench.ended g.B.Bench.called g.B.Bench.logged
+    g.M.Moments.is_moment g.M.Moments.is_random g.G.Gate.passed g.W.Wire.called) in
     let n : Numbered = record { number = c.in-Some-next.number; job = c.in-Some-next.job } in
     let got = c.in-Some-next.ensures.got in
     let worked = subst (λ (x : Got). IsReplied s n.number n.job (record c.loop.share { got = x }) c.work.new.share) got c.work.ensures.worked in
@@ -34,6 +36,7 @@ loop-preserved g c =
 
 pub returns : goal.returns
 returns g c =
-    let s = (shop g.B.Bench.changes g.B.Bench.ended g.B.Bench.called g.B.Bench.logged g.M.Moments.is_moment g.M.Moments.is_random g.G.Gate.passed g.W.Wire.called) in
+    let s = (shop g.B.Bench.changes g.B.Bench.ended g.B.Bench.called g.B.Bench.logged
+    g.M.Moments.is_moment g.M.Moments.is_random g.G.Gate.passed g.W.Wire.called) in
     let ended : HasEnded s c.new-share.result c.match-next.share = search rules in
     record { log = c.new-share.result.log; ended = subst (λ (x : Share _). HasEnded s x c.match-next.share) c.new-share.ensures ended }

@@ -6,4 +6,5 @@ use Rattle.fc_workers.proofs.seat.worker.Given as goal
 abbrev pub invariant-loop : goal.invariant-loop
 invariant-loop g l = (goal.iterator-loop g).can_next l.iterator' × (goal.iterator-loop g).is_finite l.iterator' × (l.share.got.channel ≡ l.jobs) ×
     (l.tools.heads.table ≡ l.initial.tools.heads.table) × HasEnded
-    (shop g.B.Bench.changes g.B.Bench.ended g.B.Bench.called g.B.Bench.logged g.M.Moments.is_moment g.M.Moments.is_random g.G.Gate.passed g.W.Wire.called) l.initial.share l.share
+    (shop g.B.Bench.changes g.B.Bench.ended g.B.Bench.called g.B.Bench.logged
+    g.M.Moments.is_moment g.M.Moments.is_random g.G.Gate.passed g.W.Wire.called) l.initial.share l.share

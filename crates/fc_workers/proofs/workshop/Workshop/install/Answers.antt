@@ -10,12 +10,14 @@ pub returns-in-Err-Broken-clause-step : goal.returns-in-Err-Broken-clause-step
 returns-in-Err-Broken-clause-step g c number =
     let here = subst (λ (image : List ℕ). IsRefusal image c.in-Err-Broken.field-0) c.image.ensures c.in-Err-Broken.ensures.refused in
     let is = subst (λ (r : Refusal). IsRefusal (image_of c.args.job.now.ask) r) c.in-Err-Broken.field-0-is here in
-    reject_step (shop g.B.Bench.changes g.B.Bench.ended g.B.Bench.called g.B.Bench.logged g.M.Moments.is_moment g.M.Moments.is_random g.G.Gate.passed g.W.Wire.called) number c.args.job.now
+    reject_step (shop g.B.Bench.changes g.B.Bench.ended g.B.Bench.called g.B.Bench.logged
+    g.M.Moments.is_moment g.M.Moments.is_random g.G.Gate.passed g.W.Wire.called) number c.args.job.now
     c.in-Err-Broken.fault c.args.share.now is c.rejected.ensures
 
 pub returns-in-Err-NoMemory-clause-step : goal.returns-in-Err-NoMemory-clause-step
 returns-in-Err-NoMemory-clause-step g c number =
     let here = subst (λ (image : List ℕ). IsRefusal image c.in-Err-NoMemory.field-0) c.image.ensures c.in-Err-NoMemory.ensures.refused in
     let is = subst (λ (r : Refusal). IsRefusal (image_of c.args.job.now.ask) r) c.in-Err-NoMemory.field-0-is here in
-    refuse_step (shop g.B.Bench.changes g.B.Bench.ended g.B.Bench.called g.B.Bench.logged g.M.Moments.is_moment g.M.Moments.is_random g.G.Gate.passed g.W.Wire.called) number c.args.job.now
+    refuse_step (shop g.B.Bench.changes g.B.Bench.ended g.B.Bench.called g.B.Bench.logged
+    g.M.Moments.is_moment g.M.Moments.is_random g.G.Gate.passed g.W.Wire.called) number c.args.job.now
     c.args.share.now is c.unavailable.ensures c.count_refusal.ensures

@@ -13,10 +13,12 @@ returns-in-Ok-clause-step g c number =
     let is = subst (λ (p : Program). IsSomeInstall p c.install-made.result) c.in-Ok.ensures.ok c.install-made.ensures.made in
     let installs = subst (λ (p : Program). g.B.Bench.logged (InstallsProgram c.args.job.now p c.install-made.result) c.args.share.now.log c.install-made.new.log)
     c.in-Ok.ensures.ok c.install-made.ensures.logged in
-    install_step (shop g.B.Bench.changes g.B.Bench.ended g.B.Bench.called g.B.Bench.logged g.M.Moments.is_moment g.M.Moments.is_random g.G.Gate.passed g.W.Wire.called) number c.args.job.now
+    install_step (shop g.B.Bench.changes g.B.Bench.ended g.B.Bench.called g.B.Bench.logged
+    g.M.Moments.is_moment g.M.Moments.is_random g.G.Gate.passed g.W.Wire.called) number c.args.job.now
     c.args.program c.install-made.result c.args.share.now c.install-made.new.tallies c.install-made.new.log c.requires.judged installs is
     c.install-made.ensures.changes next
 
 pub returns-clause-step : goal.returns-clause-step
-returns-clause-step g c number = refuse_step (shop g.B.Bench.changes g.B.Bench.ended g.B.Bench.called g.B.Bench.logged g.M.Moments.is_moment g.M.Moments.is_random g.G.Gate.passed g.W.Wire.called)
+returns-clause-step g c number = refuse_step (shop g.B.Bench.changes g.B.Bench.ended g.B.Bench.called g.B.Bench.logged
+    g.M.Moments.is_moment g.M.Moments.is_random g.G.Gate.passed g.W.Wire.called)
     number c.args.job.now c.args.share.now c.requires.accepted.shapely.program.head c.unavailable.ensures c.count_refusal.ensures

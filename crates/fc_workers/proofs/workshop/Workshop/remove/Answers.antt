@@ -4,6 +4,7 @@ use Rattle.fc_workers.proofs.workshop.Workshop.remove.Goals as goal
 
 pub returns-clause-step : goal.returns-clause-step
 returns-clause-step g c number =
-    let s = (shop g.B.Bench.changes g.B.Bench.ended g.B.Bench.called g.B.Bench.logged g.M.Moments.is_moment g.M.Moments.is_random g.G.Gate.passed g.W.Wire.called) in
+    let s = (shop g.B.Bench.changes g.B.Bench.ended g.B.Bench.called g.B.Bench.logged
+    g.M.Moments.is_moment g.M.Moments.is_random g.G.Gate.passed g.W.Wire.called) in
     remove_step s number c.args.job.now c.remove-removal.result c.args.share.now c.remove-removal.new.tallies c.remove-removal.new.log
     c.remove-removal.ensures.logged c.remove-removal.ensures.removal c.remove-removal.ensures.changes c.removed.ensures

@@ -7,7 +7,8 @@ use Rattle.fc_workers.proofs.workshop.Workshop.take.Goals as goal
 
 pub returns-clause-step : goal.returns-clause-step
 returns-clause-step g c number =
-    let s = (shop g.B.Bench.changes g.B.Bench.ended g.B.Bench.called g.B.Bench.logged g.M.Moments.is_moment g.M.Moments.is_random g.G.Gate.passed g.W.Wire.called) in
+    let s = (shop g.B.Bench.changes g.B.Bench.ended g.B.Bench.called g.B.Bench.logged
+    g.M.Moments.is_moment g.M.Moments.is_random g.G.Gate.passed g.W.Wire.called) in
     let log = c.take-taken.new.log in
     let taking : IsTakingWith g.B.Bench.called g.B.Bench.logged c.args.job.now c.take-taken.result c.args.share.now.log log = record {
       readings = c.readings-readings.result;

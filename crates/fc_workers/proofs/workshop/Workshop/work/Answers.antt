@@ -7,14 +7,16 @@ use Rattle.fc_workers.proofs.workshop.Workshop.work.Goals.{then-replies, else-re
 
 pub send-out-requires : goal.send-out-requires
 send-out-requires g c =
-    let s = (shop g.B.Bench.changes g.B.Bench.ended g.B.Bench.called g.B.Bench.logged g.M.Moments.is_moment g.M.Moments.is_random g.G.Gate.passed g.W.Wire.called) in
+    let s = (shop g.B.Bench.changes g.B.Bench.ended g.B.Bench.called g.B.Bench.logged
+    g.M.Moments.is_moment g.M.Moments.is_random g.G.Gate.passed g.W.Wire.called) in
     let reply = c.reply-replies.new.tools.reply in
     goes_out s c.args.number c.args.job.now c.args.share.now c.reply-replies.new.share reply c.reply-replies.ensures.worked
     (ap (λ (b : Bool). emission_if b reply) c.if-replies.true)
 
 pub returns-clause-worked : goal.returns-clause-worked
 returns-clause-worked g c =
-    let s = (shop g.B.Bench.changes g.B.Bench.ended g.B.Bench.called g.B.Bench.logged g.M.Moments.is_moment g.M.Moments.is_random g.G.Gate.passed g.W.Wire.called) in
+    let s = (shop g.B.Bench.changes g.B.Bench.ended g.B.Bench.called g.B.Bench.logged
+    g.M.Moments.is_moment g.M.Moments.is_random g.G.Gate.passed g.W.Wire.called) in
     let share = c.reply-replies.new.share in
     let reply = c.reply-replies.new.tools.reply in
     record {

@@ -10,7 +10,8 @@ use Rattle.fc_workers.proofs.workshop.Workshop.work_off.Goals as goal
 
 pub calls-init : goal.calls-init
 calls-init g c =
-    let s = (shop g.B.Bench.changes g.B.Bench.ended g.B.Bench.called g.B.Bench.logged g.M.Moments.is_moment g.M.Moments.is_random g.G.Gate.passed g.W.Wire.called) in
+    let s = (shop g.B.Bench.changes g.B.Bench.ended g.B.Bench.called g.B.Bench.logged
+    g.M.Moments.is_moment g.M.Moments.is_random g.G.Gate.passed g.W.Wire.called) in
     let before = c.args.share.now in (
       refl,
       subst (λ (x : Stage). Walked s c.args.number c.args.job.now x before before) (sym c.asked-stage.ensures)
@@ -20,7 +21,8 @@ calls-init g c =
 
 pub calls-preserved-in-ToTake-stage : goal.calls-preserved-in-ToTake-stage
 calls-preserved-in-ToTake-stage g c =
-    let s = (shop g.B.Bench.changes g.B.Bench.ended g.B.Bench.called g.B.Bench.logged g.M.Moments.is_moment g.M.Moments.is_random g.G.Gate.passed g.W.Wire.called) in (
+    let s = (shop g.B.Bench.changes g.B.Bench.ended g.B.Bench.called g.B.Bench.logged
+    g.M.Moments.is_moment g.M.Moments.is_random g.G.Gate.passed g.W.Wire.called) in (
       c.calls.invariant.0,
       walks_on s c.args.number c.args.job.now c.in-ToTake.is c.calls.invariant.1 (c.take-stage.ensures.step c.args.number),
       c.take-stage.ensures.ended ∙ c.calls.invariant.2,
@@ -28,7 +30,8 @@ calls-preserved-in-ToTake-stage g c =
 
 pub calls-preserved-in-ToCommit-stage : goal.calls-preserved-in-ToCommit-stage
 calls-preserved-in-ToCommit-stage g c =
-    let s = (shop g.B.Bench.changes g.B.Bench.ended g.B.Bench.called g.B.Bench.logged g.M.Moments.is_moment g.M.Moments.is_random g.G.Gate.passed g.W.Wire.called) in (
+    let s = (shop g.B.Bench.changes g.B.Bench.ended g.B.Bench.called g.B.Bench.logged
+    g.M.Moments.is_moment g.M.Moments.is_random g.G.Gate.passed g.W.Wire.called) in (
       c.calls.invariant.0,
       walks_on s c.args.number c.args.job.now c.in-ToCommit.is c.calls.invariant.1 c.commit-stage.ensures.step,
       c.commit-stage.ensures.ended ∙ c.calls.invariant.2,
@@ -36,7 +39,8 @@ calls-preserved-in-ToCommit-stage g c =
 
 pub calls-preserved-in-ToInstall-1 : goal.calls-preserved-in-ToInstall-1
 calls-preserved-in-ToInstall-1 g c =
-    let s = (shop g.B.Bench.changes g.B.Bench.ended g.B.Bench.called g.B.Bench.logged g.M.Moments.is_moment g.M.Moments.is_random g.G.Gate.passed g.W.Wire.called) in (
+    let s = (shop g.B.Bench.changes g.B.Bench.ended g.B.Bench.called g.B.Bench.logged
+    g.M.Moments.is_moment g.M.Moments.is_random g.G.Gate.passed g.W.Wire.called) in (
       c.calls.invariant.0,
       walks_on s c.args.number c.args.job.now c.in-ToInstall.is c.calls.invariant.1 (c.install-stage.ensures.step c.args.number),
       c.install-stage.ensures.ended ∙ c.calls.invariant.2,
@@ -44,7 +48,8 @@ calls-preserved-in-ToInstall-1 g c =
 
 pub calls-preserved-in-ToMatch-1 : goal.calls-preserved-in-ToMatch-1
 calls-preserved-in-ToMatch-1 g c =
-    let s = (shop g.B.Bench.changes g.B.Bench.ended g.B.Bench.called g.B.Bench.logged g.M.Moments.is_moment g.M.Moments.is_random g.G.Gate.passed g.W.Wire.called) in
+    let s = (shop g.B.Bench.changes g.B.Bench.ended g.B.Bench.called g.B.Bench.logged
+    g.M.Moments.is_moment g.M.Moments.is_random g.G.Gate.passed g.W.Wire.called) in
     let step = match_step s c.args.number c.args.job.now c.peek-word.result c.calls.share c.peek-word.ensures.called c.matched-stage.ensures in (
       ap (λ (h : HeadSeat). h.table) c.peek-word.ensures.seen ∙ c.calls.invariant.0,
       walks_on s c.args.number c.args.job.now c.in-ToMatch.is c.calls.invariant.1 step,
@@ -53,7 +58,8 @@ calls-preserved-in-ToMatch-1 g c =
 
 pub calls-preserved-in-ToRemove-1 : goal.calls-preserved-in-ToRemove-1
 calls-preserved-in-ToRemove-1 g c =
-    let s = (shop g.B.Bench.changes g.B.Bench.ended g.B.Bench.called g.B.Bench.logged g.M.Moments.is_moment g.M.Moments.is_random g.G.Gate.passed g.W.Wire.called) in (
+    let s = (shop g.B.Bench.changes g.B.Bench.ended g.B.Bench.called g.B.Bench.logged
+    g.M.Moments.is_moment g.M.Moments.is_random g.G.Gate.passed g.W.Wire.called) in (
       c.calls.invariant.0,
       walks_on s c.args.number c.args.job.now c.in-ToRemove.is c.calls.invariant.1 (c.remove-stage.ensures.step c.args.number),
       c.remove-stage.ensures.ended ∙ c.calls.invariant.2,
@@ -61,14 +67,16 @@ calls-preserved-in-ToRemove-1 g c =
 
 pub calls-preserved-in-ToDescribe-1 : goal.calls-preserved-in-ToDescribe-1
 calls-preserved-in-ToDescribe-1 g c =
-    let s = (shop g.B.Bench.changes g.B.Bench.ended g.B.Bench.called g.B.Bench.logged g.M.Moments.is_moment g.M.Moments.is_random g.G.Gate.passed g.W.Wire.called) in
+    let s = (shop g.B.Bench.changes g.B.Bench.ended g.B.Bench.called g.B.Bench.logged
+    g.M.Moments.is_moment g.M.Moments.is_random g.G.Gate.passed g.W.Wire.called) in
     let step = describe_step s c.args.number c.args.job.now c.receipt.result c.calls.share c.receipt.ensures.called c.receipt.ensures.receipt
     c.told-stage.ensures in
     (c.calls.invariant.0, walks_on s c.args.number c.args.job.now c.in-ToDescribe.is c.calls.invariant.1 step, c.calls.invariant.2)
 
 pub calls-preserved-in-ToList-1 : goal.calls-preserved-in-ToList-1
 calls-preserved-in-ToList-1 g c =
-    let s = (shop g.B.Bench.changes g.B.Bench.ended g.B.Bench.called g.B.Bench.logged g.M.Moments.is_moment g.M.Moments.is_random g.G.Gate.passed g.W.Wire.called) in
+    let s = (shop g.B.Bench.changes g.B.Bench.ended g.B.Bench.called g.B.Bench.logged
+    g.M.Moments.is_moment g.M.Moments.is_random g.G.Gate.passed g.W.Wire.called) in
     let walked = lists_on s c.args.number c.args.job.now c.in-ToList.seen c.list-words.result.items c.in-ToList.is c.list-words.ensures.listed
     c.calls.invariant.1 in (
       c.list-words.ensures.heads ∙ c.calls.invariant.0,
@@ -79,7 +87,8 @@ calls-preserved-in-ToList-1 g c =
 
 pub calls-preserved : goal.calls-preserved
 calls-preserved g c =
-    let s = (shop g.B.Bench.changes g.B.Bench.ended g.B.Bench.called g.B.Bench.logged g.M.Moments.is_moment g.M.Moments.is_random g.G.Gate.passed g.W.Wire.called) in
+    let s = (shop g.B.Bench.changes g.B.Bench.ended g.B.Bench.called g.B.Bench.logged
+    g.M.Moments.is_moment g.M.Moments.is_random g.G.Gate.passed g.W.Wire.called) in
     let own = subst (λ (x : Stage). IsReady c.args.job.now x) c.in-ToRaise.is c.calls.invariant.1.ready in
     let step = raise_step s c.args.number c.args.job.now c.in-ToRaise.word c.in-ToRaise.field-1 c.calls.share c.raise.new.log c.raise.ensures.logged own in
     let walked = walks_on s c.args.number c.args.job.now c.in-ToRaise.is c.calls.invariant.1 step in
