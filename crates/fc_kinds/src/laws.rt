@@ -1,5 +1,5 @@
 //! Laws of kinds, for the crates above: each function is a law, and its contract says it.
-ghost use Rattle.std.specs.Prelude.{List, Some, true, ℕ, ◌≡◌};
+ghost use Rattle.std.specs.Prelude.{List, Some, true, ℕ, ◌≡◌, ◌≤◌};
 ghost use Rattle.fc_isa.specs.Program.{IsInsn};
 ghost use Rattle.fc_isa.specs.declared.insn.Insn.{Insn};
 ghost use Rattle.fc_help.specs.declared.request.Method.{Method};
@@ -8,7 +8,7 @@ ghost use Rattle.fc_kinds.specs.Containing.{Holds};
 ghost use Rattle.fc_kinds.specs.Lattice.{joined};
 ghost use Rattle.fc_kinds.specs.Containing.{AreKinds};
 ghost use Rattle.fc_kinds.specs.Laws.{CallsContainTheStep, EffectsAreMonotone, EffectsContainTheStep, ExitsContainTheStep, RefinementIsMonotone, RefinementKeepsWhatTakesTheWay, WaysRaiseByOne};
-ghost use Rattle.fc_kinds.specs.Meaning.{Input, Meaning, Means, Program, reply_code};
+ghost use Rattle.fc_kinds.specs.Meaning.{Input, Meaning, Means, Program, meant, reply_code};
 ghost use Rattle.fc_kinds.specs.Runnable.{is_reply_code};
 ghost use Rattle.fc_kinds.specs.Transfer.{enter, transfer};
 ghost use Rattle.fc_kinds.specs.Containing.{AreShallow};
@@ -82,6 +82,11 @@ pub fn refinement_keeps_what_takes_the_way()
 /// A run has at most one meaning.
 pub fn runs_have_one_meaning()
     ensures { (p : Program) (input : Input) (m n : Meaning) → Means p input m → Means p input n → m ≡ n }
+{}
+
+/// What a program means is the meaning of its run, where that comes to its exit within the budget.
+pub fn programs_mean_what_runs_show()
+    ensures { (p : Program) (input : Input) (m : Meaning) (w : Means p input m) → w.count ≤ p.budget → meant p input ≡ m }
 {}
 
 /// Whatever R0 holds at the exit, the reply's code is its method's success (2.05 to a GET, 2.04 to a POST), 4.00, 4.03, 4.04
