@@ -18,7 +18,8 @@ use Rattle.fc_kinds.proofs.Levels.{ways_shallow, joined_shallow}
 use Rattle.fc_verify.specs.Heads.{settled, formed, enters, any_number}
 use Rattle.fc_verify.specs.Pass.{passed_with, beginning}
 use Rattle.fc_verify.proofs.Heads.{formed_all, formed_case}
-use Rattle.fc_verify.proofs.PassLaws.{AllWays, passed_parts, set_all, led_all, first_is}
+use Rattle.fc_verify.proofs.PassLaws.{passed_parts, set_all, first_is}
+use Rattle.fc_verify.proofs.HandedOn.{AllWays, led_all}
 
 any_shallow : (top : ℕ) (k : Kind) → IsShallow top (any_number k)
 any_shallow top Unset = tt

@@ -1,5 +1,6 @@
 pub mod LowHead
 pub mod Rules
+pub mod HandedOn
 pub mod Heads
 pub mod Narrow
 pub mod Bodies

@@ -17,7 +17,8 @@ use Rattle.fc_kinds.specs.Ways.{ways_after}
 use Rattle.fc_kinds.proofs.JoinLaws.{joined_kinds}
 use Rattle.fc_kinds.proofs.WayLaws.{are_numbers}
 use Rattle.fc_verify.specs.Pass.{passed_with, passed, pass_from, beginning, pass_with}
-use Rattle.fc_verify.proofs.PassLaws.{passed_parts, settled_now, set_all, fit_ways, led_all, led_length, all_from, effect_kinds, entry_kinds, first_is, none_at, nones}
+use Rattle.fc_verify.proofs.PassLaws.{passed_parts, settled_now, set_all, fit_ways, effect_kinds, entry_kinds, first_is, none_at, nones}
+use Rattle.fc_verify.proofs.HandedOn.{led_all, led_length, all_from}
 
 -- the kinds of each state hold some values
 abbrev pub AreProper : States → Type 0

@@ -1,10 +1,11 @@
 //! The pass over the slots of a program that finds each one's kinds, by joins; a slot where a counted loop begins is settled when the pass
 //! comes to it.
-ghost use Rattle.std.specs.Prelude.{Bool, IfErr, IfOk, List, None, Some, [], false, length, true, ℕ, ◌<◌, ◌≡◌, ◌≤◌};
+ghost use Rattle.std.specs.Prelude.{Bool, IfErr, IfOk, List, None, Some, [], false, length, not, true, ℕ, ◌&&◌, ◌<◌, ◌≡◌, ◌≤◌};
 ghost use Rattle.std.specs.Vec.{vec_capacity};
 ghost use Rattle.fc_isa.specs.Flow.{flow, landing};
 ghost use Rattle.fc_isa.specs.Program.{IsInsn};
 ghost use Rattle.fc_isa.specs.Rules.{number_of};
+ghost use Rattle.fc_isa.specs.Writes.{computes};
 ghost use Rattle.fc_isa.specs.declared.insn.Insn.{Insn as Instruction};
 ghost use Rattle.fc_isa.specs.declared.rule.Rule.TheVariants.{LoopState};
 ghost use Rattle.fc_image.specs.declared.loops.Loop.{Loop as Counted};
@@ -12,17 +13,18 @@ ghost use Rattle.fc_image.specs.LoopLaws.{AreLoops};
 ghost use Rattle.fc_image.specs.Loops.{loops_in};
 ghost use Rattle.fc_image.specs.Tables.{AreLow};
 ghost use Rattle.fc_kinds.specs.Entry.{entry};
+ghost use Rattle.fc_kinds.specs.declared.kind.Kind.{Kind as What};
 ghost use Rattle.fc_kinds.specs.Containing.{AreKinds};
 ghost use Rattle.fc_kinds.specs.Transfer.{transfer};
 ghost use Rattle.fc_kinds.specs.Containing.{AreShallow};
 ghost use Rattle.fc_kinds.specs.Ways.{ways_after};
-ghost use Rattle.fc_verify.specs.Heads.{IsLoopOf, reached, settled};
+ghost use Rattle.fc_verify.specs.Heads.{IsLoopOf, gives_number, reached, settled};
 ghost use Rattle.fc_verify.specs.Runs.{IsTypedProgram, IsUntypedProgram};
 ghost use Rattle.fc_verify.specs.Stages.{Fails, IsRuleOf, IsTypingFault, IsUntyped, Stops};
 ghost use Rattle.fc_verify.specs.Pass.{IsWithin, beginning, is_typable, joined_in, led, met, met_by, met_later, pass, passed_by};
-ghost use Rattle.fc_verify.specs.Typing.{IsTypingOf, States};
+ghost use Rattle.fc_verify.specs.Typing.{IsTypingOf, States, state_at};
 
-use crate::settling::{formed, settled, unnumbered};
+use crate::settling::{formed, gives_number, settled, unnumbered};
 use crate::untyped::{Demand, Untyped};
 use fc_image::laws::shaped_loops_are_loops;
 use fc_image::loops::Loop;
@@ -104,17 +106,22 @@ fn pass_slots(
     shaped_loops_are_loops();
     let heads = loops_by_head(version, code);
     let mut reach = 0;
+    let mut regs = entry(version);
     for (slot, insn) in code.iter().enumerate() {
         let beginning = &heads[slot];
         reach = reached(reach, beginning);
-        if let Some(regs) = states[slot] {
+        if let Some(found) = &states[slot] {
+            regs.copy_from_slice(found);
             let inside = slot < reach;
-            // Not by `?`: rattle's borrow checker doesn't follow the enum of an error's field there.
-            match pass(
-                vars_size, code, slot, insn, beginning, inside, &regs, states,
+            if !pass(
+                vars_size, code, slot, insn, beginning, inside, &mut regs, states,
             ) {
-                Ok(()) => {}
-                Err(untyped) => return Err(untyped),
+                match &states[slot] {
+                    Some(found) => {
+                        return Err(untyped(vars_size, code, slot, insn, beginning, inside, found));
+                    }
+                    None => unreachable!(),
+                }
             }
         }
     }
@@ -133,11 +140,9 @@ fn reached(reach: usize, beginning: &Option<Loop>) -> usize
     }
 }
 
-/// Passes a slot that has a state: where a loop begins it is settled, its demands are met, and what its ways hand on is joined to the
-/// states of the later slots that they lead to.
-///
-/// # Errors
-/// A counter that doesn't enter below its bound, or a demand that isn't met.
+/// Passes a slot whose state is these kinds: where a loop begins it is settled, its demands are met, and what its ways hand on is joined
+/// to the states of the later slots that they lead to. Returns whether its counter enters below its bound and its demands are met; where
+/// not, the states stay. `regs` is room from then on.
 fn pass(
     vars_size: u16,
     code: &[Insn],
@@ -145,56 +150,149 @@ fn pass(
     insn: &Insn,
     beginning: &Option<Loop>,
     inside: bool,
-    regs: &Regs,
+    regs: &mut Regs,
     states: &mut [Option<Regs>],
-) -> Result<(), Untyped>
+) -> bool
     requires counted { IsLoopOf code.now beginning.now }
-    requires kinds { AreKinds regs.now }
-    requires levels { AreShallow 1023 regs.now }
+    requires kinds { AreKinds regs.old }
+    requires levels { AreShallow 1023 regs.old }
     requires slot { slot < 1024 }
-    requires here { slot < length states.old }
+    requires here { state_at states.old slot ≡ Some regs.old }
     requires within { IsWithin (length states.old) (flow slot insn.now) }
     requires insn { IsInsn insn.now }
-    ensures passed { IfOk result (λ u. passed_by vars_size code.now beginning.now inside slot insn.now regs.now states.old ≡ Some states.new) }
-    ensures rule { IfErr result (λ u. IsRuleOf u.demand u.fault.rule) }
-    ensures slot { IfErr result (λ u. u.fault.slot ≡ slot) }
-    ensures stops { IfErr result (λ u. Stops vars_size code.now beginning.now inside insn.now regs.now u.known u.demand) }
+    ensures met { result ≡ true → passed_by vars_size code.now beginning.now inside slot insn.now regs.old states.old ≡ Some states.new }
+    ensures refused { result ≡ false → passed_by vars_size code.now beginning.now inside slot insn.now regs.old states.old ≡ None }
+    ensures kept { result ≡ false → states.new ≡ states.old }
 {
     match beginning {
-        Some(counted) => pass_head(vars_size, code, slot, insn, counted, inside, regs, states),
-        None => meet_demands(vars_size, slot, insn, inside, regs, states),
+        Some(counted) => { pass_head(vars_size, code, slot, insn, counted, inside, regs, states) }
+        None => pass_on(vars_size, slot, insn, inside, regs, states),
     }
 }
 
-/// Passes a slot that has a state and where this loop begins.
-///
-/// # Errors
-/// A counter that doesn't enter below its bound, or a demand that isn't met.
+/// Passes a slot whose state is these kinds and where this loop begins: whether its counter enters below its bound and its demands are met.
 fn pass_head(
     vars_size: u16,
     code: &[Insn],
     slot: usize,
     insn: &Insn,
-    counted: &Loop,
+    head: &Loop,
     inside: bool,
-    regs: &Regs,
+    regs: &mut Regs,
     states: &mut [Option<Regs>],
-) -> Result<(), Untyped>
-    requires counted { IsLoopOf code.now (Some counted.now) }
-    requires kinds { AreKinds regs.now }
-    requires levels { AreShallow 1023 regs.now }
+) -> bool
+    requires counted { IsLoopOf code.now (Some head.now) }
+    requires kinds { AreKinds regs.old }
+    requires levels { AreShallow 1023 regs.old }
     requires slot { slot < 1024 }
     requires here { slot < length states.old }
     requires within { IsWithin (length states.old) (flow slot insn.now) }
     requires insn { IsInsn insn.now }
-    ensures passed { IfOk result (λ u. passed_by vars_size code.now (Some counted.now) inside slot insn.now regs.now states.old ≡ Some states.new) }
-    ensures rule { IfErr result (λ u. IsRuleOf u.demand u.fault.rule) }
-    ensures slot { IfErr result (λ u. u.fault.slot ≡ slot) }
-    ensures stops { IfErr result (λ u. Stops vars_size code.now (Some counted.now) inside insn.now regs.now u.known u.demand) }
+    ensures met { result ≡ true → passed_by vars_size code.now (Some head.now) inside slot insn.now regs.old states.old ≡ Some states.new }
+    ensures refused { result ≡ false → passed_by vars_size code.now (Some head.now) inside slot insn.now regs.old states.old ≡ None }
+    ensures kept { result ≡ false → states.new ≡ states.old }
 {
-    match settled(code, counted, regs) {
-        Some(kinds) => meet_demands(vars_size, slot, insn, inside, &kinds, states),
-        None => Err(at_head(vars_size, code, slot, insn, counted, regs)),
+    match settled(code, head, regs) {
+        Some(kinds) => {
+            regs.copy_from_slice(&kinds);
+            if !meet_demands(vars_size, insn, inside, regs) {
+                return false;
+            }
+            states[slot] = Some(kinds);
+            spread(slot, *insn, regs, states);
+            true
+        }
+        None => false,
+    }
+}
+
+/// Passes a slot whose state is these kinds and where no loop begins: whether its demands are met.
+fn pass_on(
+    vars_size: u16,
+    slot: usize,
+    insn: &Insn,
+    inside: bool,
+    regs: &mut Regs,
+    states: &mut [Option<Regs>],
+) -> bool
+    requires kinds { AreKinds regs.old }
+    requires levels { AreShallow 1023 regs.old }
+    requires slot { slot < 1024 }
+    requires here { state_at states.old slot ≡ Some regs.old }
+    requires within { IsWithin (length states.old) (flow slot insn.now) }
+    requires insn { IsInsn insn.now }
+    ensures met { result ≡ true → met_by vars_size inside slot insn.now regs.old states.old ≡ Some states.new }
+    ensures refused { result ≡ false → met_by vars_size inside slot insn.now regs.old states.old ≡ None }
+    ensures kept { result ≡ false → states.new ≡ states.old }
+{
+    if !meet_demands(vars_size, insn, inside, regs) {
+        return false;
+    }
+    spread(slot, *insn, regs, states);
+    true
+}
+
+/// Makes the kinds before a slot, in place, those after it, where its demands are met: whether they are, and whether in a loop's body a
+/// number is given to the register that it computes.
+fn meet_demands(vars_size: u16, insn: &Insn, inside: bool, regs: &mut Regs) -> bool
+    requires kinds { AreKinds regs.old }
+    requires insn { IsInsn insn.now }
+    ensures after { result ≡ true → transfer vars_size insn.now regs.old ≡ Some regs.new }
+    ensures kinds { result ≡ true → AreKinds regs.new }
+    ensures numbers { result ≡ true → (inside && not (gives_number (computes insn.now) regs.new)) ≡ false }
+    ensures refused { result ≡ false → (slot : ℕ) (states : States) → met_by vars_size inside slot insn.now regs.old states ≡ None }
+{
+    effects_keep_kinds();
+    match after(*insn, regs, vars_size) {
+        Ok(()) => !inside || gives_number(insn, regs),
+        Err(_) => false,
+    }
+}
+
+/// Why a slot whose state is these kinds isn't passed.
+fn untyped(
+    vars_size: u16,
+    code: &[Insn],
+    slot: usize,
+    insn: &Insn,
+    beginning: &Option<Loop>,
+    inside: bool,
+    regs: &Regs,
+) -> Untyped
+    requires counted { IsLoopOf code.now beginning.now }
+    requires kinds { AreKinds regs.now }
+    requires insn { IsInsn insn.now }
+    requires refused { (states : States) × (passed_by vars_size code.now beginning.now inside slot insn.now regs.now states ≡ None) }
+    ensures rule { IsRuleOf result.demand result.fault.rule }
+    ensures slot { result.fault.slot ≡ slot }
+    ensures stops { Stops vars_size code.now beginning.now inside insn.now regs.now result.known result.demand }
+{
+    match beginning {
+        Some(counted) => match settled(code, counted, regs) {
+            Some(kinds) => at_insn(vars_size, slot, insn, inside, &kinds),
+            None => at_head(vars_size, code, slot, insn, counted, regs),
+        },
+        None => at_insn(vars_size, slot, insn, inside, regs),
+    }
+}
+
+/// Why an instruction isn't passed at a slot that settled to these kinds.
+fn at_insn(vars_size: u16, slot: usize, insn: &Insn, inside: bool, kinds: &Regs) -> Untyped
+    requires kinds { AreKinds kinds.now }
+    requires insn { IsInsn insn.now }
+    requires refused { (states : States) × (met_by vars_size inside slot insn.now kinds.now states ≡ None) }
+    ensures rule { IsRuleOf result.demand result.fault.rule }
+    ensures slot { result.fault.slot ≡ slot }
+    ensures known { result.known ≡ kinds.now }
+    ensures fails { Fails vars_size inside insn.now kinds.now result.demand }
+{
+    let mut next = *kinds;
+    match checked(vars_size, slot, *insn, &mut next) {
+        Ok(()) => match unnumbered(inside, insn, &next) {
+            Some(demand) => against_loop(slot, kinds, demand),
+            None => unreachable!(),
+        },
+        Err(untyped) => untyped,
     }
 }
 
@@ -239,40 +337,6 @@ fn against_loop(slot: usize, known: &Regs, demand: Demand) -> Untyped
     }
 }
 
-/// Meets the demands of a slot that settled to these kinds, and joins what its ways hand on.
-///
-/// # Errors
-/// A demand that isn't met, or in a loop's body a register that is given no number.
-fn meet_demands(
-    vars_size: u16,
-    slot: usize,
-    insn: &Insn,
-    inside: bool,
-    kinds: &Regs,
-    states: &mut [Option<Regs>],
-) -> Result<(), Untyped>
-    requires kinds { AreKinds kinds.now }
-    requires levels { AreShallow 1023 kinds.now }
-    requires slot { slot < 1024 }
-    requires here { slot < length states.old }
-    requires within { IsWithin (length states.old) (flow slot insn.now) }
-    requires insn { IsInsn insn.now }
-    ensures passed { IfOk result (λ u. met_by vars_size inside slot insn.now kinds.now states.old ≡ Some states.new) }
-    ensures rule { IfErr result (λ u. IsRuleOf u.demand u.fault.rule) }
-    ensures slot { IfErr result (λ u. u.fault.slot ≡ slot) }
-    ensures known { IfErr result (λ u. u.known ≡ kinds.now) }
-    ensures fails { IfErr result (λ u. Fails vars_size inside insn.now kinds.now u.demand) }
-{
-    let mut next = *kinds;
-    checked(vars_size, slot, *insn, &mut next)?;
-    if let Some(demand) = unnumbered(inside, insn, &next) {
-        return Err(against_loop(slot, kinds, demand));
-    }
-    states[slot] = Some(*kinds);
-    spread(slot, *insn, kinds, &next, states);
-    Ok(())
-}
-
 /// Makes the kinds before a slot, in place, those after it.
 ///
 /// # Errors
@@ -299,22 +363,27 @@ fn checked(vars_size: u16, slot: usize, insn: Insn, regs: &mut Regs) -> Result<(
     }
 }
 
-/// Joins what an instruction's ways hand on to the states of the later slots that they lead to.
-fn spread(slot: usize, insn: Insn, before: &Regs, after: &Regs, states: &mut [Option<Regs>])
-    requires kinds { AreKinds after.now }
-    requires levels { AreShallow 1023 before.now }
+/// Joins what the ways of an instruction hand on, which leaves these kinds, to the states of the later slots that they lead to; what was
+/// before it is its slot's state. `after` is room from then on.
+fn spread(slot: usize, insn: Insn, after: &mut Regs, states: &mut [Option<Regs>])
+    requires kinds { AreKinds after.old }
+    requires levels { (ks : List What) → state_at states.old slot ≡ Some ks → AreShallow 1023 ks }
     requires slot { slot < 1024 }
+    requires here { slot < length states.old }
     requires within { IsWithin (length states.old) (flow slot insn) }
-    ensures { states.new ≡ led slot states.old (ways_after slot insn before.now after.now) }
+    ensures { (ks : List What) → state_at states.old slot ≡ Some ks → states.new ≡ led slot states.old (ways_after slot insn ks after.old) }
 {
     match insn {
         Insn::LoadWide { .. } => lead(slot, states, slot + 2, after),
         Insn::JumpAlways { offset } => lead(slot, states, landing(slot, offset as i32), after),
         Insn::JumpAlwaysLong { offset } => lead(slot, states, landing(slot, offset), after),
-        Insn::JumpIf(jump) => branch(slot, &jump, before, after, states),
+        Insn::JumpIf(jump) => branch(slot, &jump, after, states),
         Insn::Exit | Insn::WideSecond => {}
         Insn::CallLocal { offset } => {
-            lead(slot, states, landing(slot, offset), &enter(before));
+            if let Some(before) = &states[slot] {
+                let entered = enter(before);
+                lead(slot, states, landing(slot, offset), &entered);
+            }
             lead(slot, states, slot + 1, after);
         }
         Insn::CallHelper { .. } => lead(slot, states, slot + 1, after),
@@ -328,19 +397,18 @@ fn spread(slot: usize, insn: Insn, before: &Regs, after: &Regs, states: &mut [Op
 }
 
 /// Joins what a conditional jump's ways hand on: a way that no values take hands nothing.
-fn branch(slot: usize, jump: &Jump, before: &Regs, after: &Regs, states: &mut [Option<Regs>])
-    requires kinds { AreKinds after.now }
+fn branch(slot: usize, jump: &Jump, regs: &mut Regs, states: &mut [Option<Regs>])
+    requires kinds { AreKinds regs.old }
     requires slot { slot < 1024 }
     requires within { IsWithin (length states.old) (flow slot (Insn.JumpIf jump.now)) }
-    ensures { states.new ≡ led slot states.old (ways_after slot (Insn.JumpIf jump.now) before.now after.now) }
+    ensures { states.new ≡ led slot states.old (ways_after slot (Insn.JumpIf jump.now) regs.old regs.old) }
 {
-    let mut taken = *after;
+    let mut taken = *regs;
     if refine(jump, true, &mut taken) {
         lead(slot, states, landing(slot, jump.offset as i32), &taken);
     }
-    let mut past = *after;
-    if refine(jump, false, &mut past) {
-        lead(slot, states, slot + 1, &past);
+    if refine(jump, false, regs) {
+        lead(slot, states, slot + 1, regs);
     }
 }
 

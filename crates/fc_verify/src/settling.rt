@@ -2,7 +2,7 @@
 ghost use Rattle.std.specs.Prelude.{None, Some, drop, false, length, take, true, ◌+◌, ◌-◌, ◌<◌, ◌≡◌, ◌≤◌, suc, ℕ};
 ghost use Rattle.fc_isa.specs.Writes.{computes, is_call, is_that, writes};
 ghost use Rattle.fc_image.specs.Loops.{body, has_call, is_written, some_insn};
-ghost use Rattle.fc_verify.specs.Heads.{IsLoopOf, any_number, enters, formed, formed_kind, settled};
+ghost use Rattle.fc_verify.specs.Heads.{IsLoopOf, any_number, enters, formed, formed_kind, gives_number, settled};
 ghost use Rattle.fc_verify.specs.Stages.{IsUnnumbered};
 ghost use Rattle.fc_kinds.specs.Kinds.{kind_at};
 
@@ -125,6 +125,16 @@ fn some_calls(code: &[Insn]) -> bool
         }
     }
     false
+}
+
+/// Whether the register that an instruction computes, where it computes one, is given a number.
+pub(crate) fn gives_number(insn: &Insn, after: &Regs) -> bool
+    ensures { result ≡ gives_number (computes insn.now) after.now }
+{
+    match computes(insn) {
+        Some(register) => matches!(after[register.index()], Kind::Num { .. }),
+        None => true,
+    }
 }
 
 /// In a loop's body the demand of an instruction that gives the register that it computes no number.

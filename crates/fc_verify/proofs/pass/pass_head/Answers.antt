@@ -1,20 +1,18 @@
-use Rattle.std.proofs.Common.{Some, sym, ◌∙◌}
+use Rattle.std.proofs.Common.{◌≡◌, None, Some, sym, ◌∙◌, subst}
+use Rattle.std.proofs.lemmas.List.{get_or-set_same}
+use Rattle.fc_kinds.specs.Containing.{AreKinds, AreShallow}
 use Rattle.fc_verify.proofs.PassLaws.{settled_fit}
 use Rattle.fc_verify.proofs.Levels.{settled_shallow}
-use Rattle.fc_verify.proofs.Stopping.{at_insn}
 use Rattle.fc_verify.proofs.pass.pass_head.Goals as goal
 
 pub meet_demands-requires-clause-kinds : goal.meet_demands-requires-clause-kinds
-meet_demands-requires-clause-kinds c = settled_fit c.args.code.now (Some c.args.counted.now) c.args.regs.now c.in-Some.kinds c.requires.counted
-    c.requires.kinds (sym c.settled.ensures ∙ c.in-Some.is)
+meet_demands-requires-clause-kinds c = subst AreKinds (sym c.copy_from_slice.ensures.after)
+    (settled_fit c.args.code.now (Some c.args.head.now) c.args.regs.now c.in-Some.kinds c.requires.counted c.requires.kinds
+    (sym c.settled.ensures ∙ c.in-Some.is))
 
-pub meet_demands-requires-clause-levels : goal.meet_demands-requires-clause-levels
-meet_demands-requires-clause-levels c = settled_shallow 1023 c.args.code.now (Some c.args.counted.now) c.args.regs.now c.in-Some.kinds
-    (sym c.settled.ensures ∙ c.in-Some.is) c.requires.levels
-
-pub returns-in-Some-clause-stops : goal.returns-in-Some-clause-stops
-returns-in-Some-clause-stops c = at_insn c.meet_demands.result c.args.vars_size c.args.code.now (Some c.args.counted.now) c.args.inside c.args.insn.now
-    c.args.regs.now c.in-Some.kinds (sym c.settled.ensures ∙ c.in-Some.is) c.meet_demands.ensures.known c.meet_demands.ensures.fails
-
-pub returns-in-None-clause-stops : goal.returns-in-None-clause-stops
-returns-in-None-clause-stops c = c.at_head.ensures.stops c.args.inside
+pub spread-requires-clause-levels : goal.spread-requires-clause-levels
+spread-requires-clause-levels c = λ before e.
+    let same : c.in-Some.kinds ≡ before = cc (get_or-set_same c.args.states.now c.args.slot (Some c.in-Some.kinds) None c.requires.here, e) in
+    subst (AreShallow 1023) same
+    (settled_shallow 1023 c.args.code.now (Some c.args.head.now) c.args.regs.now c.in-Some.kinds (sym c.settled.ensures ∙ c.in-Some.is)
+    c.requires.levels)

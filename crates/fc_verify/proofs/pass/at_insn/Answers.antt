@@ -1,7 +1,7 @@
 use Rattle.std.proofs.Common.{sym, subst}
 use Rattle.fc_verify.specs.Stages.{GivesNoNumber, NoNumber}
-use Rattle.fc_verify.proofs.pass.meet_demands.Goals as goal
+use Rattle.fc_verify.proofs.pass.at_insn.Goals as goal
 
 pub returns-in-Some-clause-fails : goal.returns-in-Some-clause-fails
-returns-in-Some-clause-fails c = NoNumber c.checked.new.regs c.in_ok-checked.ensures.after
+returns-in-Some-clause-fails c = NoNumber c.checked.new.regs c.in-Ok.ensures.after
     (subst (GivesNoNumber c.args.inside c.args.insn.now c.checked.new.regs) (sym c.against_loop.ensures.demand) c.in-Some.ensures)
