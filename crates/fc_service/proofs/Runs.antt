@@ -1,5 +1,7 @@
 -- Rounds, one after the other.
-use Rattle.std.proofs.Common.{◌≡◌, ℕ, Bool, List, [], ◌∷◌, Option, Some, None, refl, ap, sym, subst, ◌∙◌}
+use Rattle.std.proofs.Common.{◌≡◌, ℕ, ◌+◌, ◌<◌, ◌≤◌, Bool, List, [], ◌∷◌, length, Option, Some, None, arith, refl, ap, sym, subst, ◌∙◌}
+use Rattle.std.specs.Prelude.{min}
+use Rattle.std.proofs.lemmas.List.{length-append}
 use Rattle.std.specs.Borrow.{Bor}
 use Rattle.std.specs.Option.{option_to_list}
 use Rattle.coap_msg.specs.declared.types.Emission.{Emission}
@@ -10,7 +12,7 @@ use Rattle.fc_server.specs.Notified.{Notified}
 use Rattle.fc_service.proofs.Traffic.{more_came, more_replies, more_sent, none_came, none_sent}
 use Rattle.fc_service.specs.Counting.{no_replies}
 use Rattle.fc_service.specs.Intakes.{Incoming, IsHeardBy}
-use Rattle.fc_service.specs.Rounds.{HasRun, IsReceivedBy, received_in, sendings_in}
+use Rattle.fc_service.specs.Rounds.{HasRounds, IsReceivedBy, Round, received_in, sendings_in}
 use Rattle.fc_service.specs.Settling.{AreSettled, AreStepsBy, SettlingStep, sent_in_steps}
 use Rattle.fc_service.specs.Traffic.{Comes, Sends, counted_each}
 use Rattle.fc_service.specs.declared.replies.Replies.{Replies}
@@ -19,40 +21,56 @@ module _ {S : Type 0} (IsMoment : ℕ → Type 0) (Readies : ℕ → S → S →
     (Hears : ℕ → Endpoint → Bor (List ℕ) → S → S → Heard → Emission → Type 0) (Passes : ℕ → S → S → Type 0)
     (Resends : ℕ → ℕ → S → S → Ticked → Type 0) (PassesOver : ℕ → ℕ → S → S → Type 0) (Notifies : ℕ → ℕ → S → S → Notified → Type 0)
     (Went : Emission → Bool → Type 0) where
-  abbrev Run : Option (List Incoming) → Option (List Incoming) → S → S → Replies → Type 0
-  Run before after old new replies = HasRun IsMoment Readies Hears Passes Resends PassesOver Notifies Went before after old new replies
+  abbrev Rounds : List Round → Option (List Incoming) → Option (List Incoming) → S → S → Replies → Type 0
+  Rounds rounds before after old new replies = HasRounds IsMoment Readies Hears Passes Resends PassesOver Notifies Went rounds before after old new replies
 
-  pub no_rounds : (came : Option (List Incoming)) (s : S) (r : Replies) → r ≡ no_replies → Run came came s s r
-  no_rounds came s r none = record { rounds = []; are_rounds = refl; came = none_came came; counted = none }
+  -- rounds in which so many datagrams were received, no more than the limit, where there is one
+  abbrev pub Runs : (limit count : ℕ) → Option (List Incoming) → Option (List Incoming) → S → S → Replies → Type 0
+  Runs limit count before after old new replies =
+      (rounds : List Round) × Rounds rounds before after old new replies × (0 < limit → (length (received_in rounds) ≡ count) × (count ≤ limit))
 
-  one_round : (before mid after : Option (List Incoming)) (old last ready answered new : S) (a b c : Replies) (now : ℕ) (received : Option Incoming) → Run before mid old last a → IsMoment now
+  pub no_rounds : (limit : ℕ) (came : Option (List Incoming)) (s : S) (r : Replies) → r ≡ no_replies → Runs limit 0 came came s s r
+  no_rounds limit came s r none = ([], record { are_rounds = refl; came = none_came came; counted = none }, λ some. (refl, omega arith))
+
+  one_round : (limit count next : ℕ) (before mid after : Option (List Incoming)) (old last ready answered new : S) (a b c : Replies) (now : ℕ) (received : Option Incoming)
+      → Runs limit count before mid old last a → IsMoment now
       → Comes mid after (option_to_list received) → Readies now last ready
       → ((sent : Option Emission) × IsReceivedBy IsMoment Readies Hears Passes Resends PassesOver Notifies Went now received ready sent answered × Sends Went (option_to_list sent) a b)
       → ((steps : List SettlingStep) × AreStepsBy Resends PassesOver Notifies now steps answered new × AreSettled steps × Sends Went (sent_in_steps steps) b c)
-      → Run before after old new c
-  one_round before mid after old last ready answered new a b c now received h moment came readied x y =
-      let z = more_sent Went a b c (option_to_list x.0) (sent_in_steps y.0) x.2 y.3 in record {
-        rounds = record { received = received; now = now; sent = x.0; steps = y.0; sendings = z.0 } ∷ h.rounds;
-        are_rounds = (last, h.are_rounds, record { moment = moment; ready = ready; readied = readied; answered = answered; carried_out = x.1; steps = y.1; settled = y.2; sent = z.1 });
-        came = more_came before mid after (received_in h.rounds) (option_to_list received) h.came came;
-        counted = z.2 ∙ (ap (counted_each z.0) h.counted ∙ more_replies (sendings_in h.rounds) z.0);
-      }
+      → (0 < limit → (count + length (option_to_list received) ≡ next) × (next ≤ limit)) → Runs limit next before after old new c
+  one_round limit count next before mid after old last ready answered new a b c now received w moment came readied x y counts =
+      let rounds = w.0 in
+      let h = w.1 in
+      let z = more_sent Went a b c (option_to_list x.0) (sent_in_steps y.0) x.2 y.3 in (
+        record { received = received; now = now; sent = x.0; steps = y.0; sendings = z.0 } ∷ rounds,
+        record {
+          are_rounds = (last, h.are_rounds, record { moment = moment; ready = ready; readied = readied; answered = answered; carried_out = x.1; steps = y.1; settled = y.2; sent = z.1 });
+          came = more_came before mid after (received_in rounds) (option_to_list received) h.came came;
+          counted = z.2 ∙ (ap (counted_each z.0) h.counted ∙ more_replies (sendings_in rounds) z.0);
+        },
+        λ some.
+            (length-append (received_in rounds) (option_to_list received) ∙ (ap (λ (n : ℕ). n + length (option_to_list received)) (w.2 some).0 ∙ (counts some).0), (counts some).1),
+      )
 
-  -- one round more, of a datagram
-  pub heard_round : (before mid after : Option (List Incoming)) (old last ready heard answered new : S) (a b c d : Replies) (now : ℕ) (incoming : Incoming) → Run before mid old last a → IsMoment now
+  -- one round more, of a datagram, where the limit wasn't reached
+  pub heard_round : (limit count next : ℕ) (before mid after : Option (List Incoming)) (old last ready heard answered new : S) (a b c d : Replies) (now : ℕ) (incoming : Incoming)
+      → Runs limit count before mid old last a → IsMoment now
       → Comes mid after (incoming ∷ []) → Readies now last ready
       → ((sent : Option Emission) × IsHeardBy Hears now incoming ready sent heard × Sends Went (option_to_list sent) a b) → answered ≡ heard → c ≡ b
       → ((steps : List SettlingStep) × AreStepsBy Resends PassesOver Notifies now steps answered new × AreSettled steps × Sends Went (sent_in_steps steps) c d)
-      → Run before after old new d
-  heard_round before mid after old last ready heard answered new a b c d now incoming h moment came readied x same counts y =
-      one_round before mid after old last ready answered new a c d now (Some incoming) h moment came readied
+      → (0 < limit → count < limit) → limit ≤ 4294967295 → next ≡ min (count + 1) 4294967295 → Runs limit next before after old new d
+  heard_round limit count next before mid after old last ready heard answered new a b c d now incoming h moment came readied x same counts y below fits is =
+      one_round limit count next before mid after old last ready answered new a c d now (Some incoming) h moment came readied
       (x.0, subst (λ (s : S). IsHeardBy Hears now incoming ready x.0 s) (sym same) x.1, subst (λ (r : Replies). Sends Went (option_to_list x.0) a r) (sym counts) x.2) y
+      (λ some. let under : count < limit = below some in (omega (arith, under, fits, is), omega (arith, under, fits, is)))
 
   -- and of nothing but a moment
-  pub passed_round : (before mid after : Option (List Incoming)) (old last ready passed answered new : S) (a c d : Replies) (now : ℕ) → Run before mid old last a → IsMoment now
+  pub passed_round : (limit count next : ℕ) (before mid after : Option (List Incoming)) (old last ready passed answered new : S) (a c d : Replies) (now : ℕ)
+      → Runs limit count before mid old last a → IsMoment now
       → Comes mid after [] → Readies now last ready → Passes now ready passed → answered ≡ passed → c ≡ a
       → ((steps : List SettlingStep) × AreStepsBy Resends PassesOver Notifies now steps answered new × AreSettled steps × Sends Went (sent_in_steps steps) c d)
-      → Run before after old new d
-  passed_round before mid after old last ready passed answered new a c d now h moment came readied x same counts y =
-      one_round before mid after old last ready answered new a c d now None h moment came readied
+      → next ≡ count → Runs limit next before after old new d
+  passed_round limit count next before mid after old last ready passed answered new a c d now h moment came readied x same counts y is =
+      one_round limit count next before mid after old last ready answered new a c d now None h moment came readied
       (None, (subst (λ (s : S). Passes now ready s) (sym same) x, refl), subst (λ (r : Replies). Sends Went [] a r) (sym counts) (none_sent Went a)) y
+      (λ some. (omega (arith, is), omega (arith, is, (h.2 some).1)))

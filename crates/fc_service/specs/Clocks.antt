@@ -11,6 +11,10 @@ no_sensors = replicate 56 0
 abbrev pub device_readings : ℕ → List ℕ → List ℕ
 device_readings now sensed = to_le_bytes w64 now ++ sensed
 
+-- readings of a moment that was told, and of what sensors said
+abbrev pub AreReadAt : (ℕ → Type 0) → (List ℕ → Type 0) → List ℕ → Type 0
+AreReadAt IsMoment AreSensed readings = (now : ℕ) × (sensed : List ℕ) × IsMoment now × AreSensed sensed × (readings ≡ device_readings now sensed)
+
 abbrev pub clock_readings : ℕ → List ℕ
 clock_readings now = device_readings now no_sensors
 

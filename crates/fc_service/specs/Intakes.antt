@@ -6,6 +6,8 @@ use Rattle.coap_msg.specs.declared.types.Endpoint.{Endpoint}
 use Rattle.fc_core.specs.Receiving.{emission_if}
 use Rattle.fc_core.specs.declared.front.Heard.{Heard}
 use Rattle.fc_core.specs.declared.front.Heard.TheVariants.{Job, Reply}
+use Rattle.fc_observe.specs.declared.observers.Ticked.{Ticked}
+use Rattle.fc_server.specs.Notified.{Notified}
 
 -- a datagram that was received: who sent it, and its bytes
 pub record Incoming : Type 0 where
@@ -35,3 +37,16 @@ pub record IsHeardBy {S : Type 0} (Hears : ℕ → Endpoint → Bor (List ℕ) �
 abbrev pub IsWaitedFor : {S : Type 0} → (ℕ → Endpoint → Bor (List ℕ) → S → S → Heard → Emission → Type 0) → ℕ → Endpoint → Bor (List ℕ) → S → S → Heard → Emission → Type 0
 IsWaitedFor Hears now from bytes old new heard reply =
     (told : Heard) × (written : Emission) × Hears now from bytes old new told written × ((told ≡ Job) ⊎ ((heard ≡ told) × (reply ≡ written)))
+
+-- what each call of an intake does to it
+pub record IntakeCalls (S : Type 0) : Type 1 where
+  pub hears : ℕ → Endpoint → Bor (List ℕ) → S → S → Heard → Emission → Type 0
+  pub passes : ℕ → S → S → Type 0
+  pub resends : ℕ → ℕ → S → S → Ticked → Type 0
+  pub passes_over : ℕ → ℕ → S → S → Type 0
+  pub notifies : ℕ → ℕ → S → S → Notified → Type 0
+
+abbrev pub intake_calls : {S : Type 0} → (ℕ → Endpoint → Bor (List ℕ) → S → S → Heard → Emission → Type 0) → (ℕ → S → S → Type 0)
+    → (ℕ → ℕ → S → S → Ticked → Type 0) → (ℕ → ℕ → S → S → Type 0) → (ℕ → ℕ → S → S → Notified → Type 0) → IntakeCalls S
+intake_calls hears passes resends passes_over notifies =
+    record { hears = hears; passes = passes; resends = resends; passes_over = passes_over; notifies = notifies }

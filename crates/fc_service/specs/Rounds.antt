@@ -1,5 +1,5 @@
 -- What a server does with what it receives, round after round; and a server on one thread.
-use Rattle.std.specs.Prelude.{◌≡◌, ℕ, List, [], ◌∷◌, ◌++◌, Bool, Option, Some, None}
+use Rattle.std.specs.Prelude.{◌≡◌, ◌<◌, ◌⊎◌, ⊤, ℕ, List, [], ◌∷◌, ◌++◌, length, Bool, Option, Some, None}
 use Rattle.std.specs.Borrow.{Bor}
 use Rattle.std.specs.Option.{option_to_list}
 use Rattle.coap_msg.specs.declared.types.Emission.{Emission}
@@ -7,12 +7,16 @@ use Rattle.coap_msg.specs.declared.types.Endpoint.{Endpoint}
 use Rattle.fc_core.specs.History.{Begins}
 use Rattle.fc_core.specs.declared.front.Heard.{Heard}
 use Rattle.fc_observe.specs.declared.observers.Ticked.{Ticked}
+use Rattle.fc_workers.specs.Counts.{Tallies}
 use Rattle.fc_server.specs.Serving.{Serves}
 use Rattle.fc_server.specs.Notified.{Notified}
 use Rattle.fc_service.specs.Alone.{HearsAlone, NotifiesAlone, PassesAlone, PassesOverAlone, ReadiesAlone, ResendsAlone}
-use Rattle.fc_service.specs.Intakes.{Incoming, IsHeardBy}
+use Rattle.fc_service.specs.Clocks.{AreReadAt}
+use Rattle.fc_service.specs.Counting.{both_replies}
+use Rattle.fc_service.specs.Intakes.{Incoming, IntakeCalls, IsHeardBy}
+use Rattle.fc_service.specs.Pooled.{Dispatching, locked_shop, pooled_calls}
 use Rattle.fc_service.specs.Settling.{AreSettled, AreStepsBy, SettlingStep, sent_in_steps}
-use Rattle.fc_service.specs.Traffic.{AreSent, Comes, Sending, replies_to}
+use Rattle.fc_service.specs.Traffic.{AreSent, Comes, IsHanded, Sending, replies_to}
 use Rattle.fc_service.specs.declared.alone.Alone.{Alone}
 use Rattle.fc_service.specs.declared.replies.Replies.{Replies}
 
@@ -60,18 +64,47 @@ module _ {S : Type 0} (IsMoment : ℕ → Type 0) (Readies : ℕ → S → S →
   AreRoundsBy [] old new = new ≡ old
   AreRoundsBy (r ∷ rs) old new = (mid : S) × AreRoundsBy rs old mid × IsRoundBy r mid new
 
-  -- each datagram that a source gave was received in one round, in order; and the replies are those of the rounds, as the sink told
-  pub record HasRun (before after : Option (List Incoming)) (old new : S) (replies : Replies) : Type 0 where
-    pub rounds : List Round
+  -- each datagram that a source gave was received in one of these rounds, in order; and the replies are those of the rounds, as the sink told
+  pub record HasRounds (rounds : List Round) (before after : Option (List Incoming)) (old new : S) (replies : Replies) : Type 0 where
     pub are_rounds : AreRoundsBy rounds old new
     pub came : Comes before after (received_in rounds)
     pub counted : replies ≡ replies_to (sendings_in rounds)
 
+  -- it ended when so many datagrams were received, and where there is a limit at all
+  pub record HasRun (limit : ℕ) (before after : Option (List Incoming)) (old new : S) (replies : Replies) : Type 0 where
+    pub rounds : List Round
+    pub has : HasRounds rounds before after old new replies
+    pub limited : 0 < limit
+    pub received : length (received_in rounds) ≡ limit
+
+-- a receiver, which makes nothing ready before a round, has run
+abbrev pub HasReceived : {S : Type 0} → IntakeCalls S → (ℕ → Type 0) → (Emission → Bool → Type 0) → ℕ → Option (List Incoming) → Option (List Incoming) → S → S → Replies → Type 0
+HasReceived c moments went limit before after first last replies =
+    HasRun moments (λ now old new. new ≡ old) c.hears c.passes c.resends c.passes_over c.notifies went limit before after first last replies
+
 -- ---- a server on one thread
 
--- a server that began at this serial and message id has run on one thread, with these sensors
-pub record HasServed (sensors : List ℕ → Type 0) (moments : ℕ → Type 0) (went : Emission → Bool → Type 0) (serial id : ℕ) (before after : Option (List Incoming)) (replies : Replies) : Type 0 where
+-- a server that began at this serial and message id has run on one thread, with these sensors, until so many datagrams were received
+pub record HasServed (sensors : List ℕ → Type 0) (moments : ℕ → Type 0) (went : Emission → Bool → Type 0) (limit serial id : ℕ) (before after : Option (List Incoming)) (replies : Replies) : Type 0 where
   pub first : Alone
   pub last : Alone
   pub begins : Serves (Begins serial id) first.engine []
-  pub run : HasRun moments (ReadiesAlone sensors) HearsAlone PassesAlone ResendsAlone PassesOverAlone NotifiesAlone went before after first last replies
+  pub run : HasRun moments (ReadiesAlone sensors) HearsAlone PassesAlone ResendsAlone PassesOverAlone NotifiesAlone went limit before after first last replies
+
+-- ---- a server with workers
+
+-- each datagram that was given to a feeder of a server with workers went through one round of its dispatcher; the replies are those of the rounds, and what jobs were answered besides
+pub record HasServedPooled (sensors : List ℕ → Type 0) (moments : ℕ → Type 0) (went : Emission → Bool → Type 0) (limit : ℕ) (before after : Option (List Incoming)) (replies : Replies) : Type 0 where
+  pub first : Dispatching Tallies
+  pub last : Dispatching Tallies
+  pub at_once : Replies
+  pub by_jobs : Replies
+  pub run : HasReceived (pooled_calls (locked_shop (AreReadAt moments sensors) moments (λ random. ⊤) (λ call before after. IsHanded went call))) moments went limit before after first last at_once
+  pub all : replies ≡ both_replies at_once by_jobs
+
+-- ---- a server by so many workers: one is the thread that receives
+
+abbrev pub IsServed : (List ℕ → Type 0) → (ℕ → Type 0) → (Emission → Bool → Type 0) → ℕ → ℕ → ℕ → Option (List Incoming) → Option (List Incoming) → Replies → Type 0
+IsServed sensors moments went workers limit serial before after replies =
+    ((workers ≡ 1) × (id : ℕ) × HasServed sensors moments went limit serial id before after replies)
+    ⊎ ((workers ≡ 1 → ⊥) × HasServedPooled sensors moments went limit before after replies)

@@ -1,6 +1,6 @@
 //! The monotonic clock: moments since a start, and the readings of a device that has a clock.
-ghost use Rattle.std.specs.Prelude.{◌≡◌, ℕ, List};
-ghost use Rattle.fc_service.specs.Clocks.{device_readings};
+ghost use Rattle.std.specs.Prelude.{◌≡◌};
+ghost use Rattle.fc_service.specs.Clocks.{AreReadAt, device_readings};
 
 use crate::sensors::{Sensed, Sensors};
 use fc_help::{NO_READINGS, Readings};
@@ -50,7 +50,7 @@ pub(crate) struct SensingDevice<'a, M: Moments, Z: Sensors> {
 }
 
 impl<'a, M: Moments, Z: Sensors> Device for SensingDevice<'a, M, Z> {
-    ghost are_readings = { λ readings. (now : ℕ) × (sensed : List ℕ) × M.is_moment now × Z.are_sensed sensed × (readings ≡ device_readings now sensed) };
+    ghost are_readings = { AreReadAt M.is_moment Z.are_sensed };
 
     fn readings<R: Wait>(&self, rt: &R) -> Readings {
         let now = self.moments.now(rt);

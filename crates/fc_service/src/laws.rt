@@ -1,9 +1,12 @@
 //! What the definitions of the service come to, in plainer words: each function is a law, and its contract says it.
-ghost use Rattle.std.specs.Prelude.{◌≡◌, ◌+◌, ◌*◌, ◌≤◌, ℕ, ◌∷◌, Bool, List, false, length, true};
+ghost use Rattle.std.specs.Prelude.{◌≡◌, ◌+◌, ◌*◌, ◌<◌, ◌≤◌, ℕ, ◌∷◌, Bool, List, false, length, true};
+ghost use Rattle.coap_msg.specs.Wire.{Message, SpellsMessage};
 ghost use Rattle.fc_core.specs.declared.front.Heard.TheVariants.{Job, Nothing, Reply, Signal};
 ghost use Rattle.fc_service.specs.Clocks.{device_readings, no_sensors};
 ghost use Rattle.fc_service.specs.Intakes.{is_reply};
 ghost use Rattle.fc_service.specs.Settling.{most_steps};
+
+use crate::socket::BUFFER;
 
 /// Settling takes more steps at one moment than there are: each of the 32 observers of 64 slots is sent one notification again at most, and notified once,
 /// and each of 8 shards tells once that nothing is late and once that nobody is due.
@@ -24,4 +27,11 @@ pub fn replies_are_sent_by_who_heard()
     ensures job { is_reply Job ≡ false }
     ensures signal { (id : ℕ) (reset : Bool) → is_reply (Signal id reset) ≡ false }
     ensures nothing { is_reply Nothing ≡ false }
+{}
+
+/// A datagram is received into a buffer of 1,281 bytes, one more than the longest message has. So bytes that fill it spell no message: of a longer datagram the
+/// first 1,281 bytes are received, and these are never taken for a message.
+pub fn cut_datagrams_spell_no_message()
+    ensures buffer { BUFFER ≡ 1281 }
+    ensures filled { (bytes : List ℕ) (m : Message) → SpellsMessage bytes m → length bytes < BUFFER }
 {}

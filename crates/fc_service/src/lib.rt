@@ -30,18 +30,20 @@
 //!   first, was handed to the sink, and is counted once, as the sink told. What was received in the rounds, in order, is what the source
 //!   gave, where that is known: of a socket of the system it isn't. That nothing else goes to the sink, and in which order, no clause says
 //!   (`Source::came`, `Sink::went`).
+//! - **A server on a socket is that loop**, by one worker or more, and ends only where a limit is set and as many datagrams were received
+//!   (`serve_at`, by `IsServed`). What a datagram is received into has 1,281 bytes, one more than it may have (`laws`).
 //! - **By one worker** these are lists of events of one server, which begins at the serial and the message id that it is given: each round
 //!   is the list of its datagram, or of its moment, and of what its shards are asked. Its readings are each round's moment and what its
 //!   sensors said. No clause says that with `--readings` this is the file's; without it these are zeros (`serve_alone`, by `HasServed`).
 //! - **By more workers** the loop takes each datagram in by one call of a dispatcher, in order, and asks it for each turn by one; no other
-//!   call of a round changes what was dispatched (`run_rounds`, read with the relations of `Dispatching`).
+//!   call of a round changes what was dispatched (`serve_at`, by `HasServedPooled`; `run_pool` hands on by `IsFed` what its feeder did).
 //! - **A pool** gives at its end eight shards, the serials that each began with, and changes; the serials of each shard have risen by just
 //!   these, which are told up to 2^64 - 1. That its workers worked at these shards is no clause.
 //! - **Readings** are some moment in eight bytes, the least first, and what the sensors said: zeros where there are none. What is read of a
 //!   file is what one call of its reader gave, 56 bytes at most, and zeros behind.
 //! - **Replies** of a server on a socket are counted and added exactly, up to 2^64 - 1, and told as `sent S failed F`.
 //!
-//! By the contracts of `play::play`, `lines::play_lines`, `rounds::run_rounds`, `serve::serve_alone`, `pool::run_pool`,
+//! By the contracts of `play::play`, `lines::play_lines`, `rounds::run_rounds`, `serve::serve_at`, `serve::serve_alone`, `pool::run_pool`,
 //! `clock::SensingDevice`, `sensors::read_sensed`, `Replies`, `laws`.
 #![tactic(auto)]
 

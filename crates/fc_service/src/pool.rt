@@ -1,16 +1,17 @@
 //! Pools: a new server behind its locks, workers at it, and who feeds them with datagrams.
-ghost use Rattle.std.specs.Prelude.{◌≡◌, ◌+◌, ◌<◌, ◌≤◌, ℕ, ⊤, List, MatchBool, None, true, vec_len, IfOk};
+ghost use Rattle.std.specs.Prelude.{◌≡◌, ◌+◌, ◌<◌, ◌≤◌, ℕ, ⊤, List, MatchBool, vec_len, IfOk};
 ghost use Rattle.std.specs.Borrow.{Bor};
 ghost use Rattle.coap_msg.specs.declared.types.Emission.{Emission};
 ghost use Rattle.coap_msg.specs.declared.types.Endpoint.{Endpoint};
 ghost use Rattle.fc_core.specs.declared.front.Heard.{Heard};
 ghost use Rattle.fc_observe.specs.declared.observers.Ticked.{Ticked};
 ghost use Rattle.fc_registry.specs.Slots.{last_serial};
-ghost use Rattle.fc_server.specs.Notified.{Notified, is_given, notification_in, notified_as};
-ghost use Rattle.fc_workers.specs.Answers.{IsSomeQuiet, IsSomeTick};
-ghost use Rattle.fc_workers.specs.Called.{AdvancesFront, AdvancesIfQuiet, AdvancesShard, shop};
+ghost use Rattle.fc_server.specs.Notified.{Notified, notified_as};
+ghost use Rattle.fc_service.specs.Intakes.{IntakeCalls, intake_calls};
+ghost use Rattle.fc_service.specs.Pooled.{HearsPooled, IsFed, NotifiesPooled, PassesOverPooled, PassesPooled, ResendsPooled, locked_shop};
+ghost use Rattle.fc_workers.specs.Answers.{IsSomeQuiet};
+ghost use Rattle.fc_workers.specs.Called.{shop};
 ghost use Rattle.fc_workers.specs.Closing.{HasCountedAll};
-ghost use Rattle.fc_workers.specs.Dispatch.{HasCalled, IsTakenIn, IsTurnAsked};
 ghost use Rattle.fc_workers.specs.Naming.{AreNamed};
 
 use crate::replies::Replies;
@@ -25,7 +26,7 @@ use fc_workers::{
 };
 use std::alloc::{AllocError, Global};
 use std::io::Write;
-use std::marker::Brand;
+use std::marker::{Brand, Model};
 use std::sync::Wait;
 use std::thread::Threads;
 
@@ -79,23 +80,36 @@ struct Dispatching<'a, 'b, R: Wait, B: Bench, G: Gate, W: Wire, M: Moments> {
     dispatcher: Dispatcher<'b, B, G, W, M>,
 }
 
+impl<'a, 'b, R: Wait, B: Bench, G: Gate, W: Wire, M: Moments> Model
+    for Dispatching<'a, 'b, R, B, G, W, M> {
+    ghost use Rattle.fc_service.specs.Pooled.{Dispatching as Seen};
+
+    ghost Value = { Seen B.Tallies };
+
+    ghost view = { λ d. record { handover = d.dispatcher.handover; done = d.dispatcher.done } };
+}
+
+impl<'a, 'b, R: Wait, B: Bench, G: Gate, W: Wire, M: Moments> Dispatching<'a, 'b, R, B, G, W, M> {
+    // What it has done itself.
+    fn close(self) -> Share<B::Tallies>
+        ensures { result ≡ self.entry.done.share }
+    {
+        let Dispatching { dispatcher, .. } = self;
+        dispatcher.close()
+    }
+}
+
 impl<'a, 'b, R: Wait, B: Bench, G: Gate, W: Wire, M: Moments> Intake
     for Dispatching<'a, 'b, R, B, G, W, M> {
-    ghost hears = { λ now from bytes old new heard reply.
-        IsTakenIn (shop B.changes B.ended B.called B.logged M.is_moment M.is_random G.passed W.called) old.dispatcher.handover now from bytes.now heard reply old.dispatcher.done new.dispatcher.done
-        × (new.dispatcher.handover ≡ old.dispatcher.handover) };
+    ghost hears = { HearsPooled (shop B.changes B.ended B.called B.logged M.is_moment M.is_random G.passed W.called) };
 
-    ghost passes = { λ now old new. B.called (AdvancesFront now) × (new ≡ old) };
+    ghost passes = { PassesPooled (shop B.changes B.ended B.called B.logged M.is_moment M.is_random G.passed W.called) };
 
-    ghost resends = { λ shard now old new ticked. IsSomeTick now ticked
-        × B.logged (AdvancesShard shard now ticked) old.dispatcher.done.share.log new.dispatcher.done.share.log
-        × HasCalled old.dispatcher.done new.dispatcher.done × (new.dispatcher.handover ≡ old.dispatcher.handover) };
+    ghost resends = { ResendsPooled (shop B.changes B.ended B.called B.logged M.is_moment M.is_random G.passed W.called) };
 
-    ghost passes_over = { λ shard now old new. IsSomeQuiet now true × B.called (AdvancesIfQuiet shard now true) × (new ≡ old) };
+    ghost passes_over = { PassesOverPooled (shop B.changes B.ended B.called B.logged M.is_moment M.is_random G.passed W.called) };
 
-    ghost notifies = { λ shard now old new told.
-        IsTurnAsked (shop B.changes B.ended B.called B.logged M.is_moment M.is_random G.passed W.called) old.dispatcher.handover shard now (is_given told) old.dispatcher.done new.dispatcher.done
-        × (notification_in told ≡ None) × (new.dispatcher.handover ≡ old.dispatcher.handover) };
+    ghost notifies = { NotifiesPooled (shop B.changes B.ended B.called B.logged M.is_moment M.is_random G.passed W.called) };
 
     fn hear(&mut self, now: u64, from: Endpoint, bytes: &[u8], reply: &mut Emission) -> Heard {
         self.dispatcher.hear(self.rt, now, from, bytes, reply)
@@ -125,8 +139,12 @@ impl<'a, 'b, R: Wait, B: Bench, G: Gate, W: Wire, M: Moments> Intake
 
 /// Who has datagrams taken in by a server.
 pub trait Feeder<X> {
+    // It fed an intake, whose calls do this, and gave what it gives: the intake before and after.
+    ghost feeds: { (S : Type 0) → IntakeCalls S → Self → S → S → X → Type 0 } = { λ S calls self first last given. ⊤ };
+
     /// Feeds to the end.
-    fn feed<N: Intake, R: Wait>(self, rt: &R, intake: &mut N) -> X;
+    fn feed<N: Intake, R: Wait>(self, rt: &R, intake: &mut N) -> X
+        ensures { feeds N (intake_calls N.hears N.passes N.resends N.passes_over N.notifies) self intake.old intake.new result };
 }
 
 /// What a feeder gave, the replies to the jobs that it had worked off, and what the server came to.
@@ -199,7 +217,8 @@ pub fn run_pool<
     feeder: F,
 ) -> Result<Fed<X>, AllocError>
     requires { pool.now.begin.serial ≤ last_serial }
-    ensures { IfOk result (λ fed. HasCountedAll fed.closed) }
+    ensures counted { IfOk result (λ fed. HasCountedAll fed.closed) }
+    ensures fed { IfOk result (λ fed. IsFed (locked_shop D.are_readings M.is_moment M.is_random W.called) (F.feeds _) pool.now.handover feeder fed.given) }
 {
     let blanks = Blanks::new(u64::from(pool.workers) + 2);
     run_named::<Brand, R, W, M, D, E, X, F>(rt, alloc, err, pool, feeder, blanks)
@@ -227,7 +246,8 @@ fn run_named<
     requires parts { blanks.parts ≡ pool.now.workers + 2 }
     requires names { AreNamed blanks B.names }
     requires books { blanks.parts ≡ B.parts }
-    ensures { IfOk result (λ fed. HasCountedAll fed.closed) }
+    ensures counted { IfOk result (λ fed. HasCountedAll fed.closed) }
+    ensures fed { IfOk result (λ fed. IsFed (locked_shop D.are_readings M.is_moment M.is_random W.called) (F.feeds _) pool.now.handover feeder fed.given) }
 {
     let Begun {
         server,
@@ -269,7 +289,8 @@ fn close<B: Books, D: Device, X: Drop>(
     ended: Ended<X, Tallies<B>>,
 ) -> Fed<X>
     requires { reserve.parts + vec_len ended.shares + 1 ≡ B.parts }
-    ensures { HasCountedAll result.closed }
+    ensures counted { HasCountedAll result.closed }
+    ensures given { result.given ≡ ended.given }
 {
     let Ended { given, own, shares } = ended;
     let replies = Replies::of(&shares).plus(Replies::by(&own));
@@ -305,7 +326,8 @@ fn run_at<
 where
     B::Tallies: Send,
     requires { 0 < vec_len tallies }
-    ensures { IfOk result (λ ended. vec_len ended.shares + 1 ≡ vec_len tallies) }
+    ensures shares { IfOk result (λ ended. vec_len ended.shares + 1 ≡ vec_len tallies) }
+    ensures fed { IfOk result (λ ended. IsFed (shop B.changes B.ended B.called B.logged M.is_moment M.is_random (λ number before after. ⊤) W.called) (F.feeds _) pool.now.handover feeder ended.given) }
 {
     let (jobs, sent, mut seats) = make_seats(alloc, tallies)?;
     let Some(own) = seats.pop() else {
@@ -327,6 +349,7 @@ where
         seats,
         move |has_workers| -> (X, Share<B::Tallies>)
             requires { sent.channel ≡ channel.now }
+            ensures { IsFed (shop B.changes B.ended B.called B.logged M.is_moment M.is_random (λ number before after. ⊤) W.called) (F.feeds _) handover feeder result.0 }
         {
             let handover = if has_workers {
                 handover
@@ -339,7 +362,7 @@ where
                 dispatcher: Dispatcher::new(workshop, channel, sent, own, handover),
             };
             let given = feeder.feed(rt, &mut intake);
-            (given, intake.dispatcher.close())
+            (given, intake.close())
         },
     );
     Ok(Ended {

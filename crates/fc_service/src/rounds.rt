@@ -11,16 +11,12 @@ ghost use Rattle.fc_service.specs.Traffic.{Sends};
 use crate::pool::Intake;
 use crate::replies::Replies;
 use crate::settle::{STEPS, Settling};
-use crate::socket::{Sink, Source};
-use coap_msg::types::DATAGRAM;
+use crate::socket::{BUFFER, Sink, Source};
 use coap_msg::{Emission, Endpoint};
 use fc_core::Heard;
 use fc_core::front::blank_emission;
 use fc_workers::Moments;
 use std::sync::Wait;
-
-/// One byte more than a datagram may have: a longer one is seen to be too long, and ignored.
-const BUFFER: usize = DATAGRAM + 1;
 
 /// What an intake needs at the start of a round.
 pub(crate) trait Preparation<N: Intake> {
@@ -57,7 +53,7 @@ pub(crate) fn run_rounds<R: Wait, N: Intake, P: Preparation<N>, S: Source, K: Si
     moments: &M,
     limit: u32,
 ) -> Replies
-    ensures { HasRun M.is_moment P.readies N.hears N.passes N.resends N.passes_over N.notifies K.went (S.came source.old) (S.came source.new) intake.old intake.new result }
+    ensures { HasRun M.is_moment P.readies N.hears N.passes N.resends N.passes_over N.notifies K.went limit (S.came source.old) (S.came source.new) intake.old intake.new result }
 {
     let mut reply = blank_emission();
     let mut buffer = [0; BUFFER];

@@ -1,7 +1,8 @@
 //! A server on a socket: datagrams are received on one thread, and their jobs are worked off by others, or by the same.
-ghost use Rattle.std.specs.Prelude.{◌≡◌, ◌≤◌, ◌⊎◌, IfOk};
+ghost use Rattle.std.specs.Prelude.{◌≡◌, ◌≤◌, ◌⊎◌, ⊤, IfOk, IfSome};
 ghost use Rattle.fc_registry.specs.Slots.{last_serial};
-ghost use Rattle.fc_service.specs.Rounds.{HasServed};
+ghost use Rattle.fc_service.specs.Rounds.{HasReceived, HasServed, IsServed};
+ghost use Rattle.fc_service.specs.declared.replies.Replies.{Replies as Counts};
 ghost use Rattle.fc_cli.specs.declared.status.Status.TheVariants.{Done, Failed};
 
 use crate::alone::{Alone, Sensed};
@@ -76,7 +77,10 @@ pub fn serve<R: Threads + Wait + Clock + Net + Sync, L: Log, E: Write, Z: Sensor
             if listening.told {
                 let _told = writeln!(err, "listening on {address}");
             }
-            serve_at(rt, alloc, log, err, sensors, &mut &socket, &socket, extent)
+            match serve_at(rt, alloc, log, err, sensors, &socket, &socket, extent) {
+                Some(_) => Status::Done,
+                None => Status::Failed,
+            }
         }
         Err(error) => tell(err, &Stop::Socket(address, error), Status::Failed),
     }
@@ -86,12 +90,12 @@ pub fn serve<R: Threads + Wait + Clock + Net + Sync, L: Log, E: Write, Z: Sensor
 /// next; a job whose program may run long is worked off by workers, each in a thread of its own. One worker is this thread, for all jobs; and so it is where no
 /// thread can be made for a worker, which `err` is told. After each datagram what is late is sent again, and the observers that are due are notified.
 /// Where none comes in time, time passes. Then the workers work off the jobs that are
-/// left, and `log` is told how many replies went to the sink and how many couldn't be sent: a record `sent 2 failed 0` of level info.
+/// left, and `log` is told how many replies went to the sink and how many couldn't be sent: a record `sent 2 failed 0` of level info. It gives the source back.
 ///
-/// It fails, and `err` is told why, where the clock couldn't be read or there was no memory at the start.
+/// It gives `None`, and `err` is told why, where the clock couldn't be read or there was no memory at the start.
 pub fn serve_at<
     R: Threads + Wait + Clock + Sync,
-    S: Source,
+    S: Source + Drop,
     K: Sink + Sync,
     L: Log,
     E: Write,
@@ -102,37 +106,49 @@ pub fn serve_at<
     log: &L,
     err: &mut E,
     sensors: &Z,
-    source: &mut S,
+    source: S,
     sink: &K,
     extent: Extent,
-) -> Status
-    ensures { (result ≡ Done) ⊎ (result ≡ Failed) }
+) -> Option<S>
+    ensures { IfSome result (λ left. (replies : Counts) × IsServed Z.are_sensed (λ now. ⊤) K.went extent.workers extent.limit 0 (S.came source) (S.came left) replies) }
 {
     match serve_to_end(rt, alloc, err, sensors, source, sink, extent) {
-        Ok(replies) => {
+        Ok(Received { source, replies }) => {
             info!(log; "{replies}");
-            Status::Done
+            Some(source)
         }
-        Err(stop) => tell(err, &stop, Status::Failed),
+        Err(stop) => {
+            tell(err, &stop, Status::Failed);
+            None
+        }
     }
 }
 
-// Serves to the end: all replies.
+// A source that datagrams were received from, and the replies.
+#[derive(Drop)]
+struct Received<S: Source + Drop> {
+    source: S,
+    replies: Replies,
+}
+
+// Serves to the end.
 fn serve_to_end<
     R: Threads + Wait + Clock + Sync,
     E: Write,
     Z: Sensors + Sync,
-    S: Source,
+    S: Source + Drop,
     K: Sink + Sync,
 >(
     rt: &R,
     alloc: Global,
     err: &mut E,
     sensors: &Z,
-    source: &mut S,
+    source: S,
     sink: &K,
     extent: Extent,
-) -> Result<Replies, Stop> {
+) -> Result<Received<S>, Stop>
+    ensures { IfOk result (λ r. IsServed Z.are_sensed (λ now. ⊤) K.went extent.workers extent.limit 0 (S.came source) (S.came r.source) r.replies) }
+{
     let moments = Elapsed::start(rt).map_err(Stop::Clock)?;
     let begin = Begin {
         serial: FIRST_SERIAL,
@@ -160,45 +176,54 @@ fn serve_to_end<
         limit,
     };
     let fed = run_pool(rt, alloc, err, &pool, receiver)?;
-    Ok(fed.given.plus(fed.replies))
+    let Received { source, replies } = fed.given;
+    Ok(Received {
+        source,
+        replies: replies.plus(fed.replies),
+    })
 }
 
 // Who receives datagrams, up to a limit, and sends what needs no job.
 #[derive(Drop)]
-struct Receiver<'a, S: Source, K: Sink, M: Moments> {
-    source: &'a mut S,
+struct Receiver<'a, S: Source + Drop, K: Sink, M: Moments> {
+    source: S,
     sink: &'a K,
     moments: &'a M,
     limit: u32,
 }
 
-impl<'a, S: Source, K: Sink, M: Moments> Feeder<Replies> for Receiver<'a, S, K, M> {
-    fn feed<N: Intake, R: Wait>(self, rt: &R, intake: &mut N) -> Replies {
+impl<'a, S: Source + Drop, K: Sink, M: Moments> Feeder<Received<S>> for Receiver<'a, S, K, M> {
+    ghost feeds = { λ T calls self first last given.
+        HasReceived calls M.is_moment K.went self.limit (S.came self.source) (S.came given.source) first last given.replies };
+
+    fn feed<N: Intake, R: Wait>(self, rt: &R, intake: &mut N) -> Received<S> {
         let Receiver {
-            source,
+            mut source,
             sink,
             moments,
             limit,
         } = self;
-        run_rounds(rt, intake, &Unprepared, source, sink, moments, limit)
+        let replies = run_rounds(rt, intake, &Unprepared, &mut source, sink, moments, limit);
+        Received { source, replies }
     }
 }
 
 // Works each datagram off on this thread, before the next is received: the replies, each counted once.
-fn serve_alone<R: Wait, S: Source, K: Sink, M: Moments, Z: Sensors>(
+fn serve_alone<R: Wait, S: Source + Drop, K: Sink, M: Moments, Z: Sensors>(
     rt: &R,
     alloc: Global,
     begin: Begin,
     sensors: &Z,
-    source: &mut S,
+    mut source: S,
     sink: &K,
     moments: &M,
     limit: u32,
-) -> Result<Replies, AllocError>
+) -> Result<Received<S>, AllocError>
     requires { begin.serial ≤ last_serial }
-    ensures { IfOk result (HasServed Z.are_sensed M.is_moment K.went begin.serial begin.id (S.came source.old) (S.came source.new)) }
+    ensures { IfOk result (λ r. HasServed Z.are_sensed M.is_moment K.went limit begin.serial begin.id (S.came source) (S.came r.source) r.replies) }
 {
     let mut alone = Alone::new(alloc, begin.serial, begin.id)?;
     let sensed = Sensed { sensors };
-    Ok(run_rounds(rt, &mut alone, &sensed, source, sink, moments, limit))
+    let replies = run_rounds(rt, &mut alone, &sensed, &mut source, sink, moments, limit);
+    Ok(Received { source, replies })
 }

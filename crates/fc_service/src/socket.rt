@@ -4,6 +4,7 @@ ghost use Rattle.coap_msg.specs.declared.types.Emission.{Emission};
 ghost use Rattle.fc_service.specs.Intakes.{Incoming, incoming_in};
 ghost use Rattle.fc_service.specs.Traffic.{Comes, IsHanded};
 
+use coap_msg::types::DATAGRAM;
 use coap_msg::{Emission, Endpoint};
 use fc_workers::{CallLog, Wire};
 use std::io;
@@ -14,6 +15,12 @@ use std::time::Duration;
 /// How long a server waits for a datagram, in milliseconds, before time passes without one.
 const RECEIVE_WAIT: u64 = 100;
 
+/// One byte more than a datagram may have: a longer one is seen to be too long, and ignored.
+pub const BUFFER: usize = DATAGRAM + 1;
+
+/// What a datagram is received into.
+pub type Buffer = [u8; BUFFER];
+
 /// Where datagrams come from.
 pub trait Source {
     // The datagrams that it has given so far, where they are known: of each what fitted the buffer.
@@ -21,7 +28,7 @@ pub trait Source {
 
     /// Waits a while for a datagram: how many bytes at the start of the buffer it is, and who sent it. What doesn't fit the
     /// buffer is lost. `None` where nothing came in time, or it couldn't be received.
-    fn receive(&mut self, buffer: &mut [u8]) -> Option<(usize, Endpoint)>
+    fn receive(&mut self, buffer: &mut Buffer) -> Option<(usize, Endpoint)>
         ensures fits { IfSome result (λ r. r.0 ≤ length buffer.new) }
         ensures given { Comes (came self.old) (came self.new) (incoming_in buffer.new result) };
 }
@@ -38,7 +45,7 @@ pub trait Sink {
 
 /// What came to a socket of the system isn't known.
 impl<'a> Source for &'a UdpSocket {
-    fn receive(&mut self, buffer: &mut [u8]) -> Option<(usize, Endpoint)> {
+    fn receive(&mut self, buffer: &mut Buffer) -> Option<(usize, Endpoint)> {
         match self.recv_from(buffer) {
             Ok((count, SocketAddr::V4(from))) => Some((count, endpoint_of(&from))),
             Ok((_, SocketAddr::V6(_))) | Err(_) => None,

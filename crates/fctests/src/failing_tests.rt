@@ -3,10 +3,9 @@ ghost use Rattle.std.specs.Prelude.{◌≤◌, IfSome, length};
 
 use crate::socket_tests::{check_logged, put_datagram};
 use coap_msg::{Emission, Endpoint};
-use fc_cli::Status;
 use fc_service::sensors::NoSensors;
 use fc_service::serve::{Extent, serve_at};
-use fc_service::socket::{Sink, Source};
+use fc_service::socket::{Buffer, Sink, Source};
 use log::sink::Memory;
 use log::{LevelFilter, Logged};
 use std::process::Abort;
@@ -52,7 +51,7 @@ struct Letters {
 }
 
 impl Source for Letters {
-    fn receive(&mut self, buffer: &mut [u8]) -> Option<(usize, Endpoint)> {
+    fn receive(&mut self, buffer: &mut Buffer) -> Option<(usize, Endpoint)> {
         let call = self.calls;
         self.calls = call.saturating_add(1);
         if !self.fails {
@@ -99,24 +98,17 @@ fn check_served<R: Abort + AllocGlobal + Threads + Wait + Clock + Sync>(
     let memory = Memory::new(alloc);
     let log = Logged::new(rt, LevelFilter::Info, &memory);
     let mut err = Vec::new(alloc);
-    let mut letters = Letters { fails, calls: 0 };
+    let letters = Letters { fails, calls: 0 };
     let matching = Matching {
         fails,
         sends: AtomicUsize::new(0),
         wrong: AtomicUsize::new(0),
     };
     let extent = Extent { workers, limit: 8 };
-    let status = serve_at(
-        rt,
-        alloc,
-        &log,
-        &mut err,
-        &NoSensors,
-        &mut letters,
-        &matching,
-        extent,
+    let served = serve_at(
+        rt, alloc, &log, &mut err, &NoSensors, letters, &matching, extent,
     );
-    assert!(rt; status == Status::Done && err.is_empty());
+    assert!(rt; served.is_some() && err.is_empty());
     assert!(rt;
         matching.sends.load(Ordering::SeqCst) == 8 && matching.wrong.load(Ordering::SeqCst) == 0
     );

@@ -73,21 +73,11 @@ fn serve_sensing<R: Threads + Wait + Clock + Sync, Z: Sensors + Sync>(
     sensors: &Z,
     socket: &UdpSocket,
     extent: Extent,
-) -> Status {
+) -> bool {
     let memory = Memory::new(alloc);
     let log = Logged::new(rt, LevelFilter::Info, &memory);
     let mut err = Vec::new(alloc);
-    let mut source = socket;
-    serve_at(
-        rt,
-        alloc,
-        &log,
-        &mut err,
-        sensors,
-        &mut source,
-        socket,
-        extent,
-    )
+    serve_at(rt, alloc, &log, &mut err, sensors, socket, socket, extent).is_some()
 }
 
 // Serves a program that replies its readings, while the file changes.
@@ -99,13 +89,13 @@ fn check_sensed<
     let socket = open(rt, at_port(0))?;
     let port = socket.local_addr()?.port();
     let extent = Extent { workers, limit: 6 };
-    let (status, asked) = thread::join(
+    let (served, asked) = thread::join(
         rt,
         || serve_sensing(rt, alloc, sensors, &socket, extent),
         || write_and_ask(rt, port, path),
     );
     asked?;
-    assert!(rt; status == Status::Done);
+    assert!(rt; served);
     Ok(())
 }
 

@@ -8,7 +8,7 @@ use fc_cli::Status;
 use fc_fetch::{Asking, Shown, fetch};
 use fc_service::sensors::NoSensors;
 use fc_service::serve::{Extent, Listening, serve, serve_at};
-use fc_service::socket::{Sink, Source, open};
+use fc_service::socket::{Buffer, Sink, Source, open};
 use log::sink::Memory;
 use log::{LevelFilter, Logged};
 use std::alloc::{AllocError, Global};
@@ -90,28 +90,20 @@ fn ask_counter<R: Abort + Net + Clock + AllocGlobal>(rt: &R, port: u16) {
     );
 }
 
-// Serves a socket, by so many workers and up to so many datagrams: how that ended, and what was logged.
+// Serves a socket, by so many workers and up to so many datagrams: whether it did, and what was logged.
 pub(crate) fn serve_logged<R: Threads + Wait + Clock + Sync>(
     rt: &R,
     alloc: Global,
     socket: &UdpSocket,
     extent: Extent,
-) -> (Status, Memory) {
+) -> (bool, Memory) {
     let memory = Memory::new(alloc);
     let log = Logged::new(rt, LevelFilter::Info, &memory);
     let mut err = Vec::new(alloc);
-    let mut source = socket;
-    let status = serve_at(
-        rt,
-        alloc,
-        &log,
-        &mut err,
-        &NoSensors,
-        &mut source,
-        socket,
-        extent,
+    let served = serve_at(
+        rt, alloc, &log, &mut err, &NoSensors, socket, socket, extent,
     );
-    (status, memory)
+    (served.is_some(), memory)
 }
 
 // Serves a port that is free to a client in the same process: four datagrams, each answered.
@@ -123,12 +115,12 @@ fn serve_counter<R: Abort + AllocGlobal + Threads + Wait + Clock + Net + Sync>(
     let socket = open(rt, at_port(0))?;
     let port = socket.local_addr()?.port();
     let extent = Extent { workers, limit: 4 };
-    let ((status, memory), _) = thread::join(
+    let ((served, memory), _) = thread::join(
         rt,
         || serve_logged(rt, alloc, &socket, extent),
         || ask_counter(rt, port),
     );
-    assert!(rt; status == Status::Done);
+    assert!(rt; served);
     check_logged(rt, memory, "sent 4 failed 0");
     Ok(())
 }
@@ -247,13 +239,13 @@ fn bodies_go_and_come_by_blocks(rt: HostRuntime) -> Result<(), Fail> {
         workers: 2,
         limit: 8,
     };
-    let ((status, memory), asked) = thread::join(
+    let ((served, memory), asked) = thread::join(
         &rt,
         || serve_logged(&rt, alloc, &socket, extent),
         || ask_by_blocks(&rt, port),
     );
     asked?;
-    assert!(rt; status == Status::Done);
+    assert!(rt; served);
     check_logged(&rt, memory, "sent 8 failed 0");
     Ok(())
 }
@@ -283,7 +275,7 @@ pub(crate) fn put_datagram(bytes: &[u8], buffer: &mut [u8]) -> Option<(usize, En
 }
 
 impl Source for Script {
-    fn receive(&mut self, buffer: &mut [u8]) -> Option<(usize, Endpoint)> {
+    fn receive(&mut self, buffer: &mut Buffer) -> Option<(usize, Endpoint)> {
         self.calls = self.calls.saturating_add(1);
         match self.calls {
             2 => put_datagram(&NO_PATH, buffer),
@@ -316,23 +308,17 @@ fn serve_script<R: Abort + AllocGlobal + Threads + Wait + Clock + Sync>(
     let memory = Memory::new(alloc);
     let log = Logged::new(rt, level, &memory);
     let mut err = Vec::new(alloc);
-    let mut script = Script { calls: 0 };
+    let script = Script { calls: 0 };
     let lossy = Lossy {
         sends: AtomicUsize::new(0),
     };
     let extent = Extent { workers, limit: 2 };
-    let status = serve_at(
-        rt,
-        alloc,
-        &log,
-        &mut err,
-        &NoSensors,
-        &mut script,
-        &lossy,
-        extent,
+    let served = serve_at(
+        rt, alloc, &log, &mut err, &NoSensors, script, &lossy, extent,
     );
-    assert!(rt; status == Status::Done && err.is_empty());
-    assert!(rt; script.calls == 4 && lossy.sends.load(Ordering::SeqCst) == 2);
+    let calls = served.map(|script| script.calls);
+    assert!(rt; calls == Some(4) && err.is_empty());
+    assert!(rt; lossy.sends.load(Ordering::SeqCst) == 2);
     memory
 }
 
@@ -482,13 +468,13 @@ fn eight_clients_count_right(rt: HostRuntime) -> Result<(), Fail> {
         workers: 2,
         limit: 978,
     };
-    let ((status, memory), asked) = thread::join(
+    let ((served, memory), asked) = thread::join(
         &rt,
         || serve_logged(&rt, alloc, &socket, extent),
         || ask_by_eight(&rt, port),
     );
     asked?;
-    assert!(rt; status == Status::Done);
+    assert!(rt; served);
     check_logged(&rt, memory, "sent 978 failed 0");
     Ok(())
 }
@@ -552,13 +538,13 @@ fn check_clock<R: Abort + AllocGlobal + Threads + Wait + Clock + Net + Sync>(
     let socket = open(rt, at_port(0))?;
     let port = socket.local_addr()?.port();
     let extent = Extent { workers, limit: 2 };
-    let ((status, _memory), asked) = thread::join(
+    let ((served, _memory), asked) = thread::join(
         rt,
         || serve_logged(rt, alloc, &socket, extent),
         || ask_for_readings(rt, port),
     );
     asked?;
-    assert!(rt; status == Status::Done);
+    assert!(rt; served);
     Ok(())
 }
 

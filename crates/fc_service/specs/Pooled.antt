@@ -1,0 +1,62 @@
+-- What a pool's dispatcher does where it is fed.
+use Rattle.std.specs.Prelude.{◌≡◌, ◌⊎◌, ⊤, ℕ, List, slice_index, None, true}
+use Rattle.std.specs.Borrow.{Bor}
+use Rattle.coap_msg.specs.declared.types.Emission.{Emission}
+use Rattle.coap_msg.specs.declared.types.Endpoint.{Endpoint}
+use Rattle.fc_core.specs.declared.front.Heard.{Heard}
+use Rattle.fc_observe.specs.declared.observers.Ticked.{Ticked}
+use Rattle.fc_server.specs.Notified.{Notified, is_given, notification_in}
+use Rattle.fc_workers.specs.Answers.{IsSomeQuiet, IsSomeTick}
+use Rattle.fc_workers.specs.Asked.{IsLoggedCall, IsServerCall}
+use Rattle.fc_workers.specs.Called.{AdvancesFront, AdvancesIfQuiet, AdvancesShard, Shop, WireCall, shop}
+use Rattle.fc_workers.specs.Counts.{Tallies}
+use Rattle.fc_workers.specs.Dispatch.{HasCalled, IsTakenIn, IsTurnAsked}
+use Rattle.fc_workers.specs.declared.call_log.CallLog.{CallLog}
+use Rattle.fc_workers.specs.declared.dispatch.Dispatched.{Dispatched}
+use Rattle.fc_workers.specs.declared.dispatch.Handover.{Handover}
+use Rattle.fc_workers.specs.declared.dispatch.Handover.TheVariants.{Never}
+use Rattle.fc_service.specs.Intakes.{IntakeCalls}
+
+-- a dispatcher as it is seen: which jobs go to workers, and what it has done
+pub record Dispatching (T : Type 0) : Type 0 where
+  pub handover : Handover
+  pub done : Dispatched T
+
+module _ {T : Type 0} (s : Shop T) where
+  abbrev pub HearsPooled : ℕ → Endpoint → Bor (List ℕ) → Dispatching T → Dispatching T → Heard → Emission → Type 0
+  HearsPooled now from bytes old new heard reply = IsTakenIn s old.handover now from bytes.now heard reply old.done new.done × (new.handover ≡ old.handover)
+
+  abbrev pub PassesPooled : ℕ → Dispatching T → Dispatching T → Type 0
+  PassesPooled now old new = s.bench (AdvancesFront now) × (new ≡ old)
+
+  abbrev pub ResendsPooled : ℕ → ℕ → Dispatching T → Dispatching T → Ticked → Type 0
+  ResendsPooled shard now old new ticked =
+      IsSomeTick now ticked × s.logged (AdvancesShard shard now ticked) old.done.share.log new.done.share.log × HasCalled old.done new.done × (new.handover ≡ old.handover)
+
+  abbrev pub PassesOverPooled : ℕ → ℕ → Dispatching T → Dispatching T → Type 0
+  PassesOverPooled shard now old new = IsSomeQuiet now true × s.bench (AdvancesIfQuiet shard now true) × (new ≡ old)
+
+  abbrev pub NotifiesPooled : ℕ → ℕ → Dispatching T → Dispatching T → Notified → Type 0
+  NotifiesPooled shard now old new told =
+      IsTurnAsked s old.handover shard now (is_given told) old.done new.done × (notification_in told ≡ None) × (new.handover ≡ old.handover)
+
+  abbrev pub pooled_calls : IntakeCalls (Dispatching T)
+  pooled_calls = record {
+    hears = HearsPooled;
+    passes = PassesPooled;
+    resends = ResendsPooled;
+    passes_over = PassesOverPooled;
+    notifies = NotifiesPooled;
+  }
+
+  -- a feeder fed a dispatcher of this handover, or, where there was no worker, of none, and gave this
+  pub record IsFed {F X : Type 0} (Feeds : IntakeCalls (Dispatching T) → F → Dispatching T → Dispatching T → X → Type 0) (handover : Handover) (feeder : F) (given : X) : Type 0 where
+    pub first : Dispatching T
+    pub last : Dispatching T
+    pub begins : (first.handover ≡ handover) ⊎ (first.handover ≡ Never)
+    pub feeds : Feeds pooled_calls feeder first last given
+
+-- the shop of a server behind locks, whose jobs are never held up: with what its device says, its moments and random words, and the calls of its wire
+abbrev pub locked_shop : (List ℕ → Type 0) → (IsMoment IsRandom : ℕ → Type 0) → (WireCall → CallLog → CallLog → Type 0) → Shop Tallies
+locked_shop AreReadings IsMoment IsRandom Wired = shop (λ t. slice_index t.changes) (λ t. t.ended) (IsServerCall AreReadings)
+    (λ call before after. IsLoggedCall call) IsMoment IsRandom (λ number before after. ⊤) Wired
