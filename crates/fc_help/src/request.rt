@@ -247,4 +247,17 @@ impl Request {
             region,
         }
     }
+
+    /// Writes a copy of another request over this one: none is moved.
+    pub fn copy_from(&mut self, other: &Request)
+        ensures { self.new ≡ other.now }
+    {
+        self.region.clear();
+        let _fits = self.region.try_extend_from_slice(other.region.as_slice());
+        self.method = other.method;
+        self.slot = other.slot;
+        self.content_format = other.content_format;
+        self.query_size = other.query_size;
+        self.payload_size = other.payload_size;
+    }
 }

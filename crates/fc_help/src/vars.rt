@@ -66,4 +66,12 @@ impl Vars {
     {
         Vars::of(self.bytes.as_slice())
     }
+
+    /// Writes a copy of others over these: none are moved.
+    pub fn copy_from(&mut self, other: &Vars)
+        ensures { self.new ≡ other.now }
+    {
+        self.bytes.clear();
+        let _fits = self.bytes.try_extend_from_slice(other.bytes.as_slice());
+    }
 }
