@@ -1,15 +1,9 @@
--- Blocks, replies and emissions as single calls are handed and give them.
+-- Replies and emissions as single calls are handed and give them.
 use Rattle.std.specs.Prelude.{◌≡◌, None, ℕ}
 use Rattle.coap_opts.specs.declared.reply.ReplyOptions.{ReplyOptions}
-use Rattle.coap_block.specs.Cuts.{Part}
-use Rattle.coap_reply.specs.declared.block.BodyBlock.{BodyBlock}
 use Rattle.arrayvec.specs.ArrayVec.{ArrayVec}
 use Rattle.coap_msg.specs.declared.types.Emission.{Emission}
 use Rattle.coap_reply.specs.Responses.{Envelope}
-
--- a block as it is kept
-abbrev pub part_of : BodyBlock → Part
-part_of b = record { bytes = b.bytes.items; place = b.block }
 
 -- options that name no block yet
 pub record HasNoBlock (options : ReplyOptions) : Type 0 where

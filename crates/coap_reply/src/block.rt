@@ -1,12 +1,11 @@
 //! Blocks of answers (RFC 7959, 2).
-ghost use Rattle.std.specs.Prelude.{◌≡◌, ◌≤◌, length, min};
+ghost use Rattle.std.specs.Prelude.{◌≡◌, min};
 ghost use Rattle.std.specs.Option.{option_map};
 ghost use Rattle.coap_reply.specs.Blocks.{asked_place, cut_for};
-ghost use Rattle.coap_reply.specs.Views.{part_of};
 
-use arrayvec::ArrayVec;
 use coap_block::slice;
 use coap_opts::Block;
+use std::marker::Model;
 
 /// The most bytes of a block (RFC 7959, 2.2).
 pub const BLOCK: usize = 1024;
@@ -14,36 +13,40 @@ pub const BLOCK: usize = 1024;
 /// The greatest size of a block, as options write it: its exponent less 4.
 const GREATEST: u8 = 6;
 
-/// A block of an answer: what one message carries of it.
+/// A block of an answer: what one message carries of it. Its bytes lie in the answer.
 #[derive(Drop)]
-pub struct BodyBlock {
-    /// Its bytes.
-    pub bytes: ArrayVec<u8, BLOCK>,
+pub struct BodyBlock<'a> {
+    /// Its bytes, at most 1,024.
+    pub bytes: &'a [u8],
     /// Which block it is, unless it is the whole and none was asked.
     pub block: Option<Block>,
 }
 
-impl BodyBlock {
+impl<'a> Model for BodyBlock<'a> {
+    ghost use Rattle.std.specs.Prelude.{◌≤◌, length};
+    ghost use Rattle.coap_block.specs.Cuts.{Part};
+
+    ghost Value = { Part };
+
+    ghost view = { λ b. record { bytes = b.bytes.now; place = b.block } };
+
+    ghost invariant = { λ b. length b.bytes.now ≤ 1024 };
+}
+
+impl<'a> BodyBlock<'a> {
     /// Cuts the block of an answer that is asked; where none is asked, the answer, or of one above 1,024 bytes the first block. `None`
     /// where a block that isn't the first begins at or past the end. The reserved size counts as the greatest.
-    pub fn cut(body: &[u8], asked: Option<Block>) -> Option<BodyBlock>
-        ensures { option_map part_of result ≡ cut_for asked body.now }
+    pub fn cut(body: &'a [u8], asked: Option<Block>) -> Option<BodyBlock<'a>>
+        ensures { result ≡ cut_for asked body.now }
     {
         match slice(body, asked_block(asked)) {
-            Ok(cut) => Some(kept(cut.bytes, cut.block)),
+            Ok(cut) => Some(BodyBlock {
+                bytes: cut.bytes,
+                block: cut.block,
+            }),
             Err(_) => None,
         }
     }
-}
-
-// A block as it is kept.
-fn kept(part: &[u8], block: Option<Block>) -> BodyBlock
-    requires { length part.now ≤ 1024 }
-    ensures { part_of result ≡ record { bytes = part.now; place = block } }
-{
-    let mut bytes = ArrayVec::new();
-    let _fits = bytes.try_extend_from_slice(part);
-    BodyBlock { bytes, block }
 }
 
 // The block that is asked, of one of the sizes that there are.

@@ -1,12 +1,10 @@
 //! From answers to datagrams.
 ghost use Rattle.std.specs.Prelude.{◌≡◌, ◌≤◌, ◌++◌, length};
-ghost use Rattle.std.specs.Option.{option_map};
 ghost use Rattle.coap_opts.specs.Replies.{reply_options};
 ghost use Rattle.coap_block.specs.Cuts.{part_bytes};
-ghost use Rattle.coap_reply.specs.Views.{HasNoBlock, part_of};
 ghost use Rattle.coap_reply.specs.Responses as spec;
 ghost use Rattle.coap_reply.specs.Responses.{etag, observe_option, ran_response, reset_of, sent_in};
-ghost use Rattle.coap_reply.specs.Views.{to_peer};
+ghost use Rattle.coap_reply.specs.Views.{HasNoBlock, to_peer};
 
 use crate::block::BodyBlock;
 use coap_msg::{Code, Datagram, Emission, Endpoint, MessageType, Outgoing, write};
@@ -90,12 +88,12 @@ pub fn text(envelope: &Envelope<'_>, code: Code, payload: &[u8], bytes: &mut Dat
 pub fn content(
     envelope: &Envelope<'_>,
     options: ReplyOptions,
-    block: &Option<BodyBlock>,
+    block: &Option<BodyBlock<'_>>,
     bytes: &mut Datagram,
 )
     requires { HasNoBlock options }
     ensures { to_peer envelope.now bytes.new ≡ sent_in envelope.now
-        (spec.content (reply_options options) (option_map part_of block.now)) }
+        (spec.content (reply_options options) block.now) }
 {
     let Some(block) = block else {
         return text(envelope, Code::BAD_REQUEST, &[], bytes);
@@ -104,8 +102,7 @@ pub fn content(
         block2: block.block,
         ..options
     };
-    let payload = block.bytes.as_slice();
-    respond(envelope, Code::CONTENT, options, payload, bytes);
+    respond(envelope, Code::CONTENT, options, block.bytes, bytes);
 }
 
 /// Writes what a run is answered, by its code, the block of its reply that is asked and the serial that it found, in place of what
@@ -114,14 +111,14 @@ pub fn content(
 pub fn ran(
     envelope: &Envelope<'_>,
     code: Code,
-    block: &Option<BodyBlock>,
+    block: &Option<BodyBlock<'_>>,
     serial: u64,
     observed: bool,
     bytes: &mut Datagram,
 )
     requires { 64 ≤ code.byte }
     ensures { to_peer envelope.now bytes.new ≡ sent_in envelope.now
-        (ran_response code.byte (option_map part_of block.now) serial observed) }
+        (ran_response code.byte block.now serial observed) }
 {
     match code {
         Code::CONTENT => content(envelope, version(serial, observed), block, bytes),
@@ -168,12 +165,12 @@ fn version(serial: u64, observed: bool) -> ReplyOptions
 }
 
 // The bytes of a block, if there is one.
-fn block_bytes(block: &Option<BodyBlock>) -> &[u8]
-    ensures bytes { result.now ≡ part_bytes (option_map part_of block.entry.now) }
+fn block_bytes<'a>(block: &Option<BodyBlock<'a>>) -> &'a [u8]
+    ensures bytes { result.now ≡ part_bytes block.now }
     ensures short { length result.now ≤ 1024 }
 {
     match block {
-        Some(block) => block.bytes.as_slice(),
+        Some(block) => block.bytes,
         None => &[],
     }
 }

@@ -29,9 +29,9 @@ use Rattle.fc_verify.specs.Accepted.{Judgement, Accepts, Breaks, Untypable}
 use Rattle.fc_verify.specs.Judged.{judged}
 use Rattle.fc_core.specs.declared.event.Event.{Event}
 use Rattle.fc_core.specs.declared.event.Event.TheVariants.{Commit, Note}
-use Rattle.fc_core.specs.declared.stage.Stage.{Stage}
-use Rattle.fc_core.specs.declared.stage.Stage.TheVariants.{ToCommit, ToInstall, ToTell}
-use Rattle.fc_core.specs.declared.stage.TurnStage.TheVariants as turns
+use Rattle.fc_core.specs.Stage.{Stage}
+use Rattle.fc_core.specs.Stage.{ToCommit, ToInstall, ToTell}
+use Rattle.fc_core.specs.TurnStage as turns
 use Rattle.fc_core.specs.Fits.{FitsStage}
 use Rattle.fc_core.specs.History.{AtShard, AsksTurn, Signals, Ticks, Calm, Seen, around, at_shard, calls_by, calls_named, due_in, is_due_at, is_place_of, job, late_in, scene, slot_at, stage, turn_at, watch}
 use Rattle.fc_core.specs.Receiving.{AskWithin, JobWithin, RequestWithin}

@@ -24,10 +24,10 @@ use Rattle.fc_registry.specs.Record.{IsChain, IsLink, code_class}
 use Rattle.fc_registry.specs.declared.receipt.Receipt.{Receipt as Facts}
 use Rattle.fc_registry.specs.Calls.{HasGiven, clear_by, commit_of, input_of, is_post, meaning_at, outcome, outcome_by, put_by, receipt_at, receipt_of, request_of, taking, wants, is_out_at, turn_taking, readings_if}
 use Rattle.fc_core.specs.declared.event.Event.{Event}
-use Rattle.fc_core.specs.declared.stage.Stage.{Stage}
-use Rattle.fc_core.specs.declared.stage.Stage.TheVariants.{ToTake, ToCommit, ToInstall, ToList, ToAnswer, ToTell}
-use Rattle.fc_core.specs.declared.stage.TurnStage.{TurnStage}
-use Rattle.fc_core.specs.declared.stage.TurnStage.TheVariants as turns
+use Rattle.fc_core.specs.Stage.{Stage}
+use Rattle.fc_core.specs.Stage.{ToTake, ToCommit, ToInstall, ToList, ToAnswer, ToTell}
+use Rattle.fc_core.specs.TurnStage.{TurnStage}
+use Rattle.fc_core.specs.TurnStage as turns
 use Rattle.fc_core.specs.Contents.{Listed, Unavailable}
 use Rattle.fc_core.specs.Heads.{is_match, word_at}
 use Rattle.fc_core.specs.Fits.{FitsPresent, FitsSlot, FitsStage, FitsTurn, HasNext, IsTicketOf}

@@ -4,15 +4,15 @@ use Rattle.fc_observe.specs.declared.entry.Turn.{Turn}
 use Rattle.fc_observe.specs.Calls.{ObserverCall}
 use Rattle.fc_observe.specs.Observers.{ObserverList}
 use Rattle.fc_registry.specs.declared.job.Job.{Job}
-use Rattle.fc_registry.specs.declared.shard.Taken.{Taken}
+use Rattle.fc_registry.specs.Taken.{Taken}
 use Rattle.fc_registry.specs.Calls.{TakesAt, after_taking, is_out_at, taking_at, taking_by, taking_calls, taking_calls_by, turn_calls, turn_of, turn_taking, readings_if}
 use Rattle.fc_registry.specs.Slots.{Present, Shard, Slot, slot_in}
 use Rattle.fc_registry.specs.Watches.{watch_at, with_calls}
 use Rattle.fc_core.specs.declared.event.Event.TheVariants.{Take}
-use Rattle.fc_core.specs.declared.stage.Stage.{Stage}
-use Rattle.fc_core.specs.declared.stage.Stage.TheVariants.{ToTell}
+use Rattle.fc_core.specs.Stage.{Stage}
+use Rattle.fc_core.specs.Stage.{ToTell}
 use Rattle.fc_core.specs.declared.stage.Task.{Task}
-use Rattle.fc_core.specs.declared.stage.TurnStage.TheVariants as turns
+use Rattle.fc_core.specs.TurnStage as turns
 use Rattle.fc_core.specs.Fits.{FitsStage}
 use Rattle.fc_core.specs.Stages.{had_memory, turn_to_take, turn_took, without_memory}
 use Rattle.fc_core.specs.Rows.{Common, Scene, around_of, row, scene_of, shard_after, task_moved}

@@ -1,11 +1,11 @@
 -- What the calls' ends say.
-use Rattle.std.specs.Prelude.{◌≤◌, Bool, true, false, nat_lt, Some, None}
+use Rattle.std.specs.Prelude.{◌≤◌, ℕ, Bool, true, false, nat_lt, List, Option, Some, None}
 use Rattle.fc_isa.specs.Rules.{number_of}
 use Rattle.fc_isa.specs.declared.rule.Fault.{Fault}
 use Rattle.fc_verify.specs.declared.refusal.Refusal.{Refusal}
 use Rattle.fc_verify.specs.declared.refusal.Refusal.TheVariants.{Broken, NoMemory}
-use Rattle.std.specs.Option.{option_map}
-use Rattle.coap_reply.specs.Views.{part_of}
+use Rattle.coap_block.specs.Cuts.{Part}
+use Rattle.coap_opts.specs.Values.{Place}
 use Rattle.fc_core.specs.declared.answer.End.{End}
 use Rattle.fc_core.specs.declared.answer.End.TheVariants.{Match, Missing, Unavailable, Made, Rejected, Removed, Told, Core}
 use Rattle.fc_core.specs.declared.answer.Said.{Said}
@@ -32,9 +32,15 @@ content_of (Told None) = Misses
 content_of (Told (Some receipt)) = Described receipt
 content_of (Core words) = Listed words.items
 
-abbrev pub said_of : Said → Content
-said_of (Ran by code block serial observed) = Runs (record { by = by; code = code.byte; cut = option_map part_of block; serial = serial; observed = observed })
-said_of (Other end) = content_of end
+-- the block of these bytes, if there is one
+abbrev pub part_in : Option (Option Place) → List ℕ → Option Part
+part_in None bytes = None
+part_in (Some place) bytes = Some (record { bytes = bytes; place = place })
+
+abbrev pub said_of : Said → List ℕ → Content
+said_of (Ran by code block serial observed) bytes =
+    Runs (record { by = by; code = code.byte; cut = part_in block bytes; serial = serial; observed = observed })
+said_of (Other end) bytes = content_of end
 
 -- a run's code is that of a reply, of class 2 or above
 abbrev pub IsTold : Said → Type 0

@@ -7,10 +7,10 @@ use Rattle.fc_observe.specs.declared.entry.Turn.{Turn}
 use Rattle.fc_registry.specs.declared.job.Job.{Job}
 use Rattle.fc_registry.specs.Slots.{Slot, Present, Ticket}
 use Rattle.fc_registry.specs.Calls.{HasGiven, request_of}
-use Rattle.fc_core.specs.declared.stage.Stage.{Stage}
-use Rattle.fc_core.specs.declared.stage.TurnStage.{TurnStage}
-use Rattle.fc_core.specs.declared.stage.TurnStage.TheVariants as turns
-use Rattle.fc_core.specs.declared.stage.Stage.TheVariants.{ToMatch, ToTake, ToCommit, ToList, ToRaise, ToAnswer, ToTell}
+use Rattle.fc_core.specs.Stage.{Stage}
+use Rattle.fc_core.specs.TurnStage.{TurnStage}
+use Rattle.fc_core.specs.TurnStage as turns
+use Rattle.fc_core.specs.Stage.{ToMatch, ToTake, ToCommit, ToList, ToRaise, ToAnswer, ToTell}
 use Rattle.fc_core.specs.Contents.{IsOf}
 use Rattle.fc_core.specs.Stages.{takings}
 

@@ -6,9 +6,9 @@ use Rattle.fc_registry.specs.Changes.{Change}
 use Rattle.fc_registry.specs.Calls.{is_out_at, meaning_at, ticket_of, wants}
 use Rattle.fc_core.specs.declared.event.Event.{Event}
 use Rattle.fc_core.specs.declared.event.Event.TheVariants.{Deliver, Peek, Take, Commit, Install, Remove, Receipt, Raise, Answer, Due, Fresh, Note, GiveUp, Signal, Tick, ShardTick, Lose}
-use Rattle.fc_core.specs.declared.stage.Stage.{Stage}
-use Rattle.fc_core.specs.declared.stage.Stage.TheVariants.{ToMatch, ToTake, ToCommit, ToInstall, ToRemove, ToDescribe, ToList, ToRaise, ToAnswer, ToTell, Gone}
-use Rattle.fc_core.specs.declared.stage.TurnStage.TheVariants as turns
+use Rattle.fc_core.specs.Stage.{Stage}
+use Rattle.fc_core.specs.Stage.{ToMatch, ToTake, ToCommit, ToInstall, ToRemove, ToDescribe, ToList, ToRaise, ToAnswer, ToTell, Gone}
+use Rattle.fc_core.specs.TurnStage as turns
 use Rattle.coap_reply.specs.Blocks.{cut_for}
 use Rattle.fc_core.specs.Contents.{Content, RunAnswer}
 use Rattle.fc_core.specs.Rows.{Scene, names}

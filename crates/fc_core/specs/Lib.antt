@@ -8,6 +8,9 @@ pub mod Exchanges
 pub mod Receiving
 pub mod Askings
 pub mod Answering
+pub mod TurnStage
+pub mod Stage
+pub mod Room
 pub mod Stages
 pub mod Steps
 pub mod Rows

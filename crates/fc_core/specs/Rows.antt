@@ -16,9 +16,9 @@ use Rattle.fc_core.specs.Contents.{Rejected, Untyped}
 use Rattle.fc_core.specs.Heads.{published, word_at}
 use Rattle.fc_core.specs.declared.event.Event.{Event}
 use Rattle.fc_core.specs.declared.event.Event.TheVariants.{Peek, Take, Commit, Install, Remove, Receipt, Raise, Answer, Fresh, Note, GiveUp, Lose}
-use Rattle.fc_core.specs.declared.stage.Stage.{Stage}
-use Rattle.fc_core.specs.declared.stage.Stage.TheVariants.{ToMatch, ToTake, ToCommit, ToInstall, ToRemove, ToDescribe, ToList, ToRaise, ToAnswer, ToTell}
-use Rattle.fc_core.specs.declared.stage.TurnStage.TheVariants as turns
+use Rattle.fc_core.specs.Stage.{Stage}
+use Rattle.fc_core.specs.Stage.{ToMatch, ToTake, ToCommit, ToInstall, ToRemove, ToDescribe, ToList, ToRaise, ToAnswer, ToTell}
+use Rattle.fc_core.specs.TurnStage as turns
 use Rattle.fc_core.specs.declared.stage.Task.{Task}
 use Rattle.fc_core.specs.Stages.{image_of}
 use Rattle.fc_core.specs.Steps.{Call, Matches, Lists, Takes, Commits, Installs, Rejects, Refuses, Removes, Describes, Raises, Answers, TakesTurn, Draws, Notes, GivesUp, Loses, changes_told, next_stage, word_told}

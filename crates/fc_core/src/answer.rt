@@ -1,13 +1,14 @@
 //! What a job is answered.
-ghost use Rattle.std.specs.Prelude.{◌≡◌};
+ghost use Rattle.std.specs.Prelude.{◌≡◌, ◌≤◌, length};
 ghost use Rattle.fc_machine.specs.Ran.{meaning_of};
 ghost use Rattle.fc_core.specs.Contents.{Ran, AreOne, run_answer};
-ghost use Rattle.fc_core.specs.Ends.{IsTold, content_of, said_of};
+ghost use Rattle.fc_core.specs.Ends.{IsTold, content_of, part_in, said_of};
 
 use crate::heads::WORDS;
 use arrayvec::ArrayVec;
 use coap_msg::Code;
-use coap_reply::BodyBlock;
+use coap_opts::Block;
+use coap_reply::{BLOCK, BodyBlock};
 use fc_machine::Outcome;
 use fc_registry::{Mark, Origin, Receipt, Ticket};
 use fc_verify::Refusal;
@@ -42,7 +43,8 @@ pub(crate) enum Said {
     Ran {
         by: Origin,
         code: Code,
-        block: Option<BodyBlock>,
+        // Which block of the reply there is, if there is one.
+        block: Option<Option<Block>>,
         serial: u64,
         observed: bool,
     },
@@ -50,10 +52,12 @@ pub(crate) enum Said {
 }
 
 /// What a job is answered. A run's answer is made of its outcome, and spends the mark of its commit: none is made
-/// without one. A clause sees what the answer says, but for the rule and the slot that a refusal by typing names.
+/// without one. A clause sees what the answer says, but for the rule and the slot that a refusal by typing names. It is written over another in its
+/// place, with room for a block.
 #[derive(Drop)]
 pub struct Answer {
     said: Said,
+    bytes: ArrayVec<u8, BLOCK>,
 }
 
 impl Model for Answer {
@@ -63,7 +67,7 @@ impl Model for Answer {
 
     ghost use Rattle.fc_core.specs.Ends.{said_of, IsTold};
 
-    ghost view = { λ a. said_of a.said };
+    ghost view = { λ a. said_of a.said a.bytes.items };
 
     ghost invariant = { λ a. IsTold a.said };
 }
@@ -71,23 +75,13 @@ impl Model for Answer {
 impl Answer {
     /// The answer of a run, with its outcome's code, the block of its reply that is asked, and its ticket's serial. It spends the mark of
     /// the run's commit.
-    pub fn ran(outcome: &Outcome<'_>, ticket: &Ticket, mark: Mark) -> Answer
+    pub fn ran(outcome: &Outcome<'_>, ticket: &Ticket<'_>, mark: Mark) -> Answer
         requires { AreOne outcome.now ticket.now mark }
         ensures { result ≡ Ran (run_answer ticket.now (meaning_of outcome.now) mark.observed) }
     {
-        let observed = mark.observed();
-        let serial = mark.spend();
-        Answer {
-            said: Said::Ran {
-                by: ticket.origin(),
-                code: Code {
-                    byte: outcome.code(),
-                },
-                block: BodyBlock::cut(outcome.reply(), ticket.block()),
-                serial,
-                observed,
-            },
-        }
+        let mut answer = Answer::other(End::Unavailable);
+        answer.write_run(outcome, ticket, mark);
+        answer
     }
 
     /// The answer of a job whose last call was no run.
@@ -96,14 +90,58 @@ impl Answer {
     {
         Answer {
             said: Said::Other(end),
+            bytes: ArrayVec::new(),
         }
     }
 
-    // What it says.
-    pub(crate) fn said(&self) -> &Said
-        ensures said { said_of result.now ≡ self.now }
-        ensures told { IsTold result.now }
+    /// Writes the answer of a run over this, as `ran` makes one.
+    pub fn write_run(&mut self, outcome: &Outcome<'_>, ticket: &Ticket<'_>, mark: Mark)
+        requires { AreOne outcome.now ticket.now mark }
+        ensures { self.new ≡ Ran (run_answer ticket.now (meaning_of outcome.now) mark.observed) }
     {
-        &self.said
+        let observed = mark.observed();
+        let serial = mark.spend();
+        let block = write_block(
+            BodyBlock::cut(outcome.reply(), ticket.block()),
+            &mut self.bytes,
+        );
+        self.said = Said::Ran {
+            by: ticket.origin(),
+            code: Code {
+                byte: outcome.code(),
+            },
+            block,
+            serial,
+            observed,
+        };
     }
+
+    /// Writes the answer of a job whose last call was no run over this, as `other` makes one.
+    pub fn write_other(&mut self, end: End)
+        ensures { self.new ≡ content_of end }
+    {
+        self.said = Said::Other(end);
+    }
+
+    // What it says, beside the bytes of its block.
+    pub(crate) fn said(&self) -> (&Said, &[u8])
+        ensures said { said_of result.0.now result.1.now ≡ self.now }
+        ensures told { IsTold result.0.now }
+        ensures short { length result.1.now ≤ 1024 }
+    {
+        (&self.said, self.bytes.as_slice())
+    }
+}
+
+// Writes the bytes of a block over others. Tells which block it is, if there is one.
+fn write_block(
+    block: Option<BodyBlock<'_>>,
+    bytes: &mut ArrayVec<u8, BLOCK>,
+) -> Option<Option<Block>>
+    ensures { part_in result bytes.new.items ≡ block.entry }
+{
+    let block = block?;
+    bytes.clear();
+    let _fits = bytes.try_extend_from_slice(block.bytes);
+    Some(block.block)
 }

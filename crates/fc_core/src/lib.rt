@@ -46,4 +46,4 @@ pub use answer::{Answer, End, Words};
 pub use event::Event;
 pub use front::{Answered, Delivered, Front, Heard, Responded};
 pub use heads::{Heads, head_word};
-pub use stage::{Stage, Task};
+pub use stage::{Stage, Step, Task, TurnStep};

@@ -6,7 +6,7 @@ ghost use Rattle.coap_reply.specs.Views.{HasNoBlock};
 ghost use Rattle.coap_reply.specs.Responses.{etag, sent_in, settled_by};
 ghost use Rattle.coap_reply.specs.Views.{to_peer};
 ghost use Rattle.fc_core.specs.Contents.{Listed};
-ghost use Rattle.fc_core.specs.Ends.{content_of};
+ghost use Rattle.fc_core.specs.Ends.{content_of, part_in};
 ghost use Rattle.fc_core.specs.Receiving.{told_by};
 ghost use Rattle.fc_core.specs.Replies as spec;
 ghost use Rattle.fc_core.specs.Replies.{IsReplyTo, link_format, made_response, to_job};
@@ -23,7 +23,8 @@ use fc_verify::Refusal;
 pub(crate) fn answer(job: &Job, id: u16, answer: &Answer, bytes: &mut Datagram)
     ensures { IsReplyTo job.now id answer.now (to_job job.now bytes.new) }
 {
-    match answer.said() {
+    let (said, part) = answer.said();
+    match said {
         Said::Ran {
             code,
             block,
@@ -33,13 +34,22 @@ pub(crate) fn answer(job: &Job, id: u16, answer: &Answer, bytes: &mut Datagram)
         } => ran(
             &envelope_of(job, id),
             *code,
-            block,
+            &block_in(*block, part),
             *serial,
             *observed,
             bytes,
         ),
         Said::Other(end) => ended(job, id, end, bytes),
     }
+}
+
+// The block of these bytes, if there is one.
+fn block_in(block: Option<Option<Block>>, bytes: &[u8]) -> Option<BodyBlock<'_>>
+    requires { length bytes.now ≤ 1024 }
+    ensures { result ≡ part_in block bytes.now }
+{
+    let block = block?;
+    Some(BodyBlock { bytes, block })
 }
 
 // The envelope of a job's reply by this message id.

@@ -1,28 +1,35 @@
 //! Jobs at work: what each event does to a job, its slot and its shard.
-ghost use Rattle.std.specs.Prelude.{◌≡◌, ℕ, ◌/◌, ◌<◌, List, None, Option, Some, false, option_copied, max, IfOk, OnOk, IsErr};
+ghost use Rattle.std.specs.Prelude.{◌≡◌, ℕ, ◌/◌, ◌<◌, List, None, Option, Some, false, option_copied, max, OnOk, IsErr};
 ghost use Rattle.fc_verify.specs.Accepted.{Accepts};
 ghost use Rattle.fc_verify.specs.Judged.{judged};
 ghost use Rattle.fc_registry.specs.Slots.{IsOwned, slot_in};
 ghost use Rattle.fc_registry.specs.Calls.{HasGiven};
 ghost use Rattle.fc_registry.specs.Notes.{note_at, note_calls};
+ghost use Rattle.fc_registry.specs.Views.{HasSize, taken_with};
 ghost use Rattle.fc_registry.specs.Watches.{handed, watch_at, with_calls};
 ghost use Rattle.fc_core.specs.declared.event.Event.{Event};
-ghost use Rattle.fc_core.specs.Fits.{FitsStage, HasListed, HasNext, TellsOwn};
+ghost use Rattle.fc_core.specs.Fits.{FitsStage, HasNext, TellsOwn};
 ghost use Rattle.fc_core.specs.Receiving.{emission_if};
 ghost use Rattle.fc_core.specs.Sound.{AllSafe};
-ghost use Rattle.fc_core.specs.Stages.{after_list, content_at, drew, ended, had_memory, image_of, needs_id, new_task, turn_to_take, without_memory};
+ghost use Rattle.fc_core.specs.Room.{FitsTurnStep, StandsAt, turn_stage_of};
+ghost use Rattle.fc_core.specs.Stage.{Gone};
+ghost use Rattle.fc_core.specs.Stages.{content_at, drew, ended, had_memory, image_of, needs_id, new_task, turn_to_take, without_memory};
+ghost use Rattle.fc_core.specs.TurnStage as turns;
+ghost use Rattle.fc_core.specs.declared.stage.TurnStep.TheVariants.{ToDraw};
 ghost use Rattle.fc_core.specs.Steps.{changes_told, next_stage};
 ghost use Rattle.fc_core.specs.Rows.{Common, Scene, ShardMoves, TaskMoves, commit_call, commit_move, install_call, install_move, moves, notification, row, scene_of, shard_moved, task_moved, words_after};
 
-use crate::answer::{Answer, End};
+use crate::answer::Answer;
 use crate::front::blank_job;
 use crate::heads::{Heads, WORDS};
-use crate::stage::{Stage, Task, TurnStage};
+use crate::stage::{Stage, Step, Task, TurnStep};
 use coap_msg::Emission;
 use fc_help::{NO_READINGS, Readings};
 use fc_machine::{Frame, run};
 use fc_observe::Turn;
-use fc_registry::{Ask, Job, NoteOutcome, Notification, Receipt, Shard, SlotNumber, Taken, Ticket};
+use fc_registry::{
+    Ask, Found, Job, NoteOutcome, Notification, Receipt, Shard, SlotNumber, Taken, Ticket,
+};
 use fc_verify::{Refusal, Verified, verify};
 use std::alloc::{AllocError, Global};
 use std::mem;
@@ -33,7 +40,8 @@ impl Task {
     pub fn new(job: Job) -> Task
         ensures { result ≡ new_task job }
     {
-        let stage = Stage::first(&job);
+        let mut stage = Stage::blank();
+        stage.begin(&job);
         Task { job, stage }
     }
 
@@ -48,12 +56,7 @@ impl Task {
     pub fn begin(&mut self)
         ensures { self.new ≡ new_task self.old.job }
     {
-        match &self.job.ask {
-            Ask::Run(_) if self.job.turn.is_none() && self.job.etags.is_empty() => {
-                self.stage = Stage::ToTake(0);
-            }
-            _ => self.stage = Stage::first(&self.job),
-        }
+        self.stage.begin(&self.job);
     }
 
     /// Looks at the head word of a slot.
@@ -62,30 +65,20 @@ impl Task {
         ensures { (k : ℕ) (shard : Shard) (free : ℕ → Option ℕ) → let common : Common = record { words = heads.now; free = free } in
             self.new ≡ task_moved self.old (row (Event.Peek k slot) (scene_of shard common self.old)) }
     {
-        match &mut self.stage {
-            Stage::ToMatch if slot == self.job.origin.slot.number() => {
-                self.stage = Stage::matched(&self.job, heads.peek(self.job.origin.slot));
+        let stage = &mut self.stage;
+        match &stage.step {
+            Step::ToMatch if slot == self.job.origin.slot.number() => {
+                let word = heads.peek(self.job.origin.slot);
+                stage.matched(&self.job, word);
             }
-            Stage::ToList(seen) if usize::from(slot) == seen.len() => {
-                let _fits = seen.try_push(heads.peek(SlotNumber::new(slot)));
-                if seen.len() == WORDS {
-                    self.end_list();
+            Step::ToList if usize::from(slot) == stage.seen.len() => {
+                let word = heads.peek(SlotNumber::new(slot));
+                let _fits = stage.seen.try_push(word);
+                if stage.seen.len() == WORDS {
+                    stage.listed();
                 }
             }
             _ => {}
-        }
-    }
-
-    // Answers by the head words of all slots, which it has listed.
-    fn end_list(&mut self)
-        requires { HasListed self.old.stage }
-        ensures { self.new ≡ task_moved self.old (moves (after_list self.old.stage)) }
-    {
-        match self.leave() {
-            Stage::ToList(words) => {
-                self.stage = Stage::ToAnswer(Answer::other(End::Core(words)));
-            }
-            other => self.stage = other,
         }
     }
 
@@ -97,23 +90,17 @@ impl Task {
         ensures task { (k : ℕ) → TaskMoves (Event.Take k result readings.now) shard.old self.old self.new }
         ensures shard { (k : ℕ) → ShardMoves (Event.Take k result readings.now) shard.old self.old shard.new }
     {
-        if let Some(turn) = turn_to_take(&self.stage) {
+        if let Some(turn) = self.stage.turn_to_take() {
             return self.take_turn(turn, shard, readings);
         }
-        let Stage::ToTake(count) = self.stage else {
+        let stage = &mut self.stage;
+        let Step::ToTake(count) = stage.step else {
             return true;
         };
-        match shard.take(&self.job, readings) {
-            Taken::Given(ticket) => {
-                self.stage = Stage::ToCommit(count + 1, ticket);
-                true
-            }
-            taken => {
-                let memory = had_memory(&taken);
-                self.stage = Stage::took(count, taken);
-                memory
-            }
-        }
+        let taken = shard.write_taking(&self.job, readings, &mut stage.found);
+        let memory = had_memory(&taken);
+        stage.step = Step::took(count, taken, &mut stage.answer);
+        memory
     }
 
     // Takes its turn.
@@ -124,9 +111,10 @@ impl Task {
         ensures task { (k : ℕ) → TaskMoves (Event.Take k result readings.now) shard.old self.old self.new }
         ensures shard { (k : ℕ) → ShardMoves (Event.Take k result readings.now) shard.old self.old shard.new }
     {
-        let taken = shard.take(&self.job, readings);
+        let stage = &mut self.stage;
+        let taken = shard.write_taking(&self.job, readings, &mut stage.found);
         let memory = had_memory(&taken);
-        self.stage = Stage::turn_took(turn, taken);
+        stage.step = Step::turn_took(turn, taken);
         memory
     }
 
@@ -137,10 +125,17 @@ impl Task {
         ensures task { (k : ℕ) (readings : List ℕ) → TaskMoves (Event.Take k false readings) shard.old self.old self.new }
         ensures shard { (k : ℕ) (readings : List ℕ) → ShardMoves (Event.Take k false readings) shard.old self.old shard.new }
     {
-        if let Some(turn) = turn_to_take(&self.stage) {
-            self.refuse_turn(turn, shard);
-        } else if let Stage::ToTake(count) = self.stage {
-            self.stage = Stage::took(count, without_memory(shard.take(&self.job, &NO_READINGS)));
+        if let Some(turn) = self.stage.turn_to_take() {
+            return self.refuse_turn(turn, shard);
+        }
+        let stage = &mut self.stage;
+        if let Step::ToTake(count) = stage.step {
+            let taken = without_memory(shard.write_taking(
+                &self.job,
+                &NO_READINGS,
+                &mut stage.found,
+            ));
+            stage.step = Step::took(count, taken, &mut stage.answer);
         }
     }
 
@@ -152,7 +147,9 @@ impl Task {
         ensures task { (k : ℕ) (readings : List ℕ) → TaskMoves (Event.Take k false readings) shard.old self.old self.new }
         ensures shard { (k : ℕ) (readings : List ℕ) → ShardMoves (Event.Take k false readings) shard.old self.old shard.new }
     {
-        self.stage = Stage::turn_took(turn, without_memory(shard.take(&self.job, &NO_READINGS)));
+        let stage = &mut self.stage;
+        let taken = without_memory(shard.write_taking(&self.job, &NO_READINGS, &mut stage.found));
+        stage.step = Step::turn_took(turn, taken);
     }
 
     /// Runs its ticket's program, and commits at its shard, at a moment in milliseconds.
@@ -162,10 +159,12 @@ impl Task {
         ensures task { (k : ℕ) → TaskMoves (Event.Commit k now) shard.old self.old self.new }
         ensures shard { (k : ℕ) → ShardMoves (Event.Commit k now) shard.old self.old shard.new }
     {
-        let Stage::ToCommit(count, ticket) = &self.stage else {
+        let stage = &mut self.stage;
+        let Step::ToCommit(count, program) = &stage.step else {
             return;
         };
-        self.stage = run_and_commit(frame, *count, ticket, shard, now);
+        let ticket = Ticket::of(program, &stage.found);
+        stage.step = run_and_commit(frame, *count, &ticket, shard, now, &mut stage.answer);
     }
 
     /// Removes its slot's program at its shard.
@@ -174,9 +173,9 @@ impl Task {
         ensures task { (k : ℕ) → TaskMoves (Event.Remove k) shard.old self.old self.new }
         ensures shard { (k : ℕ) → ShardMoves (Event.Remove k) shard.old self.old shard.new }
     {
-        match self.leave() {
-            Stage::ToRemove => self.stage = Stage::removed(shard.remove(self.job.origin.slot)),
-            other => self.stage = other,
+        let stage = &mut self.stage;
+        if let Step::ToRemove = &stage.step {
+            stage.removed(shard.remove(self.job.origin.slot));
         }
     }
 
@@ -184,9 +183,9 @@ impl Task {
     pub fn describe(&mut self, shard: &Shard)
         ensures { (k : ℕ) → TaskMoves (Event.Receipt k) shard.entry.now self.old self.new }
     {
-        match self.leave() {
-            Stage::ToDescribe => self.stage = Stage::told(shard.receipt(self.job.origin.slot)),
-            other => self.stage = other,
+        let stage = &mut self.stage;
+        if let Step::ToDescribe = &stage.step {
+            stage.told(shard.receipt(self.job.origin.slot));
         }
     }
 
@@ -198,23 +197,16 @@ impl Task {
         ensures shard { (k : ℕ) → ShardMoves (Event.Install k result) shard.old self.old shard.new }
         ensures safe { (k : ℕ) (common : Common) → AllSafe (row (Event.Install k result) (scene_of shard.old common self.old)).changes }
     {
-        match self.leave() {
-            Stage::ToInstall => {
-                let slot = self.job.origin.slot;
-                match verify_and_install(alloc, image(&self.job.ask), shard, slot) {
-                    Ok(stage) => {
-                        self.stage = stage;
-                        true
-                    }
-                    Err(_) => {
-                        self.stage = Stage::unavailable();
-                        false
-                    }
-                }
-            }
-            other => {
-                self.stage = other;
-                true
+        let stage = &mut self.stage;
+        let Step::ToInstall = &stage.step else {
+            return true;
+        };
+        let slot = self.job.origin.slot;
+        match verify_and_install(alloc, image(&self.job.ask), shard, slot, stage) {
+            Ok(()) => true,
+            Err(_) => {
+                stage.unavailable();
+                false
             }
         }
     }
@@ -223,9 +215,9 @@ impl Task {
     pub fn refuse_install(&mut self)
         ensures { (k : ℕ) (shard : Shard) → TaskMoves (Event.Install k false) shard self.old self.new }
     {
-        match self.leave() {
-            Stage::ToInstall => self.stage = Stage::unavailable(),
-            other => self.stage = other,
+        let stage = &mut self.stage;
+        if let Step::ToInstall = &stage.step {
+            stage.unavailable();
         }
     }
 
@@ -235,12 +227,10 @@ impl Task {
         ensures words { (k : ℕ) (shard : Shard) (common : Common) →
             heads.new ≡ words_after (row (Event.Raise k) (scene_of shard common self.old)) self.old heads.old }
     {
-        if !matches!(self.stage, Stage::ToRaise(..)) {
-            return;
-        }
-        if let Stage::ToRaise(word, answer) = self.leave() {
+        let stage = &mut self.stage;
+        if let Step::ToRaise(word) = stage.step {
             heads.raise(self.job.origin.slot, word);
-            self.stage = Stage::ToAnswer(answer);
+            stage.step = Step::ToAnswer;
         }
     }
 
@@ -248,18 +238,16 @@ impl Task {
     pub fn content(&self) -> Option<&Answer>
         ensures { option_copied result ≡ content_at self.now.stage }
     {
-        match &self.stage {
-            Stage::ToAnswer(answer) => Some(answer),
-            _ => None,
-        }
+        self.stage.content()
     }
 
     /// Ends it, where it was to be answered: it is answered once.
     pub fn end(&mut self)
         ensures { self.new ≡ task_moved self.old (moves (ended self.old.stage)) }
     {
-        if let Stage::ToAnswer(_) = &self.stage {
-            self.stage = Stage::Gone;
+        let stage = &mut self.stage;
+        if let Step::ToAnswer = &stage.step {
+            stage.step = Step::Gone;
         }
     }
 
@@ -267,18 +255,20 @@ impl Task {
     pub fn needs_id(&self) -> bool
         ensures { result ≡ needs_id self.now.stage }
     {
-        matches!(self.stage, Stage::ToTell(_, TurnStage::ToDraw(_)))
+        let stage = &self.stage;
+        matches!(stage.step, Step::ToTell(_, TurnStep::ToDraw(_)))
     }
 
     /// Takes the message id that was free for the notification of its turn. Where none was it needs one still.
     pub fn draw(&mut self, free: Option<u16>)
         ensures { self.new ≡ task_moved self.old (moves (drew free self.old.stage)) }
     {
-        match (self.leave(), free) {
-            (Stage::ToTell(turn, TurnStage::ToDraw(found)), Some(id)) => {
-                self.stage = Stage::ToTell(turn, TurnStage::ToNote(found, id));
+        let stage = &mut self.stage;
+        match (mem::replace(&mut stage.step, Step::Gone), free) {
+            (Step::ToTell(turn, TurnStep::ToDraw(program)), Some(id)) => {
+                stage.step = Step::ToTell(turn, TurnStep::ToNote(program, id));
             }
-            (other, _) => self.stage = other,
+            (other, _) => stage.step = other,
         }
     }
 
@@ -299,14 +289,13 @@ impl Task {
         ensures sent { (common : Common) →
             emission_if result emission.new ≡ notification now (scene_of shard.old common self.old) self.old.stage }
     {
-        let Stage::ToTell(turn, needs) = &self.stage else {
+        let stage = &mut self.stage;
+        let Step::ToTell(turn, TurnStep::ToNote(program, id)) = &stage.step else {
             return false;
         };
-        let TurnStage::ToNote(found, id) = needs else {
-            return false;
-        };
-        let sent = note(frame, shard, *turn, *id, now, random, found, emission);
-        self.stage = Stage::Gone;
+        let found = ticket_if(program, &stage.found);
+        let sent = note(frame, shard, *turn, *id, now, random, &found, emission);
+        stage.step = Step::Gone;
         sent
     }
 
@@ -317,48 +306,32 @@ impl Task {
         ensures task { (k : ℕ) → TaskMoves (Event.GiveUp k now) shard.old self.old self.new }
         ensures shard { (k : ℕ) → ShardMoves (Event.GiveUp k now) shard.old self.old shard.new }
     {
-        match self.leave() {
-            Stage::ToTell(turn, _) => shard.give_up(turn, now),
-            other => self.stage = other,
+        let stage = &mut self.stage;
+        if let Step::ToTell(turn, _) = &stage.step {
+            shard.give_up(*turn, now);
+            stage.step = Step::Gone;
         }
     }
 
     /// Ends it: its worker is lost.
     pub fn lose(&mut self)
-        ensures { self.new ≡ task_moved self.old (moves Stage.Gone) }
+        ensures { self.new ≡ task_moved self.old (moves Gone) }
     {
-        self.stage = Stage::Gone;
-    }
-
-    // Its stage, which it leaves.
-    fn leave(&mut self) -> Stage
-        ensures stage { result ≡ self.old.stage }
-        ensures after { self.new ≡ task_moved self.old (moves Stage.Gone) }
-    {
-        mem::replace(&mut self.stage, Stage::Gone)
-    }
-}
-
-// The turn that is to take, if one is.
-fn turn_to_take(stage: &Stage) -> Option<Turn>
-    ensures { result ≡ turn_to_take stage.now }
-{
-    match stage {
-        Stage::ToTell(turn, TurnStage::ToTake) => Some(*turn),
-        _ => None,
+        let stage = &mut self.stage;
+        stage.step = Step::Gone;
     }
 }
 
 // Whether there was memory for what was found.
 fn had_memory(taken: &Taken) -> bool
-    ensures { result ≡ had_memory taken.now }
+    ensures { (f : Found) → result ≡ had_memory (taken_with taken.now f) }
 {
     !matches!(taken, Taken::Refused)
 }
 
 // A taking where memory is refused.
 fn without_memory(taken: Taken) -> Taken
-    ensures { result ≡ without_memory taken }
+    ensures { (f : Found) → (taken_with result f ≡ without_memory (taken_with taken f)) × HasSize result f }
 {
     match taken {
         Taken::Given(_) => Taken::Refused,
@@ -379,14 +352,15 @@ pub fn image(ask: &Ask) -> &[u8]
 fn run_and_commit(
     frame: &mut Frame,
     count: u8,
-    ticket: &Ticket,
+    ticket: &Ticket<'_>,
     shard: &mut Shard,
     now: u64,
-) -> Stage
+    answer: &mut Answer,
+) -> Step
     requires owned { IsOwned shard.old ticket.now.origin.slot }
     requires given { HasGiven (slot_in shard.old ticket.now.origin.slot) ticket.now }
     requires asked { ticket.now.turn ≡ None }
-    ensures stage { result ≡ next_stage (commit_call shard.old count ticket.now) }
+    ensures stage { StandsAt result answer.new (next_stage (commit_call shard.old count ticket.now)) }
     ensures shard { shard.new ≡ shard_moved (commit_move shard.old count ticket.now now) ticket.now.origin.slot shard.old }
 {
     let outcome = run(
@@ -397,7 +371,18 @@ fn run_and_commit(
         ticket.readings(),
     );
     let committed = shard.commit(now, &outcome, ticket);
-    Stage::committed(count, &outcome, ticket, committed)
+    Step::committed(count, &outcome, ticket, committed, answer)
+}
+
+// The ticket of a program, if there is one, and of what was written down.
+fn ticket_if<'a>(program: &'a Option<Arc<Verified>>, found: &'a Found) -> Option<Ticket<'a>>
+    requires { FitsTurnStep (ToDraw program.now) found.now }
+    ensures { turn_stage_of (ToDraw program.now) found.now ≡ turns.ToDraw result }
+{
+    match program {
+        Some(program) => Some(Ticket::of(program, found)),
+        None => None,
+    }
 }
 
 // Notifies the observer of a turn of what its taking found: what is sent is written over another emission. Tells whether anything is.
@@ -408,7 +393,7 @@ fn note(
     id: u16,
     now: u64,
     random: u16,
-    found: &Option<Ticket>,
+    found: &Option<Ticket<'_>>,
     emission: &mut Emission,
 ) -> bool
     requires owned { IsOwned shard.old turn.slot }
@@ -437,24 +422,28 @@ fn note(
     }
 }
 
-// Where an accepted program is installed, or which rule an image breaks.
+// Installs an accepted program, or tells which rule an image breaks.
 fn verify_and_install(
     alloc: Global,
     image: &[u8],
     shard: &mut Shard,
     slot: SlotNumber,
-) -> Result<Stage, AllocError>
+    stage: &mut Stage,
+) -> Result<(), AllocError>
     requires { IsOwned shard.old slot }
-    ensures stage { IfOk result (λ s. s ≡ next_stage (install_call (judged image.now) (slot_in shard.old slot))) }
+    ensures stage { OnOk result (stage.new ≡ next_stage (install_call (judged image.now) (slot_in shard.old slot))) }
     ensures shard { OnOk result ((s : Scene) →
         shard.new ≡ shard_moved (install_move (judged image.now) (record s { slot = slot_in shard.old slot })) slot shard.old) }
     ensures safe { OnOk result (AllSafe (changes_told (install_call (judged image.now) (slot_in shard.old slot)))) }
     ensures refused { IsErr result → shard.new ≡ shard.old }
 {
     match verify(alloc, image) {
-        Ok(program) => install_program(alloc, program, shard, slot),
+        Ok(program) => install_program(alloc, program, shard, slot, stage),
         Err(Refusal::NoMemory) => Err(AllocError),
-        Err(Refusal::Broken(fault)) => Ok(Stage::rejected(fault)),
+        Err(Refusal::Broken(fault)) => {
+            stage.rejected(fault);
+            Ok(())
+        }
     }
 }
 
@@ -463,14 +452,16 @@ fn install_program(
     program: Verified,
     shard: &mut Shard,
     slot: SlotNumber,
-) -> Result<Stage, AllocError>
+    stage: &mut Stage,
+) -> Result<(), AllocError>
     requires { IsOwned shard.old slot }
-    ensures stage { IfOk result (λ s. s ≡ next_stage (install_call (Accepts program) (slot_in shard.old slot))) }
+    ensures stage { OnOk result (stage.new ≡ next_stage (install_call (Accepts program) (slot_in shard.old slot))) }
     ensures shard { OnOk result ((s : Scene) →
         shard.new ≡ shard_moved (install_move (Accepts program) (record s { slot = slot_in shard.old slot })) slot shard.old) }
     ensures refused { IsErr result → shard.new ≡ shard.old }
 {
     let receipt = Receipt::of(&program, 0);
     let program = Arc::new(alloc, program)?;
-    Ok(Stage::made(receipt, shard.install(slot, program)))
+    stage.made(receipt, shard.install(slot, program));
+    Ok(())
 }

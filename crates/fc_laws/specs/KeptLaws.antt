@@ -5,7 +5,7 @@ use Rattle.coap_msg.specs.declared.types.Emission.{Emission}
 use Rattle.fc_core.specs.Contents.{Content}
 use Rattle.fc_core.specs.declared.event.Event.{Event}
 use Rattle.fc_core.specs.declared.event.Event.TheVariants.{Answer}
-use Rattle.fc_core.specs.declared.stage.Stage.TheVariants.{ToAnswer}
+use Rattle.fc_core.specs.Stage.{ToAnswer}
 use Rattle.fc_core.specs.History.{Seen, job, stage}
 use Rattle.fc_core.specs.Ids.{free_id}
 

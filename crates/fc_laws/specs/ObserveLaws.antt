@@ -13,8 +13,8 @@ use Rattle.fc_registry.specs.Calls.{meaning_at}
 use Rattle.fc_registry.specs.Slots.{Ticket}
 use Rattle.fc_registry.specs.Turns.{turn_job}
 use Rattle.fc_core.specs.declared.event.Event.TheVariants.{Commit}
-use Rattle.fc_core.specs.declared.stage.Stage.TheVariants.{ToCommit, ToTell}
-use Rattle.fc_core.specs.declared.stage.TurnStage.TheVariants as turns
+use Rattle.fc_core.specs.Stage.{ToCommit, ToTell}
+use Rattle.fc_core.specs.TurnStage as turns
 use Rattle.fc_core.specs.History.{Entry, History, Then, Seen, seen, slot_at, stage, watch}
 use Rattle.fc_core.specs.Laws.{slot_of}
 

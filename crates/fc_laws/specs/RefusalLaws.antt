@@ -21,9 +21,9 @@ use Rattle.fc_verify.specs.Judged.{judged}
 use Rattle.fc_core.specs.Contents.{Content}
 use Rattle.fc_core.specs.declared.event.Event.{Event}
 use Rattle.fc_core.specs.declared.event.Event.TheVariants.{Answer, Commit, Deliver, Fresh, Install, Note, Receipt, Remove, Take}
-use Rattle.fc_core.specs.declared.stage.Stage.{Stage}
-use Rattle.fc_core.specs.declared.stage.Stage.TheVariants.{ToAnswer, ToCommit, ToDescribe, ToInstall, ToRemove, ToTake, ToTell}
-use Rattle.fc_core.specs.declared.stage.TurnStage.TheVariants as turns
+use Rattle.fc_core.specs.Stage.{Stage}
+use Rattle.fc_core.specs.Stage.{ToAnswer, ToCommit, ToDescribe, ToInstall, ToRemove, ToTake, ToTell}
+use Rattle.fc_core.specs.TurnStage as turns
 use Rattle.fc_laws.specs.ExchangeLaws.{FindsNoExchange, IsOpening, OpensOne}
 use Rattle.fc_core.specs.History.{Entry, Seen, and_then, job, slot_at, stage, watch}
 use Rattle.fc_core.specs.Ids.{free_id}

@@ -9,8 +9,8 @@ use Rattle.fc_registry.specs.Changes.{Change, Installed, Committed, Removed}
 use Rattle.fc_registry.specs.Record.{code_class}
 use Rattle.fc_registry.specs.Slots.{Present, Ticket}
 use Rattle.fc_core.specs.declared.event.Event.TheVariants.{Commit, Install, Remove}
-use Rattle.fc_core.specs.declared.stage.Stage.{Stage}
-use Rattle.fc_core.specs.declared.stage.Stage.TheVariants.{ToCommit, ToInstall, ToRemove, ToRaise}
+use Rattle.fc_core.specs.Stage.{Stage}
+use Rattle.fc_core.specs.Stage.{ToCommit, ToInstall, ToRemove, ToRaise}
 use Rattle.fc_core.specs.History.{Entry, History, Seen, seen, and_then, job, slot_at, stage}
 use Rattle.fc_core.specs.Laws.{Taking, slot_of, takings_of}
 use Rattle.fc_core.specs.Stages.{image_of}

@@ -18,8 +18,8 @@ use Rattle.fc_observe.specs.Entries.{is_entry_of}
 use Rattle.fc_registry.specs.Calls.{meaning_at}
 use Rattle.fc_registry.specs.Slots.{Ticket}
 use Rattle.fc_core.specs.declared.event.Event.TheVariants.{Commit, Note, ShardTick, Signal}
-use Rattle.fc_core.specs.declared.stage.Stage.TheVariants.{ToCommit, ToTell}
-use Rattle.fc_core.specs.declared.stage.TurnStage.TheVariants.{ToNote}
+use Rattle.fc_core.specs.Stage.{ToCommit, ToTell}
+use Rattle.fc_core.specs.TurnStage.{ToNote}
 use Rattle.fc_core.specs.History.{Entry, Seen, late_in, stage, watch}
 use Rattle.fc_core.specs.Laws.{slot_of}
 use Rattle.fc_laws.specs.ObserveLaws.{is_held}

@@ -14,7 +14,7 @@ ghost use Rattle.fc_core.specs.History.{Entry, History, Then, Seen, seen, and_th
 ghost use Rattle.fc_core.specs.Laws.{HasCome, answer_at, slot_of};
 ghost use Rattle.coap_reply.specs.Responses.{Response, bare, ran_response};
 ghost use Rattle.fc_core.specs.declared.event.Event.TheVariants.{Take};
-ghost use Rattle.fc_core.specs.declared.stage.Stage.TheVariants.{ToAnswer, ToTake};
+ghost use Rattle.fc_core.specs.Stage.{ToAnswer, ToTake};
 ghost use Rattle.fc_help.specs.declared.request.Method.TheVariants.{Post};
 ghost use Rattle.fc_kinds.specs.Meaning.{Input, IsRun, Program, meant};
 ghost use Rattle.fc_registry.specs.Record.{code_class};

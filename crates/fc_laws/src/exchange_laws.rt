@@ -5,7 +5,7 @@ ghost use Rattle.fc_core.specs.Contents.{Content};
 ghost use Rattle.fc_core.specs.History.{Entry, History, Seen, Then, and_then, did, job, seen, stage};
 ghost use Rattle.fc_laws.specs.KeptLaws.{AnswersJob, HasId, answers, answers_with, emitted_bytes, exchange_of_job, opened_at};
 ghost use Rattle.fc_core.specs.declared.event.Event.TheVariants.{Answer};
-ghost use Rattle.fc_core.specs.declared.stage.Stage.TheVariants.{ToAnswer};
+ghost use Rattle.fc_core.specs.Stage.{ToAnswer};
 ghost use Rattle.coap_msg.specs.Wire.{Message};
 ghost use Rattle.coap_msg.specs.declared.types.Emission.{Emission};
 ghost use Rattle.fc_core.specs.Laws.{HasCome};

@@ -2,7 +2,7 @@
 ghost use Rattle.coap_msg.specs.declared.types.Emission.{Emission};
 ghost use Rattle.fc_core.specs.Contents.{Content, Ran, RunAnswer, Unavailable};
 ghost use Rattle.fc_core.specs.declared.event.Event.TheVariants.{Take, Commit, Install, Raise, Answer, Lose};
-ghost use Rattle.fc_core.specs.declared.stage.Stage.TheVariants.{ToTake, ToCommit, ToInstall, ToRaise, ToAnswer, Gone};
+ghost use Rattle.fc_core.specs.Stage.{ToTake, ToCommit, ToInstall, ToRaise, ToAnswer, Gone};
 ghost use Rattle.fc_core.specs.History.{Entry, History, Then, Seen, seen, and_then, did, job, slot_at, stage};
 ghost use Rattle.fc_core.specs.Laws.{HasCome, IsOfNewest, IsOvertaken, TakesAgain, answer_at, answers_of, is_stray, later, slot_of, takings_of};
 ghost use Rattle.fc_registry.specs.Calls.{commit_of, run_of};

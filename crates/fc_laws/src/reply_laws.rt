@@ -19,7 +19,7 @@ ghost use Rattle.fc_core.specs.Receiving.{delivered, told};
 ghost use Rattle.fc_laws.specs.ReplyLaws.{IsAnswerTo, Refuses, Rejects, reset_to};
 ghost use Rattle.fc_core.specs.declared.event.Event.TheVariants.{Answer, Deliver};
 ghost use Rattle.fc_core.specs.declared.front.Delivered.TheVariants.{Signal};
-ghost use Rattle.fc_core.specs.declared.stage.Stage.TheVariants.{ToAnswer};
+ghost use Rattle.fc_core.specs.Stage.{ToAnswer};
 
 /// A request that is no repeat, and that a check of its options refuses, is answered by the code of that check alone. A confirmable message
 /// with a format error, a ping, and a confirmable message that is no request are rejected by a Reset message of their id (RFC 7252,

@@ -16,9 +16,9 @@ ghost use Rattle.fc_laws.specs.ObserveLaws.{NoneRegisters, is_held};
 ghost use Rattle.fc_observe.specs.Entries.{is_entry_of};
 ghost use Rattle.fc_laws.specs.TurnLaws.{HasLapsed, IsNoContent, IsToHeld, NotifiesOf, Removes, Resends, moment_at, response_of};
 ghost use Rattle.fc_core.specs.declared.event.Event.TheVariants.{GiveUp, Lose, Note, ShardTick};
-ghost use Rattle.fc_core.specs.declared.stage.Stage.TheVariants.{Gone, ToTell};
-ghost use Rattle.fc_core.specs.declared.stage.TurnStage.{TurnStage};
-ghost use Rattle.fc_core.specs.declared.stage.TurnStage.TheVariants.{ToNote};
+ghost use Rattle.fc_core.specs.Stage.{Gone, ToTell};
+ghost use Rattle.fc_core.specs.TurnStage.{TurnStage};
+ghost use Rattle.fc_core.specs.TurnStage.{ToNote};
 
 /// The job of a turn is told of its own turn until it is gone, and no request's job is. Once it has notified its observer, whether or
 /// not that sent anything, was given up or lost, it is gone for ever: so a turn notifies once at most.

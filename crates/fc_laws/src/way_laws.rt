@@ -9,8 +9,8 @@ ghost use Rattle.fc_core.specs.History.{Seen, and_then, did, job, slot_at, stage
 ghost use Rattle.fc_core.specs.Laws.{slot_of};
 ghost use Rattle.fc_core.specs.Stages.{image_of, new_task, run_content};
 ghost use Rattle.fc_core.specs.declared.event.Event.TheVariants.{Commit, Install, Peek, Receipt, Remove};
-ghost use Rattle.fc_core.specs.declared.stage.Stage.TheVariants.{ToAnswer, ToCommit, ToDescribe, ToInstall, ToList, ToMatch, ToRaise, ToRemove, ToTake, ToTell};
-ghost use Rattle.fc_core.specs.declared.stage.TurnStage.TheVariants.{ToTake as TakesForTurn};
+ghost use Rattle.fc_core.specs.Stage.{ToAnswer, ToCommit, ToDescribe, ToInstall, ToList, ToMatch, ToRaise, ToRemove, ToTake, ToTell};
+ghost use Rattle.fc_core.specs.TurnStage.{ToTake as TakesForTurn};
 ghost use Rattle.fc_help.specs.Request.{Request};
 ghost use Rattle.fc_isa.specs.declared.rule.Rule.{Rule};
 ghost use Rattle.fc_kinds.specs.Meaning.{Program};

@@ -1,5 +1,6 @@
 pub mod Receipts
 pub mod Slots
+pub mod Taken
 pub mod Watches
 pub mod Turns
 pub mod Shards

@@ -3,6 +3,10 @@ use Rattle.std.specs.Prelude.{Option, Some, None}
 use Rattle.fc_registry.specs.declared.body.Body.{Body}
 use Rattle.fc_registry.specs.declared.slot.SlotState.{SlotState}
 use Rattle.fc_registry.specs.Slots.{Slot, Present}
+use Rattle.fc_registry.specs.Taken as spec
+use Rattle.fc_registry.specs.Taken.{Found, IsSized, ticket_with}
+use Rattle.fc_registry.specs.declared.shard.Taken.{Taken}
+use Rattle.fc_registry.specs.declared.shard.Taken.TheVariants.{Given, Missing, Stale, Refused}
 
 abbrev pub present_of : Option Body → Option Present
 present_of None = None
@@ -10,3 +14,15 @@ present_of (Some b) = Some (record { program = b.program.value; version = b.vers
 
 abbrev pub as_seen : SlotState → Slot
 as_seen s = record { serial = s.serial; noticed = s.noticed; present = present_of s.body; ring = s.ring }
+
+-- what a taking gave, with what it wrote down
+abbrev pub taken_with : Taken → Found → spec.Taken
+taken_with (Given program) f = spec.Given (ticket_with program.value f)
+taken_with Missing f = spec.Missing
+taken_with Stale f = spec.Stale
+taken_with Refused f = spec.Refused
+
+-- a program that is given has the variables that were written down, in number
+abbrev pub HasSize : Taken → Found → Type 0
+HasSize (Given program) f = IsSized program.value f
+HasSize other f = Unit {0}

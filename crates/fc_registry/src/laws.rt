@@ -16,7 +16,7 @@ ghost use Rattle.fc_registry.specs.Turns.{due_job};
 ghost use Rattle.fc_registry.specs.Watches.{after_due, after_tick, due_place, is_quiet, late_place, ticked_in, watch_at};
 ghost use Rattle.fc_registry.specs.declared.commit.CommitOutcome.{CommitOutcome};
 ghost use Rattle.fc_registry.specs.declared.job.Job.{Job};
-ghost use Rattle.fc_registry.specs.declared.shard.Taken.TheVariants.{Given};
+ghost use Rattle.fc_registry.specs.Taken.{Given};
 ghost use Rattle.fc_registry.specs.Calls.{HasGiven, ComesTo, IsTaking, is_registration, meaning_at, observe_calls, outcome};
 ghost use Rattle.std.specs.List.{Any};
 ghost use Rattle.std.specs.Prelude.{List, [], None, Some, length, true, ℕ, ◌∷◌, ◌++◌, ◌+◌, ◌≤◌, ◌≡◌};

@@ -41,7 +41,7 @@
 //!   another turn is refused.
 //! - No observer was sent a serial above its slot's. A shard that is passed as quiet has nothing to send again, and nobody who is due.
 //!
-//! By the contracts of `Shard::take`, `commit`, `install`, `remove`, `receipt`, `next_due`, `note`, `give_up`, `signal`, `tick`,
+//! By the contracts of `Shard::take`, `write_taking`, `commit`, `install`, `remove`, `receipt`, `next_due`, `note`, `give_up`, `signal`, `tick`,
 //! `rings_are_chains`, `no_observer_is_ahead`, `laws`.
 #![tactic(auto)]
 
@@ -66,8 +66,8 @@ pub use note::{NoteOutcome, Noted, Notification};
 pub use observe::{CANCEL, REGISTER, has_observe};
 pub use receipt::Receipt;
 pub use ring::Entry;
-pub use shard::{Made, Removal, Shard, Taken};
+pub use shard::{Made, Removal, Shard, Taken, Took};
 pub use shards::make_shards;
 pub use slot::LAST_SERIAL;
 pub use slot_number::{SHARDS, SLOTS, SlotNumber};
-pub use ticket::{Mark, Ticket};
+pub use ticket::{Found, Mark, Ticket};

@@ -15,7 +15,7 @@ use fc_observe::{Observer, Observers, Turn};
 #[derive(Drop)]
 pub enum Notification<'a> {
     /// What a run of its ticket gave.
-    Ran(&'a Outcome<'a>, &'a Ticket),
+    Ran(&'a Outcome<'a>, &'a Ticket<'a>),
     /// That its taking found the slot empty.
     Gone,
 }
@@ -92,7 +92,7 @@ fn end_turn(
     turn: Turn,
     id: u16,
     random: u16,
-    ticket: &Ticket,
+    ticket: &Ticket<'_>,
     outcome: &Outcome<'_>,
     bytes: &Datagram,
 )
@@ -131,7 +131,7 @@ fn write_run(
     observer: &Observer<'_>,
     id: u16,
     outcome: &Outcome<'_>,
-    ticket: &Ticket,
+    ticket: &Ticket<'_>,
     emission: &mut Emission,
 )
     requires { outcome.now ≡ run_of ticket.now }
@@ -189,7 +189,7 @@ fn note_kind(confirmable: bool) -> MessageType
 }
 
 // Whether a ticket is of a turn, and the outcome of the ticket.
-fn is_run_of_turn(outcome: &Outcome<'_>, ticket: &Ticket, turn: Turn, serial: u64) -> bool
+fn is_run_of_turn(outcome: &Outcome<'_>, ticket: &Ticket<'_>, turn: Turn, serial: u64) -> bool
     ensures own { IsTrue result ↔ IsRunOfTurn turn outcome.now ticket.now serial }
     ensures run { IsTrue result → outcome.now ≡ run_of ticket.now }
 {

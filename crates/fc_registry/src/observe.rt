@@ -32,7 +32,7 @@ pub(crate) fn observe(
     watch: &mut Observers,
     now: u64,
     outcome: &Outcome<'_>,
-    ticket: &Ticket,
+    ticket: &Ticket<'_>,
 ) -> bool
     requires { outcome.now ≡ run_of ticket.now }
     ensures observed { result ≡ is_observed ticket.now watch.old }
@@ -48,7 +48,7 @@ pub(crate) fn observe(
 }
 
 // Whether the client is to be an observer.
-fn is_registration(outcome: &Outcome<'_>, ticket: &Ticket) -> bool
+fn is_registration(outcome: &Outcome<'_>, ticket: &Ticket<'_>) -> bool
     requires { outcome.now ≡ run_of ticket.now }
     ensures { result ≡ is_registration ticket.now }
 {
@@ -58,7 +58,7 @@ fn is_registration(outcome: &Outcome<'_>, ticket: &Ticket) -> bool
 }
 
 // Tells whether there was room.
-fn register(watch: &mut Observers, now: u64, ticket: &Ticket) -> bool
+fn register(watch: &mut Observers, now: u64, ticket: &Ticket<'_>) -> bool
     ensures room { result ≡ is_entered (registration ticket.now.origin.endpoint ticket.now.token.items watch.old) }
     ensures watch { watch.new ≡ observers_after
         (Register now ticket.now.origin.endpoint ticket.now.token ticket.now.request (szx_of ticket.now.block) ticket.now.serial)

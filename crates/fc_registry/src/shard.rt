@@ -3,7 +3,7 @@ ghost use Rattle.std.specs.Prelude.{◌≡◌, if◌then◌else◌, ℕ, ◌+◌
 ghost use Rattle.fc_registry.specs.Slots.{IsOwned, slot_in, with_slot, new_slot, last_serial, version_in, vars_in};
 ghost use Rattle.fc_registry.specs.Changes.{after_changes};
 ghost use Rattle.fc_registry.specs.Calls.{TakesAt, CommitsTo, install_in, receipt_at, remove_from, after_taking};
-ghost use Rattle.fc_registry.specs.Views.{as_seen};
+ghost use Rattle.fc_registry.specs.Views.{HasSize, as_seen, taken_with};
 ghost use Rattle.fc_registry.specs.Record.{IsRing};
 ghost use Rattle.fc_observe.specs.Calls.{observers_after};
 ghost use Rattle.fc_registry.specs.Notes.{IsKeptUnlessSent, NotesTo, noted_as};
@@ -19,7 +19,7 @@ use crate::slot::{
     take_turn, vars_of, version_of,
 };
 use crate::slot_number::{SHARDS, SlotNumber};
-use crate::ticket::Ticket;
+use crate::ticket::{Found, Ticket};
 use crate::turn::{next_turn, no_job};
 use coap_msg::{Datagram, Emission, Endpoint};
 use fc_help::Readings;
@@ -62,17 +62,36 @@ impl Model for Shard {
         × AreWatched s.watched s.watches.items };
 }
 
-/// What a taking found.
+/// What a taking gives.
 #[derive(Drop)]
 pub enum Taken {
-    /// A program.
-    Given(Ticket),
+    /// A program: its handle, beside what was written down.
+    Given(Arc<Verified>),
     /// The slot is empty.
     Missing,
     /// The turn is out no longer.
     Stale,
     /// There was no memory for another handle of the program.
     Refused,
+}
+
+/// What a taking gives, with what it wrote down. A clause sees the ticket, where there is one.
+#[derive(Drop)]
+pub struct Took {
+    pub taken: Taken,
+    pub found: Found,
+}
+
+impl Model for Took {
+    ghost use Rattle.fc_registry.specs.Taken as spec;
+
+    ghost Value = { spec.Taken };
+
+    ghost use Rattle.fc_registry.specs.Views.{HasSize, taken_with};
+
+    ghost view = { λ t. taken_with t.taken t.found };
+
+    ghost invariant = { λ t. HasSize t.taken t.found };
 }
 
 /// What an install answers.
@@ -120,14 +139,27 @@ impl Shard {
 
     /// Takes what a job finds in its slot, and keeps the readings that are handed in. Only a handle of the program asks for memory. A turn that is out no longer is stale, which
     /// is looked at first, at the shard's moment; one that finds its slot empty keeps that. A request's taking changes nothing.
-    pub fn take(&mut self, job: &Job, readings: &Readings) -> Taken
+    pub fn take(&mut self, job: &Job, readings: &Readings) -> Took
         requires { IsOwned self.old job.now.origin.slot }
         ensures taken { TakesAt job.now readings.now self.old result }
         ensures after { self.new ≡ after_taking job.now self.old }
     {
+        let mut found = Found::blank();
+        let taken = self.write_taking(job, readings, &mut found);
+        Took { taken, found }
+    }
+
+    /// Takes as `take` does, and writes down what is found over what another taking found: none is moved. Where a program is given, it and what
+    /// is written down are the ticket.
+    pub fn write_taking(&mut self, job: &Job, readings: &Readings, found: &mut Found) -> Taken
+        requires { IsOwned self.old job.now.origin.slot }
+        ensures taken { TakesAt job.now readings.now self.old (taken_with result found.new) }
+        ensures size { HasSize result found.new }
+        ensures after { self.new ≡ after_taking job.now self.old }
+    {
         let place = job.origin.slot.place();
         match job.turn {
-            None => find(job, readings, &self.slots[place]),
+            None => find(job, readings, &self.slots[place], found),
             Some(number) => {
                 let slot = job.origin.slot.number();
                 let watch = &mut self.watches[place];
@@ -138,6 +170,7 @@ impl Shard {
                     job,
                     readings,
                     &self.slots[place],
+                    found,
                 )
             }
         }
@@ -149,7 +182,7 @@ impl Shard {
     /// to its variables is dropped, and so is its notice; that of a commit that writes makes the new serial the noticed one.
     /// A GET with Observe 0 that is answered 2.05 from its first block on registers its client as an observer, where there is
     /// room; Observe 1 removes the entry, whatever the code.
-    pub fn commit(&mut self, now: u64, outcome: &Outcome<'_>, ticket: &Ticket) -> Committed
+    pub fn commit(&mut self, now: u64, outcome: &Outcome<'_>, ticket: &Ticket<'_>) -> Committed
         requires { IsOwned self.old ticket.now.origin.slot }
         ensures { CommitsTo outcome.now ticket.now self.old now result self.new }
     {

@@ -3,20 +3,19 @@ ghost use Rattle.std.specs.Prelude.{◌≡◌, if◌then◌else◌, ◌+◌, ◌
 ghost use Rattle.fc_machine.specs.Ran.{meaning_of};
 ghost use Rattle.fc_registry.specs.Slots.{new_slot, last_serial, version_in, vars_in};
 ghost use Rattle.fc_registry.specs.Changes.{Committed as Wrote, after_changes};
-ghost use Rattle.fc_registry.specs.Calls.{IsCommit, ComesTo, IsOwn, IsCurrent, commit_calls, commit_of, is_observed, is_post, observe_calls, mark_of, install_in, receipt_at, remove_from, request_of, run_of, wants_by, IsFinding, IsTurnTaking, turn_calls};
-ghost use Rattle.fc_registry.specs.Views.{as_seen, present_of};
+ghost use Rattle.fc_registry.specs.Calls.{IsCommit, ComesTo, IsOwn, IsCurrent, commit_calls, commit_of, is_observed, is_post, observe_calls, mark_of, install_in, receipt_at, remove_from, run_of, wants_by, IsFinding, IsTurnTaking, turn_calls};
+ghost use Rattle.fc_registry.specs.Views.{HasSize, as_seen, present_of, taken_with};
 ghost use Rattle.fc_observe.specs.Calls.{after_calls};
 
 use crate::body::Body;
 use crate::commit::{CommitOutcome, Committed};
-use crate::job::{Ask, Job};
+use crate::job::Job;
 use crate::observe::observe;
 use crate::receipt::Receipt;
 use crate::ring::{Entry, Ring};
 use crate::shard::{Made, Removal, Taken};
-use crate::ticket::{Mark, Ticket, is_run_of};
-use coap_msg::Token;
-use fc_help::{Method, Readings, Request, Vars};
+use crate::ticket::{Found, Mark, Ticket, is_run_of};
+use fc_help::{Method, Readings, Vars};
 use fc_machine::Outcome;
 use fc_observe::{Observers, Turn};
 use fc_verify::Verified;
@@ -89,8 +88,10 @@ pub(crate) fn take_turn(
     job: &Job,
     readings: &Readings,
     slot: &SlotState,
+    found: &mut Found,
 ) -> Taken
-    ensures taken { IsTurnTaking turn now watch.old job.now readings.now (as_seen slot.now) result }
+    ensures taken { IsTurnTaking turn now watch.old job.now readings.now (as_seen slot.now) (taken_with result found.new) }
+    ensures size { HasSize result found.new }
     ensures watch { watch.new ≡ after_calls (turn_calls turn now (as_seen slot.now).present watch.old) watch.old }
 {
     watch.advance(now);
@@ -100,50 +101,23 @@ pub(crate) fn take_turn(
     if slot.body.is_none() {
         watch.miss(turn);
     }
-    find(job, readings, slot)
+    find(job, readings, slot, found)
 }
 
-// What a job finds in a slot.
-pub(crate) fn find(job: &Job, readings: &Readings, slot: &SlotState) -> Taken
-    ensures { IsFinding job.now readings.now (as_seen slot.now) result }
+// What a job finds in a slot, which is written down over what was found before.
+pub(crate) fn find(job: &Job, readings: &Readings, slot: &SlotState, found: &mut Found) -> Taken
+    ensures taken { IsFinding job.now readings.now (as_seen slot.now) (taken_with result found.new) }
+    ensures size { HasSize result found.new }
 {
     let Some(body) = &slot.body else {
         return Taken::Missing;
     };
     match Arc::try_clone(&body.program) {
-        Ok(program) => Taken::Given(Ticket {
-            origin: job.origin,
-            turn: job.turn,
-            token: copy_token(&job.token),
-            request: request_of(&job.ask),
-            block: job.block,
-            observe: job.observe,
-            serial: slot.serial,
-            program,
-            version: body.version,
-            vars: body.vars.copy(),
-            readings: *readings,
-        }),
+        Ok(program) => {
+            found.write(job, readings, slot.serial, body.version, &body.vars);
+            Taken::Given(program)
+        }
         Err(_) => Taken::Refused,
-    }
-}
-
-// Another copy of a token.
-pub(crate) fn copy_token(token: &Token) -> Token
-    ensures { result ≡ token.now }
-{
-    let mut copy = Token::new();
-    let _fits = copy.try_extend_from_slice(token.as_slice());
-    copy
-}
-
-// The request that a job asks a program to answer.
-fn request_of(ask: &Ask) -> Request
-    ensures { result ≡ request_of ask.now }
-{
-    match ask {
-        Ask::Run(request) => request.copy(),
-        _ => Request::new(Method::Get, 0, None, &[], &[]),
     }
 }
 
@@ -204,11 +178,11 @@ pub(crate) fn receipt_in(slot: &SlotState) -> Option<Receipt>
 }
 
 // Whether the ticket is no turn's, the outcome is of its program, request, variables and readings, and its serial isn't above the slot's.
-fn is_own(outcome: &Outcome<'_>, ticket: &Ticket, slot: &SlotState) -> bool
+fn is_own(outcome: &Outcome<'_>, ticket: &Ticket<'_>, slot: &SlotState) -> bool
     ensures own { IsTrue result ↔ IsOwn outcome.now ticket.now (as_seen slot.now) }
     ensures run { IsTrue result → outcome.now ≡ run_of ticket.now }
 {
-    ticket.turn.is_none() && is_run_of(outcome, ticket, slot.serial)
+    ticket.turn().is_none() && is_run_of(outcome, ticket, slot.serial)
 }
 
 // Whether the run answered a POST with a code of class 2.
@@ -226,22 +200,22 @@ fn is_post(method: Method) -> bool
 }
 
 // Whether nothing has changed since the ticket was taken.
-fn is_current(ticket: &Ticket, slot: &SlotState) -> bool
+fn is_current(ticket: &Ticket<'_>, slot: &SlotState) -> bool
     ensures { IsTrue result ↔ IsCurrent ticket.now (as_seen slot.now) }
 {
     match &slot.body {
         None => false,
         Some(body) => {
-            slot.serial == ticket.serial
-                && ticket.version == body.version
+            slot.serial == ticket.serial()
+                && ticket.version() == body.version
                 && ticket.program().is(&body.program)
-                && ticket.vars.is(&body.vars)
+                && ticket.vars().is(&body.vars)
         }
     }
 }
 
 // What the commit of a ticket's run comes to. A run that has nothing to write compares nothing.
-fn outcome_of(outcome: &Outcome<'_>, ticket: &Ticket, slot: &SlotState) -> CommitOutcome
+fn outcome_of(outcome: &Outcome<'_>, ticket: &Ticket<'_>, slot: &SlotState) -> CommitOutcome
     requires { IsOwn outcome.now ticket.now (as_seen slot.now) }
     ensures { ComesTo ticket.now (as_seen slot.now) result }
 {
@@ -262,7 +236,7 @@ pub(crate) fn committed(
     watch: &mut Observers,
     now: u64,
     outcome: &Outcome<'_>,
-    ticket: &Ticket,
+    ticket: &Ticket<'_>,
 ) -> Committed
     ensures commit { IsCommit outcome.now ticket.now (as_seen slot.old) watch.old result (as_seen slot.new) }
     ensures watch { watch.new ≡ after_calls (commit_calls result now ticket.now) watch.old }
@@ -284,7 +258,7 @@ fn keep(
     watch: &mut Observers,
     now: u64,
     outcome: &Outcome<'_>,
-    ticket: &Ticket,
+    ticket: &Ticket<'_>,
 ) -> Mark
     requires { outcome.now ≡ run_of ticket.now }
     ensures mark { result ≡ mark_of ticket.now (as_seen slot.now).serial false (is_observed ticket.now watch.old) }
@@ -295,7 +269,7 @@ fn keep(
 }
 
 // Writes what a run left to its slot, and remembers the commit.
-fn write(slot: &mut SlotState, outcome: &Outcome<'_>, ticket: &Ticket) -> Mark
+fn write(slot: &mut SlotState, outcome: &Outcome<'_>, ticket: &Ticket<'_>) -> Mark
     requires own { IsOwn outcome.now ticket.now (as_seen slot.old) }
     requires current { IsCurrent ticket.now (as_seen slot.old) }
     requires below { (as_seen slot.old).serial < last_serial }
@@ -330,12 +304,12 @@ fn vars_after(outcome: &Outcome<'_>) -> Vars
 }
 
 // What a commit leaves, by its ticket.
-fn mark(ticket: &Ticket, serial: u64, changed: bool, observed: bool) -> Mark
+fn mark(ticket: &Ticket<'_>, serial: u64, changed: bool, observed: bool) -> Mark
     ensures { result ≡ mark_of ticket.now serial changed observed }
 {
     Mark {
-        origin: ticket.origin,
-        found: ticket.serial,
+        origin: ticket.origin(),
+        found: ticket.serial(),
         serial,
         changed,
         observed,

@@ -1,130 +1,233 @@
-//! Tickets and marks.
+//! What a taking finds, tickets and marks.
 ghost use Rattle.std.specs.Prelude.{◌≡◌, ◌↔◌, IsTrue, length};
-ghost use Rattle.fc_registry.specs.Calls.{IsRunOf, run_of};
+ghost use Rattle.fc_kinds.specs.Meaning.{Program};
+ghost use Rattle.fc_registry.specs.Calls.{IsRunOf, request_of, run_of, ticket_of};
+ghost use Rattle.fc_registry.specs.Taken.{IsSized, ticket_with};
 
-use crate::job::Origin;
+use crate::job::{Ask, Job, Origin};
 use coap_msg::Token;
 use coap_opts::Block;
-use fc_help::{Readings, Request, Vars, are_same_readings};
+use fc_help::{Method, NO_READINGS, Readings, Request, Vars, are_same_readings};
 use fc_machine::Outcome;
 use fc_verify::Verified;
 use std::marker::Model;
-use std::sync::Arc;
 
-/// What a taking found in a slot, for a job: the serial, the program by a handle, and the variables. What is installed
+/// What a taking writes down of its job and of the slot that it finds; with the handle of the program, which the taking gives, that is a
+/// ticket. It is written over what the last taking found. What is installed or committed later doesn't alter it.
+#[derive(Drop)]
+pub struct Found {
+    origin: Origin,
+    turn: Option<u64>,
+    token: Token,
+    request: Request,
+    block: Option<Block>,
+    observe: Option<u32>,
+    serial: u64,
+    version: u64,
+    vars: Vars,
+    readings: Readings,
+}
+
+impl Model for Found {
+    ghost use Rattle.fc_registry.specs.Taken as spec;
+
+    ghost Value = { spec.Found };
+
+    ghost view = { λ f. record {
+      origin = f.origin;
+      turn = f.turn;
+      token = f.token;
+      request = f.request;
+      block = f.block;
+      observe = f.observe;
+      serial = f.serial;
+      version = f.version;
+      vars = f.vars;
+      readings = f.readings;
+    } };
+}
+
+impl Found {
+    /// Room for what a taking finds.
+    pub fn blank() -> Found {
+        Found {
+            origin: Origin::default(),
+            turn: None,
+            token: Token::new(),
+            request: Request::new(Method::Get, 0, None, &[], &[]),
+            block: None,
+            observe: None,
+            serial: 0,
+            version: 0,
+            vars: Vars::zeros(0),
+            readings: NO_READINGS,
+        }
+    }
+
+    // Writes down what a job finds in a slot of this serial, beside a program of which these are the version and the variables.
+    pub(crate) fn write(
+        &mut self,
+        job: &Job,
+        readings: &Readings,
+        serial: u64,
+        version: u64,
+        vars: &Vars,
+    )
+        ensures { (p : Program) →
+            ticket_with p self.new ≡ ticket_of job.now readings.now serial (record { program = p; version = version; vars = vars.now }) }
+    {
+        self.origin = job.origin;
+        self.turn = job.turn;
+        self.token = copy_token(&job.token);
+        write_request(&job.ask, &mut self.request);
+        self.block = job.block;
+        self.observe = job.observe;
+        self.serial = serial;
+        self.version = version;
+        self.vars.copy_from(vars);
+        self.readings = *readings;
+    }
+}
+
+// Another copy of a token.
+fn copy_token(token: &Token) -> Token
+    ensures { result ≡ token.now }
+{
+    let mut copy = Token::new();
+    let _fits = copy.try_extend_from_slice(token.as_slice());
+    copy
+}
+
+// Writes the request that a job asks a program to answer over another.
+fn write_request(ask: &Ask, request: &mut Request)
+    ensures { request.new ≡ request_of ask.now }
+{
+    match ask {
+        Ask::Run(asked) => request.copy_from(asked),
+        _ => request.write(Method::Get, 0, None, &[], &[]),
+    }
+}
+
+/// What a taking found in a slot, for a job: the serial, the program, and the variables, as they were written down. What is installed
 /// or committed later doesn't alter it.
 #[derive(Drop)]
-pub struct Ticket {
-    pub(crate) origin: Origin,
-    pub(crate) turn: Option<u64>,
-    pub(crate) token: Token,
-    pub(crate) request: Request,
-    pub(crate) block: Option<Block>,
-    pub(crate) observe: Option<u32>,
-    pub(crate) serial: u64,
-    pub(crate) program: Arc<Verified>,
-    pub(crate) version: u64,
-    pub(crate) vars: Vars,
-    pub(crate) readings: Readings,
+pub struct Ticket<'a> {
+    program: &'a Verified,
+    found: &'a Found,
 }
 
-impl Model for Ticket {
-    ghost use Rattle.fc_registry.specs.Slots.{Ticket as Found};
+impl<'a> Model for Ticket<'a> {
+    ghost use Rattle.fc_registry.specs.Slots as spec;
 
-    ghost Value = { Found };
+    ghost Value = { spec.Ticket };
 
-    ghost use Rattle.std.specs.Prelude.{◌≡◌, length};
+    ghost use Rattle.fc_registry.specs.Taken.{IsSized, ticket_with};
 
-    ghost view = { λ t. record {
-      origin = t.origin;
-      turn = t.turn;
-      token = t.token;
-      request = t.request;
-      block = t.block;
-      observe = t.observe;
-      serial = t.serial;
-      found = record { program = t.program.value; version = t.version; vars = t.vars };
-      readings = t.readings;
-    } };
+    ghost view = { λ t. ticket_with t.program.now t.found.now };
 
-    ghost invariant = { λ t. length t.vars ≡ t.program.value.vars_size };
+    ghost invariant = { λ t. IsSized t.program.now t.found.now };
 }
 
-impl Ticket {
+impl<'a> Ticket<'a> {
+    /// The ticket of a program that a taking gave, and of what it wrote down.
+    pub fn of(program: &'a Verified, found: &'a Found) -> Ticket<'a>
+        requires { IsSized program.now found.now }
+        ensures { result ≡ ticket_with program.now found.now }
+    {
+        Ticket { program, found }
+    }
+
     /// The job that took it.
     pub fn origin(&self) -> Origin
         ensures { result ≡ self.now.origin }
     {
-        self.origin
+        let found = self.found;
+        found.origin
     }
 
     /// The number of the turn that its job is; none of a request.
     pub fn turn(&self) -> Option<u64>
         ensures { result ≡ self.now.turn }
     {
-        self.turn
+        let found = self.found;
+        found.turn
     }
 
     /// The job's request.
-    pub fn request(&self) -> &Request
+    pub fn request(&self) -> &'a Request
         ensures { result.now ≡ self.now.request }
     {
-        &self.request
+        let found = self.found;
+        &found.request
     }
 
     /// The block of the reply that the job's request asks.
     pub fn block(&self) -> Option<Block>
         ensures { result ≡ self.now.block }
     {
-        self.block
+        let found = self.found;
+        found.block
     }
 
     /// The token of the job's request.
-    pub fn token(&self) -> &Token
+    pub fn token(&self) -> &'a Token
         ensures { result.now ≡ self.now.token }
     {
-        &self.token
+        let found = self.found;
+        &found.token
     }
 
     /// The value of its Observe option, if it had one.
     pub fn observe(&self) -> Option<u32>
         ensures { result ≡ self.now.observe }
     {
-        self.observe
+        let found = self.found;
+        found.observe
     }
 
     /// The slot's serial when it was taken.
     pub fn serial(&self) -> u64
         ensures { result ≡ self.now.serial }
     {
-        self.serial
+        let found = self.found;
+        found.serial
     }
 
     /// The program that was found.
-    pub fn program(&self) -> &Verified
+    pub fn program(&self) -> &'a Verified
         ensures { result.now ≡ self.now.found.program }
     {
-        &self.program
+        self.program
+    }
+
+    // Its version.
+    pub(crate) fn version(&self) -> u64
+        ensures { result ≡ self.now.found.version }
+    {
+        let found = self.found;
+        found.version
     }
 
     /// The variables that were found.
-    pub fn vars(&self) -> &Vars
+    pub fn vars(&self) -> &'a Vars
         ensures vars { result.now ≡ self.now.found.vars }
         ensures size { length result.now ≡ self.now.found.program.vars_size }
     {
-        &self.vars
+        let found = self.found;
+        &found.vars
     }
 
     /// The readings that were handed in at the taking.
-    pub fn readings(&self) -> &Readings
+    pub fn readings(&self) -> &'a Readings
         ensures { result.now ≡ self.now.readings }
     {
-        &self.readings
+        let found = self.found;
+        &found.readings
     }
 }
 
 // Whether an outcome is of a ticket's program, request, variables and readings, and the ticket's serial isn't above this one.
-pub(crate) fn is_run_of(outcome: &Outcome<'_>, ticket: &Ticket, serial: u64) -> bool
+pub(crate) fn is_run_of(outcome: &Outcome<'_>, ticket: &Ticket<'_>, serial: u64) -> bool
     ensures of { IsTrue result ↔ IsRunOf outcome.now ticket.now serial }
     ensures run { IsTrue result → outcome.now ≡ run_of ticket.now }
 {

@@ -16,8 +16,11 @@ use Rattle.fc_core.specs.declared.event.Event.{Event}
 use Rattle.fc_core.specs.declared.event.Event.TheVariants.{Deliver, Peek, Take, Commit, Install, Remove, Receipt, Raise, Answer, Due, Fresh, Note, GiveUp, Signal, Tick, ShardTick}
 use Rattle.fc_core.specs.declared.front.Delivered.{Delivered}
 use Rattle.fc_core.specs.declared.front.Delivered.TheVariants.{Reply, Job as Brings, Signal as Signals}
-use Rattle.fc_core.specs.declared.stage.Stage.{Stage}
-use Rattle.fc_core.specs.declared.stage.Stage.TheVariants.{ToMatch, ToTake, ToInstall, ToRemove, ToDescribe, ToList}
+use Rattle.fc_registry.specs.Taken.{Found}
+use Rattle.fc_core.specs.Contents.{Content}
+use Rattle.fc_core.specs.Room.{stage_of}
+use Rattle.fc_core.specs.declared.stage.Step.{Step}
+use Rattle.fc_core.specs.declared.stage.Step.TheVariants as steps
 use Rattle.fc_core.specs.declared.stage.Task.{Task}
 use Rattle.fc_core.specs.Exchanges.{FrontState, advanced}
 use Rattle.fc_core.specs.Fits.{FitsStage}
@@ -258,13 +261,14 @@ notified_served readings shard now random old new given out s notifies = asked_s
 -- ---- a job that is to be answered
 
 -- at a stage that none of these is there is no call before the answer
-pub worked_at_once : (readings : List ℕ) (stage : Stage) (slot k : ℕ) (memory : Bool) (now : ℕ) (out : Option Emission) (h : History) → stage ≢ ToMatch
-    → ((count : ℕ) → stage ≢ ToTake count) → stage ≢ ToInstall → stage ≢ ToRemove → stage ≢ ToDescribe → ((seen : ArrayVec ℕ) → stage ≢ ToList seen)
-    → worked readings stage slot k memory now out h ≡ next h (Answer k now) out
-worked_at_once readings ToMatch slot k memory now out h a b c d e f = absurd (a refl)
-worked_at_once readings (ToTake count) slot k memory now out h a b c d e f = absurd (b count refl)
-worked_at_once readings ToInstall slot k memory now out h a b c d e f = absurd (c refl)
-worked_at_once readings ToRemove slot k memory now out h a b c d e f = absurd (d refl)
-worked_at_once readings ToDescribe slot k memory now out h a b c d e f = absurd (e refl)
-worked_at_once readings (ToList seen) slot k memory now out h a b c d e f = absurd (f seen refl)
-worked_at_once readings other slot k memory now out h a b c d e f = refl
+pub worked_at_once : (readings : List ℕ) (step : Step) (f : Found) (seen : ArrayVec ℕ) (content : Content) (slot k : ℕ) (memory : Bool)
+    (now : ℕ) (out : Option Emission) (h : History) → step ≢ steps.ToMatch → ((count : ℕ) → step ≢ steps.ToTake count) → step ≢ steps.ToInstall
+    → step ≢ steps.ToRemove → step ≢ steps.ToDescribe → step ≢ steps.ToList
+    → worked readings (stage_of step f seen content) slot k memory now out h ≡ next h (Answer k now) out
+worked_at_once readings steps.ToMatch x seen content slot k memory now out h a b c d e f = absurd (a refl)
+worked_at_once readings (steps.ToTake count) x seen content slot k memory now out h a b c d e f = absurd (b count refl)
+worked_at_once readings steps.ToInstall x seen content slot k memory now out h a b c d e f = absurd (c refl)
+worked_at_once readings steps.ToRemove x seen content slot k memory now out h a b c d e f = absurd (d refl)
+worked_at_once readings steps.ToDescribe x seen content slot k memory now out h a b c d e f = absurd (e refl)
+worked_at_once readings steps.ToList x seen content slot k memory now out h a b c d e f = absurd (f refl)
+worked_at_once readings other x seen content slot k memory now out h a b c d e f = refl

@@ -5,7 +5,7 @@ ghost use Rattle.coap_msg.specs.declared.types.Emission.{Emission as Emitted};
 ghost use Rattle.fc_registry.specs.Shards.{shard_at};
 ghost use Rattle.fc_registry.specs.Slots.{last_serial};
 ghost use Rattle.fc_registry.specs.Watches.{handed, is_quiet};
-ghost use Rattle.fc_core.specs.declared.stage.Stage.{Stage};
+ghost use Rattle.fc_core.specs.Stage.{Stage};
 ghost use Rattle.fc_core.specs.Exchanges.{advanced};
 ghost use Rattle.fc_core.specs.History.{Begins};
 ghost use Rattle.fc_core.specs.Ids.{free_id};
@@ -17,7 +17,7 @@ ghost use Rattle.fc_server.specs.Serving.{IsSignalled};
 
 use crate::server::Server;
 use coap_msg::{Emission, Endpoint};
-use fc_core::{Heard, Stage, Task};
+use fc_core::{Heard, Step, Task};
 use fc_help::Readings;
 use fc_observe::Ticked;
 use fc_registry::{SHARDS, SLOTS};
@@ -224,13 +224,14 @@ fn work_off(
     requires { IsBegun server.old task.old }
     ensures { WorksOff readings.now task.old.stage now server.old task.old server.new (emission_if result reply.new) }
 {
-    match &task.stage {
-        Stage::ToMatch => look_and_run(server, now, task, readings, reply),
-        Stage::ToTake(_) => run(server, now, task, readings, reply),
-        Stage::ToInstall => install(server, alloc, now, task, reply),
-        Stage::ToRemove => remove(server, now, task, reply),
-        Stage::ToDescribe => describe(server, now, task, reply),
-        Stage::ToList(_) => discover(server, now, task, reply),
+    let stage = &task.stage;
+    match &stage.step {
+        Step::ToMatch => look_and_run(server, now, task, readings, reply),
+        Step::ToTake(_) => run(server, now, task, readings, reply),
+        Step::ToInstall => install(server, alloc, now, task, reply),
+        Step::ToRemove => remove(server, now, task, reply),
+        Step::ToDescribe => describe(server, now, task, reply),
+        Step::ToList => discover(server, now, task, reply),
         _ => server.respond(now, task, reply),
     }
 }

@@ -6,8 +6,8 @@ use Rattle.fc_registry.specs.declared.job.Job.{Job}
 use Rattle.fc_registry.specs.declared.note.Noted.{Noted}
 use Rattle.fc_registry.specs.declared.note.Noted.TheVariants.{Send, Stale as StaleNote, Stranger}
 use Rattle.fc_registry.specs.declared.note.Notification.{Notification}
-use Rattle.fc_registry.specs.declared.shard.Taken.{Taken}
-use Rattle.fc_registry.specs.declared.shard.Taken.TheVariants.{Given, Missing, Stale, Refused}
+use Rattle.fc_registry.specs.Taken.{Taken}
+use Rattle.fc_registry.specs.Taken.{Given, Missing, Stale, Refused}
 use Rattle.fc_registry.specs.Calls.{turn_of}
 use Rattle.fc_registry.specs.Notes.{sent_of}
 use Rattle.fc_registry.specs.Slots.{Ticket}

@@ -18,7 +18,7 @@ use Rattle.fc_registry.specs.declared.job.Origin.{Origin}
 use Rattle.fc_registry.specs.declared.receipt.Receipt.{Receipt}
 use Rattle.fc_isa.specs.declared.rule.Fault.{Fault}
 use Rattle.fc_isa.specs.Rules.{number_of}
-use Rattle.fc_registry.specs.declared.shard.Taken.{Taken}
+use Rattle.fc_registry.specs.Taken.{Taken}
 use Rattle.fc_registry.specs.declared.shard.Made.{Made}
 use Rattle.fc_registry.specs.declared.shard.Made.TheVariants.{Raised, AtEnd}
 use Rattle.fc_registry.specs.declared.shard.Removal.{Removal}
@@ -28,8 +28,11 @@ use Rattle.fc_registry.specs.declared.commit.Committed.{Committed}
 use Rattle.fc_registry.specs.declared.commit.Committed.TheVariants.{Done, Overtaken, Ended, Stranger}
 use Rattle.fc_registry.specs.Slots.{Present, Slot, Ticket}
 use Rattle.fc_registry.specs.Calls.{is_out_at, readings_if, receipt_of, run_of, taking, taking_by as taking_of_job, turn_of, turn_taking}
-use Rattle.fc_core.specs.declared.stage.Stage.{Stage}
-use Rattle.fc_core.specs.declared.stage.Stage.TheVariants.{ToMatch, ToTake, ToCommit, ToInstall, ToRemove, ToDescribe, ToList, ToRaise, ToAnswer}
+use Rattle.fc_registry.specs.Taken.{Found}
+use Rattle.fc_core.specs.declared.stage.Step.{Step}
+use Rattle.fc_core.specs.Room.{stage_of}
+use Rattle.fc_core.specs.Stage.{Stage}
+use Rattle.fc_core.specs.Stage.{ToMatch, ToTake, ToCommit, ToInstall, ToRemove, ToDescribe, ToList, ToRaise, ToAnswer}
 use Rattle.fc_core.specs.Contents.{Content, IsOf, Listed, Unavailable}
 use Rattle.fc_core.specs.Heads.{head_word, is_match}
 use Rattle.fc_core.specs.Ends.{refused, refused_by}
@@ -50,6 +53,13 @@ pub record Walked {T : Type 0} (shop : Shop T) (number : ℕ) (job : Job) (stage
   pub ready : IsReady job stage
   pub few : total taking_by calls ≤ taken_at stage
   pub counted : HasCounted shop job.origin.slot calls before now
+
+-- ---- a step in its room
+
+-- a stage is what its step is, with what else the room holds
+pub stands_at : (stage : Stage) (step needs : Step) (f : Found) (seen : ArrayVec ℕ) (content : Content) → stage_of step f seen content ≡ stage
+    → step ≡ needs → stage ≡ stage_of needs f seen content
+stands_at stage step needs f seen content view is = sym view ∙ ap (λ (s : Step). stage_of s f seen content) is
 
 -- ---- what a step counts
 
@@ -152,6 +162,11 @@ module _ {T : Type 0} (shop : Shop T) (number : ℕ) (job : Job) where
       → IsStep shop number job old new before after
   is_step old {new} {next} {before} {after} {counted} e c s = subst (λ (x : Stage). IsStep shop number job old x before after) (sym e)
       (subst (λ (p : Share T). IsStep shop number job old next before p) (sym c) s)
+
+  -- a step from a stage that is this one
+  pub from_stage : {old at next : Stage} {before after : Share T} → old ≡ at → IsStep shop number job at next before after
+      → IsStep shop number job old next before after
+  from_stage {old} {at} {next} {before} {after} e s = subst (λ (x : Stage). IsStep shop number job x next before after) (sym e) s
 
   pub took_step : (n : ℕ) (x : Taken) (p : Share T) (tallies : T) (log : CallLog) {next : Stage} {after : Share T} → n < takings
       → IsTakingWith shop.bench shop.logged job x p.log log

@@ -15,7 +15,7 @@ use Rattle.fc_registry.specs.declared.note.Notification.{Notification}
 use Rattle.fc_registry.specs.declared.receipt.Receipt.{Receipt}
 use Rattle.fc_registry.specs.declared.shard.Made.{Made}
 use Rattle.fc_registry.specs.declared.shard.Removal.{Removal}
-use Rattle.fc_registry.specs.declared.shard.Taken.{Taken}
+use Rattle.fc_registry.specs.Taken.{Taken}
 use Rattle.fc_registry.specs.Slots.{Ticket}
 use Rattle.fc_workers.specs.declared.call_log.CallLog.{CallLog}
 

@@ -20,7 +20,7 @@ use Rattle.fc_registry.specs.declared.note.Notification.{Notification}
 use Rattle.fc_registry.specs.declared.receipt.Receipt.{Receipt}
 use Rattle.fc_registry.specs.declared.shard.Made.{Made}
 use Rattle.fc_registry.specs.declared.shard.Removal.{Removal}
-use Rattle.fc_registry.specs.declared.shard.Taken.{Taken}
+use Rattle.fc_registry.specs.Taken.{Taken}
 use Rattle.fc_registry.specs.Calls.{CommitsTo, TakesAt, after_taking, install_in, receipt_at, remove_from}
 use Rattle.fc_registry.specs.Changes.{after_changes}
 use Rattle.fc_registry.specs.Notes.{NotesTo}

@@ -7,8 +7,8 @@ use Rattle.fc_registry.specs.declared.note.Noted.{Noted}
 use Rattle.fc_registry.specs.declared.note.Noted.TheVariants.{Send}
 use Rattle.fc_registry.specs.declared.note.Notification.{Notification}
 use Rattle.fc_registry.specs.declared.note.Notification.TheVariants as tells
-use Rattle.fc_registry.specs.declared.shard.Taken.{Taken}
-use Rattle.fc_registry.specs.declared.shard.Taken.TheVariants.{Given, Missing, Stale, Refused}
+use Rattle.fc_registry.specs.Taken.{Taken}
+use Rattle.fc_registry.specs.Taken.{Given, Missing, Stale, Refused}
 use Rattle.fc_registry.specs.Calls.{run_of}
 use Rattle.fc_registry.specs.Notes.{sent_of}
 use Rattle.fc_registry.specs.Slots.{Ticket}

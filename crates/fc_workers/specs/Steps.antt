@@ -1,8 +1,8 @@
 -- One step of a job's work, as the worker's loop keeps it.
 use Rattle.std.specs.Prelude.{◌≡◌, ℕ, ◌+◌, ◌*◌, ◌-◌, ◌<◌, ◌≤◌, List, [], ◌∷◌, ◌++◌, length}
 use Rattle.fc_registry.specs.declared.job.Job.{Job}
-use Rattle.fc_core.specs.declared.stage.Stage.{Stage}
-use Rattle.fc_core.specs.declared.stage.Stage.TheVariants.{ToMatch, ToTake, ToCommit, ToInstall, ToRemove, ToDescribe, ToList, ToRaise, ToAnswer, ToTell, Gone}
+use Rattle.fc_core.specs.Stage.{Stage}
+use Rattle.fc_core.specs.Stage.{ToMatch, ToTake, ToCommit, ToInstall, ToRemove, ToDescribe, ToList, ToRaise, ToAnswer, ToTell, Gone}
 use Rattle.fc_core.specs.Contents.{IsOf}
 use Rattle.fc_core.specs.Stages.{takings}
 use Rattle.fc_core.specs.Steps.{Call, next_stage}
@@ -58,15 +58,10 @@ pub record IsStep {T : Type 0} (s : Shop T) (number : ℕ) (job : Job) (old new 
   pub follows : Follows job old (taking_by call) new
   pub counted : HasCounted s job.origin.slot (call ∷ []) before after
 
--- after the head word of a job's slot was raised
-abbrev pub raised : Stage → Stage
-raised (ToRaise word content) = ToAnswer content
-raised other = other
-
--- it stands at its answer
-abbrev pub IsAnswered : Stage → Type 0
-IsAnswered (ToAnswer content) = Unit {0}
-IsAnswered other = ⊥
+-- it stands at a commit
+abbrev pub IsToCommit : Stage → Type 0
+IsToCommit (ToCommit n t) = Unit {0}
+IsToCommit other = ⊥
 
 -- each of these words was seen at the head word of its slot, from slot n on
 abbrev pub AreSeen : (BenchCall → Type 0) → ℕ → List ℕ → Type 0

@@ -10,11 +10,11 @@ use Rattle.fc_verify.specs.declared.refusal.Refusal.TheVariants.{Broken, NoMemor
 use Rattle.fc_observe.specs.declared.entry.Turn.{Turn}
 use Rattle.fc_registry.specs.declared.job.Job.{Job}
 use Rattle.fc_registry.specs.declared.commit.Committed.{Committed}
-use Rattle.fc_registry.specs.declared.shard.Taken.{Taken}
+use Rattle.fc_registry.specs.Taken.{Taken}
 use Rattle.fc_registry.specs.Calls.{run_of, turn_of}
 use Rattle.fc_registry.specs.Slots.{Ticket}
-use Rattle.fc_core.specs.declared.stage.Stage.{Stage}
-use Rattle.fc_core.specs.declared.stage.Stage.TheVariants.{ToAnswer}
+use Rattle.fc_core.specs.Stage.{Stage}
+use Rattle.fc_core.specs.Stage.{ToAnswer}
 use Rattle.fc_core.specs.Contents.{Content, IsOf}
 use Rattle.fc_core.specs.Ends.{refused}
 use Rattle.fc_core.specs.Stages.{asked_stage, image_of, takings}
@@ -117,6 +117,10 @@ module _ {T : Type 0} (s : Shop T) where
     pub few : total taking_by calls ≤ takings
     pub own : IsOf job content
     pub counted : HasCounted job.origin.slot calls before after
+
+  -- it was worked off up to this stage, which is its answer
+  abbrev pub IsWorkedTo : ℕ → Job → Stage → Share T → Share T → Type 0
+  IsWorkedTo number job stage before after = (content : Content) × (stage ≡ ToAnswer content) × IsWorkedOff number job content before after
 
   -- a worker's share whose tallies of changes, jobs and replies are as before
   pub record IsQuiet (before after : Share T) : Type 0 where

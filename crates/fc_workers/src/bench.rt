@@ -21,7 +21,7 @@ use fc_help::Readings;
 use fc_machine::Outcome;
 use fc_observe::{Ticked, Turn};
 use fc_registry::{
-    Committed, Job, Made, Noted, Notification, Receipt, Removal, SlotNumber, Taken, Ticket,
+    Committed, Job, Made, Noted, Notification, Receipt, Removal, SlotNumber, Ticket, Took,
 };
 use fc_verify::Verified;
 use std::sync::{Arc, Wait};
@@ -89,7 +89,7 @@ pub trait Bench {
         readings: &Readings,
         tallies: &mut Self::Tallies,
         log: &mut CallLog,
-    ) -> Taken
+    ) -> Took
         ensures taken { IsSomeTaking job.now readings.now result }
         ensures logged { logged (TakesForJob job.now readings.now result) log.old log.new }
         ensures changes { (shard : ℕ) → shard < 8 →
@@ -102,7 +102,7 @@ pub trait Bench {
         rt: &R,
         now: u64,
         outcome: &Outcome<'_>,
-        ticket: &Ticket,
+        ticket: &Ticket<'_>,
         tallies: &mut Self::Tallies,
         log: &mut CallLog,
     ) -> Committed

@@ -11,7 +11,7 @@ use fc_help::Readings;
 use fc_machine::Outcome;
 use fc_observe::{Ticked, Turn};
 use fc_registry::{
-    Committed, Job, Made, Noted, Notification, Receipt, Removal, Shard, Taken, Ticket,
+    Committed, Job, Made, Noted, Notification, Receipt, Removal, Shard, Ticket, Took,
 };
 use fc_verify::Verified;
 use std::sync::Arc;
@@ -57,13 +57,13 @@ pub struct Take<'a> {
 }
 
 impl<'a> ShardCall for Take<'a> {
-    type Answer = Taken;
+    type Answer = Took;
 
     ghost may_ask = { λ call shard. IsOwned shard call.job.now.origin.slot };
 
     ghost does = { λ call. TakesTo call.job.now call.readings.now };
 
-    fn call(self, shard: &mut Shard) -> Taken {
+    fn call(self, shard: &mut Shard) -> Took {
         shard.take(self.job, self.readings)
     }
 }
@@ -73,7 +73,7 @@ impl<'a> ShardCall for Take<'a> {
 pub struct Commit<'a> {
     pub now: u64,
     pub outcome: &'a Outcome<'a>,
-    pub ticket: &'a Ticket,
+    pub ticket: &'a Ticket<'a>,
 }
 
 impl<'a> ShardCall for Commit<'a> {

@@ -88,7 +88,7 @@ impl<L: Ledger> Counted<L> {
         &mut self,
         now: u64,
         outcome: &Outcome<'_>,
-        ticket: &Ticket,
+        ticket: &Ticket<'_>,
         tally: &mut Tally<L>,
     ) -> Committed
         requires { IsOwned self.old.shard ticket.now.origin.slot }

@@ -13,7 +13,7 @@ use crate::tools::Tools;
 use crate::workshop::{Gate, Moments, Wire, Workshop};
 use coap_msg::{Emission, Endpoint};
 use fc_core::front::blank_job;
-use fc_core::{Heard, Stage};
+use fc_core::{Heard, Step};
 use fc_jobs::{Jobs, Sent};
 use fc_observe::Ticked;
 use fc_registry::{Ask, Job, SHARDS};
@@ -242,15 +242,14 @@ impl<'a, B: Bench, G: Gate, W: Wire, M: Moments> Dispatcher<'a, B, G, W, M> {
         ensures job { self.new.job ≡ self.old.job }
         ensures handover { self.new.handover ≡ self.old.handover }
     {
-        match Stage::asked(&self.job) {
-            Stage::ToTake(_) => true,
-            Stage::ToMatch => {
-                let slot = self.job.origin.slot;
-                let word = self.workshop.bench.peek(slot, &mut self.tools.heads);
-                matches!(Stage::matched(&self.job, word), Stage::ToTake(_))
-            }
-            _ => false,
+        let stage = &mut self.tools.stage;
+        stage.ask(&self.job);
+        if let Step::ToMatch = &stage.step {
+            let slot = self.job.origin.slot;
+            let word = self.workshop.bench.peek(slot, &mut self.tools.heads);
+            stage.matched(&self.job, word);
         }
+        matches!(stage.step, Step::ToTake(_))
     }
 
     // How many instructions its job's run takes at most, by the program that its slot has now; 0 where it asks for none.

@@ -33,10 +33,13 @@ impl<'a, B: Bench, G: Gate, W: Wire, M: Moments> Workshop<'a, B, G, W, M> {
     {
         let readings = self.bench.readings(rt);
         let log = &mut share.log;
-        let taken = self.bench.take(rt, job, &readings, &mut share.tallies, log);
-        share.count_taking(&taken);
-        match taken {
-            Taken::Given(ticket) => self.tell(rt, frame, turn, Some(ticket), share),
+        let took = self.bench.take(rt, job, &readings, &mut share.tallies, log);
+        share.count_taking(&took);
+        match &took.taken {
+            Taken::Given(program) => {
+                let ticket = Ticket::of(program, &took.found);
+                self.tell(rt, frame, turn, Some(ticket), share)
+            }
             Taken::Missing => self.tell(rt, frame, turn, None, share),
             Taken::Refused => self.give_up(rt, turn, share),
             Taken::Stale => None,
@@ -49,12 +52,12 @@ impl<'a, B: Bench, G: Gate, W: Wire, M: Moments> Workshop<'a, B, G, W, M> {
         rt: &R,
         frame: &mut Frame,
         turn: Turn,
-        found: Option<Ticket>,
+        found: Option<Ticket<'_>>,
         share: &mut Share<B::Tallies>,
     ) -> Option<Emission>
         requires { turn.slot < 64 }
         ensures told { IsFoundTold (shop B.changes B.ended B.called B.logged M.is_moment M.is_random G.passed W.called)
-            turn found result share.old.log share.new.log }
+            turn found.entry result share.old.log share.new.log }
         ensures kept { IsQuiet (shop B.changes B.ended B.called B.logged M.is_moment M.is_random G.passed W.called) share.old share.new }
         ensures ended { B.ended share.new.tallies ≡ saturated (B.ended share.old.tallies + 1) }
     {

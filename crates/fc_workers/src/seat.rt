@@ -140,11 +140,14 @@ impl<'a, B: Bench, G: Gate, W: Wire, M: Moments> Workshop<'a, B, G, W, M> {
         ensures ended { B.ended share.new.tallies ≡ saturated (B.ended share.old.tallies + 1) }
         ensures got { share.new.got ≡ share.old.got }
     {
-        let answer = self.work_off(rt, tools, number, job, share);
+        self.work_off(rt, tools, number, job, share);
         let now = self.moments.now(rt);
+        let Some(answer) = tools.stage.content() else {
+            unreachable!()
+        };
         let Share { tallies, log, .. } = share;
         self.bench
-            .respond(rt, now, job, &answer, &mut tools.reply, tallies, log)
+            .respond(rt, now, job, answer, &mut tools.reply, tallies, log)
     }
 }
 

@@ -46,8 +46,8 @@ use fc_help::Readings;
 use fc_machine::Outcome;
 use fc_observe::{Ticked, Turn};
 use fc_registry::{
-    Committed, Job, Made, Noted, Notification, Receipt, Removal, SHARDS, Shard, SlotNumber, Taken,
-    Ticket, make_shards,
+    Committed, Job, Made, Noted, Notification, Receipt, Removal, SHARDS, Shard, SlotNumber, Ticket,
+    Took, make_shards,
 };
 use fc_verify::Verified;
 use std::alloc::{AllocError, Global};
@@ -300,7 +300,7 @@ impl<'a, B: Books, D: Device> Bench for Locked<'a, B, D> {
         readings: &Readings,
         tallies: &mut Tallies<B>,
         log: &mut CallLog,
-    ) -> Taken {
+    ) -> Took {
         let _ = log;
         let taken = self.ask(rt, shard_of(job.origin.slot), Take { job, readings });
         tallies.end_taking(&taken);
@@ -371,7 +371,7 @@ impl<'a, B: Books, D: Device> Bench for Locked<'a, B, D> {
         rt: &R,
         now: u64,
         outcome: &Outcome<'_>,
-        ticket: &Ticket,
+        ticket: &Ticket<'_>,
         tallies: &mut Tallies<B>,
         log: &mut CallLog,
     ) -> Committed {

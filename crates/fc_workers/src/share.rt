@@ -5,7 +5,7 @@ ghost use Rattle.fc_workers.specs.Shares.{new_share};
 
 use crate::call_log::CallLog;
 use fc_jobs::Got;
-use fc_registry::{Committed, Taken};
+use fc_registry::{Committed, Taken, Took};
 
 /// What a worker has done: its bench's tallies, the log of its calls, the jobs that it got, how many replies went out and how many didn't, how often
 /// memory was refused, and how often a commit was overtaken. Each count stops at 2^64 - 1.
@@ -37,12 +37,12 @@ impl<T: Drop> Share<T> {
     }
 
     // Counts a taking, if memory was refused.
-    pub(crate) fn count_taking(&mut self, taken: &Taken)
+    pub(crate) fn count_taking(&mut self, took: &Took)
         ensures { self.new ≡ record self.old {
-          refusals = saturated (self.old.refusals + taking_refusals taken.now);
+          refusals = saturated (self.old.refusals + taking_refusals took.now);
         } }
     {
-        let refused = matches!(taken, Taken::Refused);
+        let refused = matches!(took.taken, Taken::Refused);
         self.refusals = self.refusals.saturating_add(u64::from(refused));
     }
 

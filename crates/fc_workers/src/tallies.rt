@@ -4,7 +4,7 @@ ghost use Rattle.fc_workers.specs.Answers.{ended_by, saturated};
 
 use crate::books::{BookOf, Books};
 use crate::tally::Tally;
-use fc_registry::Taken;
+use fc_registry::{Taken, Took};
 use std::marker::Model;
 
 /// What one worker changed in each of the eight shards, one part of each book, and how many jobs it ended, up to 2^64 - 1.
@@ -73,10 +73,10 @@ impl<B: Books> Tallies<B> {
     }
 
     // One job more has ended where its taking is stale.
-    pub(crate) fn end_taking(&mut self, taken: &Taken)
-        ensures { self.new ≡ record self.old { ended = ended_by taken.now self.old.ended } }
+    pub(crate) fn end_taking(&mut self, took: &Took)
+        ensures { self.new ≡ record self.old { ended = ended_by took.now self.old.ended } }
     {
-        match taken {
+        match &took.taken {
             Taken::Stale => self.end_job(),
             Taken::Given(_) | Taken::Missing | Taken::Refused => {}
         }

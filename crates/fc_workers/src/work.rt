@@ -3,19 +3,19 @@ ghost use Rattle.std.specs.Prelude.{◌≡◌, ◌<◌, ℕ, None, length};
 ghost use Rattle.fc_verify.specs.Judged.{judged};
 ghost use Rattle.fc_verify.specs.Accepted.{Accepts, IsAccepted};
 ghost use Rattle.fc_core.specs.Stages.{image_of};
-ghost use Rattle.fc_core.specs.declared.stage.Stage.TheVariants.{ToAnswer, ToTake, ToCommit, ToInstall, ToRemove};
+ghost use Rattle.fc_core.specs.Stage.{ToTake, ToInstall, ToRemove};
 ghost use Rattle.fc_workers.specs.Called.{shop};
-ghost use Rattle.fc_workers.specs.Work.{IsWorkedOff};
-ghost use Rattle.fc_workers.specs.Steps.{IsAnswered, IsReady, IsStep, ListsOn, raised};
+ghost use Rattle.fc_workers.specs.Work.{IsWorkedTo};
+ghost use Rattle.fc_workers.specs.Steps.{IsReady, IsStep, IsToCommit, ListsOn};
 
 use crate::bench::Bench;
 use crate::share::Share;
 use crate::tools::Tools;
 use crate::workshop::{Gate, Moments, Wire, Workshop};
-use fc_core::answer::{End, Words};
+use fc_core::answer::Words;
 use fc_core::heads::WORDS;
 use fc_core::task::image;
-use fc_core::{Answer, Stage};
+use fc_core::{Stage, Step};
 use fc_heads::HeadSeat;
 use fc_machine::{Frame, run};
 use fc_registry::{Job, Receipt, SlotNumber, Ticket};
@@ -24,7 +24,7 @@ use std::sync::{Arc, Wait};
 
 // The calls that few jobs need aren't made a part of the loop, which would zero their room for each job.
 impl<'a, B: Bench, G: Gate, W: Wire, M: Moments> Workshop<'a, B, G, W, M> {
-    /// Works a request's job off, up to what it is to be answered.
+    /// Works a request's job off, up to what it is to be answered: there its stage is left.
     ///
     /// There is a list of calls from the job's first stage to this answer. Each is the call that its stage needs, and its
     /// answer is true of some slot; a look is at the head word that is needed, that word is raised to which the stage told, and before each commit the gate let
@@ -37,106 +37,120 @@ impl<'a, B: Bench, G: Gate, W: Wire, M: Moments> Workshop<'a, B, G, W, M> {
         number: u64,
         job: &Job,
         share: &mut Share<B::Tallies>,
-    ) -> Answer
+    )
         requires asked { job.now.turn ≡ None }
         requires heads { tools.old.heads.table ≡ B.heads self.now.bench.now }
         ensures heads { tools.new.heads.table ≡ tools.old.heads.table }
-        ensures worked { IsWorkedOff (shop B.changes B.ended B.called B.logged M.is_moment M.is_random G.passed W.called)
-            number job.now result share.old share.new }
+        ensures worked { IsWorkedTo (shop B.changes B.ended B.called B.logged M.is_moment M.is_random G.passed W.called)
+            number job.now tools.new.stage share.old share.new }
         ensures ended { B.ended share.new.tallies ≡ B.ended share.old.tallies }
     {
-        let mut stage = Stage::asked(job);
+        tools.stage.ask(job);
         'calls: loop {
-            match &stage {
-                Stage::ToMatch => {
+            let stage = &mut tools.stage;
+            match &stage.step {
+                Step::ToMatch => {
                     let word = self.bench.peek(job.origin.slot, &mut tools.heads);
-                    stage = Stage::matched(job, word);
+                    stage.matched(job, word);
                 }
-                Stage::ToTake(count) => {
+                Step::ToTake(count) => {
                     let count = *count;
-                    stage = self.take(rt, job, count, share);
+                    self.take(rt, job, count, stage, share);
                 }
-                Stage::ToCommit(count, ticket) => {
-                    stage = self.commit(rt, &mut tools.frame, number, job, *count, ticket, share);
+                Step::ToCommit(..) => {
+                    self.commit(rt, &mut tools.frame, number, job, stage, share);
                 }
-                Stage::ToInstall => stage = self.install(rt, job, share),
-                Stage::ToRemove => stage = self.remove(rt, job, share),
-                Stage::ToDescribe => stage = Stage::told(self.bench.receipt(rt, job)),
-                Stage::ToList(seen) => {
-                    let words = self.list(&mut tools.heads, seen);
-                    stage = Stage::ToAnswer(Answer::other(End::Core(words)));
+                Step::ToInstall => self.install(rt, job, stage, share),
+                Step::ToRemove => self.remove(rt, job, stage, share),
+                Step::ToDescribe => {
+                    let receipt = self.bench.receipt(rt, job);
+                    stage.told(receipt);
                 }
-                Stage::ToRaise(word, _) => {
+                Step::ToList => {
+                    self.list(&mut tools.heads, &mut stage.seen);
+                    stage.listed();
+                }
+                Step::ToRaise(word) => {
+                    let word = *word;
                     let log = &mut share.log;
-                    self.bench.raise(job, *word, &mut tools.heads, log);
-                    stage = raised(stage);
+                    self.bench.raise(job, word, &mut tools.heads, log);
+                    stage.raised();
                 }
-                Stage::ToAnswer(_) => return content(stage),
-                Stage::ToTell(..) | Stage::Gone => unreachable!(),
+                Step::ToAnswer => return,
+                Step::ToTell(..) | Step::Gone => unreachable!(),
             }
         }
     }
 
     // Looks at the head words of the slots after those of these words, up to the last.
     #[inline(never)]
-    fn list(&self, heads: &mut HeadSeat, seen: &Words) -> Words
-        requires seen { length seen.now.items < 64 }
+    fn list(&self, heads: &mut HeadSeat, words: &mut Words)
+        requires seen { length words.old.items < 64 }
         requires heads { heads.old.table ≡ B.heads self.now.bench.now }
         ensures heads { heads.new.table ≡ heads.old.table }
-        ensures listed { ListsOn B.called seen.now.items result.items }
+        ensures listed { ListsOn B.called words.old.items words.new.items }
     {
-        let mut words = Words::new();
-        let _fits = words.try_extend_from_slice(seen.as_slice());
         'slots: while words.len() < WORDS {
             let slot = SlotNumber::new(words.len() as u8);
-            let _fits = words.try_push(self.bench.peek(slot, heads));
+            let word = self.bench.peek(slot, heads);
+            let _fits = words.try_push(word);
         }
-        words
     }
 
     // Removes the program of the job's slot.
     #[inline(never)]
-    fn remove<R: Wait>(&self, rt: &R, job: &Job, share: &mut Share<B::Tallies>) -> Stage
+    fn remove<R: Wait>(&self, rt: &R, job: &Job, stage: &mut Stage, share: &mut Share<B::Tallies>)
         ensures step { (number : ℕ) → IsStep (shop B.changes B.ended B.called B.logged M.is_moment M.is_random G.passed W.called)
-            number job.now ToRemove result share.old share.new }
+            number job.now ToRemove stage.new share.old share.new }
         ensures ended { B.ended share.new.tallies ≡ B.ended share.old.tallies }
     {
         let log = &mut share.log;
         let removal = self.bench.remove(rt, job, &mut share.tallies, log);
-        Stage::removed(removal)
+        stage.removed(removal);
     }
 
     // Takes what the job finds.
-    fn take<R: Wait>(&self, rt: &R, job: &Job, count: u8, share: &mut Share<B::Tallies>) -> Stage
+    fn take<R: Wait>(
+        &self,
+        rt: &R,
+        job: &Job,
+        count: u8,
+        stage: &mut Stage,
+        share: &mut Share<B::Tallies>,
+    )
         requires ready { IsReady job.now (ToTake count) }
         requires asked { job.now.turn ≡ None }
         ensures step { (number : ℕ) → IsStep (shop B.changes B.ended B.called B.logged M.is_moment M.is_random G.passed W.called)
-            number job.now (ToTake count) result share.old share.new }
+            number job.now (ToTake count) stage.new share.old share.new }
         ensures ended { B.ended share.new.tallies ≡ B.ended share.old.tallies }
     {
         let readings = self.bench.readings(rt);
         let log = &mut share.log;
         let taken = self.bench.take(rt, job, &readings, &mut share.tallies, log);
         share.count_taking(&taken);
-        Stage::took(count, taken)
+        stage.took(count, taken);
     }
 
-    // Runs a ticket's program, and commits the run once the gate lets the job go on.
+    // Runs its ticket's program, and commits the run once the gate lets the job go on.
     fn commit<R: Wait>(
         &self,
         rt: &R,
         frame: &mut Frame,
         number: u64,
         job: &Job,
-        count: u8,
-        ticket: &Ticket,
+        stage: &mut Stage,
         share: &mut Share<B::Tallies>,
-    ) -> Stage
-        requires { IsReady job.now (ToCommit count ticket.now) }
+    )
+        requires at { IsToCommit stage.old }
+        requires ready { IsReady job.now stage.old }
         ensures step { IsStep (shop B.changes B.ended B.called B.logged M.is_moment M.is_random G.passed W.called)
-            number job.now (ToCommit count ticket.now) result share.old share.new }
+            number job.now stage.old stage.new share.old share.new }
         ensures ended { B.ended share.new.tallies ≡ B.ended share.old.tallies }
     {
+        let Step::ToCommit(count, program) = &stage.step else {
+            unreachable!()
+        };
+        let ticket = Ticket::of(program, &stage.found);
         let log = &mut share.log;
         self.gate.between(rt, number, log);
         let outcome = run(
@@ -149,24 +163,24 @@ impl<'a, B: Bench, G: Gate, W: Wire, M: Moments> Workshop<'a, B, G, W, M> {
         let now = self.moments.now(rt);
         let committed = self
             .bench
-            .commit(rt, now, &outcome, ticket, &mut share.tallies, log);
+            .commit(rt, now, &outcome, &ticket, &mut share.tallies, log);
         share.count_commit(&committed);
-        Stage::committed(count, &outcome, ticket, committed)
+        stage.step = Step::committed(*count, &outcome, &ticket, committed, &mut stage.answer);
     }
 
     // Verifies the job's image, and installs the program.
     #[inline(never)]
-    fn install<R: Wait>(&self, rt: &R, job: &Job, share: &mut Share<B::Tallies>) -> Stage
+    fn install<R: Wait>(&self, rt: &R, job: &Job, stage: &mut Stage, share: &mut Share<B::Tallies>)
         ensures step { (number : ℕ) → IsStep (shop B.changes B.ended B.called B.logged M.is_moment M.is_random G.passed W.called)
-            number job.now ToInstall result share.old share.new }
+            number job.now ToInstall stage.new share.old share.new }
         ensures ended { B.ended share.new.tallies ≡ B.ended share.old.tallies }
     {
         match verify(self.alloc, image(&job.ask)) {
-            Ok(program) => self.install_program(rt, job, program, share),
-            Err(Refusal::Broken(fault)) => Stage::rejected(fault),
+            Ok(program) => self.install_program(rt, job, program, stage, share),
+            Err(Refusal::Broken(fault)) => stage.rejected(fault),
             Err(Refusal::NoMemory) => {
                 share.count_refusal();
-                Stage::unavailable()
+                stage.unavailable();
             }
         }
     }
@@ -177,12 +191,13 @@ impl<'a, B: Bench, G: Gate, W: Wire, M: Moments> Workshop<'a, B, G, W, M> {
         rt: &R,
         job: &Job,
         program: Verified,
+        stage: &mut Stage,
         share: &mut Share<B::Tallies>,
-    ) -> Stage
+    )
         requires accepted { IsAccepted (image_of job.now.ask) program }
         requires judged { judged (image_of job.now.ask) ≡ Accepts program }
         ensures step { (number : ℕ) → IsStep (shop B.changes B.ended B.called B.logged M.is_moment M.is_random G.passed W.called)
-            number job.now ToInstall result share.old share.new }
+            number job.now ToInstall stage.new share.old share.new }
         ensures ended { B.ended share.new.tallies ≡ B.ended share.old.tallies }
     {
         let receipt = Receipt::of(&program, 0);
@@ -192,33 +207,12 @@ impl<'a, B: Bench, G: Gate, W: Wire, M: Moments> Workshop<'a, B, G, W, M> {
                 let made = self
                     .bench
                     .install(rt, job, program, &mut share.tallies, log);
-                Stage::made(receipt, made)
+                stage.made(receipt, made);
             }
             Err(_) => {
                 share.count_refusal();
-                Stage::unavailable()
+                stage.unavailable();
             }
         }
-    }
-}
-
-// After the head word of its slot was raised.
-fn raised(stage: Stage) -> Stage
-    ensures { result ≡ raised stage }
-{
-    match stage {
-        Stage::ToRaise(_, answer) => Stage::ToAnswer(answer),
-        other => other,
-    }
-}
-
-// What a job is to be answered.
-fn content(stage: Stage) -> Answer
-    requires { IsAnswered stage }
-    ensures { stage ≡ ToAnswer result }
-{
-    match stage {
-        Stage::ToAnswer(answer) => answer,
-        _ => unreachable!(),
     }
 }

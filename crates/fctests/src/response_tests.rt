@@ -24,7 +24,7 @@ fn check(rt: &impl Abort, bytes: &Datagram, wanted: &[u8]) {
 static BODY: [u8; 17] = *b"sixteen bytes, 1!";
 
 // The block of this number and 16 bytes of the body.
-fn part(number: u32) -> Option<BodyBlock>
+fn part(number: u32) -> Option<BodyBlock<'static>>
     requires { number < 8 }
 {
     BodyBlock::cut(&BODY, Some(Block::new(number, false, 0)))

@@ -7,8 +7,8 @@ use Rattle.coap_msg.specs.Wire.{Message}
 use Rattle.coap_reply.specs.Responses.{Response, reply_kind, sent_in}
 use Rattle.fc_registry.specs.declared.job.Job.{Job}
 use Rattle.fc_core.specs.declared.event.Event.TheVariants.{Answer}
-use Rattle.fc_core.specs.declared.stage.Stage.{Stage}
-use Rattle.fc_core.specs.declared.stage.Stage.TheVariants.{ToAnswer}
+use Rattle.fc_core.specs.Stage.{Stage}
+use Rattle.fc_core.specs.Stage.{ToAnswer}
 use Rattle.fc_core.specs.Contents.{Content}
 use Rattle.fc_core.specs.Exchanges.{FrontState, opening_is_live}
 use Rattle.fc_core.specs.History.{Seen, front_at, job, stage}

@@ -20,9 +20,9 @@ use Rattle.fc_registry.specs.Notes.{note_to, observer_told, told_calls}
 use Rattle.fc_registry.specs.Slots.{Present, Ticket, last_serial}
 use Rattle.fc_core.specs.declared.event.Event.{Event}
 use Rattle.fc_core.specs.declared.event.Event.TheVariants.{Answer, Commit, Fresh, Install, Note, Receipt, Remove, Take}
-use Rattle.fc_core.specs.declared.stage.Stage.{Stage}
-use Rattle.fc_core.specs.declared.stage.Stage.TheVariants.{ToAnswer, ToCommit, ToDescribe, ToInstall, ToRemove, ToTake, ToTell}
-use Rattle.fc_core.specs.declared.stage.TurnStage.TheVariants as turns
+use Rattle.fc_core.specs.Stage.{Stage}
+use Rattle.fc_core.specs.Stage.{ToAnswer, ToCommit, ToDescribe, ToInstall, ToRemove, ToTake, ToTell}
+use Rattle.fc_core.specs.TurnStage as turns
 use Rattle.fc_core.specs.Heads.{published}
 use Rattle.fc_core.specs.History.{Entry, Seen, additions_by, and_then, answered_in, at_front, calls_named, changes_after, did, exchanges_by, job, scene, stage, tasks_brought, tasks_moved, watch, words_seen, at_shard, calls_by}
 use Rattle.fc_core.specs.Laws.{slot_of}

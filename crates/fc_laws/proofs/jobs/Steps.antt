@@ -8,7 +8,7 @@ use Rattle.fc_registry.specs.declared.job.Job.{Job}
 use Rattle.fc_registry.specs.Slots.{Slot}
 use Rattle.fc_core.specs.declared.event.Event.{Event}
 use Rattle.fc_core.specs.declared.event.Event.TheVariants.{Deliver, Due, Lose}
-use Rattle.fc_core.specs.declared.stage.Stage.TheVariants.{Gone}
+use Rattle.fc_core.specs.Stage.{Gone}
 use Rattle.fc_core.specs.declared.stage.Task.{Task}
 use Rattle.fc_core.specs.History.{AsksTurn, around, due_in, Entry, Seen, and_then, front_at, no_task, received_at, scene, slot_at, task_at, tasks_brought, tasks_moved, turn_at, turns_by}
 use Rattle.fc_core.specs.Receiving.{brought, next_opening}

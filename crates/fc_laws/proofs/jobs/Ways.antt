@@ -9,8 +9,8 @@ use Rattle.fc_registry.specs.Calls.{commits, is_observed, outcome_by, wants}
 use Rattle.fc_registry.specs.Slots.{Slot, Ticket, last_serial}
 use Rattle.fc_core.specs.AnswerLaws.{HasSerial}
 use Rattle.fc_core.specs.declared.event.Event.TheVariants.{Commit, Peek}
-use Rattle.fc_core.specs.declared.stage.Stage.{Stage}
-use Rattle.fc_core.specs.declared.stage.Stage.TheVariants.{ToAnswer, ToCommit, ToMatch, ToTake}
+use Rattle.fc_core.specs.Stage.{Stage}
+use Rattle.fc_core.specs.Stage.{ToAnswer, ToCommit, ToMatch, ToTake}
 use Rattle.fc_core.specs.Heads.{head_word, is_match, is_present, serial_in, word_at}
 use Rattle.fc_core.specs.History.{Seen, and_then, around, did, job, slot_at, stage, watch}
 use Rattle.fc_core.specs.Laws.{slot_of}

@@ -14,8 +14,8 @@ use Rattle.fc_registry.specs.Changes.{Change, Installed, Committed, Removed, aft
 use Rattle.fc_registry.specs.Calls.{clear_by, commit_of, outcome, put_by}
 use Rattle.fc_core.specs.declared.event.Event.{Event}
 use Rattle.fc_core.specs.declared.event.Event.TheVariants.{Commit, Install, Remove}
-use Rattle.fc_core.specs.declared.stage.Stage.{Stage}
-use Rattle.fc_core.specs.declared.stage.Stage.TheVariants.{ToCommit, ToInstall, ToRemove}
+use Rattle.fc_core.specs.Stage.{Stage}
+use Rattle.fc_core.specs.Stage.{ToCommit, ToInstall, ToRemove}
 use Rattle.fc_core.specs.History.{around, Entry, History, Begins, Then, Seen, seen, and_then, job, scene, slot_at, stage}
 use Rattle.fc_core.specs.Laws.{slot_of}
 use Rattle.fc_laws.specs.SlotLaws.{AllOfImages, ChangesBy, IsInstall, IsOfImage, IsRemoving, IsWriting, Clears, Installs, Nothing, Writes}

@@ -11,9 +11,9 @@ use Rattle.fc_registry.specs.Slots.{Slot, Present, Ticket, last_serial}
 use Rattle.fc_registry.specs.Changes.{after_changes}
 use Rattle.fc_registry.specs.Calls.{clear_by, outcome, put_by, receipt_at, receipt_of, taking, readings_if}
 use Rattle.fc_core.specs.declared.event.Event.{Event}
-use Rattle.fc_core.specs.declared.stage.Stage.{Stage}
-use Rattle.fc_core.specs.declared.stage.Stage.TheVariants.{ToTake, ToInstall, ToList, ToAnswer, ToTell}
-use Rattle.fc_core.specs.declared.stage.TurnStage.TheVariants as turns
+use Rattle.fc_core.specs.Stage.{Stage}
+use Rattle.fc_core.specs.Stage.{ToTake, ToInstall, ToList, ToAnswer, ToTell}
+use Rattle.fc_core.specs.TurnStage as turns
 use Rattle.fc_core.specs.declared.stage.Task.{Task}
 use Rattle.fc_core.specs.Contents.{Content, Deleted, Listed, Unavailable}
 use Rattle.fc_core.specs.Heads.{is_match, word_at}

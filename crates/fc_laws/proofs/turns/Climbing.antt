@@ -19,9 +19,9 @@ use Rattle.fc_registry.specs.Slots.{Present, Ticket}
 use Rattle.fc_registry.specs.Watches.{signal_call}
 use Rattle.fc_core.specs.declared.event.Event.{Event}
 use Rattle.fc_core.specs.declared.event.Event.TheVariants.{Due, Note, ShardTick, Signal}
-use Rattle.fc_core.specs.declared.stage.Stage.{Stage}
-use Rattle.fc_core.specs.declared.stage.Stage.TheVariants.{ToTell}
-use Rattle.fc_core.specs.declared.stage.TurnStage.TheVariants as turns
+use Rattle.fc_core.specs.Stage.{Stage}
+use Rattle.fc_core.specs.Stage.{ToTell}
+use Rattle.fc_core.specs.TurnStage as turns
 use Rattle.fc_core.specs.History.{Entry, History, Then, Seen, seen, and_then, around, calls_by, calls_named, did, due_in, is_place_of, job, late_in, scene, slot_at, stage, watch, at_shard}
 use Rattle.fc_core.specs.Laws.{later, slot_of}
 use Rattle.fc_laws.specs.ObserveLaws.{NoneRegisters, Registers}

@@ -18,8 +18,8 @@ use Rattle.fc_registry.specs.Slots.{Present, Slot, Ticket}
 use Rattle.fc_registry.specs.Watches.{place_from, signal_call}
 use Rattle.fc_core.specs.declared.event.Event.{Event}
 use Rattle.fc_core.specs.declared.event.Event.TheVariants.{Due, ShardTick, Signal}
-use Rattle.fc_core.specs.declared.stage.Stage.{Stage}
-use Rattle.fc_core.specs.declared.stage.Stage.TheVariants.{ToInstall}
+use Rattle.fc_core.specs.Stage.{Stage}
+use Rattle.fc_core.specs.Stage.{ToInstall}
 use Rattle.fc_core.specs.History.{Entry, History, Begins, Then, Seen, seen, and_then, around, calls_named, due_in, is_due_at, is_late_at, is_place_of, job, late_in, scene, shard_moment_after, slot_at, stage, watch, at_shard, hands_by, calls_by}
 use Rattle.fc_core.specs.Laws.{slot_of}
 use Rattle.fc_core.specs.Rows.{Around, Scene, handed, names, row}

@@ -12,9 +12,9 @@ use Rattle.fc_registry.specs.Notes.{note_calls}
 use Rattle.fc_registry.proofs.Endings.{error_ends}
 use Rattle.fc_registry.specs.Slots.{Ticket}
 use Rattle.fc_core.specs.declared.event.Event.TheVariants.{Note}
-use Rattle.fc_core.specs.declared.stage.Stage.{Stage}
-use Rattle.fc_core.specs.declared.stage.Stage.TheVariants.{ToTell}
-use Rattle.fc_core.specs.declared.stage.TurnStage.TheVariants as turns
+use Rattle.fc_core.specs.Stage.{Stage}
+use Rattle.fc_core.specs.Stage.{ToTell}
+use Rattle.fc_core.specs.TurnStage as turns
 use Rattle.fc_core.specs.History.{Seen, and_then, did, scene, stage, watch}
 use Rattle.fc_core.specs.Laws.{slot_of}
 use Rattle.fc_core.specs.Legal.{Emits}

@@ -28,10 +28,10 @@ use Rattle.fc_registry.specs.Calls.{is_out_at}
 use Rattle.fc_registry.specs.Notes.{note_at, note_kind, note_response, note_to}
 use Rattle.fc_registry.specs.Slots.{Ticket}
 use Rattle.fc_core.specs.declared.event.Event.TheVariants.{GiveUp, Note, ShardTick}
-use Rattle.fc_core.specs.declared.stage.Stage.{Stage}
-use Rattle.fc_core.specs.declared.stage.Stage.TheVariants.{Gone, ToTell}
-use Rattle.fc_core.specs.declared.stage.TurnStage.{TurnStage}
-use Rattle.fc_core.specs.declared.stage.TurnStage.TheVariants as turns
+use Rattle.fc_core.specs.Stage.{Stage}
+use Rattle.fc_core.specs.Stage.{Gone, ToTell}
+use Rattle.fc_core.specs.TurnStage.{TurnStage}
+use Rattle.fc_core.specs.TurnStage as turns
 use Rattle.fc_core.specs.History.{Entry as HistoryEntry, History, Seen, Then, did, late_in, scene, seen, stage, watch}
 use Rattle.fc_core.specs.Laws.{is_stray, is_stray_at, later, slot_of}
 use Rattle.fc_core.specs.Legal.{Emits, resent, resent_at}

@@ -17,8 +17,8 @@ use Rattle.fc_registry.specs.declared.commit.CommitOutcome.TheVariants.{Writes, 
 use Rattle.fc_registry.specs.Calls.{is_cancellation, has_observe, is_entered, is_first_block, is_observed, meaning_at, observe_calls_by, outcome, is_registration, szx_of, wants}
 use Rattle.fc_registry.specs.Slots.{Ticket}
 use Rattle.fc_core.specs.declared.event.Event.TheVariants.{Commit}
-use Rattle.fc_core.specs.declared.stage.Stage.{Stage}
-use Rattle.fc_core.specs.declared.stage.Stage.TheVariants.{ToAnswer, ToCommit}
+use Rattle.fc_core.specs.Stage.{Stage}
+use Rattle.fc_core.specs.Stage.{ToAnswer, ToCommit}
 use Rattle.fc_core.specs.History.{Seen, and_then, around, did, job, scene, slot_at, stage, watch}
 use Rattle.fc_core.specs.Laws.{slot_of}
 use Rattle.fc_laws.specs.ObserveLaws.{AsksToObserve, IsFirst, is_among}

@@ -1,11 +1,11 @@
 -- Where the taking of a turn leaves its job: it is still to tell, or gone.
 use Rattle.std.proofs.Common.{ℕ, List, Option}
 use Rattle.fc_observe.specs.declared.entry.Turn.{Turn}
-use Rattle.fc_registry.specs.declared.shard.Taken.{Taken}
-use Rattle.fc_registry.specs.declared.shard.Taken.TheVariants.{Given, Missing, Stale, Refused}
-use Rattle.fc_core.specs.declared.stage.Stage.{Stage}
-use Rattle.fc_core.specs.declared.stage.Stage.TheVariants.{ToTell, Gone}
-use Rattle.fc_core.specs.declared.stage.TurnStage.{TurnStage}
+use Rattle.fc_registry.specs.Taken.{Taken}
+use Rattle.fc_registry.specs.Taken.{Given, Missing, Stale, Refused}
+use Rattle.fc_core.specs.Stage.{Stage}
+use Rattle.fc_core.specs.Stage.{ToTell, Gone}
+use Rattle.fc_core.specs.TurnStage.{TurnStage}
 use Rattle.fc_registry.specs.Calls.{is_out_at, turn_taking}
 use Rattle.fc_core.specs.Stages.{turn_took}
 use Rattle.fc_core.specs.Rows.{Scene}

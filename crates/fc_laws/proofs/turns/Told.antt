@@ -21,11 +21,11 @@ use Rattle.fc_registry.specs.Turns.{job_of_turn, turn_job}
 use Rattle.fc_registry.proofs.Noticed.{noticed_within}
 use Rattle.fc_core.specs.declared.event.Event.{Event}
 use Rattle.fc_core.specs.declared.event.Event.TheVariants.{Deliver, Due}
-use Rattle.fc_core.specs.declared.stage.Stage.{Stage}
-use Rattle.fc_core.specs.declared.stage.Stage.TheVariants.{ToTell}
+use Rattle.fc_core.specs.Stage.{Stage}
+use Rattle.fc_core.specs.Stage.{ToTell}
 use Rattle.fc_core.specs.declared.stage.Task.{Task}
-use Rattle.fc_core.specs.declared.stage.TurnStage.{TurnStage}
-use Rattle.fc_core.specs.declared.stage.TurnStage.TheVariants as turns
+use Rattle.fc_core.specs.TurnStage.{TurnStage}
+use Rattle.fc_core.specs.TurnStage as turns
 use Rattle.fc_core.specs.Fits.{FitsStage}
 use Rattle.fc_core.specs.History.{Entry, History, Begins, Then, Seen, seen, and_then, around, calls_by, calls_named, common, due_in, front_at, is_place_of, job, no_task, received_at, scene, slot_at, stage, task_at, tasks_brought, tasks_moved, turn_at, watch, at_shard}
 use Rattle.fc_core.specs.Laws.{slot_of}

@@ -20,10 +20,10 @@ use Rattle.fc_registry.specs.Slots.{Present, Slot, Ticket}
 use Rattle.fc_registry.specs.Turns.{first_block, job_of_turn, turn_job}
 use Rattle.fc_core.specs.declared.event.Event.{Event}
 use Rattle.fc_core.specs.declared.event.Event.TheVariants.{Deliver, Due}
-use Rattle.fc_core.specs.declared.stage.Stage.{Stage}
-use Rattle.fc_core.specs.declared.stage.Stage.TheVariants.{ToTell}
+use Rattle.fc_core.specs.Stage.{Stage}
+use Rattle.fc_core.specs.Stage.{ToTell}
 use Rattle.fc_core.specs.declared.stage.Task.{Task}
-use Rattle.fc_core.specs.declared.stage.TurnStage.TheVariants as turns
+use Rattle.fc_core.specs.TurnStage as turns
 use Rattle.fc_core.specs.Fits.{FitsStage}
 use Rattle.fc_core.specs.History.{History, Begins, Then, Seen, seen, due_in, front_at, job, no_task, received_at, scene, slot_at, stage, task_at, tasks_brought, tasks_moved, turn_at, watch}
 use Rattle.fc_core.specs.Laws.{slot_of}

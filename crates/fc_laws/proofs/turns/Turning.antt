@@ -18,10 +18,10 @@ use Rattle.fc_registry.specs.declared.job.Job.{Job}
 use Rattle.fc_registry.specs.Turns.{job_of_turn, turn_given_to, turn_job}
 use Rattle.fc_registry.specs.Watches.{place_from}
 use Rattle.fc_core.specs.declared.event.Event.TheVariants.{Due, Fresh, GiveUp, Lose}
-use Rattle.fc_core.specs.declared.stage.Stage.{Stage}
-use Rattle.fc_core.specs.declared.stage.Stage.TheVariants.{ToTell, Gone}
-use Rattle.fc_core.specs.declared.stage.TurnStage.{TurnStage}
-use Rattle.fc_core.specs.declared.stage.TurnStage.TheVariants as turns
+use Rattle.fc_core.specs.Stage.{Stage}
+use Rattle.fc_core.specs.Stage.{ToTell, Gone}
+use Rattle.fc_core.specs.TurnStage.{TurnStage}
+use Rattle.fc_core.specs.TurnStage as turns
 use Rattle.fc_core.specs.Ids.{free_id}
 use Rattle.fc_registry.specs.Slots.{Ticket}
 use Rattle.fc_core.specs.History.{Seen, and_then, around, did, due_in, is_due_at, is_late_at, is_place_of, job, late_in, scene, slot_at, stage, turn_at, watch}

@@ -13,8 +13,8 @@ use Rattle.fc_core.specs.AnswerLaws.{HasSerial, greatest}
 use Rattle.fc_core.specs.Contents.{Valid}
 use Rattle.fc_core.specs.declared.event.Event.{Event}
 use Rattle.fc_core.specs.declared.event.Event.TheVariants.{Peek, Take, Commit, Install, Remove, Receipt, Raise, Answer, Fresh, Note, GiveUp, Lose}
-use Rattle.fc_core.specs.declared.stage.Stage.{Stage}
-use Rattle.fc_core.specs.declared.stage.Stage.TheVariants.{ToMatch, ToInstall, ToRaise, ToAnswer}
+use Rattle.fc_core.specs.Stage.{Stage}
+use Rattle.fc_core.specs.Stage.{ToMatch, ToInstall, ToRaise, ToAnswer}
 use Rattle.fc_laws.specs.HeadLaws.{raises_of, word_to_raise, words_raised}
 use Rattle.fc_core.specs.Heads.{head_word, is_match, published, serial_in, word_at, word_raised}
 use Rattle.fc_core.specs.History.{around, Entry, History, Begins, Then, Seen, seen, and_then, did, job, scene, slot_at, stage, words_seen}

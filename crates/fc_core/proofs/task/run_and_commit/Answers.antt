@@ -25,7 +25,8 @@ row c =
     c.requires.given c.requires.asked w.commit
 
 pub returns-clause-stage : goal.returns-clause-stage
-returns-clause-stage c = c.committed.ensures ∙ ap (λ (x : Committed). after_commit c.args.count c.args.ticket.now x) (row c).answer
+returns-clause-stage c = λ f seen.
+    ((c.committed.ensures f seen).0 ∙ ap (λ (x : Committed). after_commit c.args.count c.args.ticket.now x) (row c).answer, (c.committed.ensures f seen).1)
 
 pub returns-clause-shard : goal.returns-clause-shard
 returns-clause-shard c =

@@ -1,5 +1,5 @@
 use Rattle.std.proofs.Common.{ℕ, length, subst}
-use Rattle.fc_core.specs.declared.stage.Stage.TheVariants.{ToMatch}
+use Rattle.fc_core.specs.Stage.{ToMatch}
 use Rattle.fc_core.specs.Receiving.{emission_if}
 use Rattle.fc_server.specs.Serving.{Serves, worked}
 use Rattle.fc_server.proofs.Served.{at_work, begun_on, peeked_on}

@@ -1,40 +1,67 @@
-use Rattle.std.proofs.Common.{length, ◌++◌, ◌∷◌, [], true, sym, subst}
+use Rattle.std.proofs.Common.{◌≡◌, ◌∙◌, length, ◌++◌, ◌∷◌, [], true, ap, sym, subst}
 use Rattle.fc_core.specs.History.{History}
-use Rattle.fc_core.specs.declared.stage.Stage.{Stage}
+use Rattle.fc_core.specs.Room.{stage_of}
+use Rattle.fc_core.specs.Stage.{Stage, ToDescribe, ToInstall, ToList, ToMatch, ToRemove, ToTake}
+use Rattle.fc_core.specs.declared.stage.Step.{Step}
 use Rattle.fc_core.specs.Receiving.{emission_if}
-use Rattle.fc_server.specs.Serving.{Serves, Worked}
+use Rattle.fc_server.specs.Serving.{Serves, Worked, next, worked}
+use Rattle.fc_core.specs.declared.event.Event.TheVariants.{Answer}
 use Rattle.fc_server.proofs.Served.{answered_on, at_work, worked_at_once}
 use Rattle.fc_server.proofs.engine.work_off.Goals as goal
 
 pub returns-in-ToMatch : goal.returns-in-ToMatch
 returns-in-ToMatch c = λ h rest v.
     let out = emission_if c.look_and_run.result c.look_and_run.new.reply in
-    subst (λ (st : Stage). Worked c.args.readings.now h (length rest) st c.args.task.now.job.origin.slot c.args.now c.look_and_run.new.server out) (sym c.in-ToMatch.is) (c.look_and_run.ensures h rest v)
+    let room = c.stage.inside in
+    let stage_is : ToMatch ≡ c.args.task.now.stage =
+    ap (λ (step : Step). stage_of step room.found room.seen room.answer) (sym c.in-ToMatch.is) ∙ c.stage.view_is in
+    subst (λ (st : Stage). Worked c.args.readings.now h (length rest) st c.args.task.now.job.origin.slot c.args.now c.look_and_run.new.server out)
+    stage_is (c.look_and_run.ensures h rest v)
 
 pub returns-in-ToTake : goal.returns-in-ToTake
 returns-in-ToTake c = λ h rest v.
     let out = emission_if c.run.result c.run.new.reply in
-    subst (λ (st : Stage). Worked c.args.readings.now h (length rest) st c.args.task.now.job.origin.slot c.args.now c.run.new.server out) (sym c.in-ToTake.is) (c.run.ensures c.in-ToTake.field-0 h rest v)
+    let room = c.stage.inside in
+    let stage_is : ToTake c.in-ToTake.field-0 ≡ c.args.task.now.stage =
+    ap (λ (step : Step). stage_of step room.found room.seen room.answer) (sym c.in-ToTake.is) ∙ c.stage.view_is in
+    subst (λ (st : Stage). Worked c.args.readings.now h (length rest) st c.args.task.now.job.origin.slot c.args.now c.run.new.server out)
+    stage_is (c.run.ensures c.in-ToTake.field-0 h rest v)
 
 pub returns-in-ToInstall : goal.returns-in-ToInstall
 returns-in-ToInstall c = λ h rest v.
     let out = emission_if c.install.result c.install.new.reply in
-    subst (λ (st : Stage). Worked c.args.readings.now h (length rest) st c.args.task.now.job.origin.slot c.args.now c.install.new.server out) (sym c.in-ToInstall.is) (c.install.ensures c.args.readings.now h rest v)
+    let room = c.stage.inside in
+    let stage_is : ToInstall ≡ c.args.task.now.stage =
+    ap (λ (step : Step). stage_of step room.found room.seen room.answer) (sym c.in-ToInstall.is) ∙ c.stage.view_is in
+    subst (λ (st : Stage). Worked c.args.readings.now h (length rest) st c.args.task.now.job.origin.slot c.args.now c.install.new.server out)
+    stage_is (c.install.ensures c.args.readings.now h rest v)
 
 pub returns-in-ToRemove : goal.returns-in-ToRemove
 returns-in-ToRemove c = λ h rest v.
     let out = emission_if c.remove.result c.remove.new.reply in
-    subst (λ (st : Stage). Worked c.args.readings.now h (length rest) st c.args.task.now.job.origin.slot c.args.now c.remove.new.server out) (sym c.in-ToRemove.is) (c.remove.ensures c.args.readings.now h rest v)
+    let room = c.stage.inside in
+    let stage_is : ToRemove ≡ c.args.task.now.stage =
+    ap (λ (step : Step). stage_of step room.found room.seen room.answer) (sym c.in-ToRemove.is) ∙ c.stage.view_is in
+    subst (λ (st : Stage). Worked c.args.readings.now h (length rest) st c.args.task.now.job.origin.slot c.args.now c.remove.new.server out)
+    stage_is (c.remove.ensures c.args.readings.now h rest v)
 
 pub returns-in-ToDescribe : goal.returns-in-ToDescribe
 returns-in-ToDescribe c = λ h rest v.
     let out = emission_if c.describe.result c.describe.new.reply in
-    subst (λ (st : Stage). Worked c.args.readings.now h (length rest) st c.args.task.now.job.origin.slot c.args.now c.describe.new.server out) (sym c.in-ToDescribe.is) (c.describe.ensures c.args.readings.now h rest v)
+    let room = c.stage.inside in
+    let stage_is : ToDescribe ≡ c.args.task.now.stage =
+    ap (λ (step : Step). stage_of step room.found room.seen room.answer) (sym c.in-ToDescribe.is) ∙ c.stage.view_is in
+    subst (λ (st : Stage). Worked c.args.readings.now h (length rest) st c.args.task.now.job.origin.slot c.args.now c.describe.new.server out)
+    stage_is (c.describe.ensures c.args.readings.now h rest v)
 
 pub returns-in-ToList : goal.returns-in-ToList
 returns-in-ToList c = λ h rest v.
     let out = emission_if c.discover.result c.discover.new.reply in
-    subst (λ (st : Stage). Worked c.args.readings.now h (length rest) st c.args.task.now.job.origin.slot c.args.now c.discover.new.server out) (sym c.in-ToList.is) (c.discover.ensures c.in-ToList.field-0 c.args.readings.now h rest v)
+    let room = c.stage.inside in
+    let stage_is : ToList room.seen ≡ c.args.task.now.stage =
+    ap (λ (step : Step). stage_of step room.found room.seen room.answer) (sym c.in-ToList.is) ∙ c.stage.view_is in
+    subst (λ (st : Stage). Worked c.args.readings.now h (length rest) st c.args.task.now.job.origin.slot c.args.now c.discover.new.server out)
+    stage_is (c.discover.ensures room.seen c.args.readings.now h rest v)
 
 pub respond-requires : goal.respond-requires
 respond-requires c = at_work c.requires.rest c.requires.serves
@@ -42,10 +69,13 @@ respond-requires c = at_work c.requires.rest c.requires.serves
 pub returns-in_default : goal.returns-in_default
 returns-in_default c = λ h rest v.
     let n = c.in_default in
+    let room = c.stage.inside in
     let all = rest ++ c.respond.new.task ∷ [] in
     let out = emission_if c.respond.result c.respond.new.reply in
     let task = c.args.task.now in
-    let at_once = worked_at_once c.args.readings.now task.stage task.job.origin.slot (length rest) true c.args.now out h
-    n.not-ToMatch n.not-ToTake n.not-ToInstall n.not-ToRemove n.not-ToDescribe n.not-ToList in
+    let at_once = subst (λ (st : Stage). worked c.args.readings.now st task.job.origin.slot (length rest) true c.args.now out h
+        ≡ next h (Answer (length rest) c.args.now) out) c.stage.view_is
+    (worked_at_once c.args.readings.now room.step room.found room.seen room.answer task.job.origin.slot (length rest) true c.args.now out h
+    n.not-ToMatch n.not-ToTake n.not-ToInstall n.not-ToRemove n.not-ToDescribe n.not-ToList) in
     let done = answered_on rest v c.args.now out c.respond.ensures in
     record { memory = true; tasks = all; serves = subst (λ (x : History). Serves x c.respond.new.self all) (sym at_once) done }

@@ -1,4 +1,4 @@
-use Rattle.std.proofs.Common.{◌∙◌, ap, refl, rules, subst}
+use Rattle.std.proofs.Common.{◌∙◌, ap, refl, subst, sym}
 use Rattle.fc_jobs.specs.Ends.{Got}
 use Rattle.fc_jobs.specs.declared.protocol.Numbered.{Numbered}
 use Rattle.fc_workers.specs.declared.share.Share.{Share}
@@ -7,6 +7,7 @@ use Rattle.fc_workers.specs.Shares.{HasEnded}
 use Rattle.fc_workers.specs.Work.{IsReplied}
 use Rattle.fc_workers.proofs.Turns.{sets_out, turns_on}
 use Rattle.fc_workers.proofs.seat.worker.Goals as goal
+use Rattle.fc_workers.proofs.seat.worker.Goals.{in-None, in-Some+in_default}
 
 pub loop-init : goal.loop-init
 loop-init g c = (
@@ -38,5 +39,9 @@ pub returns : goal.returns
 returns g c =
     let s = (shop g.B.Bench.changes g.B.Bench.ended g.B.Bench.called g.B.Bench.logged
     g.M.Moments.is_moment g.M.Moments.is_random g.G.Gate.passed g.W.Wire.called) in
-    let ended : HasEnded s c.new-share.result c.match-next.share = search rules in
+    let ended : HasEnded s c.new-share.result c.match-next.share = elim c.match-next.branch [
+      | in-None w ↦ subst (λ (x : Share _). HasEnded s c.new-share.result x) (sym w.share-is) c.loop.invariant.4
+      | in-Some+in_default w ↦ subst (λ (x : Share _). HasEnded s c.new-share.result x)
+          (sym (w.share-is ∙ ap (λ (x : Got). record c.loop.share { got = x }) w.in_default.ensures.got)) c.loop.invariant.4
+    ] in
     record { log = c.new-share.result.log; ended = subst (λ (x : Share _). HasEnded s x c.match-next.share) c.new-share.ensures ended }

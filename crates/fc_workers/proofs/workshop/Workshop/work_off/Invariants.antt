@@ -7,8 +7,8 @@ use Rattle.fc_workers.proofs.workshop.Workshop.work_off.Given as goal
 abbrev pub invariant-calls : goal.invariant-calls
 invariant-calls g l = (l.tools.heads.table ≡ l.initial.tools.heads.table) × Walked
     (shop g.B.Bench.changes g.B.Bench.ended g.B.Bench.called g.B.Bench.logged
-    g.M.Moments.is_moment g.M.Moments.is_random g.G.Gate.passed g.W.Wire.called) l.number l.job l.stage l.initial.share
+    g.M.Moments.is_moment g.M.Moments.is_random g.G.Gate.passed g.W.Wire.called) l.number l.job l.tools.stage l.initial.share
     l.share × (g.B.Bench.ended l.share.tallies ≡ g.B.Bench.ended l.initial.share.tallies)
 
 abbrev pub decreases-calls : goal.decreases-calls
-decreases-calls g l = calls_left l.stage
+decreases-calls g l = calls_left l.tools.stage

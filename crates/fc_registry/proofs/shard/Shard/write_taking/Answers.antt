@@ -8,7 +8,7 @@ use Rattle.fc_registry.specs.Views.{as_seen}
 use Rattle.fc_registry.specs.Watches.{IsSentUpTo}
 use Rattle.fc_registry.proofs.Ahead.{sent_after, turn_in, watch_sent}
 use Rattle.fc_registry.proofs.Watched.{turn_enters, watched_there}
-use Rattle.fc_registry.proofs.shard.Shard.take.Goals as goal
+use Rattle.fc_registry.proofs.shard.Shard.write_taking.Goals as goal
 
 pub invariant_of-self : goal.invariant_of-self
 invariant_of-self c =

@@ -1,0 +1,49 @@
+-- What a taking gives, and what it writes down.
+use Rattle.std.specs.Prelude.{◌≡◌, ℕ, List, Option, length}
+use Rattle.arrayvec.specs.ArrayVec.{ArrayVec}
+use Rattle.coap_opts.specs.Values.{Place}
+use Rattle.fc_help.specs.Request.{Request}
+use Rattle.fc_kinds.specs.Meaning.{Program}
+use Rattle.fc_registry.specs.declared.job.Origin.{Origin}
+use Rattle.fc_registry.specs.Slots.{Ticket}
+
+pub data Taken : Type 0 where
+  -- a program
+  Given : (ticket : Ticket) → Taken
+  -- the slot is empty
+  Missing : Taken
+  -- the turn is out no longer
+  Stale : Taken
+  -- there was no memory for another handle of the program
+  Refused : Taken
+
+-- what a taking writes down: a ticket but for its program, of which its answer has the handle
+pub record Found : Type 0 where
+  pub origin : Origin
+  pub turn : Option ℕ
+  pub token : ArrayVec ℕ
+  pub request : Request
+  pub block : Option Place
+  pub observe : Option ℕ
+  pub serial : ℕ
+  pub version : ℕ
+  pub vars : List ℕ
+  pub readings : List ℕ
+
+-- with a program that is the ticket
+abbrev pub ticket_with : Program → Found → Ticket
+ticket_with p f = record {
+  origin = f.origin;
+  turn = f.turn;
+  token = f.token;
+  request = f.request;
+  block = f.block;
+  observe = f.observe;
+  serial = f.serial;
+  found = record { program = p; version = f.version; vars = f.vars };
+  readings = f.readings;
+}
+
+-- the variables are the program's in number
+abbrev pub IsSized : Program → Found → Type 0
+IsSized p f = length f.vars ≡ p.vars_size
