@@ -1,6 +1,6 @@
 //! What a history promises of exchanges and message ids: each function is a law, and its contract says it.
 ghost use Rattle.coap_dedup.specs.Exchanges.{Exchange};
-ghost use Rattle.fc_laws.specs.ExchangeLaws.{AreApart, AreInOrder, FindsNoExchange, Opens, OpensOne, Repeats, arrivals, bare_by, draws_of, first_id, repeat_emits};
+ghost use Rattle.fc_laws.specs.ExchangeLaws.{AllBefore, AreApart, AreInOrder, FindsNoExchange, Opens, OpensOne, Repeats, arrivals, bare_by, draws_of, first_id, repeat_emits};
 ghost use Rattle.fc_core.specs.Contents.{Content};
 ghost use Rattle.fc_core.specs.History.{Entry, History, Seen, Then, and_then, did, job, seen, stage};
 ghost use Rattle.fc_laws.specs.KeptLaws.{AnswersJob, HasId, answers, answers_with, emitted_bytes, exchange_of_job, opened_at};
@@ -9,8 +9,9 @@ ghost use Rattle.fc_core.specs.Stage.{ToAnswer};
 ghost use Rattle.coap_msg.specs.Wire.{Message};
 ghost use Rattle.coap_msg.specs.declared.types.Emission.{Emission};
 ghost use Rattle.fc_core.specs.Laws.{HasCome};
+ghost use Rattle.fc_core.specs.Ids.{free_id};
 ghost use Rattle.fc_core.specs.Legal.{Emits};
-ghost use Rattle.std.specs.Prelude.{ℕ, ◌+◌, ◌<◌, ◌≤◌, ◌≡◌, ◌++◌, ◌∷◌, [], None, Option, Some, is_some, max, true};
+ghost use Rattle.std.specs.Prelude.{ℕ, ◌+◌, ◌%◌, ◌<◌, ◌≤◌, ◌≡◌, ◌↔◌, ◌++◌, ◌∷◌, [], None, Option, Some, is_some, length, max, true};
 
 /// A repeat, which is a request of an endpoint and message id of which an exchange was opened less than 247,000 ms before,
 /// opens no exchange, brings no job, adds no payload to a transfer and draws no message id. It emits the bytes that are kept of that exchange, where its
@@ -59,10 +60,13 @@ pub fn requests_are_carried_out_once()
         → (job (seen h) j).origin.opening.at + 247000 ≤ (job (seen h) k).origin.opening.at }
 {}
 
-/// The server draws its message ids in order: the id after 65,535 is 0. No id is drawn twice less than 247,000 ms apart.
+/// The server draws its message ids in order: the id after 65,535 is 0. No id is drawn twice less than 247,000 ms apart. An id is
+/// free at a moment where it is the next in order and each draw of it was at least 247,000 ms before, and no other is.
 pub fn message_ids_come_in_order()
     ensures order { (h : History) → first_id h < 65536 → AreInOrder (first_id h) (draws_of h) }
     ensures apart { (h : History) → first_id h < 65536 → AreApart (draws_of h) }
+    ensures free { (h : History) (at id : ℕ) → first_id h < 65536 → (free_id (seen h).ids at ≡ Some id)
+        ↔ ((id ≡ (first_id h + length (draws_of h)) % 65536) × AllBefore id at (draws_of h)) }
 {}
 
 /// The answer of a job goes out less than 247,000 ms after its request was opened, and never later. Until then it does go out, where

@@ -1,9 +1,9 @@
 -- The message ids that are drawn come in order, and none comes twice in a window.
-use Rattle.std.proofs.Common.{◌≡◌, ℕ, ◌+◌, ◌%◌, ◌<◌, ◌≤◌, List, [], ◌∷◌, length, get_or, set, Bool, true, false, Option, Some, None, refl, sym, ap, ◌∙◌, subst, ⊎_elim, arith, max, if◌then◌else◌, length-set}
-use Rattle.std.specs.Prelude.{◌==◌, is_some}
+use Rattle.std.proofs.Common.{◌≡◌, ℕ, ◌+◌, ◌%◌, ◌<◌, ◌≤◌, ◌⊎◌, inl, inr, List, [], ◌∷◌, length, get_or, set, Bool, true, false, Option, Some, None, refl, sym, ap, ◌∙◌, subst, ⊎_elim, arith, max, if◌then◌else◌, length-set}
+use Rattle.std.specs.Prelude.{◌==◌, ◌↔◌, is_some}
 use borrow.Author.Tests.{ltb-false}
-use Rattle.std.proofs.lemmas.Bool.{cases_eq, eq-eqb, ne_eqb}
-use Rattle.std.proofs.lemmas.List.{get_or-set_same, get_or-set_other, length-replicate}
+use Rattle.std.proofs.lemmas.Bool.{cases_eq, eq-eqb, le-ltb, ne_eqb}
+use Rattle.std.proofs.lemmas.List.{get_or-replicate, get_or-set_same, get_or-set_other, length-replicate}
 use Rattle.std.proofs.Math.Nat.{le-max_left}
 use Rattle.fc_core.specs.declared.event.Event.{Event}
 use Rattle.fc_core.specs.declared.event.Event.TheVariants.{Deliver, Answer, Fresh, Tick}
@@ -88,11 +88,36 @@ all_before : (last : List (Option ℕ)) (id at : ℕ) (ds : List Draw) → is_re
 all_before last id at [] e w = tt
 all_before last id at (d ∷ ds) e w = ((λ is. let past : w.0.0 + 247000 ≤ at = fresh_since at w.0.0 (get_or last id None) e (ap (λ (i : ℕ). get_or last i None) (sym is) ∙ w.0.1) in omega (arith, w.0.2, past)), all_before last id at ds e w.1)
 
+-- some draw was of this id at this moment
+abbrev HasDraw : ℕ → ℕ → List Draw → Type 0
+HasDraw id a [] = ⊥
+HasDraw id a (d ∷ ds) = ((d.id ≡ id) × (d.at ≡ a)) ⊎ HasDraw id a ds
+
+-- where an id was last drawn at a moment, there is that draw
+abbrev AreDraws : List (Option ℕ) → List Draw → Type 0
+AreDraws last ds = (id a : ℕ) → id < 65536 → get_or last id None ≡ Some a → HasDraw id a ds
+
+draws_after : (last : List (Option ℕ)) (next at : ℕ) (ds : List Draw) → next < length last → AreDraws last ds → AreDraws (set last next (Some at)) (record { id = next; at = at } ∷ ds)
+draws_after last next at ds here w id a lt e = ⊎_elim
+    (λ (is : id ≡ next). inl (sym is, cc (sym (get_or-set_same last next (Some at) None here) ∙ ap (λ (i : ℕ). get_or (set last next (Some at)) i None) (sym is) ∙ e)))
+    (λ (ne : id ≡ next → ⊥). inr (w id a lt (sym (get_or-set_other last next id (Some at) None ne) ∙ e)))
+    (cases_eq id next)
+
+before_draw : (id at a : ℕ) (ds : List Draw) → AllBefore id at ds → HasDraw id a ds → a + 247000 ≤ at
+before_draw id at a [] w h = absurd h
+before_draw id at a (d ∷ ds) w (inl is) = let past = w.0 is.0 in omega (arith, past, is.1)
+before_draw id at a (d ∷ ds) w (inr h) = before_draw id at a ds w.1 h
+
+recent_not : (at : ℕ) (o : Option ℕ) → ((a : ℕ) → o ≡ Some a → a + 247000 ≤ at) → is_recent at o ≡ false
+recent_not at None past = refl
+recent_not at (Some a) past = le-ltb at (a + 247000) (past a refl)
+
 -- what is so of the draws of a history
 record AreKept (first : ℕ) (ids : Ids) (moment : ℕ) (ds : List Draw) : Type 0 where
   next : ids.next ≡ (first + length ds) % 65536
   room : length ids.last ≡ 65536
   kept : AllKept ids.last ds
+  drawn : AreDraws ids.last ds
   past : AllAtMost moment ds
   order : AreInOrder first ds
   apart : AreApart ds
@@ -110,7 +135,7 @@ moment_rises other s = omega arith
 
 step : (first : ℕ) (old new : Ids) (m at : ℕ) (ds : List Draw) → m ≤ at → AreKept first old m ds → Draws old at new → AreKept first new at (draws_by (new.next == old.next) (record { id = old.next; at = at }) ds)
 step first old new m at ds le w (Same is) = subst (λ (b : Bool). AreKept first new at (draws_by b (record { id = old.next; at = at }) ds)) (sym (eq-eqb new.next old.next (ap (λ (x : Ids). x.next) is)))
-    (subst (λ (x : Ids). AreKept first x at ds) (sym is) (record { next = w.next; room = w.room; kept = w.kept; past = at_most_later m at ds le w.past; order = w.order; apart = w.apart }))
+    (subst (λ (x : Ids). AreKept first x at ds) (sym is) (record { next = w.next; room = w.room; kept = w.kept; drawn = w.drawn; past = at_most_later m at ds le w.past; order = w.order; apart = w.apart }))
 step first old new m at ds le w (Next fresh is) =
     let lt : old.next < 65536 = omega (arith, w.next) in
     let other : new.next ≡ old.next → ⊥ = λ (same : new.next ≡ old.next). omega (arith, ap (λ (x : Ids). x.next) is, same, lt) in
@@ -121,6 +146,7 @@ step first old new m at ds le w (Next fresh is) =
       next = omega (arith, w.next);
       room = length-set old.last old.next (Some at) ∙ w.room;
       kept = ((at, get_or-set_same old.last old.next (Some at) None here, omega arith), kept_after old.last old.next at ds here past w.kept);
+      drawn = draws_after old.last old.next at ds here w.drawn;
       past = (omega arith, past);
       order = (w.next, w.order);
       apart = (all_before old.last old.next at ds fresh w.kept, w.apart);
@@ -130,9 +156,13 @@ none_room : length no_draws ≡ 65536
 unfolding no_draws
 none_room = length-replicate {A = Option ℕ} 65536 None
 
+none_drawn : AreDraws no_draws []
+unfolding no_draws
+none_drawn id a lt e = absurd (cc (sym (get_or-replicate {A = Option ℕ} 65536 id None None lt) ∙ e))
+
 all_kept : (h : History) → first_id h < 65536 → AreKept (first_id h) (seen h).ids (seen h).moment (draws_of h)
 unfolding seen
-all_kept (Begins serial id) lt = record { next = omega (arith, lt); room = none_room; kept = tt; past = tt; order = tt; apart = tt }
+all_kept (Begins serial id) lt = record { next = omega (arith, lt); room = none_room; kept = tt; drawn = none_drawn; past = tt; order = tt; apart = tt }
 all_kept (Then h r) lt = step (first_id h) (seen h).ids (and_then r (seen h)).ids (seen h).moment (moment_by (at_front r.event) (seen h)) (draws_of h) (moment_rises r.event (seen h)) (all_kept h lt) (event_draws r.event (seen h))
 
 -- ---- a turn's draw
@@ -159,3 +189,27 @@ ids_in_order h lt = (all_kept h lt).order
 
 pub ids_apart : (h : History) → first_id h < 65536 → AreApart (draws_of h)
 ids_apart h lt = (all_kept h lt).apart
+
+by_free : (ids : Ids) (id : ℕ) (b : Bool) → (if b then None else Some ids.next) ≡ Some id → (b ≡ false) × (ids.next ≡ id)
+by_free ids id true free = absurd (cc free)
+by_free ids id false free = (refl, cc free)
+
+pub ids_free : (h : History) (at id : ℕ) → first_id h < 65536
+    → ((free_id (seen h).ids at ≡ Some id) ↔ ((id ≡ (first_id h + length (draws_of h)) % 65536) × AllBefore id at (draws_of h)))
+ids_free h at id lt = (to, from)
+  where
+    ids : Ids
+    ids = (seen h).ids
+    kept : AreKept (first_id h) ids (seen h).moment (draws_of h)
+    kept = all_kept h lt
+    to : free_id ids at ≡ Some id → (id ≡ (first_id h + length (draws_of h)) % 65536) × AllBefore id at (draws_of h)
+    to free =
+        let by = by_free ids id (is_recent at (last_drawn ids)) free in
+        (sym by.1 ∙ kept.next, subst (λ (i : ℕ). AllBefore i at (draws_of h)) by.1 (all_before ids.last ids.next at (draws_of h) by.0 kept.kept))
+    from : (id ≡ (first_id h + length (draws_of h)) % 65536) × AllBefore id at (draws_of h) → free_id ids at ≡ Some id
+    from w =
+        let is : ids.next ≡ id = kept.next ∙ sym w.0 in
+        let small : ids.next < 65536 = omega (arith, kept.next) in
+        let past = subst (λ (i : ℕ). AllBefore i at (draws_of h)) (sym is) w.1 in
+        let old = recent_not at (last_drawn ids) (λ a e. before_draw ids.next at a (draws_of h) past (kept.drawn ids.next a small e)) in
+        ap (λ (b : Bool). if b then None else Some ids.next) old ∙ ap Some is
