@@ -200,12 +200,15 @@ ids_free h at id lt = (to, from)
   where
     ids : Ids
     ids = (seen h).ids
+
     kept : AreKept (first_id h) ids (seen h).moment (draws_of h)
     kept = all_kept h lt
+
     to : free_id ids at ≡ Some id → (id ≡ (first_id h + length (draws_of h)) % 65536) × AllBefore id at (draws_of h)
     to free =
         let by = by_free ids id (is_recent at (last_drawn ids)) free in
         (sym by.1 ∙ kept.next, subst (λ (i : ℕ). AllBefore i at (draws_of h)) by.1 (all_before ids.last ids.next at (draws_of h) by.0 kept.kept))
+
     from : (id ≡ (first_id h + length (draws_of h)) % 65536) × AllBefore id at (draws_of h) → free_id ids at ≡ Some id
     from w =
         let is : ids.next ≡ id = kept.next ∙ sym w.0 in

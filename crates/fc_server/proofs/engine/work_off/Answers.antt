@@ -74,7 +74,7 @@ returns-in_default c = λ h rest v.
     let out = emission_if c.respond.result c.respond.new.reply in
     let task = c.args.task.now in
     let at_once = subst (λ (st : Stage). worked c.args.readings.now st task.job.origin.slot (length rest) true c.args.now out h
-        ≡ next h (Answer (length rest) c.args.now) out) c.stage.view_is
+    ≡ next h (Answer (length rest) c.args.now) out) c.stage.view_is
     (worked_at_once c.args.readings.now room.step room.found room.seen room.answer task.job.origin.slot (length rest) true c.args.now out h
     n.not-ToMatch n.not-ToTake n.not-ToInstall n.not-ToRemove n.not-ToDescribe n.not-ToList) in
     let done = answered_on rest v c.args.now out c.respond.ensures in

@@ -135,7 +135,7 @@ loop-slot-preserved c =
       | in_default w ↦
           record {
             passing = subst (Passing version vars code all (l.slot + 1)) (sym w.states-is)
-            (passing_none version vars code all l.slot l.states insn p at w.in_default.is);
+                (passing_none version vars code all l.slot l.states insn p at w.in_default.is);
             low = subst (AreLow (l.slot + 1)) (sym w.states-is) (low_up l.slot (l.slot + 1) l.states (omega arith) l.invariant.low);
             reach = reach;
           }
