@@ -1,9 +1,8 @@
 use Rattle.std.proofs.Common.{◌≡◌, ℕ, true, max, Option, None, Some, [], ◌∷◌, ◌++◌, length, refl, sym, subst, ◌∙◌}
 use Rattle.coap_msg.specs.declared.types.Emission.{Emission}
-use Rattle.fc_core.specs.declared.stage.Stage.{Stage}
-use Rattle.fc_core.specs.declared.stage.Stage.TheVariants.{ToTell}
+use Rattle.fc_core.specs.Stage.{Stage, ToTell}
 use Rattle.fc_core.specs.declared.stage.Task.{Task}
-use Rattle.fc_core.specs.declared.stage.TurnStage.TheVariants as turns
+use Rattle.fc_core.specs.TurnStage as turns
 use Rattle.fc_core.specs.Exchanges.{FrontState}
 use Rattle.fc_core.specs.Ids.{free_id}
 use Rattle.fc_core.specs.Receiving.{emission_if}
