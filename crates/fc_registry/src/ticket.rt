@@ -108,7 +108,7 @@ fn write_request(ask: &Ask, request: &mut Request)
     }
 }
 
-/// What a taking found in a slot, for a job: the serial, the program, and the variables, as they were written down. What is installed
+/// A view of a program and of what is written down beside it: with what one taking gave, what that found in a slot, for a job. A commit compares all of it with the slot. What is installed
 /// or committed later doesn't alter it.
 #[derive(Drop)]
 pub struct Ticket<'a> {

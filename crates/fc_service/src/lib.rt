@@ -30,8 +30,8 @@
 //!   first, was handed to the sink, and is counted once, as the sink told. What was received in the rounds, in order, is what the source
 //!   gave, where that is known: of a socket of the system it isn't. That nothing else goes to the sink, and in which order, no clause says
 //!   (`Source::came`, `Sink::went`).
-//! - **A server on a socket is that loop**, by one worker or more, and ends only where a limit is set and as many datagrams were received
-//!   (`serve_at`, by `IsServed`). What a datagram is received into has 1,281 bytes, one more than it may have (`laws`).
+//! - **A server on a socket is that loop**, by one worker or more, where it gives its source back: then a limit was set, and as many
+//!   datagrams were received (`serve_at`, by `IsServed`). Of one that gives none, and of one that doesn't end, no clause says anything. What a datagram is received into has 1,281 bytes, one more than it may have (`laws`).
 //! - **By one worker** these are lists of events of one server, which begins at the serial and the message id that it is given: each round
 //!   is the list of its datagram, or of its moment, and of what its shards are asked. Its readings are each round's moment and what its
 //!   sensors said. No clause says that with `--readings` this is the file's; without it these are zeros (`serve_alone`, by `HasServed`).
@@ -41,7 +41,8 @@
 //!   these, which are told up to 2^64 - 1. That its workers worked at these shards is no clause.
 //! - **Readings** are some moment in eight bytes, the least first, and what the sensors said: zeros where there are none. What is read of a
 //!   file is what one call of its reader gave, 56 bytes at most, and zeros behind.
-//! - **Replies** of a server on a socket are counted and added exactly, up to 2^64 - 1, and told as `sent S failed F`.
+//! - **Replies** of a server on a socket are counted and added exactly, up to 2^64 - 1, and written as `sent S failed F`. That by more
+//!   workers what is added for their jobs is their own count, and that it is told to the log, is no clause.
 //!
 //! By the contracts of `play::play`, `lines::play_lines`, `rounds::run_rounds`, `serve::serve_at`, `serve::serve_alone`, `pool::run_pool`,
 //! `clock::SensingDevice`, `sensors::read_sensed`, `Replies`, `laws`.

@@ -16,16 +16,17 @@
 //!
 //! # What is proved
 //!
-//! - An image is accepted exactly where it keeps every rule of its version, costs no more than its budget and has some typing, which at the
+//! - An image is judged acceptable exactly where it keeps every rule of its version, costs no more than its budget and has some typing, which at the
 //!   head of a counted loop holds in each turn, and in which R4 at the entry is unset in version 1. In version 2 it points to the readings
 //!   there: a store through that pointer is refused, and a load within its 64 bytes is not.
-//! - Each refusal names the rule that is broken first and its slot. Where only the typing is missing it names some slot of the program,
-//!   with what the pass knows of the registers there and the demand that isn't met: the instruction's own, a number in a loop's body, or a
+//! - What is accepted is acceptable. Each refusal names the rule that is broken first and its slot, or that memory was refused, of an image
+//!   whose header keeps its rules. Where only the typing is missing it names some slot of the program, and `pass::typed` tells what the
+//!   pass knows of the registers there and the demand that isn't met: the instruction's own, a number in a loop's body, or a
 //!   loop's counter below its bound.
 //! - An accepted program runs to its exit within its budget on every request, and each typed one in at most the steps of its longest path,
 //!   all turns of its loops counted.
 //!
-//! By the contracts of `verify`, `laws::judgement_is_right`, `laws::judgement_is_only`, `laws::accepted_programs_run`,
+//! By the contracts of `verify`, `pass::typed`, `laws::judgement_is_right`, `laws::judgement_is_only`, `laws::accepted_programs_run`,
 //! `laws::typed_programs_end`.
 #![tactic(auto)]
 

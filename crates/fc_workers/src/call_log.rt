@@ -1,7 +1,7 @@
 //! Which calls a worker made, in order.
 
 /// A worker's log of the calls that it makes of its bench, its gate and its wire. Each of these is handed the log, and says from which of its states to which it led:
-/// so a clause says which calls were made, in which order, and that no other was. Nothing is kept in it.
+/// so a clause says which calls were made, in which order, and that no other was with this log. Nothing is kept in it.
 #[derive(Drop)]
 pub struct CallLog {
     state: u8,

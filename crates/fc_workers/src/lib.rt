@@ -7,7 +7,7 @@
 //! (`fc_core`'s `Stage`). `specs/Work.antt` says which calls a job's answer ends, and `specs/Shares.antt` what a worker's
 //! [`Share`] says of its jobs: it has worked off and ended just those that its `Got` gained, and its tallies have risen by
 //! the changes that their calls answered. Each call of which it matters how often it is made, and when, is handed the worker's [`CallLog`]: so it is said
-//! that these calls were made in this order, and no others.
+//! that these calls were made in this order, and no others with this log.
 //!
 //! What a call is answered by isn't said: that a bench takes from the job's own slot is its implementation's. Nor is it said that
 //! a call returns, or when.
@@ -41,8 +41,9 @@
 //!
 //! # What is proved
 //!
-//! - **A worker's calls**: each of those that its log has leads the log on from where the one before it left it. So none was made twice, or
-//!   out of order, or besides. Looks at head words, receipts and readings, which change nothing, aren't in the log.
+//! - **A worker's calls**: each of those that its log has leads the log on from where the one before it left it. So none was made twice,
+//!   out of order, or besides, with this log. That a worker hands its calls no other log is read: one is made in `Share::new` alone. Looks at
+//!   head words, receipts and readings, which change nothing, aren't in the log.
 //! - **A request's job** comes to what it is to be answered by a list of calls from its first stage: each is the call that its stage needs,
 //!   answered as the shard does at some slot, and eight take at most. A look is at the head word of the job's slot, or, for a list, of each
 //!   slot in order, and the word of the job's slot is raised to the one that its change told.
@@ -62,16 +63,16 @@
 //!   where its handover lets it go (what a dear run costs, by a receipt that some shard could give), or works it off and ends it, and does
 //!   neither where there is none. It hands a signal to each of eight shards, as it was heard, asks the shard that it is told to, and advances
 //!   the front to the moment that it is handed.
-//! - **A server behind nine locks**, of which a call takes one, takes, installs, removes and tells of a program at the shard of the job's slot,
-//!   and notifies and gives up at that of the turn's, with what it is handed. It answers a delivery, a draw of a message id, a turn, a tick, a
-//!   notification and a job at the moment that it is handed or a later one, each as some front or shard does, and counts each change of a
-//!   slot on the worker's tally; closed, the serials of each shard have risen by just what was counted.
-//! - The readings that it gives are what some call of its device gave: a moment that was asked for, in eight bytes, the least first, and
-//!   what its sensors said, which are zeros where it has none.
-//! - A look at a head word tells no less than its worker has seen of that slot's, and a raise leaves it no less than the word of the new
-//!   state. Both take no lock.
-//! - Not claimed: which state of a slot or front a call met, that a call holds one lock, which readings a server gives, and that a call
-//!   returns.
+//! - **A server behind nine locks** answers a taking, an install, a removal and a receipt as a shard of the index of the job's slot does in
+//!   some state, and a notification as one of that of the turn's does: of the turn, the message id, the moment and what is told that it is
+//!   handed. It answers a delivery, a draw of a message id, a turn, a tick, a notification and a job at the moment that it is handed or a
+//!   later one, each as some front or shard does, and counts each change of a slot on the worker's tally; closed, the serials of each shard
+//!   have risen by just what was counted.
+//! - The readings that it gives are what some call of its device gave (`Device::are_readings`).
+//! - A look at a head word tells no less than its worker has seen of that slot's, and a raise leaves it no less than the word that it is
+//!   handed. Both take no lock.
+//! - Not claimed: which state of a slot or front a call met, that a call holds one lock, which readings a server gives, which random word
+//!   its shard is handed, that it gives up the turn that it is told to, and that a call returns.
 //!
 //! By the contracts of `Workshop::work_off`, `Workshop::work`, `worker`, `run_workers`, `feed_workers`, `Dispatcher::hear`,
 //! `Dispatcher::notify`, the clauses of `Bench`, `ShardCall`, `Counted`, `Locked::new`, `close`.
