@@ -3,20 +3,20 @@ use Rattle.std.proofs.Common.{◌≡◌, ℕ, ◌+◌, ◌%◌, ◌<◌, List, [
 use Rattle.coap_msg.specs.Wire.{Message, message_bytes}
 use Rattle.coap_msg.specs.Reading.{reading_of}
 use Rattle.coap_client.specs.declared.errand.Errand.{Errand}
-use Rattle.coap_client.specs.declared.fetching.Course.{Course}
-use Rattle.coap_client.specs.declared.fetching.Step.{Step}
-use Rattle.coap_client.specs.declared.hearing.Request.{Request}
+use Rattle.coap_client.specs.declared.fetcher.Course.{Course}
+use Rattle.coap_client.specs.declared.fetcher.Step.{Step}
+use Rattle.coap_client.specs.declared.transmission.SentRequest.{SentRequest}
 use Rattle.coap_client.specs.declared.part.Part.{Part}
 use Rattle.coap_client.specs.Parts.{first_part}
 use Rattle.coap_client.specs.Requests.{part_request}
 use Rattle.coap_client.specs.Heard.{HasTakenResponse, IsTakenResponse}
-use Rattle.coap_client.specs.Fetching.{State, Out, AnswersIn, IsAnswerTo, IsStepOf, IsFetching, LeadsTo, after_reply, taken_ids, with_taken_id}
+use Rattle.coap_client.specs.Fetching.{State, Out, AnswersInState, IsAnswerToPart, IsStepOf, IsFetching, LeadsTo, after_reply, taken_ids, with_taken_id}
 
 -- what came answers the request of a part
-pub answers_part : (went came : List ℕ → Type 0) (e : Errand) (part : Part) (id : ℕ) (earlier : List ℕ) (r : Request) (bytes : List ℕ) (m : Message) →
+pub answers_part : (went came : List ℕ → Type 0) (e : Errand) (part : Part) (id : ℕ) (earlier : List ℕ) (r : SentRequest) (bytes : List ℕ) (m : Message) →
     HasTakenResponse went came r bytes → reading_of bytes ≡ Ok m →
     r.confirmable ≡ e.confirmable → r.id ≡ id → r.earlier.now ≡ earlier → r.datagram.now.items ≡ message_bytes (part_request e part id) →
-    IsAnswerTo went came e id earlier part m
+    IsAnswerToPart went came e id earlier part m
 answers_part went came e part id earlier r bytes m a read c i k d =
     let same : a.message ≡ m = cc (a.is.asked.read_is, read) in
     record {
@@ -36,16 +36,16 @@ begins went came e first known part body etag below p b t =
 
 pub one_more : (went came : List ℕ → Type 0) (e : Errand) (first : ℕ) (known : List ℕ) (id : ℕ) (earlier : List ℕ) (part : Part) (body etag : List ℕ) (m : Message)
     (id' : ℕ) (earlier' : List ℕ) (next : State) →
-    IsFetching went came e first known id earlier (Out part body etag) → IsAnswerTo went came e id earlier part m →
+    IsFetching went came e first known id earlier (Out part body etag) → IsAnswerToPart went came e id earlier part m →
     after_reply (length e.payload.now) m (Out part body etag) ≡ next → id' ≡ (id + 1) % 65536 → earlier' ≡ with_taken_id m earlier →
     IsFetching went came e first known id' earlier' next
 one_more went came e first known id earlier part body etag m id' earlier' next u a n i k = record {
   replies = m ∷ u.replies;
   are = (
     u.are,
-    subst (λ s. AnswersIn went came e ((first + length u.replies) % 65536) (taken_ids known u.replies) s m) (sym u.leads)
-        (subst (λ x. IsAnswerTo went came e ((first + length u.replies) % 65536) x part m) u.earlier_is
-        (subst (λ x. IsAnswerTo went came e x earlier part m) u.id_is a)),
+    subst (λ s. AnswersInState went came e ((first + length u.replies) % 65536) (taken_ids known u.replies) s m) (sym u.leads)
+        (subst (λ x. IsAnswerToPart went came e ((first + length u.replies) % 65536) x part m) u.earlier_is
+        (subst (λ x. IsAnswerToPart went came e x earlier part m) u.id_is a)),
   );
   leads = ap (after_reply (length e.payload.now) m) u.leads ∙ n;
   id_is = omega (arith, i, u.id_is);
@@ -58,7 +58,7 @@ leads_to went came e first known id earlier state u = record { replies = u.repli
 
 -- an answer was taken
 pub taken : (went came : List ℕ → Type 0) (e : Errand) (first : ℕ) (known : List ℕ) (old new : Course) (m : Message) (step : Step) →
-    IsFetching went came e first known old.id old.earlier.items (Out old.part old.body.items old.etag.items) → IsAnswerTo went came e old.id old.earlier.items old.part m →
+    IsFetching went came e first known old.id old.earlier.items (Out old.part old.body.items old.etag.items) → IsAnswerToPart went came e old.id old.earlier.items old.part m →
     IsStepOf (length e.payload.now) m old new step →
     IsFetching went came e first known new.id new.earlier.items (after_reply (length e.payload.now) m (Out old.part old.body.items old.etag.items))
 taken went came e first known old new m step u a s =
@@ -66,7 +66,7 @@ taken went came e first known old new m step u a s =
 
 -- what the answer leads to
 pub leads_on : (went came : List ℕ → Type 0) (e : Errand) (first : ℕ) (known : List ℕ) (old new : Course) (m : Message) (step : Step) (state : State) →
-    IsFetching went came e first known old.id old.earlier.items (Out old.part old.body.items old.etag.items) → IsAnswerTo went came e old.id old.earlier.items old.part m →
+    IsFetching went came e first known old.id old.earlier.items (Out old.part old.body.items old.etag.items) → IsAnswerToPart went came e old.id old.earlier.items old.part m →
     IsStepOf (length e.payload.now) m old new step → after_reply (length e.payload.now) m (Out old.part old.body.items old.etag.items) ≡ state →
     IsFetching went came e first known new.id new.earlier.items state
 leads_on went came e first known old new m step state u a s is =

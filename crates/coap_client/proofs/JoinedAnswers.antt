@@ -14,7 +14,7 @@ use Rattle.coap_client.specs.declared.part.Part.TheVariants.{Whole, Body, Answer
 use Rattle.coap_client.specs.declared.reply.Next.{Next}
 use Rattle.coap_client.specs.declared.reply.Next.TheVariants as next
 use Rattle.coap_client.specs.Fetching.{State, Out, Ended, Outdated, Lost, after_reply, moved_on, state_after}
-use Rattle.coap_client.specs.Joined.{AreInOrder, BeginsAt, IsLastBlock, IsOneAnswer, payloads}
+use Rattle.coap_client.specs.Joined.{AreBlocksInOrder, BeginsAt, IsLastBlock, IsOneAnswer, payloads}
 use Rattle.coap_client.specs.Parts.{first_part, has_more}
 use Rattle.coap_client.specs.Replies.{block1_of, block2_of, by_more, by_option, by_part, etag_of, is_continue, is_final, fits_place, is_success, is_understood, next_by_code, next_block, next_number, next_of_answer, next_of_body, next_of_whole, next_size}
 use Rattle.coap_client.proofs.NextParts.{either, place_is}
@@ -25,7 +25,7 @@ pub record IsJoined (body etag : List ℕ) (ms : List Message) : Type 0 where
   pub before : List Message
   pub last : ms ≡ blocks ++ before
   pub joined : body ≡ payloads blocks
-  pub in_order : AreInOrder blocks
+  pub in_order : AreBlocksInOrder blocks
   pub version : All (λ m. etag_of m ≡ etag) blocks
 
 -- what is there in a state

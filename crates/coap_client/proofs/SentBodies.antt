@@ -15,7 +15,7 @@ use Rattle.coap_client.specs.declared.reply.Next.TheVariants as next
 use Rattle.std.specs.List.{All}
 use Rattle.std.proofs.lemmas.List.Elements.{All-nil, All-cons}
 use Rattle.coap_client.specs.Requests.{part_request}
-use Rattle.coap_client.specs.Fetching.{State, Out, Ended, Outdated, Lost, AnswersIn, AreReplies, IsFetched, LeadsTo, after_reply, moved_on, state_after, taken_ids}
+use Rattle.coap_client.specs.Fetching.{State, Out, Ended, Outdated, Lost, AnswersInState, AreReplies, IsFetched, LeadsTo, after_reply, moved_on, state_after, taken_ids}
 use Rattle.coap_client.specs.Joined.{SendsWhole, payloads}
 use Rattle.coap_client.specs.Parts.{block_of, first_part, has_more, part_payload}
 use Rattle.coap_client.specs.Replies.{block1_of, block2_of, by_more, by_option, by_part, etag_of, is_continue, is_final, fits_place, is_success, is_understood, next_block, next_by_code, next_number, next_of_answer, next_of_body, next_of_whole, next_size}
@@ -154,7 +154,7 @@ requests_join e first (m ∷ ms) =
     one_joins e _ (state_after e ms) (requests_of e first ms) ∙ ap (λ x. x ++ body_of_request e (state_after e ms)) (requests_join e first ms)
 
 one_went : (went came : List ℕ → Type 0) (e : Errand) (id : ℕ) (earlier : List ℕ) (s : State) (m : Message) (rs : List Message) →
-    AnswersIn went came e id earlier s m → All (λ r. went (message_bytes r)) rs → All (λ r. went (message_bytes r)) (with_request e id s rs)
+    AnswersInState went came e id earlier s m → All (λ r. went (message_bytes r)) rs → All (λ r. went (message_bytes r)) (with_request e id s rs)
 one_went went came e id earlier (Out Whole body etag) m rs a all = All-cons (λ r. went (message_bytes r)) _ rs a.is.asked.asked all
 one_went went came e id earlier (Out (Body n szx) body etag) m rs a all = All-cons (λ r. went (message_bytes r)) _ rs a.is.asked.asked all
 one_went went came e id earlier (Out (Answer n szx) body etag) m rs a all = all

@@ -11,7 +11,7 @@ use Rattle.coap_msg.specs.Wire.{Message}
 use Rattle.coap_client.specs.declared.notice.Notice.{Notice}
 use Rattle.coap_client.specs.declared.notice.Notice.TheVariants.{State, Older, Last, Misfit}
 use Rattle.coap_client.specs.declared.observing.Observer.{Observer}
-use Rattle.coap_client.specs.declared.watch.Mark.{Mark}
+use Rattle.coap_client.specs.declared.watch.ShownMark.{ShownMark}
 use Rattle.coap_client.specs.declared.watch.Watch.{Watch}
 use Rattle.coap_client.specs.Notices.{IsOwnResponse, by_age, by_success, can_be_shown, first_marks, is_newer, is_shown_again, mark, marked, notice_after, notice_of}
 use Rattle.coap_client.specs.Notes.{AreNotes, IsRemembered, IsWatching, has_mark, is_mark_of, IsApart, IsHeardFrom, IsNewerThan, IsNext, IsNextNote, IsNoteOf, IsRegistered, IsResponseWith, Note}
@@ -19,7 +19,7 @@ use Rattle.coap_client.specs.Replies.{begins_exchange}
 
 -- ---- marks
 
-marked_apart : (k : Mark) (id at now : ℕ) → is_mark_of id at k ≡ true → (nat_eq k.id id && within_window now k.at) ≡ false → at + window ≤ now
+marked_apart : (k : ShownMark) (id at now : ℕ) → is_mark_of id at k ≡ true → (nat_eq k.id id && within_window now k.at) ≡ false → at + window ≤ now
 marked_apart k id at now is none =
     let both = and_parts (nat_eq k.id id) (nat_eq k.at at) is in
     let same = eqb-true k.at at both.1 in
@@ -29,7 +29,7 @@ marked_apart k id at now is none =
     ]
 
 -- what has a mark isn't shown again within the window
-apart : (marks : List Mark) (id at now : ℕ) → has_mark marks id at ≡ true → is_shown_again marks id now ≡ false → at + window ≤ now
+apart : (marks : List ShownMark) (id at now : ℕ) → has_mark marks id at ≡ true → is_shown_again marks id now ≡ false → at + window ≤ now
 apart [] id at now has none = absurd (cc has)
 apart (k ∷ marks) id at now has none =
     let parts = or_parts (nat_eq k.id id && within_window now k.at) (is_shown_again marks id now) none in
@@ -39,7 +39,7 @@ apart (k ∷ marks) id at now has none =
     ]
 
 -- marks that still count are kept
-filtered : (marks : List Mark) (id at now : ℕ) → has_mark marks id at ≡ true → within_window now at ≡ true → has_mark (filter (λ k. within_window now k.at) marks) id at ≡ true
+filtered : (marks : List ShownMark) (id at now : ℕ) → has_mark marks id at ≡ true → within_window now at ≡ true → has_mark (filter (λ k. within_window now k.at) marks) id at ≡ true
 filtered [] id at now has young = absurd (cc has)
 filtered (k ∷ marks) id at now has young =
     let rest = filter (λ j. within_window now j.at) marks in
@@ -53,7 +53,7 @@ filtered (k ∷ marks) id at now has young =
           cond_both (within_window now k.at) (k ∷ rest) rest (λ ks. has_mark ks id at ≡ true) (λ _. or_right (is_mark_of id at k) (has_mark rest id at) found) (λ _. found)
     ]
 
-kept_mark : (marks : List Mark) (id at other now : ℕ) → has_mark marks id at ≡ true → within_window now at ≡ true → has_mark (marked marks other now) id at ≡ true
+kept_mark : (marks : List ShownMark) (id at other now : ℕ) → has_mark marks id at ≡ true → within_window now at ≡ true → has_mark (marked marks other now) id at ≡ true
 kept_mark marks id at other now has young =
     let rest = filter (λ k. within_window now k.at) marks in
     list_any-append (is_mark_of id at) rest (mark other now ∷ []) ∙ or_left (has_mark rest id at) (has_mark (mark other now ∷ []) id at) (filtered marks id at now has young)
@@ -61,13 +61,13 @@ kept_mark marks id at other now has young =
 own_mark : (id now : ℕ) → is_mark_of id now (mark id now) ≡ true
 own_mark id now = and_from (nat_eq id id) (nat_eq now now) (eq-eqb id id refl) (eq-eqb now now refl)
 
-new_mark : (marks : List Mark) (id now : ℕ) → has_mark (marked marks id now) id now ≡ true
+new_mark : (marks : List ShownMark) (id now : ℕ) → has_mark (marked marks id now) id now ≡ true
 new_mark marks id now =
     let rest = filter (λ k. within_window now k.at) marks in
     list_any-append (is_mark_of id now) rest (mark id now ∷ []) ∙ or_right (has_mark rest id now) (has_mark (mark id now ∷ []) id now) (or_left (is_mark_of id now (mark id now)) false (own_mark id now))
 
 -- what was remembered is so after one more mark
-remembered_on : (marks : List Mark) (was other now : ℕ) (n : Note) → was ≤ now → IsRemembered marks was n → IsRemembered (marked marks other now) now n
+remembered_on : (marks : List ShownMark) (was other now : ℕ) (n : Note) → was ≤ now → IsRemembered marks was n → IsRemembered (marked marks other now) now n
 remembered_on marks was other now n later r own =
     elim (r own) as (λ _. (has_mark (marked marks other now) n.message.id n.at ≡ true) ⊎ (n.at + window ≤ now)) [
       | inl has ↦ elim (cases_Bool (within_window now n.at)) as (λ _. (has_mark (marked marks other now) n.message.id n.at ≡ true) ⊎ (n.at + window ≤ now)) [
@@ -77,7 +77,7 @@ remembered_on marks was other now n later r own =
       | inr old ↦ inr (omega (arith, old, later))
     ]
 
-remembered_apart : (marks : List Mark) (was now : ℕ) (n p : Note) → was ≤ now → n.at ≡ now → IsRemembered marks was p → is_shown_again marks n.message.id now ≡ false → IsApart n p
+remembered_apart : (marks : List ShownMark) (was now : ℕ) (n p : Note) → was ≤ now → n.at ≡ now → IsRemembered marks was p → is_shown_again marks n.message.id now ≡ false → IsApart n p
 remembered_apart marks was now n p later at r none own same =
     elim (r own) as (λ _. p.at + window ≤ n.at) [
       | inl has ↦ omega (arith, apart marks n.message.id p.at now (subst (λ id. has_mark marks id p.at ≡ true) same has) none, at)
@@ -170,7 +170,7 @@ noted went came told token id latest older bytes old new last watching x whole =
   moment = told_later told old.at x.moment (subst told (sym watching.moment) watching.are.1.moment) x.told_is;
 }
 
-remembers : (marks : List Mark) (was : ℕ) (n : Note) (ns : List Note) → was ≤ n.at → All (IsRemembered marks was) ns → All (IsRemembered (marked marks n.message.id n.at) n.at) (n ∷ ns)
+remembers : (marks : List ShownMark) (was : ℕ) (n : Note) (ns : List Note) → was ≤ n.at → All (IsRemembered marks was) ns → All (IsRemembered (marked marks n.message.id n.at) n.at) (n ∷ ns)
 remembers marks was n ns later all =
     All-cons (IsRemembered (marked marks n.message.id n.at) n.at) n ns (λ _. inl (new_mark marks n.message.id n.at))
     (λ k d below. remembered_on marks was n.message.id n.at (slice_index_or ns k d) later (all k d below))

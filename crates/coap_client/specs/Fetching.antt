@@ -3,11 +3,11 @@ use Rattle.std.specs.Prelude.{◌≡◌, ℕ, ◌+◌, ◌%◌, ◌⊎◌, if◌
 use Rattle.coap_msg.specs.Wire.{Message, message_bytes}
 use Rattle.coap_opts.specs.declared.request.Method.TheVariants.{Get}
 use Rattle.coap_client.specs.declared.errand.Errand.{Errand}
-use Rattle.coap_client.specs.declared.fetching.Attempt.{Attempt}
-use Rattle.coap_client.specs.declared.fetching.Attempt.TheVariants as attempt
-use Rattle.coap_client.specs.declared.fetching.Course.{Course}
-use Rattle.coap_client.specs.declared.fetching.Step.{Step}
-use Rattle.coap_client.specs.declared.fetching.Step.TheVariants as step
+use Rattle.coap_client.specs.declared.fetcher.Attempt.{Attempt}
+use Rattle.coap_client.specs.declared.fetcher.Attempt.TheVariants as attempt
+use Rattle.coap_client.specs.declared.fetcher.Course.{Course}
+use Rattle.coap_client.specs.declared.fetcher.Step.{Step}
+use Rattle.coap_client.specs.declared.fetcher.Step.TheVariants as step
 use Rattle.coap_client.specs.declared.part.Part.{Part}
 use Rattle.coap_client.specs.declared.part.Part.TheVariants.{Answer}
 use Rattle.coap_client.specs.declared.reply.Next.{Next}
@@ -54,20 +54,20 @@ taken_ids known [] = known
 taken_ids known (m ∷ ms) = with_taken_id m (taken_ids known ms)
 
 -- a datagram came that spells the message, which answers the request of a part
-pub record IsAnswerTo (went came : List ℕ → Type 0) (e : Errand) (id : ℕ) (earlier : List ℕ) (part : Part) (m : Message) : Type 0 where
+pub record IsAnswerToPart (went came : List ℕ → Type 0) (e : Errand) (id : ℕ) (earlier : List ℕ) (part : Part) (m : Message) : Type 0 where
   pub bytes : List ℕ
   pub is : IsTakenResponse went came e.confirmable id earlier (message_bytes (part_request e part id)) bytes m
 
 -- the request that is out is answered by the message
-abbrev pub AnswersIn : (List ℕ → Type 0) → (List ℕ → Type 0) → Errand → ℕ → List ℕ → State → Message → Type 0
-AnswersIn went came e id earlier (Out part body etag) m = IsAnswerTo went came e id earlier part m
-AnswersIn went came e id earlier other m = ⊥
+abbrev pub AnswersInState : (List ℕ → Type 0) → (List ℕ → Type 0) → Errand → ℕ → List ℕ → State → Message → Type 0
+AnswersInState went came e id earlier (Out part body etag) m = IsAnswerToPart went came e id earlier part m
+AnswersInState went came e id earlier other m = ⊥
 
 -- each is a reply to the request before it, whose ids count up from the first; messages of the ids that are known answered others
 abbrev pub AreReplies : (List ℕ → Type 0) → (List ℕ → Type 0) → Errand → ℕ → List ℕ → List Message → Type 0
 AreReplies went came e first known [] = Unit {0}
 AreReplies went came e first known (m ∷ ms) =
-    AreReplies went came e first known ms × AnswersIn went came e ((first + length ms) % 65536) (taken_ids known ms) (state_after e ms) m
+    AreReplies went came e first known ms × AnswersInState went came e ((first + length ms) % 65536) (taken_ids known ms) (state_after e ms) m
 
 -- replies to the requests from this id on lead to this state
 pub record LeadsTo (went came : List ℕ → Type 0) (e : Errand) (first : ℕ) (known : List ℕ) (state : State) : Type 0 where

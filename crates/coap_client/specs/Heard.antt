@@ -3,16 +3,16 @@ use Rattle.std.specs.Prelude.{◌≡◌, ℕ, ◌≤◌, ◌⊎◌, Bool, true, 
 use Rattle.coap_msg.specs.Wire.{Message, message_bytes}
 use Rattle.coap_msg.specs.Reading.{reading_of}
 use Rattle.coap_msg.specs.declared.types.MessageType.TheVariants.{Confirmable}
-use Rattle.coap_client.specs.declared.hearing.Heard.{Heard}
-use Rattle.coap_client.specs.declared.hearing.Heard.TheVariants.{Reply, Separate, Repeat, Acknowledged, Rejected, Other}
-use Rattle.coap_client.specs.declared.hearing.Listened.{Listened}
-use Rattle.coap_client.specs.declared.hearing.Listened.TheVariants as listened
-use Rattle.coap_client.specs.declared.hearing.Request.{Request}
+use Rattle.coap_client.specs.declared.transmission.Reception.{Reception}
+use Rattle.coap_client.specs.declared.transmission.Reception.TheVariants.{Reply, Separate, Repeat, Acknowledged, Rejected, Other}
+use Rattle.coap_client.specs.declared.transmission.Listened.{Listened}
+use Rattle.coap_client.specs.declared.transmission.Listened.TheVariants as listened
+use Rattle.coap_client.specs.declared.transmission.SentRequest.{SentRequest}
 use Rattle.coap_client.specs.Replies.{IsEmptyAcknowledgement, IsReply, IsReset, IsSeparate, is_taken}
 use Rattle.coap_client.specs.Requests.{acknowledgement}
 
 -- an empty acknowledgement came
-pub record IsAcknowledged (came : List ℕ → Type 0) (id : ℕ) : Type 0 where
+pub record CameAcknowledgement (came : List ℕ → Type 0) (id : ℕ) : Type 0 where
   pub bytes : List ℕ
   pub message : Message
   pub came_is : came bytes
@@ -23,7 +23,7 @@ pub record IsAcknowledged (came : List ℕ → Type 0) (id : ℕ) : Type 0 where
 pub record IsSeparateTo (came : List ℕ → Type 0) (confirmable : Bool) (id : ℕ) (earlier : List ℕ) (m : Message) : Type 0 where
   pub own : IsSeparate m
   pub new : is_taken earlier m.id ≡ false
-  pub awaited : confirmable ≡ true → IsAcknowledged came id
+  pub awaited : confirmable ≡ true → CameAcknowledgement came id
 
 -- a response in the acknowledgement, which only a confirmable request has
 pub record IsPiggybacked (confirmable : Bool) (id : ℕ) (m : Message) : Type 0 where
@@ -47,11 +47,11 @@ pub record IsTakenResponse (went came : List ℕ → Type 0) (confirmable : Bool
   pub acknowledged : m.kind ≡ Confirmable → went (message_bytes (acknowledgement m.id))
 
 -- the bytes spell a response to a request, and one that was acknowledged
-pub record HasResponse (went came : List ℕ → Type 0) (r : Request) (bytes : List ℕ) : Type 0 where
+pub record HasResponse (went came : List ℕ → Type 0) (r : SentRequest) (bytes : List ℕ) : Type 0 where
   pub message : Message
   pub is : IsResponseTo went came r.confirmable r.id r.earlier.now r.datagram.now.items bytes message
 
-pub record HasTakenResponse (went came : List ℕ → Type 0) (r : Request) (bytes : List ℕ) : Type 0 where
+pub record HasTakenResponse (went came : List ℕ → Type 0) (r : SentRequest) (bytes : List ℕ) : Type 0 where
   pub message : Message
   pub is : IsTakenResponse went came r.confirmable r.id r.earlier.now r.datagram.now.items bytes message
 
@@ -68,7 +68,7 @@ pub record IsOther (confirmable : Bool) (id : ℕ) (m : Message) : Type 0 where
   pub separate : IsSeparate m → ⊥
 
 -- the request of this id is answered, acknowledged or rejected; or a response came in a message of its own, for the first time or again; or none of these
-abbrev pub IsHeardAs : Request → Message → Heard → Type 0
+abbrev pub IsHeardAs : SentRequest → Message → Reception → Type 0
 IsHeardAs r m Reply = IsPiggybacked r.confirmable r.id m
 IsHeardAs r m Separate = IsSeparateAmong r.earlier.now false m
 IsHeardAs r m Repeat = IsSeparateAmong r.earlier.now true m
@@ -83,27 +83,27 @@ pub record IsReadAs (bytes : List ℕ) (P : Message → Type 0) : Type 0 where
   pub holds : P message
 
 -- what a datagram is; one that spells no message is none of these
-abbrev pub Tells : Request → List ℕ → Heard → Type 0
+abbrev pub Tells : SentRequest → List ℕ → Reception → Type 0
 Tells r bytes Other = (m : Message) → reading_of bytes ≡ Ok m → IsOther r.confirmable r.id m
 Tells r bytes heard = IsReadAs bytes (λ m. IsHeardAs r m heard)
 
 -- a response that came before is acknowledged where it asks for that
-abbrev pub AcknowledgesRepeat : (List ℕ → Type 0) → List ℕ → Heard → Type 0
+abbrev pub AcknowledgesRepeat : (List ℕ → Type 0) → List ℕ → Reception → Type 0
 AcknowledgesRepeat went bytes Repeat = (m : Message) → reading_of bytes ≡ Ok m → m.kind ≡ Confirmable → went (message_bytes (acknowledgement m.id))
 AcknowledgesRepeat went bytes _ = Unit {0}
 
 -- what came answers a request, in its acknowledgement, or where that is awaited in a message of its own
-abbrev pub IsAwaited : Request → Bool → Message → Type 0
-IsAwaited r awaited m = IsPiggybacked r.confirmable r.id m ⊎ ((awaited ≡ true) × IsSeparateAmong r.earlier.now false m)
+abbrev pub IsAwaitedReply : SentRequest → Bool → Message → Type 0
+IsAwaitedReply r awaited m = IsPiggybacked r.confirmable r.id m ⊎ ((awaited ≡ true) × IsSeparateAmong r.earlier.now false m)
 
-pub record IsAwaitedAnswer (came : List ℕ → Type 0) (r : Request) (awaited : Bool) (bytes : List ℕ) : Type 0 where
+pub record IsAwaitedAnswer (came : List ℕ → Type 0) (r : SentRequest) (awaited : Bool) (bytes : List ℕ) : Type 0 where
   pub message : Message
   pub came_is : came bytes
   pub read_is : reading_of bytes ≡ Ok message
-  pub answers : IsAwaited r awaited message
+  pub answers : IsAwaitedReply r awaited message
 
 -- what listening comes to
-abbrev pub Hears : (List ℕ → Type 0) → Request → Bool → List ℕ → Listened → Type 0
-Hears came r awaited buffer (listened.Answer count) = (count ≤ length buffer) × IsAwaitedAnswer came r awaited (take count buffer)
-Hears came r awaited buffer listened.Acknowledged = IsAcknowledged came r.id
-Hears came r awaited buffer listened.Nothing = Unit {0}
+abbrev pub Listens : (List ℕ → Type 0) → SentRequest → Bool → List ℕ → Listened → Type 0
+Listens came r awaited buffer (listened.Answer count) = (count ≤ length buffer) × IsAwaitedAnswer came r awaited (take count buffer)
+Listens came r awaited buffer listened.Acknowledged = CameAcknowledgement came r.id
+Listens came r awaited buffer listened.Nothing = Unit {0}

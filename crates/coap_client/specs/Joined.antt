@@ -18,9 +18,9 @@ BeginsAt offset None = offset ≡ 0
 BeginsAt offset (Some value) = block_size (place_in value).szx * (place_in value).number ≡ offset
 
 -- each begins where the ones before it end
-abbrev pub AreInOrder : List Message → Type 0
-AreInOrder [] = Unit {0}
-AreInOrder (m ∷ ms) = AreInOrder ms × BeginsAt (length (payloads ms)) (block2_of m)
+abbrev pub AreBlocksInOrder : List Message → Type 0
+AreBlocksInOrder [] = Unit {0}
+AreBlocksInOrder (m ∷ ms) = AreBlocksInOrder ms × BeginsAt (length (payloads ms)) (block2_of m)
 
 -- no block is behind this one
 abbrev pub IsLastBlock : Option (List ℕ) → Type 0
@@ -34,7 +34,7 @@ pub record IsOneAnswer (answer : List ℕ) (m : Message) (replies : List Message
   pub last : replies ≡ older ++ before
   pub joined : answer ≡ payloads (m ∷ older)
   pub whole : IsLastBlock (block2_of m)
-  pub in_order : AreInOrder (m ∷ older)
+  pub in_order : AreBlocksInOrder (m ∷ older)
   pub version : All (λ x. etag_of x ≡ etag_of m) older
 
 -- requests that were sent bring the whole body, in order

@@ -5,18 +5,18 @@ use Rattle.coap_msg.specs.Reading.{reading_of}
 use Rattle.coap_msg.specs.Windows.{window}
 use Rattle.coap_msg.specs.Wire.{Message, message_bytes}
 use Rattle.coap_msg.specs.declared.types.MessageType.TheVariants.{Acknowledgement, Confirmable}
-use Rattle.coap_client.specs.declared.hearing.Heard.{Heard}
-use Rattle.coap_client.specs.declared.hearing.Heard.TheVariants.{Reply, Separate, Repeat, Acknowledged, Rejected, Other}
-use Rattle.coap_client.specs.declared.hearing.Listened.{Listened}
-use Rattle.coap_client.specs.declared.hearing.Listened.TheVariants as listened
+use Rattle.coap_client.specs.declared.transmission.Reception.{Reception}
+use Rattle.coap_client.specs.declared.transmission.Reception.TheVariants.{Reply, Separate, Repeat, Acknowledged, Rejected, Other}
+use Rattle.coap_client.specs.declared.transmission.Listened.{Listened}
+use Rattle.coap_client.specs.declared.transmission.Listened.TheVariants as listened
 use Rattle.coap_client.specs.declared.notice.Interest.TheVariants.{Register, Deregister}
 use Rattle.coap_client.specs.declared.notice.Notice.{Notice}
 use Rattle.coap_client.specs.declared.notice.Notice.TheVariants.{State, Last}
-use Rattle.coap_client.specs.declared.observing.Noted.{Noted}
+use Rattle.coap_client.specs.declared.observing.NotedMessage.{NotedMessage}
 use Rattle.coap_client.specs.declared.observing.Observer.{Observer}
-use Rattle.coap_client.specs.declared.watch.Mark.{Mark}
+use Rattle.coap_client.specs.declared.watch.ShownMark.{ShownMark}
 use Rattle.coap_client.specs.declared.watch.Watch.{Watch}
-use Rattle.coap_client.specs.Heard.{IsAcknowledged, IsReadAs}
+use Rattle.coap_client.specs.Heard.{CameAcknowledgement, IsReadAs}
 use Rattle.coap_client.specs.Notices.{IsOwnResponse, IsReplyWith, can_be_shown, is_newer, marked, notice_after, notice_of, observe_request}
 use Rattle.coap_client.specs.Replies.{IsEmptyAcknowledgement, IsReset, begins_exchange}
 use Rattle.coap_client.specs.Requests.{acknowledgement}
@@ -35,7 +35,7 @@ pub record IsNoneOf (token : List ℕ) (id : ℕ) (m : Message) : Type 0 where
   pub rejected : IsReset id m → ⊥
 
 -- what a datagram is to an observer whose request of this id is out; one that spells no message is none of these
-abbrev pub IsHeardBy : List ℕ → ℕ → Message → Heard → Type 0
+abbrev pub IsHeardBy : List ℕ → ℕ → Message → Reception → Type 0
 IsHeardBy token id m Reply = IsReplyWith token id m
 IsHeardBy token id m Separate = IsOwnResponse token m
 IsHeardBy token id m Acknowledged = IsEmptyAcknowledgement id m
@@ -43,7 +43,7 @@ IsHeardBy token id m Rejected = IsReset id m
 IsHeardBy token id m Other = IsNoneOf token id m
 IsHeardBy token id m Repeat = ⊥
 
-abbrev pub TellsObserver : List ℕ → ℕ → List ℕ → Heard → Type 0
+abbrev pub TellsObserver : List ℕ → ℕ → List ℕ → Reception → Type 0
 TellsObserver token id bytes Other = (m : Message) → reading_of bytes ≡ Ok m → IsNoneOf token id m
 TellsObserver token id bytes heard = IsReadAs bytes (λ m. IsHeardBy token id m heard)
 
@@ -57,7 +57,7 @@ pub record HasArrived (came : List ℕ → Type 0) (P : Message → Type 0) (byt
 -- what listening for the answer comes to
 abbrev pub HearsAnswer : (List ℕ → Type 0) → List ℕ → ℕ → List ℕ → Listened → Type 0
 HearsAnswer came token id buffer (listened.Answer count) = (count ≤ length buffer) × HasArrived came (IsResponseWith token id) (take count buffer)
-HearsAnswer came token id buffer listened.Acknowledged = IsAcknowledged came id
+HearsAnswer came token id buffer listened.Acknowledged = CameAcknowledgement came id
 HearsAnswer came token id buffer listened.Nothing = Unit {0}
 
 -- ---- what is shown
@@ -121,15 +121,15 @@ AreNotes went came told token id (n ∷ ns) = AreNotes went came told token id n
 
 -- ---- step by step
 
-abbrev pub is_mark_of : ℕ → ℕ → Mark → Bool
+abbrev pub is_mark_of : ℕ → ℕ → ShownMark → Bool
 is_mark_of id at k = nat_eq k.id id && nat_eq k.at at
 
 -- a mark of this id and moment is there
-abbrev pub has_mark : List Mark → ℕ → ℕ → Bool
+abbrev pub has_mark : List ShownMark → ℕ → ℕ → Bool
 has_mark marks id at = list_any (is_mark_of id at) marks
 
 -- a message of its own that was shown has a mark, or is 247 s old
-abbrev pub IsRemembered : List Mark → ℕ → Note → Type 0
+abbrev pub IsRemembered : List ShownMark → ℕ → Note → Type 0
 IsRemembered marks now n = begins_exchange n.message.kind ≡ true → (has_mark marks n.message.id n.at ≡ true) ⊎ (n.at + window ≤ now)
 
 -- these were shown, and the watch has the newest of them, which is a state, and remembers all
@@ -158,7 +158,7 @@ pub record IsNextNote (went came : List ℕ → Type 0) (told : ℕ → Type 0) 
   pub shown : IsShownAs last old new (max old.at moment) message
 
 -- where no note comes, nothing is shown
-abbrev pub Watches : (List ℕ → Type 0) → (List ℕ → Type 0) → (ℕ → Type 0) → List ℕ → List ℕ → Watch → Watch → Option Noted → Type 0
+abbrev pub Watches : (List ℕ → Type 0) → (List ℕ → Type 0) → (ℕ → Type 0) → List ℕ → List ℕ → Watch → Watch → Option NotedMessage → Type 0
 Watches went came told token buffer old new None = new ≡ old
 Watches went came told token buffer old new (Some noted) =
     (noted.count ≤ length buffer) × IsNextNote went came told token (take noted.count buffer) old new noted.last

@@ -16,7 +16,7 @@ use Rattle.coap_client.specs.declared.notice.Notice.{Notice}
 use Rattle.coap_client.specs.declared.notice.Notice.TheVariants.{State, Older, Last, Misfit}
 use Rattle.coap_client.specs.declared.reply.Next.{Next}
 use Rattle.coap_client.specs.declared.reply.Next.TheVariants as next
-use Rattle.coap_client.specs.declared.watch.Mark.{Mark}
+use Rattle.coap_client.specs.declared.watch.ShownMark.{ShownMark}
 use Rattle.coap_client.specs.declared.watch.Watch.{Watch}
 use Rattle.coap_client.specs.Parts.{largest_szx, resource_options}
 use Rattle.coap_client.specs.Paths.{slices_in}
@@ -85,7 +85,7 @@ abbrev pub notice_of : Message → Notice
 notice_of m = if can_be_shown m then by_success m else Misfit
 
 -- a message of this id was shown less than 247 s before: this one repeats it (RFC 7252, 4.5)
-abbrev pub is_shown_again : List Mark → ℕ → ℕ → Bool
+abbrev pub is_shown_again : List ShownMark → ℕ → ℕ → Bool
 is_shown_again marks id at = list_any (λ k. nat_eq k.id id && within_window at k.at) marks
 
 -- what a response in a message of its own is, at this moment, to an observer that has shown these
@@ -96,13 +96,13 @@ by_age w at other = other
 abbrev pub notice_after : Watch → ℕ → Message → Notice
 notice_after w at m = if is_shown_again w.marks.items m.id at then Older else by_age w at (notice_of m)
 
-abbrev pub mark : ℕ → ℕ → Mark
+abbrev pub mark : ℕ → ℕ → ShownMark
 mark id at = record { id = id; at = at }
 
 -- the mark of the first one that is shown, where it is a message of its own
-abbrev pub first_marks : Message → ℕ → List Mark
+abbrev pub first_marks : Message → ℕ → List ShownMark
 first_marks m at = if begins_exchange m.kind then mark m.id at ∷ [] else []
 
 -- the marks that still count at this moment, and one more
-abbrev pub marked : List Mark → ℕ → ℕ → List Mark
+abbrev pub marked : List ShownMark → ℕ → ℕ → List ShownMark
 marked marks id at = filter (λ k. within_window at k.at) marks ++ mark id at ∷ []

@@ -31,7 +31,7 @@ const MOST: usize = 1 << 30;
 
 /// A resource: its path, and the arguments of its query, each of which goes as a Uri-Query (RFC 7252, 5.10.1).
 #[derive(Drop)]
-pub struct Target<'a> {
+pub struct RequestTarget<'a> {
     pub path: Path<'a>,
     pub query: Vec<&'a [u8]>,
 }
@@ -41,7 +41,7 @@ pub struct Target<'a> {
 pub struct Errand<'a> {
     pub confirmable: bool,
     pub method: Method,
-    pub target: Target<'a>,
+    pub target: RequestTarget<'a>,
     pub payload: &'a [u8],
     ghost fits: { FitsDatagrams method (slices_in target.path.segments.items) (slices_in target.query.items) payload.now },
 }
@@ -55,7 +55,7 @@ impl<'a> Errand<'a> {
     pub fn new(
         confirmable: bool,
         method: Method,
-        target: Target<'a>,
+        target: RequestTarget<'a>,
         payload: &'a [u8],
     ) -> Option<Errand<'a>>
         ensures errand { IfSome result (λ e. (e.confirmable ≡ confirmable) × (e.method ≡ method)
@@ -212,7 +212,7 @@ fn room_of(values: &[&[u8]]) -> usize
 // The options of a request: its resource, and a block.
 fn options_with<'a>(
     alloc: Global,
-    target: &'a Target<'a>,
+    target: &'a RequestTarget<'a>,
     block: &'a Option<(u16, UintBytes)>,
 ) -> Result<Vec<(u16, &'a [u8])>, AllocError>
     ensures { IfOk result (λ v. options_in v.items ≡ resource_options (slices_in target.entry.now.path.segments.items)

@@ -30,8 +30,7 @@
 #![tactic(auto)]
 
 pub mod errand;
-pub mod fetching;
-pub mod hearing;
+pub mod fetcher;
 pub mod laws;
 pub mod notice;
 pub mod observing;
@@ -39,16 +38,17 @@ pub mod part;
 pub mod path;
 pub mod peer;
 pub mod reply;
+pub mod transmission;
 pub mod udp;
 pub mod watch;
 
-pub use errand::{Errand, Target};
-pub use fetching::{Fault, Fetched, fetch};
+pub use errand::{Errand, RequestTarget};
+pub use fetcher::{FetchFault, Fetched, fetch};
 pub use notice::Notice;
-pub use observing::{Noted, Observer};
+pub use observing::{NotedMessage, Observer};
 pub use part::Part;
 pub use path::{Path, PathError};
 pub use peer::Peer;
 pub use reply::Next;
-pub use udp::Server;
+pub use udp::UdpPeer;
 pub use watch::Watch;

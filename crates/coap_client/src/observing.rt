@@ -12,11 +12,11 @@ ghost use Rattle.coap_client.specs.Parts.{resource_options};
 ghost use Rattle.coap_client.specs.Paths.{slices_in};
 
 use crate::errand::{Errand, push_options};
-use crate::fetching::Fault;
-use crate::hearing::{Heard, Listened, SEPARATE_WAIT, WAITS, acknowledge};
+use crate::fetcher::FetchFault;
 use crate::notice::{Interest, Notice, is_notification, is_reply_with};
 use crate::peer::Peer;
 use crate::reply::{is_empty_acknowledgement, is_reset};
+use crate::transmission::{Listened, Reception, SEPARATE_WAIT, WAITS, acknowledge};
 use crate::watch::Watch;
 use coap_msg::{Code, Datagram, Message, MessageType, Outgoing, read, write};
 use coap_opts::number::{OBSERVE, URI_PATH, URI_QUERY};
@@ -37,7 +37,7 @@ pub struct Observer<'a> {
 
 /// A notification that is shown: how many bytes at the start of the buffer it is, and whether none comes behind it.
 #[derive(Clone, Copy, PartialEq, Eq)]
-pub struct Noted {
+pub struct NotedMessage {
     pub count: usize,
     pub last: bool,
 }
@@ -53,7 +53,7 @@ impl<'a> Observer<'a> {
         alloc: Global,
         peer: &mut P,
         buffer: &mut [u8],
-    ) -> Result<usize, Fault>
+    ) -> Result<usize, FetchFault>
         ensures { IfOk result (λ count. (count ≤ length buffer.new) × IsRegistered P.went P.came self.now (take count buffer.new)) }
     {
         let mut datagram = Datagram::new();
@@ -76,7 +76,7 @@ impl<'a> Observer<'a> {
         peer: &mut P,
         datagram: &Datagram,
         buffer: &mut [u8],
-    ) -> Result<usize, Fault>
+    ) -> Result<usize, FetchFault>
         ensures { IfOk result (λ count. (count ≤ length buffer.new) × P.went datagram.now.items
             × HasArrived P.came (IsResponseWith self.now.token self.now.id) (take count buffer.new)) }
     {
@@ -92,17 +92,17 @@ impl<'a> Observer<'a> {
                 Listened::Nothing => {}
             }
         }
-        Err(Fault::Silence)
+        Err(FetchFault::Silence)
     }
 
     // Waits for the answer of an acknowledged registration.
-    fn await_answer<P: Peer>(&self, peer: &mut P, buffer: &mut [u8]) -> Result<usize, Fault>
+    fn await_answer<P: Peer>(&self, peer: &mut P, buffer: &mut [u8]) -> Result<usize, FetchFault>
         ensures { IfOk result (λ count. (count ≤ length buffer.new)
             × HasArrived P.came (IsResponseWith self.now.token self.now.id) (take count buffer.new)) }
     {
         match self.listen(peer, true, buffer)? {
             Listened::Answer(count) => Ok(count),
-            Listened::Acknowledged | Listened::Nothing => Err(Fault::Silence),
+            Listened::Acknowledged | Listened::Nothing => Err(FetchFault::Silence),
         }
     }
 
@@ -112,7 +112,7 @@ impl<'a> Observer<'a> {
         peer: &mut P,
         acknowledged: bool,
         buffer: &mut [u8],
-    ) -> Result<Listened, Fault>
+    ) -> Result<Listened, FetchFault>
         ensures { IfOk result (HearsAnswer P.came self.now.token self.now.id buffer.new) }
     {
         for _ in 0..u64::MAX {
@@ -120,10 +120,10 @@ impl<'a> Observer<'a> {
                 return Ok(Listened::Nothing);
             };
             match hear_datagram(&self.token, self.id, &buffer[..count]) {
-                Heard::Reply | Heard::Separate => return Ok(Listened::Answer(count)),
-                Heard::Acknowledged if !acknowledged => return Ok(Listened::Acknowledged),
-                Heard::Rejected => return Err(Fault::Rejected),
-                Heard::Acknowledged | Heard::Repeat | Heard::Other => {}
+                Reception::Reply | Reception::Separate => return Ok(Listened::Answer(count)),
+                Reception::Acknowledged if !acknowledged => return Ok(Listened::Acknowledged),
+                Reception::Rejected => return Err(FetchFault::Rejected),
+                Reception::Acknowledged | Reception::Repeat | Reception::Other => {}
             }
         }
         Ok(Listened::Nothing)
@@ -138,7 +138,7 @@ impl<'a> Observer<'a> {
         alloc: Global,
         peer: &mut P,
         buffer: &mut [u8],
-    ) -> Result<(), Fault>
+    ) -> Result<(), FetchFault>
         ensures { OnOk result (HasDeregistered P.went P.came self.now) }
     {
         let id = self.id.wrapping_add(1);
@@ -158,7 +158,7 @@ impl<'a> Observer<'a> {
                 return Ok(());
             }
         }
-        Err(Fault::Silence)
+        Err(FetchFault::Silence)
     }
 }
 
@@ -173,7 +173,7 @@ impl Watch {
         peer: &mut P,
         token: &[u8],
         buffer: &mut [u8],
-    ) -> Result<Option<Noted>, Fault>
+    ) -> Result<Option<NotedMessage>, FetchFault>
         ensures { IfOk result (Watches P.went P.came P.is_moment token.now buffer.new self.old self.new) }
     {
         for _ in 0..u64::MAX {
@@ -187,10 +187,10 @@ impl Watch {
             match self.notice_of(at, &message) {
                 Notice::State(sequence) => {
                     self.keep(sequence, at, message.id())?;
-                    return Ok(Some(Noted { count, last: false }));
+                    return Ok(Some(NotedMessage { count, last: false }));
                 }
-                Notice::Last => return Ok(Some(Noted { count, last: true })),
-                Notice::Misfit => return Err(Fault::Part),
+                Notice::Last => return Ok(Some(NotedMessage { count, last: true })),
+                Notice::Misfit => return Err(FetchFault::Part),
                 Notice::Older => {}
             }
         }
@@ -199,7 +199,7 @@ impl Watch {
 }
 
 // The next notification that comes while a wait lasts. A confirmable one is acknowledged.
-fn hear<P: Peer>(peer: &mut P, token: &[u8], buffer: &mut [u8]) -> Result<Option<usize>, Fault>
+fn hear<P: Peer>(peer: &mut P, token: &[u8], buffer: &mut [u8]) -> Result<Option<usize>, FetchFault>
     ensures { IfOk result (λ r. IfSome r (λ count. (count ≤ length buffer.new)
         × HasOwnResponse P.went P.came token.now (take count buffer.new))) }
 {
@@ -226,28 +226,28 @@ fn tells_notification(token: &[u8], bytes: &[u8]) -> bool
 }
 
 // What a datagram is to an observer whose registration has this id.
-fn hear_datagram(token: &[u8], id: u16, bytes: &[u8]) -> Heard
+fn hear_datagram(token: &[u8], id: u16, bytes: &[u8]) -> Reception
     ensures { TellsObserver token.now id bytes.now result }
 {
     match read(bytes) {
         Ok(message) => hear_message(token, id, &message),
-        Err(_) => Heard::Other,
+        Err(_) => Reception::Other,
     }
 }
 
-fn hear_message(token: &[u8], id: u16, message: &Message<'_>) -> Heard
+fn hear_message(token: &[u8], id: u16, message: &Message<'_>) -> Reception
     ensures { IsHeardBy token.now id message.now result }
 {
     if is_reply_with(token, id, message) {
-        Heard::Reply
+        Reception::Reply
     } else if is_notification(token, message) {
-        Heard::Separate
+        Reception::Separate
     } else if is_empty_acknowledgement(id, message) {
-        Heard::Acknowledged
+        Reception::Acknowledged
     } else if is_reset(id, message) {
-        Heard::Rejected
+        Reception::Rejected
     } else {
-        Heard::Other
+        Reception::Other
     }
 }
 
@@ -258,7 +258,7 @@ fn is_acknowledged<P: Peer>(
     token: &[u8],
     id: u16,
     buffer: &mut [u8],
-) -> Result<bool, Fault>
+) -> Result<bool, FetchFault>
     ensures { IfOk result (λ is. OnTrue is (HasAcknowledgement P.came id)) }
 {
     for _ in 0..u64::MAX {
@@ -270,7 +270,7 @@ fn is_acknowledged<P: Peer>(
             return Ok(true);
         }
         if tells_reset(id, bytes) {
-            return Err(Fault::Rejected);
+            return Err(FetchFault::Rejected);
         }
         if tells_notification(token, bytes) {
             acknowledge(peer, bytes)?;

@@ -11,7 +11,7 @@ use std::time::{Clock, Duration, Instant};
 /// The server at an address and a port, as a socket of the client's own has it: that is connected to it, so that it tells where nobody
 /// listens at the port.
 #[derive(Drop)]
-pub struct Server<'a, C: Clock> {
+pub struct UdpPeer<'a, C: Clock> {
     clock: &'a C,
     socket: UdpSocket,
     address: SocketAddr,
@@ -19,16 +19,16 @@ pub struct Server<'a, C: Clock> {
     until: Instant,
 }
 
-impl<'a, C: Clock> Server<'a, C> {
+impl<'a, C: Clock> UdpPeer<'a, C> {
     /// Connects to the server at this address and port.
     ///
     /// # Errors
     /// There is no socket, or the clock can't be read.
-    pub fn at<R: Net>(net: &R, clock: &'a C, address: SocketAddrV4) -> io::Result<Server<'a, C>> {
+    pub fn at<R: Net>(net: &R, clock: &'a C, address: SocketAddrV4) -> io::Result<UdpPeer<'a, C>> {
         let socket = UdpSocket::bind(net, SocketAddrV4::new(Ipv4Addr::UNSPECIFIED, 0))?;
         socket.connect(address)?;
         let start = Instant::now(clock)?;
-        Ok(Server {
+        Ok(UdpPeer {
             clock,
             socket,
             address: SocketAddr::V4(address),
@@ -51,7 +51,7 @@ impl<'a, C: Clock> Server<'a, C> {
     }
 }
 
-impl<'a, C: Clock> Peer for Server<'a, C> {
+impl<'a, C: Clock> Peer for UdpPeer<'a, C> {
     fn send(&mut self, datagram: &Datagram) -> io::Result<()> {
         self.socket.send(datagram.as_slice())?;
         Ok(())

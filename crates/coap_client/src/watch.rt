@@ -11,7 +11,7 @@ use std::alloc::{AllocError, Global};
 
 /// A message of its own that was shown: its id, and the moment at which it was, in milliseconds.
 #[derive(Clone, Copy, PartialEq, Eq)]
-pub struct Mark {
+pub struct ShownMark {
     pub id: u16,
     pub at: u64,
 }
@@ -22,7 +22,7 @@ pub struct Mark {
 pub struct Watch {
     pub sequence: u32,
     pub at: u64,
-    pub marks: Vec<Mark>,
+    pub marks: Vec<ShownMark>,
 }
 
 impl Watch {
@@ -41,7 +41,7 @@ impl Watch {
     {
         let mut marks = Vec::new(alloc);
         if begins_exchange(message.kind()) {
-            marks.push(Mark {
+            marks.push(ShownMark {
                 id: message.id(),
                 at,
             })?;
@@ -86,7 +86,7 @@ impl Watch {
         ensures marks { OnOk result (self.new.marks.items ≡ marked self.old.marks.items id at) }
     {
         self.marks.retain(|mark| is_kept(mark, at));
-        self.marks.push(Mark { id, at })?;
+        self.marks.push(ShownMark { id, at })?;
         self.sequence = sequence;
         self.at = at;
         Ok(())
@@ -94,7 +94,7 @@ impl Watch {
 }
 
 // Whether a mark still counts at a moment in milliseconds.
-fn is_kept(mark: &Mark, at: u64) -> bool
+fn is_kept(mark: &ShownMark, at: u64) -> bool
     ensures { result ≡ within_window at mark.now.at }
 {
     at.saturating_sub(mark.at) < WINDOW

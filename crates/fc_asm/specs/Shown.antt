@@ -3,19 +3,19 @@ use Rattle.std.specs.Prelude.{List, [], ◌∷◌}
 use Rattle.std.specs.Fmt.{decimal, signed_decimal}
 use Rattle.fc_isa.specs.declared.insn.Operand.{Operand}
 use Rattle.fc_isa.specs.declared.insn.Operand.TheVariants.{Imm, Reg}
-use Rattle.fc_asm.specs.declared.listing.Shown.{Shown}
-use Rattle.fc_asm.specs.declared.listing.Shown.TheVariants.{Register, Number, Wide}
-use Rattle.fc_asm.specs.declared.listing.Operands.{Operands}
-use Rattle.fc_asm.specs.declared.listing.Operands.TheVariants.{Zero, One, Two, Three}
+use Rattle.fc_asm.specs.declared.disassembler.ShownOperand.{ShownOperand}
+use Rattle.fc_asm.specs.declared.disassembler.ShownOperand.TheVariants.{Register, Number, Wide}
+use Rattle.fc_asm.specs.declared.disassembler.Operands.{Operands}
+use Rattle.fc_asm.specs.declared.disassembler.Operands.TheVariants.{Zero, One, Two, Three}
 use Rattle.fc_asm.specs.Names.{Text}
 use Rattle.fc_asm.specs.Listing.{register}
 
-abbrev pub shown_text : Shown → Text
+abbrev pub shown_text : ShownOperand → Text
 shown_text (Register r) = register r
 shown_text (Number k) = signed_decimal k
 shown_text (Wide n) = decimal n
 
-abbrev pub shown_operand : Operand → Shown
+abbrev pub shown_operand : Operand → ShownOperand
 shown_operand (Imm k) = Number k
 shown_operand (Reg r) = Register r
 

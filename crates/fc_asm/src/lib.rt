@@ -20,15 +20,15 @@
 //! By the contracts of `assemble`, `disassemble`.
 #![tactic(auto)]
 
-pub mod assembling;
+pub mod assembler;
+pub mod disassembler;
 pub mod error;
 mod line;
-pub mod listing;
 mod mnemonic;
 mod names;
 mod operand;
 pub mod vocabulary;
 
-pub use assembling::assemble;
+pub use assembler::assemble;
+pub use disassembler::disassemble;
 pub use error::{AsmError, Mistake};
-pub use listing::disassemble;

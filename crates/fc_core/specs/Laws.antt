@@ -168,6 +168,6 @@ changes_by (Then h r) k =
 -- ---- what follows
 
 -- a history and what happened after it
-abbrev pub later : History → List Entry → History
-later h [] = h
-later h (r ∷ rs) = later (Then h r) rs
+abbrev pub followed_by : History → List Entry → History
+followed_by h [] = h
+followed_by h (r ∷ rs) = followed_by (Then h r) rs

@@ -73,7 +73,7 @@ impl Model for Answer {
 }
 
 impl Answer {
-    /// The answer of a run, with its outcome's code, the block of its reply that is asked, and its ticket's serial. It spends the mark of
+    /// Makes the answer of a run, with its outcome's code, the block of its reply that is asked, and its ticket's serial. It spends the mark of
     /// the run's commit.
     pub fn ran(outcome: &Outcome<'_>, ticket: &Ticket<'_>, mark: Mark) -> Answer
         requires { AreOne outcome.now ticket.now mark }
@@ -84,7 +84,7 @@ impl Answer {
         answer
     }
 
-    /// The answer of a job whose last call was no run.
+    /// Makes the answer of a job whose last call was no run.
     pub fn other(end: End) -> Answer
         ensures { result ≡ content_of end }
     {

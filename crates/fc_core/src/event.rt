@@ -99,7 +99,7 @@ impl Event<'_> {
     ghost use Rattle.std.specs.Prelude.{◌≡◌};
     ghost use Rattle.fc_core.specs.Rows.{names};
 
-    /// The number of the job that it names, if it names one.
+    /// Returns the number of the job that it names, if it names one.
     pub fn job(&self) -> Option<usize>
         ensures { result ≡ names self.now }
     {

@@ -114,7 +114,7 @@ pub enum Asking<'a> {
 }
 
 impl Front {
-    /// A front with no exchange. The first message id that it will draw is the argument.
+    /// Makes a front with no exchange. The first message id that it will draw is the argument.
     ///
     /// # Errors
     /// There was no memory for its exchanges, transfers and message ids.
@@ -173,7 +173,7 @@ impl Front {
         self.exchanges.expire(self.now);
     }
 
-    /// A message id of the server's own, unless the next one was drawn less than a window before.
+    /// Allocates a message id of the server's own (RFC 7252, 4.4), unless the next one was drawn less than a window before.
     pub fn fresh_id(&mut self, now: u64) -> Option<u16>
         ensures id { result ≡ free_id (advanced self.old now).ids (advanced self.old now).now }
         ensures after { let f = advanced self.old now in self.new ≡ record f { ids = drawn_for false f.ids f.now } }
@@ -512,7 +512,7 @@ impl Front {
     }
 }
 
-/// Whether an exchange was opened less than a window before.
+/// Returns whether an exchange was opened less than a window before (EXCHANGE_LIFETIME, RFC 7252, 4.8.2).
 pub fn is_live(now: u64, opening: &Opening) -> bool
     ensures { result ≡ spec.opening_is_live now opening.now }
 {
@@ -525,7 +525,7 @@ fn replied(sent: bool) -> Heard
     if sent { Heard::Reply } else { Heard::Nothing }
 }
 
-/// An emission that says nothing, to be written over.
+/// Makes an emission that says nothing, to be written over.
 pub fn blank_emission() -> Emission
     ensures { result.bytes.items ≡ [] }
 {
@@ -535,7 +535,7 @@ pub fn blank_emission() -> Emission
     }
 }
 
-/// A job that says nothing, to be written over.
+/// Makes a job that says nothing, to be written over.
 pub fn blank_job() -> Job {
     Job {
         origin: Origin::default(),

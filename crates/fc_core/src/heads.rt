@@ -9,7 +9,7 @@ use std::marker::Model;
 /// How many slots there are.
 pub const WORDS: usize = 64;
 
-/// The head word of a slot at a serial: twice the serial, and one more where it has a program. A later state of a slot has
+/// Computes the head word of a slot at a serial: twice the serial, and one more where it has a program. A later state of a slot has
 /// a greater word.
 pub fn head_word(serial: u64, present: bool) -> u64
     requires { serial ≤ last_serial }
@@ -18,14 +18,14 @@ pub fn head_word(serial: u64, present: bool) -> u64
     if present { 2 * serial + 1 } else { 2 * serial }
 }
 
-/// The serial of a head word.
+/// Returns the serial of a head word.
 pub fn serial_in(word: u64) -> u64
     ensures { result ≡ spec.serial_in word }
 {
     word / 2
 }
 
-/// Whether the slot of a head word had a program.
+/// Returns whether the slot of a head word had a program.
 pub fn is_present(word: u64) -> bool
     ensures { result ≡ spec.is_present word }
 {
@@ -47,14 +47,14 @@ impl Model for Heads {
 }
 
 impl Heads {
-    /// Words of which none was raised.
+    /// Makes words of which none was raised.
     pub fn new() -> Heads
         ensures { result ≡ spec.no_words }
     {
         Heads { words: [0; WORDS] }
     }
 
-    /// The word of a slot.
+    /// Loads the published word of a slot.
     pub fn peek(&self, slot: SlotNumber) -> u64
         ensures { result ≡ spec.word_at self.now slot }
     {

@@ -132,7 +132,7 @@ impl Stage {
         }
     }
 
-    /// After a look at the head word of a run's slot: where it is that of a program at a serial of which the client has the
+    /// Goes on after a look at the head word of a run's slot: where it is that of a program at a serial of which the client has the
     /// answer, that is said, and there is no run.
     pub fn matched(&mut self, job: &Job, word: u64)
         ensures { self.new ≡ rows.matched word job.now.etags.items }
@@ -146,7 +146,7 @@ impl Stage {
         }
     }
 
-    /// After a taking, and so many takings before it.
+    /// Goes on after a taking, and so many takings before it.
     pub fn took(&mut self, count: u8, given: Took)
         requires { count < 8 }
         ensures { self.new ≡ rows.took count given }
@@ -156,7 +156,7 @@ impl Stage {
         self.step = Step::took(count, taken, &mut self.answer);
     }
 
-    /// After an install, whose receipt is still without its version.
+    /// Goes on after an install, whose receipt is still without its version.
     pub fn made(&mut self, receipt: Receipt, made: Made)
         requires { IsMadeBelow made }
         ensures { self.new ≡ rows.made receipt made }
@@ -174,7 +174,7 @@ impl Stage {
         }
     }
 
-    /// After a removal.
+    /// Goes on after a removal.
     pub fn removed(&mut self, removal: Removal)
         requires { IsRemovedBelow removal }
         ensures { self.new ≡ rows.removed removal }
@@ -192,7 +192,7 @@ impl Stage {
         }
     }
 
-    /// After a receipt, or none.
+    /// Goes on after a receipt, or none.
     pub fn told(&mut self, receipt: Option<Receipt>)
         ensures { self.new ≡ ToAnswer (rows.told receipt) }
     {
@@ -200,7 +200,7 @@ impl Stage {
         self.step = Step::ToAnswer;
     }
 
-    /// After an image was refused by a rule.
+    /// Goes on after an image was refused by a rule.
     pub fn rejected(&mut self, fault: Fault)
         ensures { self.new ≡ ToAnswer (refused (Refusal.Broken fault)) }
     {
@@ -209,7 +209,7 @@ impl Stage {
         self.step = Step::ToAnswer;
     }
 
-    /// After memory was refused, or where serials are at their end.
+    /// Goes on after memory was refused, or where serials are at their end.
     pub fn unavailable(&mut self)
         ensures { self.new ≡ ToAnswer Unavailable }
     {
@@ -239,7 +239,7 @@ impl Stage {
         }
     }
 
-    /// What the job is to be answered, where it stands there.
+    /// Returns what the job is to be answered, where it stands there.
     pub fn content(&self) -> Option<&Answer>
         ensures { option_copied result ≡ rows.content_at self.now }
     {
@@ -262,7 +262,7 @@ impl Stage {
 
 /// Steps, beside the answer that is written in its place.
 impl Step {
-    /// After a taking, and so many takings before it.
+    /// Goes on after a taking, and so many takings before it.
     pub fn took(count: u8, taken: Taken, answer: &mut Answer) -> Step
         requires { count < 8 }
         ensures { LeadsTo taken (rows.took count) result answer.new }
@@ -278,7 +278,7 @@ impl Step {
         }
     }
 
-    /// After the taking of a turn.
+    /// Goes on after the taking of a turn.
     pub fn turn_took(turn: Turn, taken: Taken) -> Step
         ensures { (content : Content) → LeadsTo taken (rows.turn_took turn) result content }
     {
@@ -290,7 +290,7 @@ impl Step {
         }
     }
 
-    /// After a commit: a run that was overtaken is taken again, eight times at most. An outcome that isn't the ticket's is
+    /// Goes on after a commit: a run that was overtaken is taken again, eight times at most. An outcome that isn't the ticket's is
     /// no outcome of this job, which is then unavailable.
     pub fn committed(
         count: u8,

@@ -6,7 +6,7 @@ ghost use Rattle.fc_registry.specs.Slots.{IsOwned, slot_in};
 ghost use Rattle.fc_registry.specs.Calls.{HasGiven};
 ghost use Rattle.fc_registry.specs.Notes.{note_at, note_calls};
 ghost use Rattle.fc_registry.specs.Views.{HasSize, taken_with};
-ghost use Rattle.fc_registry.specs.Watches.{handed, watch_at, with_calls};
+ghost use Rattle.fc_registry.specs.Watches.{at_time, watch_at, with_calls};
 ghost use Rattle.fc_core.specs.declared.event.Event.{Event};
 ghost use Rattle.fc_core.specs.Fits.{FitsStage, HasNext, TellsOwn};
 ghost use Rattle.fc_core.specs.Receiving.{emission_if};
@@ -36,7 +36,7 @@ use std::mem;
 use std::sync::Arc;
 
 impl Task {
-    /// A job at its first stage.
+    /// Makes a task of a job at its first stage.
     pub fn new(job: Job) -> Task
         ensures { result ≡ new_task job }
     {
@@ -45,7 +45,7 @@ impl Task {
         Task { job, stage }
     }
 
-    /// A task to be begun with a job that is written to it.
+    /// Makes a task to be begun with a job that is written to it.
     pub fn blank() -> Task
         ensures { result ≡ new_task result.job }
     {
@@ -234,7 +234,7 @@ impl Task {
         }
     }
 
-    /// What it is to be answered, where it stands there.
+    /// Returns what it is to be answered, where it stands there.
     pub fn content(&self) -> Option<&Answer>
         ensures { option_copied result ≡ content_at self.now.stage }
     {
@@ -251,7 +251,7 @@ impl Task {
         }
     }
 
-    /// Whether it needs a message id of the server's own, for the notification of its turn.
+    /// Returns whether it needs a message id of the server's own, for the notification of its turn.
     pub fn needs_id(&self) -> bool
         ensures { result ≡ needs_id self.now.stage }
     {
@@ -339,7 +339,7 @@ fn without_memory(taken: Taken) -> Taken
     }
 }
 
-/// The image that a job asks to install; no bytes where it asks for something else.
+/// Returns the image that a job asks to install; no bytes where it asks for something else.
 pub fn image(ask: &Ask) -> &[u8]
     ensures { result.now ≡ image_of ask.now }
 {
@@ -400,7 +400,7 @@ fn note(
     requires own { TellsOwn turn (slot_in shard.old turn.slot).serial found.now }
     ensures sent { emission_if result emission.new ≡ note_at turn id (max shard.old.now now) found.now (watch_at shard.old (turn.slot / 8)) }
     ensures shard { let sent = emission_if result emission.new in
-        shard.new ≡ with_calls (note_calls turn id random (max shard.old.now now) found.now sent) turn.slot (handed shard.old now) }
+        shard.new ≡ with_calls (note_calls turn id random (max shard.old.now now) found.now sent) turn.slot (at_time shard.old now) }
 {
     let noted = match found {
         Some(ticket) => {

@@ -13,8 +13,8 @@ abbrev pub is_mark : ℕ → Bool
 is_mark b = (b == 58) || ((b == 39) || (b == 34))
 
 -- `0x`, or the `.c` of `.const`
-abbrev pub is_pair : ℕ → ℕ → Bool
-is_pair a b = ((a == 48) && (b == 120)) || ((a == 46) && (b == 99))
+abbrev pub is_short_form : ℕ → ℕ → Bool
+is_short_form a b = ((a == 48) && (b == 120)) || ((a == 46) && (b == 99))
 
 -- a space, or what stands for one
 abbrev pub is_space : ℕ → Bool
@@ -34,7 +34,7 @@ begins_named_call (c ∷ a ∷ l ∷ m ∷ b ∷ first ∷ more) = ((c == 99) &&
 begins_named_call other = false
 
 abbrev pub begins_pair : List ℕ → Bool
-begins_pair (a ∷ b ∷ more) = is_pair a b
+begins_pair (a ∷ b ∷ more) = is_short_form a b
 begins_pair other = false
 
 -- what is expanded begins here, at the first byte of the rest of a text

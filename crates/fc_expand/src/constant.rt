@@ -2,7 +2,7 @@
 use crate::expander::{Label, is_constant};
 use crate::form::Form;
 use crate::helper::number_of_helper;
-use crate::pieces::{LineError, is_number, number_piece};
+use crate::pieces::{PieceError, is_number, number_piece};
 use crate::plain::push_spaced;
 use crate::words::{from_word, is_blank, is_name, split_word};
 use fc_asm::vocabulary::{is_register, operands_of};
@@ -38,8 +38,8 @@ pub(crate) fn constants_of<'a>(
         }
         match definition_of(code, alloc) {
             Ok(Definition { name, value, .. }) => constants.push(Constant { name, line, value })?,
-            Err(LineError::Form(_)) => (),
-            Err(LineError::NoMemory) => return Err(AllocError),
+            Err(PieceError::Form(_)) => (),
+            Err(PieceError::NoMemory) => return Err(AllocError),
         }
     }
     Ok(constants)
@@ -61,13 +61,13 @@ pub(crate) fn expand_constant(
     constants: &[Constant<'_>],
     line: usize,
     alloc: Global,
-) -> Result<(), LineError> {
+) -> Result<(), PieceError> {
     let Definition { name, after, .. } = definition_of(body, alloc)?;
     if is_defined(constants, name, line) {
-        return Err(LineError::Form(Form::DoubleConstant));
+        return Err(PieceError::Form(Form::DoubleConstant));
     }
     if labels.iter().any(|label| label.name == name) || is_meant(name, alloc)? {
-        return Err(LineError::Form(Form::TakenConstant));
+        return Err(PieceError::Form(Form::TakenConstant));
     }
     push_spaced(out, after)?;
     Ok(())
@@ -94,11 +94,11 @@ fn is_meant(name: &[u8], alloc: Global) -> Result<bool, AllocError> {
 }
 
 /// The name of a constant's line and its number, and what is behind that.
-fn definition_of<'a>(body: &'a [u8], alloc: Global) -> Result<Definition<'a>, LineError> {
+fn definition_of<'a>(body: &'a [u8], alloc: Global) -> Result<Definition<'a>, PieceError> {
     let (_, more) = split_word(body);
     let (name, more) = split_word(more);
     if !is_name(name) {
-        return Err(LineError::Form(Form::Constant));
+        return Err(PieceError::Form(Form::Constant));
     }
     let rest = from_word(more);
     let mut number = Vec::new(alloc);
@@ -107,6 +107,6 @@ fn definition_of<'a>(body: &'a [u8], alloc: Global) -> Result<Definition<'a>, Li
     if is_number(&number) && is_blank(after) {
         Ok(Definition { name, value, after })
     } else {
-        Err(LineError::Form(Form::Constant))
+        Err(PieceError::Form(Form::Constant))
     }
 }

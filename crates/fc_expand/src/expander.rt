@@ -5,7 +5,7 @@ ghost use Rattle.fc_expand.specs.Expanded.{as_space, is_plain, is_plain_but_for_
 use crate::constant::{Constant, constants_of, expand_constant, value_of};
 use crate::form::{BadForm, Form};
 use crate::helper::number_of_helper;
-use crate::pieces::{LineError, number_piece, push_number, push_word};
+use crate::pieces::{PieceError, number_piece, push_number, push_word};
 use crate::plain::{is_plain_but_for_tabs, push_spaced};
 use crate::words::{first_word, is_blank, is_name, is_space, split_label, split_word, word_size};
 use std::alloc::{AllocError, AllocFailed, Global};
@@ -41,7 +41,7 @@ pub(crate) struct Label<'a> {
 
 /// What the names of a text mean.
 #[derive(Clone, Copy)]
-struct Names<'a> {
+struct LabelNames<'a> {
     alloc: Global,
     labels: &'a [Label<'a>],
     constants: &'a [Constant<'a>],
@@ -50,7 +50,7 @@ struct Names<'a> {
 /// What a line's words mean besides themselves.
 #[derive(Clone, Copy)]
 struct Place<'a> {
-    names: Names<'a>,
+    names: LabelNames<'a>,
     slot: u32,
     wanted: Wanted,
 }
@@ -86,7 +86,7 @@ pub fn expand(alloc: Global, text: &[u8]) -> Result<Vec<u8>, ExpandError>
     }
     let labels = labels_of(alloc, text)?;
     let constants = constants_of(alloc, text)?;
-    let names = Names {
+    let names = LabelNames {
         alloc,
         labels: &labels,
         constants: &constants,
@@ -110,7 +110,7 @@ fn labels_of<'a>(alloc: Global, text: &'a [u8]) -> Result<Vec<Label<'a>>, AllocE
     Ok(labels)
 }
 
-fn expand_lines(text: &[u8], names: Names<'_>) -> Result<Vec<u8>, ExpandError> {
+fn expand_lines(text: &[u8], names: LabelNames<'_>) -> Result<Vec<u8>, ExpandError> {
     let mut out = Vec::with_capacity(names.alloc, text.len())?;
     let mut slot: u32 = 0;
     let mut line: usize = 0;
@@ -121,8 +121,8 @@ fn expand_lines(text: &[u8], names: Names<'_>) -> Result<Vec<u8>, ExpandError> {
         line = line.saturating_add(1);
         match expand_line(&mut out, code, names, line, slot) {
             Ok(slots) => slot = slot.saturating_add(slots),
-            Err(LineError::Form(form)) => return Err(ExpandError::Faulty(BadForm { form, line })),
-            Err(LineError::NoMemory) => return Err(ExpandError::NoMemory),
+            Err(PieceError::Form(form)) => return Err(ExpandError::Faulty(BadForm { form, line })),
+            Err(PieceError::NoMemory) => return Err(ExpandError::NoMemory),
         }
     }
     Ok(out)
@@ -132,19 +132,19 @@ fn expand_lines(text: &[u8], names: Names<'_>) -> Result<Vec<u8>, ExpandError> {
 fn expand_line(
     out: &mut Vec<u8>,
     code: &[u8],
-    names: Names<'_>,
+    names: LabelNames<'_>,
     line: usize,
     slot: u32,
-) -> Result<u32, LineError> {
+) -> Result<u32, PieceError> {
     let (label, body) = split_label(code);
     if let Some(name) = label {
         if is_taken(names.labels, name, line) {
-            return Err(LineError::Form(Form::DoubleLabel));
+            return Err(PieceError::Form(Form::DoubleLabel));
         }
     }
     if is_constant(body) {
         if label.is_some() {
-            return Err(LineError::Form(Form::Constant));
+            return Err(PieceError::Form(Form::Constant));
         }
         expand_constant(out, body, names.labels, names.constants, line, names.alloc)?;
         return Ok(0);
@@ -171,7 +171,7 @@ fn is_taken(labels: &[Label<'_>], name: &[u8], line: usize) -> bool {
 }
 
 /// Adds what the words of a line stand for, and all between them, with spaces for tabs and carriage returns.
-fn expand_words(out: &mut Vec<u8>, body: &[u8], place: &Place<'_>) -> Result<(), LineError> {
+fn expand_words(out: &mut Vec<u8>, body: &[u8], place: &Place<'_>) -> Result<(), PieceError> {
     let mut at = 0;
     for _piece in 0..body.len() {
         let (before, rest) = body.split_at(at);
@@ -186,7 +186,7 @@ fn expand_piece(
     before: &[u8],
     rest: &[u8],
     place: &Place<'_>,
-) -> Result<usize, LineError>
+) -> Result<usize, PieceError>
     ensures { IfOk result (λ n. n ≤ length rest.now) }
 {
     match rest {
@@ -198,7 +198,7 @@ fn expand_piece(
     }
 }
 
-fn spaced(out: &mut Vec<u8>, bytes: &[u8]) -> Result<usize, LineError>
+fn spaced(out: &mut Vec<u8>, bytes: &[u8]) -> Result<usize, PieceError>
     ensures { IfOk result (λ n. n ≡ length bytes.now) }
 {
     push_spaced(out, bytes)?;
@@ -211,7 +211,7 @@ fn word(
     before: &[u8],
     rest: &[u8],
     place: &Place<'_>,
-) -> Result<usize, LineError>
+) -> Result<usize, PieceError>
     ensures { IfOk result (λ n. n ≤ length rest.now) }
 {
     let size = word_size(rest);
@@ -234,7 +234,7 @@ fn push_name(
     is_first: bool,
     is_last: bool,
     place: &Place<'_>,
-) -> Result<(), LineError> {
+) -> Result<(), PieceError> {
     match place.wanted {
         Wanted::Label if is_last => push_offset(out, name, place),
         Wanted::Helper if is_first => push_helper(out, name, place.names.alloc),
@@ -243,22 +243,22 @@ fn push_name(
 }
 
 /// Adds the offset to a label: slots are counted from the one behind the jump.
-fn push_offset(out: &mut Vec<u8>, name: &[u8], place: &Place<'_>) -> Result<(), LineError> {
+fn push_offset(out: &mut Vec<u8>, name: &[u8], place: &Place<'_>) -> Result<(), PieceError> {
     match place.names.labels.iter().find(|label| label.name == name) {
         Some(label) => {
             let offset = i64::from(label.slot) - i64::from(place.slot) - 1;
             let text = format!(in place.names.alloc; "{offset}")?;
             Ok(out.extend_from_slice(text.as_bytes())?)
         }
-        None => Err(LineError::Form(Form::UnknownLabel)),
+        None => Err(PieceError::Form(Form::UnknownLabel)),
     }
 }
 
 /// Adds the number of a helper.
-fn push_helper(out: &mut Vec<u8>, name: &[u8], alloc: Global) -> Result<(), LineError> {
+fn push_helper(out: &mut Vec<u8>, name: &[u8], alloc: Global) -> Result<(), PieceError> {
     match number_of_helper(name) {
         Some(number) => push_number(out, alloc, number),
-        None => Err(LineError::Form(Form::UnknownHelper)),
+        None => Err(PieceError::Form(Form::UnknownHelper)),
     }
 }
 

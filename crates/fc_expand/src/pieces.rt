@@ -7,20 +7,20 @@ use std::alloc::{AllocError, AllocFailed, Global};
 
 /// Why a line isn't expanded.
 #[derive(Clone, Copy)]
-pub(crate) enum LineError {
+pub(crate) enum PieceError {
     Form(Form),
     NoMemory,
 }
 
-impl From<AllocError> for LineError {
+impl From<AllocError> for PieceError {
     fn from(_error: AllocError) -> Self {
-        LineError::NoMemory
+        PieceError::NoMemory
     }
 }
 
-impl<T: Drop> From<AllocFailed<T>> for LineError {
+impl<T: Drop> From<AllocFailed<T>> for PieceError {
     fn from(_error: AllocFailed<T>) -> Self {
-        LineError::NoMemory
+        PieceError::NoMemory
     }
 }
 
@@ -29,7 +29,7 @@ pub(crate) fn number_piece(
     out: &mut Vec<u8>,
     rest: &[u8],
     alloc: Global,
-) -> Result<usize, LineError>
+) -> Result<usize, PieceError>
     ensures { IfOk result (λ n. n ≤ length rest.now) }
 {
     match rest {
@@ -44,7 +44,7 @@ pub(crate) fn number_piece(
 }
 
 /// Adds the number of a character, behind its first `'`.
-fn character(out: &mut Vec<u8>, more: &[u8], alloc: Global) -> Result<usize, LineError>
+fn character(out: &mut Vec<u8>, more: &[u8], alloc: Global) -> Result<usize, PieceError>
     ensures { IfOk result (λ n. n ≤ length more.now + 1) }
 {
     match more {
@@ -52,7 +52,7 @@ fn character(out: &mut Vec<u8>, more: &[u8], alloc: Global) -> Result<usize, Lin
             push_number(out, alloc, u64::from(*byte))?;
             Ok(3)
         }
-        _ => Err(LineError::Form(Form::Character)),
+        _ => Err(PieceError::Form(Form::Character)),
     }
 }
 
@@ -61,32 +61,32 @@ fn is_printed(byte: u8) -> bool {
 }
 
 /// Adds the number of a text, behind its `.text`.
-fn packed(out: &mut Vec<u8>, more: &[u8], alloc: Global) -> Result<usize, LineError>
+fn packed(out: &mut Vec<u8>, more: &[u8], alloc: Global) -> Result<usize, PieceError>
     ensures { IfOk result (λ n. n ≤ length more.now + 5) }
 {
     let Some(spaces) = more.iter().position(|byte| !is_space(*byte)) else {
-        return Err(LineError::Form(Form::Packed));
+        return Err(PieceError::Form(Form::Packed));
     };
     let [b'"', text @ ..] = &more[spaces..] else {
-        return Err(LineError::Form(Form::Packed));
+        return Err(PieceError::Form(Form::Packed));
     };
     let Some(size) = text.iter().position(|byte| *byte == b'"') else {
-        return Err(LineError::Form(Form::Packed));
+        return Err(PieceError::Form(Form::Packed));
     };
     if !is_ended(&text[size + 1..]) {
-        return Err(LineError::Form(Form::Packed));
+        return Err(PieceError::Form(Form::Packed));
     }
     push_number(out, alloc, packed_number(&text[..size])?)?;
     Ok(5 + spaces + 1 + size + 1)
 }
 
 /// The number whose bytes the characters are, the first the lowest.
-fn packed_number(text: &[u8]) -> Result<u64, LineError> {
+fn packed_number(text: &[u8]) -> Result<u64, PieceError> {
     if text.len() > 8 {
-        return Err(LineError::Form(Form::LongPacked));
+        return Err(PieceError::Form(Form::LongPacked));
     }
     if !text.iter().all(|byte| is_printed(*byte)) {
-        return Err(LineError::Form(Form::Packed));
+        return Err(PieceError::Form(Form::Packed));
     }
     let mut bytes = [0; 8];
     bytes[..text.len()].copy_from_slice(text);
@@ -94,7 +94,7 @@ fn packed_number(text: &[u8]) -> Result<u64, LineError> {
 }
 
 /// Adds a word, or the number that its hexadecimal digits are.
-pub(crate) fn push_word(out: &mut Vec<u8>, word: &[u8], alloc: Global) -> Result<(), LineError> {
+pub(crate) fn push_word(out: &mut Vec<u8>, word: &[u8], alloc: Global) -> Result<(), PieceError> {
     match word {
         [b'-', b'0', b'x', digits @ ..] if is_hex(digits) => {
             out.push(b'-')?;
@@ -112,17 +112,17 @@ fn is_hex(digits: &[u8]) -> bool {
 }
 
 /// The number of hexadecimal digits.
-fn hexadecimal(digits: &[u8]) -> Result<u64, LineError> {
+fn hexadecimal(digits: &[u8]) -> Result<u64, PieceError> {
     match str::from_utf8(digits) {
         Ok(digits) => match u64::from_str_radix(digits, 16) {
             Ok(number) => Ok(number),
-            Err(_) => Err(LineError::Form(Form::LongNumber)),
+            Err(_) => Err(PieceError::Form(Form::LongNumber)),
         },
-        Err(_) => Err(LineError::Form(Form::LongNumber)),
+        Err(_) => Err(PieceError::Form(Form::LongNumber)),
     }
 }
 
-pub(crate) fn push_number(out: &mut Vec<u8>, alloc: Global, number: u64) -> Result<(), LineError> {
+pub(crate) fn push_number(out: &mut Vec<u8>, alloc: Global, number: u64) -> Result<(), PieceError> {
     let text = format!(in alloc; "{number}")?;
     Ok(out.extend_from_slice(text.as_bytes())?)
 }

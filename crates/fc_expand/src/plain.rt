@@ -1,6 +1,6 @@
 //! Texts that have nothing to be expanded.
 ghost use Rattle.std.specs.Prelude.{OnOk, map, ◌++◌, ◌≡◌};
-ghost use Rattle.fc_expand.specs.Expanded.{as_space, begins_mark, begins_number, is_mark, is_pair, is_plain_but_for_tabs};
+ghost use Rattle.fc_expand.specs.Expanded.{as_space, begins_mark, begins_number, is_mark, is_short_form, is_plain_but_for_tabs};
 
 use crate::words::{is_tab, parts_words};
 use std::alloc::AllocError;
@@ -37,7 +37,7 @@ fn is_mark(byte: u8) -> bool
 }
 
 fn is_pair(first: u8, second: u8) -> bool
-    ensures { result ≡ is_pair first second }
+    ensures { result ≡ is_short_form first second }
 {
     (first == b'0' && second == b'x') || (first == b'.' && second == b'c')
 }

@@ -16,7 +16,7 @@ pub(crate) fn is_space(byte: u8) -> bool
     byte == b' ' || is_tab(byte)
 }
 
-/// A line's label, if it has one, and what is behind that.
+/// Returns a line's label, if it has one, and what is behind that.
 pub fn split_label(code: &[u8]) -> (Option<&[u8]>, &[u8]) {
     let Some(colon) = code.iter().position(|byte| *byte == b':') else {
         return (None, code);
@@ -76,7 +76,7 @@ pub(crate) fn parts_words(byte: u8) -> bool
     is_space(byte) || byte == b','
 }
 
-/// The first word of a line, or nothing.
+/// Returns the first word of a line, or nothing.
 pub fn first_word(body: &[u8]) -> &[u8] {
     split_word(body).0
 }

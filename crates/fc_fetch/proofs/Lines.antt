@@ -11,9 +11,9 @@ use Rattle.coap_client.specs.declared.notice.Notice.TheVariants as notice
 use Rattle.coap_client.specs.declared.observing.Observer.{Observer}
 use Rattle.coap_client.specs.declared.watch.Watch.{Watch}
 use Rattle.coap_msg.specs.declared.code.Code.{Code}
-use Rattle.fc_fetch.specs.declared.observer.End.TheVariants.{Counted, Last}
+use Rattle.fc_fetch.specs.declared.observer.ObservationEnd.TheVariants.{Counted, Last}
 use Rattle.fc_fetch.specs.declared.observer.First.TheVariants.{State, Only}
-use Rattle.fc_fetch.specs.declared.printing.Shown.{Shown}
+use Rattle.fc_fetch.specs.declared.printer.Shown.{Shown}
 use Rattle.fc_fetch.specs.Observing.{HasShown, IsFirstShown, IsShowing, IsState, note_text, notes_text}
 
 appended : (a b c : Option (List ℕ)) (x y : List ℕ) → Appends a b x → Appends b c y → Appends a c (x ++ y)

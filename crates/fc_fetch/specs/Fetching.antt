@@ -3,7 +3,7 @@ use Rattle.std.specs.Prelude.{ℕ, ◌/◌, ◌==◌, if◌then◌else◌, List,
 use Rattle.coap_msg.specs.Codes.{code_text}
 use Rattle.fc_cli.specs.declared.status.Status.{Status}
 use Rattle.fc_cli.specs.declared.status.Status.TheVariants.{Done, Refused}
-use Rattle.fc_fetch.specs.declared.printing.Shown.{Shown}
+use Rattle.fc_fetch.specs.declared.printer.Shown.{Shown}
 use Rattle.fc_fetch.specs.Printing.{shown_bytes}
 
 -- a line

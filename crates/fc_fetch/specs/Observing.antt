@@ -12,11 +12,11 @@ use Rattle.coap_msg.specs.Codes.{code_text}
 use Rattle.coap_msg.specs.Wire.{message_bytes}
 use Rattle.fc_cli.specs.declared.status.Status.{Status}
 use Rattle.fc_cli.specs.declared.status.Status.TheVariants.{Done, Refused}
-use Rattle.fc_fetch.specs.declared.observer.End.{End}
-use Rattle.fc_fetch.specs.declared.observer.End.TheVariants.{Counted, Over, Last}
+use Rattle.fc_fetch.specs.declared.observer.ObservationEnd.{ObservationEnd}
+use Rattle.fc_fetch.specs.declared.observer.ObservationEnd.TheVariants.{Counted, Over, Last}
 use Rattle.fc_fetch.specs.declared.observer.First.{First}
 use Rattle.fc_fetch.specs.declared.observer.First.TheVariants.{State, Only}
-use Rattle.fc_fetch.specs.declared.printing.Shown.{Shown}
+use Rattle.fc_fetch.specs.declared.printer.Shown.{Shown}
 use Rattle.fc_fetch.specs.Fetching.{ended_line}
 use Rattle.fc_fetch.specs.Printing.{line_bytes}
 
@@ -40,18 +40,18 @@ IsState (notice.State sequence) = Unit {0}
 IsState other = ⊥
 
 -- why no more is shown: as many were as are wanted, or the time is over, and each is a state; or the last one has this code, and none comes behind it
-abbrev pub IsEnd : ℕ → End → Note → List Note → Type 0
+abbrev pub IsEnd : ℕ → ObservationEnd → Note → List Note → Type 0
 IsEnd limit Counted latest older = (length (latest ∷ older) ≡ limit) × IsState (notice_of latest.message)
 IsEnd limit Over latest older = IsState (notice_of latest.message)
 IsEnd limit (Last code) latest older = (latest.message.code ≡ code.byte) × (notice_of latest.message ≡ notice.Last)
 
 -- the deregistration was sent and acknowledged, where the server would notify further
-abbrev pub HasLeft : (List ℕ → Type 0) → (List ℕ → Type 0) → Observer → End → Type 0
+abbrev pub HasLeft : (List ℕ → Type 0) → (List ℕ → Type 0) → Observer → ObservationEnd → Type 0
 HasLeft went came o (Last code) = Unit {0}
 HasLeft went came o other = HasDeregistered went came o
 
 -- the registration was sent; its answer and notifications were printed, a line each: each came, is newer than the one before it, and was printed once
-pub record HasShown (went came : List ℕ → Type 0) (told : ℕ → Type 0) (o : Observer) (shown : Shown) (limit : ℕ) (before after : Option (List ℕ)) (end : End) : Type 0 where
+pub record HasShown (went came : List ℕ → Type 0) (told : ℕ → Type 0) (o : Observer) (shown : Shown) (limit : ℕ) (before after : Option (List ℕ)) (end : ObservationEnd) : Type 0 where
   pub asked : went (message_bytes (observe_request o.errand.now Register o.token o.id))
   pub latest : Note
   pub older : List Note
@@ -60,7 +60,7 @@ pub record HasShown (went came : List ℕ → Type 0) (told : ℕ → Type 0) (o
   pub ends : IsEnd limit end latest older
 
 -- an error, or an answer without notifications, isn't what was wanted
-abbrev pub end_status : End → Status
+abbrev pub end_status : ObservationEnd → Status
 end_status (Last code) = Refused
 end_status other = Done
 

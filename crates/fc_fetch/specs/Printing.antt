@@ -4,8 +4,8 @@ use Rattle.std.specs.Borrow.{Bor}
 use Rattle.std.specs.List.{list_all, list_any}
 use Rattle.std.specs.Str.{chars, is_utf8}
 use Rattle.hex.specs.Hex.{encode_lower}
-use Rattle.fc_fetch.specs.declared.printing.Shown.{Shown}
-use Rattle.fc_fetch.specs.declared.printing.Shown.TheVariants.{Hex, Text}
+use Rattle.fc_fetch.specs.declared.printer.Shown.{Shown}
+use Rattle.fc_fetch.specs.declared.printer.Shown.TheVariants.{Hex, Text}
 
 -- no control character (Unicode, general category Cc), but a tab or a line feed
 abbrev pub is_shown_char : ℕ → Bool

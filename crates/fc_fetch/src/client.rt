@@ -5,8 +5,8 @@ ghost use Rattle.fc_cli.specs.declared.status.Status.TheVariants.{Failed};
 
 use crate::address::{Address, AddressError};
 use crate::observer::NotesError;
-use crate::printing::{Shown, write_answer};
-use coap_client::{Errand, Fault, Fetched, Path, PathError, Server, Target};
+use crate::printer::{Shown, write_answer};
+use coap_client::{Errand, FetchFault, Fetched, Path, PathError, RequestTarget, UdpPeer};
 use coap_opts::Method;
 use fc_cli::clock::clock_id;
 use fc_cli::status::{Status, tell};
@@ -25,7 +25,7 @@ const ARGUMENT: usize = 255;
 
 /// What is asked for.
 #[derive(Clone, Copy)]
-pub struct Asking<'a> {
+pub struct FetchOptions<'a> {
     /// Whether the server is to acknowledge the request: it is sent again where nothing comes.
     pub confirmable: bool,
     pub method: Method,
@@ -40,7 +40,7 @@ pub struct Asking<'a> {
 
 // Why nothing is printed, or no more.
 #[derive(Debug, Drop, Error)]
-pub(crate) enum Stop<'a> {
+pub(crate) enum FetchStop<'a> {
     #[error("{0}")]
     Address(#[from] AddressError),
     #[error("{0}")]
@@ -54,22 +54,26 @@ pub(crate) enum Stop<'a> {
     #[error("random bytes: {0}")]
     Random(io::Error),
     #[error("{0}")]
-    Fault(#[from] Fault),
+    Fault(#[from] FetchFault),
     #[error("{0}")]
     Notes(#[from] NotesError),
     #[error("{0}")]
     Memory(#[from] AllocError),
 }
 
-impl<'a> Stop<'a> {
+impl<'a> FetchStop<'a> {
     pub(crate) fn status(&self) -> Status {
         match self {
-            Stop::Address(AddressError::NoMemory) | Stop::Path(PathError::NoMemory) => {
+            FetchStop::Address(AddressError::NoMemory) | FetchStop::Path(PathError::NoMemory) => {
                 Status::Failed
             }
-            Stop::Address(_) | Stop::Path(_) | Stop::Argument | Stop::Room => Status::Bad,
-            Stop::Input(..) | Stop::Random(_) | Stop::Fault(_) | Stop::Notes(_) | Stop::Memory(_) =>
-                Status::Failed,
+            FetchStop::Address(_) | FetchStop::Path(_) | FetchStop::Argument | FetchStop::Room =>
+                Status::Bad,
+            FetchStop::Input(..)
+            | FetchStop::Random(_)
+            | FetchStop::Fault(_)
+            | FetchStop::Notes(_)
+            | FetchStop::Memory(_) => Status::Failed,
         }
     }
 }
@@ -86,7 +90,7 @@ pub fn fetch<R: Net + Clock, I: Read, W: Write, E: Write>(
     input: &mut I,
     out: &mut W,
     err: &mut E,
-    asking: &Asking<'_>,
+    asking: &FetchOptions<'_>,
 ) -> Status {
     match answer(rt, alloc, input, asking) {
         Ok(fetched) => print_answer(alloc, out, err, asking.shown, &fetched),
@@ -99,18 +103,18 @@ fn answer<'a, R: Net + Clock, I: Read>(
     rt: &R,
     alloc: Global,
     input: &mut I,
-    asking: &Asking<'a>,
-) -> Result<Fetched, Stop<'a>> {
+    asking: &FetchOptions<'a>,
+) -> Result<Fetched, FetchStop<'a>> {
     let address = Address::parse(alloc, asking.target, asking.port)?;
     let target = resource(alloc, &address)?;
     let mut payload = Vec::new(alloc);
     if let Err(error) = input.read_to_end(&mut payload) {
-        return Err(Stop::Input(asking.source, error));
+        return Err(FetchStop::Input(asking.source, error));
     }
     let Some(errand) = Errand::new(asking.confirmable, asking.method, target, &payload) else {
-        return Err(Stop::Room);
+        return Err(FetchStop::Room);
     };
-    let mut server = Server::at(rt, rt, address.server).map_err(Fault::Socket)?;
+    let mut server = UdpPeer::at(rt, rt, address.server).map_err(FetchFault::Socket)?;
     Ok(coap_client::fetch(alloc, &mut server, &errand, clock_id(rt))?)
 }
 
@@ -118,22 +122,22 @@ fn answer<'a, R: Net + Clock, I: Read>(
 pub(crate) fn resource<'a, 'b>(
     alloc: Global,
     address: &'b Address,
-) -> Result<Target<'b>, Stop<'a>> {
-    Ok(Target {
+) -> Result<RequestTarget<'b>, FetchStop<'a>> {
+    Ok(RequestTarget {
         path: Path::parse(alloc, &address.path)?,
         query: arguments(alloc, &address.query)?,
     })
 }
 
 // The arguments of a query, which `&` parts; an empty one has none.
-fn arguments<'a, 'b>(alloc: Global, query: &'b [u8]) -> Result<Vec<&'b [u8]>, Stop<'a>> {
+fn arguments<'a, 'b>(alloc: Global, query: &'b [u8]) -> Result<Vec<&'b [u8]>, FetchStop<'a>> {
     let mut arguments = Vec::new(alloc);
     if query.is_empty() {
         return Ok(arguments);
     }
     for argument in query.split(|byte| *byte == b'&') {
         if argument.len() > ARGUMENT {
-            return Err(Stop::Argument);
+            return Err(FetchStop::Argument);
         }
         arguments.push(argument).map_err(AllocError::from)?;
     }

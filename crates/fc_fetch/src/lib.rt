@@ -10,14 +10,14 @@
 //!   deregistration was sent and acknowledged. Where it ends otherwise, the last is an error or has no sequence number.
 //! - No clause says that all that came and are newer are printed, nor that it deregisters where it fails.
 //!
-//! By the contracts of `printing::write_answer`, `write_note`, `client::print_answer`, `observer::print_notes`, `print_to_end`.
+//! By the contracts of `printer::write_answer`, `write_note`, `client::print_answer`, `observer::print_notes`, `print_to_end`.
 #![tactic(auto)]
 
 pub mod address;
 pub mod client;
 pub mod observer;
-pub mod printing;
+pub mod printer;
 
-pub use client::{Asking, fetch};
+pub use client::{FetchOptions, fetch};
 pub use observer::{Observing, observe};
-pub use printing::Shown;
+pub use printer::Shown;

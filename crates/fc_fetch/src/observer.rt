@@ -5,11 +5,11 @@ ghost use Rattle.fc_cli.specs.declared.status.Status.TheVariants.{Failed};
 ghost use Rattle.fc_fetch.specs.Observing.{HasLeft, HasShown, IsFirstShown, end_status, lines_wanted};
 
 use crate::address::Address;
-use crate::client::{Stop, resource};
-use crate::printing::{PrintError, Shown, write_note};
+use crate::client::{FetchStop, resource};
+use crate::printer::{PrintError, Shown, write_note};
 use coap_client::notice::notice_of;
 use coap_client::observing::TOKEN;
-use coap_client::{Errand, Fault, Noted, Notice, Observer, Peer, Server, Watch};
+use coap_client::{Errand, FetchFault, NotedMessage, Notice, Observer, Peer, UdpPeer, Watch};
 use coap_msg::types::DATAGRAM;
 use coap_msg::{Code, read};
 use coap_opts::Method;
@@ -39,19 +39,19 @@ pub struct Observing<'a> {
     /// The port of 127.0.0.1, for a path.
     pub port: Option<u16>,
     pub shown: Shown,
-    pub extent: Extent,
+    pub extent: ObservationExtent,
 }
 
 /// After how many lines it ends, 1 and more, and how many seconds after the first answer; where neither is given, never.
 #[derive(Clone, Copy)]
-pub struct Extent {
+pub struct ObservationExtent {
     pub count: Option<u32>,
     pub seconds: Option<u32>,
 }
 
 /// Why no more is shown.
 #[derive(Clone, Copy, PartialEq, Eq)]
-pub enum End {
+pub enum ObservationEnd {
     /// As many lines were printed as are wanted.
     Counted,
     /// The time is over.
@@ -65,7 +65,7 @@ pub enum End {
 pub enum NotesError {
     /// No answer came, or sending or receiving failed, or what came can't be shown.
     #[error("{0}")]
-    Fault(#[from] Fault),
+    Fault(#[from] FetchFault),
     /// A line can't be printed.
     #[error("{0}")]
     Print(#[from] PrintError),
@@ -93,17 +93,17 @@ pub fn observe<R: Net + Clock + RandomSource, W: Write, E: Write>(
 }
 
 // How the program ends; `err` is told where an answer has no sequence number.
-fn finish<E: Write>(err: &mut E, end: End) -> Status
+fn finish<E: Write>(err: &mut E, end: ObservationEnd) -> Status
     ensures { (result ≡ end_status end) ⊎ (result ≡ Failed) }
 {
     match end {
-        End::Counted | End::Over => Status::Done,
-        End::Last(code) if code.class() == SUCCESS => tell(
+        ObservationEnd::Counted | ObservationEnd::Over => Status::Done,
+        ObservationEnd::Last(code) if code.class() == SUCCESS => tell(
             err,
             &"the answer has no Observe: the server doesn't notify of changes",
             Status::Refused,
         ),
-        End::Last(_) => Status::Refused,
+        ObservationEnd::Last(_) => Status::Refused,
     }
 }
 
@@ -113,12 +113,12 @@ fn observe_to_end<'a, R: Net + Clock + RandomSource, W: Write>(
     alloc: Global,
     out: &mut W,
     observing: &Observing<'a>,
-) -> Result<End, Stop<'a>> {
+) -> Result<ObservationEnd, FetchStop<'a>> {
     let address = Address::parse(alloc, observing.target, observing.port)?;
     let target = resource(alloc, &address)?;
     match Errand::new(true, Method::Get, target, &[]) {
         Some(errand) => observe_errand(rt, alloc, out, observing, &errand, address.server),
-        None => Err(Stop::Room),
+        None => Err(FetchStop::Room),
     }
 }
 
@@ -130,17 +130,17 @@ fn observe_errand<'a, R: Net + Clock + RandomSource, W: Write>(
     observing: &Observing<'a>,
     errand: &Errand<'_>,
     address: SocketAddrV4,
-) -> Result<End, Stop<'a>> {
+) -> Result<ObservationEnd, FetchStop<'a>> {
     let mut token = [0; TOKEN];
     if let Err(error) = rt.fill_bytes(&mut token) {
-        return Err(Stop::Random(error));
+        return Err(FetchStop::Random(error));
     }
     let observer = Observer {
         errand,
         token,
         id: clock_id(rt),
     };
-    let mut server = Server::at(rt, rt, address).map_err(Fault::Socket)?;
+    let mut server = UdpPeer::at(rt, rt, address).map_err(FetchFault::Socket)?;
     let mut buffer = [0; BUFFER];
     let (shown, extent) = (observing.shown, observing.extent);
     let end = print_to_end(
@@ -166,15 +166,15 @@ pub fn print_to_end<P: Peer, W: Write>(
     out: &mut W,
     observer: &Observer<'_>,
     shown: Shown,
-    extent: Extent,
+    extent: ObservationExtent,
     buffer: &mut [u8],
-) -> Result<End, NotesError>
+) -> Result<ObservationEnd, NotesError>
     ensures shown { IfOk result (HasShown P.went P.came P.is_moment observer.now shown
         (lines_wanted extent.count) (W.contents out.old) (W.contents out.new)) }
     ensures left { IfOk result (HasLeft P.went P.came observer.now) }
 {
     match print_notes(alloc, peer, out, observer, shown, extent, buffer) {
-        Ok(End::Last(code)) => Ok(End::Last(code)),
+        Ok(ObservationEnd::Last(code)) => Ok(ObservationEnd::Last(code)),
         Ok(end) => {
             observer.deregister(alloc, peer, buffer)?;
             Ok(end)
@@ -190,7 +190,10 @@ pub fn print_to_end<P: Peer, W: Write>(
 
 // Whether a server may have the observer behind this error: not where it rejected the registration, or where no answer to it came.
 fn may_notify(error: &NotesError) -> bool {
-    !matches!(error, NotesError::Fault(Fault::Rejected | Fault::Silence))
+    !matches!(
+        error,
+        NotesError::Fault(FetchFault::Rejected | FetchFault::Silence)
+    )
 }
 
 /// Registers, and prints the answer and the notifications behind it, each in a line, until as many lines were printed as are wanted, the time is over, or none comes
@@ -204,32 +207,32 @@ pub fn print_notes<P: Peer, W: Write>(
     out: &mut W,
     observer: &Observer<'_>,
     shown: Shown,
-    extent: Extent,
+    extent: ObservationExtent,
     buffer: &mut [u8],
-) -> Result<End, NotesError>
+) -> Result<ObservationEnd, NotesError>
     ensures { IfOk result (HasShown P.went P.came P.is_moment observer.now shown
         (lines_wanted extent.count) (W.contents out.old) (W.contents out.new)) }
 {
     let mut watch = match print_first(alloc, peer, out, observer, shown, buffer)? {
         First::State(watch) => watch,
-        First::Only(code) => return Ok(End::Last(code)),
+        First::Only(code) => return Ok(ObservationEnd::Last(code)),
     };
     let seconds = extent.seconds.map_or(DAY, u64::from);
     begin_wait(peer, seconds)?;
     for _ in 1..lines_wanted(extent.count) {
         let ends = extent.seconds.is_some();
         let Some(noted) = await_note(peer, observer, &mut watch, ends, buffer)? else {
-            return Ok(End::Over);
+            return Ok(ObservationEnd::Over);
         };
         let Ok(message) = read(&buffer[..noted.count]) else {
             unreachable!();
         };
         write_note(alloc, out, shown, &message)?;
         if noted.last {
-            return Ok(End::Last(message.code()));
+            return Ok(ObservationEnd::Last(message.code()));
         }
     }
-    Ok(End::Counted)
+    Ok(ObservationEnd::Counted)
 }
 
 // How many lines are printed at most: one and more.
@@ -269,19 +272,19 @@ fn print_first<P: Peer, W: Write>(
     let first = match notice_of(&message) {
         Notice::State(sequence) => First::State(Watch::first(alloc, sequence, at, &message)?),
         Notice::Last => First::Only(message.code()),
-        Notice::Older | Notice::Misfit => return Err(NotesError::Fault(Fault::Part)),
+        Notice::Older | Notice::Misfit => return Err(NotesError::Fault(FetchFault::Part)),
     };
     write_note(alloc, out, shown, &message)?;
     Ok(first)
 }
 
-fn moment<P: Peer>(peer: &P) -> Result<u64, Fault>
+fn moment<P: Peer>(peer: &P) -> Result<u64, FetchFault>
     ensures { IfOk result P.is_moment }
 {
     Ok(peer.now()?)
 }
 
-fn begin_wait<P: Peer>(peer: &mut P, seconds: u64) -> Result<(), Fault> {
+fn begin_wait<P: Peer>(peer: &mut P, seconds: u64) -> Result<(), FetchFault> {
     Ok(peer.begin_wait(seconds)?)
 }
 
@@ -292,7 +295,7 @@ fn await_note<P: Peer>(
     watch: &mut Watch,
     ends: bool,
     buffer: &mut [u8],
-) -> Result<Option<Noted>, Fault>
+) -> Result<Option<NotedMessage>, FetchFault>
     ensures { IfOk result (Watches P.went P.came P.is_moment observer.now.token buffer.new watch.old watch.new) }
 {
     for _ in 0..u64::MAX {

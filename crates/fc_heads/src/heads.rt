@@ -9,7 +9,7 @@ use std::alloc::{AllocError, Global};
 use std::marker::Model;
 
 /// How many slots have a word.
-pub const SLOTS: usize = 64;
+pub const HEAD_WORDS: usize = 64;
 
 /// The head words of 64 slots, each 0 at first. A clause sees which words they are: no others are of this table.
 #[derive(Drop)]
@@ -55,7 +55,7 @@ impl Heads {
     pub fn new(alloc: Global) -> Result<(Heads, HeadSeat), AllocError>
         ensures { IfOk result (λ r. r.1 ≡ record { table = r.0; view = fresh }) }
     {
-        let (words, seat) = Table::of_words(alloc, &[0; SLOTS], &())?;
+        let (words, seat) = Table::of_words(alloc, &[0; HEAD_WORDS], &())?;
         Ok((Heads { words }, HeadSeat { seat }))
     }
 

@@ -35,4 +35,4 @@ pub mod heads;
 mod steps;
 pub mod view;
 
-pub use heads::{HeadSeat, Heads, SLOTS};
+pub use heads::{HEAD_WORDS, HeadSeat, Heads};

@@ -8,7 +8,7 @@ use Rattle.fc_isa.specs.Flow.{Flow, Halts, Goes, Forks, Enters, flow}
 use Rattle.fc_image.specs.Functions.{at_offset}
 use Rattle.fc_image.specs.declared.loops.Loop.{Loop}
 use Rattle.fc_image.specs.Loops.{begins, ends}
-use Rattle.fc_image.specs.Paths.{turns, along, own_cost, looped, later, cost_of, costs}
+use Rattle.fc_image.specs.Paths.{turns, along, own_cost, looped, cost_at, cost_of, costs}
 use Rattle.fc_image.proofs.Costs.{cost_here, less_one}
 
 pub drop_at : (code : List Insn) (slot : ℕ) (insn : Insn) → slice_get code slot ≡ Some insn → drop slot code ≡ insn ∷ drop (suc slot) code
@@ -36,7 +36,7 @@ pub at_capped : (cap : ℕ) (xs ys : List ℕ) (o : ℤ) → AreCapped cap xs ys
 at_capped cap xs ys (pos n) h = h n
 at_capped cap xs ys (negsuc n) h = omega arith
 
-later_capped : (cap slot : ℕ) (xs ys : List ℕ) (t : ℕ) → AreCapped cap xs ys → later xs slot t ≡ min cap (later ys slot t)
+later_capped : (cap slot : ℕ) (xs ys : List ℕ) (t : ℕ) → AreCapped cap xs ys → cost_at xs slot t ≡ min cap (cost_at ys slot t)
 later_capped cap slot xs ys t h = go (nat_lt slot t)
   where
     go : (b : Bool) → (if b then slice_index xs (t - suc slot) else 0) ≡ min cap (if b then slice_index ys (t - suc slot) else 0)
@@ -66,8 +66,8 @@ looped_capped cap at to (Some l) a b h e = turns_capped cap (turns l) a b (at (l
 pub cost_capped : (cap : ℕ) (loops : List Loop) (slot : ℕ) (insn : Insn) (xs ys : List ℕ) → AreCapped cap xs ys → min cap (cost_of loops slot insn xs) ≡ min cap (cost_of loops slot insn ys)
 cost_capped cap loops slot insn xs ys h =
     let at = later_capped cap slot xs ys in
-    looped_capped cap (later xs slot) (later ys slot) (begins loops slot) (own_cost (later xs slot) (ends loops slot) (flow slot insn)) (own_cost (later ys slot) (ends loops slot) (flow slot insn)) (λ t. at t h)
-    (own_capped cap (later xs slot) (later ys slot) (ends loops slot) (flow slot insn) (λ t. at t h))
+    looped_capped cap (cost_at xs slot) (cost_at ys slot) (begins loops slot) (own_cost (cost_at xs slot) (ends loops slot) (flow slot insn)) (own_cost (cost_at ys slot) (ends loops slot) (flow slot insn)) (λ t. at t h)
+    (own_capped cap (cost_at xs slot) (cost_at ys slot) (ends loops slot) (flow slot insn) (λ t. at t h))
 
 -- one slot more, before the others
 pub one_more : (cap : ℕ) (table whole : List ℕ) (slot value : ℕ) → slot < length table → ((k : ℕ) → suc slot ≤ k → get_or table k 0 ≡ min cap (get_or whole k 0))

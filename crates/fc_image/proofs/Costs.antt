@@ -10,7 +10,7 @@ use Rattle.fc_isa.specs.Flow.{Flow, Halts, Goes, Forks, Enters, flow}
 use Rattle.fc_image.specs.Flow.{flow_of, flow_at}
 use Rattle.fc_image.specs.declared.loops.Loop.{Loop}
 use Rattle.fc_image.specs.Loops.{begins, ends}
-use Rattle.fc_image.specs.Paths.{turns, Behind, Return, Turns, opened_loop, opened_loops, TurnsBack, GoesBy, GoesOn, IsPath, along, own_cost, looped, later, own_of, cost_of, costs, cost_in}
+use Rattle.fc_image.specs.Paths.{turns, Behind, Return, Turns, opened_loop, opened_loops, TurnsBack, GoesBy, GoesOn, IsPath, along, own_cost, looped, cost_at, own_of, cost_of, costs, cost_in}
 use Rattle.fc_image.specs.Remaining.{own_by, own, left}
 use Rattle.fc_image.specs.LoopLaws.{AreBodies, IsForward}
 
@@ -43,7 +43,7 @@ cost_here loops first (x ∷ code) (suc k) insn e =
     let at : suc first + k ≡ first + suc k = omega arith in
     cost_here loops (suc first) code k insn e ∙ ap (λ n. cost_of loops n insn (drop (suc k) (costs loops (suc first) code))) at
 
-pub later_is : (table : List ℕ) (slot t : ℕ) → slot < t → later (drop (suc slot) table) slot t ≡ slice_index table t
+pub later_is : (table : List ℕ) (slot t : ℕ) → slot < t → cost_at (drop (suc slot) table) slot t ≡ slice_index table t
 later_is table slot t lt =
     let test : nat_lt slot t ≡ true = grind (arith, nat_tests, lt) in
     let e : suc slot + (t - suc slot) ≡ t = omega (arith, lt) in
@@ -79,12 +79,12 @@ cost_is code loops slot b lt =
     let i = flow_there code slot lt in
     let table = costs loops 0 code in
     let z : 0 + slot ≡ slot = omega arith in
-    let at : (t : ℕ) → slot < t → later (drop (suc slot) table) slot t ≡ slice_index table t = later_is table slot in
+    let at : (t : ℕ) → slot < t → cost_at (drop (suc slot) table) slot t ≡ slice_index table t = later_is table slot in
     cost_here loops 0 code slot i.0 i.1
     ∙ ap (λ n. cost_of loops n i.0 (drop (suc slot) table)) z
-    ∙ looped_same (later (drop (suc slot) table) slot) (slice_index table) slot (own_of loops slot i.0 (drop (suc slot) table)) (begins loops slot)
+    ∙ looped_same (cost_at (drop (suc slot) table) slot) (slice_index table) slot (own_of loops slot i.0 (drop (suc slot) table)) (begins loops slot)
     (λ l e. let r = begins_is loops slot l e in let o = b.order r.0 l r.1 in omega (arith, o, r.2)) at
-    ∙ ap (looped (slice_index table) (begins loops slot)) (own_same (later (drop (suc slot) table) slot) (slice_index table) (length code) slot (ends loops slot) (flow slot i.0) (λ none. b.onward slot i.0 i.1 none) at)
+    ∙ ap (looped (slice_index table) (begins loops slot)) (own_same (cost_at (drop (suc slot) table) slot) (slice_index table) (length code) slot (ends loops slot) (flow slot i.0) (λ none. b.onward slot i.0 i.1 none) at)
     ∙ ap (λ o. looped (slice_index table) (begins loops slot) (own_by (slice_index table) (ends loops slot) o)) (sym (flow_here code slot i.0 i.1))
 
 -- ---- what is left behind a place

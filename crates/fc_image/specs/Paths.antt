@@ -24,27 +24,27 @@ opened_loop (Some l) behind = Turns l (turns l - 1) ∷ behind
 abbrev pub opened_loops : List Loop → ℕ → List Behind → List Behind
 opened_loops loops slot behind = opened_loop (begins loops slot) behind
 
-abbrev pub Comes : List Loop → (ℕ → List Behind → Type 0) → ℕ → List Behind → Type 0
-Comes loops Path slot behind = Path slot (opened_loops loops slot behind)
+abbrev pub ContinuesAt : List Loop → (ℕ → List Behind → Type 0) → ℕ → List Behind → Type 0
+ContinuesAt loops Path slot behind = Path slot (opened_loops loops slot behind)
 
 -- an exit goes back to the return place of the last call that goes on; it ends the path where there is none
 abbrev pub Returns : List Loop → (ℕ → List Behind → Type 0) → ℕ → List Behind → Type 0
 Returns loops Path n [] = n ≡ 0
-Returns loops Path n (Return place ∷ behind) = Comes loops Path place behind
+Returns loops Path n (Return place ∷ behind) = ContinuesAt loops Path place behind
 Returns loops Path n (Turns l left ∷ behind) = ⊥
 
 -- a jump back goes on with the next turn, and behind the loop after the last
 abbrev pub TurnsBack : List Loop → (ℕ → List Behind → Type 0) → ℕ → List Behind → Type 0
 TurnsBack loops Path slot (Turns l (suc left) ∷ behind) = (slot ≡ l.last) × Path l.head (Turns l left ∷ behind)
-TurnsBack loops Path slot (Turns l zero ∷ behind) = (slot ≡ l.last) × Comes loops Path (l.last + 1) behind
+TurnsBack loops Path slot (Turns l zero ∷ behind) = (slot ≡ l.last) × ContinuesAt loops Path (l.last + 1) behind
 TurnsBack loops Path slot other = ⊥
 
 abbrev pub GoesBy : List Loop → (ℕ → List Behind → Type 0) → ℕ → List Behind → Option Flow → Type 0
 GoesBy loops Path n behind None = ⊥
 GoesBy loops Path n behind (Some Halts) = Returns loops Path n behind
-GoesBy loops Path n behind (Some (Goes next)) = Comes loops Path next behind
-GoesBy loops Path n behind (Some (Forks taken next)) = Comes loops Path taken behind ⊎ Comes loops Path next behind
-GoesBy loops Path n behind (Some (Enters start next)) = Comes loops Path start (Return next ∷ behind)
+GoesBy loops Path n behind (Some (Goes next)) = ContinuesAt loops Path next behind
+GoesBy loops Path n behind (Some (Forks taken next)) = ContinuesAt loops Path taken behind ⊎ ContinuesAt loops Path next behind
+GoesBy loops Path n behind (Some (Enters start next)) = ContinuesAt loops Path start (Return next ∷ behind)
 
 -- where a path with n steps left goes on
 abbrev pub GoesOn : List Insn → List Loop → (ℕ → List Behind → Type 0) → ℕ → ℕ → List Behind → Option Loop → Type 0
@@ -85,14 +85,14 @@ looped at None own = own
 looped at (Some l) own = turns l * own + at (l.last + 1)
 
 -- the cost at a later slot, given the costs from the next slot on
-abbrev pub later : List ℕ → ℕ → ℕ → ℕ
-later after slot t = if nat_lt slot t then slice_index after (t - suc slot) else 0
+abbrev pub cost_at : List ℕ → ℕ → ℕ → ℕ
+cost_at after slot t = if nat_lt slot t then slice_index after (t - suc slot) else 0
 
 abbrev pub own_of : List Loop → ℕ → Insn → List ℕ → ℕ
-own_of loops slot insn after = own_cost (later after slot) (ends loops slot) (flow slot insn)
+own_of loops slot insn after = own_cost (cost_at after slot) (ends loops slot) (flow slot insn)
 
 abbrev pub cost_of : List Loop → ℕ → Insn → List ℕ → ℕ
-cost_of loops slot insn after = looped (later after slot) (begins loops slot) (own_of loops slot insn after)
+cost_of loops slot insn after = looped (cost_at after slot) (begins loops slot) (own_of loops slot insn after)
 
 abbrev pub cost_and : List Loop → ℕ → Insn → List ℕ → List ℕ
 cost_and loops slot insn after = cost_of loops slot insn after ∷ after

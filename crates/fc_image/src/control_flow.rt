@@ -15,7 +15,7 @@ use crate::functions::{crosses, is_open_end};
 use crate::limits::{Head, loops_allowed};
 use crate::loops::is_counted;
 use crate::spans::Span;
-use crate::table::{SLOTS, Tables};
+use crate::table::{MOST_SLOTS, Tables};
 use fc_isa::{Fault, Insn, Rule};
 
 /// Checks the control flow of a program of the header's count of slots, and gives its cost: the greatest number of steps on
@@ -132,7 +132,7 @@ fn is_place(code: &[Insn], place: Option<usize>) -> bool
 fn breaks_back(
     allowed: bool,
     code: &[Insn],
-    spans: &[Option<Span>; SLOTS],
+    spans: &[Option<Span>; MOST_SLOTS],
     slot: usize,
     insn: &Insn,
 ) -> bool
@@ -165,7 +165,7 @@ fn is_later(slot: usize, place: Option<usize>) -> bool
 }
 
 /// Whether a jump of this offset leaves its function.
-fn leaves(code: &[Insn], counts: &[u16; SLOTS], slot: usize, offset: Option<i32>) -> bool
+fn leaves(code: &[Insn], counts: &[u16; MOST_SLOTS], slot: usize, offset: Option<i32>) -> bool
     requires counts { AreCounts code.now counts.now }
     requires count { length code.now ≤ 1024 }
     requires slot { slot < 1024 }
@@ -177,7 +177,7 @@ fn leaves(code: &[Insn], counts: &[u16; SLOTS], slot: usize, offset: Option<i32>
     }
 }
 
-fn crosses_to(code: &[Insn], counts: &[u16; SLOTS], slot: usize, place: Option<usize>) -> bool
+fn crosses_to(code: &[Insn], counts: &[u16; MOST_SLOTS], slot: usize, place: Option<usize>) -> bool
     requires counts { AreCounts code.now counts.now }
     requires count { length code.now ≤ 1024 }
     requires slot { slot < 1024 }

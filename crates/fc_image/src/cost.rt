@@ -2,13 +2,13 @@
 ghost use Rattle.std.specs.Prelude.{ℕ, List, Some, None, drop, false, length, min, slice_index, ◌+◌, ◌≡◌, ◌≤◌, ◌<◌};
 ghost use Rattle.fc_isa.specs.Flow.{flow, landing};
 ghost use Rattle.fc_image.specs.Loops.{loops_of};
-ghost use Rattle.fc_image.specs.Paths.{along, cost_in, later, looped, own_cost, turns};
+ghost use Rattle.fc_image.specs.Paths.{along, cost_in, cost_at, looped, own_cost, turns};
 ghost use Rattle.fc_image.specs.Tables.{AreHeads, AreLow, IsLow};
 
 use crate::flow::target;
 use crate::head_table::loop_if;
 use crate::loops::Loop;
-use crate::table::SLOTS;
+use crate::table::MOST_SLOTS;
 use fc_isa::Insn;
 
 /// More steps than any budget allows: costs are counted up to it.
@@ -16,12 +16,12 @@ const TOO_MANY: u32 = 65_537;
 
 /// The steps of the longest path from slot 0, or 65,537 where it has more, by the loops that begin at each slot. Counted loops are
 /// allowed, or aren't.
-pub(crate) fn longest_cost(code: &[Insn], heads: &[Option<Loop>; SLOTS], allowed: bool) -> u32
+pub(crate) fn longest_cost(code: &[Insn], heads: &[Option<Loop>; MOST_SLOTS], allowed: bool) -> u32
     requires count { length code.now ≤ 1024 }
     requires heads { AreHeads (loops_of allowed code.now) heads.now }
     ensures { result ≡ min 65537 (cost_in code.now (loops_of allowed code.now) 0) }
 {
-    let mut costs = [0; SLOTS];
+    let mut costs = [0; MOST_SLOTS];
     let mut slot = code.len();
     while slot > 0 {
         slot -= 1;
@@ -34,10 +34,10 @@ pub(crate) fn longest_cost(code: &[Insn], heads: &[Option<Loop>; SLOTS], allowed
 }
 
 /// The steps from an instruction on to the end of its body, or function, given the costs of the later slots.
-fn own_steps(costs: &[u32; SLOTS], slot: usize, ending: &Option<Loop>, insn: &Insn) -> u32
+fn own_steps(costs: &[u32; MOST_SLOTS], slot: usize, ending: &Option<Loop>, insn: &Insn) -> u32
     requires slot { slot < 1024 }
     requires capped { (k : ℕ) → slice_index costs.now k ≤ 65537 }
-    ensures steps { result ≡ own_cost (later (drop (slot + 1) costs.now) slot) ending.now (flow slot insn.now) }
+    ensures steps { result ≡ own_cost (cost_at (drop (slot + 1) costs.now) slot) ending.now (flow slot insn.now) }
     ensures few { result ≤ 131075 }
 {
     match ending {
@@ -46,10 +46,10 @@ fn own_steps(costs: &[u32; SLOTS], slot: usize, ending: &Option<Loop>, insn: &In
     }
 }
 
-fn steps_along(costs: &[u32; SLOTS], slot: usize, insn: &Insn) -> u32
+fn steps_along(costs: &[u32; MOST_SLOTS], slot: usize, insn: &Insn) -> u32
     requires slot { slot < 1024 }
     requires capped { (k : ℕ) → slice_index costs.now k ≤ 65537 }
-    ensures steps { result ≡ along (later (drop (slot + 1) costs.now) slot) (flow slot insn.now) }
+    ensures steps { result ≡ along (cost_at (drop (slot + 1) costs.now) slot) (flow slot insn.now) }
     ensures few { result ≤ 131075 }
 {
     let next = at(costs, slot, slot + 1);
@@ -68,12 +68,12 @@ fn steps_along(costs: &[u32; SLOTS], slot: usize, insn: &Insn) -> u32
 }
 
 /// The steps where a path comes to a slot: at a loop's head those of all turns, and what comes behind the loop.
-fn steps(costs: &[u32; SLOTS], slot: usize, beginning: &Option<Loop>, own: u32) -> u32
+fn steps(costs: &[u32; MOST_SLOTS], slot: usize, beginning: &Option<Loop>, own: u32) -> u32
     requires slot { slot < 1024 }
     requires capped { (k : ℕ) → slice_index costs.now k ≤ 65537 }
     requires few { own ≤ 131075 }
     requires low { AreLow 1024 beginning.now }
-    ensures { result ≡ looped (later (drop (slot + 1) costs.now) slot) beginning.now own }
+    ensures { result ≡ looped (cost_at (drop (slot + 1) costs.now) slot) beginning.now own }
 {
     match beginning {
         Some(counted) => turns(counted) * own + at(costs, slot, counted.last + 1),
@@ -99,9 +99,9 @@ fn landing(slot: usize, offset: i32) -> usize
 }
 
 /// The cost at a later slot, or 0.
-fn at(costs: &[u32; SLOTS], slot: usize, place: usize) -> u32
+fn at(costs: &[u32; MOST_SLOTS], slot: usize, place: usize) -> u32
     requires { (k : ℕ) → slice_index costs.now k ≤ 65537 }
-    ensures cost { result ≡ later (drop (slot + 1) costs.now) slot place }
+    ensures cost { result ≡ cost_at (drop (slot + 1) costs.now) slot place }
     ensures capped { result ≤ 65537 }
 {
     if place <= slot {

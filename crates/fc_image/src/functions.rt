@@ -4,18 +4,18 @@ ghost use Rattle.fc_image.specs.Functions.{at_offset, calls, frames, frames_call
 ghost use Rattle.fc_image.specs.Tables.{AreCounts, AreStarts, IsMarked, frames_from};
 
 use crate::flow::{call_offset, target};
-use crate::table::SLOTS;
+use crate::table::MOST_SLOTS;
 use fc_isa::Insn;
 
 /// One frame more than any program may have: frames are counted up to it.
 const TOO_DEEP: u8 = 9;
 
 /// Which slots start a function.
-pub(crate) fn starts(code: &[Insn]) -> [bool; SLOTS]
+pub(crate) fn starts(code: &[Insn]) -> [bool; MOST_SLOTS]
     requires { length code.now ≤ 1024 }
     ensures { AreStarts code.now result }
 {
-    let mut starts = [false; SLOTS];
+    let mut starts = [false; MOST_SLOTS];
     starts[0] = true;
     let mut slot = code.len();
     while slot > 0 {
@@ -26,26 +26,26 @@ pub(crate) fn starts(code: &[Insn]) -> [bool; SLOTS]
 }
 
 /// Marks the function that an instruction calls, where it starts at a slot of a program.
-fn mark(starts: &mut [bool; SLOTS], slot: usize, insn: &Insn)
+fn mark(starts: &mut [bool; MOST_SLOTS], slot: usize, insn: &Insn)
     requires { slot < 1024 }
     ensures { IsMarked slot insn.now starts.old starts.new }
 {
     if let Some(offset) = call_offset(insn)
         && let Some(place) = target(slot, offset)
-        && place < SLOTS
+        && place < MOST_SLOTS
     {
         starts[place] = true;
     }
 }
 
 /// How many functions start up to each slot.
-pub(crate) fn starts_counted(code: &[Insn], starts: &[bool; SLOTS]) -> [u16; SLOTS]
+pub(crate) fn starts_counted(code: &[Insn], starts: &[bool; MOST_SLOTS]) -> [u16; MOST_SLOTS]
     requires { AreStarts code.now starts.now }
     ensures { AreCounts code.now result }
 {
-    let mut counts = [0; SLOTS];
+    let mut counts = [0; MOST_SLOTS];
     let mut count = 0;
-    for slot in 0..SLOTS {
+    for slot in 0..MOST_SLOTS {
         if starts[slot] {
             count += 1;
         }
@@ -55,7 +55,7 @@ pub(crate) fn starts_counted(code: &[Insn], starts: &[bool; SLOTS]) -> [u16; SLO
 }
 
 /// Whether a function starts after a slot, up to another.
-pub(crate) fn crosses(code: &[Insn], counts: &[u16; SLOTS], slot: usize, place: usize) -> bool
+pub(crate) fn crosses(code: &[Insn], counts: &[u16; MOST_SLOTS], slot: usize, place: usize) -> bool
     requires counts { AreCounts code.now counts.now }
     requires later { slot ≤ place }
     requires within { place < 1024 }
@@ -65,7 +65,12 @@ pub(crate) fn crosses(code: &[Insn], counts: &[u16; SLOTS], slot: usize, place: 
 }
 
 /// Whether an instruction is the last of its function, and no exit.
-pub(crate) fn is_open_end(code: &[Insn], starts: &[bool; SLOTS], slot: usize, insn: &Insn) -> bool
+pub(crate) fn is_open_end(
+    code: &[Insn],
+    starts: &[bool; MOST_SLOTS],
+    slot: usize,
+    insn: &Insn,
+) -> bool
     requires starts { AreStarts code.now starts.now }
     requires count { length code.now ≤ 1024 }
     requires slot { slot < 1024 }
@@ -93,12 +98,12 @@ fn may_end(insn: &Insn) -> bool
 
 /// The most stack frames that the calls in a program's text nest, those that no path reaches among them, or 9 where they
 /// nest more.
-pub(crate) fn deepest(code: &[Insn], starts: &[bool; SLOTS]) -> u8
+pub(crate) fn deepest(code: &[Insn], starts: &[bool; MOST_SLOTS]) -> u8
     requires starts { AreStarts code.now starts.now }
     requires count { length code.now ≤ 1024 }
     ensures { result ≡ min 9 (frames code.now) }
 {
-    let mut depths = [0; SLOTS];
+    let mut depths = [0; MOST_SLOTS];
     let mut slot = code.len();
     while slot > 0 {
         slot -= 1;
@@ -108,7 +113,7 @@ pub(crate) fn deepest(code: &[Insn], starts: &[bool; SLOTS]) -> u8
 }
 
 /// The frames that calls add from a slot to the end of its function, up to 9, given those of the later slots.
-fn depth(depths: &[u8; SLOTS], starts: &[bool; SLOTS], slot: usize, insn: &Insn) -> u8
+fn depth(depths: &[u8; MOST_SLOTS], starts: &[bool; MOST_SLOTS], slot: usize, insn: &Insn) -> u8
     requires slot { slot < 1024 }
     requires capped { (k : ℕ) → slice_index depths.now k ≤ 9 }
     ensures { result ≡ frames_from depths.now starts.now slot insn.now }
@@ -121,20 +126,20 @@ fn depth(depths: &[u8; SLOTS], starts: &[bool; SLOTS], slot: usize, insn: &Insn)
     called(depths, slot, insn).max(rest).min(TOO_DEEP)
 }
 
-fn at_start(starts: &[bool; SLOTS], slot: usize) -> bool
+fn at_start(starts: &[bool; MOST_SLOTS], slot: usize) -> bool
     ensures { result ≡ slice_index_or starts.now slot false }
 {
     starts.get(slot).copied().unwrap_or(false)
 }
 
-fn at(depths: &[u8; SLOTS], place: usize) -> u8
+fn at(depths: &[u8; MOST_SLOTS], place: usize) -> u8
     ensures { result ≡ slice_index depths.now place }
 {
     depths.get(place).copied().unwrap_or(0)
 }
 
 /// The frames of the function that an instruction calls.
-fn called(depths: &[u8; SLOTS], slot: usize, insn: &Insn) -> u8
+fn called(depths: &[u8; MOST_SLOTS], slot: usize, insn: &Insn) -> u8
     requires slot { slot < 1024 }
     requires capped { (k : ℕ) → slice_index depths.now k ≤ 9 }
     ensures frames { result ≡ frames_called insn.now (drop (slot + 1) depths.now) }
@@ -146,7 +151,7 @@ fn called(depths: &[u8; SLOTS], slot: usize, insn: &Insn) -> u8
 }
 
 /// The depth at an offset from the next slot, 0 where the offset is negative.
-fn at_offset(depths: &[u8; SLOTS], slot: usize, offset: i32) -> u8
+fn at_offset(depths: &[u8; MOST_SLOTS], slot: usize, offset: i32) -> u8
     requires slot { slot < 1024 }
     requires capped { (k : ℕ) → slice_index depths.now k ≤ 9 }
     ensures depth { result ≡ at_offset (drop (slot + 1) depths.now) offset }

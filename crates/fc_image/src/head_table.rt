@@ -5,16 +5,16 @@ ghost use Rattle.fc_image.specs.Tables.{AreHeads, AreLow, headed};
 
 use crate::limits::loops_allowed;
 use crate::loops::{Loop, loop_at};
-use crate::table::SLOTS;
+use crate::table::MOST_SLOTS;
 use fc_isa::{ImageVersion, Insn};
 
 /// Finds the loop that begins at each slot of a program of a version.
-pub fn loops_by_head(version: ImageVersion, code: &[Insn]) -> [Option<Loop>; SLOTS]
+pub fn loops_by_head(version: ImageVersion, code: &[Insn]) -> [Option<Loop>; MOST_SLOTS]
     requires { length code.now ≤ 1024 }
     ensures { AreHeads (loops_in version code.now) result }
 {
     let allowed = loops_allowed(version);
-    let mut heads = [None; SLOTS];
+    let mut heads = [None; MOST_SLOTS];
     let mut slot = code.len();
     while slot > 0 {
         slot -= 1;
@@ -39,7 +39,7 @@ pub(crate) fn loop_if(allowed: bool, code: &[Insn], slot: usize, insn: &Insn) ->
 }
 
 /// Keeps a loop by its head.
-fn put_head(heads: &mut [Option<Loop>; SLOTS], ending: &Option<Loop>)
+fn put_head(heads: &mut [Option<Loop>; MOST_SLOTS], ending: &Option<Loop>)
     requires { AreLow 1024 ending.now }
     ensures { heads.new ≡ headed heads.old ending.now }
 {

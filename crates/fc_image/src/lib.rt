@@ -41,4 +41,4 @@ pub use control_flow::shape;
 pub use head_table::loops_by_head;
 pub use header::{HEADER_SIZE, head};
 pub use limits::Head;
-pub use table::SLOTS;
+pub use table::MOST_SLOTS;

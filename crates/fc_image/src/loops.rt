@@ -6,7 +6,7 @@ ghost use Rattle.fc_image.specs.Spans.{AreSpans, is_jumped_into};
 
 use crate::flow::target;
 use crate::spans::Span;
-use crate::table::SLOTS;
+use crate::table::MOST_SLOTS;
 use crate::uncounted::how_disturbed;
 use fc_isa::{AluOp, Insn, Jump, Operand, Reg, Relation, Target, Width};
 
@@ -23,7 +23,7 @@ pub struct Loop {
 /// Whether an instruction is the jump back of a counted loop.
 pub(crate) fn is_counted(
     code: &[Insn],
-    spans: &[Option<Span>; SLOTS],
+    spans: &[Option<Span>; MOST_SLOTS],
     slot: usize,
     insn: &Insn,
 ) -> bool
@@ -100,7 +100,7 @@ pub(crate) fn step_of(insn: &Insn, counter: Reg) -> Option<u32>
 }
 
 /// Whether no instruction of a program disturbs a loop: those of its body are looked at, and where the jumps to them come from.
-fn is_undisturbed(code: &[Insn], spans: &[Option<Span>; SLOTS], counted: &Loop) -> bool
+fn is_undisturbed(code: &[Insn], spans: &[Option<Span>; MOST_SLOTS], counted: &Loop) -> bool
     requires count { length code.now ≤ 1024 }
     requires spans { AreSpans code.now (length code.now) spans.now }
     requires order { counted.now.head < counted.now.last }

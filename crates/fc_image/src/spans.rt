@@ -3,7 +3,7 @@ ghost use Rattle.std.specs.Prelude.{None, length, ◌<◌, ◌≡◌, ◌≤◌}
 ghost use Rattle.fc_image.specs.Spans.{AreSpans, jumps_to, widened, span_with};
 
 use crate::flow::{jump_offset, target};
-use crate::table::SLOTS;
+use crate::table::MOST_SLOTS;
 use fc_isa::Insn;
 
 /// The least slot whose jump leads to a slot, and the greatest.
@@ -14,11 +14,11 @@ pub(crate) struct Span {
 }
 
 /// The span of each slot that a jump leads to.
-pub(crate) fn spans(code: &[Insn]) -> [Option<Span>; SLOTS]
+pub(crate) fn spans(code: &[Insn]) -> [Option<Span>; MOST_SLOTS]
     requires { length code.now ≤ 1024 }
     ensures { AreSpans code.now (length code.now) result }
 {
-    let mut spans = [None; SLOTS];
+    let mut spans = [None; MOST_SLOTS];
     for (slot, insn) in code.iter().enumerate() {
         widen(&mut spans, slot, jumps_to(slot, insn));
     }
@@ -37,12 +37,12 @@ fn jumps_to(slot: usize, insn: &Insn) -> Option<usize>
 }
 
 /// Widens the span of the slot that a jump leads to: the jump comes from a later slot than those before it.
-fn widen(spans: &mut [Option<Span>; SLOTS], slot: usize, place: Option<usize>)
+fn widen(spans: &mut [Option<Span>; MOST_SLOTS], slot: usize, place: Option<usize>)
     requires { slot < 1024 }
     ensures { spans.new ≡ widened spans.old slot place }
 {
     match place {
-        Some(place) if place < SLOTS => spans[place] = Some(span_with(&spans[place], slot)),
+        Some(place) if place < MOST_SLOTS => spans[place] = Some(span_with(&spans[place], slot)),
         _ => {}
     }
 }

@@ -10,17 +10,17 @@ use crate::spans::{Span, spans};
 use fc_isa::{ImageVersion, Insn};
 
 /// The most slots of any program.
-pub const SLOTS: usize = 1024;
+pub const MOST_SLOTS: usize = 1024;
 
 /// The facts of a whole program that its slots are judged by.
 #[derive(Drop)]
 pub(crate) struct Tables {
     /// Which slots start a function.
-    pub(crate) starts: [bool; SLOTS],
+    pub(crate) starts: [bool; MOST_SLOTS],
     /// How many functions start up to each slot.
-    pub(crate) counts: [u16; SLOTS],
+    pub(crate) counts: [u16; MOST_SLOTS],
     /// Where the jumps come from that lead to each slot.
-    pub(crate) spans: [Option<Span>; SLOTS],
+    pub(crate) spans: [Option<Span>; MOST_SLOTS],
     /// The most stack frames that calls nest, up to 9.
     pub(crate) frames: u8,
     /// The steps of the longest path, up to 65,537.

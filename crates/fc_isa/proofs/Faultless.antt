@@ -14,15 +14,15 @@ use Rattle.fc_isa.specs.declared.insn.SignExtension.{SignExtension}
 use Rattle.fc_isa.specs.declared.insn.SignExtension.TheVariants.{Byte, HalfWord, Word}
 use Rattle.fc_isa.specs.declared.insn.Insn.{Insn}
 use Rattle.fc_isa.specs.declared.insn.Insn.TheVariants.{Alu, SignExtend, LoadWide, CallHelper, CallLocal}
-use Rattle.fc_isa.specs.declared.shape.Source.{Source}
-use Rattle.fc_isa.specs.declared.shape.Source.TheVariants.{K, X}
+use Rattle.fc_isa.specs.declared.shape.SourceOperand.{SourceOperand}
+use Rattle.fc_isa.specs.declared.shape.SourceOperand.TheVariants.{K, X}
 use Rattle.fc_isa.specs.declared.shape.Shape.{Shape}
 use Rattle.fc_isa.specs.declared.shape.Shape.TheVariants.{Unknown as UnknownShape, Alu as AluShape, Neg as NegShape, End as EndShape, LoadWide as LoadWideShape, Load as LoadShape, StoreImm as StoreImmShape, Store as StoreShape, JumpAlways as JumpAlwaysShape, JumpAlwaysLong as JumpAlwaysLongShape, JumpIf as JumpIfShape, Call as CallShape, Exit as ExitShape}
 use Rattle.fc_isa.specs.declared.rule.Rule.{Rule}
 use Rattle.fc_isa.specs.declared.rule.Rule.TheVariants.{Opcode, Register, FramePointer, Field, WideLoad}
 use Rattle.fc_isa.specs.Shapes.{opcode_of, shape_of, is_known, is_wide, uses, writes_dst}
 use Rattle.fc_isa.specs.Program.{IsOperand, IsInsn, is_wide_load, is_wide_second}
-use Rattle.fc_isa.specs.Encoding.{Fields, fields_of, second_half, source_of, src_of, imm_of, sign_offset, swap_bits, swap_width, unused_are_zero, values_allowed, is_move_offset, is_second_half, breaks, slot_fault, insn_with, insn_of, arithmetic, move_of, called, operand_of, imm_after}
+use Rattle.fc_isa.specs.Encoding.{Fields, fields_of, second_half, source_of, src_of, imm_of, sign_offset, swap_bits, swap_width, unused_are_zero, values_allowed, is_move_offset, is_second_half, breaks, slot_fault, insn_with, insn_of, arithmetic, move_insn, called, operand_of, imm_after}
 use Rattle.fc_isa.proofs.Forms.{IsForm, form_is}
 use Rattle.fc_isa.proofs.Insns.{Fit}
 
@@ -117,20 +117,20 @@ same : (f : Fields) (o d s k i : ℕ) → o ≡ f.opcode → d ≡ f.dst → s �
 same f o d s k i eo ed es ek ei = rw (eo, ed, es, ek, ei) refl
 
 -- of the source and the immediate arithmetic uses one
-record OneOf (source : Source) (f : Fields) : Type 0 where
+record OneOf (source : SourceOperand) (f : Fields) : Type 0 where
   src : (uses (AluShape Mov W32 source)).src ≡ false → f.src ≡ 0
   imm : (uses (AluShape Mov W32 source)).imm ≡ false → f.imm ≡ 0
 
-one_of : (op : AluOp) (width : Width) (source : Source) (f : Fields) → Zeros (AluShape op width source) f → OneOf source f
+one_of : (op : AluOp) (width : Width) (source : SourceOperand) (f : Fields) → Zeros (AluShape op width source) f → OneOf source f
 one_of op width source f z = record { src = z.src; imm = z.imm }
 
 -- arithmetic with the offset that the operation has
-plain_fields : (op : AluOp) (width : Width) (source : Source) (f : Fields) → opcode_of (AluShape op width source) ≡ f.opcode → sign_offset op ≡ f.offset → OneOf source f → Fit f
+plain_fields : (op : AluOp) (width : Width) (source : SourceOperand) (f : Fields) → opcode_of (AluShape op width source) ≡ f.opcode → sign_offset op ≡ f.offset → OneOf source f → Fit f
     → fields_of (Alu op width f.dst (operand_of source f)) ≡ f
 plain_fields op width K f o k z fit = same f _ _ _ _ _ o refl (sym (z.src refl)) k (of_z-to_z w32 f.imm fit.imm)
 plain_fields op width X f o k z fit = same f _ _ _ _ _ o refl refl k (sym (z.imm refl))
 
-fields_if : (b : Bool) (x y : AluOp) (width : Width) (source : Source) (f : Fields) → (b ≡ true → fields_of (Alu x width f.dst (operand_of source f)) ≡ f) → (b ≡ false → fields_of (Alu y width f.dst (operand_of source f)) ≡ f)
+fields_if : (b : Bool) (x y : AluOp) (width : Width) (source : SourceOperand) (f : Fields) → (b ≡ true → fields_of (Alu x width f.dst (operand_of source f)) ≡ f) → (b ≡ false → fields_of (Alu y width f.dst (operand_of source f)) ≡ f)
     → fields_of (Alu (if b then x else y) width f.dst (operand_of source f)) ≡ f
 fields_if true x y width source f p q = p refl
 fields_if false x y width source f p q = q refl
@@ -143,7 +143,7 @@ insn_if false x y f p q = q refl
 other : (n a b : ℕ) → ((n == a) || (n == b)) ≡ true → (n == a) ≡ false → b ≡ n
 other n a b h e = elim (either (n == a) (n == b) h) [ inl t ↦ absurd (cc (t, e)) | inr t ↦ sym (eqb-true n b t) ]
 
-moved_fields : (width : Width) (f : Fields) → opcode_of (AluShape Mov width X) ≡ f.opcode → Zeros (AluShape Mov width X) f → is_move_offset width f.offset ≡ true → fields_of (move_of width f) ≡ f
+moved_fields : (width : Width) (f : Fields) → opcode_of (AluShape Mov width X) ≡ f.opcode → Zeros (AluShape Mov width X) f → is_move_offset width f.offset ≡ true → fields_of (move_insn width f) ≡ f
 moved_fields W32 f o z v =
     insn_if (f.offset == 0) _ _ f (λ e. same f _ _ _ _ _ o refl refl (sym (eqb-true f.offset 0 e)) (sym (z.imm refl))) (λ a.
     insn_if (f.offset == 8) _ _ f (λ e. same f _ _ _ _ _ o refl refl (sym (eqb-true f.offset 8 e)) (sym (z.imm refl))) (λ b.
@@ -160,7 +160,7 @@ moved_fields W64 f o z v =
     last : (n : ℕ) → (n == 0) ≡ false → (n == 8) ≡ false → (n == 16) ≡ false → is_move_offset W64 n ≡ true → 32 ≡ n
     last n a b c v = let v' : ((false || false) || (false || (n == 32))) ≡ true = rw (a, b, c) at v in sym (eqb-true n 32 v')
 
-alu_fields : (op : AluOp) (width : Width) (source : Source) (f : Fields) → IsForm f.opcode (AluShape op width source) → Zeros (AluShape op width source) f → values_allowed (AluShape op width source) f ≡ true → Fit f
+alu_fields : (op : AluOp) (width : Width) (source : SourceOperand) (f : Fields) → IsForm f.opcode (AluShape op width source) → Zeros (AluShape op width source) f → values_allowed (AluShape op width source) f ≡ true → Fit f
     → fields_of (arithmetic op width source f) ≡ f
 alu_fields Sdiv width source f form z v fit = absurd (cc form.plain)
 alu_fields Smod width source f form z v fit = absurd (cc form.plain)
@@ -184,7 +184,7 @@ swapped imm v = by_tests (imm == 16) (imm == 32) refl refl
     by_tests false true p q = rw (p, q) (sym (eqb-true imm 32 q))
     by_tests false false p q = let v' : ((false || false) || (imm == 64)) ≡ true = rw (p, q) at v in rw (p, q) (sym (eqb-true imm 64 v'))
 
-operand_fields : (source : Source) (f : Fields) → Fit f → OneOf source f → (source_of (operand_of source f) ≡ source) × (src_of (operand_of source f) ≡ f.src) × (imm_of (operand_of source f) ≡ f.imm)
+operand_fields : (source : SourceOperand) (f : Fields) → Fit f → OneOf source f → (source_of (operand_of source f) ≡ source) × (src_of (operand_of source f) ≡ f.src) × (imm_of (operand_of source f) ≡ f.imm)
 operand_fields K f fit z = (refl, sym (z.src refl), of_z-to_z w32 f.imm fit.imm)
 operand_fields X f fit z = (refl, refl, sym (z.imm refl))
 
@@ -224,7 +224,7 @@ signed16 n h = search (rules, ints)
 signed32 : (n : ℕ) → n < 2 ^ 32 → FitsSigned w32 (cast_signed w32 n)
 signed32 n h = search (rules, ints)
 
-operand_fits : (source : Source) (f : Fields) → f.src < 11 → Fit f → IsOperand (operand_of source f)
+operand_fits : (source : SourceOperand) (f : Fields) → f.src < 11 → Fit f → IsOperand (operand_of source f)
 operand_fits K f s fit = signed32 f.imm fit.imm
 operand_fits X f s fit = s
 
@@ -233,7 +233,7 @@ if_is P true x y p q = p
 if_is P false x y p q = q
 
 -- what a move and every sign extension are, a slot's move is
-moved_is : (P : Insn → Type 0) (width : Width) (f : Fields) → P (Alu Mov width f.dst (Reg f.src)) → ((e : SignExtension) → P (SignExtend e f.dst f.src)) → P (move_of width f)
+moved_is : (P : Insn → Type 0) (width : Width) (f : Fields) → P (Alu Mov width f.dst (Reg f.src)) → ((e : SignExtension) → P (SignExtend e f.dst f.src)) → P (move_insn width f)
 moved_is P width f p q =
     let word = SignExtend Word f.dst f.src in
     let half = SignExtend (HalfWord width) f.dst f.src in
@@ -244,7 +244,7 @@ moved_is P width f p q =
 called_is : (P : Insn → Type 0) (f : Fields) → P (CallHelper (cast_signed w32 f.imm)) → P (CallLocal (cast_signed w32 f.imm)) → P (called f)
 called_is P f p q = if_is P (f.src == 0) (CallHelper (cast_signed w32 f.imm)) (CallLocal (cast_signed w32 f.imm)) p q
 
-arithmetic_fits : (op : AluOp) (width : Width) (source : Source) (f : Fields) → f.dst < 10 → f.src < 11 → Fit f → IsInsn (arithmetic op width source f)
+arithmetic_fits : (op : AluOp) (width : Width) (source : SourceOperand) (f : Fields) → f.dst < 10 → f.src < 11 → Fit f → IsInsn (arithmetic op width source f)
 arithmetic_fits Mov width X f d s fit = moved_is IsInsn width f (d, s) (λ e. (d, s))
 arithmetic_fits op width source f d s fit = (d, operand_fits source f s fit)
 
@@ -270,7 +270,7 @@ IsInsn-insn_of f next fit i h =
 
 -- ---- a wide load and its second half
 
-narrow : (op : AluOp) (width : Width) (source : Source) (f : Fields) → (is_wide_load (arithmetic op width source f) ≡ false) × (is_wide_second (arithmetic op width source f) ≡ false)
+narrow : (op : AluOp) (width : Width) (source : SourceOperand) (f : Fields) → (is_wide_load (arithmetic op width source f) ≡ false) × (is_wide_second (arithmetic op width source f) ≡ false)
 narrow Mov width X f = moved_is (λ i. (is_wide_load i ≡ false) × (is_wide_second i ≡ false)) width f (refl, refl) (λ e. (refl, refl))
 narrow op width source f = (refl, refl)
 

@@ -14,8 +14,8 @@ use Rattle.fc_isa.specs.declared.insn.LoadType.{LoadType}
 use Rattle.fc_isa.specs.declared.insn.LoadType.TheVariants.{Unsigned, SignedByte, SignedHalfWord, SignedWord}
 use Rattle.fc_isa.specs.declared.insn.ByteOrder.{ByteOrder}
 use Rattle.fc_isa.specs.declared.insn.ByteOrder.TheVariants.{Little}
-use Rattle.fc_isa.specs.declared.shape.Source.{Source}
-use Rattle.fc_isa.specs.declared.shape.Source.TheVariants.{K, X}
+use Rattle.fc_isa.specs.declared.shape.SourceOperand.{SourceOperand}
+use Rattle.fc_isa.specs.declared.shape.SourceOperand.TheVariants.{K, X}
 use Rattle.fc_isa.specs.declared.shape.Shape.{Shape}
 use Rattle.fc_isa.specs.declared.shape.Shape.TheVariants.{Unknown, Alu, Neg, End, LoadWide, Load, StoreImm, Store, JumpAlways, JumpAlwaysLong, JumpIf, Call, Exit}
 use Rattle.fc_isa.specs.Shapes.{opcode_of, shape_of, known_shapes, or_unknown, is_known}
@@ -35,7 +35,7 @@ unfolding shape_of known_shapes
 alu_forms Add = (refl, refl, refl, refl)
 alu_forms op = (refl, refl, refl, refl)
 
-pub alu_form : (op : AluOp) (width : Width) (source : Source) → shape_of (opcode_of (Alu op width source)) ≡ Alu (unsigned op) width source
+pub alu_form : (op : AluOp) (width : Width) (source : SourceOperand) → shape_of (opcode_of (Alu op width source)) ≡ Alu (unsigned op) width source
 alu_form op W32 K = (alu_forms op).0
 alu_form op W32 X = (alu_forms op).1
 alu_form op W64 K = (alu_forms op).2
@@ -48,7 +48,7 @@ unfolding shape_of known_shapes
 jump_forms Eq = (refl, refl, refl, refl)
 jump_forms relation = (refl, refl, refl, refl)
 
-pub jump_form : (width : Width) (relation : Relation) (source : Source) → shape_of (opcode_of (JumpIf width relation source)) ≡ JumpIf width relation source
+pub jump_form : (width : Width) (relation : Relation) (source : SourceOperand) → shape_of (opcode_of (JumpIf width relation source)) ≡ JumpIf width relation source
 jump_form W32 relation K = (jump_forms relation).0
 jump_form W32 relation X = (jump_forms relation).1
 jump_form W64 relation K = (jump_forms relation).2

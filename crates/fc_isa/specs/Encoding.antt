@@ -14,14 +14,14 @@ use Rattle.fc_isa.specs.declared.insn.SwapWidth.{SwapWidth}
 use Rattle.fc_isa.specs.declared.insn.SwapWidth.TheVariants.{S16, S32, S64}
 use Rattle.fc_isa.specs.declared.insn.Insn.{Insn}
 use Rattle.fc_isa.specs.declared.insn.Insn.TheVariants.{Alu, Neg, SignExtend, End, LoadWide, WideSecond, Load, StoreImm, Store, JumpAlways, JumpAlwaysLong, JumpIf, CallHelper, CallLocal, Exit}
-use Rattle.fc_isa.specs.declared.shape.Source.{Source}
-use Rattle.fc_isa.specs.declared.shape.Source.TheVariants.{K, X}
+use Rattle.fc_isa.specs.declared.shape.SourceOperand.{SourceOperand}
+use Rattle.fc_isa.specs.declared.shape.SourceOperand.TheVariants.{K, X}
 use Rattle.fc_isa.specs.declared.shape.Shape.{Shape}
 use Rattle.fc_isa.specs.declared.shape.Shape.TheVariants as shapes
 use Rattle.fc_isa.specs.declared.rule.Rule.{Rule}
 use Rattle.fc_isa.specs.declared.rule.Rule.TheVariants.{Opcode, Register, FramePointer, Field, WideLoad}
-use Rattle.fc_isa.specs.declared.decoding.DecodeError.{DecodeError}
-use Rattle.fc_isa.specs.declared.decoding.DecodeError.TheVariants.{Fault, NoMemory}
+use Rattle.fc_isa.specs.declared.decoder.DecodeError.{DecodeError}
+use Rattle.fc_isa.specs.declared.decoder.DecodeError.TheVariants.{Fault, NoMemory}
 use Rattle.fc_isa.specs.Shapes.{opcode_of, shape_of, is_known, is_wide, uses, writes_dst}
 use Rattle.fc_isa.specs.Program.{IsInsn, is_program}
 
@@ -40,7 +40,7 @@ bytes_of_fields f = f.opcode ∷ (16 * f.src + f.dst) ∷ (to_le_bytes w16 f.off
 -- ---- the spelling of a program
 
 -- an operand is the immediate (K) or the source register (X)
-abbrev pub source_of : Operand → Source
+abbrev pub source_of : Operand → SourceOperand
 source_of (Imm k) = K
 source_of (Reg r) = X
 
@@ -152,7 +152,7 @@ abbrev pub is_move_offset : Width → ℕ → Bool
 is_move_offset W32 offset = ((offset == 0) || (offset == 8)) || (offset == 16)
 is_move_offset W64 offset = ((offset == 0) || (offset == 8)) || ((offset == 16) || (offset == 32))
 
-abbrev pub alu_values_allowed : AluOp → Width → Source → ℕ → Bool
+abbrev pub alu_values_allowed : AluOp → Width → SourceOperand → ℕ → Bool
 alu_values_allowed Div width source offset = (offset == 0) || (offset == 1)
 alu_values_allowed Mod width source offset = (offset == 0) || (offset == 1)
 alu_values_allowed Mov width X offset = is_move_offset width offset
@@ -228,7 +228,7 @@ first_fault bytes = first_some (fault_at bytes) (length bytes / 8 + 1)
 
 -- ---- the program that faultless bytes spell
 
-abbrev pub operand_of : Source → Fields → Operand
+abbrev pub operand_of : SourceOperand → Fields → Operand
 operand_of K f = Imm (cast_signed w32 f.imm)
 operand_of X f = Reg f.src
 
@@ -239,15 +239,15 @@ signed_by offset Mod = if offset == 0 then Mod else Smod
 signed_by offset op = op
 
 -- a move of a register extends the sign of as many bits as the offset says
-abbrev pub move_of : Width → Fields → Insn
-move_of width f =
+abbrev pub move_insn : Width → Fields → Insn
+move_insn width f =
     if f.offset == 0 then Alu Mov width f.dst (Reg f.src)
     else (if f.offset == 8 then SignExtend (Byte width) f.dst f.src
     else (if f.offset == 16 then SignExtend (HalfWord width) f.dst f.src
     else SignExtend Word f.dst f.src))
 
-abbrev pub arithmetic : AluOp → Width → Source → Fields → Insn
-arithmetic Mov width X f = move_of width f
+abbrev pub arithmetic : AluOp → Width → SourceOperand → Fields → Insn
+arithmetic Mov width X f = move_insn width f
 arithmetic op width source f = Alu (signed_by f.offset op) width f.dst (operand_of source f)
 
 abbrev pub swap_width : ℕ → SwapWidth

@@ -13,8 +13,8 @@ use Rattle.fc_isa.specs.declared.insn.LoadType.{LoadType}
 use Rattle.fc_isa.specs.declared.insn.LoadType.TheVariants.{Unsigned, SignedByte, SignedHalfWord, SignedWord}
 use Rattle.fc_isa.specs.declared.insn.ByteOrder.{ByteOrder}
 use Rattle.fc_isa.specs.declared.insn.ByteOrder.TheVariants.{Little, Big, Swapped}
-use Rattle.fc_isa.specs.declared.shape.Source.{Source}
-use Rattle.fc_isa.specs.declared.shape.Source.TheVariants.{K, X}
+use Rattle.fc_isa.specs.declared.shape.SourceOperand.{SourceOperand}
+use Rattle.fc_isa.specs.declared.shape.SourceOperand.TheVariants.{K, X}
 use Rattle.fc_isa.specs.declared.shape.Shape.{Shape}
 use Rattle.fc_isa.specs.declared.shape.Uses.{Uses}
 use Rattle.fc_isa.specs.declared.shape.Shape.TheVariants.{Unknown, Alu, Neg, End, LoadWide, Load, StoreImm, Store, JumpAlways, JumpAlwaysLong, JumpIf, Call, Exit}
@@ -63,12 +63,12 @@ jump_code Slt = 12
 jump_code Sle = 13
 
 -- the source bit (4)
-abbrev pub source_bit : Source → ℕ
+abbrev pub source_bit : SourceOperand → ℕ
 source_bit K = 0
 source_bit X = 8
 
 -- an opcode of arithmetic or a jump: code, source bit, class
-abbrev pub coded : ℕ → Source → ℕ → ℕ
+abbrev pub coded : ℕ → SourceOperand → ℕ → ℕ
 coded code source class = 16 * code + source_bit source + class
 
 -- the sizes of loads and stores (5)
@@ -122,7 +122,7 @@ abbrev pub sizes : List Size
 sizes = Byte ∷ HalfWord ∷ Word ∷ DoubleWord ∷ []
 
 -- each of the forms, of both widths and with both sources
-abbrev pub of_both : (Width → Source → Shape) → List Shape
+abbrev pub of_both : (Width → SourceOperand → Shape) → List Shape
 of_both form = form W32 K ∷ form W32 X ∷ form W64 K ∷ form W64 X ∷ []
 
 -- all forms that an instruction has
@@ -157,12 +157,12 @@ is_wide shape = false
 
 -- ---- the fields that a form uses
 
-abbrev pub is_register : Source → Bool
+abbrev pub is_register : SourceOperand → Bool
 is_register K = false
 is_register X = true
 
 -- arithmetic uses it in division and modulo, and in a move of a register
-abbrev pub alu_uses_offset : AluOp → Source → Bool
+abbrev pub alu_uses_offset : AluOp → SourceOperand → Bool
 alu_uses_offset Div source = true
 alu_uses_offset Mod source = true
 alu_uses_offset Mov source = is_register source

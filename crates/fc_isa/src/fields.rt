@@ -1,7 +1,7 @@
 //! The fields of a slot: read from its bytes and written to them, with the first rule that they break.
 ghost use Rattle.std.specs.Prelude.{◌≡◌, ◌<◌, ◌+◌, ◌*◌, ◌/◌, ◌%◌, ◌^◌, ℕ, List, [], ◌∷◌, None, true, length};
 ghost use Rattle.std.specs.Int.{w16, w32, cast_signed, cast_unsigned};
-ghost use Rattle.fc_isa.specs.Encoding.{bytes_of_fields, fields, fields_of, insn_of, insn_with, read_fields, second_half, slot_fault, unused_are_zero, values_allowed, is_second_half, alu_values_allowed, arithmetic, move_of, operand_of, called, sign_offset, signed_by, extended_bits, extended_width, swap_width, swap_bits, source_of, src_of, imm_of};
+ghost use Rattle.fc_isa.specs.Encoding.{bytes_of_fields, fields, fields_of, insn_of, insn_with, read_fields, second_half, slot_fault, unused_are_zero, values_allowed, is_second_half, alu_values_allowed, arithmetic, move_insn, operand_of, called, sign_offset, signed_by, extended_bits, extended_width, swap_width, swap_bits, source_of, src_of, imm_of};
 ghost use Rattle.fc_isa.specs.Shapes.{shape_of, writes_dst};
 
 use crate::insn::{
@@ -9,7 +9,7 @@ use crate::insn::{
     Target, Width,
 };
 use crate::rule::Rule;
-use crate::shape::{Shape, Source};
+use crate::shape::{Shape, SourceOperand};
 use std::marker::Model;
 
 /// The frame pointer, which no instruction may write, and the greatest register.
@@ -301,13 +301,13 @@ impl Fields {
     }
 
     /// The operation on the destination: a move of a register may extend its sign.
-    fn arithmetic(self, op: AluOp, width: Width, source: Source) -> Insn
+    fn arithmetic(self, op: AluOp, width: Width, source: SourceOperand) -> Insn
         requires target { self.dst < 10 }
         requires src { self.src < 11 }
         ensures { result ≡ arithmetic op width source self }
     {
         match (op, source) {
-            (AluOp::Mov, Source::X) => self.move_of(width),
+            (AluOp::Mov, SourceOperand::X) => self.move_of(width),
             _ => Insn::Alu {
                 op: signed_by(self.offset, op),
                 width,
@@ -321,7 +321,7 @@ impl Fields {
     fn move_of(self, width: Width) -> Insn
         requires target { self.dst < 10 }
         requires src { self.src < 11 }
-        ensures { result ≡ move_of width self }
+        ensures { result ≡ move_insn width self }
     {
         let (dst, src) = (Target::new(self.dst), Reg::new(self.src));
         let extension = match self.offset {
@@ -342,13 +342,13 @@ impl Fields {
         }
     }
 
-    fn operand(self, source: Source) -> Operand
+    fn operand(self, source: SourceOperand) -> Operand
         requires { self.src < 11 }
         ensures { result ≡ operand_of source self }
     {
         match source {
-            Source::K => Operand::Imm(self.imm.cast_signed()),
-            Source::X => Operand::Reg(Reg::new(self.src)),
+            SourceOperand::K => Operand::Imm(self.imm.cast_signed()),
+            SourceOperand::X => Operand::Reg(Reg::new(self.src)),
         }
     }
 
@@ -438,7 +438,7 @@ impl Fields {
     }
 
     /// The conditional jump, which compares the destination register with the operand.
-    fn jump_if(self, width: Width, relation: Relation, source: Source) -> Insn
+    fn jump_if(self, width: Width, relation: Relation, source: SourceOperand) -> Insn
         requires dst { self.dst < 11 }
         requires src { self.src < 11 }
         ensures { result ≡ insn_with (Shape.JumpIf width relation source) self 0 }
@@ -508,14 +508,16 @@ impl Fields {
     }
 
     /// The offset is one that the operation allows, where it uses it.
-    fn is_alu_offset(self, op: AluOp, width: Width, source: Source) -> bool
+    fn is_alu_offset(self, op: AluOp, width: Width, source: SourceOperand) -> bool
         ensures { result ≡ alu_values_allowed op width source self.offset }
     {
         let offset = self.offset;
         match (op, source, width) {
             (AluOp::Div | AluOp::Mod, _, _) => offset == 0 || offset == 1,
-            (AluOp::Mov, Source::X, Width::W32) => offset == 0 || offset == 8 || offset == 16,
-            (AluOp::Mov, Source::X, Width::W64) => {
+            (AluOp::Mov, SourceOperand::X, Width::W32) => offset == 0
+                || offset == 8
+                || offset == 16,
+            (AluOp::Mov, SourceOperand::X, Width::W64) => {
                 offset == 0 || offset == 8 || offset == 16 || offset == 32
             }
             _ => true,
@@ -546,12 +548,12 @@ fn sign_offset(op: AluOp) -> u16
 
 /// The form of a move with sign extension.
 fn moving(extension: SignExtension) -> Shape
-    ensures { result ≡ Shape.Alu AluOp.Mov (extended_width extension) Source.X }
+    ensures { result ≡ Shape.Alu AluOp.Mov (extended_width extension) SourceOperand.X }
 {
     Shape::Alu {
         op: AluOp::Mov,
         width: extended_width(extension),
-        source: Source::X,
+        source: SourceOperand::X,
     }
 }
 
@@ -597,12 +599,12 @@ fn swap_bits(width: SwapWidth) -> u32
 }
 
 /// Where an operand comes from.
-fn source_of(operand: &Operand) -> Source
+fn source_of(operand: &Operand) -> SourceOperand
     ensures { result ≡ source_of operand.now }
 {
     match operand {
-        Operand::Imm(_) => Source::K,
-        Operand::Reg(_) => Source::X,
+        Operand::Imm(_) => SourceOperand::K,
+        Operand::Reg(_) => SourceOperand::X,
     }
 }
 

@@ -20,8 +20,8 @@
 //! By the contracts of `decode`, `encode`, `is_program`, `SHAPES`, `laws`.
 #![tactic(auto)]
 
-pub mod decoding;
-pub mod encoding;
+pub mod decoder;
+pub mod encoder;
 mod fields;
 pub mod insn;
 pub mod laws;
@@ -31,14 +31,14 @@ pub mod shape;
 mod table;
 pub mod version;
 
-pub use decoding::{DecodeError, decode};
-pub use encoding::encode;
+pub use decoder::{DecodeError, decode};
+pub use encoder::encode;
 pub use insn::{
     AluOp, ByteOrder, Insn, Jump, LoadType, Operand, Reg, Relation, SignExtension, Size, SwapWidth,
     Target, Width,
 };
 pub use program::is_program;
 pub use rule::{Fault, Rule};
-pub use shape::{Shape, Source, Uses};
+pub use shape::{Shape, SourceOperand, Uses};
 pub use table::SHAPES;
 pub use version::ImageVersion;

@@ -45,7 +45,7 @@ static FORMS: [Shape; 256] = SHAPES;
 
 /// Where the second operand comes from (RFC 9669, 4): K is the immediate, X the source register.
 #[derive(Clone, Copy, PartialEq, Eq)]
-pub enum Source {
+pub enum SourceOperand {
     K,
     X,
 }
@@ -60,7 +60,7 @@ pub enum Shape {
     Alu {
         op: AluOp,
         width: Width,
-        source: Source,
+        source: SourceOperand,
     },
     Neg {
         width: Width,
@@ -83,7 +83,7 @@ pub enum Shape {
     JumpIf {
         width: Width,
         relation: Relation,
-        source: Source,
+        source: SourceOperand,
     },
     Call,
     Exit,
@@ -113,21 +113,21 @@ impl Shape {
     {
         match self {
             Shape::Alu { op, width, source } => coded(alu_code(op), source, alu_class(width)),
-            Shape::Neg { width } => coded(NEG, Source::K, alu_class(width)),
+            Shape::Neg { width } => coded(NEG, SourceOperand::K, alu_class(width)),
             Shape::End { order } => end_opcode(order),
             Shape::LoadWide => sized(IMM, Size::DoubleWord, LD),
             Shape::Load { loaded } => load_opcode(loaded),
             Shape::StoreImm { size } => sized(MEM, size, ST),
             Shape::Store { size } => sized(MEM, size, STX),
-            Shape::JumpAlways => coded(JA, Source::K, JMP),
-            Shape::JumpAlwaysLong => coded(JA, Source::K, JMP32),
+            Shape::JumpAlways => coded(JA, SourceOperand::K, JMP),
+            Shape::JumpAlwaysLong => coded(JA, SourceOperand::K, JMP32),
             Shape::JumpIf {
                 width,
                 relation,
                 source,
             } => { coded(jump_code(relation), source, jump_class(width)) }
-            Shape::Call => coded(CALL, Source::K, JMP),
-            Shape::Exit => coded(EXIT, Source::K, JMP),
+            Shape::Call => coded(CALL, SourceOperand::K, JMP),
+            Shape::Exit => coded(EXIT, SourceOperand::K, JMP),
             Shape::Unknown => u8::MAX,
         }
     }
@@ -204,7 +204,7 @@ fn used(dst: bool, src: bool, offset: bool, imm: bool) -> Uses
 }
 
 /// Whether arithmetic uses the offset: division and modulo do, and a move of a register.
-fn alu_uses_offset(op: AluOp, source: Source) -> bool
+fn alu_uses_offset(op: AluOp, source: SourceOperand) -> bool
     ensures { result ≡ alu_uses_offset op source }
 {
     match op {
@@ -214,24 +214,24 @@ fn alu_uses_offset(op: AluOp, source: Source) -> bool
     }
 }
 
-impl Source {
+impl SourceOperand {
     /// Whether it is the source register.
     pub(crate) fn is_register(self) -> bool
         ensures { result ≡ is_register self }
     {
-        matches!(self, Source::X)
+        matches!(self, SourceOperand::X)
     }
 }
 
 /// An opcode of arithmetic or a jump.
-fn coded(code: u8, source: Source, class: u8) -> u8
+fn coded(code: u8, source: SourceOperand, class: u8) -> u8
     requires code { code < 16 }
     requires class { class < 8 }
     ensures { result ≡ coded code source class }
 {
     match source {
-        Source::K => 16 * code + class,
-        Source::X => 16 * code + 8 + class,
+        SourceOperand::K => 16 * code + class,
+        SourceOperand::X => 16 * code + 8 + class,
     }
 }
 
@@ -271,9 +271,9 @@ fn end_opcode(order: ByteOrder) -> u8
     ensures { result ≡ end_opcode order }
 {
     match order {
-        ByteOrder::Little => coded(END, Source::K, ALU),
-        ByteOrder::Big => coded(END, Source::X, ALU),
-        ByteOrder::Swapped => coded(END, Source::K, ALU64),
+        ByteOrder::Little => coded(END, SourceOperand::K, ALU),
+        ByteOrder::Big => coded(END, SourceOperand::X, ALU),
+        ByteOrder::Swapped => coded(END, SourceOperand::K, ALU64),
     }
 }
 

@@ -1,16 +1,16 @@
 //! The form of each opcode, as one table.
 use crate::insn::{AluOp, ByteOrder, LoadType, Relation, Size, Width};
-use crate::shape::{Shape, Source};
+use crate::shape::{Shape, SourceOperand};
 
 macro_rules! alu {
     ($op:ident $width:ident $source:ident) => {
-        Shape::Alu { op: AluOp::$op, width: Width::$width, source: Source::$source }
+        Shape::Alu { op: AluOp::$op, width: Width::$width, source: SourceOperand::$source }
     };
 }
 
 macro_rules! jump {
     ($relation:ident $width:ident $source:ident) => {
-        Shape::JumpIf { width: Width::$width, relation: Relation::$relation, source: Source::$source }
+        Shape::JumpIf { width: Width::$width, relation: Relation::$relation, source: SourceOperand::$source }
     };
 }
 

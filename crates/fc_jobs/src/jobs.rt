@@ -54,7 +54,7 @@ impl Jobs {
         sent.send(rt, Numbered { number, job })
     }
 
-    /// The next job with its number, which is new to the worker; none once the sender is gone and nothing is left. It waits
+    /// Receives the next job with its number, which is new to the worker; none once the sender is gone and nothing is left. It waits
     /// while the channel is empty.
     pub fn next<R: Wait>(&self, rt: &R, got: &mut Got) -> Option<(u64, Job)>
         requires { got.old.channel ≡ self.now }
@@ -72,7 +72,7 @@ impl Jobs {
 }
 
 impl Jobs {
-    /// Whether a worker has asked for a job yet. Where none has, none may ever: the thread that was to begin them may have been refused memory. Who sends no job before then
+    /// Returns whether a worker has asked for a job yet. Where none has, none may ever: the thread that was to begin them may have been refused memory. Who sends no job before then
     /// doesn't wait for ever.
     pub fn is_served(&self) -> bool {
         self.served.get() == Some(&true)

@@ -23,7 +23,7 @@ fn limit(width: Width) -> u64
     }
 }
 
-/// Every number of a width.
+/// Makes the interval of every number of a width.
 pub fn all(width: Width) -> Interval
     ensures { result ≡ all (bits_of width) }
 {
@@ -211,7 +211,7 @@ fn interval_of(op: AluOp, width: Width, a: Interval, b: Interval) -> Interval
     }
 }
 
-/// The results of an operation on two registers, or on their low halves, whose numbers are in these ranges.
+/// Bounds the results of an operation on two registers, or on their low halves, whose numbers are in these ranges.
 #[tactic(auto, unfolding(crate::specs::Intervals::alu_interval))]
 pub fn alu_interval(op: AluOp, width: Width, a: Interval, b: Interval) -> Interval
     requires left { a.lo ≤ a.hi }
@@ -222,7 +222,7 @@ pub fn alu_interval(op: AluOp, width: Width, a: Interval, b: Interval) -> Interv
     interval_of(op, width, clipped(width, a), clipped(width, b))
 }
 
-/// The results of a move that extends the sign.
+/// Bounds the results of a move that extends the sign.
 #[tactic(auto, unfolding(crate::specs::Intervals::extended_values))]
 pub fn extended_values(extension: SignExtension, b: Interval) -> Interval
     ensures { result ≡ extended_values extension b }
@@ -237,7 +237,7 @@ pub fn extended_values(extension: SignExtension, b: Interval) -> Interval
     }
 }
 
-/// Two ranges of which a relation of all 64 bits holds, or nothing where it holds of no two numbers in them.
+/// Refines two ranges by a relation of all 64 bits, or gives nothing where it holds of no two numbers in them.
 #[tactic(auto, unfolding(crate::specs::Intervals::refined))]
 pub fn refined(relation: Relation, a: Interval, b: Interval) -> Option<(Interval, Interval)>
     requires left { a.lo ≤ a.hi }

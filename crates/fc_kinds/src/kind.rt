@@ -24,7 +24,7 @@ pub enum Kind {
 /// The kinds of the eleven registers.
 pub type Regs = [Kind; 11];
 
-/// The kinds at the entry of a program of this version: R1 points to the request, R2 to the variables, R3 is the payload's
+/// Makes the kinds at the entry of a program of this version: R1 points to the request, R2 to the variables, R3 is the payload's
 /// length, and R10 points behind the stack frame of 256 bytes. In the second version R4 points to the readings.
 pub fn entry(version: ImageVersion) -> Regs
     ensures { result ≡ entry version }

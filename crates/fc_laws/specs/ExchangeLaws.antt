@@ -17,11 +17,11 @@ use Rattle.fc_core.specs.Receiving.{is_confirmable, told}
 -- ---- repeats
 
 -- a verdict on a request: it is carried out, refused, or gets no answer
-abbrev pub IsAsking : Verdict → Type 0
-IsAsking (IsAsked asked) = Unit {0}
-IsAsking (IsRefused answer) = Unit {0}
-IsAsking IsSilent = Unit {0}
-IsAsking other = ⊥
+abbrev pub IsOnRequest : Verdict → Type 0
+IsOnRequest (IsAsked asked) = Unit {0}
+IsOnRequest (IsRefused answer) = Unit {0}
+IsOnRequest IsSilent = Unit {0}
+IsOnRequest other = ⊥
 
 -- an exchange was opened less than 247,000 ms before the moment
 abbrev pub is_within : ℕ → Exchange → Bool
@@ -35,7 +35,7 @@ repeated s at to id = find (λ e. is_within at e && is_of to id e) s.exchanges
 pub record IsRepeat (s : Seen) (now : ℕ) (to : Endpoint) (bytes : List ℕ) (e : Exchange) : Type 0 where
   pub message : Message
   pub read : reading_of bytes ≡ Ok message
-  pub asks : IsAsking (verdict message)
+  pub asks : IsOnRequest (verdict message)
   pub is : repeated s (max s.moment now) to message.id ≡ Some e
 
 -- the bytes that are kept of an exchange go out again where its request was confirmable and was answered
@@ -48,7 +48,7 @@ again to confirmable answer = None
 pub record IsOpening (s : Seen) (now : ℕ) (to : Endpoint) (bytes : List ℕ) : Type 0 where
   pub message : Message
   pub read : reading_of bytes ≡ Ok message
-  pub asks : IsAsking (verdict message)
+  pub asks : IsOnRequest (verdict message)
   pub new : repeated s (max s.moment now) to message.id ≡ None
   pub room : length (filter (is_within (max s.moment now)) s.exchanges) < 1024
   pub numbers : length s.exchanges < 18446744073709551615
@@ -56,7 +56,7 @@ pub record IsOpening (s : Seen) (now : ℕ) (to : Endpoint) (bytes : List ℕ) :
 -- the datagram is a request and no repeat, and there is no room: 1,024 exchanges were opened in the last 247,000 ms, or 2^64 - 1 ever
 pub record IsCrowdedOut (s : Seen) (now : ℕ) (to : Endpoint) (bytes : List ℕ) (m : Message) : Type 0 where
   pub read : reading_of bytes ≡ Ok m
-  pub asks : IsAsking (verdict m)
+  pub asks : IsOnRequest (verdict m)
   pub new : repeated s (max s.moment now) to m.id ≡ None
   pub full : (1024 ≤ length (filter (is_within (max s.moment now)) s.exchanges)) ⊎ (18446744073709551615 ≤ length s.exchanges)
 

@@ -4,7 +4,7 @@ ghost use Rattle.fc_core.specs.Contents.{Content, Ran, RunAnswer, Unavailable};
 ghost use Rattle.fc_core.specs.declared.event.Event.TheVariants.{Take, Commit, Install, Raise, Answer, Lose};
 ghost use Rattle.fc_core.specs.Stage.{ToTake, ToCommit, ToInstall, ToRaise, ToAnswer, Gone};
 ghost use Rattle.fc_core.specs.History.{Entry, History, Then, Seen, seen, and_then, did, job, slot_at, stage};
-ghost use Rattle.fc_core.specs.Laws.{HasCome, IsOfNewest, IsOvertaken, TakesAgain, answer_at, answers_of, is_stray, later, slot_of, takings_of};
+ghost use Rattle.fc_core.specs.Laws.{HasCome, IsOfNewest, IsOvertaken, TakesAgain, answer_at, answers_of, is_stray, followed_by, slot_of, takings_of};
 ghost use Rattle.fc_registry.specs.Calls.{commit_of, run_of};
 ghost use Rattle.fc_registry.specs.Slots.{Present, Ticket};
 ghost use Rattle.fc_core.specs.Legal.{Emits};
@@ -75,7 +75,7 @@ pub fn ended_jobs_stay_ended()
     ensures lost { (s : Seen) (k : ℕ) (o : Option Emission) → HasCome s k
         → stage (and_then (did (Lose k) o) s) k ≡ Gone }
     ensures for_ever { (h : History) (rs : List Entry) (k : ℕ) → HasCome (seen h) k → stage (seen h) k ≡ Gone
-        → stage (seen (later h rs)) k ≡ Gone }
+        → stage (seen (followed_by h rs)) k ≡ Gone }
 {}
 
 /// Once its slot's new head word is published, a job stands at its answer, which is the one that it had.
@@ -92,6 +92,6 @@ pub fn refused_memory_ends_a_job()
         → stage (and_then (did (Take k false readings) o) s) k ≡ ToAnswer Unavailable }
     ensures install { (s : Seen) (k : ℕ) (o : Option Emission) → stage s k ≡ ToInstall
         → stage (and_then (did (Install k false) o) s) k ≡ ToAnswer Unavailable }
-    ensures later { (h : History) (rs : List Entry) (k : ℕ) (content : Content)
-        → stage (seen h) k ≡ ToAnswer content → takings_of (later h rs) k ≡ takings_of h k }
+    ensures followed_by { (h : History) (rs : List Entry) (k : ℕ) (content : Content)
+        → stage (seen h) k ≡ ToAnswer content → takings_of (followed_by h rs) k ≡ takings_of h k }
 {}

@@ -14,7 +14,7 @@ ghost use Rattle.fc_core.specs.TurnStage.{ToDraw, ToNote};
 ghost use Rattle.fc_laws.specs.ExchangeLaws.{draws_of, first_id};
 ghost use Rattle.fc_core.specs.Ids.{free_id};
 ghost use Rattle.fc_core.specs.History.{Entry, History, Seen, Then, seen, and_then, did, due_in, is_due_at, is_late_at, late_in, slot_at, stage, watch};
-ghost use Rattle.fc_core.specs.Laws.{later, slot_of};
+ghost use Rattle.fc_core.specs.Laws.{followed_by, slot_of};
 ghost use Rattle.fc_laws.specs.ObserveLaws.{AsksToObserve, BringsTurn, NoneRegisters, Registers, is_among, is_held};
 ghost use Rattle.fc_core.specs.Stages.{run_content};
 
@@ -46,7 +46,7 @@ pub fn observers_come_by_their_commits()
     ensures comes { (r : Entry) (s : Seen) (n : ℕ) (to : Endpoint) (token : List ℕ) → is_held to token (watch (and_then r s) n) ≡ true
         → (is_held to token (watch s n) ≡ true) ⊎ Registers r s n to token }
     ensures away { (rs : List Entry) (h : History) (n : ℕ) (to : Endpoint) (token : List ℕ) → NoneRegisters h rs n to token
-        → is_held to token (watch (seen h) n) ≡ false → is_held to token (watch (seen (later h rs)) n) ≡ false }
+        → is_held to token (watch (seen h) n) ≡ false → is_held to token (watch (seen (followed_by h rs)) n) ≡ false }
 {}
 
 /// A signal is for the observers of its shard's slots alone: a Reset message removes just the entries whose last notification it

@@ -10,7 +10,7 @@ ghost use Rattle.fc_registry.specs.Calls.{meaning_at};
 ghost use Rattle.fc_registry.specs.Slots.{Ticket};
 ghost use Rattle.coap_reply.specs.Responses.{bare};
 ghost use Rattle.fc_core.specs.History.{Entry, History, Seen, Then, and_then, did, job, late_in, seen, stage, watch};
-ghost use Rattle.fc_core.specs.Laws.{HasCome, IsNewest, later, slot_of, takings_of};
+ghost use Rattle.fc_core.specs.Laws.{HasCome, IsNewest, followed_by, slot_of, takings_of};
 ghost use Rattle.fc_core.specs.Legal.{Emits};
 ghost use Rattle.fc_laws.specs.ObserveLaws.{NoneRegisters, is_held};
 ghost use Rattle.fc_observe.specs.Entries.{is_entry_of};
@@ -30,11 +30,11 @@ pub fn turns_stand_apart()
         → stage (seen h) k ≡ ToTell turn needs → ⊥ }
     ensures noted { (h : History) (rs : List Entry) (k now random id : ℕ) (turn : Turn) (found : Option Ticket) (o : Option Emission)
         → stage (seen h) k ≡ ToTell turn (ToNote found id)
-        → stage (seen (later (Then h (did (Note k now random) o)) rs)) k ≡ Gone }
+        → stage (seen (followed_by (Then h (did (Note k now random) o)) rs)) k ≡ Gone }
     ensures given_up { (h : History) (rs : List Entry) (k now : ℕ) (turn : Turn) (needs : TurnStage) (o : Option Emission)
-        → stage (seen h) k ≡ ToTell turn needs → stage (seen (later (Then h (did (GiveUp k now) o)) rs)) k ≡ Gone }
+        → stage (seen h) k ≡ ToTell turn needs → stage (seen (followed_by (Then h (did (GiveUp k now) o)) rs)) k ≡ Gone }
     ensures lost { (h : History) (rs : List Entry) (k : ℕ) (o : Option Emission) → HasCome (seen h) k
-        → stage (seen (later (Then h (did (Lose k) o)) rs)) k ≡ Gone }
+        → stage (seen (followed_by (Then h (did (Lose k) o)) rs)) k ≡ Gone }
 {}
 
 /// What a turn notifies its observer of is the last ticket that it took, and it took no other: the code that the ticket's program means
@@ -61,10 +61,10 @@ pub fn notes_emit_where_turns_are_out()
         → is_some o ≡ is_some (entry_out turn (at_moment (moment_at (seen h) k now) (watch (seen h) (slot_of (seen h) k)))) }
     ensures given_up { (h : History) (rs : List Entry) (k now next random : ℕ) (turn : Turn) (needs : TurnStage) (e o : Option Emission)
         → stage (seen h) k ≡ ToTell turn needs
-        → Emits (seen (later (Then h (did (GiveUp k now) e)) rs)) (Note k next random) o → o ≡ None }
+        → Emits (seen (followed_by (Then h (did (GiveUp k now) e)) rs)) (Note k next random) o → o ≡ None }
     ensures once { (h : History) (rs : List Entry) (k now random next again id : ℕ) (turn : Turn) (found : Option Ticket)
         (e o : Option Emission) → stage (seen h) k ≡ ToTell turn (ToNote found id)
-        → Emits (seen (later (Then h (did (Note k now random) e)) rs)) (Note k next again) o → o ≡ None }
+        → Emits (seen (followed_by (Then h (did (Note k now random) e)) rs)) (Note k next again) o → o ≡ None }
     ensures lapsed { (h : History) (k now random id : ℕ) (turn : Turn) (found : Option Ticket) (o : Option Emission)
         → stage (seen h) k ≡ ToTell turn (ToNote found id) → Emits (seen h) (Note k now random) o
         → All (HasLapsed turn (moment_at (seen h) k now)) (watch (seen h) (slot_of (seen h) k)).held → o ≡ None }
@@ -83,7 +83,7 @@ pub fn serials_rise_for_observers()
         → entry_out turn (at_moment (moment_at (seen h) k now) (watch (seen h) (slot_of (seen h) k))) ≡ Some o
         → is_entry_of to token o ≡ true
         → NoneRegisters (Then h (did (Note k now random) e)) rs (slot_of (seen h) k) to token
-        → g ≡ later (Then h (did (Note k now random) e)) rs
+        → g ≡ followed_by (Then h (did (Note k now random) e)) rs
         → stage (seen g) j ≡ ToTell next_turn (ToNote (Some u) other) → slot_of (seen g) j ≡ slot_of (seen h) k
         → entry_out next_turn (at_moment next (watch (seen g) (slot_of (seen h) k))) ≡ Some x
         → is_entry_of to token x ≡ true → t.serial < u.serial }

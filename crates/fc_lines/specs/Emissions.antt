@@ -7,8 +7,8 @@ use Rattle.coap_msg.specs.declared.types.Emission.{Emission}
 use Rattle.fc_lines.specs.Fields.{space}
 
 -- a peer is 127.0.0.peer, at CoAP's port
-abbrev pub endpoint_of : ℕ → Endpoint
-endpoint_of peer = record { ip = 127 ∷ 0 ∷ 0 ∷ peer ∷ []; port = 5683 }
+abbrev pub peer_endpoint : ℕ → Endpoint
+peer_endpoint peer = record { ip = 127 ∷ 0 ∷ 0 ∷ peer ∷ []; port = 5683 }
 
 -- an emission is printed as `peer hex` and a line feed
 abbrev pub printed : Emission → List ℕ

@@ -1,7 +1,7 @@
 //! Peers by a number, and emissions as `peer hex`.
 ghost use Rattle.std.specs.Prelude.{◌≡◌, OnOk};
 ghost use Rattle.std.specs.Io.KnownBytes.{Appends};
-ghost use Rattle.fc_lines.specs.Emissions.{endpoint_of, printed};
+ghost use Rattle.fc_lines.specs.Emissions.{peer_endpoint, printed};
 
 use crate::hexadecimal;
 use coap_msg::{Emission, Endpoint};
@@ -13,7 +13,7 @@ const PORT: u16 = 5683;
 
 /// Returns the endpoint of a peer: 127.0.0.peer, at the port of CoAP.
 pub fn endpoint(peer: u8) -> Endpoint
-    ensures { result ≡ endpoint_of peer }
+    ensures { result ≡ peer_endpoint peer }
 {
     Endpoint {
         ip: [127, 0, 0, peer],

@@ -9,7 +9,7 @@ pub struct Frame {
 }
 
 impl Frame {
-    /// A frame. Nothing of what a run leaves in it can be seen by the next.
+    /// Makes a frame. Nothing of what a run leaves in it can be seen by the next.
     ///
     /// # Errors
     /// There was no memory for it.

@@ -34,35 +34,35 @@ impl<'a> Model for Outcome<'a> {
 }
 
 impl<'a> Outcome<'a> {
-    /// The program that ran.
+    /// Returns the program that ran.
     pub fn program(&self) -> &'a Verified
         ensures { result.now ≡ self.now.program }
     {
         self.program
     }
 
-    /// The request that it answered.
+    /// Returns the request that it answered.
     pub fn request(&self) -> &'a Request
         ensures { result.now ≡ self.now.input.request }
     {
         self.request
     }
 
-    /// The variables that it found.
+    /// Returns the variables that it found.
     pub fn found(&self) -> &'a Vars
         ensures { result.now ≡ self.now.input.vars }
     {
         self.found
     }
 
-    /// The readings that it was handed.
+    /// Returns the readings that it was handed.
     pub fn readings(&self) -> &'a Readings
         ensures { result.now ≡ self.now.input.readings }
     {
         self.readings
     }
 
-    /// The reply's code, of class 2, 4 or 5: its method's success, 4.00, 4.03, 4.04 or 5.00.
+    /// Returns the reply's code, of class 2, 4 or 5: its method's success, 4.00, 4.03, 4.04 or 5.00.
     pub fn code(&self) -> u8
         ensures code { result ≡ (meaning_of self.now).code }
         ensures known { is_reply_code self.now.input.request.method result ≡ true }
@@ -72,7 +72,7 @@ impl<'a> Outcome<'a> {
         self.code
     }
 
-    /// The reply's bytes, at most 4,096 to a GET and 1,024 to a POST. They lie in the frame.
+    /// Returns the reply's bytes, at most 4,096 to a GET and 1,024 to a POST. They lie in the frame.
     pub fn reply(&self) -> &'a [u8]
         ensures reply { result.now ≡ (meaning_of self.now).reply }
         ensures room { length result.now ≤ room_of self.now.input.request.method }
@@ -80,14 +80,14 @@ impl<'a> Outcome<'a> {
         self.reply
     }
 
-    /// Whether the program gave a notice.
+    /// Returns whether the program gave a notice.
     pub fn notice(&self) -> bool
         ensures { result ≡ (meaning_of self.now).notice }
     {
         self.notice
     }
 
-    /// The variables that it left, of the program's size. They lie in the frame.
+    /// Returns the variables that it left, of the program's size. They lie in the frame.
     pub fn after(&self) -> &'a [u8]
         ensures vars { result.now ≡ (meaning_of self.now).vars }
         ensures size { length result.now ≡ self.now.program.vars_size }
@@ -95,7 +95,7 @@ impl<'a> Outcome<'a> {
         self.after
     }
 
-    /// The steps that it took, its exit among them: at most the program's budget.
+    /// Returns the steps that it took, its exit among them: at most the program's budget.
     pub fn steps(&self) -> u32
         ensures steps { result ≡ (meaning_of self.now).steps }
         ensures within { result ≤ self.now.program.budget }

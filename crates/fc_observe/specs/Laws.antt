@@ -29,9 +29,9 @@ abbrev pub IsSentAt : ℕ → ℕ → ArrayVec ℕ → Entry → Type 0
 IsSentAt sent_at timeout bytes o = o.phase ≡ Outstanding sent_at timeout 0 bytes
 
 -- it was sent again at these moments, of which the latest stands first
-abbrev pub resent_at : List ℕ → Entry → Entry
-resent_at [] o = o
-resent_at (now ∷ before) o = retransmitted now (resent_at before o)
+abbrev pub resent_entry : List ℕ → Entry → Entry
+resent_entry [] o = o
+resent_entry (now ∷ before) o = retransmitted now (resent_entry before o)
 
 -- ---- what an observer was last sent
 

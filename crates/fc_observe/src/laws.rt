@@ -7,7 +7,7 @@ ghost use Rattle.coap_msg.specs.declared.types.Endpoint.{Endpoint};
 ghost use Rattle.fc_help.specs.Request.{Request};
 ghost use Rattle.fc_observe.specs.Calls.{ComesFrom, IsRegisteredBy, ObserverCall, NextDue, Notify, Miss, End, GiveUp, after_calls, observers, observers_after};
 ghost use Rattle.fc_observe.specs.Entries.{given_up, is_due, is_entry_of, is_late, must_confirm, notified, retransmission, timed_out, with_turn};
-ghost use Rattle.fc_observe.specs.Laws.{HandsInUpTo, IsAcknowledged, IsGivenUpNow, IsNewAt, IsOutstanding, IsRegistrationOf, IsSentAt, IsTurnOut, KeepsLast, KeepsSerial, RegistersNone, has_number, noticed_for, resent_at};
+ghost use Rattle.fc_observe.specs.Laws.{HandsInUpTo, IsAcknowledged, IsGivenUpNow, IsNewAt, IsOutstanding, IsRegistrationOf, IsSentAt, IsTurnOut, KeepsLast, KeepsSerial, RegistersNone, has_number, noticed_for, resent_entry};
 ghost use Rattle.fc_observe.specs.Observers.{ObserverList, after_ack, after_reset, at_moment, entry_out, is_missing, is_out, next_turn, registered, ticked, turn_given};
 ghost use Rattle.fc_observe.specs.declared.entry.Entry.{Entry};
 ghost use Rattle.fc_observe.specs.declared.entry.Phase.TheVariants.{Outstanding, TurnOut};
@@ -66,18 +66,18 @@ pub fn notifications_are_retransmitted()
     ensures first { (later s t : ℕ) (bytes : ArrayVec ℕ) (o : Entry) → IsSentAt s t bytes o →
         is_late later o ≡ nat_le (s + t) later }
     ensures second { (later s t a : ℕ) (bytes : ArrayVec ℕ) (o : Entry) → IsSentAt s t bytes o →
-        is_late later (resent_at (a ∷ []) o) ≡ nat_le (a + 2 * t) later }
+        is_late later (resent_entry (a ∷ []) o) ≡ nat_le (a + 2 * t) later }
     ensures third { (later s t a b : ℕ) (bytes : ArrayVec ℕ) (o : Entry) → IsSentAt s t bytes o →
-        is_late later (resent_at (b ∷ a ∷ []) o) ≡ nat_le (b + 4 * t) later }
+        is_late later (resent_entry (b ∷ a ∷ []) o) ≡ nat_le (b + 4 * t) later }
     ensures fourth { (later s t a b c : ℕ) (bytes : ArrayVec ℕ) (o : Entry) → IsSentAt s t bytes o →
-        is_late later (resent_at (c ∷ b ∷ a ∷ []) o) ≡ nat_le (c + 8 * t) later }
+        is_late later (resent_entry (c ∷ b ∷ a ∷ []) o) ≡ nat_le (c + 8 * t) later }
     ensures last { (later s t a b c d : ℕ) (bytes : ArrayVec ℕ) (o : Entry) → IsSentAt s t bytes o →
-        is_late later (resent_at (d ∷ c ∷ b ∷ a ∷ []) o) ≡ nat_le (d + 16 * t) later }
+        is_late later (resent_entry (d ∷ c ∷ b ∷ a ∷ []) o) ≡ nat_le (d + 16 * t) later }
     ensures same { (s t : ℕ) (bytes : ArrayVec ℕ) (o : Entry) (at : List ℕ) → IsSentAt s t bytes o →
         length at < 4 →
-        retransmission (resent_at at o) ≡ Some (record { to = o.endpoint; bytes = bytes }) }
+        retransmission (resent_entry at o) ≡ Some (record { to = o.endpoint; bytes = bytes }) }
     ensures removed { (later s t : ℕ) (bytes : ArrayVec ℕ) (o : Entry) (at : List ℕ) →
-        IsSentAt s t bytes o → length at ≡ 4 → timed_out later (resent_at at o) ≡ [] }
+        IsSentAt s t bytes o → length at ≡ 4 → timed_out later (resent_entry at o) ≡ [] }
 {}
 
 /// An observer whose turn was given up at a moment isn't due at that moment; at a later one it is, where its serial is below the
@@ -175,8 +175,8 @@ pub fn registrations_are_entered()
 /// four times.
 pub fn late_notifications_are_sent_again()
     ensures { (s wait : ℕ) (bytes : ArrayVec ℕ) (o : Entry) (at : List ℕ) (before after : List Entry) (t : ObserverList) →
-        IsSentAt s wait bytes o → length at < 4 → is_late t.moment (resent_at at o) ≡ true →
-        t.held ≡ before ++ resent_at at o ∷ after → list_any (is_late t.moment) before ≡ false →
+        IsSentAt s wait bytes o → length at < 4 → is_late t.moment (resent_entry at o) ≡ true →
+        t.held ≡ before ++ resent_entry at o ∷ after → list_any (is_late t.moment) before ≡ false →
         ticked t ≡ Resend (record { to = o.endpoint; bytes = bytes }) }
 {}
 

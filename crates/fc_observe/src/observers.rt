@@ -70,7 +70,7 @@ impl Model for Observers {
 }
 
 impl Observers {
-    /// No observer of the slot, and room for 32.
+    /// Makes a slot's list of no observer, with room for 32 (RFC 7641, 4.1).
     ///
     /// # Errors
     /// There was no memory for them.
@@ -160,7 +160,7 @@ impl Observers {
         })
     }
 
-    /// Whether `next_due` would give a turn.
+    /// Returns whether `next_due` would give a turn.
     pub fn is_due(&self, now: u64, noticed: u64) -> bool
         ensures { result ≡ is_some (next_turn noticed (at_moment now self.now)) }
     {
@@ -170,7 +170,7 @@ impl Observers {
         self.turns != u64::MAX && first_due(&self.held, self.moment.max(now), noticed).is_some()
     }
 
-    /// The observer whose turn this is, unless the turn isn't out: it was ended, given up, or its entry is gone or replaced.
+    /// Finds the observer whose turn this is, unless the turn isn't out: it was ended, given up, or its entry is gone or replaced.
     pub fn out(&self, turn: Turn) -> Option<Observer<'_>>
         ensures observer { option_map interest result ≡ option_map interest_of (entry_out turn self.now) }
         ensures confirmable { IfSome result (λ o. o.confirmable ≡ must_confirm_turn turn self.now) }
@@ -195,7 +195,7 @@ impl Observers {
         first_out(&self.held, self.slot, self.moment, turn)
     }
 
-    /// Whether this turn is out, so that `out` lends its observer.
+    /// Returns whether this turn is out, so that `out` lends its observer.
     pub fn is_out(&self, turn: Turn) -> bool
         ensures { result ≡ is_some (entry_out turn self.now) }
     {
@@ -212,7 +212,7 @@ impl Observers {
         }
     }
 
-    /// Whether the taking of this turn found the slot empty. Not where the turn isn't out.
+    /// Returns whether the taking of this turn found the slot empty. Not where the turn isn't out.
     pub fn is_missing(&self, turn: Turn) -> bool
         ensures { result ≡ is_missing turn self.now }
     {
@@ -222,7 +222,7 @@ impl Observers {
         }
     }
 
-    /// Whether the notification of this turn is to be confirmable: 86,400,000 ms or more passed since the registration or the
+    /// Returns whether the notification of this turn is to be confirmable (RFC 7641, 4.5): 86,400,000 ms or more passed since the registration or the
     /// last confirmable one (RFC 7641, 4.5). Not where the turn isn't out.
     pub fn must_confirm(&self, turn: Turn) -> bool
         ensures { result ≡ must_confirm_turn turn self.now }
@@ -233,7 +233,7 @@ impl Observers {
         }
     }
 
-    /// That at a moment.
+    /// Decides that at a moment.
     pub fn confirmable(&mut self, now: u64, turn: Turn) -> bool
         ensures answer { result ≡ must_confirm_turn turn (at_moment now self.old) }
         ensures after { self.new ≡ at_moment now self.old }
@@ -284,7 +284,7 @@ impl Observers {
         }
     }
 
-    /// A Reset message came: removes each entry whose last notification went to this endpoint with this message id
+    /// Handles a Reset message (RFC 7641, 3.6): removes each entry whose last notification went to this endpoint with this message id
     /// (RFC 7641, 3.6).
     pub fn reset(&mut self, endpoint: Endpoint, id: u16)
         ensures { self.new ≡ after_reset endpoint id self.old }
@@ -292,7 +292,7 @@ impl Observers {
         remove_reset(&mut self.held, endpoint, id);
     }
 
-    /// An Acknowledgement came: what went to this endpoint with this message id, and was the last of an entry, is no longer
+    /// Handles an Acknowledgement (RFC 7252, 4.2): what went to this endpoint with this message id, and was the last of an entry, is no longer
     /// outstanding (RFC 7252, 4.2).
     pub fn acked(&mut self, endpoint: Endpoint, id: u16)
         ensures { self.new ≡ after_ack endpoint id self.old }
@@ -323,7 +323,7 @@ impl Observers {
         }
     }
 
-    /// Whether `tick` would do something.
+    /// Returns whether `tick` would do something.
     pub fn is_late(&self, now: u64) -> bool
         ensures { result ≡ is_some (late_entry (at_moment now self.now)) }
     {
@@ -331,14 +331,14 @@ impl Observers {
             && first_late(&self.held, self.moment.max(now)).is_some()
     }
 
-    /// Whether there is no observer.
+    /// Returns whether there is no observer.
     pub fn is_empty(&self) -> bool
         ensures { IsTrue result ↔ (self.now.held ≡ []) }
     {
         self.held.is_empty()
     }
 
-    /// Whether neither `tick` nor `next_due` would do anything.
+    /// Returns whether neither `tick` nor `next_due` would do anything.
     pub fn is_quiet(&self, now: u64, noticed: u64) -> bool
         ensures { let w = at_moment now self.now in
             result ≡ (is_none (late_entry w) && is_none (next_turn noticed w)) }

@@ -15,7 +15,7 @@ use Rattle.fc_observe.proofs.Nobody.{EnterNone, EntersNone, stays_empty}
 use Rattle.fc_registry.specs.Calls.{is_out_at, miss_calls, turn_calls}
 use Rattle.fc_registry.specs.Notes.{keeps_observer, note_calls, serial_told, told_call}
 use Rattle.fc_registry.specs.Slots.{Present, Shard, Ticket}
-use Rattle.fc_registry.specs.Watches.{AreWatched, is_due_at, is_late_at, is_quiet, noticed_at, place_from, signal_call, watch_at}
+use Rattle.fc_registry.specs.Watches.{AreWatched, has_due, has_late, is_quiet, noticed_at, place_from, signal_call, watch_at}
 use Rattle.fc_registry.proofs.Ahead.{mapped_at}
 
 -- ---- calls that enter nobody
@@ -79,10 +79,10 @@ nowhere : (p : ℕ → Bool) (n k : ℕ) → ((j : ℕ) → p j ≡ false) → p
 nowhere p zero k none = refl
 nowhere p (suc n) k none = ap (λ (b : Bool). if b then Some k else place_from p n (k + 1)) (none k) ∙ nowhere p n (k + 1) none
 
-late_nowhere : (shard : Shard) → AreWatched false shard.watches → (k : ℕ) → is_late_at shard k ≡ false
+late_nowhere : (shard : Shard) → AreWatched false shard.watches → (k : ℕ) → has_late shard k ≡ false
 late_nowhere shard none k = ap (λ (os : List Entry). is_some (find (is_late (max (watch_at shard k).moment shard.now)) os)) (none k)
 
-due_nowhere : (shard : Shard) → AreWatched false shard.watches → (k : ℕ) → is_due_at shard k ≡ false
+due_nowhere : (shard : Shard) → AreWatched false shard.watches → (k : ℕ) → has_due shard k ≡ false
 due_nowhere shard none k =
     let w = at_moment shard.now (watch_at shard k) in
     let due = is_due w.moment (noticed_at shard k) in
@@ -92,4 +92,4 @@ due_nowhere shard none k =
 pub unwatched_quiet : (b : Bool) (ws : List ObserverList) (shard : Shard) → b ≡ false → AreWatched b ws → ws ≡ shard.watches → is_quiet shard ≡ true
 unwatched_quiet b ws shard is watched same =
     let none = subst (AreWatched false) same (subst (λ (x : Bool). AreWatched x ws) is watched) in
-    λ i. is_none (nowhere (is_late_at shard) 8 0 (late_nowhere shard none) i) && is_none (nowhere (is_due_at shard) 8 0 (due_nowhere shard none) i)
+    λ i. is_none (nowhere (has_late shard) 8 0 (late_nowhere shard none) i) && is_none (nowhere (has_due shard) 8 0 (due_nowhere shard none) i)

@@ -37,7 +37,7 @@ pub record FollowsInstall (serial : ℕ) (cs : List Change) (p : Present) : Type
   pub vars : p.vars ≡ vars_left (replicate p.program.vars_size 0) later
 
 -- a ticket has what its job asks
-pub record IsTicketOf (j : Job) (t : Ticket) : Type 0 where
+pub record IsTicketOfJob (j : Job) (t : Ticket) : Type 0 where
   pub origin : t.origin ≡ j.origin
   pub turn : t.turn ≡ j.turn
   pub token : t.token ≡ j.token

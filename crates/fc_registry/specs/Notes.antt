@@ -21,7 +21,7 @@ use Rattle.fc_registry.specs.declared.note.Notification.{Notification}
 use Rattle.fc_registry.specs.declared.note.Notification.TheVariants as tells
 use Rattle.fc_registry.specs.Calls.{IsRunOf, meaning_at}
 use Rattle.fc_registry.specs.Slots.{Shard, Ticket, slot_in}
-use Rattle.fc_registry.specs.Watches.{handed, watch_at, with_calls}
+use Rattle.fc_registry.specs.Watches.{at_time, watch_at, with_calls}
 
 -- ---- what is told
 
@@ -135,4 +135,4 @@ IsNoted told turn id at serial w noted = IsNotedIn told turn id serial (at_momen
 -- a notification at a moment, to the turn's slot's observers alone
 pub record NotesTo (told : Notification) (turn : Turn) (id random : ℕ) (old : Shard) (now : ℕ) (noted : Noted) (new : Shard) : Type 0 where
   pub is : IsNoted told turn id (max old.now now) (slot_in old turn.slot).serial (watch_at old (turn.slot / 8)) noted
-  pub after : new ≡ with_calls (note_calls turn id random (max old.now now) (ticket_told told) (sent_of noted)) turn.slot (handed old now)
+  pub after : new ≡ with_calls (note_calls turn id random (max old.now now) (ticket_told told) (sent_of noted)) turn.slot (at_time old now)

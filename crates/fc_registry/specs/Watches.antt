@@ -15,8 +15,8 @@ new_watches index zero = []
 new_watches index (suc k) = new_watches index k ++ no_observers (8 * k + index) ∷ []
 
 -- a shard that was handed a moment: it never goes back
-abbrev pub handed : Shard → ℕ → Shard
-handed shard now = record shard { now = max shard.now now }
+abbrev pub at_time : Shard → ℕ → Shard
+at_time shard now = record shard { now = max shard.now now }
 
 -- the observers of the slot at a place, and the slot's noticed serial
 abbrev pub watch_at : Shard → ℕ → ObserverList
@@ -46,12 +46,12 @@ place_from p (suc n) k = if p k then Some k else place_from p n (k + 1)
 -- ---- time
 
 -- a notification at a place is late
-abbrev pub is_late_at : Shard → ℕ → Bool
-is_late_at shard k = is_some (late_entry (at_moment shard.now (watch_at shard k)))
+abbrev pub has_late : Shard → ℕ → Bool
+has_late shard k = is_some (late_entry (at_moment shard.now (watch_at shard k)))
 
 -- the first such place
 abbrev pub late_place : Shard → Option ℕ
-late_place shard = place_from (is_late_at shard) 8 0
+late_place shard = place_from (has_late shard) 8 0
 
 -- what a tick does at a place
 abbrev pub ticked_in : Option ℕ → Shard → Ticked
@@ -59,19 +59,19 @@ ticked_in None shard = Quiet
 ticked_in (Some k) shard = ticked (at_moment shard.now (watch_at shard k))
 
 -- the shard after it
-abbrev pub after_tick : Option ℕ → Shard → Shard
-after_tick None shard = shard
-after_tick (Some k) shard = watch_called (Tick shard.now) k shard
+abbrev pub shard_after_tick : Option ℕ → Shard → Shard
+shard_after_tick None shard = shard
+shard_after_tick (Some k) shard = watch_called (Tick shard.now) k shard
 
 -- ---- turns
 
 -- an observer at a place is due
-abbrev pub is_due_at : Shard → ℕ → Bool
-is_due_at shard k = is_some (next_turn (noticed_at shard k) (at_moment shard.now (watch_at shard k)))
+abbrev pub has_due : Shard → ℕ → Bool
+has_due shard k = is_some (next_turn (noticed_at shard k) (at_moment shard.now (watch_at shard k)))
 
 -- the first such place
 abbrev pub due_place : Shard → Option ℕ
-due_place shard = place_from (is_due_at shard) 8 0
+due_place shard = place_from (has_due shard) 8 0
 
 -- no notification at a place is late, and no observer due
 abbrev pub is_quiet_at : Shard → ℕ → Bool

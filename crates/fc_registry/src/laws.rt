@@ -2,7 +2,7 @@
 ghost use Rattle.circular_buffer.specs.Buffer.{keep_last};
 ghost use Rattle.fc_registry.specs.Changes.{Change, Commit, Committed, after_changes, changed};
 ghost use Rattle.coap_msg.specs.declared.types.Emission.{Emission};
-ghost use Rattle.fc_registry.specs.Laws.{FollowsInstall, IsTicketOf, IsTurnFor, noticed_serial};
+ghost use Rattle.fc_registry.specs.Laws.{FollowsInstall, IsTicketOfJob, IsTurnFor, noticed_serial};
 ghost use Rattle.coap_opts.specs.Values.{Place};
 ghost use Rattle.fc_observe.specs.Calls.{Advance, End, Notify, Register};
 ghost use Rattle.fc_observe.specs.Views.{interest_of};
@@ -13,7 +13,7 @@ ghost use Rattle.fc_observe.specs.declared.observers.Ticked.TheVariants.{Quiet};
 ghost use Rattle.fc_registry.specs.Notes.{note_calls};
 ghost use Rattle.fc_registry.specs.Slots.{Present, Shard, Slot, Ticket, new_slot};
 ghost use Rattle.fc_registry.specs.Turns.{due_job};
-ghost use Rattle.fc_registry.specs.Watches.{after_due, after_tick, due_place, is_quiet, late_place, ticked_in, watch_at};
+ghost use Rattle.fc_registry.specs.Watches.{after_due, shard_after_tick, due_place, is_quiet, late_place, ticked_in, watch_at};
 ghost use Rattle.fc_registry.specs.declared.commit.CommitOutcome.{CommitOutcome};
 ghost use Rattle.fc_registry.specs.declared.job.Job.{Job};
 ghost use Rattle.fc_registry.specs.Taken.{Given};
@@ -57,7 +57,7 @@ pub fn serials_decide()
 /// A quiet shard has nothing to do: at its moment a tick sends nothing, nobody is due, and neither changes it.
 pub fn quiet_shards_do_nothing()
     ensures tick { (shard : Shard) → is_quiet shard ≡ true →
-        (ticked_in (late_place shard) shard ≡ Quiet) × (after_tick (late_place shard) shard ≡ shard) }
+        (ticked_in (late_place shard) shard ≡ Quiet) × (shard_after_tick (late_place shard) shard ≡ shard) }
     ensures due { (shard : Shard) → is_quiet shard ≡ true →
         (due_job (due_place shard) shard ≡ None) × (after_due (due_place shard) shard ≡ shard) }
 {}
@@ -66,7 +66,7 @@ pub fn quiet_shards_do_nothing()
 /// slot's program is to answer.
 pub fn tickets_are_of_their_jobs()
     ensures { (job : Job) (readings : List ℕ) (slot : Slot) (at : ℕ) (w : ObserverList) (t : Ticket) →
-        IsTaking job readings slot at w (Given t) → IsTicketOf job t }
+        IsTaking job readings slot at w (Given t) → IsTicketOfJob job t }
 {}
 
 /// A notification of a 2.05 Content (69) ends its turn, with the message id, the serial and the bytes that were sent. One of anything else,

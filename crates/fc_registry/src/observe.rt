@@ -16,7 +16,7 @@ pub const REGISTER: u32 = 0;
 /// The value that cancels.
 pub const CANCEL: u32 = 1;
 
-/// Whether an Observe option has a value.
+/// Returns whether an Observe option has a value.
 pub fn has_observe(value: u32, observe: Option<u32>) -> bool
     ensures { result ≡ has_observe value observe }
 {

@@ -15,7 +15,7 @@ pub struct Receipt {
 }
 
 impl Receipt {
-    /// That of a program whose install has this serial.
+    /// Makes the receipt of a program whose install has this serial.
     pub fn of(program: &Verified, version: u64) -> Receipt
         ensures { result ≡ receipt_of program.now version }
     {

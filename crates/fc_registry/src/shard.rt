@@ -8,7 +8,7 @@ ghost use Rattle.fc_registry.specs.Record.{IsRing};
 ghost use Rattle.fc_observe.specs.Calls.{observers_after};
 ghost use Rattle.fc_registry.specs.Notes.{IsKeptUnlessSent, NotesTo, noted_as};
 ghost use Rattle.fc_registry.specs.Turns.{due_job, written_if};
-ghost use Rattle.fc_registry.specs.Watches.{AreWatched, IsSentUpTo, after_due, after_given_up, after_tick, due_place, handed, is_due_at, is_quiet, is_quiet_at, late_place, new_watches, noticed_at, signal_call, signalled, ticked_in, watch_at};
+ghost use Rattle.fc_registry.specs.Watches.{AreWatched, IsSentUpTo, after_due, after_given_up, shard_after_tick, due_place, at_time, has_due, is_quiet, is_quiet_at, late_place, new_watches, noticed_at, signal_call, signalled, ticked_in, watch_at};
 
 use crate::commit::Committed;
 use crate::job::Job;
@@ -115,7 +115,7 @@ pub enum Removal {
 }
 
 impl Shard {
-    /// A shard of empty slots, each at this serial.
+    /// Makes a shard of empty slots, each at this serial.
     ///
     /// # Errors
     /// There was no memory for it.
@@ -218,7 +218,7 @@ impl Shard {
         clear(state)
     }
 
-    /// What the program in a slot is, where it has one.
+    /// Describes the program in a slot, where it has one.
     pub fn receipt(&self, slot: SlotNumber) -> Option<Receipt>
         ensures { result ≡ receipt_at (slot_in self.entry.now slot).present }
     {
@@ -226,7 +226,7 @@ impl Shard {
         receipt_in(state)
     }
 
-    /// The serial of a slot of this shard. A slot that isn't is read as the one that stands at its place here.
+    /// Returns the serial of a slot of this shard. A slot that isn't is read as the one that stands at its place here.
     pub fn serial(&self, slot: SlotNumber) -> u64
         ensures { result ≡ (slot_in self.entry.now slot).serial }
     {
@@ -234,7 +234,7 @@ impl Shard {
         serial_of(state)
     }
 
-    /// The serial of the last change of a slot of this shard that observers are told of: an install, a removal, or a commit
+    /// Returns the serial of the last change of a slot of this shard that observers are told of: an install, a removal, or a commit
     /// whose run gave a notice. It is the first serial before any.
     pub fn noticed(&self, slot: SlotNumber) -> u64
         ensures { result ≡ (slot_in self.entry.now slot).noticed }
@@ -243,7 +243,7 @@ impl Shard {
         noticed_of(state)
     }
 
-    /// The version of the program in a slot, where it has one.
+    /// Returns the version of the program in a slot, where it has one.
     pub fn version(&self, slot: SlotNumber) -> Option<u64>
         ensures { result ≡ version_in (slot_in self.entry.now slot).present }
     {
@@ -251,7 +251,7 @@ impl Shard {
         version_of(state)
     }
 
-    /// The variables of the program in a slot; no bytes where it is empty.
+    /// Returns the variables of the program in a slot; no bytes where it is empty.
     pub fn vars(&self, slot: SlotNumber) -> &[u8]
         ensures { result.now ≡ vars_in (slot_in self.entry.now slot).present }
     {
@@ -262,8 +262,8 @@ impl Shard {
     /// Gives a turn to the first observer that is due at a moment in milliseconds, by slot and then by registration: a job that
     /// answers its request anew, from the first block on.
     pub fn next_due(&mut self, now: u64) -> Option<Job>
-        ensures job { result ≡ due_job (due_place (handed self.old now)) (handed self.old now) }
-        ensures after { self.new ≡ after_due (due_place (handed self.old now)) (handed self.old now) }
+        ensures job { result ≡ due_job (due_place (at_time self.old now)) (at_time self.old now) }
+        ensures after { self.new ≡ after_due (due_place (at_time self.old now)) (at_time self.old now) }
     {
         let mut job = no_job();
         if self.write_due(now, &mut job) {
@@ -276,9 +276,9 @@ impl Shard {
     /// Gives a turn as `next_due` does, and writes its job over another: none is moved. Tells whether one is given; else the job stays
     /// as it was.
     pub fn write_due(&mut self, now: u64, job: &mut Job) -> bool
-        ensures job { written_if result job.new ≡ due_job (due_place (handed self.old now)) (handed self.old now) }
+        ensures job { written_if result job.new ≡ due_job (due_place (at_time self.old now)) (at_time self.old now) }
         ensures kept { result ≡ false → job.new ≡ job.old }
-        ensures after { self.new ≡ after_due (due_place (handed self.old now)) (handed self.old now) }
+        ensures after { self.new ≡ after_due (due_place (at_time self.old now)) (at_time self.old now) }
     {
         self.now = self.now.max(now);
         let Some(place) = self.due_place(self.now) else {
@@ -342,7 +342,7 @@ impl Shard {
     /// Gives up a turn, at a moment in milliseconds. Its observer is due again at a later one.
     pub fn give_up(&mut self, turn: Turn, now: u64)
         requires { IsOwned self.old turn.slot }
-        ensures { self.new ≡ after_given_up turn (handed self.old now) }
+        ensures { self.new ≡ after_given_up turn (at_time self.old now) }
     {
         self.now = self.now.max(now);
         self.watches[usize::from(turn.slot / SHARDS)].give_up(turn, self.now);
@@ -358,8 +358,8 @@ impl Shard {
     /// Sends the first notification that is late at a moment in milliseconds again, or removes its observer: by slot, and then
     /// by registration.
     pub fn tick(&mut self, now: u64) -> Ticked
-        ensures answer { result ≡ ticked_in (late_place (handed self.old now)) (handed self.old now) }
-        ensures after { self.new ≡ after_tick (late_place (handed self.old now)) (handed self.old now) }
+        ensures answer { result ≡ ticked_in (late_place (at_time self.old now)) (at_time self.old now) }
+        ensures after { self.new ≡ shard_after_tick (late_place (at_time self.old now)) (at_time self.old now) }
     {
         self.now = self.now.max(now);
         match self.late_place(self.now) {
@@ -380,8 +380,8 @@ impl Shard {
     /// Advances to a moment in milliseconds where no notification is late by then, and no observer is due: so `tick` and `next_due` would do
     /// nothing else. Tells whether it did.
     pub fn advance_if_quiet(&mut self, now: u64) -> bool
-        ensures quiet { result ≡ is_quiet (handed self.old now) }
-        ensures after { self.new ≡ (if result then handed self.old now else self.old) }
+        ensures quiet { result ≡ is_quiet (at_time self.old now) }
+        ensures after { self.new ≡ (if result then at_time self.old now else self.old) }
     {
         let now = self.now.max(now);
         let quiet = self.check_quiet(now);
@@ -422,7 +422,7 @@ impl Shard {
     // Whether an observer at a place is due at a moment.
     fn is_due_at(&self, now: u64, place: usize) -> bool
         requires { place < 8 }
-        ensures { result ≡ is_due_at (record self.entry.now { now = now }) place }
+        ensures { result ≡ has_due (record self.entry.now { now = now }) place }
     {
         self.watches[place].is_due(now, self.noticed_at(place))
     }

@@ -7,7 +7,7 @@ use crate::shard::Shard;
 use crate::slot_number::SHARDS;
 use std::alloc::{AllocError, Global};
 
-/// Eight shards, in order of index, of empty slots that are each at the first serial.
+/// Makes eight shards, in order of index, of empty slots that are each at the first serial.
 ///
 /// # Errors
 /// There was no memory for them.

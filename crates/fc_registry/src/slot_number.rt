@@ -28,7 +28,7 @@ impl Model for SlotNumber {
 }
 
 impl SlotNumber {
-    /// The slot of this number, which is below 64.
+    /// Makes the slot number of this number, which is below 64.
     pub fn new(number: u8) -> Self
         requires { number < 64 }
         ensures { result ≡ number }
@@ -36,7 +36,7 @@ impl SlotNumber {
         SlotNumber { number }
     }
 
-    /// The number.
+    /// Returns the number.
     pub fn number(self) -> u8
         ensures number { result ≡ self }
         ensures limit { result < 64 }
@@ -44,7 +44,7 @@ impl SlotNumber {
         self.number
     }
 
-    /// The index of the shard that owns the slot.
+    /// Returns the index of the shard that owns the slot.
     pub fn shard(self) -> usize
         ensures shard { result ≡ self % 8 }
         ensures limit { result < 8 }
@@ -52,7 +52,7 @@ impl SlotNumber {
         usize::from(self.number % SHARDS)
     }
 
-    /// Its place among the slots of that shard.
+    /// Returns its place among the slots of that shard.
     pub fn place(self) -> usize
         ensures place { result ≡ self / 8 }
         ensures limit { result < 8 }

@@ -129,7 +129,7 @@ impl<'a> Model for Ticket<'a> {
 }
 
 impl<'a> Ticket<'a> {
-    /// The ticket of a program that a taking gave, and of what it wrote down.
+    /// Returns the ticket of a program that a taking gave, and of what it wrote down.
     pub fn of(program: &'a Verified, found: &'a Found) -> Ticket<'a>
         requires { IsSized program.now found.now }
         ensures { result ≡ ticket_with program.now found.now }
@@ -137,7 +137,7 @@ impl<'a> Ticket<'a> {
         Ticket { program, found }
     }
 
-    /// The job that took it.
+    /// Returns the job that took it.
     pub fn origin(&self) -> Origin
         ensures { result ≡ self.now.origin }
     {
@@ -145,7 +145,7 @@ impl<'a> Ticket<'a> {
         found.origin
     }
 
-    /// The number of the turn that its job is; none of a request.
+    /// Returns the number of the turn that its job is; none of a request.
     pub fn turn(&self) -> Option<u64>
         ensures { result ≡ self.now.turn }
     {
@@ -153,7 +153,7 @@ impl<'a> Ticket<'a> {
         found.turn
     }
 
-    /// The job's request.
+    /// Returns the job's request.
     pub fn request(&self) -> &'a Request
         ensures { result.now ≡ self.now.request }
     {
@@ -161,7 +161,7 @@ impl<'a> Ticket<'a> {
         &found.request
     }
 
-    /// The block of the reply that the job's request asks.
+    /// Returns the block of the reply that the job's request asks.
     pub fn block(&self) -> Option<Block>
         ensures { result ≡ self.now.block }
     {
@@ -169,7 +169,7 @@ impl<'a> Ticket<'a> {
         found.block
     }
 
-    /// The token of the job's request.
+    /// Returns the token of the job's request.
     pub fn token(&self) -> &'a Token
         ensures { result.now ≡ self.now.token }
     {
@@ -177,7 +177,7 @@ impl<'a> Ticket<'a> {
         &found.token
     }
 
-    /// The value of its Observe option, if it had one.
+    /// Returns the value of its Observe option, if it had one.
     pub fn observe(&self) -> Option<u32>
         ensures { result ≡ self.now.observe }
     {
@@ -185,7 +185,7 @@ impl<'a> Ticket<'a> {
         found.observe
     }
 
-    /// The slot's serial when it was taken.
+    /// Returns the slot's serial when it was taken.
     pub fn serial(&self) -> u64
         ensures { result ≡ self.now.serial }
     {
@@ -193,7 +193,7 @@ impl<'a> Ticket<'a> {
         found.serial
     }
 
-    /// The program that was found.
+    /// Returns the program that was found.
     pub fn program(&self) -> &'a Verified
         ensures { result.now ≡ self.now.found.program }
     {
@@ -208,7 +208,7 @@ impl<'a> Ticket<'a> {
         found.version
     }
 
-    /// The variables that were found.
+    /// Returns the variables that were found.
     pub fn vars(&self) -> &'a Vars
         ensures vars { result.now ≡ self.now.found.vars }
         ensures size { length result.now ≡ self.now.found.program.vars_size }
@@ -217,7 +217,7 @@ impl<'a> Ticket<'a> {
         &found.vars
     }
 
-    /// The readings that were handed in at the taking.
+    /// Returns the readings that were handed in at the taking.
     pub fn readings(&self) -> &'a Readings
         ensures { result.now ≡ self.now.readings }
     {
@@ -258,35 +258,35 @@ impl Model for Mark {
 }
 
 impl Mark {
-    /// The job whose commit made it.
+    /// Returns the job whose commit made it.
     pub fn origin(&self) -> Origin
         ensures { result ≡ self.now.origin }
     {
         self.origin
     }
 
-    /// The serial that the job's taking found.
+    /// Returns the serial that the job's taking found.
     pub fn found(&self) -> u64
         ensures { result ≡ self.now.found }
     {
         self.found
     }
 
-    /// The slot's serial at the commit.
+    /// Returns the slot's serial at the commit.
     pub fn serial(&self) -> u64
         ensures { result ≡ self.now.serial }
     {
         self.serial
     }
 
-    /// Whether the commit changed the slot.
+    /// Returns whether the commit changed the slot.
     pub fn changed(&self) -> bool
         ensures { result ≡ self.now.changed }
     {
         self.changed
     }
 
-    /// Whether the client of the job's request observes the slot from now on.
+    /// Returns whether the client of the job's request observes the slot from now on.
     pub fn observed(&self) -> bool
         ensures { result ≡ self.now.observed }
     {

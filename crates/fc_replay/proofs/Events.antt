@@ -14,7 +14,7 @@ use Rattle.fc_world.specs.Histories.{history_from}
 use Rattle.fc_replay.specs.Listed.{AreOfEvent, Bytes, Line, line_words}
 use Rattle.fc_replay.specs.Printed.{IsSlotLine, emitted_line, line_at, slot_text}
 use Rattle.fc_replay.specs.Replayed.{AreEvents, AreReplayed, HasBeginning, IsReplayed, IsText, listed_lines, told_below, told_of, told_of_all}
-use Rattle.fc_replay.specs.declared.printing.SlotLine.{SlotLine}
+use Rattle.fc_replay.specs.declared.printer.SlotLine.{SlotLine}
 
 says_more : (lines : List (List Bytes)) (events : List Event) (words : List Bytes) (event : Event) → AreEvents lines events → AreOfEvent words event → AreEvents (lines ++ words ∷ []) (events ++ event ∷ [])
 says_more [] [] words event are is = (is, tt)

@@ -10,7 +10,7 @@ use Rattle.fc_help.specs.Region.{no_readings}
 use Rattle.fc_registry.specs.Slots.{last_serial}
 use Rattle.fc_server.specs.declared.server.Begin.{Begin}
 use Rattle.fc_lines.specs.Fields.{space, IsNumber}
-use Rattle.fc_lines.specs.Emissions.{endpoint_of}
+use Rattle.fc_lines.specs.Emissions.{peer_endpoint}
 
 abbrev pub Bytes : Type 0
 Bytes = List ℕ
@@ -58,7 +58,7 @@ HasShard parts shard = HasNumber parts (codes "shard") 256 shard
 pub record HasEndpoint (parts : List Bytes) (endpoint : Endpoint) : Type 0 where
   pub peer : ℕ
   pub number : HasNumber parts (codes "ep") 256 peer
-  pub endpoint_is : endpoint ≡ endpoint_of peer
+  pub endpoint_is : endpoint ≡ peer_endpoint peer
 
 -- one of the words is `data=hex`, and the digits are those of the bytes
 pub record HasData (words : List Bytes) (bytes : List ℕ) : Type 0 where

@@ -4,7 +4,7 @@ use Rattle.std.specs.Fmt.{decimal}
 use Rattle.coap_msg.specs.declared.types.Emission.{Emission}
 use Rattle.fc_registry.specs.Slots.{Slot, version_in, vars_in}
 use Rattle.fc_lines.specs.Emissions.{printed}
-use Rattle.fc_replay.specs.declared.printing.SlotLine.{SlotLine}
+use Rattle.fc_replay.specs.declared.printer.SlotLine.{SlotLine}
 use Rattle.hex.specs.Hex.{encode_lower}
 
 -- what an event emitted

@@ -9,6 +9,6 @@
 //! By the contracts of `replay`, `ListedEvent`, `slot_line`.
 #![tactic(auto)]
 
-pub mod listed;
-pub mod printing;
+pub mod parser;
+pub mod printer;
 pub mod replay;

@@ -8,8 +8,8 @@ ghost use Rattle.fc_replay.specs.Listed.{line_words};
 ghost use Rattle.fc_replay.specs.Printed.{emitted_line};
 ghost use Rattle.fc_replay.specs.Replayed.{AreEvents, AreReplayed, HasBeginning, IsFirstLine, IsReplayed, IsText, listed_lines, told_of_all};
 
-use crate::listed::{ListedEvent, begin_in};
-use crate::printing::{print_emitted, print_slot, slot_line};
+use crate::parser::{ListedEvent, begin_in};
+use crate::printer::{print_emitted, print_slot, slot_line};
 use coap_msg::Emission;
 use fc_cli::status::{Status, tell};
 use fc_cli::stop::Stop;

@@ -3,7 +3,7 @@ use Rattle.std.proofs.Common.{◌≡◌, ℕ, ◌<◌, Bool, true, false, if◌t
 use Rattle.std.specs.Prelude.{MatchBool, is_none, ◌&&◌}
 use Rattle.fc_registry.specs.Shards.{shard_at}
 use Rattle.fc_registry.specs.Slots.{Shard}
-use Rattle.fc_registry.specs.Watches.{after_tick, due_place, handed, is_quiet, late_place, ticked_in}
+use Rattle.fc_registry.specs.Watches.{shard_after_tick, due_place, at_time, is_quiet, late_place, ticked_in}
 use Rattle.fc_core.specs.Legal.{resent}
 use Rattle.fc_server.specs.Serving.{IsReachable, TicksShard}
 use Rattle.fc_server.specs.States.{ServerState}
@@ -12,27 +12,27 @@ use Rattle.fc_server.proofs.Others.{owner_same}
 use Rattle.fc_server.proofs.Served.{resent_on, resent_served}
 
 -- the shards, where the one that was read at a place is advanced or left as it was
-pub advanced_at : (b : Bool) (shards : List Shard) (i now : ℕ) (found after : Shard) → found ≡ get_or shards i found → found ≡ shard_at shards i → after ≡ (if b then handed found now else found) → set shards i after ≡ (if b then set shards i (handed (shard_at shards i) now) else shards)
-advanced_at true shards i now found after read is e = ap (λ (s : Shard). set shards i s) (e ∙ ap (λ (s : Shard). handed s now) is)
+pub advanced_at : (b : Bool) (shards : List Shard) (i now : ℕ) (found after : Shard) → found ≡ get_or shards i found → found ≡ shard_at shards i → after ≡ (if b then at_time found now else found) → set shards i after ≡ (if b then set shards i (at_time (shard_at shards i) now) else shards)
+advanced_at true shards i now found after read is e = ap (λ (s : Shard). set shards i s) (e ∙ ap (λ (s : Shard). at_time s now) is)
 advanced_at false shards i now found after read is e = owner_same shards i found after e read
 
 no_place : (p q : Option ℕ) → true ≡ is_none p && is_none q → p ≡ None
 no_place None q quiet = λ _. None
 no_place (Some k) q quiet = absurd (let n = quiet in cc)
 
-module _ (now : ℕ) (shard : Shard) (quiet : true ≡ is_quiet (handed shard now)) where
-  nowhere : late_place (handed shard now) ≡ None
-  nowhere = no_place (late_place (handed shard now)) (due_place (handed shard now)) quiet
+module _ (now : ℕ) (shard : Shard) (quiet : true ≡ is_quiet (at_time shard now)) where
+  nowhere : late_place (at_time shard now) ≡ None
+  nowhere = no_place (late_place (at_time shard now)) (due_place (at_time shard now)) quiet
 
   -- a tick takes the moment in, and nothing else
-  quiet_ticks : handed shard now ≡ shard_ticked now shard
-  quiet_ticks = sym (ap (λ (p : Option ℕ). after_tick p (handed shard now)) nowhere)
+  quiet_ticks : at_time shard now ≡ shard_ticked now shard
+  quiet_ticks = sym (ap (λ (p : Option ℕ). shard_after_tick p (at_time shard now)) nowhere)
 
   quiet_resends : None ≡ shard_resent now shard
-  quiet_resends = sym (ap (λ (p : Option ℕ). resent (ticked_in p (handed shard now))) nowhere)
+  quiet_resends = sym (ap (λ (p : Option ℕ). resent (ticked_in p (at_time shard now))) nowhere)
 
 -- it is ticked, or nothing is done
-pub passed_quietly : (b : Bool) (i now : ℕ) → i < 8 → (old new : ServerState) → b ≡ is_quiet (handed (shard_at old.shards i) now) → new.front ≡ old.front → new.shards ≡ (if b then set old.shards i (handed (shard_at old.shards i) now) else old.shards) → new.words ≡ old.words → MatchBool b (TicksShard i now old new None) (new ≡ old)
+pub passed_quietly : (b : Bool) (i now : ℕ) → i < 8 → (old new : ServerState) → b ≡ is_quiet (at_time (shard_at old.shards i) now) → new.front ≡ old.front → new.shards ≡ (if b then set old.shards i (at_time (shard_at old.shards i) now) else old.shards) → new.words ≡ old.words → MatchBool b (TicksShard i now old new None) (new ≡ old)
 passed_quietly true i now low old new quiet front shards words = λ h tasks v.
     resent_on i low old new front words h tasks v now None (shards ∙ ap (λ (s : Shard). set old.shards i s) (quiet_ticks now (shard_at old.shards i) quiet)) (quiet_resends now (shard_at old.shards i) quiet)
 passed_quietly false i now low old new quiet front shards words = λ k. record { front = front k; shards = shards k; words = words k }

@@ -11,7 +11,7 @@ use Rattle.fc_registry.specs.Shards.{AreShards, no_shard, shard_at}
 use Rattle.fc_registry.specs.Slots.{Shard, Slot, new_slot}
 use Rattle.fc_registry.specs.declared.job.Job.{Job}
 use Rattle.fc_registry.specs.Turns.{due_job, turn_given_to}
-use Rattle.fc_registry.specs.Watches.{after_due, after_tick, due_place, handed as shard_handed, is_due_at as is_due_here, is_late_at as is_late_here, late_place, noticed_at, place_from, signal_call, signalled, ticked_in, watch_at, watch_called}
+use Rattle.fc_registry.specs.Watches.{after_due, shard_after_tick, due_place, at_time as shard_handed, has_due as is_due_here, has_late as is_late_here, late_place, noticed_at, place_from, signal_call, signalled, ticked_in, watch_at, watch_called}
 use Rattle.fc_core.specs.History.{AtShard, AsksTurn, Signals, Ticks, Calm, Seen, calls_by, due_in, hands_by, is_due_at, is_late_at, is_place_of, late_in, slot_at, turn_at, turns_by}
 use Rattle.fc_core.specs.Legal.{resent, resent_at, resent_in}
 use Rattle.fc_core.specs.Stages.{new_task}
@@ -138,13 +138,13 @@ module _ (s : Seen) (i now : ℕ) (low : i < 8) (shards : List Shard) (a : Shard
   tick_calls b = if b then TickObservers at ∷ [] else []
 
   -- the observers at a place after it
-  ticked_here : (p : Option ℕ) (k : ℕ) → k < 8 → watch_at (after_tick p here) k ≡ observers (8 * k + i) (tick_calls (is_place_of p i (8 * k + i)) ++ s.calls (8 * k + i))
+  ticked_here : (p : Option ℕ) (k : ℕ) → k < 8 → watch_at (shard_after_tick p here) k ≡ observers (8 * k + i) (tick_calls (is_place_of p i (8 * k + i)) ++ s.calls (8 * k + i))
   ticked_here None k lt = a.watch i k low lt
   ticked_here (Some j) k lt =
       let eight = a.are.watched i low in
       ⊎_elim
       (λ (q : k ≡ j).
-      let found : watch_at (after_tick (Some j) here) k ≡ observers_after (TickObservers here.now) (watch_at here k) = subst (λ (m : ℕ). watch_at (watch_called (TickObservers here.now) m here) k ≡ observers_after (TickObservers here.now) (watch_at here k)) q (get_or-set_same here.watches k (observers_after (TickObservers here.now) (watch_at here k)) (no_observers 0) (omega (arith, eight, lt))) in
+      let found : watch_at (shard_after_tick (Some j) here) k ≡ observers_after (TickObservers here.now) (watch_at here k) = subst (λ (m : ℕ). watch_at (watch_called (TickObservers here.now) m here) k ≡ observers_after (TickObservers here.now) (watch_at here k)) q (get_or-set_same here.watches k (observers_after (TickObservers here.now) (watch_at here k)) (no_observers 0) (omega (arith, eight, lt))) in
       found ∙ ((λ m. observers_after (TickObservers (at_is m)) (a.watch i k low lt m)) ∙ ap (λ (b : Bool). observers (8 * k + i) (tick_calls b ++ s.calls (8 * k + i))) (sym (eq-eqb (8 * j + i) (8 * k + i) (omega (arith, q))))))
       (λ (ne : k ≡ j → ⊥).
       get_or-set_other here.watches j k (observers_after (TickObservers here.now) (watch_at here j)) (no_observers 0) ne ∙ (a.watch i k low lt ∙ ap (λ (b : Bool). observers (8 * k + i) (tick_calls b ++ s.calls (8 * k + i))) (sym (ne_eqb (8 * j + i) (8 * k + i) (λ q. ne (omega (arith, q)))))))
@@ -155,19 +155,19 @@ module _ (s : Seen) (i now : ℕ) (low : i < 8) (shards : List Shard) (a : Shard
   elsewhere_none None j k jl ne = refl
   elsewhere_none (Some m) j k jl ne = ap tick_calls (ne_eqb (8 * m + i) (8 * k + j) (λ q. ne (omega (arith, q, jl, low))))
 
-  after_index : (p : Option ℕ) → (after_tick p here).index ≡ here.index
+  after_index : (p : Option ℕ) → (shard_after_tick p here).index ≡ here.index
   after_index None = refl
   after_index (Some k) = refl
 
-  after_slots : (p : Option ℕ) → (after_tick p here).slots ≡ here.slots
+  after_slots : (p : Option ℕ) → (shard_after_tick p here).slots ≡ here.slots
   after_slots None = refl
   after_slots (Some k) = refl
 
-  after_now : (p : Option ℕ) → (after_tick p here).now ≡ here.now
+  after_now : (p : Option ℕ) → (shard_after_tick p here).now ≡ here.now
   after_now None = refl
   after_now (Some k) = refl
 
-  after_length : (p : Option ℕ) → length (after_tick p here).watches ≡ 8
+  after_length : (p : Option ℕ) → length (shard_after_tick p here).watches ≡ 8
   after_length None = a.are.watched i low
   after_length (Some k) = length-set here.watches k (observers_after (TickObservers here.now) (watch_at here k)) ∙ a.are.watched i low
 
@@ -177,8 +177,8 @@ module _ (s : Seen) (i now : ℕ) (low : i < 8) (shards : List Shard) (a : Shard
   hands_there : (j : ℕ) → (j ≡ i → ⊥) → hands_by (Ticks i now) j ≡ None
   hands_there j ne = ap (λ (b : Bool). if b then Some now else None) (and_left (i == j) (nat_lt j 8) (ne_eqb i j (λ q. ne (sym q))))
 
-  tick_agrees : (p : Option ℕ) → p ≡ late_in s i at → ShardsAgree (shard_seen (Ticks i now) s) (set shards i (after_tick p here))
-  tick_agrees p is = put_agrees shards a.are i low (after_tick p here) s (Ticks i now) a (after_index p) (after_slots p) (after_length p)
+  tick_agrees : (p : Option ℕ) → p ≡ late_in s i at → ShardsAgree (shard_seen (Ticks i now) s) (set shards i (shard_after_tick p here))
+  tick_agrees p is = put_agrees shards a.are i low (shard_after_tick p here) s (Ticks i now) a (after_index p) (after_slots p) (after_length p)
       (after_now p ∙ (at_is ∙ ap (λ (o : Option ℕ). handed o (s.shard_moment i)) (sym hands_here)))
       hands_there
       (λ k lt. ticked_here p k lt ∙ ap (λ (q : Option ℕ). observers (8 * k + i) (tick_calls (is_place_of q i (8 * k + i)) ++ s.calls (8 * k + i))) is)

@@ -7,7 +7,7 @@ use Rattle.fc_registry.specs.declared.job.Job.{Job}
 use Rattle.fc_registry.specs.Shards.{shard_at}
 use Rattle.fc_registry.specs.Slots.{Shard}
 use Rattle.fc_registry.specs.Turns.{due_job}
-use Rattle.fc_registry.specs.Watches.{after_due, after_tick, due_place, handed as shard_handed, late_place, signal_call, signalled, ticked_in}
+use Rattle.fc_registry.specs.Watches.{after_due, shard_after_tick, due_place, at_time as shard_handed, late_place, signal_call, signalled, ticked_in}
 use Rattle.fc_core.specs.declared.event.Event.{Event}
 use Rattle.fc_core.specs.declared.stage.Task.{Task}
 use Rattle.fc_core.specs.Exchanges.{FrontState, advanced}
@@ -66,7 +66,7 @@ shard_changed false i f shards = shards
 
 -- a shard after a tick, and what it sends again
 abbrev pub shard_ticked : ℕ → Shard → Shard
-shard_ticked now shard = after_tick (late_place (shard_handed shard now)) (shard_handed shard now)
+shard_ticked now shard = shard_after_tick (late_place (shard_handed shard now)) (shard_handed shard now)
 
 abbrev pub shard_resent : ℕ → Shard → Option Emission
 shard_resent now shard = resent (ticked_in (late_place (shard_handed shard now)) (shard_handed shard now))

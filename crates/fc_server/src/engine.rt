@@ -4,7 +4,7 @@ ghost use Rattle.arrayvec.specs.ArrayVec.{ArrayVec};
 ghost use Rattle.coap_msg.specs.declared.types.Emission.{Emission as Emitted};
 ghost use Rattle.fc_registry.specs.Shards.{shard_at};
 ghost use Rattle.fc_registry.specs.Slots.{last_serial};
-ghost use Rattle.fc_registry.specs.Watches.{handed, is_quiet};
+ghost use Rattle.fc_registry.specs.Watches.{at_time, is_quiet};
 ghost use Rattle.fc_core.specs.Stage.{Stage};
 ghost use Rattle.fc_core.specs.Exchanges.{advanced};
 ghost use Rattle.fc_core.specs.History.{Begins};
@@ -44,7 +44,7 @@ impl Model for Engine {
 }
 
 impl Engine {
-    /// A server that holds nothing, with slots 0 to 63 empty, each at the first serial, and that draws this message id
+    /// Makes a server that holds nothing, with slots 0 to 63 empty, each at the first serial, and that draws this message id
     /// first.
     ///
     /// # Errors
@@ -121,7 +121,7 @@ impl Engine {
     /// Due would do nothing. Tells whether it did.
     pub fn advance_if_quiet(&mut self, shard: u8, now: u64) -> bool
         requires { shard < 8 }
-        ensures quiet { result ≡ is_quiet (handed (shard_at self.old.shards shard) now) }
+        ensures quiet { result ≡ is_quiet (at_time (shard_at self.old.shards shard) now) }
         ensures after { MatchBool result (TicksShard shard now self.old self.new None) (self.new ≡ self.old) }
     {
         self.server.advance_if_quiet(shard, now)

@@ -3,7 +3,7 @@ ghost use Rattle.std.specs.Prelude.{◌≡◌, ℕ, List, ◌<◌, ◌≤◌, if
 ghost use Rattle.fc_registry.specs.Shards.{first_shards, shard_at};
 ghost use Rattle.fc_registry.specs.Slots.{last_serial};
 ghost use Rattle.fc_registry.specs.Turns.{written_if};
-ghost use Rattle.fc_registry.specs.Watches.{handed, is_quiet, signal_call, signalled};
+ghost use Rattle.fc_registry.specs.Watches.{at_time, is_quiet, signal_call, signalled};
 ghost use Rattle.fc_core.specs.declared.event.Event.{Event};
 ghost use Rattle.fc_core.specs.Exchanges.{advanced, first_front};
 ghost use Rattle.fc_core.specs.Heads.{no_words};
@@ -48,7 +48,7 @@ impl Model for Server {
 }
 
 impl Server {
-    /// A server that holds nothing, with slots 0 to 63 empty, each at the first serial, and that draws this message id
+    /// Makes a server that holds nothing, with slots 0 to 63 empty, each at the first serial, and that draws this message id
     /// first.
     ///
     /// # Errors
@@ -93,7 +93,7 @@ impl Server {
         self.front.tick(now);
     }
 
-    /// A shard is asked for the turn of an observer that is due at a moment in milliseconds: the job that answers its request anew is
+    /// Asks a shard for the turn of an observer that is due at a moment in milliseconds: the job that answers its request anew.
     /// written over another. Tells whether there is one; else the job stays as it was.
     pub fn due(&mut self, shard: u8, now: u64, job: &mut Job) -> bool
         requires { shard < length self.old.shards }
@@ -131,10 +131,10 @@ impl Server {
     /// Advances a shard to a moment in milliseconds where no notification is late by then, and no observer is due. Tells whether it did.
     pub fn advance_if_quiet(&mut self, shard: u8, now: u64) -> bool
         requires { shard < length self.old.shards }
-        ensures quiet { result ≡ is_quiet (handed (shard_at self.old.shards shard) now) }
+        ensures quiet { result ≡ is_quiet (at_time (shard_at self.old.shards shard) now) }
         ensures front { self.new.front ≡ self.old.front }
         ensures shards { self.new.shards ≡ (if result
-            then slice_set self.old.shards shard (handed (shard_at self.old.shards shard) now)
+            then slice_set self.old.shards shard (at_time (shard_at self.old.shards shard) now)
             else self.old.shards) }
         ensures words { self.new.words ≡ self.old.words }
     {
@@ -208,7 +208,7 @@ impl Server {
         }
     }
 
-    /// A task looks at the head word of a slot.
+    /// Has a task look at the head word of a slot.
     pub fn peek(&mut self, task: &mut Task, slot: u8)
         requires { AtWork self.old task.old }
         ensures { (k : ℕ) → Does (Event.Peek k slot) self.old task.old self.new task.new None }
@@ -216,7 +216,7 @@ impl Server {
         task.peek(slot, &self.heads);
     }
 
-    /// A task removes its slot's program.
+    /// Has a task remove its slot's program.
     pub fn remove(&mut self, task: &mut Task)
         requires { AtWork self.old task.old }
         ensures { (k : ℕ) → Does (Event.Remove k) self.old task.old self.new task.new None }
@@ -224,7 +224,7 @@ impl Server {
         task.remove(&mut self.shards[task.job.origin.slot.shard()]);
     }
 
-    /// A task asks what its slot's program is.
+    /// Has a task ask what its slot's program is.
     pub fn describe(&mut self, task: &mut Task)
         requires { AtWork self.old task.old }
         ensures { (k : ℕ) → Does (Event.Receipt k) self.old task.old self.new task.new None }
@@ -232,7 +232,7 @@ impl Server {
         task.describe(&self.shards[task.job.origin.slot.shard()]);
     }
 
-    /// A task takes its slot, with these readings. Tells whether there was memory.
+    /// Has a task take its slot, with these readings. Tells whether there was memory.
     pub fn take(&mut self, readings: &Readings, task: &mut Task) -> bool
         requires { AtWork self.old task.old }
         ensures { (k : ℕ) → Does (Event.Take k result readings.now) self.old task.old self.new task.new None }
@@ -261,7 +261,7 @@ impl Server {
         }
     }
 
-    /// A task runs its ticket's program, and commits at a moment in milliseconds.
+    /// Has a task run its ticket's program, and commit at a moment in milliseconds.
     pub fn commit(&mut self, now: u64, task: &mut Task)
         requires { AtWork self.old task.old }
         ensures { (k : ℕ) → Does (Event.Commit k now) self.old task.old self.new task.new None }
@@ -270,7 +270,7 @@ impl Server {
         task.commit(&mut self.frame, shard, now);
     }
 
-    /// A task verifies its image and installs the program. Tells whether there was memory.
+    /// Has a task verify its image and install the program. Tells whether there was memory.
     pub fn install(&mut self, alloc: Global, task: &mut Task) -> bool
         requires { AtWork self.old task.old }
         ensures { (k : ℕ) → Does (Event.Install k result) self.old task.old self.new task.new None }
@@ -295,7 +295,7 @@ impl Server {
         }
     }
 
-    /// A task publishes the new head word of its slot.
+    /// Has a task publish the new head word of its slot.
     pub fn raise(&mut self, task: &mut Task)
         requires { AtWork self.old task.old }
         ensures { (k : ℕ) → Does (Event.Raise k) self.old task.old self.new task.new None }
@@ -303,7 +303,7 @@ impl Server {
         task.raise(&mut self.heads);
     }
 
-    /// A task draws a message id for the notification of its turn, at a moment in milliseconds, where it stands there. Where none is
+    /// Has a task draw a message id for the notification of its turn, at a moment in milliseconds, where it stands there. Where none is
     /// free it stands there still.
     pub fn fresh(&mut self, now: u64, task: &mut Task)
         requires { AtWork self.old task.old }
@@ -327,7 +327,7 @@ impl Server {
         }
     }
 
-    /// A task runs the program that its turn's taking found, if it found one, and notifies the turn's observer, at a moment in
+    /// Has a task run the program that its turn's taking found, if it found one, and notify the turn's observer, at a moment in
     /// milliseconds, where the turn is out still: what is sent is written over another emission. Tells whether anything is.
     pub fn note(&mut self, now: u64, random: u16, task: &mut Task, emission: &mut Emission) -> bool
         requires { AtWork self.old task.old }
@@ -338,7 +338,7 @@ impl Server {
         task.note(&mut self.frame, shard, now, random, emission)
     }
 
-    /// A task gives up its turn, at a moment in milliseconds.
+    /// Has a task give up its turn, at a moment in milliseconds.
     pub fn give_up(&mut self, now: u64, task: &mut Task)
         requires { AtWork self.old task.old }
         ensures { (k : ℕ) → Does (Event.GiveUp k now) self.old task.old self.new task.new None }
@@ -359,7 +359,7 @@ impl Server {
         }
     }
 
-    /// A task is answered at a moment in milliseconds, where it stands there, and what is sent is written over another
+    /// Answers a task at a moment in milliseconds, where it stands there, and what is sent is written over another
     /// emission. Tells whether anything is sent.
     pub fn respond(&mut self, now: u64, task: &mut Task, reply: &mut Emission) -> bool
         requires { AtWork self.old task.old }
@@ -376,7 +376,7 @@ impl Server {
         }
     }
 
-    /// Its shards, at the end.
+    /// Ends it, and returns its shards.
     pub fn into_shards(self) -> Vec<Shard>
         ensures { result.items ≡ self.shards }
     {

@@ -14,7 +14,7 @@ use Rattle.fc_service.specs.Clocks.{device_readings}
 use Rattle.fc_service.specs.Intakes.{is_reply}
 use Rattle.fc_service.specs.declared.alone.Alone.{Alone}
 use Rattle.fc_registry.specs.Shards.{shard_at}
-use Rattle.fc_registry.specs.Watches.{handed as handed_moment, is_quiet}
+use Rattle.fc_registry.specs.Watches.{at_time as handed_moment, is_quiet}
 
 -- these readings are handed from now on, and zero for the random word
 abbrev pub HandsAlone : List ℕ → Alone → Alone → Type 0

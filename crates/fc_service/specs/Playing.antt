@@ -13,7 +13,7 @@ use Rattle.fc_server.specs.Serving.{Serves}
 use Rattle.fc_server.specs.Notified.{Notified}
 use Rattle.fc_lines.specs.declared.line.Line.{Line}
 use Rattle.fc_lines.specs.declared.line.Line.TheVariants.{Deliver, Device, Tick}
-use Rattle.fc_lines.specs.Emissions.{endpoint_of, printed}
+use Rattle.fc_lines.specs.Emissions.{peer_endpoint, printed}
 use Rattle.fc_lines.specs.Lines.{IsLine}
 use Rattle.fc_service.specs.Alone.{HandsAlone, HearsAlone, NotifiesAlone, PassesAlone, PassesOverAlone, ResendsAlone}
 use Rattle.fc_service.specs.Intakes.{IsHeardBy}
@@ -68,7 +68,7 @@ module _ {S : Type 0} (Hands : List ℕ → S → S → Type 0)
 
   -- a line's datagram was heard, and this was to be sent at once; or time passed
   abbrev pub IsCarriedOutBy : Line → S → Option Emission → S → Type 0
-  IsCarriedOutBy (Deliver now peer bytes) old sent new = IsHeardBy Hears now (record { from = endpoint_of peer; bytes = bytes.items }) old sent new
+  IsCarriedOutBy (Deliver now peer bytes) old sent new = IsHeardBy Hears now (record { from = peer_endpoint peer; bytes = bytes.items }) old sent new
   IsCarriedOutBy (Tick now) old sent new = Passes now old new × (sent ≡ None)
   IsCarriedOutBy (Device now readings) old sent new = Passes now old new × (sent ≡ None)
 

@@ -12,9 +12,9 @@ use Rattle.fc_workers.specs.Called.{AdvancesFront, AdvancesIfQuiet, AdvancesShar
 use Rattle.fc_workers.specs.Counts.{Tallies}
 use Rattle.fc_workers.specs.Dispatch.{HasCalled, IsTakenIn, IsTurnAsked}
 use Rattle.fc_workers.specs.declared.call_log.CallLog.{CallLog}
-use Rattle.fc_workers.specs.declared.dispatch.Dispatched.{Dispatched}
-use Rattle.fc_workers.specs.declared.dispatch.Handover.{Handover}
-use Rattle.fc_workers.specs.declared.dispatch.Handover.TheVariants.{Never}
+use Rattle.fc_workers.specs.declared.dispatcher.Dispatched.{Dispatched}
+use Rattle.fc_workers.specs.declared.dispatcher.Handover.{Handover}
+use Rattle.fc_workers.specs.declared.dispatcher.Handover.TheVariants.{Never}
 use Rattle.fc_service.specs.Intakes.{IntakeCalls}
 
 -- a dispatcher as it is seen: which jobs go to workers, and what it has done

@@ -41,7 +41,7 @@ went out and how many didn't.
 Exit status: 0 after N datagrams; 2 where the command line is bad; 3 where the port couldn't
 be had, or memory was refused at the start.";
 
-/// The command line of `fcd`.
+/// Describes the command line of `fcd`.
 ///
 /// # Errors
 /// There was no memory for it.

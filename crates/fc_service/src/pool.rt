@@ -21,8 +21,8 @@ use fc_observe::Ticked;
 use fc_server::Begin;
 use fc_server::engine::NotifyOutcome;
 use fc_workers::{
-    Bench, Blanks, Books, CallLog, Closed, Device, Dispatcher, Gate, Handover, Locked, Moments,
-    Reserve, Share, Tallies, Wire, Workshop, feed_workers, make_seats,
+    Bench, Blanks, Books, CallLog, ClosedServer, Device, Dispatcher, Gate, Handover, Locked,
+    Moments, Reserve, Share, Tallies, Wire, Workshop, feed_workers, make_seats,
 };
 use std::alloc::{AllocError, Global};
 use std::io::Write;
@@ -152,7 +152,7 @@ pub trait Feeder<X> {
 pub struct Fed<X: Drop> {
     pub given: X,
     pub replies: Replies,
-    pub closed: Closed,
+    pub closed: ClosedServer,
 }
 
 // A server whose workers haven't begun.

@@ -13,14 +13,14 @@ pub struct Replies {
 }
 
 impl Replies {
-    /// None yet.
+    /// Counts none yet.
     pub fn none() -> Replies
         ensures { result ≡ no_replies }
     {
         Replies { sent: 0, failed: 0 }
     }
 
-    /// The replies of a worker.
+    /// Counts the replies of a worker.
     pub fn by<T: Drop>(share: &Share<T>) -> Replies
         ensures { result ≡ record { sent = sent_by share.now; failed = failed_by share.now } }
     {
@@ -30,7 +30,7 @@ impl Replies {
         }
     }
 
-    /// The replies of these workers.
+    /// Sums the replies of these workers.
     pub fn of<T: Drop>(shares: &[Share<T>]) -> Replies
         ensures { result ≡ replies_of shares.now }
     {
@@ -41,7 +41,7 @@ impl Replies {
         replies
     }
 
-    /// These replies, and others.
+    /// Adds these replies to others.
     pub fn plus(self, others: Replies) -> Replies
         ensures { result ≡ both_replies self others }
     {

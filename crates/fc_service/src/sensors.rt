@@ -55,7 +55,7 @@ enum Trouble {
 
 // What a file said last, and at which moment; and whether standard error was told that it doesn't say all.
 #[derive(Drop)]
-struct Kept {
+struct KeptReadings {
     at: Option<u64>,
     sensed: Sensed,
     told: bool,
@@ -67,13 +67,13 @@ struct Kept {
 pub struct FileSensors<'a, F: Files + Eprint> {
     files: &'a F,
     path: &'a str,
-    kept: Mutex<Kept>,
+    kept: Mutex<KeptReadings>,
 }
 
 impl<'a, F: Files + Eprint> FileSensors<'a, F> {
-    /// The sensors of the file of this path.
+    /// Names the sensors of the file of this path.
     pub fn new(files: &'a F, path: &'a str) -> FileSensors<'a, F> {
-        let kept = Kept {
+        let kept = KeptReadings {
             at: None,
             sensed: NOTHING,
             told: false,

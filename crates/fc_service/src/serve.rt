@@ -42,7 +42,7 @@ pub struct Extent {
 
 // Why a server doesn't start.
 #[derive(Debug, Drop, Error)]
-enum Stop {
+enum ServeStop {
     #[error("UDP {0}: {1}")]
     Socket(SocketAddrV4, io::Error),
     #[error("clock: {0}")]
@@ -82,7 +82,7 @@ pub fn serve<R: Threads + Wait + Clock + Net + Sync, L: Log, E: Write, Z: Sensor
                 None => Status::Failed,
             }
         }
-        Err(error) => tell(err, &Stop::Socket(address, error), Status::Failed),
+        Err(error) => tell(err, &ServeStop::Socket(address, error), Status::Failed),
     }
 }
 
@@ -146,10 +146,10 @@ fn serve_to_end<
     source: S,
     sink: &K,
     extent: Extent,
-) -> Result<Received<S>, Stop>
+) -> Result<Received<S>, ServeStop>
     ensures { IfOk result (λ r. IsServed Z.are_sensed (λ now. ⊤) K.went extent.workers extent.limit 0 (S.came source) (S.came r.source) r.replies) }
 {
-    let moments = Elapsed::start(rt).map_err(Stop::Clock)?;
+    let moments = Elapsed::start(rt).map_err(ServeStop::Clock)?;
     let begin = Begin {
         serial: FIRST_SERIAL,
         id: clock_id(rt),

@@ -60,7 +60,7 @@ impl Sink for UdpSocket {
     }
 }
 
-/// A UDP socket at an address and a port of this host, or at a port that is free for port 0. A receive waits 100 ms.
+/// Binds a UDP socket at an address and a port of this host, or at a port that is free for port 0. A receive waits 100 ms.
 ///
 /// # Errors
 /// The address is none of this host, the port is taken or may not be had, or there is no socket.

@@ -87,5 +87,5 @@ abbrev pub IsAcceptable : List ℕ → Type 0
 IsAcceptable image = (p : Program) × (judged image ≡ Accepts p)
 
 -- the image is accepted as none
-abbrev pub IsRejected : List ℕ → Type 0
-IsRejected image = (p : Program) → judged image ≡ Accepts p → ⊥
+abbrev pub IsUnacceptable : List ℕ → Type 0
+IsUnacceptable image = (p : Program) → judged image ≡ Accepts p → ⊥

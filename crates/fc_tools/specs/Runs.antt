@@ -9,7 +9,7 @@ use Rattle.fc_help.specs.Layout.{request_with}
 use Rattle.fc_help.specs.declared.request.Method.{Method}
 use Rattle.fc_kinds.specs.Meaning.{Meaning, Program}
 use Rattle.fc_machine.specs.Ran.{meaning_of, ran}
-use Rattle.fc_tools.specs.declared.asked.Asked.{Asked}
+use Rattle.fc_tools.specs.declared.run_options.Asked.{Asked}
 
 -- the digits spell the payload and the query of this request of slot 0
 pub record IsAskedBy (method : Method) (payload query : List ℕ) (r : Request) : Type 0 where

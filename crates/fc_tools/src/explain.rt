@@ -1,6 +1,6 @@
 //! Why an image or a text is refused, in a few lines.
 use crate::diagnosis::{Cause, Diagnosis};
-use crate::known::Known;
+use crate::facts::Known;
 use crate::loops::{write_entry, write_insn, write_reason};
 use crate::reads::{Reads, registers_read};
 use crate::rules::{broken_text, correction, mistake_text, remedy};

@@ -11,20 +11,20 @@
 //!   to V28). The registers that are told decide whether the instruction's demands are met.
 //! - A run's report is that of the meaning of the program, request, readings and variables.
 //!
-//! By the contracts of `tools::image_of`, `priced_image_of`, `listing_of`, `numbered_listing_of`, `diagnosis::diagnose`, `running::report`,
+//! By the contracts of `tools::image_of`, `priced_image_of`, `listing_of`, `numbered_listing_of`, `diagnosis::diagnose`, `runner::report`,
 //! `laws`.
 #![tactic(auto)]
 
-pub mod asked;
 pub mod budget;
 pub mod diagnosis;
 pub mod explain;
-pub mod known;
+pub mod facts;
 pub mod laws;
 mod loops;
-pub mod numbered;
+pub mod numbered_listing;
 pub mod reads;
 pub mod rules;
-pub mod running;
+pub mod run_options;
+pub mod runner;
 pub mod tools;
 pub mod version;

@@ -1,6 +1,6 @@
 //! What is told of loops.
-use crate::known::Known;
-use crate::numbered::listed;
+use crate::facts::Known;
+use crate::numbered_listing::listed;
 use fc_image::loops::Loop;
 use fc_image::uncounted::{Disturbance, Uncounted};
 use fc_isa::Insn;
@@ -11,9 +11,9 @@ use std::{fmt, io};
 
 /// A loop in words: it prints as `slots 2 to 6, counted in r6 below 4`.
 #[derive(Clone, Copy)]
-pub(crate) struct Counted(pub Loop);
+pub(crate) struct CountedLoop(pub Loop);
 
-impl fmt::Display for Counted {
+impl fmt::Display for CountedLoop {
     fn fmt<W: fmt::Write>(&self, f: &mut fmt::Formatter<W>) -> fmt::Result {
         let counted = self.0;
         write!(
@@ -54,7 +54,7 @@ pub(crate) fn write_reason<W: Write>(
             writeln!(
                 out,
                 "loop: {}; slot {slot} {}",
-                Counted(*counted),
+                CountedLoop(*counted),
                 harm(*by)
             )?;
             write_insn(alloc, out, *slot, *insn)
@@ -80,7 +80,7 @@ pub(crate) fn write_entry<W: Write>(
     entering: &Regs,
 ) -> io::Result<()> {
     let counter = counted.counter.index();
-    writeln!(out, "loop: {}", Counted(*counted))?;
+    writeln!(out, "loop: {}", CountedLoop(*counted))?;
     writeln!(out, "r{counter}: {}", Known(entering[counter]))
 }
 

@@ -6,17 +6,17 @@ ghost use Rattle.fc_image.specs.Written.{head_bytes, limit_fault};
 ghost use Rattle.fc_image.specs.Paths.{IsLongest};
 ghost use Rattle.fc_isa.specs.Encoding.{encoded};
 ghost use Rattle.fc_isa.specs.Program.{is_program};
-ghost use Rattle.fc_tools.specs.Diagnosed.{IsDiagnosisOf, IsRejected};
+ghost use Rattle.fc_tools.specs.Diagnosed.{IsDiagnosisOf, IsUnacceptable};
 ghost use Rattle.fc_tools.specs.Tools.{IsImageOf, IsListingOf, IsNumberedListingOf, IsPricedImageOf, program_head};
 
-use crate::asked::Asked;
 use crate::budget::Budget;
 use crate::diagnosis::{
     Cause, Diagnosis, GREATEST_BUDGET, Rejection, diagnose, read_code, read_head, shape_cost,
 };
 use crate::explain::{explain, explain_form, explain_line};
-use crate::numbered::numbered;
-use crate::running::report;
+use crate::numbered_listing::numbered;
+use crate::run_options::Asked;
+use crate::runner::report;
 use fc_asm::{AsmError, Mistake, assemble, disassemble};
 use fc_cli::status::{Status, tell};
 use fc_expand::{BadForm, ExpandError, expand as expand_text};
@@ -361,7 +361,7 @@ fn write_refusal<W: Write>(
     image: &[u8],
     out: &mut W,
 ) -> Result<Option<Diagnosis>, ToolError>
-    requires { IsRejected image.now }
+    requires { IsUnacceptable image.now }
 {
     let diagnosis = diagnosis_of(alloc, image)?;
     writeln!(out, "{diagnosis}").map_err(ToolError::Output)?;
@@ -374,7 +374,7 @@ fn write_refusal<W: Write>(
 /// # Errors
 /// Memory was refused.
 fn diagnosis_of(alloc: Global, image: &[u8]) -> Result<Diagnosis, AllocError>
-    requires { IsRejected image.now }
+    requires { IsUnacceptable image.now }
     ensures { IfOk result (IsDiagnosisOf image.now) }
 {
     match diagnose(alloc, image) {

@@ -14,7 +14,7 @@ use Rattle.fc_kinds.proofs.KindLaws.{within_same, within_then, set_past}
 use Rattle.fc_kinds.proofs.JoinLaws.{joined_left, joined_right, joined_least}
 use Rattle.fc_kinds.specs.Ways.{Way, way_where, kinds_when, ways_along}
 use Rattle.fc_verify.specs.Typing.{AllLead}
-use Rattle.fc_verify.specs.Pass.{joined_in, met, led}
+use Rattle.fc_verify.specs.Pass.{joined_in, meet_at, led}
 
 -- ---- states
 
@@ -42,31 +42,31 @@ are_within_then a b c p q = record { each = λ slot kinds e. leads_then b c slot
 pub set_other : (states : States) (slot k : ℕ) (s : Option (List Kind)) → k ≢ slot → state_at (slice_set states slot s) k ≡ state_at states k
 set_other states slot k s n = get_or-set_other states slot k s None n
 
-pub met_other : (states : States) (slot k : ℕ) (kinds : List Kind) → k ≢ slot → state_at (met states slot kinds) k ≡ state_at states k
+pub met_other : (states : States) (slot k : ℕ) (kinds : List Kind) → k ≢ slot → state_at (meet_at states slot kinds) k ≡ state_at states k
 met_other states slot k kinds n = set_other states slot k (joined_in (state_at states slot) kinds) n
 
-pub met_past : (states : States) (slot : ℕ) (kinds : List Kind) → length states ≤ slot → met states slot kinds ≡ states
+pub met_past : (states : States) (slot : ℕ) (kinds : List Kind) → length states ≤ slot → meet_at states slot kinds ≡ states
 met_past states slot kinds ge = set_past states slot (joined_in (state_at states slot) kinds) ge
 
 pub met_here : (states : States) (slot : ℕ) (kinds : List Kind) → slot < length states
-    → state_at (met states slot kinds) slot ≡ joined_in (state_at states slot) kinds
+    → state_at (meet_at states slot kinds) slot ≡ joined_in (state_at states slot) kinds
 met_here states slot kinds lt = get_or-set_same states slot (joined_in (state_at states slot) kinds) None lt
 
-pub met_leads : (states : States) (slot : ℕ) (kinds : List Kind) → slot < length states → Leads (met states slot kinds) slot kinds
+pub met_leads : (states : States) (slot : ℕ) (kinds : List Kind) → slot < length states → Leads (meet_at states slot kinds) slot kinds
 met_leads states slot kinds lt = go (state_at states slot) (met_here states slot kinds lt)
   where
-    go : (o : Option (List Kind)) → state_at (met states slot kinds) slot ≡ joined_in o kinds → Leads (met states slot kinds) slot kinds
-    go None e = leads_same (met states slot kinds) slot kinds e
+    go : (o : Option (List Kind)) → state_at (meet_at states slot kinds) slot ≡ joined_in o kinds → Leads (meet_at states slot kinds) slot kinds
+    go None e = leads_same (meet_at states slot kinds) slot kinds e
     go (Some state) e = record { state = joined state kinds; state_is = e; within = joined_right state kinds }
 
 -- what holds of each state and of the kinds that are met holds of each state after, where joins keep it
 pub met_all : (P : ℕ → List Kind → Type 0) (states : States) (slot : ℕ) (kinds : List Kind) → ((k : ℕ) (a b : List Kind) → P k a → P k b → P k (joined a b))
     → ((k : ℕ) (ks : List Kind) → state_at states k ≡ Some ks → P k ks) → P slot kinds → (k : ℕ) (ks : List Kind)
-    → state_at (met states slot kinds) k ≡ Some ks → P k ks
+    → state_at (meet_at states slot kinds) k ≡ Some ks → P k ks
 met_all P states slot kinds j h p k ks e =
     elim (cases_eq k slot) [
       | inl same ↦ elim (cases_lt slot (length states)) [
-        | inl lt ↦ subst (λ i. P i ks) (sym same) (go (state_at states slot) refl (sym (met_here states slot kinds lt) ∙ subst (λ i. state_at (met states slot kinds) i ≡ Some ks) same e))
+        | inl lt ↦ subst (λ i. P i ks) (sym same) (go (state_at states slot) refl (sym (met_here states slot kinds lt) ∙ subst (λ i. state_at (meet_at states slot kinds) i ≡ Some ks) same e))
         | inr ge ↦ h k ks (ap (λ s. state_at s k) (sym (met_past states slot kinds ge)) ∙ e)
       ]
       | inr n ↦ h k ks (sym (met_other states slot k kinds n) ∙ e)
@@ -76,16 +76,16 @@ met_all P states slot kinds j h p k ks e =
     go None f g = subst (P slot) (cc g) p
     go (Some old) f g = subst (P slot) (cc g) (j slot old kinds (h slot old f) p)
 
-pub met_grows : (states : States) (slot : ℕ) (kinds : List Kind) → AreWithin states (met states slot kinds)
+pub met_grows : (states : States) (slot : ℕ) (kinds : List Kind) → AreWithin states (meet_at states slot kinds)
 met_grows states slot kinds = record {
   each = λ k old e.
       elim (cases_eq k slot) [
         | inl same ↦ elim (cases_lt slot (length states)) [
-          | inl lt ↦ subst (λ i. Leads (met states slot kinds) i old) (sym same)
+          | inl lt ↦ subst (λ i. Leads (meet_at states slot kinds) i old) (sym same)
               (record { state = joined old kinds; state_is = met_here states slot kinds lt ∙ ap (λ o. joined_in o kinds) (subst (λ i. state_at states i ≡ Some old) same e); within = joined_left old kinds })
-          | inr ge ↦ leads_same (met states slot kinds) k old (ap (λ s. state_at s k) (met_past states slot kinds ge) ∙ e)
+          | inr ge ↦ leads_same (meet_at states slot kinds) k old (ap (λ s. state_at s k) (met_past states slot kinds ge) ∙ e)
         ]
-        | inr n ↦ leads_same (met states slot kinds) k old (met_other states slot k kinds n ∙ e)
+        | inr n ↦ leads_same (meet_at states slot kinds) k old (met_other states slot k kinds n ∙ e)
       ];
 }
 
@@ -161,13 +161,13 @@ all_to P (Enters start next) insn before after a = (a.0, a.1.0)
 -- ---- what ways hand on
 
 abbrev pub one_led : ℕ → States → Way → States
-one_led slot states w = if nat_lt slot w.target then met states w.target w.kinds else states
+one_led slot states w = if nat_lt slot w.target then meet_at states w.target w.kinds else states
 
 pub led_length : (slot : ℕ) (states : States) (ws : List Way) → length (led slot states ws) ≡ length states
 led_length slot states [] = refl
 led_length slot states (w ∷ ws) = led_length slot (one_led slot states w) ws ∙ go (nat_lt slot w.target)
   where
-    go : (b : Bool) → length (if b then met states w.target w.kinds else states) ≡ length states
+    go : (b : Bool) → length (if b then meet_at states w.target w.kinds else states) ≡ length states
     go true = length-set states w.target _
     go false = refl
 
@@ -175,7 +175,7 @@ pub led_keeps : (slot k : ℕ) (states : States) (ws : List Way) → k ≤ slot 
 led_keeps slot k states [] le = refl
 led_keeps slot k states (w ∷ ws) le = led_keeps slot k (one_led slot states w) ws le ∙ go (nat_lt slot w.target) refl
   where
-    go : (b : Bool) → nat_lt slot w.target ≡ b → state_at (if b then met states w.target w.kinds else states) k ≡ state_at states k
+    go : (b : Bool) → nat_lt slot w.target ≡ b → state_at (if b then meet_at states w.target w.kinds else states) k ≡ state_at states k
     go true e = let lt : slot < w.target = grind (arith, nat_tests, e) in met_other states w.target k w.kinds (λ same. absurd (omega (arith, same, lt, le)))
     go false e = refl
 
@@ -183,7 +183,7 @@ pub led_grows : (slot : ℕ) (states : States) (ws : List Way) → AreWithin sta
 led_grows slot states [] = are_within_same states
 led_grows slot states (w ∷ ws) = are_within_then states (one_led slot states w) (led slot (one_led slot states w) ws) (go (nat_lt slot w.target)) (led_grows slot (one_led slot states w) ws)
   where
-    go : (b : Bool) → AreWithin states (if b then met states w.target w.kinds else states)
+    go : (b : Bool) → AreWithin states (if b then meet_at states w.target w.kinds else states)
     go true = met_grows states w.target w.kinds
     go false = are_within_same states
 
@@ -196,11 +196,11 @@ led_brings slot states (w ∷ ws) h =
       led_brings slot next ws (all_then (λ t ks. t < length states) (λ t ks. t < length next) ws (λ t ks l. subst (λ n. t < n) (sym (size (nat_lt slot w.target))) l) h.1),
     )
   where
-    size : (b : Bool) → length (if b then met states w.target w.kinds else states) ≡ length states
+    size : (b : Bool) → length (if b then meet_at states w.target w.kinds else states) ≡ length states
     size true = length-set states w.target _
     size false = refl
 
-    go : (b : Bool) → nat_lt slot w.target ≡ b → slot < w.target → Leads (if b then met states w.target w.kinds else states) w.target w.kinds
+    go : (b : Bool) → nat_lt slot w.target ≡ b → slot < w.target → Leads (if b then meet_at states w.target w.kinds else states) w.target w.kinds
     go true e lt = met_leads states w.target w.kinds h.0
     go false e lt = absurd (grind (arith, nat_tests, e, lt))
 
@@ -210,6 +210,6 @@ pub led_all : (P : ℕ → List Kind → Type 0) (slot : ℕ) (states : States) 
 led_all P slot states [] j h a k ks e = h k ks e
 led_all P slot states (w ∷ ws) j h a k ks e = led_all P slot (one_led slot states w) ws j (go (nat_lt slot w.target) refl) a.1 k ks e
   where
-    go : (b : Bool) → nat_lt slot w.target ≡ b → (k : ℕ) (ks : List Kind) → state_at (if b then met states w.target w.kinds else states) k ≡ Some ks → P k ks
+    go : (b : Bool) → nat_lt slot w.target ≡ b → (k : ℕ) (ks : List Kind) → state_at (if b then meet_at states w.target w.kinds else states) k ≡ Some ks → P k ks
     go true e = met_all P states w.target w.kinds j h (a.0 (grind (arith, nat_tests, e)))
     go false e = h

@@ -7,8 +7,8 @@ use Rattle.std.specs.Result.{IsErrAnd}
 use Rattle.fc_isa.specs.declared.insn.Insn.{Insn}
 use Rattle.fc_isa.specs.declared.rule.Rule.{Rule}
 use Rattle.fc_isa.specs.declared.rule.Fault.{Fault}
-use Rattle.fc_isa.specs.declared.decoding.DecodeError.{DecodeError}
-use Rattle.fc_isa.specs.declared.decoding.DecodeError.TheVariants.{Fault as FaultAt, NoMemory as NoRoom}
+use Rattle.fc_isa.specs.declared.decoder.DecodeError.{DecodeError}
+use Rattle.fc_isa.specs.declared.decoder.DecodeError.TheVariants.{Fault as FaultAt, NoMemory as NoRoom}
 use Rattle.fc_isa.specs.Encoding.{Spells, IsDecodeError, first_fault, decoded_program}
 use Rattle.fc_isa.specs.Program.{IsInsn}
 use Rattle.fc_isa.specs.Rules.{number_of}

@@ -21,12 +21,12 @@ abbrev pub joined_in : Option (List Kind) → List Kind → Option (List Kind)
 joined_in None kinds = Some kinds
 joined_in (Some state) kinds = Some (joined state kinds)
 
-abbrev pub met : States → ℕ → List Kind → States
-met states slot kinds = slice_set states slot (joined_in (state_at states slot) kinds)
+abbrev pub meet_at : States → ℕ → List Kind → States
+meet_at states slot kinds = slice_set states slot (joined_in (state_at states slot) kinds)
 
 -- where it is later than the one that leads to it
 abbrev pub met_later : ℕ → States → ℕ → List Kind → States
-met_later from states slot kinds = if nat_lt from slot then met states slot kinds else states
+met_later from states slot kinds = if nat_lt from slot then meet_at states slot kinds else states
 
 -- the states, joined with what these ways from a slot hand to later ones
 abbrev pub led : ℕ → States → List Way → States

@@ -2,8 +2,8 @@
 -- and any slot of the program.
 use Rattle.std.specs.Prelude.{◌≡◌, ℕ, ◌<◌, ◌≤◌, List, None}
 use Rattle.fc_isa.specs.declared.rule.Fault.{Fault}
-use Rattle.fc_isa.specs.declared.decoding.DecodeError.{DecodeError}
-use Rattle.fc_isa.specs.declared.decoding.DecodeError.TheVariants.{Fault as FaultAt, NoMemory as NoRoom}
+use Rattle.fc_isa.specs.declared.decoder.DecodeError.{DecodeError}
+use Rattle.fc_isa.specs.declared.decoder.DecodeError.TheVariants.{Fault as FaultAt, NoMemory as NoRoom}
 use Rattle.fc_isa.specs.Rules.{number_of}
 use Rattle.fc_image.specs.Head.{head_fault, stated}
 use Rattle.fc_verify.specs.declared.refusal.Refusal.{Refusal}

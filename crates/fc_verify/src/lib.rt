@@ -38,10 +38,10 @@ pub mod refusal;
 mod settling;
 pub mod untyped;
 pub mod verified;
-pub mod verifying;
+pub mod verifier;
 
 pub use op::Op;
 pub use refusal::Refusal;
 pub use untyped::{Demand, Untyped};
 pub use verified::Verified;
-pub use verifying::verify;
+pub use verifier::verify;

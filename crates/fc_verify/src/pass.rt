@@ -21,7 +21,7 @@ ghost use Rattle.fc_kinds.specs.Ways.{ways_after};
 ghost use Rattle.fc_verify.specs.Heads.{IsLoopOf, gives_number, reached, settled};
 ghost use Rattle.fc_verify.specs.Runs.{IsTypedProgram, IsUntypedProgram};
 ghost use Rattle.fc_verify.specs.Stages.{Fails, IsRuleOf, IsTypingFault, IsUntyped, Stops};
-ghost use Rattle.fc_verify.specs.Pass.{IsWithin, beginning, is_typable, joined_in, led, met, met_by, met_later, pass, passed_by};
+ghost use Rattle.fc_verify.specs.Pass.{IsWithin, beginning, is_typable, joined_in, led, meet_at, met_by, met_later, pass, passed_by};
 ghost use Rattle.fc_verify.specs.Typing.{IsTypingOf, States, state_at};
 
 use crate::settling::{formed, gives_number, settled, unnumbered};
@@ -160,7 +160,7 @@ fn pass(
     requires here { state_at states.old slot ≡ Some regs.old }
     requires within { IsWithin (length states.old) (flow slot insn.now) }
     requires insn { IsInsn insn.now }
-    ensures met { result ≡ true → passed_by vars_size code.now beginning.now inside slot insn.now regs.old states.old ≡ Some states.new }
+    ensures meet_at { result ≡ true → passed_by vars_size code.now beginning.now inside slot insn.now regs.old states.old ≡ Some states.new }
     ensures refused { result ≡ false → passed_by vars_size code.now beginning.now inside slot insn.now regs.old states.old ≡ None }
     ensures kept { result ≡ false → states.new ≡ states.old }
 {
@@ -188,7 +188,7 @@ fn pass_head(
     requires here { slot < length states.old }
     requires within { IsWithin (length states.old) (flow slot insn.now) }
     requires insn { IsInsn insn.now }
-    ensures met { result ≡ true → passed_by vars_size code.now (Some head.now) inside slot insn.now regs.old states.old ≡ Some states.new }
+    ensures meet_at { result ≡ true → passed_by vars_size code.now (Some head.now) inside slot insn.now regs.old states.old ≡ Some states.new }
     ensures refused { result ≡ false → passed_by vars_size code.now (Some head.now) inside slot insn.now regs.old states.old ≡ None }
     ensures kept { result ≡ false → states.new ≡ states.old }
 {
@@ -221,7 +221,7 @@ fn pass_on(
     requires here { state_at states.old slot ≡ Some regs.old }
     requires within { IsWithin (length states.old) (flow slot insn.now) }
     requires insn { IsInsn insn.now }
-    ensures met { result ≡ true → met_by vars_size inside slot insn.now regs.old states.old ≡ Some states.new }
+    ensures meet_at { result ≡ true → met_by vars_size inside slot insn.now regs.old states.old ≡ Some states.new }
     ensures refused { result ≡ false → met_by vars_size inside slot insn.now regs.old states.old ≡ None }
     ensures kept { result ≡ false → states.new ≡ states.old }
 {
@@ -434,7 +434,7 @@ fn lead(from: usize, states: &mut [Option<Regs>], slot: usize, regs: &Regs)
 /// Joins kinds to a slot's state.
 fn meet(states: &mut [Option<Regs>], slot: usize, regs: &Regs)
     requires { slot < length states.old }
-    ensures { states.new ≡ met states.old slot regs.now }
+    ensures { states.new ≡ meet_at states.old slot regs.now }
 {
     join_in(&mut states[slot], regs);
 }

@@ -43,7 +43,7 @@ use Rattle.fc_workers.specs.Answers.{AreTallied, commit_changes, commit_overtaki
 use Rattle.fc_workers.specs.declared.call_log.CallLog.{CallLog}
 use Rattle.fc_workers.specs.Called.{BenchCall, InstallsProgram, LooksAt, RaisesWord, RemovesProgram, Shop, TellsReceipt}
 use Rattle.fc_workers.specs.Steps.{AreSeen, Follows, IsReady, IsStep, ListsOn, taken_at}
-use Rattle.fc_workers.specs.Work.{AreCalls, IsCallAt, IsCommitted, IsWorkedOff, HasCounted, stage_after, change_by, overtaking_by, refusal_by, taking_by, total}
+use Rattle.fc_workers.specs.Work.{AreCalls, IsCallAt, IsCommitted, IsWorkedOff, HasCounted, stage_after, change_by, overtaking_by, refusal_by, takings_made, total}
 
 -- the calls so far, and where they led the job
 pub record Walked {T : Type 0} (shop : Shop T) (number : ℕ) (job : Job) (stage : Stage) (before now : Share T) : Type 0 where
@@ -51,7 +51,7 @@ pub record Walked {T : Type 0} (shop : Shop T) (number : ℕ) (job : Job) (stage
   pub are : AreCalls shop number job calls before.log now.log
   pub stands : stage ≡ stage_after job calls
   pub ready : IsReady job stage
-  pub few : total taking_by calls ≤ taken_at stage
+  pub few : total takings_made calls ≤ taken_at stage
   pub counted : HasCounted shop job.origin.slot calls before now
 
 -- ---- a step in its room
@@ -408,7 +408,7 @@ walks_on shop number job {stage} {at} {next} {before} {now} {after} e w s =
           (subst (λ (x : Stage). IsCallAt shop number job x s.call now.log after.log) here s.is);
       stands = s.next;
       ready = s.follows.ready;
-      few = omega (arith, subst (λ (x : Stage). total taking_by w.calls ≤ taken_at x) e w.few, s.follows.few);
+      few = omega (arith, subst (λ (x : Stage). total takings_made w.calls ≤ taken_at x) e w.few, s.follows.few);
       counted = counts_on shop job.origin.slot w.calls s.call before now after w.counted s.counted;
     }
 
@@ -418,7 +418,7 @@ arrives shop number job stage content before now e w = record {
   calls = w.calls;
   are = w.are;
   ends = sym w.stands ∙ e;
-  few = subst (λ (x : Stage). total taking_by w.calls ≤ taken_at x) e w.few;
+  few = subst (λ (x : Stage). total takings_made w.calls ≤ taken_at x) e w.few;
   own = subst (λ (x : Stage). IsReady job x) e w.ready;
   counted = w.counted;
 }

@@ -27,7 +27,7 @@ use Rattle.fc_registry.specs.declared.note.Notification.{Notification}
 use Rattle.fc_registry.specs.Notes.{IsNoted}
 use Rattle.fc_registry.specs.Slots.{Shard, Slot, Ticket}
 use Rattle.fc_registry.specs.Turns.{due_job}
-use Rattle.fc_registry.specs.Watches.{due_place, handed, is_quiet, late_place, ticked_in}
+use Rattle.fc_registry.specs.Watches.{due_place, at_time, is_quiet, late_place, ticked_in}
 use Rattle.fc_registry.specs.declared.receipt.Receipt.{Receipt}
 use Rattle.fc_registry.specs.declared.shard.Removal.{Removal}
 use Rattle.fc_registry.specs.declared.shard.Removal.TheVariants.{Removed}
@@ -70,17 +70,17 @@ pub record IsTakingWith (Called : BenchCall → Type 0) (Logged : LoggedCall →
 -- some shard gives this turn at a moment, or none
 pub record IsSomeTurn (now : ℕ) (job : Option Job) : Type 0 where
   pub shard : Shard
-  pub job_is : job ≡ due_job (due_place (handed shard now)) (handed shard now)
+  pub job_is : job ≡ due_job (due_place (at_time shard now)) (at_time shard now)
 
 -- some shard that is ticked at a moment sends this again, or removes an observer, or does nothing
 pub record IsSomeTick (now : ℕ) (ticked : Ticked) : Type 0 where
   pub shard : Shard
-  pub ticked_is : ticked ≡ ticked_in (late_place (handed shard now)) (handed shard now)
+  pub ticked_is : ticked ≡ ticked_in (late_place (at_time shard now)) (at_time shard now)
 
 -- some shard has nothing late and nobody due at a moment, or it has
 pub record IsSomeQuiet (now : ℕ) (quiet : Bool) : Type 0 where
   pub shard : Shard
-  pub quiet_is : quiet ≡ is_quiet (handed shard now)
+  pub quiet_is : quiet ≡ is_quiet (at_time shard now)
 
 -- a notification of a turn by this message id, at a moment or a later one that its shard was handed, at some serial of its slot, to
 -- some observers, comes to this

@@ -11,9 +11,9 @@ use Rattle.fc_registry.specs.declared.job.Ask.{Ask}
 use Rattle.fc_registry.specs.declared.job.Ask.TheVariants.{Run}
 use Rattle.fc_registry.specs.declared.job.Job.{Job}
 use Rattle.fc_registry.specs.declared.receipt.Receipt.{Receipt}
-use Rattle.fc_workers.specs.declared.dispatch.Dispatched.{Dispatched}
-use Rattle.fc_workers.specs.declared.dispatch.Handover.{Handover}
-use Rattle.fc_workers.specs.declared.dispatch.Handover.TheVariants.{Every, Dear, Never}
+use Rattle.fc_workers.specs.declared.dispatcher.Dispatched.{Dispatched}
+use Rattle.fc_workers.specs.declared.dispatcher.Handover.{Handover}
+use Rattle.fc_workers.specs.declared.dispatcher.Handover.TheVariants.{Every, Dear, Never}
 use Rattle.fc_workers.specs.declared.call_log.CallLog.{CallLog}
 use Rattle.fc_workers.specs.Answers.{IsSomeDelivery, IsSomeReceipt, IsSomeTurn, saturated}
 use Rattle.fc_workers.specs.Called.{GivesTurn, HandsSignal, HearsDatagram, Shop}

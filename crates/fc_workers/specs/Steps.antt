@@ -8,7 +8,7 @@ use Rattle.fc_core.specs.Stages.{takings}
 use Rattle.fc_core.specs.Steps.{Call, next_stage}
 use Rattle.fc_workers.specs.declared.share.Share.{Share}
 use Rattle.fc_workers.specs.Called.{BenchCall, LooksAt, Shop}
-use Rattle.fc_workers.specs.Work.{IsCallAt, taking_by, HasCounted}
+use Rattle.fc_workers.specs.Work.{IsCallAt, takings_made, HasCounted}
 
 -- a job that is to take may take once more; a ticket is its job's, and so is an answer; a job that lists head words has yet one
 -- to read
@@ -55,7 +55,7 @@ pub record IsStep {T : Type 0} (s : Shop T) (number : ℕ) (job : Job) (old new 
   pub call : Call
   pub is : IsCallAt s number job old call before.log after.log
   pub next : new ≡ next_stage call
-  pub follows : Follows job old (taking_by call) new
+  pub follows : Follows job old (takings_made call) new
   pub counted : HasCounted s job.origin.slot (call ∷ []) before after
 
 -- it stands at a commit

@@ -27,9 +27,9 @@ use Rattle.fc_workers.specs.declared.share.Share.{Share}
 
 -- ---- what is counted of calls
 
-abbrev pub taking_by : Call → ℕ
-taking_by (Takes count taken) = 1
-taking_by other = 0
+abbrev pub takings_made : Call → ℕ
+takings_made (Takes count taken) = 1
+takings_made other = 0
 
 -- changes of the job's slot
 abbrev pub change_by : Call → ℕ
@@ -114,7 +114,7 @@ module _ {T : Type 0} (s : Shop T) where
     pub calls : List Call
     pub are : AreCalls number job calls before.log after.log
     pub ends : stage_after job calls ≡ ToAnswer content
-    pub few : total taking_by calls ≤ takings
+    pub few : total takings_made calls ≤ takings
     pub own : IsOf job content
     pub counted : HasCounted job.origin.slot calls before after
 
@@ -123,7 +123,7 @@ module _ {T : Type 0} (s : Shop T) where
   IsWorkedTo number job stage before after = (content : Content) × (stage ≡ ToAnswer content) × IsWorkedOff number job content before after
 
   -- a worker's share whose tallies of changes, jobs and replies are as before
-  pub record IsQuiet (before after : Share T) : Type 0 where
+  pub record HasSameTallies (before after : Share T) : Type 0 where
     pub tallies : (shard : ℕ) → shard < 8 → s.changes after.tallies shard ≡ s.changes before.tallies shard
     pub got : after.got ≡ before.got
     pub sent : after.sent ≡ before.sent
@@ -142,7 +142,7 @@ module _ {T : Type 0} (s : Shop T) where
     pub log : CallLog
     pub taking : IsTakingWith s.bench s.logged job taken before.log log
     pub told : IsTurnReply s turn taken reply log after.log
-    pub kept : IsQuiet before after
+    pub kept : HasSameTallies before after
 
   abbrev pub IsWorkedAs : Option ℕ → ℕ → Job → Share T → Share T → Option Emission → Type 0
   IsWorkedAs None number job before after reply = IsRequestWorked number job before after reply

@@ -27,7 +27,7 @@ pub struct Blanks {
 }
 
 impl Blanks {
-    /// Eight books of this many parts each.
+    /// Makes eight books of this many parts each.
     pub fn new(parts: u64) -> Blanks
         requires { 0 < parts }
         ensures { result.parts ≡ parts }

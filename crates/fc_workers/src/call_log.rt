@@ -8,7 +8,7 @@ pub struct CallLog {
 }
 
 impl CallLog {
-    /// The log of a worker that has called nobody.
+    /// Returns the log of a worker that has called nobody.
     pub fn new() -> CallLog {
         CallLog { state: 0 }
     }

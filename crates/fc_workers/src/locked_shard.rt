@@ -6,7 +6,7 @@ ghost use Rattle.fc_workers.specs.Counts.{HasEightSlots, counts, serials};
 
 use crate::books::{BookOf, Books};
 use crate::calls::{Change, ShardCall};
-use crate::counted::Counted;
+use crate::counted_shard::Counted;
 use crate::tally::Tally;
 use fc_registry::Shard;
 use std::sync::ledger::Blank;

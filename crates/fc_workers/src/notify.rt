@@ -3,7 +3,7 @@ ghost use Rattle.std.specs.Prelude.{◌≡◌, ◌+◌, ◌<◌};
 ghost use Rattle.fc_workers.specs.Answers.{saturated};
 ghost use Rattle.fc_workers.specs.Called.{shop};
 ghost use Rattle.fc_workers.specs.Outgoing.{IsFoundTold, IsGivenUp, IsNoteSent};
-ghost use Rattle.fc_workers.specs.Work.{IsQuiet, IsTurnWorked};
+ghost use Rattle.fc_workers.specs.Work.{HasSameTallies, IsTurnWorked};
 
 use crate::bench::Bench;
 use crate::share::Share;
@@ -58,7 +58,7 @@ impl<'a, B: Bench, G: Gate, W: Wire, M: Moments> Workshop<'a, B, G, W, M> {
         requires { turn.slot < 64 }
         ensures told { IsFoundTold (shop B.changes B.ended B.called B.logged M.is_moment M.is_random G.passed W.called)
             turn found.entry result share.old.log share.new.log }
-        ensures kept { IsQuiet (shop B.changes B.ended B.called B.logged M.is_moment M.is_random G.passed W.called) share.old share.new }
+        ensures kept { HasSameTallies (shop B.changes B.ended B.called B.logged M.is_moment M.is_random G.passed W.called) share.old share.new }
         ensures ended { B.ended share.new.tallies ≡ saturated (B.ended share.old.tallies + 1) }
     {
         let now = self.moments.now(rt);
@@ -92,7 +92,7 @@ impl<'a, B: Bench, G: Gate, W: Wire, M: Moments> Workshop<'a, B, G, W, M> {
         requires { turn.slot < 64 }
         ensures noted { IsNoteSent (shop B.changes B.ended B.called B.logged M.is_moment M.is_random G.passed W.called)
             told.now turn id result share.old.log share.new.log }
-        ensures kept { IsQuiet (shop B.changes B.ended B.called B.logged M.is_moment M.is_random G.passed W.called) share.old share.new }
+        ensures kept { HasSameTallies (shop B.changes B.ended B.called B.logged M.is_moment M.is_random G.passed W.called) share.old share.new }
         ensures ended { B.ended share.new.tallies ≡ saturated (B.ended share.old.tallies + 1) }
     {
         let now = self.moments.now(rt);
@@ -117,7 +117,7 @@ impl<'a, B: Bench, G: Gate, W: Wire, M: Moments> Workshop<'a, B, G, W, M> {
         requires { turn.slot < 64 }
         ensures given_up { IsGivenUp (shop B.changes B.ended B.called B.logged M.is_moment M.is_random G.passed W.called)
             turn result share.old.log share.new.log }
-        ensures kept { IsQuiet (shop B.changes B.ended B.called B.logged M.is_moment M.is_random G.passed W.called) share.old share.new }
+        ensures kept { HasSameTallies (shop B.changes B.ended B.called B.logged M.is_moment M.is_random G.passed W.called) share.old share.new }
         ensures ended { B.ended share.new.tallies ≡ saturated (B.ended share.old.tallies + 1) }
     {
         let log = &mut share.log;

@@ -47,7 +47,7 @@ impl<B: Books> Model for Reserve<B> {
 }
 
 impl<B: Books> Reserve<B> {
-    /// The tallies of a worker: one part of each book. They are asked for before the first change, and a part is kept.
+    /// Splits off the tallies of a worker: one part of each book. They are asked for before the first change, and a part is kept.
     pub fn split(&mut self) -> Tallies<B>
         requires parts { 1 < self.old.parts }
         requires changes { self.old.changes ≡ no_changes }
@@ -67,7 +67,7 @@ impl<B: Books> Reserve<B> {
         }
     }
 
-    /// The tallies of so many workers.
+    /// Splits off the tallies of so many workers.
     ///
     /// # Errors
     /// There was no memory for them.
@@ -128,7 +128,7 @@ impl<B: Books> Reserve<B> {
         }
     }
 
-    /// The changes of shards 0 to 7, each up to 2^64 - 1.
+    /// Returns the changes of shards 0 to 7, each up to 2^64 - 1.
     pub fn shown_each(&self) -> [u64; 8]
         ensures { result ≡ map saturated self.now.changes }
     {
@@ -144,7 +144,7 @@ impl<B: Books> Reserve<B> {
         ]
     }
 
-    /// How many jobs were ended, up to 2^64 - 1.
+    /// Returns how many jobs were ended, up to 2^64 - 1.
     pub fn ended(&self) -> u64
         ensures { result ≡ self.now.ended }
     {

@@ -27,7 +27,7 @@ pub struct Seat<T: Drop> {
 }
 
 impl<T: Drop> Seat<T> {
-    /// A seat with a new frame.
+    /// Makes a seat with a new frame.
     ///
     /// # Errors
     /// There was no memory for the frame.

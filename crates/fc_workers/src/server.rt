@@ -33,7 +33,7 @@ use crate::calls::{
     AdvanceIfQuiet, Change, Commit, Describe, GiveUp, Install, NextDue, Note, Remove, ShardCall,
     Signal, Take, Tick,
 };
-use crate::closed::Closed;
+use crate::closed::ClosedServer;
 use crate::device::Device;
 use crate::locked_shard::LockedShard;
 use crate::reserve::Reserve;
@@ -124,7 +124,7 @@ pub struct Locked<'a, B: Books, D: Device> {
 }
 
 impl<'a, B: Books, D: Device> Locked<'a, B, D> {
-    /// A server that holds nothing, with slots 0 to 63 empty, each at the first serial, and that draws this message id
+    /// Makes a server that holds nothing, with slots 0 to 63 empty, each at the first serial, and that draws this message id
     /// first. Its programs find this device's readings. It opens the books; the reserve has all their parts.
     ///
     /// # Errors
@@ -225,7 +225,7 @@ impl<'a, B: Books, D: Device> Locked<'a, B, D> {
 
     /// Closes the server, for a reserve that has all parts again: the serials of each shard have risen by the changes that
     /// were counted, which are shown.
-    pub fn close(self, reserve: &mut Reserve<B>) -> Closed
+    pub fn close(self, reserve: &mut Reserve<B>) -> ClosedServer
         requires { reserve.old.parts ≡ B.parts }
         ensures risen { map serials result.shards ≡ sums (map (λ n. 8 * n) result.first_serials) reserve.old.changes }
         ensures shown { result.changes ≡ map saturated reserve.old.changes }
@@ -238,7 +238,7 @@ impl<'a, B: Books, D: Device> Locked<'a, B, D> {
         let (shard5, first5) = self.shard5.close(&mut reserve.tally5);
         let (shard6, first6) = self.shard6.close(&mut reserve.tally6);
         let (shard7, first7) = self.shard7.close(&mut reserve.tally7);
-        Closed {
+        ClosedServer {
             shards: [
                 shard0, shard1, shard2, shard3, shard4, shard5, shard6, shard7,
             ],

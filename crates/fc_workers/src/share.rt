@@ -21,7 +21,7 @@ pub struct Share<T: Drop> {
 }
 
 impl<T: Drop> Share<T> {
-    /// The share of a worker that hasn't begun.
+    /// Makes the share of a worker that hasn't begun.
     pub fn new(got: Got, tallies: T) -> Share<T>
         ensures { result ≡ new_share got tallies result.log }
     {

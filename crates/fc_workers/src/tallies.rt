@@ -41,7 +41,7 @@ impl<B: Books> Model for Tallies<B> {
 }
 
 impl<B: Books> Tallies<B> {
-    /// The changes of a shard, by its index, up to 2^64 - 1.
+    /// Returns the changes of a shard, by its index, up to 2^64 - 1.
     pub fn shown(&self, shard: usize) -> u64
         requires { shard < 8 }
         ensures { result ≡ saturated (slice_index self.now.changes shard) }
@@ -58,7 +58,7 @@ impl<B: Books> Tallies<B> {
         }
     }
 
-    /// How many jobs it ended, up to 2^64 - 1.
+    /// Returns how many jobs it ended, up to 2^64 - 1.
     pub fn ended(&self) -> u64
         ensures { result ≡ self.now.ended }
     {

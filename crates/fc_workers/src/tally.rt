@@ -54,7 +54,7 @@ impl<L: Ledger> Tally<L> {
         book.audit(&mut self.share);
     }
 
-    /// A tally of one part, for another worker. It is asked for before the first change, and a part is kept.
+    /// Splits off a tally of one part, for another worker. It is asked for before the first change, and a part is kept.
     pub fn split(&mut self) -> Tally<L>
         requires parts { 1 < self.old.parts }
         requires changes { self.old.changes ≡ 0 }
@@ -76,7 +76,7 @@ impl<L: Ledger> Tally<L> {
         self.shown = self.shown.saturating_add(shown);
     }
 
-    /// The changes, up to 2^64 - 1.
+    /// Returns the changes, up to 2^64 - 1.
     pub fn shown(&self) -> u64
         ensures { result ≡ saturated self.now.changes }
     {

@@ -19,7 +19,7 @@ pub struct Tools {
 }
 
 impl Tools {
-    /// A frame, beside a new seat at a bench's head words, which has seen and raised nothing.
+    /// Makes a frame, beside a new seat at a bench's head words, which has seen and raised nothing.
     pub fn new<B: Bench>(bench: &B, frame: Frame) -> Tools
         ensures { result.heads ≡ record { table = B.heads bench.now; view = fresh } }
     {

@@ -1,6 +1,6 @@
 -- A state by its parts.
 use Rattle.fc_server.specs.Agreement.{Parts}
-use Rattle.fc_world.specs.declared.state.State.{State}
+use Rattle.fc_world.specs.declared.state.WorldState.{WorldState}
 
-abbrev pub parts : State → Parts
+abbrev pub parts : WorldState → Parts
 parts w = record { front = w.server.front; shards = w.server.shards; words = w.server.words; tasks = w.tasks.items }

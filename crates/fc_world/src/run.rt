@@ -7,7 +7,7 @@ ghost use Rattle.fc_core.specs.History.{history_of, seen, slot_at};
 ghost use Rattle.fc_core.specs.Legal.{IsLegal, AllMean};
 ghost use Rattle.fc_world.specs.Histories.{history_from};
 
-use crate::state::State;
+use crate::state::WorldState;
 use coap_msg::Emission;
 use fc_core::Event;
 use fc_registry::Shard;
@@ -68,13 +68,13 @@ pub fn run_world_from(
     ensures rings { IfOk result (λ w. (n : ℕ) → n < 64 → IsRing (slot_in_shards w.shards.items n)) }
     ensures means { IfOk result (λ w. AllMean (history_from begin events.now w.emissions.items)) }
 {
-    let mut state = State::new(alloc, begin)?;
+    let mut state = WorldState::new(alloc, begin)?;
     let mut emissions = Vec::new(alloc);
     for event in events {
         let emitted = state.step(alloc, event)?;
         emissions.push(emitted)?;
     }
-    let State { server, tasks: _ } = state;
+    let WorldState { server, tasks: _ } = state;
     Ok(World {
         emissions,
         shards: server.into_shards(),

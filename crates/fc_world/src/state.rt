@@ -18,13 +18,13 @@ use std::alloc::{AllocError, Global};
 
 /// A server, and all the jobs that came, each at its stage.
 #[derive(Drop)]
-pub struct State {
+pub struct WorldState {
     pub server: Server,
     pub tasks: Vec<Task>,
 }
 
 // What the calls of the server leave.
-impl State {
+impl WorldState {
     fn deliver(
         &mut self,
         now: u64,
@@ -88,13 +88,13 @@ impl State {
     }
 }
 
-impl State {
-    pub(crate) fn new(alloc: Global, begin: Begin) -> Result<State, AllocError>
+impl WorldState {
+    pub(crate) fn new(alloc: Global, begin: Begin) -> Result<WorldState, AllocError>
         requires { begin.serial ≤ last_serial }
         ensures serves { IfOk result (λ w. Serves (Begins begin.serial begin.id) w.server []) }
         ensures none { IfOk result (λ w. w.tasks.items ≡ []) }
     {
-        Ok(State {
+        Ok(WorldState {
             server: Server::new(alloc, begin.serial, begin.id)?,
             tasks: Vec::new(alloc),
         })

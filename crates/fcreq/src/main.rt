@@ -5,8 +5,8 @@ use clap::{Arg, ArgAction, ArgMatches, Command, Error, value_parser};
 use coap_opts::Method;
 use fc_cli::Status;
 use fc_cli::command_line::{VERSION, exit_code, parse, words};
-use fc_fetch::observer::Extent;
-use fc_fetch::{Asking, Observing, Shown, fetch, observe};
+use fc_fetch::observer::ObservationExtent;
+use fc_fetch::{FetchOptions, Observing, Shown, fetch, observe};
 use std::alloc::Global;
 use std::fs::File;
 use std::io;
@@ -217,7 +217,7 @@ fn observe_by<R: Runtime + AllocGlobal + Net + RandomSource, E: Write>(
         target,
         port: matches.get_one::<u16>("port"),
         shown: shown_by(matches),
-        extent: Extent {
+        extent: ObservationExtent {
             count: matches.get_one::<u32>("count"),
             seconds: matches.get_one::<u32>("seconds"),
         },
@@ -239,8 +239,8 @@ fn shown_by(matches: &ArgMatches<'_>) -> Shown {
 }
 
 // What the command line asks for.
-fn asking_of<'a>(matches: &ArgMatches<'a>) -> Option<Asking<'a>> {
-    Some(Asking {
+fn asking_of<'a>(matches: &ArgMatches<'a>) -> Option<FetchOptions<'a>> {
+    Some(FetchOptions {
         confirmable: !matches.get_flag("non"),
         method: matches.get_str("method").and_then(method_of)?,
         target: matches.get_str("target")?,
@@ -254,7 +254,7 @@ fn ask<R: Runtime + AllocGlobal + Net, I: Read, E: Write>(
     rt: &R,
     err: &mut E,
     input: &mut I,
-    asking: &Asking<'_>,
+    asking: &FetchOptions<'_>,
 ) -> anyhow::Result<Status> {
     let alloc = rt.alloc();
     let mut out = BufWriter::new(alloc, io::writer(rt))?;

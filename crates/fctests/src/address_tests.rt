@@ -3,7 +3,7 @@ use coap_client::Fetched;
 use coap_msg::Code;
 use fc_fetch::Shown;
 use fc_fetch::address::{Address, AddressError};
-use fc_fetch::printing::write_answer;
+use fc_fetch::printer::write_answer;
 use std::net::{Ipv4Addr, SocketAddrV4};
 use std::test::Fail;
 

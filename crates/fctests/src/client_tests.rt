@@ -1,6 +1,6 @@
 // Fetches from a server that follows a script: the datagrams are worked out by hand (RFC 7252, 3; RFC 7959, 2.2 and 3).
 use crate::scripted::{answers, check_sent, comes, fetched, follows, joined};
-use coap_client::{Fault, Path, PathError};
+use coap_client::{FetchFault, Path, PathError};
 use coap_opts::Method;
 use std::test::Fail;
 
@@ -53,7 +53,7 @@ fn no_success_leaves_a_block_out(rt: HostRuntime) -> Result<(), Fail> {
         let mut server = follows(rt.alloc());
         comes(&mut server, reply, &[])?;
         let answer = fetched(&mut server, Method::Put, "/p/1", &[7; 1500]);
-        assert!(rt; matches!(&answer, Err(Fault::Misfit)), "{reply:?}");
+        assert!(rt; matches!(&answer, Err(FetchFault::Misfit)), "{reply:?}");
     }
     Ok(())
 }
@@ -73,11 +73,11 @@ fn no_success_ends_it_before_the_server_has_all(rt: HostRuntime) -> Result<(), F
             &[(b"\x60\x5f\x00\x07\xd1\x0e\x0e", b""), (reply, b"")],
         )?;
         let answer = fetched(&mut server, Method::Put, "/p/1", &[7; 1500]);
-        assert!(rt; matches!(&answer, Err(Fault::Misfit)), "{reply:?}");
+        assert!(rt; matches!(&answer, Err(FetchFault::Misfit)), "{reply:?}");
     }
     let mut server = answers(rt.alloc(), &[(b"\x60\x5f\x00\x07", b"")])?;
     let answer = fetched(&mut server, Method::Put, "/p/1", &[7; 100]);
-    assert!(rt; matches!(&answer, Err(Fault::Misfit)));
+    assert!(rt; matches!(&answer, Err(FetchFault::Misfit)));
     Ok(())
 }
 
@@ -132,7 +132,7 @@ fn an_answer_that_changes_is_asked_for_anew(rt: HostRuntime) -> Result<(), Fail>
     check_sent(&rt, &server, 2, b"\x40\x01\x00\x09\xb1\x72\x01\x31", &[]);
     let mut server = answers(rt.alloc(), &[begun, changed])?;
     let answer = fetched(&mut server, Method::Post, "/r/1", &[]);
-    assert!(rt; matches!(&answer, Err(Fault::Changed)) && server.sent.len() == 2);
+    assert!(rt; matches!(&answer, Err(FetchFault::Changed)) && server.sent.len() == 2);
     Ok(())
 }
 
@@ -148,7 +148,7 @@ fn an_answer_that_changes_twice_is_a_fault(rt: HostRuntime) -> Result<(), Fail> 
         ],
     )?;
     let answer = fetched(&mut server, Method::Get, "/r/1", &[]);
-    assert!(rt; matches!(&answer, Err(Fault::Changed)) && server.sent.len() == 4);
+    assert!(rt; matches!(&answer, Err(FetchFault::Changed)) && server.sent.len() == 4);
     Ok(())
 }
 
@@ -189,12 +189,12 @@ fn a_request_is_sent_again(rt: HostRuntime) -> Result<(), Fail> {
 fn silence_and_a_reset_end_it(rt: HostRuntime) -> Result<(), Fail> {
     let mut silent = follows(rt.alloc());
     let answer = fetched(&mut silent, Method::Post, "/r/1", &[]);
-    assert!(rt; matches!(&answer, Err(Fault::Silence)));
+    assert!(rt; matches!(&answer, Err(FetchFault::Silence)));
     assert!(rt; silent.waits.as_slice() == [2, 4, 8, 16, 32].as_slice());
     let mut server = follows(rt.alloc());
     comes(&mut server, b"\x70\x00\x00\x07", &[])?;
     let answer = fetched(&mut server, Method::Post, "/r/1", &[]);
-    assert!(rt; matches!(&answer, Err(Fault::Rejected)));
+    assert!(rt; matches!(&answer, Err(FetchFault::Rejected)));
     Ok(())
 }
 

@@ -2,7 +2,7 @@
 use fc_asm::disassemble;
 use fc_isa::{
     AluOp, DecodeError, Fault, Insn, Jump, LoadType, Operand, Reg, Relation, Rule, Shape, Size,
-    Source, Target, Width, decode, encode, is_program,
+    SourceOperand, Target, Width, decode, encode, is_program,
 };
 use std::process::Abort;
 use std::test::Fail;
@@ -144,7 +144,7 @@ fn forms_are_told_by_the_opcode(rt: HostRuntime) {
     let divide = Shape::Alu {
         op: AluOp::Div,
         width: Width::W64,
-        source: Source::K,
+        source: SourceOperand::K,
     };
     assert!(rt; Shape::of(0x37) == divide);
     assert!(rt; Shape::of(0xff) == Shape::Unknown);

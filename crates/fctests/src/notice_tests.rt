@@ -2,12 +2,12 @@
 use crate::scripted::{Scripted, check_sent, comes, comes_at, follows};
 use crate::socket_tests::at_port;
 use coap_client::notice::{is_newer, notice_of};
-use coap_client::{Errand, Fault, Notice, Observer, Path, Target};
+use coap_client::{Errand, FetchFault, Notice, Observer, Path, RequestTarget};
 use coap_msg::read;
 use coap_msg::types::DATAGRAM;
 use coap_opts::Method;
 use fc_cli::Status;
-use fc_fetch::observer::{Extent, NotesError, print_notes};
+use fc_fetch::observer::{NotesError, ObservationExtent, print_notes};
 use fc_fetch::{Observing, Shown, observe};
 use fc_service::socket::open;
 use std::alloc::{AllocError, Global};
@@ -77,7 +77,7 @@ fn responses_are_noticed(rt: HostRuntime) {
 
 // What names slot 1.
 fn slot_one(alloc: Global) -> Result<Errand<'static>, Fail> {
-    let target = Target {
+    let target = RequestTarget {
         path: Path::parse(alloc, b"/r/1")?,
         query: Vec::new(alloc),
     };
@@ -104,7 +104,7 @@ fn printed(
         token: TOKEN,
         id: 7,
     };
-    let extent = Extent {
+    let extent = ObservationExtent {
         count: Some(count),
         seconds: Some(60),
     };
@@ -237,7 +237,7 @@ fn an_observer_prints_so_many_lines(rt: HostRuntime) -> Result<(), Fail> {
 }
 
 // What comes of an observer's deregistration, whose message id is 0.
-fn ended(alloc: Global, server: &mut Scripted, errand: &Errand<'_>) -> Result<(), Fault> {
+fn ended(alloc: Global, server: &mut Scripted, errand: &Errand<'_>) -> Result<(), FetchFault> {
     let observer = Observer {
         errand,
         token: TOKEN,
@@ -264,7 +264,7 @@ fn an_observer_ends(rt: HostRuntime) -> Result<(), Fail> {
     );
     let mut silent = follows(alloc);
     let silence = ended(alloc, &mut silent, &errand);
-    assert!(rt; matches!(&silence, Err(Fault::Silence)));
+    assert!(rt; matches!(&silence, Err(FetchFault::Silence)));
     assert!(rt; silent.waits.as_slice() == [2, 4, 8, 16, 32].as_slice());
     Ok(())
 }
@@ -275,7 +275,7 @@ fn a_registration_is_rejected(rt: HostRuntime) -> Result<(), Fail> {
     comes(&mut server, b"\x70\x00\x00\x07", &[])?;
     let errand = slot_one(rt.alloc())?;
     let shown = printed(rt.alloc(), &mut server, &errand, 1);
-    assert!(rt; matches!(&shown, Err(NotesError::Fault(Fault::Rejected))));
+    assert!(rt; matches!(&shown, Err(NotesError::Fault(FetchFault::Rejected))));
     assert!(rt; server.sent.len() == 1);
     Ok(())
 }
@@ -293,7 +293,7 @@ fn an_observer_of_nobody_is_status_3(rt: HostRuntime) -> Result<(), Fail> {
         target: "/r/1",
         port: Some(port),
         shown: Shown::Hex,
-        extent: Extent {
+        extent: ObservationExtent {
             count: Some(1),
             seconds: None,
         },

@@ -3,7 +3,7 @@ use crate::faulty::Full;
 use crate::tooling::assembled;
 use fc_cli::Status;
 use fc_help::Method;
-use fc_tools::asked::{Asked, AskedError, Part};
+use fc_tools::run_options::{Asked, AskedError, RunPart};
 use fc_tools::tools::run;
 use std::alloc::{AllocError, Global};
 use std::test::Fail;
@@ -30,7 +30,7 @@ fn readings_have_a_limit(rt: HostRuntime) -> Result<(), Fail> {
     assert!(rt; told.to_string(alloc)?.as_str() == "the readings' bytes are more than 64");
     let asked = Asked::new(alloc, Method::Get, "", "", None)?;
     let told = fault(asked.with_readings(alloc, "0")).ok_or("asked")?;
-    assert!(rt; told == AskedError::NoHex(Part::Readings));
+    assert!(rt; told == AskedError::NoHex(RunPart::Readings));
     Ok(())
 }
 
@@ -52,11 +52,11 @@ fn fault(asked: Result<Asked, AskedError>) -> Option<AskedError> {
 fn what_is_asked_is_hex_within_limits(rt: HostRuntime) -> Result<(), Fail> {
     let alloc = rt.alloc();
     let odd = fault(Asked::new(alloc, Method::Get, "0", "", None));
-    assert!(rt; odd == Some(AskedError::NoHex(Part::Payload)));
+    assert!(rt; odd == Some(AskedError::NoHex(RunPart::Payload)));
     let no_digit = fault(Asked::new(alloc, Method::Get, "", "0g", None));
-    assert!(rt; no_digit == Some(AskedError::NoHex(Part::Query)));
+    assert!(rt; no_digit == Some(AskedError::NoHex(RunPart::Query)));
     let no_vars = fault(Asked::new(alloc, Method::Get, "", "", Some("0x")));
-    assert!(rt; no_vars == Some(AskedError::NoHex(Part::Variables)));
+    assert!(rt; no_vars == Some(AskedError::NoHex(RunPart::Variables)));
     let (payload, query, vars) = (zeros(alloc, 1024)?, zeros(alloc, 64)?, zeros(alloc, 256)?);
     let most = Asked::new(alloc, Method::Get, &payload, &query, Some(&vars));
     assert!(rt; fault(most) == None);
@@ -65,7 +65,7 @@ fn what_is_asked_is_hex_within_limits(rt: HostRuntime) -> Result<(), Fail> {
     assert!(rt;
         fault_is
             == Some(AskedError::TooLong {
-                part: Part::Payload,
+                part: RunPart::Payload,
                 most: 1024,
             })
     );

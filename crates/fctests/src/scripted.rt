@@ -1,5 +1,5 @@
 // A server that follows a script, for tests of the client.
-use coap_client::{Errand, Fault, Fetched, Path, Peer, Target, fetch};
+use coap_client::{Errand, FetchFault, Fetched, Path, Peer, RequestTarget, fetch};
 use coap_msg::Datagram;
 use coap_opts::Method;
 use std::alloc::{AllocError, Global};
@@ -96,7 +96,7 @@ pub(crate) fn fetched(
     method: Method,
     path: &str,
     payload: &[u8],
-) -> Result<Fetched, Fault> {
+) -> Result<Fetched, FetchFault> {
     asked(server, true, method, path, payload)
 }
 
@@ -107,17 +107,17 @@ pub(crate) fn asked(
     method: Method,
     path: &str,
     payload: &[u8],
-) -> Result<Fetched, Fault> {
+) -> Result<Fetched, FetchFault> {
     let path = match Path::parse(server.alloc, path.as_bytes()) {
         Ok(path) => path,
-        Err(_) => return Err(Fault::Memory(AllocError)),
+        Err(_) => return Err(FetchFault::Memory(AllocError)),
     };
-    let target = Target {
+    let target = RequestTarget {
         path,
         query: Vec::new(server.alloc),
     };
     let Some(errand) = Errand::new(confirmable, method, target, payload) else {
-        return Err(Fault::Memory(AllocError));
+        return Err(FetchFault::Memory(AllocError));
     };
     fetch(server.alloc, server, &errand, 7)
 }

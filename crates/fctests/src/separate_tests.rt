@@ -1,6 +1,6 @@
 // Responses that come in messages of their own (RFC 7252, 5.2.2 and 5.2.3).
 use crate::scripted::{answers, asked, check_sent, fetched};
-use coap_client::Fault;
+use coap_client::FetchFault;
 use coap_opts::Method;
 use std::test::Fail;
 
@@ -37,7 +37,7 @@ fn a_non_confirmable_response_is_taken(rt: HostRuntime) -> Result<(), Fail> {
 fn an_acknowledged_request_is_not_sent_again(rt: HostRuntime) -> Result<(), Fail> {
     let mut server = answers(rt.alloc(), &[(b"", b""), (b"\x60\x00\x00\x07", b"")])?;
     let answer = fetched(&mut server, Method::Get, "/r/1", &[]);
-    assert!(rt; matches!(&answer, Err(Fault::Silence)));
+    assert!(rt; matches!(&answer, Err(FetchFault::Silence)));
     assert!(rt; server.sent.len() == 2 && server.waits.as_slice() == [2, 4, 93].as_slice());
     Ok(())
 }
@@ -89,7 +89,7 @@ fn a_non_confirmable_request_goes_once(rt: HostRuntime) -> Result<(), Fail> {
     check_sent(&rt, &server, 0, b"\x50\x01\x00\x07\xb1\x72\x01\x31", &[]);
     let mut silent = answers(rt.alloc(), &[])?;
     let answer = asked(&mut silent, false, Method::Get, "/r/1", &[]);
-    assert!(rt; matches!(&answer, Err(Fault::Silence)));
+    assert!(rt; matches!(&answer, Err(FetchFault::Silence)));
     assert!(rt; silent.sent.len() == 1 && silent.waits.as_slice() == [32].as_slice());
     Ok(())
 }

@@ -1,6 +1,6 @@
 // A server that names a smaller size of blocks: the client goes on in that size (RFC 7959, 2.3 to 2.5).
 use crate::scripted::{answers, check_sent, fetched};
-use coap_client::Fault;
+use coap_client::FetchFault;
 use coap_opts::Method;
 use std::test::Fail;
 
@@ -140,7 +140,7 @@ fn a_block_that_was_not_asked_for_is_a_fault(rt: HostRuntime) -> Result<(), Fail
             ],
         )?;
         let answer = fetched(&mut server, Method::Get, "/r/1", &[]);
-        assert!(rt; matches!(&answer, Err(Fault::Misfit)), "{reply:?}");
+        assert!(rt; matches!(&answer, Err(FetchFault::Misfit)), "{reply:?}");
     }
     Ok(())
 }

@@ -5,7 +5,7 @@ use crate::tooling::assembled;
 use coap_msg::{Emission, Endpoint};
 use coap_opts::Method;
 use fc_cli::Status;
-use fc_fetch::{Asking, Shown, fetch};
+use fc_fetch::{FetchOptions, Shown, fetch};
 use fc_service::sensors::NoSensors;
 use fc_service::serve::{Extent, Listening, serve, serve_at};
 use fc_service::socket::{Buffer, Sink, Source, open};
@@ -49,7 +49,7 @@ pub(crate) fn check_asked<R: Abort + Net + Clock + AllocGlobal>(
     let alloc = rt.alloc();
     let mut out = Vec::new(alloc);
     let mut err = Vec::new(alloc);
-    let asking = Asking {
+    let asking = FetchOptions {
         confirmable: true,
         method,
         target: path,
@@ -172,7 +172,7 @@ fn a_refused_port_is_status_3(rt: HostRuntime) -> Result<(), Fail> {
     drop(socket);
     let mut out = Vec::new(alloc);
     let mut err = Vec::new(alloc);
-    let asking = Asking {
+    let asking = FetchOptions {
         confirmable: true,
         method: Method::Get,
         target: "/r/1",

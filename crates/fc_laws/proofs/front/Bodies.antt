@@ -23,7 +23,7 @@ use Rattle.fc_core.specs.declared.event.Event.{Event}
 use Rattle.fc_core.specs.declared.event.Event.TheVariants.{Deliver, Answer, Fresh, Tick}
 use Rattle.coap_reply.specs.Blocks.{cut_for}
 use Rattle.fc_laws.specs.BodyLaws.{Asks, BringsInstall, FitsBy, IsAskedAnew, PutsBlock, addition_at, addition_by, asked_at, continue_by}
-use Rattle.fc_laws.specs.ExchangeLaws.{IsAsking}
+use Rattle.fc_laws.specs.ExchangeLaws.{IsOnRequest}
 use Rattle.fc_core.specs.History.{Entry, History, Begins, Then, Seen, and_then, did, front_at, received_at, seen, stage, at_front, moment_by, additions_by}
 use Rattle.fc_core.specs.Legal.{Emits}
 use Rattle.fc_core.specs.Receiving.{Received, Silenced, Refused, Settled, Opened, add_in, added_by, addition_of, ask_by, brought, job_of, look_in, looked, next_opening, received_added, received_as, received_read, request_received, sent, slot_asked}
@@ -130,7 +130,7 @@ looked_adds (IsAgain bytes) m new at to none = refl
 looked_adds IsTableFull m new at to none = refl
 
 message_adds : (s : Seen) (now : ℕ) (to : Endpoint) (bytes : List ℕ) (m : Message) (v : Verdict) (at : ℕ) → reading_of bytes ≡ Ok m → verdict m ≡ v → ((r : Asked) → IsAskedAnew s now to bytes m r → ⊥) → added_by (received_as (front_at s now) to m v) at to ≡ []
-message_adds s now to bytes m (IsAsked r) at read is not = looked_adds (look_in (front_at s now) to m) m (request_received (front_at s now) to m r) at to (λ new. absurd (not r (record { opens = opening_of s now to bytes m read (subst IsAsking (sym is) tt) new; read = read; asks = is })))
+message_adds s now to bytes m (IsAsked r) at read is not = looked_adds (look_in (front_at s now) to m) m (request_received (front_at s now) to m r) at to (λ new. absurd (not r (record { opens = opening_of s now to bytes m read (subst IsOnRequest (sym is) tt) new; read = read; asks = is })))
 message_adds s now to bytes m (IsRefused answer) at read is not = looked_adds (look_in (front_at s now) to m) m (Refused m answer) at to (λ new. refl)
 message_adds s now to bytes m IsSilent at read is not = looked_adds (look_in (front_at s now) to m) m (Silenced m) at to (λ new. refl)
 message_adds s now to bytes m IsReset at read is not = refl

@@ -19,7 +19,7 @@ use Rattle.fc_registry.specs.declared.job.Opening.{Opening}
 use Rattle.fc_core.specs.declared.event.Event.{Event}
 use Rattle.fc_core.specs.declared.event.Event.TheVariants.{Deliver, Answer}
 use Rattle.fc_core.specs.Exchanges.{FrontState}
-use Rattle.fc_laws.specs.ExchangeLaws.{Arrival, ArrivesBy, IsAsking, IsOpening, IsRepeat, Opens, OpensOne, Repeats, again, arrival_of, arrivals, is_within, repeat_emits, repeated}
+use Rattle.fc_laws.specs.ExchangeLaws.{Arrival, ArrivesBy, IsOnRequest, IsOpening, IsRepeat, Opens, OpensOne, Repeats, again, arrival_of, arrivals, is_within, repeat_emits, repeated}
 use Rattle.fc_core.specs.History.{Entry, Seen, and_then, answered_in, exchanges_received, front_at, job, received_at, stage, tasks_brought, tasks_moved, at_front, exchanges_by, additions_by, ids_by}
 use Rattle.fc_core.specs.Ids.{Ids}
 use Rattle.fc_core.specs.Legal.{Emits}
@@ -45,7 +45,7 @@ new_as f to (IsAsked asked) m = request_received f to m asked
 new_as f to (IsRefused answer) m = Refused m answer
 new_as f to other m = Silenced m
 
-asking_looked : (f : FrontState) (to : Endpoint) (m : Message) (v : Verdict) → IsAsking v → received_as f to m v ≡ looked (look_in f to m) m (new_as f to v m)
+asking_looked : (f : FrontState) (to : Endpoint) (m : Message) (v : Verdict) → IsOnRequest v → received_as f to m v ≡ looked (look_in f to m) m (new_as f to v m)
 asking_looked f to m (IsAsked asked) a = refl
 asking_looked f to m (IsRefused answer) a = refl
 asking_looked f to m IsSilent a = refl
@@ -63,7 +63,7 @@ room_at s at = has_room (length (filter (is_within at) s.exchanges)) (length s.e
 pub look_is : (s : Seen) (now : ℕ) (to : Endpoint) (m : Message) → look_in (front_at s now) to m ≡ look_by (repeated s (max s.moment now) to m.id) (room_at s (max s.moment now))
 look_is s now to m = ap (λ o. look_by o (room_at s (max s.moment now))) (find-filter (is_of to m.id) (is_within (max s.moment now)) s.exchanges)
 
-pub request_is : (s : Seen) (now : ℕ) (to : Endpoint) (bytes : List ℕ) (m : Message) (o : Option Exchange) → reading_of bytes ≡ Ok m → IsAsking (verdict m) → repeated s (max s.moment now) to m.id ≡ o → received_at s now to bytes ≡ looked (look_by o (room_at s (max s.moment now))) m (new_as (front_at s now) to (verdict m) m)
+pub request_is : (s : Seen) (now : ℕ) (to : Endpoint) (bytes : List ℕ) (m : Message) (o : Option Exchange) → reading_of bytes ≡ Ok m → IsOnRequest (verdict m) → repeated s (max s.moment now) to m.id ≡ o → received_at s now to bytes ≡ looked (look_by o (room_at s (max s.moment now))) m (new_as (front_at s now) to (verdict m) m)
 request_is s now to bytes m o read asks is =
     received_of (front_at s now) to bytes (Ok m) read
     ∙ (asking_looked (front_at s now) to m (verdict m) asks
@@ -231,7 +231,7 @@ looked_opens IsAnsweredNon m new o to ne = refl
 looked_opens (IsAgain bytes) m new o to ne = refl
 looked_opens IsFull m new o to ne = refl
 
-pub opening_of : (s : Seen) (now : ℕ) (to : Endpoint) (bytes : List ℕ) (m : Message) → reading_of bytes ≡ Ok m → IsAsking (verdict m) → look_in (front_at s now) to m ≡ IsNew → IsOpening s now to bytes
+pub opening_of : (s : Seen) (now : ℕ) (to : Endpoint) (bytes : List ℕ) (m : Message) → reading_of bytes ≡ Ok m → IsOnRequest (verdict m) → look_in (front_at s now) to m ≡ IsNew → IsOpening s now to bytes
 opening_of s now to bytes m read asks is =
     let at = max s.moment now in
     let new = new_look (repeated s at to m.id) (room_at s at) (sym (look_is s now to m) ∙ is) in
@@ -239,9 +239,9 @@ opening_of s now to bytes m read asks is =
     record { message = m; read = read; asks = asks; new = new.none; room = ltb-true (length (filter (is_within at) s.exchanges)) 1024 parts.0; numbers = ltb-true (length s.exchanges) 18446744073709551615 parts.1 }
 
 asked_opens : (s : Seen) (now : ℕ) (to : Endpoint) (bytes : List ℕ) (m : Message) (v : Verdict) (o : Opening) → reading_of bytes ≡ Ok m → verdict m ≡ v → (IsOpening s now to bytes → ⊥) → length (opened_by (received_as (front_at s now) to m v) o to) ≡ 0
-asked_opens s now to bytes m (IsAsked asked) o read is not = looked_opens (look_in (front_at s now) to m) m (request_received (front_at s now) to m asked) o to (λ new. not (opening_of s now to bytes m read (subst IsAsking (sym is) tt) new))
-asked_opens s now to bytes m (IsRefused answer) o read is not = looked_opens (look_in (front_at s now) to m) m (Refused m answer) o to (λ new. not (opening_of s now to bytes m read (subst IsAsking (sym is) tt) new))
-asked_opens s now to bytes m IsSilent o read is not = looked_opens (look_in (front_at s now) to m) m (Silenced m) o to (λ new. not (opening_of s now to bytes m read (subst IsAsking (sym is) tt) new))
+asked_opens s now to bytes m (IsAsked asked) o read is not = looked_opens (look_in (front_at s now) to m) m (request_received (front_at s now) to m asked) o to (λ new. not (opening_of s now to bytes m read (subst IsOnRequest (sym is) tt) new))
+asked_opens s now to bytes m (IsRefused answer) o read is not = looked_opens (look_in (front_at s now) to m) m (Refused m answer) o to (λ new. not (opening_of s now to bytes m read (subst IsOnRequest (sym is) tt) new))
+asked_opens s now to bytes m IsSilent o read is not = looked_opens (look_in (front_at s now) to m) m (Silenced m) o to (λ new. not (opening_of s now to bytes m read (subst IsOnRequest (sym is) tt) new))
 asked_opens s now to bytes m IsReset o read is not = refl
 asked_opens s now to bytes m (IsSignal reset) o read is not = refl
 asked_opens s now to bytes m IsIgnored o read is not = refl

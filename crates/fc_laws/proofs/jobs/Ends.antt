@@ -13,7 +13,7 @@ use Rattle.fc_core.specs.Stage.{ToTake, ToCommit, ToInstall, ToRaise, ToAnswer, 
 use Rattle.fc_core.specs.TurnStage as turns
 use Rattle.fc_core.specs.Contents.{Content, Unavailable}
 use Rattle.fc_core.specs.History.{around, Entry, History, Then, Seen, seen, and_then, did, job, scene, slot_at, stage, task_at}
-use Rattle.fc_core.specs.Laws.{HasCome, Taking, answers_of, gives, is_answered, is_named, later, slot_of, takings_of}
+use Rattle.fc_core.specs.Laws.{HasCome, Taking, answers_of, gives, is_answered, is_named, followed_by, slot_of, takings_of}
 use Rattle.fc_core.specs.Stages.{first_by, took}
 use Rattle.fc_core.specs.Rows.{Around, Scene, row}
 use Rattle.fc_core.proofs.ByStep.{Step, by_move, by_step, event_by, move_by, stage_by}
@@ -96,7 +96,7 @@ answered_gone h k le = answered_by (stage (seen h) k) (answers_of h k) (answers_
 row_gone : (e : Event) (job : Job) (slot : Slot) (ws : Around) (s : Stage) → s ≡ Gone → (row e (at job slot ws s)).stage ≡ Gone
 row_gone e job slot ws s is = ap (λ (x : Stage). (row e (at job slot ws x)).stage) is ∙ gone_stays e job slot ws
 
-pub gone_later : (h : History) (rs : List Entry) (k : ℕ) → HasCome (seen h) k → stage (seen h) k ≡ Gone → stage (seen (later h rs)) k ≡ Gone
+pub gone_later : (h : History) (rs : List Entry) (k : ℕ) → HasCome (seen h) k → stage (seen h) k ≡ Gone → stage (seen (followed_by h rs)) k ≡ Gone
 gone_later h rs k come is = kept_later (λ s. s ≡ Gone) row_gone rs h k come is
 
 pub lost_gone : (s : Seen) (k : ℕ) (o : Option Emission) → HasCome s k → stage (and_then (did (Lose k) o) s) k ≡ Gone
@@ -158,7 +158,7 @@ none_more : (b : Bool) (new ts : List Taking) → new ≡ [] → (if b then new 
 none_more true new ts is = ap (λ (l : List Taking). l ++ ts) is
 none_more false new ts is = refl
 
-settled_later : (rs : List Entry) (h : History) (k : ℕ) → HasCome (seen h) k → IsSettled (stage (seen h) k) → takings_of (later h rs) k ≡ takings_of h k
+settled_later : (rs : List Entry) (h : History) (k : ℕ) → HasCome (seen h) k → IsSettled (stage (seen h) k) → takings_of (followed_by h rs) k ≡ takings_of h k
 unfolding seen
 settled_later [] h k come f = refl
 settled_later (r ∷ rs) h k come f =
@@ -166,5 +166,5 @@ settled_later (r ∷ rs) h k come f =
     settled_later rs (Then h r) k (still_here r s k come) (kept_by IsSettled row_settled r s k (task_at (and_then r s).tasks k) (becomes r s k) come f)
     ∙ none_more (is_named k r.event) (gives r.event (scene s k) (s.changes (slot_of s k))) (takings_of h k) (settled_given r.event (job s k) (slot_at s (slot_of s k)) (around s (slot_of s k)) (s.changes (slot_of s k)) (stage s k) f)
 
-pub none_taken_later : (h : History) (rs : List Entry) (k : ℕ) (content : Content) → stage (seen h) k ≡ ToAnswer content → takings_of (later h rs) k ≡ takings_of h k
+pub none_taken_later : (h : History) (rs : List Entry) (k : ℕ) (content : Content) → stage (seen h) k ≡ ToAnswer content → takings_of (followed_by h rs) k ≡ takings_of h k
 none_taken_later h rs k content is = settled_later rs h k (is_here (seen h) k (ToAnswer content) is (λ e. absurd (cc e))) (subst IsSettled (sym is) tt)

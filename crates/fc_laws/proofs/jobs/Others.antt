@@ -9,7 +9,7 @@ use Rattle.fc_core.specs.Stage.{Stage}
 use Rattle.fc_core.specs.Stage.{Gone}
 use Rattle.fc_core.specs.declared.stage.Task.{Task}
 use Rattle.fc_core.specs.History.{Entry, History, Then, Seen, seen, and_then, changes_after, job, no_task, scene, stage, task_at}
-use Rattle.fc_core.specs.Laws.{HasCome, later, slot_of}
+use Rattle.fc_core.specs.Laws.{HasCome, followed_by, slot_of}
 use Rattle.fc_core.specs.Rows.{Around, names, row}
 use Rattle.fc_laws.proofs.jobs.Steps.{Becomes, Moves, Stays, Comes, becomes, tasks_grow}
 
@@ -64,7 +64,7 @@ kept_by Q keeps r s k t (Stays other is) come q = subst (λ (x : Task). Q x.stag
 kept_by Q keeps r s k t (Comes new j is) come q = absurd (omega (arith, new, come))
 
 -- and after what follows
-pub kept_later : (Q : Stage → Type 0) → ((e : Event) (j : Job) (slot : Slot) (ws : Around) (at : Stage) → Q at → Q (row e (record { job = j; slot = slot; around = ws; stage = at })).stage) → (rs : List Entry) (h : History) (k : ℕ) → HasCome (seen h) k → Q (stage (seen h) k) → Q (stage (seen (later h rs)) k)
+pub kept_later : (Q : Stage → Type 0) → ((e : Event) (j : Job) (slot : Slot) (ws : Around) (at : Stage) → Q at → Q (row e (record { job = j; slot = slot; around = ws; stage = at })).stage) → (rs : List Entry) (h : History) (k : ℕ) → HasCome (seen h) k → Q (stage (seen h) k) → Q (stage (seen (followed_by h rs)) k)
 unfolding seen
 kept_later Q keeps [] h k come q = q
 kept_later Q keeps (r ∷ rs) h k come q = kept_later Q keeps rs (Then h r) k (still_here r (seen h) k come) (kept_by Q keeps r (seen h) k (task_at (and_then r (seen h)).tasks k) (becomes r (seen h) k) come q)

@@ -16,7 +16,7 @@ use Rattle.fc_core.specs.TurnStage.{TurnStage}
 use Rattle.fc_core.specs.TurnStage as turns
 use Rattle.fc_core.specs.Fits.{FitsStage}
 use Rattle.fc_core.specs.History.{Entry, History, Begins, Then, Seen, seen, and_then, around, did, job, no_task, slot_at, stage, task_at}
-use Rattle.fc_core.specs.Laws.{HasCome, later, slot_of}
+use Rattle.fc_core.specs.Laws.{HasCome, followed_by, slot_of}
 use Rattle.fc_core.specs.Stages.{first_or_turn, first_stage, turn_took}
 use Rattle.fc_core.specs.Rows.{Around, Scene, names, row}
 use Rattle.fc_core.proofs.ByStep.{Step, by_move, move_by, stage_by}
@@ -97,7 +97,7 @@ request_apart h k turn needs none is =
 -- ---- its end
 
 -- a job that an event leaves gone is gone for ever
-gone_ever : (h : History) (r : Entry) (rs : List Entry) (k : ℕ) → HasCome (seen h) k → stage (and_then r (seen h)) k ≡ Gone → stage (seen (later (Then h r) rs)) k ≡ Gone
+gone_ever : (h : History) (r : Entry) (rs : List Entry) (k : ℕ) → HasCome (seen h) k → stage (and_then r (seen h)) k ≡ Gone → stage (seen (followed_by (Then h r) rs)) k ≡ Gone
 unfolding seen
 gone_ever h r rs k come gone = gone_later (Then h r) rs k (still_here r (seen h) k come) gone
 
@@ -109,11 +109,11 @@ noted_gone s k now random id turn found o is =
     named_stage (did (Note k now random) o) s k (came_to_tell s k turn (turns.ToNote found id) is) refl
     ∙ ap (λ (st : Stage). (row (Note k now random) (at (job s k) (slot_at s (slot_of s k)) (around s (slot_of s k)) st)).stage) is
 
-pub noted_ever : (h : History) (rs : List Entry) (k now random id : ℕ) (turn : Turn) (found : Option Ticket) (o : Option Emission) → stage (seen h) k ≡ ToTell turn (turns.ToNote found id) → stage (seen (later (Then h (did (Note k now random) o)) rs)) k ≡ Gone
+pub noted_ever : (h : History) (rs : List Entry) (k now random id : ℕ) (turn : Turn) (found : Option Ticket) (o : Option Emission) → stage (seen h) k ≡ ToTell turn (turns.ToNote found id) → stage (seen (followed_by (Then h (did (Note k now random) o)) rs)) k ≡ Gone
 noted_ever h rs k now random id turn found o is = gone_ever h (did (Note k now random) o) rs k (came_to_tell (seen h) k turn (turns.ToNote found id) is) (noted_gone (seen h) k now random id turn found o is)
 
-pub given_up_ever : (h : History) (rs : List Entry) (k now : ℕ) (turn : Turn) (needs : TurnStage) (o : Option Emission) → stage (seen h) k ≡ ToTell turn needs → stage (seen (later (Then h (did (GiveUp k now) o)) rs)) k ≡ Gone
+pub given_up_ever : (h : History) (rs : List Entry) (k now : ℕ) (turn : Turn) (needs : TurnStage) (o : Option Emission) → stage (seen h) k ≡ ToTell turn needs → stage (seen (followed_by (Then h (did (GiveUp k now) o)) rs)) k ≡ Gone
 given_up_ever h rs k now turn needs o is = gone_ever h (did (GiveUp k now) o) rs k (came_to_tell (seen h) k turn needs is) (given_up_gone (seen h) k now turn needs o is)
 
-pub lost_ever : (h : History) (rs : List Entry) (k : ℕ) (o : Option Emission) → HasCome (seen h) k → stage (seen (later (Then h (did (Lose k) o)) rs)) k ≡ Gone
+pub lost_ever : (h : History) (rs : List Entry) (k : ℕ) (o : Option Emission) → HasCome (seen h) k → stage (seen (followed_by (Then h (did (Lose k) o)) rs)) k ≡ Gone
 lost_ever h rs k o come = gone_ever h (did (Lose k) o) rs k come (lost_gone (seen h) k o come)

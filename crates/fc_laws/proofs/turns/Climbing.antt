@@ -23,7 +23,7 @@ use Rattle.fc_core.specs.Stage.{Stage}
 use Rattle.fc_core.specs.Stage.{ToTell}
 use Rattle.fc_core.specs.TurnStage as turns
 use Rattle.fc_core.specs.History.{Entry, History, Then, Seen, seen, and_then, around, calls_by, calls_named, did, due_in, is_place_of, job, late_in, scene, slot_at, stage, watch, at_shard}
-use Rattle.fc_core.specs.Laws.{later, slot_of}
+use Rattle.fc_core.specs.Laws.{followed_by, slot_of}
 use Rattle.fc_laws.specs.ObserveLaws.{NoneRegisters, Registers}
 use Rattle.fc_core.specs.Rows.{names, row}
 use Rattle.fc_laws.specs.TurnLaws.{moment_at}
@@ -124,7 +124,7 @@ module _ (n m : ℕ) (to : Endpoint) (token : List ℕ) where
     from_next : All (SentFrom m to token) (watch (and_then r (seen h)) n).held
     from_next = from_by (names e) refl
 
-  from_later : (rs : List Entry) (h : History) → NoneRegisters h rs n to token → All (SentFrom m to token) (watch (seen h) n).held → All (SentFrom m to token) (watch (seen (later h rs)) n).held
+  from_later : (rs : List Entry) (h : History) → NoneRegisters h rs n to token → All (SentFrom m to token) (watch (seen h) n).held → All (SentFrom m to token) (watch (seen (followed_by h rs)) n).held
   unfolding seen
   from_later [] h none from = from
   from_later (r ∷ rs) h none from = from_later rs (Then h r) none.1 (from_next h r none.0 from)
@@ -172,7 +172,7 @@ module _ (h : History) (k now random id : ℕ) (turn : Turn) (t : Ticket) (o : O
   noted_seen emitted = noted_from emitted
 
   -- a later notification of that observer
-  pub serials_climb : (rs : List Entry) (g : History) (j next other : ℕ) (next_turn : Turn) (u : Ticket) (x : ObserverEntry) (emitted : Option Emission) → NoneRegisters (Then h (did (Note k now random) emitted)) rs n to token → g ≡ later (Then h (did (Note k now random) emitted)) rs → stage (seen g) j ≡ ToTell next_turn (turns.ToNote (Some u) other) → slot_of (seen g) j ≡ n → entry_out next_turn (at_moment next (watch (seen g) n)) ≡ Some x → is_entry_of to token x ≡ true → t.serial < u.serial
+  pub serials_climb : (rs : List Entry) (g : History) (j next other : ℕ) (next_turn : Turn) (u : Ticket) (x : ObserverEntry) (emitted : Option Emission) → NoneRegisters (Then h (did (Note k now random) emitted)) rs n to token → g ≡ followed_by (Then h (did (Note k now random) emitted)) rs → stage (seen g) j ≡ ToTell next_turn (turns.ToNote (Some u) other) → slot_of (seen g) j ≡ n → entry_out next_turn (at_moment next (watch (seen g) n)) ≡ Some x → is_entry_of to token x ≡ true → t.serial < u.serial
   serials_climb rs g j next other next_turn u x emitted none same is_next slot out_next own_next =
       let from = subst (λ (y : History). All (SentFrom t.serial to token) (watch (seen y) n).held) (sym same) (from_later n t.serial to token rs (Then h (did (Note k now random) emitted)) none (noted_seen emitted)) in
       let le = (found_holds (SentFrom t.serial to token) (is_out next_turn (at_moment next (watch (seen g) n))) (watch (seen g) n).held x from out_next).0 own_next in

@@ -18,7 +18,7 @@ use Rattle.fc_registry.specs.Watches.{signal_call}
 use Rattle.fc_core.specs.declared.event.Event.{Event}
 use Rattle.fc_core.specs.declared.event.Event.TheVariants.{Commit, Signal, ShardTick, Due}
 use Rattle.fc_core.specs.History.{Entry, History, Then, Seen, seen, and_then, around, calls_named, due_in, is_place_of, job, late_in, scene, slot_at, stage, watch, at_shard, calls_by}
-use Rattle.fc_core.specs.Laws.{later, slot_of}
+use Rattle.fc_core.specs.Laws.{followed_by, slot_of}
 use Rattle.fc_laws.specs.ObserveLaws.{NoneRegisters, Registers, is_held}
 use Rattle.fc_core.specs.Rows.{names, row}
 use Rattle.fc_core.proofs.Calling.{CallsBy, NoCall, OfCommit, OfGiveUp, OfNote, OfTaking, row_calls}
@@ -131,7 +131,7 @@ stays_by false not = refl
 away_next : (r : Entry) (s : Seen) (n : ℕ) (to : Endpoint) (token : List ℕ) → (Registers r s n to token → ⊥) → is_held to token (watch s n) ≡ false → is_held to token (watch (and_then r s) n) ≡ false
 away_next r s n to token not away = stays_by (is_held to token (watch (and_then r s) n)) (λ there. ⊎_elim (λ (was : is_held to token (watch s n) ≡ true). absurd (cc (was, away))) not (come_by_commits r s n to token there))
 
-pub away_later : (rs : List Entry) (h : History) (n : ℕ) (to : Endpoint) (token : List ℕ) → NoneRegisters h rs n to token → is_held to token (watch (seen h) n) ≡ false → is_held to token (watch (seen (later h rs)) n) ≡ false
+pub away_later : (rs : List Entry) (h : History) (n : ℕ) (to : Endpoint) (token : List ℕ) → NoneRegisters h rs n to token → is_held to token (watch (seen h) n) ≡ false → is_held to token (watch (seen (followed_by h rs)) n) ≡ false
 unfolding seen
 away_later [] h n to token none away = away
 away_later (r ∷ rs) h n to token none away = away_later rs (Then h r) n to token none.1 (away_next r (seen h) n to token none.0 away)

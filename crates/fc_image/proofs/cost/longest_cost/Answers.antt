@@ -5,7 +5,7 @@ use Rattle.fc_isa.specs.declared.insn.Insn.{Insn}
 use Rattle.fc_isa.specs.Flow.{flow}
 use Rattle.fc_image.specs.declared.loops.Loop.{Loop}
 use Rattle.fc_image.specs.Loops.{begins, loop_if, loops_of}
-use Rattle.fc_image.specs.Paths.{later, looped, own_cost, costs, cost_of, cost_in}
+use Rattle.fc_image.specs.Paths.{cost_at, looped, own_cost, costs, cost_of, cost_in}
 use Rattle.fc_image.specs.Tables.{AreLow}
 use Rattle.fc_image.proofs.CostTable.{length-costs, cost_more, top_kept, zero_at, past_end}
 use Rattle.fc_image.proofs.HeadTable.{default_in, ends_here}
@@ -33,13 +33,13 @@ value_is value steps cost e f = omega (arith, e, f)
 
 -- what is computed is the cost of the slot
 cost_now : (allowed : Bool) (code : List Insn) (slot : ℕ) (insn : Insn) (table : List ℕ) (beginning ending : Option Loop) (own value : ℕ) → slice_get code slot ≡ Some insn → beginning ≡ begins (loops_of allowed code) slot → ending ≡ loop_if allowed code slot insn
-    → own ≡ own_cost (later (drop (slot + 1) table) slot) ending (flow slot insn) → value ≡ looped (later (drop (slot + 1) table) slot) beginning own → value ≡ cost_of (loops_of allowed code) slot insn (drop (suc slot) table)
+    → own ≡ own_cost (cost_at (drop (slot + 1) table) slot) ending (flow slot insn) → value ≡ looped (cost_at (drop (slot + 1) table) slot) beginning own → value ≡ cost_of (loops_of allowed code) slot insn (drop (suc slot) table)
 cost_now allowed code slot insn table beginning ending own value stands b e o v =
     let m : slot + 1 ≡ suc slot = omega arith in
     let at = ends_here allowed code slot insn stands in
-    v ∙ ap (λ n. looped (later (drop n table) slot) beginning own) m
-    ∙ ap (λ x. looped (later (drop (suc slot) table) slot) x own) b
-    ∙ ap (looped (later (drop (suc slot) table) slot) (begins (loops_of allowed code) slot)) (o ∙ ap (λ n. own_cost (later (drop n table) slot) ending (flow slot insn)) m ∙ ap (λ x. own_cost (later (drop (suc slot) table) slot) x (flow slot insn)) (e ∙ sym at))
+    v ∙ ap (λ n. looped (cost_at (drop n table) slot) beginning own) m
+    ∙ ap (λ x. looped (cost_at (drop (suc slot) table) slot) x own) b
+    ∙ ap (looped (cost_at (drop (suc slot) table) slot) (begins (loops_of allowed code) slot)) (o ∙ ap (λ n. own_cost (cost_at (drop n table) slot) ending (flow slot insn)) m ∙ ap (λ x. own_cost (cost_at (drop (suc slot) table) slot) x (flow slot insn)) (e ∙ sym at))
 
 pub loop-slot-preserved : goal.loop-slot-preserved
 loop-slot-preserved c =

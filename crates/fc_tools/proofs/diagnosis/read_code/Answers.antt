@@ -1,7 +1,7 @@
 use Rattle.std.proofs.Common.{◌≡◌, ◌-◌, ◌*◌, ℕ, List, length, take, drop, None, subst, arith}
 use Rattle.std.proofs.lemmas.List.{length-drop, take_all}
 use Rattle.fc_isa.specs.Encoding.{Spells, IsFirstFault, decoded_program, first_fault}
-use Rattle.fc_isa.specs.declared.decoding.DecodeError.TheVariants.{Fault}
+use Rattle.fc_isa.specs.declared.decoder.DecodeError.TheVariants.{Fault}
 use Rattle.fc_verify.specs.Accepted.{slots_of}
 use Rattle.fc_verify.proofs.Judging.{code_found, refused_decode}
 use Rattle.fc_tools.proofs.Diagnosing.{slot_rule, whole_slot}

@@ -2,7 +2,7 @@ use Rattle.std.proofs.Common.{◌≡◌, ℕ, ◌<◌, ◌∙◌, List, ap, get_
 use Rattle.std.proofs.lemmas.List.{get_or_default}
 use Rattle.fc_registry.specs.Shards.{no_shard, shard_at}
 use Rattle.fc_registry.specs.Slots.{Shard}
-use Rattle.fc_registry.specs.Watches.{handed}
+use Rattle.fc_registry.specs.Watches.{at_time}
 use Rattle.fc_server.specs.States.{ServerState}
 use Rattle.fc_server.proofs.Quiet.{advanced_at}
 use Rattle.fc_server.proofs.server.Server.advance_if_quiet.Goals as goal
@@ -18,4 +18,4 @@ returns-clause-shards c =
     let is : found ≡ shard_at shards c.args.shard = read ∙ get_or_default shards c.args.shard found no_shard within in
     let done = advanced_at c.advance_if_quiet.result shards c.args.shard c.args.now found after read is c.advance_if_quiet.ensures.after in
     ap (λ (i : ℕ). set shards i after) c.from.ensures
-    ∙ subst (λ (l : List Shard). set shards c.args.shard after ≡ (if c.advance_if_quiet.result then set l c.args.shard (handed (shard_at l c.args.shard) c.args.now) else l)) seen done
+    ∙ subst (λ (l : List Shard). set shards c.args.shard after ≡ (if c.advance_if_quiet.result then set l c.args.shard (at_time (shard_at l c.args.shard) c.args.now) else l)) seen done

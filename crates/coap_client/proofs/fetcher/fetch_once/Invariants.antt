@@ -1,0 +1,7 @@
+use Rattle.coap_client.specs.Requests.{IsPartOf}
+use Rattle.coap_client.specs.Fetching.{IsFetching, Out}
+use Rattle.coap_client.proofs.fetcher.fetch_once.Given as goal
+
+abbrev pub invariant-loop : goal.invariant-loop
+invariant-loop g l = IsPartOf l.errand l.course.part
+    × IsFetching g.P.Peer.went g.P.Peer.came l.errand l.first_id l.fn.earlier.items l.course.id l.course.earlier.items (Out l.course.part l.course.body.items l.course.etag.items)

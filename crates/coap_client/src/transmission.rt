@@ -1,0 +1,240 @@
+//! What comes from the server: a request goes out, and again until it is answered or acknowledged.
+ghost use Rattle.std.specs.Prelude.{◌≡◌, ◌≤◌, IfOk, OnOk, false, length, take, true};
+ghost use Rattle.coap_msg.specs.Wire.{message_bytes};
+ghost use Rattle.coap_msg.specs.Reading.{reading_of};
+ghost use Rattle.coap_msg.specs.Wire as wire;
+ghost use Rattle.coap_msg.specs.declared.types.MessageType.TheVariants.{Confirmable};
+ghost use Rattle.coap_client.specs.Heard.{AcknowledgesRepeat, Listens, HasTakenResponse, HasResponse, IsAwaitedAnswer, IsHeardAs, Tells};
+ghost use Rattle.coap_client.specs.Replies.{is_taken};
+ghost use Rattle.coap_client.specs.Requests.{acknowledgement};
+
+use crate::fetcher::FetchFault;
+use crate::peer::Peer;
+use crate::reply::{is_empty_acknowledgement, is_reply, is_reset, is_separate};
+use coap_msg::{Code, Datagram, Message, MessageType, Outgoing, read, write};
+
+/// How long the answer to each sending of a request is waited for, in seconds: RFC 7252, 4.2 and 4.8, without the random part.
+pub(crate) const WAITS: [u64; 5] = [2, 4, 8, 16, 32];
+
+/// How long an answer is waited for once the request was acknowledged, in seconds: as long as a sender waits for an
+/// acknowledgement at most, MAX_TRANSMIT_WAIT (RFC 7252, 4.8.2).
+pub(crate) const SEPARATE_WAIT: u64 = 93;
+
+/// How long the answer to a non-confirmable request is waited for, in seconds.
+const NON_WAIT: u64 = 32;
+
+/// A request that goes out.
+#[derive(Clone, Copy)]
+pub struct SentRequest<'a> {
+    pub datagram: &'a Datagram,
+    pub id: u16,
+    pub confirmable: bool,
+    /// The ids of the separate responses so far: to other requests.
+    pub earlier: &'a [u16],
+}
+
+/// What a datagram from the server is to the request that is out.
+#[derive(Clone, Copy, PartialEq, Eq)]
+pub enum Reception {
+    /// Its answer, in its acknowledgement.
+    Reply,
+    /// An answer in a message of its own.
+    Separate,
+    /// The same, which came before.
+    Repeat,
+    /// Its acknowledgement, without an answer.
+    Acknowledged,
+    /// Its rejection.
+    Rejected,
+    /// None of these.
+    Other,
+}
+
+/// What came while a wait lasted.
+#[derive(Clone, Copy, PartialEq, Eq)]
+pub enum Listened {
+    /// An answer of so many bytes.
+    Answer(usize),
+    /// The acknowledgement without an answer.
+    Acknowledged,
+    /// None of these.
+    Nothing,
+}
+
+/// Sends a request, and again where it isn't answered or acknowledged in time; how many bytes at the start of the buffer its answer
+/// is. A confirmable answer is acknowledged.
+///
+/// # Errors
+/// No answer came, the request was rejected, or sending or receiving failed.
+pub fn ask<P: Peer>(
+    peer: &mut P,
+    request: &SentRequest<'_>,
+    buffer: &mut [u8],
+) -> Result<usize, FetchFault>
+    ensures { IfOk result (λ count. (count ≤ length buffer.new) × HasTakenResponse P.went P.came request.now (take count buffer.new)) }
+{
+    let count = if request.confirmable {
+        ask_again(peer, request, buffer)?
+    } else {
+        ask_once(peer, request, buffer)?
+    };
+    acknowledge(peer, &buffer[..count])?;
+    Ok(count)
+}
+
+// Asks by a confirmable request.
+fn ask_again<P: Peer>(
+    peer: &mut P,
+    request: &SentRequest<'_>,
+    buffer: &mut [u8],
+) -> Result<usize, FetchFault>
+    ensures { IfOk result (λ count. (count ≤ length buffer.new) × HasResponse P.went P.came request.now (take count buffer.new)) }
+{
+    for seconds in WAITS {
+        send(peer, request, seconds)?;
+        match listen(peer, request, false, buffer)? {
+            Listened::Answer(count) => return Ok(count),
+            Listened::Acknowledged => {
+                peer.begin_wait(SEPARATE_WAIT)?;
+                return await_separate(peer, request, buffer);
+            }
+            Listened::Nothing => {}
+        }
+    }
+    Err(FetchFault::Silence)
+}
+
+// Asks by a non-confirmable request.
+fn ask_once<P: Peer>(
+    peer: &mut P,
+    request: &SentRequest<'_>,
+    buffer: &mut [u8],
+) -> Result<usize, FetchFault>
+    requires { request.now.confirmable ≡ false }
+    ensures { IfOk result (λ count. (count ≤ length buffer.new) × HasResponse P.went P.came request.now (take count buffer.new)) }
+{
+    send(peer, request, NON_WAIT)?;
+    await_separate(peer, request, buffer)
+}
+
+// Sends a request, and begins a wait of so many seconds.
+fn send<P: Peer>(peer: &mut P, request: &SentRequest<'_>, seconds: u64) -> Result<(), FetchFault>
+    ensures { OnOk result (P.went request.now.datagram.now.items) }
+{
+    peer.send(request.datagram)?;
+    peer.begin_wait(seconds)?;
+    Ok(())
+}
+
+// Waits for an answer, where the request was acknowledged or asks for no acknowledgement.
+fn await_separate<P: Peer>(
+    peer: &mut P,
+    request: &SentRequest<'_>,
+    buffer: &mut [u8],
+) -> Result<usize, FetchFault>
+    ensures { IfOk result (λ count. (count ≤ length buffer.new) × IsAwaitedAnswer P.came request.now true (take count buffer.new)) }
+{
+    match listen(peer, request, true, buffer)? {
+        Listened::Answer(count) => Ok(count),
+        Listened::Acknowledged | Listened::Nothing => Err(FetchFault::Silence),
+    }
+}
+
+// Listens while a wait lasts, and passes over what is none of these. An answer in a message of its own is one where it is awaited.
+fn listen<P: Peer>(
+    peer: &mut P,
+    request: &SentRequest<'_>,
+    awaited: bool,
+    buffer: &mut [u8],
+) -> Result<Listened, FetchFault>
+    ensures { IfOk result (Listens P.came request.now awaited buffer.new) }
+{
+    for _ in 0..u64::MAX {
+        let Some(count) = peer.receive(buffer)? else {
+            return Ok(Listened::Nothing);
+        };
+        match hear_from(peer, request, &buffer[..count])? {
+            Reception::Reply => return Ok(Listened::Answer(count)),
+            Reception::Separate if awaited => return Ok(Listened::Answer(count)),
+            Reception::Acknowledged if !awaited => return Ok(Listened::Acknowledged),
+            Reception::Rejected => return Err(FetchFault::Rejected),
+            Reception::Separate | Reception::Acknowledged | Reception::Repeat | Reception::Other =>
+                {}
+        }
+    }
+    Ok(Listened::Nothing)
+}
+
+// What a datagram is to a request. A response that came before is acknowledged again, where it asks for that (RFC 7252, 4.2).
+fn hear_from<P: Peer>(
+    peer: &mut P,
+    request: &SentRequest<'_>,
+    bytes: &[u8],
+) -> Result<Reception, FetchFault>
+    ensures heard { IfOk result (Tells request.now bytes.now) }
+    ensures repeat { IfOk result (AcknowledgesRepeat P.went bytes.now) }
+{
+    let heard = hear_datagram(request, bytes);
+    if heard == Reception::Repeat {
+        acknowledge(peer, bytes)?;
+    }
+    Ok(heard)
+}
+
+// What a datagram is to a request.
+fn hear_datagram(request: &SentRequest<'_>, bytes: &[u8]) -> Reception
+    ensures { Tells request.now bytes.now result }
+{
+    match read(bytes) {
+        Ok(message) => hear_message(request, &message),
+        Err(_) => Reception::Other,
+    }
+}
+
+fn hear_message(request: &SentRequest<'_>, message: &Message<'_>) -> Reception
+    ensures { IsHeardAs request.now message.now result }
+{
+    if request.confirmable && is_reply(request.id, message) {
+        Reception::Reply
+    } else if is_empty_acknowledgement(request.id, message) {
+        Reception::Acknowledged
+    } else if is_reset(request.id, message) {
+        Reception::Rejected
+    } else if !is_separate(message) {
+        Reception::Other
+    } else if request.earlier.contains(&message.id()) {
+        Reception::Repeat
+    } else {
+        Reception::Separate
+    }
+}
+
+// Acknowledges a message that asks for it (RFC 7252, 4.2).
+pub(crate) fn acknowledge<P: Peer>(peer: &mut P, bytes: &[u8]) -> Result<(), FetchFault>
+    ensures { OnOk result ((m : wire.Message) → reading_of bytes.now ≡ Ok m → m.kind ≡ Confirmable
+        → P.went (message_bytes (acknowledgement m.id))) }
+{
+    match read(bytes) {
+        Ok(message) if message.kind() == MessageType::Confirmable => {
+            let mut datagram = Datagram::new();
+            write_acknowledgement(message.id(), &mut datagram);
+            peer.send(&datagram)?;
+            Ok(())
+        }
+        Ok(_) | Err(_) => Ok(()),
+    }
+}
+
+fn write_acknowledgement(id: u16, datagram: &mut Datagram)
+    ensures { datagram.new.items ≡ message_bytes (acknowledgement id) }
+{
+    let message = Outgoing {
+        kind: MessageType::Acknowledgement,
+        code: Code::EMPTY,
+        id,
+        token: &[],
+        options: &[],
+        payload: &[],
+    };
+    write(&message, datagram);
+}

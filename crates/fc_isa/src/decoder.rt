@@ -1,0 +1,93 @@
+//! From bytes to instructions.
+ghost use Rattle.std.specs.Prelude.{IfErr, IfOk, List, MatchResult, None, Some, length, ◌+◌, ◌*◌, ◌≡◌, ◌≤◌};
+ghost use Rattle.fc_isa.specs.Encoding.{IsDecodeError, Spells, fault_at, first_fault, insn_at, is_second, decoded_program, whole_fields_at};
+ghost use Rattle.fc_isa.specs.declared.insn.Insn.{Insn};
+
+use crate::fields::Fields;
+use crate::insn::{Insn, Jump, Operand};
+use crate::program::is_wide_load;
+use crate::rule::{Fault, Rule};
+use std::alloc::{AllocError, Global};
+
+/// Why bytes were not decoded.
+#[derive(Clone, Copy, Debug, PartialEq, Eq)]
+pub enum DecodeError {
+    /// The least slot that spells no instruction, with the least rule that it breaks.
+    Fault(Fault),
+    /// There was no memory for the program.
+    NoMemory,
+}
+
+impl From<AllocError> for DecodeError {
+    ghost use Rattle.fc_isa.specs.declared.decoder.DecodeError.TheVariants.{NoMemory};
+
+    ghost from_gives = { λ _ e. e ≡ NoMemory };
+
+    fn from(_error: AllocError) -> Self {
+        DecodeError::NoMemory
+    }
+}
+
+/// Decodes a program.
+///
+/// # Errors
+/// The fault of the first slot that spells no instruction, or that memory was refused, which comes first.
+pub fn decode(alloc: Global, bytes: &[u8]) -> Result<Vec<Insn>, DecodeError>
+    ensures program { IfOk result (λ v. Spells bytes.now v.items) }
+    ensures spelled { (p : List Insn) → Spells bytes.now p → MatchResult result (λ v. v.items ≡ p) (λ e. e ≡ DecodeError.NoMemory) }
+    ensures fault { IfErr result (IsDecodeError bytes.now) }
+    ensures function { IfOk result (λ v. (v.items ≡ decoded_program bytes.now) × (first_fault bytes.now ≡ None)) }
+{
+    // The checker has to see the parts of an instruction where one is moved into a collection.
+    let _parts: (Option<Operand>, Option<Jump>) = (None, None);
+    let slots = bytes.len() / 8;
+    let mut program = Vec::with_capacity(alloc, slots)?;
+    let mut second = false;
+    for slot in 0..slots {
+        match decode_slot(bytes, slot, second) {
+            Ok(insn) => {
+                second = is_wide_load(&insn);
+                program.push_reserved(insn);
+            }
+            Err(rule) => return Err(DecodeError::Fault(Fault { rule, slot })),
+        }
+    }
+    let rest = bytes.len() % 8;
+    if rest != 0 {
+        return Err(DecodeError::Fault(Fault {
+            rule: Rule::WideLoad,
+            slot: slots,
+        }));
+    }
+    Ok(program)
+}
+
+/// The instruction of a slot, or the least rule that it breaks; `second` where it is the second half of a wide load.
+fn decode_slot(bytes: &[u8], slot: usize, second: bool) -> Result<Insn, Rule>
+    requires whole { 8 * slot + 8 ≤ length bytes.now }
+    requires second { second ≡ is_second bytes.now slot }
+    ensures insn { IfOk result (λ i. (fault_at bytes.now slot ≡ None) × (i ≡ insn_at bytes.now slot)) }
+    ensures fault { IfErr result (λ r. fault_at bytes.now slot ≡ Some r) }
+{
+    if second {
+        return Ok(Insn::WideSecond);
+    }
+    let fields = Fields::read(&bytes[8 * slot..8 * slot + 8]);
+    let next = fields_at(bytes, slot + 1);
+    match fields.fault(&next) {
+        Some(rule) => Err(rule),
+        None => Ok(fields.insn(&next)),
+    }
+}
+
+/// The fields of a slot, if it lies wholly within the bytes.
+fn fields_at(bytes: &[u8], slot: usize) -> Option<Fields>
+    requires { 8 * slot ≤ length bytes.now }
+    ensures { result ≡ whole_fields_at bytes.now slot }
+{
+    if 8 * slot + 8 <= bytes.len() {
+        Some(Fields::read(&bytes[8 * slot..8 * slot + 8]))
+    } else {
+        None
+    }
+}

@@ -1,0 +1,155 @@
+//! What a program is asked in a run, by hex digits.
+ghost use Rattle.std.specs.Prelude.{IfOk, None, length, option_copied, ◌≡◌, ◌≤◌};
+ghost use Rattle.hex.specs.Hex.{decode_of};
+ghost use Rattle.fc_help.specs.Region.{no_readings, padded};
+ghost use Rattle.fc_tools.specs.Runs.{AreHex, IsAskedBy, SpellReadings};
+
+use fc_cli::Status;
+use fc_help::readings::READINGS;
+use fc_help::request::{PAYLOAD, QUERY};
+use fc_help::vars::VARS;
+use fc_help::{Method, NO_READINGS, Readings, Request, Vars};
+use hex::FromHexError;
+use std::alloc::Global;
+use std::fmt;
+use thiserror::Error;
+
+/// What a program is asked, and the variables and the readings that it finds.
+#[derive(Drop)]
+pub struct Asked {
+    /// A GET or POST of slot 0, whose payload has no Content-Format.
+    pub request: Request,
+    /// The variables; zeros where they aren't given.
+    pub vars: Option<Vars>,
+    /// The readings of the device.
+    pub readings: Readings,
+}
+
+/// What is given by hex digits.
+#[derive(Clone, Copy, Debug, PartialEq, Eq)]
+pub enum RunPart {
+    Payload,
+    Query,
+    Variables,
+    Readings,
+}
+
+impl fmt::Display for RunPart {
+    fn fmt<W: fmt::Write>(&self, f: &mut fmt::Formatter<W>) -> fmt::Result {
+        f.write_str(match self {
+            RunPart::Payload => "the payload's",
+            RunPart::Query => "the query's",
+            RunPart::Variables => "the variables'",
+            RunPart::Readings => "the readings'",
+        })
+    }
+}
+
+/// Why a program can't be asked so.
+#[derive(Clone, Copy, Debug, PartialEq, Eq, Drop, Error)]
+pub enum AskedError {
+    /// What is given isn't hex digits.
+    #[error("{0} bytes are to be hex digits, two a byte")]
+    NoHex(RunPart),
+    /// There is too much of it.
+    #[error("{part} bytes are more than {most}")]
+    TooLong { part: RunPart, most: usize },
+    /// There was no memory.
+    #[error("out of memory")]
+    NoMemory,
+}
+
+impl AskedError {
+    /// Returns how a program ends that is asked so.
+    pub fn status(self) -> Status {
+        match self {
+            AskedError::NoHex(_) | AskedError::TooLong { .. } => Status::Bad,
+            AskedError::NoMemory => Status::Failed,
+        }
+    }
+}
+
+impl Asked {
+    /// Parses a GET or POST of slot 0 with this payload and query, and these variables, if they are given: hex digits of either case. The
+    /// readings are zeros.
+    ///
+    /// # Errors
+    /// One of them isn't hex digits, or has more bytes than a request (payload 1,024, query 64) or a program (variables 256) may
+    /// have; or memory was refused.
+    pub fn new(
+        alloc: Global,
+        method: Method,
+        payload: &str,
+        query: &str,
+        vars: Option<&str>,
+    ) -> Result<Asked, AskedError>
+        ensures request { IfOk result (λ a. IsAskedBy method payload.now query.now a.request) }
+        ensures vars { IfOk result (λ a. AreHex (option_copied vars.entry) a.vars) }
+        ensures readings { IfOk result (λ a. a.readings ≡ no_readings) }
+    {
+        let payload = bytes(alloc, RunPart::Payload, payload, PAYLOAD)?;
+        let query = bytes(alloc, RunPart::Query, query, QUERY)?;
+        let vars = variables(alloc, vars)?;
+        Ok(Asked {
+            request: Request::new(method, 0, None, &query, &payload),
+            vars,
+            readings: NO_READINGS,
+        })
+    }
+
+    /// Makes the same, but these hex digits of either case spell how the readings begin: 64 bytes at most, and zeros after them.
+    ///
+    /// # Errors
+    /// They aren't hex digits, or spell more bytes; or memory was refused.
+    pub fn with_readings(self, alloc: Global, digits: &str) -> Result<Asked, AskedError>
+        ensures spelled { IfOk result (λ a. SpellReadings digits.now a.readings) }
+        ensures rest { IfOk result (λ a. a ≡ record self { readings = a.readings }) }
+    {
+        let readings = readings(alloc, digits)?;
+        Ok(Asked { readings, ..self })
+    }
+}
+
+/// The readings that hex digits spell.
+fn readings(alloc: Global, digits: &str) -> Result<Readings, AskedError>
+    ensures { IfOk result (SpellReadings digits.now) }
+{
+    let bytes = bytes(alloc, RunPart::Readings, digits, READINGS)?;
+    Ok(padded(&bytes))
+}
+
+/// Readings that begin with these bytes, and have zeros behind them.
+fn padded(bytes: &[u8]) -> Readings
+    requires { length bytes.now ≤ 64 }
+    ensures { result ≡ padded 64 bytes.now }
+{
+    let mut readings = NO_READINGS;
+    readings[..bytes.len()].copy_from_slice(bytes);
+    readings
+}
+
+/// The variables, if they are given.
+fn variables(alloc: Global, digits: Option<&str>) -> Result<Option<Vars>, AskedError>
+    ensures { IfOk result (AreHex (option_copied digits.entry)) }
+{
+    match digits {
+        Some(digits) => {
+            let bytes = bytes(alloc, RunPart::Variables, digits, VARS)?;
+            Ok(Some(Vars::of(&bytes)))
+        }
+        None => Ok(None),
+    }
+}
+
+/// The bytes of hex digits, so many at most.
+fn bytes(alloc: Global, part: RunPart, digits: &str, most: usize) -> Result<Vec<u8>, AskedError>
+    ensures bytes { IfOk result (λ v. decode_of digits.now ≡ Ok v.items) }
+    ensures limit { IfOk result (λ v. length v.items ≤ most) }
+{
+    match hex::decode(alloc, digits) {
+        Ok(bytes) if bytes.len() <= most => Ok(bytes),
+        Ok(_) => Err(AskedError::TooLong { part, most }),
+        Err(FromHexError::OutOfMemory) => Err(AskedError::NoMemory),
+        Err(_) => Err(AskedError::NoHex(part)),
+    }
+}

@@ -1,0 +1,170 @@
+//! Shards whose changes are counted.
+ghost use Rattle.std.specs.Prelude.{◌≡◌, ℕ, ◌+◌, ◌<◌};
+ghost use Rattle.fc_registry.specs.Slots.{IsOwned, slot_in, with_slot};
+ghost use Rattle.fc_registry.specs.Changes.{after_changes};
+ghost use Rattle.fc_registry.specs.Calls.{CommitsTo, install_in, remove_from};
+ghost use Rattle.fc_workers.specs.Answers.{commit_changes, install_changes, removal_changes};
+ghost use Rattle.fc_workers.specs.Counts.{HasEightSlots, serials, counts};
+
+use crate::calls::{Change, Commit, Install, Remove, ShardCall};
+use crate::tally::Tally;
+use fc_machine::Outcome;
+use fc_registry::{Committed, Job, Made, Removal, SHARDS, Shard, SlotNumber, Ticket};
+use fc_verify::Verified;
+use std::marker::Model;
+use std::sync::Arc;
+use std::sync::ledger::{Blank, Book, Ledger};
+
+/// A shard beside the book of its changes: since the book was opened, its serials have risen by the book's total. A clause
+/// sees the shard, and what its serials added up to then.
+#[derive(Drop)]
+pub struct Counted<L: Ledger> {
+    shard: Shard,
+    book: Book<L>,
+    opened: u128,
+}
+
+impl<L: Ledger> Model for Counted<L> {
+    ghost use Rattle.fc_workers.specs.Counts.{Counted as Seen};
+
+    ghost Value = { Seen };
+
+    ghost use Rattle.std.specs.Prelude.{◌≡◌, ◌+◌};
+    ghost use Rattle.fc_workers.specs.Counts.{HasEightSlots, serials};
+
+    ghost view = { λ c. record { shard = c.shard; opened = c.opened } };
+
+    ghost invariant = { λ c. HasEightSlots c.shard × (serials c.shard ≡ c.opened + c.book.total) };
+}
+
+impl<L: Ledger> Counted<L> {
+    /// Opens the book of a shard. The tally has all its parts.
+    pub fn open(shard: Shard, blank: Blank) -> (Counted<L>, Tally<L>)
+        requires slots { HasEightSlots shard }
+        requires name { blank.name ≡ L.name }
+        requires parts { (blank.parts ≡ L.parts) × (0 < L.parts) }
+        ensures shard { result.0 ≡ record { shard = shard; opened = serials shard } }
+        ensures tally { result.1 ≡ record { parts = L.parts; changes = 0 } }
+    {
+        let (book, share) = blank.open::<L>();
+        let opened = serials_of(&shard);
+        let counted = Counted {
+            shard,
+            book,
+            opened,
+        };
+        (counted, Tally::of(share))
+    }
+
+    /// Asks the shard what changes no slot.
+    pub fn ask<C: ShardCall>(&mut self, call: C) -> C::Answer
+        requires may { C.may_ask call self.old.shard }
+        requires none { (answer : C.Answer) → C.changes answer ≡ 0 }
+        ensures does { C.does call self.old.shard result self.new.shard }
+        ensures slots { self.new.shard.slots ≡ self.old.shard.slots }
+        ensures index { self.new.shard.index ≡ self.old.shard.index }
+        ensures opened { self.new.opened ≡ self.old.opened }
+    {
+        call.call(&mut self.shard)
+    }
+
+    /// Asks the shard what may change a slot. The tally counts what the answer tells of.
+    pub(crate) fn change<C: Change>(&mut self, call: C, tally: &mut Tally<L>) -> C::Answer
+        requires { C.may_ask call self.old.shard }
+        ensures does { C.does call self.old.shard result self.new.shard }
+        ensures index { self.new.shard.index ≡ self.old.shard.index }
+        ensures opened { self.new.opened ≡ self.old.opened }
+        ensures tally { tally.new ≡ counts tally.old (C.changes result) }
+    {
+        let answer = call.call(&mut self.shard);
+        if C::has_changed(&answer) {
+            tally.count(&mut self.book);
+        }
+        answer
+    }
+
+    /// Commits a run, at a moment in milliseconds, as [`Shard::commit`] does. The tally counts it where it writes.
+    pub fn commit(
+        &mut self,
+        now: u64,
+        outcome: &Outcome<'_>,
+        ticket: &Ticket<'_>,
+        tally: &mut Tally<L>,
+    ) -> Committed
+        requires { IsOwned self.old.shard ticket.now.origin.slot }
+        ensures committed { CommitsTo outcome.now ticket.now self.old.shard now result self.new.shard }
+        ensures index { self.new.shard.index ≡ self.old.shard.index }
+        ensures opened { self.new.opened ≡ self.old.opened }
+        ensures tally { tally.new ≡ counts tally.old (commit_changes result) }
+    {
+        let commit = Commit {
+            now,
+            outcome,
+            ticket,
+        };
+        self.change(commit, tally)
+    }
+
+    /// Installs a program in the slot of a job, as [`Shard::install`] does. The tally counts it, but at the slot's last serial.
+    pub fn install(&mut self, job: &Job, program: Arc<Verified>, tally: &mut Tally<L>) -> Made
+        requires { IsOwned self.old.shard job.now.origin.slot }
+        ensures answer { result ≡ (install_in (slot_in self.old.shard job.now.origin.slot) program.value).answer }
+        ensures slots { let slot = slot_in self.old.shard job.now.origin.slot in
+            self.new.shard ≡ with_slot self.old.shard job.now.origin.slot (after_changes slot (install_in slot program.value).changes) }
+        ensures index { self.new.shard.index ≡ self.old.shard.index }
+        ensures opened { self.new.opened ≡ self.old.opened }
+        ensures tally { tally.new ≡ counts tally.old (install_changes result) }
+    {
+        self.change(Install { job, program }, tally)
+    }
+
+    /// Removes the program of the slot of a job, as [`Shard::remove`] does. The tally counts it where there was one, but at the slot's
+    /// last serial.
+    pub fn remove(&mut self, job: &Job, tally: &mut Tally<L>) -> Removal
+        requires { IsOwned self.old.shard job.now.origin.slot }
+        ensures answer { result ≡ (remove_from (slot_in self.old.shard job.now.origin.slot)).answer }
+        ensures slots { let slot = slot_in self.old.shard job.now.origin.slot in
+            self.new.shard ≡ with_slot self.old.shard job.now.origin.slot (after_changes slot (remove_from slot).changes) }
+        ensures index { self.new.shard.index ≡ self.old.shard.index }
+        ensures opened { self.new.opened ≡ self.old.opened }
+        ensures tally { tally.new ≡ counts tally.old (removal_changes result) }
+    {
+        self.change(Remove { job }, tally)
+    }
+
+    /// Returns the shard, as it is.
+    pub fn shard(&self) -> &Shard
+        ensures { result.now ≡ self.now.shard }
+    {
+        &self.shard
+    }
+
+    /// Closes the book, for the tally that has all its parts: the shard's serials have risen by its changes since the book
+    /// was opened.
+    pub fn close(self, all: &mut Tally<L>) -> Shard
+        requires { all.old.parts ≡ L.parts }
+        ensures shard { result ≡ self.shard }
+        ensures risen { serials result ≡ self.opened + all.old.changes }
+        ensures tally { all.new ≡ all.old }
+    {
+        let Counted {
+            shard,
+            mut book,
+            ..
+        } = self;
+        all.audit(&mut book);
+        shard
+    }
+}
+
+// What the serials of a shard's slots add up to.
+fn serials_of(shard: &Shard) -> u128
+    requires { HasEightSlots shard.now }
+    ensures { result ≡ serials shard.entry.now }
+{
+    let mut total = 0u128;
+    for place in 0..SHARDS {
+        total += u128::from(shard.serial(SlotNumber::new(place * SHARDS)));
+    }
+    total
+}

@@ -1,0 +1,276 @@
+//! Who has jobs, and hands them to workers or works them off.
+ghost use Rattle.std.specs.Prelude.{◌≡◌, ◌<◌, ◌≤◌, ℕ, true, MatchBool};
+ghost use Rattle.fc_jobs.specs.Ends.{with_sent};
+ghost use Rattle.fc_workers.specs.Answers.{IsSomeQuiet, IsSomeTick};
+ghost use Rattle.fc_workers.specs.Called.{AdvancesFront, AdvancesIfQuiet, AdvancesShard, shop};
+ghost use Rattle.fc_workers.specs.Dispatch.{AreSignalled, HasCalled, IsDear, IsDispatched, IsTakenIn, IsTurnAsked, IsWorkedHere, MayGo};
+ghost use Rattle.fc_workers.specs.Shares.{new_share};
+
+use crate::bench::Bench;
+use crate::seat::Seat;
+use crate::share::Share;
+use crate::tools::Tools;
+use crate::workshop::{Gate, Moments, Wire, Workshop};
+use coap_msg::{Emission, Endpoint};
+use fc_core::front::blank_job;
+use fc_core::{Heard, Step};
+use fc_jobs::{Jobs, Sent};
+use fc_observe::Ticked;
+use fc_registry::{Ask, Job, SHARDS};
+use std::mem;
+use std::sync::Wait;
+
+/// The number of a job that isn't sent to the workers: no job that is has it.
+pub const UNSENT: u64 = u64::MAX;
+
+/// Which jobs go to workers.
+#[derive(Clone, Copy)]
+pub enum Handover {
+    /// All of them, where there is a worker: the first that asks for a job is waited for.
+    Every,
+    /// Those whose program may run for so many instructions or more, by what its slot holds when they come, once a worker has asked for a job.
+    Dear(u32),
+    /// None.
+    Never,
+}
+
+/// What a dispatcher has done: the jobs that it sent to the workers, and its share of those that it worked off itself.
+#[derive(Drop)]
+pub struct Dispatched<T: Drop> {
+    pub sent: Sent,
+    pub share: Share<T>,
+}
+
+/// Who has datagrams taken in and shards asked for turns, in a thread of its own. Each job that comes of it is sent to the workers, or, where it isn't handed
+/// over, worked off by the dispatcher itself, as a worker does. So is each where no worker has asked for a job: the workers may have been refused the
+/// memory that they begin with.
+#[derive(Drop)]
+pub struct Dispatcher<'a, B: Bench, G: Gate, W: Wire, M: Moments> {
+    workshop: &'a Workshop<'a, B, G, W, M>,
+    jobs: &'a Jobs,
+    handover: Handover,
+    job: Job,
+    tools: Tools,
+    done: Dispatched<B::Tallies>,
+    ghost channel: { done.sent.channel ≡ jobs.now },
+    ghost heads: { tools.heads.table ≡ B.heads workshop.now.bench.now },
+}
+
+impl<'a, B: Bench, G: Gate, W: Wire, M: Moments> Dispatcher<'a, B, G, W, M> {
+    /// Makes a dispatcher at a seat of its own, which sends by this end of the channel.
+    pub fn new(
+        workshop: &'a Workshop<'a, B, G, W, M>,
+        jobs: &'a Jobs,
+        sent: Sent,
+        seat: Seat<B::Tallies>,
+        handover: Handover,
+    ) -> Dispatcher<'a, B, G, W, M>
+        requires { sent.channel ≡ jobs.now }
+        ensures done { result.done ≡ record { sent = sent; share = new_share seat.got seat.tallies result.done.share.log } }
+        ensures handover { result.handover ≡ handover }
+    {
+        let Seat {
+            got,
+            tallies,
+            frame,
+        } = seat;
+        Dispatcher {
+            workshop,
+            jobs,
+            handover,
+            job: blank_job(),
+            tools: Tools::new(workshop.bench, frame),
+            done: Dispatched {
+                sent,
+                share: Share::new(got, tallies),
+            },
+        }
+    }
+
+    /// Closes the channel: what it has done itself.
+    pub fn close(self) -> Share<B::Tallies>
+        ensures { result ≡ self.entry.done.share }
+    {
+        let Dispatcher { done, .. } = self;
+        let Dispatched { share, .. } = done;
+        share
+    }
+
+    /// Takes a datagram in, at a moment in milliseconds: its reply is written over another, its job is dispatched, and its signal goes to each shard.
+    pub fn hear<R: Wait>(
+        &mut self,
+        rt: &R,
+        now: u64,
+        from: Endpoint,
+        bytes: &[u8],
+        reply: &mut Emission,
+    ) -> Heard
+        ensures taken_in { IsTakenIn (shop B.changes B.ended B.called B.logged M.is_moment M.is_random G.passed W.called)
+            self.old.handover now from bytes.now result reply.new self.old.done self.new.done }
+        ensures handover { self.new.handover ≡ self.old.handover }
+    {
+        let log = &mut self.done.share.log;
+        let heard = self
+            .workshop
+            .bench
+            .hear(rt, now, from, bytes, &mut self.job, reply, log);
+        match heard {
+            Heard::Nothing | Heard::Reply => {}
+            Heard::Job => self.dispatch(rt),
+            Heard::Signal { mid, reset } => self.signal(rt, from, mid, reset),
+        }
+        heard
+    }
+
+    /// Advances the front to a moment in milliseconds.
+    pub fn tick<R: Wait>(&self, rt: &R, now: u64)
+        ensures { B.called (AdvancesFront now) }
+    {
+        self.workshop.bench.tick(rt, now);
+    }
+
+    /// Advances a shard, 0 to 7, to a moment in milliseconds: what it sends again, if anything.
+    pub fn resend<R: Wait>(&mut self, rt: &R, shard: u8, now: u64) -> Ticked
+        ensures ticked { IsSomeTick now result }
+        ensures logged { B.logged (AdvancesShard shard now result) self.old.done.share.log self.new.done.share.log }
+        ensures kept { HasCalled self.old.done self.new.done }
+        ensures handover { self.new.handover ≡ self.old.handover }
+    {
+        let log = &mut self.done.share.log;
+        self.workshop.bench.tick_shard(rt, shard, now, log)
+    }
+
+    /// Advances a shard, 0 to 7, to a moment in milliseconds where nothing is late and nobody is due. Tells whether it did.
+    pub fn advance_if_quiet<R: Wait>(&self, rt: &R, shard: u8, now: u64) -> bool
+        ensures quiet { IsSomeQuiet now result }
+        ensures called { B.called (AdvancesIfQuiet shard now result) }
+    {
+        self.workshop.bench.advance_if_quiet(rt, shard, now)
+    }
+
+    /// Asks a shard, 0 to 7, for the turn of the observer that is due first at a moment in milliseconds, and dispatches it. Tells whether there was one.
+    pub fn notify<R: Wait>(&mut self, rt: &R, shard: u8, now: u64) -> bool
+        ensures asked { IsTurnAsked (shop B.changes B.ended B.called B.logged M.is_moment M.is_random G.passed W.called)
+            self.old.handover shard now result self.old.done self.new.done }
+        ensures handover { self.new.handover ≡ self.old.handover }
+    {
+        let log = &mut self.done.share.log;
+        match self.workshop.bench.next_due(rt, shard, now, log) {
+            Some(job) => {
+                self.job = job;
+                self.dispatch(rt);
+                true
+            }
+            None => false,
+        }
+    }
+
+    // Sends its job to the workers, or works it off.
+    fn dispatch<R: Wait>(&mut self, rt: &R)
+        ensures dispatched { IsDispatched (shop B.changes B.ended B.called B.logged M.is_moment M.is_random G.passed W.called)
+            self.old.handover self.old.job self.old.done self.new.done }
+        ensures handover { self.new.handover ≡ self.old.handover }
+    {
+        let handed = self.hand_over(rt);
+        if !handed {
+            self.work(rt);
+        }
+    }
+
+    // Sends its job to the workers, where it may go. Tells whether it was sent.
+    fn hand_over<R: Wait>(&mut self, rt: &R) -> bool
+        ensures sent { MatchBool result
+            (MayGo self.old.handover self.old.job
+            × (self.new.done ≡ record self.old.done { sent = with_sent self.old.done.sent self.old.job }))
+            ((self.new.done ≡ self.old.done) × (self.new.job ≡ self.old.job)) }
+        ensures handover { self.new.handover ≡ self.old.handover }
+    {
+        if self.may_go(rt) {
+            self.send(rt)
+        } else {
+            false
+        }
+    }
+
+    // Sends its job to the workers. Tells whether it was sent.
+    fn send<R: Wait>(&mut self, rt: &R) -> bool
+        ensures sent { MatchBool result
+            (self.new.done ≡ record self.old.done { sent = with_sent self.old.done.sent self.old.job })
+            ((self.new.done ≡ self.old.done) × (self.new.job ≡ self.old.job)) }
+        ensures handover { self.new.handover ≡ self.old.handover }
+    {
+        let job = mem::replace(&mut self.job, blank_job());
+        match self.jobs.send(rt, job, &mut self.done.sent) {
+            None => true,
+            Some(back) => {
+                self.job = back;
+                false
+            }
+        }
+    }
+
+    // Works its job off.
+    fn work<R: Wait>(&mut self, rt: &R)
+        ensures worked { IsWorkedHere (shop B.changes B.ended B.called B.logged M.is_moment M.is_random G.passed W.called)
+            self.old.job self.old.done self.new.done }
+        ensures handover { self.new.handover ≡ self.old.handover }
+    {
+        let done = &mut self.done;
+        self.workshop
+            .work(rt, &mut self.tools, UNSENT, &self.job, &mut done.share);
+    }
+
+    // Whether its job may go to the workers. Before one of them has asked for a job, none does: where all are to go, that is waited for.
+    fn may_go<R: Wait>(&mut self, rt: &R) -> bool
+        ensures may { result ≡ true → MayGo self.old.handover self.old.job }
+        ensures done { self.new.done ≡ self.old.done }
+        ensures job { self.new.job ≡ self.old.job }
+        ensures handover { self.new.handover ≡ self.old.handover }
+    {
+        match self.handover {
+            Handover::Every => self.jobs.await_worker(rt),
+            Handover::Dear(least) => {
+                self.jobs.is_served() && self.is_to_take() && self.cost(rt) >= least
+            }
+            Handover::Never => false,
+        }
+    }
+
+    // Whether its job takes first: it asks for a run, and its slot's head word doesn't answer it by one of its entity tags. No lock is taken.
+    fn is_to_take(&mut self) -> bool
+        ensures done { self.new.done ≡ self.old.done }
+        ensures job { self.new.job ≡ self.old.job }
+        ensures handover { self.new.handover ≡ self.old.handover }
+    {
+        let stage = &mut self.tools.stage;
+        stage.ask(&self.job);
+        if let Step::ToMatch = &stage.step {
+            let slot = self.job.origin.slot;
+            let word = self.workshop.bench.peek(slot, &mut self.tools.heads);
+            stage.matched(&self.job, word);
+        }
+        matches!(stage.step, Step::ToTake(_))
+    }
+
+    // How many instructions its job's run takes at most, by the program that its slot has now; 0 where it asks for none.
+    fn cost<R: Wait>(&self, rt: &R) -> u32
+        ensures { (least : ℕ) → 0 < least → least ≤ result → IsDear least self.now.job }
+    {
+        match &self.job.ask {
+            Ask::Run(_) => match self.workshop.bench.receipt(rt, &self.job) {
+                Some(receipt) => receipt.cost,
+                None => 0,
+            },
+            _ => 0,
+        }
+    }
+
+    // Hands a signal to each shard.
+    fn signal<R: Wait>(&self, rt: &R, from: Endpoint, id: u16, reset: bool)
+        ensures { AreSignalled (shop B.changes B.ended B.called B.logged M.is_moment M.is_random G.passed W.called) from id reset }
+    {
+        'shards: for shard in 0..SHARDS {
+            self.workshop.bench.signal(rt, shard, from, id, reset);
+        }
+    }
+}
