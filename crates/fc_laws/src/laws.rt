@@ -92,6 +92,6 @@ pub fn refused_memory_ends_a_job()
         → stage (and_then (did (Take k false readings) o) s) k ≡ ToAnswer Unavailable }
     ensures install { (s : Seen) (k : ℕ) (o : Option Emission) → stage s k ≡ ToInstall
         → stage (and_then (did (Install k false) o) s) k ≡ ToAnswer Unavailable }
-    ensures followed_by { (h : History) (rs : List Entry) (k : ℕ) (content : Content)
+    ensures later { (h : History) (rs : List Entry) (k : ℕ) (content : Content)
         → stage (seen h) k ≡ ToAnswer content → takings_of (followed_by h rs) k ≡ takings_of h k }
 {}

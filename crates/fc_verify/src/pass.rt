@@ -160,7 +160,7 @@ fn pass(
     requires here { state_at states.old slot ≡ Some regs.old }
     requires within { IsWithin (length states.old) (flow slot insn.now) }
     requires insn { IsInsn insn.now }
-    ensures meet_at { result ≡ true → passed_by vars_size code.now beginning.now inside slot insn.now regs.old states.old ≡ Some states.new }
+    ensures met { result ≡ true → passed_by vars_size code.now beginning.now inside slot insn.now regs.old states.old ≡ Some states.new }
     ensures refused { result ≡ false → passed_by vars_size code.now beginning.now inside slot insn.now regs.old states.old ≡ None }
     ensures kept { result ≡ false → states.new ≡ states.old }
 {
@@ -188,7 +188,7 @@ fn pass_head(
     requires here { slot < length states.old }
     requires within { IsWithin (length states.old) (flow slot insn.now) }
     requires insn { IsInsn insn.now }
-    ensures meet_at { result ≡ true → passed_by vars_size code.now (Some head.now) inside slot insn.now regs.old states.old ≡ Some states.new }
+    ensures met { result ≡ true → passed_by vars_size code.now (Some head.now) inside slot insn.now regs.old states.old ≡ Some states.new }
     ensures refused { result ≡ false → passed_by vars_size code.now (Some head.now) inside slot insn.now regs.old states.old ≡ None }
     ensures kept { result ≡ false → states.new ≡ states.old }
 {
@@ -221,7 +221,7 @@ fn pass_on(
     requires here { state_at states.old slot ≡ Some regs.old }
     requires within { IsWithin (length states.old) (flow slot insn.now) }
     requires insn { IsInsn insn.now }
-    ensures meet_at { result ≡ true → met_by vars_size inside slot insn.now regs.old states.old ≡ Some states.new }
+    ensures met { result ≡ true → met_by vars_size inside slot insn.now regs.old states.old ≡ Some states.new }
     ensures refused { result ≡ false → met_by vars_size inside slot insn.now regs.old states.old ≡ None }
     ensures kept { result ≡ false → states.new ≡ states.old }
 {
