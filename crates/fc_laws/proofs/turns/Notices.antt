@@ -48,7 +48,7 @@ kind_is : (b : Bool) → note_kind b ≡ if b then Confirmable else NonConfirmab
 kind_is true = refl
 kind_is false = refl
 
-module _ (turn : Turn) (id at : ℕ) (w : ObserverList) (found : Option Ticket) (e : Emission) (followed_by : max w.moment at ≡ at) where
+module _ (turn : Turn) (id at : ℕ) (w : ObserverList) (found : Option Ticket) (e : Emission) (later : max w.moment at ≡ at) where
   -- by the entry that has the turn out
   notifies_by : (x : Option Entry) → entry_out turn (at_moment at w) ≡ x → Some e ≡ option_map (note_to id (must_confirm_by x (max w.moment at)) found) (option_map interest_of x) → Notifies turn id at w (note_response found) e
   notifies_by None out sent = absurd (cc sent)
@@ -60,7 +60,7 @@ module _ (turn : Turn) (id at : ℕ) (w : ObserverList) (found : Option Ticket) 
         held = found_held (is_out turn (at_moment at w)) w.held o out;
         out = out;
         is = is ∙ ap (λ (kind : MessageType). sent_in (record { to = o.endpoint; kind = kind; id = id; token = o.token.items }) (note_response found))
-            (kind_is confirms ∙ ap (λ (m : ℕ). if nat_le (o.confirmed + 86400000) m then Confirmable else NonConfirmable) followed_by);
+            (kind_is confirms ∙ ap (λ (m : ℕ). if nat_le (o.confirmed + 86400000) m then Confirmable else NonConfirmable) later);
       }
 
   notifies_out : Some e ≡ option_map (note_to id (must_confirm_by (entry_out turn (at_moment at w)) (max w.moment at)) found) (option_map interest_of (entry_out turn (at_moment at w))) → Notifies turn id at w (note_response found) e
@@ -72,8 +72,8 @@ module _ (turn : Turn) (id at : ℕ) (w : ObserverList) (found : Option Ticket) 
   notifies_if false sent = absurd (cc sent)
 
 sent_notifies : (turn : Turn) (id at : ℕ) (w : ObserverList) (found : Option Ticket) (e : Emission) → max w.moment at ≡ at → Some e ≡ note_at turn id at found w → Notifies turn id at w (note_response found) e
-sent_notifies turn id at w None e followed_by sent = notifies_if turn id at w None e followed_by (is_missing turn (at_moment at w)) sent
-sent_notifies turn id at w (Some t) e followed_by sent = notifies_out turn id at w (Some t) e followed_by sent
+sent_notifies turn id at w None e later sent = notifies_if turn id at w None e later (is_missing turn (at_moment at w)) sent
+sent_notifies turn id at w (Some t) e later sent = notifies_out turn id at w (Some t) e later sent
 
 -- what a turn that is to notify sends
 pub note_sends : (s : Seen) (k now random id : ℕ) (turn : Turn) (found : Option Ticket) (o : Option Emission) → stage s k ≡ ToTell turn (turns.ToNote found id) → Emits s (Note k now random) o → o ≡ note_at turn id (moment_at s k now) found (watch s (slot_of s k))
@@ -128,9 +128,9 @@ pub lapsed_silent : (h : History) (k now random id : ℕ) (turn : Turn) (found :
 lapsed_silent h k now random id turn found o is sent lapsed =
     let at = moment_at (seen h) k now in
     let w = watch (seen h) (slot_of (seen h) k) in
-    let followed_by = turn_moment h k now in
+    let later = turn_moment h k now in
     let none : entry_out turn (at_moment at w) ≡ None = none_found (is_out turn (at_moment at w)) w.held
-    (All-weaker (HasLapsed turn at) (λ (e : Entry). is_out turn (at_moment at w) e ≡ false) (λ e over. lapsed_in w.slot (max w.moment at) turn e (subst (λ (m : ℕ). HasLapsed turn m e) (sym followed_by) over)) w.held lapsed) in
+    (All-weaker (HasLapsed turn at) (λ (e : Entry). is_out turn (at_moment at w) e ≡ false) (λ e over. lapsed_in w.slot (max w.moment at) turn e (subst (λ (m : ℕ). HasLapsed turn m e) (sym later) over)) w.held lapsed) in
     none_by o (sends_where_out h k now random id turn found o is sent ∙ ap (λ (x : Option Entry). is_some x) none)
 
 -- a turn that was given up is at its end
