@@ -3,7 +3,7 @@
 the same C compiled for this computer, by `cc`; then shows what is refused.
 
 Use: examples/c/try.py [CLANG], at the top of the repository, whose fcasm and fcd are built, or on the path. CLANG is `clang` if not given.
-The status is 0 where no answer was wrong, and no mended form was refused."""
+The status is 0 where no answer was wrong, and no mended form was refused. tried.txt is what it printed with clang 14.0.6."""
 import random
 import re
 import shutil
