@@ -93,7 +93,7 @@ impl Server {
         self.front.tick(now);
     }
 
-    /// Asks a shard for the turn of an observer that is due at a moment in milliseconds: the job that answers its request anew.
+    /// Asks a shard for the turn of an observer that is due at a moment in milliseconds: the job that answers its request anew is
     /// written over another. Tells whether there is one; else the job stays as it was.
     pub fn due(&mut self, shard: u8, now: u64, job: &mut Job) -> bool
         requires { shard < length self.old.shards }
