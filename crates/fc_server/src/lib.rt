@@ -31,7 +31,7 @@
 //!
 //! - Each call is an event, and what it does with a datagram is the list of the events of one job, whatever the history so far, whose
 //!   taking is handed the readings that the call was given.
-//! - A signal goes to each shard, and a turn that a shard gives is worked off by its events.
+//! - A signal goes to each shard, and a turn that is told as given is worked off by its events.
 //!
 //! By the contracts of `Server`, `Engine::hear`, `tick`, `resend`, `notify`.
 #![tactic(auto)]
