@@ -26,17 +26,20 @@
 //! - **A server on a socket** receives by one loop, whatever takes its datagrams in: a server on one thread, or the dispatcher of workers
 //!   (`run_rounds`, by `HasRun`). Its rounds follow one another on one server. In each, at a moment that was asked for, what was received
 //!   is heard, once, whole and from its endpoint, or time passes where nothing came; then the shards are asked, 0 to 7, until each has told
-//!   that nothing is late and that nobody is due, a message id is lacking, or 8,192 steps were taken; and each emission of this, the reply
-//!   first, was handed to the sink, and is counted once, as the sink told. What was received in the rounds, in order, is what the source
-//!   gave, where that is known: of a socket of the system it isn't. That nothing else goes to the sink, and in which order, no clause says
-//!   (`Source::came`, `Sink::went`).
+//!   that nothing is late and that nobody is due, one has told that no message id is free, or 8,192 steps were taken; and each emission of
+//!   this, the reply first, was handed to the sink, and is counted once, as the sink told. What was received in the rounds, in order, is
+//!   what the source gave, where that is known: of a socket of the system it isn't. That each is handed over anew, where the same was
+//!   before, that nothing else goes to the sink, and in which order, no clause says (`Source::came`, `Sink::went`).
 //! - **A server on a socket is that loop**, by one worker or more, where it gives its source back: then a limit was set, and as many
-//!   datagrams were received (`serve_at`, by `IsServed`). Of one that gives none, and of one that doesn't end, no clause says anything. What a datagram is received into has 1,281 bytes, one more than it may have (`laws`).
+//!   datagrams were received (`serve_at`, by `IsServed`). At which moments, and of one that gives no source or doesn't end, no clause says
+//!   anything. What a datagram is received into has 1,281 bytes, one more than it may have (`laws`).
 //! - **By one worker** these are lists of events of one server, which begins at the serial and the message id that it is given: each round
 //!   is the list of its datagram, or of its moment, and of what its shards are asked. Its readings are each round's moment and what its
 //!   sensors said. No clause says that with `--readings` this is the file's; without it these are zeros (`serve_alone`, by `HasServed`).
-//! - **By more workers** the loop takes each datagram in by one call of a dispatcher, in order, and asks it for each turn by one; no other
-//!   call of a round changes what was dispatched (`serve_at`, by `HasServedPooled`; `run_pool` hands on by `IsFed` what its feeder did).
+//! - **By more workers** each datagram is taken in, in order, as a dispatcher takes one in at some front, and each turn as one that some
+//!   shard gave; nothing else of a round changes what was dispatched (`serve_at`, by `HasServedPooled`; `run_pool` hands on by `IsFed` what
+//!   its feeder did). That front and shards are the pool's, and one for all rounds, no clause says: that is seen of a dispatcher over any
+//!   bench (`fc_workers`).
 //! - **A pool** gives at its end eight shards, the serials that each began with, and changes; the serials of each shard have risen by just
 //!   these, which are told up to 2^64 - 1. That its workers worked at these shards is no clause.
 //! - **Readings** are some moment in eight bytes, the least first, and what the sensors said: zeros where there are none. What is read of a
