@@ -19,7 +19,7 @@ use Rattle.fc_registry.specs.Taken.{Taken}
 use Rattle.fc_registry.specs.Slots.{Ticket}
 use Rattle.fc_workers.specs.declared.call_log.CallLog.{CallLog}
 
--- a call of a bench that, made twice, is as made once
+-- a call of a bench that is in no log: that it was made is known, and not how often or when
 pub data BenchCall : Type 0 where
   -- the readings of the device
   GivesReadings : (readings : List ℕ) → BenchCall
@@ -34,7 +34,7 @@ pub data BenchCall : Type 0 where
   -- a shard is advanced to a moment if it is quiet then
   AdvancesIfQuiet : (shard now : ℕ) (quiet : Bool) → BenchCall
 
--- a call of a bench of which it matters how often it is made, and when: a worker's log has it
+-- a call of a bench that a worker's log has: so it is known how often it is made, and when
 pub data LoggedCall : Type 0 where
   -- a datagram is taken in at a moment: what it brings
   HearsDatagram : (now : ℕ) (from : Endpoint) (bytes : List ℕ) (brings : Delivered) → LoggedCall

@@ -24,7 +24,7 @@ abbrev pub AsksRun : Ask → Type 0
 AsksRun (Run request) = Unit {0}
 AsksRun other = ⊥
 
--- a job of a run that takes so many instructions at most, or more, by what some shard told of the program in its slot
+-- a job of a run, and a receipt that some slot has, of a cost of so many instructions or more: which slot's isn't said
 pub record IsDear (least : ℕ) (job : Job) : Type 0 where
   pub asks : AsksRun job.ask
   pub receipt : Receipt

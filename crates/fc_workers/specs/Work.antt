@@ -1,5 +1,5 @@
 -- What is done with a job whose shard others change too: a list of calls, the newest first, each at the stage that needs it,
--- and answered as its shard answers at some slot. Each leads the worker's log on from where the one before it left it: so there were no others.
+-- and answered as its shard answers at some slot. Each leads the worker's log on from where the one before it left it: so the log has no others.
 use Rattle.std.specs.Prelude.{◌≡◌, ℕ, ◌+◌, ◌<◌, ◌≤◌, List, [], ◌∷◌, length, Option, Some, None}
 use Rattle.coap_msg.specs.declared.types.Emission.{Emission}
 use Rattle.fc_isa.specs.declared.rule.Fault.{Fault}
@@ -92,7 +92,7 @@ module _ {T : Type 0} (s : Shop T) where
   abbrev pub IsCallAt : ℕ → Job → Stage → Call → CallLog → CallLog → Type 0
   IsCallAt number job stage call before after = (stage ≡ called_at call) × IsCallOf number job call before after
 
-  -- each is the call that the stage needs where the ones before it have led, and none was made but these, from one log to the other
+  -- each is the call that the stage needs where the ones before it have led, and the log has none but these, from one state to the other
   unfoldable pub AreCalls : ℕ → Job → List Call → CallLog → CallLog → Type 0
   AreCalls number job [] before after = after ≡ before
   AreCalls number job (call ∷ calls) before after =
@@ -153,7 +153,7 @@ module _ {T : Type 0} (s : Shop T) where
   IsWorked number job before after reply = IsWorkedAs job.turn number job before after reply
 
   -- it was worked off, then its reply, if it has one, was sent once and counted, and last who waits for the job was told once that it has ended.
-  -- Nobody was called besides
+  -- The log has no other call
   pub record IsReplied (number : ℕ) (job : Job) (before after : Share T) : Type 0 where
     pub reply : Option Emission
     pub share : Share T

@@ -31,8 +31,8 @@ use std::sync::{Arc, Wait};
 /// next's: what others change in between is not said here. What a call does is said by who implements this.
 ///
 /// Each worker hands in tallies of its own. They count the changes of each shard that its calls answered, and the jobs
-/// that it ended. It hands in its log with each call of which it matters how
-/// often it is made, and when: so a clause says which of these it made, and in which order.
+/// that it ended. It hands in its log with each call that takes one: so a clause says which of
+/// these it made, and in which order.
 pub trait Bench {
     /// What one worker changed, and how many jobs it ended.
     type Tallies: Drop;
@@ -46,7 +46,7 @@ pub trait Bench {
     // Which head words it has.
     ghost heads: { Self → TableId };
 
-    // Which calls were made, of those that are as made once however often they are. It says of a call that it was made, with what it was handed and what it answered.
+    // Which calls were made, of those that no log has. It says of a call that it was made, with what it was handed and what it answered.
     ghost called: { BenchCall → Type 0 } = { λ _. ⊤ };
 
     // Which of the others were made, each from one state of the caller's log to the next, with what it was handed and what it answered.

@@ -6,8 +6,8 @@
 //! [`Bench`] says of each call what the shard answers at some slot, and the next stage is told by that answer alone
 //! (`fc_core`'s `Stage`). `specs/Work.antt` says which calls a job's answer ends, and `specs/Shares.antt` what a worker's
 //! [`Share`] says of its jobs: it has worked off and ended just those that its `Got` gained, and its tallies have risen by
-//! the changes that their calls answered. Each call of which it matters how often it is made, and when, is handed the worker's [`CallLog`]: so it is said
-//! that these calls were made in this order, and no others with this log.
+//! the changes that their calls answered. Most calls are handed the worker's [`CallLog`]: so it is said
+//! that these were made in this order, and no others with this log.
 //!
 //! What a call is answered by isn't said: that a bench takes from the job's own slot is its implementation's. Nor is it said that
 //! a call returns, or when.
@@ -42,8 +42,9 @@
 //! # What is proved
 //!
 //! - **A worker's calls**: each of those that its log has leads the log on from where the one before it left it. So none was made twice,
-//!   out of order, or besides, with this log. That a worker hands its calls no other log is read: one is made in `Share::new` alone. Looks at
-//!   head words, receipts and readings, which change nothing, aren't in the log.
+//!   out of order, or besides, with this log. That a worker hands its calls no other log is read: one is made in `Share::new` alone. Not in
+//!   the log are looks at head words, receipts and readings, which change nothing, and three calls that do: a tick of the front, a signal,
+//!   and the passing of a quiet shard. That a worker makes none of these besides is read.
 //! - **A request's job** comes to what it is to be answered by a list of calls from its first stage: each is the call that its stage needs,
 //!   answered as the shard does at some slot, and eight take at most. A look is at the head word of the job's slot, or, for a list, of each
 //!   slot in order, and the word of the job's slot is raised to the one that its change told.
@@ -60,7 +61,7 @@
 //! - **A worker's share** has ended as many jobs as it got, up to 2^64 - 1, and its tallies have risen by the changes that their calls
 //!   answered. Each seat of a pool comes back as its share.
 //! - **A dispatcher** has each datagram heard once. It sends the job that a delivery or a turn brings to the workers, under the next number,
-//!   where its handover lets it go (what a dear run costs, by a receipt that some shard could give), or works it off and ends it, and does
+//!   where its handover lets it go (of a dear one, that it is a run: what that costs no clause says), or works it off and ends it, and does
 //!   neither where there is none. It hands a signal to each of eight shards, as it was heard, asks the shard that it is told to, and advances
 //!   the front to the moment that it is handed.
 //! - **A server behind nine locks** answers a taking, an install, a removal and a receipt as a shard of the index of the job's slot does in
