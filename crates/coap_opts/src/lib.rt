@@ -29,7 +29,7 @@
 //! - What each field of an accepted request is, said of its message's options, and what it is within; that a refusal is an error's code;
 //!   what is done with a message that is no request.
 //! - A reply with any set of options is a message and is written in its one spelling.
-//! - Integers, blocks and paths are read and written exactly, a block's value by its number, M and size.
+//! - Integers and blocks are read and written exactly, a block's value by its number, M and size. Each resource has one path.
 //! - Each named option is its number, with the lengths of its value and the methods that it is of.
 //!
 //! By the contracts of `classify`, `Reply::write`, `decode_uint`, `encode_uint`, `Block`, `laws`.

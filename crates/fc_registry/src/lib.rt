@@ -42,7 +42,7 @@
 //! - No observer was sent a serial above its slot's. A shard that is passed as quiet has nothing to send again, and nobody who is due.
 //!
 //! By the contracts of `Shard::take`, `write_taking`, `commit`, `install`, `remove`, `receipt`, `next_due`, `note`, `give_up`, `signal`, `tick`,
-//! `rings_are_chains`, `no_observer_is_ahead`, `laws`.
+//! `advance_if_quiet`, `rings_are_chains`, `no_observer_is_ahead`, `laws`.
 #![tactic(auto)]
 
 mod body;

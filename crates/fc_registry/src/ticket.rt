@@ -108,8 +108,8 @@ fn write_request(ask: &Ask, request: &mut Request)
     }
 }
 
-/// A view of a program and of what is written down beside it: with what one taking gave, what that found in a slot, for a job. A commit compares all of it with the slot. What is installed
-/// or committed later doesn't alter it.
+/// A view of a program and of what is written down beside it. Where one taking gave both, it is what that found in a slot, for a job. A commit compares
+/// its program, version, variables and serial with the slot's. What is installed or committed later doesn't alter it.
 #[derive(Drop)]
 pub struct Ticket<'a> {
     program: &'a Verified,

@@ -26,8 +26,8 @@
 //! - An accepted program runs to its exit within its budget on every request, and each typed one in at most the steps of its longest path,
 //!   all turns of its loops counted.
 //!
-//! By the contracts of `verify`, `pass::typed`, `laws::judgement_is_right`, `laws::judgement_is_only`, `laws::accepted_programs_run`,
-//! `laws::typed_programs_end`.
+//! By the contracts of `verify`, `pass::typed`, `laws::judgement_is_right`, `laws::judgement_is_only`, `laws::typings_are_found`,
+//! `laws::accepted_programs_run`, `laws::typed_programs_end`.
 #![tactic(auto)]
 
 pub mod laws;
