@@ -16,7 +16,7 @@
 //! # What is proved
 //!
 //! - Each arithmetic operation and each comparison, at 32 and at 64 bits, gives what whole numbers, powers of two and remainders say. Rows
-//!   beside the definitions are tests.
+//!   that are worked out from the standard, and not from the definitions, are tests (`alu_tests` in fctests).
 //!
 //! By the contracts of `alu`, `truth`.
 #![tactic(auto)]
