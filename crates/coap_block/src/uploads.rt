@@ -167,12 +167,8 @@ fn before(held: &[Transfer], endpoint: Endpoint, slot: u8, number: u32) -> Optio
 fn find(held: &[Transfer], endpoint: Endpoint, slot: u8) -> Option<&Transfer>
     ensures { option_copied result ≡ find (is_transfer_of endpoint slot) held.now }
 {
-    for transfer in held {
-        if is_transfer_of(endpoint, slot, transfer) {
-            return Some(transfer);
-        }
-    }
-    None
+    held.iter()
+        .find(|transfer| is_transfer_of(endpoint, slot, transfer))
 }
 
 // Another copy of a body.

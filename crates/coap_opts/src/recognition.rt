@@ -10,12 +10,7 @@ use coap_msg::Code;
 fn row_of(number: u16) -> Option<Row>
     ensures { result ≡ spec.row_of number }
 {
-    for row in &OPTIONS {
-        if row.number == number {
-            return Some(*row);
-        }
-    }
-    None
+    OPTIONS.iter().find(|row| row.number == number).copied()
 }
 
 /// Whether an option is recognised in a message with this code: known, of legal length, defined for this method, and not a
