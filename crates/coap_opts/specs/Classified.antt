@@ -7,6 +7,8 @@ use Rattle.coap_opts.specs.declared.request.Method.{Method}
 use Rattle.coap_opts.specs.declared.request.Action.{Action}
 use Rattle.coap_opts.specs.declared.request.Resource.{Resource}
 use Rattle.coap_opts.specs.declared.request.Request.{Request}
+use Rattle.coap_opts.specs.declared.request.Asking.{Asking}
+use Rattle.coap_opts.specs.declared.request.Asking.TheVariants as asking
 use Rattle.coap_opts.specs.declared.request.Classified.{Classified}
 use Rattle.coap_opts.specs.declared.request.Classified.TheVariants as classified
 use Rattle.coap_opts.specs.Recognition.{has_unknown_critical}
@@ -44,10 +46,14 @@ abbrev pub IsRequestOf : Message → Result Request Code → Type 0
 IsRequestOf m (Ok r) = (refusal_code m ≡ None) × (asked m ≡ Some (asked_by r))
 IsRequestOf m (Err answer) = refusal_code m ≡ Some answer.byte
 
+-- what is done about a request, as a verdict
+abbrev pub asking_verdict : Asking → Verdict
+asking_verdict (asking.Serve r) = IsAsked (asked_by r)
+asking_verdict (asking.Refuse answer) = IsRefused answer.byte
+asking_verdict asking.Silent = IsSilent
+
 abbrev pub verdict_of : Classified → Verdict
-verdict_of (classified.Request r) = IsAsked (asked_by r)
-verdict_of (classified.Refused answer) = IsRefused answer.byte
-verdict_of classified.Silent = IsSilent
+verdict_of (classified.Request done) = asking_verdict done
 verdict_of classified.Reset = IsReset
 verdict_of (classified.Signal reset) = IsSignal reset
 verdict_of classified.Ignored = IsIgnored

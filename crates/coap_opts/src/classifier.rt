@@ -1,14 +1,14 @@
 //! Request classification: message type, options, method, path, in the order of the checks.
 ghost use Rattle.std.specs.Prelude.{◌≡◌, ◌||◌, None, Some};
 ghost use Rattle.coap_opts.specs.Verdict.{refusal_verdict, request_verdict, verdict};
-ghost use Rattle.coap_opts.specs.Classified.{IsRequestOf, verdict_of};
+ghost use Rattle.coap_opts.specs.Classified.{IsRequestOf, asking_verdict, verdict_of};
 ghost use Rattle.coap_opts.specs.Verdict as spec;
 
 use crate::block::Block;
 use crate::collector::{JoinedQuery, collect};
 use crate::fields;
 use crate::path::method_of;
-use crate::request::{Action, Classified, PAYLOAD, Request};
+use crate::request::{Action, Asking, Classified, PAYLOAD, Request};
 use crate::served::action_of;
 use coap_msg::{Code, Message, MessageType};
 
@@ -20,9 +20,13 @@ pub fn classify<'a>(message: &Message<'a>) -> Classified<'a>
 {
     let is_empty = message.code() == Code::EMPTY;
     match message.kind() {
-        MessageType::Confirmable if is_request(message.code()) => judge(message),
+        MessageType::Confirmable if is_request(message.code()) => {
+            Classified::Request(judge(message))
+        }
         MessageType::Confirmable => Classified::Reset,
-        MessageType::NonConfirmable if is_request(message.code()) => judge(message),
+        MessageType::NonConfirmable if is_request(message.code()) => {
+            Classified::Request(judge(message))
+        }
         MessageType::Acknowledgement if is_empty => Classified::Signal { reset: false },
         MessageType::Reset if is_empty => Classified::Signal { reset: true },
         _ => Classified::Ignored,
@@ -36,23 +40,23 @@ fn is_request(code: Code) -> bool
     code != Code::EMPTY && code.class() == 0
 }
 
-fn judge<'a>(message: &Message<'a>) -> Classified<'a>
-    ensures { verdict_of result ≡ request_verdict message.now }
+fn judge<'a>(message: &Message<'a>) -> Asking<'a>
+    ensures { asking_verdict result ≡ request_verdict message.now }
 {
     match request(message) {
-        Ok(request) => Classified::Request(request),
+        Ok(request) => Asking::Serve(request),
         Err(code) => refused(message.kind(), code),
     }
 }
 
 /// A non-confirmable request with an unrecognised critical option gets no answer.
-fn refused<'a>(kind: MessageType, code: Code) -> Classified<'a>
-    ensures { verdict_of result ≡ refusal_verdict kind code.byte }
+fn refused<'a>(kind: MessageType, code: Code) -> Asking<'a>
+    ensures { asking_verdict result ≡ refusal_verdict kind code.byte }
 {
     if kind == MessageType::NonConfirmable && code == Code::BAD_OPTION {
-        Classified::Silent
+        Asking::Silent
     } else {
-        Classified::Refused(code)
+        Asking::Refuse(code)
     }
 }
 

@@ -7,13 +7,13 @@
 //!
 //! ```rust
 //! use coap_msg::read;
-//! use coap_opts::{Action, Classified, classify};
+//! use coap_opts::{Action, Asking, Classified, classify};
 //!
 //! /// The slot whose program a datagram asks by a GET of `/r/N`.
 //! fn asked_slot(bytes: &[u8]) -> Option<u8> {
 //!     let message = read(bytes).ok()?;
 //!     match classify(&message) {
-//!         Classified::Request(request) => match request.action {
+//!         Classified::Request(Asking::Serve(request)) => match request.action {
 //!             Action::Get(slot) => Some(slot),
 //!             _ => None,
 //!         },
@@ -51,6 +51,6 @@ pub mod uint;
 pub use block::Block;
 pub use classifier::classify;
 pub use reply::{Reply, ReplyOptions};
-pub use request::{Action, Classified, Method, Query, Request, Resource};
+pub use request::{Action, Asking, Classified, Method, Query, Request, Resource};
 pub use served::{OPTIONS, Row};
 pub use uint::{UintBytes, decode_uint, encode_uint};

@@ -72,15 +72,22 @@ pub struct Request<'a> {
     pub payload: &'a [u8],
 }
 
+/// What is done about a request.
+#[derive(Drop)]
+pub enum Asking<'a> {
+    /// It is carried out.
+    Serve(Request<'a>),
+    /// It is answered by this code; type, id and token of the reply follow from the message's own.
+    Refuse(Code),
+    /// Non-confirmable, with an unrecognised critical option, it is rejected without an answer (RFC 7252, 5.4.1).
+    Silent,
+}
+
 /// The class of a message: a request, or what else is done about it.
 #[derive(Drop)]
 pub enum Classified<'a> {
-    /// A request that is carried out.
-    Request(Request<'a>),
-    /// A request that is answered by this code; type, id and token of the reply follow from the message's own.
-    Refused(Code),
-    /// A non-confirmable request with an unrecognised critical option: it is rejected without an answer (RFC 7252, 5.4.1).
-    Silent,
+    /// A request, and what is done about it.
+    Request(Asking<'a>),
     /// A confirmable message that is neither empty nor a request is rejected, and so is an empty one, by a Reset message
     /// with its id (RFC 7252, 4.2 and 4.3).
     Reset,

@@ -1,12 +1,12 @@
 -- What is done about a request that is new, as it is seen.
 use Rattle.std.specs.Prelude.{◌≤◌, length}
 use Rattle.coap_msg.specs.Wire.{Message}
+use Rattle.coap_opts.specs.declared.request.Asking.{Asking}
+use Rattle.coap_opts.specs.declared.request.Asking.TheVariants.{Serve, Refuse, Silent}
 use Rattle.coap_opts.specs.Fields.{IsResource}
 use Rattle.coap_opts.specs.Served.{resource_in}
 use Rattle.coap_opts.specs.Verdict.{Asked}
 use Rattle.coap_opts.specs.Classified.{asked_by}
-use Rattle.fc_core.specs.declared.front.Asking.{Asking}
-use Rattle.fc_core.specs.declared.front.Asking.TheVariants.{Serve, Refuse, Hush}
 use Rattle.fc_core.specs.Exchanges.{FrontState}
 use Rattle.fc_core.specs.Receiving.{Received, Refused, Silenced, look_in, looked, request_received}
 use Rattle.coap_msg.specs.declared.types.Endpoint.{Endpoint}
@@ -14,7 +14,7 @@ use Rattle.coap_msg.specs.declared.types.Endpoint.{Endpoint}
 abbrev pub new_request : FrontState → Endpoint → Message → Asking → Received
 new_request f to m (Serve request) = request_received f to m (asked_by request)
 new_request f to m (Refuse answer) = Refused m answer.byte
-new_request f to m Hush = Silenced m
+new_request f to m Silent = Silenced m
 
 -- what a request is to a front that has advanced to the moment
 abbrev pub asked_in : FrontState → Endpoint → Message → Asking → Received
@@ -30,4 +30,4 @@ pub record IsWithinLimits (asked : Asked) : Type 0 where
 abbrev pub IsAsking : Asking → Type 0
 IsAsking (Serve request) = IsWithinLimits (asked_by request)
 IsAsking (Refuse answer) = 64 ≤ answer.byte
-IsAsking Hush = Unit {0}
+IsAsking Silent = Unit {0}

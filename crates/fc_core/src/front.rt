@@ -27,7 +27,7 @@ use coap_msg::{
 };
 use coap_opts::laws::requests_are_within;
 use coap_opts::request::ETAGS;
-use coap_opts::{Action, Block, Classified, Request, classify};
+use coap_opts::{Action, Asking, Block, Classified, Request, classify};
 use coap_reply::reset;
 use fc_help::Method;
 use fc_registry::{Ask, CANCEL, Job, Opening, Origin, REGISTER, SlotNumber, has_observe};
@@ -100,17 +100,6 @@ impl Model for Front {
     ghost view = { λ f. record { now = f.now; opened = f.exchanges.opened; held = f.exchanges.held; transfers = f.uploads; ids = f.ids } };
 
     ghost invariant = { λ f. f.exchanges.now ≤ f.now };
-}
-
-/// What is done about a request that is new.
-#[derive(Drop)]
-pub enum Asking<'a> {
-    /// It is carried out.
-    Serve(Request<'a>),
-    /// It is answered by this code.
-    Refuse(Code),
-    /// It gets no answer.
-    Hush,
 }
 
 impl Front {
@@ -277,21 +266,7 @@ impl Front {
     {
         requests_are_within();
         match classify(message) {
-            Classified::Request(request) => self.request(
-                endpoint,
-                message,
-                &Asking::Serve(request),
-                job,
-                reply,
-            ),
-            Classified::Refused(code) => self.request(
-                endpoint,
-                message,
-                &Asking::Refuse(code),
-                job,
-                reply,
-            ),
-            Classified::Silent => self.request(endpoint, message, &Asking::Hush, job, reply),
+            Classified::Request(asking) => self.request(endpoint, message, &asking, job, reply),
             Classified::Reset => self.reject(endpoint, message.id(), reply),
             Classified::Signal { reset } => {
                 self.exchanges.expire(self.now);
@@ -350,7 +325,7 @@ impl Front {
             self.new ≡ after_received x self.old endpoint }
     {
         match asking {
-            Asking::Hush => {
+            Asking::Silent => {
                 self.open_exchange(endpoint, message);
                 Heard::Nothing
             }

@@ -1,7 +1,7 @@
 //! Datagrams with what is done about them, from the server's own tables, and values from RFC 7252, 7641 and 7959.
 use coap_msg::{Code, Datagram, MessageType, read};
 use coap_opts::{
-    Block, Classified, Reply, ReplyOptions, Request, classify, decode_uint, encode_uint,
+    Asking, Block, Classified, Reply, ReplyOptions, Request, classify, decode_uint, encode_uint,
 };
 use std::process::Abort;
 
@@ -35,9 +35,9 @@ fn outcome_of(bytes: &[u8]) -> Outcome {
         return Outcome::Unread;
     };
     match classify(&message) {
-        Classified::Request(_) => Outcome::Accepted,
-        Classified::Refused(code) => Outcome::Refused(code),
-        Classified::Silent => Outcome::Silent,
+        Classified::Request(Asking::Serve(_)) => Outcome::Accepted,
+        Classified::Request(Asking::Refuse(code)) => Outcome::Refused(code),
+        Classified::Request(Asking::Silent) => Outcome::Silent,
         Classified::Reset => Outcome::Rejected,
         Classified::Signal { reset: false } => Outcome::Acknowledged,
         Classified::Signal { reset: true } => Outcome::Undone,
@@ -59,7 +59,7 @@ fn check_outcomes(rt: &impl Abort, cases: &[(&[u8], Outcome)]) {
 fn request_of(bytes: &[u8]) -> Option<Request<'_>> {
     let message = read(bytes).ok()?;
     match classify(&message) {
-        Classified::Request(request) => Some(request),
+        Classified::Request(Asking::Serve(request)) => Some(request),
         _ => None,
     }
 }
