@@ -10,7 +10,7 @@ use Rattle.coap_client.specs.declared.part.Part.{Part}
 use Rattle.coap_client.specs.Parts.{first_part}
 use Rattle.coap_client.specs.Requests.{part_request}
 use Rattle.coap_client.specs.Heard.{HasTakenResponse, IsTakenResponse}
-use Rattle.coap_client.specs.Fetching.{State, Out, AnswersInState, IsAnswerToPart, IsStepOf, IsFetching, LeadsTo, after_reply, taken_ids, with_taken_id}
+use Rattle.coap_client.specs.Fetching.{State, Out, AnswersInState, IsAnswerToPart, IsStepOf, IsFetching, RepliesLeadTo, after_reply, taken_ids, with_taken_id}
 
 -- what came answers the request of a part
 pub answers_part : (went came : List ℕ → Type 0) (e : Errand) (part : Part) (id : ℕ) (earlier : List ℕ) (r : SentRequest) (bytes : List ℕ) (m : Message) →
@@ -53,7 +53,7 @@ one_more went came e first known id earlier part body etag m id' earlier' next u
 }
 
 pub leads_to : (went came : List ℕ → Type 0) (e : Errand) (first : ℕ) (known : List ℕ) (id : ℕ) (earlier : List ℕ) (state : State) →
-    IsFetching went came e first known id earlier state → LeadsTo went came e first known state
+    IsFetching went came e first known id earlier state → RepliesLeadTo went came e first known state
 leads_to went came e first known id earlier state u = record { replies = u.replies; are = u.are; leads = u.leads }
 
 -- an answer was taken

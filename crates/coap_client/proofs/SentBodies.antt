@@ -15,7 +15,7 @@ use Rattle.coap_client.specs.declared.reply.Next.TheVariants as next
 use Rattle.std.specs.List.{All}
 use Rattle.std.proofs.lemmas.List.Elements.{All-nil, All-cons}
 use Rattle.coap_client.specs.Requests.{part_request}
-use Rattle.coap_client.specs.Fetching.{State, Out, Ended, Outdated, Lost, AnswersInState, AreReplies, IsFetched, LeadsTo, after_reply, moved_on, state_after, taken_ids}
+use Rattle.coap_client.specs.Fetching.{State, Out, Ended, Outdated, Lost, AnswersInState, AreReplies, IsFetched, RepliesLeadTo, after_reply, moved_on, state_after, taken_ids}
 use Rattle.coap_client.specs.Joined.{SendsWhole, payloads}
 use Rattle.coap_client.specs.Parts.{block_of, first_part, has_more, part_payload}
 use Rattle.coap_client.specs.Replies.{block1_of, block2_of, by_more, by_option, by_part, etag_of, is_continue, is_final, fits_place, is_success, is_understood, next_block, next_by_code, next_number, next_of_answer, next_of_body, next_of_whole, next_size}
@@ -170,7 +170,7 @@ requests_went went came e first known (m ∷ ms) are =
 
 -- a fetch that ended by a success has sent the whole body
 pub went_whole : (went came : List ℕ → Type 0) (e : Errand) (first : ℕ) (known : List ℕ) (code : ℕ) (answer : List ℕ) →
-    LeadsTo went came e first known (Ended code answer) → SendsWhole went e code
+    RepliesLeadTo went came e first known (Ended code answer) → SendsWhole went e code
 went_whole went came e first known code answer l success = record {
   requests = requests_of e first l.replies;
   each = requests_went went came e first known l.replies l.are;

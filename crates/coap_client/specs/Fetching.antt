@@ -70,23 +70,23 @@ AreReplies went came e first known (m ∷ ms) =
     AreReplies went came e first known ms × AnswersInState went came e ((first + length ms) % 65536) (taken_ids known ms) (state_after e ms) m
 
 -- replies to the requests from this id on lead to this state
-pub record LeadsTo (went came : List ℕ → Type 0) (e : Errand) (first : ℕ) (known : List ℕ) (state : State) : Type 0 where
+pub record RepliesLeadTo (went came : List ℕ → Type 0) (e : Errand) (first : ℕ) (known : List ℕ) (state : State) : Type 0 where
   pub replies : List Message
   pub are : AreReplies went came e first known replies
   pub leads : state_after e replies ≡ state
 
 -- after replies to a GET whose last one was outdated, others to requests of later ids lead to this state
-pub record LeadsToAgain (went came : List ℕ → Type 0) (e : Errand) (first : ℕ) (state : State) : Type 0 where
+pub record RepliesLeadToAgain (went came : List ℕ → Type 0) (e : Errand) (first : ℕ) (state : State) : Type 0 where
   pub outdated : List Message
   pub are : AreReplies went came e first [] outdated
   pub leads : state_after e outdated ≡ Outdated
   pub method : e.method ≡ Get
-  pub again : LeadsTo went came e ((first + length outdated) % 65536) (taken_ids [] outdated) state
+  pub again : RepliesLeadTo went came e ((first + length outdated) % 65536) (taken_ids [] outdated) state
 
 -- the fetch ends with this code and body, at once or begun again once
 abbrev pub IsFetched : (List ℕ → Type 0) → (List ℕ → Type 0) → Errand → ℕ → ℕ → List ℕ → Type 0
 IsFetched went came e first code body =
-    LeadsTo went came e first [] (Ended code body) ⊎ LeadsToAgain went came e first (Ended code body)
+    RepliesLeadTo went came e first [] (Ended code body) ⊎ RepliesLeadToAgain went came e first (Ended code body)
 
 -- replies have led to this state, so that the next request has this id, and messages of these ids have answered
 pub record IsFetching (went came : List ℕ → Type 0) (e : Errand) (first : ℕ) (known : List ℕ) (id : ℕ) (earlier : List ℕ) (state : State) : Type 0 where
@@ -98,9 +98,9 @@ pub record IsFetching (went came : List ℕ → Type 0) (e : Errand) (first : �
 
 -- what one attempt comes to
 abbrev pub IsAttempt : (List ℕ → Type 0) → (List ℕ → Type 0) → Errand → ℕ → List ℕ → Attempt → Type 0
-IsAttempt went came e first known (attempt.Ended f) = LeadsTo went came e first known (Ended f.code.byte f.body.items)
+IsAttempt went came e first known (attempt.Ended f) = RepliesLeadTo went came e first known (Ended f.code.byte f.body.items)
 IsAttempt went came e first known (attempt.Outdated id earlier) = IsFetching went came e first known id earlier.items Outdated
-IsAttempt went came e first known attempt.Misfit = LeadsTo went came e first known Lost
+IsAttempt went came e first known attempt.Misfit = RepliesLeadTo went came e first known Lost
 
 -- what an answer makes of a fetch under way: the next request is out, or it has ended, or the answer was outdated, or it doesn't fit
 abbrev pub IsNow : State → Course → Step → Type 0

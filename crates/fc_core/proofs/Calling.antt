@@ -35,7 +35,7 @@ use Rattle.fc_core.specs.TurnStage as turns
 use Rattle.fc_core.specs.Fits.{FitsStage}
 use Rattle.fc_core.specs.History.{AtShard, AsksTurn, Signals, Ticks, Calm, Seen, around, at_shard, calls_by, calls_named, due_in, is_due_at, is_place_of, job, late_in, scene, slot_at, stage, turn_at, watch}
 use Rattle.fc_core.specs.Receiving.{AskWithin, JobWithin, RequestWithin}
-use Rattle.fc_core.specs.Sound.{IsSound}
+use Rattle.fc_core.specs.Sound.{IsSoundlySeen}
 use Rattle.fc_core.specs.Stages.{image_of}
 use Rattle.fc_core.specs.Rows.{Around, Scene, names, row, calls_told, install_call, install_if}
 use Rattle.fc_core.proofs.ByStep.{Step, by_step, event_by, move_by, stage_by, committed}
@@ -153,7 +153,7 @@ signal_within : (reset : Bool) (to : Endpoint) (id : ℕ) → CallWithin (signal
 signal_within true to id = tt
 signal_within false to id = tt
 
-module _ (s : Seen) (a : IsSound s) where
+module _ (s : Seen) (a : IsSoundlySeen s) where
   named_if : (e : Event) (k : ℕ) (b : Bool) → Each CallWithin (if b then (row e (scene s k)).calls else [])
   named_if e k true =
       let n = (job s k).origin.slot in
@@ -210,9 +210,9 @@ due_below : (s : Seen) (i at k : ℕ) → due_in s i at ≡ Some k → 8 * k + i
 unfolding due_in
 due_below s i at k e = due_by s i at k (nat_lt i 8) refl e
 
-turn_within : (s : Seen) (i at : ℕ) (p : Option ℕ) → IsSound s → ((k : ℕ) → p ≡ Some k → 8 * k + i < 64) → Each JobWithin (option_to_list (turn_at p s i at))
+turn_within : (s : Seen) (i at : ℕ) (p : Option ℕ) → IsSoundlySeen s → ((k : ℕ) → p ≡ Some k → 8 * k + i < 64) → Each JobWithin (option_to_list (turn_at p s i at))
 turn_within s i at None a below = tt
 turn_within s i at (Some k) a below = given_within (8 * k + i) at (slot_at s (8 * k + i)).noticed (watch s (8 * k + i)) (below k refl) (a.watched (8 * k + i))
 
-pub turns_within : (s : Seen) (i at : ℕ) → IsSound s → Each JobWithin (option_to_list (turn_at (due_in s i at) s i at))
+pub turns_within : (s : Seen) (i at : ℕ) → IsSoundlySeen s → Each JobWithin (option_to_list (turn_at (due_in s i at) s i at))
 turns_within s i at a = turn_within s i at (due_in s i at) a (due_below s i at)

@@ -32,7 +32,7 @@ use Rattle.fc_core.specs.History.{AsksTurn, around, Entry, Seen, and_then, chang
 use Rattle.fc_core.specs.Receiving.{AskWithin, JobWithin, Received, add_in, received_added, request_received, ask_by, brought, job_of, look_in, looked, next_opening, received, received_as, received_read, slot_of_resource}
 use Rattle.coap_block.specs.Uploads.{Add, Continues, IsWhole, IsIncomplete, IsBadLength, IsTooLarge, IsFull}
 use Rattle.fc_core.specs.Receiving as x
-use Rattle.fc_core.specs.Sound.{AllSafe, IsSafelySeen, IsSound}
+use Rattle.fc_core.specs.Sound.{AllSafe, IsSafelySeen, IsSoundlySeen}
 use Rattle.fc_core.specs.Stages.{new_task}
 use Rattle.fc_core.specs.Rows.{task_moved, names, row}
 use Rattle.fc_core.proofs.Calling.{turns_within, watched_after}
@@ -120,24 +120,24 @@ later_fits s e o j st f =
 
 -- ---- each part
 
-chain_if : (s : Seen) (e : Event) (k n : ℕ) (b : Bool) → ((job s k).origin.slot == n) ≡ b → IsSound s → IsChain (new_slot s.first_serial) (if b then (row e (scene s k)).changes ++ s.changes n else s.changes n)
+chain_if : (s : Seen) (e : Event) (k n : ℕ) (b : Bool) → ((job s k).origin.slot == n) ≡ b → IsSoundlySeen s → IsChain (new_slot s.first_serial) (if b then (row e (scene s k)).changes ++ s.changes n else s.changes n)
 chain_if s e k n true is a =
     let slot_is = eqb-true (job s k).origin.slot n is in
     subst (λ (m : ℕ). IsChain (new_slot s.first_serial) ((row e (scene s k)).changes ++ s.changes m)) slot_is
     (row_chain e (job s k) (new_slot s.first_serial) (s.changes (job s k).origin.slot) (around s (job s k).origin.slot) (stage s k) (a.stages k) (a.chain (job s k).origin.slot))
 chain_if s e k n false is a = a.chain n
 
-chain_after : (s : Seen) (e : Event) (o : Option ℕ) (n : ℕ) → IsSound s → IsChain (new_slot s.first_serial) (changes_after o e s n)
+chain_after : (s : Seen) (e : Event) (o : Option ℕ) (n : ℕ) → IsSoundlySeen s → IsChain (new_slot s.first_serial) (changes_after o e s n)
 chain_after s e None n a = a.chain n
 chain_after s e (Some k) n a = chain_if s e k n ((job s k).origin.slot == n) refl a
 
 abbrev FitsAfter : Option ℕ → Event → Seen → Task → Type 0
 FitsAfter o e s t = JobWithin t.job × FitsStage t.job (slot_after o e s t.job.origin.slot) t.stage
 
-old_fit : (s : Seen) (e : Event) (o : Option ℕ) → IsSound s → (k : ℕ) → FitsAfter o e s (task_at s.tasks k)
+old_fit : (s : Seen) (e : Event) (o : Option ℕ) → IsSoundlySeen s → (k : ℕ) → FitsAfter o e s (task_at s.tasks k)
 old_fit s e o a k = (a.within k, later_fits s e o (job s k) (stage s k) (a.stages k))
 
-moved_fit : (s : Seen) (e : Event) (o : Option ℕ) → IsSound s → (p : Option ℕ) → (k : ℕ) → FitsAfter o e s (task_at (tasks_moved p e s) k)
+moved_fit : (s : Seen) (e : Event) (o : Option ℕ) → IsSoundlySeen s → (p : Option ℕ) → (k : ℕ) → FitsAfter o e s (task_at (tasks_moved p e s) k)
 moved_fit s e o a None k = old_fit s e o a k
 moved_fit s e o a (Some j) k =
     let new = task_moved (task_at s.tasks j) (row e (scene s j)) in
@@ -147,15 +147,15 @@ new_fit : (s : Seen) (e : Event) (o : Option ℕ) (jobs : List Job) → Each Job
 new_fit s e o [] w = tt
 new_fit s e o (j ∷ js) w = ((w.0, first_fits j (slot_after o e s j.origin.slot)), new_fit s e o js w.1)
 
-brought_fit : (s : Seen) (o : Option ℕ) (e d : Event) → IsSound s → Each (FitsAfter o e s) (tasks_brought d s)
+brought_fit : (s : Seen) (o : Option ℕ) (e d : Event) → IsSoundlySeen s → Each (FitsAfter o e s) (tasks_brought d s)
 brought_fit s o e (Deliver now to b) a = new_fit s e o _ (received_within _ to b.now (next_opening (front_at s now)))
 brought_fit s o e (Due shard now) a = subst (Each (FitsAfter o e s)) (sym (append-nil (turns_by (AsksTurn shard now) s))) (new_fit s e o _ (turns_within s shard (max (s.shard_moment shard) now) a))
 brought_fit s o e other a = tt
 
-all_fit : (s : Seen) (e : Event) (o : Option ℕ) → IsSound s → (k : ℕ) → FitsAfter o e s (task_at (tasks_moved o e s ++ tasks_brought e s) k)
+all_fit : (s : Seen) (e : Event) (o : Option ℕ) → IsSoundlySeen s → (k : ℕ) → FitsAfter o e s (task_at (tasks_moved o e s ++ tasks_brought e s) k)
 all_fit s e o a k = appended_all (FitsAfter o e s) (tasks_moved o e s) (tasks_brought e s) no_task (moved_fit s e o a o) (brought_fit s o e e a) k
 
-pub still_sound : (r : Entry) (s : Seen) → IsSound s → IsSound (and_then r s)
+pub still_sound : (r : Entry) (s : Seen) → IsSoundlySeen s → IsSoundlySeen (and_then r s)
 still_sound r s a = record {
   chain = λ n. chain_after s r.event (names r.event) n a;
   within = λ k. (all_fit s r.event (names r.event) a k).0;
@@ -165,7 +165,7 @@ still_sound r s a = record {
 
 -- ---- safe programs
 
-safe_if : (s : Seen) (e : Event) (k n : ℕ) (b : Bool) → ((job s k).origin.slot == n) ≡ b → IsSound s → AllSafe (row e (scene s k)).changes → IsSafelySeen s → FitsSlot (after_changes (new_slot s.first_serial) (if b then (row e (scene s k)).changes ++ s.changes n else s.changes n)).present
+safe_if : (s : Seen) (e : Event) (k n : ℕ) (b : Bool) → ((job s k).origin.slot == n) ≡ b → IsSoundlySeen s → AllSafe (row e (scene s k)).changes → IsSafelySeen s → FitsSlot (after_changes (new_slot s.first_serial) (if b then (row e (scene s k)).changes ++ s.changes n else s.changes n)).present
 safe_if s e k n true is a made f =
     let slot_is = eqb-true (job s k).origin.slot n is in
     let m = (job s k).origin.slot in
@@ -179,9 +179,9 @@ abbrev pub IsSafeMove : Option ℕ → Event → Seen → Type 0
 IsSafeMove None e s = Unit {0}
 IsSafeMove (Some k) e s = AllSafe (row e (scene s k)).changes
 
-safe_after : (s : Seen) (e : Event) (o : Option ℕ) (n : ℕ) → IsSound s → IsSafeMove o e s → IsSafelySeen s → FitsSlot (slot_after o e s n).present
+safe_after : (s : Seen) (e : Event) (o : Option ℕ) (n : ℕ) → IsSoundlySeen s → IsSafeMove o e s → IsSafelySeen s → FitsSlot (slot_after o e s n).present
 safe_after s e None n a made f = f.slots n
 safe_after s e (Some k) n a made f = safe_if s e k n ((job s k).origin.slot == n) refl a made f
 
-pub still_safe : (r : Entry) (s : Seen) → IsSound s → IsSafeMove (names r.event) r.event s → IsSafelySeen s → IsSafelySeen (and_then r s)
+pub still_safe : (r : Entry) (s : Seen) → IsSoundlySeen s → IsSafeMove (names r.event) r.event s → IsSafelySeen s → IsSafelySeen (and_then r s)
 still_safe r s a made f = record { slots = λ n. safe_after s r.event (names r.event) n a made f }

@@ -21,13 +21,13 @@ abbrev pub asked_in : FrontState → Endpoint → Message → Asking → Receive
 asked_in f to m asking = looked (look_in f to m) m (new_request f to m asking)
 
 -- a request that is carried out names a resource that there is, and is within the limits of its query and its payload
-pub record IsWithinLimits (asked : Asked) : Type 0 where
+pub record IsServable (asked : Asked) : Type 0 where
   pub resource : IsResource (resource_in asked.action)
   pub query : length asked.query ≤ 64
   pub payload : length asked.payload ≤ 1024
 
 -- a refusal has the code of a reply
 abbrev pub IsAsking : Asking → Type 0
-IsAsking (Serve request) = IsWithinLimits (asked_by request)
+IsAsking (Serve request) = IsServable (asked_by request)
 IsAsking (Refuse answer) = 64 ≤ answer.byte
 IsAsking Silent = Unit {0}

@@ -5,6 +5,7 @@ use Rattle.coap_msg.specs.declared.types.Emission.{Emission}
 use Rattle.fc_verify.specs.Accepted.{Judgement, Accepts, Breaks, Untypable}
 use Rattle.fc_verify.specs.Judged.{judged}
 use Rattle.fc_observe.specs.Calls.{ObserverCall, GiveUp as GiveUpTurn}
+use Rattle.fc_observe.specs.declared.entry.Turn.{Turn}
 use Rattle.fc_observe.specs.Observers.{ObserverList}
 use Rattle.fc_registry.specs.declared.job.Job.{Job}
 use Rattle.fc_registry.specs.Slots.{Slot, Shard, Ticket, slot_in, with_slot}
@@ -176,6 +177,10 @@ task_moved task m = record { job = task.job; stage = m.stage }
 -- the shard after a move of a job of slot n
 abbrev pub shard_moved : Move → ℕ → Shard → Shard
 shard_moved m n shard = with_calls m.calls n (with_slot (record shard { now = handed m.hands shard.now }) n (after_changes (slot_in shard n) m.changes))
+
+-- the notification of what a taking found that a turn sends at a shard, which is handed the moment
+abbrev pub note_on : Shard → ℕ → Turn → ℕ → Option Ticket → Option Emission
+note_on shard now turn id found = note_at turn id (max shard.now now) found (watch_at shard (turn.slot / 8))
 
 -- the move of a commit of this ticket at a shard
 abbrev pub commit_call : Shard → ℕ → Ticket → Call

@@ -9,7 +9,7 @@ use Rattle.fc_core.specs.History.{Seen, job, slot_at, stage, watch}
 use Rattle.fc_core.specs.Receiving.{JobWithin, RequestWithin}
 
 -- the commits of each slot are a chain, each job is within its limits and fits its slot, and so are the observers' requests
-pub record IsSound (s : Seen) : Type 0 where
+pub record IsSoundlySeen (s : Seen) : Type 0 where
   pub chain : (n : ℕ) → IsChain (new_slot s.first_serial) (s.changes n)
   pub within : (k : ℕ) → JobWithin (job s k)
   pub stages : (k : ℕ) → FitsStage (job s k) (slot_at s (job s k).origin.slot) (stage s k)

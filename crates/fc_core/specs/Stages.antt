@@ -143,9 +143,9 @@ image_of (Installs image) = image.items
 image_of other = []
 
 -- after the head word of a job's slot was raised
-abbrev pub raised : Stage → Stage
-raised (ToRaise word content) = ToAnswer content
-raised other = other
+abbrev pub word_raised : Stage → Stage
+word_raised (ToRaise word content) = ToAnswer content
+word_raised other = other
 
 -- what the job at this stage is answered
 abbrev pub content_at : Stage → Option Content

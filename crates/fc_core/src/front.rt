@@ -4,7 +4,7 @@ ghost use Rattle.coap_opts.specs.Verdict.{verdict};
 ghost use Rattle.coap_opts.specs.Classified.{asked_by};
 ghost use Rattle.coap_dedup.specs.Exchanges.{IsNew};
 ghost use Rattle.fc_core.specs.Answering.{AnswersIn, after_answered, emission_of, responded};
-ghost use Rattle.fc_core.specs.Askings.{IsAsking, IsWithinLimits, asked_in, new_request};
+ghost use Rattle.fc_core.specs.Askings.{IsAsking, IsServable, asked_in, new_request};
 ghost use Rattle.fc_core.specs.Contents.{IsOf};
 ghost use Rattle.fc_core.specs.Exchanges as spec;
 ghost use Rattle.fc_core.specs.Exchanges.{advanced, first_front, front_expired, handed};
@@ -360,7 +360,7 @@ impl Front {
         reply: &mut Emission,
     ) -> Heard
         requires new { look_in self.old endpoint message.now ≡ IsNew }
-        requires limits { IsWithinLimits (asked_by request.now) }
+        requires limits { IsServable (asked_by request.now) }
         ensures delivered { let x = request_received self.old endpoint message.now (asked_by request.now) in
             heard result job.new reply.new ≡ handed_on x self.old endpoint }
         ensures after { let x = request_received self.old endpoint message.now (asked_by request.now) in
@@ -389,7 +389,7 @@ impl Front {
         reply: &mut Emission,
     ) -> Heard
         requires new { look_in self.old endpoint message.now ≡ IsNew }
-        requires limits { IsWithinLimits (asked_by request.now) }
+        requires limits { IsServable (asked_by request.now) }
         requires block { request.now.block1 ≡ Some block }
         ensures delivered { let x = request_received self.old endpoint message.now (asked_by request.now) in
             heard result job.new reply.new ≡ handed_on x self.old endpoint }
@@ -533,7 +533,7 @@ fn write_job(
     request: &Request<'_>,
     body: &[u8],
 )
-    requires request { IsWithinLimits (asked_by request.now) }
+    requires request { IsServable (asked_by request.now) }
     requires body { length body.now ≤ 8208 }
     ensures { job.new ≡ job_of opening endpoint message.now (asked_by request.now) body.now }
 {
@@ -600,7 +600,7 @@ fn slot_asked(action: Action) -> u8
 }
 
 fn write_ask(ask: &mut Ask, request: &Request<'_>, body: &[u8])
-    requires request { IsWithinLimits (asked_by request.now) }
+    requires request { IsServable (asked_by request.now) }
     requires body { length body.now ≤ 8208 }
     ensures { ask.new ≡ ask_by request.now.action (asked_by request.now) body.now }
 {
@@ -616,7 +616,7 @@ fn write_ask(ask: &mut Ask, request: &Request<'_>, body: &[u8])
 
 // Writes a request over what was asked. The room of an image isn't touched, unless there was one.
 fn write_run(ask: &mut Ask, method: Method, slot: u8, request: &Request<'_>)
-    requires { IsWithinLimits (asked_by request.now) }
+    requires { IsServable (asked_by request.now) }
     ensures { ask.new ≡ Ask.Run (request_asked method slot (asked_by request.now)) }
 {
     match ask {
@@ -626,7 +626,7 @@ fn write_run(ask: &mut Ask, method: Method, slot: u8, request: &Request<'_>)
 }
 
 fn write_run_anew(ask: &mut Ask, method: Method, slot: u8, request: &Request<'_>)
-    requires { IsWithinLimits (asked_by request.now) }
+    requires { IsServable (asked_by request.now) }
     ensures { ask.new ≡ Ask.Run (request_asked method slot (asked_by request.now)) }
 {
     let mut run = blank_request();
@@ -651,7 +651,7 @@ fn image_of(bytes: &[u8]) -> Body
 }
 
 fn write_request(run: &mut fc_help::Request, method: Method, slot: u8, request: &Request<'_>)
-    requires { IsWithinLimits (asked_by request.now) }
+    requires { IsServable (asked_by request.now) }
     ensures { run.new ≡ request_asked method slot (asked_by request.now) }
 {
     run.write(

@@ -232,7 +232,7 @@ impl Stage {
 
     /// After its slot's head word was raised.
     pub fn raised(&mut self)
-        ensures { self.new ≡ rows.raised self.old }
+        ensures { self.new ≡ rows.word_raised self.old }
     {
         if let Step::ToRaise(_) = &self.step {
             self.step = Step::ToAnswer;

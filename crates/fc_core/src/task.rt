@@ -1,12 +1,12 @@
 //! Jobs at work: what each event does to a job, its slot and its shard.
-ghost use Rattle.std.specs.Prelude.{◌≡◌, ℕ, ◌/◌, ◌<◌, List, None, Option, Some, false, option_copied, max, OnOk, IsErr};
+ghost use Rattle.std.specs.Prelude.{◌≡◌, ℕ, ◌<◌, List, None, Option, Some, false, option_copied, max, OnOk, IsErr};
 ghost use Rattle.fc_verify.specs.Accepted.{Accepts};
 ghost use Rattle.fc_verify.specs.Judged.{judged};
 ghost use Rattle.fc_registry.specs.Slots.{IsOwned, slot_in};
 ghost use Rattle.fc_registry.specs.Calls.{HasGiven};
-ghost use Rattle.fc_registry.specs.Notes.{note_at, note_calls};
+ghost use Rattle.fc_registry.specs.Notes.{note_calls};
 ghost use Rattle.fc_registry.specs.Views.{HasSize, taken_with};
-ghost use Rattle.fc_registry.specs.Watches.{at_time, watch_at, with_calls};
+ghost use Rattle.fc_registry.specs.Watches.{at_time, with_calls};
 ghost use Rattle.fc_core.specs.declared.event.Event.{Event};
 ghost use Rattle.fc_core.specs.Fits.{FitsStage, HasNext, TellsOwn};
 ghost use Rattle.fc_core.specs.Receiving.{emission_if};
@@ -17,7 +17,7 @@ ghost use Rattle.fc_core.specs.Stages.{content_at, drew, ended, had_memory, imag
 ghost use Rattle.fc_core.specs.TurnStage as turns;
 ghost use Rattle.fc_core.specs.declared.stage.TurnStep.TheVariants.{ToDraw};
 ghost use Rattle.fc_core.specs.Steps.{changes_told, next_stage};
-ghost use Rattle.fc_core.specs.Rows.{Common, Scene, ShardMoves, TaskMoves, commit_call, commit_move, install_call, install_move, moves, notification, row, scene_of, shard_moved, task_moved, words_after};
+ghost use Rattle.fc_core.specs.Rows.{Common, Scene, ShardMoves, TaskMoves, commit_call, commit_move, install_call, install_move, moves, note_on, notification, row, scene_of, shard_moved, task_moved, words_after};
 
 use crate::answer::Answer;
 use crate::front::blank_job;
@@ -398,7 +398,7 @@ fn note(
 ) -> bool
     requires owned { IsOwned shard.old turn.slot }
     requires own { TellsOwn turn (slot_in shard.old turn.slot).serial found.now }
-    ensures sent { emission_if result emission.new ≡ note_at turn id (max shard.old.now now) found.now (watch_at shard.old (turn.slot / 8)) }
+    ensures sent { emission_if result emission.new ≡ note_on shard.old now turn id found.now }
     ensures shard { let sent = emission_if result emission.new in
         shard.new ≡ with_calls (note_calls turn id random (max shard.old.now now) found.now sent) turn.slot (at_time shard.old now) }
 {

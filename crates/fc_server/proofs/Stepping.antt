@@ -25,7 +25,7 @@ use Rattle.fc_core.specs.History.{AtFront, Receives, Answers, Draws, Passes, Res
 use Rattle.fc_core.specs.Ids.{drawn, drawn_for}
 use Rattle.fc_core.specs.Legal.{AnswerEmits, EmitsBy, sends_in, FindsMeaning, FoundMeans, IsAnswered, TakesMeaning}
 use Rattle.fc_core.specs.Receiving.{AskWithin, added_by, after_added, after_received, brought, drawn_by, id_in, keeping, kept_of, next_opening, opened_by, received, sent}
-use Rattle.fc_core.specs.Sound.{AllSafe, IsSafelySeen, IsSound}
+use Rattle.fc_core.specs.Sound.{AllSafe, IsSafelySeen, IsSoundlySeen}
 use Rattle.fc_core.specs.Stages.{content_at, needs_id, new_task}
 use Rattle.fc_core.specs.Rows.{Move, Scene, handed, names, row, sends, scene_at, task_moved, words_after}
 use Rattle.fc_core.proofs.Fitting.{after_changes-append, is_input}
@@ -50,7 +50,7 @@ finds_by readings x (ToTake n) within fits = found_means x.job readings x.slot x
 finds_by readings x (ToTell turn turns.ToTake) within fits = found_means x.job readings x.slot x.slot.present within fits
 finds_by readings x other within fits = tt
 
-takes_mean : (e : Event) (s : Seen) → IsSound s → IsSafelySeen s → TakesMeaning s e
+takes_mean : (e : Event) (s : Seen) → IsSoundlySeen s → IsSafelySeen s → TakesMeaning s e
 takes_mean (Take k memory readings) s a f = finds_by readings (scene s k) (stage s k) (a.within k).1 (f.slots (job s k).origin.slot)
 takes_mean other s a f = tt
 
@@ -102,7 +102,7 @@ state_seen s shards = record { front = front_in s s.moment; shards = shards; wor
 
 -- ---- the job that is named
 
-module _ (s : Seen) (e : Event) (shards : List Shard) (a : ShardsAgree s shards) (sound : IsSound s) where
+module _ (s : Seen) (e : Event) (shards : List Shard) (a : ShardsAgree s shards) (sound : IsSoundlySeen s) where
   -- what is seen of the shards after it
   abbrev shards_seen : Option ℕ → AtShard → Seen
   shards_seen o y = record s { changes = λ n. changes_after o e s n; shard_moment = λ i. handed (hands_by y i) (shard_moment_after o e s i); calls = λ n. calls_named o e s n ++ (calls_by y s n ++ s.calls n) }
@@ -200,7 +200,7 @@ module _ (s : Seen) (e : Event) (shards : List Shard) (a : ShardsAgree s shards)
 
 -- ---- what it sends, and the front
 
-module _ (s : Seen) (shards : List Shard) (a : ShardsAgree s shards) (sound : IsSound s) (out : Option Emission) where
+module _ (s : Seen) (shards : List Shard) (a : ShardsAgree s shards) (sound : IsSoundlySeen s) (out : Option Emission) where
   sends_agree : (o : Option ℕ) (e : Event) → sends_at o e (state_seen s shards) ≡ sends_in o e s
   sends_agree None e = shard_sends (at_shard e) s shards a
   sends_agree (Some k) e = ap (sends e) (scene_is s e shards a sound k)

@@ -7,7 +7,7 @@ use Rattle.fc_registry.specs.Watches.{watch_at}
 use Rattle.fc_core.specs.declared.stage.Task.{Task}
 use Rattle.fc_core.specs.Exchanges.{FrontState}
 use Rattle.fc_core.specs.History.{Seen, front_in, slot_at, watch}
-use Rattle.fc_core.specs.Sound.{IsSafelySeen, IsSound}
+use Rattle.fc_core.specs.Sound.{IsSafelySeen, IsSoundlySeen}
 
 -- a state by its parts: the front, the shards, the head words, and the jobs that came, each at its stage
 pub record Parts : Type 0 where
@@ -30,5 +30,5 @@ pub record Agrees (s : Seen) (p : Parts) : Type 0 where
   pub tasks : p.tasks ≡ s.tasks
   pub words : p.words ≡ s.words
   pub shards : ShardsAgree s p.shards
-  pub sound : IsSound s
+  pub sound : IsSoundlySeen s
   pub safe : IsSafelySeen s

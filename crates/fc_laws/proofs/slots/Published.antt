@@ -21,7 +21,7 @@ use Rattle.fc_core.specs.Heads.{head_word, is_match, word_at}
 use Rattle.fc_core.specs.History.{around, Entry, History, Then, Seen, seen, and_then, job, scene, slot_at, stage, task_at}
 use Rattle.fc_laws.specs.HeadLaws.{PublishesAt}
 use Rattle.fc_core.specs.Laws.{HasCome, slot_of}
-use Rattle.fc_core.specs.Sound.{IsSound}
+use Rattle.fc_core.specs.Sound.{IsSoundlySeen}
 use Rattle.fc_core.specs.Stages.{image_of, made, matched_by, removed, took}
 use Rattle.fc_core.specs.Rows.{Around, Scene, names, row, install_call, install_if}
 use Rattle.fc_core.specs.Steps.{Installs, Removes, changes_told, next_stage}
@@ -105,7 +105,7 @@ row_publishes e job slot ws s =
 pub own_after : (r : Entry) (s : Seen) (k : ℕ) → names r.event ≡ Some k → slot_at (and_then r s) (slot_of s k) ≡ after_changes (slot_at s (slot_of s k)) (row r.event (scene s k)).changes
 own_after r s k named = ap (after_changes (new_slot s.first_serial)) (own_slot r s k named) ∙ after_changes-append (new_slot s.first_serial) (row r.event (scene s k)).changes (s.changes (slot_of s k))
 
-publishes_by : (r : Entry) (s : Seen) (k : ℕ) (t : Task) → Becomes (names r.event) r.event s k t → IsSound s → HasCome s k → PublishesAt (slot_at (and_then r s) (slot_of s k)) (stage s k) t.stage
+publishes_by : (r : Entry) (s : Seen) (k : ℕ) (t : Task) → Becomes (names r.event) r.event s k t → IsSoundlySeen s → HasCome s k → PublishesAt (slot_at (and_then r s) (slot_of s k)) (stage s k) t.stage
 publishes_by r s k t (Moves named is) a come =
     subst (λ (x : Task). PublishesAt (slot_at (and_then r s) (slot_of s k)) (stage s k) x.stage) (sym is)
     (subst (λ (x : Slot). PublishesAt x (stage s k) (row r.event (scene s k)).stage) (sym (own_after r s k named))

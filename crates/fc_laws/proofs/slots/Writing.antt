@@ -24,7 +24,7 @@ use Rattle.fc_core.specs.TurnStage as turns
 use Rattle.fc_core.specs.History.{around, Entry, History, Begins, Then, Seen, seen, and_then, begun, did, job, scene, slot_at, stage, watch}
 use Rattle.fc_core.specs.Laws.{HasCome, Taking, finds, finds_if, gives_at, is_named, slot_of, takings_of}
 use Rattle.fc_laws.specs.SlotLaws.{IsUnchanged, IsWritten}
-use Rattle.fc_core.specs.Sound.{IsSound}
+use Rattle.fc_core.specs.Sound.{IsSoundlySeen}
 use Rattle.fc_core.specs.Rows.{Around, Scene, names, row}
 use Rattle.fc_core.proofs.ByStep.{committed}
 use Rattle.fc_laws.proofs.jobs.Along.{none_after}
@@ -36,10 +36,10 @@ use Rattle.fc_laws.proofs.jobs.Takings.{Took, is_told, known, more}
 
 -- ---- the chain
 
-begun_sound : (serial id : ℕ) → IsSound (begun serial id)
+begun_sound : (serial id : ℕ) → IsSoundlySeen (begun serial id)
 begun_sound serial id = record { chain = λ n. tt; within = λ k. (omega arith, tt); stages = λ k. tt; watched = λ n. All-nil EntryWithin }
 
-pub sound : (h : History) → IsSound (seen h)
+pub sound : (h : History) → IsSoundlySeen (seen h)
 unfolding seen
 sound (Begins serial id) = begun_sound serial id
 sound (Then h r) = still_sound r (seen h) (sound h)

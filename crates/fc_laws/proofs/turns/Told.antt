@@ -30,7 +30,7 @@ use Rattle.fc_core.specs.Fits.{FitsStage}
 use Rattle.fc_core.specs.History.{Entry, History, Begins, Then, Seen, seen, and_then, around, calls_by, calls_named, common, due_in, front_at, is_place_of, job, no_task, received_at, scene, slot_at, stage, task_at, tasks_brought, tasks_moved, turn_at, watch, at_shard}
 use Rattle.fc_core.specs.Laws.{slot_of}
 use Rattle.fc_core.specs.Receiving.{Received, Opened, brought, job_of, next_opening}
-use Rattle.fc_core.specs.Sound.{IsSound}
+use Rattle.fc_core.specs.Sound.{IsSoundlySeen}
 use Rattle.fc_core.specs.Stages.{first_stage, new_task, turn_took, with_id}
 use Rattle.fc_core.specs.Rows.{Common, Around, Scene, names, row, task_moved}
 use Rattle.fc_core.proofs.ByStep.{Step, by_move, move_by, stage_by}
@@ -237,7 +237,7 @@ module _ (r : Entry) (s : Seen) where
   brought_known (Due shard now) is = due_known shard now is (due_in s shard (max (s.shard_moment shard) now)) refl
   brought_known other is = tt
 
-  module _ (a : IsSound s) (own : (k number : ℕ) → (job s k).turn ≡ Some number → IsToldOf (turn_of (job s k) number) (stage s k)) (before : (k : ℕ) → KnowsTask s (task_at s.tasks k)) where
+  module _ (a : IsSoundlySeen s) (own : (k number : ℕ) → (job s k).turn ≡ Some number → IsToldOf (turn_of (job s k) number) (stage s k)) (before : (k : ℕ) → KnowsTask s (task_at s.tasks k)) where
     moved_known : (p : Option ℕ) → names e ≡ p → (k : ℕ) → KnowsTask after (task_at (tasks_moved p e s) k)
     moved_known None named k = still_known (task_at s.tasks k) (before k)
     moved_known (Some j) named k =

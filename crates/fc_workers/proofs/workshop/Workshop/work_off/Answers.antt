@@ -4,7 +4,7 @@ use Rattle.fc_heads.specs.Heads.{HeadSeat}
 use Rattle.fc_core.specs.Room.{stage_of}
 use Rattle.fc_core.specs.Stage.{Stage, ToAnswer, ToDescribe, ToInstall, ToList, ToMatch, ToRaise, ToRemove, ToTake}
 use Rattle.fc_core.specs.Contents.{Listed}
-use Rattle.fc_core.specs.Stages.{after_list, raised}
+use Rattle.fc_core.specs.Stages.{after_list, word_raised}
 use Rattle.fc_core.specs.declared.stage.Step.{Step}
 use Rattle.fc_core.specs.declared.stage.Step.TheVariants as steps
 use Rattle.fc_workers.specs.Called.{shop}
@@ -139,7 +139,7 @@ calls-preserved g c =
     let own = subst (λ (x : Stage). IsReady c.args.job.now x) at c.calls.invariant.1.ready in
     let step = raise_step s c.args.number c.args.job.now c.in-ToRaise.word room.answer c.calls.share c.raise.new.log c.raise.ensures.logged own in
     let walked = walks_on s c.args.number c.args.job.now at c.calls.invariant.1 step in
-    let next = sym (c.raised.ensures ∙ ap raised at) in (
+    let next = sym (c.raised.ensures ∙ ap word_raised at) in (
       ap (λ (h : HeadSeat). h.table) c.raise.ensures.raised.after_is ∙ c.calls.invariant.0,
       subst (λ (x : Stage). Walked s c.args.number c.args.job.now x c.args.share.now (record c.calls.share { log = c.raise.new.log })) next walked,
       c.calls.invariant.2,
