@@ -54,7 +54,7 @@ impl<'a, B: Books, D: Device> Locks for Locked<'a, B, D> {
 
 // No job is held up.
 #[derive(Drop)]
-struct Open;
+pub(crate) struct Open;
 
 impl Gate for Open {
     fn between<R: Wait>(&self, rt: &R, number: u64, log: &mut CallLog) {

@@ -5,6 +5,7 @@ ghost use Rattle.fc_workers.specs.Naming.{AreNamed};
 use crate::feeder::{Feeder, Request};
 use crate::job_tests::job;
 use crate::lock_tests::{Locks, ShardHeld};
+use crate::told_tests::Told;
 use arrayvec::ArrayVec;
 use coap_msg::Emission;
 use fc_help::{NO_READINGS, Readings};
@@ -391,6 +392,7 @@ pub(crate) enum Trial {
     TwoAtOnce(TwoAtOnce),
     Overtaken(Overtaken),
     ShardHeld(ShardHeld),
+    Told(Told),
 }
 
 impl Trial {
@@ -408,6 +410,7 @@ impl Trial {
             Trial::TwoAtOnce(two) => two.hold(rt, alloc, bench, tallies),
             Trial::Overtaken(overtaken) => overtaken.hold(rt, alloc, bench, tallies),
             Trial::ShardHeld(held) => held.hold(rt, alloc, bench, tallies),
+            Trial::Told(told) => told.hold(rt, alloc, bench, tallies),
         }
     }
 }
