@@ -10,12 +10,12 @@ use url::Url;
 /// The port of CoAP (RFC 7252, 6.1).
 const COAP_PORT: u16 = 5683;
 
-/// The server's address and port, and the resource: its path, a slash before each segment, and its query, the arguments parted by `&`.
+/// The server's address and port, and the resource: its path, a slash before each segment, and the arguments of its query. No escapes are left in them.
 #[derive(Drop)]
 pub struct Address {
     pub server: SocketAddrV4,
     pub path: Vec<u8>,
-    pub query: Vec<u8>,
+    pub query: Vec<Vec<u8>>,
 }
 
 /// Why a text is no address.
@@ -36,8 +36,8 @@ pub enum AddressError {
     /// A host that isn't an IPv4 address.
     #[error("the host is to be an IPv4 address, as 127.0.0.1, or localhost; other names aren't looked up")]
     Host,
-    /// An escaped slash in a path, or an escaped ampersand in a query.
-    #[error("%2F in a path and %26 in a query can't be sent")]
+    /// An escaped slash in a path.
+    #[error("%2F in a path can't be sent: a slash parts its segments")]
     Escape,
     /// There was no memory for it.
     #[error("out of memory")]
@@ -99,10 +99,13 @@ fn read_uri(alloc: Global, text: &str) -> Result<Address, AddressError> {
     let Some(host) = uri.host_str().and_then(host_of) else {
         return Err(AddressError::Host);
     };
+    let Some(path) = path_of(alloc, &uri)? else {
+        return Err(AddressError::Escape);
+    };
     Ok(Address {
         server: SocketAddrV4::new(host, uri.port().unwrap_or(COAP_PORT)),
-        path: decode(alloc, path_of(&uri), b'/')?,
-        query: decode(alloc, uri.query().unwrap_or(""), b'&')?,
+        path,
+        query: arguments_of(alloc, uri.query().unwrap_or(""))?,
     })
 }
 
@@ -113,25 +116,41 @@ fn host_of(name: &str) -> Option<Ipv4Addr> {
     name.parse::<Ipv4Addr>().ok()
 }
 
-// The path of a URI; that of a slash alone has no segment (RFC 7252, 6.4).
-fn path_of(uri: &Url) -> &str {
-    match uri.path() {
-        "/" => "",
-        path => path,
+// The path of a URI, a slash before each segment; that of a slash alone has none (RFC 7252, 6.4). `None` where a segment has an escaped slash.
+fn path_of(alloc: Global, uri: &Url) -> Result<Option<Vec<u8>>, AllocError> {
+    let mut path = Vec::new(alloc);
+    if uri.path() == "/" {
+        return Ok(Some(path));
     }
+    let Some(segments) = uri.path_segments() else {
+        return Ok(Some(path));
+    };
+    for segment in segments {
+        let bytes = decode(alloc, segment)?;
+        if bytes.contains(&b'/') {
+            return Ok(None);
+        }
+        path.push(b'/')?;
+        path.extend_from_slice(&bytes)?;
+    }
+    Ok(Some(path))
 }
 
-// The bytes of a text with its escapes read, none of which stands for what parts it.
-fn decode(alloc: Global, text: &str, parting: u8) -> Result<Vec<u8>, AddressError> {
+// The arguments of a query, which `&` parts; an empty one has none.
+fn arguments_of(alloc: Global, query: &str) -> Result<Vec<Vec<u8>>, AllocError> {
+    let mut arguments = Vec::new(alloc);
+    if query.is_empty() {
+        return Ok(arguments);
+    }
+    for argument in query.split('&') {
+        arguments.push(decode(alloc, argument)?)?;
+    }
+    Ok(arguments)
+}
+
+// The bytes of a segment or an argument, with its escapes read.
+fn decode(alloc: Global, text: &str) -> Result<Vec<u8>, AllocError> {
     let mut bytes = Vec::new(alloc);
     percent_decode_str(text).append_to(&mut bytes)?;
-    if count_of(text.as_bytes(), parting) == count_of(&bytes, parting) {
-        Ok(bytes)
-    } else {
-        Err(AddressError::Escape)
-    }
-}
-
-fn count_of(bytes: &[u8], parting: u8) -> usize {
-    bytes.iter().filter(|byte| **byte == parting).count()
+    Ok(bytes)
 }

@@ -129,17 +129,16 @@ pub(crate) fn resource<'a, 'b>(
     })
 }
 
-// The arguments of a query, which `&` parts; an empty one has none.
-fn arguments<'a, 'b>(alloc: Global, query: &'b [u8]) -> Result<Vec<&'b [u8]>, FetchStop<'a>> {
+// The arguments of a query, each of 255 bytes at most.
+fn arguments<'a, 'b>(alloc: Global, query: &'b [Vec<u8>]) -> Result<Vec<&'b [u8]>, FetchStop<'a>> {
     let mut arguments = Vec::new(alloc);
-    if query.is_empty() {
-        return Ok(arguments);
-    }
-    for argument in query.split(|byte| *byte == b'&') {
+    for argument in query {
         if argument.len() > ARGUMENT {
             return Err(FetchStop::Argument);
         }
-        arguments.push(argument).map_err(AllocError::from)?;
+        arguments
+            .push(argument.as_slice())
+            .map_err(AllocError::from)?;
     }
     Ok(arguments)
 }
