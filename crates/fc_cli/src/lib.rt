@@ -10,6 +10,7 @@
 
 pub mod clock;
 pub mod command_line;
+pub mod message_id;
 pub mod status;
 pub mod stop;
 

@@ -8,12 +8,13 @@ use crate::observer::NotesError;
 use crate::printer::{Shown, write_answer};
 use coap_client::{Errand, FetchFault, Fetched, Path, PathError, RequestTarget, UdpPeer};
 use coap_opts::Method;
-use fc_cli::clock::clock_id;
+use fc_cli::message_id::random_id;
 use fc_cli::status::{Status, tell};
 use std::alloc::{AllocError, Global};
 use std::io;
 use std::io::{Read, Write};
 use std::net::Net;
+use std::random::RandomSource;
 use std::time::Clock;
 use thiserror::Error;
 
@@ -83,8 +84,8 @@ impl<'a> FetchStop<'a> {
 ///
 /// It is done where the code is one of success, and refused at any other. It ends `Bad` where the target is neither a path, a slash before each
 /// of its segments of 1 to 255 bytes, with a port, nor a URI of the scheme coap with an IPv4 address, or where a request has no room in a datagram; and `Failed` where no
-/// answer came, at a fault of the socket, or where reading, writing or memory failed. `err` is told why.
-pub fn fetch<R: Net + Clock, I: Read, W: Write, E: Write>(
+/// answer came, at a fault of the socket, or where reading, writing, memory or the system's random bytes failed. `err` is told why.
+pub fn fetch<R: Net + Clock + RandomSource, I: Read, W: Write, E: Write>(
     rt: &R,
     alloc: Global,
     input: &mut I,
@@ -99,7 +100,7 @@ pub fn fetch<R: Net + Clock, I: Read, W: Write, E: Write>(
 }
 
 // The answer of the server.
-fn answer<'a, R: Net + Clock, I: Read>(
+fn answer<'a, R: Net + Clock + RandomSource, I: Read>(
     rt: &R,
     alloc: Global,
     input: &mut I,
@@ -114,8 +115,17 @@ fn answer<'a, R: Net + Clock, I: Read>(
     let Some(errand) = Errand::new(asking.confirmable, asking.method, target, &payload) else {
         return Err(FetchStop::Room);
     };
+    let id = first_id(rt)?;
     let mut server = UdpPeer::at(rt, rt, address.server).map_err(FetchFault::Socket)?;
-    Ok(coap_client::fetch(alloc, &mut server, &errand, clock_id(rt))?)
+    Ok(coap_client::fetch(alloc, &mut server, &errand, id)?)
+}
+
+// A message id to begin with.
+pub(crate) fn first_id<'a, R: RandomSource>(rt: &R) -> Result<u16, FetchStop<'a>> {
+    match random_id(rt) {
+        Ok(id) => Ok(id),
+        Err(error) => Err(FetchStop::Random(error)),
+    }
 }
 
 // The resource of an address.

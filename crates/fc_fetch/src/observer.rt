@@ -5,7 +5,7 @@ ghost use Rattle.fc_cli.specs.declared.status.Status.TheVariants.{Failed};
 ghost use Rattle.fc_fetch.specs.Observing.{HasLeft, HasShown, IsFirstShown, end_status, lines_wanted};
 
 use crate::address::Address;
-use crate::client::{FetchStop, resource};
+use crate::client::{FetchStop, first_id, resource};
 use crate::printer::{PrintError, Shown, write_note};
 use coap_client::notice::notice_of;
 use coap_client::observing::TOKEN;
@@ -13,7 +13,6 @@ use coap_client::{Errand, FetchFault, NotedMessage, Notice, Observer, Peer, UdpP
 use coap_msg::types::DATAGRAM;
 use coap_msg::{Code, read};
 use coap_opts::Method;
-use fc_cli::clock::clock_id;
 use fc_cli::status::{Status, tell};
 use std::alloc::{AllocError, Global};
 use std::io::Write;
@@ -138,7 +137,7 @@ fn observe_errand<'a, R: Net + Clock + RandomSource, W: Write>(
     let observer = Observer {
         errand,
         token,
-        id: clock_id(rt),
+        id: first_id(rt)?,
     };
     let mut server = UdpPeer::at(rt, rt, address).map_err(FetchFault::Socket)?;
     let mut buffer = [0; BUFFER];

@@ -250,7 +250,7 @@ fn asking_of<'a>(matches: &ArgMatches<'a>) -> Option<FetchOptions<'a>> {
     })
 }
 
-fn ask<R: Runtime + AllocGlobal + Net, I: Read, E: Write>(
+fn ask<R: Runtime + AllocGlobal + Net + RandomSource, I: Read, E: Write>(
     rt: &R,
     err: &mut E,
     input: &mut I,

@@ -10,6 +10,7 @@ use log::{LevelFilter, Logged};
 use std::alloc::Global;
 use std::net::{Net, SocketAddrV4, UdpSocket};
 use std::process::Abort;
+use std::random::RandomSource;
 use std::rt::Files;
 use std::sync::Wait;
 use std::test::Fail;
@@ -32,7 +33,7 @@ fn sensed<R: Clock>(
 }
 
 // The file isn't there, has 56 bytes and more, has others, has three, and isn't there again.
-fn write_and_ask<R: Abort + AllocGlobal + Net + Clock + Files>(
+fn write_and_ask<R: Abort + AllocGlobal + Net + Clock + RandomSource + Files>(
     rt: &R,
     port: u16,
     path: &str,
@@ -82,7 +83,7 @@ fn serve_sensing<R: Threads + Wait + Clock + Sync, Z: Sensors + Sync>(
 
 // Serves a program that replies its readings, while the file changes.
 fn check_sensed<
-    R: Abort + AllocGlobal + Threads + Wait + Clock + Net + Files + Sync,
+    R: Abort + AllocGlobal + Threads + Wait + Clock + Net + RandomSource + Files + Sync,
     Z: Sensors + Sync,
 >(rt: &R, sensors: &Z, path: &str, workers: u8) -> Result<(), Fail> {
     let alloc = rt.alloc();

@@ -14,6 +14,7 @@ use log::{LevelFilter, Logged};
 use std::alloc::{AllocError, Global};
 use std::net::{Ipv4Addr, Net, SocketAddrV4, UdpSocket};
 use std::process::Abort;
+use std::random::RandomSource;
 use std::sync::Wait;
 use std::sync::atomic::{AtomicUsize, Ordering};
 use std::test::Fail;
@@ -37,7 +38,7 @@ pub(crate) fn at_port(port: u16) -> SocketAddrV4 {
 }
 
 // A request of this path is answered so, and the client ends with this status.
-pub(crate) fn check_asked<R: Abort + Net + Clock + AllocGlobal>(
+pub(crate) fn check_asked<R: Abort + Net + Clock + RandomSource + AllocGlobal>(
     rt: &R,
     port: u16,
     method: Method,
@@ -65,7 +66,7 @@ pub(crate) fn check_asked<R: Abort + Net + Clock + AllocGlobal>(
 }
 
 // A counter is installed, asked to count, and asked.
-fn ask_counter<R: Abort + Net + Clock + AllocGlobal>(rt: &R, port: u16) {
+fn ask_counter<R: Abort + Net + Clock + RandomSource + AllocGlobal>(rt: &R, port: u16) {
     // version=1 cost=9 budget=9 vars=8
     let installed = "2.01\n76657273696f6e3d3120636f73743d39206275646765743d3920766172733d38\n";
     check_asked(
@@ -107,7 +108,7 @@ pub(crate) fn serve_logged<R: Threads + Wait + Clock + Sync>(
 }
 
 // Serves a port that is free to a client in the same process: four datagrams, each answered.
-fn serve_counter<R: Abort + AllocGlobal + Threads + Wait + Clock + Net + Sync>(
+fn serve_counter<R: Abort + AllocGlobal + Threads + Wait + Clock + Net + RandomSource + Sync>(
     rt: &R,
     workers: u8,
 ) -> Result<(), Fail> {
@@ -213,7 +214,7 @@ fn long_answer(alloc: Global) -> Result<String, AllocError> {
 }
 
 // The largest image goes up in five blocks, and an answer of 1,100 bytes comes in two.
-fn ask_by_blocks<R: Abort + Net + Clock + AllocGlobal>(
+fn ask_by_blocks<R: Abort + Net + Clock + RandomSource + AllocGlobal>(
     rt: &R,
     port: u16,
 ) -> Result<(), AllocError> {
@@ -423,7 +424,10 @@ fn post_by_eight<R: Abort + AllocGlobal + Net>(rt: &R, port: u16) -> Result<(), 
 }
 
 // Eight clients post at once. Then each counter has as many as were posted to it.
-fn ask_by_eight<R: Abort + AllocGlobal + Net + Clock>(rt: &R, port: u16) -> Result<(), Fail> {
+fn ask_by_eight<R: Abort + AllocGlobal + Net + Clock + RandomSource>(
+    rt: &R,
+    port: u16,
+) -> Result<(), Fail> {
     let alloc = rt.alloc();
     let image = assembled(alloc, COUNTS, 8, 12)?.out;
     // version=1 cost=12 budget=12 vars=8
@@ -506,7 +510,10 @@ pub(crate) fn readings_of(
 }
 
 // Has the program installed, and asks it after 300 ms.
-fn ask_for_readings<R: Abort + Net + Clock + AllocGlobal>(rt: &R, port: u16) -> Result<(), Fail> {
+fn ask_for_readings<R: Abort + Net + Clock + RandomSource + AllocGlobal>(
+    rt: &R,
+    port: u16,
+) -> Result<(), Fail> {
     let server = SocketAddrV4::new(Ipv4Addr::LOCALHOST, port);
     // version=1 cost=5 budget=5 vars=0
     let receipt = "2.01\n76657273696f6e3d3120636f73743d35206275646765743d3520766172733d30\n";
@@ -530,7 +537,7 @@ fn ask_for_readings<R: Abort + Net + Clock + AllocGlobal>(rt: &R, port: u16) -> 
 }
 
 // A device that has a clock alone reads the milliseconds since the server began, the least byte first, and zeros.
-fn check_clock<R: Abort + AllocGlobal + Threads + Wait + Clock + Net + Sync>(
+fn check_clock<R: Abort + AllocGlobal + Threads + Wait + Clock + Net + RandomSource + Sync>(
     rt: &R,
     workers: u8,
 ) -> Result<(), Fail> {
