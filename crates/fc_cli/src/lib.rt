@@ -8,7 +8,6 @@
 //! By the contracts of `Status`, `Stop::status`, `exit_code`, `explain`.
 #![tactic(auto)]
 
-pub mod clock;
 pub mod command_line;
 pub mod message_id;
 pub mod status;

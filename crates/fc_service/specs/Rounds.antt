@@ -104,7 +104,7 @@ pub record HasServedPooled (sensors : List ℕ → Type 0) (moments : ℕ → Ty
 
 -- ---- a server by so many workers: one is the thread that receives
 
-abbrev pub IsServed : (List ℕ → Type 0) → (ℕ → Type 0) → (Emission → Bool → Type 0) → ℕ → ℕ → ℕ → Option (List Incoming) → Option (List Incoming) → Replies → Type 0
-IsServed sensors moments went workers limit serial before after replies =
-    ((workers ≡ 1) × (id : ℕ) × HasServed sensors moments went limit serial id before after replies)
+abbrev pub IsServed : (List ℕ → Type 0) → (ℕ → Type 0) → (Emission → Bool → Type 0) → ℕ → ℕ → ℕ → ℕ → Option (List Incoming) → Option (List Incoming) → Replies → Type 0
+IsServed sensors moments went workers limit serial id before after replies =
+    ((workers ≡ 1) × HasServed sensors moments went limit serial id before after replies)
     ⊎ ((workers ≡ 1 → ⊥) × HasServedPooled sensors moments went limit before after replies)

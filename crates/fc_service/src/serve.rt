@@ -12,7 +12,6 @@ use crate::replies::Replies;
 use crate::rounds::{Unprepared, run_rounds};
 use crate::sensors::Sensors;
 use crate::socket::{Replying, Sink, Source, open};
-use fc_cli::clock::clock_id;
 use fc_cli::status::{Status, tell};
 use fc_server::Begin;
 use fc_workers::{Handover, Moments};
@@ -33,11 +32,12 @@ const FIRST_SERIAL: u64 = 0;
 /// a program. A cheaper job is worked off by the thread that received it.
 const DEAR: u32 = 6_000;
 
-/// By how many workers a server works jobs off, 1 to 16, and after how many datagrams it ends; 0 is never.
+/// By how many workers a server works jobs off, 1 to 16, after how many datagrams it ends, where 0 is never, and the first message id of its own.
 #[derive(Clone, Copy)]
 pub struct Extent {
     pub workers: u8,
     pub limit: u32,
+    pub first_id: u16,
 }
 
 // Why a server doesn't start.
@@ -110,7 +110,7 @@ pub fn serve_at<
     sink: &K,
     extent: Extent,
 ) -> Option<S>
-    ensures { IfSome result (λ left. (replies : Counts) × IsServed Z.are_sensed (λ now. ⊤) K.went extent.workers extent.limit 0 (S.came source) (S.came left) replies) }
+    ensures { IfSome result (λ left. (replies : Counts) × IsServed Z.are_sensed (λ now. ⊤) K.went extent.workers extent.limit 0 extent.first_id (S.came source) (S.came left) replies) }
 {
     match serve_to_end(rt, alloc, err, sensors, source, sink, extent) {
         Ok(Received { source, replies }) => {
@@ -147,12 +147,12 @@ fn serve_to_end<
     sink: &K,
     extent: Extent,
 ) -> Result<Received<S>, ServeStop>
-    ensures { IfOk result (λ r. IsServed Z.are_sensed (λ now. ⊤) K.went extent.workers extent.limit 0 (S.came source) (S.came r.source) r.replies) }
+    ensures { IfOk result (λ r. IsServed Z.are_sensed (λ now. ⊤) K.went extent.workers extent.limit 0 extent.first_id (S.came source) (S.came r.source) r.replies) }
 {
     let moments = Elapsed::start(rt).map_err(ServeStop::Clock)?;
     let begin = Begin {
         serial: FIRST_SERIAL,
-        id: clock_id(rt),
+        id: extent.first_id,
     };
     let limit = extent.limit;
     if extent.workers == 1 {

@@ -4,6 +4,7 @@
 use clap::ArgMatches;
 use fc_cli::Status;
 use fc_cli::command_line::{exit_code, parse, words};
+use fc_cli::message_id::random_id;
 use fc_lines::LineLimit;
 use fc_server::Begin;
 use fc_service::command::command;
@@ -17,6 +18,7 @@ use std::io;
 use std::io::{BufReader, BufWriter, Write};
 use std::net::{Ipv4Addr, Net, SocketAddrV4};
 use std::process::ExitCode;
+use std::random::RandomSource;
 use std::rt::Runtime;
 use std::sync::Wait;
 use std::thread::Threads;
@@ -26,7 +28,7 @@ const FIRST_SERIAL: u64 = 0;
 
 const FIRST_ID: u16 = 0;
 
-fn run<R: Runtime + AllocGlobal + Threads + Wait + Net + Sync, E: Write>(
+fn run<R: Runtime + AllocGlobal + Threads + Wait + Net + RandomSource + Sync, E: Write>(
     rt: &R,
     files: &HostRuntime,
     err: &mut E,
@@ -38,7 +40,7 @@ fn run<R: Runtime + AllocGlobal + Threads + Wait + Net + Sync, E: Write>(
 }
 
 // Does what the words of the command line ask for. `files` is the same runtime: several threads read by it, which is shown of its own type alone.
-fn obey<R: Runtime + AllocGlobal + Threads + Wait + Net + Sync, E: Write>(
+fn obey<R: Runtime + AllocGlobal + Threads + Wait + Net + RandomSource + Sync, E: Write>(
     rt: &R,
     files: &HostRuntime,
     err: &mut E,
@@ -78,7 +80,7 @@ fn play_input<R: Runtime + AllocGlobal + Threads + Wait + Net + Sync, E: Write>(
 }
 
 // Serves at the address and port that the command line names.
-fn serve_socket<R: Runtime + AllocGlobal + Threads + Wait + Net + Sync, E: Write>(
+fn serve_socket<R: Runtime + AllocGlobal + Threads + Wait + Net + RandomSource + Sync, E: Write>(
     rt: &R,
     files: &HostRuntime,
     err: &mut E,
@@ -109,7 +111,12 @@ fn serve_socket<R: Runtime + AllocGlobal + Threads + Wait + Net + Sync, E: Write
         address: SocketAddrV4::new(ip, port),
         told,
     };
-    let extent = Extent { workers, limit };
+    let first_id = random_id(rt).map_err(|error| anyhow::anyhow!("random bytes: {error}"))?;
+    let extent = Extent {
+        workers,
+        limit,
+        first_id,
+    };
     let alloc = rt.alloc();
     Ok(match matches.get_str("readings") {
         Some(path) => {

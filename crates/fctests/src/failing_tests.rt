@@ -104,7 +104,11 @@ fn check_served<R: Abort + AllocGlobal + Threads + Wait + Clock + Sync>(
         sends: AtomicUsize::new(0),
         wrong: AtomicUsize::new(0),
     };
-    let extent = Extent { workers, limit: 8 };
+    let extent = Extent {
+        workers,
+        limit: 8,
+        first_id: 0,
+    };
     let served = serve_at(
         rt, alloc, &log, &mut err, &NoSensors, letters, &matching, extent,
     );

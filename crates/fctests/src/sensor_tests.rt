@@ -89,7 +89,11 @@ fn check_sensed<
     let alloc = rt.alloc();
     let socket = open(rt, at_port(0))?;
     let port = socket.local_addr()?.port();
-    let extent = Extent { workers, limit: 6 };
+    let extent = Extent {
+        workers,
+        limit: 6,
+        first_id: 0,
+    };
     let (served, asked) = thread::join(
         rt,
         || serve_sensing(rt, alloc, sensors, &socket, extent),

@@ -115,7 +115,11 @@ fn serve_counter<R: Abort + AllocGlobal + Threads + Wait + Clock + Net + RandomS
     let alloc = rt.alloc();
     let socket = open(rt, at_port(0))?;
     let port = socket.local_addr()?.port();
-    let extent = Extent { workers, limit: 4 };
+    let extent = Extent {
+        workers,
+        limit: 4,
+        first_id: 0,
+    };
     let ((served, memory), _) = thread::join(
         rt,
         || serve_logged(rt, alloc, &socket, extent),
@@ -153,6 +157,7 @@ fn a_taken_port_is_status_3(rt: HostRuntime) -> Result<(), Fail> {
     let extent = Extent {
         workers: 1,
         limit: 1,
+        first_id: 0,
     };
     let listening = Listening {
         address: at_port(port),
@@ -239,6 +244,7 @@ fn bodies_go_and_come_by_blocks(rt: HostRuntime) -> Result<(), Fail> {
     let extent = Extent {
         workers: 2,
         limit: 8,
+        first_id: 0,
     };
     let ((served, memory), asked) = thread::join(
         &rt,
@@ -313,7 +319,11 @@ fn serve_script<R: Abort + AllocGlobal + Threads + Wait + Clock + Sync>(
     let lossy = Lossy {
         sends: AtomicUsize::new(0),
     };
-    let extent = Extent { workers, limit: 2 };
+    let extent = Extent {
+        workers,
+        limit: 2,
+        first_id: 0,
+    };
     let served = serve_at(
         rt, alloc, &log, &mut err, &NoSensors, script, &lossy, extent,
     );
@@ -471,6 +481,7 @@ fn eight_clients_count_right(rt: HostRuntime) -> Result<(), Fail> {
     let extent = Extent {
         workers: 2,
         limit: 978,
+        first_id: 0,
     };
     let ((served, memory), asked) = thread::join(
         &rt,
@@ -544,7 +555,11 @@ fn check_clock<R: Abort + AllocGlobal + Threads + Wait + Clock + Net + RandomSou
     let alloc = rt.alloc();
     let socket = open(rt, at_port(0))?;
     let port = socket.local_addr()?.port();
-    let extent = Extent { workers, limit: 2 };
+    let extent = Extent {
+        workers,
+        limit: 2,
+        first_id: 0,
+    };
     let ((served, _memory), asked) = thread::join(
         rt,
         || serve_logged(rt, alloc, &socket, extent),
