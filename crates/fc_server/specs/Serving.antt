@@ -1,9 +1,10 @@
 -- A server on one thread: what it does with a datagram is a list of events, whatever the history that it stands in. The clauses
 -- of the engine cite the agreement here: a server that agrees with a history is one that the history leaves.
-use Rattle.std.specs.Prelude.{◌≡◌, ℕ, zero, suc, Bool, true, false, List, [], ◌∷◌, ◌++◌, length, Option, None}
+use Rattle.std.specs.Prelude.{◌≡◌, ℕ, zero, suc, Bool, true, false, List, [], ◌∷◌, ◌++◌, length, Option, None, is_some}
 use Rattle.std.specs.Borrow.{Bor}
 use Rattle.coap_msg.specs.declared.types.Emission.{Emission}
 use Rattle.coap_msg.specs.declared.types.Endpoint.{Endpoint}
+use Rattle.fc_registry.specs.Shards.{shard_at}
 use Rattle.fc_core.specs.declared.event.Event.{Event}
 use Rattle.fc_core.specs.declared.event.Event.TheVariants.{Deliver, Peek, Take, Commit, Install, Remove, Receipt, Raise, Answer, Due, Fresh, Note, GiveUp, Signal, Tick, ShardTick}
 use Rattle.fc_core.specs.declared.front.Delivered.{Delivered}
@@ -16,6 +17,7 @@ use Rattle.fc_core.specs.Legal.{AllMean, IsLegal}
 use Rattle.fc_core.specs.Stages.{first_stage}
 use Rattle.fc_server.specs.Agreement.{Agrees, Parts}
 use Rattle.fc_server.specs.States.{ServerState}
+use Rattle.fc_server.specs.Steps.{shard_turn}
 
 abbrev pub with_tasks : ServerState → List Task → Parts
 with_tasks s tasks = record { front = s.front; shards = s.shards; words = s.words; tasks = tasks }
@@ -114,8 +116,9 @@ abbrev pub TurnGiven : Bool → List ℕ → History → ℕ → ℕ → ℕ →
 TurnGiven false readings h k now random new out = (out ≡ None) × Reaches h new
 TurnGiven true readings h k now random new out = Turned readings h k now random new out
 
--- whatever the history so far; the turn has the next number
+-- it gave one just where it has an observer that is due; and whatever the history so far, the turn has the next number
 pub record AsksForTurn (readings : List ℕ) (shard now random : ℕ) (old new : ServerState) (given : Bool) (out : Option Emission) : Type 0 where
+  pub is_due : given ≡ is_some (shard_turn now (shard_at old.shards shard))
   pub asked : (h : History) (tasks : List Task) → Serves h old tasks → TurnGiven given readings (next h (Due shard now) None) (length tasks) now random new out
 
 -- the turn at work is the last job that came

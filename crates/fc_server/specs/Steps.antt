@@ -3,6 +3,7 @@ use Rattle.std.specs.Prelude.{◌≡◌, ℕ, Bool, true, false, nat_lt, List, [
 use Rattle.std.specs.Option.{option_to_list}
 use Rattle.coap_msg.specs.declared.types.Endpoint.{Endpoint}
 use Rattle.coap_msg.specs.declared.types.Emission.{Emission}
+use Rattle.fc_observe.specs.declared.observers.Ticked.{Ticked}
 use Rattle.fc_registry.specs.declared.job.Job.{Job}
 use Rattle.fc_registry.specs.Shards.{shard_at}
 use Rattle.fc_registry.specs.Slots.{Shard}
@@ -64,12 +65,15 @@ abbrev pub shard_changed : Bool → ℕ → (Shard → Shard) → List Shard →
 shard_changed true i f shards = slice_set shards i (f (shard_at shards i))
 shard_changed false i f shards = shards
 
--- a shard after a tick, and what it sends again
+-- a shard after a tick, what the tick tells, and what it sends again
 abbrev pub shard_ticked : ℕ → Shard → Shard
 shard_ticked now shard = shard_after_tick (late_place (shard_handed shard now)) (shard_handed shard now)
 
+abbrev pub shard_told : ℕ → Shard → Ticked
+shard_told now shard = ticked_in (late_place (shard_handed shard now)) (shard_handed shard now)
+
 abbrev pub shard_resent : ℕ → Shard → Option Emission
-shard_resent now shard = resent (ticked_in (late_place (shard_handed shard now)) (shard_handed shard now))
+shard_resent now shard = resent (shard_told now shard)
 
 -- a shard that was asked for a turn, and the job of the turn
 abbrev pub shard_asked : ℕ → Shard → Shard

@@ -14,6 +14,7 @@ ghost use Rattle.fc_core.specs.Legal.{resent};
 ghost use Rattle.fc_server.specs.Serving.{Hears, IsBegun, IsReachable, AsksForTurn, Passes, TicksShard, Serves, Turns, WorksOff};
 ghost use Rattle.fc_server.specs.Notified.{is_given, notification_in, notified_as};
 ghost use Rattle.fc_server.specs.Serving.{IsSignalled};
+ghost use Rattle.fc_server.specs.Steps.{shard_told};
 
 use crate::server::Server;
 use coap_msg::{Emission, Endpoint};
@@ -109,10 +110,11 @@ impl Engine {
     }
 
     /// Advances a shard, 0 to 7, to a moment in milliseconds: it sends the first notification that is late again, or removes its
-    /// observer. What it does is the event ShardTick.
+    /// observer, and tells which, or that nothing is late. What it does is the event ShardTick.
     pub fn resend(&mut self, shard: u8, now: u64) -> Ticked
         requires { shard < 8 }
-        ensures { TicksShard shard now self.old self.new (resent result) }
+        ensures told { result ≡ shard_told now (shard_at self.old.shards shard) }
+        ensures ticks { TicksShard shard now self.old self.new (resent result) }
     {
         self.server.tick_shard(shard, now)
     }

@@ -31,7 +31,8 @@
 //!
 //! - Each call is an event, and what it does with a datagram is the list of the events of one job, whatever the history so far, whose
 //!   taking is handed the readings that the call was given.
-//! - A signal goes to each shard, and a turn that is told as given is worked off by its events.
+//! - A signal goes to each shard. A shard that is ticked tells what it sends again, that it removed an observer, or that nothing is late;
+//!   one that is asked gives a turn just where an observer is due, and the turn is worked off by its events.
 //!
 //! By the contracts of `Server`, `Engine::hear`, `tick`, `resend`, `notify`.
 #![tactic(auto)]

@@ -7,10 +7,9 @@ ghost use Rattle.fc_registry.specs.Watches.{at_time, is_quiet, signal_call, sign
 ghost use Rattle.fc_core.specs.declared.event.Event.{Event};
 ghost use Rattle.fc_core.specs.Exchanges.{advanced, first_front};
 ghost use Rattle.fc_core.specs.Heads.{no_words};
-ghost use Rattle.fc_core.specs.Legal.{resent};
 ghost use Rattle.fc_core.specs.Receiving.{after_delivered, delivered, emission_if, heard};
 ghost use Rattle.fc_server.specs.States.{Responds, AtWork, Does, DrawsId, Works};
-ghost use Rattle.fc_server.specs.Steps.{shard_asked, shard_resent, shard_ticked, shard_turn};
+ghost use Rattle.fc_server.specs.Steps.{shard_asked, shard_ticked, shard_told, shard_turn};
 
 use coap_msg::{Emission, Endpoint};
 use fc_core::front::blank_emission;
@@ -117,10 +116,11 @@ impl Server {
         self.shards[usize::from(shard)].signal(endpoint, id, reset);
     }
 
-    /// Advances a shard to a moment in milliseconds: what it sends again, if anything.
+    /// Advances a shard to a moment in milliseconds, at which it sends the first notification that is late again, or removes its observer: tells which, or that
+    /// nothing is late.
     pub fn tick_shard(&mut self, shard: u8, now: u64) -> Ticked
         requires { shard < length self.old.shards }
-        ensures sent { resent result ≡ shard_resent now (shard_at self.old.shards shard) }
+        ensures told { result ≡ shard_told now (shard_at self.old.shards shard) }
         ensures front { self.new.front ≡ self.old.front }
         ensures shards { self.new.shards ≡ slice_set self.old.shards shard (shard_ticked now (shard_at self.old.shards shard)) }
         ensures words { self.new.words ≡ self.old.words }

@@ -1,4 +1,5 @@
 use Rattle.std.proofs.Common.{◌≡◌, Bool, true, false, [], ◌∷◌, ◌++◌, Option, None, Some, length, max, refl, ap, sym, subst, ◌∙◌}
+use Rattle.std.specs.Prelude.{is_some}
 use Rattle.fc_core.specs.declared.event.Event.TheVariants.{Due}
 use Rattle.fc_core.specs.declared.stage.Task.{Task}
 use Rattle.fc_core.specs.Exchanges.{FrontState}
@@ -34,6 +35,7 @@ asked_none : (c : goal.Then-not-due) → AsksForTurn c.args.readings.now c.args.
 asked_none c =
     let e = c.due.ensures in
     record {
+      is_due = ap is_some (turn_is false c.due.result c.due.new.job _ c.if-not-due.true e.job);
       asked = λ h tasks v. (
         refl,
         record {
@@ -58,6 +60,7 @@ asked_some c =
     let told = notified_as c.tell.result c.tell.new.emission in
     let job = c.due.new.job in
     record {
+      is_due = c.tell.ensures.given ∙ ap is_some (turn_is true c.due.result job _ c.if-not-due.false e.job);
       asked = λ h tasks v.
           let brought = asked_on c.args.shard c.requires c.self.inside.server c.due.new.self e.front e.words h tasks v c.args.now (Some job) e.shards (turn_is true c.due.result job _ c.if-not-due.false e.job) in
           let began = subst (λ (t : Task). Serves (next h (Due c.args.shard c.args.now) None) c.due.new.self (tasks ++ t ∷ [])) (sym c.begin.ensures) brought in
