@@ -10,4 +10,3 @@ pub mod Keeping
 pub mod OnShards
 pub mod Watches
 pub mod ByStep
-pub mod Verdicts
