@@ -12,6 +12,7 @@ mod Helping
 mod Follows
 mod Skips
 mod Beginning
+mod Rewritten
 mod Live
 mod Small
 mod Paired

@@ -1,3 +1,4 @@
 pub mod Ran
 pub mod Steps
 pub mod Array
+pub mod Kept

@@ -1,11 +1,17 @@
 //! Where programs run.
+ghost use Rattle.std.specs.Prelude.{◌≤◌};
+ghost use Rattle.fc_machine.specs.Kept.{IsZeroPast};
+
 use crate::state::State;
 use std::alloc::{AllocError, Global};
 
-/// The registers and the memory of the machine. One is made at the start, and each run uses it again.
+/// The registers and the memory of the machine. One is made at the start, and each run uses it again: its type keeps that behind the last
+/// payload are zeros.
 #[derive(Drop)]
 pub struct Frame {
     pub(crate) state: Box<State>,
+    ghost payload: { state.value.sizes.payload ≤ 1024 },
+    ghost zeros: { IsZeroPast state.value.sizes.payload state.value.memory },
 }
 
 impl Frame {
