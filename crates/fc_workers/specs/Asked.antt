@@ -8,12 +8,12 @@ use Rattle.fc_workers.specs.Called.{LoggedCall, HearsDatagram, DrawsId, AnswersR
 use Rattle.fc_workers.specs.Called.{AdvancesShard, GivesTurn, NotesTurn, GivesUpTurn, RaisesWord}
 use Rattle.fc_workers.specs.Doings.{AdvancesTo, AnswersAt, CommitsAt, DescribesTo, DrawsAt, GivesTurnAt, GivesUpAt, HandsOn, HearsAt, InstallsTo, NotesAt, PassesIfQuiet, RemovesFrom, TakesTo, TicksAt}
 
--- a call that does this to a shard, and answers this, was asked of the shard of an index, 0 to 7
-pub record IsAsked {A : Type 0} (index : ℕ) (Does : Shard → A → Shard → Type 0) (answer : A) : Type 0 where
+-- a call that does this to a shard was asked of the shard of an index, 0 to 7
+pub record IsAsked (index : ℕ) (Does : Shard → Shard → Type 0) : Type 0 where
   pub before : Shard
   pub after : Shard
   pub of : index < 8 → before.index ≡ index
-  pub does : Does before answer after
+  pub does : Does before after
 
 -- a call that does this to the front was asked of it
 pub record IsFrontAsked (Does : FrontState → FrontState → Type 0) : Type 0 where
@@ -26,22 +26,22 @@ pub record IsFrontAsked (Does : FrontState → FrontState → Type 0) : Type 0 w
 abbrev pub IsServerCall : (List ℕ → Type 0) → BenchCall → Type 0
 IsServerCall AreReadings (GivesReadings readings) = AreReadings readings
 IsServerCall AreReadings (LooksAt slot word) = Unit {0}
-IsServerCall AreReadings (TellsReceipt job receipt) = IsAsked (job.origin.slot % 8) (DescribesTo job) receipt
+IsServerCall AreReadings (TellsReceipt job receipt) = IsAsked (job.origin.slot % 8) (λ before after. DescribesTo job before receipt after)
 IsServerCall AreReadings (AdvancesFront now) = IsFrontAsked (AdvancesTo now)
-IsServerCall AreReadings (HandsSignal shard from id reset) = IsAsked shard (λ before (answer : Unit {0}) after. HandsOn reset from id before after) tt
-IsServerCall AreReadings (AdvancesIfQuiet shard now quiet) = IsAsked shard (PassesIfQuiet now) quiet
+IsServerCall AreReadings (HandsSignal shard from id reset) = IsAsked shard (λ before after. HandsOn reset from id before after)
+IsServerCall AreReadings (AdvancesIfQuiet shard now quiet) = IsAsked shard (λ before after. PassesIfQuiet now before quiet after)
 
 -- and so does each that a worker's log has. What a raise does is said of the worker's seat
 abbrev pub IsLoggedCall : LoggedCall → Type 0
 IsLoggedCall (HearsDatagram now from bytes brings) = IsFrontAsked (HearsAt now from bytes brings)
 IsLoggedCall (DrawsId now id) = IsFrontAsked (DrawsAt now id)
 IsLoggedCall (AnswersRequest now job content sent) = IsFrontAsked (AnswersAt now job content sent)
-IsLoggedCall (TakesForJob job readings taken) = IsAsked (job.origin.slot % 8) (TakesTo job readings) taken
-IsLoggedCall (CommitsRun now ran ticket committed) = IsAsked (ticket.origin.slot % 8) (CommitsAt now ran ticket) committed
-IsLoggedCall (InstallsProgram job program made) = IsAsked (job.origin.slot % 8) (InstallsTo job program) made
-IsLoggedCall (RemovesProgram job removal) = IsAsked (job.origin.slot % 8) (RemovesFrom job) removal
-IsLoggedCall (AdvancesShard shard now ticked) = IsAsked shard (TicksAt now) ticked
-IsLoggedCall (GivesTurn shard now turn) = IsAsked shard (GivesTurnAt now) turn
-IsLoggedCall (NotesTurn turn id now random told noted) = IsAsked (turn.slot % 8) (NotesAt turn id now random told) noted
-IsLoggedCall (GivesUpTurn turn now) = IsAsked (turn.slot % 8) (λ before (answer : Unit {0}) after. GivesUpAt now turn before after) tt
+IsLoggedCall (TakesForJob job readings taken) = IsAsked (job.origin.slot % 8) (λ before after. TakesTo job readings before taken after)
+IsLoggedCall (CommitsRun now ran ticket committed) = IsAsked (ticket.origin.slot % 8) (λ before after. CommitsAt now ran ticket before committed after)
+IsLoggedCall (InstallsProgram job program made) = IsAsked (job.origin.slot % 8) (λ before after. InstallsTo job program before made after)
+IsLoggedCall (RemovesProgram job removal) = IsAsked (job.origin.slot % 8) (λ before after. RemovesFrom job before removal after)
+IsLoggedCall (AdvancesShard shard now ticked) = IsAsked shard (λ before after. TicksAt now before ticked after)
+IsLoggedCall (GivesTurn shard now turn) = IsAsked shard (λ before after. GivesTurnAt now before turn after)
+IsLoggedCall (NotesTurn turn id now random told noted) = IsAsked (turn.slot % 8) (λ before after. NotesAt turn id now random told before noted after)
+IsLoggedCall (GivesUpTurn turn now) = IsAsked (turn.slot % 8) (λ before after. GivesUpAt now turn before after)
 IsLoggedCall (RaisesWord slot word) = Unit {0}

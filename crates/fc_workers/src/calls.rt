@@ -17,25 +17,29 @@ use fc_verify::Verified;
 use std::sync::Arc;
 
 /// A call of a shard, with all that it hands in. It keeps the shard's index, and its answer tells how much the serials of the
-/// shard's slots rise, which is what a tally counts. Where that is 0, no slot changes.
+/// shard's slots rise, which is what a tally counts. Where that is 0, no slot changes. What is large it writes
+/// into the caller's room, where nothing is moved.
 pub trait ShardCall {
     /// What the shard answers.
     type Answer;
 
+    /// The caller's room that it writes into; `()` where it writes nothing.
+    type Room;
+
     // Which shards may be asked.
     ghost may_ask: { Self → Seen → Type 0 } = { λ call shard. ⊤ };
 
-    // What a shard answers, and what it is after that.
-    ghost does: { Self → Seen → Self.Answer → Seen → Type 0 };
+    // What a shard answers, what is then in the room, and what the shard is after that.
+    ghost does: { Self → Seen → Self.Answer → Self.Room → Seen → Type 0 };
 
     // How many changes of a slot an answer tells of.
     ghost changes: { Self.Answer → ℕ } = { λ answer. 0 };
 
     /// Asks the shard.
-    fn call(self, shard: &mut Shard) -> Self::Answer
+    fn call(self, shard: &mut Shard, room: &mut Self::Room) -> Self::Answer
         requires eight { HasEightSlots shard.old }
         requires may { may_ask self shard.old }
-        ensures does { does self shard.old result shard.new }
+        ensures does { does self shard.old result room.new shard.new }
         ensures index { shard.new.index ≡ shard.old.index }
         ensures kept { changes result ≡ 0 → shard.new.slots ≡ shard.old.slots }
         ensures eight { HasEightSlots shard.new }
@@ -59,11 +63,13 @@ pub struct Take<'a> {
 impl<'a> ShardCall for Take<'a> {
     type Answer = Took;
 
+    type Room = ();
+
     ghost may_ask = { λ call shard. IsOwned shard call.job.now.origin.slot };
 
-    ghost does = { λ call. TakesTo call.job.now call.readings.now };
+    ghost does = { λ call before answer room after. TakesTo call.job.now call.readings.now before answer after };
 
-    fn call(self, shard: &mut Shard) -> Took {
+    fn call(self, shard: &mut Shard, _: &mut ()) -> Took {
         shard.take(self.job, self.readings)
     }
 }
@@ -79,13 +85,15 @@ pub struct Commit<'a> {
 impl<'a> ShardCall for Commit<'a> {
     type Answer = Committed;
 
+    type Room = ();
+
     ghost may_ask = { λ call shard. IsOwned shard call.ticket.now.origin.slot };
 
-    ghost does = { λ call. CommitsAt call.now call.outcome.now call.ticket.now };
+    ghost does = { λ call before answer room after. CommitsAt call.now call.outcome.now call.ticket.now before answer after };
 
     ghost changes = { commit_changes };
 
-    fn call(self, shard: &mut Shard) -> Committed {
+    fn call(self, shard: &mut Shard, _: &mut ()) -> Committed {
         shard.commit(self.now, self.outcome, self.ticket)
     }
 }
@@ -111,13 +119,15 @@ pub struct Install<'a> {
 impl<'a> ShardCall for Install<'a> {
     type Answer = Made;
 
+    type Room = ();
+
     ghost may_ask = { λ call shard. IsOwned shard call.job.now.origin.slot };
 
-    ghost does = { λ call. InstallsTo call.job.now call.program.value };
+    ghost does = { λ call before answer room after. InstallsTo call.job.now call.program.value before answer after };
 
     ghost changes = { install_changes };
 
-    fn call(self, shard: &mut Shard) -> Made {
+    fn call(self, shard: &mut Shard, _: &mut ()) -> Made {
         let Install { job, program } = self;
         shard.install(job.origin.slot, program)
     }
@@ -140,13 +150,15 @@ pub struct Remove<'a> {
 impl<'a> ShardCall for Remove<'a> {
     type Answer = Removal;
 
+    type Room = ();
+
     ghost may_ask = { λ call shard. IsOwned shard call.job.now.origin.slot };
 
-    ghost does = { λ call. RemovesFrom call.job.now };
+    ghost does = { λ call before answer room after. RemovesFrom call.job.now before answer after };
 
     ghost changes = { removal_changes };
 
-    fn call(self, shard: &mut Shard) -> Removal {
+    fn call(self, shard: &mut Shard, _: &mut ()) -> Removal {
         shard.remove(self.job.origin.slot)
     }
 }
@@ -168,11 +180,13 @@ pub struct Describe<'a> {
 impl<'a> ShardCall for Describe<'a> {
     type Answer = Option<Receipt>;
 
+    type Room = ();
+
     ghost may_ask = { λ call shard. IsOwned shard call.job.now.origin.slot };
 
-    ghost does = { λ call. DescribesTo call.job.now };
+    ghost does = { λ call before answer room after. DescribesTo call.job.now before answer after };
 
-    fn call(self, shard: &mut Shard) -> Option<Receipt> {
+    fn call(self, shard: &mut Shard, _: &mut ()) -> Option<Receipt> {
         shard.receipt(self.job.origin.slot)
     }
 }
@@ -188,10 +202,12 @@ pub struct Signal {
 impl ShardCall for Signal {
     type Answer = ();
 
-    ghost does = { λ call before answer after. HandsOn call.reset call.endpoint call.id before after };
+    type Room = ();
+
+    ghost does = { λ call before answer room after. HandsOn call.reset call.endpoint call.id before after };
 
     #[tactic(auto, unfolding(crate::specs::Doings::HandsOn))]
-    fn call(self, shard: &mut Shard) {
+    fn call(self, shard: &mut Shard, _: &mut ()) {
         shard.signal(self.endpoint, self.id, self.reset);
     }
 }
@@ -205,9 +221,11 @@ pub struct Tick {
 impl ShardCall for Tick {
     type Answer = Ticked;
 
-    ghost does = { λ call. TicksAt call.now };
+    type Room = ();
 
-    fn call(self, shard: &mut Shard) -> Ticked {
+    ghost does = { λ call before answer room after. TicksAt call.now before answer after };
+
+    fn call(self, shard: &mut Shard, _: &mut ()) -> Ticked {
         shard.tick(self.now)
     }
 }
@@ -221,9 +239,11 @@ pub struct AdvanceIfQuiet {
 impl ShardCall for AdvanceIfQuiet {
     type Answer = bool;
 
-    ghost does = { λ call. PassesIfQuiet call.now };
+    type Room = ();
 
-    fn call(self, shard: &mut Shard) -> bool {
+    ghost does = { λ call before answer room after. PassesIfQuiet call.now before answer after };
+
+    fn call(self, shard: &mut Shard, _: &mut ()) -> bool {
         shard.advance_if_quiet(self.now)
     }
 }
@@ -237,9 +257,11 @@ pub struct NextDue {
 impl ShardCall for NextDue {
     type Answer = Option<Job>;
 
-    ghost does = { λ call. GivesTurnAt call.now };
+    type Room = ();
 
-    fn call(self, shard: &mut Shard) -> Option<Job> {
+    ghost does = { λ call before answer room after. GivesTurnAt call.now before answer after };
+
+    fn call(self, shard: &mut Shard, _: &mut ()) -> Option<Job> {
         shard.next_due(self.now)
     }
 }
@@ -257,11 +279,13 @@ pub struct Note<'a> {
 impl<'a> ShardCall for Note<'a> {
     type Answer = Noted;
 
+    type Room = ();
+
     ghost may_ask = { λ call shard. IsOwned shard call.turn.slot };
 
-    ghost does = { λ call. NotesAt call.turn call.id call.now call.random call.told.now };
+    ghost does = { λ call before answer room after. NotesAt call.turn call.id call.now call.random call.told.now before answer after };
 
-    fn call(self, shard: &mut Shard) -> Noted {
+    fn call(self, shard: &mut Shard, _: &mut ()) -> Noted {
         shard.note(self.turn, self.id, self.now, self.random, self.told)
     }
 }
@@ -276,12 +300,14 @@ pub struct GiveUp {
 impl ShardCall for GiveUp {
     type Answer = ();
 
+    type Room = ();
+
     ghost may_ask = { λ call shard. IsOwned shard call.turn.slot };
 
-    ghost does = { λ call before answer after. GivesUpAt call.now call.turn before after };
+    ghost does = { λ call before answer room after. GivesUpAt call.now call.turn before after };
 
     #[tactic(auto, unfolding(crate::specs::Doings::GivesUpAt))]
-    fn call(self, shard: &mut Shard) {
+    fn call(self, shard: &mut Shard, _: &mut ()) {
         shard.give_up(self.turn, self.now);
     }
 }

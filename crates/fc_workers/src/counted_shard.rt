@@ -56,27 +56,32 @@ impl<L: Ledger> Counted<L> {
         (counted, Tally::of(share))
     }
 
-    /// Asks the shard what changes no slot.
-    pub fn ask<C: ShardCall>(&mut self, call: C) -> C::Answer
+    /// Asks the shard what changes no slot. The call may write into the caller's room.
+    pub fn ask<C: ShardCall>(&mut self, call: C, room: &mut C::Room) -> C::Answer
         requires may { C.may_ask call self.old.shard }
         requires none { (answer : C.Answer) → C.changes answer ≡ 0 }
-        ensures does { C.does call self.old.shard result self.new.shard }
+        ensures does { C.does call self.old.shard result room.new self.new.shard }
         ensures slots { self.new.shard.slots ≡ self.old.shard.slots }
         ensures index { self.new.shard.index ≡ self.old.shard.index }
         ensures opened { self.new.opened ≡ self.old.opened }
     {
-        call.call(&mut self.shard)
+        call.call(&mut self.shard, room)
     }
 
     /// Asks the shard what may change a slot. The tally counts what the answer tells of.
-    pub(crate) fn change<C: Change>(&mut self, call: C, tally: &mut Tally<L>) -> C::Answer
+    pub(crate) fn change<C: Change>(
+        &mut self,
+        call: C,
+        room: &mut C::Room,
+        tally: &mut Tally<L>,
+    ) -> C::Answer
         requires { C.may_ask call self.old.shard }
-        ensures does { C.does call self.old.shard result self.new.shard }
+        ensures does { C.does call self.old.shard result room.new self.new.shard }
         ensures index { self.new.shard.index ≡ self.old.shard.index }
         ensures opened { self.new.opened ≡ self.old.opened }
         ensures tally { tally.new ≡ counts tally.old (C.changes result) }
     {
-        let answer = call.call(&mut self.shard);
+        let answer = call.call(&mut self.shard, room);
         if C::has_changed(&answer) {
             tally.count(&mut self.book);
         }
@@ -102,7 +107,7 @@ impl<L: Ledger> Counted<L> {
             outcome,
             ticket,
         };
-        self.change(commit, tally)
+        self.change(commit, &mut (), tally)
     }
 
     /// Installs a program in the slot of a job, as [`Shard::install`] does. The tally counts it, but at the slot's last serial.
@@ -115,7 +120,7 @@ impl<L: Ledger> Counted<L> {
         ensures opened { self.new.opened ≡ self.old.opened }
         ensures tally { tally.new ≡ counts tally.old (install_changes result) }
     {
-        self.change(Install { job, program }, tally)
+        self.change(Install { job, program }, &mut (), tally)
     }
 
     /// Removes the program of the slot of a job, as [`Shard::remove`] does. The tally counts it where there was one, but at the slot's
@@ -129,7 +134,7 @@ impl<L: Ledger> Counted<L> {
         ensures opened { self.new.opened ≡ self.old.opened }
         ensures tally { tally.new ≡ counts tally.old (removal_changes result) }
     {
-        self.change(Remove { job }, tally)
+        self.change(Remove { job }, &mut (), tally)
     }
 
     /// Returns the shard, as it is.

@@ -52,12 +52,17 @@ impl<const INDEX: u8, B: Books> LockedShard<INDEX, B> {
     }
 
     /// Asks the shard what changes no slot, while its lock is held.
-    pub(crate) fn ask<C: ShardCall, R: Wait>(&self, rt: &R, call: C) -> C::Answer
+    pub(crate) fn ask<C: ShardCall, R: Wait>(
+        &self,
+        rt: &R,
+        call: C,
+        room: &mut C::Room,
+    ) -> C::Answer
         requires may { (shard : Seen) → shard.index ≡ INDEX → C.may_ask call shard }
         requires none { (answer : C.Answer) → C.changes answer ≡ 0 }
-        ensures { IsAsked INDEX (C.does call) result }
+        ensures { IsAsked INDEX (λ before after. C.does call before result room.new after) }
     {
-        self.state.lock(rt).counted.ask(call)
+        self.state.lock(rt).counted.ask(call, room)
     }
 
     /// Asks the shard what may change a slot, while its lock is held. The tally counts it.
@@ -65,13 +70,14 @@ impl<const INDEX: u8, B: Books> LockedShard<INDEX, B> {
         &self,
         rt: &R,
         call: C,
+        room: &mut C::Room,
         tally: &mut Tally<BookOf<B, INDEX>>,
     ) -> C::Answer
         requires { (shard : Seen) → shard.index ≡ INDEX → C.may_ask call shard }
-        ensures does { IsAsked INDEX (C.does call) result }
+        ensures does { IsAsked INDEX (λ before after. C.does call before result room.new after) }
         ensures tally { tally.new ≡ counts tally.old (C.changes result) }
     {
-        self.state.lock(rt).counted.change(call, tally)
+        self.state.lock(rt).counted.change(call, room, tally)
     }
 
     /// Closes the book, for the tally that has all its parts: the shard, whose serials have risen by the changes that were

@@ -179,21 +179,28 @@ impl<'a, B: Books, D: Device> Locked<'a, B, D> {
         Ok((server, reserve))
     }
 
-    /// Asks the shard of an index, 0 to 7, what changes no slot, under its lock and none of the others. An index above is taken for 7.
-    pub fn ask<C: ShardCall, R: Wait>(&self, rt: &R, index: u8, call: C) -> C::Answer
+    /// Asks the shard of an index, 0 to 7, what changes no slot, under its lock and none of the others. The call may
+    /// write into the caller's room. An index above is taken for 7.
+    pub fn ask<C: ShardCall, R: Wait>(
+        &self,
+        rt: &R,
+        index: u8,
+        call: C,
+        room: &mut C::Room,
+    ) -> C::Answer
         requires may { (shard : Seen) → (index < 8 → shard.index ≡ index) → C.may_ask call shard }
         requires none { (answer : C.Answer) → C.changes answer ≡ 0 }
-        ensures { IsAsked index (C.does call) result }
+        ensures { IsAsked index (λ before after. C.does call before result room.new after) }
     {
         match index {
-            0 => self.shard0.ask(rt, call),
-            1 => self.shard1.ask(rt, call),
-            2 => self.shard2.ask(rt, call),
-            3 => self.shard3.ask(rt, call),
-            4 => self.shard4.ask(rt, call),
-            5 => self.shard5.ask(rt, call),
-            6 => self.shard6.ask(rt, call),
-            _ => self.shard7.ask(rt, call),
+            0 => self.shard0.ask(rt, call, room),
+            1 => self.shard1.ask(rt, call, room),
+            2 => self.shard2.ask(rt, call, room),
+            3 => self.shard3.ask(rt, call, room),
+            4 => self.shard4.ask(rt, call, room),
+            5 => self.shard5.ask(rt, call, room),
+            6 => self.shard6.ask(rt, call, room),
+            _ => self.shard7.ask(rt, call, room),
         }
     }
 
@@ -203,23 +210,24 @@ impl<'a, B: Books, D: Device> Locked<'a, B, D> {
         rt: &R,
         slot: SlotNumber,
         call: C,
+        room: &mut C::Room,
         tallies: &mut Tallies<B>,
     ) -> C::Answer
         requires { (shard : Seen) → IsOwned shard slot → C.may_ask call shard }
-        ensures does { IsAsked (slot % 8) (C.does call) result }
+        ensures does { IsAsked (slot % 8) (λ before after. C.does call before result room.new after) }
         ensures changes { AreTallied (slice_index tallies.old.changes) (slice_index tallies.new.changes)
             slot (C.changes result) }
         ensures ended { tallies.new.ended ≡ tallies.old.ended }
     {
         match shard_of(slot) {
-            0 => self.shard0.change(rt, call, &mut tallies.tally0),
-            1 => self.shard1.change(rt, call, &mut tallies.tally1),
-            2 => self.shard2.change(rt, call, &mut tallies.tally2),
-            3 => self.shard3.change(rt, call, &mut tallies.tally3),
-            4 => self.shard4.change(rt, call, &mut tallies.tally4),
-            5 => self.shard5.change(rt, call, &mut tallies.tally5),
-            6 => self.shard6.change(rt, call, &mut tallies.tally6),
-            _ => self.shard7.change(rt, call, &mut tallies.tally7),
+            0 => self.shard0.change(rt, call, room, &mut tallies.tally0),
+            1 => self.shard1.change(rt, call, room, &mut tallies.tally1),
+            2 => self.shard2.change(rt, call, room, &mut tallies.tally2),
+            3 => self.shard3.change(rt, call, room, &mut tallies.tally3),
+            4 => self.shard4.change(rt, call, room, &mut tallies.tally4),
+            5 => self.shard5.change(rt, call, room, &mut tallies.tally5),
+            6 => self.shard6.change(rt, call, room, &mut tallies.tally6),
+            _ => self.shard7.change(rt, call, room, &mut tallies.tally7),
         }
     }
 
@@ -302,7 +310,12 @@ impl<'a, B: Books, D: Device> Bench for Locked<'a, B, D> {
         log: &mut CallLog,
     ) -> Took {
         let _ = log;
-        let taken = self.ask(rt, shard_of(job.origin.slot), Take { job, readings });
+        let taken = self.ask(
+            rt,
+            shard_of(job.origin.slot),
+            Take { job, readings },
+            &mut (),
+        );
         tallies.end_taking(&taken);
         taken
     }
@@ -313,21 +326,21 @@ impl<'a, B: Books, D: Device> Bench for Locked<'a, B, D> {
             id,
             reset,
         };
-        self.ask(rt, shard, signal);
+        self.ask(rt, shard, signal, &mut ());
     }
 
     fn tick_shard<R: Wait>(&self, rt: &R, shard: u8, now: u64, log: &mut CallLog) -> Ticked {
         let _ = log;
-        self.ask(rt, shard, Tick { now })
+        self.ask(rt, shard, Tick { now }, &mut ())
     }
 
     fn advance_if_quiet<R: Wait>(&self, rt: &R, shard: u8, now: u64) -> bool {
-        self.ask(rt, shard, AdvanceIfQuiet { now })
+        self.ask(rt, shard, AdvanceIfQuiet { now }, &mut ())
     }
 
     fn next_due<R: Wait>(&self, rt: &R, shard: u8, now: u64, log: &mut CallLog) -> Option<Job> {
         let _ = log;
-        self.ask(rt, shard, NextDue { now })
+        self.ask(rt, shard, NextDue { now }, &mut ())
     }
 
     fn note<R: Wait>(
@@ -350,7 +363,7 @@ impl<'a, B: Books, D: Device> Bench for Locked<'a, B, D> {
             random,
             told,
         };
-        self.ask(rt, turn.slot % SHARDS, note)
+        self.ask(rt, turn.slot % SHARDS, note, &mut ())
     }
 
     fn give_up<R: Wait>(
@@ -363,7 +376,7 @@ impl<'a, B: Books, D: Device> Bench for Locked<'a, B, D> {
     ) {
         let _ = log;
         tallies.end_job();
-        self.ask(rt, turn.slot % SHARDS, GiveUp { turn, now });
+        self.ask(rt, turn.slot % SHARDS, GiveUp { turn, now }, &mut ());
     }
 
     fn commit<R: Wait>(
@@ -381,7 +394,7 @@ impl<'a, B: Books, D: Device> Bench for Locked<'a, B, D> {
             outcome,
             ticket,
         };
-        self.change(rt, ticket.origin().slot, commit, tallies)
+        self.change(rt, ticket.origin().slot, commit, &mut (), tallies)
     }
 
     fn install<R: Wait>(
@@ -393,7 +406,13 @@ impl<'a, B: Books, D: Device> Bench for Locked<'a, B, D> {
         log: &mut CallLog,
     ) -> Made {
         let _ = log;
-        self.change(rt, job.origin.slot, Install { job, program }, tallies)
+        self.change(
+            rt,
+            job.origin.slot,
+            Install { job, program },
+            &mut (),
+            tallies,
+        )
     }
 
     fn remove<R: Wait>(
@@ -404,11 +423,11 @@ impl<'a, B: Books, D: Device> Bench for Locked<'a, B, D> {
         log: &mut CallLog,
     ) -> Removal {
         let _ = log;
-        self.change(rt, job.origin.slot, Remove { job }, tallies)
+        self.change(rt, job.origin.slot, Remove { job }, &mut (), tallies)
     }
 
     fn receipt<R: Wait>(&self, rt: &R, job: &Job) -> Option<Receipt> {
-        self.ask(rt, shard_of(job.origin.slot), Describe { job })
+        self.ask(rt, shard_of(job.origin.slot), Describe { job }, &mut ())
     }
 
     fn head_seat(&self) -> HeadSeat {

@@ -37,7 +37,7 @@ fn commit<L: Ledger>(
     ensures { counted.new.shard.index ≡ 3 }
 {
     let readings = &NO_READINGS;
-    let took = counted.ask(Take { job, readings });
+    let took = counted.ask(Take { job, readings }, &mut ());
     let Taken::Given(given) = &took.taken else {
         return Ok(false);
     };

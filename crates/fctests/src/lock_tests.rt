@@ -28,11 +28,13 @@ struct WhileHeld<F: Drop> {
 impl<X, F: FnOnce() -> X + Drop> ShardCall for WhileHeld<F> {
     type Answer = X;
 
+    type Room = ();
+
     ghost may_ask = { λ held shard. F.pre held.call };
 
-    ghost does = { λ held before answer after. F.post held.call answer × (after ≡ before) };
+    ghost does = { λ held before answer room after. F.post held.call answer × (after ≡ before) };
 
-    fn call(self, shard: &mut Shard) -> X {
+    fn call(self, shard: &mut Shard, _: &mut ()) -> X {
         let _ = shard;
         let WhileHeld { call } = self;
         call()
@@ -48,7 +50,7 @@ pub(crate) trait Locks: Bench {
 
 impl<'a, B: Books, D: Device> Locks for Locked<'a, B, D> {
     fn hold<X, F: FnOnce() -> X + Drop, R: Wait>(&self, rt: &R, shard: u8, call: F) -> X {
-        self.ask(rt, shard, WhileHeld { call })
+        self.ask(rt, shard, WhileHeld { call }, &mut ())
     }
 }
 
