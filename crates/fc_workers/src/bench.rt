@@ -3,6 +3,8 @@ ghost use Rattle.std.specs.Prelude.{◌≡◌, ℕ, ◌+◌, ◌<◌, ◌≤◌,
 ghost use Rattle.atomic_table.specs.Seated.{TableId};
 ghost use Rattle.fc_core.specs.Contents.{IsOf};
 ghost use Rattle.fc_core.specs.Receiving.{emission_if, heard};
+ghost use Rattle.fc_registry.specs.Notes.{noted_as};
+ghost use Rattle.fc_registry.specs.Turns.{written_if};
 ghost use Rattle.fc_heads.specs.Heads.{IsRaised, fresh, peeked, word_of};
 ghost use Rattle.fc_workers.specs.Called.{AdvancesFront, AdvancesIfQuiet, BenchCall, GivesReadings, HandsSignal, LooksAt, TellsReceipt};
 ghost use Rattle.fc_workers.specs.Called.{AdvancesShard, AnswersRequest, CommitsRun, DrawsId, GivesTurn, GivesUpTurn, HearsDatagram};
@@ -21,7 +23,7 @@ use fc_help::Readings;
 use fc_machine::Outcome;
 use fc_observe::{Ticked, Turn};
 use fc_registry::{
-    Committed, Job, Made, Noted, Notification, Receipt, Removal, SlotNumber, Ticket, Took,
+    Committed, Job, Made, NoteOutcome, Notification, Receipt, Removal, SlotNumber, Ticket, Took,
 };
 use fc_verify::Verified;
 use std::sync::{Arc, Wait};
@@ -156,12 +158,21 @@ pub trait Bench {
         ensures quiet { IsSomeQuiet now result }
         ensures called { called (AdvancesIfQuiet shard now result) };
 
-    /// Asks a shard, 0 to 7, for a turn at a moment in milliseconds, as [`Shard::next_due`](fc_registry::Shard::next_due) gives it.
-    fn next_due<R: Wait>(&self, rt: &R, shard: u8, now: u64, log: &mut CallLog) -> Option<Job>
-        ensures turn { IsSomeTurn now result }
-        ensures logged { logged (GivesTurn shard now result) log.old log.new };
+    /// Asks a shard, 0 to 7, for a turn at a moment in milliseconds, as [`Shard::write_due`](fc_registry::Shard::write_due) gives it:
+    /// its job is written over another. Tells whether there is one.
+    fn next_due<R: Wait>(
+        &self,
+        rt: &R,
+        shard: u8,
+        now: u64,
+        job: &mut Job,
+        log: &mut CallLog,
+    ) -> bool
+        ensures turn { IsSomeTurn now (written_if result job.new) }
+        ensures logged { logged (GivesTurn shard now (written_if result job.new)) log.old log.new };
 
-    /// Notifies the observer of a turn, at a moment in milliseconds, as [`Shard::note`](fc_registry::Shard::note) does, and ends its job.
+    /// Notifies the observer of a turn, at a moment in milliseconds, as [`Shard::write_note`](fc_registry::Shard::write_note) does,
+    /// and ends its job: what it is sent is written over another emission.
     fn note<R: Wait>(
         &self,
         rt: &R,
@@ -170,12 +181,13 @@ pub trait Bench {
         now: u64,
         random: u16,
         told: &Notification<'_>,
+        emission: &mut Emission,
         tallies: &mut Self::Tallies,
         log: &mut CallLog,
-    ) -> Noted
+    ) -> NoteOutcome
         requires { turn.slot < 64 }
-        ensures noted { IsSomeNote now told.now turn id result }
-        ensures logged { logged (NotesTurn turn id now random told.now result) log.old log.new }
+        ensures noted { IsSomeNote now told.now turn id (noted_as result emission.new) }
+        ensures logged { logged (NotesTurn turn id now random told.now (noted_as result emission.new)) log.old log.new }
         ensures changes { (shard : ℕ) → shard < 8 →
             changes tallies.new shard ≡ changes tallies.old shard }
         ensures ended { ended tallies.new ≡ saturated (ended tallies.old + 1) };

@@ -1,17 +1,19 @@
 //! The calls of a shard: each is one question to the shard that it is handed, and what it does is said of the shard alone.
 ghost use Rattle.std.specs.Prelude.{◌≡◌, ℕ, ◌+◌, ⊤, if◌then◌else◌};
+ghost use Rattle.fc_registry.specs.Notes.{noted_as};
 ghost use Rattle.fc_registry.specs.Slots.{IsOwned, Shard as Seen};
+ghost use Rattle.fc_registry.specs.Turns.{written_if};
 ghost use Rattle.fc_workers.specs.Answers.{commit_changes, install_changes, removal_changes};
 ghost use Rattle.fc_workers.specs.Counts.{HasEightSlots, serials};
 ghost use Rattle.fc_workers.specs.Doings.{CommitsAt, DescribesTo, GivesTurnAt, GivesUpAt, HandsOn, InstallsTo, NotesAt, PassesIfQuiet};
 ghost use Rattle.fc_workers.specs.Doings.{RemovesFrom, TakesTo, TicksAt};
 
-use coap_msg::Endpoint;
+use coap_msg::{Emission, Endpoint};
 use fc_help::Readings;
 use fc_machine::Outcome;
 use fc_observe::{Ticked, Turn};
 use fc_registry::{
-    Committed, Job, Made, Noted, Notification, Receipt, Removal, Shard, Ticket, Took,
+    Committed, Job, Made, NoteOutcome, Notification, Receipt, Removal, Shard, Ticket, Took,
 };
 use fc_verify::Verified;
 use std::sync::Arc;
@@ -248,25 +250,25 @@ impl ShardCall for AdvanceIfQuiet {
     }
 }
 
-/// Gives a turn to the first observer that is due at a moment in milliseconds, as [`Shard::next_due`] does.
+/// Gives a turn to the first observer that is due at a moment in milliseconds, as [`Shard::write_due`] does.
 #[derive(Drop)]
 pub struct NextDue {
     pub now: u64,
 }
 
 impl ShardCall for NextDue {
-    type Answer = Option<Job>;
+    type Answer = bool;
 
-    type Room = ();
+    type Room = Job;
 
-    ghost does = { λ call before answer room after. GivesTurnAt call.now before answer after };
+    ghost does = { λ call before answer room after. GivesTurnAt call.now before (written_if answer room) after };
 
-    fn call(self, shard: &mut Shard, _: &mut ()) -> Option<Job> {
-        shard.next_due(self.now)
+    fn call(self, shard: &mut Shard, room: &mut Job) -> bool {
+        shard.write_due(self.now, room)
     }
 }
 
-/// Notifies the observer of a turn, at a moment in milliseconds, as [`Shard::note`] does.
+/// Notifies the observer of a turn, at a moment in milliseconds, as [`Shard::write_note`] does.
 #[derive(Drop)]
 pub struct Note<'a> {
     pub turn: Turn,
@@ -277,16 +279,23 @@ pub struct Note<'a> {
 }
 
 impl<'a> ShardCall for Note<'a> {
-    type Answer = Noted;
+    type Answer = NoteOutcome;
 
-    type Room = ();
+    type Room = Emission;
 
     ghost may_ask = { λ call shard. IsOwned shard call.turn.slot };
 
-    ghost does = { λ call before answer room after. NotesAt call.turn call.id call.now call.random call.told.now before answer after };
+    ghost does = { λ call before answer room after. NotesAt call.turn call.id call.now call.random call.told.now before (noted_as answer room) after };
 
-    fn call(self, shard: &mut Shard, _: &mut ()) -> Noted {
-        shard.note(self.turn, self.id, self.now, self.random, self.told)
+    fn call(self, shard: &mut Shard, room: &mut Emission) -> NoteOutcome {
+        let Note {
+            turn,
+            id,
+            now,
+            random,
+            told,
+        } = self;
+        shard.write_note(turn, id, now, random, told, room)
     }
 }
 

@@ -155,14 +155,14 @@ impl<'a, B: Bench, G: Gate, W: Wire, M: Moments> Dispatcher<'a, B, G, W, M> {
         ensures handover { self.new.handover ≡ self.old.handover }
     {
         let log = &mut self.done.share.log;
-        match self.workshop.bench.next_due(rt, shard, now, log) {
-            Some(job) => {
-                self.job = job;
-                self.dispatch(rt);
-                true
-            }
-            None => false,
+        let given = self
+            .workshop
+            .bench
+            .next_due(rt, shard, now, &mut self.job, log);
+        if given {
+            self.dispatch(rt);
         }
+        given
     }
 
     // Sends its job to the workers, or works it off.

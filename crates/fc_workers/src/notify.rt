@@ -1,5 +1,8 @@
 //! Turns of observers worked off over a bench.
-ghost use Rattle.std.specs.Prelude.{◌≡◌, ◌+◌, ◌<◌};
+ghost use Rattle.std.specs.Prelude.{◌≡◌, ◌+◌, ◌<◌, None};
+ghost use Rattle.coap_msg.specs.declared.types.Emission.{Emission as Emitted};
+ghost use Rattle.fc_core.specs.Receiving.{emission_if};
+ghost use Rattle.fc_registry.specs.Notes.{noted_as, sent_of};
 ghost use Rattle.fc_workers.specs.Answers.{saturated};
 ghost use Rattle.fc_workers.specs.Called.{shop};
 ghost use Rattle.fc_workers.specs.Outgoing.{IsFoundTold, IsGivenUp, IsNoteSent};
@@ -11,12 +14,13 @@ use crate::workshop::{Gate, Moments, Wire, Workshop};
 use coap_msg::Emission;
 use fc_machine::{Frame, run};
 use fc_observe::Turn;
-use fc_registry::{Job, Noted, Notification, Taken, Ticket};
+use fc_registry::{Job, NoteOutcome, Notification, Taken, Ticket};
 use std::sync::Wait;
 
 impl<'a, B: Bench, G: Gate, W: Wire, M: Moments> Workshop<'a, B, G, W, M> {
-    /// Works a turn off: takes what its slot holds, draws a message id, runs the program and notifies the observer: what is to be sent,
-    /// if anything. Where memory is refused, or no message id is free, the turn is given up. No slot changes, and one job is ended.
+    /// Works a turn off: takes what its slot holds, draws a message id, runs the program and notifies the observer. What is to be sent is
+    /// written over another emission. Tells whether anything is. Where memory is refused, or no message id is free, the turn is given up. No
+    /// slot changes, and one job is ended.
     #[inline(never)]
     pub fn notify<R: Wait>(
         &self,
@@ -24,11 +28,12 @@ impl<'a, B: Bench, G: Gate, W: Wire, M: Moments> Workshop<'a, B, G, W, M> {
         frame: &mut Frame,
         job: &Job,
         turn: Turn,
+        reply: &mut Emission,
         share: &mut Share<B::Tallies>,
-    ) -> Option<Emission>
+    ) -> bool
         requires { turn.slot < 64 }
         ensures worked { IsTurnWorked (shop B.changes B.ended B.called B.logged M.is_moment M.is_random G.passed W.called)
-            job.now turn share.old share.new result }
+            job.now turn share.old share.new (emission_if result reply.new) }
         ensures ended { B.ended share.new.tallies ≡ saturated (B.ended share.old.tallies + 1) }
     {
         let readings = self.bench.readings(rt);
@@ -38,11 +43,14 @@ impl<'a, B: Bench, G: Gate, W: Wire, M: Moments> Workshop<'a, B, G, W, M> {
         match &took.taken {
             Taken::Given(program) => {
                 let ticket = Ticket::of(program, &took.found);
-                self.tell(rt, frame, turn, Some(ticket), share)
+                self.tell(rt, frame, turn, Some(ticket), reply, share)
             }
-            Taken::Missing => self.tell(rt, frame, turn, None, share),
-            Taken::Refused => self.give_up(rt, turn, share),
-            Taken::Stale => None,
+            Taken::Missing => self.tell(rt, frame, turn, None, reply, share),
+            Taken::Refused => {
+                self.give_up(rt, turn, share);
+                false
+            }
+            Taken::Stale => false,
         }
     }
 
@@ -53,17 +61,19 @@ impl<'a, B: Bench, G: Gate, W: Wire, M: Moments> Workshop<'a, B, G, W, M> {
         frame: &mut Frame,
         turn: Turn,
         found: Option<Ticket<'_>>,
+        reply: &mut Emission,
         share: &mut Share<B::Tallies>,
-    ) -> Option<Emission>
+    ) -> bool
         requires { turn.slot < 64 }
         ensures told { IsFoundTold (shop B.changes B.ended B.called B.logged M.is_moment M.is_random G.passed W.called)
-            turn found.entry result share.old.log share.new.log }
+            turn found.entry (emission_if result reply.new) share.old.log share.new.log }
         ensures kept { HasSameTallies (shop B.changes B.ended B.called B.logged M.is_moment M.is_random G.passed W.called) share.old share.new }
         ensures ended { B.ended share.new.tallies ≡ saturated (B.ended share.old.tallies + 1) }
     {
         let now = self.moments.now(rt);
         let Some(id) = self.bench.fresh_id(rt, now, &mut share.log) else {
-            return self.give_up(rt, turn, share);
+            self.give_up(rt, turn, share);
+            return false;
         };
         match &found {
             Some(ticket) => {
@@ -74,9 +84,10 @@ impl<'a, B: Bench, G: Gate, W: Wire, M: Moments> Workshop<'a, B, G, W, M> {
                     ticket.vars(),
                     ticket.readings(),
                 );
-                self.note(rt, turn, id, &Notification::Ran(&outcome, ticket), share)
+                let told = Notification::Ran(&outcome, ticket);
+                self.note(rt, turn, id, &told, reply, share)
             }
-            None => self.note(rt, turn, id, &Notification::Gone, share),
+            None => self.note(rt, turn, id, &Notification::Gone, reply, share),
         }
     }
 
@@ -87,42 +98,44 @@ impl<'a, B: Bench, G: Gate, W: Wire, M: Moments> Workshop<'a, B, G, W, M> {
         turn: Turn,
         id: u16,
         told: &Notification<'_>,
+        reply: &mut Emission,
         share: &mut Share<B::Tallies>,
-    ) -> Option<Emission>
+    ) -> bool
         requires { turn.slot < 64 }
         ensures noted { IsNoteSent (shop B.changes B.ended B.called B.logged M.is_moment M.is_random G.passed W.called)
-            told.now turn id result share.old.log share.new.log }
+            told.now turn id (emission_if result reply.new) share.old.log share.new.log }
         ensures kept { HasSameTallies (shop B.changes B.ended B.called B.logged M.is_moment M.is_random G.passed W.called) share.old share.new }
         ensures ended { B.ended share.new.tallies ≡ saturated (B.ended share.old.tallies + 1) }
     {
         let now = self.moments.now(rt);
         let random = self.moments.random(rt);
-        let log = &mut share.log;
-        match self
+        let Share { tallies, log, .. } = share;
+        let noted = self
             .bench
-            .note(rt, turn, id, now, random, told, &mut share.tallies, log)
-        {
-            Noted::Send(emission) => Some(emission),
-            Noted::Stale | Noted::Stranger => None,
-        }
+            .note(rt, turn, id, now, random, told, reply, tallies, log);
+        is_note_sent(noted)
     }
 
     // Gives up a turn, at the moment that it is: nothing is sent.
-    fn give_up<R: Wait>(
-        &self,
-        rt: &R,
-        turn: Turn,
-        share: &mut Share<B::Tallies>,
-    ) -> Option<Emission>
+    fn give_up<R: Wait>(&self, rt: &R, turn: Turn, share: &mut Share<B::Tallies>)
         requires { turn.slot < 64 }
         ensures given_up { IsGivenUp (shop B.changes B.ended B.called B.logged M.is_moment M.is_random G.passed W.called)
-            turn result share.old.log share.new.log }
+            turn None share.old.log share.new.log }
         ensures kept { HasSameTallies (shop B.changes B.ended B.called B.logged M.is_moment M.is_random G.passed W.called) share.old share.new }
         ensures ended { B.ended share.new.tallies ≡ saturated (B.ended share.old.tallies + 1) }
     {
         let log = &mut share.log;
         let now = self.moments.now(rt);
         self.bench.give_up(rt, turn, now, &mut share.tallies, log);
-        None
+    }
+}
+
+// Whether a notification is sent.
+fn is_note_sent(noted: NoteOutcome) -> bool
+    ensures { (reply : Emitted) → emission_if result reply ≡ sent_of (noted_as noted reply) }
+{
+    match noted {
+        NoteOutcome::Sent => true,
+        NoteOutcome::Stale | NoteOutcome::Stranger => false,
     }
 }

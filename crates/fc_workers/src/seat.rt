@@ -10,7 +10,6 @@ use crate::bench::Bench;
 use crate::share::Share;
 use crate::tools::Tools;
 use crate::workshop::{Gate, Moments, Wire, Workshop};
-use coap_msg::Emission;
 use fc_jobs::{Got, Jobs};
 use fc_machine::Frame;
 use fc_observe::Turn;
@@ -117,8 +116,9 @@ impl<'a, B: Bench, G: Gate, W: Wire, M: Moments> Workshop<'a, B, G, W, M> {
             None => self.answer(rt, tools, number, job, share),
             Some(number) => {
                 let slot = job.origin.slot.number();
-                let sent = self.notify(rt, &mut tools.frame, job, Turn { slot, number }, share);
-                write_if(&mut tools.reply, sent)
+                let turn = Turn { slot, number };
+                let Tools { frame, reply, .. } = tools;
+                self.notify(rt, frame, job, turn, reply, share)
             }
         }
     }
@@ -148,18 +148,5 @@ impl<'a, B: Bench, G: Gate, W: Wire, M: Moments> Workshop<'a, B, G, W, M> {
         let Share { tallies, log, .. } = share;
         self.bench
             .respond(rt, now, job, answer, &mut tools.reply, tallies, log)
-    }
-}
-
-// Writes what is sent over another emission. Tells whether anything is.
-fn write_if(reply: &mut Emission, sent: Option<Emission>) -> bool
-    ensures { emission_if result reply.new ≡ sent }
-{
-    match sent {
-        Some(emission) => {
-            *reply = emission;
-            true
-        }
-        None => false,
     }
 }

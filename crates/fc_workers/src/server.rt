@@ -16,8 +16,10 @@ ghost use Rattle.coap_msg.specs.declared.types.Emission.{Emission as Emitted};
 ghost use Rattle.fc_core.specs.Answering.{emission_of, responded};
 ghost use Rattle.fc_core.specs.Contents.{IsOf};
 ghost use Rattle.fc_core.specs.Receiving.{emission_if};
+ghost use Rattle.fc_registry.specs.Notes.{noted_as};
 ghost use Rattle.fc_registry.specs.Shards.{shard_at};
 ghost use Rattle.fc_registry.specs.Slots.{IsOwned, Shard as Seen, last_serial};
+ghost use Rattle.fc_registry.specs.Turns.{written_if};
 ghost use Rattle.fc_workers.specs.Asked.{IsAsked, IsLoggedCall, IsServerCall};
 ghost use Rattle.fc_workers.specs.Doings.{AdvancesTo};
 ghost use Rattle.fc_workers.specs.Naming.{AreNamed};
@@ -46,8 +48,8 @@ use fc_help::Readings;
 use fc_machine::Outcome;
 use fc_observe::{Ticked, Turn};
 use fc_registry::{
-    Committed, Job, Made, Noted, Notification, Receipt, Removal, SHARDS, Shard, SlotNumber, Ticket,
-    Took, make_shards,
+    Committed, Job, Made, NoteOutcome, Notification, Receipt, Removal, SHARDS, Shard, SlotNumber,
+    Ticket, Took, make_shards,
 };
 use fc_verify::Verified;
 use std::alloc::{AllocError, Global};
@@ -338,9 +340,16 @@ impl<'a, B: Books, D: Device> Bench for Locked<'a, B, D> {
         self.ask(rt, shard, AdvanceIfQuiet { now }, &mut ())
     }
 
-    fn next_due<R: Wait>(&self, rt: &R, shard: u8, now: u64, log: &mut CallLog) -> Option<Job> {
+    fn next_due<R: Wait>(
+        &self,
+        rt: &R,
+        shard: u8,
+        now: u64,
+        job: &mut Job,
+        log: &mut CallLog,
+    ) -> bool {
         let _ = log;
-        self.ask(rt, shard, NextDue { now }, &mut ())
+        self.ask(rt, shard, NextDue { now }, job)
     }
 
     fn note<R: Wait>(
@@ -351,9 +360,10 @@ impl<'a, B: Books, D: Device> Bench for Locked<'a, B, D> {
         now: u64,
         random: u16,
         told: &Notification<'_>,
+        emission: &mut Emission,
         tallies: &mut Tallies<B>,
         log: &mut CallLog,
-    ) -> Noted {
+    ) -> NoteOutcome {
         let _ = log;
         tallies.end_job();
         let note = Note {
@@ -363,7 +373,7 @@ impl<'a, B: Books, D: Device> Bench for Locked<'a, B, D> {
             random,
             told,
         };
-        self.ask(rt, turn.slot % SHARDS, note, &mut ())
+        self.ask(rt, turn.slot % SHARDS, note, emission)
     }
 
     fn give_up<R: Wait>(
