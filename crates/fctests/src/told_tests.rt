@@ -28,7 +28,7 @@ pub(crate) enum Told {
 }
 
 impl Told {
-    // Tells a new server: an error where it wasn't told.
+    // Tells a new server: an error where what it is told doesn't show.
     pub(crate) fn hold<B: Bench, R: Wait>(
         &self,
         rt: &R,
@@ -36,7 +36,7 @@ impl Told {
         bench: &B,
         mut tallies: Vec<B::Tallies>,
     ) -> anyhow::Result<Held<Seen, B::Tallies>> {
-        let Some(own) = tallies.pop() else {
+        let Some(mut own) = tallies.pop() else {
             return Err(anyhow::anyhow!("no tallies"));
         };
         let replies = Replies::new();
@@ -51,95 +51,95 @@ impl Told {
             wire: &replies,
             moments: &replies,
         };
-        let mut teller = Teller {
-            alloc,
-            bench,
-            dispatcher: Dispatcher::new(&workshop, &jobs, sent, seat, Handover::Never),
-            own,
-            log: CallLog::new(),
+        let mut dispatcher = Dispatcher::new(&workshop, &jobs, sent, seat, Handover::Never);
+        observe_counter(rt, alloc, &mut dispatcher)?;
+        let shows = match self {
+            Told::Moment => shows_moment(rt, alloc, &mut dispatcher)?,
+            Told::Signals => shows_signals(rt, alloc, bench, &mut dispatcher)?,
+            Told::Turn => shows_turn(rt, bench, &mut own),
         };
-        if !teller.tells(rt, *self)? {
+        if !shows {
             return Err(anyhow::anyhow!("the server wasn't told"));
         }
         let mut shares = Vec::new(alloc);
-        shares.push(teller.dispatcher.close())?;
+        shares.push(dispatcher.close())?;
         Ok(replies.seen(alloc, shares)?)
     }
 }
 
-// Who tells a server, through a dispatcher that works each job off itself, and with tallies and a log of its own.
-#[derive(Drop)]
-struct Teller<'a, B: Bench> {
+// Who has datagrams taken in, and works each job off itself.
+type Teller<'a, B> = Dispatcher<'a, B, Open, Replies, Replies>;
+
+// Has the counter installed in slot 0, an observer of it registered, and its state changed.
+fn observe_counter<B: Bench, R: Wait>(
+    rt: &R,
     alloc: Global,
-    bench: &'a B,
-    dispatcher: Dispatcher<'a, B, Open, Replies, Replies>,
-    own: B::Tallies,
-    log: CallLog,
+    teller: &mut Teller<'_, B>,
+) -> Result<(), AllocError> {
+    ask(rt, alloc, teller, 0, Request::Put(COUNTER), 0)?;
+    hear(rt, teller, 0, REGISTRATION);
+    ask(rt, alloc, teller, 0, Request::Post, 1)?;
+    Ok(())
 }
 
-impl<'a, B: Bench> Teller<'a, B> {
-    // Whether what is told shows.
-    fn tells<R: Wait>(&mut self, rt: &R, told: Told) -> Result<bool, AllocError> {
-        self.ask(rt, 0, Request::Put(COUNTER), 0)?;
-        self.hear(rt, 0, REGISTRATION);
-        self.ask(rt, 0, Request::Post, 1)?;
-        match told {
-            Told::Moment => self.tells_moment(rt),
-            Told::Signals => self.tells_signals(rt),
-            Told::Turn => Ok(self.tells_turn(rt)),
-        }
-    }
+// Whether the exchange of the PUT is over 300,000 ms later (RFC 7252, 4.8.2).
+fn shows_moment<B: Bench, R: Wait>(
+    rt: &R,
+    alloc: Global,
+    teller: &mut Teller<'_, B>,
+) -> Result<bool, AllocError> {
+    teller.tick(rt, 300_000);
+    let heard = ask(rt, alloc, teller, 0, Request::Put(COUNTER), 0)?;
+    Ok(heard == Heard::Job)
+}
 
-    // Whether the exchange of the PUT is over 300,000 ms later (RFC 7252, 4.8.2).
-    fn tells_moment<R: Wait>(&mut self, rt: &R) -> Result<bool, AllocError> {
-        self.dispatcher.tick(rt, 300_000);
-        let heard = self.ask(rt, 0, Request::Put(COUNTER), 0)?;
-        Ok(heard == Heard::Job)
-    }
+// Whether the observer is notified after the Acknowledgement of its first notification, and no more after the Reset of its second.
+fn shows_signals<B: Bench, R: Wait>(
+    rt: &R,
+    alloc: Global,
+    bench: &B,
+    teller: &mut Teller<'_, B>,
+) -> Result<bool, AllocError> {
+    let is_first = teller.notify(rt, 0, 10);
+    bench.signal(rt, 0, PEER, 0, false);
+    ask(rt, alloc, teller, 20, Request::Post, 2)?;
+    let is_second = teller.notify(rt, 0, 30);
+    bench.signal(rt, 0, PEER, 1, true);
+    ask(rt, alloc, teller, 40, Request::Post, 3)?;
+    Ok(is_first && is_second && !teller.notify(rt, 0, 50))
+}
 
-    // Whether the observer is notified after the Acknowledgement of its first notification, and no more after the Reset of its second.
-    fn tells_signals<R: Wait>(&mut self, rt: &R) -> Result<bool, AllocError> {
-        let is_first = self.dispatcher.notify(rt, 0, 10);
-        self.bench.signal(rt, 0, PEER, 0, false);
-        self.ask(rt, 20, Request::Post, 2)?;
-        let is_second = self.dispatcher.notify(rt, 0, 30);
-        self.bench.signal(rt, 0, PEER, 1, true);
-        self.ask(rt, 40, Request::Post, 3)?;
-        Ok(is_first && is_second && !self.dispatcher.notify(rt, 0, 50))
-    }
+// Whether the observer gets a turn once more after its first one was given up, and no sooner.
+fn shows_turn<B: Bench, R: Wait>(rt: &R, bench: &B, own: &mut B::Tallies) -> bool {
+    let mut log = CallLog::new();
+    let Some(job) = bench.next_due(rt, 0, 10, &mut log) else {
+        return false;
+    };
+    let Some(number) = job.turn else {
+        return false;
+    };
+    bench.give_up(rt, Turn { slot: 0, number }, 20, own, &mut log);
+    let is_early = bench.next_due(rt, 0, 20, &mut log).is_some();
+    !is_early && bench.next_due(rt, 0, 21, &mut log).is_some()
+}
 
-    // Whether the observer gets a turn once more after its first one was given up, and no sooner.
-    fn tells_turn<R: Wait>(&mut self, rt: &R) -> bool {
-        let Some(job) = self.bench.next_due(rt, 0, 10, &mut self.log) else {
-            return false;
-        };
-        let Some(number) = job.turn else {
-            return false;
-        };
-        let turn = Turn { slot: 0, number };
-        self.bench
-            .give_up(rt, turn, 20, &mut self.own, &mut self.log);
-        let is_early = self.bench.next_due(rt, 0, 20, &mut self.log).is_some();
-        !is_early && self.bench.next_due(rt, 0, 21, &mut self.log).is_some()
-    }
+// Has a request for slot 0 taken in, at a moment in milliseconds.
+fn ask<B: Bench, R: Wait>(
+    rt: &R,
+    alloc: Global,
+    teller: &mut Teller<'_, B>,
+    now: u64,
+    request: Request<'_>,
+    id: u16,
+) -> Result<Heard, AllocError> {
+    let bytes = datagram(alloc, request, id, SlotNumber::new(0))?;
+    Ok(hear(rt, teller, now, &bytes))
+}
 
-    // Has a request for slot 0 taken in, at a moment in milliseconds.
-    fn ask<R: Wait>(
-        &mut self,
-        rt: &R,
-        now: u64,
-        request: Request<'_>,
-        id: u16,
-    ) -> Result<Heard, AllocError> {
-        let bytes = datagram(self.alloc, request, id, SlotNumber::new(0))?;
-        Ok(self.hear(rt, now, &bytes))
-    }
-
-    // Has a datagram taken in, at a moment in milliseconds.
-    fn hear<R: Wait>(&mut self, rt: &R, now: u64, bytes: &[u8]) -> Heard {
-        let mut reply = blank_emission();
-        self.dispatcher.hear(rt, now, PEER, bytes, &mut reply)
-    }
+// Has a datagram taken in, at a moment in milliseconds.
+fn hear<B: Bench, R: Wait>(rt: &R, teller: &mut Teller<'_, B>, now: u64, bytes: &[u8]) -> Heard {
+    let mut reply = blank_emission();
+    teller.hear(rt, now, PEER, bytes, &mut reply)
 }
 
 fn is_told<R: Threads + Wait + Clock + Sync>(rt: &R, alloc: Global, told: Told) -> bool {
