@@ -5,7 +5,6 @@ use Rattle.fc_cli.specs.declared.status.Status.{Status}
 use Rattle.fc_cli.specs.declared.status.Status.TheVariants.{Done}
 use Rattle.fcvectors.specs.declared.line.Stream.{Stream}
 use Rattle.fcvectors.specs.declared.line.Stream.TheVariants.{Stdin, Stdout, Stderr}
-use Rattle.fcvectors.specs.declared.line.Copies.{Copies}
 use Rattle.fcvectors.specs.declared.line.CaseLine.{CaseLine}
 use Rattle.fcvectors.specs.declared.line.CaseLine.TheVariants.{Blank, Command, Piece, Ending}
 use Rattle.fcvectors.specs.declared.case.Output.{Output}

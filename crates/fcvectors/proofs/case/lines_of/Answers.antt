@@ -1,8 +1,8 @@
-use Rattle.std.proofs.Common.{rules, tests, ◌≡◌, ◌++◌, List, ℕ, Bor, [], ◌∷◌, map, sym, subst}
+use Rattle.std.proofs.Common.{rules, tests, ◌++◌, List, ℕ, Bor, [], ◌∷◌, map, sym, subst}
 use Rattle.std.proofs.lemmas.Iterator.Consumers.{YieldsList-at, YieldsList-end}
 use Rattle.std.proofs.lemmas.Iterator.Splits.{YieldsList-from_slice_split}
 use Rattle.fcvectors.specs.Lines.{IsCaseLine}
-use Rattle.fcvectors.specs.Cases.{AreLines, AreWritten}
+use Rattle.fcvectors.specs.Cases.{AreWritten}
 use Rattle.fcvectors.specs.declared.line.CaseLine.{CaseLine}
 use Rattle.fcvectors.proofs.case.lines_of.Goals as goal
 

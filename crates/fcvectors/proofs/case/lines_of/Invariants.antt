@@ -1,4 +1,4 @@
-use Rattle.std.proofs.Common.{◌≡◌, ℕ, Bor, List, map}
+use Rattle.std.proofs.Common.{ℕ, Bor, List, map}
 use Rattle.fcvectors.specs.Cases.{AreWritten}
 use Rattle.fcvectors.proofs.case.lines_of.Given as goal
 
