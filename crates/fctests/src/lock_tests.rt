@@ -2,12 +2,12 @@
 ghost use Rattle.std.specs.Prelude.{◌≡◌};
 
 use crate::feeder::{Feeder, Request, datagram};
-use crate::overtaking_tests::{COUNTER, CREATED, Held, Replies, Reply, Seen, Trial, hold};
+use crate::overtaking_tests::{
+    COUNTER, CREATED, Feed, Held, Replies, Reply, Trial, hold, work_fed,
+};
 use fc_jobs::Sent;
 use fc_registry::{Job, Shard, SlotNumber};
-use fc_workers::{
-    Bench, Books, CallLog, Device, Gate, Locked, ShardCall, Workshop, feed_workers, make_seats,
-};
+use fc_workers::{Bench, Books, CallLog, Device, Gate, Locked, ShardCall};
 use std::alloc::{AllocError, Global};
 use std::sync::Wait;
 use std::test::Fail;
@@ -80,47 +80,25 @@ impl ShardHeld {
         alloc: Global,
         bench: &B,
         tallies: Vec<B::Tallies>,
-    ) -> anyhow::Result<Held<Seen, B::Tallies>>
+    ) -> anyhow::Result<Held<B::Tallies>>
     where
         B::Tallies: Send,
     {
         let replies = Replies::new();
-        let (jobs, sent, seats) = make_seats(alloc, tallies)?;
-        let workshop = Workshop {
-            alloc,
-            bench,
-            gate: &Open,
-            wire: &replies,
-            moments: &replies,
-        };
-        let feeder = Feeder {
-            alloc,
-            bench,
-            jobs: &jobs,
-        };
-        let (fed, shares) = feed_workers(
-            rt,
-            &workshop,
-            &jobs,
-            seats,
-            |_has_workers| -> Result<(), AllocError>
-                requires { sent.channel ≡ feeder.jobs.now }
-            { self.feed(rt, &feeder, &replies, sent) },
-        );
-        fed?;
-        Ok(replies.seen(alloc, shares?)?)
+        let shares = work_fed(rt, alloc, bench, tallies, &Open, &replies, self)?;
+        replies.seen(alloc, shares)
     }
+}
 
+impl<B: Locks> Feed<B> for ShardHeld {
     // Has the counter installed, and sends a GET while it holds the lock, until that is answered or many turns have passed.
-    fn feed<B: Locks, R: Wait + Clock>(
+    fn feed<R: Wait + Clock>(
         &self,
         rt: &R,
         feeder: &Feeder<'_, B>,
         replies: &Replies,
         mut sent: Sent,
-    ) -> Result<(), AllocError>
-        requires { sent.channel ≡ feeder.now.jobs.now }
-    {
+    ) -> Result<(), AllocError> {
         let slot = SlotNumber::new(1);
         feeder.ask(rt, &mut sent, 0, Request::Put(COUNTER), 0, slot)?;
         replies.wait_for(rt, rt, 0);
@@ -155,15 +133,12 @@ fn is_answered<R: Threads + Wait + Clock + Sync>(
     code: u8,
 ) -> anyhow::Result<bool> {
     let trial = Trial::ShardHeld(held);
-    let Held { given, .. } = hold(rt, alloc, 1, &trial)?;
-    let Some(replies) = given.replies else {
-        return Ok(false);
-    };
+    let held = hold(rt, alloc, 1, &trial)?;
     let wanted = [(0, CREATED), (1, code)].map(|it| Reply {
         job: it.0,
         code: it.1,
     });
-    Ok(replies.as_slice() == wanted.as_slice())
+    Ok(held.replies.as_slice() == wanted.as_slice())
 }
 
 // While the lock of shard 0 is held, a worker answers a GET of slot 1, which is of shard 1.

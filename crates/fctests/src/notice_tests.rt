@@ -1,6 +1,6 @@
 // Observers of a server that follows a script (RFC 7641): the datagrams are worked out by hand.
 use crate::scripted::{Scripted, check_sent, comes, comes_at, follows};
-use crate::socket_tests::at_port;
+use crate::socket_tests::free_port;
 use coap_client::notice::{is_newer, notice_of};
 use coap_client::{Errand, FetchFault, Notice, Observer, Path, RequestTarget};
 use coap_msg::read;
@@ -9,7 +9,6 @@ use coap_opts::Method;
 use fc_cli::Status;
 use fc_fetch::observer::{NotesError, ObservationExtent, print_notes};
 use fc_fetch::{Observing, Shown, observe};
-use fc_service::socket::open;
 use std::alloc::{AllocError, Global};
 use std::test::Fail;
 
@@ -284,9 +283,7 @@ fn a_registration_is_rejected(rt: HostRuntime) -> Result<(), Fail> {
 #[test]
 fn an_observer_of_nobody_is_status_3(rt: HostRuntime) -> Result<(), Fail> {
     let alloc = rt.alloc();
-    let socket = open(&rt, at_port(0))?;
-    let port = socket.local_addr()?.port();
-    drop(socket);
+    let port = free_port(&rt)?;
     let mut out = Vec::new(alloc);
     let mut err = Vec::new(alloc);
     let observing = Observing {

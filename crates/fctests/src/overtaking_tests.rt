@@ -36,10 +36,13 @@ const CHANGED: u8 = 0x44;
 
 const UNAVAILABLE: u8 = 0xa3;
 
-// What was done with a server, and the tallies of its workers.
+// What was done with a server.
 #[derive(Drop)]
-pub(crate) struct Held<X: Drop, T: Drop> {
-    pub(crate) given: X,
+pub(crate) struct Held<T: Drop> {
+    // the replies, in the order in which they went out
+    pub(crate) replies: ArrayVec<Reply, 128>,
+    // how often a run was overtaken
+    pub(crate) overtakings: u64,
     pub(crate) tallies: Vec<T>,
     // how often the device was read
     pub(crate) readings: usize,
@@ -86,30 +89,24 @@ impl Replies {
         *self.missed.lock(rt) = true;
     }
 
-    // What the workers did, with the replies where all that were looked for came.
+    // What the workers did: an error where a reply that was looked for didn't come.
     pub(crate) fn seen<T: Drop>(
         self,
         alloc: Global,
         shares: Vec<Share<T>>,
-    ) -> Result<Held<Seen, T>, AllocError> {
+    ) -> anyhow::Result<Held<T>> {
+        if self.missed.into_inner() {
+            return Err(anyhow::anyhow!("a reply was missed"));
+        }
         let mut overtakings = 0u64;
         let mut tallies = Vec::new(alloc);
         for share in shares {
             overtakings = overtakings.saturating_add(share.overtakings);
             tallies.push(share.tallies)?;
         }
-        let missed = self.missed.into_inner();
-        let replies = if missed {
-            None
-        } else {
-            Some(self.all.into_inner())
-        };
-        let given = Seen {
-            replies,
-            overtakings,
-        };
         Ok(Held {
-            given,
+            replies: self.all.into_inner(),
+            overtakings,
             tallies,
             readings: 0,
         })
@@ -145,13 +142,6 @@ impl Moments for Replies {
     }
 }
 
-// What the workers' shares count.
-#[derive(Drop)]
-pub(crate) struct Seen {
-    pub(crate) replies: Option<ArrayVec<Reply, 128>>,
-    pub(crate) overtakings: u64,
-}
-
 // Holds job 1 until job 2's reply went out.
 #[derive(Drop)]
 struct Holding<'c, 'r, C: Clock> {
@@ -168,6 +158,62 @@ impl<'c, 'r, C: Clock> Gate for Holding<'c, 'r, C> {
     }
 }
 
+// What a server's workers are fed, by the end that sends.
+pub(crate) trait Feed<B: Bench> {
+    fn feed<R: Wait + Clock>(
+        &self,
+        rt: &R,
+        feeder: &Feeder<'_, B>,
+        replies: &Replies,
+        sent: Sent,
+    ) -> Result<(), AllocError>
+        requires { sent.channel ≡ feeder.now.jobs.now };
+}
+
+// Has workers work off what they are fed, through this gate: their shares.
+pub(crate) fn work_fed<
+    B: Bench + Sync,
+    G: Gate + Sync,
+    F: Feed<B>,
+    R: Threads + Wait + Clock + Sync,
+>(
+    rt: &R,
+    alloc: Global,
+    bench: &B,
+    tallies: Vec<B::Tallies>,
+    gate: &G,
+    replies: &Replies,
+    feed: &F,
+) -> anyhow::Result<Vec<Share<B::Tallies>>>
+where
+    B::Tallies: Send,
+{
+    let (jobs, sent, seats) = make_seats(alloc, tallies)?;
+    let workshop = Workshop {
+        alloc,
+        bench,
+        gate,
+        wire: replies,
+        moments: replies,
+    };
+    let feeder = Feeder {
+        alloc,
+        bench,
+        jobs: &jobs,
+    };
+    let (fed, shares) = feed_workers(
+        rt,
+        &workshop,
+        &jobs,
+        seats,
+        |_has_workers| -> Result<(), AllocError>
+            requires { sent.channel ≡ feeder.jobs.now }
+        { feed.feed(rt, &feeder, replies, sent) },
+    );
+    fed?;
+    Ok(shares?)
+}
+
 // An install, and then two POSTs for two workers. The first one is held.
 #[derive(Drop)]
 pub(crate) struct TwoAtOnce;
@@ -179,71 +225,35 @@ impl TwoAtOnce {
         alloc: Global,
         bench: &B,
         tallies: Vec<B::Tallies>,
-    ) -> anyhow::Result<Held<Seen, B::Tallies>>
+    ) -> anyhow::Result<Held<B::Tallies>>
     where
         B::Tallies: Send,
     {
         let replies = Replies::new();
-        let shares = self.hold_at(rt, alloc, bench, tallies, &replies)?;
-        Ok(replies.seen(alloc, shares)?)
-    }
-
-    // Works the jobs off, with the gate: the shares.
-
-    fn hold_at<B: Bench + Sync, R: Threads + Wait + Clock + Sync>(
-        &self,
-        rt: &R,
-        alloc: Global,
-        bench: &B,
-        tallies: Vec<B::Tallies>,
-        replies: &Replies,
-    ) -> anyhow::Result<Vec<Share<B::Tallies>>>
-    where
-        B::Tallies: Send,
-    {
-        let (jobs, sent, seats) = make_seats(alloc, tallies)?;
-        let gate = Holding { clock: rt, replies };
-        let workshop = Workshop {
-            alloc,
-            bench,
-            gate: &gate,
-            wire: replies,
-            moments: replies,
+        let gate = Holding {
+            clock: rt,
+            replies: &replies,
         };
-        let feeder = Feeder {
-            alloc,
-            bench,
-            jobs: &jobs,
-        };
-        let (fed, shares) = feed_workers(
-            rt,
-            &workshop,
-            &jobs,
-            seats,
-            |_has_workers| -> Result<(), AllocError>
-                requires { sent.channel ≡ feeder.jobs.now }
-            { feed_two(rt, &feeder, replies, sent) },
-        );
-        fed?;
-        Ok(shares?)
+        let shares = work_fed(rt, alloc, bench, tallies, &gate, &replies, self)?;
+        replies.seen(alloc, shares)
     }
 }
 
-// Has the counter installed, and sends two POSTs.
-fn feed_two<B: Bench, R: Wait + Clock>(
-    rt: &R,
-    feeder: &Feeder<'_, B>,
-    replies: &Replies,
-    mut sent: Sent,
-) -> Result<(), AllocError>
-    requires { sent.channel ≡ feeder.now.jobs.now }
-{
-    let slot = SlotNumber::new(0);
-    feeder.ask(rt, &mut sent, 0, Request::Put(COUNTER), 0, slot)?;
-    replies.wait_for(rt, rt, 0);
-    feeder.ask(rt, &mut sent, 0, Request::Post, 1, slot)?;
-    feeder.ask(rt, &mut sent, 0, Request::Post, 2, slot)?;
-    Ok(())
+impl<B: Bench> Feed<B> for TwoAtOnce {
+    fn feed<R: Wait + Clock>(
+        &self,
+        rt: &R,
+        feeder: &Feeder<'_, B>,
+        replies: &Replies,
+        mut sent: Sent,
+    ) -> Result<(), AllocError> {
+        let slot = SlotNumber::new(0);
+        feeder.ask(rt, &mut sent, 0, Request::Put(COUNTER), 0, slot)?;
+        replies.wait_for(rt, rt, 0);
+        feeder.ask(rt, &mut sent, 0, Request::Post, 1, slot)?;
+        feeder.ask(rt, &mut sent, 0, Request::Post, 2, slot)?;
+        Ok(())
+    }
 }
 
 // The job that the worker is at, and how often its run was asked about.
@@ -301,7 +311,7 @@ impl Overtaken {
         alloc: Global,
         bench: &B,
         mut tallies: Vec<B::Tallies>,
-    ) -> anyhow::Result<Held<Seen, B::Tallies>>
+    ) -> anyhow::Result<Held<B::Tallies>>
     where
         B::Tallies: Send,
     {
@@ -324,7 +334,7 @@ impl Overtaken {
             }),
         };
         let replies = Replies::new();
-        let shares = post_at(rt, alloc, bench, tallies, &gate, &replies, self.posts)?;
+        let shares = work_fed(rt, alloc, bench, tallies, &gate, &replies, self)?;
         let mut held = replies.seen(alloc, shares)?;
         let Changing { turn, .. } = gate;
         held.tallies.push(turn.into_inner().tallies)?;
@@ -332,58 +342,20 @@ impl Overtaken {
     }
 }
 
-// Has so many POSTs worked off through this gate: the shares.
-fn post_at<B: Bench + Sync, G: Gate + Sync, R: Threads + Wait + Clock + Sync>(
-    rt: &R,
-    alloc: Global,
-    bench: &B,
-    tallies: Vec<B::Tallies>,
-    gate: &G,
-    replies: &Replies,
-    posts: u16,
-) -> anyhow::Result<Vec<Share<B::Tallies>>>
-where
-    B::Tallies: Send,
-{
-    let (jobs, sent, seats) = make_seats(alloc, tallies)?;
-    let workshop = Workshop {
-        alloc,
-        bench,
-        gate,
-        wire: replies,
-        moments: replies,
-    };
-    let feeder = Feeder {
-        alloc,
-        bench,
-        jobs: &jobs,
-    };
-    let (fed, shares) = feed_workers(
-        rt,
-        &workshop,
-        &jobs,
-        seats,
-        |_has_workers| -> Result<(), AllocError>
-            requires { sent.channel ≡ feeder.jobs.now }
-        { feed_posts(rt, &feeder, sent, posts) },
-    );
-    fed?;
-    Ok(shares?)
-}
-
-// Sends so many POSTs to slot 0.
-fn feed_posts<B: Bench, R: Wait>(
-    rt: &R,
-    feeder: &Feeder<'_, B>,
-    mut sent: Sent,
-    posts: u16,
-) -> Result<(), AllocError>
-    requires { sent.channel ≡ feeder.now.jobs.now }
-{
-    for id in 0..posts {
-        feeder.ask(rt, &mut sent, 0, Request::Post, id, SlotNumber::new(0))?;
+impl<B: Bench> Feed<B> for Overtaken {
+    fn feed<R: Wait + Clock>(
+        &self,
+        rt: &R,
+        feeder: &Feeder<'_, B>,
+        replies: &Replies,
+        mut sent: Sent,
+    ) -> Result<(), AllocError> {
+        let _ = replies;
+        for id in 0..self.posts {
+            feeder.ask(rt, &mut sent, 0, Request::Post, id, SlotNumber::new(0))?;
+        }
+        Ok(())
     }
-    Ok(())
 }
 
 // What is tried with a new server.
@@ -402,7 +374,7 @@ impl Trial {
         alloc: Global,
         bench: &B,
         tallies: Vec<B::Tallies>,
-    ) -> anyhow::Result<Held<Seen, B::Tallies>>
+    ) -> anyhow::Result<Held<B::Tallies>>
     where
         B::Tallies: Send,
     {
@@ -443,7 +415,7 @@ pub(crate) fn hold<R: Threads + Wait + Clock + Sync>(
     alloc: Global,
     tallies: u8,
     trial: &Trial,
-) -> anyhow::Result<Held<Seen, u64>> {
+) -> anyhow::Result<Held<u64>> {
     let blanks = Blanks::new(u64::from(tallies) + 1);
     hold_named::<Brand, R>(rt, alloc, tallies, trial, blanks)
 }
@@ -455,7 +427,7 @@ fn hold_named<B: Books + Send + Sync, R: Threads + Wait + Clock + Sync>(
     tallies: u8,
     trial: &Trial,
     blanks: Blanks,
-) -> anyhow::Result<Held<Seen, u64>>
+) -> anyhow::Result<Held<u64>>
     requires parts { blanks.parts ≡ tallies + 1 }
     requires names { AreNamed blanks B.names }
     requires books { blanks.parts ≡ B.parts }
@@ -469,7 +441,8 @@ fn hold_named<B: Books + Send + Sync, R: Threads + Wait + Clock + Sync>(
         changes.push(tally.shown(0))?;
     }
     Ok(Held {
-        given: held.given,
+        replies: held.replies,
+        overtakings: held.overtakings,
         tallies: changes,
         readings: device.reads.load(Ordering::SeqCst),
     })
@@ -477,23 +450,16 @@ fn hold_named<B: Books + Send + Sync, R: Threads + Wait + Clock + Sync>(
 
 #[test]
 fn two_workers_run_at_once(rt: HostRuntime) -> Result<(), Fail> {
-    let Held { given, tallies, .. } = hold(&rt, rt.alloc(), 2, &Trial::TwoAtOnce(TwoAtOnce))?;
-    let Seen {
-        replies,
-        overtakings,
-    } = given;
-    let Some(replies) = replies else {
-        panic!(rt; "a reply was missed")
-    };
+    let held = hold(&rt, rt.alloc(), 2, &Trial::TwoAtOnce(TwoAtOnce))?;
     let order = [(0, CREATED), (2, CHANGED), (1, CHANGED)];
     let wanted = order.map(|it| Reply {
         job: it.0,
         code: it.1,
     });
-    assert!(rt; replies.as_slice() == wanted.as_slice());
-    assert_eq!(rt; overtakings, 1);
+    assert!(rt; held.replies.as_slice() == wanted.as_slice());
+    assert_eq!(rt; held.overtakings, 1);
     let mut changes = 0u64;
-    for tally in &tallies {
+    for tally in &held.tallies {
         changes = changes.saturating_add(*tally);
     }
     assert_eq!(rt; changes, 3);
@@ -507,24 +473,13 @@ fn overtaken_runs_are_run_again(rt: HostRuntime) -> Result<(), Fail> {
         every: 15,
         runs: 1,
     };
-    let Held {
-        given,
-        tallies,
-        readings,
-    } = hold(&rt, rt.alloc(), 2, &Trial::Overtaken(overtaken))?;
-    let Seen {
-        replies,
-        overtakings,
-    } = given;
-    let Some(replies) = replies else {
-        panic!(rt; "a reply was missed")
-    };
-    assert_eq!(rt; replies.len(), 100);
-    assert!(rt; replies.iter().all(|it| it.code == CHANGED));
-    assert_eq!(rt; overtakings, 7);
-    assert!(rt; tallies.as_slice() == [100, 8].as_slice());
+    let held = hold(&rt, rt.alloc(), 2, &Trial::Overtaken(overtaken))?;
+    assert_eq!(rt; held.replies.len(), 100);
+    assert!(rt; held.replies.iter().all(|it| it.code == CHANGED));
+    assert_eq!(rt; held.overtakings, 7);
+    assert!(rt; held.tallies.as_slice() == [100, 8].as_slice());
     // one reading of the device for each taking, of which seven were overtaken
-    assert_eq!(rt; readings, 107);
+    assert_eq!(rt; held.readings, 107);
     Ok(())
 }
 
@@ -535,25 +490,14 @@ fn eight_overtakings_end_a_job(rt: HostRuntime) -> Result<(), Fail> {
         every: 1,
         runs: 8,
     };
-    let Held {
-        given,
-        tallies,
-        readings,
-    } = hold(&rt, rt.alloc(), 2, &Trial::Overtaken(overtaken))?;
-    let Seen {
-        replies,
-        overtakings,
-    } = given;
-    let Some(replies) = replies else {
-        panic!(rt; "a reply was missed")
-    };
+    let held = hold(&rt, rt.alloc(), 2, &Trial::Overtaken(overtaken))?;
     let wanted = [Reply {
         job: 0,
         code: UNAVAILABLE,
     }];
-    assert!(rt; replies.as_slice() == wanted.as_slice());
-    assert_eq!(rt; overtakings, 8);
-    assert!(rt; tallies.as_slice() == [0, 9].as_slice());
-    assert_eq!(rt; readings, 8);
+    assert!(rt; held.replies.as_slice() == wanted.as_slice());
+    assert_eq!(rt; held.overtakings, 8);
+    assert!(rt; held.tallies.as_slice() == [0, 9].as_slice());
+    assert_eq!(rt; held.readings, 8);
     Ok(())
 }

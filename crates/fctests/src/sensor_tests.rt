@@ -1,13 +1,7 @@
 // A server whose programs read a file: over a socket, while the file changes.
-use crate::socket_tests::{READER, at_port, check_asked, readings_of};
-use coap_opts::Method;
-use fc_cli::Status;
+use crate::socket_tests::{at_port, client_of, install_reader, readings_of, serve_while};
 use fc_service::sensors::{FileSensors, Sensors};
-use fc_service::serve::{Extent, serve_at};
-use fc_service::socket::open;
-use log::sink::Memory;
-use log::{LevelFilter, Logged};
-use std::alloc::Global;
+use fc_service::serve::Extent;
 use std::net::{Net, SocketAddrV4, UdpSocket};
 use std::process::Abort;
 use std::random::RandomSource;
@@ -38,20 +32,9 @@ fn write_and_ask<R: Abort + AllocGlobal + Net + Clock + RandomSource + Files>(
     port: u16,
     path: &str,
 ) -> Result<(), Fail> {
-    // version=1 cost=5 budget=5 vars=0
-    let receipt = "2.01\n76657273696f6e3d3120636f73743d35206275646765743d3520766172733d30\n";
-    check_asked(
-        rt,
-        port,
-        Method::Put,
-        "/p/0",
-        &READER,
-        Status::Done,
-        receipt,
-    );
+    install_reader(rt, port);
     let server = at_port(port);
-    let client = open(rt, at_port(0))?;
-    client.set_read_timeout(Some(Duration::from_secs(5)))?;
+    let client = client_of(rt)?;
     assert!(rt; sensed(rt, &client, server, 1)? == [0; 56], "gone");
     fs::write(rt, path, [7u8; 60].as_slice())?;
     assert!(rt;
@@ -68,39 +51,17 @@ fn write_and_ask<R: Abort + AllocGlobal + Net + Clock + RandomSource + Files>(
     Ok(())
 }
 
-fn serve_sensing<R: Threads + Wait + Clock + Sync, Z: Sensors + Sync>(
-    rt: &R,
-    alloc: Global,
-    sensors: &Z,
-    socket: &UdpSocket,
-    extent: Extent,
-) -> bool {
-    let memory = Memory::new(alloc);
-    let log = Logged::new(rt, LevelFilter::Info, &memory);
-    let mut err = Vec::new(alloc);
-    serve_at(rt, alloc, &log, &mut err, sensors, socket, socket, extent).is_some()
-}
-
 // Serves a program that replies its readings, while the file changes.
 fn check_sensed<
     R: Abort + AllocGlobal + Threads + Wait + Clock + Net + RandomSource + Files + Sync,
     Z: Sensors + Sync,
 >(rt: &R, sensors: &Z, path: &str, workers: u8) -> Result<(), Fail> {
-    let alloc = rt.alloc();
-    let socket = open(rt, at_port(0))?;
-    let port = socket.local_addr()?.port();
     let extent = Extent {
         workers,
         limit: 6,
         first_id: 0,
     };
-    let (served, asked) = thread::join(
-        rt,
-        || serve_sensing(rt, alloc, sensors, &socket, extent),
-        || write_and_ask(rt, port, path),
-    );
-    asked?;
-    assert!(rt; served);
+    let _memory = serve_while(rt, sensors, extent, |port| write_and_ask(rt, port, path))?;
     Ok(())
 }
 

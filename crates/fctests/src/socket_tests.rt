@@ -6,7 +6,7 @@ use coap_msg::{Emission, Endpoint};
 use coap_opts::Method;
 use fc_cli::Status;
 use fc_fetch::{FetchOptions, Shown, fetch};
-use fc_service::sensors::NoSensors;
+use fc_service::sensors::{NoSensors, Sensors};
 use fc_service::serve::{Extent, Listening, serve, serve_at};
 use fc_service::socket::{Buffer, Sink, Source, open};
 use log::sink::Memory;
@@ -66,7 +66,10 @@ pub(crate) fn check_asked<R: Abort + Net + Clock + RandomSource + AllocGlobal>(
 }
 
 // A counter is installed, asked to count, and asked.
-fn ask_counter<R: Abort + Net + Clock + RandomSource + AllocGlobal>(rt: &R, port: u16) {
+fn ask_counter<R: Abort + Net + Clock + RandomSource + AllocGlobal>(
+    rt: &R,
+    port: u16,
+) -> Result<(), Fail> {
     // version=1 cost=9 budget=9 vars=8
     let installed = "2.01\n76657273696f6e3d3120636f73743d39206275646765743d3920766172733d38\n";
     check_asked(
@@ -89,43 +92,58 @@ fn ask_counter<R: Abort + Net + Clock + RandomSource + AllocGlobal>(rt: &R, port
         Status::Refused,
         "4.04\n",
     );
+    Ok(())
 }
 
-// Serves a socket, by so many workers and up to so many datagrams: whether it did, and what was logged.
-pub(crate) fn serve_logged<R: Threads + Wait + Clock + Sync>(
+// Serves a socket: whether it did, and what was logged.
+fn serve_logged<R: Threads + Wait + Clock + Sync, Z: Sensors + Sync>(
     rt: &R,
     alloc: Global,
+    sensors: &Z,
     socket: &UdpSocket,
     extent: Extent,
 ) -> (bool, Memory) {
     let memory = Memory::new(alloc);
     let log = Logged::new(rt, LevelFilter::Info, &memory);
     let mut err = Vec::new(alloc);
-    let served = serve_at(
-        rt, alloc, &log, &mut err, &NoSensors, socket, socket, extent,
-    );
+    let served = serve_at(rt, alloc, &log, &mut err, sensors, socket, socket, extent);
     (served.is_some(), memory)
 }
 
-// Serves a port that is free to a client in the same process: four datagrams, each answered.
+// Serves a port of this host that is free, while a client in the same process asks it: what was logged.
+pub(crate) fn serve_while<
+    R: Abort + AllocGlobal + Threads + Wait + Clock + Net + Sync,
+    Z: Sensors + Sync,
+    F: FnOnce(u16) -> Result<(), Fail>,
+>(rt: &R, sensors: &Z, extent: Extent, ask: F) -> Result<Memory, Fail>
+    requires { F.IsAlwaysCallable ask }
+{
+    let alloc = rt.alloc();
+    let socket = open(rt, at_port(0))?;
+    let port = socket.local_addr()?.port();
+    let ((served, memory), asked) = thread::join(
+        rt,
+        || serve_logged(rt, alloc, sensors, &socket, extent),
+        || -> Result<(), Fail>
+            requires { F.IsAlwaysCallable ask }
+        { ask(port) },
+    );
+    asked?;
+    assert!(rt; served);
+    Ok(memory)
+}
+
+// Serves by so many workers: four datagrams, each answered.
 fn serve_counter<R: Abort + AllocGlobal + Threads + Wait + Clock + Net + RandomSource + Sync>(
     rt: &R,
     workers: u8,
 ) -> Result<(), Fail> {
-    let alloc = rt.alloc();
-    let socket = open(rt, at_port(0))?;
-    let port = socket.local_addr()?.port();
     let extent = Extent {
         workers,
         limit: 4,
         first_id: 0,
     };
-    let ((served, memory), _) = thread::join(
-        rt,
-        || serve_logged(rt, alloc, &socket, extent),
-        || ask_counter(rt, port),
-    );
-    assert!(rt; served);
+    let memory = serve_while(rt, &NoSensors, extent, |port| ask_counter(rt, port))?;
     check_logged(rt, memory, "sent 4 failed 0");
     Ok(())
 }
@@ -169,13 +187,17 @@ fn a_taken_port_is_status_3(rt: HostRuntime) -> Result<(), Fail> {
     Ok(())
 }
 
+// A port of this host where nobody listens.
+pub(crate) fn free_port<R: Net>(rt: &R) -> io::Result<u16> {
+    let socket = open(rt, at_port(0))?;
+    Ok(socket.local_addr()?.port())
+}
+
 // A port where nobody listens is told at once.
 #[test]
 fn a_refused_port_is_status_3(rt: HostRuntime) -> Result<(), Fail> {
     let alloc = rt.alloc();
-    let socket = open(&rt, at_port(0))?;
-    let port = socket.local_addr()?.port();
-    drop(socket);
+    let port = free_port(&rt)?;
     let mut out = Vec::new(alloc);
     let mut err = Vec::new(alloc);
     let asking = FetchOptions {
@@ -222,7 +244,7 @@ fn long_answer(alloc: Global) -> Result<String, AllocError> {
 fn ask_by_blocks<R: Abort + Net + Clock + RandomSource + AllocGlobal>(
     rt: &R,
     port: u16,
-) -> Result<(), AllocError> {
+) -> Result<(), Fail> {
     let image = largest_image(rt.alloc())?;
     let answer = long_answer(rt.alloc())?;
     // version=1 cost=512 budget=512 vars=0
@@ -238,21 +260,12 @@ fn ask_by_blocks<R: Abort + Net + Clock + RandomSource + AllocGlobal>(
 
 #[test]
 fn bodies_go_and_come_by_blocks(rt: HostRuntime) -> Result<(), Fail> {
-    let alloc = rt.alloc();
-    let socket = open(&rt, at_port(0))?;
-    let port = socket.local_addr()?.port();
     let extent = Extent {
         workers: 2,
         limit: 8,
         first_id: 0,
     };
-    let ((served, memory), asked) = thread::join(
-        &rt,
-        || serve_logged(&rt, alloc, &socket, extent),
-        || ask_by_blocks(&rt, port),
-    );
-    asked?;
-    assert!(rt; served);
+    let memory = serve_while(&rt, &NoSensors, extent, |port| ask_by_blocks(&rt, port))?;
     check_logged(&rt, memory, "sent 8 failed 0");
     Ok(())
 }
@@ -419,12 +432,10 @@ fn post_at_once<R: Abort>(
 
 // Eight clients post 120 times each, to counters of their own and to the common one in turn.
 fn post_by_eight<R: Abort + AllocGlobal + Net>(rt: &R, port: u16) -> Result<(), Fail> {
-    let server = SocketAddrV4::new(Ipv4Addr::LOCALHOST, port);
+    let server = at_port(port);
     let mut clients = Vec::new(rt.alloc());
     for _client in 0..8u8 {
-        let client = open(rt, at_port(0))?;
-        client.set_read_timeout(Some(Duration::from_secs(5)))?;
-        clients.push(client)?;
+        clients.push(client_of(rt)?)?;
     }
     for round in 0..60u16 {
         post_at_once(rt, &clients, server, 2 * round, false)?;
@@ -474,28 +485,19 @@ fn ask_by_eight<R: Abort + AllocGlobal + Net + Clock + RandomSource>(
 
 #[test]
 fn eight_clients_count_right(rt: HostRuntime) -> Result<(), Fail> {
-    let alloc = rt.alloc();
-    let socket = open(&rt, at_port(0))?;
-    let port = socket.local_addr()?.port();
     // nine PUTs, eight times 120 POSTs, nine GETs
     let extent = Extent {
         workers: 2,
         limit: 978,
         first_id: 0,
     };
-    let ((served, memory), asked) = thread::join(
-        &rt,
-        || serve_logged(&rt, alloc, &socket, extent),
-        || ask_by_eight(&rt, port),
-    );
-    asked?;
-    assert!(rt; served);
+    let memory = serve_while(&rt, &NoSensors, extent, |port| ask_by_eight(&rt, port))?;
     check_logged(&rt, memory, "sent 978 failed 0");
     Ok(())
 }
 
 // An image of the second version that replies all of its readings: `mov64 r1, r4`, `mov64 r2, 64`, `call 5`, `mov64 r0, 0`, `exit`.
-pub(crate) static READER: [u8; 56] = [
+static READER: [u8; 56] = [
     0x46, 0x43, 0x42, 0x32, 0x00, 0x00, 0x05, 0x00, 0x05, 0x00, 0x00, 0x00, 0x00, 0x00, 0x00, 0x00,
     0xbf, 0x41, 0x00, 0x00, 0x00, 0x00, 0x00, 0x00, 0xb7, 0x02, 0x00, 0x00, 0x40, 0x00, 0x00, 0x00,
     0x85, 0x00, 0x00, 0x00, 0x05, 0x00, 0x00, 0x00, 0xb7, 0x00, 0x00, 0x00, 0x00, 0x00, 0x00, 0x00,
@@ -520,12 +522,11 @@ pub(crate) fn readings_of(
     Ok(readings)
 }
 
-// Has the program installed, and asks it after 300 ms.
-fn ask_for_readings<R: Abort + Net + Clock + RandomSource + AllocGlobal>(
+// Has the program that replies its readings installed in slot 0.
+pub(crate) fn install_reader<R: Abort + Net + Clock + RandomSource + AllocGlobal>(
     rt: &R,
     port: u16,
-) -> Result<(), Fail> {
-    let server = SocketAddrV4::new(Ipv4Addr::LOCALHOST, port);
+) {
     // version=1 cost=5 budget=5 vars=0
     let receipt = "2.01\n76657273696f6e3d3120636f73743d35206275646765743d3520766172733d30\n";
     check_asked(
@@ -537,10 +538,24 @@ fn ask_for_readings<R: Abort + Net + Clock + RandomSource + AllocGlobal>(
         Status::Done,
         receipt,
     );
+}
+
+// A client of a server at this host, which waits for five seconds.
+pub(crate) fn client_of<R: Net>(rt: &R) -> io::Result<UdpSocket> {
     let client = open(rt, at_port(0))?;
     client.set_read_timeout(Some(Duration::from_secs(5)))?;
+    Ok(client)
+}
+
+// Has the program installed, and asks it after 300 ms.
+fn ask_for_readings<R: Abort + Net + Clock + RandomSource + AllocGlobal>(
+    rt: &R,
+    port: u16,
+) -> Result<(), Fail> {
+    install_reader(rt, port);
+    let client = client_of(rt)?;
     thread::sleep(rt, Duration::from_millis(300));
-    let readings = readings_of(&client, server, 9)?;
+    let readings = readings_of(&client, at_port(port), 9)?;
     let moment = u16::from_le_bytes([readings[0], readings[1]]);
     assert!(rt; moment >= 300, "{moment}");
     assert!(rt; readings[2..].iter().all(|byte| *byte == 0));
@@ -552,21 +567,12 @@ fn check_clock<R: Abort + AllocGlobal + Threads + Wait + Clock + Net + RandomSou
     rt: &R,
     workers: u8,
 ) -> Result<(), Fail> {
-    let alloc = rt.alloc();
-    let socket = open(rt, at_port(0))?;
-    let port = socket.local_addr()?.port();
     let extent = Extent {
         workers,
         limit: 2,
         first_id: 0,
     };
-    let ((served, _memory), asked) = thread::join(
-        rt,
-        || serve_logged(rt, alloc, &socket, extent),
-        || ask_for_readings(rt, port),
-    );
-    asked?;
-    assert!(rt; served);
+    let _memory = serve_while(rt, &NoSensors, extent, |port| ask_for_readings(rt, port))?;
     Ok(())
 }
 

@@ -1,7 +1,7 @@
 //! What a server behind locks is told: a moment, a signal, a turn that is given up. No clause says which state of its front or of a shard such a call met.
 use crate::feeder::{PEER, Request, datagram};
 use crate::lock_tests::Open;
-use crate::overtaking_tests::{COUNTER, Held, Replies, Seen, Trial, hold};
+use crate::overtaking_tests::{COUNTER, Held, Replies, Trial, hold};
 use fc_core::Heard;
 use fc_core::front::blank_emission;
 use fc_observe::Turn;
@@ -35,7 +35,7 @@ impl Told {
         alloc: Global,
         bench: &B,
         mut tallies: Vec<B::Tallies>,
-    ) -> anyhow::Result<Held<Seen, B::Tallies>> {
+    ) -> anyhow::Result<Held<B::Tallies>> {
         let Some(mut own) = tallies.pop() else {
             return Err(anyhow::anyhow!("no tallies"));
         };
@@ -63,7 +63,7 @@ impl Told {
         }
         let mut shares = Vec::new(alloc);
         shares.push(dispatcher.close())?;
-        Ok(replies.seen(alloc, shares)?)
+        replies.seen(alloc, shares)
     }
 }
 

@@ -7,13 +7,32 @@ use fc_isa::ImageVersion;
 use fc_tools::budget::Budget;
 use fc_tools::tools::{check, image, list};
 use fc_tools::version::version_named;
+use std::alloc::Global;
 use std::io;
-use std::io::{ErrorKind, Read};
+use std::io::{ErrorKind, Read, Write};
 use std::test::Fail;
 
 // `mov64 r0, 69` and `exit`, with no variables and budget 2.
 const IMAGE: &[u8] =
     b"FCB1\x00\x00\x02\x00\x02\x00\x00\x00\x00\x00\x00\x00\xb7\x00\x00\x00\x45\x00\x00\x00\x95\x00\x00\x00\x00\x00\x00\x00";
+
+// Makes an image without variables, whose budget is one step.
+fn smallest_image<R: Read, W: Write, E: Write>(
+    alloc: Global,
+    input: &mut R,
+    out: &mut W,
+    err: &mut E,
+) -> Status {
+    image(
+        alloc,
+        input,
+        out,
+        err,
+        0,
+        Budget::Steps(1),
+        ImageVersion::One,
+    )
+}
 
 // Words that are budgets, and words that aren't.
 #[test]
@@ -44,15 +63,7 @@ fn a_text_without_end_is_refused(rt: HostRuntime) -> Result<(), Fail> {
     let alloc = rt.alloc();
     let mut out = Vec::new(alloc);
     let mut err = Vec::new(alloc);
-    let status = image(
-        alloc,
-        &mut io::repeat(b'\n'),
-        &mut out,
-        &mut err,
-        0,
-        Budget::Steps(1),
-        ImageVersion::One,
-    );
+    let status = smallest_image(alloc, &mut io::repeat(b'\n'), &mut out, &mut err);
     let done = with_memory(Done { status, out, err })?;
     assert!(rt; done.status == Status::Refused && done.out.is_empty());
     assert!(rt; done.err.as_slice() == b"the text has more than 1048576 bytes\n".as_slice());
@@ -74,17 +85,7 @@ fn a_failed_reader_is_status_3(rt: HostRuntime) -> Result<(), Fail> {
     let alloc = rt.alloc();
     let mut out = Vec::new(alloc);
     let mut err = Vec::new(alloc);
-    assert!(rt;
-        image(
-            alloc,
-            &mut Torn,
-            &mut out,
-            &mut err,
-            0,
-            Budget::Steps(1),
-            ImageVersion::One
-        ) == Status::Failed
-    );
+    assert!(rt; smallest_image(alloc, &mut Torn, &mut out, &mut err) == Status::Failed);
     assert!(rt; list(alloc, &mut Torn, &mut out, &mut err, false) == Status::Failed);
     assert!(rt; check(alloc, &mut Torn, &mut out, &mut err) == Status::Failed);
     assert!(rt;
@@ -100,17 +101,7 @@ fn a_failed_writer_is_status_3(rt: HostRuntime) -> Result<(), Fail> {
     let alloc = rt.alloc();
     let mut err = Vec::new(alloc);
     let mut text: &[u8] = b"exit";
-    assert!(rt;
-        image(
-            alloc,
-            &mut text,
-            &mut Full(23),
-            &mut err,
-            0,
-            Budget::Steps(1),
-            ImageVersion::One
-        ) == Status::Failed
-    );
+    assert!(rt; smallest_image(alloc, &mut text, &mut Full(23), &mut err) == Status::Failed);
     let mut input = IMAGE;
     assert!(rt; list(alloc, &mut input, &mut Full(17), &mut err, false) == Status::Failed);
     let mut input = IMAGE;
@@ -127,17 +118,7 @@ fn a_failed_flush_is_status_3(rt: HostRuntime) -> Result<(), Fail> {
     let alloc = rt.alloc();
     let mut err = Vec::new(alloc);
     let mut text: &[u8] = b"exit";
-    assert!(rt;
-        image(
-            alloc,
-            &mut text,
-            &mut Unflushed,
-            &mut err,
-            0,
-            Budget::Steps(1),
-            ImageVersion::One
-        ) == Status::Failed
-    );
+    assert!(rt; smallest_image(alloc, &mut text, &mut Unflushed, &mut err) == Status::Failed);
     let mut input = IMAGE;
     assert!(rt; list(alloc, &mut input, &mut Unflushed, &mut err, false) == Status::Failed);
     let mut input = IMAGE;
@@ -150,17 +131,7 @@ fn a_mistake_that_is_not_told_is_status_3(rt: HostRuntime) -> Result<(), Fail> {
     let alloc = rt.alloc();
     let mut out = Vec::new(alloc);
     let mut text: &[u8] = b"movq";
-    assert!(rt;
-        image(
-            alloc,
-            &mut text,
-            &mut out,
-            &mut Full(3),
-            0,
-            Budget::Steps(1),
-            ImageVersion::One
-        ) == Status::Failed
-    );
+    assert!(rt; smallest_image(alloc, &mut text, &mut out, &mut Full(3)) == Status::Failed);
     assert!(rt; out.is_empty());
     Ok(())
 }
