@@ -3,13 +3,9 @@ ghost use Rattle.std.specs.Prelude.{IfErr, IfOk, Some, None, length, true, â—Œâ‰
 ghost use Rattle.fc_image.specs.Judged.{IsCostOf};
 ghost use Rattle.fc_image.specs.Paths.{longest};
 ghost use Rattle.fc_image.specs.ShapeRules.{shape_fault};
-ghost use Rattle.fc_isa.specs.declared.insn.Insn.{Insn as Instruction};
 ghost use Rattle.fc_isa.specs.declared.rule.Rule.TheVariants.{BackwardJump};
-ghost use Rattle.fc_isa.specs.Encoding.{IsFirstFault};
 ghost use Rattle.fc_isa.specs.Program.{is_program};
 ghost use Rattle.fc_isa.specs.Rules.{number_of};
-ghost use Rattle.fc_verify.specs.Accepted.{slots_of};
-ghost use Rattle.fc_verify.specs.Runs.{IsUntypedProgram};
 ghost use Rattle.fc_verify.specs.Stages.{IsCodeOf, IsHeadOf};
 ghost use Rattle.fc_tools.specs.Diagnosed.{BreaksFlow, IsAcceptable, IsCost, IsRejection, IsShapeCause};
 

@@ -1,7 +1,6 @@
 //! Listings with the slots' numbers.
-ghost use Rattle.std.specs.Prelude.{IfOk, IsTrue, OnOk, string_bytes, ◌++◌, ◌≡◌};
+ghost use Rattle.std.specs.Prelude.{IfOk, OnOk, string_bytes, ◌++◌, ◌≡◌};
 ghost use Rattle.fc_asm.specs.Listing.{line_of};
-ghost use Rattle.fc_isa.specs.Program.{is_program};
 ghost use Rattle.fc_tools.specs.Numbered.{numbered_from, numbered_line};
 
 use fc_asm::disassemble;

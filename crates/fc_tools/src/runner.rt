@@ -1,6 +1,6 @@
 //! Running a program once, as the server does.
 ghost use Rattle.std.specs.Prelude.{IfOk, length, string_bytes, ◌≡◌};
-ghost use Rattle.fc_machine.specs.Ran.{meaning_of, ran};
+ghost use Rattle.fc_machine.specs.Ran.{meaning_of};
 ghost use Rattle.fc_tools.specs.Runs.{found_by, hex_or_dash, report_of, report_text};
 
 use crate::run_options::Asked;

@@ -1,5 +1,5 @@
 //! The version of an image, as it is asked for.
-ghost use Rattle.std.specs.Prelude.{◌≡◌, IfSome, option_copied};
+ghost use Rattle.std.specs.Prelude.{IfSome, option_copied};
 ghost use Rattle.fc_tools.specs.Tools.{NamesVersion};
 
 use fc_isa::ImageVersion;
