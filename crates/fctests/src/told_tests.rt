@@ -1,14 +1,16 @@
-//! What a server behind locks is told: a moment, a signal, a turn that is given up. No clause says which state of its front or of a shard such a call met.
+//! What a server behind locks is told: a moment, a signal, a turn that is given up, a random word. No clause says which state of its front or of a shard such a call met,
+//! nor what the word came to.
 use crate::feeder::{PEER, Request, datagram};
 use crate::lock_tests::Open;
 use crate::overtaking_tests::{COUNTER, Held, Replies, Trial, hold};
 use fc_core::Heard;
 use fc_core::front::blank_emission;
-use fc_observe::Turn;
+use fc_observe::{Ticked, Turn};
 use fc_registry::SlotNumber;
-use fc_workers::{Bench, CallLog, Dispatcher, Handover, Workshop, make_seats};
+use fc_workers::{Bench, CallLog, Dispatcher, Handover, Moments, Workshop, make_seats};
 use std::alloc::{AllocError, Global};
 use std::sync::Wait;
+use std::sync::atomic::{AtomicU64, Ordering};
 use std::test::Fail;
 use std::thread::Threads;
 use std::time::Clock;
@@ -25,6 +27,40 @@ pub(crate) enum Told {
     Signals,
     // that a turn is given up: the observer gets the next one, at a later moment
     Turn,
+    // a random word, by which a confirmable notification is waited for (RFC 7252, 4.2)
+    Word,
+}
+
+// 24 hours, after which a notification is confirmable (RFC 7641, 4.5).
+const DAY: u64 = 86_400_000;
+
+// A random word that adds 500 ms to the 2,000 that a transmission is waited for.
+const WORD: u16 = 500;
+
+// The moment that is told, with this word.
+#[derive(Drop)]
+struct Watch {
+    now: AtomicU64,
+}
+
+impl Watch {
+    fn new() -> Watch {
+        Watch {
+            now: AtomicU64::new(0),
+        }
+    }
+}
+
+impl Moments for Watch {
+    fn now<R: Wait>(&self, rt: &R) -> u64 {
+        let _ = rt;
+        self.now.load(Ordering::SeqCst)
+    }
+
+    fn random<R: Wait>(&self, rt: &R) -> u16 {
+        let _ = rt;
+        WORD
+    }
 }
 
 impl Told {
@@ -40,6 +76,7 @@ impl Told {
             return Err(anyhow::anyhow!("no tallies"));
         };
         let replies = Replies::new();
+        let watch = Watch::new();
         let (jobs, sent, mut seats) = make_seats(alloc, tallies)?;
         let Some(seat) = seats.pop() else {
             return Err(anyhow::anyhow!("no seat"));
@@ -49,7 +86,7 @@ impl Told {
             bench,
             gate: &Open,
             wire: &replies,
-            moments: &replies,
+            moments: &watch,
         };
         let mut dispatcher = Dispatcher::new(&workshop, &jobs, sent, seat, Handover::Never);
         observe_counter(rt, alloc, &mut dispatcher)?;
@@ -57,6 +94,7 @@ impl Told {
             Told::Moment => shows_moment(rt, alloc, &mut dispatcher)?,
             Told::Signals => shows_signals(rt, alloc, bench, &mut dispatcher)?,
             Told::Turn => shows_turn(rt, bench, &mut own),
+            Told::Word => shows_word(rt, &watch, &mut dispatcher),
         };
         if !shows {
             return Err(anyhow::anyhow!("the server wasn't told"));
@@ -68,7 +106,7 @@ impl Told {
 }
 
 // Who has datagrams taken in, and works each job off itself.
-type Teller<'a, B> = Dispatcher<'a, B, Open, Replies, Replies>;
+type Teller<'a, B> = Dispatcher<'a, B, Open, Replies, Watch>;
 
 // Has the counter installed in slot 0, an observer of it registered, and its state changed.
 fn observe_counter<B: Bench, R: Wait>(
@@ -123,6 +161,15 @@ fn shows_turn<B: Bench, R: Wait>(rt: &R, bench: &B, own: &mut B::Tallies) -> boo
     !is_early && bench.next_due(rt, 0, 21, &mut log).is_some()
 }
 
+// Whether a confirmable notification is late 2,500 ms after it was sent, and no sooner.
+fn shows_word<B: Bench, R: Wait>(rt: &R, watch: &Watch, teller: &mut Teller<'_, B>) -> bool {
+    watch.now.store(DAY, Ordering::SeqCst);
+    let is_notified = teller.notify(rt, 0, DAY);
+    let is_early = !matches!(teller.resend(rt, 0, DAY + 2_499), Ticked::Quiet);
+    let is_late = matches!(teller.resend(rt, 0, DAY + 2_500), Ticked::Resend(_));
+    is_notified && !is_early && is_late
+}
+
 // Has a request for slot 0 taken in, at a moment in milliseconds.
 fn ask<B: Bench, R: Wait>(
     rt: &R,
@@ -155,6 +202,12 @@ fn a_locked_front_is_told_the_moment(rt: HostRuntime) -> Result<(), Fail> {
 #[test]
 fn a_locked_shard_is_told_which_signal_came(rt: HostRuntime) -> Result<(), Fail> {
     assert!(rt; is_told(&rt, rt.alloc(), Told::Signals));
+    Ok(())
+}
+
+#[test]
+fn a_locked_shard_is_told_the_random_word(rt: HostRuntime) -> Result<(), Fail> {
+    assert!(rt; is_told(&rt, rt.alloc(), Told::Word));
     Ok(())
 }
 
