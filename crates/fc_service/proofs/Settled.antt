@@ -42,10 +42,10 @@ module _ {S : Type 0} (Resends : ℕ → ℕ → S → S → Ticked → Type 0) 
   )
 
   pub done_at_end : (P : List Emission → Type 0) (taken now : ℕ) (old new : S) (place : Settling) → Steps P taken now old new place → 8 ≤ place.shard → Done P now old new
-  done_at_end P taken now old new place w end = (w.0, w.1.0, settled_at_end place w.0 w.1.1 w.1.2 end, w.3)
+  done_at_end P taken now old new place w end = (w.0, w.1.taken, settled_at_end Resends PassesOver Notifies now old new place w.0 w.1 end, w.3)
 
   pub done_at_bound : (P : List Emission → Type 0) (taken now : ℕ) (old new : S) (place : Settling) → Steps P taken now old new place → 8192 ≤ taken → Done P now old new
-  done_at_bound P taken now old new place w many = (w.0, w.1.0, settled_at_bound w.0 (omega (arith, w.2, many)), w.3)
+  done_at_bound P taken now old new place w many = (w.0, w.1.taken, settled_at_bound Resends PassesOver Notifies now old new place w.0 w.1 (omega (arith, w.2, many)), w.3)
 
   -- what they sent was handed to a sink
   pub none_settled : (Went : Emission → Bool → Type 0) (now : ℕ) (old new : S) (place : Settling) (r : Replies)

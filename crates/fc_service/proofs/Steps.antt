@@ -1,12 +1,11 @@
 -- Steps that lead from one place to the next, until all is settled.
-use Rattle.std.proofs.Common.{◌≡◌, ℕ, suc, add-one, ◌+◌, ◌<◌, ◌≤◌, Bool, true, false, List, [], ◌∷◌, ◌++◌, length, append-nil, append_assoc, arith, ap, sym, refl, ◌∙◌, inl, inr}
+use Rattle.std.proofs.Common.{◌≡◌, ℕ, zero, suc, add-one, ◌+◌, ◌-◌, ◌<◌, ◌≤◌, Bool, true, false, List, [], ◌∷◌, ◌++◌, length, append-nil, append_assoc, arith, ap, sym, refl, ◌∙◌, inl, inr}
 use Rattle.std.specs.Prelude.{◌||◌, ◌⊎◌, if◌then◌else◌}
 use Rattle.std.specs.List.{list_any}
-use Rattle.std.proofs.Math.Bool.{or-true}
 use Rattle.fc_observe.specs.declared.observers.Ticked.{Ticked}
 use Rattle.fc_observe.specs.declared.observers.Ticked.TheVariants.{Quiet}
 use Rattle.fc_server.specs.Notified.{Notified, Nobody, Starved}
-use Rattle.fc_service.specs.Settling.{AreSettled, AreStepsTo, Asked, Finding, IsPlace, IsStepBy, Moves, NobodyDue, NothingLate, Passed, Resent, SettlingStep, found_at, found_below, found_in_step, found_in_steps, is_starved}
+use Rattle.fc_service.specs.Settling.{AreInOrder, AreSettled, AreStepsTo, Asked, Finding, HasReached, IsPlace, IsStepBy, Moves, NobodyDue, NothingLate, Passed, Resent, SettlingStep, found_at, found_below, found_in_step, found_in_steps, is_starved, sought_at, sought_in_step}
 use Rattle.fc_service.specs.declared.settle.Settling.{Settling}
 
 -- ---- one step
@@ -23,67 +22,147 @@ is_place s is = (omega (arith, is), λ end. absurd (omega (arith, is, end)))
 is_next_place : (from to : Settling) → from.shard < 8 → to.shard ≡ from.shard + 1 → to.notifies ≡ false → IsPlace to
 is_next_place from to is next late = (omega (arith, is, next), λ end. late)
 
+seeks_at : (s : Settling) (k : ℕ) (b : Bool) → s.shard ≡ k → s.notifies ≡ b → sought_at s ≡ (if b then NobodyDue k else NothingLate k)
+seeks_at s k b shard notifies = λ i. if notifies i then NobodyDue (shard i) else NothingLate (shard i)
+
 -- nothing was found, and it stays
-pub stays : (s : Settling) (step : SettlingStep) → s.shard < 8 → found_in_step step ≡ [] → Moves s step s
-stays s step is none = (is_place s is, inl (ap (λ (l : List Finding). found_at s ++ l) none ∙ append-nil (found_at s)))
+pub stays : (s : Settling) (step : SettlingStep) → s.shard < 8 → sought_in_step step ≡ sought_at s → is_starved step ≡ false → found_in_step step ≡ [] → Moves s step s
+stays s step is seeks fed none = record {
+  within = is;
+  seeks = seeks;
+  place = is_place s is;
+  reaches = inl (fed, ap (λ (l : List Finding). found_at s ++ l) none ∙ append-nil (found_at s));
+}
 
 -- nothing is late: its observers are next
 pub finds_nothing_late : (from to : Settling) → from.shard < 8 → from.notifies ≡ false → to.shard ≡ from.shard → to.notifies ≡ true → Moves from (Resent from.shard Quiet) to
-finds_nothing_late from to is late same due = (
-  is_place to (omega (arith, is, same)),
-  inl (ap (λ (l : List Finding). l ++ (NothingLate from.shard ∷ [])) (at_place from from.shard false refl late ∙ append-nil (found_below from.shard)) ∙ sym (at_place to from.shard true same due)),
-)
+finds_nothing_late from to is late same due = record {
+  within = is;
+  seeks = sym (seeks_at from from.shard false refl late);
+  place = is_place to (omega (arith, is, same));
+  reaches = inl (
+    refl,
+    ap (λ (l : List Finding). l ++ (NothingLate from.shard ∷ [])) (at_place from from.shard false refl late ∙ append-nil (found_below from.shard))
+        ∙ sym (at_place to from.shard true same due),
+  );
+}
 
 -- nothing is late, and nobody due: the next shard is next
 pub passes_over : (from to : Settling) → from.shard < 8 → from.notifies ≡ false → to.shard ≡ from.shard + 1 → to.notifies ≡ false → Moves from (Passed from.shard) to
-passes_over from to is late next later = (
-  is_next_place from to is next later,
-  inl (ap (λ (l : List Finding). l ++ (NothingLate from.shard ∷ NobodyDue from.shard ∷ [])) (at_place from from.shard false refl late ∙ append-nil (found_below from.shard))
-      ∙ sym (at_next to from.shard next later)),
-)
+passes_over from to is late next later = record {
+  within = is;
+  seeks = sym (seeks_at from from.shard false refl late);
+  place = is_next_place from to is next later;
+  reaches = inl (
+    refl,
+    ap (λ (l : List Finding). l ++ (NothingLate from.shard ∷ NobodyDue from.shard ∷ []))
+        (at_place from from.shard false refl late ∙ append-nil (found_below from.shard)) ∙ sym (at_next to from.shard next later),
+  );
+}
 
 -- nobody is due: the next shard is next
 pub finds_nobody : (from to : Settling) → from.shard < 8 → from.notifies ≡ true → to.shard ≡ from.shard + 1 → to.notifies ≡ false → Moves from (Asked from.shard Nobody) to
 finds_nobody from to is due next later =
-    let k = from.shard in (
-      is_next_place from to is next later,
-      inl (ap (λ (l : List Finding). l ++ (NobodyDue k ∷ [])) (at_place from k true refl due)
-          ∙ (append_assoc (found_below k) (NothingLate k ∷ []) (NobodyDue k ∷ []) ∙ sym (at_next to k next later))),
-    )
+    let k = from.shard in
+    record {
+      within = is;
+      seeks = sym (seeks_at from k true refl due);
+      place = is_next_place from to is next later;
+      reaches = inl (
+        refl,
+        ap (λ (l : List Finding). l ++ (NobodyDue k ∷ [])) (at_place from k true refl due)
+            ∙ (append_assoc (found_below k) (NothingLate k ∷ []) (NobodyDue k ∷ []) ∙ sym (at_next to k next later)),
+      );
+    }
+
+-- a notification was sent again, or its observer removed: it stays
+pub stays_late : (s : Settling) (ticked : Ticked) → s.shard < 8 → s.notifies ≡ false → found_in_step (Resent s.shard ticked) ≡ [] → Moves s (Resent s.shard ticked) s
+stays_late s ticked is late none = stays s (Resent s.shard ticked) is (sym (seeks_at s s.shard false refl late)) refl none
+
+-- an observer was notified, or its turn given up: it stays
+pub stays_due : (s : Settling) (told : Notified) → s.shard < 8 → s.notifies ≡ true → is_starved (Asked s.shard told) ≡ false → found_in_step (Asked s.shard told) ≡ []
+    → Moves s (Asked s.shard told) s
+stays_due s told is due fed none = stays s (Asked s.shard told) is (sym (seeks_at s s.shard true refl due)) fed none
 
 -- no message id is free: it goes to the end
-pub starves : (from to : Settling) (k : ℕ) → to.shard ≡ 8 → to.notifies ≡ false → Moves from (Asked k Starved) to
-starves from to k end late = ((omega (arith, end), λ at. late), inr refl)
+pub starves : (from to : Settling) → from.shard < 8 → from.notifies ≡ true → to.shard ≡ 8 → to.notifies ≡ false → Moves from (Asked from.shard Starved) to
+starves from to is due end late = record {
+  within = is;
+  seeks = sym (seeks_at from from.shard true refl due);
+  place = (omega (arith, end), λ at. late);
+  reaches = inr (refl, end);
+}
+
+-- ---- what is left to be found
+
+-- what is found below a shard is found first
+found_first : (n d : ℕ) → (rest : List Finding) × (found_below n ++ rest ≡ found_below (n + d))
+found_first n zero = let is : n ≡ n + zero = omega arith in ([], append-nil (found_below n) ∙ ap found_below is)
+found_first n (suc d) =
+    let w = found_first n d in
+    let more = NothingLate (n + d) ∷ NobodyDue (n + d) ∷ [] in
+    let is : suc (n + d) ≡ n + suc d = omega arith in
+    (w.0 ++ more, sym (append_assoc (found_below n) w.0 more) ∙ (ap (λ (l : List Finding). l ++ more) w.1 ∙ ap found_below is))
+
+-- from a shard on, below 8
+left_from : (k : ℕ) → k < 8 → (rest : List Finding) × (found_below k ++ (NothingLate k ∷ NobodyDue k ∷ rest) ≡ found_below 8)
+left_from k is =
+    let w = found_first (suc k) (7 - k) in
+    let all : suc k + (7 - k) ≡ 8 = omega (arith, is) in
+    (w.0, sym (append_assoc (found_below k) (NothingLate k ∷ NobodyDue k ∷ []) w.0) ∙ (w.1 ∙ ap found_below all))
+
+left_at : (k : ℕ) (b : Bool) → k < 8
+    → (rest : List Finding) × ((found_below k ++ (if b then NothingLate k ∷ [] else [])) ++ ((if b then NobodyDue k else NothingLate k) ∷ rest) ≡ found_below 8)
+left_at k true is = let w = left_from k is in (w.0, append_assoc (found_below k) (NothingLate k ∷ []) (NobodyDue k ∷ w.0) ∙ w.1)
+left_at k false is = let w = left_from k is in (NobodyDue k ∷ w.0, append_assoc (found_below k) [] (NothingLate k ∷ NobodyDue k ∷ w.0) ∙ w.1)
+
+-- what is looked for at a place is the first that is left
+left : (s : Settling) (step : SettlingStep) (steps : List SettlingStep) → s.shard < 8 → found_in_steps steps ≡ found_at s → sought_in_step step ≡ sought_at s
+    → (rest : List Finding) × (found_in_steps steps ++ (sought_in_step step ∷ rest) ≡ found_below 8)
+left s step steps is found seeks =
+    let w = left_at s.shard s.notifies is in
+    (w.0, ap (λ (l : List Finding). l ++ (sought_in_step step ∷ w.0)) found ∙ (ap (λ (x : Finding). found_at s ++ (x ∷ w.0)) seeks ∙ w.1))
 
 -- ---- steps
 
-found_more : (from to : Settling) (steps : List SettlingStep) (step : SettlingStep) → (found_in_steps steps ≡ found_at from) ⊎ (list_any is_starved steps ≡ true) → (found_at from ++ found_in_step step ≡ found_at to) ⊎ (is_starved step ≡ true)
-    → (found_in_steps (step ∷ steps) ≡ found_at to) ⊎ (list_any is_starved (step ∷ steps) ≡ true)
-found_more from to steps step (inl w) (inl m) = inl (ap (λ (l : List Finding). l ++ found_in_step step) w ∙ m)
-found_more from to steps step (inl w) (inr m) = inr (ap (λ (b : Bool). b || list_any is_starved steps) m)
-found_more from to steps step (inr w) m = inr (ap (λ (b : Bool). is_starved step || b) w ∙ or-true (is_starved step))
+reached_by : (from to : Settling) (steps : List SettlingStep) (step : SettlingStep) → list_any is_starved steps ≡ false → found_in_steps steps ≡ found_at from
+    → ((is_starved step ≡ false) × (found_at from ++ found_in_step step ≡ found_at to)) ⊎ ((is_starved step ≡ true) × (to.shard ≡ 8)) → HasReached (step ∷ steps) to
+reached_by from to steps step fed found (inl m) =
+    inl (ap (λ (b : Bool). b || list_any is_starved steps) m.0 ∙ fed, ap (λ (l : List Finding). l ++ found_in_step step) found ∙ m.1)
+reached_by from to steps step fed found (inr m) = inr (ap (λ (b : Bool). b || list_any is_starved steps) m.0, m.1)
+
+reached_more : (from to : Settling) (steps : List SettlingStep) (step : SettlingStep) → AreInOrder steps → HasReached steps from → Moves from step to
+    → AreInOrder (step ∷ steps) × HasReached (step ∷ steps) to
+reached_more from to steps step order (inr w) m = absurd (omega (arith, w.1, m.within))
+reached_more from to steps step order (inl w) m = ((order, w.0, left from step steps m.within w.1 m.seeks), reached_by from to steps step w.0 w.1 m.reaches)
 
 found_all : (s : Settling) → IsPlace s → 8 ≤ s.shard → found_at s ≡ found_below 8
 found_all s is end = let at : s.shard ≡ 8 = omega (arith, is.0, end) in at_place s 8 false at (is.1 at) ∙ append-nil (found_below 8)
 
-settled_by : (s : Settling) (steps : List SettlingStep) → found_at s ≡ found_below 8 → (found_in_steps steps ≡ found_at s) ⊎ (list_any is_starved steps ≡ true) → AreSettled steps
-settled_by s steps all (inl w) = inl (w ∙ all)
-settled_by s steps all (inr w) = inr (inl w)
-
--- all is settled at the end
-pub settled_at_end : (s : Settling) (steps : List SettlingStep) → IsPlace s → (found_in_steps steps ≡ found_at s) ⊎ (list_any is_starved steps ≡ true) → 8 ≤ s.shard → AreSettled steps
-settled_at_end s steps is w end = settled_by s steps (found_all s is end) w
-
--- and where there were as many steps as there may be
-pub settled_at_bound : (steps : List SettlingStep) → 8192 ≤ length steps → AreSettled steps
-settled_at_bound steps many = inr (inr many)
+settled_by : (s : Settling) (steps : List SettlingStep) → found_at s ≡ found_below 8 → AreInOrder steps → HasReached steps s → AreSettled steps
+settled_by s steps all order (inl w) = (order, inl (w.1 ∙ all))
+settled_by s steps all order (inr w) = (order, inr (inl w.0))
 
 module _ {S : Type 0} (Resends : ℕ → ℕ → S → S → Ticked → Type 0) (PassesOver : ℕ → ℕ → S → S → Type 0) (Notifies : ℕ → ℕ → S → S → Notified → Type 0) where
+  abbrev pub StepsTo : ℕ → List SettlingStep → S → S → Settling → Type 0
+  StepsTo now steps old new at = AreStepsTo Resends PassesOver Notifies now steps old new at
+
   -- no step yet
-  pub no_steps : (now : ℕ) (old : S) (s : Settling) → s.shard ≡ 0 → s.notifies ≡ false → AreStepsTo Resends PassesOver Notifies now [] old old s
-  no_steps now old s first late = (refl, is_place s (omega (arith, first)), inl (sym (at_place s 0 false first late)))
+  pub no_steps : (now : ℕ) (old : S) (s : Settling) → s.shard ≡ 0 → s.notifies ≡ false → StepsTo now [] old old s
+  no_steps now old s first late =
+      record { taken = refl; place = is_place s (omega (arith, first)); in_order = tt; reached = inl (refl, sym (at_place s 0 false first late)) }
 
   -- one step more
-  pub one_step : (now : ℕ) (old mid new : S) (from to : Settling) (steps : List SettlingStep) (step : SettlingStep) → AreStepsTo Resends PassesOver Notifies now steps old mid from
-      → IsStepBy Resends PassesOver Notifies now step mid new → Moves from step to → AreStepsTo Resends PassesOver Notifies now (step ∷ steps) old new to
-  one_step now old mid new from to steps step w is m = ((mid, is, w.0), m.0, found_more from to steps step w.2 m.1)
+  pub one_step : (now : ℕ) (old mid new : S) (from to : Settling) (steps : List SettlingStep) (step : SettlingStep) → StepsTo now steps old mid from
+      → IsStepBy Resends PassesOver Notifies now step mid new → Moves from step to → StepsTo now (step ∷ steps) old new to
+  one_step now old mid new from to steps step w is m =
+      let r = reached_more from to steps step w.in_order w.reached m in
+      record { taken = (mid, is, w.taken); place = m.place; in_order = r.0; reached = r.1 }
+
+  -- all is settled at the end
+  pub settled_at_end : (now : ℕ) (old new : S) (s : Settling) (steps : List SettlingStep) → StepsTo now steps old new s → 8 ≤ s.shard → AreSettled steps
+  settled_at_end now old new s steps w end = settled_by s steps (found_all s w.place end) w.in_order w.reached
+
+  -- and where there were as many steps as there may be
+  pub settled_at_bound : (now : ℕ) (old new : S) (s : Settling) (steps : List SettlingStep) → StepsTo now steps old new s → 8192 ≤ length steps → AreSettled steps
+  settled_at_bound now old new s steps w many = (w.in_order, inr (inr many))

@@ -10,6 +10,7 @@ use Rattle.fc_core.specs.declared.front.Heard.{Heard}
 use Rattle.fc_observe.specs.declared.observers.Ticked.{Ticked}
 use Rattle.fc_server.specs.Notified.{Notified, is_given, notification_in}
 use Rattle.fc_server.specs.Serving.{AsksForTurn, Hears, Passes, TicksShard}
+use Rattle.fc_server.specs.Steps.{shard_told}
 use Rattle.fc_service.specs.Clocks.{device_readings}
 use Rattle.fc_service.specs.Intakes.{is_reply}
 use Rattle.fc_service.specs.declared.alone.Alone.{Alone}
@@ -32,7 +33,8 @@ abbrev pub PassesAlone : ℕ → Alone → Alone → Type 0
 PassesAlone now old new = Passes now old.engine new.engine × (new.handed ≡ old.handed)
 
 abbrev pub ResendsAlone : ℕ → ℕ → Alone → Alone → Ticked → Type 0
-ResendsAlone shard now old new ticked = TicksShard (shard % 8) now old.engine new.engine (resent ticked) × (new.handed ≡ old.handed)
+ResendsAlone shard now old new ticked =
+    (ticked ≡ shard_told now (shard_at old.engine.shards (shard % 8))) × TicksShard (shard % 8) now old.engine new.engine (resent ticked) × (new.handed ≡ old.handed)
 
 abbrev pub PassesOverAlone : ℕ → ℕ → Alone → Alone → Type 0
 PassesOverAlone shard now old new =

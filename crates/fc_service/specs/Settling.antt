@@ -37,6 +37,12 @@ pub data Finding : Type 0 where
   NothingLate : (shard : ℕ) → Finding
   NobodyDue : (shard : ℕ) → Finding
 
+-- what is looked for first; of a shard that is passed over both are found
+abbrev pub sought_in_step : SettlingStep → Finding
+sought_in_step (Resent shard ticked) = NothingLate shard
+sought_in_step (Passed shard) = NothingLate shard
+sought_in_step (Asked shard told) = NobodyDue shard
+
 abbrev pub found_in_step : SettlingStep → List Finding
 found_in_step (Resent shard Quiet) = NothingLate shard ∷ []
 found_in_step (Passed shard) = NothingLate shard ∷ NobodyDue shard ∷ []
@@ -62,22 +68,38 @@ is_starved other = false
 abbrev pub most_steps : ℕ
 most_steps = 8192
 
--- shard after shard, nothing is late and nobody is due; or no message id was free; or as many steps were taken as there may be
+-- each step looks for what is to be found next, and none follows one that was starved
+abbrev pub AreInOrder : List SettlingStep → Type 0
+AreInOrder [] = Unit {0}
+AreInOrder (step ∷ steps) =
+    AreInOrder steps × (list_any is_starved steps ≡ false) × ((rest : List Finding) × (found_in_steps steps ++ (sought_in_step step ∷ rest) ≡ found_below 8))
+
+-- in order, until nothing is late and nobody due at any shard; or no message id was free; or as many steps were taken as there may be
 abbrev pub AreSettled : List SettlingStep → Type 0
-AreSettled steps = (found_in_steps steps ≡ found_below 8) ⊎ ((list_any is_starved steps ≡ true) ⊎ (most_steps ≤ length steps))
+AreSettled steps = AreInOrder steps × ((found_in_steps steps ≡ found_below 8) ⊎ ((list_any is_starved steps ≡ true) ⊎ (most_steps ≤ length steps)))
 
 -- ---- where it is: at a shard, where late notifications are sent again first, until nothing is late, and observers are notified then; or, at shard 8, at the end
 
 abbrev pub IsPlace : Settling → Type 0
 IsPlace s = (s.shard ≤ 8) × (s.shard ≡ 8 → s.notifies ≡ false)
 
--- what was found up to there
+-- what is looked for there, and what was found up to there
+abbrev pub sought_at : Settling → Finding
+sought_at s = if s.notifies then NobodyDue s.shard else NothingLate s.shard
+
 abbrev pub found_at : Settling → List Finding
 found_at s = found_below s.shard ++ (if s.notifies then NothingLate s.shard ∷ [] else [])
 
--- a step goes from one place to another
-abbrev pub Moves : Settling → SettlingStep → Settling → Type 0
-Moves from step to = IsPlace to × ((found_at from ++ found_in_step step ≡ found_at to) ⊎ (is_starved step ≡ true))
+-- a step at a shard goes from one place to another; one that is starved to the end
+pub record Moves (from : Settling) (step : SettlingStep) (to : Settling) : Type 0 where
+  pub within : from.shard < 8
+  pub seeks : sought_in_step step ≡ sought_at from
+  pub place : IsPlace to
+  pub reaches : ((is_starved step ≡ false) × (found_at from ++ found_in_step step ≡ found_at to)) ⊎ ((is_starved step ≡ true) × (to.shard ≡ 8))
+
+-- steps found all up to a place; or the last was starved, and it is at the end
+abbrev pub HasReached : List SettlingStep → Settling → Type 0
+HasReached steps at = ((list_any is_starved steps ≡ false) × (found_in_steps steps ≡ found_at at)) ⊎ ((list_any is_starved steps ≡ true) × (at.shard ≡ 8))
 
 -- ---- of a server, by what it does where a shard is ticked, passed over, or asked for a turn, at a moment
 module _ {S : Type 0} (Resends : ℕ → ℕ → S → S → Ticked → Type 0) (PassesOver : ℕ → ℕ → S → S → Type 0) (Notifies : ℕ → ℕ → S → S → Notified → Type 0) where
@@ -93,5 +115,8 @@ module _ {S : Type 0} (Resends : ℕ → ℕ → S → S → Ticked → Type 0) 
   AreStepsBy now (step ∷ steps) old new = (mid : S) × IsStepBy now step mid new × AreStepsBy now steps old mid
 
   -- steps that led to a place
-  abbrev pub AreStepsTo : ℕ → List SettlingStep → S → S → Settling → Type 0
-  AreStepsTo now steps old new place = AreStepsBy now steps old new × IsPlace place × ((found_in_steps steps ≡ found_at place) ⊎ (list_any is_starved steps ≡ true))
+  pub record AreStepsTo (now : ℕ) (steps : List SettlingStep) (old new : S) (at : Settling) : Type 0 where
+    pub taken : AreStepsBy now steps old new
+    pub place : IsPlace at
+    pub in_order : AreInOrder steps
+    pub reached : HasReached steps at

@@ -25,17 +25,19 @@
 //!   printed; of a job, what is printed is some emission, or nothing (`play_lines`, by `HasPlayed`, read with the relations of `Waiting`).
 //! - **A server on a socket** receives by one loop, whatever takes its datagrams in: a server on one thread, or the dispatcher of workers
 //!   (`run_rounds`, by `HasRun`). Its rounds follow one another on one server. In each, at a moment that was asked for, what was received
-//!   is heard, once, whole and from its endpoint, or time passes where nothing came; then the shards are asked, 0 to 7, until each has told
-//!   that nothing is late and that nobody is due, one has told that no message id is free, or 8,192 steps were taken; and each emission of
-//!   this, the reply first, was handed to the sink, and is counted once, as the sink told. What was received in the rounds, in order, is
-//!   what the source gave, where that is known: of a socket of the system it isn't. That each is handed over anew, where the same was
-//!   before, that nothing else goes to the sink, and in which order, no clause says (`Source::came`, `Sink::went`).
+//!   is heard, once, whole and from its endpoint, or time passes where nothing came; then the shards are asked one after the other, 0 to 7,
+//!   each until it has told that nothing is late, and then until it has told that nobody is due; the last is shard 7, or one that has told
+//!   that no message id is free, or 8,192 steps were taken. Each emission of this, the reply first, was handed to the sink, and is counted
+//!   once, as the sink told. What was received in the rounds, in order, is what the source gave, where that is known: of a socket of the
+//!   system it isn't. That each is handed over anew, where the same was before, that nothing else goes to the sink, and in which order, no
+//!   clause says (`Source::came`, `Sink::went`).
 //! - **A server on a socket is that loop**, by one worker or more, where it gives its source back: then a limit was set, and as many
 //!   datagrams were received (`serve_at`, by `IsServed`). At which moments, and of one that gives no source or doesn't end, no clause says
 //!   anything. What a datagram is received into has 1,281 bytes, one more than it may have (`laws`).
 //! - **By one worker** these are lists of events of one server, which begins at the serial and the message id that it is given: each round
-//!   is the list of its datagram, or of its moment, and of what its shards are asked. Its readings are each round's moment and what its
-//!   sensors said. No clause says that with `--readings` this is the file's; without it these are zeros (`serve_alone`, by `HasServed`).
+//!   is the list of its datagram, or of its moment, and of what its shards are asked. What a shard tells is so: that nothing is late, that an
+//!   observer was removed, that nobody is due. Its readings are each round's moment and what its sensors said. No clause says that with
+//!   `--readings` this is the file's; without it these are zeros (`serve_alone`, by `HasServed`).
 //! - **By more workers** each datagram is taken in, in order, as a dispatcher takes one in at some front, and each turn as one that some
 //!   shard gave; nothing else of a round changes what was dispatched (`serve_at`, by `HasServedPooled`; `run_pool` hands on by `IsFed` what
 //!   its feeder did). That front and shards are the pool's, and one for all rounds, no clause says: that is seen of a dispatcher over any

@@ -29,7 +29,7 @@ pub returns-in_err-print_if : goal.returns-in_err-print_if
 returns-in_err-print_if g c =
     let w = c.steps.invariant in
     let x = c.step-sent.ensures in
-    (x.0 ∷ w.0, (c.steps.intake, x.1, w.1.0), failed c.from_residual.result _ c.from_residual.ensures.0)
+    (x.0 ∷ w.0, (c.steps.intake, x.1, w.1.taken), failed c.from_residual.result _ c.from_residual.ensures.0)
 
 pub returns : goal.returns
 returns g c =
