@@ -20,7 +20,9 @@ use Rattle.fc_registry.specs.declared.note.Notification.{Notification}
 use Rattle.fc_registry.specs.declared.receipt.Receipt.{Receipt}
 use Rattle.fc_registry.specs.declared.shard.Made.{Made}
 use Rattle.fc_registry.specs.declared.shard.Removal.{Removal}
-use Rattle.fc_registry.specs.Taken.{Taken}
+use Rattle.fc_registry.specs.Taken.{Found, Taken}
+use Rattle.fc_registry.specs.Views.{HasSize, taken_with}
+use Rattle.fc_registry.specs.declared.shard.Taken as handles
 use Rattle.fc_registry.specs.Calls.{CommitsTo, TakesAt, after_taking, install_in, receipt_at, remove_from}
 use Rattle.fc_registry.specs.Changes.{after_changes}
 use Rattle.fc_registry.specs.Notes.{NotesTo}
@@ -61,6 +63,10 @@ GivesUpAt now turn before after = after ≡ after_given_up turn (at_time before 
 -- a job takes what it finds in its slot, with these readings
 abbrev pub TakesTo : Job → List ℕ → Shard → Taken → Shard → Type 0
 TakesTo job readings before taken after = TakesAt job readings before taken × (after ≡ after_taking job before)
+
+-- it takes so, where what it gives stands beside what was written down; a program that is given has as many variables as were written down
+abbrev pub TakesInto : Job → List ℕ → Shard → handles.Taken → Found → Shard → Type 0
+TakesInto job readings before taken found after = TakesTo job readings before (taken_with taken found) after × HasSize taken found
 
 -- a program is installed in the slot of a job
 abbrev pub InstallsTo : Job → Program → Shard → Made → Shard → Type 0

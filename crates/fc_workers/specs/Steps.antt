@@ -58,6 +58,11 @@ pub record IsStep {T : Type 0} (s : Shop T) (number : ℕ) (job : Job) (old new 
   pub follows : Follows job old (takings_made call) new
   pub counted : HasCounted s job.origin.slot (call ∷ []) before after
 
+-- it stands at a taking
+abbrev pub IsToTake : Stage → Type 0
+IsToTake (ToTake n) = Unit {0}
+IsToTake other = ⊥
+
 -- it stands at a commit
 abbrev pub IsToCommit : Stage → Type 0
 IsToCommit (ToCommit n t) = Unit {0}

@@ -5,6 +5,7 @@ ghost use Rattle.fc_core.specs.Contents.{IsOf};
 ghost use Rattle.fc_core.specs.Receiving.{emission_if, heard};
 ghost use Rattle.fc_registry.specs.Notes.{noted_as};
 ghost use Rattle.fc_registry.specs.Turns.{written_if};
+ghost use Rattle.fc_registry.specs.Views.{HasSize, taken_with};
 ghost use Rattle.fc_heads.specs.Heads.{IsRaised, fresh, peeked, word_of};
 ghost use Rattle.fc_workers.specs.Called.{AdvancesFront, AdvancesIfQuiet, BenchCall, GivesReadings, HandsSignal, LooksAt, TellsReceipt};
 ghost use Rattle.fc_workers.specs.Called.{AdvancesShard, AnswersRequest, CommitsRun, DrawsId, GivesTurn, GivesUpTurn, HearsDatagram};
@@ -23,7 +24,8 @@ use fc_help::Readings;
 use fc_machine::Outcome;
 use fc_observe::{Ticked, Turn};
 use fc_registry::{
-    Committed, Job, Made, NoteOutcome, Notification, Receipt, Removal, SlotNumber, Ticket, Took,
+    Committed, Found, Job, Made, NoteOutcome, Notification, Receipt, Removal, SlotNumber, Taken,
+    Ticket,
 };
 use fc_verify::Verified;
 use std::sync::{Arc, Wait};
@@ -82,21 +84,23 @@ pub trait Bench {
     fn readings<R: Wait>(&self, rt: &R) -> Readings
         ensures { called (GivesReadings result) };
 
-    /// Takes what a job finds in its slot, with these readings, as [`Shard::take`](fc_registry::Shard::take) does. A turn that is stale
-    /// ends by that.
+    /// Takes what a job finds in its slot, with these readings, as [`Shard::write_taking`](fc_registry::Shard::write_taking) does: it is
+    /// written over what another taking found. A turn that is stale ends by that.
     fn take<R: Wait>(
         &self,
         rt: &R,
         job: &Job,
         readings: &Readings,
+        found: &mut Found,
         tallies: &mut Self::Tallies,
         log: &mut CallLog,
-    ) -> Took
-        ensures taken { IsSomeTaking job.now readings.now result }
-        ensures logged { logged (TakesForJob job.now readings.now result) log.old log.new }
+    ) -> Taken
+        ensures taken { IsSomeTaking job.now readings.now (taken_with result found.new) }
+        ensures size { HasSize result found.new }
+        ensures logged { logged (TakesForJob job.now readings.now (taken_with result found.new)) log.old log.new }
         ensures changes { (shard : ℕ) → shard < 8 →
             changes tallies.new shard ≡ changes tallies.old shard }
-        ensures ended { ended tallies.new ≡ ended_by result (ended tallies.old) };
+        ensures ended { ended tallies.new ≡ ended_by (taken_with result found.new) (ended tallies.old) };
 
     /// Commits a run, at a moment in milliseconds, as [`Shard::commit`](fc_registry::Shard::commit) does.
     fn commit<R: Wait>(

@@ -6,14 +6,14 @@ ghost use Rattle.fc_registry.specs.Turns.{written_if};
 ghost use Rattle.fc_workers.specs.Answers.{commit_changes, install_changes, removal_changes};
 ghost use Rattle.fc_workers.specs.Counts.{HasEightSlots, serials};
 ghost use Rattle.fc_workers.specs.Doings.{CommitsAt, DescribesTo, GivesTurnAt, GivesUpAt, HandsOn, InstallsTo, NotesAt, PassesIfQuiet};
-ghost use Rattle.fc_workers.specs.Doings.{RemovesFrom, TakesTo, TicksAt};
+ghost use Rattle.fc_workers.specs.Doings.{RemovesFrom, TakesInto, TicksAt};
 
 use coap_msg::{Emission, Endpoint};
 use fc_help::Readings;
 use fc_machine::Outcome;
 use fc_observe::{Ticked, Turn};
 use fc_registry::{
-    Committed, Job, Made, NoteOutcome, Notification, Receipt, Removal, Shard, Ticket, Took,
+    Committed, Found, Job, Made, NoteOutcome, Notification, Receipt, Removal, Shard, Taken, Ticket,
 };
 use fc_verify::Verified;
 use std::sync::Arc;
@@ -55,7 +55,7 @@ pub(crate) trait Change: ShardCall {
         ensures { Self.changes answer.now ≡ (if result then 1 else 0) };
 }
 
-/// Takes what a job finds in its slot, with these readings, as [`Shard::take`] does.
+/// Takes what a job finds in its slot, with these readings, as [`Shard::write_taking`] does.
 #[derive(Drop)]
 pub struct Take<'a> {
     pub job: &'a Job,
@@ -63,16 +63,16 @@ pub struct Take<'a> {
 }
 
 impl<'a> ShardCall for Take<'a> {
-    type Answer = Took;
+    type Answer = Taken;
 
-    type Room = ();
+    type Room = Found;
 
     ghost may_ask = { λ call shard. IsOwned shard call.job.now.origin.slot };
 
-    ghost does = { λ call before answer room after. TakesTo call.job.now call.readings.now before answer after };
+    ghost does = { λ call before answer room after. TakesInto call.job.now call.readings.now before answer room after };
 
-    fn call(self, shard: &mut Shard, _: &mut ()) -> Took {
-        shard.take(self.job, self.readings)
+    fn call(self, shard: &mut Shard, room: &mut Found) -> Taken {
+        shard.write_taking(self.job, self.readings, room)
     }
 }
 

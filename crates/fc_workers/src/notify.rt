@@ -10,8 +10,10 @@ ghost use Rattle.fc_workers.specs.Work.{HasSameTallies, IsTurnWorked};
 
 use crate::bench::Bench;
 use crate::share::Share;
+use crate::tools::Tools;
 use crate::workshop::{Gate, Moments, Wire, Workshop};
 use coap_msg::Emission;
+use fc_core::Step;
 use fc_machine::{Frame, run};
 use fc_observe::Turn;
 use fc_registry::{Job, NoteOutcome, Notification, Taken, Ticket};
@@ -19,30 +21,39 @@ use std::sync::Wait;
 
 impl<'a, B: Bench, G: Gate, W: Wire, M: Moments> Workshop<'a, B, G, W, M> {
     /// Works a turn off: takes what its slot holds, draws a message id, runs the program and notifies the observer. What is to be sent is
-    /// written over another emission. Tells whether anything is. Where memory is refused, or no message id is free, the turn is given up. No
+    /// written over the tools' reply. Tells whether anything is. Where memory is refused, or no message id is free, the turn is given up. No
     /// slot changes, and one job is ended.
     #[inline(never)]
     pub fn notify<R: Wait>(
         &self,
         rt: &R,
-        frame: &mut Frame,
+        tools: &mut Tools,
         job: &Job,
         turn: Turn,
-        reply: &mut Emission,
         share: &mut Share<B::Tallies>,
     ) -> bool
         requires { turn.slot < 64 }
+        ensures heads { tools.new.heads ≡ tools.old.heads }
         ensures worked { IsTurnWorked (shop B.changes B.ended B.called B.logged M.is_moment M.is_random G.passed W.called)
-            job.now turn share.old share.new (emission_if result reply.new) }
+            job.now turn share.old share.new (emission_if result tools.new.reply) }
         ensures ended { B.ended share.new.tallies ≡ saturated (B.ended share.old.tallies + 1) }
     {
+        let Tools {
+            frame,
+            stage,
+            reply,
+            ..
+        } = tools;
+        stage.step = Step::Gone;
         let readings = self.bench.readings(rt);
-        let log = &mut share.log;
-        let took = self.bench.take(rt, job, &readings, &mut share.tallies, log);
-        share.count_taking(&took);
-        match &took.taken {
+        let Share { tallies, log, .. } = share;
+        let taken = self
+            .bench
+            .take(rt, job, &readings, &mut stage.found, tallies, log);
+        share.count_taking(&taken);
+        match &taken {
             Taken::Given(program) => {
-                let ticket = Ticket::of(program, &took.found);
+                let ticket = Ticket::of(program, &stage.found);
                 self.tell(rt, frame, turn, Some(ticket), reply, share)
             }
             Taken::Missing => self.tell(rt, frame, turn, None, reply, share),

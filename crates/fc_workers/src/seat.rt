@@ -117,8 +117,7 @@ impl<'a, B: Bench, G: Gate, W: Wire, M: Moments> Workshop<'a, B, G, W, M> {
             Some(number) => {
                 let slot = job.origin.slot.number();
                 let turn = Turn { slot, number };
-                let Tools { frame, reply, .. } = tools;
-                self.notify(rt, frame, job, turn, reply, share)
+                self.notify(rt, tools, job, turn, share)
             }
         }
     }

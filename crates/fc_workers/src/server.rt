@@ -20,6 +20,7 @@ ghost use Rattle.fc_registry.specs.Notes.{noted_as};
 ghost use Rattle.fc_registry.specs.Shards.{shard_at};
 ghost use Rattle.fc_registry.specs.Slots.{IsOwned, Shard as Seen, last_serial};
 ghost use Rattle.fc_registry.specs.Turns.{written_if};
+ghost use Rattle.fc_registry.specs.Views.{HasSize, taken_with};
 ghost use Rattle.fc_workers.specs.Asked.{IsAsked, IsLoggedCall, IsServerCall};
 ghost use Rattle.fc_workers.specs.Doings.{AdvancesTo};
 ghost use Rattle.fc_workers.specs.Naming.{AreNamed};
@@ -48,8 +49,8 @@ use fc_help::Readings;
 use fc_machine::Outcome;
 use fc_observe::{Ticked, Turn};
 use fc_registry::{
-    Committed, Job, Made, NoteOutcome, Notification, Receipt, Removal, SHARDS, Shard, SlotNumber,
-    Ticket, Took, make_shards,
+    Committed, Found, Job, Made, NoteOutcome, Notification, Receipt, Removal, SHARDS, Shard,
+    SlotNumber, Taken, Ticket, make_shards,
 };
 use fc_verify::Verified;
 use std::alloc::{AllocError, Global};
@@ -308,16 +309,12 @@ impl<'a, B: Books, D: Device> Bench for Locked<'a, B, D> {
         rt: &R,
         job: &Job,
         readings: &Readings,
+        found: &mut Found,
         tallies: &mut Tallies<B>,
         log: &mut CallLog,
-    ) -> Took {
+    ) -> Taken {
         let _ = log;
-        let taken = self.ask(
-            rt,
-            shard_of(job.origin.slot),
-            Take { job, readings },
-            &mut (),
-        );
+        let taken = self.ask(rt, shard_of(job.origin.slot), Take { job, readings }, found);
         tallies.end_taking(&taken);
         taken
     }

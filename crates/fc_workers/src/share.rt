@@ -1,11 +1,13 @@
 //! What a worker has done.
 ghost use Rattle.std.specs.Prelude.{◌≡◌, ◌+◌, if◌then◌else◌};
+ghost use Rattle.fc_registry.specs.Taken.{Found};
+ghost use Rattle.fc_registry.specs.Views.{taken_with};
 ghost use Rattle.fc_workers.specs.Answers.{commit_overtakings, saturated, taking_refusals};
 ghost use Rattle.fc_workers.specs.Shares.{new_share};
 
 use crate::call_log::CallLog;
 use fc_jobs::Got;
-use fc_registry::{Committed, Taken, Took};
+use fc_registry::{Committed, Taken};
 
 /// What a worker has done: its bench's tallies, the log of its calls, the jobs that it got, how many replies went out and how many didn't, how often
 /// memory was refused, and how often a commit was overtaken. Each count stops at 2^64 - 1.
@@ -37,12 +39,12 @@ impl<T: Drop> Share<T> {
     }
 
     // Counts a taking, if memory was refused.
-    pub(crate) fn count_taking(&mut self, took: &Took)
-        ensures { self.new ≡ record self.old {
-          refusals = saturated (self.old.refusals + taking_refusals took.now);
+    pub(crate) fn count_taking(&mut self, taken: &Taken)
+        ensures { (found : Found) → self.new ≡ record self.old {
+          refusals = saturated (self.old.refusals + taking_refusals (taken_with taken.now found));
         } }
     {
-        let refused = matches!(took.taken, Taken::Refused);
+        let refused = matches!(taken, Taken::Refused);
         self.refusals = self.refusals.saturating_add(u64::from(refused));
     }
 

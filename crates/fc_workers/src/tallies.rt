@@ -1,10 +1,12 @@
 //! The tallies of eight shards.
 ghost use Rattle.std.specs.Prelude.{◌≡◌, ◌+◌, ◌<◌, slice_index};
+ghost use Rattle.fc_registry.specs.Taken.{Found};
+ghost use Rattle.fc_registry.specs.Views.{taken_with};
 ghost use Rattle.fc_workers.specs.Answers.{ended_by, saturated};
 
 use crate::books::{BookOf, Books};
 use crate::tally::Tally;
-use fc_registry::{Taken, Took};
+use fc_registry::Taken;
 use std::marker::Model;
 
 /// What one worker changed in each of the eight shards, one part of each book, and how many jobs it ended, up to 2^64 - 1.
@@ -73,10 +75,10 @@ impl<B: Books> Tallies<B> {
     }
 
     // One job more has ended where its taking is stale.
-    pub(crate) fn end_taking(&mut self, took: &Took)
-        ensures { self.new ≡ record self.old { ended = ended_by took.now self.old.ended } }
+    pub(crate) fn end_taking(&mut self, taken: &Taken)
+        ensures { (found : Found) → self.new ≡ record self.old { ended = ended_by (taken_with taken.now found) self.old.ended } }
     {
-        match &took.taken {
+        match taken {
             Taken::Stale => self.end_job(),
             Taken::Given(_) | Taken::Missing | Taken::Refused => {}
         }

@@ -3,10 +3,10 @@ ghost use Rattle.std.specs.Prelude.{◌≡◌, ◌<◌, ℕ, None, length};
 ghost use Rattle.fc_verify.specs.Judged.{judged};
 ghost use Rattle.fc_verify.specs.Accepted.{Accepts, IsAccepted};
 ghost use Rattle.fc_core.specs.Stages.{image_of};
-ghost use Rattle.fc_core.specs.Stage.{ToTake, ToInstall, ToRemove};
+ghost use Rattle.fc_core.specs.Stage.{ToInstall, ToRemove};
 ghost use Rattle.fc_workers.specs.Called.{shop};
 ghost use Rattle.fc_workers.specs.Work.{IsWorkedTo};
-ghost use Rattle.fc_workers.specs.Steps.{IsReady, IsStep, IsToCommit, ListsOn};
+ghost use Rattle.fc_workers.specs.Steps.{IsReady, IsStep, IsToCommit, IsToTake, ListsOn};
 
 use crate::bench::Bench;
 use crate::share::Share;
@@ -53,10 +53,7 @@ impl<'a, B: Bench, G: Gate, W: Wire, M: Moments> Workshop<'a, B, G, W, M> {
                     let word = self.bench.peek(job.origin.slot, &mut tools.heads);
                     stage.matched(job, word);
                 }
-                Step::ToTake(count) => {
-                    let count = *count;
-                    self.take(rt, job, count, stage, share);
-                }
+                Step::ToTake(_) => self.take(rt, job, stage, share),
                 Step::ToCommit(..) => {
                     self.commit(rt, &mut tools.frame, number, job, stage, share);
                 }
@@ -110,25 +107,24 @@ impl<'a, B: Bench, G: Gate, W: Wire, M: Moments> Workshop<'a, B, G, W, M> {
     }
 
     // Takes what the job finds.
-    fn take<R: Wait>(
-        &self,
-        rt: &R,
-        job: &Job,
-        count: u8,
-        stage: &mut Stage,
-        share: &mut Share<B::Tallies>,
-    )
-        requires ready { IsReady job.now (ToTake count) }
+    fn take<R: Wait>(&self, rt: &R, job: &Job, stage: &mut Stage, share: &mut Share<B::Tallies>)
+        requires at { IsToTake stage.old }
+        requires ready { IsReady job.now stage.old }
         requires asked { job.now.turn ≡ None }
         ensures step { (number : ℕ) → IsStep (shop B.changes B.ended B.called B.logged M.is_moment M.is_random G.passed W.called)
-            number job.now (ToTake count) stage.new share.old share.new }
+            number job.now stage.old stage.new share.old share.new }
         ensures ended { B.ended share.new.tallies ≡ B.ended share.old.tallies }
     {
+        let Step::ToTake(count) = stage.step else {
+            unreachable!()
+        };
         let readings = self.bench.readings(rt);
-        let log = &mut share.log;
-        let taken = self.bench.take(rt, job, &readings, &mut share.tallies, log);
+        let Share { tallies, log, .. } = share;
+        let taken = self
+            .bench
+            .take(rt, job, &readings, &mut stage.found, tallies, log);
         share.count_taking(&taken);
-        stage.took(count, taken);
+        stage.step = Step::took(count, taken, &mut stage.answer);
     }
 
     // Runs its ticket's program, and commits the run once the gate lets the job go on.

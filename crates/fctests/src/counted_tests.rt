@@ -5,7 +5,7 @@ use crate::job_tests::job;
 use crate::overtaking_tests::COUNTER;
 use fc_help::{Method, NO_READINGS, Request};
 use fc_machine::{Frame, run};
-use fc_registry::{Ask, Committed, Job, Shard, SlotNumber, Taken, Ticket};
+use fc_registry::{Ask, Committed, Found, Job, Shard, SlotNumber, Taken, Ticket};
 use fc_verify::verify;
 use fc_workers::calls::Take;
 use fc_workers::{Counted, Tally};
@@ -37,11 +37,12 @@ fn commit<L: Ledger>(
     ensures { counted.new.shard.index ≡ 3 }
 {
     let readings = &NO_READINGS;
-    let took = counted.ask(Take { job, readings }, &mut ());
-    let Taken::Given(given) = &took.taken else {
+    let mut found = Found::blank();
+    let taken = counted.ask(Take { job, readings }, &mut found);
+    let Taken::Given(given) = &taken else {
         return Ok(false);
     };
-    let ticket = Ticket::of(given, &took.found);
+    let ticket = Ticket::of(given, &found);
     let mut frame = Frame::new(alloc)?;
     let (program, request) = (ticket.program(), ticket.request());
     let outcome = run(&mut frame, program, request, ticket.vars(), readings);

@@ -2,7 +2,7 @@ use Rattle.std.proofs.Common.{◌≡◌, ◌∙◌, ◌<◌, ℕ, ap, if◌then�
 use Rattle.std.specs.Prelude.{nat_lt}
 use Rattle.fc_heads.specs.Heads.{HeadSeat}
 use Rattle.fc_core.specs.Room.{stage_of}
-use Rattle.fc_core.specs.Stage.{Stage, ToAnswer, ToDescribe, ToInstall, ToList, ToMatch, ToRaise, ToRemove, ToTake}
+use Rattle.fc_core.specs.Stage.{Stage, ToAnswer, ToDescribe, ToInstall, ToList, ToMatch, ToRaise, ToRemove}
 use Rattle.fc_core.specs.Contents.{Listed}
 use Rattle.fc_core.specs.Stages.{after_list, word_raised}
 use Rattle.fc_core.specs.declared.stage.Step.{Step}
@@ -25,21 +25,14 @@ calls-init g c =
 pub calls-preserved-in-ToTake-1 : goal.calls-preserved-in-ToTake-1
 calls-preserved-in-ToTake-1 g c =
     let s = (shop g.B.Bench.changes g.B.Bench.ended g.B.Bench.called g.B.Bench.logged
-    g.M.Moments.is_moment g.M.Moments.is_random g.G.Gate.passed g.W.Wire.called) in
-    let room = c.stage.inside in
-    let at : c.calls.tools.stage ≡ ToTake c.in-ToTake.count =
-    stands_at c.calls.tools.stage room.step (steps.ToTake c.in-ToTake.count) room.found room.seen room.answer c.stage.view_is c.in-ToTake.is in (
+    g.M.Moments.is_moment g.M.Moments.is_random g.G.Gate.passed g.W.Wire.called) in (
       c.calls.invariant.0,
-      walks_on s c.args.number c.args.job.now at c.calls.invariant.1 (c.take.ensures.step c.args.number),
+      walks_on s c.args.number c.args.job.now refl c.calls.invariant.1 (c.take.ensures.step c.args.number),
       c.take.ensures.ended ∙ c.calls.invariant.2,
     )
 
 pub calls-smaller-in-ToTake-1 : goal.calls-smaller-in-ToTake-1
-calls-smaller-in-ToTake-1 g c =
-    let room = c.stage.inside in
-    let at : c.calls.tools.stage ≡ ToTake c.in-ToTake.count =
-    stands_at c.calls.tools.stage room.step (steps.ToTake c.in-ToTake.count) room.found room.seen room.answer c.stage.view_is c.in-ToTake.is in
-    subst (λ (x : Stage). calls_left c.take.new.stage < calls_left x) (sym at) (c.take.ensures.step c.args.number).follows.fewer
+calls-smaller-in-ToTake-1 g c = (c.take.ensures.step c.args.number).follows.fewer
 
 pub calls-preserved-in-ToCommit-1 : goal.calls-preserved-in-ToCommit-1
 calls-preserved-in-ToCommit-1 g c =
