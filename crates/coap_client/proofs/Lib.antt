@@ -1,3 +1,4 @@
+pub mod Transmitting
 pub mod Courses
 pub mod NextParts
 pub mod Sizes

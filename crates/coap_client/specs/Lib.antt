@@ -4,6 +4,8 @@ pub mod Parts
 pub mod Requests
 pub mod Replies
 pub mod Heard
+pub mod PeerCalls
+pub mod Transmissions
 pub mod Fetching
 pub mod Joined
 pub mod Notices

@@ -1,8 +1,9 @@
 //! The fetch itself: requests go out one after the other, each when the one before it was answered.
-ghost use Rattle.std.specs.Prelude.{◌≡◌, ◌+◌, ◌++◌, ◌%◌, [], IfOk, OnOk, if◌then◌else◌, length};
+ghost use Rattle.std.specs.Prelude.{◌≡◌, ℕ, ◌+◌, ◌++◌, ◌%◌, [], IfOk, OnOk, if◌then◌else◌, length};
 ghost use Rattle.coap_client.specs.Requests.{IsPartOf};
 ghost use Rattle.coap_client.specs.Replies.{begins_exchange};
 ghost use Rattle.coap_client.specs.Joined.{SendsWhole};
+ghost use Rattle.coap_client.specs.Transmissions.{AreRequests, Does, GoesOnAt};
 ghost use Rattle.coap_client.specs.Fetching.{IsAttempt, IsFetched, IsSameAnswer, IsStepOf, Out, going_on, with_taken_id};
 
 use crate::errand::Errand;
@@ -85,6 +86,7 @@ pub fn fetch<P: Peer>(
 ) -> Result<Fetched, FetchFault>
     ensures fetched { IfOk result (λ f. IsFetched P.went P.came errand.now first_id f.code.byte f.body.items) }
     ensures whole { IfOk result (λ f. SendsWhole P.went errand.now f.code.byte) }
+    ensures called { IfOk result (λ f. (n : ℕ) × Does (P.called peer.old) (P.called peer.new) (AreRequests errand.now first_id n)) }
 {
     match fetch_once(alloc, peer, errand, first_id, Vec::new(alloc))? {
         Attempt::Ended(fetched) => Ok(fetched),
@@ -108,7 +110,9 @@ fn fetch_once<P: Peer>(
     first_id: u16,
     earlier: Vec<u16>,
 ) -> Result<Attempt, FetchFault>
-    ensures { IfOk result (IsAttempt P.went P.came errand.now first_id earlier.items) }
+    ensures attempt { IfOk result (IsAttempt P.went P.came errand.now first_id earlier.items) }
+    ensures called { IfOk result (λ a. (n : ℕ) × GoesOnAt ((first_id + n) % 65536) a
+        × Does (P.called peer.old) (P.called peer.new) (AreRequests errand.now first_id n)) }
 {
     let mut course = Course {
         id: first_id,
@@ -119,10 +123,12 @@ fn fetch_once<P: Peer>(
     };
     let mut datagram = Datagram::new();
     let mut buffer = [0; BUFFER];
-    for _ in 0..REQUESTS {
+    for answered in 0..REQUESTS {
         errand.write(alloc, course.part, course.id, &mut datagram)?;
         let request = course.request(errand.confirmable, &datagram);
-        let count = ask(peer, &request, &mut buffer)?;
+        let Some(count) = ask(peer, &request, &mut buffer)? else {
+            return Err(FetchFault::Silence);
+        };
         let Ok(message) = read(&buffer[..count]) else {
             unreachable!();
         };

@@ -11,6 +11,11 @@
 //!   `Peer::send`, and its datagram came from `Peer::receive`. A separate one is that of a request whose acknowledgement came, unless it
 //!   was non-confirmable, and its id is none of those before; and it was acknowledged where it is confirmable, and again where it comes
 //!   again.
+//! - What a fetch that ends with an answer calls on its peer, call by call (`Peer::called`): requests of its errand alone, whose ids count up,
+//!   each once the one before was answered. A confirmable one is sent again, by the same bytes, when a wait is over, of 2, 4, 8 and 16
+//!   seconds, so five times at most; once it is acknowledged it isn't, and 93 seconds more are waited. Another is sent once, and waited
+//!   for 32 seconds. Beside these nothing is sent but acknowledgements. `transmission::ask` tells that no answer came only where it was
+//!   sent five times, or acknowledged, and each wait was over, or 2^64 - 1 datagrams came in one.
 //! - An answer that doesn't fit what was asked ends the fetch, by a clause. Where a fetch ends by a success, requests that were handed over
 //!   bring the whole body, joined; each block of it goes behind a success that says that the one before was taken; and the answer is the
 //!   payloads of blocks of one ETag, or of none, each of which begins where the ones before it end, and behind the last of which there is

@@ -16,7 +16,7 @@ use crate::fetcher::FetchFault;
 use crate::notice::{Interest, Notice, is_notification, is_reply_with};
 use crate::peer::Peer;
 use crate::reply::{is_empty_acknowledgement, is_reset};
-use crate::transmission::{Listened, Reception, SEPARATE_WAIT, WAITS, acknowledge};
+use crate::transmission::{Listened, Reception, SENDINGS, SEPARATE_WAIT, ack_timeout, acknowledge};
 use crate::watch::Watch;
 use coap_msg::{Code, Datagram, Message, MessageType, Outgoing, read, write};
 use coap_opts::number::{OBSERVE, URI_PATH, URI_QUERY};
@@ -80,9 +80,9 @@ impl<'a> Observer<'a> {
         ensures { IfOk result (λ count. (count ≤ length buffer.new) × P.went datagram.now.items
             × HasArrived P.came (IsResponseWith self.now.token self.now.id) (take count buffer.new)) }
     {
-        for seconds in WAITS {
+        for sendings in 0..SENDINGS {
             peer.send(datagram)?;
-            peer.begin_wait(seconds)?;
+            peer.begin_wait(ack_timeout(sendings))?;
             match self.listen(peer, false, buffer)? {
                 Listened::Answer(count) => return Ok(count),
                 Listened::Acknowledged => {
@@ -151,9 +151,9 @@ impl<'a> Observer<'a> {
             id,
             &mut datagram,
         )?;
-        for seconds in WAITS {
+        for sendings in 0..SENDINGS {
             peer.send(&datagram)?;
-            peer.begin_wait(seconds)?;
+            peer.begin_wait(ack_timeout(sendings))?;
             if is_acknowledged(peer, &self.token, id, buffer)? {
                 return Ok(());
             }

@@ -1,5 +1,6 @@
 //! The server, as a client has it.
-ghost use Rattle.std.specs.Prelude.{◌≤◌, ⊤, ℕ, List, IfOk, IfSome, OnOk, length, take};
+ghost use Rattle.std.specs.Prelude.{◌≤◌, ⊤, ℕ, [], ◌∷◌, List, IfOk, IfSome, OnOk, length, take};
+ghost use Rattle.coap_client.specs.PeerCalls.{Adds, PeerCall, Sends, Waits, received_in};
 
 use coap_msg::Datagram;
 use std::io;
@@ -12,6 +13,9 @@ pub trait Peer {
     // Which datagrams came by it.
     ghost came: { List ℕ → Type 0 } = { λ _. ⊤ };
 
+    // What was called on it, the newest first: it says of a list of calls that it is that.
+    ghost called: { Self → List PeerCall → Type 0 } = { λ peer calls. ⊤ };
+
     // Which moments it has told.
     ghost is_moment: { ℕ → Type 0 } = { λ _. ⊤ };
 
@@ -20,13 +24,15 @@ pub trait Peer {
     /// # Errors
     /// It couldn't be sent.
     fn send(&mut self, datagram: &Datagram) -> io::Result<()>
-        ensures { OnOk result (went datagram.now.items) };
+        ensures went { OnOk result (went datagram.now.items) }
+        ensures called { OnOk result (Adds (called self.old) (called self.new) (Sends datagram.now.items ∷ [])) };
 
     /// Begins a wait of so many seconds.
     ///
     /// # Errors
     /// There is no clock.
-    fn begin_wait(&mut self, seconds: u64) -> io::Result<()>;
+    fn begin_wait(&mut self, seconds: u64) -> io::Result<()>
+        ensures { OnOk result (Adds (called self.old) (called self.new) (Waits seconds ∷ [])) };
 
     /// The moment that it is, in milliseconds since some start.
     ///
@@ -41,5 +47,6 @@ pub trait Peer {
     /// # Errors
     /// Nothing can be received.
     fn receive(&mut self, buffer: &mut [u8]) -> io::Result<Option<usize>>
-        ensures { IfOk result (λ r. IfSome r (λ count. (count ≤ length buffer.new) × came (take count buffer.new))) };
+        ensures came { IfOk result (λ r. IfSome r (λ count. (count ≤ length buffer.new) × came (take count buffer.new))) }
+        ensures called { IfOk result (λ r. Adds (called self.old) (called self.new) (received_in buffer.new r ∷ [])) };
 }

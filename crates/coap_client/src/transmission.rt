@@ -1,11 +1,14 @@
 //! What comes from the server: a request goes out, and again until it is answered or acknowledged.
-ghost use Rattle.std.specs.Prelude.{◌≡◌, ◌≤◌, IfOk, OnOk, false, length, take, true};
+ghost use Rattle.std.specs.Prelude.{◌≡◌, ◌+◌, ◌<◌, ◌≤◌, ◌^◌, [], ◌∷◌, IfOk, IfSome, OnOk, false, length, take, true};
+ghost use Rattle.std.specs.List.{All};
 ghost use Rattle.coap_msg.specs.Wire.{message_bytes};
 ghost use Rattle.coap_msg.specs.Reading.{reading_of};
 ghost use Rattle.coap_msg.specs.Wire as wire;
 ghost use Rattle.coap_msg.specs.declared.types.MessageType.TheVariants.{Confirmable};
 ghost use Rattle.coap_client.specs.Heard.{AcknowledgesRepeat, Listens, HasTakenResponse, HasResponse, IsAwaitedAnswer, IsHeardAs, Tells};
+ghost use Rattle.coap_client.specs.PeerCalls.{Adds, Sends, Waits};
 ghost use Rattle.coap_client.specs.Replies.{is_taken};
+ghost use Rattle.coap_client.specs.Transmissions.{Does, IsAsked, IsAskedAgain, IsAwaited, IsHeard, IsMeanwhile, IsSending, IsTransmission};
 ghost use Rattle.coap_client.specs.Requests.{acknowledgement};
 
 use crate::fetcher::FetchFault;
@@ -13,8 +16,11 @@ use crate::peer::Peer;
 use crate::reply::{is_empty_acknowledgement, is_reply, is_reset, is_separate};
 use coap_msg::{Code, Datagram, Message, MessageType, Outgoing, read, write};
 
-/// How long the answer to each sending of a request is waited for, in seconds: RFC 7252, 4.2 and 4.8, without the random part.
-pub(crate) const WAITS: [u64; 5] = [2, 4, 8, 16, 32];
+/// How often a confirmable request is sent at most: once, and MAX_RETRANSMIT times again (RFC 7252, 4.8).
+pub(crate) const SENDINGS: u32 = 5;
+
+/// How long the answer to the first sending of a request is waited for, in seconds (ACK_TIMEOUT, RFC 7252, 4.8).
+const ACK_TIMEOUT: u64 = 2;
 
 /// How long an answer is waited for once the request was acknowledged, in seconds: as long as a sender waits for an
 /// acknowledgement at most, MAX_TRANSMIT_WAIT (RFC 7252, 4.8.2).
@@ -61,25 +67,53 @@ pub enum Listened {
     Nothing,
 }
 
+/// Computes how long the answer is waited for after so many sendings of a request, in seconds: each time twice as long (RFC 7252, 4.2,
+/// without the random part).
+pub(crate) fn ack_timeout(sendings: u32) -> u64
+    requires { sendings < 5 }
+    ensures { result ≡ 2 ^ (sendings + 1) }
+{
+    ACK_TIMEOUT << sendings
+}
+
 /// Sends a request, and again where it isn't answered or acknowledged in time; how many bytes at the start of the buffer its answer
-/// is. A confirmable answer is acknowledged.
+/// is, or `None` where none came, to the last sending either. A confirmable answer is acknowledged.
 ///
 /// # Errors
-/// No answer came, the request was rejected, or sending or receiving failed.
+/// The request was rejected, or sending or receiving failed.
 pub fn ask<P: Peer>(
     peer: &mut P,
     request: &SentRequest<'_>,
     buffer: &mut [u8],
-) -> Result<usize, FetchFault>
-    ensures { IfOk result (λ count. (count ≤ length buffer.new) × HasTakenResponse P.went P.came request.now (take count buffer.new)) }
+) -> Result<Option<usize>, FetchFault>
+    ensures response { IfOk result (λ r. IfSome r (λ count. (count ≤ length buffer.new)
+        × HasTakenResponse P.went P.came request.now (take count buffer.new))) }
+    ensures called { IfOk result (λ r. Does (P.called peer.old) (P.called peer.new)
+        (IsTransmission request.now.confirmable request.now.datagram.now.items r)) }
 {
-    let count = if request.confirmable {
-        ask_again(peer, request, buffer)?
-    } else {
-        ask_once(peer, request, buffer)?
+    let Some(count) = transmit(peer, request, buffer)? else {
+        return Ok(None);
     };
     acknowledge(peer, &buffer[..count])?;
-    Ok(count)
+    Ok(Some(count))
+}
+
+// Asks by a confirmable request, or by another.
+fn transmit<P: Peer>(
+    peer: &mut P,
+    request: &SentRequest<'_>,
+    buffer: &mut [u8],
+) -> Result<Option<usize>, FetchFault>
+    ensures response { IfOk result (λ r. IfSome r (λ count. (count ≤ length buffer.new)
+        × HasResponse P.went P.came request.now (take count buffer.new))) }
+    ensures called { IfOk result (λ r. Does (P.called peer.old) (P.called peer.new)
+        (IsAsked request.now.confirmable request.now.datagram.now.items r)) }
+{
+    if request.confirmable {
+        ask_again(peer, request, buffer)
+    } else {
+        ask_once(peer, request, buffer)
+    }
 }
 
 // Asks by a confirmable request.
@@ -87,13 +121,17 @@ fn ask_again<P: Peer>(
     peer: &mut P,
     request: &SentRequest<'_>,
     buffer: &mut [u8],
-) -> Result<usize, FetchFault>
-    ensures { IfOk result (λ count. (count ≤ length buffer.new) × HasResponse P.went P.came request.now (take count buffer.new)) }
+) -> Result<Option<usize>, FetchFault>
+    requires { request.now.confirmable ≡ true }
+    ensures response { IfOk result (λ r. IfSome r (λ count. (count ≤ length buffer.new)
+        × HasResponse P.went P.came request.now (take count buffer.new))) }
+    ensures called { IfOk result (λ r. Does (P.called peer.old) (P.called peer.new)
+        (IsAskedAgain request.now.datagram.now.items r)) }
 {
-    for seconds in WAITS {
-        send(peer, request, seconds)?;
+    for sendings in 0..SENDINGS {
+        send(peer, request, ack_timeout(sendings))?;
         match listen(peer, request, false, buffer)? {
-            Listened::Answer(count) => return Ok(count),
+            Listened::Answer(count) => return Ok(Some(count)),
             Listened::Acknowledged => {
                 peer.begin_wait(SEPARATE_WAIT)?;
                 return await_separate(peer, request, buffer);
@@ -101,7 +139,7 @@ fn ask_again<P: Peer>(
             Listened::Nothing => {}
         }
     }
-    Err(FetchFault::Silence)
+    Ok(None)
 }
 
 // Asks by a non-confirmable request.
@@ -109,9 +147,12 @@ fn ask_once<P: Peer>(
     peer: &mut P,
     request: &SentRequest<'_>,
     buffer: &mut [u8],
-) -> Result<usize, FetchFault>
+) -> Result<Option<usize>, FetchFault>
     requires { request.now.confirmable ≡ false }
-    ensures { IfOk result (λ count. (count ≤ length buffer.new) × HasResponse P.went P.came request.now (take count buffer.new)) }
+    ensures response { IfOk result (λ r. IfSome r (λ count. (count ≤ length buffer.new)
+        × HasResponse P.went P.came request.now (take count buffer.new))) }
+    ensures called { IfOk result (λ r. Does (P.called peer.old) (P.called peer.new)
+        (IsSending request.now.datagram.now.items 32 (IsAwaited r))) }
 {
     send(peer, request, NON_WAIT)?;
     await_separate(peer, request, buffer)
@@ -119,7 +160,8 @@ fn ask_once<P: Peer>(
 
 // Sends a request, and begins a wait of so many seconds.
 fn send<P: Peer>(peer: &mut P, request: &SentRequest<'_>, seconds: u64) -> Result<(), FetchFault>
-    ensures { OnOk result (P.went request.now.datagram.now.items) }
+    ensures went { OnOk result (P.went request.now.datagram.now.items) }
+    ensures called { OnOk result (Adds (P.called peer.old) (P.called peer.new) (Waits seconds ∷ Sends request.now.datagram.now.items ∷ [])) }
 {
     peer.send(request.datagram)?;
     peer.begin_wait(seconds)?;
@@ -131,12 +173,14 @@ fn await_separate<P: Peer>(
     peer: &mut P,
     request: &SentRequest<'_>,
     buffer: &mut [u8],
-) -> Result<usize, FetchFault>
-    ensures { IfOk result (λ count. (count ≤ length buffer.new) × IsAwaitedAnswer P.came request.now true (take count buffer.new)) }
+) -> Result<Option<usize>, FetchFault>
+    ensures answer { IfOk result (λ r. IfSome r (λ count. (count ≤ length buffer.new)
+        × IsAwaitedAnswer P.came request.now true (take count buffer.new))) }
+    ensures called { IfOk result (λ r. Does (P.called peer.old) (P.called peer.new) (IsAwaited r)) }
 {
     match listen(peer, request, true, buffer)? {
-        Listened::Answer(count) => Ok(count),
-        Listened::Acknowledged | Listened::Nothing => Err(FetchFault::Silence),
+        Listened::Answer(count) => Ok(Some(count)),
+        Listened::Acknowledged | Listened::Nothing => Ok(None),
     }
 }
 
@@ -147,9 +191,10 @@ fn listen<P: Peer>(
     awaited: bool,
     buffer: &mut [u8],
 ) -> Result<Listened, FetchFault>
-    ensures { IfOk result (Listens P.came request.now awaited buffer.new) }
+    ensures listened { IfOk result (Listens P.came request.now awaited buffer.new) }
+    ensures called { IfOk result (λ x. Does (P.called peer.old) (P.called peer.new) (IsHeard awaited x)) }
 {
-    for _ in 0..u64::MAX {
+    for received in 0..u64::MAX {
         let Some(count) = peer.receive(buffer)? else {
             return Ok(Listened::Nothing);
         };
@@ -173,6 +218,7 @@ fn hear_from<P: Peer>(
 ) -> Result<Reception, FetchFault>
     ensures heard { IfOk result (Tells request.now bytes.now) }
     ensures repeat { IfOk result (AcknowledgesRepeat P.went bytes.now) }
+    ensures called { OnOk result (Does (P.called peer.old) (P.called peer.new) (All IsMeanwhile)) }
 {
     let heard = hear_datagram(request, bytes);
     if heard == Reception::Repeat {
@@ -211,8 +257,9 @@ fn hear_message(request: &SentRequest<'_>, message: &Message<'_>) -> Reception
 
 // Acknowledges a message that asks for it (RFC 7252, 4.2).
 pub(crate) fn acknowledge<P: Peer>(peer: &mut P, bytes: &[u8]) -> Result<(), FetchFault>
-    ensures { OnOk result ((m : wire.Message) → reading_of bytes.now ≡ Ok m → m.kind ≡ Confirmable
+    ensures went { OnOk result ((m : wire.Message) → reading_of bytes.now ≡ Ok m → m.kind ≡ Confirmable
         → P.went (message_bytes (acknowledgement m.id))) }
+    ensures called { OnOk result (Does (P.called peer.old) (P.called peer.new) (All IsMeanwhile)) }
 {
     match read(bytes) {
         Ok(message) if message.kind() == MessageType::Confirmable => {

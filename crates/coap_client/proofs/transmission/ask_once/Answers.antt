@@ -1,0 +1,6 @@
+use Rattle.coap_client.proofs.Transmitting.{once}
+use Rattle.coap_client.proofs.transmission.ask_once.Goals as goal
+
+pub returns-clause-called : goal.returns-clause-called
+returns-clause-called g c =
+    once _ _ (g.P.Peer.called c.send.new.peer) _ c.in_ok-send.ensures.called c.await_separate.result c.await_separate.ensures.called

@@ -1,0 +1,19 @@
+-- What a client calls on a peer. Of a list of calls the newest stands first.
+use Rattle.std.specs.Prelude.{ℕ, List, ◌++◌, take, Option}
+use Rattle.std.specs.Option.{option_map}
+
+pub data PeerCall : Type 0 where
+  -- a datagram is sent
+  Sends : (bytes : List ℕ) → PeerCall
+  -- a wait of so many seconds is begun
+  Waits : (seconds : ℕ) → PeerCall
+  -- a datagram comes while the wait lasts; or none, since it is over
+  Receives : (bytes : Option (List ℕ)) → PeerCall
+
+-- these calls are added to those before
+abbrev pub Adds : (List PeerCall → Type 0) → (List PeerCall → Type 0) → List PeerCall → Type 0
+Adds before after more = (calls : List PeerCall) → before calls → after (more ++ calls)
+
+-- the datagram at the start of the buffer, if one came
+abbrev pub received_in : List ℕ → Option ℕ → PeerCall
+received_in buffer count = Receives (option_map (λ n. take n buffer) count)

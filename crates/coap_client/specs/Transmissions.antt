@@ -1,0 +1,127 @@
+-- How often a request is sent, and how long its answer is waited for (RFC 7252, 4.2). Of what a client calls, the newest stands first.
+use Rattle.std.specs.Prelude.{◌≡◌, ℕ, zero, suc, ◌+◌, ◌%◌, ◌<◌, ◌≤◌, ◌^◌, ◌⊎◌, Bool, true, false, List, [], ◌∷◌, ◌++◌, length, Option, Some, None}
+use Rattle.std.specs.List.{All}
+use Rattle.coap_msg.specs.Wire.{message_bytes}
+use Rattle.coap_client.specs.declared.transmission.Listened.{Listened}
+use Rattle.coap_client.specs.declared.transmission.Listened.TheVariants as listened
+use Rattle.coap_client.specs.PeerCalls.{PeerCall, Sends, Waits, Receives}
+use Rattle.coap_client.specs.declared.errand.Errand.{Errand}
+use Rattle.coap_client.specs.declared.fetcher.Attempt.{Attempt}
+use Rattle.coap_client.specs.declared.fetcher.Attempt.TheVariants.{Outdated}
+use Rattle.coap_client.specs.declared.part.Part.{Part}
+use Rattle.coap_client.specs.Requests.{IsPartOf, acknowledgement, part_request}
+
+-- calls of this kind are added to those before
+pub record HasAdded (after : List PeerCall → Type 0) (P : List PeerCall → Type 0) (calls : List PeerCall) : Type 0 where
+  pub more : List PeerCall
+  pub are : P more
+  pub is : after (more ++ calls)
+
+abbrev pub Does : (List PeerCall → Type 0) → (List PeerCall → Type 0) → (List PeerCall → Type 0) → Type 0
+Does before after P = (calls : List PeerCall) → before calls → HasAdded after P calls
+
+-- the acknowledgement of some message
+pub record IsAcknowledgement (bytes : List ℕ) : Type 0 where
+  pub id : ℕ
+  pub is : bytes ≡ message_bytes (acknowledgement id)
+
+-- while a wait lasts datagrams come, and nothing is sent but acknowledgements
+abbrev pub IsMeanwhile : PeerCall → Type 0
+IsMeanwhile (Sends bytes) = IsAcknowledgement bytes
+IsMeanwhile (Receives (Some bytes)) = Unit {0}
+IsMeanwhile other = ⊥
+
+-- the wait is over; or so many datagrams came that no more are listened to
+pub record IsOver (heard : List PeerCall) : Type 0 where
+  pub meanwhile : List PeerCall
+  pub are : All IsMeanwhile meanwhile
+  pub is : (heard ≡ Receives None ∷ meanwhile) ⊎ ((heard ≡ meanwhile) × (2 ^ 64 ≤ length meanwhile + 1))
+
+-- what was called while it lasted; an acknowledgement ends it only where no answer in a message of its own is awaited
+abbrev pub IsHeard : Bool → Listened → List PeerCall → Type 0
+IsHeard awaited listened.Nothing heard = IsOver heard
+IsHeard awaited listened.Acknowledged heard = (awaited ≡ false) × All IsMeanwhile heard
+IsHeard awaited (listened.Answer count) heard = All IsMeanwhile heard
+
+-- an answer came, or the wait is over
+abbrev pub IsAwaited : Option ℕ → List PeerCall → Type 0
+IsAwaited None heard = IsOver heard
+IsAwaited (Some count) heard = All IsMeanwhile heard
+
+-- a request is sent, and its answer waited for so many seconds
+pub record IsSending (request : List ℕ) (seconds : ℕ) (P : List PeerCall → Type 0) (calls : List PeerCall) : Type 0 where
+  pub heard : List PeerCall
+  pub ends : P heard
+  pub is : calls ≡ heard ++ (Waits seconds ∷ Sends request ∷ [])
+
+-- it was sent n times, and each wait was over: the first one of 2 seconds, each other one twice as long as the one before it
+pub record IsSentAgain (Before : List PeerCall → Type 0) (request : List ℕ) (n : ℕ) (calls : List PeerCall) : Type 0 where
+  pub older : List PeerCall
+  pub before : Before older
+  pub last : List PeerCall
+  pub in_vain : IsSending request (2 ^ (n + 1)) IsOver last
+  pub is : calls ≡ last ++ older
+
+abbrev pub AreInVain : List ℕ → ℕ → List PeerCall → Type 0
+AreInVain request zero calls = calls ≡ []
+AreInVain request (suc n) calls = IsSentAgain (AreInVain request n) request n calls
+
+-- it was acknowledged, and its answer waited for 93 seconds more
+pub record IsAcknowledged (P : List PeerCall → Type 0) (heard : List PeerCall) : Type 0 where
+  pub first : List PeerCall
+  pub are : All IsMeanwhile first
+  pub more : List PeerCall
+  pub ends : P more
+  pub is : heard ≡ more ++ Waits 93 ∷ first
+
+-- after fewer than five sendings in vain it is sent once more
+pub record IsLastSending (request : List ℕ) (P : List PeerCall → Type 0) (calls : List PeerCall) : Type 0 where
+  pub n : ℕ
+  pub few : n < 5
+  pub older : List PeerCall
+  pub before : AreInVain request n older
+  pub last : List PeerCall
+  pub sending : IsSending request (2 ^ (n + 1)) P last
+  pub is : calls ≡ last ++ older
+
+abbrev pub IsAnswered : List PeerCall → Type 0
+IsAnswered heard = All IsMeanwhile heard ⊎ IsAcknowledged (All IsMeanwhile) heard
+
+-- a confirmable request is answered, at once or after it was acknowledged; or it is sent five times in vain, or acknowledged and then not answered
+abbrev pub IsAskedAgain : List ℕ → Option ℕ → List PeerCall → Type 0
+IsAskedAgain request (Some count) calls = IsLastSending request IsAnswered calls
+IsAskedAgain request None calls = AreInVain request 5 calls ⊎ IsLastSending request (IsAcknowledged IsOver) calls
+
+-- another is sent once
+abbrev pub IsAsked : Bool → List ℕ → Option ℕ → List PeerCall → Type 0
+IsAsked true request answer calls = IsAskedAgain request answer calls
+IsAsked false request answer calls = IsSending request 32 (IsAwaited answer) calls
+
+-- a request is transmitted, and its answer acknowledged where that asks for it
+pub record IsTransmission (confirmable : Bool) (request : List ℕ) (answer : Option ℕ) (calls : List PeerCall) : Type 0 where
+  pub asked : List PeerCall
+  pub is_asked : IsAsked confirmable request answer asked
+  pub taken : List PeerCall
+  pub acknowledged : All IsMeanwhile taken
+  pub is : calls ≡ taken ++ asked
+
+-- a request of a part of the errand, with this message id, is transmitted and answered after those before
+pub record IsNextRequest (Before : List PeerCall → Type 0) (e : Errand) (id : ℕ) (calls : List PeerCall) : Type 0 where
+  pub older : List PeerCall
+  pub before : Before older
+  pub part : Part
+  pub own : IsPartOf e part
+  pub count : ℕ
+  pub last : List PeerCall
+  pub transmission : IsTransmission e.confirmable (message_bytes (part_request e part id)) (Some count) last
+  pub is : calls ≡ last ++ older
+
+-- n requests of the errand, whose ids count up from the first, and nothing else
+abbrev pub AreRequests : Errand → ℕ → ℕ → List PeerCall → Type 0
+AreRequests e first zero calls = calls ≡ []
+AreRequests e first (suc n) calls = IsNextRequest (AreRequests e first n) e ((first + n) % 65536) calls
+
+-- a fetch that is to begin again goes on at the next id
+abbrev pub GoesOnAt : ℕ → Attempt → Type 0
+GoesOnAt id (Outdated next earlier) = next ≡ id
+GoesOnAt id other = Unit {0}
