@@ -1,15 +1,17 @@
 #!/usr/bin/env python3
-"""Measures how long a step of a run takes, beside a loop in C that makes its checks at each step (bench/checked.c).
+"""Measures what a step of a run takes, beside a loop in C that makes its checks at each step (bench/checked.c).
 
-Run it at the top of the repository, behind `rt run` in crates/fcasm and crates/fcd; it wants gcc and clang:
+Run it at the top of the repository, behind `rt run` in crates/fcasm and crates/fcd; it wants valgrind, gcc and clang:
 
     python3 bench/loops.py
 
-Each program is a loop of 1,024 turns, or of fewer where its body is long, in another as often as the budget allows. `fcd play` runs it
-once for each of 400 GETs, and the loop in C as often; what is told are nanoseconds of user time a step, less what a program of two steps
-takes: the least of seven rounds, in which all take turns.
+Most programs are a loop of 1,024 turns, or of fewer where its body is long, in another as often as the budget allows. `fcd play` runs each
+once for each of 400 GETs, and the loop in C as often; what is told are a step's machine instructions, by callgrind over 20 GETs, and
+nanoseconds of user time, less what a program of two steps takes: the least of eleven rounds, in which all take turns on one processor.
 """
+import math
 import os
+import re
 import subprocess
 import sys
 import tempfile
@@ -19,7 +21,8 @@ FCASM = "crates/fcasm/out/fcasm"
 FCD = "crates/fcd/out/fcd"
 BUDGET = 65_536
 RUNS = 400
-ROUNDS = 7
+COUNTED = 20
+ROUNDS = 11
 
 ARITHMETIC = "\n".join(f"{name}{width} r{1 + k % 5}, {1 + k % 31}" for width in (64, 32) for k, name in
                        enumerate(("add", "sub", "mul", "or", "and", "lsh", "rsh", "xor", "arsh")))
@@ -42,6 +45,10 @@ PROGRAMS = [
     ("the same, all taken", "\n".join([ALL_TAKEN] * 6), 500),
 ]
 
+# The same of whole texts: turns that are written out, and calls of a function.
+WRITTEN_OUT = "mov64 r6, 0\n" + "add64 r6, 1\njlt r6, 1023, 0\n" * 510 + "mov64 r0, 0\nexit\n"
+CALLING = "mov64 r6, 0\ninner:\n" + "callf leaf\n" * 20 + "add64 r6, 1\njlt r6, 1000, inner\nmov64 r0, 0\nexit\nleaf:\nmov64 r0, 0\nexit\n"
+
 
 def text_of(body, turns):
     """The text of a program with a body in a loop of so many turns, in one of as many as the budget allows."""
@@ -60,7 +67,7 @@ def image_of(text):
     return done.stdout, int(told.split("\nsteps ")[1].split()[0])
 
 
-def played(image):
+def played(image, runs=RUNS):
     """The lines of `fcd play` that install an image in slot 0, by blocks of 1,024 bytes, and run it by GETs, each of which finds no exchange of another."""
     lines = []
     for number in range((len(image) + 1023) // 1024):
@@ -69,7 +76,7 @@ def played(image):
         option = bytes([0xD1, 3, block]) if block < 256 else bytes([0xD2, 3]) + block.to_bytes(2, "big")
         head = bytes([0x40, 3]) + number.to_bytes(2, "big") + b"\xb1p\x010" + option + b"\xff"
         lines.append(f"0 1 {(head + image[1024 * number:1024 * (number + 1)]).hex()}\n")
-    return "".join(lines + [f"{247_000 * (1 + k)} 1 4001{256 + k:04x}b1720130\n" for k in range(RUNS)])
+    return "".join(lines + [f"{247_000 * (1 + k)} 1 4001{256 + k:04x}b1720130\n" for k in range(runs)])
 
 
 def check(image, steps, loops):
@@ -93,10 +100,21 @@ def user_time(words, data):
     return used.ru_utime
 
 
+def counted(words, data):
+    """The machine instructions of a command that is given these bytes."""
+    words = ["valgrind", "--tool=callgrind", "--callgrind-out-file=/dev/null", *words]
+    return int(re.search(rb"Collected : (\d+)", subprocess.run(words, input=data, capture_output=True).stderr)[1])
+
+
 def least(commands):
     """The least user time of each of some commands, which take turns."""
     rounds = [[user_time(words, data) for words, data in commands] for _ in range(ROUNDS)]
     return [min(times) for times in zip(*rounds)]
+
+
+def commands_of(image, loops, runs):
+    """What runs an image so often: `fcd play`, and each loop in C."""
+    return [([FCD, "play"], played(image, runs).encode())] + [([loop, str(runs)], image) for loop in loops]
 
 
 def main():
@@ -105,14 +123,21 @@ def main():
         for compiler, loop in zip(("gcc", "clang"), loops):
             subprocess.run([compiler, "-O2", "-o", loop, "bench/checked.c"], check=True)
         small, _ = image_of("mov64 r0, 0\nexit\n")
-        print("| A run | Steps | `fcd play`, ns a step | C, gcc | C, clang |\n|---|---|---|---|---|")
-        for told, body, turns in PROGRAMS:
-            image, steps = image_of(text_of(body, turns))
+        os.sched_setaffinity(0, {max(os.sched_getaffinity(0))})
+        print("| A run | Steps | Instructions | C, gcc | C, clang | Nanoseconds | C, gcc | C, clang |\n|---|---|---|---|---|---|---|---|")
+        ratios = []
+        for told, text in [(told, text_of(body, turns)) for told, body, turns in PROGRAMS] + [
+            ("turns written out: `add64` of an immediate, and a `jlt` to the next slot", WRITTEN_OUT), ("`callf`, `mov64 r0, 0`, `exit`", CALLING)
+        ]:
+            image, steps = image_of(text)
             check(image, steps, loops)
-            commands = [command for it in (image, small) for command in [([FCD, "play"], played(it).encode())] + [([loop, str(RUNS)], it) for loop in loops]]
-            times = least(commands)
-            each = [(long - short) / RUNS / (steps - 2) * 1e9 for long, short in zip(times[:3], times[3:])]
-            print(f"| {told} | {steps:,} | " + " | ".join(f"{it:.2f}" for it in each) + " |", flush=True)
+            counts = [counted(words, data) for it in (image, small) for words, data in commands_of(it, loops, COUNTED)]
+            times = least([command for it in (image, small) for command in commands_of(it, loops, RUNS)])
+            each = [(long - short) / COUNTED / (steps - 2) for long, short in zip(counts[:3], counts[3:])]
+            spent = [(long - short) / RUNS / (steps - 2) * 1e9 for long, short in zip(times[:3], times[3:])]
+            ratios.append(spent[0] / min(spent[1:]))
+            print(f"| {told} | {steps:,} | " + " | ".join([f"{it:.1f}" for it in each] + [f"{it:.2f}" for it in spent]) + " |", flush=True)
+        print(f"\nOf the time of the faster loop in C: {math.prod(ratios) ** (1 / len(ratios)):.2f} in the geometric mean, {max(ratios):.2f} in the worst.")
     return 0
 
 

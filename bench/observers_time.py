@@ -6,8 +6,8 @@ Run it at the top of the repository, behind `rt run` in crates/fcd, with Debian'
     python3 bench/observers_time.py
 
 Each round has a fresh server, 32 observers on ports of their own, and 100 changes, each when all have heard the one before it. A
-confirmable notification is acknowledged at once. What is told is the server's user and system time of a change, by the scheduler: five
-rounds, the least and the middle one.
+confirmable notification is acknowledged at once. What is told is the server's user and system time of a change, by the scheduler: the least and the
+middle one of nine rounds, in which the servers take turns, pinned to two processors of their own.
 """
 import os
 import shutil
@@ -20,7 +20,7 @@ import time
 FCD = "crates/fcd/out/fcd"
 OBSERVERS = 32
 CHANGES = 100
-ROUNDS = 5
+ROUNDS = 9
 PORT = 5698
 SERVER = ("127.0.0.1", PORT)
 
@@ -54,7 +54,7 @@ def hear(observer):
 
 def round_of(words, setup, observe, change):
     """Microseconds of the server's processor time for each change of one round."""
-    server = subprocess.Popen(words, stdout=subprocess.DEVNULL, stderr=subprocess.DEVNULL)
+    server = subprocess.Popen(["taskset", "-c", "2,3", *words], stdout=subprocess.DEVNULL, stderr=subprocess.DEVNULL)
     try:
         time.sleep(0.5)
         client, *observers = [socket.socket(socket.AF_INET, socket.SOCK_DGRAM) for _ in range(OBSERVERS + 1)]
@@ -75,23 +75,24 @@ def round_of(words, setup, observe, change):
         server.wait()
 
 
-def measure(name, words, setup, observe, change):
-    rounds = [round_of(words, setup, observe, change) for _ in range(ROUNDS)]
-    print(f"| {name} | {min(rounds):.0f} | {statistics.median(rounds):.0f} |", flush=True)
-
-
 def main():
-    print("| a change that 32 observers hear | least, us | middle, us |\n| --- | --- | --- |")
-    for workers in ("1", "2"):
-        serve = [FCD, "serve", "--port", str(PORT), "--workers", workers]
+    os.sched_setaffinity(0, {0, 1})
+    kinds = []
+    for words in ([], ["--workers", "1"]):
+        serve = [FCD, "serve", "--port", str(PORT), *words]
         put = bytes.fromhex("40030000b1700130ff") + COUNT
-        measure(f"fcd, {workers} workers, POST", serve, put, bytes.fromhex("410100006f6051720130"), bytes.fromhex("40020000b1720130"))
+        name = " ".join(["fcd serve", *words])
+        kinds.append((f"`{name}`, POST of a program that calls `notify`", serve, put, bytes.fromhex("410100006f6051720130"), bytes.fromhex("40020000b1720130")))
     libcoap = shutil.which("coap-server") or "coap-server-notls"
     # `example_data`, which a PUT changes; it is put first, since what it begins with takes two blocks
     path = b"example_data"
     observe = bytes.fromhex("410100006f60") + bytes([0x50 | len(path)]) + path
     change = bytes.fromhex("40030000") + bytes([0xb0 | len(path)]) + path + b"\xff"
-    measure("coap-server, PUT", [libcoap, "-A", "127.0.0.1", "-p", str(PORT)], change + b"first", observe, change)
+    kinds.append(("`coap-server`, PUT of `example_data`", [libcoap, "-A", "127.0.0.1", "-p", str(PORT)], change + b"first", observe, change))
+    rounds = [[round_of(*kind) for _, *kind in kinds] for _ in range(ROUNDS)]
+    print("| A change that 32 observers hear | least, us | middle, us |\n|---|---|---|")
+    for (name, *_), times in zip(kinds, zip(*rounds)):
+        print(f"| {name} | {min(times):.0f} | {statistics.median(times):.0f} |", flush=True)
     return 0
 
 

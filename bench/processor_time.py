@@ -1,7 +1,7 @@
 #!/usr/bin/env python3
-"""Measures the processor time of a request: `fcd serve` beside libcoap's `coap-server`.
+"""Measures the processor time of a request: `fcd serve` beside libcoap's `coap-server`, and a server in C that only receives and sends (bench/echo.c).
 
-Run it at the top of the repository, behind `rt run` in crates/fcd, with Debian's libcoap3-bin:
+Run it at the top of the repository, behind `rt run` in crates/fcd, with gcc and Debian's libcoap3-bin:
 
     python3 bench/processor_time.py
 
@@ -15,6 +15,7 @@ import socket
 import statistics
 import subprocess
 import sys
+import tempfile
 import time
 
 FCD = "crates/fcd/out/fcd"
@@ -91,6 +92,14 @@ def round_of(words, setup, request, code, count):
 
 def main():
     os.sched_setaffinity(0, {0, 1})
+    with tempfile.TemporaryDirectory() as room:
+        echo = f"{room}/echo"
+        subprocess.run(["gcc", "-O2", "-o", echo, "bench/echo.c"], check=True)
+        measure([echo, str(PORT)])
+    return 0
+
+
+def measure(echo):
     libcoap = [shutil.which("coap-server") or "coap-server-notls", "-A", "127.0.0.1", "-p", str(PORT)]
     serve = [FCD, "serve", "--port", str(PORT)]
     alone = [*serve, "--workers", "1"]
@@ -101,6 +110,7 @@ def main():
         ("`fcd serve --workers 1`, POST", alone, PUT + EIGHT, POST, 0x44),
         ("`coap-server`, GET of `/`", libcoap, b"", ROOT, 0x45),
         ("`coap-server`, PUT of `example_data`", libcoap, EXAMPLE, EXAMPLE, 0x44),
+        ("a server that only receives and sends", echo, b"", GET, 0x45),
     ]
     times = {}
     for _ in range(ROUNDS):
@@ -111,7 +121,6 @@ def main():
     for name, *_ in kinds:
         cells = [f(times[name, count]) for count in (1, 8) for f in (min, statistics.median)]
         print(f"| {name} | " + " | ".join(f"{cell:.1f}" for cell in cells) + " |", flush=True)
-    return 0
 
 
 if __name__ == "__main__":

@@ -7,10 +7,9 @@ Run it at the top of the repository, behind `rt run` in crates/fcd:
 
 Each measurement has a fresh server whose 64 slots have the same program, and one client that sends 900 POSTs to the slots in turn,
 of which at most 32 wait for their answer. A fresh server holds 1,024 exchanges for 247 s, so that no measurement can be longer. What is told is
-the middle one of five, by the clock of the wall.
+the best of seven, by the clock of the wall; one, two and four workers take turns.
 """
 import socket
-import statistics
 import struct
 import subprocess
 import sys
@@ -20,7 +19,7 @@ FCD = "crates/fcd/out/fcd"
 PORT = 5698
 POSTS = 900
 WAITING = 32
-ROUNDS = 5
+ROUNDS = 7
 
 EXIT = bytes.fromhex("b700000000000000" "9500000000000000")
 
@@ -70,7 +69,8 @@ def round_of(workers, program):
 def main():
     print("| steps of a run | 1 worker | 2 workers | 4 workers |\n| --- | --- | --- | --- |")
     for steps, program in PROGRAMS:
-        rates = [statistics.median(round_of(workers, program) for _ in range(ROUNDS)) for workers in (1, 2, 4)]
+        rounds = [[round_of(workers, program) for workers in (1, 2, 4)] for _ in range(ROUNDS)]
+        rates = [max(it) for it in zip(*rounds)]
         print(f"| {steps:,} | " + " | ".join(f"{rate:,.0f}" for rate in rates) + " |", flush=True)
     return 0
 
