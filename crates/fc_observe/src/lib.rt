@@ -67,9 +67,10 @@
 //! - An acknowledgement ends the wait of just those whose last notification it answers; a reset removes just those. Who was removed hears
 //!   nothing before it registers again.
 //! - The serials that an observer is sent rise, where each notification's is at least the noticed serial of its turn.
-//! - A list is told to be quiet exactly where nothing is late and nobody is due, whatever it keeps of the last look.
+//! - A list is told to be quiet exactly where nothing is late and nobody is due, whatever it keeps of the last look. Before the moment that it
+//!   tells, nothing is late and nobody due unless it is called.
 //!
-//! By the contracts of `Observers::register`, `next_due`, `check_quiet`, `out`, `miss`, `sent`, `end`, `give_up`, `reset`, `acked`, `tick`,
+//! By the contracts of `Observers::register`, `next_due`, `check_quiet`, `quiet_until`, `out`, `miss`, `sent`, `end`, `give_up`, `reset`, `acked`, `tick`,
 //! `laws`.
 #![tactic(auto)]
 

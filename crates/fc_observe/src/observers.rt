@@ -360,6 +360,13 @@ impl Observers {
         quiet
     }
 
+    /// Returns a moment before which no entry is late, and none due where this serial is noticed: the first that is known, or 2^64 - 1.
+    pub fn quiet_until(&self, noticed: u64) -> u64
+        ensures { AreQuietUntil result noticed self.now.held }
+    {
+        quiet_until(&self.held, noticed)
+    }
+
     // Whether it is known, without a look at the entries, that none is late at a moment, and none due where this serial is noticed.
     fn is_at_rest(&self, now: u64, noticed: u64) -> bool
         ensures { result ≡ true → All (IsQuiet (max self.now.moment now) noticed) self.now.held }

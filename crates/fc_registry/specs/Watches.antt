@@ -1,5 +1,5 @@
 -- The observers of a shard's slots, and the calls on them.
-use Rattle.std.specs.Prelude.{◌≡◌, ℕ, zero, suc, ◌+◌, ◌*◌, ◌/◌, ◌≤◌, Bool, true, false, if◌then◌else◌, Option, Some, None, is_none, is_some, ◌&&◌, List, [], ◌∷◌, ◌++◌, map, max, slice_index_or, slice_set}
+use Rattle.std.specs.Prelude.{◌≡◌, ℕ, zero, suc, ◌+◌, ◌*◌, ◌/◌, ◌<◌, ◌≤◌, Bool, true, false, if◌then◌else◌, Option, Some, None, is_none, is_some, ◌&&◌, List, [], ◌∷◌, ◌++◌, map, max, slice_index_or, slice_set}
 use Rattle.std.specs.List.{All}
 use Rattle.coap_msg.specs.declared.types.Endpoint.{Endpoint}
 use Rattle.fc_observe.specs.declared.entry.Turn.{Turn}
@@ -7,6 +7,7 @@ use Rattle.fc_observe.specs.declared.observers.Ticked.{Ticked}
 use Rattle.fc_observe.specs.declared.observers.Ticked.TheVariants.{Quiet}
 use Rattle.fc_observe.specs.Calls.{ObserverCall, Acknowledge, GiveUp, NextDue, Reset, Tick, after_calls, observers_after}
 use Rattle.fc_observe.specs.Observers.{ObserverList, at_moment, late_entry, next_turn, no_observers, ticked}
+use Rattle.fc_observe.specs.Quiet.{AreQuietUntil}
 use Rattle.fc_registry.specs.Slots.{Shard, Slot, new_slot}
 
 -- those of the slots at the first places of a new shard: place k is that of slot 8 k + index
@@ -108,6 +109,10 @@ signalled c shard = record shard { watches = map (observers_after c) shard.watch
 abbrev pub AreWatched : Bool → List ObserverList → Type 0
 AreWatched true watches = Unit {0}
 AreWatched false watches = (k : ℕ) → (slice_index_or watches k (no_observers 0)).held ≡ []
+
+-- before this moment no notification at any place is late, and no observer due, unless the shard is called
+abbrev pub StaysQuietUntil : ℕ → Shard → Type 0
+StaysQuietUntil until shard = (k : ℕ) → k < 8 → AreQuietUntil until (noticed_at shard k) (watch_at shard k).held
 
 -- ---- what observers were sent
 

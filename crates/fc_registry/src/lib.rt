@@ -39,10 +39,11 @@
 //! - A turn that is out tells its observer what its ticket's run means, or 4.04 where its taking found the slot empty, and is over. What
 //!   isn't a 2.05 Content has no sequence number, and removes the observer. A turn that is out no longer tells nothing, and a ticket of
 //!   another turn is refused.
-//! - No observer was sent a serial above its slot's. A shard that is passed as quiet has nothing to send again, and nobody who is due.
+//! - No observer was sent a serial above its slot's. A shard that is passed as quiet has nothing to send again, and nobody who is due; and so
+//!   it has none before the moment that it tells (`quiet_until`), unless it is called.
 //!
 //! By the contracts of `Shard::take`, `write_taking`, `commit`, `install`, `remove`, `receipt`, `next_due`, `note`, `give_up`, `signal`, `tick`,
-//! `advance_if_quiet`, `rings_are_chains`, `no_observer_is_ahead`, `laws`.
+//! `advance_if_quiet`, `quiet_until`, `rings_are_chains`, `no_observer_is_ahead`, `laws`.
 #![tactic(auto)]
 
 mod body;

@@ -6,9 +6,10 @@ ghost use Rattle.fc_registry.specs.Calls.{TakesAt, CommitsTo, install_in, receip
 ghost use Rattle.fc_registry.specs.Views.{HasSize, as_seen, taken_with};
 ghost use Rattle.fc_registry.specs.Record.{IsRing};
 ghost use Rattle.fc_observe.specs.Calls.{observers_after};
+ghost use Rattle.fc_observe.specs.Quiet.{AreQuietUntil};
 ghost use Rattle.fc_registry.specs.Notes.{IsKeptUnlessSent, NotesTo, noted_as};
 ghost use Rattle.fc_registry.specs.Turns.{due_job, written_if};
-ghost use Rattle.fc_registry.specs.Watches.{AreWatched, IsSentUpTo, after_due, after_given_up, shard_after_tick, due_place, at_time, has_due, is_quiet, is_quiet_at, late_place, new_watches, noticed_at, signal_call, signalled, ticked_in, watch_at};
+ghost use Rattle.fc_registry.specs.Watches.{AreWatched, IsSentUpTo, StaysQuietUntil, after_due, after_given_up, shard_after_tick, due_place, at_time, has_due, is_quiet, is_quiet_at, late_place, new_watches, noticed_at, signal_call, signalled, ticked_in, watch_at};
 
 use crate::commit::Committed;
 use crate::job::Job;
@@ -389,6 +390,28 @@ impl Shard {
             self.now = now;
         }
         quiet
+    }
+
+    /// Returns a moment before which no notification is late and no observer due, unless the shard is called: the first that is known, or 2^64 - 1 where
+    /// none is.
+    pub fn quiet_until(&self) -> u64
+        ensures { StaysQuietUntil result self.entry.now }
+    {
+        let mut until = u64::MAX;
+        if self.watched {
+            for place in 0..PLACES {
+                until = until.min(self.quiet_until_at(place));
+            }
+        }
+        until
+    }
+
+    // Returns a moment before which no notification at a place is late, and no observer due.
+    fn quiet_until_at(&self, place: usize) -> u64
+        requires { place < 8 }
+        ensures { AreQuietUntil result (noticed_at self.entry.now place) (watch_at self.entry.now place).held }
+    {
+        self.watches[place].quiet_until(self.noticed_at(place))
     }
 
     // Whether no notification is late at a moment, and no observer due, at any place. Then it is looked anew whether there is one.

@@ -190,3 +190,22 @@ fn turns_keep_that_the_slot_was_empty(rt: HostRuntime) -> Result<(), Fail> {
     assert!(rt; !observers.is_missing(second) && !observers.is_out(second));
     Ok(())
 }
+
+#[test]
+fn a_list_is_quiet_until_it_has_something_to_do(rt: HostRuntime) -> Result<(), Fail> {
+    let mut observers = Observers::new(rt.alloc(), 1)?;
+    assert!(rt; observers.quiet_until(8) == u64::MAX);
+    register(&mut observers, 0, 1, 0x6f, 7);
+    assert!(rt; observers.quiet_until(7) == u64::MAX && observers.quiet_until(8) == 0);
+    let turn = observers.next_due(10, 8).ok_or("due")?;
+    assert!(rt; observers.quiet_until(8) == 247_011);
+    observers.give_up(turn, 20);
+    assert!(rt; observers.quiet_until(8) == 21 && observers.quiet_until(7) == u64::MAX);
+    assert!(rt; notify(&mut observers, DAY, 8, 5, 8) == Some((1, true)));
+    assert!(rt; observers.quiet_until(9) == DAY + 2_000);
+    assert!(rt; tick(&rt, &mut observers, DAY + 2_050, &[5]) == Did::Resent);
+    assert!(rt; observers.quiet_until(9) == DAY + 6_050);
+    observers.acked(peer(1), 5);
+    assert!(rt; observers.quiet_until(8) == u64::MAX);
+    Ok(())
+}
