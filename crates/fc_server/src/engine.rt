@@ -4,7 +4,7 @@ ghost use Rattle.arrayvec.specs.ArrayVec.{ArrayVec};
 ghost use Rattle.coap_msg.specs.declared.types.Emission.{Emission as Emitted};
 ghost use Rattle.fc_registry.specs.Shards.{shard_at};
 ghost use Rattle.fc_registry.specs.Slots.{last_serial};
-ghost use Rattle.fc_registry.specs.Watches.{at_time, is_quiet};
+ghost use Rattle.fc_registry.specs.Watches.{StaysQuietUntil, at_time, is_quiet};
 ghost use Rattle.fc_core.specs.Stage.{Stage};
 ghost use Rattle.fc_core.specs.Exchanges.{advanced};
 ghost use Rattle.fc_core.specs.History.{Begins};
@@ -127,6 +127,15 @@ impl Engine {
         ensures after { MatchBool result (TicksShard shard now self.old self.new None) (self.new ≡ self.old) }
     {
         self.server.advance_if_quiet(shard, now)
+    }
+
+    /// Returns a moment before which no notification of a shard, 0 to 7, is late, and no observer due, unless the engine is called: the first that is
+    /// known, or 2^64 - 1 where none is.
+    pub fn quiet_until(&self, shard: u8) -> u64
+        requires { shard < 8 }
+        ensures { StaysQuietUntil result (shard_at self.now.shards shard) }
+    {
+        self.server.quiet_until(shard)
     }
 
     /// Asks a shard, 0 to 7, for the turn of an observer that is due at a moment in milliseconds, and works it off: the events Due, and,

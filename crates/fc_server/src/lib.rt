@@ -33,8 +33,9 @@
 //!   taking is handed the readings that the call was given.
 //! - A signal goes to each shard. A shard that is ticked tells what it sends again, that it removed an observer, or that nothing is late;
 //!   one that is asked gives a turn just where an observer is due, and the turn is worked off by its events.
+//! - Before the moment that a shard tells, nothing is late there and nobody due, unless the server is called.
 //!
-//! By the contracts of `Server`, `Engine::hear`, `tick`, `resend`, `notify`.
+//! By the contracts of `Server`, `Engine::hear`, `tick`, `resend`, `notify`, `quiet_until`.
 #![tactic(auto)]
 
 pub mod engine;

@@ -3,7 +3,7 @@ ghost use Rattle.std.specs.Prelude.{◌≡◌, ℕ, List, ◌<◌, ◌≤◌, if
 ghost use Rattle.fc_registry.specs.Shards.{first_shards, shard_at};
 ghost use Rattle.fc_registry.specs.Slots.{last_serial};
 ghost use Rattle.fc_registry.specs.Turns.{written_if};
-ghost use Rattle.fc_registry.specs.Watches.{at_time, is_quiet, signal_call, signalled};
+ghost use Rattle.fc_registry.specs.Watches.{StaysQuietUntil, at_time, is_quiet, signal_call, signalled};
 ghost use Rattle.fc_core.specs.declared.event.Event.{Event};
 ghost use Rattle.fc_core.specs.Exchanges.{advanced, first_front};
 ghost use Rattle.fc_core.specs.Heads.{no_words};
@@ -139,6 +139,14 @@ impl Server {
         ensures words { self.new.words ≡ self.old.words }
     {
         self.shards[usize::from(shard)].advance_if_quiet(now)
+    }
+
+    /// Returns a moment before which no notification of a shard is late, and no observer due, unless the server is called.
+    pub fn quiet_until(&self, shard: u8) -> u64
+        requires { shard < length self.now.shards }
+        ensures { StaysQuietUntil result (shard_at self.now.shards shard) }
+    {
+        self.shards[usize::from(shard)].quiet_until()
     }
 
     /// Carries out an event on the task of its job: what is sent. An event that names no job does nothing to it.
