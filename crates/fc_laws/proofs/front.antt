@@ -6,6 +6,7 @@ pub mod Hushed
 pub mod Moments
 pub mod Repeats
 pub mod DrawnIds
+pub mod Drawing
 pub mod Once
 pub mod FirstBlocks
 pub mod Bodies

@@ -5,6 +5,7 @@ pub mod SlotLaws
 pub mod ObserveLaws
 pub mod HeadLaws
 pub mod ExchangeLaws
+pub mod DrawLaws
 pub mod TurnLaws
 pub mod ReplyLaws
 pub mod RefusalLaws

@@ -3,6 +3,7 @@ ghost use Rattle.coap_dedup.specs.Exchanges.{Exchange};
 ghost use Rattle.fc_laws.specs.ExchangeLaws.{AllBefore, AreApart, AreInOrder, FindsNoExchange, Opens, OpensOne, Repeats, arrivals, bare_by, draws_of, first_id, repeat_emits};
 ghost use Rattle.fc_core.specs.Contents.{Content};
 ghost use Rattle.fc_core.specs.History.{Entry, History, Seen, Then, and_then, did, job, seen, stage};
+ghost use Rattle.fc_laws.specs.DrawLaws.{NeedsId};
 ghost use Rattle.fc_laws.specs.KeptLaws.{AnswersJob, HasId, answers, answers_with, emitted_bytes, exchange_of_job, opened_at};
 ghost use Rattle.fc_core.specs.declared.event.Event.TheVariants.{Answer};
 ghost use Rattle.fc_core.specs.Stage.{ToAnswer};
@@ -67,6 +68,17 @@ pub fn message_ids_come_in_order()
     ensures apart { (h : History) → first_id h < 65536 → AreApart (draws_of h) }
     ensures free { (h : History) (at id : ℕ) → first_id h < 65536 → (free_id (seen h).ids at ≡ Some id)
         ↔ ((id ≡ (first_id h + length (draws_of h)) % 65536) × AllBefore id at (draws_of h)) }
+{}
+
+/// An event draws a message id exactly where it needs one and one is free. It needs one where it answers a request that isn't confirmable, when that
+/// comes, or by its job less than 247,000 ms after the request was opened; and where it is the draw of a turn, whose notification has an id of its own.
+pub fn message_ids_are_drawn_where_needed()
+    ensures needed { (h : History) (r : Entry) (id : ℕ) → first_id h < 65536 → NeedsId (seen h) r.event
+        → free_id (seen h).ids (seen (Then h r)).moment ≡ Some id
+        → draws_of (Then h r) ≡ record { id = id; at = (seen (Then h r)).moment } ∷ draws_of h }
+    ensures none_free { (h : History) (r : Entry) → free_id (seen h).ids (seen (Then h r)).moment ≡ None
+        → draws_of (Then h r) ≡ draws_of h }
+    ensures others { (h : History) (r : Entry) → (NeedsId (seen h) r.event → ⊥) → draws_of (Then h r) ≡ draws_of h }
 {}
 
 /// The answer of a job goes out less than 247,000 ms after its request was opened, and never later. Until then it does go out, where

@@ -21,7 +21,8 @@
 //! - After a refusal all but the moment, a drawn message id and the stage of its own job is as before, with three exceptions.
 //! - An answer goes to its client's endpoint, with its request's token, in the acknowledgement of a confirmable request by that request's
 //!   id, and else in a non-confirmable message by the server's own. It goes out less than 247,000 ms after its request was opened, or
-//!   never, and what is kept of it is what went out. Message ids come in order.
+//!   never, and what is kept of it is what went out. Message ids come in order, and one is drawn just where a request that isn't
+//!   confirmable is answered, or a turn draws one, and one is free.
 //! - A head word is raised to that of the slot's new state, and is the greatest that jobs of its slot raised it to. A GET of which an ETag
 //!   names it is answered 2.03.
 //! - A signal is for the observers of its shard's slots alone. A tick of a shard is for the first of its slots that has a late

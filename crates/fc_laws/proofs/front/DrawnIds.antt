@@ -56,6 +56,14 @@ event_draws (Answer k now) s = draw_answered (content_at (stage s k)) (opening_i
 event_draws (Fresh k now) s = draw_needed (needs_id (stage s k)) s.ids s.moment now
 event_draws other s = Same refl
 
+kept_by : (old new : Ids) (at : ℕ) → Draws old at new → free_id old at ≡ None → new ≡ old
+kept_by old new at (Same is) none = is
+kept_by old new at (Next fresh is) none = absurd (cc (sym none ∙ ap (λ (b : Bool). if b then None else Some old.next) fresh))
+
+-- where no id is free at its moment, an event draws none
+pub kept_where_none_free : (e : Event) (s : Seen) → free_id s.ids (moment_by (at_front e) s) ≡ None → ids_by (at_front e) s ≡ s.ids
+kept_where_none_free e s none = kept_by s.ids (ids_by (at_front e) s) (moment_by (at_front e) s) (event_draws e s) none
+
 -- each draw was at the moment at which its id was last drawn, or before
 abbrev AllKept : List (Option ℕ) → List Draw → Type 0
 AllKept last [] = Unit {0}
@@ -165,9 +173,12 @@ unfolding seen
 all_kept (Begins serial id) lt = record { next = omega (arith, lt); room = none_room; kept = tt; drawn = none_drawn; past = tt; order = tt; apart = tt }
 all_kept (Then h r) lt = step (first_id h) (seen h).ids (and_then r (seen h)).ids (seen h).moment (moment_by (at_front r.event) (seen h)) (draws_of h) (moment_rises r.event (seen h)) (all_kept h lt) (event_draws r.event (seen h))
 
+pub next_small : (h : History) → first_id h < 65536 → (seen h).ids.next < 65536
+next_small h lt = let next = (all_kept h lt).next in omega (arith, next)
+
 -- ---- a turn's draw
 
-by_test : (ids : Ids) (at id : ℕ) (b : Bool) → ids.next < 65536 → (if b then None else Some ids.next) ≡ Some id
+pub by_test : (ids : Ids) (at id : ℕ) (b : Bool) → ids.next < 65536 → (if b then None else Some ids.next) ≡ Some id
     → (((if b then ids else record { next = (ids.next + 1) % 65536; last = set ids.last ids.next (Some at) }).next == ids.next) ≡ false) × (ids.next ≡ id)
 by_test ids at id true lt free = absurd (cc free)
 by_test ids at id false lt free = (ne_eqb ((ids.next + 1) % 65536) ids.next (λ q. omega (arith, q, lt)), cc free)
