@@ -4,5 +4,6 @@ pub mod Others
 pub mod Steps
 pub mod Along
 pub mod Takings
+pub mod Meanings
 pub mod Ends
 pub mod Reasons

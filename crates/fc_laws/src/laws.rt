@@ -2,12 +2,14 @@
 ghost use Rattle.coap_msg.specs.declared.types.Emission.{Emission};
 ghost use Rattle.fc_core.specs.Contents.{Content, Ran, RunAnswer, Unavailable};
 ghost use Rattle.fc_core.specs.declared.event.Event.TheVariants.{Take, Commit, Install, Raise, Answer, Lose};
-ghost use Rattle.fc_core.specs.Stage.{ToTake, ToCommit, ToInstall, ToRaise, ToAnswer, Gone};
+ghost use Rattle.fc_core.specs.Stage.{ToTake, ToCommit, ToInstall, ToRaise, ToAnswer, ToTell, Gone};
+ghost use Rattle.fc_core.specs.TurnStage.{ToDraw, ToNote};
 ghost use Rattle.fc_core.specs.History.{Entry, History, Then, Seen, seen, and_then, did, job, slot_at, stage};
 ghost use Rattle.fc_core.specs.Laws.{HasCome, IsOfNewest, IsOvertaken, TakesAgain, answer_at, answers_of, is_stray, followed_by, slot_of, takings_of};
+ghost use Rattle.fc_observe.specs.declared.entry.Turn.{Turn};
 ghost use Rattle.fc_registry.specs.Calls.{commit_of, run_of};
 ghost use Rattle.fc_registry.specs.Slots.{Present, Ticket};
-ghost use Rattle.fc_core.specs.Legal.{Emits};
+ghost use Rattle.fc_core.specs.Legal.{AllMean, Emits, IsMeant};
 ghost use Rattle.fc_core.specs.Rows.{names};
 ghost use Rattle.std.specs.Prelude.{ℕ, ◌+◌, ◌<◌, ◌≤◌, List, None, Option, Some, false, length, true, ◌≡◌};
 
@@ -52,6 +54,16 @@ pub fn takings_are_few()
 pub fn answers_are_of_the_last_taking()
     ensures { (h : History) (k : ℕ) (run : RunAnswer) → answer_at (stage (seen h) k) ≡ Some (Ran run)
         → IsOfNewest (takings_of h k) run }
+{}
+
+/// Each ticket that a job holds has a meaning, a request's as that of a turn: its program reaches its exit, for the request and for the variables and readings that the
+/// taking found, in at most the steps of its longest path, which are at most its budget. So it is in a history whose takings found no program without a meaning.
+pub fn held_tickets_have_a_meaning()
+    ensures committed { (h : History) (k n : ℕ) (t : Ticket) → AllMean h → stage (seen h) k ≡ ToCommit n t → IsMeant t }
+    ensures drawing { (h : History) (k : ℕ) (turn : Turn) (t : Ticket) → AllMean h
+        → stage (seen h) k ≡ ToTell turn (ToDraw (Some t)) → IsMeant t }
+    ensures told { (h : History) (k id : ℕ) (turn : Turn) (t : Ticket) → AllMean h
+        → stage (seen h) k ≡ ToTell turn (ToNote (Some t) id) → IsMeant t }
 {}
 
 /// A taking keeps the readings that are handed in at it, whatever an earlier taking was handed: its run finds them, and its commit has them.

@@ -10,7 +10,7 @@
 //! - An event at a wrong stage, a repeat, and a refused image change nothing, and neither does a GET, nor a POST that is answered by an
 //!   error. No delivery changes a slot, its observers, a head word or a shard's moment. An event of a shard above 7 changes nothing.
 //! - A job takes eight tickets at most, is answered once at most, of its last taking, and changes its own slot once at most. Each program
-//!   in a slot is one that some image is accepted as.
+//!   in a slot is one that some image is accepted as. Each ticket that a job holds has a meaning, where each taking found a program with one.
 //! - A job asks what its message says: by the message's code, path and options, for its endpoint, message id and token. Which call a job
 //!   needs first, and which next.
 //! - Each answer has its code, its options by their numbers and its payload, and each answer of a job has its cause, 5.03, 4.04 and 2.03
