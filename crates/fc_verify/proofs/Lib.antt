@@ -25,3 +25,4 @@ pub mod Called
 mod Rows
 mod HeadRows
 pub mod Lowered
+mod Pairing

@@ -8,3 +8,4 @@ pub mod Refusals
 pub mod Runs
 pub mod Verified
 pub mod Ops
+pub mod Pairs

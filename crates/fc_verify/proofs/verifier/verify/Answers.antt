@@ -1,7 +1,9 @@
-use Rattle.std.proofs.Common.{◌∙◌, ap, sym}
+use Rattle.std.proofs.Common.{List, ◌∙◌, ap, subst, sym}
+use Rattle.fc_isa.specs.declared.insn.Insn.{Insn}
 use Rattle.fc_verify.specs.Accepted.{Accepts}
 use Rattle.fc_verify.specs.Refusals.{IsRefusal}
 use Rattle.fc_verify.specs.declared.refusal.Refusal.TheVariants.{Broken}
+use Rattle.fc_verify.specs.Pairs.{HasPairs}
 use Rattle.fc_verify.proofs.Judging.{err_is, refused_shape, refused_typing, accepts_is, untyped_of}
 use Rattle.fc_verify.proofs.verifier.verify.Goals as goal
 
@@ -32,3 +34,6 @@ returns-clause-judged c =
     accepts_is c.args.image.now c.in_ok-head.head c.in_ok-code.code.items c.in_ok-cost.cost c.in_ok-head.ensures.head c.in_ok-code.ensures.code
     (rw c.deref.ensures.value at s.0) (rw c.deref.ensures.value at s.1) (rw (c.deref-2.ensures.value, c.vars_size.ensures.value, c.version.ensures) at c.in_ok-states.ensures.typable)
     ∙ ap Accepts (sym c.new.ensures.program)
+
+pub new-requires-clause-pairs : goal.new-requires-clause-pairs
+new-requires-clause-pairs c = subst (λ (code : List Insn). HasPairs code c.lower-ops.result.items) c.deref-3.ensures.value c.lower-ops.ensures.pairs
