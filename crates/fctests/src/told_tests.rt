@@ -4,7 +4,7 @@ use crate::feeder::{PEER, Request, datagram};
 use crate::lock_tests::Open;
 use crate::overtaking_tests::{COUNTER, Held, Replies, Trial, hold};
 use fc_core::Heard;
-use fc_core::front::blank_emission;
+use fc_core::front::{blank_emission, blank_job};
 use fc_observe::{Ticked, Turn};
 use fc_registry::SlotNumber;
 use fc_workers::{Bench, CallLog, Dispatcher, Handover, Moments, Workshop, make_seats};
@@ -150,15 +150,16 @@ fn shows_signals<B: Bench, R: Wait>(
 // Whether the observer gets a turn once more after its first one was given up, and no sooner.
 fn shows_turn<B: Bench, R: Wait>(rt: &R, bench: &B, own: &mut B::Tallies) -> bool {
     let mut log = CallLog::new();
-    let Some(job) = bench.next_due(rt, 0, 10, &mut log) else {
+    let mut job = blank_job();
+    if !bench.next_due(rt, 0, 10, &mut job, &mut log) {
         return false;
-    };
+    }
     let Some(number) = job.turn else {
         return false;
     };
     bench.give_up(rt, Turn { slot: 0, number }, 20, own, &mut log);
-    let is_early = bench.next_due(rt, 0, 20, &mut log).is_some();
-    !is_early && bench.next_due(rt, 0, 21, &mut log).is_some()
+    let is_early = bench.next_due(rt, 0, 20, &mut job, &mut log);
+    !is_early && bench.next_due(rt, 0, 21, &mut job, &mut log)
 }
 
 // Whether a confirmable notification is late 2,500 ms after it was sent, and no sooner.
