@@ -3,10 +3,10 @@
 use Rattle.std.specs.Prelude.{◌≡◌, ℕ, ◌%◌, ◌<◌, List}
 use Rattle.fc_core.specs.Exchanges.{FrontState}
 use Rattle.fc_registry.specs.Slots.{Shard}
-use Rattle.fc_workers.specs.Called.{BenchCall, GivesReadings, LooksAt, TellsReceipt, AdvancesFront, HandsSignal, AdvancesIfQuiet}
+use Rattle.fc_workers.specs.Called.{BenchCall, GivesReadings, LooksAt, TellsReceipt, AdvancesFront, HandsSignal, AdvancesIfQuiet, LooksAhead}
 use Rattle.fc_workers.specs.Called.{LoggedCall, HearsDatagram, DrawsId, AnswersRequest, TakesForJob, CommitsRun, InstallsProgram, RemovesProgram}
 use Rattle.fc_workers.specs.Called.{AdvancesShard, GivesTurn, NotesTurn, GivesUpTurn, RaisesWord}
-use Rattle.fc_workers.specs.Doings.{AdvancesTo, AnswersAt, CommitsAt, DescribesTo, DrawsAt, GivesTurnAt, GivesUpAt, HandsOn, HearsAt, InstallsTo, NotesAt, PassesIfQuiet, RemovesFrom, TakesTo, TicksAt}
+use Rattle.fc_workers.specs.Doings.{AdvancesTo, AnswersAt, CommitsAt, DescribesTo, DrawsAt, GivesTurnAt, GivesUpAt, HandsOn, HearsAt, InstallsTo, NotesAt, PassesIfQuiet, RemovesFrom, TakesTo, TellsQuietUntil, TicksAt}
 
 -- a call that does this to a shard was asked of the shard of an index, 0 to 7
 pub record IsAsked (index : ℕ) (Does : Shard → Shard → Type 0) : Type 0 where
@@ -30,6 +30,7 @@ IsServerCall AreReadings (TellsReceipt job receipt) = IsAsked (job.origin.slot %
 IsServerCall AreReadings (AdvancesFront now) = IsFrontAsked (AdvancesTo now)
 IsServerCall AreReadings (HandsSignal shard from id reset) = IsAsked shard (λ before after. HandsOn reset from id before after)
 IsServerCall AreReadings (AdvancesIfQuiet shard now quiet) = IsAsked shard (λ before after. PassesIfQuiet now before quiet after)
+IsServerCall AreReadings (LooksAhead shard until) = IsAsked shard (λ before after. TellsQuietUntil before until after)
 
 -- and so does each that a worker's log has. What a raise does is said of the worker's seat
 abbrev pub IsLoggedCall : LoggedCall → Type 0

@@ -33,6 +33,8 @@ pub data BenchCall : Type 0 where
   HandsSignal : (shard : ℕ) (from : Endpoint) (id : ℕ) (reset : Bool) → BenchCall
   -- a shard is advanced to a moment if it is quiet then
   AdvancesIfQuiet : (shard now : ℕ) (quiet : Bool) → BenchCall
+  -- until when a shard is quiet
+  LooksAhead : (shard until : ℕ) → BenchCall
 
 -- a call of a bench that a worker's log has: so it is known how often it is made, and when
 pub data LoggedCall : Type 0 where

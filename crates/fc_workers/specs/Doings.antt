@@ -28,7 +28,7 @@ use Rattle.fc_registry.specs.Changes.{after_changes}
 use Rattle.fc_registry.specs.Notes.{NotesTo}
 use Rattle.fc_registry.specs.Slots.{Shard, Ticket, slot_in, with_slot}
 use Rattle.fc_registry.specs.Turns.{due_job}
-use Rattle.fc_registry.specs.Watches.{after_due, after_given_up, shard_after_tick, due_place, at_time, is_quiet, late_place, signal_call, signalled, ticked_in}
+use Rattle.fc_registry.specs.Watches.{StaysQuietUntil, after_due, after_given_up, shard_after_tick, due_place, at_time, is_quiet, late_place, signal_call, signalled, ticked_in}
 
 -- a run is committed at a moment
 abbrev pub CommitsAt : ℕ → Ran → Ticket → Shard → Committed → Shard → Type 0
@@ -45,6 +45,10 @@ abbrev pub PassesIfQuiet : ℕ → Shard → Bool → Shard → Type 0
 PassesIfQuiet now before quiet after =
     let at = at_time before now in
     (quiet ≡ is_quiet at) × (after ≡ (if quiet then at else before))
+
+-- it is told until when nothing is late and nobody is due
+abbrev pub TellsQuietUntil : Shard → ℕ → Shard → Type 0
+TellsQuietUntil before until after = StaysQuietUntil until before × (after ≡ before)
 
 -- the first observer that is due at a moment gets the turn
 abbrev pub GivesTurnAt : ℕ → Shard → Option Job → Shard → Type 0

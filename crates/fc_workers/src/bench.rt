@@ -7,7 +7,7 @@ ghost use Rattle.fc_registry.specs.Notes.{noted_as};
 ghost use Rattle.fc_registry.specs.Turns.{written_if};
 ghost use Rattle.fc_registry.specs.Views.{HasSize, taken_with};
 ghost use Rattle.fc_heads.specs.Heads.{IsRaised, fresh, peeked, word_of};
-ghost use Rattle.fc_workers.specs.Called.{AdvancesFront, AdvancesIfQuiet, BenchCall, GivesReadings, HandsSignal, LooksAt, TellsReceipt};
+ghost use Rattle.fc_workers.specs.Called.{AdvancesFront, AdvancesIfQuiet, BenchCall, GivesReadings, HandsSignal, LooksAhead, LooksAt, TellsReceipt};
 ghost use Rattle.fc_workers.specs.Called.{AdvancesShard, AnswersRequest, CommitsRun, DrawsId, GivesTurn, GivesUpTurn, HearsDatagram};
 ghost use Rattle.fc_workers.specs.Called.{InstallsProgram};
 ghost use Rattle.fc_workers.specs.Called.{LoggedCall, NotesTurn, RaisesWord, RemovesProgram, TakesForJob};
@@ -161,6 +161,11 @@ pub trait Bench {
     fn advance_if_quiet<R: Wait>(&self, rt: &R, shard: u8, now: u64) -> bool
         ensures quiet { IsSomeQuiet now result }
         ensures called { called (AdvancesIfQuiet shard now result) };
+
+    /// Returns a moment before which no notification of a shard, 0 to 7, is late, and no observer due, unless the shard is called, as
+    /// [`Shard::quiet_until`](fc_registry::Shard::quiet_until) does.
+    fn quiet_until<R: Wait>(&self, rt: &R, shard: u8) -> u64
+        ensures { called (LooksAhead shard result) };
 
     /// Asks a shard, 0 to 7, for a turn at a moment in milliseconds, as [`Shard::write_due`](fc_registry::Shard::write_due) gives it:
     /// its job is written over another. Tells whether there is one.

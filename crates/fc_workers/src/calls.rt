@@ -6,7 +6,7 @@ ghost use Rattle.fc_registry.specs.Turns.{written_if};
 ghost use Rattle.fc_workers.specs.Answers.{commit_changes, install_changes, removal_changes};
 ghost use Rattle.fc_workers.specs.Counts.{HasEightSlots, serials};
 ghost use Rattle.fc_workers.specs.Doings.{CommitsAt, DescribesTo, GivesTurnAt, GivesUpAt, HandsOn, InstallsTo, NotesAt, PassesIfQuiet};
-ghost use Rattle.fc_workers.specs.Doings.{RemovesFrom, TakesInto, TicksAt};
+ghost use Rattle.fc_workers.specs.Doings.{RemovesFrom, TakesInto, TellsQuietUntil, TicksAt};
 
 use coap_msg::{Emission, Endpoint};
 use fc_help::Readings;
@@ -247,6 +247,22 @@ impl ShardCall for AdvanceIfQuiet {
 
     fn call(self, shard: &mut Shard, _: &mut ()) -> bool {
         shard.advance_if_quiet(self.now)
+    }
+}
+
+/// Tells until when nothing is late and nobody is due, as [`Shard::quiet_until`] does.
+#[derive(Drop)]
+pub struct QuietUntil;
+
+impl ShardCall for QuietUntil {
+    type Answer = u64;
+
+    type Room = ();
+
+    ghost does = { λ call before answer room after. TellsQuietUntil before answer after };
+
+    fn call(self, shard: &mut Shard, _: &mut ()) -> u64 {
+        shard.quiet_until()
     }
 }
 

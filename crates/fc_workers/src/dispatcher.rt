@@ -2,7 +2,7 @@
 ghost use Rattle.std.specs.Prelude.{◌≡◌, ◌<◌, ◌≤◌, ℕ, true, MatchBool};
 ghost use Rattle.fc_jobs.specs.Ends.{with_sent};
 ghost use Rattle.fc_workers.specs.Answers.{IsSomeQuiet, IsSomeTick};
-ghost use Rattle.fc_workers.specs.Called.{AdvancesFront, AdvancesIfQuiet, AdvancesShard, shop};
+ghost use Rattle.fc_workers.specs.Called.{AdvancesFront, AdvancesIfQuiet, AdvancesShard, LooksAhead, shop};
 ghost use Rattle.fc_workers.specs.Dispatch.{AreSignalled, HasCalled, IsDear, IsDispatched, IsTakenIn, IsTurnAsked, IsWorkedHere, MayGo};
 ghost use Rattle.fc_workers.specs.Shares.{new_share};
 
@@ -146,6 +146,13 @@ impl<'a, B: Bench, G: Gate, W: Wire, M: Moments> Dispatcher<'a, B, G, W, M> {
         ensures called { B.called (AdvancesIfQuiet shard now result) }
     {
         self.workshop.bench.advance_if_quiet(rt, shard, now)
+    }
+
+    /// Returns a moment before which no notification of a shard, 0 to 7, is late, and no observer due, unless the shard is called.
+    pub fn quiet_until<R: Wait>(&self, rt: &R, shard: u8) -> u64
+        ensures { B.called (LooksAhead shard result) }
+    {
+        self.workshop.bench.quiet_until(rt, shard)
     }
 
     /// Asks a shard, 0 to 7, for the turn of the observer that is due first at a moment in milliseconds, and dispatches it. Tells whether there was one.

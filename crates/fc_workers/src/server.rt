@@ -33,8 +33,8 @@ use crate::blanks::Blanks;
 use crate::books::{BookOf, Books};
 use crate::call_log::CallLog;
 use crate::calls::{
-    AdvanceIfQuiet, Change, Commit, Describe, GiveUp, Install, NextDue, Note, Remove, ShardCall,
-    Signal, Take, Tick,
+    AdvanceIfQuiet, Change, Commit, Describe, GiveUp, Install, NextDue, Note, QuietUntil, Remove,
+    ShardCall, Signal, Take, Tick,
 };
 use crate::closed::ClosedServer;
 use crate::device::Device;
@@ -335,6 +335,10 @@ impl<'a, B: Books, D: Device> Bench for Locked<'a, B, D> {
 
     fn advance_if_quiet<R: Wait>(&self, rt: &R, shard: u8, now: u64) -> bool {
         self.ask(rt, shard, AdvanceIfQuiet { now }, &mut ())
+    }
+
+    fn quiet_until<R: Wait>(&self, rt: &R, shard: u8) -> u64 {
+        self.ask(rt, shard, QuietUntil, &mut ())
     }
 
     fn next_due<R: Wait>(
