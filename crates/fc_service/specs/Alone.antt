@@ -15,7 +15,7 @@ use Rattle.fc_service.specs.Clocks.{device_readings}
 use Rattle.fc_service.specs.Intakes.{is_reply}
 use Rattle.fc_service.specs.declared.alone.Alone.{Alone}
 use Rattle.fc_registry.specs.Shards.{shard_at}
-use Rattle.fc_registry.specs.Watches.{at_time as handed_moment, is_quiet}
+use Rattle.fc_registry.specs.Watches.{StaysQuietUntil, at_time as handed_moment, is_quiet}
 
 -- these readings are handed from now on, and zero for the random word
 abbrev pub HandsAlone : List ℕ → Alone → Alone → Type 0
@@ -43,3 +43,6 @@ PassesOverAlone shard now old new =
 abbrev pub NotifiesAlone : ℕ → ℕ → Alone → Alone → Notified → Type 0
 NotifiesAlone shard now old new told =
     AsksForTurn old.handed.readings (shard % 8) now old.handed.random old.engine new.engine (is_given told) (notification_in told) × (new.handed ≡ old.handed)
+
+abbrev pub StaysQuietAlone : ℕ → Alone → ℕ → Type 0
+StaysQuietAlone shard now until = StaysQuietUntil until (shard_at now.engine.shards (shard % 8))

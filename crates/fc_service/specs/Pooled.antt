@@ -8,7 +8,7 @@ use Rattle.fc_observe.specs.declared.observers.Ticked.{Ticked}
 use Rattle.fc_server.specs.Notified.{Notified, is_given, notification_in}
 use Rattle.fc_workers.specs.Answers.{IsSomeQuiet, IsSomeTick}
 use Rattle.fc_workers.specs.Asked.{IsLoggedCall, IsServerCall}
-use Rattle.fc_workers.specs.Called.{AdvancesFront, AdvancesIfQuiet, AdvancesShard, Shop, WireCall, shop}
+use Rattle.fc_workers.specs.Called.{AdvancesFront, AdvancesIfQuiet, AdvancesShard, BenchCall, LooksAhead, Shop, WireCall, shop}
 use Rattle.fc_workers.specs.Counts.{Tallies}
 use Rattle.fc_workers.specs.Dispatch.{HasCalled, IsTakenIn, IsTurnAsked}
 use Rattle.fc_workers.specs.declared.call_log.CallLog.{CallLog}
@@ -55,6 +55,10 @@ module _ {T : Type 0} (s : Shop T) where
     pub last : Dispatching T
     pub begins : (first.handover ≡ handover) ⊎ (first.handover ≡ Never)
     pub feeds : Feeds pooled_calls feeder first last given
+
+-- a shard was asked until when it is quiet; or nothing is known of it
+abbrev pub StaysQuietPooled : (BenchCall → Type 0) → ℕ → ℕ → Type 0
+StaysQuietPooled Called shard until = (until ≡ 0) ⊎ Called (LooksAhead shard until)
 
 -- the shop of a server behind locks, whose jobs are never held up: with what its device says, its moments and random words, and the calls of its wire
 abbrev pub locked_shop : (List ℕ → Type 0) → (IsMoment IsRandom : ℕ → Type 0) → (WireCall → CallLog → CallLog → Type 0) → Shop Tallies

@@ -1,5 +1,5 @@
 -- What a server does with what it receives, round after round; and a server on one thread.
-use Rattle.std.specs.Prelude.{◌≡◌, ◌<◌, ◌⊎◌, ⊤, ℕ, List, [], ◌∷◌, ◌++◌, length, Bool, Option, Some, None}
+use Rattle.std.specs.Prelude.{◌≡◌, ◌+◌, ◌<◌, ◌≤◌, ◌⊎◌, ⊤, ℕ, List, [], ◌∷◌, ◌++◌, length, Bool, Option, Some, None}
 use Rattle.std.specs.Borrow.{Bor}
 use Rattle.std.specs.Option.{option_to_list}
 use Rattle.coap_msg.specs.declared.types.Emission.{Emission}
@@ -76,6 +76,17 @@ module _ {S : Type 0} (IsMoment : ℕ → Type 0) (Readies : ℕ → S → S →
     pub has : HasRounds rounds before after old new replies
     pub limited : 0 < limit
     pub received : length (received_in rounds) ≡ limit
+
+-- ---- how long a datagram is waited for, by until when each shard is quiet
+
+-- before this moment nothing is late at any shard, and nobody due
+abbrev pub AllStayQuiet : (ℕ → ℕ → Type 0) → ℕ → Type 0
+AllStayQuiet StaysQuiet moment = (shard : ℕ) → shard < 8 → (until : ℕ) × StaysQuiet shard until × (moment ≤ until)
+
+-- a wait that begins at a moment lasts 100 ms, or ends before there may be something to do; without end, where there is nothing at any moment
+abbrev pub EndsInTime : (ℕ → ℕ → Type 0) → ℕ → Option ℕ → Type 0
+EndsInTime StaysQuiet now (Some wait) = (wait ≡ 100) ⊎ AllStayQuiet StaysQuiet (now + wait)
+EndsInTime StaysQuiet now None = AllStayQuiet StaysQuiet 18446744073709551615
 
 -- a receiver, which makes nothing ready before a round, has run
 abbrev pub HasReceived : {S : Type 0} → IntakeCalls S → (ℕ → Type 0) → (Emission → Bool → Type 0) → ℕ → Option (List Incoming) → Option (List Incoming) → S → S → Replies → Type 0

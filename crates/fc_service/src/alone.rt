@@ -4,7 +4,7 @@ ghost use Rattle.fc_core.specs.History.{Begins};
 ghost use Rattle.fc_help.specs.Region.{no_readings};
 ghost use Rattle.fc_registry.specs.Slots.{last_serial};
 ghost use Rattle.fc_server.specs.Serving.{Serves};
-ghost use Rattle.fc_service.specs.Alone.{HandsAlone, HearsAlone, NotifiesAlone, PassesAlone, PassesOverAlone, ReadiesAlone, ResendsAlone};
+ghost use Rattle.fc_service.specs.Alone.{HandsAlone, HearsAlone, NotifiesAlone, PassesAlone, PassesOverAlone, ReadiesAlone, ResendsAlone, StaysQuietAlone};
 
 use crate::clock::device_readings;
 use crate::lines::LineIntake;
@@ -96,6 +96,8 @@ impl Intake for Alone {
 
     ghost notifies = { NotifiesAlone };
 
+    ghost stays_quiet = { StaysQuietAlone };
+
     fn hear(&mut self, now: u64, from: Endpoint, bytes: &[u8], reply: &mut Emission) -> Heard {
         if self
             .engine
@@ -117,6 +119,10 @@ impl Intake for Alone {
 
     fn advance_if_quiet(&mut self, shard: u8, now: u64) -> bool {
         self.engine.advance_if_quiet(shard % SHARDS, now)
+    }
+
+    fn quiet_until(&self, shard: u8) -> u64 {
+        self.engine.quiet_until(shard % SHARDS)
     }
 
     fn notify(&mut self, shard: u8, now: u64, emission: &mut Emission) -> NotifyOutcome {

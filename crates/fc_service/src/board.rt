@@ -132,6 +132,8 @@ impl<'a, 'b, R: Wait, N: Intake> Intake for Waiting<'a, 'b, R, N> {
 
     ghost notifies = { λ shard now old new told. (asked : Notified) × N.notifies shard now old.intake.now new.intake.now asked × (asked ≡ told ⊎ asked ≡ Unsent) };
 
+    ghost stays_quiet = { λ shard now until. N.stays_quiet shard now.intake.now until };
+
     fn hear(&mut self, now: u64, from: Endpoint, bytes: &[u8], reply: &mut Emission) -> Heard {
         self.board.begin(self.rt, now);
         match self.intake.hear(now, from, bytes, reply) {
@@ -156,6 +158,10 @@ impl<'a, 'b, R: Wait, N: Intake> Intake for Waiting<'a, 'b, R, N> {
 
     fn advance_if_quiet(&mut self, shard: u8, now: u64) -> bool {
         self.intake.advance_if_quiet(shard, now)
+    }
+
+    fn quiet_until(&self, shard: u8) -> u64 {
+        self.intake.quiet_until(shard)
     }
 
     // A turn of which nothing is sent had no message id, or no memory.

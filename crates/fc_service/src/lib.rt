@@ -31,6 +31,9 @@
 //!   once, as the sink told. What was received in the rounds, in order, is what the source gave, where that is known: of a socket of the
 //!   system it isn't. That each is handed over anew, where the same was before, that nothing else goes to the sink, and in which order, no
 //!   clause says (`Source::came`, `Sink::went`).
+//! - **It sleeps no longer than it may**: after a round it waits 100 ms, or up to a moment before which no shard has told that something may be late or
+//!   somebody due, or, where each told of no moment, without end (`next_wait`, by `EndsInTime`). Of a server with workers it is tested that no job is
+//!   at work when it asks.
 //! - **A server on a socket is that loop**, by one worker or more, where it gives its source back: then a limit was set, and as many
 //!   datagrams were received (`serve_at`, by `IsServed`). At which moments, and of one that gives no source or doesn't end, no clause says
 //!   anything. What a datagram is received into has 1,281 bytes, one more than it may have (`laws`).

@@ -8,7 +8,7 @@ ghost use Rattle.fc_observe.specs.declared.observers.Ticked.{Ticked};
 ghost use Rattle.fc_registry.specs.Slots.{last_serial};
 ghost use Rattle.fc_server.specs.Notified.{Notified, notified_as};
 ghost use Rattle.fc_service.specs.Intakes.{IntakeCalls, intake_calls};
-ghost use Rattle.fc_service.specs.Pooled.{HearsPooled, IsFed, NotifiesPooled, PassesOverPooled, PassesPooled, ResendsPooled, locked_shop};
+ghost use Rattle.fc_service.specs.Pooled.{HearsPooled, IsFed, NotifiesPooled, PassesOverPooled, PassesPooled, ResendsPooled, StaysQuietPooled, locked_shop};
 ghost use Rattle.fc_workers.specs.Answers.{IsSomeQuiet};
 ghost use Rattle.fc_workers.specs.Called.{shop};
 ghost use Rattle.fc_workers.specs.Closing.{HasCountedAll};
@@ -28,6 +28,7 @@ use std::alloc::{AllocError, Global};
 use std::io::Write;
 use std::marker::{Brand, Model};
 use std::sync::Wait;
+use std::sync::atomic::{AtomicU64, Ordering};
 use std::thread::Threads;
 
 /// Where a feeder has datagrams taken in, and observers notified: a server. (A method that is generic in its bench can't hand it on, since a
@@ -45,6 +46,9 @@ pub trait Intake {
 
     // A shard was advanced to a moment at which nothing was late, and nobody due.
     ghost passes_over: { ℕ → ℕ → Self → Self → Type 0 } = { λ shard now old new. ⊤ };
+
+    // Nothing is late at a shard, and nobody due, before a moment.
+    ghost stays_quiet: { ℕ → Self → ℕ → Type 0 } = { λ shard now until. ⊤ };
 
     // A shard was asked at a moment for the observer that is due first, and tells this.
     ghost notifies: { ℕ → ℕ → Self → Self → Notified → Type 0 } = { λ shard now old new told. ⊤ };
@@ -67,17 +71,44 @@ pub trait Intake {
         ensures quiet { IsSomeQuiet now result }
         ensures after { MatchBool result (passes_over shard now self.old self.new) (self.new ≡ self.old) };
 
+    /// Returns a moment before which nothing is late at a shard, 0 to 7, and nobody due, unless it takes a datagram in: the first that is known, or 2^64 - 1 where
+    /// none is.
+    fn quiet_until(&self, shard: u8) -> u64
+        ensures { stays_quiet shard self.now result };
+
     /// Has the observer of a shard, 0 to 7, notified that is due first at a moment in milliseconds, here or by a worker. What is to be sent of it is written over
     /// another emission: nothing where a worker has the turn, or has sent what it came to.
     fn notify(&mut self, shard: u8, now: u64, emission: &mut Emission) -> NotifyOutcome
         ensures { notifies shard now self.old self.new (notified_as result emission.new) };
 }
 
-// A dispatcher, and the handle by which it waits.
+// A wire that counts the jobs that have ended.
+#[derive(Drop)]
+struct Counting<'a, W: Wire> {
+    wire: &'a W,
+    ended: AtomicU64,
+}
+
+impl<'a, W: Wire> Wire for Counting<'a, W> {
+    ghost called = { W.called };
+
+    fn send<R: Wait>(&self, rt: &R, number: u64, emission: &Emission, log: &mut CallLog) -> bool {
+        self.wire.send(rt, number, emission, log)
+    }
+
+    fn ended<R: Wait>(&self, rt: &R, number: u64, log: &mut CallLog) {
+        self.wire.ended(rt, number, log);
+        let _before = self.ended.fetch_add(1, Ordering::SeqCst);
+    }
+}
+
+// A dispatcher, and the handle by which it waits; how many jobs came to it, and how many jobs have ended.
 #[derive(Drop)]
 struct Dispatching<'a, 'b, R: Wait, B: Bench, G: Gate, W: Wire, M: Moments> {
     rt: &'a R,
     dispatcher: Dispatcher<'b, B, G, W, M>,
+    begun: u64,
+    ended: &'b AtomicU64,
 }
 
 impl<'a, 'b, R: Wait, B: Bench, G: Gate, W: Wire, M: Moments> Model
@@ -111,8 +142,14 @@ impl<'a, 'b, R: Wait, B: Bench, G: Gate, W: Wire, M: Moments> Intake
 
     ghost notifies = { NotifiesPooled (shop B.changes B.ended B.called B.logged M.is_moment M.is_random G.passed W.called) };
 
+    ghost stays_quiet = { λ shard now until. StaysQuietPooled B.called shard until };
+
     fn hear(&mut self, now: u64, from: Endpoint, bytes: &[u8], reply: &mut Emission) -> Heard {
-        self.dispatcher.hear(self.rt, now, from, bytes, reply)
+        let heard = self.dispatcher.hear(self.rt, now, from, bytes, reply);
+        if matches!(heard, Heard::Job) {
+            self.begun = self.begun.saturating_add(1);
+        }
+        heard
     }
 
     fn tick(&mut self, now: u64) {
@@ -127,9 +164,19 @@ impl<'a, 'b, R: Wait, B: Bench, G: Gate, W: Wire, M: Moments> Intake
         self.dispatcher.advance_if_quiet(self.rt, shard, now)
     }
 
+    // While a job is at work, which may change a slot or register an observer, nothing is known. What has ended is read before the shard is asked.
+    fn quiet_until(&self, shard: u8) -> u64 {
+        if self.ended.load(Ordering::SeqCst) == self.begun {
+            self.dispatcher.quiet_until(self.rt, shard)
+        } else {
+            0
+        }
+    }
+
     fn notify(&mut self, shard: u8, now: u64, emission: &mut Emission) -> NotifyOutcome {
         let _ = emission;
         if self.dispatcher.notify(self.rt, shard, now) {
+            self.begun = self.begun.saturating_add(1);
             NotifyOutcome::Unsent
         } else {
             NotifyOutcome::Nobody
@@ -333,14 +380,18 @@ where
     let Some(own) = seats.pop() else {
         unreachable!();
     };
+    let wire = Counting {
+        wire: pool.wire,
+        ended: AtomicU64::new(0),
+    };
     let workshop = Workshop {
         alloc,
         bench,
         gate: &Open,
-        wire: pool.wire,
+        wire: &wire,
         moments: pool.moments,
     };
-    let (workshop, channel) = (&workshop, &jobs);
+    let (workshop, channel, ended) = (&workshop, &jobs, &wire.ended);
     let handover = pool.handover;
     let ((given, own), shares) = feed_workers(
         rt,
@@ -360,6 +411,8 @@ where
             let mut intake = Dispatching {
                 rt,
                 dispatcher: Dispatcher::new(workshop, channel, sent, own, handover),
+                begun: 0,
+                ended,
             };
             let given = feeder.feed(rt, &mut intake);
             (given, intake.close())

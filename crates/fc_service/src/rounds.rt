@@ -4,17 +4,18 @@ ghost use Rattle.std.specs.Option.{option_to_list};
 ghost use Rattle.coap_msg.specs.declared.types.Emission.{Emission};
 ghost use Rattle.fc_core.specs.Receiving.{emission_if};
 ghost use Rattle.fc_service.specs.Intakes.{IsHeardBy, is_reply};
-ghost use Rattle.fc_service.specs.Rounds.{HasRun};
+ghost use Rattle.fc_service.specs.Rounds.{AllStayQuiet, EndsInTime, HasRun};
 ghost use Rattle.fc_service.specs.Settling.{AreSettled, AreStepsBy, SettlingStep, sent_in_steps};
 ghost use Rattle.fc_service.specs.Traffic.{Sends};
 
 use crate::pool::Intake;
 use crate::replies::Replies;
 use crate::settle::{STEPS, Settling};
-use crate::socket::{BUFFER, Sink, Source};
+use crate::socket::{BUFFER, SHORTEST_WAIT, Sink, Source};
 use coap_msg::{Emission, Endpoint};
 use fc_core::Heard;
 use fc_core::front::blank_emission;
+use fc_registry::SHARDS;
 use fc_workers::Moments;
 use std::sync::Wait;
 
@@ -43,7 +44,8 @@ impl<N: Intake> Preparation<N> for Unprepared {
 }
 
 /// Receives datagrams until so many came, 0 is never: each is taken in, in order, before the next is received, and answered where it needs no worker. After each,
-/// and where none came in time, what is late is sent again, and the observers that are due are notified. The replies that were handed to the sink, each counted once.
+/// and where none came in time, what is late is sent again, and the observers that are due are notified. A datagram is waited for 100 ms, and, once none came in
+/// these, up to the moment that is known to be the next at which there may be something to do, or without end. The replies that were handed to the sink, each counted once.
 pub(crate) fn run_rounds<R: Wait, N: Intake, P: Preparation<N>, S: Source, K: Sink, M: Moments>(
     rt: &R,
     intake: &mut N,
@@ -59,11 +61,13 @@ pub(crate) fn run_rounds<R: Wait, N: Intake, P: Preparation<N>, S: Source, K: Si
     let mut buffer = [0; BUFFER];
     let mut replies = Replies::none();
     let mut received = 0u32;
+    let mut wait = Some(SHORTEST_WAIT);
     for _ in rt.forever() {
         if limit > 0 && received >= limit {
             break;
         }
-        let came = source.receive(&mut buffer);
+        let came = source.receive(wait, &mut buffer);
+        let idle = came.is_none();
         let now = moments.now(rt);
         preparation.ready(rt, intake, now);
         match came {
@@ -75,8 +79,33 @@ pub(crate) fn run_rounds<R: Wait, N: Intake, P: Preparation<N>, S: Source, K: Si
             None => intake.tick(now),
         }
         settle(intake, now, &mut reply, sink, &mut replies);
+        wait = next_wait(intake, now, idle);
     }
     replies
+}
+
+// How long a datagram is waited for after a round at a moment in milliseconds; `None` is without end. After one that received a datagram no shard is asked.
+fn next_wait<N: Intake>(intake: &N, now: u64, idle: bool) -> Option<u64>
+    ensures { EndsInTime (λ shard until. N.stays_quiet shard intake.now until) now result }
+{
+    if !idle {
+        return Some(SHORTEST_WAIT);
+    }
+    match quiet_until(intake) {
+        u64::MAX => None,
+        until => Some(until.saturating_sub(now).max(SHORTEST_WAIT)),
+    }
+}
+
+// A moment before which nothing is late at any shard, and nobody due.
+fn quiet_until<N: Intake>(intake: &N) -> u64
+    ensures { AllStayQuiet (λ shard until. N.stays_quiet shard intake.now until) result }
+{
+    let mut until = u64::MAX;
+    for shard in 0..SHARDS {
+        until = until.min(intake.quiet_until(shard));
+    }
+    until
 }
 
 // Has a datagram heard at a moment in milliseconds, and sends what it is answered at once, if anything, which is written over another emission.

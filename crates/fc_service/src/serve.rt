@@ -11,7 +11,7 @@ use crate::pool::{Feeder, Intake, Pool, run_pool};
 use crate::replies::Replies;
 use crate::rounds::{Unprepared, run_rounds};
 use crate::sensors::Sensors;
-use crate::socket::{Replying, Sink, Source, open};
+use crate::socket::{Receiving, Replying, Sink, Source, open};
 use fc_cli::status::{Status, tell};
 use fc_server::Begin;
 use fc_workers::{Handover, Moments};
@@ -77,7 +77,8 @@ pub fn serve<R: Threads + Wait + Clock + Net + Sync, L: Log, E: Write, Z: Sensor
             if listening.told {
                 let _told = writeln!(err, "listening on {address}");
             }
-            match serve_at(rt, alloc, log, err, sensors, &socket, &socket, extent) {
+            let source = Receiving::new(&socket);
+            match serve_at(rt, alloc, log, err, sensors, source, &socket, extent) {
                 Some(_) => Status::Done,
                 None => Status::Failed,
             }
@@ -89,7 +90,8 @@ pub fn serve<R: Threads + Wait + Clock + Net + Sync, L: Log, E: Write, Z: Sensor
 /// Serves datagrams of a source, on a new server of empty slots, until so many were received. Programs read the milliseconds since the start, and what the sensors say. This thread answers each whose job is cheap before it receives the
 /// next; a job whose program may run long is worked off by workers, each in a thread of its own. One worker is this thread, for all jobs; and so it is where no
 /// thread can be made for a worker, which `err` is told. After each datagram what is late is sent again, and the observers that are due are notified.
-/// Where none comes in time, time passes. Then the workers work off the jobs that are
+/// Where none comes in time, time passes: one is waited for 100 ms, and after those without end while no job is at work, no notification waits for an acknowledgement, and
+/// nobody is due. Then the workers work off the jobs that are
 /// left, and `log` is told how many replies went to the sink and how many couldn't be sent: a record `sent 2 failed 0` of level info. It gives the source back.
 ///
 /// It gives `None`, and `err` is told why, where the clock couldn't be read or there was no memory at the start.

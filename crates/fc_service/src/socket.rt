@@ -12,8 +12,8 @@ use std::net::{Ipv4Addr, Net, SocketAddr, SocketAddrV4, UdpSocket};
 use std::sync::Wait;
 use std::time::Duration;
 
-/// How long a server waits for a datagram, in milliseconds, before time passes without one.
-const RECEIVE_WAIT: u64 = 100;
+/// The shortest time that a server waits for a datagram, in milliseconds, before time passes without one.
+pub const SHORTEST_WAIT: u64 = 100;
 
 /// One byte more than a datagram may have: a longer one is seen to be too long, and ignored.
 pub const BUFFER: usize = DATAGRAM + 1;
@@ -26,9 +26,9 @@ pub trait Source {
     // The datagrams that it has given so far, where they are known: of each what fitted the buffer.
     ghost came: { Self → Option (List Incoming) } = { λ _. None };
 
-    /// Waits a while for a datagram: how many bytes at the start of the buffer it is, and who sent it. What doesn't fit the
+    /// Waits for a datagram, so many milliseconds or, for `None`, without end: how many bytes at the start of the buffer it is, and who sent it. What doesn't fit the
     /// buffer is lost. `None` where nothing came in time, or it couldn't be received.
-    fn receive(&mut self, buffer: &mut Buffer) -> Option<(usize, Endpoint)>
+    fn receive(&mut self, wait: Option<u64>, buffer: &mut Buffer) -> Option<(usize, Endpoint)>
         ensures fits { IfSome result (λ r. r.0 ≤ length buffer.new) }
         ensures given { Comes (came self.old) (came self.new) (incoming_in buffer.new result) };
 }
@@ -43,10 +43,40 @@ pub trait Sink {
         ensures { went emission.now result };
 }
 
+/// A socket that datagrams are received from, and how long its receives wait.
+#[derive(Drop)]
+pub struct Receiving<'a> {
+    socket: &'a UdpSocket,
+    wait: Option<u64>,
+}
+
+impl<'a> Receiving<'a> {
+    /// Receives from a socket whose receives wait 100 ms, as [`open`] gives it.
+    pub fn new(socket: &'a UdpSocket) -> Receiving<'a> {
+        Receiving {
+            socket,
+            wait: Some(SHORTEST_WAIT),
+        }
+    }
+
+    // Has receives wait so long. Where the system refuses that, they wait as long as before, and it is asked again at the next.
+    fn set_wait(&mut self, wait: Option<u64>) {
+        if self.wait != wait
+            && self
+                .socket
+                .set_read_timeout(wait.map(Duration::from_millis))
+                .is_ok()
+        {
+            self.wait = wait;
+        }
+    }
+}
+
 /// What came to a socket of the system isn't known.
-impl<'a> Source for &'a UdpSocket {
-    fn receive(&mut self, buffer: &mut Buffer) -> Option<(usize, Endpoint)> {
-        match self.recv_from(buffer) {
+impl<'a> Source for Receiving<'a> {
+    fn receive(&mut self, wait: Option<u64>, buffer: &mut Buffer) -> Option<(usize, Endpoint)> {
+        self.set_wait(wait);
+        match self.socket.recv_from(buffer) {
             Ok((count, SocketAddr::V4(from))) => Some((count, endpoint_of(&from))),
             Ok((_, SocketAddr::V6(_))) | Err(_) => None,
         }
@@ -66,7 +96,7 @@ impl Sink for UdpSocket {
 /// The address is none of this host, the port is taken or may not be had, or there is no socket.
 pub fn open<R: Net>(rt: &R, address: SocketAddrV4) -> io::Result<UdpSocket> {
     let socket = UdpSocket::bind(rt, address)?;
-    socket.set_read_timeout(Some(Duration::from_millis(RECEIVE_WAIT)))?;
+    socket.set_read_timeout(Some(Duration::from_millis(SHORTEST_WAIT)))?;
     Ok(socket)
 }
 

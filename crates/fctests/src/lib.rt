@@ -78,3 +78,5 @@ mod tool_tests;
 mod tooling;
 #[cfg(test)]
 mod transfer_tests;
+#[cfg(test)]
+mod wait_tests;

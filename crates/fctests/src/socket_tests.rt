@@ -8,7 +8,7 @@ use fc_cli::Status;
 use fc_fetch::{FetchOptions, Shown, fetch};
 use fc_service::sensors::{NoSensors, Sensors};
 use fc_service::serve::{Extent, Listening, serve, serve_at};
-use fc_service::socket::{Buffer, Sink, Source, open};
+use fc_service::socket::{Buffer, Receiving, Sink, Source, open};
 use log::sink::Memory;
 use log::{LevelFilter, Logged};
 use std::alloc::{AllocError, Global};
@@ -106,7 +106,8 @@ fn serve_logged<R: Threads + Wait + Clock + Sync, Z: Sensors + Sync>(
     let memory = Memory::new(alloc);
     let log = Logged::new(rt, LevelFilter::Info, &memory);
     let mut err = Vec::new(alloc);
-    let served = serve_at(rt, alloc, &log, &mut err, sensors, socket, socket, extent);
+    let source = Receiving::new(socket);
+    let served = serve_at(rt, alloc, &log, &mut err, sensors, source, socket, extent);
     (served.is_some(), memory)
 }
 
@@ -295,7 +296,8 @@ pub(crate) fn put_datagram(bytes: &[u8], buffer: &mut [u8]) -> Option<(usize, En
 }
 
 impl Source for Script {
-    fn receive(&mut self, buffer: &mut Buffer) -> Option<(usize, Endpoint)> {
+    fn receive(&mut self, wait: Option<u64>, buffer: &mut Buffer) -> Option<(usize, Endpoint)> {
+        let _ = wait;
         self.calls = self.calls.saturating_add(1);
         match self.calls {
             2 => put_datagram(&NO_PATH, buffer),
