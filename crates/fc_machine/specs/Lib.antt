@@ -2,3 +2,4 @@ pub mod Ran
 pub mod Steps
 pub mod Array
 pub mod Kept
+pub mod Outcome

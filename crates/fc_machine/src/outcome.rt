@@ -24,13 +24,15 @@ pub struct Outcome<'a> {
 }
 
 impl<'a> Model for Outcome<'a> {
-    ghost use Rattle.fc_machine.specs.Ran.{IsOutcome, Ran, ran};
+    ghost use Rattle.fc_machine.specs.Ran.{Ran};
 
     ghost Value = { Ran };
 
-    ghost view = { λ o. ran o.program.now o.request.now o.found.now o.readings.now };
+    ghost use Rattle.fc_machine.specs.Outcome.{IsMadeRight, made_of};
 
-    ghost invariant = { λ o. IsOutcome (ran o.program.now o.request.now o.found.now o.readings.now) o.code o.reply.now o.after.now o.notice o.steps };
+    ghost view = { made_of };
+
+    ghost invariant = { IsMadeRight };
 }
 
 impl<'a> Outcome<'a> {

@@ -1,6 +1,6 @@
 -- The least states of a program's slots, computed slot by slot from its entry on. All that leads to a slot comes from earlier ones, but for
 -- a jump back, which hands nothing on: what the head of its loop settles to contains it.
-use Rattle.std.specs.Prelude.{ℕ, ◌+◌, ◌<◌, ◌&&◌, not, Bool, nat_lt, if◌then◌else◌, List, [], ◌∷◌, map, Option, Some, None, is_some, slice_set}
+use Rattle.std.specs.Prelude.{◌≡◌, ℕ, ◌+◌, ◌<◌, ◌&&◌, not, Bool, nat_lt, if◌then◌else◌, List, [], ◌∷◌, map, Option, Some, None, is_some, slice_set}
 use Rattle.fc_isa.specs.declared.insn.Insn.{Insn}
 use Rattle.fc_isa.specs.declared.version.ImageVersion.{ImageVersion}
 use Rattle.fc_isa.specs.Flow.{Flow, Halts, Goes, Forks, Enters}
@@ -46,6 +46,10 @@ met_by vars inside slot insn kinds states = with_some (transfer vars insn kinds)
 -- the states after a slot that is found with these kinds, where this loop begins, in a body or in none
 abbrev pub passed_by : ℕ → List Insn → Option Loop → Bool → ℕ → Insn → List Kind → States → Option States
 passed_by vars code beginning inside slot insn found states = with_some (settled code beginning found) (λ kinds. met_by vars inside slot insn kinds states)
+
+-- it is passed, with these states after it
+abbrev pub IsPassed : ℕ → List Insn → Option Loop → Bool → ℕ → Insn → List Kind → States → States → Type 0
+IsPassed vars code beginning inside slot insn found states after = passed_by vars code beginning inside slot insn found states ≡ Some after
 
 -- the states after a slot was passed, or nothing where its demands aren't met; a slot without a state is never reached
 abbrev pub passed_with : ℕ → List Insn → List Loop → ℕ → Insn → Option (List Kind) → States → Option States

@@ -21,7 +21,7 @@ ghost use Rattle.fc_kinds.specs.Ways.{ways_after};
 ghost use Rattle.fc_verify.specs.Heads.{IsLoopOf, gives_number, reached, settled};
 ghost use Rattle.fc_verify.specs.Runs.{IsTypedProgram, IsUntypedProgram};
 ghost use Rattle.fc_verify.specs.Stages.{Fails, IsRuleOf, IsTypingFault, IsUntyped, Stops};
-ghost use Rattle.fc_verify.specs.Pass.{IsWithin, beginning, is_typable, joined_in, led, meet_at, met_by, met_later, pass, passed_by};
+ghost use Rattle.fc_verify.specs.Pass.{IsPassed, IsWithin, beginning, is_typable, joined_in, led, meet_at, met_by, met_later, pass, passed_by};
 ghost use Rattle.fc_verify.specs.Typing.{IsTypingOf, States, state_at};
 
 use crate::settling::{formed, gives_number, settled, unnumbered};
