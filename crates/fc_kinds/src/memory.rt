@@ -1,9 +1,8 @@
 //! Loads and stores.
-ghost use Rattle.std.specs.Prelude.{IfErr, IfOk, None, Some, ◌≡◌, ◌≤◌};
+ghost use Rattle.std.specs.Prelude.{IfErr, IfOk, None, Some, ℤ, ◌≡◌, ◌≤◌};
 ghost use Rattle.fc_isa.specs.Rules.{number_of};
-ghost use Rattle.fc_kinds.specs.Kinds.{kind_at};
 ghost use Rattle.fc_kinds.specs.Containing.{AreKinds, IsKind};
-ghost use Rattle.fc_kinds.specs.Transfer.{loaded_interval, may_write, size_of, transfer, where_met};
+ghost use Rattle.fc_kinds.specs.Transfer.{loaded_interval, transfer};
 
 use crate::interval::{Interval, all};
 use crate::kind::{Kind, Regs};
@@ -68,8 +67,8 @@ pub(crate) fn store_imm(
     vars_size: u16,
 ) -> Result<(), Rule>
     requires { AreKinds regs.old }
-    ensures after { IfOk result (λ u. where_met (may_write vars_size (size_of size) offset (kind_at regs.old base)) regs.old ≡ Some regs.new) }
-    ensures refused { IfErr result (λ rule. where_met (may_write vars_size (size_of size) offset (kind_at regs.old base)) regs.old ≡ None) }
+    ensures after { (imm : ℤ) → IfOk result (λ u. transfer vars_size (Insn.StoreImm size base offset imm) regs.old ≡ Some regs.new) }
+    ensures refused { (imm : ℤ) → IfErr result (λ rule. transfer vars_size (Insn.StoreImm size base offset imm) regs.old ≡ None) }
     ensures kept { IfErr result (λ rule. regs.new ≡ regs.old) }
     ensures rule { IfErr result (λ rule. (20 ≤ number_of rule) × (number_of rule ≤ 27)) }
 {
