@@ -1,5 +1,5 @@
 -- What is called on a peer, one call behind the other.
-use Rattle.std.proofs.Common.{◌≡◌, ◌%◌, ℕ, zero, suc, IfOk, IfSome, Result, Ok, Err, ◌+◌, ◌<◌, ◌≤◌, ◌^◌, ◌⊎◌, inl, inr, Bool, true, false, List, [], ◌∷◌, ◌++◌, length, Option, Some, None, refl, sym, ◌∙◌, ap, subst, append_assoc, length-append, take, add-one, arith}
+use Rattle.std.proofs.Common.{◌≡◌, ◌%◌, ℕ, zero, suc, IfOk, IfSome, Result, Ok, Err, ◌+◌, ◌<◌, ◌≤◌, ◌^◌, inl, inr, Bool, List, [], ◌∷◌, ◌++◌, length, Option, Some, None, refl, sym, ◌∙◌, ap, subst, append_assoc, length-append, take, add-one, arith}
 use Rattle.std.specs.List.{All}
 use Rattle.std.proofs.lemmas.List.Elements.{All-append, All-cons, All-nil}
 use Rattle.coap_msg.specs.Wire.{message_bytes}
@@ -8,7 +8,7 @@ use Rattle.coap_client.specs.declared.fetcher.FetchFault.{FetchFault}
 use Rattle.coap_client.specs.declared.part.Part.{Part}
 use Rattle.coap_client.specs.Requests.{IsPartOf, part_request}
 use Rattle.coap_client.specs.PeerCalls.{Adds, PeerCall, Sends, Waits, Receives, received_in}
-use Rattle.coap_client.specs.Transmissions.{AreInVain, AreRequests, Does, HasAdded, IsAcknowledged, IsAnswered, IsAsked, IsAskedAgain, IsAwaited, IsLastSending, IsMeanwhile, IsOver, IsSending, IsSentAgain, IsTransmission}
+use Rattle.coap_client.specs.Transmissions.{AreInVain, AreRequests, Does, IsAcknowledged, IsAnswered, IsAsked, IsAskedAgain, IsAwaited, IsLastSending, IsMeanwhile, IsOver, IsSending, IsTransmission}
 
 abbrev Calls : Type 1
 Calls = List PeerCall → Type 0
@@ -209,3 +209,6 @@ begun_again e first next j k before between after is one other =
 
 pub some_of : (o : Option ℕ) (n : ℕ) (P : ℕ → Type 0) → o ≡ Some n → IfSome o P → P n
 some_of o n P some h = subst (λ (x : Option ℕ). IfSome x P) some h
+
+pub unacknowledged : (now : Calls) → Does now now (All IsMeanwhile)
+unacknowledged now = does_nothing now (All IsMeanwhile) (All-nil IsMeanwhile)

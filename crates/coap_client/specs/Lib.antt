@@ -5,8 +5,8 @@ pub mod Requests
 pub mod Replies
 pub mod Heard
 pub mod PeerCalls
-pub mod Transmissions
 pub mod Fetching
 pub mod Joined
 pub mod Notices
 pub mod Notes
+pub mod Transmissions

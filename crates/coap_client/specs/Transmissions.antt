@@ -8,7 +8,10 @@ use Rattle.coap_client.specs.PeerCalls.{PeerCall, Sends, Waits, Receives}
 use Rattle.coap_client.specs.declared.errand.Errand.{Errand}
 use Rattle.coap_client.specs.declared.fetcher.Attempt.{Attempt}
 use Rattle.coap_client.specs.declared.fetcher.Attempt.TheVariants.{Outdated}
+use Rattle.coap_client.specs.declared.notice.Interest.TheVariants.{Register, Deregister}
+use Rattle.coap_client.specs.declared.observing.Observer.{Observer}
 use Rattle.coap_client.specs.declared.part.Part.{Part}
+use Rattle.coap_client.specs.Notices.{observe_request}
 use Rattle.coap_client.specs.Requests.{IsPartOf, acknowledgement, part_request}
 
 -- calls of this kind are added to those before
@@ -47,6 +50,10 @@ IsHeard awaited (listened.Answer count) heard = All IsMeanwhile heard
 abbrev pub IsAwaited : Option ℕ → List PeerCall → Type 0
 IsAwaited None heard = IsOver heard
 IsAwaited (Some count) heard = All IsMeanwhile heard
+
+abbrev pub IsOverUnless : Bool → List PeerCall → Type 0
+IsOverUnless false heard = IsOver heard
+IsOverUnless true heard = All IsMeanwhile heard
 
 -- a request is sent, and its answer waited for so many seconds
 pub record IsSending (request : List ℕ) (seconds : ℕ) (P : List PeerCall → Type 0) (calls : List PeerCall) : Type 0 where
@@ -125,3 +132,11 @@ AreRequests e first (suc n) calls = IsNextRequest (AreRequests e first n) e ((fi
 abbrev pub GoesOnAt : ℕ → Attempt → Type 0
 GoesOnAt id (Outdated next earlier) = next ≡ id
 GoesOnAt id other = Unit {0}
+
+-- an observer's registration is transmitted and answered; its deregistration is sent until it is acknowledged
+abbrev pub IsRegistration : Observer → ℕ → List PeerCall → Type 0
+IsRegistration o count calls = IsTransmission true (message_bytes (observe_request o.errand.now Register o.token o.id)) (Some count) calls
+
+abbrev pub IsDeregistration : Observer → List PeerCall → Type 0
+IsDeregistration o calls =
+    IsLastSending (message_bytes (observe_request o.errand.now Deregister o.token ((o.id + 1) % 65536))) (All IsMeanwhile) calls

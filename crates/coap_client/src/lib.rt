@@ -20,7 +20,8 @@
 //!   bring the whole body, joined; each block of it goes behind a success that says that the one before was taken; and the answer is the
 //!   payloads of blocks of one ETag, or of none, each of which begins where the ones before it end, and behind the last of which there is
 //!   none. What a result rests on is begun again once at most, and only for a GET.
-//! - An observer's registration and deregistration are messages that fit a datagram, with its token. What a response is to it, exactly, by
+//! - An observer's registration and deregistration are messages that fit a datagram, with its token, and are sent again as a confirmable
+//!   request of a fetch is, until one is answered, the other acknowledged. What a response is to it, exactly, by
 //!   RFC 7641's comparison: a newer state, one answer for what isn't newer and for a repeat of what was shown, the last, or one that can't
 //!   be shown.
 //! - What an observer shows next came by `Peer::receive`, is a response with its token in a message of its own, was acknowledged where it

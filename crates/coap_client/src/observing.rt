@@ -7,6 +7,8 @@ ghost use Rattle.coap_client.specs.Notes.{HasAcknowledgement, HasArrived, HasDer
 ghost use Rattle.coap_client.specs.Notices.{IsOwnResponse, observe_request, observe_value};
 ghost use Rattle.coap_client.specs.Replies.{IsReset};
 ghost use Rattle.coap_opts.specs.Values.{uint_bytes};
+ghost use Rattle.coap_client.specs.Transmissions.{Does, IsAskedAgain, IsAwaited, IsDeregistration, IsHeard, IsMeanwhile, IsOverUnless, IsRegistration};
+ghost use Rattle.std.specs.List.{All};
 ghost use Rattle.std.specs.Bool.{OnTrue};
 ghost use Rattle.coap_client.specs.Parts.{resource_options};
 ghost use Rattle.coap_client.specs.Paths.{slices_in};
@@ -16,7 +18,9 @@ use crate::fetcher::FetchFault;
 use crate::notice::{Interest, Notice, is_notification, is_reply_with};
 use crate::peer::Peer;
 use crate::reply::{is_empty_acknowledgement, is_reset};
-use crate::transmission::{Listened, Reception, SENDINGS, SEPARATE_WAIT, ack_timeout, acknowledge};
+use crate::transmission::{
+    Listened, Reception, SENDINGS, SEPARATE_WAIT, ack_timeout, acknowledge, send,
+};
 use crate::watch::Watch;
 use coap_msg::{Code, Datagram, Message, MessageType, Outgoing, read, write};
 use coap_opts::number::{OBSERVE, URI_PATH, URI_QUERY};
@@ -54,7 +58,8 @@ impl<'a> Observer<'a> {
         peer: &mut P,
         buffer: &mut [u8],
     ) -> Result<usize, FetchFault>
-        ensures { IfOk result (λ count. (count ≤ length buffer.new) × IsRegistered P.went P.came self.now (take count buffer.new)) }
+        ensures registered { IfOk result (λ count. (count ≤ length buffer.new) × IsRegistered P.went P.came self.now (take count buffer.new)) }
+        ensures called { IfOk result (λ count. Does (P.called peer.old) (P.called peer.new) (IsRegistration self.now count)) }
     {
         let mut datagram = Datagram::new();
         write_request(
@@ -65,7 +70,9 @@ impl<'a> Observer<'a> {
             self.id,
             &mut datagram,
         )?;
-        let count = self.ask(peer, &datagram, buffer)?;
+        let Some(count) = self.ask(peer, &datagram, buffer)? else {
+            return Err(FetchFault::Silence);
+        };
         acknowledge(peer, &buffer[..count])?;
         Ok(count)
     }
@@ -76,15 +83,15 @@ impl<'a> Observer<'a> {
         peer: &mut P,
         datagram: &Datagram,
         buffer: &mut [u8],
-    ) -> Result<usize, FetchFault>
-        ensures { IfOk result (λ count. (count ≤ length buffer.new) × P.went datagram.now.items
-            × HasArrived P.came (IsResponseWith self.now.token self.now.id) (take count buffer.new)) }
+    ) -> Result<Option<usize>, FetchFault>
+        ensures answer { IfOk result (λ r. IfSome r (λ count. (count ≤ length buffer.new) × P.went datagram.now.items
+            × HasArrived P.came (IsResponseWith self.now.token self.now.id) (take count buffer.new))) }
+        ensures called { IfOk result (λ r. Does (P.called peer.old) (P.called peer.new) (IsAskedAgain datagram.now.items r)) }
     {
         for sendings in 0..SENDINGS {
-            peer.send(datagram)?;
-            peer.begin_wait(ack_timeout(sendings))?;
+            send(peer, datagram, ack_timeout(sendings))?;
             match self.listen(peer, false, buffer)? {
-                Listened::Answer(count) => return Ok(count),
+                Listened::Answer(count) => return Ok(Some(count)),
                 Listened::Acknowledged => {
                     peer.begin_wait(SEPARATE_WAIT)?;
                     return self.await_answer(peer, buffer);
@@ -92,17 +99,22 @@ impl<'a> Observer<'a> {
                 Listened::Nothing => {}
             }
         }
-        Err(FetchFault::Silence)
+        Ok(None)
     }
 
     // Waits for the answer of an acknowledged registration.
-    fn await_answer<P: Peer>(&self, peer: &mut P, buffer: &mut [u8]) -> Result<usize, FetchFault>
-        ensures { IfOk result (λ count. (count ≤ length buffer.new)
-            × HasArrived P.came (IsResponseWith self.now.token self.now.id) (take count buffer.new)) }
+    fn await_answer<P: Peer>(
+        &self,
+        peer: &mut P,
+        buffer: &mut [u8],
+    ) -> Result<Option<usize>, FetchFault>
+        ensures answer { IfOk result (λ r. IfSome r (λ count. (count ≤ length buffer.new)
+            × HasArrived P.came (IsResponseWith self.now.token self.now.id) (take count buffer.new))) }
+        ensures called { IfOk result (λ r. Does (P.called peer.old) (P.called peer.new) (IsAwaited r)) }
     {
         match self.listen(peer, true, buffer)? {
-            Listened::Answer(count) => Ok(count),
-            Listened::Acknowledged | Listened::Nothing => Err(FetchFault::Silence),
+            Listened::Answer(count) => Ok(Some(count)),
+            Listened::Acknowledged | Listened::Nothing => Ok(None),
         }
     }
 
@@ -113,9 +125,10 @@ impl<'a> Observer<'a> {
         acknowledged: bool,
         buffer: &mut [u8],
     ) -> Result<Listened, FetchFault>
-        ensures { IfOk result (HearsAnswer P.came self.now.token self.now.id buffer.new) }
+        ensures listened { IfOk result (HearsAnswer P.came self.now.token self.now.id buffer.new) }
+        ensures called { IfOk result (λ x. Does (P.called peer.old) (P.called peer.new) (IsHeard acknowledged x)) }
     {
-        for _ in 0..u64::MAX {
+        for received in 0..u64::MAX {
             let Some(count) = peer.receive(buffer)? else {
                 return Ok(Listened::Nothing);
             };
@@ -139,7 +152,8 @@ impl<'a> Observer<'a> {
         peer: &mut P,
         buffer: &mut [u8],
     ) -> Result<(), FetchFault>
-        ensures { OnOk result (HasDeregistered P.went P.came self.now) }
+        ensures deregistered { OnOk result (HasDeregistered P.went P.came self.now) }
+        ensures called { OnOk result (Does (P.called peer.old) (P.called peer.new) (IsDeregistration self.now)) }
     {
         let id = self.id.wrapping_add(1);
         let mut datagram = Datagram::new();
@@ -152,8 +166,7 @@ impl<'a> Observer<'a> {
             &mut datagram,
         )?;
         for sendings in 0..SENDINGS {
-            peer.send(&datagram)?;
-            peer.begin_wait(ack_timeout(sendings))?;
+            send(peer, &datagram, ack_timeout(sendings))?;
             if is_acknowledged(peer, &self.token, id, buffer)? {
                 return Ok(());
             }
@@ -259,9 +272,10 @@ fn is_acknowledged<P: Peer>(
     id: u16,
     buffer: &mut [u8],
 ) -> Result<bool, FetchFault>
-    ensures { IfOk result (λ is. OnTrue is (HasAcknowledgement P.came id)) }
+    ensures acknowledged { IfOk result (λ is. OnTrue is (HasAcknowledgement P.came id)) }
+    ensures called { IfOk result (λ is. Does (P.called peer.old) (P.called peer.new) (IsOverUnless is)) }
 {
-    for _ in 0..u64::MAX {
+    for received in 0..u64::MAX {
         let Some(count) = peer.receive(buffer)? else {
             return Ok(false);
         };
@@ -272,11 +286,23 @@ fn is_acknowledged<P: Peer>(
         if tells_reset(id, bytes) {
             return Err(FetchFault::Rejected);
         }
-        if tells_notification(token, bytes) {
-            acknowledge(peer, bytes)?;
-        }
+        acknowledge_notification(peer, token, bytes)?;
     }
     Ok(false)
+}
+
+// Acknowledges a notification that asks for it.
+fn acknowledge_notification<P: Peer>(
+    peer: &mut P,
+    token: &[u8],
+    bytes: &[u8],
+) -> Result<(), FetchFault>
+    ensures { OnOk result (Does (P.called peer.old) (P.called peer.new) (All IsMeanwhile)) }
+{
+    if tells_notification(token, bytes) {
+        acknowledge(peer, bytes)?;
+    }
+    Ok(())
 }
 
 // Whether a datagram is the acknowledgement of the request of this id, with an answer or without.

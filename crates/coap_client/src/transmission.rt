@@ -129,7 +129,7 @@ fn ask_again<P: Peer>(
         (IsAskedAgain request.now.datagram.now.items r)) }
 {
     for sendings in 0..SENDINGS {
-        send(peer, request, ack_timeout(sendings))?;
+        send(peer, request.datagram, ack_timeout(sendings))?;
         match listen(peer, request, false, buffer)? {
             Listened::Answer(count) => return Ok(Some(count)),
             Listened::Acknowledged => {
@@ -154,16 +154,20 @@ fn ask_once<P: Peer>(
     ensures called { IfOk result (λ r. Does (P.called peer.old) (P.called peer.new)
         (IsSending request.now.datagram.now.items 32 (IsAwaited r))) }
 {
-    send(peer, request, NON_WAIT)?;
+    send(peer, request.datagram, NON_WAIT)?;
     await_separate(peer, request, buffer)
 }
 
 // Sends a request, and begins a wait of so many seconds.
-fn send<P: Peer>(peer: &mut P, request: &SentRequest<'_>, seconds: u64) -> Result<(), FetchFault>
-    ensures went { OnOk result (P.went request.now.datagram.now.items) }
-    ensures called { OnOk result (Adds (P.called peer.old) (P.called peer.new) (Waits seconds ∷ Sends request.now.datagram.now.items ∷ [])) }
+pub(crate) fn send<P: Peer>(
+    peer: &mut P,
+    request: &Datagram,
+    seconds: u64,
+) -> Result<(), FetchFault>
+    ensures went { OnOk result (P.went request.now.items) }
+    ensures called { OnOk result (Adds (P.called peer.old) (P.called peer.new) (Waits seconds ∷ Sends request.now.items ∷ [])) }
 {
-    peer.send(request.datagram)?;
+    peer.send(request)?;
     peer.begin_wait(seconds)?;
     Ok(())
 }

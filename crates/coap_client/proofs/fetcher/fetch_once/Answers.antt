@@ -1,8 +1,8 @@
-use Rattle.std.proofs.Common.{◌≡◌, ◌≤◌, ℕ, ◌+◌, take, length, sym, ◌∙◌, ap, subst, arith}
+use Rattle.std.proofs.Common.{◌≤◌, ◌+◌, take, length, sym, ◌∙◌, ap, subst, arith}
 use Rattle.coap_client.specs.Fetching.{IsNow}
 use Rattle.coap_client.specs.Heard.{HasTakenResponse}
 use Rattle.coap_client.proofs.Courses.{answers_part, leads_on, leads_to}
-use Rattle.coap_client.proofs.Transmitting.{no_requests, one_request, some_of}
+use Rattle.coap_client.proofs.Transmitting.{one_request, some_of}
 use Rattle.coap_client.proofs.fetcher.fetch_once.Goals as goal
 
 pub returns-in-Ended-clause-attempt : goal.returns-in-Ended-clause-attempt

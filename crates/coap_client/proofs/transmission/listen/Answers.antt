@@ -1,6 +1,6 @@
 use Rattle.std.proofs.Common.{arith}
 use Rattle.std.specs.List.{All}
-use Rattle.coap_client.specs.Transmissions.{Does, IsHeard, IsMeanwhile}
+use Rattle.coap_client.specs.Transmissions.{IsHeard, IsMeanwhile}
 use Rattle.coap_client.specs.declared.transmission.Listened.TheVariants.{Acknowledged}
 use Rattle.coap_client.proofs.Transmitting.{come, does_of, flooded, none_come, one_comes, over}
 use Rattle.coap_client.proofs.transmission.listen.Goals as goal
