@@ -20,8 +20,8 @@ pub record HasAdded (after : List PeerCall → Type 0) (P : List PeerCall → Ty
   pub are : P more
   pub is : after (more ++ calls)
 
-abbrev pub Does : (List PeerCall → Type 0) → (List PeerCall → Type 0) → (List PeerCall → Type 0) → Type 0
-Does before after P = (calls : List PeerCall) → before calls → HasAdded after P calls
+abbrev pub AddsCalls : (List PeerCall → Type 0) → (List PeerCall → Type 0) → (List PeerCall → Type 0) → Type 0
+AddsCalls before after P = (calls : List PeerCall) → before calls → HasAdded after P calls
 
 -- the acknowledgement of some message
 pub record IsAcknowledgement (bytes : List ℕ) : Type 0 where
@@ -47,9 +47,9 @@ IsHeard awaited listened.Acknowledged heard = (awaited ≡ false) × All IsMeanw
 IsHeard awaited (listened.Answer count) heard = All IsMeanwhile heard
 
 -- an answer came, or the wait is over
-abbrev pub IsAwaited : Option ℕ → List PeerCall → Type 0
-IsAwaited None heard = IsOver heard
-IsAwaited (Some count) heard = All IsMeanwhile heard
+abbrev pub IsWaitEnded : Option ℕ → List PeerCall → Type 0
+IsWaitEnded None heard = IsOver heard
+IsWaitEnded (Some count) heard = All IsMeanwhile heard
 
 abbrev pub IsOverUnless : Bool → List PeerCall → Type 0
 IsOverUnless false heard = IsOver heard
@@ -74,7 +74,7 @@ AreInVain request zero calls = calls ≡ []
 AreInVain request (suc n) calls = IsSentAgain (AreInVain request n) request n calls
 
 -- it was acknowledged, and its answer waited for 93 seconds more
-pub record IsAcknowledged (P : List PeerCall → Type 0) (heard : List PeerCall) : Type 0 where
+pub record IsAcknowledgedFirst (P : List PeerCall → Type 0) (heard : List PeerCall) : Type 0 where
   pub first : List PeerCall
   pub are : All IsMeanwhile first
   pub more : List PeerCall
@@ -91,23 +91,23 @@ pub record IsLastSending (request : List ℕ) (P : List PeerCall → Type 0) (ca
   pub sending : IsSending request (2 ^ (n + 1)) P last
   pub is : calls ≡ last ++ older
 
-abbrev pub IsAnswered : List PeerCall → Type 0
-IsAnswered heard = All IsMeanwhile heard ⊎ IsAcknowledged (All IsMeanwhile) heard
+abbrev pub IsAnsweredInTime : List PeerCall → Type 0
+IsAnsweredInTime heard = All IsMeanwhile heard ⊎ IsAcknowledgedFirst (All IsMeanwhile) heard
 
 -- a confirmable request is answered, at once or after it was acknowledged; or it is sent five times in vain, or acknowledged and then not answered
 abbrev pub IsAskedAgain : List ℕ → Option ℕ → List PeerCall → Type 0
-IsAskedAgain request (Some count) calls = IsLastSending request IsAnswered calls
-IsAskedAgain request None calls = AreInVain request 5 calls ⊎ IsLastSending request (IsAcknowledged IsOver) calls
+IsAskedAgain request (Some count) calls = IsLastSending request IsAnsweredInTime calls
+IsAskedAgain request None calls = AreInVain request 5 calls ⊎ IsLastSending request (IsAcknowledgedFirst IsOver) calls
 
 -- another is sent once
-abbrev pub IsAsked : Bool → List ℕ → Option ℕ → List PeerCall → Type 0
-IsAsked true request answer calls = IsAskedAgain request answer calls
-IsAsked false request answer calls = IsSending request 32 (IsAwaited answer) calls
+abbrev pub IsTransmitted : Bool → List ℕ → Option ℕ → List PeerCall → Type 0
+IsTransmitted true request answer calls = IsAskedAgain request answer calls
+IsTransmitted false request answer calls = IsSending request 32 (IsWaitEnded answer) calls
 
 -- a request is transmitted, and its answer acknowledged where that asks for it
 pub record IsTransmission (confirmable : Bool) (request : List ℕ) (answer : Option ℕ) (calls : List PeerCall) : Type 0 where
   pub asked : List PeerCall
-  pub is_asked : IsAsked confirmable request answer asked
+  pub is_asked : IsTransmitted confirmable request answer asked
   pub taken : List PeerCall
   pub acknowledged : All IsMeanwhile taken
   pub is : calls ≡ taken ++ asked
@@ -124,9 +124,9 @@ pub record IsNextRequest (Before : List PeerCall → Type 0) (e : Errand) (id : 
   pub is : calls ≡ last ++ older
 
 -- n requests of the errand, whose ids count up from the first, and nothing else
-abbrev pub AreRequests : Errand → ℕ → ℕ → List PeerCall → Type 0
-AreRequests e first zero calls = calls ≡ []
-AreRequests e first (suc n) calls = IsNextRequest (AreRequests e first n) e ((first + n) % 65536) calls
+abbrev pub AreErrandRequests : Errand → ℕ → ℕ → List PeerCall → Type 0
+AreErrandRequests e first zero calls = calls ≡ []
+AreErrandRequests e first (suc n) calls = IsNextRequest (AreErrandRequests e first n) e ((first + n) % 65536) calls
 
 -- a fetch that is to begin again goes on at the next id
 abbrev pub GoesOnAt : ℕ → Attempt → Type 0

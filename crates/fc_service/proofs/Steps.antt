@@ -5,7 +5,7 @@ use Rattle.std.specs.List.{list_any}
 use Rattle.fc_observe.specs.declared.observers.Ticked.{Ticked}
 use Rattle.fc_observe.specs.declared.observers.Ticked.TheVariants.{Quiet}
 use Rattle.fc_server.specs.Notified.{Notified, Nobody, Starved}
-use Rattle.fc_service.specs.Settling.{AreInOrder, AreSettled, AreStepsTo, Asked, Finding, HasReached, IsPlace, IsStepBy, Moves, NobodyDue, NothingLate, Passed, Resent, SettlingStep, found_at, found_below, found_in_step, found_in_steps, is_starved, sought_at, sought_in_step}
+use Rattle.fc_service.specs.Settling.{AreStepsInOrder, AreSettled, AreStepsTo, Asked, Finding, HasReached, IsPlace, IsStepBy, Moves, NobodyDue, NothingLate, Passed, Resent, SettlingStep, found_at, found_below, found_in_step, found_in_steps, is_starved, sought_at, sought_in_step}
 use Rattle.fc_service.specs.declared.settle.Settling.{Settling}
 
 -- ---- one step
@@ -131,15 +131,15 @@ reached_by from to steps step fed found (inl m) =
     inl (ap (λ (b : Bool). b || list_any is_starved steps) m.0 ∙ fed, ap (λ (l : List Finding). l ++ found_in_step step) found ∙ m.1)
 reached_by from to steps step fed found (inr m) = inr (ap (λ (b : Bool). b || list_any is_starved steps) m.0, m.1)
 
-reached_more : (from to : Settling) (steps : List SettlingStep) (step : SettlingStep) → AreInOrder steps → HasReached steps from → Moves from step to
-    → AreInOrder (step ∷ steps) × HasReached (step ∷ steps) to
+reached_more : (from to : Settling) (steps : List SettlingStep) (step : SettlingStep) → AreStepsInOrder steps → HasReached steps from → Moves from step to
+    → AreStepsInOrder (step ∷ steps) × HasReached (step ∷ steps) to
 reached_more from to steps step order (inr w) m = absurd (omega (arith, w.1, m.within))
 reached_more from to steps step order (inl w) m = ((order, w.0, left from step steps m.within w.1 m.seeks), reached_by from to steps step w.0 w.1 m.reaches)
 
 found_all : (s : Settling) → IsPlace s → 8 ≤ s.shard → found_at s ≡ found_below 8
 found_all s is end = let at : s.shard ≡ 8 = omega (arith, is.0, end) in at_place s 8 false at (is.1 at) ∙ append-nil (found_below 8)
 
-settled_by : (s : Settling) (steps : List SettlingStep) → found_at s ≡ found_below 8 → AreInOrder steps → HasReached steps s → AreSettled steps
+settled_by : (s : Settling) (steps : List SettlingStep) → found_at s ≡ found_below 8 → AreStepsInOrder steps → HasReached steps s → AreSettled steps
 settled_by s steps all order (inl w) = (order, inl (w.1 ∙ all))
 settled_by s steps all order (inr w) = (order, inr (inl w.0))
 

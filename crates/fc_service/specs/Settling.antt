@@ -69,14 +69,14 @@ abbrev pub most_steps : ℕ
 most_steps = 8192
 
 -- each step looks for what is to be found next, and none follows one that was starved
-abbrev pub AreInOrder : List SettlingStep → Type 0
-AreInOrder [] = Unit {0}
-AreInOrder (step ∷ steps) =
-    AreInOrder steps × (list_any is_starved steps ≡ false) × ((rest : List Finding) × (found_in_steps steps ++ (sought_in_step step ∷ rest) ≡ found_below 8))
+abbrev pub AreStepsInOrder : List SettlingStep → Type 0
+AreStepsInOrder [] = Unit {0}
+AreStepsInOrder (step ∷ steps) =
+    AreStepsInOrder steps × (list_any is_starved steps ≡ false) × ((rest : List Finding) × (found_in_steps steps ++ (sought_in_step step ∷ rest) ≡ found_below 8))
 
 -- in order, until nothing is late and nobody due at any shard; or no message id was free; or as many steps were taken as there may be
 abbrev pub AreSettled : List SettlingStep → Type 0
-AreSettled steps = AreInOrder steps × ((found_in_steps steps ≡ found_below 8) ⊎ ((list_any is_starved steps ≡ true) ⊎ (most_steps ≤ length steps)))
+AreSettled steps = AreStepsInOrder steps × ((found_in_steps steps ≡ found_below 8) ⊎ ((list_any is_starved steps ≡ true) ⊎ (most_steps ≤ length steps)))
 
 -- ---- where it is: at a shard, where late notifications are sent again first, until nothing is late, and observers are notified then; or, at shard 8, at the end
 
@@ -118,5 +118,5 @@ module _ {S : Type 0} (Resends : ℕ → ℕ → S → S → Ticked → Type 0) 
   pub record AreStepsTo (now : ℕ) (steps : List SettlingStep) (old new : S) (at : Settling) : Type 0 where
     pub taken : AreStepsBy now steps old new
     pub place : IsPlace at
-    pub in_order : AreInOrder steps
+    pub in_order : AreStepsInOrder steps
     pub reached : HasReached steps at
