@@ -69,7 +69,11 @@ fn check_waits<R: Abort + AllocGlobal + Threads + Wait + Clock + Sync>(rt: &R, w
     let log = Logged::new(rt, LevelFilter::Off, &memory);
     let mut err = Vec::new(alloc);
     let listed = Listed { calls: 0, right: 0 };
-    let extent = Extent { workers, limit: 5 };
+    let extent = Extent {
+        workers,
+        limit: 5,
+        first_id: 0,
+    };
     let served = serve_at(
         rt,
         alloc,
