@@ -18,7 +18,7 @@ use Rattle.fc_service.specs.declared.replies.Replies.{Replies}
 use Rattle.fc_service.specs.declared.settle.Settling.{Settling}
 
 -- what is printed of what one step sent
-printed_of : (out : Option Emission) → flat_map printed (option_to_list out) ≡ output_of out
+pub printed_of : (out : Option Emission) → flat_map printed (option_to_list out) ≡ output_of out
 printed_of None = refl
 printed_of (Some e) = append-nil (printed e)
 

@@ -7,3 +7,4 @@ pub mod Traffic
 pub mod Settling
 pub mod Playing
 pub mod Rounds
+pub mod Histories

@@ -1,12 +1,19 @@
 //! What the definitions of the service come to, in plainer words: each function is a law, and its contract says it.
-ghost use Rattle.std.specs.Prelude.{◌≡◌, ◌+◌, ◌*◌, ◌<◌, ◌≤◌, ℕ, ◌∷◌, Bool, List, false, length, true};
+ghost use Rattle.std.specs.Prelude.{◌≡◌, ◌+◌, ◌*◌, ◌<◌, ◌≤◌, ℕ, ◌∷◌, Bool, List, Option, false, flat_map, length, map, true};
 ghost use Rattle.coap_msg.specs.Wire.{Message, SpellsMessage};
 ghost use Rattle.fc_core.specs.declared.front.Heard.TheVariants.{Job, Nothing, Reply, Signal};
 ghost use Rattle.fc_service.specs.Clocks.{device_readings, no_sensors};
-ghost use Rattle.fc_service.specs.Intakes.{is_reply};
+ghost use Rattle.fc_service.specs.Histories.{IsOneHistory, received_in_lines, sent_in_lines};
+ghost use Rattle.fc_service.specs.Intakes.{Incoming, is_reply};
+ghost use Rattle.fc_lines.specs.Emissions.{printed};
+ghost use Rattle.fc_service.specs.Playing.{IsPlayedOut, PlayedLine, printed_lines};
+ghost use Rattle.fc_service.specs.Rounds.{HasServed, received_in, sendings_in};
 ghost use Rattle.fc_service.specs.Settling.{most_steps};
+ghost use Rattle.fc_service.specs.declared.replies.Replies.{Replies};
 
-use crate::socket::BUFFER;
+use crate::sensors::Sensors;
+use crate::socket::{BUFFER, Sink};
+use fc_workers::Moments;
 
 /// Settling takes more steps at one moment than there are: each of the 32 observers of 64 slots is sent one notification again at most, and notified once,
 /// and each of 8 shards tells once that nothing is late and once that nobody is due.
@@ -27,6 +34,21 @@ pub fn replies_are_sent_by_who_heard()
     ensures job { is_reply Job ≡ false }
     ensures signal { (id : ℕ) (reset : Bool) → is_reply (Signal id reset) ≡ false }
     ensures nothing { is_reply Nothing ≡ false }
+{}
+
+/// What a server on one thread does in all of its rounds is one history of events, from the serial and the message id that it begins with on, in which each event
+/// emitted what it may: just the datagrams that were received are delivered, in order, and just what its events emitted was handed to the sink, in that order.
+pub fn served_rounds_are_one_history<Z: Sensors, M: Moments, K: Sink>()
+    ensures { (limit serial id : ℕ) (before after : Option (List Incoming)) (replies : Replies)
+        (w : HasServed Z.are_sensed M.is_moment K.went limit serial id before after replies)
+        → IsOneHistory serial id (received_in w.run.rounds) (map (λ s. s.emission) (sendings_in w.run.rounds)) w.last.engine }
+{}
+
+/// And so is what it does for all the lines that it plays: just the datagrams that they tell are delivered, in order, and just what its events emitted is printed.
+pub fn played_lines_are_one_history()
+    ensures history { (serial id : ℕ) (had before after : Option (List ℕ)) (w : IsPlayedOut serial id had before after)
+        → IsOneHistory serial id (received_in_lines w.played.lines) (sent_in_lines w.played.lines) w.last.engine }
+    ensures printed { (lines : List PlayedLine) → printed_lines lines ≡ flat_map printed (sent_in_lines lines) }
 {}
 
 /// A datagram is received into a buffer of 1,281 bytes, one more than the longest message has. So bytes that fill it spell no message: of a longer datagram the

@@ -41,6 +41,9 @@
 //!   is the list of its datagram, or of its moment, and of what its shards are asked. What a shard tells is so: that nothing is late, that an
 //!   observer was removed, that nobody is due. Its readings are each round's moment and what its sensors said. No clause says that with
 //!   `--readings` this is the file's; without it these are zeros (`serve_alone`, by `HasServed`).
+//! - **One history**: what a server on one thread does in all of its rounds, or for all lines that it plays, is one history of events. Just
+//!   the datagrams that came are delivered, in order; and just what its events emitted was handed to the sink, or is printed, in that order
+//!   (`laws`).
 //! - **By more workers** each datagram is taken in, in order, as a dispatcher takes one in at some front, and each turn as one that some
 //!   shard gave; nothing else of a round changes what was dispatched (`serve_at`, by `HasServedPooled`; `run_pool` hands on by `IsFed` what
 //!   its feeder did). That front and shards are the pool's, and one for all rounds, no clause says: that is seen of a dispatcher over any
