@@ -7,7 +7,7 @@ use Rattle.fc_fetch.proofs.observer.print_first.Goals.{in-State+in_ok-first-in-S
 
 pub returns : goal.returns
 returns g c =
-    let registered = c.in_ok-count.ensures.1 in
+    let registered = c.in_ok-count.ensures.registered.1 in
     let read = sym c.read.ensures.function ∙ c.in-Ok.is in
     let told = c.in_ok-at.ensures in
     let appends = c.in_ok-write_note.ensures in
