@@ -5,9 +5,9 @@ Run it at the top of the repository, behind `rt run` in crates/fcd and crates/fc
 
     python3 bench/instructions.py [TABLE..]
 
-TABLE is `requests`, `serving`, `moves`, `datagrams`, `options`, `ticks`, `calls`, `comparing` or `verifying`; all are printed where none is named, in some
-minutes. A count is that of the last of some lines, divided by their number: `fcd play` is given all of them, and then all but these. It is the same at each run,
-whatever else the machine does, but for `serving`, where the server also wakes ten times a second.
+TABLE is `requests`, `serving`, `moves`, `datagrams`, `options`, `ticks`, `calls`, `comparing` or `verifying`; all are printed where none
+is named, in some minutes. A count is that of the last of some lines, divided by their number: `fcd play` is given all of them, and then all
+but these. It is the same at each run, whatever else the machine does, but for `serving`, where the server also wakes ten times a second.
 """
 import os
 import re
@@ -28,6 +28,8 @@ PLAIN = "mov64 r0, 0\nexit\n"
 COMMITS = "mov64 r0, 0\nexit\n"
 NOTIFIES = "call 7\nmov64 r0, 0\nexit\n"
 
+CALLGRIND = ["valgrind", "--tool=callgrind", "--callgrind-out-file=/dev/null"]
+
 # callgrind counts `rep movsb` and `rep stosb` once a byte, so the C library is told to copy by vectors
 BY_VECTORS = {**os.environ, "GLIBC_TUNABLES": "glibc.cpu.x86_rep_movsb_threshold=1000000000:glibc.cpu.x86_rep_stosb_threshold=1000000000"}
 
@@ -40,7 +42,10 @@ def dear(body):
 def counted(words, data=b"", within=None):
     """The instructions that a command takes which is given these bytes, all of them or those within a function."""
     toggles = [f"--toggle-collect={within}"] if within else []
-    done = subprocess.run(["valgrind", "--tool=callgrind", "--callgrind-out-file=/dev/null", *toggles, *words], input=data, capture_output=True, env=BY_VECTORS)
+    with tempfile.TemporaryFile() as given:
+        given.write(data)
+        given.seek(0)
+        done = subprocess.run([*CALLGRIND, *toggles, *words], stdin=given, capture_output=True, env=BY_VECTORS)
     found = re.search(rb"Collected : (\d+)", done.stderr)
     if done.returncode or not found:
         sys.exit(done.stderr.decode())
@@ -137,38 +142,52 @@ def requests():
         row(what, each(before + all_lines[:first], all_lines[first:]))
 
 
-def served(words, message, count):
-    """The instructions of `fcd serve` that ends behind so many requests, of which one is asked behind the other."""
+def served(words, program, message, observers, count):
+    """The instructions of `fcd serve` that ends behind so many requests, each asked when all has come that the one before led to."""
     with tempfile.NamedTemporaryFile() as told:
-        server = subprocess.Popen(["valgrind", "--tool=callgrind", "--callgrind-out-file=/dev/null", FCD, "serve", "--port", str(PORT), "--limit", str(count + 1), *words],
-                                  stdout=subprocess.DEVNULL, stderr=told, env=BY_VECTORS)
-        client = socket.socket(socket.AF_INET, socket.SOCK_DGRAM)
-        client.connect(("127.0.0.1", PORT))
-        client.settimeout(10)
-        begin = request(CONFIRMABLE, PUT, "p/0", 60_000, body=image(PLAIN) if message[1] == GET else with_variables(COMMITS))
-        while True:
-            try:
-                client.send(begin)
-                client.recv(2048)
-                break
-            except ConnectionRefusedError:
-                time.sleep(0.02)
+        limit = 1 + observers + count
+        serve = [FCD, "serve", "--port", str(PORT), "--limit", str(limit), *words]
+        server = subprocess.Popen([*CALLGRIND, *serve], stdout=subprocess.DEVNULL, stderr=told, env=BY_VECTORS)
+        client, *others = [socket.socket(socket.AF_INET, socket.SOCK_DGRAM) for _ in range(1 + observers)]
+        for it in (client, *others):
+            it.connect(("127.0.0.1", PORT))
+            it.settimeout(20)
+        first_answer(client, request(CONFIRMABLE, PUT, "p/0", 60_000, body=program))
+        for it in others:
+            it.send(request(CONFIRMABLE, GET, "r/0", 60_001, token=b"x", more=[(OBSERVE, b"")]))
+            it.recv(2048)
         for number in range(1, count + 1):
             client.send(numbered(message, number))
-            client.recv(2048)
+            for it in (client, *others):
+                it.recv(2048)
         if server.wait(20):
             sys.exit(f"fcd serve ended with {server.returncode}")
         return int(re.search(rb"Collected : (\d+)", Path(told.name).read_bytes())[1])
 
 
+def first_answer(client, message):
+    """Asks until the server is there."""
+    while True:
+        try:
+            client.send(message)
+            return client.recv(2048)
+        except ConnectionRefusedError:
+            time.sleep(0.02)
+
+
 def serving():
     """Requests on a socket, asked one behind the other."""
     head("A request on a socket", "`fcd serve`", "`fcd serve --workers 1`")
-    for what, message in [("GET of a program of two instructions", get()), ("POST that commits", request(CONFIRMABLE, POST, "r/0"))]:
+    get_r, post = get(), request(CONFIRMABLE, POST, "r/0")
+    for what, program, message, observers, first, last in [
+        ("GET of a program of two instructions", image(PLAIN), get_r, 0, 200, 600),
+        ("POST that commits", with_variables(COMMITS), post, 0, 200, 600),
+        ("POST that 32 observers hear", image(NOTIFIES), post, OBSERVERS, 10, 60),
+    ]:
         cells = []
         for words in ([], ["--workers", "1"]):
-            fewer, more = (min(served(words, message, count) for _ in range(2)) for count in (200, 600))
-            cells.append((more - fewer) / 400)
+            fewer, more = (min(served(words, program, message, observers, count) for _ in range(2)) for count in (first, last))
+            cells.append((more - fewer) / (last - first))
         row(what, *cells)
 
 
@@ -184,7 +203,7 @@ def moves():
     with tempfile.TemporaryDirectory() as room:
         library = str(Path(room) / "moves.so")
         subprocess.run(["gcc", "-O2", "-fPIC", "-shared", "-fno-builtin", "-o", library, "bench/moves.c"], check=True)
-        head("What `fcd play` moves for a request", "bytes copied", "bytes zeroed", "moved by `memmove`", "copies of 8,000 bytes and more", "zeroings")
+        head("What `fcd play` moves for a request", "bytes copied", "bytes zeroed", "moved by `memmove`", "copies of 8,000 bytes and more", "zeroings of as many")
         for what, workers, program, message in [
             ("GET", (), image(PLAIN), get()),
             ("POST that commits", (), with_variables(COMMITS), request(CONFIRMABLE, POST, "r/0")),
@@ -232,7 +251,8 @@ def datagrams():
     post, of_get, whole = request(CONFIRMABLE, POST, "r/0", 7), get(number=7), request(CONFIRMABLE, PUT, "p/0", 7, body=dividing)
     one_slot, now = registered(1)
     dearly = one_slot + put(dividing, 0, 61_000, now)
-    tell("POST of a program of 62,005 steps, most of them signed divisions, in a slot that 32 observers observe: it runs 33 times", post, one(dearly, now, post))
+    what = "POST of a program of 62,005 steps, most of them signed divisions, in a slot that 32 observers observe: it runs 33 times"
+    tell(what, post, one(dearly, now, post))
     tell("PUT of that program in that slot, whose program was cheap: it runs 32 times", whole, one(one_slot, now, whole))
     tell("POST of that program, without observers", post, one(put(dividing), 0, post))
     tell("GET of it", of_get, one(put(dividing), 0, of_get))
@@ -321,6 +341,9 @@ def dearest(slots):
     return image(head_of + inner + tail + PLAIN, 2)
 
 
+VERIFIES = "*verifier*verify*"
+
+
 def verifying():
     """`verify`, within a PUT."""
     head("An image of version 2", "256 slots", "512", "1,024", "a slot, of 1,024")
@@ -333,8 +356,9 @@ def verifying():
         ("loops of three slots, as many as fit", [image(text, 2) for text in loops]),
         ("nine loops in one another, round as many of three slots as fit", [dearest(slots) for slots in sizes]),
     ]:
-        cells = [played(put(it), within="*verifier*verify*") for it in images]
+        cells = [played(put(it), within=VERIFIES) for it in images]
         row(what, *cells, cells[-1] / 1024)
+    print(f"\nAn image of two slots takes {played(put(image(PLAIN, 2)), within=VERIFIES):,}.")
 
 
 TABLES = {it.__name__: it for it in (requests, serving, moves, options, datagrams, ticks, calls, comparing, verifying)}

@@ -5,14 +5,16 @@ Run it at the top of the repository, behind `rt run` in crates/fcd, with gcc and
 
     python3 bench/processor_time.py
 
-Each measurement has a fresh server, pinned to two processors of its own, and 1,000 confirmable requests from one client or from eight, pinned to two others, of
-which at most 64 wait for their answer. What is told is the user and the system time of the server's process over these, divided by their number: the least and the
-middle one of fifteen rounds, in which the servers take turns. A fresh server holds 1,024 exchanges for 247 s, so that no round can be longer.
+Each measurement has a fresh server, pinned to two processors of its own, and 1,000 confirmable requests from one client or from eight, pinned to
+two others, of which at most 64 wait for their answer. What is told is the user and the system time of the server's process over these, divided
+by their number: the least and the middle one of fifteen rounds, in which the servers take turns. A fresh server holds 1,024 exchanges for 247 s,
+so that no round can be longer.
 """
 import os
 import shutil
 import socket
 import statistics
+import struct
 import subprocess
 import sys
 import tempfile
@@ -28,6 +30,14 @@ ADDRESS = ("127.0.0.1", PORT)
 # `mov64 r0, 0` and `exit`, with no variables and with eight bytes of them.
 PLAIN = bytes.fromhex("46434231000002000200000000000000" "b700000000000000" "9500000000000000")
 EIGHT = bytes.fromhex("46434231080002000200000000000000" "b700000000000000" "9500000000000000")
+
+
+def looped(turns):
+    """An image of a loop of so many turns of six steps each, and four steps beside it."""
+    code = [(0xB7, 0, 0, 0), (0xB7, 6, 0, 0), *[(0x07, 0, 0, 1)] * 4, (0x07, 6, 0, 1), (0xA5, 6, -6, turns), (0xB7, 0, 0, 0), (0x95, 0, 0, 0)]
+    head = struct.pack("<4sHHII", b"FCB2", 0, len(code), 4 + 6 * turns, 0)
+    return head + b"".join(struct.pack("<BBhi", *it) for it in code)
+
 
 PUT = bytes.fromhex("40030000b1700130ff")
 GET = bytes.fromhex("40010000b1720130")
@@ -66,6 +76,23 @@ def ask(clients, request, code):
                     sys.exit(f"answered {answer.hex()}")
 
 
+def wait_for(server):
+    """Waits until the server answers a ping, for five seconds at most."""
+    with socket.socket(socket.AF_INET, socket.SOCK_DGRAM) as client:
+        client.connect(ADDRESS)
+        client.settimeout(0.1)
+        for _ in range(50):
+            try:
+                client.send(bytes.fromhex("40000001"))
+                client.recv(2048)
+                return
+            except ConnectionRefusedError:
+                time.sleep(0.1)
+            except TimeoutError:
+                continue
+    sys.exit(f"{server.args} doesn't answer")
+
+
 def client_of():
     client = socket.socket(socket.AF_INET, socket.SOCK_DGRAM)
     client.settimeout(2)
@@ -77,7 +104,7 @@ def round_of(words, setup, request, code, count):
     """Microseconds of the server's processor time for each request of one round."""
     server = subprocess.Popen(["taskset", "-c", "2,3", *words], stdout=subprocess.DEVNULL, stderr=subprocess.DEVNULL)
     try:
-        time.sleep(0.3)
+        wait_for(server)
         clients = [client_of() for _ in range(count)]
         if setup:
             clients[0].send(numbered(setup, 1))
@@ -106,6 +133,8 @@ def measure(echo):
     kinds = [
         ("`fcd serve`, GET of a program of 2 slots", serve, PUT + PLAIN, GET, 0x45),
         ("`fcd serve`, POST that commits", serve, PUT + EIGHT, POST, 0x44),
+        ("`fcd serve`, GET of 5,998 steps, worked off where it was received", serve, PUT + looped(999), GET, 0x45),
+        ("`fcd serve`, GET of 6,004 steps, handed to a worker", serve, PUT + looped(1000), GET, 0x45),
         ("`fcd serve --workers 1`, GET", alone, PUT + PLAIN, GET, 0x45),
         ("`fcd serve --workers 1`, POST", alone, PUT + EIGHT, POST, 0x44),
         ("`coap-server`, GET of `/`", libcoap, b"", ROOT, 0x45),

@@ -43,11 +43,28 @@ def request(code, resource, slot, number, payload=b""):
     return head + (b"\xff" + payload if payload else b"")
 
 
+def wait_for(server):
+    """Waits until the server answers a ping, for five seconds at most."""
+    with socket.socket(socket.AF_INET, socket.SOCK_DGRAM) as client:
+        client.connect(("127.0.0.1", PORT))
+        client.settimeout(0.1)
+        for _ in range(50):
+            try:
+                client.send(bytes.fromhex("40000001"))
+                client.recv(2048)
+                return
+            except ConnectionRefusedError:
+                time.sleep(0.1)
+            except TimeoutError:
+                continue
+    sys.exit(f"{server.args} doesn't answer")
+
+
 def round_of(workers, program):
     """POSTs a second of one round."""
     server = subprocess.Popen([FCD, "serve", "--port", str(PORT), "--workers", str(workers)], stderr=subprocess.DEVNULL)
     try:
-        time.sleep(0.3)
+        wait_for(server)
         client = socket.socket(socket.AF_INET, socket.SOCK_DGRAM)
         client.connect(("127.0.0.1", PORT))
         client.settimeout(5)
@@ -67,7 +84,7 @@ def round_of(workers, program):
 
 
 def main():
-    print("| steps of a run | 1 worker | 2 workers | 4 workers |\n| --- | --- | --- | --- |")
+    print("| Steps of a run | 1 worker | 2 workers | 4 workers |\n|---|---|---|---|")
     for steps, program in PROGRAMS:
         rounds = [[round_of(workers, program) for workers in (1, 2, 4)] for _ in range(ROUNDS)]
         rates = [max(it) for it in zip(*rounds)]
