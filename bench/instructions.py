@@ -18,14 +18,13 @@ import tempfile
 import time
 from pathlib import Path
 
-from one_endpoint import BLOCK1, CONFIRMABLE, DELETE, FCASM, FCD, GET, NON_CONFIRMABLE, OBSERVE, POST, PUT, image, numbered, request
+from one_endpoint import BLOCK1, CONFIRMABLE, DELETE, FCASM, FCD, GET, OBSERVE, POST, PUT, image, numbered, request
 
 SLOTS, OBSERVERS, PLACES, WINDOW, DAY = 64, 32, 1024, 247_000, 86_400_000
 ETAG, PORT, CORE = 4, 5697, ".well-known/core"
 
+# a success; with variables a POST of it commits, whatever they are
 PLAIN = "mov64 r0, 0\nexit\n"
-# what a POST answers is a success, and its eight bytes of variables are written
-COMMITS = "mov64 r0, 0\nexit\n"
 NOTIFIES = "call 7\nmov64 r0, 0\nexit\n"
 
 CALLGRIND = ["valgrind", "--tool=callgrind", "--callgrind-out-file=/dev/null"]
@@ -52,9 +51,9 @@ def counted(words, data=b"", within=None):
     return int(found[1])
 
 
-def played(lines, workers=(), within=None):
-    """The instructions that `fcd play` takes for these lines."""
-    return counted([FCD, "play", *workers], "".join(lines).encode(), within)
+def played(lines, within=None):
+    """The instructions that `fcd play` takes for these lines, all of them or those within a function."""
+    return counted([FCD, "play"], "".join(lines).encode(), within)
 
 
 def each(before, lines, within=None):
@@ -124,7 +123,7 @@ def registered(slots, now=0):
 def requests():
     """Lines of `fcd play`, reading and printing them among it."""
     head("A request, as a line of `fcd play`", "instructions")
-    plain, commits = put(image(PLAIN)), put(with_variables(COMMITS))
+    plain, commits = put(image(PLAIN)), put(with_variables(PLAIN))
     full = [it for slot in range(SLOTS) for it in put(image(PLAIN), slot, 60_000 + slot)]
     for what, before, message, step, first, last in [
         ("GET of a program of two instructions, 200 to 600 exchanges held", plain, get(), 0, 200, 600),
@@ -181,7 +180,7 @@ def serving():
     get_r, post = get(), request(CONFIRMABLE, POST, "r/0")
     for what, program, message, observers, first, last in [
         ("GET of a program of two instructions", image(PLAIN), get_r, 0, 200, 600),
-        ("POST that commits", with_variables(COMMITS), post, 0, 200, 600),
+        ("POST that commits", with_variables(PLAIN), post, 0, 200, 600),
         ("POST that 32 observers hear", image(NOTIFIES), post, OBSERVERS, 10, 60),
     ]:
         cells = []
@@ -206,7 +205,7 @@ def moves():
         head("What `fcd play` moves for a request", "bytes copied", "bytes zeroed", "moved by `memmove`", "copies of 8,000 bytes and more", "zeroings of as many")
         for what, workers, program, message in [
             ("GET", (), image(PLAIN), get()),
-            ("POST that commits", (), with_variables(COMMITS), request(CONFIRMABLE, POST, "r/0")),
+            ("POST that commits", (), with_variables(PLAIN), request(CONFIRMABLE, POST, "r/0")),
             ("GET, `--workers 1`", ("--workers", "1"), image(PLAIN), get()),
         ]:
             lines = put(program) + lines_of(message, 600)
