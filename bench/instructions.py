@@ -7,7 +7,7 @@ Run it at the top of the repository, behind `rt run` in crates/fcd and crates/fc
 
 TABLE is `requests`, `serving`, `moves`, `datagrams`, `options`, `ticks`, `calls`, `comparing` or `verifying`; all are printed where none
 is named, in some minutes. A count is that of the last of some lines, divided by their number: `fcd play` is given all of them, and then all
-but these. It is the same at each run, whatever else the machine does, but for `serving`, where the server also wakes ten times a second.
+but these. It is the same at each run, whatever else the machine does, but for `serving`, where the server may wake between requests.
 """
 import os
 import re
