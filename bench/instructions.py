@@ -5,9 +5,9 @@ Run it at the top of the repository, behind `rt run` in crates/fcd and crates/fc
 
     python3 bench/instructions.py [TABLE..]
 
-TABLE is `requests`, `serving`, `moves`, `datagrams`, `options`, `ticks`, `calls`, `comparing` or `verifying`; all are printed where none
-is named, in some minutes. A count is that of the last of some lines, divided by their number: `fcd play` is given all of them, and then all
-but these. It is the same at each run, whatever else the machine does, but for `serving`, where the server may wake between requests.
+TABLE is `requests`, `serving`, `moves`, `datagrams`, `options`, `ticks`, `runs`, `calls`, `comparing` or `verifying`; all are printed where
+none is named, in some minutes. A count is that of the last of some lines, divided by their number: `fcd play` is given all of them, and then
+all but these. It is the same at each run, whatever else the machine does, but for `serving`, where the server may wake between requests.
 """
 import os
 import re
@@ -305,6 +305,13 @@ def straight(lines, count):
     return (of(begin + repeated * (count + 1) + rest) - of(begin + repeated + rest)) / count
 
 
+def runs():
+    """`run`, within a GET."""
+    head("A run", "instructions")
+    for what, payload in [("of two instructions, without a payload", b""), ("the same, with a payload of 1,024 bytes", bytes(range(1, 129)) * 8)]:
+        row(what, each(put(image(PLAIN)), lines_of(get(body=payload), 10), "fc_machine::interpreter::run"))
+
+
 def calls():
     """41 calls in a program, less the same program with one, in the interpreter's own loop and what it calls."""
     head("A call", "instructions")
@@ -360,7 +367,7 @@ def verifying():
     print(f"\nAn image of two slots takes {played(put(image(PLAIN, 2)), within=VERIFIES):,}.")
 
 
-TABLES = {it.__name__: it for it in (requests, serving, moves, options, datagrams, ticks, calls, comparing, verifying)}
+TABLES = {it.__name__: it for it in (requests, serving, moves, options, datagrams, ticks, runs, calls, comparing, verifying)}
 
 
 def main():
