@@ -146,12 +146,7 @@ fn datagram(alloc: Global, words: &[&str]) -> Result<Option<Vec<u8>>, LineError>
 fn value<'a>(parts: &[&'a str], key: &str) -> Option<&'a str>
     ensures { IfSome result (λ value. HasPart (texts parts.now) key.now value.now) }
 {
-    for part in parts.iter().copied() {
-        if let Some(value) = value_of(part, key) {
-            return Some(value);
-        }
-    }
-    None
+    parts.iter().copied().find_map(|part| value_of(part, key))
 }
 
 // What stands behind `key=`.
