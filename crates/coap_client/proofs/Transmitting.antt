@@ -7,37 +7,37 @@ use Rattle.coap_client.specs.declared.errand.Errand.{Errand}
 use Rattle.coap_client.specs.declared.fetcher.FetchFault.{FetchFault}
 use Rattle.coap_client.specs.declared.part.Part.{Part}
 use Rattle.coap_client.specs.Requests.{IsPartOf, part_request}
-use Rattle.coap_client.specs.PeerCalls.{Adds, PeerCall, Sends, Waits, Receives, received_call}
-use Rattle.coap_client.specs.Transmissions.{AreInVain, AreErrandRequests, AddsCalls, IsAcknowledgedFirst, IsAnsweredInTime, IsTransmitted, IsAskedAgain, IsWaitEnded, IsLastSending, IsMeanwhile, IsOver, IsSending, IsTransmission}
+use Rattle.coap_client.specs.PeerCalls.{Adds, PeerCall, Sends, Waits, Receives, receives_in}
+use Rattle.coap_client.specs.Transmissions.{AreInVain, AreTransmissions, MakesCalls, IsAcknowledgedFirst, EndsAnswered, IsAsked, IsAskedAgain, EndsAwaited, IsLastSending, IsMeanwhile, IsOver, IsSending, IsTransmission}
 
 abbrev Calls : Type 1
 Calls = List PeerCall → Type 0
 
 -- nothing is called
-pub does_nothing : (now P : Calls) → P [] → AddsCalls now now P
+pub does_nothing : (now P : Calls) → P [] → MakesCalls now now P
 does_nothing now P p calls h = record { more = []; are = p; is = h }
 
 -- these calls
-pub does : (before after P : Calls) (more : List PeerCall) → Adds before after more → P more → AddsCalls before after P
+pub does : (before after P : Calls) (more : List PeerCall) → Adds before after more → P more → MakesCalls before after P
 does before after P more adds p calls h = record { more = more; are = p; is = adds calls h }
 
 -- what is called first, and what then
-pub does_both : (before between after P Q R : Calls) → AddsCalls before between P → AddsCalls between after Q
-    → ((first second : List PeerCall) → P first → Q second → R (second ++ first)) → AddsCalls before after R
+pub does_both : (before between after P Q R : Calls) → MakesCalls before between P → MakesCalls between after Q
+    → ((first second : List PeerCall) → P first → Q second → R (second ++ first)) → MakesCalls before after R
 does_both before between after P Q R one other joins calls h =
     let a = one calls h in
     let b = other (a.more ++ calls) a.is in
     record { more = b.more ++ a.more; are = joins a.more b.more a.are b.are; is = subst after (sym (append_assoc b.more a.more calls)) b.is }
 
 -- what is called first, and these calls then
-pub does_then : (before between after P R : Calls) (more : List PeerCall) → AddsCalls before between P → Adds between after more
-    → ((first : List PeerCall) → P first → R (more ++ first)) → AddsCalls before after R
+pub does_then : (before between after P R : Calls) (more : List PeerCall) → MakesCalls before between P → Adds between after more
+    → ((first : List PeerCall) → P first → R (more ++ first)) → MakesCalls before after R
 does_then before between after P R more one adds joins calls h =
     let a = one calls h in
     record { more = more ++ a.more; are = joins a.more a.are; is = subst after (sym (append_assoc more a.more calls)) (adds (a.more ++ calls) a.is) }
 
 -- the same calls are of another kind
-pub does_of : (before after P Q : Calls) → AddsCalls before after P → ((calls : List PeerCall) → P calls → Q calls) → AddsCalls before after Q
+pub does_of : (before after P Q : Calls) → MakesCalls before after P → ((calls : List PeerCall) → P calls → Q calls) → MakesCalls before after Q
 does_of before after P Q one turns calls h = let a = one calls h in record { more = a.more; are = turns a.more a.are; is = a.is }
 
 -- ---- while a wait lasts
@@ -47,63 +47,63 @@ pub record HasCome (n : ℕ) (heard : List PeerCall) : Type 0 where
   pub are : All IsMeanwhile heard
   pub many : n ≤ length heard
 
-pub none_come : (now : Calls) → AddsCalls now now (HasCome 0)
+pub none_come : (now : Calls) → MakesCalls now now (HasCome 0)
 none_come now = does_nothing now (HasCome 0) (record { are = All-nil IsMeanwhile; many = omega arith })
 
 -- another one comes, and is acknowledged or not
-pub one_comes : (n count : ℕ) (buffer : List ℕ) (o : Option ℕ) (before between after later : Calls) → o ≡ Some count → AddsCalls before between (HasCome n)
-    → Adds between after (received_call buffer o ∷ []) → AddsCalls after later (All IsMeanwhile) → AddsCalls before later (HasCome (n + 1))
+pub one_comes : (n count : ℕ) (buffer : List ℕ) (o : Option ℕ) (before between after later : Calls) → o ≡ Some count → MakesCalls before between (HasCome n)
+    → Adds between after (receives_in buffer o ∷ []) → MakesCalls after later (All IsMeanwhile) → MakesCalls before later (HasCome (n + 1))
 one_comes n count buffer o before between after later some one adds other =
     let call = Receives (Some (take count buffer)) in
     does_both before after later (HasCome (n + 1)) (All IsMeanwhile) (HasCome (n + 1))
-    (does_then before between after (HasCome n) (HasCome (n + 1)) (call ∷ []) one (subst (λ (x : Option ℕ). Adds between after (received_call buffer x ∷ [])) some adds)
+    (does_then before between after (HasCome n) (HasCome (n + 1)) (call ∷ []) one (subst (λ (x : Option ℕ). Adds between after (receives_in buffer x ∷ [])) some adds)
     (λ first h. record { are = All-cons IsMeanwhile call first tt h.are; many = omega (arith, h.many) }))
     other
     (λ first second a b. record { are = All-append IsMeanwhile second first b a.are; many = omega (arith, a.many, length-append second first) })
 
 -- the wait is over
-pub over : (n : ℕ) (buffer : List ℕ) (o : Option ℕ) (before between after : Calls) → o ≡ None → AddsCalls before between (HasCome n)
-    → Adds between after (received_call buffer o ∷ []) → AddsCalls before after IsOver
+pub over : (n : ℕ) (buffer : List ℕ) (o : Option ℕ) (before between after : Calls) → o ≡ None → MakesCalls before between (HasCome n)
+    → Adds between after (receives_in buffer o ∷ []) → MakesCalls before after IsOver
 over n buffer o before between after none one adds =
-    does_then before between after (HasCome n) IsOver (Receives None ∷ []) one (subst (λ (x : Option ℕ). Adds between after (received_call buffer x ∷ [])) none adds)
+    does_then before between after (HasCome n) IsOver (Receives None ∷ []) one (subst (λ (x : Option ℕ). Adds between after (receives_in buffer x ∷ [])) none adds)
     (λ first h. record { meanwhile = first; are = h.are; is = inl refl })
 
-pub come : (n : ℕ) (before after : Calls) → AddsCalls before after (HasCome n) → AddsCalls before after (All IsMeanwhile)
+pub come : (n : ℕ) (before after : Calls) → MakesCalls before after (HasCome n) → MakesCalls before after (All IsMeanwhile)
 come n before after one = does_of before after (HasCome n) (All IsMeanwhile) one (λ heard h. h.are)
 
 -- so many came that no more are listened to
-pub flooded : (n : ℕ) (before after : Calls) → 2 ^ 64 ≤ n + 1 → AddsCalls before after (HasCome n) → AddsCalls before after IsOver
+pub flooded : (n : ℕ) (before after : Calls) → 2 ^ 64 ≤ n + 1 → MakesCalls before after (HasCome n) → MakesCalls before after IsOver
 flooded n before after many one =
     does_of before after (HasCome n) IsOver one (λ heard h. record { meanwhile = heard; are = h.are; is = inr (refl, (let m = h.many in omega (arith, m, many))) })
 
 -- ---- a request
 
 -- it is sent, and what comes then is listened to
-pub sending : (request : List ℕ) (seconds : ℕ) (before between after P : Calls) → Adds before between (Waits seconds ∷ Sends request ∷ []) → AddsCalls between after P
-    → AddsCalls before after (IsSending request seconds P)
+pub sending : (request : List ℕ) (seconds : ℕ) (before between after P : Calls) → Adds before between (Waits seconds ∷ Sends request ∷ []) → MakesCalls between after P
+    → MakesCalls before after (IsSending request seconds P)
 sending request seconds before between after P adds one =
     does_both before between after (λ calls. calls ≡ Waits seconds ∷ Sends request ∷ []) P (IsSending request seconds P)
     (does before between (λ calls. calls ≡ Waits seconds ∷ Sends request ∷ []) _ adds refl) one
     (λ first heard is h. record { heard = heard; ends = h; is = ap (λ (x : List PeerCall). heard ++ x) is })
 
 -- once more in vain
-pub in_vain : (request : List ℕ) (n : ℕ) (before between after : Calls) → AddsCalls before between (AreInVain request n) → AddsCalls between after (IsSending request (2 ^ (n + 1)) IsOver)
-    → AddsCalls before after (AreInVain request (n + 1))
-in_vain request n before between after one other = subst (λ (x : ℕ). AddsCalls before after (AreInVain request x)) (sym (add-one n))
+pub in_vain : (request : List ℕ) (n : ℕ) (before between after : Calls) → MakesCalls before between (AreInVain request n) → MakesCalls between after (IsSending request (2 ^ (n + 1)) IsOver)
+    → MakesCalls before after (AreInVain request (n + 1))
+in_vain request n before between after one other = subst (λ (x : ℕ). MakesCalls before after (AreInVain request x)) (sym (add-one n))
     (
     does_both before between after (AreInVain request n) (IsSending request (2 ^ (n + 1)) IsOver) (AreInVain request (suc n)) one other
     (λ older last a b. record { older = older; before = a; last = last; in_vain = b; is = refl }))
 
 -- for the last time
-pub last_sending : (request : List ℕ) (n : ℕ) (before between after P : Calls) → n < 5 → AddsCalls before between (AreInVain request n)
-    → AddsCalls between after (IsSending request (2 ^ (n + 1)) P) → AddsCalls before after (IsLastSending request P)
+pub last_sending : (request : List ℕ) (n : ℕ) (before between after P : Calls) → n < 5 → MakesCalls before between (AreInVain request n)
+    → MakesCalls between after (IsSending request (2 ^ (n + 1)) P) → MakesCalls before after (IsLastSending request P)
 last_sending request n before between after P few one other =
     does_both before between after (AreInVain request n) (IsSending request (2 ^ (n + 1)) P) (IsLastSending request P) one other
     (λ older last a b. record { n = n; few = few; older = older; before = a; last = last; sending = b; is = refl })
 
 -- it is acknowledged, and its answer waited for
-pub acknowledged : (before between begun after P : Calls) → AddsCalls before between (All IsMeanwhile) → Adds between begun (Waits 93 ∷ []) → AddsCalls begun after P
-    → AddsCalls before after (IsAcknowledgedFirst P)
+pub acknowledged : (before between begun after P : Calls) → MakesCalls before between (All IsMeanwhile) → Adds between begun (Waits 93 ∷ []) → MakesCalls begun after P
+    → MakesCalls before after (IsAcknowledgedFirst P)
 acknowledged before between begun after P one adds other calls h =
     let a = one calls h in
     let b = other (Waits 93 ∷ a.more ++ calls) (adds (a.more ++ calls) a.is) in
@@ -115,51 +115,51 @@ acknowledged before between begun after P one adds other calls h =
 
 -- it is sent again, by what listening to the answer comes to
 pub again : (request : List ℕ) (n seconds : ℕ) (between sent after P : Calls) → seconds ≡ 2 ^ (n + 1)
-    → Adds between sent (Waits seconds ∷ Sends request ∷ []) → AddsCalls sent after P → AddsCalls between after (IsSending request (2 ^ (n + 1)) P)
+    → Adds between sent (Waits seconds ∷ Sends request ∷ []) → MakesCalls sent after P → MakesCalls between after (IsSending request (2 ^ (n + 1)) P)
 again request n seconds between sent after P twice adds one =
     sending request (2 ^ (n + 1)) between sent after P (subst (λ (s : ℕ). Adds between sent (Waits s ∷ Sends request ∷ [])) twice adds) one
 
 -- it is answered, after it was acknowledged or not
-pub answered : (request : List ℕ) (n count : ℕ) (before between after : Calls) → n < 5 → AddsCalls before between (AreInVain request n)
-    → AddsCalls between after (IsSending request (2 ^ (n + 1)) (All IsMeanwhile)) → AddsCalls before after (IsAskedAgain request (Some count))
+pub answered : (request : List ℕ) (n count : ℕ) (before between after : Calls) → n < 5 → MakesCalls before between (AreInVain request n)
+    → MakesCalls between after (IsSending request (2 ^ (n + 1)) (All IsMeanwhile)) → MakesCalls before after (IsAskedAgain request (Some count))
 answered request n count before between after few one other =
-    last_sending request n before between after IsAnsweredInTime few one
-    (does_of between after _ (IsSending request (2 ^ (n + 1)) IsAnsweredInTime) other (λ calls s. record { heard = s.heard; ends = inl s.ends; is = s.is }))
+    last_sending request n before between after EndsAnswered few one
+    (does_of between after _ (IsSending request (2 ^ (n + 1)) EndsAnswered) other (λ calls s. record { heard = s.heard; ends = inl s.ends; is = s.is }))
 
-pub answered_later : (request : List ℕ) (n : ℕ) (before between after : Calls) → n < 5 → AddsCalls before between (AreInVain request n)
-    → (r : Result (Option ℕ) FetchFault) → IfOk r (λ answer. AddsCalls between after (IsSending request (2 ^ (n + 1)) (IsAcknowledgedFirst (IsWaitEnded answer))))
-    → IfOk r (λ answer. AddsCalls before after (IsAskedAgain request answer))
+pub answered_later : (request : List ℕ) (n : ℕ) (before between after : Calls) → n < 5 → MakesCalls before between (AreInVain request n)
+    → (r : Result (Option ℕ) FetchFault) → IfOk r (λ answer. MakesCalls between after (IsSending request (2 ^ (n + 1)) (IsAcknowledgedFirst (EndsAwaited answer))))
+    → IfOk r (λ answer. MakesCalls before after (IsAskedAgain request answer))
 answered_later request n before between after few one (Ok None) other =
     does_of before after (IsLastSending request (IsAcknowledgedFirst IsOver)) (IsAskedAgain request None) (last_sending request n before between after (IsAcknowledgedFirst IsOver) few one other)
     (λ calls s. inr s)
 answered_later request n before between after few one (Ok (Some count)) other =
-    last_sending request n before between after IsAnsweredInTime few one
-    (does_of between after _ (IsSending request (2 ^ (n + 1)) IsAnsweredInTime) other (λ calls s. record { heard = s.heard; ends = inr s.ends; is = s.is }))
+    last_sending request n before between after EndsAnswered few one
+    (does_of between after _ (IsSending request (2 ^ (n + 1)) EndsAnswered) other (λ calls s. record { heard = s.heard; ends = inr s.ends; is = s.is }))
 answered_later request n before between after few one (Err fault) other = tt
 
-pub in_vain_five : (request : List ℕ) (n : ℕ) (before after : Calls) → n ≡ 5 → AddsCalls before after (AreInVain request n) → AddsCalls before after (IsAskedAgain request None)
+pub in_vain_five : (request : List ℕ) (n : ℕ) (before after : Calls) → n ≡ 5 → MakesCalls before after (AreInVain request n) → MakesCalls before after (IsAskedAgain request None)
 in_vain_five request n before after five one =
-    does_of before after (AreInVain request 5) (IsAskedAgain request None) (subst (λ (x : ℕ). AddsCalls before after (AreInVain request x)) five one) (λ calls s. inl s)
+    does_of before after (AreInVain request 5) (IsAskedAgain request None) (subst (λ (x : ℕ). MakesCalls before after (AreInVain request x)) five one) (λ calls s. inl s)
 
 -- it is acknowledged, and then awaited
 pub awaited : (request : List ℕ) (n seconds : ℕ) (between sent heard begun after : Calls) → seconds ≡ 2 ^ (n + 1) → Adds between sent (Waits seconds ∷ Sends request ∷ [])
-    → AddsCalls sent heard (All IsMeanwhile) → Adds heard begun (Waits 93 ∷ []) → (r : Result (Option ℕ) FetchFault) → IfOk r (λ answer. AddsCalls begun after (IsWaitEnded answer))
-    → IfOk r (λ answer. AddsCalls between after (IsSending request (2 ^ (n + 1)) (IsAcknowledgedFirst (IsWaitEnded answer))))
+    → MakesCalls sent heard (All IsMeanwhile) → Adds heard begun (Waits 93 ∷ []) → (r : Result (Option ℕ) FetchFault) → IfOk r (λ answer. MakesCalls begun after (EndsAwaited answer))
+    → IfOk r (λ answer. MakesCalls between after (IsSending request (2 ^ (n + 1)) (IsAcknowledgedFirst (EndsAwaited answer))))
 awaited request n seconds between sent heard begun after twice adds one waits (Ok answer) other =
-    again request n seconds between sent after (IsAcknowledgedFirst (IsWaitEnded answer)) twice adds (acknowledged sent heard begun after (IsWaitEnded answer) one waits other)
+    again request n seconds between sent after (IsAcknowledgedFirst (EndsAwaited answer)) twice adds (acknowledged sent heard begun after (EndsAwaited answer) one waits other)
 awaited request n seconds between sent heard begun after twice adds one waits (Err fault) other = tt
 
 -- another is sent once, and its answer waited for
 pub once : (request : List ℕ) (before between after : Calls) → Adds before between (Waits 32 ∷ Sends request ∷ []) → (r : Result (Option ℕ) FetchFault)
-    → IfOk r (λ answer. AddsCalls between after (IsWaitEnded answer)) → IfOk r (λ answer. AddsCalls before after (IsSending request 32 (IsWaitEnded answer)))
-once request before between after adds (Ok answer) one = sending request 32 before between after (IsWaitEnded answer) adds one
+    → IfOk r (λ answer. MakesCalls between after (EndsAwaited answer)) → IfOk r (λ answer. MakesCalls before after (IsSending request 32 (EndsAwaited answer)))
+once request before between after adds (Ok answer) one = sending request 32 before between after (EndsAwaited answer) adds one
 once request before between after adds (Err fault) one = tt
 
 -- the answer is acknowledged
-pub transmitted : (confirmable : Bool) (request : List ℕ) (answer : Option ℕ) (before between after : Calls) → AddsCalls before between (IsTransmitted confirmable request answer)
-    → AddsCalls between after (All IsMeanwhile) → AddsCalls before after (IsTransmission confirmable request answer)
+pub transmitted : (confirmable : Bool) (request : List ℕ) (answer : Option ℕ) (before between after : Calls) → MakesCalls before between (IsAsked confirmable request answer)
+    → MakesCalls between after (All IsMeanwhile) → MakesCalls before after (IsTransmission confirmable request answer)
 transmitted confirmable request answer before between after one other =
-    does_both before between after (IsTransmitted confirmable request answer) (All IsMeanwhile) (IsTransmission confirmable request answer) one other
+    does_both before between after (IsAsked confirmable request answer) (All IsMeanwhile) (IsTransmission confirmable request answer) one other
     (λ asked taken a b. record { asked = asked; is_asked = a; taken = taken; acknowledged = b; is = refl })
 
 -- ---- a fetch
@@ -167,30 +167,30 @@ transmitted confirmable request answer before between after one other =
 -- one more request
 pub one_request : (e : Errand) (first n count : ℕ) (part : Part) (confirmable : Bool) (request : List ℕ) (id : ℕ) (answer : Option ℕ) (before between after : Calls)
     → answer ≡ Some count → confirmable ≡ e.confirmable → request ≡ message_bytes (part_request e part id) → id ≡ (first + n) % 65536 → IsPartOf e part
-    → AddsCalls before between (AreErrandRequests e first n) → AddsCalls between after (IsTransmission confirmable request answer) → AddsCalls before after (AreErrandRequests e first (n + 1))
+    → MakesCalls before between (AreTransmissions e first n) → MakesCalls between after (IsTransmission confirmable request answer) → MakesCalls before after (AreTransmissions e first (n + 1))
 one_request e first n count part confirmable request id answer before between after some c r i own one other =
-    let last = subst (λ (a : Option ℕ). AddsCalls between after (IsTransmission e.confirmable (message_bytes (part_request e part ((first + n) % 65536))) a)) some
-    (subst (λ (x : ℕ). AddsCalls between after (IsTransmission e.confirmable (message_bytes (part_request e part x)) answer)) i
-    (subst (λ (x : List ℕ). AddsCalls between after (IsTransmission e.confirmable x answer)) r
-    (subst (λ (x : Bool). AddsCalls between after (IsTransmission x request answer)) c other))) in
-    subst (λ (x : ℕ). AddsCalls before after (AreErrandRequests e first x)) (sym (add-one n))
-    (does_both before between after (AreErrandRequests e first n) (IsTransmission e.confirmable (message_bytes (part_request e part ((first + n) % 65536))) (Some count)) (AreErrandRequests e first (suc n)) one last
+    let last = subst (λ (a : Option ℕ). MakesCalls between after (IsTransmission e.confirmable (message_bytes (part_request e part ((first + n) % 65536))) a)) some
+    (subst (λ (x : ℕ). MakesCalls between after (IsTransmission e.confirmable (message_bytes (part_request e part x)) answer)) i
+    (subst (λ (x : List ℕ). MakesCalls between after (IsTransmission e.confirmable x answer)) r
+    (subst (λ (x : Bool). MakesCalls between after (IsTransmission x request answer)) c other))) in
+    subst (λ (x : ℕ). MakesCalls before after (AreTransmissions e first x)) (sym (add-one n))
+    (does_both before between after (AreTransmissions e first n) (IsTransmission e.confirmable (message_bytes (part_request e part ((first + n) % 65536))) (Some count)) (AreTransmissions e first (suc n)) one last
     (λ older calls a b. record { older = older; before = a; part = part; own = own; count = count; last = calls; transmission = b; is = refl }))
 
-pub no_requests : (e : Errand) (first : ℕ) (now : Calls) → AddsCalls now now (AreErrandRequests e first 0)
-no_requests e first now = does_nothing now (AreErrandRequests e first 0) refl
+pub no_requests : (e : Errand) (first : ℕ) (now : Calls) → MakesCalls now now (AreTransmissions e first 0)
+no_requests e first now = does_nothing now (AreTransmissions e first 0) refl
 
 suc_left : (k j : ℕ) → suc (k + j) ≡ suc k + j
 suc_left k j = omega arith
 
 -- requests go on after others
-joined : (e : Errand) (first j k : ℕ) (older calls : List PeerCall) → AreErrandRequests e first j older → AreErrandRequests e ((first + j) % 65536) k calls
-    → AreErrandRequests e first (k + j) (calls ++ older)
+joined : (e : Errand) (first j k : ℕ) (older calls : List PeerCall) → AreTransmissions e first j older → AreTransmissions e ((first + j) % 65536) k calls
+    → AreTransmissions e first (k + j) (calls ++ older)
 joined e first j zero older calls a b =
-    subst (λ (n : ℕ). AreErrandRequests e first n (calls ++ older)) (omega arith) (subst (λ (x : List PeerCall). AreErrandRequests e first j (x ++ older)) (sym b) a)
+    subst (λ (n : ℕ). AreTransmissions e first n (calls ++ older)) (omega arith) (subst (λ (x : List PeerCall). AreTransmissions e first j (x ++ older)) (sym b) a)
 joined e first j (suc k) older calls a b =
     let id : ((first + j) % 65536 + k) % 65536 ≡ (first + (k + j)) % 65536 = omega arith in
-    subst (λ (n : ℕ). AreErrandRequests e first n (calls ++ older)) (suc_left k j) (record {
+    subst (λ (n : ℕ). AreTransmissions e first n (calls ++ older)) (suc_left k j) (record {
       older = b.older ++ older;
       before = joined e first j k older b.older a b.before;
       part = b.part;
@@ -201,14 +201,14 @@ joined e first j (suc k) older calls a b =
       is = ap (λ (x : List PeerCall). x ++ older) b.is ∙ append_assoc b.last b.older older;
     })
 
-pub begun_again : (e : Errand) (first next j k : ℕ) (before between after : Calls) → next ≡ (first + j) % 65536 → AddsCalls before between (AreErrandRequests e first j)
-    → AddsCalls between after (AreErrandRequests e next k) → AddsCalls before after (AreErrandRequests e first (k + j))
+pub begun_again : (e : Errand) (first next j k : ℕ) (before between after : Calls) → next ≡ (first + j) % 65536 → MakesCalls before between (AreTransmissions e first j)
+    → MakesCalls between after (AreTransmissions e next k) → MakesCalls before after (AreTransmissions e first (k + j))
 begun_again e first next j k before between after is one other =
-    does_both before between after (AreErrandRequests e first j) (AreErrandRequests e ((first + j) % 65536) k) (AreErrandRequests e first (k + j)) one
-    (subst (λ (x : ℕ). AddsCalls between after (AreErrandRequests e x k)) is other) (joined e first j k)
+    does_both before between after (AreTransmissions e first j) (AreTransmissions e ((first + j) % 65536) k) (AreTransmissions e first (k + j)) one
+    (subst (λ (x : ℕ). MakesCalls between after (AreTransmissions e x k)) is other) (joined e first j k)
 
 pub some_of : (o : Option ℕ) (n : ℕ) (P : ℕ → Type 0) → o ≡ Some n → IfSome o P → P n
 some_of o n P some h = subst (λ (x : Option ℕ). IfSome x P) some h
 
-pub unacknowledged : (now : Calls) → AddsCalls now now (All IsMeanwhile)
+pub unacknowledged : (now : Calls) → MakesCalls now now (All IsMeanwhile)
 unacknowledged now = does_nothing now (All IsMeanwhile) (All-nil IsMeanwhile)

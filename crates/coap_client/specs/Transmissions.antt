@@ -14,14 +14,15 @@ use Rattle.coap_client.specs.declared.part.Part.{Part}
 use Rattle.coap_client.specs.Notices.{observe_request}
 use Rattle.coap_client.specs.Requests.{IsPartOf, acknowledgement, part_request}
 
--- calls of this kind are added to those before
+-- calls of this kind are added to these
 pub record HasAdded (after : List PeerCall → Type 0) (P : List PeerCall → Type 0) (calls : List PeerCall) : Type 0 where
   pub more : List PeerCall
   pub are : P more
   pub is : after (more ++ calls)
 
-abbrev pub AddsCalls : (List PeerCall → Type 0) → (List PeerCall → Type 0) → (List PeerCall → Type 0) → Type 0
-AddsCalls before after P = (calls : List PeerCall) → before calls → HasAdded after P calls
+-- whatever was called before, such calls were made since
+abbrev pub MakesCalls : (List PeerCall → Type 0) → (List PeerCall → Type 0) → (List PeerCall → Type 0) → Type 0
+MakesCalls before after P = (calls : List PeerCall) → before calls → HasAdded after P calls
 
 -- the acknowledgement of some message
 pub record IsAcknowledgement (bytes : List ℕ) : Type 0 where
@@ -47,10 +48,11 @@ IsHeard awaited listened.Acknowledged heard = (awaited ≡ false) × All IsMeanw
 IsHeard awaited (listened.Answer count) heard = All IsMeanwhile heard
 
 -- an answer came, or the wait is over
-abbrev pub IsWaitEnded : Option ℕ → List PeerCall → Type 0
-IsWaitEnded None heard = IsOver heard
-IsWaitEnded (Some count) heard = All IsMeanwhile heard
+abbrev pub EndsAwaited : Option ℕ → List PeerCall → Type 0
+EndsAwaited None heard = IsOver heard
+EndsAwaited (Some count) heard = All IsMeanwhile heard
 
+-- an acknowledgement came, or the wait is over
 abbrev pub IsOverUnless : Bool → List PeerCall → Type 0
 IsOverUnless false heard = IsOver heard
 IsOverUnless true heard = All IsMeanwhile heard
@@ -91,23 +93,24 @@ pub record IsLastSending (request : List ℕ) (P : List PeerCall → Type 0) (ca
   pub sending : IsSending request (2 ^ (n + 1)) P last
   pub is : calls ≡ last ++ older
 
-abbrev pub IsAnsweredInTime : List PeerCall → Type 0
-IsAnsweredInTime heard = All IsMeanwhile heard ⊎ IsAcknowledgedFirst (All IsMeanwhile) heard
+-- the answer came, at once or after an acknowledgement
+abbrev pub EndsAnswered : List PeerCall → Type 0
+EndsAnswered heard = All IsMeanwhile heard ⊎ IsAcknowledgedFirst (All IsMeanwhile) heard
 
--- a confirmable request is answered, at once or after it was acknowledged; or it is sent five times in vain, or acknowledged and then not answered
+-- a confirmable request is answered; or it is sent five times in vain, or acknowledged and then not answered
 abbrev pub IsAskedAgain : List ℕ → Option ℕ → List PeerCall → Type 0
-IsAskedAgain request (Some count) calls = IsLastSending request IsAnsweredInTime calls
+IsAskedAgain request (Some count) calls = IsLastSending request EndsAnswered calls
 IsAskedAgain request None calls = AreInVain request 5 calls ⊎ IsLastSending request (IsAcknowledgedFirst IsOver) calls
 
 -- another is sent once
-abbrev pub IsTransmitted : Bool → List ℕ → Option ℕ → List PeerCall → Type 0
-IsTransmitted true request answer calls = IsAskedAgain request answer calls
-IsTransmitted false request answer calls = IsSending request 32 (IsWaitEnded answer) calls
+abbrev pub IsAsked : Bool → List ℕ → Option ℕ → List PeerCall → Type 0
+IsAsked true request answer calls = IsAskedAgain request answer calls
+IsAsked false request answer calls = IsSending request 32 (EndsAwaited answer) calls
 
 -- a request is transmitted, and its answer acknowledged where that asks for it
 pub record IsTransmission (confirmable : Bool) (request : List ℕ) (answer : Option ℕ) (calls : List PeerCall) : Type 0 where
   pub asked : List PeerCall
-  pub is_asked : IsTransmitted confirmable request answer asked
+  pub is_asked : IsAsked confirmable request answer asked
   pub taken : List PeerCall
   pub acknowledged : All IsMeanwhile taken
   pub is : calls ≡ taken ++ asked
@@ -124,9 +127,9 @@ pub record IsNextRequest (Before : List PeerCall → Type 0) (e : Errand) (id : 
   pub is : calls ≡ last ++ older
 
 -- n requests of the errand, whose ids count up from the first, and nothing else
-abbrev pub AreErrandRequests : Errand → ℕ → ℕ → List PeerCall → Type 0
-AreErrandRequests e first zero calls = calls ≡ []
-AreErrandRequests e first (suc n) calls = IsNextRequest (AreErrandRequests e first n) e ((first + n) % 65536) calls
+abbrev pub AreTransmissions : Errand → ℕ → ℕ → List PeerCall → Type 0
+AreTransmissions e first zero calls = calls ≡ []
+AreTransmissions e first (suc n) calls = IsNextRequest (AreTransmissions e first n) e ((first + n) % 65536) calls
 
 -- a fetch that is to begin again goes on at the next id
 abbrev pub GoesOnAt : ℕ → Attempt → Type 0

@@ -3,7 +3,7 @@ ghost use Rattle.std.specs.Prelude.{◌≡◌, ℕ, ◌+◌, ◌++◌, ◌%◌, 
 ghost use Rattle.coap_client.specs.Requests.{IsPartOf};
 ghost use Rattle.coap_client.specs.Replies.{begins_exchange};
 ghost use Rattle.coap_client.specs.Joined.{SendsWhole};
-ghost use Rattle.coap_client.specs.Transmissions.{AreErrandRequests, AddsCalls, GoesOnAt};
+ghost use Rattle.coap_client.specs.Transmissions.{AreTransmissions, MakesCalls, GoesOnAt};
 ghost use Rattle.coap_client.specs.Fetching.{IsAttempt, IsFetched, IsSameAnswer, IsStepOf, Out, going_on, with_taken_id};
 
 use crate::errand::Errand;
@@ -77,7 +77,7 @@ pub enum Attempt {
 /// another is waited for 32 seconds. Where the answer to a GET changes while its blocks are fetched, the fetch begins again, once.
 ///
 /// # Errors
-/// What [`Fault`] says.
+/// What [`FetchFault`] says.
 pub fn fetch<P: Peer>(
     alloc: Global,
     peer: &mut P,
@@ -86,7 +86,7 @@ pub fn fetch<P: Peer>(
 ) -> Result<Fetched, FetchFault>
     ensures fetched { IfOk result (λ f. IsFetched P.went P.came errand.now first_id f.code.byte f.body.items) }
     ensures whole { IfOk result (λ f. SendsWhole P.went errand.now f.code.byte) }
-    ensures called { IfOk result (λ f. (n : ℕ) × AddsCalls (P.called peer.old) (P.called peer.new) (AreErrandRequests errand.now first_id n)) }
+    ensures called { IfOk result (λ f. (n : ℕ) × MakesCalls (P.called peer.old) (P.called peer.new) (AreTransmissions errand.now first_id n)) }
 {
     match fetch_once(alloc, peer, errand, first_id, Vec::new(alloc))? {
         Attempt::Ended(fetched) => Ok(fetched),
@@ -112,7 +112,7 @@ fn fetch_once<P: Peer>(
 ) -> Result<Attempt, FetchFault>
     ensures attempt { IfOk result (IsAttempt P.went P.came errand.now first_id earlier.items) }
     ensures called { IfOk result (λ a. (n : ℕ) × GoesOnAt ((first_id + n) % 65536) a
-        × AddsCalls (P.called peer.old) (P.called peer.new) (AreErrandRequests errand.now first_id n)) }
+        × MakesCalls (P.called peer.old) (P.called peer.new) (AreTransmissions errand.now first_id n)) }
 {
     let mut course = Course {
         id: first_id,

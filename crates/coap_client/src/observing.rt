@@ -7,7 +7,7 @@ ghost use Rattle.coap_client.specs.Notes.{HasAcknowledgement, HasArrived, HasDer
 ghost use Rattle.coap_client.specs.Notices.{IsOwnResponse, observe_request, observe_value};
 ghost use Rattle.coap_client.specs.Replies.{IsReset};
 ghost use Rattle.coap_opts.specs.Values.{uint_bytes};
-ghost use Rattle.coap_client.specs.Transmissions.{AddsCalls, IsAskedAgain, IsWaitEnded, IsDeregistration, IsHeard, IsMeanwhile, IsOverUnless, IsRegistration};
+ghost use Rattle.coap_client.specs.Transmissions.{MakesCalls, IsAskedAgain, EndsAwaited, IsDeregistration, IsHeard, IsMeanwhile, IsOverUnless, IsRegistration};
 ghost use Rattle.std.specs.List.{All};
 ghost use Rattle.std.specs.Bool.{OnTrue};
 ghost use Rattle.coap_client.specs.Parts.{resource_options};
@@ -59,7 +59,7 @@ impl<'a> Observer<'a> {
         buffer: &mut [u8],
     ) -> Result<usize, FetchFault>
         ensures registered { IfOk result (λ count. (count ≤ length buffer.new) × IsRegistered P.went P.came self.now (take count buffer.new)) }
-        ensures called { IfOk result (λ count. AddsCalls (P.called peer.old) (P.called peer.new) (IsRegistration self.now count)) }
+        ensures called { IfOk result (λ count. MakesCalls (P.called peer.old) (P.called peer.new) (IsRegistration self.now count)) }
     {
         let mut datagram = Datagram::new();
         write_request(
@@ -86,7 +86,7 @@ impl<'a> Observer<'a> {
     ) -> Result<Option<usize>, FetchFault>
         ensures answer { IfOk result (λ r. IfSome r (λ count. (count ≤ length buffer.new) × P.went datagram.now.items
             × HasArrived P.came (IsResponseWith self.now.token self.now.id) (take count buffer.new))) }
-        ensures called { IfOk result (λ r. AddsCalls (P.called peer.old) (P.called peer.new) (IsAskedAgain datagram.now.items r)) }
+        ensures called { IfOk result (λ r. MakesCalls (P.called peer.old) (P.called peer.new) (IsAskedAgain datagram.now.items r)) }
     {
         for sendings in 0..SENDINGS {
             send(peer, datagram, ack_timeout(sendings))?;
@@ -110,7 +110,7 @@ impl<'a> Observer<'a> {
     ) -> Result<Option<usize>, FetchFault>
         ensures answer { IfOk result (λ r. IfSome r (λ count. (count ≤ length buffer.new)
             × HasArrived P.came (IsResponseWith self.now.token self.now.id) (take count buffer.new))) }
-        ensures called { IfOk result (λ r. AddsCalls (P.called peer.old) (P.called peer.new) (IsWaitEnded r)) }
+        ensures called { IfOk result (λ r. MakesCalls (P.called peer.old) (P.called peer.new) (EndsAwaited r)) }
     {
         match self.listen(peer, true, buffer)? {
             Listened::Answer(count) => Ok(Some(count)),
@@ -126,7 +126,7 @@ impl<'a> Observer<'a> {
         buffer: &mut [u8],
     ) -> Result<Listened, FetchFault>
         ensures listened { IfOk result (HearsAnswer P.came self.now.token self.now.id buffer.new) }
-        ensures called { IfOk result (λ x. AddsCalls (P.called peer.old) (P.called peer.new) (IsHeard acknowledged x)) }
+        ensures called { IfOk result (λ x. MakesCalls (P.called peer.old) (P.called peer.new) (IsHeard acknowledged x)) }
     {
         for received in 0..u64::MAX {
             let Some(count) = peer.receive(buffer)? else {
@@ -153,7 +153,7 @@ impl<'a> Observer<'a> {
         buffer: &mut [u8],
     ) -> Result<(), FetchFault>
         ensures deregistered { OnOk result (HasDeregistered P.went P.came self.now) }
-        ensures called { OnOk result (AddsCalls (P.called peer.old) (P.called peer.new) (IsDeregistration self.now)) }
+        ensures called { OnOk result (MakesCalls (P.called peer.old) (P.called peer.new) (IsDeregistration self.now)) }
     {
         let id = self.id.wrapping_add(1);
         let mut datagram = Datagram::new();
@@ -273,7 +273,7 @@ fn is_acknowledged<P: Peer>(
     buffer: &mut [u8],
 ) -> Result<bool, FetchFault>
     ensures acknowledged { IfOk result (λ is. OnTrue is (HasAcknowledgement P.came id)) }
-    ensures called { IfOk result (λ is. AddsCalls (P.called peer.old) (P.called peer.new) (IsOverUnless is)) }
+    ensures called { IfOk result (λ is. MakesCalls (P.called peer.old) (P.called peer.new) (IsOverUnless is)) }
 {
     for received in 0..u64::MAX {
         let Some(count) = peer.receive(buffer)? else {
@@ -297,7 +297,7 @@ fn acknowledge_notification<P: Peer>(
     token: &[u8],
     bytes: &[u8],
 ) -> Result<(), FetchFault>
-    ensures { OnOk result (AddsCalls (P.called peer.old) (P.called peer.new) (All IsMeanwhile)) }
+    ensures { OnOk result (MakesCalls (P.called peer.old) (P.called peer.new) (All IsMeanwhile)) }
 {
     if tells_notification(token, bytes) {
         acknowledge(peer, bytes)?;

@@ -1,6 +1,6 @@
 //! The server, as a client has it.
 ghost use Rattle.std.specs.Prelude.{◌≤◌, ⊤, ℕ, [], ◌∷◌, List, IfOk, IfSome, OnOk, length, take};
-ghost use Rattle.coap_client.specs.PeerCalls.{Adds, PeerCall, Sends, Waits, received_call};
+ghost use Rattle.coap_client.specs.PeerCalls.{Adds, PeerCall, Sends, Waits, receives_in};
 
 use coap_msg::Datagram;
 use std::io;
@@ -48,5 +48,5 @@ pub trait Peer {
     /// Nothing can be received.
     fn receive(&mut self, buffer: &mut [u8]) -> io::Result<Option<usize>>
         ensures came { IfOk result (λ r. IfSome r (λ count. (count ≤ length buffer.new) × came (take count buffer.new))) }
-        ensures called { IfOk result (λ r. Adds (called self.old) (called self.new) (received_call buffer.new r ∷ [])) };
+        ensures called { IfOk result (λ r. Adds (called self.old) (called self.new) (receives_in buffer.new r ∷ [])) };
 }

@@ -8,7 +8,7 @@ ghost use Rattle.coap_msg.specs.declared.types.MessageType.TheVariants.{Confirma
 ghost use Rattle.coap_client.specs.Heard.{AcknowledgesRepeat, Listens, HasTakenResponse, HasResponse, IsAwaitedAnswer, IsHeardAs, Tells};
 ghost use Rattle.coap_client.specs.PeerCalls.{Adds, Sends, Waits};
 ghost use Rattle.coap_client.specs.Replies.{is_taken};
-ghost use Rattle.coap_client.specs.Transmissions.{AddsCalls, IsTransmitted, IsAskedAgain, IsWaitEnded, IsHeard, IsMeanwhile, IsSending, IsTransmission};
+ghost use Rattle.coap_client.specs.Transmissions.{MakesCalls, IsAsked, IsAskedAgain, EndsAwaited, IsHeard, IsMeanwhile, IsSending, IsTransmission};
 ghost use Rattle.coap_client.specs.Requests.{acknowledgement};
 
 use crate::fetcher::FetchFault;
@@ -67,8 +67,8 @@ pub enum Listened {
     Nothing,
 }
 
-/// Computes how long the answer is waited for after so many sendings of a request, in seconds: each time twice as long (RFC 7252, 4.2,
-/// without the random part).
+/// Computes how long the answer to the sending that comes after so many others of its request is waited for, in seconds: each time twice
+/// as long (RFC 7252, 4.2, without the random part).
 pub(crate) fn ack_timeout(sendings: u32) -> u64
     requires { sendings < 5 }
     ensures { result ≡ 2 ^ (sendings + 1) }
@@ -88,7 +88,7 @@ pub fn ask<P: Peer>(
 ) -> Result<Option<usize>, FetchFault>
     ensures response { IfOk result (λ r. IfSome r (λ count. (count ≤ length buffer.new)
         × HasTakenResponse P.went P.came request.now (take count buffer.new))) }
-    ensures called { IfOk result (λ r. AddsCalls (P.called peer.old) (P.called peer.new)
+    ensures called { IfOk result (λ r. MakesCalls (P.called peer.old) (P.called peer.new)
         (IsTransmission request.now.confirmable request.now.datagram.now.items r)) }
 {
     let Some(count) = transmit(peer, request, buffer)? else {
@@ -106,8 +106,8 @@ fn transmit<P: Peer>(
 ) -> Result<Option<usize>, FetchFault>
     ensures response { IfOk result (λ r. IfSome r (λ count. (count ≤ length buffer.new)
         × HasResponse P.went P.came request.now (take count buffer.new))) }
-    ensures called { IfOk result (λ r. AddsCalls (P.called peer.old) (P.called peer.new)
-        (IsTransmitted request.now.confirmable request.now.datagram.now.items r)) }
+    ensures called { IfOk result (λ r. MakesCalls (P.called peer.old) (P.called peer.new)
+        (IsAsked request.now.confirmable request.now.datagram.now.items r)) }
 {
     if request.confirmable {
         ask_again(peer, request, buffer)
@@ -122,10 +122,9 @@ fn ask_again<P: Peer>(
     request: &SentRequest<'_>,
     buffer: &mut [u8],
 ) -> Result<Option<usize>, FetchFault>
-    requires { request.now.confirmable ≡ true }
     ensures response { IfOk result (λ r. IfSome r (λ count. (count ≤ length buffer.new)
         × HasResponse P.went P.came request.now (take count buffer.new))) }
-    ensures called { IfOk result (λ r. AddsCalls (P.called peer.old) (P.called peer.new)
+    ensures called { IfOk result (λ r. MakesCalls (P.called peer.old) (P.called peer.new)
         (IsAskedAgain request.now.datagram.now.items r)) }
 {
     for sendings in 0..SENDINGS {
@@ -151,8 +150,8 @@ fn ask_once<P: Peer>(
     requires { request.now.confirmable ≡ false }
     ensures response { IfOk result (λ r. IfSome r (λ count. (count ≤ length buffer.new)
         × HasResponse P.went P.came request.now (take count buffer.new))) }
-    ensures called { IfOk result (λ r. AddsCalls (P.called peer.old) (P.called peer.new)
-        (IsSending request.now.datagram.now.items 32 (IsWaitEnded r))) }
+    ensures called { IfOk result (λ r. MakesCalls (P.called peer.old) (P.called peer.new)
+        (IsSending request.now.datagram.now.items 32 (EndsAwaited r))) }
 {
     send(peer, request.datagram, NON_WAIT)?;
     await_separate(peer, request, buffer)
@@ -180,7 +179,7 @@ fn await_separate<P: Peer>(
 ) -> Result<Option<usize>, FetchFault>
     ensures answer { IfOk result (λ r. IfSome r (λ count. (count ≤ length buffer.new)
         × IsAwaitedAnswer P.came request.now true (take count buffer.new))) }
-    ensures called { IfOk result (λ r. AddsCalls (P.called peer.old) (P.called peer.new) (IsWaitEnded r)) }
+    ensures called { IfOk result (λ r. MakesCalls (P.called peer.old) (P.called peer.new) (EndsAwaited r)) }
 {
     match listen(peer, request, true, buffer)? {
         Listened::Answer(count) => Ok(Some(count)),
@@ -196,7 +195,7 @@ fn listen<P: Peer>(
     buffer: &mut [u8],
 ) -> Result<Listened, FetchFault>
     ensures listened { IfOk result (Listens P.came request.now awaited buffer.new) }
-    ensures called { IfOk result (λ x. AddsCalls (P.called peer.old) (P.called peer.new) (IsHeard awaited x)) }
+    ensures called { IfOk result (λ x. MakesCalls (P.called peer.old) (P.called peer.new) (IsHeard awaited x)) }
 {
     for received in 0..u64::MAX {
         let Some(count) = peer.receive(buffer)? else {
@@ -222,7 +221,7 @@ fn hear_from<P: Peer>(
 ) -> Result<Reception, FetchFault>
     ensures heard { IfOk result (Tells request.now bytes.now) }
     ensures repeat { IfOk result (AcknowledgesRepeat P.went bytes.now) }
-    ensures called { OnOk result (AddsCalls (P.called peer.old) (P.called peer.new) (All IsMeanwhile)) }
+    ensures called { OnOk result (MakesCalls (P.called peer.old) (P.called peer.new) (All IsMeanwhile)) }
 {
     let heard = hear_datagram(request, bytes);
     if heard == Reception::Repeat {
@@ -263,7 +262,7 @@ fn hear_message(request: &SentRequest<'_>, message: &Message<'_>) -> Reception
 pub(crate) fn acknowledge<P: Peer>(peer: &mut P, bytes: &[u8]) -> Result<(), FetchFault>
     ensures went { OnOk result ((m : wire.Message) → reading_of bytes.now ≡ Ok m → m.kind ≡ Confirmable
         → P.went (message_bytes (acknowledgement m.id))) }
-    ensures called { OnOk result (AddsCalls (P.called peer.old) (P.called peer.new) (All IsMeanwhile)) }
+    ensures called { OnOk result (MakesCalls (P.called peer.old) (P.called peer.new) (All IsMeanwhile)) }
 {
     match read(bytes) {
         Ok(message) if message.kind() == MessageType::Confirmable => {

@@ -1,5 +1,5 @@
 use Rattle.std.proofs.Common.{false, arith, subst}
-use Rattle.coap_client.specs.Transmissions.{AddsCalls, IsHeard}
+use Rattle.coap_client.specs.Transmissions.{MakesCalls, IsHeard}
 use Rattle.coap_client.proofs.Transmitting.{again, answered, answered_later, awaited, in_vain, in_vain_five}
 use Rattle.coap_client.proofs.transmission.ask_again.Goals as goal
 
@@ -9,7 +9,7 @@ loop-sendings-preserved g c =
     let after = g.P.Peer.called c.listen.new.peer in
     in_vain c.args.request.now.datagram.now.items c.loop-sendings.sendings (g.P.Peer.called c.args.peer.now) (g.P.Peer.called c.loop-sendings.peer) after c.loop-sendings.invariant
     (again _ c.loop-sendings.sendings c.ack_timeout.result _ sent after _ c.ack_timeout.ensures c.in_ok-send.ensures.called
-    (subst (λ x. AddsCalls sent after (IsHeard false x)) c.in-Nothing.is c.in_ok-count.ensures.called))
+    (subst (λ x. MakesCalls sent after (IsHeard false x)) c.in-Nothing.is c.in_ok-count.ensures.called))
 
 pub returns-in-Answer-clause-called : goal.returns-in-Answer-clause-called
 returns-in-Answer-clause-called g c =
@@ -18,7 +18,7 @@ returns-in-Answer-clause-called g c =
     answered c.args.request.now.datagram.now.items c.loop-sendings.sendings c.in-Answer.count (g.P.Peer.called c.args.peer.now) (g.P.Peer.called c.loop-sendings.peer) after
     c.loop-sendings-test.true c.loop-sendings.invariant
     (again _ c.loop-sendings.sendings c.ack_timeout.result _ sent after _ c.ack_timeout.ensures c.in_ok-send.ensures.called
-    (subst (λ x. AddsCalls sent after (IsHeard false x)) c.in-Answer.is c.in_ok-count.ensures.called))
+    (subst (λ x. MakesCalls sent after (IsHeard false x)) c.in-Answer.is c.in_ok-count.ensures.called))
 
 pub returns-in-Acknowledged-clause-called : goal.returns-in-Acknowledged-clause-called
 returns-in-Acknowledged-clause-called g c =
@@ -28,7 +28,7 @@ returns-in-Acknowledged-clause-called g c =
     answered_later request c.loop-sendings.sendings (g.P.Peer.called c.args.peer.now) (g.P.Peer.called c.loop-sendings.peer) (g.P.Peer.called c.await_separate.new.peer)
     c.loop-sendings-test.true c.loop-sendings.invariant c.await_separate.result
     (awaited request c.loop-sendings.sendings c.ack_timeout.result _ sent heard (g.P.Peer.called c.begin_wait.new.self) _ c.ack_timeout.ensures c.in_ok-send.ensures.called
-    (λ calls h. let a = subst (λ x. AddsCalls sent heard (IsHeard false x)) c.in-Acknowledged.is c.in_ok-count.ensures.called calls h in record { more = a.more; are = a.are.1; is = a.is })
+    (λ calls h. let a = subst (λ x. MakesCalls sent heard (IsHeard false x)) c.in-Acknowledged.is c.in_ok-count.ensures.called calls h in record { more = a.more; are = a.are.1; is = a.is })
     c.in_ok-begin_wait-in-Acknowledged.ensures c.await_separate.result c.await_separate.ensures.called)
 
 pub returns-clause-called : goal.returns-clause-called
