@@ -8,7 +8,7 @@ use Rattle.coap_client.specs.declared.fetcher.FetchFault.{FetchFault}
 use Rattle.coap_client.specs.declared.part.Part.{Part}
 use Rattle.coap_client.specs.Requests.{IsPartOf, part_request}
 use Rattle.coap_client.specs.PeerCalls.{Adds, PeerCall, Sends, Waits, Receives, receives_in}
-use Rattle.coap_client.specs.Transmissions.{AreInVain, AreTransmissions, MakesCalls, IsAcknowledgedFirst, EndsAnswered, IsAsked, IsAskedAgain, EndsAwaited, IsLastSending, IsMeanwhile, IsOver, IsSending, IsTransmission}
+use Rattle.coap_client.specs.Transmissions.{AreInVain, AreTransmissions, MakesCalls, IsAcknowledgedFirst, EndsAnswered, IsTransmitted, IsAskedAgain, EndsAwaited, IsLastSending, IsMeanwhile, IsOver, IsSending, IsTransmission}
 
 abbrev Calls : Type 1
 Calls = List PeerCall → Type 0
@@ -156,10 +156,10 @@ once request before between after adds (Ok answer) one = sending request 32 befo
 once request before between after adds (Err fault) one = tt
 
 -- the answer is acknowledged
-pub transmitted : (confirmable : Bool) (request : List ℕ) (answer : Option ℕ) (before between after : Calls) → MakesCalls before between (IsAsked confirmable request answer)
+pub transmitted : (confirmable : Bool) (request : List ℕ) (answer : Option ℕ) (before between after : Calls) → MakesCalls before between (IsTransmitted confirmable request answer)
     → MakesCalls between after (All IsMeanwhile) → MakesCalls before after (IsTransmission confirmable request answer)
 transmitted confirmable request answer before between after one other =
-    does_both before between after (IsAsked confirmable request answer) (All IsMeanwhile) (IsTransmission confirmable request answer) one other
+    does_both before between after (IsTransmitted confirmable request answer) (All IsMeanwhile) (IsTransmission confirmable request answer) one other
     (λ asked taken a b. record { asked = asked; is_asked = a; taken = taken; acknowledged = b; is = refl })
 
 -- ---- a fetch

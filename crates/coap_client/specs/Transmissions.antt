@@ -103,14 +103,14 @@ IsAskedAgain request (Some count) calls = IsLastSending request EndsAnswered cal
 IsAskedAgain request None calls = AreInVain request 5 calls ⊎ IsLastSending request (IsAcknowledgedFirst IsOver) calls
 
 -- another is sent once
-abbrev pub IsAsked : Bool → List ℕ → Option ℕ → List PeerCall → Type 0
-IsAsked true request answer calls = IsAskedAgain request answer calls
-IsAsked false request answer calls = IsSending request 32 (EndsAwaited answer) calls
+abbrev pub IsTransmitted : Bool → List ℕ → Option ℕ → List PeerCall → Type 0
+IsTransmitted true request answer calls = IsAskedAgain request answer calls
+IsTransmitted false request answer calls = IsSending request 32 (EndsAwaited answer) calls
 
 -- a request is transmitted, and its answer acknowledged where that asks for it
 pub record IsTransmission (confirmable : Bool) (request : List ℕ) (answer : Option ℕ) (calls : List PeerCall) : Type 0 where
   pub asked : List PeerCall
-  pub is_asked : IsAsked confirmable request answer asked
+  pub is_asked : IsTransmitted confirmable request answer asked
   pub taken : List PeerCall
   pub acknowledged : All IsMeanwhile taken
   pub is : calls ≡ taken ++ asked

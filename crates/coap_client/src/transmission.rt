@@ -8,7 +8,7 @@ ghost use Rattle.coap_msg.specs.declared.types.MessageType.TheVariants.{Confirma
 ghost use Rattle.coap_client.specs.Heard.{AcknowledgesRepeat, Listens, HasTakenResponse, HasResponse, IsAwaitedAnswer, IsHeardAs, Tells};
 ghost use Rattle.coap_client.specs.PeerCalls.{Adds, Sends, Waits};
 ghost use Rattle.coap_client.specs.Replies.{is_taken};
-ghost use Rattle.coap_client.specs.Transmissions.{MakesCalls, IsAsked, IsAskedAgain, EndsAwaited, IsHeard, IsMeanwhile, IsSending, IsTransmission};
+ghost use Rattle.coap_client.specs.Transmissions.{MakesCalls, IsTransmitted, IsAskedAgain, EndsAwaited, IsHeard, IsMeanwhile, IsSending, IsTransmission};
 ghost use Rattle.coap_client.specs.Requests.{acknowledgement};
 
 use crate::fetcher::FetchFault;
@@ -107,7 +107,7 @@ fn transmit<P: Peer>(
     ensures response { IfOk result (λ r. IfSome r (λ count. (count ≤ length buffer.new)
         × HasResponse P.went P.came request.now (take count buffer.new))) }
     ensures called { IfOk result (λ r. MakesCalls (P.called peer.old) (P.called peer.new)
-        (IsAsked request.now.confirmable request.now.datagram.now.items r)) }
+        (IsTransmitted request.now.confirmable request.now.datagram.now.items r)) }
 {
     if request.confirmable {
         ask_again(peer, request, buffer)
