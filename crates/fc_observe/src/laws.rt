@@ -8,7 +8,7 @@ ghost use Rattle.fc_help.specs.Request.{Request};
 ghost use Rattle.fc_observe.specs.Calls.{ComesFrom, IsRegisteredBy, ObserverCall, NextDue, Notify, Miss, End, GiveUp, after_calls, observers, observers_after};
 ghost use Rattle.fc_observe.specs.Entries.{given_up, is_due, is_entry_of, is_late, must_confirm, notified, retransmission, timed_out, with_turn};
 ghost use Rattle.fc_observe.specs.Laws.{HandsInUpTo, IsAcknowledged, IsGivenUpNow, IsNewAt, IsOutstanding, IsRegistrationOf, IsSentAt, IsTurnOut, KeepsLast, KeepsSerial, RegistersNone, has_number, noticed_for, resent_entry};
-ghost use Rattle.fc_observe.specs.Observers.{ObserverList, after_ack, after_reset, at_moment, entry_out, is_missing, is_out, next_turn, registered, ticked, turn_given};
+ghost use Rattle.fc_observe.specs.Observers.{ObserverList, after_ack, after_reset, at_moment, cancelled, entry_out, is_missing, is_out, next_turn, registered, ticked, turn_given};
 ghost use Rattle.fc_observe.specs.declared.entry.Entry.{Entry};
 ghost use Rattle.fc_observe.specs.declared.entry.Phase.TheVariants.{Outstanding, TurnOut};
 ghost use Rattle.fc_observe.specs.declared.entry.Turn.{Turn};
@@ -98,6 +98,13 @@ pub fn resets_remove_their_own()
     ensures { (to : Endpoint) (id : ℕ) (t : ObserverList) (o : Entry) →
         (Contains (after_reset to id t).held o
         ↔ (Contains t.held o × ((o.endpoint ≡ to) × (o.id ≡ Some id) → ⊥))) }
+{}
+
+/// A cancellation removes just the entry of its endpoint and token (RFC 7641, 3.6).
+pub fn cancellations_remove_their_own()
+    ensures { (to : Endpoint) (token : List ℕ) (t : ObserverList) (o : Entry) →
+        (Contains (cancelled to token t).held o
+        ↔ (Contains t.held o × ((o.endpoint ≡ to) × (o.token.items ≡ token) → ⊥))) }
 {}
 
 /// An observer that was removed hears nothing more: no entry of its endpoint and token is held before it registers again, and a
