@@ -16,3 +16,4 @@ mod Rewritten
 mod Live
 mod Small
 mod Paired
+mod PairRows

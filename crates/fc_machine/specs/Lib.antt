@@ -3,3 +3,4 @@ pub mod Steps
 pub mod Array
 pub mod Kept
 pub mod Outcome
+pub mod PairRuns
