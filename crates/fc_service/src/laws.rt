@@ -1,7 +1,14 @@
 //! What the definitions of the service come to, in plainer words: each function is a law, and its contract says it.
-ghost use Rattle.std.specs.Prelude.{◌≡◌, ◌+◌, ◌*◌, ◌<◌, ◌≤◌, ℕ, ◌∷◌, Bool, List, Option, false, flat_map, length, map, true};
+ghost use Rattle.std.specs.Prelude.{◌≡◌, ◌+◌, ◌*◌, ◌%◌, ◌<◌, ◌≤◌, ◌↔◌, ℕ, ◌∷◌, Bool, List, None, Option, false, flat_map, length, map, true};
 ghost use Rattle.coap_msg.specs.Wire.{Message, SpellsMessage};
 ghost use Rattle.fc_core.specs.declared.front.Heard.TheVariants.{Job, Nothing, Reply, Signal};
+ghost use Rattle.fc_observe.specs.declared.observers.Ticked.{Ticked};
+ghost use Rattle.fc_observe.specs.declared.observers.Ticked.TheVariants.{Quiet};
+ghost use Rattle.fc_registry.specs.Shards.{shard_at};
+ghost use Rattle.fc_registry.specs.Watches.{at_time, late_place};
+ghost use Rattle.fc_server.specs.Notified.{Nobody, Notified};
+ghost use Rattle.fc_server.specs.Steps.{shard_turn};
+ghost use Rattle.fc_service.specs.Alone.{NotifiesAlone, ResendsAlone};
 ghost use Rattle.fc_service.specs.Clocks.{device_readings, no_sensors};
 ghost use Rattle.fc_service.specs.Histories.{IsOneHistory, received_in_lines, sent_in_lines};
 ghost use Rattle.fc_service.specs.Intakes.{Incoming, is_reply};
@@ -9,6 +16,7 @@ ghost use Rattle.fc_lines.specs.Emissions.{printed};
 ghost use Rattle.fc_service.specs.Playing.{IsPlayedOut, PlayedLine, printed_lines};
 ghost use Rattle.fc_service.specs.Rounds.{HasServed, received_in, sendings_in};
 ghost use Rattle.fc_service.specs.Settling.{most_steps};
+ghost use Rattle.fc_service.specs.declared.alone.Alone.{Alone};
 ghost use Rattle.fc_service.specs.declared.replies.Replies.{Replies};
 
 use crate::sensors::Sensors;
@@ -34,6 +42,15 @@ pub fn replies_are_sent_by_who_heard()
     ensures job { is_reply Job ≡ false }
     ensures signal { (id : ℕ) (reset : Bool) → is_reply (Signal id reset) ≡ false }
     ensures nothing { is_reply Nothing ≡ false }
+{}
+
+/// What a shard of a server on one thread tells is so: that nothing is late exactly where no notification of its slots is, and that nobody is due exactly where it has no turn
+/// to give.
+pub fn shards_tell_what_is_so()
+    ensures late { (shard now : ℕ) (old new : Alone) (ticked : Ticked) → ResendsAlone shard now old new ticked
+        → ((ticked ≡ Quiet) ↔ (late_place (at_time (shard_at old.engine.shards (shard % 8)) now) ≡ None)) }
+    ensures due { (shard now : ℕ) (old new : Alone) (told : Notified) → NotifiesAlone shard now old new told
+        → ((told ≡ Nobody) ↔ (shard_turn now (shard_at old.engine.shards (shard % 8)) ≡ None)) }
 {}
 
 /// What a server on one thread does in all of its rounds is one history of events, from the serial and the message id that it begins with on, in which each event

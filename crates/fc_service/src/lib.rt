@@ -39,7 +39,7 @@
 //!   anything. What a datagram is received into has 1,281 bytes, one more than it may have (`laws`).
 //! - **By one worker** these are lists of events of one server, which begins at the serial and the message id that it is given: each round
 //!   is the list of its datagram, or of its moment, and of what its shards are asked. What a shard tells is so: that nothing is late, that an
-//!   observer was removed, that nobody is due. Its readings are each round's moment and what its sensors said. No clause says that with
+//!   observer was removed, that nobody is due (`laws`). Its readings are each round's moment and what its sensors said. No clause says that with
 //!   `--readings` this is the file's; without it these are zeros (`serve_alone`, by `HasServed`).
 //! - **One history**: what a server on one thread does in all of its rounds, or for all lines that it plays, is one history of events. Just
 //!   the datagrams that came are delivered, in order; and just what its events emitted was handed to the sink, or is printed, in that order
