@@ -1,21 +1,17 @@
 -- Lines that are played, one after the other.
 use Rattle.std.proofs.Common.{◌≡◌, ℕ, List, [], ◌∷◌, Option, Some, Result, Ok, Err, OnOk, refl, sym, subst}
-use Rattle.std.specs.Borrow.{Bor}
 use Rattle.std.specs.Io.BufRead.{first_piece}
 use Rattle.std.specs.Io.Iter.{YieldsKnownPiece}
 use Rattle.std.specs.Io.KnownBytes.{Appends, IsAtEnd}
 use Rattle.std.proofs.KnownBytes.{Appends-nil, Appends-trans}
 use Rattle.coap_msg.specs.declared.types.Emission.{Emission}
-use Rattle.coap_msg.specs.declared.types.Endpoint.{Endpoint}
 use Rattle.fc_core.specs.History.{Begins}
-use Rattle.fc_core.specs.declared.front.Heard.{Heard}
 use Rattle.fc_help.specs.Region.{no_readings}
 use Rattle.fc_lines.specs.declared.line.Line.{Line}
 use Rattle.fc_lines.specs.Lines.{IsLine}
-use Rattle.fc_observe.specs.declared.observers.Ticked.{Ticked}
 use Rattle.fc_server.specs.Serving.{Serves}
-use Rattle.fc_server.specs.Notified.{Notified}
-use Rattle.fc_service.specs.Alone.{HandsAlone, HearsAlone, NotifiesAlone, PassesAlone, PassesOverAlone, ResendsAlone}
+use Rattle.fc_service.specs.Alone.{HandsAlone, alone_calls}
+use Rattle.fc_service.specs.Intakes.{IntakeCalls}
 use Rattle.fc_service.specs.Playing.{HasPlayed, IsCarriedOutBy, IsHandedBy, IsNextText, IsPlayedBy, IsPlayedOut, PlayedLine, moment_of, output_by, output_of, printed_lines}
 use Rattle.fc_service.specs.declared.alone.Alone.{Alone}
 use Rattle.fc_service.specs.Settling.{AreSettled, AreStepsBy, SettlingStep, printed_steps}
@@ -24,19 +20,17 @@ use Rattle.fc_service.specs.Settling.{AreSettled, AreStepsBy, SettlingStep, prin
 pub next_text : {X E : Type 0} (bytes : X → List ℕ) (byte : ℕ) (had left : Option (List ℕ)) {r : Option (Result X E)} (x : X) {text : List ℕ} → text ≡ bytes x → byte ≡ 10 → r ≡ Some (Ok x) → YieldsKnownPiece bytes (first_piece byte) byte had r left → IsNextText text had left
 next_text {X} {E} bytes byte had left x same ten is y = subst (λ (t : List ℕ). IsNextText t had left) (sym same) (subst (λ (b : ℕ). YieldsKnownPiece {E = E} bytes (first_piece b) b had (Some (Ok x)) left) ten (subst (λ (r : Option (Result X E)). YieldsKnownPiece bytes (first_piece byte) byte had r left) is y))
 
-module _ {S : Type 0} (Hands : List ℕ → S → S → Type 0)
-    (Hears : ℕ → Endpoint → Bor (List ℕ) → S → S → Heard → Emission → Type 0) (Passes : ℕ → S → S → Type 0)
-    (Resends : ℕ → ℕ → S → S → Ticked → Type 0) (PassesOver : ℕ → ℕ → S → S → Type 0) (Notifies : ℕ → ℕ → S → S → Notified → Type 0) where
+module _ {S : Type 0} (Hands : List ℕ → S → S → Type 0) (calls : IntakeCalls S) where
   -- no line yet
-  pub no_lines : (s : S) (had before : Option (List ℕ)) → HasPlayed Hands Hears Passes Resends PassesOver Notifies s s had had before before
+  pub no_lines : (s : S) (had before : Option (List ℕ)) → HasPlayed Hands calls s s had had before before
   no_lines s had before = record { lines = []; played = refl; read = refl; printed = Appends-nil before }
 
   -- a line that was read, carried out, and settled
   pub line_played : (text : List ℕ) (line : Line) (now : ℕ) (old handed mid new : S) (a b c : Option (List ℕ)) → IsLine text line → now ≡ moment_of line
-      → IsHandedBy Hands Hears Passes Resends PassesOver Notifies line old handed
-      → ((sent : Option Emission) × IsCarriedOutBy Hands Hears Passes Resends PassesOver Notifies line handed sent mid × Appends a b (output_of sent))
-      → ((steps : List SettlingStep) × AreStepsBy Resends PassesOver Notifies now steps mid new × (AreSettled steps × Appends b c (printed_steps steps)))
-      → (p : PlayedLine) × (p.text ≡ text) × IsPlayedBy Hands Hears Passes Resends PassesOver Notifies p old new × Appends a c (output_by p)
+      → IsHandedBy Hands calls line old handed
+      → ((sent : Option Emission) × IsCarriedOutBy Hands calls line handed sent mid × Appends a b (output_of sent))
+      → ((steps : List SettlingStep) × AreStepsBy calls now steps mid new × (AreSettled steps × Appends b c (printed_steps steps)))
+      → (p : PlayedLine) × (p.text ≡ text) × IsPlayedBy Hands calls p old new × Appends a c (output_by p)
   line_played text line now old handed mid new a b c says at hands w x = (
     record { text = text; line = line; sent = w.0; steps = x.0 },
     refl,
@@ -46,15 +40,15 @@ module _ {S : Type 0} (Hands : List ℕ → S → S → Type 0)
       hands = hands;
       answered = mid;
       carried_out = w.1;
-      steps = subst (λ (n : ℕ). AreStepsBy Resends PassesOver Notifies n x.0 mid new) at x.1;
+      steps = subst (λ (n : ℕ). AreStepsBy calls n x.0 mid new) at x.1;
       settled = x.2.0;
     },
     Appends-trans a b c (output_of w.0) (printed_steps x.0) w.2 x.2.1,
   )
 
   -- one line more
-  pub plays_on : (first old new : S) (had mid left before now after : Option (List ℕ)) (text : List ℕ) → HasPlayed Hands Hears Passes Resends PassesOver Notifies first old had mid before now → IsNextText text mid left
-      → ((p : PlayedLine) × (p.text ≡ text) × IsPlayedBy Hands Hears Passes Resends PassesOver Notifies p old new × Appends now after (output_by p)) → HasPlayed Hands Hears Passes Resends PassesOver Notifies first new had left before after
+  pub plays_on : (first old new : S) (had mid left before now after : Option (List ℕ)) (text : List ℕ) → HasPlayed Hands calls first old had mid before now → IsNextText text mid left
+      → ((p : PlayedLine) × (p.text ≡ text) × IsPlayedBy Hands calls p old new × Appends now after (output_by p)) → HasPlayed Hands calls first new had left before after
   plays_on first old new had mid left before now after text h next x = record {
     lines = x.0 ∷ h.lines;
     played = (old, h.played, x.2);
@@ -64,6 +58,6 @@ module _ {S : Type 0} (Hands : List ℕ → S → S → Type 0)
 
 -- on one thread
 pub played_out : {A E : Type 0} (serial id : ℕ) (first last : Alone) (had before after : Option (List ℕ)) (r : Result A E) → Serves (Begins serial id) first.engine [] → first.handed ≡ record { readings = no_readings; random = 0 }
-    → OnOk r ((left : Option (List ℕ)) × HasPlayed HandsAlone HearsAlone PassesAlone ResendsAlone PassesOverAlone NotifiesAlone first last had left before after × IsAtEnd left) → OnOk r (IsPlayedOut serial id had before after)
+    → OnOk r ((left : Option (List ℕ)) × HasPlayed HandsAlone alone_calls first last had left before after × IsAtEnd left) → OnOk r (IsPlayedOut serial id had before after)
 played_out serial id first last had before after (Ok x) begins handed w = record { first = first; last = last; begins = begins; handed = handed; left = w.0; played = w.1; end = w.2 }
 played_out serial id first last had before after (Err e) begins handed w = tt

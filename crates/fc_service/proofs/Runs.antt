@@ -2,27 +2,20 @@
 use Rattle.std.proofs.Common.{◌≡◌, ℕ, ◌+◌, ◌<◌, ◌≤◌, Bool, List, [], ◌∷◌, length, Option, Some, None, arith, refl, ap, sym, subst, ◌∙◌}
 use Rattle.std.specs.Prelude.{min}
 use Rattle.std.proofs.lemmas.List.{length-append}
-use Rattle.std.specs.Borrow.{Bor}
 use Rattle.std.specs.Option.{option_to_list}
 use Rattle.coap_msg.specs.declared.types.Emission.{Emission}
-use Rattle.coap_msg.specs.declared.types.Endpoint.{Endpoint}
-use Rattle.fc_core.specs.declared.front.Heard.{Heard}
-use Rattle.fc_observe.specs.declared.observers.Ticked.{Ticked}
-use Rattle.fc_server.specs.Notified.{Notified}
 use Rattle.fc_service.proofs.Traffic.{more_came, more_replies, more_sent, none_came, none_sent}
 use Rattle.fc_service.specs.Counting.{no_replies}
-use Rattle.fc_service.specs.Intakes.{Incoming, IsHeardBy}
+use Rattle.fc_service.specs.Intakes.{Incoming, IntakeCalls, IsHeardBy}
 use Rattle.fc_service.specs.Rounds.{HasRounds, IsReceivedBy, Round, received_in, sendings_in}
 use Rattle.fc_service.specs.Settling.{AreSettled, AreStepsBy, SettlingStep, sent_in_steps}
 use Rattle.fc_service.specs.Traffic.{Comes, Sends, counted_each}
 use Rattle.fc_service.specs.declared.replies.Replies.{Replies}
 
-module _ {S : Type 0} (IsMoment : ℕ → Type 0) (Readies : ℕ → S → S → Type 0)
-    (Hears : ℕ → Endpoint → Bor (List ℕ) → S → S → Heard → Emission → Type 0) (Passes : ℕ → S → S → Type 0)
-    (Resends : ℕ → ℕ → S → S → Ticked → Type 0) (PassesOver : ℕ → ℕ → S → S → Type 0) (Notifies : ℕ → ℕ → S → S → Notified → Type 0)
+module _ {S : Type 0} (IsMoment : ℕ → Type 0) (Readies : ℕ → S → S → Type 0) (calls : IntakeCalls S)
     (Went : Emission → Bool → Type 0) where
   abbrev Rounds : List Round → Option (List Incoming) → Option (List Incoming) → S → S → Replies → Type 0
-  Rounds rounds before after old new replies = HasRounds IsMoment Readies Hears Passes Resends PassesOver Notifies Went rounds before after old new replies
+  Rounds rounds before after old new replies = HasRounds IsMoment Readies calls Went rounds before after old new replies
 
   -- rounds in which so many datagrams were received, no more than the limit, where there is one
   abbrev pub Runs : (limit count : ℕ) → Option (List Incoming) → Option (List Incoming) → S → S → Replies → Type 0
@@ -35,8 +28,8 @@ module _ {S : Type 0} (IsMoment : ℕ → Type 0) (Readies : ℕ → S → S →
   one_round : (limit count next : ℕ) (before mid after : Option (List Incoming)) (old last ready answered new : S) (a b c : Replies) (now : ℕ) (received : Option Incoming)
       → Runs limit count before mid old last a → IsMoment now
       → Comes mid after (option_to_list received) → Readies now last ready
-      → ((sent : Option Emission) × IsReceivedBy IsMoment Readies Hears Passes Resends PassesOver Notifies Went now received ready sent answered × Sends Went (option_to_list sent) a b)
-      → ((steps : List SettlingStep) × AreStepsBy Resends PassesOver Notifies now steps answered new × AreSettled steps × Sends Went (sent_in_steps steps) b c)
+      → ((sent : Option Emission) × IsReceivedBy IsMoment Readies calls Went now received ready sent answered × Sends Went (option_to_list sent) a b)
+      → ((steps : List SettlingStep) × AreStepsBy calls now steps answered new × AreSettled steps × Sends Went (sent_in_steps steps) b c)
       → (0 < limit → (count + length (option_to_list received) ≡ next) × (next ≤ limit)) → Runs limit next before after old new c
   one_round limit count next before mid after old last ready answered new a b c now received w moment came readied x y counts =
       let rounds = w.0 in
@@ -56,21 +49,21 @@ module _ {S : Type 0} (IsMoment : ℕ → Type 0) (Readies : ℕ → S → S →
   pub heard_round : (limit count next : ℕ) (before mid after : Option (List Incoming)) (old last ready heard answered new : S) (a b c d : Replies) (now : ℕ) (incoming : Incoming)
       → Runs limit count before mid old last a → IsMoment now
       → Comes mid after (incoming ∷ []) → Readies now last ready
-      → ((sent : Option Emission) × IsHeardBy Hears now incoming ready sent heard × Sends Went (option_to_list sent) a b) → answered ≡ heard → c ≡ b
-      → ((steps : List SettlingStep) × AreStepsBy Resends PassesOver Notifies now steps answered new × AreSettled steps × Sends Went (sent_in_steps steps) c d)
+      → ((sent : Option Emission) × IsHeardBy calls.hears now incoming ready sent heard × Sends Went (option_to_list sent) a b) → answered ≡ heard → c ≡ b
+      → ((steps : List SettlingStep) × AreStepsBy calls now steps answered new × AreSettled steps × Sends Went (sent_in_steps steps) c d)
       → (0 < limit → count < limit) → limit ≤ 4294967295 → next ≡ min (count + 1) 4294967295 → Runs limit next before after old new d
   heard_round limit count next before mid after old last ready heard answered new a b c d now incoming h moment came readied x same counts y below fits is =
       one_round limit count next before mid after old last ready answered new a c d now (Some incoming) h moment came readied
-      (x.0, subst (λ (s : S). IsHeardBy Hears now incoming ready x.0 s) (sym same) x.1, subst (λ (r : Replies). Sends Went (option_to_list x.0) a r) (sym counts) x.2) y
+      (x.0, subst (λ (s : S). IsHeardBy calls.hears now incoming ready x.0 s) (sym same) x.1, subst (λ (r : Replies). Sends Went (option_to_list x.0) a r) (sym counts) x.2) y
       (λ some. let under : count < limit = below some in (omega (arith, under, fits, is), omega (arith, under, fits, is)))
 
   -- and of nothing but a moment
   pub passed_round : (limit count next : ℕ) (before mid after : Option (List Incoming)) (old last ready passed answered new : S) (a c d : Replies) (now : ℕ)
       → Runs limit count before mid old last a → IsMoment now
-      → Comes mid after [] → Readies now last ready → Passes now ready passed → answered ≡ passed → c ≡ a
-      → ((steps : List SettlingStep) × AreStepsBy Resends PassesOver Notifies now steps answered new × AreSettled steps × Sends Went (sent_in_steps steps) c d)
+      → Comes mid after [] → Readies now last ready → calls.passes now ready passed → answered ≡ passed → c ≡ a
+      → ((steps : List SettlingStep) × AreStepsBy calls now steps answered new × AreSettled steps × Sends Went (sent_in_steps steps) c d)
       → next ≡ count → Runs limit next before after old new d
   passed_round limit count next before mid after old last ready passed answered new a c d now h moment came readied x same counts y is =
       one_round limit count next before mid after old last ready answered new a c d now None h moment came readied
-      (None, (subst (λ (s : S). Passes now ready s) (sym same) x, refl), subst (λ (r : Replies). Sends Went [] a r) (sym counts) (none_sent Went a)) y
+      (None, (subst (λ (s : S). calls.passes now ready s) (sym same) x, refl), subst (λ (r : Replies). Sends Went [] a r) (sym counts) (none_sent Went a)) y
       (λ some. (omega (arith, is), omega (arith, is, (h.2 some).1)))

@@ -2,9 +2,9 @@
 use Rattle.std.proofs.Common.{◌≡◌, ℕ, zero, suc, add-one, ◌+◌, ◌-◌, ◌<◌, ◌≤◌, Bool, true, false, List, [], ◌∷◌, ◌++◌, length, append-nil, append_assoc, arith, ap, sym, refl, ◌∙◌, inl, inr}
 use Rattle.std.specs.Prelude.{◌||◌, ◌⊎◌, if◌then◌else◌}
 use Rattle.std.specs.List.{list_any}
-use Rattle.fc_observe.specs.declared.observers.Ticked.{Ticked}
 use Rattle.fc_observe.specs.declared.observers.Ticked.TheVariants.{Quiet}
-use Rattle.fc_server.specs.Notified.{Notified, Nobody, Starved}
+use Rattle.fc_server.specs.Notified.{Nobody, Starved}
+use Rattle.fc_service.specs.Intakes.{IntakeCalls}
 use Rattle.fc_service.specs.Settling.{AreStepsInOrder, AreSettled, AreStepsTo, Asked, Finding, HasReached, IsPlace, IsStepBy, Moves, NobodyDue, NothingLate, Passed, Resent, SettlingStep, found_at, found_below, found_in_step, found_in_steps, is_starved, sought_at, sought_in_step}
 use Rattle.fc_service.specs.declared.settle.Settling.{Settling}
 
@@ -143,9 +143,9 @@ settled_by : (s : Settling) (steps : List SettlingStep) → found_at s ≡ found
 settled_by s steps all order (inl w) = (order, inl (w.1 ∙ all))
 settled_by s steps all order (inr w) = (order, inr (inl w.0))
 
-module _ {S : Type 0} (Resends : ℕ → ℕ → S → S → Ticked → Type 0) (PassesOver : ℕ → ℕ → S → S → Type 0) (Notifies : ℕ → ℕ → S → S → Notified → Type 0) where
+module _ {S : Type 0} (calls : IntakeCalls S) where
   abbrev pub StepsTo : ℕ → List SettlingStep → S → S → Settling → Type 0
-  StepsTo now steps old new at = AreStepsTo Resends PassesOver Notifies now steps old new at
+  StepsTo now steps old new at = AreStepsTo calls now steps old new at
 
   -- no step yet
   pub no_steps : (now : ℕ) (old : S) (s : Settling) → s.shard ≡ 0 → s.notifies ≡ false → StepsTo now [] old old s
@@ -154,7 +154,7 @@ module _ {S : Type 0} (Resends : ℕ → ℕ → S → S → Ticked → Type 0) 
 
   -- one step more
   pub one_step : (now : ℕ) (old mid new : S) (from to : Settling) (steps : List SettlingStep) (step : SettlingStep) → StepsTo now steps old mid from
-      → IsStepBy Resends PassesOver Notifies now step mid new → Moves from step to → StepsTo now (step ∷ steps) old new to
+      → IsStepBy calls now step mid new → Moves from step to → StepsTo now (step ∷ steps) old new to
   one_step now old mid new from to steps step w is m =
       let r = reached_more from to steps step w.in_order w.reached m in
       record { taken = (mid, is, w.taken); place = m.place; in_order = r.0; reached = r.1 }

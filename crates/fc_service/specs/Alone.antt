@@ -12,7 +12,7 @@ use Rattle.fc_server.specs.Notified.{Notified, is_given, notification_in}
 use Rattle.fc_server.specs.Serving.{AsksForTurn, Hears, Passes, TicksShard}
 use Rattle.fc_server.specs.Steps.{shard_told}
 use Rattle.fc_service.specs.Clocks.{device_readings}
-use Rattle.fc_service.specs.Intakes.{is_reply}
+use Rattle.fc_service.specs.Intakes.{IntakeCalls, is_reply}
 use Rattle.fc_service.specs.declared.alone.Alone.{Alone}
 use Rattle.fc_registry.specs.Shards.{shard_at}
 use Rattle.fc_registry.specs.Watches.{StaysQuietUntil, at_time as handed_moment, is_quiet}
@@ -46,3 +46,13 @@ NotifiesAlone shard now old new told =
 
 abbrev pub StaysQuietAlone : ℕ → Alone → ℕ → Type 0
 StaysQuietAlone shard now until = StaysQuietUntil until (shard_at now.engine.shards (shard % 8))
+
+abbrev pub alone_calls : IntakeCalls Alone
+alone_calls = record {
+  hears = HearsAlone;
+  passes = PassesAlone;
+  resends = ResendsAlone;
+  passes_over = PassesOverAlone;
+  notifies = NotifiesAlone;
+  stays_quiet = StaysQuietAlone;
+}

@@ -38,15 +38,17 @@ abbrev pub IsWaitedFor : {S : Type 0} → (ℕ → Endpoint → Bor (List ℕ) �
 IsWaitedFor Hears now from bytes old new heard reply =
     (told : Heard) × (written : Emission) × Hears now from bytes old new told written × ((told ≡ Job) ⊎ ((heard ≡ told) × (reply ≡ written)))
 
--- what each call of an intake does to it
+-- what each call of an intake does to it, or is told by it
 pub record IntakeCalls (S : Type 0) : Type 1 where
+  -- a datagram of these bytes, from an endpoint, was heard at a moment: what became of it, and the reply that was written
   pub hears : ℕ → Endpoint → Bor (List ℕ) → S → S → Heard → Emission → Type 0
+  -- time passed to a moment
   pub passes : ℕ → S → S → Type 0
+  -- a shard was advanced to a moment, and tells this
   pub resends : ℕ → ℕ → S → S → Ticked → Type 0
+  -- a shard was advanced to a moment at which nothing was late, and nobody due
   pub passes_over : ℕ → ℕ → S → S → Type 0
+  -- a shard was asked at a moment for the observer that is due first, and tells this
   pub notifies : ℕ → ℕ → S → S → Notified → Type 0
-
-abbrev pub intake_calls : {S : Type 0} → (ℕ → Endpoint → Bor (List ℕ) → S → S → Heard → Emission → Type 0) → (ℕ → S → S → Type 0)
-    → (ℕ → ℕ → S → S → Ticked → Type 0) → (ℕ → ℕ → S → S → Type 0) → (ℕ → ℕ → S → S → Notified → Type 0) → IntakeCalls S
-intake_calls hears passes resends passes_over notifies =
-    record { hears = hears; passes = passes; resends = resends; passes_over = passes_over; notifies = notifies }
+  -- nothing is late at a shard, and nobody due, before a moment
+  pub stays_quiet : ℕ → S → ℕ → Type 0

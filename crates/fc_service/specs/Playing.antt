@@ -1,22 +1,17 @@
 -- What is done with lines, and what is printed.
 use Rattle.std.specs.Prelude.{◌≡◌, ℕ, ◌<◌, List, [], ◌∷◌, ◌++◌, length, Option, Some, None, IfSome}
-use Rattle.std.specs.Borrow.{Bor}
 use Rattle.std.specs.Io.BufRead.{DropsThrough, first_piece}
 use Rattle.std.specs.Io.KnownBytes.{Appends, IsAtEnd}
-use Rattle.coap_msg.specs.declared.types.Endpoint.{Endpoint}
 use Rattle.coap_msg.specs.declared.types.Emission.{Emission}
 use Rattle.fc_core.specs.History.{Begins}
-use Rattle.fc_core.specs.declared.front.Heard.{Heard}
 use Rattle.fc_help.specs.Region.{no_readings}
-use Rattle.fc_observe.specs.declared.observers.Ticked.{Ticked}
 use Rattle.fc_server.specs.Serving.{Serves}
-use Rattle.fc_server.specs.Notified.{Notified}
 use Rattle.fc_lines.specs.declared.line.Line.{Line}
 use Rattle.fc_lines.specs.declared.line.Line.TheVariants.{Deliver, Device, Tick}
 use Rattle.fc_lines.specs.Emissions.{peer_endpoint, printed}
 use Rattle.fc_lines.specs.Lines.{IsLine}
-use Rattle.fc_service.specs.Alone.{HandsAlone, HearsAlone, NotifiesAlone, PassesAlone, PassesOverAlone, ResendsAlone}
-use Rattle.fc_service.specs.Intakes.{IsHeardBy}
+use Rattle.fc_service.specs.Alone.{HandsAlone, alone_calls}
+use Rattle.fc_service.specs.Intakes.{IntakeCalls, IsHeardBy}
 use Rattle.fc_service.specs.Settling.{AreSettled, AreStepsBy, SettlingStep, printed_steps}
 use Rattle.fc_service.specs.declared.alone.Alone.{Alone}
 
@@ -58,9 +53,7 @@ AreRead [] had left = left ≡ had
 AreRead (p ∷ ps) had left = (mid : Option (List ℕ)) × AreRead ps had mid × IsNextText p.text mid left
 
 -- ---- of a server, by what each call does to it; the first hands readings to its jobs
-module _ {S : Type 0} (Hands : List ℕ → S → S → Type 0)
-    (Hears : ℕ → Endpoint → Bor (List ℕ) → S → S → Heard → Emission → Type 0) (Passes : ℕ → S → S → Type 0)
-    (Resends : ℕ → ℕ → S → S → Ticked → Type 0) (PassesOver : ℕ → ℕ → S → S → Type 0) (Notifies : ℕ → ℕ → S → S → Notified → Type 0) where
+module _ {S : Type 0} (Hands : List ℕ → S → S → Type 0) (calls : IntakeCalls S) where
   -- the readings that a line tells are handed from then on
   abbrev pub IsHandedBy : Line → S → S → Type 0
   IsHandedBy (Device now readings) old new = Hands readings old new
@@ -68,9 +61,9 @@ module _ {S : Type 0} (Hands : List ℕ → S → S → Type 0)
 
   -- a line's datagram was heard, and this was to be sent at once; or time passed
   abbrev pub IsCarriedOutBy : Line → S → Option Emission → S → Type 0
-  IsCarriedOutBy (Deliver now peer bytes) old sent new = IsHeardBy Hears now (record { from = peer_endpoint peer; bytes = bytes.items }) old sent new
-  IsCarriedOutBy (Tick now) old sent new = Passes now old new × (sent ≡ None)
-  IsCarriedOutBy (Device now readings) old sent new = Passes now old new × (sent ≡ None)
+  IsCarriedOutBy (Deliver now peer bytes) old sent new = IsHeardBy calls.hears now (record { from = peer_endpoint peer; bytes = bytes.items }) old sent new
+  IsCarriedOutBy (Tick now) old sent new = calls.passes now old new × (sent ≡ None)
+  IsCarriedOutBy (Device now readings) old sent new = calls.passes now old new × (sent ≡ None)
 
   -- the text says the line, which was carried out; then what was late was sent again, and observers were notified, until nothing was left
   pub record IsPlayedBy (p : PlayedLine) (old new : S) : Type 0 where
@@ -79,7 +72,7 @@ module _ {S : Type 0} (Hands : List ℕ → S → S → Type 0)
     pub hands : IsHandedBy p.line old handed
     pub answered : S
     pub carried_out : IsCarriedOutBy p.line handed p.sent answered
-    pub steps : AreStepsBy Resends PassesOver Notifies (moment_of p.line) p.steps answered new
+    pub steps : AreStepsBy calls (moment_of p.line) p.steps answered new
     pub settled : AreSettled p.steps
 
   -- lines that were played one after the other, the newest first
@@ -103,5 +96,5 @@ pub record IsPlayedOut (serial id : ℕ) (had before after : Option (List ℕ)) 
   pub begins : Serves (Begins serial id) first.engine []
   pub handed : first.handed ≡ record { readings = no_readings; random = 0 }
   pub left : Option (List ℕ)
-  pub played : HasPlayed HandsAlone HearsAlone PassesAlone ResendsAlone PassesOverAlone NotifiesAlone first last had left before after
+  pub played : HasPlayed HandsAlone alone_calls first last had left before after
   pub end : IsAtEnd left

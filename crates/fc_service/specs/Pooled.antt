@@ -8,7 +8,7 @@ use Rattle.fc_observe.specs.declared.observers.Ticked.{Ticked}
 use Rattle.fc_server.specs.Notified.{Notified, is_given, notification_in}
 use Rattle.fc_workers.specs.Answers.{IsSomeQuiet, IsSomeTick}
 use Rattle.fc_workers.specs.Asked.{IsLoggedCall, IsServerCall}
-use Rattle.fc_workers.specs.Called.{AdvancesFront, AdvancesIfQuiet, AdvancesShard, BenchCall, LooksAhead, Shop, WireCall, shop}
+use Rattle.fc_workers.specs.Called.{AdvancesFront, AdvancesIfQuiet, AdvancesShard, BenchCall, LoggedCall, LooksAhead, Shop, WireCall, shop}
 use Rattle.fc_workers.specs.Counts.{Tallies}
 use Rattle.fc_workers.specs.Dispatch.{HasCalled, IsTakenIn, IsTurnAsked}
 use Rattle.fc_workers.specs.declared.call_log.CallLog.{CallLog}
@@ -40,6 +40,10 @@ module _ {T : Type 0} (s : Shop T) where
   NotifiesPooled shard now old new told =
       IsTurnAsked s old.handover shard now (is_given told) old.done new.done × (notification_in told ≡ None) × (new.handover ≡ old.handover)
 
+  -- a shard was asked until when it is quiet; or nothing is known of it
+  abbrev pub StaysQuietPooled : ℕ → Dispatching T → ℕ → Type 0
+  StaysQuietPooled shard now until = (until ≡ 0) ⊎ s.bench (LooksAhead shard until)
+
   abbrev pub pooled_calls : IntakeCalls (Dispatching T)
   pooled_calls = record {
     hears = HearsPooled;
@@ -47,6 +51,7 @@ module _ {T : Type 0} (s : Shop T) where
     resends = ResendsPooled;
     passes_over = PassesOverPooled;
     notifies = NotifiesPooled;
+    stays_quiet = StaysQuietPooled;
   }
 
   -- a feeder fed a dispatcher of this handover, or, where there was no worker, of none, and gave this
@@ -56,11 +61,12 @@ module _ {T : Type 0} (s : Shop T) where
     pub begins : (first.handover ≡ handover) ⊎ (first.handover ≡ Never)
     pub feeds : Feeds pooled_calls feeder first last given
 
--- a shard was asked until when it is quiet; or nothing is known of it
-abbrev pub StaysQuietPooled : (BenchCall → Type 0) → ℕ → ℕ → Type 0
-StaysQuietPooled Called shard until = (until ≡ 0) ⊎ Called (LooksAhead shard until)
+-- a shop whose jobs are never held up
+abbrev pub open_shop : {T : Type 0} → (T → ℕ → ℕ) → (T → ℕ) → (BenchCall → Type 0) → (LoggedCall → CallLog → CallLog → Type 0) → (IsMoment IsRandom : ℕ → Type 0)
+    → (WireCall → CallLog → CallLog → Type 0) → Shop T
+open_shop changes ended bench logged moment random wire = shop changes ended bench logged moment random (λ number before after. ⊤) wire
 
--- the shop of a server behind locks, whose jobs are never held up: with what its device says, its moments and random words, and the calls of its wire
+-- that of a server behind locks: with what its device says, its moments and random words, and the calls of its wire
 abbrev pub locked_shop : (List ℕ → Type 0) → (IsMoment IsRandom : ℕ → Type 0) → (WireCall → CallLog → CallLog → Type 0) → Shop Tallies
-locked_shop AreReadings IsMoment IsRandom Wired = shop (λ t. slice_index t.changes) (λ t. t.ended) (IsServerCall AreReadings)
-    (λ call before after. IsLoggedCall call) IsMoment IsRandom (λ number before after. ⊤) Wired
+locked_shop AreReadings IsMoment IsRandom Wired = open_shop (λ t. slice_index t.changes) (λ t. t.ended) (IsServerCall AreReadings)
+    (λ call before after. IsLoggedCall call) IsMoment IsRandom Wired

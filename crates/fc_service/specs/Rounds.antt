@@ -1,16 +1,12 @@
 -- What a server does with what it receives, round after round; and a server on one thread.
 use Rattle.std.specs.Prelude.{◌≡◌, ◌+◌, ◌<◌, ◌≤◌, ◌⊎◌, ⊤, ℕ, List, [], ◌∷◌, ◌++◌, length, Bool, Option, Some, None}
-use Rattle.std.specs.Borrow.{Bor}
 use Rattle.std.specs.Option.{option_to_list}
 use Rattle.coap_msg.specs.declared.types.Emission.{Emission}
-use Rattle.coap_msg.specs.declared.types.Endpoint.{Endpoint}
 use Rattle.fc_core.specs.History.{Begins}
-use Rattle.fc_core.specs.declared.front.Heard.{Heard}
-use Rattle.fc_observe.specs.declared.observers.Ticked.{Ticked}
 use Rattle.fc_workers.specs.Counts.{Tallies}
 use Rattle.fc_server.specs.Serving.{Serves}
-use Rattle.fc_server.specs.Notified.{Notified}
-use Rattle.fc_service.specs.Alone.{HearsAlone, NotifiesAlone, PassesAlone, PassesOverAlone, ReadiesAlone, ResendsAlone}
+use Rattle.fc_server.specs.declared.server.Begin.{Begin}
+use Rattle.fc_service.specs.Alone.{ReadiesAlone, alone_calls}
 use Rattle.fc_service.specs.Clocks.{AreReadAt}
 use Rattle.fc_service.specs.Counting.{both_replies}
 use Rattle.fc_service.specs.Intakes.{Incoming, IntakeCalls, IsHeardBy}
@@ -18,6 +14,7 @@ use Rattle.fc_service.specs.Pooled.{Dispatching, locked_shop, pooled_calls}
 use Rattle.fc_service.specs.Settling.{AreSettled, AreStepsBy, SettlingStep, sent_in_steps}
 use Rattle.fc_service.specs.Traffic.{AreSent, Comes, IsHanded, Sending, replies_to}
 use Rattle.fc_service.specs.declared.alone.Alone.{Alone}
+use Rattle.fc_service.specs.declared.serve.Extent.{Extent}
 use Rattle.fc_service.specs.declared.replies.Replies.{Replies}
 
 -- a round: what was received, if anything was in time, and at which moment; what it was answered at once, and the steps that followed; and what was handed to the sink
@@ -38,14 +35,12 @@ sendings_in [] = []
 sendings_in (r ∷ rs) = sendings_in rs ++ r.sendings
 
 -- ---- of a server, by which moments there are, by what each call does to it, and by what a sink tells
-module _ {S : Type 0} (IsMoment : ℕ → Type 0) (Readies : ℕ → S → S → Type 0)
-    (Hears : ℕ → Endpoint → Bor (List ℕ) → S → S → Heard → Emission → Type 0) (Passes : ℕ → S → S → Type 0)
-    (Resends : ℕ → ℕ → S → S → Ticked → Type 0) (PassesOver : ℕ → ℕ → S → S → Type 0) (Notifies : ℕ → ℕ → S → S → Notified → Type 0)
+module _ {S : Type 0} (IsMoment : ℕ → Type 0) (Readies : ℕ → S → S → Type 0) (calls : IntakeCalls S)
     (Went : Emission → Bool → Type 0) where
   -- what was received was heard; or nothing was, and time passed
   abbrev pub IsReceivedBy : ℕ → Option Incoming → S → Option Emission → S → Type 0
-  IsReceivedBy now (Some incoming) old sent new = IsHeardBy Hears now incoming old sent new
-  IsReceivedBy now None old sent new = Passes now old new × (sent ≡ None)
+  IsReceivedBy now (Some incoming) old sent new = IsHeardBy calls.hears now incoming old sent new
+  IsReceivedBy now None old sent new = calls.passes now old new × (sent ≡ None)
 
   -- the server was made ready; what was received was carried out; what was late was sent again, and observers were notified, until nothing was left; and each emission of this
   -- was handed to the sink
@@ -55,7 +50,7 @@ module _ {S : Type 0} (IsMoment : ℕ → Type 0) (Readies : ℕ → S → S →
     pub readied : Readies r.now old ready
     pub answered : S
     pub carried_out : IsReceivedBy r.now r.received ready r.sent answered
-    pub steps : AreStepsBy Resends PassesOver Notifies r.now r.steps answered new
+    pub steps : AreStepsBy calls r.now r.steps answered new
     pub settled : AreSettled r.steps
     pub sent : AreSent Went (option_to_list r.sent ++ sent_in_steps r.steps) r.sendings
 
@@ -91,16 +86,16 @@ EndsInTime StaysQuiet now None = AllStayQuiet StaysQuiet 18446744073709551615
 -- a receiver, which makes nothing ready before a round, has run
 abbrev pub HasReceived : {S : Type 0} → IntakeCalls S → (ℕ → Type 0) → (Emission → Bool → Type 0) → ℕ → Option (List Incoming) → Option (List Incoming) → S → S → Replies → Type 0
 HasReceived c moments went limit before after first last replies =
-    HasRun moments (λ now old new. new ≡ old) c.hears c.passes c.resends c.passes_over c.notifies went limit before after first last replies
+    HasRun moments (λ now old new. new ≡ old) c went limit before after first last replies
 
 -- ---- a server on one thread
 
 -- a server that began at this serial and message id has run on one thread, with these sensors, until so many datagrams were received
-pub record HasServed (sensors : List ℕ → Type 0) (moments : ℕ → Type 0) (went : Emission → Bool → Type 0) (limit serial id : ℕ) (before after : Option (List Incoming)) (replies : Replies) : Type 0 where
+pub record HasServed (sensors : List ℕ → Type 0) (moments : ℕ → Type 0) (went : Emission → Bool → Type 0) (limit : ℕ) (begin : Begin) (before after : Option (List Incoming)) (replies : Replies) : Type 0 where
   pub first : Alone
   pub last : Alone
-  pub begins : Serves (Begins serial id) first.engine []
-  pub run : HasRun moments (ReadiesAlone sensors) HearsAlone PassesAlone ResendsAlone PassesOverAlone NotifiesAlone went limit before after first last replies
+  pub begins : Serves (Begins begin.serial begin.id) first.engine []
+  pub run : HasRun moments (ReadiesAlone sensors) alone_calls went limit before after first last replies
 
 -- ---- a server with workers
 
@@ -113,9 +108,9 @@ pub record HasServedPooled (sensors : List ℕ → Type 0) (moments : ℕ → Ty
   pub run : HasReceived (pooled_calls (locked_shop (AreReadAt moments sensors) moments (λ random. ⊤) (λ call before after. IsHanded went call))) moments went limit before after first last at_once
   pub all : replies ≡ both_replies at_once by_jobs
 
--- ---- a server by so many workers: one is the thread that receives
+-- ---- a server by so many workers: one is the thread that receives. Its slots begin at serial 0
 
-abbrev pub IsServed : (List ℕ → Type 0) → (ℕ → Type 0) → (Emission → Bool → Type 0) → ℕ → ℕ → ℕ → ℕ → Option (List Incoming) → Option (List Incoming) → Replies → Type 0
-IsServed sensors moments went workers limit serial id before after replies =
-    ((workers ≡ 1) × HasServed sensors moments went limit serial id before after replies)
-    ⊎ ((workers ≡ 1 → ⊥) × HasServedPooled sensors moments went limit before after replies)
+abbrev pub IsServed : (List ℕ → Type 0) → (Emission → Bool → Type 0) → Extent → Option (List Incoming) → Option (List Incoming) → Replies → Type 0
+IsServed sensors went extent before after replies =
+    ((extent.workers ≡ 1) × HasServed sensors (λ now. ⊤) went extent.limit (record { serial = 0; id = extent.first_id }) before after replies)
+    ⊎ ((extent.workers ≡ 1 → ⊥) × HasServedPooled sensors (λ now. ⊤) went extent.limit before after replies)

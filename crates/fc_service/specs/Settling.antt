@@ -8,6 +8,7 @@ use Rattle.fc_observe.specs.declared.observers.Ticked.{Ticked}
 use Rattle.fc_observe.specs.declared.observers.Ticked.TheVariants.{Quiet}
 use Rattle.fc_server.specs.Notified.{Notified, Nobody, Starved, notification_in}
 use Rattle.fc_lines.specs.Emissions.{printed}
+use Rattle.fc_service.specs.Intakes.{IntakeCalls}
 use Rattle.fc_service.specs.declared.settle.Settling.{Settling}
 
 -- a shard is ticked, and tells this; it is passed over, since nothing is late and nobody is due; or it is asked for a turn, and tells this
@@ -102,12 +103,12 @@ abbrev pub HasReached : List SettlingStep → Settling → Type 0
 HasReached steps at = ((list_any is_starved steps ≡ false) × (found_in_steps steps ≡ found_at at)) ⊎ ((list_any is_starved steps ≡ true) × (at.shard ≡ 8))
 
 -- ---- of a server, by what it does where a shard is ticked, passed over, or asked for a turn, at a moment
-module _ {S : Type 0} (Resends : ℕ → ℕ → S → S → Ticked → Type 0) (PassesOver : ℕ → ℕ → S → S → Type 0) (Notifies : ℕ → ℕ → S → S → Notified → Type 0) where
+module _ {S : Type 0} (calls : IntakeCalls S) where
   -- a step at a shard, 0 to 7
   abbrev pub IsStepBy : ℕ → SettlingStep → S → S → Type 0
-  IsStepBy now (Resent shard ticked) old new = (shard < 8) × Resends shard now old new ticked
-  IsStepBy now (Passed shard) old new = (shard < 8) × PassesOver shard now old new
-  IsStepBy now (Asked shard told) old new = (shard < 8) × Notifies shard now old new told
+  IsStepBy now (Resent shard ticked) old new = (shard < 8) × calls.resends shard now old new ticked
+  IsStepBy now (Passed shard) old new = (shard < 8) × calls.passes_over shard now old new
+  IsStepBy now (Asked shard told) old new = (shard < 8) × calls.notifies shard now old new told
 
   -- steps that were taken one after the other, the newest first
   abbrev pub AreStepsBy : ℕ → List SettlingStep → S → S → Type 0

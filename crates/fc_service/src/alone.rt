@@ -4,7 +4,7 @@ ghost use Rattle.fc_core.specs.History.{Begins};
 ghost use Rattle.fc_help.specs.Region.{no_readings};
 ghost use Rattle.fc_registry.specs.Slots.{last_serial};
 ghost use Rattle.fc_server.specs.Serving.{Serves};
-ghost use Rattle.fc_service.specs.Alone.{HandsAlone, HearsAlone, NotifiesAlone, PassesAlone, PassesOverAlone, ReadiesAlone, ResendsAlone, StaysQuietAlone};
+ghost use Rattle.fc_service.specs.Alone.{HandsAlone, ReadiesAlone, alone_calls};
 
 use crate::clock::device_readings;
 use crate::lines::LineIntake;
@@ -86,17 +86,7 @@ impl LineIntake for Alone {
 }
 
 impl Intake for Alone {
-    ghost hears = { HearsAlone };
-
-    ghost passes = { PassesAlone };
-
-    ghost resends = { ResendsAlone };
-
-    ghost passes_over = { PassesOverAlone };
-
-    ghost notifies = { NotifiesAlone };
-
-    ghost stays_quiet = { StaysQuietAlone };
+    ghost calls = { alone_calls };
 
     fn hear(&mut self, now: u64, from: Endpoint, bytes: &[u8], reply: &mut Emission) -> Heard {
         if self

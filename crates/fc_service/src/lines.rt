@@ -40,7 +40,7 @@ pub(crate) fn play_lines<N: LineIntake, R: BufRead + Drop, W: Write>(
     input: R,
     out: &mut W,
 ) -> Result<(), Stop>
-    ensures { OnOk result ((left : Option (List ℕ)) × HasPlayed N.hands N.hears N.passes N.resends N.passes_over N.notifies intake.old intake.new
+    ensures { OnOk result ((left : Option (List ℕ)) × HasPlayed N.hands N.calls intake.old intake.new
         (R.remaining input) left (W.contents out.old) (W.contents out.new) × IsAtEnd left) }
 {
     let mut reply = blank_emission();
@@ -65,7 +65,7 @@ fn play_line<N: LineIntake, W: Write>(
     out: &mut W,
 ) -> Result<(), Stop>
     ensures { OnOk result ((p : PlayedLine) × (p.text ≡ text.now)
-        × IsPlayedBy N.hands N.hears N.passes N.resends N.passes_over N.notifies p intake.old intake.new
+        × IsPlayedBy N.hands N.calls p intake.old intake.new
         × Appends (W.contents out.old) (W.contents out.new) (output_by p)) }
 {
     match parse(alloc, text) {
@@ -82,7 +82,7 @@ fn play_line<N: LineIntake, W: Write>(
 
 // Hands the readings that a line tells, if it tells any.
 fn hand<N: LineIntake>(intake: &mut N, line: &Line)
-    ensures { IsHandedBy N.hands N.hears N.passes N.resends N.passes_over N.notifies line.now intake.old intake.new }
+    ensures { IsHandedBy N.hands N.calls line.now intake.old intake.new }
 {
     match line {
         Line::Device { readings, .. } => intake.hand(readings),
@@ -97,7 +97,7 @@ fn carry_out<N: LineIntake, W: Write>(
     line: &Line,
     out: &mut W,
 ) -> io::Result<()>
-    ensures { (sent : Option Emission) × IsCarriedOutBy N.hands N.hears N.passes N.resends N.passes_over N.notifies line.now intake.old sent intake.new
+    ensures { (sent : Option Emission) × IsCarriedOutBy N.hands N.calls line.now intake.old sent intake.new
         × OnOk result (Appends (W.contents out.old) (W.contents out.new) (output_of sent)) }
 {
     match line {
@@ -128,7 +128,7 @@ fn settle<N: Intake, W: Write>(
     emission: &mut Emission,
     out: &mut W,
 ) -> io::Result<()>
-    ensures { (steps : List SettlingStep) × AreStepsBy N.resends N.passes_over N.notifies now steps intake.old intake.new
+    ensures { (steps : List SettlingStep) × AreStepsBy N.calls now steps intake.old intake.new
         × OnOk result (AreSettled steps × Appends (W.contents out.old) (W.contents out.new) (printed_steps steps)) }
 {
     let mut settling = Settling::begin(intake, now);

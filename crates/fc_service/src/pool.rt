@@ -7,8 +7,8 @@ ghost use Rattle.fc_core.specs.declared.front.Heard.{Heard};
 ghost use Rattle.fc_observe.specs.declared.observers.Ticked.{Ticked};
 ghost use Rattle.fc_registry.specs.Slots.{last_serial};
 ghost use Rattle.fc_server.specs.Notified.{Notified, notified_as};
-ghost use Rattle.fc_service.specs.Intakes.{IntakeCalls, intake_calls};
-ghost use Rattle.fc_service.specs.Pooled.{HearsPooled, IsFed, NotifiesPooled, PassesOverPooled, PassesPooled, ResendsPooled, StaysQuietPooled, locked_shop};
+ghost use Rattle.fc_service.specs.Intakes.{IntakeCalls};
+ghost use Rattle.fc_service.specs.Pooled.{IsFed, locked_shop, open_shop, pooled_calls};
 ghost use Rattle.fc_workers.specs.Answers.{IsSomeQuiet};
 ghost use Rattle.fc_workers.specs.Called.{shop};
 ghost use Rattle.fc_workers.specs.Closing.{HasCountedAll};
@@ -35,51 +35,36 @@ use std::thread::Threads;
 /// bench's tallies cross threads; it can hand on this.) What each call does to the server is said by
 /// who implements this.
 pub trait Intake {
-    // A datagram of these bytes, from an endpoint, was heard at a moment: the server before and after, what became of it, and the reply that was written.
-    ghost hears: { ℕ → Endpoint → Bor (List ℕ) → Self → Self → Heard → Emission → Type 0 } = { λ now from bytes old new heard reply. ⊤ };
-
-    // Time passed to a moment: the server before and after.
-    ghost passes: { ℕ → Self → Self → Type 0 } = { λ now old new. ⊤ };
-
-    // A shard was advanced to a moment, and tells this.
-    ghost resends: { ℕ → ℕ → Self → Self → Ticked → Type 0 } = { λ shard now old new ticked. ⊤ };
-
-    // A shard was advanced to a moment at which nothing was late, and nobody due.
-    ghost passes_over: { ℕ → ℕ → Self → Self → Type 0 } = { λ shard now old new. ⊤ };
-
-    // Nothing is late at a shard, and nobody due, before a moment.
-    ghost stays_quiet: { ℕ → Self → ℕ → Type 0 } = { λ shard now until. ⊤ };
-
-    // A shard was asked at a moment for the observer that is due first, and tells this.
-    ghost notifies: { ℕ → ℕ → Self → Self → Notified → Type 0 } = { λ shard now old new told. ⊤ };
+    // What each call does.
+    ghost calls: { IntakeCalls Self };
 
     /// Takes a datagram in, at a moment in milliseconds. Its reply is written over another; its job is worked off, here or by a worker; its signal goes to each
     /// shard. Tells `Reply` where what was written is to be sent, and `Job` where a worker has the job, or has sent what it came to.
     fn hear(&mut self, now: u64, from: Endpoint, bytes: &[u8], reply: &mut Emission) -> Heard
-        ensures { hears now from bytes.entry self.old self.new result reply.new };
+        ensures { calls.hears now from bytes.entry self.old self.new result reply.new };
 
     /// Has time pass, to a moment in milliseconds.
     fn tick(&mut self, now: u64)
-        ensures { passes now self.old self.new };
+        ensures { calls.passes now self.old self.new };
 
     /// Has a shard, 0 to 7, tell what it sends again at a moment in milliseconds.
     fn resend(&mut self, shard: u8, now: u64) -> Ticked
-        ensures { resends shard now self.old self.new result };
+        ensures { calls.resends shard now self.old self.new result };
 
     /// Advances a shard, 0 to 7, to a moment in milliseconds where nothing is late and nobody is due. Tells whether it did.
     fn advance_if_quiet(&mut self, shard: u8, now: u64) -> bool
         ensures quiet { IsSomeQuiet now result }
-        ensures after { MatchBool result (passes_over shard now self.old self.new) (self.new ≡ self.old) };
+        ensures after { MatchBool result (calls.passes_over shard now self.old self.new) (self.new ≡ self.old) };
 
     /// Returns a moment before which nothing is late at a shard, 0 to 7, and nobody due, unless it takes a datagram in: the first that is known, or 2^64 - 1 where
     /// none is.
     fn quiet_until(&self, shard: u8) -> u64
-        ensures { stays_quiet shard self.now result };
+        ensures { calls.stays_quiet shard self.now result };
 
     /// Has the observer of a shard, 0 to 7, notified that is due first at a moment in milliseconds, here or by a worker. What is to be sent of it is written over
     /// another emission: nothing where a worker has the turn, or has sent what it came to.
     fn notify(&mut self, shard: u8, now: u64, emission: &mut Emission) -> NotifyOutcome
-        ensures { notifies shard now self.old self.new (notified_as result emission.new) };
+        ensures { calls.notifies shard now self.old self.new (notified_as result emission.new) };
 }
 
 // A wire that counts the jobs that have ended.
@@ -132,17 +117,7 @@ impl<'a, 'b, R: Wait, B: Bench, G: Gate, W: Wire, M: Moments> Dispatching<'a, 'b
 
 impl<'a, 'b, R: Wait, B: Bench, G: Gate, W: Wire, M: Moments> Intake
     for Dispatching<'a, 'b, R, B, G, W, M> {
-    ghost hears = { HearsPooled (shop B.changes B.ended B.called B.logged M.is_moment M.is_random G.passed W.called) };
-
-    ghost passes = { PassesPooled (shop B.changes B.ended B.called B.logged M.is_moment M.is_random G.passed W.called) };
-
-    ghost resends = { ResendsPooled (shop B.changes B.ended B.called B.logged M.is_moment M.is_random G.passed W.called) };
-
-    ghost passes_over = { PassesOverPooled (shop B.changes B.ended B.called B.logged M.is_moment M.is_random G.passed W.called) };
-
-    ghost notifies = { NotifiesPooled (shop B.changes B.ended B.called B.logged M.is_moment M.is_random G.passed W.called) };
-
-    ghost stays_quiet = { λ shard now until. StaysQuietPooled B.called shard until };
+    ghost calls = { pooled_calls (shop B.changes B.ended B.called B.logged M.is_moment M.is_random G.passed W.called) };
 
     fn hear(&mut self, now: u64, from: Endpoint, bytes: &[u8], reply: &mut Emission) -> Heard {
         let heard = self.dispatcher.hear(self.rt, now, from, bytes, reply);
@@ -191,7 +166,7 @@ pub trait Feeder<X> {
 
     /// Feeds to the end.
     fn feed<N: Intake, R: Wait>(self, rt: &R, intake: &mut N) -> X
-        ensures { feeds N (intake_calls N.hears N.passes N.resends N.passes_over N.notifies) self intake.old intake.new result };
+        ensures { feeds N N.calls self intake.old intake.new result };
 }
 
 /// What a feeder gave, the replies to the jobs that it had worked off, and what the server came to.
@@ -265,7 +240,8 @@ pub fn run_pool<
 ) -> Result<Fed<X>, AllocError>
     requires { pool.now.begin.serial ≤ last_serial }
     ensures counted { IfOk result (λ fed. HasCountedAll fed.closed) }
-    ensures fed { IfOk result (λ fed. IsFed (locked_shop D.are_readings M.is_moment M.is_random W.called) (F.feeds _) pool.now.handover feeder fed.given) }
+    ensures fed { let shop = locked_shop D.are_readings M.is_moment M.is_random W.called in
+        IfOk result (λ fed. IsFed shop (F.feeds _) pool.now.handover feeder fed.given) }
 {
     let blanks = Blanks::new(u64::from(pool.workers) + 2);
     run_named::<Brand, R, W, M, D, E, X, F>(rt, alloc, err, pool, feeder, blanks)
@@ -294,7 +270,8 @@ fn run_named<
     requires names { AreNamed blanks B.names }
     requires books { blanks.parts ≡ B.parts }
     ensures counted { IfOk result (λ fed. HasCountedAll fed.closed) }
-    ensures fed { IfOk result (λ fed. IsFed (locked_shop D.are_readings M.is_moment M.is_random W.called) (F.feeds _) pool.now.handover feeder fed.given) }
+    ensures fed { let shop = locked_shop D.are_readings M.is_moment M.is_random W.called in
+        IfOk result (λ fed. IsFed shop (F.feeds _) pool.now.handover feeder fed.given) }
 {
     let Begun {
         server,
@@ -374,7 +351,8 @@ where
     B::Tallies: Send,
     requires { 0 < vec_len tallies }
     ensures shares { IfOk result (λ ended. vec_len ended.shares + 1 ≡ vec_len tallies) }
-    ensures fed { IfOk result (λ ended. IsFed (shop B.changes B.ended B.called B.logged M.is_moment M.is_random (λ number before after. ⊤) W.called) (F.feeds _) pool.now.handover feeder ended.given) }
+    ensures fed { let shop = open_shop B.changes B.ended B.called B.logged M.is_moment M.is_random W.called in
+        IfOk result (λ ended. IsFed shop (F.feeds _) pool.now.handover feeder ended.given) }
 {
     let (jobs, sent, mut seats) = make_seats(alloc, tallies)?;
     let Some(own) = seats.pop() else {
@@ -400,7 +378,8 @@ where
         seats,
         move |has_workers| -> (X, Share<B::Tallies>)
             requires { sent.channel ≡ channel.now }
-            ensures { IsFed (shop B.changes B.ended B.called B.logged M.is_moment M.is_random (λ number before after. ⊤) W.called) (F.feeds _) handover feeder result.0 }
+            ensures { let shop = open_shop B.changes B.ended B.called B.logged M.is_moment M.is_random W.called in
+                IsFed shop (F.feeds _) handover feeder result.0 }
         {
             let handover = if has_workers {
                 handover

@@ -55,7 +55,7 @@ pub(crate) fn run_rounds<R: Wait, N: Intake, P: Preparation<N>, S: Source, K: Si
     moments: &M,
     limit: u32,
 ) -> Replies
-    ensures { HasRun M.is_moment P.readies N.hears N.passes N.resends N.passes_over N.notifies K.went limit (S.came source.old) (S.came source.new) intake.old intake.new result }
+    ensures { HasRun M.is_moment P.readies N.calls K.went limit (S.came source.old) (S.came source.new) intake.old intake.new result }
 {
     let mut reply = blank_emission();
     let mut buffer = [0; BUFFER];
@@ -86,7 +86,7 @@ pub(crate) fn run_rounds<R: Wait, N: Intake, P: Preparation<N>, S: Source, K: Si
 
 // How long a datagram is waited for after a round at a moment in milliseconds; `None` is without end. After one that received a datagram no shard is asked.
 fn next_wait<N: Intake>(intake: &N, now: u64, idle: bool) -> Option<u64>
-    ensures { EndsInTime (λ shard until. N.stays_quiet shard intake.now until) now result }
+    ensures { EndsInTime (λ shard until. N.calls.stays_quiet shard intake.now until) now result }
 {
     if !idle {
         return Some(SHORTEST_WAIT);
@@ -99,7 +99,7 @@ fn next_wait<N: Intake>(intake: &N, now: u64, idle: bool) -> Option<u64>
 
 // A moment before which nothing is late at any shard, and nobody due.
 fn quiet_until<N: Intake>(intake: &N) -> u64
-    ensures { AllStayQuiet (λ shard until. N.stays_quiet shard intake.now until) result }
+    ensures { AllStayQuiet (λ shard until. N.calls.stays_quiet shard intake.now until) result }
 {
     let mut until = u64::MAX;
     for shard in 0..SHARDS {
@@ -118,7 +118,7 @@ fn hear<N: Intake, K: Sink>(
     sink: &K,
     replies: &mut Replies,
 )
-    ensures { (sent : Option Emission) × IsHeardBy N.hears now (record { from = from; bytes = bytes.now }) intake.old sent intake.new
+    ensures { (sent : Option Emission) × IsHeardBy N.calls.hears now (record { from = from; bytes = bytes.now }) intake.old sent intake.new
         × Sends K.went (option_to_list sent) replies.old replies.new }
 {
     let heard = intake.hear(now, from, bytes, reply);
@@ -135,7 +135,7 @@ fn settle<N: Intake, K: Sink>(
     sink: &K,
     replies: &mut Replies,
 )
-    ensures { (steps : List SettlingStep) × AreStepsBy N.resends N.passes_over N.notifies now steps intake.old intake.new × AreSettled steps
+    ensures { (steps : List SettlingStep) × AreStepsBy N.calls now steps intake.old intake.new × AreSettled steps
         × Sends K.went (sent_in_steps steps) replies.old replies.new }
 {
     let mut settling = Settling::begin(intake, now);

@@ -112,7 +112,7 @@ pub fn serve_at<
     sink: &K,
     extent: Extent,
 ) -> Option<S>
-    ensures { IfSome result (λ left. (replies : Counts) × IsServed Z.are_sensed (λ now. ⊤) K.went extent.workers extent.limit 0 extent.first_id (S.came source) (S.came left) replies) }
+    ensures { IfSome result (λ left. (replies : Counts) × IsServed Z.are_sensed K.went extent (S.came source) (S.came left) replies) }
 {
     match serve_to_end(rt, alloc, err, sensors, source, sink, extent) {
         Ok(Received { source, replies }) => {
@@ -149,7 +149,7 @@ fn serve_to_end<
     sink: &K,
     extent: Extent,
 ) -> Result<Received<S>, ServeStop>
-    ensures { IfOk result (λ r. IsServed Z.are_sensed (λ now. ⊤) K.went extent.workers extent.limit 0 extent.first_id (S.came source) (S.came r.source) r.replies) }
+    ensures { IfOk result (λ r. IsServed Z.are_sensed K.went extent (S.came source) (S.came r.source) r.replies) }
 {
     let moments = Elapsed::start(rt).map_err(ServeStop::Clock)?;
     let begin = Begin {
@@ -222,7 +222,7 @@ fn serve_alone<R: Wait, S: Source + Drop, K: Sink, M: Moments, Z: Sensors>(
     limit: u32,
 ) -> Result<Received<S>, AllocError>
     requires { begin.serial ≤ last_serial }
-    ensures { IfOk result (λ r. HasServed Z.are_sensed M.is_moment K.went limit begin.serial begin.id (S.came source) (S.came r.source) r.replies) }
+    ensures { IfOk result (λ r. HasServed Z.are_sensed M.is_moment K.went limit begin (S.came source) (S.came r.source) r.replies) }
 {
     let mut alone = Alone::new(alloc, begin.serial, begin.id)?;
     let sensed = Sensed { sensors };

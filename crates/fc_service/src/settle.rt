@@ -29,7 +29,7 @@ impl Settling {
     /// At the first shard that has something to do at a moment in milliseconds; those before it are passed over. Most have nothing, and no room is made
     /// for what they would send.
     pub(crate) fn begin<N: Intake>(intake: &mut N, now: u64) -> Settling
-        ensures { (steps : List SettlingStep) × AreStepsTo N.resends N.passes_over N.notifies now steps intake.old intake.new result × (sent_in_steps steps ≡ []) }
+        ensures { (steps : List SettlingStep) × AreStepsTo N.calls now steps intake.old intake.new result × (sent_in_steps steps ≡ []) }
     {
         let mut settling = Settling {
             shard: 0,
@@ -58,7 +58,7 @@ impl Settling {
         emission: &mut Emission,
     ) -> bool
         requires { self.old.shard < 8 }
-        ensures { (step : SettlingStep) × IsStepBy N.resends N.passes_over N.notifies now step intake.old intake.new
+        ensures { (step : SettlingStep) × IsStepBy N.calls now step intake.old intake.new
             × (sent_in_step step ≡ emission_if result emission.new) × Moves self.old step self.new }
     {
         if self.notifies {
@@ -76,7 +76,7 @@ impl Settling {
     fn resend<N: Intake>(&mut self, intake: &mut N, now: u64, emission: &mut Emission) -> bool
         requires shard { self.old.shard < 8 }
         requires late { self.old.notifies ≡ false }
-        ensures { (ticked : Ticked) × N.resends self.old.shard now intake.old intake.new ticked
+        ensures { (ticked : Ticked) × N.calls.resends self.old.shard now intake.old intake.new ticked
             × (emission_if result emission.new ≡ resent ticked) × Moves self.old (Resent self.old.shard ticked) self.new }
     {
         let ticked = intake.resend(self.shard, now);
@@ -87,7 +87,7 @@ impl Settling {
     fn notify<N: Intake>(&mut self, intake: &mut N, now: u64, emission: &mut Emission) -> bool
         requires shard { self.old.shard < 8 }
         requires due { self.old.notifies ≡ true }
-        ensures { (told : Notified) × N.notifies self.old.shard now intake.old intake.new told
+        ensures { (told : Notified) × N.calls.notifies self.old.shard now intake.old intake.new told
             × (emission_if result emission.new ≡ notification_in told) × Moves self.old (Asked self.old.shard told) self.new }
     {
         let outcome = intake.notify(self.shard, now, emission);

@@ -7,5 +7,5 @@ use Rattle.fc_service.proofs.lines.play_lines.Given as goal
 abbrev pub invariant-loop-text : goal.invariant-loop-text
 invariant-loop-text g l =
     (split_byte l.text-iterator ≡ 10)
-    × HasPlayed g.N.LineIntake.hands g.N.Intake.hears g.N.Intake.passes g.N.Intake.resends g.N.Intake.passes_over g.N.Intake.notifies l.fn.intake l.intake
+    × HasPlayed g.N.LineIntake.hands g.N.Intake.calls l.fn.intake l.intake
     (g.R.Read.remaining l.fn.input) (split_known_bytes g.R.Read.remaining l.text-iterator) (g.W.Write.contents l.fn.out) (g.W.Write.contents l.out)

@@ -12,17 +12,17 @@ failed (Ok x) P e = absurd (let n = e in cc)
 failed (Err x) P e = tt
 
 pub steps-init : goal.steps-init
-steps-init g c = none_printed g.N.Intake.resends g.N.Intake.passes_over g.N.Intake.notifies c.args.now c.args.intake.now c.begin-settling.new.intake c.begin-settling.result _ c.begin-settling.ensures
+steps-init g c = none_printed g.N.Intake.calls c.args.now c.args.intake.now c.begin-settling.new.intake c.begin-settling.result _ c.begin-settling.ensures
 
 pub returns-then-is_at_end : goal.returns-then-is_at_end
 returns-then-is_at_end g c =
-    let w = done_at_end g.N.Intake.resends g.N.Intake.passes_over g.N.Intake.notifies (λ es. Appends (g.W.Write.contents c.args.out.now) (g.W.Write.contents c.steps.out) (flat_map printed es)) c.steps.taken c.args.now c.args.intake.now c.steps.intake c.steps.settling c.steps.invariant
+    let w = done_at_end g.N.Intake.calls (λ es. Appends (g.W.Write.contents c.args.out.now) (g.W.Write.contents c.steps.out) (flat_map printed es)) c.steps.taken c.args.now c.args.intake.now c.steps.intake c.steps.settling c.steps.invariant
     (c.is_at_end.ensures.0 c.if-is_at_end.true) in
     (w.0, w.1, (w.2, w.3))
 
 pub steps-preserved : goal.steps-preserved
 steps-preserved g c =
-    one_printed g.N.Intake.resends g.N.Intake.passes_over g.N.Intake.notifies c.steps.taken c.args.now c.args.intake.now c.steps.intake c.step-sent.new.intake c.steps.settling c.step-sent.new.self _ _ _ (emission_if c.step-sent.result c.step-sent.new.emission)
+    one_printed g.N.Intake.calls c.steps.taken c.args.now c.args.intake.now c.steps.intake c.step-sent.new.intake c.steps.settling c.step-sent.new.self _ _ _ (emission_if c.step-sent.result c.step-sent.new.emission)
     c.steps.invariant c.step-sent.ensures c.in_ok-print_if.ensures
 
 pub returns-in_err-print_if : goal.returns-in_err-print_if
@@ -33,5 +33,5 @@ returns-in_err-print_if g c =
 
 pub returns : goal.returns
 returns g c =
-    let w = done_at_bound g.N.Intake.resends g.N.Intake.passes_over g.N.Intake.notifies (λ es. Appends (g.W.Write.contents c.args.out.now) (g.W.Write.contents c.steps.out) (flat_map printed es)) c.steps.taken c.args.now c.args.intake.now c.steps.intake c.steps.settling c.steps.invariant c.steps-test.false in
+    let w = done_at_bound g.N.Intake.calls (λ es. Appends (g.W.Write.contents c.args.out.now) (g.W.Write.contents c.steps.out) (flat_map printed es)) c.steps.taken c.args.now c.args.intake.now c.steps.intake c.steps.settling c.steps.invariant c.steps-test.false in
     (w.0, w.1, (w.2, w.3))

@@ -15,9 +15,9 @@ ends_in_time StaysQuiet now moment left wait rest longer quiet =
 
 pub returns-in-18446744073709551615 : goal.returns-in-18446744073709551615
 returns-in-18446744073709551615 g c =
-    subst (AllStayQuiet (λ shard until. g.N.Intake.stays_quiet shard c.args.intake.now until)) c.in-18446744073709551615.is c.quiet_until.ensures
+    subst (AllStayQuiet (λ shard until. g.N.Intake.calls.stays_quiet shard c.args.intake.now until)) c.in-18446744073709551615.is c.quiet_until.ensures
 
 pub returns-in_default : goal.returns-in_default
 returns-in_default g c =
-    ends_in_time (λ shard until. g.N.Intake.stays_quiet shard c.args.intake.now until) c.args.now c.quiet_until.result c.saturating_sub.result c.max.result
+    ends_in_time (λ shard until. g.N.Intake.calls.stays_quiet shard c.args.intake.now until) c.args.now c.quiet_until.result c.saturating_sub.result c.max.result
     (omega (arith, c.saturating_sub.ensures)) (omega (arith, c.max.ensures)) c.quiet_until.ensures

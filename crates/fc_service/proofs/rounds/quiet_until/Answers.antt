@@ -14,7 +14,7 @@ one_more StaysQuiet early late moment next first second quiet here shard lt =
 
 pub loop-shard-preserved : goal.loop-shard-preserved
 loop-shard-preserved g c =
-    one_more (λ shard until. g.N.Intake.stays_quiet shard c.args.intake.now until) c.loop-shard.until c.quiet_until.result c.min-until.result c.loop-shard.shard
+    one_more (λ shard until. g.N.Intake.calls.stays_quiet shard c.args.intake.now until) c.loop-shard.until c.quiet_until.result c.min-until.result c.loop-shard.shard
     (omega (arith, c.min-until.ensures)) (omega (arith, c.min-until.ensures)) c.loop-shard.invariant c.quiet_until.ensures
 
 pub returns : goal.returns

@@ -3,4 +3,4 @@ use Rattle.fc_service.proofs.rounds.quiet_until.Given as goal
 
 -- the shards so far
 abbrev pub invariant-loop-shard : goal.invariant-loop-shard
-invariant-loop-shard g l = (shard : ℕ) → shard < l.shard → (until : ℕ) × g.N.Intake.stays_quiet shard l.intake until × (l.until ≤ until)
+invariant-loop-shard g l = (shard : ℕ) → shard < l.shard → (until : ℕ) × g.N.Intake.calls.stays_quiet shard l.intake until × (l.until ≤ until)

@@ -15,13 +15,13 @@ loop-preserved g c =
       tt,
       elim c.match-came.branch [
         | in-Some-came w ↦
-            heard_round g.M.Moments.is_moment g.P.Preparation.readies g.N.Intake.hears g.N.Intake.passes g.N.Intake.resends g.N.Intake.passes_over g.N.Intake.notifies g.K.Sink.went
+            heard_round g.M.Moments.is_moment g.P.Preparation.readies g.N.Intake.calls g.K.Sink.went
             c.args.limit c.loop.received c.match-came.received (g.S.Source.came c.args.source.now) before after c.args.intake.now c.loop.intake c.ready.new.intake w.hear.new.intake c.match-came.intake c.settle.new.intake c.loop.replies w.hear.new.replies c.match-came.replies c.settle.new.replies c.now-now.result _
             c.loop.invariant.2 c.now-now.ensures
             (subst (λ (o : Option (ℕ × Endpoint)). Comes before after (incoming_in buffer o)) w.in-Some-came.is c.receive-came.ensures.given)
             c.ready.ensures w.hear.ensures w.intake-is w.replies-is c.settle.ensures (λ some. search (rules, c.else-limit-gt0.either)) (omega (arith, c.ranges.limit.fits)) (w.received-is ∙ search (rules, w.saturating_add-received.ensures))
         | in-None-came w ↦
-            passed_round g.M.Moments.is_moment g.P.Preparation.readies g.N.Intake.hears g.N.Intake.passes g.N.Intake.resends g.N.Intake.passes_over g.N.Intake.notifies g.K.Sink.went
+            passed_round g.M.Moments.is_moment g.P.Preparation.readies g.N.Intake.calls g.K.Sink.went
             c.args.limit c.loop.received c.match-came.received (g.S.Source.came c.args.source.now) before after c.args.intake.now c.loop.intake c.ready.new.intake w.tick.new.self c.match-came.intake c.settle.new.intake c.loop.replies c.match-came.replies c.settle.new.replies c.now-now.result
             c.loop.invariant.2 c.now-now.ensures
             (subst (λ (o : Option (ℕ × Endpoint)). Comes before after (incoming_in buffer o)) w.in-None-came.is c.receive-came.ensures.given)

@@ -5,5 +5,5 @@ use Rattle.fc_service.proofs.rounds.run_rounds.Given as goal
 abbrev pub invariant-loop : goal.invariant-loop
 invariant-loop g l =
     (goal.iterator-loop g).can_next l.iterator' × (goal.iterator-loop g).is_finite l.iterator'
-    × Runs g.M.Moments.is_moment g.P.Preparation.readies g.N.Intake.hears g.N.Intake.passes g.N.Intake.resends g.N.Intake.passes_over g.N.Intake.notifies g.K.Sink.went
+    × Runs g.M.Moments.is_moment g.P.Preparation.readies g.N.Intake.calls g.K.Sink.went
     l.limit l.received (g.S.Source.came l.fn.source) (g.S.Source.came l.source) l.fn.intake l.intake l.replies

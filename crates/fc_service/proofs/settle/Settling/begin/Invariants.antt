@@ -4,7 +4,7 @@ use Rattle.fc_service.proofs.settle.Settling.begin.Given as goal
 
 -- the steps so far sent nothing
 abbrev pub invariant-quiet : goal.invariant-quiet
-invariant-quiet g l = (steps : List SettlingStep) × AreStepsTo g.N.Intake.resends g.N.Intake.passes_over g.N.Intake.notifies l.now steps l.fn.intake l.intake l.settling × (sent_in_steps steps ≡ []) × (l.settling.notifies ≡ false)
+invariant-quiet g l = (steps : List SettlingStep) × AreStepsTo g.N.Intake.calls l.now steps l.fn.intake l.intake l.settling × (sent_in_steps steps ≡ []) × (l.settling.notifies ≡ false)
 
 abbrev pub decreases-quiet : goal.decreases-quiet
 decreases-quiet g l = 8 - l.settling.shard

@@ -11,12 +11,12 @@ pub returns-then-advance_if_quiet : goal.returns-then-advance_if_quiet
 returns-then-advance_if_quiet g c =
     let new = c.advance_if_quiet.new.self in
     let old = c.args.self.now in
-    let passed = subst (λ (b : Bool). MatchBool b (g.N.Intake.passes_over old.shard c.args.now c.args.intake.now new) (new ≡ c.args.intake.now)) c.if-advance_if_quiet.true c.advance_if_quiet.ensures.after in
+    let passed = subst (λ (b : Bool). MatchBool b (g.N.Intake.calls.passes_over old.shard c.args.now c.args.intake.now new) (new ≡ c.args.intake.now)) c.if-advance_if_quiet.true c.advance_if_quiet.ensures.after in
     (Passed old.shard, (c.requires, passed), refl, passes_over old c.pass.new.self c.requires c.if-self.false c.pass.ensures.shard c.pass.ensures.late)
 
 pub returns : goal.returns
 returns g c =
     let new = c.advance_if_quiet.new.self in
     let shard = c.args.self.now.shard in
-    let same = subst (λ (b : Bool). MatchBool b (g.N.Intake.passes_over shard c.args.now c.args.intake.now new) (new ≡ c.args.intake.now)) c.if-advance_if_quiet.false c.advance_if_quiet.ensures.after in
-    (Resent shard c.resend.ensures.0, (c.requires, subst (λ s. g.N.Intake.resends shard c.args.now s c.resend.new.intake c.resend.ensures.0) same c.resend.ensures.1), sym c.resend.ensures.2, c.resend.ensures.3)
+    let same = subst (λ (b : Bool). MatchBool b (g.N.Intake.calls.passes_over shard c.args.now c.args.intake.now new) (new ≡ c.args.intake.now)) c.if-advance_if_quiet.false c.advance_if_quiet.ensures.after in
+    (Resent shard c.resend.ensures.0, (c.requires, subst (λ s. g.N.Intake.calls.resends shard c.args.now s c.resend.new.intake c.resend.ensures.0) same c.resend.ensures.1), sym c.resend.ensures.2, c.resend.ensures.3)
