@@ -1,5 +1,6 @@
 //! Shards of slots.
 ghost use Rattle.std.specs.Prelude.{◌≡◌, if◌then◌else◌, ℕ, ◌+◌, ◌/◌, ◌<◌, ◌≤◌, ◌↔◌, ◌∷◌, true, false, length, map, replicate, IfOk, IfSome};
+ghost use Rattle.fc_registry.specs.Shards.{empty_shard};
 ghost use Rattle.fc_registry.specs.Slots.{IsOwned, slot_in, with_slot, new_slot, last_serial, version_in, vars_in};
 ghost use Rattle.fc_registry.specs.Changes.{after_changes};
 ghost use Rattle.fc_registry.specs.Calls.{TakesAt, CommitsTo, install_in, receipt_at, remove_from, after_taking};
@@ -58,7 +59,8 @@ impl Model for Shard {
 
     ghost view = { λ s. record { index = s.index; now = s.now; slots = map as_seen s.slots.items; watches = s.watches.items } };
 
-    ghost invariant = { λ s. (length s.slots.items ≡ 8) × All (λ x. IsRing (as_seen x)) s.slots.items × (length s.watches.items ≡ 8) × (s.index < 8)
+    ghost invariant = { λ s. (length s.slots.items ≡ 8) × All (λ x. IsRing (as_seen x)) s.slots.items
+        × (length s.watches.items ≡ 8) × (s.index < 8)
         × AreSentUpTo (map as_seen s.slots.items) s.watches.items
         × AreWatched s.watched s.watches.items };
 }
@@ -123,7 +125,7 @@ impl Shard {
     pub fn new(alloc: Global, index: u8, first_serial: u64) -> Result<Shard, AllocError>
         requires index { index < 8 }
         requires serial { first_serial ≤ last_serial }
-        ensures { IfOk result (λ s. s ≡ record { index = index; now = 0; slots = replicate 8 (new_slot first_serial); watches = new_watches index 8 }) }
+        ensures { IfOk result (λ s. s ≡ empty_shard first_serial index) }
     {
         let mut slots = Vec::with_capacity(alloc, usize::from(SHARDS))?;
         for _slot in 0..SHARDS {

@@ -130,6 +130,10 @@ abbrev pub WorksOff : List ℕ → Stage → ℕ → ServerState → Task → Se
 WorksOff readings stage now old task new out = (h : History) → (rest : List Task) → Serves h old (rest ++ task ∷ [])
     → Worked readings h (length rest) stage task.job.origin.slot now new out
 
+-- whatever readings it is handed: nothing is taken
+abbrev pub WorksOffUnread : Stage → ℕ → ServerState → Task → ServerState → Option Emission → Type 0
+WorksOffUnread stage now old task new out = (readings : List ℕ) → WorksOff readings stage now old task new out
+
 -- some history leaves this server with this job, which is not yet worked off
 pub record IsBegun (s : ServerState) (task : Task) : Type 0 where
   pub history : History

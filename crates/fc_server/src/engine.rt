@@ -11,7 +11,7 @@ ghost use Rattle.fc_core.specs.History.{Begins};
 ghost use Rattle.fc_core.specs.Ids.{free_id};
 ghost use Rattle.fc_core.specs.Receiving.{delivered, emission_if};
 ghost use Rattle.fc_core.specs.Legal.{resent};
-ghost use Rattle.fc_server.specs.Serving.{Hears, IsBegun, IsReachable, AsksForTurn, Passes, TicksShard, Serves, Turns, WorksOff};
+ghost use Rattle.fc_server.specs.Serving.{Hears, IsBegun, IsReachable, AsksForTurn, Passes, TicksShard, Serves, Turns, WorksOff, WorksOffUnread};
 ghost use Rattle.fc_server.specs.Notified.{is_given, notification_in, notified_as};
 ghost use Rattle.fc_server.specs.Serving.{IsSignalled};
 ghost use Rattle.fc_server.specs.Steps.{shard_told};
@@ -286,7 +286,7 @@ fn install(
     reply: &mut Emission,
 ) -> bool
     requires { IsBegun server.old task.old }
-    ensures { (readings : List ℕ) → WorksOff readings Stage.ToInstall now server.old task.old server.new (emission_if result reply.new) }
+    ensures { WorksOffUnread Stage.ToInstall now server.old task.old server.new (emission_if result reply.new) }
 {
     server.install(alloc, task);
     server.raise(task);
@@ -295,7 +295,7 @@ fn install(
 
 fn remove(server: &mut Server, now: u64, task: &mut Task, reply: &mut Emission) -> bool
     requires { IsBegun server.old task.old }
-    ensures { (readings : List ℕ) → WorksOff readings Stage.ToRemove now server.old task.old server.new (emission_if result reply.new) }
+    ensures { WorksOffUnread Stage.ToRemove now server.old task.old server.new (emission_if result reply.new) }
 {
     server.remove(task);
     server.raise(task);
@@ -304,7 +304,7 @@ fn remove(server: &mut Server, now: u64, task: &mut Task, reply: &mut Emission) 
 
 fn describe(server: &mut Server, now: u64, task: &mut Task, reply: &mut Emission) -> bool
     requires { IsBegun server.old task.old }
-    ensures { (readings : List ℕ) → WorksOff readings Stage.ToDescribe now server.old task.old server.new (emission_if result reply.new) }
+    ensures { WorksOffUnread Stage.ToDescribe now server.old task.old server.new (emission_if result reply.new) }
 {
     server.describe(task);
     server.respond(now, task, reply)
@@ -312,7 +312,7 @@ fn describe(server: &mut Server, now: u64, task: &mut Task, reply: &mut Emission
 
 fn discover(server: &mut Server, now: u64, task: &mut Task, reply: &mut Emission) -> bool
     requires { IsBegun server.old task.old }
-    ensures { (seen : ArrayVec ℕ) (readings : List ℕ) → WorksOff readings (Stage.ToList seen) now server.old task.old server.new (emission_if result reply.new) }
+    ensures { (seen : ArrayVec ℕ) → WorksOffUnread (Stage.ToList seen) now server.old task.old server.new (emission_if result reply.new) }
 {
     for slot in 0..SLOTS {
         server.peek(task, slot);
