@@ -12,7 +12,7 @@ ghost use Rattle.fc_core.specs.Ids.{free_id};
 ghost use Rattle.fc_core.specs.Receiving.{delivered, emission_if};
 ghost use Rattle.fc_core.specs.Legal.{resent};
 ghost use Rattle.fc_server.specs.Serving.{Hears, IsBegun, IsReachable, AsksForTurn, Passes, TicksShard, Serves, Turns, WorksOff, WorksOffUnread};
-ghost use Rattle.fc_server.specs.Notified.{is_given, notification_in, notified_as};
+ghost use Rattle.fc_server.specs.Notified.{Starved, is_given, notification_in, notified_as};
 ghost use Rattle.fc_server.specs.Serving.{IsSignalled};
 ghost use Rattle.fc_server.specs.Steps.{shard_told};
 
@@ -152,7 +152,7 @@ impl Engine {
         requires { shard < 8 }
         ensures asked { let told = notified_as result emission.new in
             AsksForTurn readings.now shard now random self.old self.new (is_given told) (notification_in told) }
-        ensures starved { result ≡ NotifyOutcome.Starved → free_id self.old.front.ids (max self.old.front.now now) ≡ None }
+        ensures starved { notified_as result emission.new ≡ Starved → free_id self.old.front.ids (max self.old.front.now now) ≡ None }
     {
         if !self.server.due(shard, now, &mut self.task.job) {
             return NotifyOutcome::Nobody;
@@ -198,7 +198,7 @@ fn tell(
     requires { IsBegun server.old task.old }
     ensures turns { Turns readings.now now random server.old task.old server.new (notification_in (notified_as result emission.new)) }
     ensures given { is_given (notified_as result emission.new) ≡ true }
-    ensures starved { result ≡ NotifyOutcome.Starved → free_id server.old.front.ids (max server.old.front.now now) ≡ None }
+    ensures starved { notified_as result emission.new ≡ Starved → free_id server.old.front.ids (max server.old.front.now now) ≡ None }
 {
     server.take(readings, task);
     server.fresh(now, task);
@@ -212,7 +212,7 @@ fn tell(
 fn told(sent: bool, starved: bool) -> NotifyOutcome
     ensures sent { (e : Emitted) → notification_in (notified_as result e) ≡ emission_if sent e }
     ensures given { (e : Emitted) → is_given (notified_as result e) ≡ true }
-    ensures starved { result ≡ NotifyOutcome.Starved → starved ≡ true }
+    ensures starved { (e : Emitted) → notified_as result e ≡ Starved → starved ≡ true }
 {
     if sent {
         NotifyOutcome::Sent

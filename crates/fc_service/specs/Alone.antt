@@ -1,14 +1,15 @@
 -- What a server on one thread does where it is fed, with what its jobs are handed. Which shard is asked is taken modulo 8.
-use Rattle.std.specs.Prelude.{◌≡◌, ◌%◌, ℕ, true, List, None}
+use Rattle.std.specs.Prelude.{◌≡◌, ◌%◌, ℕ, true, List, None, max}
 use Rattle.std.specs.Borrow.{Bor}
 use Rattle.coap_msg.specs.declared.types.Emission.{Emission}
 use Rattle.coap_msg.specs.declared.types.Endpoint.{Endpoint}
 use Rattle.fc_core.specs.Exchanges.{advanced}
+use Rattle.fc_core.specs.Ids.{free_id}
 use Rattle.fc_core.specs.Legal.{resent}
 use Rattle.fc_core.specs.Receiving.{delivered, emission_if}
 use Rattle.fc_core.specs.declared.front.Heard.{Heard}
 use Rattle.fc_observe.specs.declared.observers.Ticked.{Ticked}
-use Rattle.fc_server.specs.Notified.{Notified, is_given, notification_in}
+use Rattle.fc_server.specs.Notified.{Notified, Starved, is_given, notification_in}
 use Rattle.fc_server.specs.Serving.{AsksForTurn, Hears, Passes, TicksShard}
 use Rattle.fc_server.specs.Steps.{shard_told}
 use Rattle.fc_service.specs.Clocks.{device_readings}
@@ -40,9 +41,11 @@ abbrev pub PassesOverAlone : ℕ → ℕ → Alone → Alone → Type 0
 PassesOverAlone shard now old new =
     (is_quiet (handed_moment (shard_at old.engine.shards (shard % 8)) now) ≡ true) × TicksShard (shard % 8) now old.engine new.engine None × (new.handed ≡ old.handed)
 
+-- a turn is starved only where no message id is free
 abbrev pub NotifiesAlone : ℕ → ℕ → Alone → Alone → Notified → Type 0
 NotifiesAlone shard now old new told =
     AsksForTurn old.handed.readings (shard % 8) now old.handed.random old.engine new.engine (is_given told) (notification_in told) × (new.handed ≡ old.handed)
+    × (told ≡ Starved → free_id old.engine.front.ids (max old.engine.front.now now) ≡ None)
 
 abbrev pub StaysQuietAlone : ℕ → Alone → ℕ → Type 0
 StaysQuietAlone shard now until = StaysQuietUntil until (shard_at now.engine.shards (shard % 8))

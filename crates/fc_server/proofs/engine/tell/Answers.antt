@@ -39,7 +39,7 @@ draw_failed (Some id) other is = absurd (cc)
 pub returns-clause-starved : goal.returns-clause-starved
 returns-clause-starved c = λ is.
     let after = c.fresh.new.task in
-    let needs = sym c.needs_id-starved.ensures ∙ c.told.ensures.starved is in
+    let needs = sym c.needs_id-starved.ensures ∙ c.told.ensures.starved c.note-sent.new.emission is in
     let drawn = draw_failed _ c.take.new.task.stage (subst (λ (t : Task). needs_id t.stage ≡ true) c.fresh.ensures.task_is needs) in
     subst (λ (f : FrontState). free_id f.ids (max f.now c.args.now) ≡ None) (c.take.ensures 0).front drawn
 
