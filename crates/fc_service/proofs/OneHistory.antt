@@ -20,11 +20,12 @@ use Rattle.fc_core.specs.Stages.{first_stage}
 use Rattle.fc_server.specs.Notified.{is_given, notification_in}
 use Rattle.fc_server.specs.Serving.{Heard, Serves, TurnGiven, next, peeked_below, run_through, signalled_below, turned, worked}
 use Rattle.fc_server.specs.States.{ServerState}
+use Rattle.fc_server.specs.declared.server.Begin.{Begin}
 use Rattle.fc_lines.specs.declared.line.Line.{Line}
 use Rattle.fc_lines.specs.declared.line.Line.TheVariants as lines
 use Rattle.fc_lines.specs.Emissions.{peer_endpoint, printed}
 use Rattle.fc_service.proofs.Settled.{printed_of}
-use Rattle.fc_service.specs.Alone.{HandsAlone, HearsAlone, NotifiesAlone, PassesAlone, PassesOverAlone, ReadiesAlone, ResendsAlone}
+use Rattle.fc_service.specs.Alone.{HandsAlone, HearsAlone, PassesAlone, ReadiesAlone, alone_calls}
 use Rattle.fc_service.specs.Histories.{IsOneHistory, datagram_in, delivered_by, received_in_lines, sent_in_lines}
 use Rattle.fc_service.specs.Intakes.{Incoming, IsHeardBy, is_reply}
 use Rattle.fc_service.specs.Playing.{ArePlayedBy, IsCarriedOutBy, IsHandedBy, IsPlayedBy, IsPlayedOut, PlayedLine, moment_of, output_by, printed_lines}
@@ -171,7 +172,7 @@ abbrev Leaves : History → Alone → List Task → Type 0
 Leaves h a tasks = Serves h a.engine tasks
 
 -- one step
-step_goes_on : (now : ℕ) (step : SettlingStep) (old new : Alone) (h : History) (tasks : List Task) → IsStepBy ResendsAlone PassesOverAlone NotifiesAlone now step old new → Leaves h old tasks
+step_goes_on : (now : ℕ) (step : SettlingStep) (old new : Alone) (h : History) (tasks : List Task) → IsStepBy alone_calls now step old new → Leaves h old tasks
     → GoesOn h [] (option_to_list (sent_in_step step)) new.engine
 step_goes_on now (Resent shard ticked) old new h tasks w v = record {
   later = _;
@@ -190,7 +191,7 @@ both_go_on h ds ds' es es' mid new v w =
     record { later = w.later; follows = both_follow h v.later w.later ds ds' es es' v.follows w.follows; tasks = w.tasks; serves = w.serves }
 
 -- steps
-steps_go_on : (now : ℕ) (steps : List SettlingStep) (old new : Alone) (h : History) (tasks : List Task) → AreStepsBy ResendsAlone PassesOverAlone NotifiesAlone now steps old new
+steps_go_on : (now : ℕ) (steps : List SettlingStep) (old new : Alone) (h : History) (tasks : List Task) → AreStepsBy alone_calls now steps old new
     → Leaves h old tasks → GoesOn h [] (sent_in_steps steps) new.engine
 steps_go_on now [] old new h tasks is v =
     record { later = h; follows = none_follows h; tasks = tasks; serves = subst (λ (a : Alone). Leaves h a tasks) (sym is) v }
@@ -224,13 +225,13 @@ passed_goes_on now old new sent h tasks passes none v =
 
 module _ (sensors : List ℕ → Type 0) (moments : ℕ → Type 0) (went : Emission → Bool → Type 0) where
   received_goes_on : (now : ℕ) (received : Option Incoming) (old new : Alone) (sent : Option Emission) (h : History) (tasks : List Task)
-      → IsReceivedBy moments (ReadiesAlone sensors) HearsAlone PassesAlone ResendsAlone PassesOverAlone NotifiesAlone went now received old sent new → Leaves h old tasks
+      → IsReceivedBy moments (ReadiesAlone sensors) alone_calls went now received old sent new → Leaves h old tasks
       → GoesOn h (option_to_list received) (option_to_list sent) new.engine
   received_goes_on now (Some incoming) old new sent h tasks w v = datagram_goes_on now incoming old new sent h tasks w v
   received_goes_on now None old new sent h tasks w v = passed_goes_on now old new sent h tasks w.0 w.1 v
 
   round_goes_on : (r : Round) (old new : Alone) (h : History) (tasks : List Task)
-      → IsRoundBy moments (ReadiesAlone sensors) HearsAlone PassesAlone ResendsAlone PassesOverAlone NotifiesAlone went r old new → Leaves h old tasks
+      → IsRoundBy moments (ReadiesAlone sensors) alone_calls went r old new → Leaves h old tasks
       → GoesOn h (option_to_list r.received) (map (λ s. s.emission) r.sendings) new.engine
   round_goes_on r old new h tasks w v =
       let made : Leaves h w.ready tasks = subst (λ (s : ServerState). Serves h s tasks) (sym w.readied.2) v in
@@ -240,7 +241,7 @@ module _ (sensors : List ℕ → Type 0) (moments : ℕ → Type 0) (went : Emis
       goes_on_as _ (option_to_list r.received) _ (map (λ s. s.emission) r.sendings) (append-nil (option_to_list r.received)) (sym w.sent.1) all
 
   rounds_go_on : (rounds : List Round) (old new : Alone) (h : History) (tasks : List Task)
-      → AreRoundsBy moments (ReadiesAlone sensors) HearsAlone PassesAlone ResendsAlone PassesOverAlone NotifiesAlone went rounds old new → Leaves h old tasks
+      → AreRoundsBy moments (ReadiesAlone sensors) alone_calls went rounds old new → Leaves h old tasks
       → GoesOn h (received_in rounds) (map (λ s. s.emission) (sendings_in rounds)) new.engine
   rounds_go_on [] old new h tasks is v =
       record { later = h; follows = none_follows h; tasks = tasks; serves = subst (λ (a : Alone). Leaves h a tasks) (sym is) v }
@@ -260,30 +261,30 @@ one_history serial id ds es s w = record {
   emits = w.follows.emits_are;
 }
 
-pub rounds_are_one_history : (sensors : List ℕ → Type 0) (moments : ℕ → Type 0) (went : Emission → Bool → Type 0) (limit serial id : ℕ) (before after : Option (List Incoming)) (replies : Replies)
-    (w : HasServed sensors moments went limit serial id before after replies)
-    → IsOneHistory serial id (received_in w.run.rounds) (map (λ s. s.emission) (sendings_in w.run.rounds)) w.last.engine
-rounds_are_one_history sensors moments went limit serial id before after replies w =
-    one_history serial id (received_in w.run.rounds) (map (λ s. s.emission) (sendings_in w.run.rounds)) w.last.engine
-    (rounds_go_on sensors moments went w.run.rounds w.first w.last (Begins serial id) [] w.run.has.are_rounds w.begins)
+pub rounds_are_one_history : (sensors : List ℕ → Type 0) (moments : ℕ → Type 0) (went : Emission → Bool → Type 0) (limit : ℕ) (begin : Begin) (before after : Option (List Incoming)) (replies : Replies)
+    (w : HasServed sensors moments went limit begin before after replies)
+    → IsOneHistory begin.serial begin.id (received_in w.run.rounds) (map (λ s. s.emission) (sendings_in w.run.rounds)) w.last.engine
+rounds_are_one_history sensors moments went limit begin before after replies w =
+    one_history begin.serial begin.id (received_in w.run.rounds) (map (λ s. s.emission) (sendings_in w.run.rounds)) w.last.engine
+    (rounds_go_on sensors moments went w.run.rounds w.first w.last (Begins begin.serial begin.id) [] w.run.has.are_rounds w.begins)
 
 -- ---- lines
 
 handed_on : (line : Line) (old new : Alone) (h : History) (tasks : List Task)
-    → IsHandedBy HandsAlone HearsAlone PassesAlone ResendsAlone PassesOverAlone NotifiesAlone line old new → Leaves h old tasks → Leaves h new tasks
+    → IsHandedBy HandsAlone alone_calls line old new → Leaves h old tasks → Leaves h new tasks
 handed_on (lines.Device now readings) old new h tasks w v = subst (λ (s : ServerState). Serves h s tasks) (sym w.0) v
 handed_on (lines.Tick now) old new h tasks is v = subst (λ (a : Alone). Leaves h a tasks) (sym is) v
 handed_on (lines.Deliver now peer bytes) old new h tasks is v = subst (λ (a : Alone). Leaves h a tasks) (sym is) v
 
 told_goes_on : (line : Line) (old new : Alone) (sent : Option Emission) (h : History) (tasks : List Task)
-    → IsCarriedOutBy HandsAlone HearsAlone PassesAlone ResendsAlone PassesOverAlone NotifiesAlone line old sent new → Leaves h old tasks
+    → IsCarriedOutBy HandsAlone alone_calls line old sent new → Leaves h old tasks
     → GoesOn h (datagram_in line) (option_to_list sent) new.engine
 told_goes_on (lines.Deliver now peer bytes) old new sent h tasks w v = datagram_goes_on now (record { from = peer_endpoint peer; bytes = bytes.items }) old new sent h tasks w v
 told_goes_on (lines.Tick now) old new sent h tasks w v = passed_goes_on now old new sent h tasks w.0 w.1 v
 told_goes_on (lines.Device now readings) old new sent h tasks w v = passed_goes_on now old new sent h tasks w.0 w.1 v
 
 line_goes_on : (p : PlayedLine) (old new : Alone) (h : History) (tasks : List Task)
-    → IsPlayedBy HandsAlone HearsAlone PassesAlone ResendsAlone PassesOverAlone NotifiesAlone p old new → Leaves h old tasks
+    → IsPlayedBy HandsAlone alone_calls p old new → Leaves h old tasks
     → GoesOn h (datagram_in p.line) (option_to_list p.sent ++ sent_in_steps p.steps) new.engine
 line_goes_on p old new h tasks w v =
     let told = told_goes_on p.line w.handed w.answered p.sent h tasks w.carried_out (handed_on p.line old w.handed h tasks w.hands v) in
@@ -292,7 +293,7 @@ line_goes_on p old new h tasks w v =
     (steps_go_on (moment_of p.line) p.steps w.answered new told.later told.tasks w.steps told.serves))
 
 lines_go_on : (played : List PlayedLine) (old new : Alone) (h : History) (tasks : List Task)
-    → ArePlayedBy HandsAlone HearsAlone PassesAlone ResendsAlone PassesOverAlone NotifiesAlone played old new → Leaves h old tasks
+    → ArePlayedBy HandsAlone alone_calls played old new → Leaves h old tasks
     → GoesOn h (received_in_lines played) (sent_in_lines played) new.engine
 lines_go_on [] old new h tasks is v =
     record { later = h; follows = none_follows h; tasks = tasks; serves = subst (λ (a : Alone). Leaves h a tasks) (sym is) v }

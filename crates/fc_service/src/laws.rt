@@ -8,6 +8,7 @@ ghost use Rattle.fc_registry.specs.Shards.{shard_at};
 ghost use Rattle.fc_registry.specs.Watches.{at_time, late_place};
 ghost use Rattle.fc_server.specs.Notified.{Nobody, Notified};
 ghost use Rattle.fc_server.specs.Steps.{shard_turn};
+ghost use Rattle.fc_server.specs.declared.server.Begin.{Begin};
 ghost use Rattle.fc_service.specs.Alone.{NotifiesAlone, ResendsAlone};
 ghost use Rattle.fc_service.specs.Clocks.{device_readings, no_sensors};
 ghost use Rattle.fc_service.specs.Histories.{IsOneHistory, received_in_lines, sent_in_lines};
@@ -56,9 +57,9 @@ pub fn shards_tell_what_is_so()
 /// What a server on one thread does in all of its rounds is one history of events, from the serial and the message id that it begins with on, in which each event
 /// emitted what it may: just the datagrams that were received are delivered, in order, and just what its events emitted was handed to the sink, in that order.
 pub fn served_rounds_are_one_history<Z: Sensors, M: Moments, K: Sink>()
-    ensures { (limit serial id : ℕ) (before after : Option (List Incoming)) (replies : Replies)
-        (w : HasServed Z.are_sensed M.is_moment K.went limit serial id before after replies)
-        → IsOneHistory serial id (received_in w.run.rounds) (map (λ s. s.emission) (sendings_in w.run.rounds)) w.last.engine }
+    ensures { (limit : ℕ) (begin : Begin) (before after : Option (List Incoming)) (replies : Replies)
+        (w : HasServed Z.are_sensed M.is_moment K.went limit begin before after replies)
+        → IsOneHistory begin.serial begin.id (received_in w.run.rounds) (map (λ s. s.emission) (sendings_in w.run.rounds)) w.last.engine }
 {}
 
 /// And so is what it does for all the lines that it plays: just the datagrams that they tell are delivered, in order, and just what its events emitted is printed.
