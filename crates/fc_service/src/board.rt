@@ -123,12 +123,12 @@ pub(crate) struct Waiting<'a, 'b, R: Wait, N: Intake> {
 
 impl<'a, 'b, R: Wait, N: Intake> Intake for Waiting<'a, 'b, R, N> {
     ghost calls = { record {
-        hears = λ now from bytes old new heard reply. IsWaitedFor N.calls.hears now from bytes old.intake.now new.intake.now heard reply;
-        passes = λ now old new. N.calls.passes now old.intake.now new.intake.now;
-        resends = λ shard now old new ticked. N.calls.resends shard now old.intake.now new.intake.now ticked;
-        passes_over = λ shard now old new. N.calls.passes_over shard now old.intake.now new.intake.now;
-        notifies = λ shard now old new told. (asked : Notified) × N.calls.notifies shard now old.intake.now new.intake.now asked × (asked ≡ told ⊎ asked ≡ Unsent);
-        stays_quiet = λ shard now until. N.calls.stays_quiet shard now.intake.now until;
+      hears = λ now from bytes old new heard reply. IsWaitedFor N.calls.hears now from bytes old.intake.now new.intake.now heard reply;
+      passes = λ now old new. N.calls.passes now old.intake.now new.intake.now;
+      resends = λ shard now old new ticked. N.calls.resends shard now old.intake.now new.intake.now ticked;
+      passes_over = λ shard now old new. N.calls.passes_over shard now old.intake.now new.intake.now;
+      notifies = λ shard now old new told. (asked : Notified) × N.calls.notifies shard now old.intake.now new.intake.now asked × (asked ≡ told ⊎ asked ≡ Unsent);
+      stays_quiet = λ shard now until. N.calls.stays_quiet shard now.intake.now until;
     } };
 
     fn hear(&mut self, now: u64, from: Endpoint, bytes: &[u8], reply: &mut Emission) -> Heard {
