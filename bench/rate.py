@@ -7,7 +7,7 @@ Run it at the top of the repository, behind `rt run` in crates/fcd:
 
 Each measurement has a fresh server whose 64 slots have the same program, and one client that sends 900 POSTs to the slots in turn,
 of which at most 32 wait for their answer. A fresh server holds 1,024 exchanges for 247 s, so that no measurement can be longer. What is told is
-the best of seven, by the clock of the wall; one, two and four workers take turns.
+the best of fifty, by the clock of the wall; one, two and four workers take turns.
 """
 import socket
 import struct
@@ -19,7 +19,7 @@ FCD = "crates/fcd/out/fcd"
 PORT = 5698
 POSTS = 900
 WAITING = 32
-ROUNDS = 7
+ROUNDS = 50
 
 EXIT = bytes.fromhex("b700000000000000" "9500000000000000")
 
