@@ -2,8 +2,9 @@
 use Rattle.std.proofs.Common.{◌≡◌, ℕ, zero, suc, add-one, ◌+◌, ◌-◌, ◌<◌, ◌≤◌, Bool, true, false, List, [], ◌∷◌, ◌++◌, length, append-nil, append_assoc, arith, ap, sym, refl, ◌∙◌, inl, inr}
 use Rattle.std.specs.Prelude.{◌||◌, ◌⊎◌, if◌then◌else◌}
 use Rattle.std.specs.List.{list_any}
+use Rattle.fc_observe.specs.declared.observers.Ticked.{Ticked}
 use Rattle.fc_observe.specs.declared.observers.Ticked.TheVariants.{Quiet}
-use Rattle.fc_server.specs.Notified.{Nobody, Starved}
+use Rattle.fc_server.specs.Notified.{Nobody, Notified, Starved}
 use Rattle.fc_service.specs.Intakes.{IntakeCalls}
 use Rattle.fc_service.specs.Settling.{AreStepsInOrder, AreSettled, AreStepsTo, Asked, Finding, HasReached, IsPlace, IsStepBy, Moves, NobodyDue, NothingLate, Passed, Resent, SettlingStep, found_at, found_below, found_in_step, found_in_steps, is_starved, sought_at, sought_in_step}
 use Rattle.fc_service.specs.declared.settle.Settling.{Settling}
