@@ -1,3 +1,4 @@
+pub mod Addresses
 pub mod Printing
 pub mod Fetching
 pub mod Observing

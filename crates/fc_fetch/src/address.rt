@@ -1,11 +1,14 @@
 //! Where a request goes, and of which resource: a path at a port of this host, or a URI of the scheme coap (RFC 7252, 6.1 and 6.4).
-ghost use Rattle.std.specs.Prelude.{◌≡◌};
+ghost use Rattle.std.specs.Prelude.{◌≡◌, ◌<◌, [], IfOk, IfSome, unwrap_or};
+ghost use Rattle.coap_client.specs.Paths.{path_text};
+ghost use Rattle.percent_encoding.specs.Percent.{percent_decode};
+ghost use Rattle.fc_fetch.specs.Addresses.{HasParts, IsAddress, IsAtPort, IsHostOf, IsOfUri, decoded_pieces, segments_in, texts_in};
 
 use percent_encoding::percent_decode_str;
 use std::alloc::{AllocError, Global};
 use std::net::{Ipv4Addr, SocketAddrV4};
 use thiserror::Error;
-use url::Url;
+use url::{ParseError, Url};
 
 /// The port of CoAP (RFC 7252, 6.1).
 const COAP_PORT: u16 = 5683;
@@ -60,7 +63,9 @@ impl Address {
     ///
     /// # Errors
     /// What [`AddressError`] says.
-    pub fn parse(alloc: Global, text: &str, port: Option<u16>) -> Result<Address, AddressError> {
+    pub fn parse(alloc: Global, text: &str, port: Option<u16>) -> Result<Address, AddressError>
+        ensures { IfOk result (IsAddress text.now port) }
+    {
         if text.contains("://") && !text.starts_with('/') {
             match port {
                 None => read_uri(alloc, text),
@@ -76,7 +81,9 @@ impl Address {
 }
 
 // A path at a port of this host.
-fn at_port(alloc: Global, path: &str, port: u16) -> Result<Address, AddressError> {
+fn at_port(alloc: Global, path: &str, port: u16) -> Result<Address, AddressError>
+    ensures { IfOk result (IsAtPort path.now port) }
+{
     Ok(Address {
         server: SocketAddrV4::new(Ipv4Addr::LOCALHOST, port),
         path: Vec::from_slice(alloc, path.as_bytes())?,
@@ -84,72 +91,106 @@ fn at_port(alloc: Global, path: &str, port: u16) -> Result<Address, AddressError
     })
 }
 
-// What a URI says.
-fn read_uri(alloc: Global, text: &str) -> Result<Address, AddressError> {
+// What the text of a URI says.
+fn read_uri(alloc: Global, text: &str) -> Result<Address, AddressError>
+    ensures { IfOk result (IsOfUri text.now) }
+{
     let uri = match Url::parse(alloc, text) {
         Ok(uri) => uri,
+        Err(ParseError::OutOfMemory) => return Err(AddressError::NoMemory),
         Err(_) => return Err(AddressError::NoUri),
     };
-    if uri.scheme() != "coap" {
-        return Err(AddressError::NoUri);
+    match uri.scheme() {
+        "coap" => address_of(alloc, &uri),
+        _ => Err(AddressError::NoUri),
     }
+}
+
+// The address of a URI.
+fn address_of(alloc: Global, uri: &Url) -> Result<Address, AddressError>
+    ensures { IfOk result (HasParts uri.now) }
+{
     if !uri.username().is_empty() || uri.password().is_some() || uri.fragment().is_some() {
         return Err(AddressError::Parts);
     }
-    let Some(host) = uri.host_str().and_then(host_of) else {
+    let Some(name) = uri.host_str() else {
         return Err(AddressError::Host);
     };
-    let Some(path) = path_of(alloc, &uri)? else {
-        return Err(AddressError::Escape);
+    let Some(host) = host_of(name) else {
+        return Err(AddressError::Host);
     };
+    let segments = segments_of(alloc, uri.path())?;
+    if segments.iter().any(|segment| segment.contains(&b'/')) {
+        return Err(AddressError::Escape);
+    }
     Ok(Address {
         server: SocketAddrV4::new(host, uri.port().unwrap_or(COAP_PORT)),
-        path,
-        query: arguments_of(alloc, uri.query().unwrap_or(""))?,
+        path: path_of(alloc, &segments)?,
+        query: pieces(alloc, query_of(uri), '&')?,
     })
 }
 
-fn host_of(name: &str) -> Option<Ipv4Addr> {
-    if name == "localhost" {
-        return Some(Ipv4Addr::LOCALHOST);
+// The IPv4 address that the name of a host stands for.
+fn host_of(name: &str) -> Option<Ipv4Addr>
+    ensures { IfSome result (IsHostOf name.now) }
+{
+    match name {
+        "localhost" => Some(Ipv4Addr::LOCALHOST),
+        _ => name.parse::<Ipv4Addr>().ok(),
     }
-    name.parse::<Ipv4Addr>().ok()
 }
 
-// The path of a URI, a slash before each segment; that of a slash alone has none (RFC 7252, 6.4). `None` where a segment has an escaped slash.
-fn path_of(alloc: Global, uri: &Url) -> Result<Option<Vec<u8>>, AllocError> {
+// The segments of a URI's path; that of a slash alone has none (RFC 7252, 6.4).
+fn segments_of(alloc: Global, path: &str) -> Result<Vec<Vec<u8>>, AllocError>
+    ensures { IfOk result (λ v. texts_in v.items ≡ segments_in path.now) }
+{
+    match path.strip_prefix('/') {
+        Some(rest) => pieces(alloc, rest, '/'),
+        None => Ok(Vec::new(alloc)),
+    }
+}
+
+// The path that has a slash before each of these segments.
+fn path_of(alloc: Global, segments: &[Vec<u8>]) -> Result<Vec<u8>, AllocError>
+    ensures { IfOk result (λ v. v.items ≡ path_text (texts_in segments.now)) }
+{
     let mut path = Vec::new(alloc);
-    if uri.path() == "/" {
-        return Ok(Some(path));
-    }
-    let Some(segments) = uri.path_segments() else {
-        return Ok(Some(path));
-    };
     for segment in segments {
-        let bytes = decode(alloc, segment)?;
-        if bytes.contains(&b'/') {
-            return Ok(None);
-        }
         path.push(b'/')?;
-        path.extend_from_slice(&bytes)?;
+        path.extend_from_slice(segment)?;
     }
-    Ok(Some(path))
+    Ok(path)
 }
 
-// The arguments of a query, which `&` parts; an empty one has none.
-fn arguments_of(alloc: Global, query: &str) -> Result<Vec<Vec<u8>>, AllocError> {
-    let mut arguments = Vec::new(alloc);
-    if query.is_empty() {
-        return Ok(arguments);
+// The query of a URI, empty where it has none.
+fn query_of(uri: &Url) -> &str
+    ensures { result.now ≡ unwrap_or uri.now.query [] }
+{
+    match uri.query() {
+        Some(query) => query,
+        None => "",
     }
-    for argument in query.split('&') {
-        arguments.push(decode(alloc, argument)?)?;
-    }
-    Ok(arguments)
 }
 
-// The bytes of a segment or an argument, with its escapes read.
-fn decode(alloc: Global, text: &str) -> Result<Vec<u8>, AllocError> {
+// The pieces of a text that an ASCII character parts, the escapes of each read; an empty text has none.
+fn pieces(alloc: Global, text: &str, parting: char) -> Result<Vec<Vec<u8>>, AllocError>
+    requires { parting < 128 }
+    ensures { IfOk result (λ v. texts_in v.items ≡ decoded_pieces parting text.now) }
+{
+    let mut pieces = Vec::new(alloc);
+    if text.is_empty() {
+        return Ok(pieces);
+    }
+    for piece in text.split(parting) {
+        pieces.push(decode(alloc, piece)?)?;
+    }
+    Ok(pieces)
+}
+
+// The bytes of a text with its escapes read.
+fn decode(alloc: Global, text: &str) -> Result<Vec<u8>, AllocError>
+    ensures { IfOk result (λ v. v.items ≡ percent_decode text.now) }
+{
     let mut bytes = Vec::new(alloc);
     percent_decode_str(text).append_to(&mut bytes)?;
     Ok(bytes)

@@ -1,0 +1,45 @@
+-- Paths of one segment more, and texts that are parted.
+use Rattle.std.proofs.Common.{◌≡◌, ◌≢◌, ◌⊎◌, inl, inr, ℕ, List, [], ◌∷◌, ◌++◌, refl, sym, ap, ◌∙◌, length, map, take, get_or, ◌<◌, ◌+◌, suc, arith}
+use Rattle.std.specs.Global.{Vec}
+use Rattle.std.specs.Prelude.{◌==◌, false, if◌then◌else◌}
+use Rattle.std.specs.List.{slice_split}
+use Rattle.std.proofs.lemmas.Bool.{cases_eq, ne_eqb}
+use Rattle.std.proofs.Math.Seq.{take-suc}
+use Rattle.std.proofs.lemmas.List.{append_assoc, append-nil, map_push}
+use Rattle.coap_client.specs.Paths.{path_text, slash}
+use Rattle.percent_encoding.specs.Percent.{percent_decode}
+use Rattle.fc_fetch.specs.Addresses.{decoded_pieces, segments_in, texts_in}
+
+-- a slash and the segment stand behind the others
+pub path_text_push : (segments : List (List ℕ)) (s : List ℕ) → path_text (segments ++ (s ∷ [])) ≡ path_text segments ++ (slash ∷ s)
+path_text_push [] s = ap (λ text. slash ∷ text) (append-nil s)
+path_text_push (first ∷ segments) s =
+    ap (λ text. slash ∷ (first ++ text)) (path_text_push segments s) ∙ ap (λ text. slash ∷ text) (sym (append_assoc first (path_text segments) (slash ∷ s)))
+
+-- a path that one segment more was added to
+pub path_grown : (segments : List (Vec ℕ)) (i : ℕ) (d : Vec ℕ) (old slashed new : List ℕ) → i < length segments
+    → old ≡ path_text (texts_in (take i segments)) → slashed ≡ old ++ (slash ∷ []) → new ≡ slashed ++ (get_or segments i d).items
+    → new ≡ path_text (texts_in (take (i + 1) segments))
+path_grown segments i d old slashed new below so_far pushed added =
+    let s = (get_or segments i d).items in
+    let is_next : suc i ≡ i + 1 = omega arith in
+    added ∙ ap (λ text. text ++ s) (pushed ∙ ap (λ text. text ++ (slash ∷ [])) so_far)
+    ∙ append_assoc (path_text (texts_in (take i segments))) (slash ∷ []) s
+    ∙ sym (path_text_push (texts_in (take i segments)) s)
+    ∙ ap path_text (sym (map_push (λ (text : Vec ℕ). text.items) (take i segments) (get_or segments i d)))
+    ∙ ap (λ list. path_text (texts_in list)) (sym (take-suc segments i d below))
+    ∙ ap (λ n. path_text (texts_in (take n segments))) is_next
+
+-- what doesn't begin with a slash has no segments
+pub no_segments : (path : List ℕ) → ((rest : List ℕ) → path ≢ slash ∷ rest) → segments_in path ≡ []
+no_segments [] none = refl
+no_segments (first ∷ path) none = by (cases_eq first slash)
+  where
+    by : (first ≡ slash) ⊎ (first ≡ slash → ⊥) → segments_in (first ∷ path) ≡ []
+    by (inl same) = absurd (none path (ap (λ b. b ∷ path) same))
+    by (inr other) = ap (λ is. if is then decoded_pieces slash path else []) (ne_eqb first slash other)
+
+-- a text that isn't empty is parted
+pub pieces_of : (byte : ℕ) (text : List ℕ) → false ≡ (length text == 0) → map percent_decode (slice_split (λ b. b == byte) text) ≡ decoded_pieces byte text
+pieces_of byte [] filled = cc filled
+pieces_of byte (first ∷ text) filled = refl

@@ -1,0 +1,63 @@
+-- Where a client's request goes: a path at a port of this host, or what a URI of the scheme coap says, as the URL Standard reads it (RFC 7252, 6.1 and 6.4).
+use Rattle.std.specs.Global.{Vec}
+use Rattle.std.specs.Prelude.{◌≡◌, ◌==◌, ◌⊎◌, ℕ, List, [], ◌∷◌, map, Option, Some, None, Ok, codes, option_map, unwrap_or, if◌then◌else◌}
+use Rattle.std.specs.List.{slice_split}
+use Rattle.std.specs.Net.Addr.{ipv4_octets}
+use Rattle.std.specs.Net.Grammar.{IsIpv4Text}
+use Rattle.std.specs.Net.Socket.{v4_ip, v4_port}
+use Rattle.std.specs.declared.net.ipv4_addr.Ipv4Addr.{Ipv4Addr}
+use Rattle.coap_client.specs.Paths.{path_text, slash}
+use Rattle.percent_encoding.specs.Percent.{percent_decode}
+use Rattle.url.specs.Parser.{parse_url}
+use Rattle.url.specs.Host.{host_text}
+use Rattle.url.specs.Parts.{Parts, nonempty_host}
+use Rattle.fc_fetch.specs.declared.address.Address.{Address}
+
+abbrev pub ampersand : ℕ
+ampersand = 38
+
+-- vectors of bytes by their bytes
+abbrev pub texts_in : List (Vec ℕ) → List (List ℕ)
+texts_in texts = map (λ text. text.items) texts
+
+-- the pieces of a text that a byte parts, the escapes of each read; an empty text has none
+abbrev pub decoded_pieces : ℕ → List ℕ → List (List ℕ)
+decoded_pieces byte [] = []
+decoded_pieces byte (first ∷ text) = map percent_decode (slice_split (λ b. b == byte) (first ∷ text))
+
+-- the segments of a URI's path, which begins with a slash
+abbrev pub segments_in : List ℕ → List (List ℕ)
+segments_in [] = []
+segments_in (first ∷ path) = if first == slash then decoded_pieces slash path else []
+
+-- the name of a host stands for an IPv4 address: it writes it, or is `localhost`
+abbrev pub IsHostOf : List ℕ → Ipv4Addr → Type 0
+IsHostOf name ip = ((name ≡ codes "localhost") × (ipv4_octets ip ≡ 127 ∷ 0 ∷ 0 ∷ 1 ∷ [])) ⊎ IsIpv4Text name ip
+
+-- the address has the host, the port, the path and the query of a URI
+pub record HasParts (uri : Parts) (a : Address) : Type 0 where
+  pub name : List ℕ
+  pub name_is : option_map host_text (nonempty_host uri) ≡ Some name
+  pub host_is : IsHostOf name (v4_ip a.server)
+  pub port_is : v4_port a.server ≡ unwrap_or uri.port 5683
+  pub path_is : a.path.items ≡ path_text (segments_in uri.path)
+  pub query_is : texts_in a.query.items ≡ decoded_pieces ampersand (unwrap_or uri.query [])
+
+-- the address is that of the URI of the scheme coap that a text writes
+pub record IsOfUri (text : List ℕ) (a : Address) : Type 0 where
+  pub uri : Parts
+  pub parsed : parse_url None text ≡ Ok uri
+  pub scheme_is : uri.scheme ≡ codes "coap"
+  pub has : HasParts uri a
+
+-- the address is that of a path at a port of this host
+pub record IsAtPort (text : List ℕ) (port : ℕ) (a : Address) : Type 0 where
+  pub host_is : ipv4_octets (v4_ip a.server) ≡ 127 ∷ 0 ∷ 0 ∷ 1 ∷ []
+  pub port_is : v4_port a.server ≡ port
+  pub path_is : a.path.items ≡ text
+  pub query_is : texts_in a.query.items ≡ []
+
+-- a path goes with a port, and a URI without one
+abbrev pub IsAddress : List ℕ → Option ℕ → Address → Type 0
+IsAddress text (Some port) a = IsAtPort text port a
+IsAddress text None a = IsOfUri text a
