@@ -28,8 +28,8 @@ use thiserror::Error;
 /// The serial that empty slots begin with.
 const FIRST_SERIAL: u64 = 0;
 
-/// From how many instructions on a run is a worker's. A hand-over wakes a thread, which costs some 15 us of processor time: as much as about 3,600 instructions of
-/// a program. A cheaper job is worked off by the thread that received it.
+/// From how many instructions on a run is a worker's. A hand-over wakes a thread, which costs some 14 us of processor time: as much as some thousand instructions
+/// of a program. A cheaper job is worked off by the thread that received it.
 const DEAR: u32 = 6_000;
 
 /// By how many workers a server works jobs off, 1 to 16, after how many datagrams it ends, where 0 is never, and the first message id of its own.
