@@ -86,7 +86,8 @@ pub fn fetch<P: Peer>(
 ) -> Result<Fetched, FetchFault>
     ensures fetched { IfOk result (λ f. IsFetched P.went P.came errand.now first_id f.code.byte f.body.items) }
     ensures whole { IfOk result (λ f. SendsWhole P.went errand.now f.code.byte) }
-    ensures called { IfOk result (λ f. (n : ℕ) × MakesCalls (P.called peer.old) (P.called peer.new) (AreTransmissions errand.now first_id n)) }
+    ensures called { IfOk result (λ f. (n : ℕ)
+        × MakesCalls (P.called peer.old) (P.called peer.new) (AreTransmissions errand.now first_id n)) }
 {
     match fetch_once(alloc, peer, errand, first_id, Vec::new(alloc))? {
         Attempt::Ended(fetched) => Ok(fetched),

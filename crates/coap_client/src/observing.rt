@@ -58,7 +58,8 @@ impl<'a> Observer<'a> {
         peer: &mut P,
         buffer: &mut [u8],
     ) -> Result<usize, FetchFault>
-        ensures registered { IfOk result (λ count. (count ≤ length buffer.new) × IsRegistered P.went P.came self.now (take count buffer.new)) }
+        ensures registered { IfOk result (λ count. (count ≤ length buffer.new)
+            × IsRegistered P.went P.came self.now (take count buffer.new)) }
         ensures called { IfOk result (λ count. MakesCalls (P.called peer.old) (P.called peer.new) (IsRegistration self.now count)) }
     {
         let mut datagram = Datagram::new();

@@ -78,7 +78,8 @@ impl<'a, B: Bench, G: Gate, W: Wire, M: Moments> Workshop<'a, B, G, W, M> {
         requires { turn.slot < 64 }
         ensures told { IsFoundTold (shop B.changes B.ended B.called B.logged M.is_moment M.is_random G.passed W.called)
             turn found.entry (emission_if result reply.new) share.old.log share.new.log }
-        ensures kept { HasSameTallies (shop B.changes B.ended B.called B.logged M.is_moment M.is_random G.passed W.called) share.old share.new }
+        ensures kept { HasSameTallies (shop B.changes B.ended B.called B.logged M.is_moment M.is_random G.passed W.called)
+            share.old share.new }
         ensures ended { B.ended share.new.tallies ≡ saturated (B.ended share.old.tallies + 1) }
     {
         let now = self.moments.now(rt);
@@ -115,7 +116,8 @@ impl<'a, B: Bench, G: Gate, W: Wire, M: Moments> Workshop<'a, B, G, W, M> {
         requires { turn.slot < 64 }
         ensures noted { IsNoteSent (shop B.changes B.ended B.called B.logged M.is_moment M.is_random G.passed W.called)
             told.now turn id (emission_if result reply.new) share.old.log share.new.log }
-        ensures kept { HasSameTallies (shop B.changes B.ended B.called B.logged M.is_moment M.is_random G.passed W.called) share.old share.new }
+        ensures kept { HasSameTallies (shop B.changes B.ended B.called B.logged M.is_moment M.is_random G.passed W.called)
+            share.old share.new }
         ensures ended { B.ended share.new.tallies ≡ saturated (B.ended share.old.tallies + 1) }
     {
         let now = self.moments.now(rt);
@@ -132,7 +134,8 @@ impl<'a, B: Bench, G: Gate, W: Wire, M: Moments> Workshop<'a, B, G, W, M> {
         requires { turn.slot < 64 }
         ensures given_up { IsGivenUp (shop B.changes B.ended B.called B.logged M.is_moment M.is_random G.passed W.called)
             turn None share.old.log share.new.log }
-        ensures kept { HasSameTallies (shop B.changes B.ended B.called B.logged M.is_moment M.is_random G.passed W.called) share.old share.new }
+        ensures kept { HasSameTallies (shop B.changes B.ended B.called B.logged M.is_moment M.is_random G.passed W.called)
+            share.old share.new }
         ensures ended { B.ended share.new.tallies ≡ saturated (B.ended share.old.tallies + 1) }
     {
         let log = &mut share.log;
