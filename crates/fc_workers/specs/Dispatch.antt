@@ -15,27 +15,14 @@ use Rattle.fc_workers.specs.declared.dispatcher.Dispatched.{Dispatched}
 use Rattle.fc_workers.specs.declared.dispatcher.Handover.{Handover}
 use Rattle.fc_workers.specs.declared.dispatcher.Handover.TheVariants.{Every, Dear, Never}
 use Rattle.fc_workers.specs.declared.call_log.CallLog.{CallLog}
-use Rattle.fc_workers.specs.Answers.{IsSomeDelivery, IsSomeReceipt, IsSomeTurn, saturated}
-use Rattle.fc_workers.specs.Called.{GivesTurn, HandsSignal, HearsDatagram, Shop}
+use Rattle.fc_workers.specs.Answers.{IsSomeDelivery, IsSomeTurn, saturated}
+use Rattle.fc_workers.specs.Called.{GivesTurn, HandsSignal, HearsDatagram, Shop, TellsReceipt}
 use Rattle.fc_workers.specs.Work.{IsReplied}
 
 -- it asks for a run
 abbrev pub AsksRun : Ask → Type 0
 AsksRun (Run request) = Unit {0}
 AsksRun other = ⊥
-
--- a job of a run, and a receipt that some slot has, of a cost of so many instructions or more: which slot's isn't said
-pub record IsDear (least : ℕ) (job : Job) : Type 0 where
-  pub asks : AsksRun job.ask
-  pub receipt : Receipt
-  pub told : IsSomeReceipt (Some receipt)
-  pub cost : least ≤ receipt.cost
-
--- the jobs that may go to workers
-abbrev pub MayGo : Handover → Job → Type 0
-MayGo Every job = Unit {0}
-MayGo (Dear least) job = 0 < least → IsDear least job
-MayGo Never job = ⊥
 
 -- the number of a job that isn't sent to the workers
 abbrev pub unsent : ℕ
@@ -50,6 +37,19 @@ abbrev pub HasCalled : {T : Type 0} → Dispatched T → Dispatched T → Type 0
 HasCalled before after = after ≡ logged_at after.share.log before
 
 module _ {T : Type 0} (s : Shop T) where
+  -- a job of a run, and the receipt that was told of its slot, of a cost of so many instructions or more
+  pub record IsDear (least : ℕ) (job : Job) : Type 0 where
+    pub asks : AsksRun job.ask
+    pub receipt : Receipt
+    pub told : s.bench (TellsReceipt job (Some receipt))
+    pub cost : least ≤ receipt.cost
+
+  -- the jobs that may go to workers
+  abbrev pub MayGo : Handover → Job → Type 0
+  MayGo Every job = Unit {0}
+  MayGo (Dear least) job = 0 < least → IsDear least job
+  MayGo Never job = ⊥
+
   -- a job was sent to the workers, under the next number
   pub record IsHandedOver (job : Job) (before after : Dispatched T) : Type 0 where
     pub sent : after.sent ≡ with_sent before.sent job

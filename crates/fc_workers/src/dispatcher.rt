@@ -187,7 +187,7 @@ impl<'a, B: Bench, G: Gate, W: Wire, M: Moments> Dispatcher<'a, B, G, W, M> {
     // Sends its job to the workers, where it may go. Tells whether it was sent.
     fn hand_over<R: Wait>(&mut self, rt: &R) -> bool
         ensures sent { MatchBool result
-            (MayGo self.old.handover self.old.job
+            (MayGo (shop B.changes B.ended B.called B.logged M.is_moment M.is_random G.passed W.called) self.old.handover self.old.job
             × (self.new.done ≡ record self.old.done { sent = with_sent self.old.done.sent self.old.job }))
             ((self.new.done ≡ self.old.done) × (self.new.job ≡ self.old.job)) }
         ensures handover { self.new.handover ≡ self.old.handover }
@@ -229,7 +229,8 @@ impl<'a, B: Bench, G: Gate, W: Wire, M: Moments> Dispatcher<'a, B, G, W, M> {
 
     // Whether its job may go to the workers. Before one of them has asked for a job, none does: where all are to go, that is waited for.
     fn may_go<R: Wait>(&mut self, rt: &R) -> bool
-        ensures may { result ≡ true → MayGo self.old.handover self.old.job }
+        ensures may { result ≡ true → MayGo (shop B.changes B.ended B.called B.logged M.is_moment M.is_random G.passed W.called)
+            self.old.handover self.old.job }
         ensures done { self.new.done ≡ self.old.done }
         ensures job { self.new.job ≡ self.old.job }
         ensures handover { self.new.handover ≡ self.old.handover }
@@ -261,7 +262,8 @@ impl<'a, B: Bench, G: Gate, W: Wire, M: Moments> Dispatcher<'a, B, G, W, M> {
 
     // How many instructions its job's run takes at most, by the program that its slot has now; 0 where it asks for none.
     fn cost<R: Wait>(&self, rt: &R) -> u32
-        ensures { (least : ℕ) → 0 < least → least ≤ result → IsDear least self.now.job }
+        ensures { (least : ℕ) → 0 < least → least ≤ result → IsDear
+            (shop B.changes B.ended B.called B.logged M.is_moment M.is_random G.passed W.called) least self.now.job }
     {
         match &self.job.ask {
             Ask::Run(_) => match self.workshop.bench.receipt(rt, &self.job) {

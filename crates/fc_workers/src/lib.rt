@@ -61,7 +61,7 @@
 //! - **A worker's share** has ended as many jobs as it got, up to 2^64 - 1, and its tallies have risen by the changes that their calls
 //!   answered. Each seat of a pool comes back as its share.
 //! - **A dispatcher** has each datagram heard once. It sends the job that a delivery or a turn brings to the workers, under the next number,
-//!   where its handover lets it go (of a dear one, that it is a run: what that costs no clause says), or works it off and ends it, and does
+//!   where its handover lets it go (a dear one is a run of whose slot a receipt was told, of such a cost), or works it off and ends it, and does
 //!   neither where there is none. It hands a signal to each of eight shards, as it was heard, asks the shard that it is told to, and advances
 //!   the front to the moment that it is handed.
 //! - **A server behind nine locks** answers a taking, an install, a removal and a receipt as a shard of the index of the job's slot does in
