@@ -15,7 +15,8 @@ import socket
 import statistics
 import subprocess
 import sys
-import time
+
+from ping import wait_for
 
 FCD = "crates/fcd/out/fcd"
 OBSERVERS = 32
@@ -52,28 +53,11 @@ def hear(observer):
         observer.sendto(b"\x60\x00" + message[2:4], SERVER)
 
 
-def wait_for(server):
-    """Waits until the server answers a ping, for five seconds at most."""
-    with socket.socket(socket.AF_INET, socket.SOCK_DGRAM) as client:
-        client.connect(SERVER)
-        client.settimeout(0.1)
-        for _ in range(50):
-            try:
-                client.send(bytes.fromhex("40000001"))
-                client.recv(2048)
-                return
-            except ConnectionRefusedError:
-                time.sleep(0.1)
-            except TimeoutError:
-                continue
-    sys.exit(f"{server.args} doesn't answer")
-
-
 def round_of(words, setup, observe, change):
     """Microseconds of the server's processor time for each change of one round."""
     server = subprocess.Popen(["taskset", "-c", "2,3", *words], stdout=subprocess.DEVNULL, stderr=subprocess.DEVNULL)
     try:
-        wait_for(server)
+        wait_for(server, SERVER)
         client, *observers = [socket.socket(socket.AF_INET, socket.SOCK_DGRAM) for _ in range(OBSERVERS + 1)]
         for it in (client, *observers):
             it.settimeout(5)

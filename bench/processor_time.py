@@ -18,7 +18,8 @@ import struct
 import subprocess
 import sys
 import tempfile
-import time
+
+from ping import wait_for
 
 FCD = "crates/fcd/out/fcd"
 REQUESTS = 1000
@@ -76,23 +77,6 @@ def ask(clients, request, code):
                     sys.exit(f"answered {answer.hex()}")
 
 
-def wait_for(server):
-    """Waits until the server answers a ping, for five seconds at most."""
-    with socket.socket(socket.AF_INET, socket.SOCK_DGRAM) as client:
-        client.connect(ADDRESS)
-        client.settimeout(0.1)
-        for _ in range(50):
-            try:
-                client.send(bytes.fromhex("40000001"))
-                client.recv(2048)
-                return
-            except ConnectionRefusedError:
-                time.sleep(0.1)
-            except TimeoutError:
-                continue
-    sys.exit(f"{server.args} doesn't answer")
-
-
 def client_of():
     client = socket.socket(socket.AF_INET, socket.SOCK_DGRAM)
     client.settimeout(2)
@@ -104,7 +88,7 @@ def round_of(words, setup, request, code, count):
     """Microseconds of the server's processor time for each request of one round."""
     server = subprocess.Popen(["taskset", "-c", "2,3", *words], stdout=subprocess.DEVNULL, stderr=subprocess.DEVNULL)
     try:
-        wait_for(server)
+        wait_for(server, ADDRESS)
         clients = [client_of() for _ in range(count)]
         if setup:
             clients[0].send(numbered(setup, 1))

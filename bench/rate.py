@@ -15,6 +15,8 @@ import subprocess
 import sys
 import time
 
+from ping import wait_for
+
 FCD = "crates/fcd/out/fcd"
 PORT = 5698
 POSTS = 900
@@ -43,28 +45,11 @@ def request(code, resource, slot, number, payload=b""):
     return head + (b"\xff" + payload if payload else b"")
 
 
-def wait_for(server):
-    """Waits until the server answers a ping, for five seconds at most."""
-    with socket.socket(socket.AF_INET, socket.SOCK_DGRAM) as client:
-        client.connect(("127.0.0.1", PORT))
-        client.settimeout(0.1)
-        for _ in range(50):
-            try:
-                client.send(bytes.fromhex("40000001"))
-                client.recv(2048)
-                return
-            except ConnectionRefusedError:
-                time.sleep(0.1)
-            except TimeoutError:
-                continue
-    sys.exit(f"{server.args} doesn't answer")
-
-
 def round_of(workers, program):
     """POSTs a second of one round."""
     server = subprocess.Popen([FCD, "serve", "--port", str(PORT), "--workers", str(workers)], stderr=subprocess.DEVNULL)
     try:
-        wait_for(server)
+        wait_for(server, ("127.0.0.1", PORT))
         client = socket.socket(socket.AF_INET, socket.SOCK_DGRAM)
         client.connect(("127.0.0.1", PORT))
         client.settimeout(5)
