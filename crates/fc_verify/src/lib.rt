@@ -25,7 +25,8 @@
 //!   loop's counter below its bound.
 //! - An accepted program runs to its exit within its budget on every request, and each typed one in at most the steps of its longest path,
 //!   all turns of its loops counted.
-//! - It has one operation a slot, which carries out the slot's instruction, and the next one too just where the two are one of six pairs.
+//! - It has one operation a slot, which carries out the slot's instruction, and the next one too just where the two are one of six pairs and the
+//!   next isn't the first of another.
 //!
 //! By the contracts of `verify`, `pass::typed`, `Verified::ops`, `laws::judgement_is_right`, `laws::judgement_is_only`, `laws::typings_are_found`,
 //! `laws::accepted_programs_run`, `laws::typed_programs_end`, `laws::pairs_are_these`.
