@@ -1,7 +1,7 @@
 -- Where a client's request goes: a path at a port of this host, or what a URI of the scheme coap says, as the URL Standard reads it (RFC 7252, 6.1 and 6.4).
 use Rattle.std.specs.Global.{Vec}
-use Rattle.std.specs.Prelude.{◌≡◌, ◌==◌, ◌⊎◌, ℕ, List, [], ◌∷◌, map, Option, Some, None, Ok, codes, option_map, unwrap_or, if◌then◌else◌}
-use Rattle.std.specs.List.{slice_split}
+use Rattle.std.specs.Prelude.{◌≡◌, ◌==◌, ◌||◌, ◌⊎◌, ℕ, nat_eq, is_some, Bool, false, List, [], ◌∷◌, map, Option, Some, None, Ok, codes, option_map, unwrap_or, if◌then◌else◌}
+use Rattle.std.specs.List.{list_any, slice_split}
 use Rattle.std.specs.Net.Addr.{ipv4_octets}
 use Rattle.std.specs.Net.Grammar.{IsIpv4Text}
 use Rattle.std.specs.Net.Socket.{v4_ip, v4_port}
@@ -10,7 +10,7 @@ use Rattle.coap_client.specs.Paths.{path_text, slash}
 use Rattle.percent_encoding.specs.Percent.{percent_decode}
 use Rattle.url.specs.Parser.{parse_url}
 use Rattle.url.specs.Host.{host_text}
-use Rattle.url.specs.Parts.{Parts, nonempty_host}
+use Rattle.url.specs.Parts.{Parts, has_credentials, nonempty_host}
 use Rattle.fc_fetch.specs.declared.address.Address.{Address}
 
 abbrev pub ampersand : ℕ
@@ -34,12 +34,22 @@ segments_in (first ∷ path) = if first == slash then decoded_pieces slash path 
 abbrev pub IsHostOf : List ℕ → Ipv4Addr → Type 0
 IsHostOf name ip = ((name ≡ codes "localhost") × (ipv4_octets ip ≡ 127 ∷ 0 ∷ 0 ∷ 1 ∷ [])) ⊎ IsIpv4Text name ip
 
--- the address has the host, the port, the path and the query of a URI
+-- there is a slash among these bytes, which would part a segment in two
+abbrev pub has_slash : List ℕ → Bool
+has_slash bytes = list_any (λ b. nat_eq b slash) bytes
+
+-- a URI has a user, a password or a fragment, which those of the scheme coap don't have
+abbrev pub has_other_parts : Parts → Bool
+has_other_parts uri = has_credentials uri || is_some uri.fragment
+
+-- the address has the host, the port, the path and the query of a URI, which says nothing else, and no segment of whose path has a slash in it
 pub record HasParts (uri : Parts) (a : Address) : Type 0 where
+  pub no_others : has_other_parts uri ≡ false
   pub name : List ℕ
   pub name_is : option_map host_text (nonempty_host uri) ≡ Some name
   pub host_is : IsHostOf name (v4_ip a.server)
   pub port_is : v4_port a.server ≡ unwrap_or uri.port 5683
+  pub no_slash : list_any has_slash (segments_in uri.path) ≡ false
   pub path_is : a.path.items ≡ path_text (segments_in uri.path)
   pub query_is : texts_in a.query.items ≡ decoded_pieces ampersand (unwrap_or uri.query [])
 

@@ -1,8 +1,9 @@
 //! Where a request goes, and of which resource: a path at a port of this host, or a URI of the scheme coap (RFC 7252, 6.1 and 6.4).
-ghost use Rattle.std.specs.Prelude.{◌≡◌, ◌<◌, [], IfOk, IfSome, unwrap_or};
+ghost use Rattle.std.specs.Prelude.{◌≡◌, ◌<◌, false, [], IfOk, IfSome, unwrap_or};
+ghost use Rattle.std.specs.List.{list_any};
 ghost use Rattle.coap_client.specs.Paths.{path_text};
 ghost use Rattle.percent_encoding.specs.Percent.{percent_decode};
-ghost use Rattle.fc_fetch.specs.Addresses.{HasParts, IsAddress, IsAtPort, IsHostOf, IsOfUri, decoded_pieces, segments_in, texts_in};
+ghost use Rattle.fc_fetch.specs.Addresses.{HasParts, IsAddress, IsAtPort, IsHostOf, IsOfUri, decoded_pieces, has_other_parts, has_slash, segments_in, texts_in};
 
 use percent_encoding::percent_decode_str;
 use std::alloc::{AllocError, Global};
@@ -110,7 +111,7 @@ fn read_uri(alloc: Global, text: &str) -> Result<Address, AddressError>
 fn address_of(alloc: Global, uri: &Url) -> Result<Address, AddressError>
     ensures { IfOk result (HasParts uri.now) }
 {
-    if !uri.username().is_empty() || uri.password().is_some() || uri.fragment().is_some() {
+    if has_other_parts(uri) {
         return Err(AddressError::Parts);
     }
     let Some(name) = uri.host_str() else {
@@ -119,15 +120,19 @@ fn address_of(alloc: Global, uri: &Url) -> Result<Address, AddressError>
     let Some(host) = host_of(name) else {
         return Err(AddressError::Host);
     };
-    let segments = segments_of(alloc, uri.path())?;
-    if segments.iter().any(|segment| segment.contains(&b'/')) {
-        return Err(AddressError::Escape);
-    }
+    let segments = whole_segments_of(alloc, uri.path())?;
     Ok(Address {
         server: SocketAddrV4::new(host, uri.port().unwrap_or(COAP_PORT)),
         path: path_of(alloc, &segments)?,
         query: pieces(alloc, query_of(uri), '&')?,
     })
+}
+
+// Whether a URI has a user, a password or a fragment.
+fn has_other_parts(uri: &Url) -> bool
+    ensures { result ≡ has_other_parts uri.now }
+{
+    !uri.username().is_empty() || uri.password().is_some() || uri.fragment().is_some()
 }
 
 // The IPv4 address that the name of a host stands for.
@@ -140,6 +145,18 @@ fn host_of(name: &str) -> Option<Ipv4Addr>
     }
 }
 
+// The segments of a URI's path, none of which has a slash in it.
+fn whole_segments_of(alloc: Global, path: &str) -> Result<Vec<Vec<u8>>, AddressError>
+    ensures segments { IfOk result (λ v. texts_in v.items ≡ segments_in path.now) }
+    ensures whole { IfOk result (λ v. list_any has_slash (segments_in path.now) ≡ false) }
+{
+    let segments = segments_of(alloc, path)?;
+    if have_slash(&segments) {
+        return Err(AddressError::Escape);
+    }
+    Ok(segments)
+}
+
 // The segments of a URI's path; that of a slash alone has none (RFC 7252, 6.4).
 fn segments_of(alloc: Global, path: &str) -> Result<Vec<Vec<u8>>, AllocError>
     ensures { IfOk result (λ v. texts_in v.items ≡ segments_in path.now) }
@@ -148,6 +165,13 @@ fn segments_of(alloc: Global, path: &str) -> Result<Vec<Vec<u8>>, AllocError>
         Some(rest) => pieces(alloc, rest, '/'),
         None => Ok(Vec::new(alloc)),
     }
+}
+
+// Whether a segment has a slash in it.
+fn have_slash(segments: &[Vec<u8>]) -> bool
+    ensures { result ≡ list_any (λ segment. has_slash segment.items) segments.now }
+{
+    segments.iter().any(|segment| segment.contains(&b'/'))
 }
 
 // The path that has a slash before each of these segments.

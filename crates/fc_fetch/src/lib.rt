@@ -3,7 +3,8 @@
 //! # What is proved
 //!
 //! - Where a request goes: a path at a port of this host, or what a URI of the scheme coap says as the URL Standard reads it: the host,
-//!   the port, and the segments of its path and the arguments of its query, each with its escapes read (RFC 7252, 6.4).
+//!   the port, and the segments of its path and the arguments of its query, each with its escapes read (RFC 7252, 6.4). A URI has neither a
+//!   user, a password nor a fragment then, and no slash in a segment.
 //! - What a client prints of an answer, in hex or as text, and that it is done at a success alone.
 //! - An observer prints a line for each of a list of messages and nothing else: its registration was sent, each of them came with its
 //!   token, each state is newer than the one before it (RFC 7641, 3.4), none is one of those before it again, by its message id within 247
